@@ -1,0 +1,101 @@
+-- Steps and runs of one session have one outcome, and go on from one another.
+use Rattle.std.proofs.Common.{◌≡◌, ℕ, List, [], ◌∷◌, ◌++◌, Bool, true, false, nat_lt, length, refl, sym, ap, ◌∙◌, subst}
+use Rattle.nesl_session.specs.declared.limits.Limits.{Limits}
+use Rattle.std.specs.Bool.{MatchBool}
+use Rattle.nesl_session.specs.declared.finding.Finding.{Finding}
+use Rattle.nesl_session.specs.declared.finding.Finding.TheVariants.{Full, TooLong}
+use Rattle.nesl_session.specs.State.{State, Log, empty}
+use Rattle.nesl_session.specs.Reading.{Meaning, Means}
+use Rattle.nesl_session.specs.Reply.{Reply}
+use Rattle.nesl_session.specs.Step.{Step, Finds, told, found_in, is_full, after}
+use Rattle.nesl_session.specs.Solo.{Solo, Replays, Alone}
+
+-- a line means one thing
+pub means_unique : (line : List ℕ) (m n : Meaning) → Means line m → Means line n → m ≡ n
+unfolding Means
+means_unique line m n a b = a ∙ sym b
+
+first_check : (full long : Bool) (full_found long_found : Finding) {M : Type 0} (P : M → Type 0) (f : M → Finding) → ((m n : M) → P m → P n → m ≡ n) → (x y : Finding)
+    → MatchBool full (x ≡ full_found) (MatchBool long (x ≡ long_found) ((m : M) × P m × (x ≡ f m))) → MatchBool full (y ≡ full_found) (MatchBool long (y ≡ long_found) ((m : M) × P m × (y ≡ f m))) → x ≡ y
+first_check true long g h P f u x y a b = a ∙ sym b
+first_check false true g h P f u x y a b = a ∙ sym b
+first_check false false g h P f u x y a b = a.2 ∙ ap f (u a.0 b.0 a.1 b.1) ∙ sym b.2
+
+-- one thing is found
+pub finds_unique : (limits : Limits) (s : State) (line : List ℕ) (x y : Finding) → Finds limits s line x → Finds limits s line y → x ≡ y
+unfolding Finds
+finds_unique limits s line x y a b = first_check (is_full limits s line) (nat_lt 4096 (length line)) Full TooLong (Means line) (found_in limits s) (means_unique line) x y a b
+
+-- in one state a line has one answer, and leaves one state
+pub step_unique : (limits : Limits) (s t u : State) (line : List ℕ) (q r : Reply) → Step limits s line q t → Step limits s line r u → (q ≡ r) × (t ≡ u)
+unfolding Step
+step_unique limits s t u line q r a b =
+    let same = finds_unique limits s line a.0 b.0 a.1 b.1 in
+    (a.2 ∙ ap told same ∙ sym b.2, a.3 ∙ ap (after line s) same ∙ sym b.3)
+
+-- so has a run
+pub solo_unique : (limits : Limits) (s t u : State) (lines : List (List ℕ)) (qs rs : List Reply) → Solo limits s lines qs t → Solo limits s lines rs u → (qs ≡ rs) × (t ≡ u)
+solo_unique limits s t u [] [] [] a b = (refl, a ∙ sym b)
+solo_unique limits s t u [] (q ∷ qs) rs a b = absurd a
+solo_unique limits s t u [] [] (r ∷ rs) a b = absurd b
+solo_unique limits s t u (line ∷ lines) [] rs a b = absurd a
+solo_unique limits s t u (line ∷ lines) (q ∷ qs) [] a b = absurd b
+solo_unique limits s t u (line ∷ lines) (q ∷ qs) (r ∷ rs) a b =
+    let e = step_unique limits s a.0 b.0 line q r a.1 b.1 in
+    let P : State → Type 0 = λ x. Solo limits x lines rs u in
+    let rest = solo_unique limits a.0 t u lines qs rs a.2 (subst P (sym e.1) b.2) in
+    (λ i. e.0 i ∷ rest.0 i, rest.1)
+
+-- one run after another is a run
+pub solo_append : (limits : Limits) (s mid t : State) (xs ys : List (List ℕ)) (qs rs : List Reply) → Solo limits s xs qs mid → Solo limits mid ys rs t → Solo limits s (xs ++ ys) (qs ++ rs) t
+solo_append limits s mid t [] ys [] rs a b = let P : State → Type 0 = λ x. Solo limits x ys rs t in subst P a b
+solo_append limits s mid t [] ys (q ∷ qs) rs a b = absurd a
+solo_append limits s mid t (x ∷ xs) ys [] rs a b = absurd a
+solo_append limits s mid t (x ∷ xs) ys (q ∷ qs) rs a b = (a.0, a.1, solo_append limits a.0 mid t xs ys qs rs a.2 b)
+
+-- a session has one state
+pub replays_unique : (log : Log) (s t : State) → Replays log s → Replays log t → s ≡ t
+replays_unique log s t a b = (solo_unique log.limits (empty log.limits) s t log.lines a.replies b.replies a.run b.run).1
+
+-- alone, the same lines have one outcome
+pub alone_unique : (old new other : Log) (lines : List (List ℕ)) (replies others : List Reply) → Alone old lines replies new → Alone old lines others other → (replies ≡ others) × (new ≡ other)
+alone_unique old new other lines replies others a b =
+    let P : State → Type 0 = λ x. Solo old.limits x lines others b.after in
+    let e = solo_unique old.limits a.before a.after b.after lines replies others a.run (subst P (replays_unique old b.before a.before b.starts a.starts) b.run) in
+    let limits : new.limits ≡ other.limits = a.limits ∙ sym b.limits in
+    let lines : new.lines ≡ other.lines = sym a.ends.lines ∙ ap (λ (s : State). s.transcript) e.1 ∙ b.ends.lines in
+    (e.0, λ i. record { limits = limits i; lines = lines i })
+
+-- a session that is told nothing stays as it is
+pub alone_none : (log : Log) (s : State) → Replays log s → Alone log [] [] log
+alone_none log s r = record { before = s; after = s; starts = r; run = refl; ends = r; limits = refl }
+
+-- told more, it goes on from there
+pub alone_then : (a b c : Log) (xs ys : List (List ℕ)) (qs rs : List Reply) → Alone a xs qs b → Alone b ys rs c → Alone a (xs ++ ys) (qs ++ rs) c
+alone_then a b c xs ys qs rs p q =
+    let same : q.before ≡ p.after = replays_unique b q.before p.after q.starts p.ends in
+    let P : State → Type 0 = λ x. Solo b.limits x ys rs q.after in
+    let Q : Limits → Type 0 = λ l. Solo l p.after ys rs q.after in
+    record {
+      before = p.before;
+      after = q.after;
+      starts = p.starts;
+      run = solo_append a.limits p.before p.after q.after xs ys qs rs p.run (subst Q p.limits (subst P same q.run));
+      ends = q.ends;
+      limits = q.limits ∙ p.limits;
+    }
+
+-- a line more of the replay
+pub replays_more : (log : Log) (s t : State) (line : List ℕ) (reply : Reply) → Replays log s → Step log.limits s line reply t → t.transcript ≡ s.transcript ++ line ∷ []
+    → Replays (record log { lines = log.lines ++ line ∷ [] }) t
+replays_more log s t line reply r step e = record {
+  replies = r.replies ++ reply ∷ [];
+  run = solo_append log.limits (empty log.limits) s t log.lines (line ∷ []) r.replies (reply ∷ []) r.run (t, step, refl);
+  lines = e ∙ ap (λ x. x ++ line ∷ []) r.lines;
+}
+
+-- with no line stored, the state is the empty one
+pub replays_start : (log : Log) → log.lines ≡ [] → Replays log (empty log.limits)
+replays_start log e =
+    let P : List (List ℕ) → Type 0 = λ lines. Solo log.limits (empty log.limits) lines [] (empty log.limits) in
+    record { replies = []; run = subst P (sym e) refl; lines = sym e }

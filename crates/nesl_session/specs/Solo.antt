@@ -1,0 +1,33 @@
+-- Runs of one session with no one else.
+use Rattle.std.specs.Prelude.{◌≡◌, ℕ, List, [], ◌∷◌, true, false}
+use Rattle.std.specs.Bool.{MatchBool}
+use Rattle.nesl_session.specs.declared.limits.Limits.{Limits}
+use Rattle.nesl_session.specs.State.{State, Log, empty}
+use Rattle.nesl_session.specs.Step.{Step}
+use Rattle.nesl_session.specs.Reply.{Reply, no_memory, is_memory}
+
+-- from the state `s` the lines are answered by these replies, one step after another, and leave the state `s'`
+abbrev pub Solo : Limits → State → List (List ℕ) → List Reply → State → Type 0
+Solo limits s [] [] s' = s' ≡ s
+Solo limits s (line ∷ lines) (reply ∷ replies) s' = (mid : State) × Step limits s line reply mid × Solo limits mid lines replies s'
+Solo limits s [] (reply ∷ replies) s' = ⊥
+Solo limits s (line ∷ lines) [] s' = ⊥
+
+-- the state of a session is the replay of the lines that it stored
+pub record Replays (log : Log) (s : State) : Type 0 where
+  pub replies : List Reply
+  pub run : Solo log.limits (empty log.limits) log.lines replies s
+  pub lines : s.transcript ≡ log.lines
+
+-- alone, a session answers these lines with these replies, and has become `new` then
+pub record Alone (old : Log) (lines : List (List ℕ)) (replies : List Reply) (new : Log) : Type 0 where
+  pub before : State
+  pub after : State
+  pub starts : Replays old before
+  pub run : Solo old.limits before lines replies after
+  pub ends : Replays new after
+  pub limits : new.limits ≡ old.limits
+
+-- a session's answer to one line: a step, or want of memory, which leaves all as it was
+abbrev pub Answers : Log → List ℕ → Reply → Log → Type 0
+Answers old line reply new = MatchBool (is_memory reply) ((reply ≡ no_memory) × (new ≡ old)) (Alone old (line ∷ []) (reply ∷ []) new)

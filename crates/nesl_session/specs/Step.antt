@@ -1,0 +1,95 @@
+-- One line of a session: what is found, what is answered, and what changes.
+use Rattle.std.specs.Prelude.{◌≡◌, ℕ, ◌+◌, ◌-◌, List, [], ◌∷◌, ◌++◌, Bool, true, false, ◌||◌, Some, None, length, sum_by, min, nat_lt, nat_le, if◌then◌else◌, codes, Option, pos}
+
+use Rattle.std.specs.Str.{bytes_eq}
+use Rattle.std.specs.Bool.{MatchBool}
+use Rattle.nesl_values.specs.Tree as values
+use Rattle.nesl_session.specs.declared.limits.Limits.{Limits}
+use Rattle.nesl_session.specs.declared.fault.Fault.TheVariants as faults
+use Rattle.nesl_session.specs.declared.finding.Finding.{Finding}
+use Rattle.nesl_session.specs.declared.finding.Finding.TheVariants.{Full, TooLong, Blank, NoFormula, TooHigh, Overflow, OverBudget, TooMany, Bound}
+use Rattle.nesl_session.specs.declared.evaluation.Outcome.{Outcome}
+use Rattle.nesl_session.specs.declared.evaluation.Outcome.TheVariants.{Comes, Overflows}
+use Rattle.nesl_session.specs.Reading.{Meaning, Means, nothing, no_formula, too_high, formula}
+use Rattle.nesl_session.specs.Formulas.{Tree}
+use Rattle.nesl_session.specs.Outcomes.{out, within}
+use Rattle.nesl_session.specs.State.{State, Binding, elements_of}
+use Rattle.nesl_session.specs.Reply.{Reply, fault_text, fault_at_text, it_text}
+
+-- the transcript has no room for the line
+abbrev pub is_full : Limits → State → List ℕ → Bool
+is_full limits s line = nat_le limits.transcript_lines (length s.transcript) || nat_lt limits.transcript_bytes (sum_by length s.transcript + length line)
+
+-- the most bytes of a line
+abbrev pub longest : ℕ
+longest = 4096
+
+-- the most work that a line may take
+abbrev pub budget : Limits → State → ℕ
+budget limits s = min limits.line_work s.work_left
+
+-- a name that is bound again keeps its place
+abbrev pub put : List ℕ → values.Tree → List Binding → List Binding
+put name value [] = record { name = name; value = value } ∷ []
+put name value (b ∷ bs) = if bytes_eq b.name name then record b { value = value } ∷ bs else b ∷ put name value bs
+
+-- the name of the value of a line that names none
+abbrev pub it : List ℕ
+it = codes "it"
+
+abbrev pub bound : ℕ → List Binding → List Binding
+bound value bindings = put it (values.int (pos value)) bindings
+
+-- what is found of a line whose formula comes to this under the budget `b`
+abbrev pub found_of : Limits → State → ℕ → Option Outcome → Finding
+found_of limits s b None = OverBudget b
+found_of limits s b (Some (Overflows span work)) = Overflow span work
+found_of limits s b (Some (Comes value work depth)) = if nat_lt limits.elements (elements_of (bound value s.bindings)) then TooMany work else Bound value work depth
+
+abbrev pub found_in : Limits → State → Meaning → Finding
+found_in limits s nothing = Blank
+found_in limits s no_formula = NoFormula
+found_in limits s too_high = TooHigh
+found_in limits s (formula t) = found_of limits s (budget limits s) (within (budget limits s) (out t))
+
+-- What is found of a line: the first check that fails, or what its meaning comes to. A line that fails before it is read has no need to mean anything.
+unfoldable pub Finds : Limits → State → List ℕ → Finding → Type 0
+Finds limits s line finding =
+    MatchBool (is_full limits s line) (finding ≡ Full)
+    (MatchBool (nat_lt longest (length line)) (finding ≡ TooLong)
+    ((meaning : Meaning) × Means line meaning × (finding ≡ found_in limits s meaning)))
+
+abbrev pub stored : List ℕ → State → State
+stored line s = record s { transcript = s.transcript ++ line ∷ [] }
+
+abbrev pub charged : ℕ → State → State
+charged work s = record s { work_left = s.work_left - work }
+
+-- The state after a line of which this was found. Where the transcript is full or the line too long, nothing changes; every other line is stored.
+-- What is not read charges nothing, a fault of evaluation its work, a line over its budget that budget.
+abbrev pub after : List ℕ → State → Finding → State
+after line s Full = s
+after line s TooLong = s
+after line s Blank = stored line s
+after line s NoFormula = stored line s
+after line s TooHigh = stored line s
+after line s (Overflow span work) = stored line (charged work s)
+after line s (OverBudget work) = stored line (charged work s)
+after line s (TooMany work) = stored line (charged work s)
+after line s (Bound value work depth) = stored line (charged work (record s { bindings = bound value s.bindings }))
+
+-- what is told of this
+abbrev pub told : Finding → Reply
+told Full = record { bytes = fault_text faults.Transcript 0; fault = Some faults.Transcript; recorded = false }
+told TooLong = record { bytes = fault_text faults.Long 0; fault = Some faults.Long; recorded = false }
+told Blank = record { bytes = codes "ok\n"; fault = None; recorded = true }
+told NoFormula = record { bytes = fault_text faults.Syntax 0; fault = Some faults.Syntax; recorded = true }
+told TooHigh = record { bytes = fault_text faults.Nested 0; fault = Some faults.Nested; recorded = true }
+told (Overflow span work) = record { bytes = fault_at_text faults.Overflow span work; fault = Some faults.Overflow; recorded = true }
+told (OverBudget work) = record { bytes = fault_text faults.Work work; fault = Some faults.Work; recorded = true }
+told (TooMany work) = record { bytes = fault_text faults.Elements work; fault = Some faults.Elements; recorded = true }
+told (Bound value work depth) = record { bytes = it_text value work depth; fault = None; recorded = true }
+
+-- In the state `s` the line is answered by the reply, and leaves the state `s'`.
+unfoldable pub Step : Limits → State → List ℕ → Reply → State → Type 0
+Step limits s line reply s' = (finding : Finding) × Finds limits s line finding × (reply ≡ told finding) × (s' ≡ after line s finding)

@@ -1,0 +1,14 @@
+//! One user's session: what a line is answered, what it changes, and what a session is the replay of.
+#![tactic(auto)]
+
+pub mod answer;
+mod evaluation;
+pub mod fault;
+pub mod finding;
+pub mod formula;
+pub mod laws;
+pub mod limits;
+mod reading;
+pub mod session;
+#[cfg(test)]
+mod tests;
