@@ -116,5 +116,5 @@ both_come b c s o m w d n x y p q came_to e h k r =
     let Q : Outcome → Type 0 = λ u. P u q in
     let R : Outcome → Type 0 = λ u. Some u ≡ within c (came s (applied o m n) (1 + w + x) (1 + d + y)) in
     let last : (w ≤ b) → (x ≤ b - w) → Some came_to ≡ within c (both s o (Comes m w d) (Comes n x y)) =
-        λ le more. subst R (sym r) (in_budget c (came s (applied o m n) (1 + w + x) (1 + d + y)) (omega (arith, e, le, more, came-work s (applied o m n) (1 + w + x) (1 + d + y)))) in
+    λ le more. subst R (sym r) (in_budget c (came s (applied o m n) (1 + w + x) (1 + d + y)) (omega (arith, e, le, more, came-work s (applied o m n) (1 + w + x) (1 + d + y)))) in
     subst Q left.0 (subst (P (Comes m w d)) right.0 last) left.1 right.1

@@ -7,7 +7,6 @@ use Rattle.nesl_session.specs.State.{State, Log}
 use Rattle.nesl_session.specs.Found.{bindings_of}
 use Rattle.nesl_session.specs.Solo.{Replays}
 
-
 abbrev pub it_of : Inside → Option values.Tree
 it_of a = option_map tree_of a.it
 

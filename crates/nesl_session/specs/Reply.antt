@@ -41,6 +41,6 @@ no_user = record { bytes = codes "fault user\n"; fault = Some User; recorded = f
 abbrev pub is_memory : Reply → Bool
 is_memory reply = is_memory_fault reply.fault
   where
-  is_memory_fault : Option Fault → Bool
-  is_memory_fault (Some Memory) = true
-  is_memory_fault _ = false
+    is_memory_fault : Option Fault → Bool
+    is_memory_fault (Some Memory) = true
+    is_memory_fault _ = false

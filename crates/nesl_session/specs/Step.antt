@@ -1,6 +1,5 @@
 -- One line of a session: what is found, what is answered, and what changes.
 use Rattle.std.specs.Prelude.{◌≡◌, ℕ, ◌+◌, ◌-◌, List, [], ◌∷◌, ◌++◌, Bool, true, false, ◌||◌, Some, None, length, sum_by, min, nat_lt, nat_le, if◌then◌else◌, codes, Option, pos}
-
 use Rattle.std.specs.Str.{bytes_eq}
 use Rattle.std.specs.Bool.{MatchBool}
 use Rattle.nesl_values.specs.Tree as values

@@ -88,7 +88,10 @@ impl Answer {
         ensures { IfOk result (λ a. a ≡ told finding) }
     {
         let (text, fault) = match finding {
-            Finding::Full => (fault_text(alloc, Fault::Transcript, 0)?, Some(Fault::Transcript)),
+            Finding::Full => (
+                fault_text(alloc, Fault::Transcript, 0)?,
+                Some(Fault::Transcript),
+            ),
             Finding::TooLong => (fault_text(alloc, Fault::Long, 0)?, Some(Fault::Long)),
             Finding::Blank => (Vec::from_slice(alloc, b"ok\n")?, None),
             Finding::NoFormula => (fault_text(alloc, Fault::Syntax, 0)?, Some(Fault::Syntax)),
@@ -99,7 +102,10 @@ impl Answer {
             ),
             Finding::OverBudget(work) => (fault_text(alloc, Fault::Work, work)?, Some(Fault::Work)),
             Finding::TooMany(work) => {
-                (fault_text(alloc, Fault::Elements, work)?, Some(Fault::Elements))
+                (
+                    fault_text(alloc, Fault::Elements, work)?,
+                    Some(Fault::Elements),
+                )
             }
             Finding::Bound(value, work, depth) => (it_text(alloc, value, work, depth)?, None),
         };
@@ -122,12 +128,7 @@ fn fault_text(alloc: Global, fault: Fault, work: u64) -> Result<Vec<u8>, AllocEr
 }
 
 // A fault of a node.
-fn fault_at_text(
-    alloc: Global,
-    fault: Fault,
-    span: Span,
-    work: u64,
-) -> Result<Vec<u8>, AllocError>
+fn fault_at_text(alloc: Global, fault: Fault, span: Span, work: u64) -> Result<Vec<u8>, AllocError>
     ensures { IfOk result (λ text. text.items ≡ fault_at_text fault span work) }
 {
     let mut text = Vec::from_slice(alloc, b"fault ")?;

@@ -4,8 +4,8 @@
 pub mod answer;
 mod evaluation;
 pub mod fault;
-pub mod finding;
-pub mod formula;
+mod finding;
+mod formula;
 pub mod laws;
 pub mod limits;
 mod reading;

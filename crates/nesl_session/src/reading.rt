@@ -170,7 +170,11 @@ fn value_of(digits: &[u8]) -> Option<u64>
         let tens = value.checked_mul(10)?;
         value = tens.checked_add(u64::from(digit.saturating_sub(b'0')))?;
     }
-    if value <= i64::MAX as u64 { Some(value) } else { None }
+    if value <= i64::MAX as u64 {
+        Some(value)
+    } else {
+        None
+    }
 }
 
 // One formula more, joined to what is there.

@@ -67,7 +67,7 @@ impl Session {
     ghost use Rattle.nesl_session.specs.Names.{names_left};
 
     /// The empty session: nothing bound, nothing recorded, all of its work left.
-    pub fn new(_alloc: Global, limits: Limits) -> Result<Session, AllocError>
+    pub fn new(alloc: Global, limits: Limits) -> Result<Session, AllocError>
         ensures empty { IfOk result (λ s. s ≡ record { limits = limits; lines = [] }) }
         ensures replayed { IfOk result (λ s. (state : State) × Replays s state) }
     {
@@ -75,7 +75,7 @@ impl Session {
             limits,
             it: None,
             work_left: limits.session_work,
-            transcript: Vec::new(_alloc),
+            transcript: Vec::new(alloc),
             bytes: 0,
         })
     }
@@ -101,12 +101,17 @@ impl Session {
     {
         let elements = match &self.it {
             None => 0,
-            Some(value) => value.nodes_up_to(self.limits.elements).unwrap_or(self.limits.elements),
+            Some(value) => value
+                .nodes_up_to(self.limits.elements)
+                .unwrap_or(self.limits.elements),
         };
         Remaining {
             work: self.work_left,
             elements: self.limits.elements - elements,
-            lines: self.limits.transcript_lines.saturating_sub(self.transcript.len() as u64),
+            lines: self
+                .limits
+                .transcript_lines
+                .saturating_sub(self.transcript.len() as u64),
             bytes: self.limits.transcript_bytes.saturating_sub(self.bytes),
         }
     }

@@ -16,8 +16,8 @@ pub loop-i-preserved : goal.loop-i-preserved
 loop-i-preserved c = record {
   begun = omega arith;
   rest =
-  pending-read 42 Multiply number_in c.args.start c.args.text.now (option_map tree_of c.loop-i.so_far) c.loop-i.begin c.loop-i.i _ _ c.loop-i.invariant.begun c.loop-i-test.true c.if-b-ne42.false c.in_ok-number.ensures c.in_ok-joined.ensures
-  ∙ c.loop-i.invariant.rest;
+      pending-read 42 Multiply number_in c.args.start c.args.text.now (option_map tree_of c.loop-i.so_far) c.loop-i.begin c.loop-i.i _ _ c.loop-i.invariant.begun c.loop-i-test.true c.if-b-ne42.false c.in_ok-number.ensures c.in_ok-joined.ensures
+      ∙ c.loop-i.invariant.rest;
 }
 
 pub returns-in_err-number : goal.returns-in_err-number
