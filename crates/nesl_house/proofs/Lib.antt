@@ -1,0 +1,3 @@
+pub mod Alones
+pub mod Places
+pub mod Rosters

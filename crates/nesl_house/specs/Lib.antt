@@ -1,0 +1,4 @@
+pub mod Script
+pub mod Runs
+pub mod Roster
+pub mod Said

@@ -1,0 +1,115 @@
+//! Users and their sessions.
+ghost use Rattle.std.specs.Prelude.{◌≡◌, ℕ, [], ◌∷◌, IfOk, IfErr, OnErr, map, length, option_map, position, OnOk};
+ghost use Rattle.std.specs.Str.{bytes_eq};
+ghost use Rattle.nesl_house.specs.Runs.{session_of, Runs, AllReplay};
+ghost use Rattle.nesl_house.specs.Roster.{IsRoster, IsRefused, opened};
+
+use crate::roster::{NewFault, check};
+use crate::user::User;
+use nesl_session::answer::Answer;
+use nesl_session::limits::Limits;
+use nesl_session::session::Session;
+use std::alloc::{AllocError, Global};
+use std::marker::Model;
+
+/// The users of a house, in the order of its roster. Contracts see the list of their seats.
+#[derive(Drop)]
+pub struct House {
+    users: Vec<User>,
+}
+
+impl Model for House {
+    ghost use Rattle.std.specs.Prelude.{List};
+    ghost use Rattle.nesl_house.specs.Runs.{Seat, AllReplay};
+
+    ghost Value = { List Seat };
+
+    ghost view = { λ h. h.users.items };
+
+    ghost invariant = { λ h. AllReplay h.users.items };
+}
+
+/// A line that a user says.
+#[derive(Drop)]
+pub struct Said {
+    pub user: Vec<u8>,
+    pub text: Vec<u8>,
+}
+
+impl House {
+    ghost use Rattle.nesl_house.specs.Said.{events_of};
+
+    /// A house in which each user of the roster has an empty session with these limits.
+    pub fn new(alloc: Global, roster: &[Vec<u8>], limits: Limits) -> Result<House, NewFault>
+        ensures roster { OnOk result (IsRoster (map (λ v. v.items) roster.now)) }
+        ensures opened { IfOk result (λ house. house ≡ opened limits (map (λ v. v.items) roster.now)) }
+        ensures refused { IfErr result (IsRefused (map (λ v. v.items) roster.now)) }
+    {
+        check(roster)?;
+        match House::open(alloc, roster, limits) {
+            Ok(house) => Ok(house),
+            Err(_) => Err(NewFault::Memory),
+        }
+    }
+
+    fn open(alloc: Global, roster: &[Vec<u8>], limits: Limits) -> Result<House, AllocError>
+        ensures { IfOk result (λ house. house ≡ opened limits (map (λ v. v.items) roster.now)) }
+    {
+        let mut users = Vec::with_capacity(alloc, roster.len())?;
+        for name in roster {
+            let user = User::new(alloc, name.as_slice(), limits)?;
+            users.push_reserved(user);
+        }
+        Ok(House { users })
+    }
+
+    /// The users, in the order of the roster. Each session is the replay of the lines that it stored.
+    pub fn users(&self) -> &[User]
+        ensures users { result.now ≡ self.now }
+        ensures replayed { AllReplay self.now }
+    {
+        self.users.as_slice()
+    }
+
+    /// The session of a user.
+    pub fn session(&self, user: &[u8]) -> Option<&Session>
+        ensures { option_map (λ s. s.now) result ≡ session_of self.now user.now }
+    {
+        match place_of(self.users.as_slice(), user) {
+            Some(place) => Some(self.users[place].session()),
+            None => None,
+        }
+    }
+
+    /// One line of a user.
+    pub fn say(&mut self, alloc: Global, user: &[u8], text: &[u8]) -> Answer
+        ensures { Runs self.old (record { user = user.now; line = text.now; reply = result } ∷ []) self.new }
+    {
+        let Some(place) = place_of(self.users.as_slice(), user) else {
+            return Answer::no_user();
+        };
+        self.users[place].say(alloc, text)
+    }
+
+    /// Lines of many users, in order. Where the list of the answers is refused, no line was said.
+    pub fn run(&mut self, alloc: Global, script: &[Said]) -> Result<Vec<Answer>, AllocError>
+        ensures answers { IfOk result (λ answers. length answers.items ≡ length script.now) }
+        ensures runs { IfOk result (λ answers. Runs self.old (events_of script.now answers.items) self.new) }
+        ensures err { OnErr result (self.new ≡ self.old) }
+    {
+        let _ = &self.users;
+        let mut answers = Vec::with_capacity(alloc, script.len())?;
+        for said in script {
+            let answer = self.say(alloc, said.user.as_slice(), said.text.as_slice());
+            answers.push_reserved(answer);
+        }
+        Ok(answers)
+    }
+}
+
+// The place of a user.
+fn place_of(users: &[User], user: &[u8]) -> Option<usize>
+    ensures { result ≡ position (λ seat. bytes_eq seat.name user.now) users.now }
+{
+    users.iter().position(|u| u.name() == user)
+}

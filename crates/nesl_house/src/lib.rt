@@ -1,0 +1,10 @@
+//! Many users, each with a session of their own.
+#![tactic(auto)]
+
+pub mod house;
+pub mod laws;
+pub mod roster;
+pub mod user;
+
+#[cfg(test)]
+mod tests;

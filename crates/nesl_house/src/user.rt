@@ -1,0 +1,60 @@
+//! One user of a house.
+ghost use Rattle.std.specs.Prelude.{◌≡◌, IfOk};
+ghost use Rattle.nesl_session.specs.State.{State};
+ghost use Rattle.nesl_session.specs.Solo.{Replays, Answers};
+ghost use Rattle.nesl_house.specs.Roster.{fresh};
+
+use nesl_session::answer::Answer;
+use nesl_session::limits::Limits;
+use nesl_session::session::Session;
+use std::alloc::{AllocError, Global};
+use std::marker::Model;
+
+/// A user, and that user's session.
+#[derive(Drop)]
+pub struct User {
+    name: Vec<u8>,
+    session: Session,
+}
+
+impl Model for User {
+    ghost use Rattle.nesl_house.specs.Runs.{Seat};
+
+    ghost Value = { Seat };
+
+    ghost view = { λ u. record { name = u.name.items; session = u.session } };
+}
+
+impl User {
+    /// A user with an empty session.
+    pub(crate) fn new(alloc: Global, name: &[u8], limits: Limits) -> Result<User, AllocError>
+        ensures fresh { IfOk result (λ user. user ≡ fresh limits name.now) }
+        ensures replayed { IfOk result (λ user. (state : State) × Replays user.session state) }
+    {
+        let name = Vec::from_slice(alloc, name)?;
+        let session = Session::new(alloc, limits)?;
+        Ok(User { name, session })
+    }
+
+    /// The name, as it stands in the roster.
+    pub fn name(&self) -> &[u8]
+        ensures { result.now ≡ self.now.name }
+    {
+        self.name.as_slice()
+    }
+
+    /// The session.
+    pub fn session(&self) -> &Session
+        ensures { result.now ≡ self.now.session }
+    {
+        &self.session
+    }
+
+    /// One line of this user.
+    pub(crate) fn say(&mut self, alloc: Global, text: &[u8]) -> Answer
+        ensures name { self.new.name ≡ self.old.name }
+        ensures answers { Answers self.old.session text.now result self.new.session }
+    {
+        self.session.line(alloc, text)
+    }
+}

@@ -1,0 +1,5 @@
+pub mod Bytes
+pub mod Tallies
+pub mod Talks
+pub mod Batches
+pub mod Unique

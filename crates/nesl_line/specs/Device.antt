@@ -1,0 +1,15 @@
+-- What a device is to its callers.
+use Rattle.nesl_line.specs.declared.device.Device.{Device}
+use Rattle.nesl_line.specs.Tally.{ReadTally, WriteTally}
+
+-- its reader or writer
+abbrev pub device_inner : {T : Type 0} → Device T → T
+device_inner d = d.inner
+
+-- what came of the reads
+abbrev pub device_reads : {T : Type 0} → Device T → ReadTally
+device_reads d = record { made = d.reads; failed = d.failed }
+
+-- what came of the writes and the flushes
+abbrev pub device_writes : {T : Type 0} → Device T → WriteTally
+device_writes d = record { failed = d.failed; stalled = d.stalled; flushed = d.flushed }

@@ -1,0 +1,6 @@
+pub mod Lines
+pub mod Conversation
+pub mod Tally
+pub mod Batch
+pub mod Steps
+pub mod Device

@@ -1,0 +1,44 @@
+-- The lines of a text.
+use Rattle.std.specs.Prelude.{◌≡◌, ◌≢◌, ℕ, ◌==◌, List, [], ◌∷◌, ◌++◌, length, take, map, flat_map, if◌then◌else◌}
+use Rattle.std.specs.List.{AllByRecursion}
+use Rattle.std.specs.Str.Lines.{strip_carriage_return}
+
+-- no LF is among these bytes
+abbrev pub HasNoFeed : List ℕ → Type 0
+HasNoFeed bytes = AllByRecursion (λ b. b ≢ 10) bytes
+
+-- a line as it stands in a text, with its LF
+abbrev pub ended : List ℕ → List ℕ
+ended line = line ++ 10 ∷ []
+
+-- The text is these lines, each with its LF, and then a rest without one.
+pub record Splits (text : List ℕ) (lines : List (List ℕ)) (rest : List ℕ) : Type 0 where
+  pub spelled : text ≡ flat_map ended lines ++ rest
+  pub each : AllByRecursion HasNoFeed lines
+  pub open_end : HasNoFeed rest
+
+-- A line has at most 4,096 bytes. Of a longer one the first 4,097 are handed on, so that it is seen to be too long.
+abbrev pub cut : List ℕ → List ℕ
+cut line = take 4097 line
+
+-- what is handed on of a line that had its LF: one CR directly before the LF is dropped
+abbrev pub handed : List ℕ → List ℕ
+handed line = cut (strip_carriage_return line)
+
+-- what is handed on of the rest of a text that has ended: it is a line where it isn't empty, and a CR stays
+abbrev pub last_line : List ℕ → List (List ℕ)
+last_line rest = if length rest == 0 then [] else cut rest ∷ []
+
+-- the lines of a text that was read to its end
+pub record AllLines (text : List ℕ) (lines : List (List ℕ)) : Type 0 where
+  pub whole : List (List ℕ)
+  pub rest : List ℕ
+  pub splits : Splits text whole rest
+  pub are : lines ≡ map handed whole ++ last_line rest
+
+-- the lines of a text after which a read failed: those whose LF came
+pub record WholeLines (text : List ℕ) (lines : List (List ℕ)) : Type 0 where
+  pub whole : List (List ℕ)
+  pub rest : List ℕ
+  pub splits : Splits text whole rest
+  pub are : lines ≡ map handed whole

@@ -1,0 +1,44 @@
+-- How often a reader and a writer were called, and how often that failed.
+use Rattle.std.specs.Prelude.{◌≡◌, ℕ, ◌+◌, ◌-◌, ◌^◌, ◌<◌, ◌≤◌, ◌==◌, ◌&&◌, ◌⊎◌, List, Result, Ok, Err, length, min, max, nat_lt, if◌then◌else◌}
+
+-- n and k more, as far as the count goes: 2^64 - 1 stays
+abbrev pub counted : ℕ → ℕ → ℕ
+counted k n = max n (min (n + k) (2 ^ 64 - 1))
+
+-- the count has risen, or stands at its end
+abbrev pub Rose : ℕ → ℕ → Type 0
+Rose old new = (old < new) ⊎ (2 ^ 64 - 1 ≤ new)
+
+-- how many reads were made, and how many of them failed
+pub record ReadTally : Type 0 where
+  pub made : ℕ
+  pub failed : ℕ
+
+-- one read more
+abbrev pub after_read : {A E : Type 0} → ReadTally → Result A E → ReadTally
+after_read tally (Ok n) = record tally { made = counted 1 tally.made }
+after_read tally (Err e) = record tally { made = counted 1 tally.made; failed = counted 1 tally.failed }
+
+-- how many writes and flushes failed, how many writes of some bytes took none, and how many flushes went well
+pub record WriteTally : Type 0 where
+  pub failed : ℕ
+  pub stalled : ℕ
+  pub flushed : ℕ
+
+-- one write more
+abbrev pub after_write : {E : Type 0} → WriteTally → List ℕ → Result ℕ E → WriteTally
+after_write tally bytes (Ok n) = if n == 0 && nat_lt 0 (length bytes) then record tally { stalled = counted 1 tally.stalled } else tally
+after_write tally bytes (Err e) = record tally { failed = counted 1 tally.failed }
+
+-- n flushes that went well
+abbrev pub flushed_by : ℕ → WriteTally → WriteTally
+flushed_by n tally = record tally { flushed = counted n tally.flushed }
+
+-- one flush more
+abbrev pub after_flush : {A E : Type 0} → WriteTally → Result A E → WriteTally
+after_flush tally (Ok _) = flushed_by 1 tally
+after_flush tally (Err e) = record tally { failed = counted 1 tally.failed }
+
+-- a write or a flush failed, or a write took no byte
+abbrev pub Blames : WriteTally → WriteTally → Type 0
+Blames old new = Rose old.failed new.failed ⊎ Rose old.stalled new.stalled

@@ -1,0 +1,153 @@
+//! Readers and writers that tell their bytes.
+ghost use Rattle.std.specs.Prelude.{◌≡◌, ℕ, List, Option, Result, Err};
+ghost use Rattle.std.specs.Io.KnownBytes.{ReadConsumes, WriteAppends, Keeps};
+ghost use Rattle.std.specs.Io.{ReadsAtMost, WritesAtMost};
+ghost use Rattle.nesl_line.specs.Tally.{ReadTally, WriteTally, after_read, after_write, after_flush};
+
+use std::io::{Read, Write};
+
+/// A read, a write or a flush failed.
+#[derive(Clone, Copy, PartialEq, Eq, Debug)]
+pub struct Failed;
+
+/// Bytes to read.
+pub trait Source {
+    /// The bytes that are left to read, where they are known.
+    ghost left: { Self → Option (List ℕ) };
+
+    /// How many reads were made, and how many of them failed.
+    ghost tally: { Self → ReadTally };
+
+    /// Reads some bytes into the front of `buf`. None come only at the end, or where `buf` is empty.
+    fn read(&mut self, buf: &mut [u8]) -> Result<usize, Failed>
+        ensures bound { ReadsAtMost result buf.new }
+        ensures bytes { ReadConsumes (left self.old) (left self.new) result buf.new }
+        ensures tally { tally self.new ≡ after_read (tally self.old) result };
+
+    /// How many reads failed; 2^64 - 1 stays.
+    fn failures(&self) -> u64
+        ensures { result ≡ (tally self.now).failed };
+}
+
+/// Bytes to write.
+pub trait Sink {
+    /// The bytes that were written, where they are known.
+    ghost held: { Self → Option (List ℕ) };
+
+    /// How many writes and flushes failed, how many writes took no byte, and how many flushes went well.
+    ghost tally: { Self → WriteTally };
+
+    /// Writes some bytes from the front of `buf`.
+    fn write(&mut self, buf: &[u8]) -> Result<usize, Failed>
+        ensures bound { WritesAtMost result buf.now }
+        ensures bytes { WriteAppends (held self.old) (held self.new) result buf.now }
+        ensures tally { tally self.new ≡ after_write (tally self.old) buf.now result };
+
+    /// Hands on what was written.
+    fn flush(&mut self) -> Result<(), Failed>
+        ensures bytes { Keeps (held self.old) (held self.new) }
+        ensures tally { tally self.new ≡ after_flush (tally self.old) result };
+
+    /// How many writes and flushes failed; 2^64 - 1 stays.
+    fn failures(&self) -> u64
+        ensures { result ≡ (tally self.now).failed };
+}
+
+/// A reader or a writer of the system, with counts of what was asked of it. It adds no buffer: give it a `BufWriter` to gather the writes of one answer, which are flushed together.
+#[derive(Drop)]
+pub struct Device<T> {
+    inner: T,
+    reads: u64,
+    failed: u64,
+    stalled: u64,
+    flushed: u64,
+}
+
+impl<T> Device<T> {
+    ghost use Rattle.nesl_line.specs.Device.{device_inner, device_reads, device_writes};
+
+    /// A device of which nothing was asked yet.
+    pub fn new(inner: T) -> Device<T>
+        ensures inner { device_inner result ≡ inner }
+        ensures reads { device_reads result ≡ record { made = 0; failed = 0 } }
+        ensures writes { device_writes result ≡ record { failed = 0; stalled = 0; flushed = 0 } }
+    {
+        Device {
+            inner,
+            reads: 0,
+            failed: 0,
+            stalled: 0,
+            flushed: 0,
+        }
+    }
+
+    /// The reader or writer.
+    pub fn into_inner(self) -> T
+        ensures { result ≡ device_inner self }
+    {
+        self.inner
+    }
+}
+
+impl<T: Read> Source for Device<T> {
+    ghost use Rattle.nesl_line.specs.Device.{device_inner, device_reads};
+
+    ghost left = { λ d. T.remaining (device_inner d) };
+
+    ghost tally = { device_reads };
+
+    fn read(&mut self, buf: &mut [u8]) -> Result<usize, Failed> {
+        self.reads = self.reads.saturating_add(1);
+        match self.inner.read(buf) {
+            Ok(n) => Ok(n),
+            Err(_) => {
+                self.failed = self.failed.saturating_add(1);
+                Err(Failed)
+            }
+        }
+    }
+
+    fn failures(&self) -> u64 {
+        self.failed
+    }
+}
+
+impl<T: Write> Sink for Device<T> {
+    ghost use Rattle.nesl_line.specs.Device.{device_inner, device_writes};
+
+    ghost held = { λ d. T.contents (device_inner d) };
+
+    ghost tally = { device_writes };
+
+    fn write(&mut self, buf: &[u8]) -> Result<usize, Failed> {
+        match self.inner.write(buf) {
+            Ok(n) => {
+                if n == 0 && !buf.is_empty() {
+                    self.stalled = self.stalled.saturating_add(1);
+                }
+                Ok(n)
+            }
+            Err(_) => {
+                self.failed = self.failed.saturating_add(1);
+                Err(Failed)
+            }
+        }
+    }
+
+    fn flush(&mut self) -> Result<(), Failed> {
+        match self.inner.flush() {
+            Ok(()) => {
+                self.flushed = self.flushed.saturating_add(1);
+                Ok(())
+            }
+            Err(_) => {
+                self.failed = self.failed.saturating_add(1);
+                Err(Failed)
+            }
+        }
+    }
+
+    fn failures(&self) -> u64 {
+        self.failed
+    }
+}

@@ -1,0 +1,9 @@
+//! A house that is spoken to over a reader and a writer.
+#![tactic(auto)]
+
+pub mod batch;
+pub mod device;
+pub mod laws;
+#[cfg(test)]
+mod tests;
+mod turn;

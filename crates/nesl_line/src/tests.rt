@@ -1,0 +1,294 @@
+//! A batch over readers and writers that do as they are told.
+use crate::batch::{End, Ran, batch};
+use crate::device::{Device, Sink, Source};
+use nesl_house::house::House;
+use nesl_session::limits::Limits;
+use std::alloc::{AllocError, Global};
+use std::io;
+use std::io::{Read, Write};
+use std::test::Fail;
+
+const LIMITS: Limits = Limits {
+    line_work: 100,
+    session_work: 1000,
+    elements: 100,
+    transcript_lines: 100,
+    transcript_bytes: 100000,
+};
+
+fn house(alloc: Global, names: &[&str]) -> Result<House, Fail> {
+    let mut roster = Vec::new(alloc);
+    for name in names {
+        roster.push(Vec::from_slice(alloc, name.as_bytes())?)?;
+    }
+    Ok(House::new(alloc, roster.as_slice(), LIMITS)?)
+}
+
+// Gives at most `step` bytes at each read, and fails when `good` reads were made.
+#[derive(Drop)]
+struct Tape<'a> {
+    rest: &'a [u8],
+    step: usize,
+    good: u32,
+}
+
+impl Read for Tape<'_> {
+    fn read(&mut self, buf: &mut [u8]) -> io::Result<usize> {
+        if self.good == 0 {
+            return Err(io::Error::from(io::ErrorKind::Other));
+        }
+        self.good -= 1;
+        let n = self.rest.len().min(self.step).min(buf.len());
+        let (now, later) = self.rest.split_at(n);
+        buf[..n].copy_from_slice(now);
+        self.rest = later;
+        Ok(n)
+    }
+}
+
+fn reader_of(text: &[u8], step: usize) -> Device<Tape<'_>> {
+    Device::new(Tape {
+        rest: text,
+        step,
+        good: u32::MAX,
+    })
+}
+
+// Takes at most `step` bytes at each write and `room` bytes in all, and then fails or takes none.
+#[derive(Drop)]
+struct Paper {
+    bytes: Vec<u8>,
+    step: usize,
+    room: usize,
+    stalls: bool,
+    flushes: u32,
+    good_flushes: u32,
+}
+
+impl Write for Paper {
+    fn write(&mut self, buf: &[u8]) -> io::Result<usize> {
+        let n = buf.len().min(self.step).min(self.room);
+        if n == 0 && !self.stalls {
+            return Err(io::Error::from(io::ErrorKind::Other));
+        }
+        self.bytes.extend_from_slice(&buf[..n])?;
+        self.room -= n;
+        Ok(n)
+    }
+
+    fn flush(&mut self) -> io::Result<()> {
+        if self.flushes >= self.good_flushes {
+            return Err(io::Error::from(io::ErrorKind::Other));
+        }
+        self.flushes += 1;
+        Ok(())
+    }
+}
+
+fn blank_paper(alloc: Global) -> Device<Paper> {
+    Device::new(Paper {
+        bytes: Vec::new(alloc),
+        step: 1000000,
+        room: 1000000,
+        stalls: false,
+        flushes: 0,
+        good_flushes: 1000000,
+    })
+}
+
+const NINE: &str = "it = 9 : int (work 1, depth 1)\n";
+
+#[test]
+fn lines_are_answered(rt: HostRuntime) -> Result<(), Fail> {
+    let alloc = rt.alloc();
+    let rows = [
+        ("", "", 0),
+        (
+            "user ann\n7;\nuser bob\n9;\n",
+            "user ann\nit = 7 : int (work 1, depth 1)\nuser bob\nit = 9 : int (work 1, depth 1)\n",
+            4,
+        ),
+        (
+            "1;\nuser zed\n1;\nuser ann\n2;",
+            "fault user\nfault user\nfault user\nuser ann\nit = 2 : int (work 1, depth 1)\n",
+            5,
+        ),
+        ("user ann\n2 *", "user ann\nfault syntax (work 0)\n", 2),
+        ("user ann\n\n", "user ann\nok\n", 2),
+        (
+            "user ann\r\n9;\r\n",
+            "user ann\nit = 9 : int (work 1, depth 1)\n",
+            2,
+        ),
+        (
+            "user ann\n9;\r",
+            "user ann\nit = 9 : int (work 1, depth 1)\n",
+            2,
+        ),
+        ("user ann\r", "fault user\n", 1),
+        (
+            "user ann\nuser 1a\n9;\n",
+            "user ann\nfault user\nfault user\n",
+            3,
+        ),
+        (
+            "user ann\nuser abcdefghijklmnopq\n9;\n",
+            "user ann\nfault user\nfault user\n",
+            3,
+        ),
+        (
+            "user ann\nuser  ann\nuser\nUser ann\n",
+            "user ann\nfault syntax (work 0)\nfault syntax (work 0)\nfault syntax (work 0)\n",
+            4,
+        ),
+    ];
+    for (text, wanted, lines) in rows {
+        for step in [1, 3, 1000000] {
+            let mut house = house(alloc, &["ann", "bob"])?;
+            let mut reader = reader_of(text.as_bytes(), step);
+            let mut writer = blank_paper(alloc);
+            let ran = batch(alloc, &mut reader, &mut writer, &mut house);
+            assert_eq!(rt;
+                ran,
+                Ran {
+                    lines,
+                    end: End::Input
+                },
+                "{text:?}"
+            );
+            assert_eq!(rt;
+                writer.into_inner().bytes.as_slice(),
+                wanted.as_bytes(),
+                "{text:?}"
+            );
+        }
+    }
+    Ok(())
+}
+
+#[test]
+fn long_lines_are_cut(rt: HostRuntime) -> Result<(), Fail> {
+    let alloc = rt.alloc();
+    let rows = [
+        (4094, NINE),
+        (4095, "fault long (work 0)\n"),
+        (20000, "fault long (work 0)\n"),
+    ];
+    for (blanks, answer) in rows {
+        for end in ["\n", "\r\n", ""] {
+            let mut text = String::from_str(alloc, "user ann\n9;")?;
+            for _ in 0..blanks {
+                text.push(' ')?;
+            }
+            text.push_str(end)?;
+            text.push_str(if end.is_empty() { "" } else { "9;" })?;
+            let mut house = house(alloc, &["ann"])?;
+            let mut reader = reader_of(text.as_bytes(), 1000000);
+            let mut writer = blank_paper(alloc);
+            let ran = batch(alloc, &mut reader, &mut writer, &mut house);
+            assert_eq!(rt; ran.end, End::Input);
+            let wanted = format!(in alloc;
+                "user ann\n{answer}{}",
+                if end.is_empty() { "" } else { NINE }
+            )?;
+            assert_eq!(rt; writer.into_inner().bytes.as_slice(), wanted.as_bytes());
+        }
+    }
+    Ok(())
+}
+
+#[test]
+fn a_read_that_fails_ends_the_batch(rt: HostRuntime) -> Result<(), Fail> {
+    let alloc = rt.alloc();
+    let mut house = house(alloc, &["ann"])?;
+    let mut reader = Device::new(Tape {
+        rest: b"user ann\n9;\n9",
+        step: 13,
+        good: 1,
+    });
+    let mut writer = blank_paper(alloc);
+    let ran = batch(alloc, &mut reader, &mut writer, &mut house);
+    assert_eq!(rt;
+        ran,
+        Ran {
+            lines: 2,
+            end: End::ReadFault
+        }
+    );
+    assert_eq!(rt; Source::failures(&reader), 1);
+    let bytes = writer.into_inner().bytes;
+    assert_eq!(rt;
+        bytes.as_slice(),
+        b"user ann\nit = 9 : int (work 1, depth 1)\n".as_slice()
+    );
+    let ann = house.session(b"ann").ok_or("ann")?;
+    assert_eq!(rt; ann.lines().len(), 1);
+    Ok(())
+}
+
+#[test]
+fn a_write_that_fails_ends_the_batch(rt: HostRuntime) -> Result<(), Fail> {
+    let alloc = rt.alloc();
+    for room in 0..20 {
+        for stalls in [false, true] {
+            let mut house = house(alloc, &["ann"])?;
+            let mut reader = reader_of(b"user ann\n9;\n9;\n", 1000000);
+            let mut writer = Device::new(Paper {
+                bytes: Vec::new(alloc),
+                step: 4,
+                room,
+                stalls,
+                flushes: 0,
+                good_flushes: 1000000,
+            });
+            let ran = batch(alloc, &mut reader, &mut writer, &mut house);
+            let lines = if room < 9 { 1 } else { 2 };
+            assert_eq!(rt;
+                ran,
+                Ran {
+                    lines,
+                    end: End::WriteFault
+                }
+            );
+            assert_eq!(rt; Sink::failures(&writer), if stalls { 0 } else { 1 });
+            let text = b"user ann\nit = 9 : int (work 1, depth 1)\n";
+            assert_eq!(rt; writer.into_inner().bytes.as_slice(), &text[..room]);
+            // The line whose answer could not be written stays stored.
+            let ann = house.session(b"ann").ok_or("ann")?;
+            assert_eq!(rt; ann.lines().len(), if room < 9 { 0 } else { 1 });
+        }
+    }
+    Ok(())
+}
+
+#[test]
+fn each_answer_is_flushed(rt: HostRuntime) -> Result<(), Fail> {
+    let alloc = rt.alloc();
+    for good_flushes in 0..4 {
+        let mut house = house(alloc, &["ann"])?;
+        let mut reader = reader_of(b"user ann\n9;\nuser zed\n", 1000000);
+        let mut writer = Device::new(Paper {
+            bytes: Vec::new(alloc),
+            step: 1000,
+            room: 1000,
+            stalls: false,
+            flushes: 0,
+            good_flushes,
+        });
+        let ran = batch(alloc, &mut reader, &mut writer, &mut house);
+        let end = if good_flushes < 3 {
+            End::WriteFault
+        } else {
+            End::Input
+        };
+        assert_eq!(rt;
+            ran,
+            Ran {
+                lines: u64::from(good_flushes.min(2)) + 1,
+                end
+            }
+        );
+        assert_eq!(rt; writer.into_inner().flushes, good_flushes);
+    }
+    Ok(())
+}

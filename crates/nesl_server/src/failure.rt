@@ -1,0 +1,66 @@
+//! How a run of the program fails.
+
+use nesl_house::roster::NewFault;
+use nesl_line::batch::End;
+use std::alloc::AllocError;
+use thiserror::Error;
+
+/// Why a run failed; the text goes to standard error.
+#[derive(Clone, Copy, PartialEq, Eq, Debug, Error)]
+pub enum Failure<'a> {
+    #[error("batch: read fault")]
+    Read,
+    #[error("batch: write fault")]
+    Write,
+    #[error("batch: no memory")]
+    Memory,
+    #[error("roster: bad count")]
+    Count,
+    #[error("roster: bad name {0}")]
+    Name(&'a str),
+    #[error("roster: {0} stands twice")]
+    Twice(&'a str),
+}
+
+impl<'a> Failure<'a> {
+    /// What a refusal of the roster of these users is told as.
+    pub fn of_roster(fault: NewFault, users: &[&'a str]) -> Failure<'a> {
+        match fault {
+            NewFault::Count => Failure::Count,
+            NewFault::Name { place } => Failure::Name(name_at(users, place)),
+            NewFault::Twice { place } => Failure::Twice(name_at(users, place)),
+            NewFault::Memory => Failure::Memory,
+        }
+    }
+
+    /// What an end of a batch is told as; the end of input is no failure.
+    pub fn of_end(end: End) -> Option<Failure<'a>> {
+        match end {
+            End::Input => None,
+            End::ReadFault => Some(Failure::Read),
+            End::WriteFault => Some(Failure::Write),
+            End::NoMemory => Some(Failure::Memory),
+        }
+    }
+
+    /// The exit status: 1 for a device or memory, 2 for the words.
+    pub fn status(self) -> u8 {
+        match self {
+            Failure::Read | Failure::Write | Failure::Memory => 1,
+            Failure::Count | Failure::Name(_) | Failure::Twice(_) => 2,
+        }
+    }
+}
+
+fn name_at<'a>(users: &[&'a str], place: usize) -> &'a str {
+    match users.get(place) {
+        Some(name) => name,
+        None => "",
+    }
+}
+
+impl<'a> From<AllocError> for Failure<'a> {
+    fn from(_: AllocError) -> Failure<'a> {
+        Failure::Memory
+    }
+}
