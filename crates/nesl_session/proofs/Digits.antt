@@ -1,5 +1,5 @@
 -- The number that digits write grows with them.
-use Rattle.std.proofs.Common.{◌≡◌, ℕ, ◌+◌, ◌*◌, ◌-◌, ◌≤◌, ◌<◌, List, [], ◌∷◌, fold, take, length, get_or, subst, arith, suc, zero}
+use Rattle.std.proofs.Common.{ℕ, ◌+◌, ◌≤◌, ◌<◌, List, [], ◌∷◌, fold, take, length, get_or, subst, arith, suc, zero}
 use Rattle.std.proofs.lemmas.List.Sums.{fold_more}
 use Rattle.nesl_session.specs.Reading.{with_digit, value_of}
 

@@ -4,3 +4,4 @@ pub mod Budgets
 pub mod Digits
 pub mod Pieces
 pub mod Stores
+pub mod Worked

@@ -1,7 +1,7 @@
 -- How what is pending changes along a text.
-use Rattle.std.proofs.Common.{◌≡◌, ℕ, ◌+◌, ◌-◌, ◌<◌, ◌≤◌, Bool, true, false, cond, eqb, Option, Some, None, List, [], ◌∷◌, ◌++◌, length, map, take, drop, get_or, refl, sym, ap, ◌∙◌, subst, arith, length-drop}
+use Rattle.std.proofs.Common.{◌≡◌, ℕ, ◌+◌, ◌-◌, ◌<◌, ◌≤◌, Bool, true, false, cond, eqb, Option, Some, None, List, [], ◌∷◌, ◌++◌, length, map, take, drop, get_or, refl, sym, ap, ◌∙◌, arith, length-drop}
 use Rattle.std.proofs.lemmas.Bool.{eqb-true, eq-eqb}
-use Rattle.std.proofs.lemmas.List.{drop_more, take_more, take_all, get_or-drop, length-take-le}
+use Rattle.std.proofs.lemmas.List.{drop_more, take_more, get_or-drop, length-take-le}
 use Rattle.nesl_session.specs.declared.formula.Operator.{Operator}
 use Rattle.nesl_session.specs.Formulas.{Tree}
 use Rattle.nesl_session.specs.Reading.{Piece, pieces, joined_from, joined_with}

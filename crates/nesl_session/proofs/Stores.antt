@@ -1,5 +1,5 @@
 -- A line of a session, stored or not.
-use Rattle.std.proofs.Common.{◌≡◌, ℕ, ◌+◌, ◌-◌, List, Vec, Global, map, length, [], ◌∷◌, ◌++◌, Bool, true, false, Option, Some, None, refl, sym, ap, ◌∙◌, subst, arith}
+use Rattle.std.proofs.Common.{◌≡◌, ℕ, ◌+◌, ◌-◌, List, Vec, Global, map, length, [], ◌∷◌, ◌++◌, true, false, Option, Some, None, refl, sym, ap, ◌∙◌, subst, arith}
 use Rattle.std.specs.Prelude.{sum_by, pos}
 use Rattle.std.proofs.lemmas.List.{map-append}
 use Rattle.std.proofs.lemmas.List.Sums.{sum_by_push}
@@ -7,14 +7,13 @@ use Rattle.nesl_session.specs.declared.session.Session.TheInside.{Inside}
 use Rattle.nesl_session.specs.Inside.{state_of, log_of, it_of, Keeps}
 use Rattle.nesl_session.specs.declared.limits.Limits.{Limits}
 use Rattle.nesl_values.specs.Tree as values
-use Rattle.nesl_values.specs.View.{tree_of}
 use Rattle.nesl_session.specs.declared.finding.Finding.{Finding}
 use Rattle.nesl_session.specs.declared.finding.Finding.TheVariants.{Full, TooLong, Blank, NoFormula, TooHigh, Overflow, OverBudget, TooMany, Bound}
-use Rattle.nesl_session.specs.State.{State, Log, Binding}
+use Rattle.nesl_session.specs.State.{State, Log}
 use Rattle.nesl_session.specs.Reply.{Reply, is_memory}
 use Rattle.nesl_session.specs.Step.{Step, Finds, told, after, bound}
 use Rattle.nesl_session.specs.Found.{bindings_of, is_stored, work_of, it_after}
-use Rattle.nesl_session.specs.Solo.{Solo, Replays, Alone}
+use Rattle.nesl_session.specs.Solo.{Replays, Alone}
 use Rattle.nesl_session.proofs.Runs.{replays_more}
 
 -- no step tells of want of memory

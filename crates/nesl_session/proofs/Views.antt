@@ -1,9 +1,9 @@
 -- A formula, level by level.
-use Rattle.std.proofs.Common.{◌≡◌, ℕ, ◌∙◌, ap, rules, Box, Global}
+use Rattle.std.proofs.Common.{◌≡◌, ◌∙◌, ap, rules, Box, Global}
 use Rattle.nesl_session.specs.declared.formula.Span.{Span}
 use Rattle.nesl_session.specs.declared.formula.Operator.{Operator}
-use Rattle.nesl_session.specs.declared.formula.Formula.{Formula, Number, Joined, the_lemmas}
-use Rattle.nesl_session.specs.Formulas.{Tree, number, joined, tree_of}
+use Rattle.nesl_session.specs.declared.formula.Formula.{Formula, Joined, the_lemmas}
+use Rattle.nesl_session.specs.Formulas.{joined, tree_of}
 
 pub view-Joined : (s : Span) (o : Operator) (a b : Box Formula Global) → tree_of (Joined s o a b) ≡ joined s o (tree_of a.value) (tree_of b.value)
 view-Joined s o a b = search (rules, the_lemmas)

@@ -1,5 +1,5 @@
 -- The text that an answer holds.
-use Rattle.std.specs.Prelude.{ℕ, List, codes, string_bytes}
+use Rattle.std.specs.Prelude.{ℕ, List, codes}
 use Rattle.nesl_session.specs.declared.answer.Text.{Text}
 use Rattle.nesl_session.specs.declared.answer.Text.TheVariants.{NoMemory, NoUser, Made}
 

@@ -8,6 +8,7 @@ pub mod Reply
 pub mod State
 pub mod Step
 pub mod Solo
+pub mod Worked
 pub mod Found
 pub mod Names
 pub mod Inside

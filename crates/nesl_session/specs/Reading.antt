@@ -1,5 +1,5 @@
 -- What a line means, in the small language of sums and products. The front end takes the place of this file.
-use Rattle.std.specs.Prelude.{◌≡◌, ℕ, ◌+◌, ◌*◌, ◌-◌, List, [], ◌∷◌, ◌++◌, Bool, Option, Some, None, not, ◌==◌, ◌||◌, ◌&&◌, nat_lt, nat_le, if◌then◌else◌, fold, map, length, take, drop, position}
+use Rattle.std.specs.Prelude.{◌≡◌, ℕ, ◌+◌, ◌*◌, ◌-◌, List, [], ◌∷◌, ◌++◌, Bool, Option, Some, None, ◌==◌, ◌||◌, ◌&&◌, nat_lt, nat_le, if◌then◌else◌, fold, map, length, take, drop, position}
 use Rattle.std.specs.List.{list_all, prefix_len}
 use Rattle.nesl_session.specs.declared.formula.Operator.{Operator}
 use Rattle.nesl_session.specs.declared.formula.Operator.TheVariants.{Add, Multiply}

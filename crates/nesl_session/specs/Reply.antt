@@ -1,5 +1,5 @@
 -- What is told of a line.
-use Rattle.std.specs.Prelude.{ℕ, List, [], ◌∷◌, ◌++◌, Bool, true, false, Option, Some, None, codes, decimal}
+use Rattle.std.specs.Prelude.{ℕ, List, ◌++◌, Bool, true, false, Option, Some, codes, decimal}
 use Rattle.nesl_session.specs.declared.fault.Fault.{Fault}
 use Rattle.nesl_session.specs.declared.fault.Fault.TheVariants.{Memory, User}
 use Rattle.nesl_session.specs.declared.formula.Span.{Span}

@@ -1,5 +1,5 @@
 -- What the code's own types stand for.
-use Rattle.std.specs.Prelude.{◌≡◌, Option, Some, None, Result, Ok, Err}
+use Rattle.std.specs.Prelude.{◌≡◌, Option, Some, None, Result}
 use Rattle.std.specs.Result.{MatchResult}
 use Rattle.nesl_session.specs.declared.formula.Formula.{Formula}
 use Rattle.nesl_session.specs.declared.reading.ReadFault.{ReadFault}

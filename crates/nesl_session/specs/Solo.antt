@@ -1,5 +1,5 @@
 -- Runs of one session with no one else.
-use Rattle.std.specs.Prelude.{◌≡◌, ℕ, List, [], ◌∷◌, true, false}
+use Rattle.std.specs.Prelude.{◌≡◌, ℕ, List, [], ◌∷◌}
 use Rattle.std.specs.Bool.{MatchBool}
 use Rattle.nesl_session.specs.declared.limits.Limits.{Limits}
 use Rattle.nesl_session.specs.State.{State, Log, empty}

@@ -10,7 +10,6 @@ use Rattle.nesl_session.specs.declared.finding.Finding.TheVariants.{Full, TooLon
 use Rattle.nesl_session.specs.declared.evaluation.Outcome.{Outcome}
 use Rattle.nesl_session.specs.declared.evaluation.Outcome.TheVariants.{Comes, Overflows}
 use Rattle.nesl_session.specs.Reading.{Meaning, Means, nothing, no_formula, too_high, formula}
-use Rattle.nesl_session.specs.Formulas.{Tree}
 use Rattle.nesl_session.specs.Outcomes.{out, within}
 use Rattle.nesl_session.specs.State.{State, Binding, elements_of}
 use Rattle.nesl_session.specs.Reply.{Reply, fault_text, fault_at_text, it_text}

@@ -1,4 +1,4 @@
-use Rattle.std.proofs.Common.{ℕ, ◌-◌, Option, ◌≡◌, ◌+◌, ◌≤◌, ◌∙◌, Some, sym, ap, refl, subst, arith, rules}
+use Rattle.std.proofs.Common.{ℕ, ◌-◌, ◌≡◌, ◌+◌, ◌≤◌, ◌∙◌, Some, sym, ap, refl, subst, arith, rules}
 use Rattle.nesl_session.specs.declared.evaluation.Outcome.{Outcome}
 use Rattle.nesl_session.specs.declared.formula.Formula.{Formula}
 use Rattle.nesl_session.specs.Formulas.{tree_of}

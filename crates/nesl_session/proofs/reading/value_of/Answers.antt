@@ -1,4 +1,4 @@
-use Rattle.std.proofs.Common.{◌<◌, length, arith}
+use Rattle.std.proofs.Common.{arith}
 use Rattle.nesl_session.proofs.Digits.{value_of-next}
 use Rattle.nesl_session.proofs.reading.value_of.Goals as goal
 

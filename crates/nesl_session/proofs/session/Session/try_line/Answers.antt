@@ -1,4 +1,4 @@
-use Rattle.std.proofs.Common.{◌≡◌, ◌∙◌, ◌+◌, ◌-◌, length, map, option_map, sym, ap, refl, arith}
+use Rattle.std.proofs.Common.{◌≡◌, ◌∙◌, ◌+◌, ◌-◌, length, option_map, sym, ap, refl, arith}
 use Rattle.std.proofs.lemmas.List.{length-map}
 use Rattle.nesl_values.specs.View.{tree_of}
 use Rattle.nesl_session.proofs.Stores.{refused_answer, stored_answer, lines_grow, fields_after, log_after, keeps_after}
