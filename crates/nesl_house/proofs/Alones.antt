@@ -1,5 +1,5 @@
 -- Runs of a house begin, follow one another, and are decided by each user's own lines.
-use Rattle.std.proofs.Common.{◌≡◌, ℕ, List, [], ◌∷◌, ◌++◌, Bool, true, false, not, cond, Option, Some, None, map, refl, sym, ap, ◌∙◌, subst}
+use Rattle.std.proofs.Common.{◌≡◌, ℕ, List, [], ◌∷◌, ◌++◌, Bool, true, false, not, cond, Option, Some, None, refl, sym, ap, ◌∙◌, subst}
 use Rattle.std.specs.Prelude.{filter}
 use Rattle.std.specs.List.{AllByRecursion}
 use Rattle.std.specs.Str.{bytes_eq}
@@ -103,11 +103,11 @@ runs_one house house' e old new all names had has others a = record {
   users = λ v.
       one_user (bytes_eq e.user v) e None None (session_of house v) (session_of house' v)
       (λ yes'.
-          let same : e.user ≡ v = (bytes_eq-Decides e.user v).0 yes' in
-          let P : List ℕ → Type 0 = λ x. RunsAlone (session_of house x) (cond (not (is_memory e.reply)) (e ∷ []) []) (session_of house' x) in
-          let Q : Option Log → Type 0 = λ x. RunsAlone x (cond (not (is_memory e.reply)) (e ∷ []) []) (session_of house' e.user) in
-          let R : Option Log → Type 0 = λ x. RunsAlone (Some old) (cond (not (is_memory e.reply)) (e ∷ []) []) x in
-          subst P same (subst Q (sym had) (subst R (sym has) (one_kept (is_memory e.reply) e old new refl (session_replays house e.user old all had) a))))
+      let same : e.user ≡ v = (bytes_eq-Decides e.user v).0 yes' in
+      let P : List ℕ → Type 0 = λ x. RunsAlone (session_of house x) (cond (not (is_memory e.reply)) (e ∷ []) []) (session_of house' x) in
+      let Q : Option Log → Type 0 = λ x. RunsAlone x (cond (not (is_memory e.reply)) (e ∷ []) []) (session_of house' e.user) in
+      let R : Option Log → Type 0 = λ x. RunsAlone (Some old) (cond (not (is_memory e.reply)) (e ∷ []) []) x in
+      subst P same (subst Q (sym had) (subst R (sym has) (one_kept (is_memory e.reply) e old new refl (session_replays house e.user old all had) a))))
       (λ no'. (sym (others v no'), alone_silent (session_of house v) (λ log. session_replays house v log all)));
 }
 
@@ -119,10 +119,10 @@ runs_stranger house e all none a = record {
   users = λ v.
       one_user (bytes_eq e.user v) e None None (session_of house v) (session_of house v)
       (λ yes'.
-          let same : e.user ≡ v = (bytes_eq-Decides e.user v).0 yes' in
-          let P : List ℕ → Type 0 = λ x. RunsAlone (session_of house x) (cond (not (is_memory e.reply)) (e ∷ []) []) (session_of house x) in
-          let Q : Option Log → Type 0 = λ x. RunsAlone x (cond (not (is_memory e.reply)) (e ∷ []) []) x in
-          subst P same (subst Q (sym none) refl))
+      let same : e.user ≡ v = (bytes_eq-Decides e.user v).0 yes' in
+      let P : List ℕ → Type 0 = λ x. RunsAlone (session_of house x) (cond (not (is_memory e.reply)) (e ∷ []) []) (session_of house x) in
+      let Q : Option Log → Type 0 = λ x. RunsAlone x (cond (not (is_memory e.reply)) (e ∷ []) []) x in
+      subst P same (subst Q (sym none) refl))
       (λ no'. (refl, alone_silent (session_of house v) (λ log. session_replays house v log all)));
 }
 

@@ -1,6 +1,6 @@
 -- The seat of a user, and a house with another session there.
 use Rattle.std.proofs.Common.{◌≡◌, ℕ, ◌+◌, ◌<◌, List, [], ◌∷◌, ◌++◌, length, Bool, true, false, cond, Option, Some, None, map, refl, sym, ap, ◌∙◌, subst, get_or, arith, zero, suc, position, take, length-take}
-use Rattle.std.specs.List.{AllByRecursion, position_from}
+use Rattle.std.specs.List.{position_from}
 use Rattle.std.specs.Str.{bytes_eq}
 use Rattle.std.proofs.lemmas.List.Quantifiers.{position-Some}
 use Rattle.std.proofs.lemmas.Iterator.Adapters.{position_from-zero}

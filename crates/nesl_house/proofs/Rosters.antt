@@ -1,14 +1,13 @@
 -- Names that are looked at place by place.
-use Rattle.std.proofs.Common.{◌≡◌, ◌≢◌, ℕ, ◌+◌, ◌<◌, ◌≤◌, List, [], ◌∷◌, ◌++◌, length, Bool, true, false, map, refl, sym, ap, ◌∙◌, subst, get_or, arith, zero, suc, take, drop, length-take, add-one, le-leb, Option, Some, None, ◌||◌, ◌&&◌, nat_le}
-use Rattle.std.specs.List.{All, AllPairs, Contains, list_any, list_all, slice_get}
+use Rattle.std.proofs.Common.{◌≡◌, ◌≢◌, ℕ, ◌+◌, ◌<◌, ◌≤◌, List, [], ◌∷◌, ◌++◌, length, Bool, true, false, map, refl, sym, ap, ◌∙◌, subst, get_or, arith, zero, suc, take, drop, length-take, add-one, le-leb, Some, ◌||◌, ◌&&◌, nat_le}
+use Rattle.std.specs.List.{Contains, list_any, list_all, slice_get}
 use Rattle.std.specs.Str.{bytes_eq}
 use Rattle.std.proofs.lemmas.List.{length-map}
 use Rattle.std.proofs.lemmas.List.Elements.{All-push}
 use Rattle.std.proofs.lemmas.List.Quantifiers.{all_pairs_push}
 use Rattle.std.proofs.lemmas.Slice.Eq.{bytes_eq-Decides}
-use Rattle.nesl_house.specs.declared.roster.NewFault.{NewFault}
-use Rattle.nesl_house.specs.declared.roster.NewFault.TheVariants.{Count, Name, Twice, Memory}
-use Rattle.nesl_house.specs.Roster.{is_letter, is_digit, is_user_name, begins_with_letter, AreUsers, IsCount, IsRoster, IsRefused, bad_name, stands_twice}
+use Rattle.nesl_house.specs.declared.roster.NewFault.TheVariants.{Name, Twice}
+use Rattle.nesl_house.specs.Roster.{is_letter, is_digit, is_user_name, AreUsers, IsCount, IsRefused, bad_name, stands_twice}
 
 -- a list, cut at a place
 pub cut_at : {A B : Type 0} (f : A → B) (xs : List A) (i : ℕ) (d : A) → i < length xs → map f xs ≡ map f (take i xs) ++ f (get_or xs i d) ∷ map f (drop (suc i) xs)

@@ -1,5 +1,5 @@
 -- What users say to a house in the code.
-use Rattle.std.specs.Prelude.{ℕ, List, [], ◌∷◌}
+use Rattle.std.specs.Prelude.{List, [], ◌∷◌}
 use Rattle.nesl_session.specs.Reply.{Reply}
 use Rattle.nesl_house.specs.declared.house.Said.{Said}
 use Rattle.nesl_house.specs.Script.{Event}

@@ -1,5 +1,5 @@
 -- What users say, and what they are told.
-use Rattle.std.specs.Prelude.{ℕ, List, Bool, not, filter, map}
+use Rattle.std.specs.Prelude.{ℕ, List, not, filter, map}
 use Rattle.std.specs.Str.{bytes_eq}
 use Rattle.nesl_session.specs.Reply.{Reply, is_memory}
 

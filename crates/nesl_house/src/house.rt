@@ -32,14 +32,16 @@ impl Model for House {
 /// A line that a user says.
 #[derive(Drop)]
 pub struct Said {
+    /// Who says it.
     pub user: Vec<u8>,
+    /// The line, without its LF.
     pub text: Vec<u8>,
 }
 
 impl House {
     ghost use Rattle.nesl_house.specs.Said.{events_of};
 
-    /// A house in which each user of the roster has an empty session with these limits.
+    /// A house in which each user of the roster has an empty session with these limits. The roster is checked before any memory is taken.
     pub fn new(alloc: Global, roster: &[Vec<u8>], limits: Limits) -> Result<House, NewFault>
         ensures roster { OnOk result (IsRoster (map (λ v. v.items) roster.now)) }
         ensures opened { IfOk result (λ house. house ≡ opened limits (map (λ v. v.items) roster.now)) }
@@ -71,7 +73,7 @@ impl House {
         self.users.as_slice()
     }
 
-    /// The session of a user.
+    /// The session of a user, or nothing where this is a stranger.
     pub fn session(&self, user: &[u8]) -> Option<&Session>
         ensures { option_map (λ s. s.now) result ≡ session_of self.now user.now }
     {
@@ -81,7 +83,7 @@ impl House {
         }
     }
 
-    /// One line of a user.
+    /// One line of a user: the answer is that user's session's. A stranger is told `fault user`, and nothing changes.
     pub fn say(&mut self, alloc: Global, user: &[u8], text: &[u8]) -> Answer
         ensures { Runs self.old (record { user = user.now; line = text.now; reply = result } ∷ []) self.new }
     {

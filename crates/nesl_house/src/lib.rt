@@ -4,7 +4,6 @@
 pub mod house;
 pub mod laws;
 pub mod roster;
-pub mod user;
-
 #[cfg(test)]
 mod tests;
+pub mod user;

@@ -76,7 +76,10 @@ fn users_have_sessions_of_their_own(rt: HostRuntime) -> Result<(), Fail> {
     let names = roster(alloc, &["ann", "bob"])?;
     let mut house = House::new(alloc, names.as_slice(), LIMITS)?;
     let answer = house.say(alloc, b"bob", b"7;");
-    assert_eq!(rt; answer.bytes(), b"it = 7 : int (work 1, depth 1)\n".as_slice());
+    assert_eq!(rt;
+        answer.bytes(),
+        b"it = 7 : int (work 1, depth 1)\n".as_slice()
+    );
     let answer = house.say(alloc, b"zed", b"7;");
     assert_eq!(rt; answer.bytes(), b"fault user\n".as_slice());
     assert_eq!(rt; answer.fault(), Some(Fault::User));
@@ -128,7 +131,11 @@ fn no_one_hears_who_else_speaks(rt: HostRuntime) -> Result<(), Fail> {
         assert_eq!(rt; answers.len(), 6);
         (ann, bob, turns) = (ANN.iter(), BOB.iter(), choice);
         for answer in answers.iter() {
-            let next = if turns & 1 == 1 { ann.next() } else { bob.next() };
+            let next = if turns & 1 == 1 {
+                ann.next()
+            } else {
+                bob.next()
+            };
             turns >>= 1;
             let (_, reply) = next.ok_or("three replies each")?;
             assert_eq!(rt; answer.bytes(), reply.as_bytes(), "in {choice}");

@@ -1,15 +1,14 @@
 -- Bytes that are read, cut into lines, and written.
-use Rattle.std.proofs.Common.{◌≡◌, ◌≢◌, ℕ, ◌+◌, ◌-◌, ◌<◌, ◌≤◌, ◌==◌, List, [], ◌∷◌, ◌++◌, Bool, true, false, cond, Option, Some, None, map, length, take, drop, refl, sym, ap, ◌∙◌, subst, get_or, arith, zero, suc, append_assoc, append-nil, length-append, slice_index, nat_lt}
+use Rattle.std.proofs.Common.{◌≡◌, ◌≢◌, ℕ, ◌+◌, ◌-◌, ◌<◌, ◌≤◌, ◌==◌, List, [], ◌∷◌, ◌++◌, Bool, true, false, not, cond, Option, Some, None, length, take, drop, refl, sym, ap, ◌∙◌, subst, arith, zero, suc, append_assoc, append-nil, length-append, slice_index, nat_lt, min, ⊎_elim, add-one}
 use Rattle.std.specs.Prelude.{flat_map}
 use Rattle.std.specs.List.{AllByRecursion}
 use Rattle.std.specs.Io.KnownBytes.{Consumes, Appends, Keeps}
 use Rattle.std.proofs.lemmas.Grind.{flat_map-append}
-use Rattle.std.proofs.lemmas.List.{take_all, take-append-le, take-append-drop, length-take}
+use Rattle.std.proofs.lemmas.List.{take_all, take-append-drop, length-take}
 use Rattle.std.proofs.Math.Seq.{take-add}
-use Rattle.std.proofs.lemmas.Bool.{le-ltb, lt-ltb, ltb-true, ltb-false, eqb-true}
+use Rattle.std.proofs.lemmas.Bool.{le-ltb, lt-ltb, ltb-true, ltb-false, eqb-true, cases_lt}
 use Rattle.nesl_line.specs.Steps.{Sent}
-use Rattle.nesl_line.specs.Lines.{HasNoFeed, ended, Splits, cut, handed}
-use Rattle.std.specs.Str.Lines.{strip_carriage_return}
+use Rattle.nesl_line.specs.Lines.{HasNoFeed, ended, Splits, handed}
 use Rattle.std.proofs.lemmas.List.{length-drop}
 
 -- nothing more
@@ -53,12 +52,12 @@ all_both P (x ∷ xs) ys a b = (a.0, all_both P xs ys a.1 b)
 pub splits_none : Splits [] [] []
 splits_none = record { spelled = refl; each = tt; open_end = tt }
 
--- a byte more of the rest
-pub splits_byte : (text : List ℕ) (whole : List (List ℕ)) (raw : List ℕ) (b : ℕ) → Splits text whole raw → b ≢ 10 → Splits (text ++ b ∷ []) whole (raw ++ b ∷ [])
-splits_byte text whole raw b s n = record {
-  spelled = ap (λ x. x ++ b ∷ []) s.spelled ∙ append_assoc (flat_map ended whole) raw (b ∷ []);
+-- more of the rest
+pub splits_more : (text : List ℕ) (whole : List (List ℕ)) (raw more : List ℕ) → Splits text whole raw → HasNoFeed more → Splits (text ++ more) whole (raw ++ more)
+splits_more text whole raw more s n = record {
+  spelled = ap (λ x. x ++ more) s.spelled ∙ append_assoc (flat_map ended whole) raw more;
   each = s.each;
-  open_end = all_both (λ x. x ≢ 10) raw (b ∷ []) s.open_end (n, tt);
+  open_end = all_both (λ x. x ≢ 10) raw more s.open_end n;
 }
 
 -- a line ends
@@ -78,20 +77,38 @@ splits_then a b one two raw s t = record {
   open_end = t.open_end;
 }
 
--- A line of which the first n bytes are held.
-pub hold_short : (n : ℕ) (raw bytes bytes' : List ℕ) (b : ℕ) (longer : Bool) → (bytes ≡ take n raw) × (longer ≡ nat_lt n (length raw)) → length bytes < n → bytes' ≡ bytes ++ b ∷ [] → (bytes' ≡ take n (raw ++ b ∷ [])) × (longer ≡ nat_lt n (length (raw ++ b ∷ [])))
-hold_short n raw bytes bytes' b longer h lt e =
-    let few : length raw < n = omega (arith, ap length h.0, length-take n raw) in
-    let grown : length (raw ++ b ∷ []) ≡ length raw + 1 = length-append raw (b ∷ []) in (
-      e ∙ ap (λ x. x ++ b ∷ []) (h.0 ∙ take_all n raw (omega arith)) ∙ sym (take_all n (raw ++ b ∷ []) (omega arith)),
-      h.1 ∙ le-ltb n (length raw) (omega arith) ∙ sym (le-ltb n (length (raw ++ b ∷ [])) (omega arith)),
-    )
+take_both : {A : Type 0} (n : ℕ) (xs ys : List A) → take n (xs ++ ys) ≡ take n xs ++ take (n - length xs) ys
+take_both n [] ys = ap (λ k. take k ys) (omega arith) ∙ none n
+  where
+    none : (n : ℕ) → take (n - 0) ys ≡ take n [] ++ take (n - 0) ys
+    none zero = refl
+    none (suc n) = refl
+take_both zero (x ∷ xs) ys = let zero' : 0 ≡ 0 - suc (length xs) = omega arith in ap (λ k. take k ys) zero'
+take_both (suc n) (x ∷ xs) ys = let rest : n - length xs ≡ suc n - suc (length xs) = omega arith in ap (λ zs. x ∷ zs) (take_both n xs ys) ∙ ap (λ k. x ∷ (take n xs ++ take k ys)) rest
 
-pub hold_long : (n : ℕ) (raw bytes : List ℕ) (b : ℕ) (longer : Bool) → (bytes ≡ take n raw) × (longer ≡ nat_lt n (length raw)) → n ≤ length bytes → (bytes ≡ take n (raw ++ b ∷ [])) × (true ≡ nat_lt n (length (raw ++ b ∷ [])))
-hold_long n raw bytes b longer h le =
-    let many : n ≤ length raw = omega (arith, ap length h.0, length-take n raw) in
-    let grown : length (raw ++ b ∷ []) ≡ length raw + 1 = length-append raw (b ∷ []) in
-    (h.0 ∙ sym (take-append-le n raw (b ∷ []) many), sym (lt-ltb n (length (raw ++ b ∷ [])) (omega arith)))
+take_few : {A : Type 0} (k : ℕ) (ys : List A) → take (min (length ys) k) ys ≡ take k ys
+take_few k ys = ⊎_elim (λ h. let e : min (length ys) k ≡ k = omega (arith, h) in ap (λ m. take m ys) e)
+    (λ h. let e : min (length ys) k ≡ length ys = omega (arith, h) in ap (λ m. take m ys) e ∙ take_all (length ys) ys (omega arith) ∙ sym (take_all k ys h)) (cases_lt k (length ys))
+
+-- A line of which the first n bytes are held, and more of it: as much as there is room for is kept.
+module _ (n : ℕ) (raw more bytes bytes' : List ℕ) (longer : Bool) (kept : ℕ) where
+  pub hold_bytes : (bytes ≡ take n raw) × (longer ≡ nat_lt n (length raw)) → kept ≡ min (length more) (n - length bytes) → bytes' ≡ bytes ++ take kept more → bytes' ≡ take n (raw ++ more)
+  hold_bytes h k e =
+      let held : length bytes ≡ min n (length raw) = ap length h.0 ∙ length-take n raw in
+      let left : n - length bytes ≡ n - length raw = omega (arith, held) in
+      e ∙ (λ i. h.0 i ++ take ((k ∙ ap (λ m. min (length more) m) left) i) more) ∙ ap (λ x. take n raw ++ x) (take_few (n - length raw) more) ∙ sym (take_both n raw more)
+
+  pub hold_longer : (bytes ≡ take n raw) × (longer ≡ nat_lt n (length raw)) → kept ≡ min (length more) (n - length bytes) → kept < length more → true ≡ nat_lt n (length (raw ++ more))
+  hold_longer h k lt =
+      let held : length bytes ≡ min n (length raw) = ap length h.0 ∙ length-take n raw in
+      sym (lt-ltb n (length (raw ++ more)) (omega (arith, held, k, lt, length-append raw more)))
+
+  pub hold_whole : (bytes ≡ take n raw) × (longer ≡ nat_lt n (length raw)) → kept ≡ min (length more) (n - length bytes) → length more ≤ kept → longer ≡ nat_lt n (length (raw ++ more))
+  hold_whole h k le =
+      let held : length bytes ≡ min n (length raw) = ap length h.0 ∙ length-take n raw in
+      let grown : length (raw ++ more) ≡ length raw + length more = length-append raw more in
+      ⊎_elim (λ lt. h.1 ∙ lt-ltb n (length raw) lt ∙ sym (lt-ltb n (length (raw ++ more)) (omega (arith, grown, lt))))
+      (λ ge. h.1 ∙ le-ltb n (length raw) ge ∙ sym (le-ltb n (length (raw ++ more)) (omega (arith, held, k, le, grown, ge)))) (cases_lt n (length raw))
 
 -- what is sent
 pub sent_all : (held held' : Option (List ℕ)) (bytes : List ℕ) → Appends held held' bytes → (b : Bool) → Sent held held' bytes b
@@ -169,3 +186,34 @@ first_byte b bs (line ∷ whole) rest false e s =
 pub splits_some : (text : List ℕ) → (whole : List (List ℕ)) × (rest : List ℕ) × Splits text whole rest
 splits_some [] = ([], [], splits_none)
 splits_some (b ∷ bs) = let s = splits_some bs in first_byte b bs s.0 s.1 (b == 10) refl s.2
+
+-- bytes of which none is an LF
+pub no_feed_in : (bytes : List ℕ) → ((k : ℕ) → k < length bytes → slice_index bytes k ≢ 10) → HasNoFeed bytes
+no_feed_in [] h = tt
+no_feed_in (b ∷ bs) h = (h zero (omega arith), no_feed_in bs (λ k lt. h (suc k) (omega arith)))
+
+pub no_feed_before : (bytes : List ℕ) (i : ℕ) → i ≤ length bytes → ((k : ℕ) → k < i → slice_index bytes k ≢ 10) → HasNoFeed (take i bytes)
+no_feed_before bytes zero le h = tt
+no_feed_before [] (suc i) le h = absurd (omega (arith, le))
+no_feed_before (b ∷ bs) (suc i) le h = (h zero (omega arith), no_feed_before bs i (omega arith) (λ k lt. h (suc k) (omega arith)))
+
+-- bytes, cut at an LF
+pub cut_feed : (bytes : List ℕ) (i : ℕ) → i < length bytes → slice_index bytes i ≡ 10 → bytes ≡ take i bytes ++ 10 ∷ drop (suc i) bytes
+cut_feed [] i h e = absurd (omega (arith, h))
+cut_feed (b ∷ bs) zero h e = ap (λ x. x ∷ bs) e
+cut_feed (b ∷ bs) (suc i) h e = ap (λ x. b ∷ x) (cut_feed bs i (omega arith) e)
+
+pub extended : (ok err : Bool) (xs ys zs : List ℕ) → ok ≡ not err → err ≡ false → zs ≡ cond ok (xs ++ ys) xs → zs ≡ xs ++ ys
+extended ok err xs ys zs o e z = z ∙ ap (λ b. cond b (xs ++ ys) xs) (o ∙ ap not e)
+
+pub regrouped : (read taken a x : List ℕ) → ((read ++ taken) ++ a) ++ x ≡ read ++ (taken ++ (a ++ x))
+regrouped read taken a x = append_assoc (read ++ taken) a x ∙ append_assoc read taken (a ++ x)
+
+-- a line more is taken from the front of what is left
+pub taken_line : (bytes taken rest : List ℕ) (i : ℕ) → bytes ≡ taken ++ rest → i < length rest → slice_index rest i ≡ 10 → bytes ≡ (taken ++ (take i rest ++ 10 ∷ [])) ++ take (length rest - (i + 1)) (drop (i + 1) rest)
+taken_line bytes taken rest i e h f =
+    let left : take (length rest - (i + 1)) (drop (i + 1) rest) ≡ drop (suc i) rest = rest_whole (i + 1) rest ∙ ap (λ k. drop k rest) (add-one i) in
+    e ∙ ap (λ x. taken ++ x) (cut_feed rest i h f ∙ ap (λ x. take i rest ++ 10 ∷ x) (sym left) ∙ sym (append_assoc (take i rest) (10 ∷ []) (take (length rest - (i + 1)) (drop (i + 1) rest)))) ∙ sym (append_assoc taken (take i rest ++ 10 ∷ []) (take (length rest - (i + 1)) (drop (i + 1) rest)))
+
+pub taken_all : (read bytes taken rest : List ℕ) (i : ℕ) → bytes ≡ taken ++ rest → i < length rest → slice_index rest i ≡ 10 → ((read ++ taken) ++ take i rest) ++ 10 ∷ drop (suc i) rest ≡ read ++ bytes
+taken_all read bytes taken rest i e h f = regrouped read taken (take i rest) (10 ∷ drop (suc i) rest) ∙ ap (λ x. read ++ (taken ++ x)) (sym (cut_feed rest i h f)) ∙ ap (λ x. read ++ x) (sym e)

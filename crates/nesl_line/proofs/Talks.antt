@@ -1,24 +1,24 @@
 -- A line is answered.
-use Rattle.std.proofs.Common.{◌≡◌, ◌≢◌, ℕ, ◌+◌, ◌<◌, ◌==◌, List, [], ◌∷◌, ◌++◌, Bool, true, false, not, Option, Some, None, length, refl, sym, ap, ◌∙◌, subst, arith, append-nil, append_assoc, length-append, map, take, drop, get_or, cond, ◌≤◌}
+use Rattle.std.proofs.Common.{◌≡◌, ◌≢◌, ℕ, ◌+◌, ◌<◌, ◌==◌, List, [], ◌∷◌, ◌++◌, Bool, true, false, not, Option, Some, None, length, refl, sym, ap, ◌∙◌, subst, arith, append-nil, append_assoc, length-append, map, cond, ◌≤◌}
 use Rattle.std.proofs.lemmas.Bool.{eqb-true}
 use Rattle.std.specs.Bool.{MatchBool}
 use Rattle.std.specs.List.{AllByRecursion}
 use Rattle.std.specs.Str.{bytes_eq}
 use Rattle.std.proofs.lemmas.Slice.Eq.{bytes_eq-Decides}
-use Rattle.std.proofs.lemmas.List.{map-append, length-map, take_more, take-append-drop}
+use Rattle.std.proofs.lemmas.List.{map-append, length-map}
 use Rattle.std.proofs.lemmas.Grind.{flat_map-append}
 use Rattle.std.specs.Option.{option_map, is_some}
 use Rattle.std.specs.Io.KnownBytes.{Appends}
 use Rattle.nesl_session.specs.State.{Log}
 use Rattle.nesl_session.specs.Reply.{Reply, no_user}
 use Rattle.nesl_house.specs.Script.{Event, kept}
-use Rattle.nesl_house.specs.Runs.{Seat, roster_of, session_of, Runs, RunsAlone}
+use Rattle.nesl_house.specs.Runs.{Seat, roster_of, session_of, Runs}
 use Rattle.nesl_house.proofs.Alones.{runs_then, stays_none, was_none}
-use Rattle.nesl_line.specs.Lines.{ended, handed, last_line, Splits}
+use Rattle.nesl_line.specs.Lines.{HasNoFeed, ended, handed, last_line, Splits}
 use Rattle.nesl_line.specs.Conversation.{IsUserLine, NamesNobody, Turn, selects, stranger, nobody, says, Conversation, silence, goes_on, Talked, text_of}
-use Rattle.nesl_line.specs.declared.batch.Line.{Line}
+use Rattle.nesl_line.specs.declared.line.Line.{Line}
 use Rattle.nesl_line.specs.Steps.{Sent, chosen, NamesFit, Answered, Holds, Progress, Stopped}
-use Rattle.nesl_line.proofs.Bytes.{splits_byte, splits_feed, splits_then, splits_some, appends_then}
+use Rattle.nesl_line.proofs.Bytes.{splits_more, splits_feed, splits_then, splits_some, appends_then}
 
 pub missed : {T U : Type 0} (f : T → U) (o : Option T) (x : Option U) (b : Bool) → option_map f o ≡ x → is_some o ≡ not b → b ≡ true → x ≡ None
 missed f None x b e i t = sym e
@@ -111,13 +111,13 @@ talked_more start house house' who who' lines texts line held held' well t a = r
 pub text_of-push : (texts : List (List ℕ)) (text : List ℕ) → text_of (texts ++ text ∷ []) ≡ text_of texts ++ text
 text_of-push texts text = flat_map-append (λ x. x) texts (text ∷ []) ∙ ap (λ x. text_of texts ++ x) (append-nil text)
 
-pub progress_byte : (start house : List Seat) (who : Option (List ℕ)) (read : List ℕ) (line line' : Line) (held held' : Option (List ℕ)) (n b : ℕ) → Progress start house who read line held held' n → b ≢ 10 → ((raw : List ℕ) → Holds line raw → Holds line' (raw ++ b ∷ []))
-    → Progress start house who (read ++ b ∷ []) line' held held' n
-progress_byte start house who read line line' held held' n b p other h = record {
+pub progress_more : (start house : List Seat) (who : Option (List ℕ)) (read more : List ℕ) (line line' : Line) (held held' : Option (List ℕ)) (n : ℕ) → Progress start house who read line held held' n → HasNoFeed more → ((raw : List ℕ) → Holds line raw → Holds line' (raw ++ more))
+    → Progress start house who (read ++ more) line' held held' n
+progress_more start house who read more line line' held held' n p none h = record {
   whole = p.whole;
-  raw = p.raw ++ b ∷ [];
+  raw = p.raw ++ more;
   texts = p.texts;
-  splits = splits_byte read p.whole p.raw b p.splits other;
+  splits = splits_more read p.whole p.raw more p.splits none;
   holds = h p.raw p.holds;
   talked = p.talked;
   appended = p.appended;
@@ -128,8 +128,8 @@ handed_push : (whole : List (List ℕ)) (raw : List ℕ) → map handed (whole +
 handed_push whole raw = map-append handed whole (raw ∷ [])
 
 pub progress_line : (start house house' : List Seat) (who who' : Option (List ℕ)) (read bytes : List ℕ) (line line' : Line) (held held' held'' : Option (List ℕ)) (n : ℕ) → Progress start house who read line held held' n → ((raw : List ℕ) → Holds line raw → bytes ≡ handed raw)
-    → Answered house house' who who' bytes held' held'' true → line'.bytes.items ≡ [] → line'.is_longer ≡ false → Progress start house' who' (read ++ 10 ∷ []) line' held held'' (n + 1)
-progress_line start house house' who who' read bytes line line' held held' held'' n p h a e l =
+    → Answered house house' who who' bytes held' held'' true → Holds line' [] → Progress start house' who' (read ++ 10 ∷ []) line' held held'' (n + 1)
+progress_line start house house' who who' read bytes line line' held held' held'' n p h a e =
     let same : bytes ≡ handed p.raw = h p.raw p.holds in
     let P : List (List ℕ) → Type 0 = λ x. Talked start x (p.texts ++ a.text ∷ []) who' house' in
     let full : a.sent.front ≡ a.text = sym (append-nil a.sent.front) ∙ ap (λ w. a.sent.front ++ w) (sym (a.sent.all refl)) ∙ sym a.sent.split in
@@ -140,7 +140,7 @@ progress_line start house house' who who' read bytes line line' held held' held'
       raw = [];
       texts = p.texts ++ a.text ∷ [];
       splits = splits_feed read p.whole p.raw p.splits;
-      holds = (e, l);
+      holds = e;
       talked = subst P (ap (λ x. map handed p.whole ++ x ∷ []) same ∙ sym (handed_push p.whole p.raw)) (talked_more start house house' who who' (map handed p.whole) p.texts bytes held' held'' true p.talked a);
       appended = subst R (sym (text_of-push p.texts a.text)) (appends_then held held' held'' (text_of p.texts) a.text p.appended (subst Q full a.sent.appended));
       counted = omega (arith, p.counted, length-append p.whole (p.raw ∷ []));
@@ -191,10 +191,10 @@ filled [] n b l e t = let z : (n == 0) ≡ true = ap (λ k. k == 0) l in let no'
 filled (x ∷ xs) n b l e t = omega arith
 
 pub line_ended : (start house house' : List Seat) (who who' : Option (List ℕ)) (read bytes : List ℕ) (line line' : Line) (held held' held'' : Option (List ℕ)) (n : ℕ) (well : Bool) → Progress start house who read line held held' n → ((raw : List ℕ) → Holds line raw → bytes ≡ handed raw)
-    → Answered house house' who who' bytes held' held'' well → line'.bytes.items ≡ [] → line'.is_longer ≡ false
+    → Answered house house' who who' bytes held' held'' well → Holds line' []
     → MatchBool well (Progress start house' who' (read ++ 10 ∷ []) line' held held'' (n + 1)) ((tail : List ℕ) → Stopped start house' who' (read ++ 10 ∷ tail) held held'' (n + 1))
-line_ended start house house' who who' read bytes line line' held held' held'' n true p h a e l = progress_line start house house' who who' read bytes line line' held held' held'' n p h a e l
-line_ended start house house' who who' read bytes line line' held held' held'' n false p h a e l = λ tail. stopped_line start house house' who who' read bytes tail line held held' held'' n p h a
+line_ended start house house' who who' read bytes line line' held held' held'' n true p h a e = progress_line start house house' who who' read bytes line line' held held' held'' n p h a e
+line_ended start house house' who who' read bytes line line' held held' held'' n false p h a e = λ tail. stopped_line start house house' who who' read bytes tail line held held' held'' n p h a
 
 pub went_on : (A B : Type 0) (b : Bool) → MatchBool b A B → b ≡ true → A
 went_on A B true m e = m
@@ -203,16 +203,6 @@ went_on A B false m e = absurd (cc)
 pub went_off : (A B : Type 0) (b : Bool) → MatchBool b A B → b ≡ false → B
 went_off A B true m e = absurd (cc)
 went_off A B false m e = m
-
--- the bytes up to the next one
-pub read_more : (read bytes : List ℕ) (i b : ℕ) → i < length bytes → get_or bytes i 0 ≡ b → read ++ take (i + 1) bytes ≡ (read ++ take i bytes) ++ b ∷ []
-read_more read bytes i b h e = ap (λ x. read ++ x) (take_more bytes i 0 h ∙ ap (λ x. take i bytes ++ x ∷ []) e) ∙ sym (append_assoc read (take i bytes) (b ∷ []))
-
--- all the bytes, cut behind the next one
-pub read_all : (read bytes : List ℕ) (i b : ℕ) → i < length bytes → get_or bytes i 0 ≡ b → (read ++ take i bytes) ++ b ∷ drop (i + 1) bytes ≡ read ++ bytes
-read_all read bytes i b h e =
-    append_assoc read (take i bytes) (b ∷ drop (i + 1) bytes)
-    ∙ ap (λ x. read ++ x) (sym (append_assoc (take i bytes) (b ∷ []) (drop (i + 1) bytes)) ∙ ap (λ x. x ++ drop (i + 1) bytes) (ap (λ x. take i bytes ++ x ∷ []) (sym e) ∙ sym (take_more bytes i 0 h)) ∙ take-append-drop (i + 1) bytes)
 
 -- no name is longer than there is room for
 fits_here : (b : Bool) (room : ℕ) (name user : List ℕ) (log : Log) (rest : Option Log) → bytes_eq name user ≡ b → length name ≤ room → (rest ≢ None → length user ≤ room) → cond b (Some log) rest ≢ None → length user ≤ room

@@ -1,15 +1,15 @@
 -- A text has one list of lines, and a conversation one text.
-use Rattle.std.proofs.Common.{◌≡◌, ◌≢◌, ℕ, List, [], ◌∷◌, ◌++◌, Option, Some, None, map, refl, sym, ap, ◌∙◌, subst, append_assoc, Bool, true, false, cond}
+use Rattle.std.proofs.Common.{◌≡◌, ℕ, List, [], ◌∷◌, ◌++◌, Option, Some, None, map, refl, sym, ap, ◌∙◌, subst, append_assoc, Bool, true, false, cond}
 use Rattle.std.specs.Prelude.{flat_map}
 use Rattle.std.specs.List.{AllByRecursion}
 use Rattle.std.specs.Str.{bytes_eq}
 use Rattle.std.proofs.lemmas.List.{map-append}
 use Rattle.nesl_session.specs.State.{Log}
-use Rattle.nesl_session.specs.Reply.{Reply, no_user}
+use Rattle.nesl_session.specs.Reply.{Reply}
 use Rattle.nesl_house.specs.Script.{Event, replies_of}
 use Rattle.nesl_house.specs.Runs.{Seat, roster_of, session_of}
 use Rattle.nesl_line.specs.Lines.{HasNoFeed, ended, Splits, handed, last_line, AllLines, WholeLines}
-use Rattle.nesl_line.specs.Conversation.{IsUserLine, NamesNobody, Turn, selects, stranger, nobody, says, Conversation, silence, goes_on}
+use Rattle.nesl_line.specs.Conversation.{IsUserLine, Turn, selects, stranger, nobody, says, Conversation, silence, goes_on}
 
 -- bytes without an LF have none inside
 no_feed : (bytes a b : List ℕ) → HasNoFeed bytes → bytes ≡ a ++ 10 ∷ b → ⊥

@@ -5,9 +5,10 @@ use Rattle.std.specs.List.{AllByRecursion}
 use Rattle.std.specs.Io.KnownBytes.{Consumes, Appends}
 use Rattle.nesl_house.specs.Script.{Event}
 use Rattle.nesl_house.specs.Runs.{Seat, Runs}
-use Rattle.nesl_line.specs.declared.batch.Line.{Line}
+use Rattle.nesl_line.specs.declared.line.Line.{Line}
+use Rattle.nesl_line.specs.declared.talk.Talk.{Talk}
 use Rattle.nesl_line.specs.declared.batch.End.TheVariants.{WriteFault}
-use Rattle.nesl_line.specs.Lines.{Splits, handed}
+use Rattle.nesl_line.specs.Lines.{Splits, handed, AllLines}
 use Rattle.nesl_line.specs.Conversation.{Turn, Talked, text_of}
 use Rattle.nesl_line.specs.Tally.{WriteTally, Blames, flushed_by}
 use Rattle.nesl_line.specs.Batch.{Ended}
@@ -66,8 +67,33 @@ pub record Stopped (house house' : List Seat) (who : Option (List ℕ)) (read : 
   pub appended : Appends held held' written
   pub counted : count ≡ length lines
 
+-- All was read, and all lines were answered and the answers sent.
+pub record Finished (house house' : List Seat) (who : Option (List ℕ)) (read : List ℕ) (held held' : Option (List ℕ)) (count : ℕ) : Type 0 where
+  pub lines : List (List ℕ)
+  pub texts : List (List ℕ)
+  pub talked : Talked house lines texts who house'
+  pub are : AllLines read lines
+  pub appended : Appends held held' (text_of texts)
+  pub counted : count ≡ length lines
+
+-- the same of a conversation
+abbrev pub Goes : List Seat → List Seat → Talk → List ℕ → Option (List ℕ) → Option (List ℕ) → Type 0
+Goes house house' talk read held held' = Progress house house' (chosen talk.who.items) read talk.line held held' talk.lines
+
+abbrev pub Stops : List Seat → List Seat → Talk → List ℕ → Option (List ℕ) → Option (List ℕ) → Type 0
+Stops house house' talk read held held' = Stopped house house' (chosen talk.who.items) read held held' talk.lines
+
+abbrev pub Done : List Seat → List Seat → Talk → List ℕ → Option (List ℕ) → Option (List ℕ) → Type 0
+Done house house' talk read held held' = Finished house house' (chosen talk.who.items) read held held' talk.lines
+
+-- nobody is selected, nothing has come of a line, and no line was answered
+pub record IsFresh (talk : Talk) : Type 0 where
+  pub nobody : talk.who.items ≡ []
+  pub empty : Holds talk.line []
+  pub none : talk.lines ≡ 0
+
 -- what was read so far was answered as far as its lines go
-pub record SoFar (left left' held held' : Option (List ℕ)) (house house' : List Seat) (who : Option (List ℕ)) (line : Line) (count : ℕ) : Type 0 where
+pub record SoFar (left left' held held' : Option (List ℕ)) (house house' : List Seat) (talk : Talk) : Type 0 where
   pub read : List ℕ
   pub consumed : Consumes left left' read
-  pub progress : Progress house house' who read line held held' count
+  pub progress : Goes house house' talk read held held'

@@ -1,5 +1,5 @@
 -- How often a reader and a writer were called, and how often that failed.
-use Rattle.std.specs.Prelude.{◌≡◌, ℕ, ◌+◌, ◌-◌, ◌^◌, ◌<◌, ◌≤◌, ◌==◌, ◌&&◌, ◌⊎◌, List, Result, Ok, Err, length, min, max, nat_lt, if◌then◌else◌}
+use Rattle.std.specs.Prelude.{ℕ, ◌+◌, ◌-◌, ◌^◌, ◌<◌, ◌≤◌, ◌==◌, ◌&&◌, ◌⊎◌, List, Result, Ok, Err, length, min, max, nat_lt, if◌then◌else◌}
 
 -- n and k more, as far as the count goes: 2^64 - 1 stays
 abbrev pub counted : ℕ → ℕ → ℕ

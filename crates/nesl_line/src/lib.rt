@@ -4,6 +4,8 @@
 pub mod batch;
 pub mod device;
 pub mod laws;
+mod line;
+mod talk;
 #[cfg(test)]
 mod tests;
 mod turn;

@@ -1,3 +1,5 @@
+pub mod Comparisons
+pub mod Copies
 pub mod Elements
 pub mod Trees
 pub mod Weights

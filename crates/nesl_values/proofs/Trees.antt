@@ -1,5 +1,5 @@
 -- A value, level by level, and the sizes of trees.
-use Rattle.std.proofs.Common.{◌≡◌, ℕ, ℤ, Bool, ◌+◌, ◌<◌, List, [], ◌∷◌, ◌++◌, length, map, take, refl, ap, ◌∙◌, arith, rules, sym, Vec, vec_len, Box, Some, option_map, get_or, slice_get, slice_range, drop, ◌-◌, ◌≤◌, subst, append_assoc, Result, Ok, Err, IfOk, OnOk}
+use Rattle.std.proofs.Common.{◌≡◌, ℕ, ℤ, Bool, ◌+◌, ◌<◌, List, [], ◌∷◌, ◌++◌, length, map, take, refl, ap, ◌∙◌, arith, rules, sym, Vec, vec_len, Box, Some, option_map, get_or, slice_get, slice_range, drop, ◌-◌, ◌≤◌, subst, append_assoc, Result, Ok, Err, IfOk, OnOk, is_ok, cond}
 use Rattle.std.proofs.lemmas.Option.{slice_get-map, slice_get_read}
 use Rattle.std.proofs.lemmas.List.{length-map, map-append, take-map, drop-map, take_more, nil_from_length}
 use Rattle.nesl_values.specs.Parts.{as_sequence, elements}
@@ -139,7 +139,7 @@ pub added : {A B X E : Type 0} (leaf : X → Tree) (v : Vec X B) (w x : Value A)
 added leaf v w x start end part old new r is e cut h =
     let all : elements (tree_of w) ≡ map leaf v.items = rw (is, e) in
     let same : map leaf part ≡ slice_range (elements (tree_of w)) start end =
-        ap (map leaf) cut ∙ sym (take-map leaf (end - start) (drop start v.items)) ∙ ap (take (end - start)) (sym (drop-map leaf start v.items)) ∙ ap (λ ts. slice_range ts start end) (sym all) in
+    ap (map leaf) cut ∙ sym (take-map leaf (end - start) (drop start v.items)) ∙ ap (take (end - start)) (sym (drop-map leaf start v.items)) ∙ ap (λ ts. slice_range ts start end) (sym all) in
     subst (λ ts. OnOk r (new ≡ old ++ ts)) same h
 
 -- one more turn of a loop that adds to a list what `g` sees in `zs`
@@ -148,3 +148,14 @@ pub added_turn : {X Y T : Type 0} (f : X → T) (g : Y → T) (old xs ys : List 
 added_turn f g old xs ys x zs i y h at push so_far here =
     let more : map g (take (i + 1) zs) ≡ map g (take i zs) ++ f x ∷ [] = ap (map g) (take_more zs i y h) ∙ map-append g (take i zs) (get_or zs i y ∷ []) ∙ ap (λ t. map g (take i zs) ++ t ∷ []) (sym (here ∙ ap g at)) in
     ap (map f) push ∙ map-append f xs (x ∷ []) ∙ ap (λ ts. ts ++ f x ∷ []) so_far ∙ append_assoc (map f old) (map g (take i zs)) (f x ∷ []) ∙ ap (λ ts. map f old ++ ts) (sym more)
+
+-- the elements of a sequence, from what one of the four lemmas says
+pub elements_are : {A B X : Type 0} (leaf : X → Tree) (v : Vec X B) (w x : Value A) → w ≡ x → as_sequence (tree_of x) ≡ Some (map leaf v.items) → map leaf v.items ≡ elements (tree_of w)
+elements_are leaf v w x is e =
+    let all : elements (tree_of w) ≡ map leaf v.items = rw (is, e) in
+    sym all
+
+-- values that were moved to the end of others
+pub moved : {A E : Type 0} (r : Result Unit E) (old : List Tree) (vs us new : List (Value A)) → map tree_of vs ≡ old → new ≡ cond (is_ok r) (vs ++ us) vs → OnOk r (map tree_of new ≡ old ++ map tree_of us)
+moved (Ok u) old vs us new was is = ap (map tree_of) is ∙ map-append tree_of vs us ∙ ap (λ ts. ts ++ map tree_of us) was
+moved (Err e) old vs us new was is = tt

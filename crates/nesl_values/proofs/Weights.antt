@@ -1,7 +1,7 @@
 -- How many nodes values have, as a child is taken out of one and another value is put in its place.
-use Rattle.std.proofs.Common.{◌≡◌, ℕ, zero, suc, ◌+◌, ◌-◌, ◌<◌, ◌≤◌, List, [], ◌∷◌, ◌++◌, length, get_or, set, refl, ap, sym, ◌∙◌, arith, Vec, vec_len}
+use Rattle.std.proofs.Common.{◌≡◌, ℕ, zero, suc, ◌+◌, ◌<◌, ◌≤◌, List, [], ◌∷◌, ◌++◌, length, get_or, set, refl, ap, sym, ◌∙◌, arith, Vec, vec_len}
 use Rattle.std.specs.Vec.{with_item}
-use Rattle.nesl_values.specs.Tree.{Tree, size, sizes}
+use Rattle.nesl_values.specs.Tree.{size, sizes}
 use Rattle.nesl_values.specs.View.{tree_of, trees_view}
 use Rattle.nesl_values.specs.declared.value.Value.{Value, Seq}
 use Rattle.nesl_values.proofs.Trees.{view-Seq}

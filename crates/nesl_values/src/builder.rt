@@ -1,7 +1,7 @@
 // Sequences that are built from their front to their end.
-ghost use Rattle.std.specs.Prelude.{◌≡◌, ◌+◌, ◌≤◌, List, [], ◌∷◌, ◌++◌, length, slice_range, take, map, is_ok, if◌then◌else◌, OnOk, OnErr, vec_len};
+ghost use Rattle.std.specs.Prelude.{◌≡◌, ◌+◌, ◌≤◌, List, [], ◌∷◌, ◌++◌, length, slice_range, take, map, is_ok, if◌then◌else◌, OnOk, OnErr, IsSome, vec_len};
 ghost use Rattle.nesl_values.specs.Tree.{int, boolean, character, sequence};
-ghost use Rattle.nesl_values.specs.Parts.{elements};
+ghost use Rattle.nesl_values.specs.Parts.{as_sequence, elements};
 ghost use Rattle.nesl_values.specs.View.{tree_of, element_tree, elements_of};
 
 use crate::element::Element;
@@ -45,7 +45,11 @@ impl<A: Allocator + Copy> SequenceBuilder<A> {
     pub fn finish(self) -> Value<A>
         ensures { tree_of result ≡ sequence (elements_of self) }
     {
-        let SequenceBuilder { run, room: _, alloc } = self;
+        let SequenceBuilder {
+            run,
+            room: _,
+            alloc,
+        } = self;
         run.into_sequence(alloc)
     }
 
@@ -129,9 +133,30 @@ impl<A: Allocator + Copy> SequenceBuilder<A> {
         }
     }
 
+    /// Moves the elements of a sequence to the end. A builder with no element takes the sequence over
+    /// as it is.
+    pub fn append(&mut self, from: Value<A>) -> Result<(), AllocError>
+        requires { IsSome (as_sequence (tree_of from)) }
+        ensures ok { OnOk result
+            (elements_of self.new ≡ elements_of self.old ++ elements (tree_of from)) }
+        ensures err { OnErr result (elements_of self.new ≡ elements_of self.old) }
+    {
+        if let Run::Empty = &self.run {
+            self.run = from.into_run();
+            return Ok(());
+        }
+        match from.into_run() {
+            Run::Empty => Ok(()),
+            Run::Ints(ints) => self.extend_from_ints(&ints),
+            Run::Bools(bools) => self.extend_from_bools(&bools),
+            Run::Chars(chars) => self.extend_from_chars(&chars),
+            Run::Values(values) => self.append_values(values),
+        }
+    }
+
     /// Adds copies of the elements of a sequence from place `start` to before place `end`. Where
     /// both sides are packed alike, this is one copy of memory.
-    pub fn append<B: Allocator>(
+    pub fn extend_from_part<B: Allocator>(
         &mut self,
         from: &Value<B>,
         start: usize,
@@ -147,16 +172,16 @@ impl<A: Allocator + Copy> SequenceBuilder<A> {
             return Ok(());
         }
         match from {
-            Value::Ints(ints) => self.append_ints(part_of(ints, start, end)),
-            Value::Bools(bools) => self.append_bools(part_of(bools, start, end)),
-            Value::Chars(chars) => self.append_chars(part_of(chars, start, end)),
-            Value::Seq(values) => self.append_copies(part_of(values, start, end)),
+            Value::Ints(ints) => self.extend_from_ints(part_of(ints, start, end)),
+            Value::Bools(bools) => self.extend_from_bools(part_of(bools, start, end)),
+            Value::Chars(chars) => self.extend_from_chars(part_of(chars, start, end)),
+            Value::Seq(values) => self.extend_from_copies(part_of(values, start, end)),
             _ => unreachable!(),
         }
     }
 
     /// Adds numbers at the end.
-    pub fn append_ints(&mut self, more: &[i64]) -> Result<(), AllocError>
+    pub fn extend_from_ints(&mut self, more: &[i64]) -> Result<(), AllocError>
         ensures ok { OnOk result (elements_of self.new ≡ elements_of self.old ++ map int more.now) }
         ensures err { OnErr result (elements_of self.new ≡ elements_of self.old) }
     {
@@ -168,13 +193,13 @@ impl<A: Allocator + Copy> SequenceBuilder<A> {
             }
             Err(other) => {
                 self.run = other;
-                self.append_leaves(more)
+                self.extend_from_leaves(more)
             }
         }
     }
 
     /// Adds truth values at the end.
-    pub fn append_bools(&mut self, more: &[bool]) -> Result<(), AllocError>
+    pub fn extend_from_bools(&mut self, more: &[bool]) -> Result<(), AllocError>
         ensures ok { OnOk result (elements_of self.new ≡ elements_of self.old ++ map boolean more.now) }
         ensures err { OnErr result (elements_of self.new ≡ elements_of self.old) }
     {
@@ -186,13 +211,13 @@ impl<A: Allocator + Copy> SequenceBuilder<A> {
             }
             Err(other) => {
                 self.run = other;
-                self.append_leaves(more)
+                self.extend_from_leaves(more)
             }
         }
     }
 
     /// Adds characters at the end.
-    pub fn append_chars(&mut self, more: &[u8]) -> Result<(), AllocError>
+    pub fn extend_from_chars(&mut self, more: &[u8]) -> Result<(), AllocError>
         ensures ok { OnOk result (elements_of self.new ≡ elements_of self.old ++ map character more.now) }
         ensures err { OnErr result (elements_of self.new ≡ elements_of self.old) }
     {
@@ -204,13 +229,13 @@ impl<A: Allocator + Copy> SequenceBuilder<A> {
             }
             Err(other) => {
                 self.run = other;
-                self.append_leaves(more)
+                self.extend_from_leaves(more)
             }
         }
     }
 
     // Adds leaves as values of their own.
-    fn append_leaves<T: Leaf>(&mut self, more: &[T]) -> Result<(), AllocError>
+    fn extend_from_leaves<T: Leaf>(&mut self, more: &[T]) -> Result<(), AllocError>
         ensures ok { OnOk result (elements_of self.new ≡ elements_of self.old ++ map T.leaf more.now) }
         ensures err { OnErr result (elements_of self.new ≡ elements_of self.old) }
     {
@@ -227,13 +252,31 @@ impl<A: Allocator + Copy> SequenceBuilder<A> {
         }
     }
 
-    fn append_copies<B: Allocator>(&mut self, more: &[Value<B>]) -> Result<(), AllocError>
+    fn extend_from_copies<B: Allocator>(&mut self, more: &[Value<B>]) -> Result<(), AllocError>
         ensures ok { OnOk result (elements_of self.new ≡ elements_of self.old ++ map tree_of more.now) }
         ensures err { OnErr result (elements_of self.new ≡ elements_of self.old) }
     {
         match mem::replace(&mut self.run, Run::Empty).into_values(self.alloc, self.room) {
             Ok(mut values) => {
                 let outcome = extend_with_copies(&mut values, more, self.alloc);
+                self.run = Run::Values(values);
+                outcome
+            }
+            Err(other) => {
+                self.run = other;
+                Err(AllocError)
+            }
+        }
+    }
+
+    fn append_values(&mut self, mut more: Vec<Value<A>, A>) -> Result<(), AllocError>
+        ensures ok { OnOk result
+            (elements_of self.new ≡ elements_of self.old ++ map tree_of more.items) }
+        ensures err { OnErr result (elements_of self.new ≡ elements_of self.old) }
+    {
+        match mem::replace(&mut self.run, Run::Empty).into_values(self.alloc, self.room) {
+            Ok(mut values) => {
+                let outcome = values.append(&mut more);
                 self.run = Run::Values(values);
                 outcome
             }

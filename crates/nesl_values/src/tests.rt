@@ -44,10 +44,58 @@ fn copies_into_a_heap(rt: HostRuntime) -> Result<(), Fail> {
 
 #[test]
 fn a_small_heap_refuses(rt: HostRuntime) -> Result<(), Fail> {
-    let heap = LocalHeap::new(rt.alloc(), 64)?;
     let value = sample(rt.alloc())?;
+    let heap = LocalHeap::new(rt.alloc(), 64)?;
     assert!(rt; value.copy_into(&heap).is_err());
-    assert_eq!(rt; value.nodes_up_to(19), Some(19));
+    for size in 2..64 {
+        let heap = LocalHeap::new(rt.alloc(), 32 * size)?;
+        let before = heap.used();
+        if let Ok(copy) = value.copy_into(&heap) {
+            assert!(rt; copy.same(&value));
+        }
+        assert_eq!(rt; heap.used(), before, "in {size} times 32 bytes");
+    }
+    Ok(())
+}
+
+// That value, also where its first allocation that is refused is the only one.
+fn second_try(alloc: Global) -> Result<Value, AllocError> {
+    match sample(alloc) {
+        Ok(value) => Ok(value),
+        Err(_) => sample(alloc),
+    }
+}
+
+#[test]
+fn a_refused_push_changes_nothing(rt: HostRuntime) -> Result<(), Fail> {
+    let item = second_try(rt.alloc())?;
+    let mut builder = SequenceBuilder::with_room(rt.alloc(), 2);
+    if builder.push_int(1).is_err() {
+        builder.push_int(1)?;
+    }
+    if builder.extend_from_ints(&[2, 3]).is_err() {
+        builder.extend_from_ints(&[2, 3])?;
+    }
+    if builder.push_copy(Element::Node(&item)).is_err() {
+        builder.push_copy(Element::Node(&item))?;
+    }
+    if builder.extend_from_chars(b"ab").is_err() {
+        builder.extend_from_chars(b"ab")?;
+    }
+    let built = builder.finish();
+    let mut expected = Vec::new(rt.alloc());
+    for n in 1..4 {
+        expected.push(Value::Int(n))?;
+    }
+    expected.push(item)?;
+    expected.push(Value::Char(b'a'))?;
+    expected.push(Value::Char(b'b'))?;
+    assert!(rt; built.same(&Value::Seq(expected)));
+    let copy = match built.copy_into(rt.alloc()) {
+        Ok(copy) => copy,
+        Err(_) => built.copy_into(rt.alloc())?,
+    };
+    assert!(rt; copy.same(&built));
     Ok(())
 }
 
@@ -122,22 +170,22 @@ fn builds_in_order(rt: HostRuntime) -> Result<(), Fail> {
 fn stays_packed(rt: HostRuntime) -> Result<(), Fail> {
     let mut builder = SequenceBuilder::new(rt.alloc());
     builder.push_int(0)?;
-    builder.append(&Value::Ints(vec![in rt.alloc(); 1, 2, 3, 4]?), 1, 3)?;
+    builder.extend_from_part(&Value::Ints(vec![in rt.alloc(); 1, 2, 3, 4]?), 1, 3)?;
     let packed = builder.finish();
     assert!(rt; matches!(&packed, Value::Ints(_)));
     assert!(rt; packed.same(&Value::Ints(vec![in rt.alloc(); 0, 2, 3]?)));
     let mut builder = SequenceBuilder::new(rt.alloc());
-    builder.append_chars(b"ab")?;
-    builder.append_bools(&[true])?;
-    builder.append_ints(&[7])?;
+    builder.extend_from_chars(b"ab")?;
+    builder.extend_from_bools(&[true])?;
+    builder.extend_from_ints(&[7])?;
     let mixed = builder.finish();
     assert_eq!(rt; mixed.sequence_len(), Some(4));
     assert_eq!(rt; mixed.element(1).as_char(), Some(b'b'));
     assert_eq!(rt; mixed.element(2).as_bool(), Some(true));
     assert_eq!(rt; mixed.element(3).as_int(), Some(7));
     let mut again = SequenceBuilder::new(rt.alloc());
-    again.append(&mixed, 0, 4)?;
-    again.append(&mixed, 4, 4)?;
+    again.extend_from_part(&mixed, 0, 3)?;
+    again.append(Value::Ints(vec![in rt.alloc(); 7]?))?;
     assert!(rt; again.finish().same(&mixed));
     Ok(())
 }
@@ -197,10 +245,12 @@ fn chain(alloc: Global, link: Link, depth: u64) -> Result<Value, AllocError> {
 fn goes_through(alloc: Global, link: Link, nodes: u64) -> Result<bool, AllocError> {
     let value = chain(alloc, link, DEPTH)?;
     let copy = value.copy_into(alloc)?;
-    Ok(value.nodes_up_to(DEPTH).is_none()
-        && value.nodes_up_to(nodes) == Some(nodes)
-        && copy.same(&value)
-        && !copy.same(&Value::<Global>::Int(0)))
+    Ok(
+        value.nodes_up_to(DEPTH).is_none()
+            && value.nodes_up_to(nodes) == Some(nodes)
+            && copy.same(&value)
+            && !copy.same(&Value::<Global>::Int(0)),
+    )
 }
 
 #[test]

@@ -1,8 +1,9 @@
-ghost use Rattle.std.specs.Prelude.{◌≡◌, ◌+◌, ◌<◌, [], IfOk, IfSome, option_map};
+ghost use Rattle.std.specs.Prelude.{◌≡◌, ◌+◌, ◌<◌, [], IfOk, IfSome, IsSome, option_map};
 ghost use Rattle.nesl_values.specs.Tree.{size, sequence, pair, tagged};
-ghost use Rattle.nesl_values.specs.Parts.{as_pair, as_tagged};
-ghost use Rattle.nesl_values.specs.View.{tree_of};
+ghost use Rattle.nesl_values.specs.Parts.{as_pair, as_tagged, as_sequence, elements};
+ghost use Rattle.nesl_values.specs.View.{tree_of, run_trees};
 
+use crate::run::Run;
 use std::alloc::{AllocError, Allocator, Global};
 use std::mem;
 
@@ -118,6 +119,20 @@ impl<A: Allocator> Value<A> {
         match self {
             Value::Tagged(tag, inner) => Some((tag, Box::into_inner(inner))),
             _ => None,
+        }
+    }
+
+    // The elements of a sequence.
+    pub(crate) fn into_run(self) -> Run<A>
+        requires { IsSome (as_sequence (tree_of self)) }
+        ensures { run_trees result ≡ elements (tree_of self) }
+    {
+        match self {
+            Value::Seq(values) => Run::Values(values),
+            Value::Ints(ints) => Run::Ints(ints),
+            Value::Bools(bools) => Run::Bools(bools),
+            Value::Chars(chars) => Run::Chars(chars),
+            _ => unreachable!(),
         }
     }
 }

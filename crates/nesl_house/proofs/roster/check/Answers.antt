@@ -1,7 +1,7 @@
-use Rattle.std.proofs.Common.{◌≡◌, ℕ, ◌≤◌, length, map, take, arith, sym, ap, ◌∙◌, subst}
+use Rattle.std.proofs.Common.{◌≡◌, length, arith, sym, ap, ◌∙◌}
 use Rattle.std.proofs.lemmas.List.{length-map}
 use Rattle.std.proofs.lemmas.Bool.{eqb-true}
-use Rattle.nesl_house.specs.Roster.{bad_count, IsCount}
+use Rattle.nesl_house.specs.Roster.{bad_count}
 use Rattle.nesl_house.proofs.Rosters.{refused_name, refused_twice, users_more}
 use Rattle.nesl_house.proofs.roster.check.Goals as goal
 

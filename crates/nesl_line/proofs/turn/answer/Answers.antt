@@ -1,4 +1,4 @@
-use Rattle.std.proofs.Common.{◌≡◌, ◌++◌, ◌≤◌, ℕ, List, length, [], ◌∷◌, subst}
+use Rattle.std.proofs.Common.{[], ◌∷◌}
 use Rattle.std.specs.Vec.{vec_capacity}
 use Rattle.nesl_line.proofs.Bytes.{sent_then, sent_stopped}
 use Rattle.nesl_line.proofs.Talks.{missed, found, fits_found, fits_more, fits_run, answered_stranger, answered_nobody, answered_user, answered_says, emptied, filled}

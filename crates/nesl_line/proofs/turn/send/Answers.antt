@@ -1,7 +1,7 @@
-use Rattle.std.proofs.Common.{◌≡◌, ◌+◌, ◌-◌, ◌<◌, ◌≤◌, List, [], ℕ, length, take, drop, arith, subst, append-nil, sym, ◌∙◌, refl, ap}
+use Rattle.std.proofs.Common.{◌-◌, ◌<◌, ◌≤◌, List, [], ℕ, length, take, drop, arith, subst, append-nil, ◌∙◌, ap}
 use Rattle.std.proofs.lemmas.List.{length-drop}
 use Rattle.std.specs.Io.KnownBytes.{Appends}
-use Rattle.nesl_line.proofs.Bytes.{sent_some, sent_more, appends_none, appends_keep, appends_then, rest_whole, sent_all}
+use Rattle.nesl_line.proofs.Bytes.{sent_some, sent_more, appends_keep, appends_then, rest_whole}
 use Rattle.nesl_line.proofs.Tallies.{failed, took_some, took_none, blamed_from}
 use Rattle.nesl_line.proofs.turn.send.Goals as goal
 

@@ -1,4 +1,4 @@
-use Rattle.std.proofs.Common.{rules, ◌≡◌, ◌+◌, ◌≤◌, drop, ap, ◌∙◌, sym, arith}
+use Rattle.std.proofs.Common.{rules, ◌≡◌, ◌+◌, drop, ap, ◌∙◌, sym, arith}
 use Rattle.std.proofs.lemmas.List.{drop_more}
 use Rattle.nesl_values.specs.Tree.{size, sizes}
 use Rattle.nesl_values.specs.View.{tree_of, trees_view}
@@ -29,19 +29,19 @@ nodes-returns-in_err-used-in-Seq g t c =
 pub nodes-returns-in-Ints : goal.nodes-returns-in-Ints
 nodes-returns-in-Ints g t c =
     let e : size (tree_of c.args.value.now) ≡ c.loop-used.used + 1 + c.len.result =
-        sym c.loop-used.invariant.0 ∙ ap (λ n. c.loop-used.used + n) (ap (λ v. size (tree_of v)) c.in-Ints.is ∙ size-Ints c.in-Ints.items ∙ ap (λ n. 1 + n) (sym c.len.ensures)) ∙ omega arith in
+    sym c.loop-used.invariant.0 ∙ ap (λ n. c.loop-used.used + n) (ap (λ v. size (tree_of v)) c.in-Ints.is ∙ size-Ints c.in-Ints.items ∙ ap (λ n. 1 + n) (sym c.len.ensures)) ∙ omega arith in
     rw e c.with_leaves.ensures
 
 pub nodes-returns-in-Bools : goal.nodes-returns-in-Bools
 nodes-returns-in-Bools g t c =
     let e : size (tree_of c.args.value.now) ≡ c.loop-used.used + 1 + c.len-in-Bools.result =
-        sym c.loop-used.invariant.0 ∙ ap (λ n. c.loop-used.used + n) (ap (λ v. size (tree_of v)) c.in-Bools.is ∙ size-Bools c.in-Bools.items ∙ ap (λ n. 1 + n) (sym c.len-in-Bools.ensures)) ∙ omega arith in
+    sym c.loop-used.invariant.0 ∙ ap (λ n. c.loop-used.used + n) (ap (λ v. size (tree_of v)) c.in-Bools.is ∙ size-Bools c.in-Bools.items ∙ ap (λ n. 1 + n) (sym c.len-in-Bools.ensures)) ∙ omega arith in
     rw e c.with_leaves-in-Bools.ensures
 
 pub nodes-returns-in-Chars : goal.nodes-returns-in-Chars
 nodes-returns-in-Chars g t c =
     let e : size (tree_of c.args.value.now) ≡ c.loop-used.used + 1 + c.len-in-Chars.result =
-        sym c.loop-used.invariant.0 ∙ ap (λ n. c.loop-used.used + n) (ap (λ v. size (tree_of v)) c.in-Chars.is ∙ size-Chars c.in-Chars.items ∙ ap (λ n. 1 + n) (sym c.len-in-Chars.ensures)) ∙ omega arith in
+    sym c.loop-used.invariant.0 ∙ ap (λ n. c.loop-used.used + n) (ap (λ v. size (tree_of v)) c.in-Chars.is ∙ size-Chars c.in-Chars.items ∙ ap (λ n. 1 + n) (sym c.len-in-Chars.ensures)) ∙ omega arith in
     rw e c.with_leaves-in-Chars.ensures
 
 pub nodes_of_all-returns-in_err-used : goal.nodes_of_all-returns-in_err-used
@@ -49,5 +49,5 @@ nodes_of_all-returns-in_err-used g t c =
     let vs = c.args.values.now in
     let v = c.value-item.result in
     let here : sizes (trees_view (drop c.loop-value.value-index vs)) ≡ size (tree_of v) + sizes (trees_view (drop (c.loop-value.value-index + 1) vs)) =
-        ap (λ us. sizes (trees_view us)) (drop_more vs c.loop-value.value-index v (omega arith)) ∙ ap (λ u. size (tree_of u) + sizes (trees_view (drop (c.loop-value.value-index + 1) vs))) (sym c.value-item.is) in
+    ap (λ us. sizes (trees_view us)) (drop_more vs c.loop-value.value-index v (omega arith)) ∙ ap (λ u. size (tree_of u) + sizes (trees_view (drop (c.loop-value.value-index + 1) vs))) (sym c.value-item.is) in
     rw c.from_residual.ensures (λ h. c.in_err-used.ensures (omega (arith, h)))

@@ -1,6 +1,5 @@
-use Rattle.std.proofs.Common.{◌≡◌, refl, subst, arith, List, ap, length, ◌∷◌, [], length-append}
+use Rattle.std.proofs.Common.{subst, arith, List, ap, length, ◌∷◌, [], length-append}
 use Rattle.nesl_house.specs.Runs.{Seat, Runs}
-
 use Rattle.nesl_house.proofs.Alones.{runs_none}
 use Rattle.nesl_house.proofs.Places.{run_more}
 use Rattle.nesl_house.proofs.house.House.run.Goals as goal

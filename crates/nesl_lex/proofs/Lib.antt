@@ -1,0 +1,10 @@
+mod Starts
+mod Fronts
+mod Numbers
+mod Words
+mod Signs
+mod Shapes
+mod Pieces
+mod Unique
+mod Turns
+mod Reading

@@ -1,0 +1,108 @@
+-- Which reserved word, truth value or name some small letters are.
+use Rattle.std.proofs.Common.{◌≡◌, ◌≢◌, ℕ, Bool, true, false, cond, List, [], ◌∷◌, Option, Some, None, inl, inr, refl, ap, sym, subst, ◌∙◌}
+use Rattle.std.specs.Prelude.{codes}
+use Rattle.std.specs.Str.{bytes_eq}
+use Rattle.std.proofs.lemmas.Slice.Eq.{bytes_eq-Decides}
+use Rattle.nesl_lex.specs.declared.token.Word.{Word}
+use Rattle.nesl_lex.specs.declared.token.Word.TheVariants as word
+use Rattle.nesl_lex.specs.Tokens.{Lexeme, number, name, reserved, truth, character, quoted, symbol}
+use Rattle.nesl_lex.specs.Lexemes.{word_text, IsTruthText, IsNamed}
+
+abbrev pub all_words : List Word
+all_words = word.Function ∷ word.Datatype ∷ word.Let ∷ word.In ∷ word.If ∷ word.Then ∷ word.Else ∷ word.Or ∷ word.Nor ∷ word.Xor ∷ word.And ∷ word.Nand ∷ word.Int ∷ word.Bool ∷ word.Char ∷ []
+
+-- the first of these words that is spelled so
+abbrev pub word_among : List Word → List ℕ → Option Word
+word_among [] bytes = None
+word_among (w ∷ ws) bytes = cond (bytes_eq bytes (word_text w)) (Some w) (word_among ws bytes)
+
+abbrev pub word_in : List ℕ → Option Word
+word_in bytes = word_among all_words bytes
+
+abbrev pub truth_in : List ℕ → Option Bool
+truth_in bytes = cond (bytes_eq bytes (codes "t")) (Some true) (cond (bytes_eq bytes (codes "true")) (Some true) (cond (bytes_eq bytes (codes "f")) (Some false) (cond (bytes_eq bytes (codes "false")) (Some false) None)))
+
+abbrev pub named_by : List ℕ → Option Word → Option Bool → Lexeme
+named_by small (Some w) value = reserved w
+named_by small None (Some value) = truth value
+named_by small None None = name small
+
+-- what the small letters are
+abbrev pub named_in : List ℕ → Lexeme
+named_in small = named_by small (word_in small) (truth_in small)
+
+word_read : (w : Word) → word_in (word_text w) ≡ Some w
+word_read word.Function = refl
+word_read word.Datatype = refl
+word_read word.Let = refl
+word_read word.In = refl
+word_read word.If = refl
+word_read word.Then = refl
+word_read word.Else = refl
+word_read word.Or = refl
+word_read word.Nor = refl
+word_read word.Xor = refl
+word_read word.And = refl
+word_read word.Nand = refl
+word_read word.Int = refl
+word_read word.Bool = refl
+word_read word.Char = refl
+
+found_first : (bytes : List ℕ) (v w : Word) (ws : List Word) (r : Bool) → bytes_eq bytes (word_text v) ≡ r → (word_among ws bytes ≡ Some w → bytes ≡ word_text w) → cond r (Some v) (word_among ws bytes) ≡ Some w → bytes ≡ word_text w
+found_first bytes v w ws true k f h = let e : v ≡ w = cc in (bytes_eq-Decides bytes (word_text v)).0 k ∙ ap word_text e
+found_first bytes v w ws false k f h = f h
+
+word_found : (ws : List Word) (bytes : List ℕ) (w : Word) → word_among ws bytes ≡ Some w → bytes ≡ word_text w
+word_found [] bytes w h = cc
+word_found (v ∷ ws) bytes w h = found_first bytes v w ws (bytes_eq bytes (word_text v)) refl (word_found ws bytes w) h
+
+word_none : (bytes : List ℕ) → word_in bytes ≡ None → (w : Word) → bytes ≢ word_text w
+word_none bytes h w e = let k = word_read w in let f : word_in (word_text w) ≡ None = subst (λ (bs : List ℕ). word_in bs ≡ None) e h in cc
+
+truth_named : (small : List ℕ) (value : Bool) → IsTruthText small value → named_in small ≡ truth value
+truth_named small true t = elim t [ inl e ↦ subst (λ (bs : List ℕ). named_in bs ≡ truth true) (sym e) refl | inr e ↦ subst (λ (bs : List ℕ). named_in bs ≡ truth true) (sym e) refl ]
+truth_named small false t = elim t [ inl e ↦ subst (λ (bs : List ℕ). named_in bs ≡ truth false) (sym e) refl | inr e ↦ subst (λ (bs : List ℕ). named_in bs ≡ truth false) (sym e) refl ]
+
+truth_found : (bytes : List ℕ) (value : Bool) (p q r s : Bool) → bytes_eq bytes (codes "t") ≡ p → bytes_eq bytes (codes "true") ≡ q → bytes_eq bytes (codes "f") ≡ r → bytes_eq bytes (codes "false") ≡ s
+    → cond p (Some true) (cond q (Some true) (cond r (Some false) (cond s (Some false) None))) ≡ Some value → IsTruthText bytes value
+truth_found bytes true true q r s a b c d h = inl ((bytes_eq-Decides bytes (codes "t")).0 a)
+truth_found bytes true false true r s a b c d h = inr ((bytes_eq-Decides bytes (codes "true")).0 b)
+truth_found bytes true false false true s a b c d h = cc
+truth_found bytes true false false false true a b c d h = cc
+truth_found bytes true false false false false a b c d h = cc
+truth_found bytes false true q r s a b c d h = cc
+truth_found bytes false false true r s a b c d h = cc
+truth_found bytes false false false true s a b c d h = inl ((bytes_eq-Decides bytes (codes "f")).0 c)
+truth_found bytes false false false false true a b c d h = inr ((bytes_eq-Decides bytes (codes "false")).0 d)
+truth_found bytes false false false false false a b c d h = cc
+
+named_from : (small : List ℕ) (w : Option Word) (v : Option Bool) → word_in small ≡ w → truth_in small ≡ v → IsNamed small (named_by small w v)
+named_from small (Some w) v h k = word_found all_words small w h
+named_from small None (Some v) h k = truth_found small v (bytes_eq small (codes "t")) (bytes_eq small (codes "true")) (bytes_eq small (codes "f")) (bytes_eq small (codes "false")) refl refl refl refl k
+named_from small None None h k = (refl, word_none small h, λ value t. let e = truth_named small value t in let f : named_in small ≡ name small = rw (h, k) refl in cc)
+
+-- the small letters are that
+pub named_is : (small : List ℕ) → IsNamed small (named_in small)
+named_is small = named_from small (word_in small) (truth_in small) refl refl
+
+word_named : (small : List ℕ) (w : Word) → small ≡ word_text w → named_in small ≡ reserved w
+word_named small w e = let k : word_in small ≡ Some w = ap word_in e ∙ word_read w in rw k refl
+
+name_named : (small : List ℕ) → ((w : Word) → small ≢ word_text w) → ((value : Bool) → IsTruthText small value → ⊥) → (x : Lexeme) → x ≡ named_in small → IsNamed small x → x ≡ name small
+name_named small no_word no_truth (number n) h i = absurd i
+name_named small no_word no_truth (name bytes) h i = ap name i.0
+name_named small no_word no_truth (reserved w) h i = absurd (no_word w i)
+name_named small no_word no_truth (truth value) h i = absurd (no_truth value i)
+name_named small no_word no_truth (character c) h i = absurd i
+name_named small no_word no_truth (quoted bytes) h i = absurd i
+name_named small no_word no_truth (symbol s) h i = absurd i
+
+-- they are nothing else
+pub named_one : (small : List ℕ) (x : Lexeme) → IsNamed small x → named_in small ≡ x
+named_one small (number n) i = absurd i
+named_one small (name bytes) i = name_named small i.1 i.2 (named_in small) refl (named_is small) ∙ ap name (sym i.0)
+named_one small (reserved w) i = word_named small w i
+named_one small (truth value) i = truth_named small value i
+named_one small (character c) i = absurd i
+named_one small (quoted bytes) i = absurd i
+named_one small (symbol s) i = absurd i

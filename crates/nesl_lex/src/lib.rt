@@ -1,0 +1,15 @@
+// Tokens of a line, with spans.
+#![tactic(auto)]
+
+mod fault;
+mod laws;
+mod line;
+mod scan;
+pub mod token;
+
+pub use fault::LexFault;
+pub use laws::{one_reading, worked_lines};
+pub use line::lex;
+
+#[cfg(test)]
+mod tests;

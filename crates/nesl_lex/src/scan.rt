@@ -1,0 +1,373 @@
+// What stands at the front of some bytes.
+
+ghost use Rattle.std.specs.Prelude.{◌≡◌, ◌≢◌, ◌≤◌, ◌<◌, ◌^◌, ◌+◌, ◌-◌, ◌*◌, ◌==◌, ◌↔◌, IsTrue, IfOk, IfSome, IfNone, length, map, slice_index, Bool};
+ghost use Rattle.nesl_lex.specs.Lexemes.{is_digit, is_capital, is_letter, is_name_byte, is_printable, is_text_byte, folded, Each, value_behind, word_text, IsTruthText, IsNamed, sign_text};
+ghost use Rattle.nesl_lex.specs.Tokens.{lexeme_of};
+ghost use Rattle.nesl_lex.specs.Scan.{start_of, test_of, front_len, Stands, single, double, sign_in};
+ghost use Rattle.nesl_lex.specs.declared.token.Word as word;
+ghost use Rattle.nesl_lex.specs.declared.scan.Start.TheVariants as start;
+
+use crate::token::{Kind, Sign, Word};
+use std::alloc::{AllocError, Global};
+
+/// What a first byte begins.
+#[derive(Clone, Copy, PartialEq, Eq, Debug)]
+pub enum Start {
+    Blank,
+    Comment,
+    Number,
+    Name,
+    Character,
+    Text,
+    /// A sign, or nothing.
+    Other,
+}
+
+/// A kind of byte that stands in a row.
+#[derive(Clone, Copy, PartialEq, Eq, Debug)]
+pub enum Class {
+    Digit,
+    NameByte,
+    /// A byte inside a comment.
+    Comment,
+    /// A byte between a text's quotes.
+    Text,
+}
+
+/// What stands at the front, and how many bytes it takes.
+#[derive(Debug, Drop)]
+pub enum Piece {
+    /// A blank or a comment.
+    Gap(usize),
+    Token(usize, Kind),
+    Nothing,
+}
+
+/// The greatest number.
+const GREATEST: u64 = 9223372036854775807;
+
+fn is_digit(b: u8) -> bool
+    ensures { result ≡ is_digit b }
+{
+    b >= b'0' && b <= b'9'
+}
+
+fn is_capital(b: u8) -> bool
+    ensures { result ≡ is_capital b }
+{
+    b >= b'A' && b <= b'Z'
+}
+
+fn is_letter(b: u8) -> bool
+    ensures { result ≡ is_letter b }
+{
+    is_capital(b) || (b >= b'a' && b <= b'z')
+}
+
+fn is_name_byte(b: u8) -> bool
+    ensures { result ≡ is_name_byte b }
+{
+    is_letter(b) || is_digit(b) || b == b'_'
+}
+
+fn is_printable(b: u8) -> bool
+    ensures { result ≡ is_printable b }
+{
+    b >= 32 && b <= 126
+}
+
+fn is_text_byte(b: u8) -> bool
+    ensures { result ≡ is_text_byte b }
+{
+    b != b'"' && is_printable(b)
+}
+
+fn folded(b: u8) -> u8
+    ensures { result ≡ folded b }
+{
+    if is_capital(b) { b + 32 } else { b }
+}
+
+fn start_of(b: u8) -> Start
+    ensures { result ≡ start_of b }
+{
+    match b {
+        b' ' | b'\t' | b'\r' => Start::Blank,
+        b'%' => Start::Comment,
+        b'0'..=b'9' => Start::Number,
+        b'A'..=b'Z' | b'a'..=b'z' => Start::Name,
+        b'`' => Start::Character,
+        b'"' => Start::Text,
+        _ => Start::Other,
+    }
+}
+
+#[inline(always)]
+fn passes(class: Class, b: u8) -> bool
+    ensures { result ≡ test_of class b }
+{
+    match class {
+        Class::Digit => is_digit(b),
+        Class::NameByte => is_name_byte(b),
+        Class::Comment => b != b'%',
+        Class::Text => is_text_byte(b),
+    }
+}
+
+// How many bytes at the front are of the class.
+#[inline(always)]
+fn front_len(bytes: &[u8], class: Class) -> usize
+    ensures value { result ≡ front_len (test_of class) bytes.now }
+    ensures within { result ≤ length bytes.now }
+{
+    let mut n = 0;
+    while n < bytes.len() && passes(class, bytes[n]) {
+        n += 1;
+    }
+    n
+}
+
+// The number that the digits make.
+fn number(digits: &[u8]) -> Option<u64>
+    requires { Each is_digit digits.now }
+    ensures some { IfSome result (λ n. (n ≡ value_behind 0 digits.now) × (n < 2 ^ 63)) }
+    ensures none { IfNone result (2 ^ 63 ≤ value_behind 0 digits.now) }
+{
+    let mut value = 0;
+    for digit in digits {
+        if value > GREATEST / 10 {
+            return None;
+        }
+        let next = value * 10 + u64::from(*digit - b'0');
+        if next > GREATEST {
+            return None;
+        }
+        value = next;
+    }
+    Some(value)
+}
+
+// The reserved word of these bytes.
+fn word(bytes: &[u8]) -> Option<Word>
+    ensures some { IfSome result (λ w. bytes.now ≡ word_text w) }
+    ensures none { IfNone result ((w : word.Word) → bytes.now ≢ word_text w) }
+{
+    match bytes {
+        b"function" => Some(Word::Function),
+        b"datatype" => Some(Word::Datatype),
+        b"let" => Some(Word::Let),
+        b"in" => Some(Word::In),
+        b"if" => Some(Word::If),
+        b"then" => Some(Word::Then),
+        b"else" => Some(Word::Else),
+        b"or" => Some(Word::Or),
+        b"nor" => Some(Word::Nor),
+        b"xor" => Some(Word::Xor),
+        b"and" => Some(Word::And),
+        b"nand" => Some(Word::Nand),
+        b"int" => Some(Word::Int),
+        b"bool" => Some(Word::Bool),
+        b"char" => Some(Word::Char),
+        _ => None,
+    }
+}
+
+// The truth value that these bytes name.
+fn truth(bytes: &[u8]) -> Option<bool>
+    ensures some { IfSome result (λ value. IsTruthText bytes.now value) }
+    ensures none { IfNone result ((value : Bool) → IsTruthText bytes.now value → ⊥) }
+{
+    match bytes {
+        b"t" | b"true" => Some(true),
+        b"f" | b"false" => Some(false),
+        _ => None,
+    }
+}
+
+// The text in small letters.
+fn small(alloc: Global, text: &[u8]) -> Result<Vec<u8>, AllocError>
+    ensures { IfOk result (λ v. v.items ≡ map folded text.now) }
+{
+    text.iter().map(|b| folded(*b)).collect(alloc)
+}
+
+// The sign of one byte.
+fn single(b: u8) -> Option<Sign>
+    ensures { result ≡ single b }
+{
+    match b {
+        b'(' => Some(Sign::OpenParenthesis),
+        b')' => Some(Sign::CloseParenthesis),
+        b'[' => Some(Sign::OpenBracket),
+        b']' => Some(Sign::CloseBracket),
+        b'{' => Some(Sign::OpenBrace),
+        b'}' => Some(Sign::CloseBrace),
+        b',' => Some(Sign::Comma),
+        b';' => Some(Sign::Semicolon),
+        b':' => Some(Sign::Colon),
+        b'|' => Some(Sign::Bar),
+        b'=' => Some(Sign::Equal),
+        b'<' => Some(Sign::Less),
+        b'>' => Some(Sign::Greater),
+        b'+' => Some(Sign::Plus),
+        b'-' => Some(Sign::Minus),
+        b'*' => Some(Sign::Star),
+        b'/' => Some(Sign::Slash),
+        b'#' => Some(Sign::Hash),
+        _ => None,
+    }
+}
+
+// The sign of two bytes.
+fn double(b: u8, c: u8) -> Option<Sign>
+    ensures { result ≡ double b c }
+{
+    match (b, c) {
+        (b':', b':') => Some(Sign::DoubleColon),
+        (b'=', b'=') => Some(Sign::DoubleEqual),
+        (b'/', b'=') => Some(Sign::NotEqual),
+        (b'<', b'=') => Some(Sign::LessOrEqual),
+        (b'>', b'=') => Some(Sign::GreaterOrEqual),
+        (b'+', b'+') => Some(Sign::DoublePlus),
+        (b'<', b'-') => Some(Sign::LeftArrow),
+        (b'-', b'>') => Some(Sign::RightArrow),
+        _ => None,
+    }
+}
+
+// The longest sign at the front.
+fn sign(bytes: &[u8]) -> Option<Sign>
+    ensures { result ≡ sign_in bytes.now }
+{
+    match bytes {
+        [] => None,
+        [b] => single(*b),
+        [b, c, ..] => double(*b, *c).or_else(|| single(*b)),
+    }
+}
+
+// How many bytes a sign has.
+fn sign_len(sign: Sign) -> usize
+    ensures { result ≡ length (sign_text sign) }
+{
+    match sign {
+        Sign::DoubleColon
+        | Sign::DoubleEqual
+        | Sign::NotEqual
+        | Sign::LessOrEqual
+        | Sign::GreaterOrEqual
+        | Sign::DoublePlus
+        | Sign::LeftArrow
+        | Sign::RightArrow => 2,
+        _ => 1,
+    }
+}
+
+// A comment, from its first `%` on.
+fn comment(bytes: &[u8]) -> Piece
+    requires some { 0 < length bytes.now }
+    requires percent { start_of (slice_index bytes.now 0) ≡ start.Comment }
+    ensures { Stands bytes.now result }
+{
+    let rest = &bytes[1..];
+    let n = front_len(rest, Class::Comment);
+    if n < rest.len() {
+        Piece::Gap(n + 2)
+    } else {
+        Piece::Nothing
+    }
+}
+
+// A number.
+fn digits(bytes: &[u8]) -> Piece
+    requires some { 0 < length bytes.now }
+    requires digit { start_of (slice_index bytes.now 0) ≡ start.Number }
+    ensures { Stands bytes.now result }
+{
+    let n = front_len(bytes, Class::Digit);
+    match number(&bytes[..n]) {
+        Some(value) => Piece::Token(n, Kind::Number(value)),
+        None => Piece::Nothing,
+    }
+}
+
+// What a name's text is in small letters: a reserved word, a truth value or a name.
+fn named(text: Vec<u8>) -> Kind
+    ensures { IsNamed text.items (lexeme_of result) }
+{
+    if let Some(word) = word(text.as_slice()) {
+        return Kind::Reserved(word);
+    }
+    match truth(text.as_slice()) {
+        Some(value) => Kind::Truth(value),
+        None => Kind::Name(text),
+    }
+}
+
+// A name, a reserved word or a truth value.
+fn name(alloc: Global, bytes: &[u8]) -> Result<Piece, AllocError>
+    requires some { 0 < length bytes.now }
+    requires letter { start_of (slice_index bytes.now 0) ≡ start.Name }
+    ensures { IfOk result (λ piece. Stands bytes.now piece) }
+{
+    let n = front_len(bytes, Class::NameByte);
+    let text = small(alloc, &bytes[..n])?;
+    Ok(Piece::Token(n, named(text)))
+}
+
+// A character, from its backquote on.
+fn character(bytes: &[u8]) -> Piece
+    requires some { 0 < length bytes.now }
+    requires backquote { start_of (slice_index bytes.now 0) ≡ start.Character }
+    ensures { Stands bytes.now result }
+{
+    if bytes.len() > 1 && is_printable(bytes[1]) {
+        Piece::Token(2, Kind::Character(bytes[1]))
+    } else {
+        Piece::Nothing
+    }
+}
+
+// A text, from its first quote on.
+fn text(alloc: Global, bytes: &[u8]) -> Result<Piece, AllocError>
+    requires some { 0 < length bytes.now }
+    requires quote { start_of (slice_index bytes.now 0) ≡ start.Text }
+    ensures { IfOk result (λ piece. Stands bytes.now piece) }
+{
+    let rest = &bytes[1..];
+    let n = front_len(rest, Class::Text);
+    if n < rest.len() && rest[n] == b'"' {
+        let inside = Vec::from_slice(alloc, &rest[..n])?;
+        Ok(Piece::Token(n + 2, Kind::Text(inside)))
+    } else {
+        Ok(Piece::Nothing)
+    }
+}
+
+// A sign, or nothing.
+fn symbol(bytes: &[u8]) -> Piece
+    requires some { 0 < length bytes.now }
+    requires other { start_of (slice_index bytes.now 0) ≡ start.Other }
+    ensures { Stands bytes.now result }
+{
+    match sign(bytes) {
+        Some(sign) => Piece::Token(sign_len(sign), Kind::Symbol(sign)),
+        None => Piece::Nothing,
+    }
+}
+
+/// What stands at the front.
+pub fn next_piece(alloc: Global, bytes: &[u8]) -> Result<Piece, AllocError>
+    requires { 0 < length bytes.now }
+    ensures { IfOk result (λ piece. Stands bytes.now piece) }
+{
+    match start_of(bytes[0]) {
+        Start::Blank => Ok(Piece::Gap(1)),
+        Start::Comment => Ok(comment(bytes)),
+        Start::Number => Ok(digits(bytes)),
+        Start::Name => name(alloc, bytes),
+        Start::Character => Ok(character(bytes)),
+        Start::Text => text(alloc, bytes),
+        Start::Other => Ok(symbol(bytes)),
+    }
+}

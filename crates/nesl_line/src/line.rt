@@ -1,0 +1,74 @@
+//! One line, as it comes in piece by piece.
+ghost use Rattle.std.specs.Prelude.{◌≡◌, ℕ, ◌≤◌, ◌==◌, ◌++◌, [], List, IfOk, length, vec_len};
+ghost use Rattle.std.specs.Vec.{vec_capacity};
+ghost use Rattle.nesl_line.specs.Lines.{handed};
+
+use std::alloc::{AllocError, Global};
+
+/// The most bytes of a line. Of a longer one this many and one more are handed on.
+pub const MOST_LINE_BYTES: usize = 4096;
+
+// The most bytes that are kept of a line.
+const KEPT: usize = MOST_LINE_BYTES + 1;
+
+// What has come of a line: its first bytes, and whether there were more.
+#[derive(Drop)]
+pub struct Line {
+    bytes: Vec<u8>,
+    is_longer: bool,
+    ghost room: { 4097 ≤ vec_capacity bytes },
+    ghost short: { vec_len bytes ≤ 4097 },
+}
+
+impl Line {
+    ghost use Rattle.nesl_line.specs.Steps.{Holds};
+
+    // An empty line, with room for all that is kept.
+    pub fn new(alloc: Global) -> Result<Line, AllocError>
+        ensures { IfOk result (λ line. Holds line []) }
+    {
+        let bytes = Vec::with_capacity(alloc, KEPT)?;
+        Ok(Line {
+            bytes,
+            is_longer: false,
+        })
+    }
+
+    // What is kept.
+    pub fn bytes(&self) -> &[u8]
+        ensures { result.now ≡ self.now.bytes.items }
+    {
+        self.bytes.as_slice()
+    }
+
+    // More of a line.
+    pub fn add(&mut self, more: &[u8])
+        ensures { (raw : List ℕ) → Holds self.old raw → Holds self.new (raw ++ more.now) }
+    {
+        let kept = more.len().min(KEPT - self.bytes.len());
+        if self.bytes.extend_from_slice(&more[..kept]).is_err() {
+            unreachable!();
+        }
+        if kept < more.len() {
+            self.is_longer = true;
+        }
+    }
+
+    // The LF comes: what is kept then is handed on.
+    pub fn end(&mut self)
+        ensures { (raw : List ℕ) → Holds self.old raw → self.new.bytes.items ≡ handed raw }
+    {
+        let n = self.bytes.len();
+        if !self.is_longer && n > 0 && self.bytes[n - 1] == b'\r' {
+            self.bytes.truncate(n - 1);
+        }
+    }
+
+    // Another line begins.
+    pub fn clear(&mut self)
+        ensures { Holds self.new [] }
+    {
+        self.bytes.clear();
+        self.is_longer = false;
+    }
+}

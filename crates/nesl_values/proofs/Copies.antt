@@ -1,0 +1,50 @@
+-- Copies that are on their way.
+use Rattle.std.proofs.Common.{◌≡◌, ℕ, ◌+◌, List, [], ◌∷◌, ◌++◌, length, map, refl, ap, sym, ◌∙◌, arith, append_assoc, Vec, Box}
+use Rattle.std.proofs.lemmas.List.{map-append, nil_from_length}
+use Rattle.nesl_values.specs.Tree.{Tree, pair, tagged, sequence}
+use Rattle.nesl_values.specs.View.{tree_of}
+use Rattle.nesl_values.specs.Copying.{around, all_around, work_around, work_above}
+use Rattle.nesl_values.specs.declared.copy.Frame.{Frame}
+use Rattle.nesl_values.specs.declared.value.Value.{Value, Pair, Seq, Tagged}
+use Rattle.nesl_values.proofs.Trees.{view-Pair, view-Seq, view-Tagged}
+
+all_around-push : {A B : Type 0} → (fs : List (Frame A B)) (f : Frame A B) (t : Tree) → all_around (fs ++ f ∷ []) t ≡ all_around fs (around f t)
+all_around-push [] f t = refl
+all_around-push (g ∷ fs) f t = ap (around g) (all_around-push fs f t)
+
+work_above-push : {A B : Type 0} → (fs : List (Frame A B)) (f : Frame A B) → work_above (fs ++ f ∷ []) ≡ work_above fs + work_around f
+work_above-push [] f = omega arith
+work_above-push (g ∷ fs) f = omega (arith, work_above-push fs f)
+
+-- one more frame below the others
+pub framed : {A B : Type 0} → (fs gs : List (Frame A B)) (f : Frame A B) (t s : Tree) → gs ≡ fs ++ f ∷ [] → around f t ≡ s → all_around gs t ≡ all_around fs s
+framed fs gs f t s push here = ap (λ hs. all_around hs t) push ∙ all_around-push fs f t ∙ ap (all_around fs) here
+
+pub framed_work : {A B : Type 0} → (fs gs : List (Frame A B)) (f : Frame A B) → gs ≡ fs ++ f ∷ [] → work_above gs ≡ work_above fs + work_around f
+framed_work fs gs f push = ap work_above push ∙ work_above-push fs f
+
+-- values by their children
+pub pair_of : {A : Type 0} → (l r : Box (Value A) A) (w x y : Value A) → w ≡ Pair l r → x ≡ l.value → y ≡ r.value → pair (tree_of x) (tree_of y) ≡ tree_of w
+pair_of l r w x y is left right =
+    ap (λ u. pair (tree_of u) (tree_of y)) left ∙ ap (λ u. pair (tree_of l.value) (tree_of u)) right ∙ sym (ap tree_of is ∙ view-Pair l r)
+
+pub tagged_of : {A : Type 0} → (n : ℕ) (b : Box (Value A) A) (w x : Value A) → w ≡ Tagged n b → x ≡ b.value → tagged n (tree_of x) ≡ tree_of w
+tagged_of n b w x is inner = ap (λ u. tagged n (tree_of u)) inner ∙ sym (ap tree_of is ∙ view-Tagged n b)
+
+pub sequence_of : {A B : Type 0} → (v : Vec (Value A) A) (w x : Value A) (all others : List (Value A)) (copies : List (Value B)) → w ≡ Seq v → all ≡ v.items → all ≡ x ∷ others → copies ≡ []
+    → sequence (map tree_of copies ++ tree_of x ∷ map tree_of others) ≡ tree_of w
+sequence_of v w x all others copies is items parts none =
+    ap (λ cs. sequence (map tree_of cs ++ tree_of x ∷ map tree_of others)) none ∙ ap (λ us. sequence (map tree_of us)) (sym parts ∙ items) ∙ sym (ap tree_of is ∙ view-Seq v)
+
+-- one more element of a sequence has been copied
+pub next_element : {A B : Type 0} → (old new : List (Value B)) (copy : Value B) (others rest : List (Value A)) (next : Value A) → new ≡ old ++ copy ∷ [] → others ≡ next ∷ rest
+    → map tree_of new ++ tree_of next ∷ map tree_of rest ≡ map tree_of old ++ tree_of copy ∷ map tree_of others
+next_element old new copy others rest next push parts =
+    ap (λ us. map tree_of us ++ tree_of next ∷ map tree_of rest) push ∙ ap (λ ts. ts ++ tree_of next ∷ map tree_of rest) (map-append tree_of old (copy ∷ [])) ∙ append_assoc (map tree_of old) (tree_of copy ∷ []) (tree_of next ∷ map tree_of rest)
+    ∙ ap (λ us. map tree_of old ++ tree_of copy ∷ map tree_of us) (sym parts)
+
+-- the last element of a sequence has been copied
+pub last_element : {A B : Type 0} → (old new : List (Value B)) (copy : Value B) (others : List (Value A)) → new ≡ old ++ copy ∷ [] → length others ≡ 0 → map tree_of new ≡ map tree_of old ++ tree_of copy ∷ map tree_of others
+last_element old new copy others push none =
+    let empty : others ≡ [] = nil_from_length others none in
+    ap (map tree_of) push ∙ map-append tree_of old (copy ∷ []) ∙ ap (λ us. map tree_of old ++ tree_of copy ∷ map tree_of us) (sym empty)
