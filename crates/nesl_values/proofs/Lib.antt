@@ -1,3 +1,4 @@
+mod Examples
 pub mod Comparisons
 pub mod Copies
 pub mod Elements

@@ -1,4 +1,7 @@
-// Values of the evaluator: numbers, truth values, characters, pairs, sequences and tags.
+// Values of the language, as trees under any allocator, with sequences of leaves packed.
+//
+// Outside this crate a value is looked at by `shape`, `element` and the `as_` calls, and is taken
+// apart by the `into_` calls. Every sequence is made by a `SequenceBuilder`.
 #![tactic(auto)]
 
 mod builder;
