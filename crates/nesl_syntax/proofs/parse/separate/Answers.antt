@@ -1,0 +1,10 @@
+use Rattle.std.proofs.Common.{◌<◌, arith}
+use Rattle.nesl_syntax.specs.Machine.{wanted}
+use Rattle.nesl_syntax.proofs.StepLemmas.{list_follows}
+use Rattle.nesl_syntax.proofs.parse.separate.Goals as goal
+
+pub returns-in-Some-Open : goal.returns-in-Some-Open
+returns-in-Some-Open c = λ ws x s p.
+    let wants = rw c.deref.ensures.value at c.wanted.ensures in
+    let far : 1 < wanted ws = omega (arith, wants ws s) in
+    list_follows _ _ _ _ _ _ (rw c.in-Some-Open.field-0-is at c.in-Some-Open.ensures.items) c.list.ensures ws x s p far

@@ -1,0 +1,12 @@
+pub mod Trees
+pub mod Marks
+pub mod Grammar
+pub mod Lines
+pub mod Machine
+pub mod Views
+pub mod Parts
+pub mod Stack
+pub mod Turns
+pub mod Steps
+pub mod Reading
+pub mod Laws

@@ -1,0 +1,73 @@
+-- What a step of the code stands for.
+use Rattle.std.specs.Prelude.{◌≡◌, List, [], ◌∷◌, Option, Some, None, Result, Ok, Err}
+use Rattle.nesl_syntax.specs.declared.part.Part.{Part}
+use Rattle.nesl_syntax.specs.declared.pending.Pending.{Pending}
+use Rattle.nesl_syntax.specs.declared.types.TypePart.{TypePart}
+use Rattle.nesl_syntax.specs.declared.parse.Mode.{Mode}
+use Rattle.nesl_syntax.specs.declared.parse.Mode.TheVariants.{Before, Behind, Typing, Typed}
+use Rattle.nesl_syntax.specs.declared.fault.ParseFault.{ParseFault}
+use Rattle.nesl_syntax.specs.declared.fault.ParseFault.TheVariants.{Syntax, Nested, Memory}
+use Rattle.nesl_syntax.specs.Trees.{Tree, TypeTree}
+use Rattle.nesl_lex.specs.Tokens.{Placed}
+use Rattle.nesl_lex.specs.declared.token.Span.{Span}
+use Rattle.nesl_syntax.specs.Machine.{Waiting, State, before, behind, typing, typed, run, with_newest, open_at, listed, type_closed}
+use Rattle.nesl_syntax.specs.Machine as machine
+use Rattle.nesl_syntax.specs.Parts.{Sees, SeesType}
+use Rattle.nesl_syntax.specs.Stack.{SeesPending, SeesStack}
+
+abbrev pub SeesMode : Mode → machine.Mode → Type 0
+SeesMode Before m = m ≡ before
+SeesMode (Behind b p) m = (e : Tree) × (m ≡ behind b e) × Sees p e
+SeesMode Typing m = m ≡ typing
+SeesMode (Typed p) m = (a : TypeTree) × (m ≡ typed a) × SeesType p a
+
+-- what a call answered and left is the state after a step, or there is none and the answer says so, or memory ran out
+abbrev pub Follows : Result Mode ParseFault → List Pending → Option State → Type 0
+Follows (Ok m) ps (Some q) = SeesStack ps q.0 × SeesMode m q.1
+Follows (Ok m) ps None = ⊥
+Follows (Err Syntax) ps q = q ≡ None
+Follows (Err Nested) ps q = ⊥
+Follows (Err Memory) ps q = Unit {0}
+
+-- what a call answered is this, or there is none and the answer says so, or memory ran out
+abbrev pub PendingGiven : Result Pending ParseFault → Option Waiting → Type 0
+PendingGiven (Ok p) (Some w) = SeesPending p w
+PendingGiven (Ok p) None = ⊥
+PendingGiven (Err Syntax) w = w ≡ None
+PendingGiven (Err Nested) w = ⊥
+PendingGiven (Err Memory) w = Unit {0}
+
+abbrev pub TypeGiven : Result TypePart ParseFault → Option TypeTree → Type 0
+TypeGiven (Ok p) (Some a) = SeesType p a
+TypeGiven (Ok p) None = ⊥
+TypeGiven (Err Syntax) a = a ≡ None
+TypeGiven (Err Nested) a = ⊥
+TypeGiven (Err Memory) a = Unit {0}
+
+-- the newest is a list, with one more element
+abbrev pub list_newest : List Waiting → Tree → Option State
+list_newest (open_at o ∷ ws) e = with_newest before ws (listed o e)
+list_newest _ e = None
+
+abbrev pub Gives : Result Part ParseFault → Option Tree → Type 0
+Gives (Ok p) (Some x) = Sees p x
+Gives (Ok p) None = ⊥
+Gives (Err Syntax) x = x ≡ None
+Gives (Err Nested) x = ⊥
+Gives (Err Memory) x = Unit {0}
+
+-- with these tokens to come, the code is where all the tokens lead from this mode
+pub record Runs (ps : List Pending) (mode : Mode) (rest all : List Placed) (start : machine.Mode) : Type 0 where
+  pub waiting : List Waiting
+  pub now : machine.Mode
+  pub stack : SeesStack ps waiting
+  pub sees : SeesMode mode now
+  pub same : run (waiting, now) rest ≡ run ([], start) all
+
+-- a list and a type that close as these do
+pub record Closes (t : Span) (ws : List Waiting) (a : TypeTree) (ps : List Pending) (part : TypePart) : Type 0 where
+  pub now : List Waiting
+  pub last : TypeTree
+  pub stack : SeesStack ps now
+  pub sees : SeesType part last
+  pub same : type_closed now t last ≡ type_closed ws t a

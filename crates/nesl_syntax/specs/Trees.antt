@@ -1,0 +1,203 @@
+-- Trees without where they lie in memory.
+use Rattle.std.specs.Prelude.{ℕ, ◌+◌, max, Bool, List, Option, Some, None}
+use Rattle.nesl_lex.specs.declared.token.Span.{Span}
+use Rattle.nesl_syntax.specs.declared.tree.Operator.{Operator}
+use Rattle.nesl_syntax.specs.declared.tree.Prefix.{Prefix}
+use Rattle.nesl_syntax.specs.declared.tree.Class.{Class}
+
+-- a type as it is written
+pub data TypeTree : Type 0 where
+  int : TypeTree
+  bool : TypeTree
+  char : TypeTree
+  named : List ℕ → Span → TypeTree
+  sequence_type : TypeTree → TypeTree
+  pair_type : TypeTree → TypeTree → TypeTree
+
+-- a pattern, with its span
+mutual
+  pub data PatternTree : Type 0 where
+    pattern : Span → PatternShape → PatternTree
+
+  pub data PatternShape : Type 0 where
+    name_pattern : List ℕ → PatternShape
+    pair_pattern : PatternTree → PatternTree → PatternShape
+    record_pattern : List ℕ → PatternTree → PatternShape
+
+-- an expression, with its span
+mutual
+  pub data Tree : Type 0 where
+    node : Span → Shape → Tree
+
+  pub data Shape : Type 0 where
+    number : ℕ → Shape
+    truth : Bool → Shape
+    character : ℕ → Shape
+    text : List ℕ → Shape
+    variable : List ℕ → Shape
+    call : List ℕ → Tree → Shape
+    pair : Tree → Tree → Shape
+    prefix_of : Prefix → Tree → Shape
+    infix_of : Operator → Tree → Tree → Shape
+    index : Tree → Tree → Shape
+    choice : Tree → Tree → Tree → Shape
+    sequence : Trees → Shape
+    empty : TypeTree → Shape
+    range : Tree → Tree → Shape
+    strided_range : Tree → Tree → Tree → Shape
+    let_in : Binders → Tree → Shape
+    each : Tree → Binders → Shape
+    filtered_each : Tree → Binders → Tree → Shape
+    element : Shape
+
+  pub data Trees : Type 0 where
+    none : Trees
+    more : Tree → Trees → Trees
+
+  -- patterns, each with what it is bound to
+  pub data Binders : Type 0 where
+    no_binders : Binders
+    binder : PatternTree → Tree → Binders → Binders
+
+abbrev pub span_of : Tree → Span
+span_of (node s k) = s
+
+abbrev pub pattern_span : PatternTree → Span
+pattern_span (pattern s k) = s
+
+-- the same node, standing in these bytes
+abbrev pub widened : Span → Tree → Tree
+widened s (node t k) = node s k
+
+abbrev pub widened_pattern : Span → PatternTree → PatternTree
+widened_pattern s (pattern t k) = pattern s k
+
+-- one more at the end
+abbrev pub and_then : Trees → Tree → Trees
+and_then none x = more x none
+and_then (more t ts) x = more t (and_then ts x)
+
+abbrev pub and_bind : Binders → PatternTree → Tree → Binders
+and_bind no_binders p e = binder p e no_binders
+and_bind (binder q d bs) p e = binder q d (and_bind bs p e)
+
+-- a leaf is 1, any other node 1 plus the greatest of its parts
+abbrev pub type_height : TypeTree → ℕ
+type_height int = 1
+type_height bool = 1
+type_height char = 1
+type_height (named x s) = 1
+type_height (sequence_type a) = type_height a + 1
+type_height (pair_type a b) = max (type_height a) (type_height b) + 1
+
+abbrev mutual
+  pub pattern_height : PatternTree → ℕ
+  pattern_height (pattern s k) = pattern_height_of k
+
+  pub pattern_height_of : PatternShape → ℕ
+  pattern_height_of (name_pattern x) = 1
+  pattern_height_of (pair_pattern a b) = max (pattern_height a) (pattern_height b) + 1
+  pattern_height_of (record_pattern x a) = pattern_height a + 1
+
+-- patterns and written types are parts of their node; a text and the body of an apply-to-each that has none are leaves
+abbrev mutual
+  pub height : Tree → ℕ
+  height (node s k) = height_of k
+
+  pub height_of : Shape → ℕ
+  height_of (number n) = 1
+  height_of (truth b) = 1
+  height_of (character c) = 1
+  height_of (text bytes) = 1
+  height_of (variable x) = 1
+  height_of (call f a) = height a + 1
+  height_of (pair a b) = max (height a) (height b) + 1
+  height_of (prefix_of o a) = height a + 1
+  height_of (infix_of o a b) = max (height a) (height b) + 1
+  height_of (index a b) = max (height a) (height b) + 1
+  height_of (choice a b c) = max (height a) (max (height b) (height c)) + 1
+  height_of (sequence ts) = greatest ts + 1
+  height_of (empty t) = type_height t + 1
+  height_of (range a b) = max (height a) (height b) + 1
+  height_of (strided_range a b c) = max (height a) (max (height b) (height c)) + 1
+  height_of (let_in bs e) = max (greatest_bound bs) (height e) + 1
+  height_of (each e bs) = max (height e) (greatest_bound bs) + 1
+  height_of (filtered_each e bs f) = max (height e) (max (greatest_bound bs) (height f)) + 1
+  height_of element = 1
+
+  pub greatest : Trees → ℕ
+  greatest none = 0
+  greatest (more t ts) = max (height t) (greatest ts)
+
+  pub greatest_bound : Binders → ℕ
+  greatest_bound no_binders = 0
+  greatest_bound (binder p t bs) = max (pattern_height p) (max (height t) (greatest_bound bs))
+
+-- the expression with a pattern's tokens
+abbrev mutual
+  pub tree_of_pattern : PatternTree → Tree
+  tree_of_pattern (pattern s k) = node s (shape_of_pattern k)
+
+  pub shape_of_pattern : PatternShape → Shape
+  shape_of_pattern (name_pattern x) = variable x
+  shape_of_pattern (pair_pattern a b) = pair (tree_of_pattern a) (tree_of_pattern b)
+  shape_of_pattern (record_pattern x a) = call x (tree_of_pattern a)
+
+abbrev pub shape_pair : Option PatternTree → Option PatternTree → Option PatternShape
+shape_pair (Some a) (Some b) = Some (pair_pattern a b)
+shape_pair _ _ = None
+
+abbrev pub shape_record : List ℕ → Option PatternTree → Option PatternShape
+shape_record x (Some a) = Some (record_pattern x a)
+shape_record x None = None
+
+abbrev pub with_span : Span → Option PatternShape → Option PatternTree
+with_span s (Some k) = Some (pattern s k)
+with_span s None = None
+
+-- the pattern with an expression's tokens, if there is one
+abbrev mutual
+  pub pattern_in : Tree → Option PatternTree
+  pattern_in (node s k) = with_span s (pattern_shape_in k)
+
+  pub pattern_shape_in : Shape → Option PatternShape
+  pattern_shape_in (variable x) = Some (name_pattern x)
+  pattern_shape_in (pair a b) = shape_pair (pattern_in a) (pattern_in b)
+  pattern_shape_in (call x a) = shape_record x (pattern_in a)
+  pattern_shape_in _ = None
+
+-- a name and the class that it is put in
+pub record MemberTree : Type 0 where
+  pub name : List ℕ
+  pub class : Class
+
+pub record SignatureTree : Type 0 where
+  pub from : TypeTree
+  pub to : TypeTree
+  pub members : List MemberTree
+
+-- a line
+pub data Line : Type 0 where
+  nothing : Line
+  function : List ℕ → PatternTree → Option SignatureTree → Tree → Line
+  datatype : List ℕ → TypeTree → Line
+  bind : List ℕ → Tree → Line
+  eval : Tree → Line
+  show_names : Line
+  show_budget : Line
+  show_type : Tree → Line
+
+abbrev pub signature_height : Option SignatureTree → ℕ
+signature_height (Some s) = max (type_height s.from) (type_height s.to)
+signature_height None = 0
+
+-- the greatest height of a line's body, pattern and types, each measured alone
+abbrev pub line_height : Line → ℕ
+line_height nothing = 0
+line_height (function x p s e) = max (pattern_height p) (max (signature_height s) (height e))
+line_height (datatype x a) = type_height a
+line_height (bind x e) = height e
+line_height (eval e) = height e
+line_height show_names = 0
+line_height show_budget = 0
+line_height (show_type e) = height e

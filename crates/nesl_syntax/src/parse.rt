@@ -1,0 +1,592 @@
+// Reading tokens with a list of what is open.
+
+ghost use Rattle.std.specs.Prelude.{◌≡◌, ◌≤◌, ◌<◌, Err, IfOk, if◌then◌else◌, None, Some, List};
+ghost use Rattle.nesl_syntax.specs.Trees.{Tree, TypeTree};
+ghost use Rattle.nesl_syntax.specs.Machine.{Waiting, opened, called, took, before, with_newest, marked, separated, listed, mark_level, followed, let_closed, let_body, emptied, empty_opening, type_done, type_separated, type_bracketed, bracket_type, type_closed, begun_with, typed_with, typed_on};
+ghost use Rattle.nesl_syntax.specs.Machine as machine;
+ghost use Rattle.nesl_syntax.specs.Parts.{Sees, SeesType};
+ghost use Rattle.nesl_syntax.specs.Stack.{SeesOpening, SeesTypeOpening, SeesPending, SeesStack};
+ghost use Rattle.nesl_syntax.specs.Turns.{SeesTurn};
+ghost use Rattle.nesl_syntax.specs.Steps.{SeesMode, Follows, Gives, PendingGiven, TypeGiven};
+ghost use Rattle.nesl_syntax.specs.declared.parse.Mode.TheVariants as mode;
+ghost use Rattle.nesl_syntax.specs.declared.part.Part.TheVariants as part;
+ghost use Rattle.nesl_lex.specs.Tokens.{lexeme_of, placed_of, placed, symbol, reserved};
+
+use crate::fault::ParseFault;
+use crate::lists::{Parts, push_part};
+use crate::mark::{Follow, Mark, follow_of};
+use crate::part::{Part, empty_of, over};
+use crate::pending::{
+    Group, Opening, Pending, TypeOpening, fold, level_begun, level_of, newest, wanted,
+};
+use crate::tree::{Exp, Node, Prefix, TypeExp};
+use crate::turn::{Turn, no_bindings, turn_of};
+use crate::types::{TypePart, pair_of, sequence_of};
+use nesl_lex::token::{Kind, Sign, Span, Token, Word};
+use std::alloc::Global;
+
+/// What the tokens so far leave.
+#[derive(Debug, Drop)]
+pub enum Mode {
+    /// An expression is to come.
+    Before,
+    /// An expression stands before this place; where the flag is set it is a name and nothing else.
+    Behind(bool, Part),
+    /// A type is to come.
+    Typing,
+    /// A type stands before this place.
+    Typed(TypePart),
+}
+
+// The tokens have no tree; what was read of one is dropped.
+fn refuse<T: Drop>(value: T) -> Result<Mode, ParseFault>
+    ensures { result ≡ Err ParseFault.Syntax }
+{
+    drop(value);
+    Err(ParseFault::Syntax)
+}
+
+// One more that is open, where it may stand.
+fn open(stack: &mut Vec<Pending>, pending: Pending) -> Result<Mode, ParseFault>
+    ensures { (ws : List Waiting) (w : Waiting) → SeesStack stack.old.items ws → SeesPending pending w →
+        Follows result stack.new.items (opened w ws) }
+{
+    if wanted(stack) > level_begun(&pending) {
+        return refuse(pending);
+    }
+    stack.push(pending)?;
+    Ok(Mode::Before)
+}
+
+// What comes of the newest opening.
+fn take(stack: &mut Vec<Pending>, turn: Turn) -> Result<Mode, ParseFault>
+    ensures { (ws : List Waiting) (t : machine.Turn) → SeesStack stack.old.items ws → SeesTurn turn t →
+        Follows result stack.new.items (took ws (Some t)) }
+{
+    match turn {
+        Turn::Becomes(pending) => {
+            stack.push(pending)?;
+            Ok(Mode::Before)
+        }
+        Turn::Ends(part) => Ok(Mode::Behind(false, part)),
+    }
+}
+
+// Behind a token that ends a part.
+fn end_part(
+    alloc: Global,
+    stack: &mut Vec<Pending>,
+    part: Part,
+    mark: Mark,
+    at: Span,
+) -> Result<Mode, ParseFault>
+    ensures { (ws : List Waiting) (x : Tree) → SeesStack stack.old.items ws → Sees part x →
+        Follows result stack.new.items (marked mark at ws x) }
+{
+    match stack.pop() {
+        Some(Pending::Open(opening)) => {
+            let turn = turn_of(alloc, opening, part, mark, at)?;
+            take(stack, turn)
+        }
+        other => refuse((other, part)),
+    }
+}
+
+// One more element, where a list is open.
+fn list(stack: &mut Vec<Pending>, opening: Opening, part: Part) -> Result<Mode, ParseFault>
+    ensures { (ws : List Waiting) (o : machine.Opening) (x : Tree) → SeesStack stack.old.items ws → SeesOpening opening o → Sees part x →
+        Follows result stack.new.items (with_newest before ws (listed o x)) }
+{
+    match opening {
+        Opening::List(from, _, parts) => {
+            let parts = push_part(parts, part)?;
+            stack.push(Pending::Open(Opening::List(from, true, parts)))?;
+            Ok(Mode::Before)
+        }
+        other => refuse((other, part)),
+    }
+}
+
+// Behind a comma.
+#[tactic(auto, using(crate::proofs::StepLemmas::near_comma))]
+fn separate(stack: &mut Vec<Pending>, part: Part) -> Result<Mode, ParseFault>
+    ensures { (ws : List Waiting) (x : Tree) → SeesStack stack.old.items ws → Sees part x →
+        Follows result stack.new.items (separated ws x) }
+{
+    if wanted(stack) <= 1 {
+        return open(stack, Pending::Comma(part));
+    }
+    match stack.pop() {
+        Some(Pending::Open(opening)) => list(stack, opening, part),
+        other => refuse((other, part)),
+    }
+}
+
+// Behind a `(` that follows an expression.
+fn call(stack: &mut Vec<Pending>, fresh: bool, part: Part) -> Result<Mode, ParseFault>
+    ensures { (ws : List Waiting) (x : Tree) → SeesStack stack.old.items ws → Sees part x →
+        Follows result stack.new.items (if fresh then called ws x else None) }
+{
+    if !fresh {
+        return refuse(part);
+    }
+    match part {
+        Part::Built(exp, _, _) => {
+            let Exp { span, node } = exp;
+            match node {
+                Node::Variable(name) => open(stack, Pending::Open(Opening::Call(name, span))),
+                other => refuse(other),
+            }
+        }
+        Part::High(_) => Err(ParseFault::Syntax),
+    }
+}
+
+// The level at which what stands before a token is put together.
+fn level_at(mark: Mark) -> u8
+    ensures { result ≡ mark_level mark }
+{
+    match mark {
+        Mark::CloseParenthesis => 1,
+        _ => 2,
+    }
+}
+
+// A token behind an expression.
+fn follow(
+    alloc: Global,
+    stack: &mut Vec<Pending>,
+    fresh: bool,
+    part: Part,
+    follow: Follow,
+    at: Span,
+) -> Result<Mode, ParseFault>
+    ensures { (ws : List Waiting) (x : Tree) → SeesStack stack.old.items ws → Sees part x →
+        Follows result stack.new.items (followed follow ws fresh x at) }
+{
+    match follow {
+        Follow::Call => call(stack, fresh, part),
+        Follow::Index => open(stack, Pending::Open(Opening::Index(part))),
+        Follow::Comma => {
+            let part = fold(alloc, stack, 2, part)?;
+            separate(stack, part)
+        }
+        Follow::Operator(operator) => {
+            let part = fold(alloc, stack, level_of(operator), part)?;
+            open(stack, Pending::Sign(operator, part))
+        }
+        Follow::Mark(mark) => {
+            let part = fold(alloc, stack, level_at(mark), part)?;
+            end_part(alloc, stack, part, mark, at)
+        }
+        Follow::Nothing => refuse(part),
+    }
+}
+
+// A let whose binders end in a `;`.
+fn close_let(opening: Opening) -> Result<Pending, ParseFault>
+    ensures { (o : machine.Opening) → SeesOpening opening o → PendingGiven result (let_body o) }
+{
+    match opening {
+        Opening::Binders(group, some, bound) => match group {
+            Group::Let(word) if some => Ok(Pending::Body(word, bound)),
+            other => {
+                drop((other, bound));
+                Err(ParseFault::Syntax)
+            }
+        },
+        other => {
+            drop(other);
+            Err(ParseFault::Syntax)
+        }
+    }
+}
+
+// An `in` where an expression is to come.
+fn begin_body(stack: &mut Vec<Pending>) -> Result<Mode, ParseFault>
+    ensures { (ws : List Waiting) → SeesStack stack.old.items ws → Follows result stack.new.items (let_closed ws) }
+{
+    match stack.pop() {
+        Some(Pending::Open(opening)) => {
+            stack.push(close_let(opening)?)?;
+            Ok(Mode::Before)
+        }
+        other => refuse(other),
+    }
+}
+
+// A list with no elements.
+fn empty_list(opening: Opening) -> Result<Pending, ParseFault>
+    ensures { (o : machine.Opening) → SeesOpening opening o → PendingGiven result (empty_opening o) }
+{
+    match opening {
+        Opening::List(from, some, parts) => {
+            drop(parts);
+            if some {
+                return Err(ParseFault::Syntax);
+            }
+            Ok(Pending::Type(TypeOpening::Empty(from)))
+        }
+        other => {
+            drop(other);
+            Err(ParseFault::Syntax)
+        }
+    }
+}
+
+// A `]` where an expression is to come.
+fn begin_type(stack: &mut Vec<Pending>) -> Result<Mode, ParseFault>
+    ensures { (ws : List Waiting) → SeesStack stack.old.items ws → Follows result stack.new.items (emptied ws) }
+{
+    match stack.pop() {
+        Some(Pending::Open(opening)) => {
+            stack.push(empty_list(opening)?)?;
+            Ok(Mode::Typing)
+        }
+        other => refuse(other),
+    }
+}
+
+// A leaf of a tree.
+fn leaf(span: Span, node: Node, fresh: bool) -> Mode
+    ensures { result ≡ mode.Behind fresh (part.Built (record { span = span; node = node }) 1 fresh) }
+{
+    Mode::Behind(fresh, Part::Built(Exp { span, node }, 1, fresh))
+}
+
+// A sign where an expression is to come.
+fn begin_sign(
+    alloc: Global,
+    stack: &mut Vec<Pending>,
+    sign: Sign,
+    span: Span,
+) -> Result<Mode, ParseFault>
+    ensures { (ws : List Waiting) → SeesStack stack.old.items ws → Follows result stack.new.items (begun_with ws span (symbol sign)) }
+{
+    match sign {
+        Sign::OpenParenthesis => open(stack, Pending::Open(Opening::Round(span))),
+        Sign::OpenBracket => {
+            let parts = Parts::Built(Vec::new(alloc), 0);
+            open(stack, Pending::Open(Opening::List(span, false, parts)))
+        }
+        Sign::OpenBrace => open(stack, Pending::Open(Opening::Brace(span))),
+        Sign::CloseBracket => begin_type(stack),
+        Sign::Hash => open(stack, Pending::Prefix(Prefix::Length, span)),
+        Sign::Minus => open(stack, Pending::Prefix(Prefix::Negate, span)),
+        _ => Err(ParseFault::Syntax),
+    }
+}
+
+// A reserved word where an expression is to come.
+fn begin_word(
+    alloc: Global,
+    stack: &mut Vec<Pending>,
+    word: Word,
+    span: Span,
+) -> Result<Mode, ParseFault>
+    ensures { (ws : List Waiting) → SeesStack stack.old.items ws → Follows result stack.new.items (begun_with ws span (reserved word)) }
+{
+    match word {
+        Word::If => open(stack, Pending::Open(Opening::Test(span))),
+        Word::Let => {
+            let bound = no_bindings(alloc);
+            open(
+                stack,
+                Pending::Open(Opening::Binders(Group::Let(span), false, bound)),
+            )
+        }
+        Word::In => begin_body(stack),
+        _ => Err(ParseFault::Syntax),
+    }
+}
+
+// A token where an expression is to come.
+fn begin(alloc: Global, stack: &mut Vec<Pending>, token: &Token) -> Result<Mode, ParseFault>
+    ensures { (ws : List Waiting) → SeesStack stack.old.items ws →
+        Follows result stack.new.items (begun_with ws token.now.span (lexeme_of token.now.kind)) }
+{
+    let span = token.span;
+    match &token.kind {
+        Kind::Number(n) => Ok(leaf(span, Node::Number(*n), false)),
+        Kind::Truth(value) => Ok(leaf(span, Node::Truth(*value), false)),
+        Kind::Character(c) => Ok(leaf(span, Node::Character(*c), false)),
+        Kind::Text(text) => Ok(leaf(span, Node::Text(text.clone()?), false)),
+        Kind::Name(name) => Ok(leaf(span, Node::Variable(name.clone()?), true)),
+        Kind::Reserved(word) => begin_word(alloc, stack, *word, span),
+        Kind::Symbol(sign) => begin_sign(alloc, stack, *sign, span),
+    }
+}
+
+// Where an empty sequence waits for its type.
+fn empty_at(pending: &Pending) -> Option<Span>
+    ensures { (w : Waiting) → SeesPending pending.now w → result ≡ machine.empty_of w }
+{
+    match pending {
+        Pending::Type(opening) => match opening {
+            TypeOpening::Empty(from) => Some(*from),
+            _ => None,
+        },
+        _ => None,
+    }
+}
+
+// Where the newest is an empty sequence that waits for its type.
+fn empty_from(stack: &[Pending]) -> Option<Span>
+    ensures { (ws : List Waiting) → SeesStack stack.now ws → result ≡ machine.empty_newest ws }
+{
+    match newest(stack) {
+        None => None,
+        Some(pending) => empty_at(pending),
+    }
+}
+
+// A type that has come, with its last token at this place.
+fn end_type(stack: &mut Vec<Pending>, part: TypePart, at: Span) -> Mode
+    ensures { (ws : List Waiting) (a : TypeTree) → SeesStack stack.old.items ws → SeesType part a →
+        SeesStack stack.new.items (type_done ws at a).0 × SeesMode result (type_done ws at a).1 }
+{
+    match empty_from(stack.as_slice()) {
+        Some(from) => {
+            drop(stack.pop());
+            Mode::Behind(false, empty_of(part, over(from, at)))
+        }
+        None => Mode::Typed(part),
+    }
+}
+
+// A token where a type is to come.
+fn begin_written(stack: &mut Vec<Pending>, token: &Token) -> Result<Mode, ParseFault>
+    ensures { (ws : List Waiting) → SeesStack stack.old.items ws →
+        Follows result stack.new.items (typed_with ws token.now.span (lexeme_of token.now.kind)) }
+{
+    let span = token.span;
+    match &token.kind {
+        Kind::Reserved(word) => match word {
+            Word::Int => Ok(end_type(stack, TypePart::Built(TypeExp::Int, 1), span)),
+            Word::Bool => Ok(end_type(stack, TypePart::Built(TypeExp::Bool, 1), span)),
+            Word::Char => Ok(end_type(stack, TypePart::Built(TypeExp::Char, 1), span)),
+            _ => Err(ParseFault::Syntax),
+        },
+        Kind::Name(name) => {
+            let name = TypeExp::Name(name.clone()?, span);
+            Ok(end_type(stack, TypePart::Built(name, 1), span))
+        }
+        Kind::Symbol(sign) => match sign {
+            Sign::OpenBracket => {
+                stack.push(Pending::Type(TypeOpening::List(span)))?;
+                Ok(Mode::Typing)
+            }
+            Sign::OpenParenthesis => {
+                stack.push(Pending::Type(TypeOpening::Round(span)))?;
+                Ok(Mode::Typing)
+            }
+            _ => Err(ParseFault::Syntax),
+        },
+        _ => Err(ParseFault::Syntax),
+    }
+}
+
+// Whether a comma may stand behind a type there.
+fn has_commas(pending: &Pending) -> bool
+    ensures { (w : Waiting) → SeesPending pending.now w → result ≡ machine.has_commas w }
+{
+    match pending {
+        Pending::Type(opening) => match opening {
+            TypeOpening::Round(_) | TypeOpening::Comma(_) => true,
+            _ => false,
+        },
+        _ => false,
+    }
+}
+
+fn newest_has_commas(stack: &[Pending]) -> bool
+    ensures { (ws : List Waiting) → SeesStack stack.now ws → result ≡ machine.newest_has_commas ws }
+{
+    match newest(stack) {
+        None => false,
+        Some(pending) => has_commas(pending),
+    }
+}
+
+// A comma behind a type.
+fn separate_types(stack: &mut Vec<Pending>, part: TypePart) -> Result<Mode, ParseFault>
+    ensures { (ws : List Waiting) (a : TypeTree) → SeesStack stack.old.items ws → SeesType part a →
+        Follows result stack.new.items (type_separated ws a) }
+{
+    if !newest_has_commas(stack.as_slice()) {
+        return refuse(part);
+    }
+    stack.push(Pending::Type(TypeOpening::Comma(part)))?;
+    Ok(Mode::Typing)
+}
+
+// A type in brackets.
+fn bracketed(alloc: Global, opening: TypeOpening, part: TypePart) -> Result<TypePart, ParseFault>
+    ensures { (o : machine.TypeOpening) (a : TypeTree) → SeesTypeOpening opening o → SeesType part a → TypeGiven result (bracket_type o a) }
+{
+    match opening {
+        TypeOpening::List(_) => Ok(sequence_of(alloc, part)?),
+        other => {
+            drop((other, part));
+            Err(ParseFault::Syntax)
+        }
+    }
+}
+
+// A `]` behind a type.
+fn bracket(
+    alloc: Global,
+    stack: &mut Vec<Pending>,
+    part: TypePart,
+    at: Span,
+) -> Result<Mode, ParseFault>
+    ensures { (ws : List Waiting) (a : TypeTree) → SeesStack stack.old.items ws → SeesType part a →
+        Follows result stack.new.items (type_bracketed ws at a) }
+{
+    match stack.pop() {
+        Some(Pending::Type(opening)) => {
+            let part = bracketed(alloc, opening, part)?;
+            Ok(end_type(stack, part, at))
+        }
+        other => refuse((other, part)),
+    }
+}
+
+// A `)` behind a type.
+fn close_types(
+    alloc: Global,
+    stack: &mut Vec<Pending>,
+    part: TypePart,
+    at: Span,
+) -> Result<Mode, ParseFault>
+    ensures { (ws : List Waiting) (a : TypeTree) → SeesStack stack.old.items ws → SeesType part a →
+        Follows result stack.new.items (type_closed ws at a) }
+{
+    let mut part = part;
+    'types: loop {
+        let Some(pending) = stack.pop() else {
+            return refuse(part);
+        };
+        match pending {
+            Pending::Type(opening) => match opening {
+                TypeOpening::Comma(left) => part = pair_of(alloc, left, part)?,
+                TypeOpening::Round(_) => return Ok(end_type(stack, part, at)),
+                other => return refuse((other, part)),
+            },
+            other => return refuse((other, part)),
+        }
+    }
+}
+
+// A token behind a type.
+fn follow_type(
+    alloc: Global,
+    stack: &mut Vec<Pending>,
+    part: TypePart,
+    token: &Token,
+) -> Result<Mode, ParseFault>
+    ensures { (ws : List Waiting) (a : TypeTree) → SeesStack stack.old.items ws → SeesType part a →
+        Follows result stack.new.items (typed_on ws a token.now.span (lexeme_of token.now.kind)) }
+{
+    match &token.kind {
+        Kind::Symbol(sign) => match sign {
+            Sign::Comma => separate_types(stack, part),
+            Sign::CloseBracket => bracket(alloc, stack, part, token.span),
+            Sign::CloseParenthesis => close_types(alloc, stack, part, token.span),
+            _ => refuse(part),
+        },
+        _ => refuse(part),
+    }
+}
+
+// A token.
+fn step(
+    alloc: Global,
+    stack: &mut Vec<Pending>,
+    mode: Mode,
+    token: &Token,
+) -> Result<Mode, ParseFault>
+    ensures { (ws : List Waiting) (m : machine.Mode) → SeesStack stack.old.items ws → SeesMode mode m →
+        Follows result stack.new.items (machine.step ws m (placed_of token.now)) }
+{
+    match mode {
+        Mode::Before => begin(alloc, stack, token),
+        Mode::Behind(fresh, part) => {
+            follow(
+                alloc,
+                stack,
+                fresh,
+                part,
+                follow_of(&token.kind),
+                token.span,
+            )
+        }
+        Mode::Typing => begin_written(stack, token),
+        Mode::Typed(part) => follow_type(alloc, stack, part, token),
+    }
+}
+
+// The expression that stands behind the last token, where nothing is open any more.
+fn finish(alloc: Global, stack: &mut Vec<Pending>, mode: Mode) -> Result<Part, ParseFault>
+    ensures { (ws : List Waiting) (m : machine.Mode) → SeesStack stack.old.items ws → SeesMode mode m →
+        Gives result (machine.finished_in ws m) }
+{
+    match mode {
+        Mode::Behind(_, part) => {
+            let part = fold(alloc, stack, 2, part)?;
+            if !stack.is_empty() {
+                drop(part);
+                return Err(ParseFault::Syntax);
+            }
+            Ok(part)
+        }
+        other => {
+            drop(other);
+            Err(ParseFault::Syntax)
+        }
+    }
+}
+
+/// The expression that the tokens are.
+pub fn expression(alloc: Global, tokens: &[Token]) -> Result<Part, ParseFault>
+    ensures { Gives result (machine.expression (placed tokens.now)) }
+{
+    let mut stack = Vec::new(alloc);
+    let mut mode = Mode::Before;
+    for token in tokens {
+        mode = step(alloc, &mut stack, mode, token)?;
+    }
+    finish(alloc, &mut stack, mode)
+}
+
+// The type that stands behind the last token, where nothing is open any more.
+fn finish_type(stack: &[Pending], mode: Mode) -> Result<TypePart, ParseFault>
+    ensures { (ws : List Waiting) (m : machine.Mode) → SeesStack stack.now ws → SeesMode mode m →
+        TypeGiven result (machine.type_finished_in ws m) }
+{
+    match mode {
+        Mode::Typed(part) => {
+            if !stack.is_empty() {
+                drop(part);
+                return Err(ParseFault::Syntax);
+            }
+            Ok(part)
+        }
+        other => {
+            drop(other);
+            Err(ParseFault::Syntax)
+        }
+    }
+}
+
+/// The type that the tokens are.
+pub fn written_type(alloc: Global, tokens: &[Token]) -> Result<TypePart, ParseFault>
+    ensures { TypeGiven result (machine.written_type (placed tokens.now)) }
+{
+    let mut stack = Vec::new(alloc);
+    let mut mode = Mode::Typing;
+    for token in tokens {
+        mode = step(alloc, &mut stack, mode, token)?;
+    }
+    finish_type(stack.as_slice(), mode)
+}

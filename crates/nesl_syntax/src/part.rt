@@ -1,0 +1,240 @@
+// Parts of a tree, built only up to height 100.
+
+ghost use Rattle.std.specs.Prelude.{◌≡◌, ◌≤◌, ◌<◌, IfOk};
+ghost use Rattle.nesl_syntax.specs.Trees.{Tree, TypeTree, node, span_of, widened};
+ghost use Rattle.nesl_syntax.specs.Trees as trees;
+ghost use Rattle.nesl_syntax.specs.declared.part.Part.TheVariants as part;
+ghost use Rattle.nesl_syntax.specs.Views.{is_pattern};
+ghost use Rattle.nesl_syntax.specs.Grammar.{over};
+ghost use Rattle.nesl_syntax.specs.Parts.{Sees, SeesType};
+
+use crate::tree::{Exp, Node, Operator, Prefix};
+use crate::types::TypePart;
+use nesl_lex::token::Span;
+use std::alloc::{AllocError, Global};
+
+/// The greatest height of a tree that is built.
+pub const LIMIT: usize = 100;
+
+/// An expression with its height, or one that is too high and isn't built. The flag says whether its tokens could be a pattern.
+#[derive(Debug, Drop)]
+pub enum Part {
+    Built(Exp, usize, bool),
+    High(bool),
+}
+
+/// Drops the parts of what is too high.
+pub fn too_high<T: Drop>(parts: T, pattern: bool) -> Part
+    ensures { result ≡ part.High pattern }
+{
+    drop(parts);
+    Part::High(pattern)
+}
+
+/// From the first byte of one to the last of the other.
+pub fn over(from: Span, to: Span) -> Span
+    ensures { result ≡ over from to }
+{
+    Span {
+        start: from.start,
+        end: to.end,
+    }
+}
+
+/// Whether its tokens could be a pattern.
+pub fn may_be_pattern(part: &Part) -> bool
+    ensures { (x : Tree) → Sees part.now x → result ≡ is_pattern x }
+{
+    match part {
+        Part::Built(_, _, pattern) => *pattern,
+        Part::High(pattern) => *pattern,
+    }
+}
+
+/// The same part, standing in these bytes.
+pub fn widen(part: Part, span: Span) -> Part
+    ensures { (x : Tree) → Sees part x → Sees result (widened span x) }
+{
+    match part {
+        Part::Built(exp, height, pattern) => Part::Built(
+            Exp {
+                span,
+                node: exp.node,
+            },
+            height,
+            pattern,
+        ),
+        Part::High(pattern) => Part::High(pattern),
+    }
+}
+
+pub fn call_of(alloc: Global, name: Vec<u8>, part: Part, span: Span) -> Result<Part, AllocError>
+    ensures { IfOk result (λ r. (x : Tree) → Sees part x → Sees r (node span (trees.call name.items x))) }
+{
+    match part {
+        Part::Built(exp, height, pattern) => {
+            if height >= LIMIT {
+                return Ok(Part::High(pattern));
+            }
+            let node = Node::Call(name, Box::new(alloc, exp)?);
+            Ok(Part::Built(Exp { span, node }, height + 1, pattern))
+        }
+        Part::High(pattern) => Ok(Part::High(pattern)),
+    }
+}
+
+pub fn pair_of(alloc: Global, left: Part, right: Part) -> Result<Part, AllocError>
+    ensures { IfOk result (λ r. (x y : Tree) → Sees left x → Sees right y →
+        Sees r (node (over (span_of x) (span_of y)) (trees.pair x y))) }
+{
+    let pattern = may_be_pattern(&left) && may_be_pattern(&right);
+    match left {
+        Part::Built(a, m, _) => match right {
+            Part::Built(b, n, _) if m.max(n) < LIMIT => {
+                let span = over(a.span, b.span);
+                let node = Node::Pair(Box::new(alloc, a)?, Box::new(alloc, b)?);
+                Ok(Part::Built(Exp { span, node }, m.max(n) + 1, pattern))
+            }
+            other => Ok(too_high((a, other), pattern)),
+        },
+        Part::High(_) => Ok(too_high(right, pattern)),
+    }
+}
+
+pub fn prefix_of(alloc: Global, prefix: Prefix, sign: Span, part: Part) -> Result<Part, AllocError>
+    ensures { IfOk result (λ r. (x : Tree) → Sees part x → Sees r (node (over sign (span_of x)) (trees.prefix_of prefix x))) }
+{
+    match part {
+        Part::Built(exp, height, _) if height < LIMIT => {
+            let span = over(sign, exp.span);
+            let node = Node::Prefix(prefix, Box::new(alloc, exp)?);
+            Ok(Part::Built(Exp { span, node }, height + 1, false))
+        }
+        other => Ok(too_high(other, false)),
+    }
+}
+
+pub fn infix_of(
+    alloc: Global,
+    operator: Operator,
+    left: Part,
+    right: Part,
+) -> Result<Part, AllocError>
+    ensures { IfOk result (λ r. (x y : Tree) → Sees left x → Sees right y →
+        Sees r (node (over (span_of x) (span_of y)) (trees.infix_of operator x y))) }
+{
+    match left {
+        Part::Built(a, m, _) => match right {
+            Part::Built(b, n, _) if m.max(n) < LIMIT => {
+                let span = over(a.span, b.span);
+                let node = Node::Infix(operator, Box::new(alloc, a)?, Box::new(alloc, b)?);
+                Ok(Part::Built(Exp { span, node }, m.max(n) + 1, false))
+            }
+            other => Ok(too_high((a, other), false)),
+        },
+        Part::High(_) => Ok(too_high(right, false)),
+    }
+}
+
+pub fn index_of(alloc: Global, base: Part, index: Part, close: Span) -> Result<Part, AllocError>
+    ensures { IfOk result (λ r. (x y : Tree) → Sees base x → Sees index y →
+        Sees r (node (over (span_of x) close) (trees.index x y))) }
+{
+    match base {
+        Part::Built(a, m, _) => match index {
+            Part::Built(b, n, _) if m.max(n) < LIMIT => {
+                let span = over(a.span, close);
+                let node = Node::Index(Box::new(alloc, a)?, Box::new(alloc, b)?);
+                Ok(Part::Built(Exp { span, node }, m.max(n) + 1, false))
+            }
+            other => Ok(too_high((a, other), false)),
+        },
+        Part::High(_) => Ok(too_high(index, false)),
+    }
+}
+
+pub fn range_of(alloc: Global, from: Part, to: Part, span: Span) -> Result<Part, AllocError>
+    ensures { IfOk result (λ r. (x y : Tree) → Sees from x → Sees to y → Sees r (node span (trees.range x y))) }
+{
+    match from {
+        Part::Built(a, m, _) => match to {
+            Part::Built(b, n, _) if m.max(n) < LIMIT => {
+                let node = Node::Range(Box::new(alloc, a)?, Box::new(alloc, b)?);
+                Ok(Part::Built(Exp { span, node }, m.max(n) + 1, false))
+            }
+            other => Ok(too_high((a, other), false)),
+        },
+        Part::High(_) => Ok(too_high(to, false)),
+    }
+}
+
+pub fn strided_range_of(
+    alloc: Global,
+    from: Part,
+    to: Part,
+    stride: Part,
+    span: Span,
+) -> Result<Part, AllocError>
+    ensures { IfOk result (λ r. (x y z : Tree) → Sees from x → Sees to y → Sees stride z →
+        Sees r (node span (trees.strided_range x y z))) }
+{
+    match from {
+        Part::Built(a, m, _) => match to {
+            Part::Built(b, n, _) => match stride {
+                Part::Built(c, k, _) if m.max(n.max(k)) < LIMIT => {
+                    let a = Box::new(alloc, a)?;
+                    let b = Box::new(alloc, b)?;
+                    let node = Node::StridedRange(a, b, Box::new(alloc, c)?);
+                    Ok(Part::Built(Exp { span, node }, m.max(n.max(k)) + 1, false))
+                }
+                other => Ok(too_high((a, b, other), false)),
+            },
+            Part::High(_) => Ok(too_high((a, stride), false)),
+        },
+        Part::High(_) => Ok(too_high((to, stride), false)),
+    }
+}
+
+pub fn choice_of(
+    alloc: Global,
+    word: Span,
+    test: Part,
+    yes: Part,
+    no: Part,
+) -> Result<Part, AllocError>
+    ensures { IfOk result (λ r. (x y z : Tree) → Sees test x → Sees yes y → Sees no z →
+        Sees r (node (over word (span_of z)) (trees.choice x y z))) }
+{
+    match test {
+        Part::Built(a, m, _) => match yes {
+            Part::Built(b, n, _) => match no {
+                Part::Built(c, k, _) if m.max(n.max(k)) < LIMIT => {
+                    let span = over(word, c.span);
+                    let a = Box::new(alloc, a)?;
+                    let b = Box::new(alloc, b)?;
+                    let node = Node::Choice(a, b, Box::new(alloc, c)?);
+                    Ok(Part::Built(Exp { span, node }, m.max(n.max(k)) + 1, false))
+                }
+                other => Ok(too_high((a, b, other), false)),
+            },
+            Part::High(_) => Ok(too_high((a, no), false)),
+        },
+        Part::High(_) => Ok(too_high((yes, no), false)),
+    }
+}
+
+pub fn empty_of(written: TypePart, span: Span) -> Part
+    ensures { (x : TypeTree) → SeesType written x → Sees result (node span (trees.empty x)) }
+{
+    match written {
+        TypePart::Built(written, height) if height < LIMIT => Part::Built(
+            Exp {
+                span,
+                node: Node::Empty(written),
+            },
+            height + 1,
+            false,
+        ),
+        other => too_high(other, false),
+    }
+}

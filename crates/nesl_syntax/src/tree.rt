@@ -1,0 +1,146 @@
+// The trees of expressions, patterns, types and forms.
+
+use nesl_lex::token::Span;
+
+/// An operator between two expressions.
+#[derive(Clone, Copy, PartialEq, Eq, Debug)]
+pub enum Operator {
+    Or,
+    Nor,
+    Xor,
+    And,
+    Nand,
+    Equal,
+    NotEqual,
+    Less,
+    Greater,
+    LessOrEqual,
+    GreaterOrEqual,
+    Plus,
+    Minus,
+    Append,
+    Write,
+    Times,
+    Divide,
+    Read,
+}
+
+/// An operator before an expression.
+#[derive(Clone, Copy, PartialEq, Eq, Debug)]
+pub enum Prefix {
+    Length,
+    Negate,
+}
+
+/// A class of types.
+#[derive(Clone, Copy, PartialEq, Eq, Debug)]
+pub enum Class {
+    Any,
+    Ordinal,
+    Number,
+    Logical,
+}
+
+/// A type as it is written. Only a name has its span, which is all that a fault tells of a type.
+#[derive(Debug, Drop)]
+pub enum TypeExp {
+    Int,
+    Bool,
+    Char,
+    Name(Vec<u8>, Span),
+    Sequence(Box<TypeExp>),
+    Pair(Box<TypeExp>, Box<TypeExp>),
+}
+
+/// A pattern, with the bytes that it stands in.
+#[cycle(pattern)]
+#[derive(Debug, Drop)]
+pub struct Pattern {
+    pub span: Span,
+    pub node: PatternNode,
+}
+
+/// What a pattern is.
+#[cycle(pattern)]
+#[derive(Debug, Drop)]
+pub enum PatternNode {
+    Name(Vec<u8>),
+    Pair(Box<Pattern>, Box<Pattern>),
+    /// A datatype's name before `(`.
+    Record(Vec<u8>, Box<Pattern>),
+}
+
+/// An expression, with the bytes that it stands in.
+#[cycle(tree)]
+#[derive(Debug, Drop)]
+pub struct Exp {
+    pub span: Span,
+    pub node: Node,
+}
+
+/// A pattern and the expression that it is bound to.
+#[cycle(tree)]
+#[derive(Debug, Drop)]
+pub struct Binding {
+    pub pattern: Pattern,
+    pub value: Exp,
+}
+
+/// What an expression is.
+#[cycle(tree)]
+#[derive(Debug, Drop)]
+pub enum Node {
+    Number(u64),
+    Truth(bool),
+    Character(u8),
+    Text(Vec<u8>),
+    Variable(Vec<u8>),
+    /// A name before `(`: a built-in function, a user's function or a datatype.
+    Call(Vec<u8>, Box<Exp>),
+    Pair(Box<Exp>, Box<Exp>),
+    Prefix(Prefix, Box<Exp>),
+    Infix(Operator, Box<Exp>, Box<Exp>),
+    /// A sequence and an index.
+    Index(Box<Exp>, Box<Exp>),
+    Choice(Box<Exp>, Box<Exp>, Box<Exp>),
+    Sequence(Vec<Exp>),
+    /// An empty sequence, with the type of its elements.
+    Empty(TypeExp),
+    Range(Box<Exp>, Box<Exp>),
+    StridedRange(Box<Exp>, Box<Exp>, Box<Exp>),
+    Let(Vec<Binding>, Box<Exp>),
+    /// An apply-to-each: a body and binders.
+    Each(Box<Exp>, Vec<Binding>),
+    /// An apply-to-each with a filter, which comes last.
+    FilteredEach(Box<Exp>, Vec<Binding>, Box<Exp>),
+    /// The body of an apply-to-each that has none: the first binder's element.
+    Element,
+}
+
+/// The types of a function, and the classes of names in them.
+#[derive(Debug, Drop)]
+pub struct Signature {
+    pub from: TypeExp,
+    pub to: TypeExp,
+    pub members: Vec<Member>,
+}
+
+/// A name and the class that it is put in.
+#[derive(Debug, Drop)]
+pub struct Member {
+    pub name: Vec<u8>,
+    pub class: Class,
+}
+
+/// A line.
+#[derive(Debug, Drop)]
+pub enum Form {
+    Nothing,
+    Fun(Vec<u8>, Pattern, Option<Signature>, Exp),
+    Datatype(Vec<u8>, TypeExp),
+    Bind(Vec<u8>, Exp),
+    Eval(Exp),
+    ShowNames,
+    ShowBudget,
+    ShowType(Exp),
+}

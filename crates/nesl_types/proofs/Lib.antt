@@ -1,0 +1,6 @@
+pub mod Nodes
+pub mod Substitutions
+pub mod Members
+pub mod Bound
+pub mod Written
+pub mod Numbers

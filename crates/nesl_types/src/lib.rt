@@ -1,0 +1,16 @@
+//! Types and their classes, the schemes of functions, what each top-level name is, and the texts of types.
+#![tactic(auto)]
+
+pub mod bindings;
+pub mod classes;
+pub mod schemes;
+#[cfg(test)]
+mod tests;
+pub mod texts;
+pub mod types;
+
+pub use bindings::{Context, Top};
+pub use classes::{Class, meet};
+pub use schemes::Scheme;
+pub use texts::{scheme_text, type_text};
+pub use types::Ty;

@@ -1,0 +1,59 @@
+//! Types.
+
+ghost use Rattle.std.specs.Prelude.{◌≡◌, ◌+◌, ◌<◌, IfOk, MatchOption};
+ghost use Rattle.nesl_types.specs.Term.{term, nodes};
+
+use std::alloc::{AllocError, Global};
+
+/// A type.
+#[derive(Drop)]
+pub enum Ty {
+    Int,
+    Bool,
+    Char,
+    /// A type variable, by its number.
+    Var(u64),
+    /// Sequences of a type.
+    SeqOf(Box<Ty>),
+    /// Pairs of two types.
+    Both(Box<Ty>, Box<Ty>),
+    /// A datatype, by its tag: the place of its name in the context.
+    Named(u64),
+}
+
+impl Ty {
+    /// The same type once more.
+    pub fn duplicate(&self, alloc: Global) -> Result<Ty, AllocError>
+        ensures { IfOk result (λ t. term t ≡ term self.now) }
+    {
+        match self {
+            Ty::Int => Ok(Ty::Int),
+            Ty::Bool => Ok(Ty::Bool),
+            Ty::Char => Ok(Ty::Char),
+            Ty::Var(variable) => Ok(Ty::Var(*variable)),
+            Ty::SeqOf(item) => {
+                let item = item.duplicate(alloc)?;
+                Ok(Ty::SeqOf(Box::new(alloc, item)?))
+            }
+            Ty::Both(first, second) => {
+                let first = first.duplicate(alloc)?;
+                let second = second.duplicate(alloc)?;
+                Ok(Ty::Both(Box::new(alloc, first)?, Box::new(alloc, second)?))
+            }
+            Ty::Named(tag) => Ok(Ty::Named(*tag)),
+        }
+    }
+
+    /// What is left of `room` after the nodes of the type, or `None` where they are more.
+    #[tactic(auto, using(crate::proofs::Nodes::nodes_positive))]
+    pub fn room_left(&self, room: u64) -> Option<u64>
+        ensures { MatchOption result (room < nodes (term self.now)) (λ left. left + nodes (term self.now) ≡ room) }
+    {
+        let room = room.checked_sub(1)?;
+        match self {
+            Ty::SeqOf(item) => item.room_left(room),
+            Ty::Both(first, second) => second.room_left(first.room_left(room)?),
+            _ => Some(room),
+        }
+    }
+}

@@ -1,0 +1,39 @@
+-- What solves equations and classes.
+use Rattle.std.specs.Prelude.{◌≡◌, ℕ, List, All}
+use Rattle.nesl_types.specs.declared.classes.Class.{Class}
+use Rattle.nesl_types.specs.Term.{Term, term}
+use Rattle.nesl_types.specs.Substitution.{substitute}
+use Rattle.nesl_types.specs.Class.{IsIn}
+use Rattle.nesl_unify.specs.declared.narrow.Member.{Member}
+use Rattle.nesl_unify.specs.declared.solve.Equation.{Equation}
+use Rattle.nesl_unify.specs.declared.solve.Solution.{Solution}
+use Rattle.nesl_unify.specs.At.{at, IsBelow}
+use Rattle.nesl_types.specs.Class.{class_at}
+use Rattle.nesl_unify.specs.Members.{IsInAll}
+
+-- each equation holds where `s v` stands for each variable v
+abbrev pub SolvesAll : (ℕ → Term) → List Equation → Type 0
+SolvesAll s equations = All (λ e. substitute s (term e.left) ≡ substitute s (term e.right)) equations
+
+-- each variable of the equations is below n
+abbrev pub AreBelow : ℕ → List Equation → Type 0
+AreBelow n equations = All (λ e. IsBelow n (term e.left) × IsBelow n (term e.right)) equations
+
+-- `s v` stands for each variable v, and `of v` is the class of each variable v in these types
+pub record IsSolution (equations : List Equation) (members : List Member) (s : ℕ → Term) (of : ℕ → Class) : Type 0 where
+  pub equal : SolvesAll s equations
+  pub within : IsInAll s of members
+
+-- `s` is `general` with a type of its class in place of each variable
+pub record IsInstance (general : ℕ → Term) (classes : ℕ → Class) (s : ℕ → Term) (of : ℕ → Class) : Type 0 where
+  pub put : ℕ → Term
+  pub same : (v : ℕ) → s v ≡ substitute put (general v)
+  pub within : (v : ℕ) → IsIn of (classes v) (put v)
+
+-- the type of a variable
+abbrev pub type_of : Solution → ℕ → Term
+type_of a = at a.types.items
+
+-- the class of a variable that is left
+abbrev pub class_of : Solution → ℕ → Class
+class_of a = class_at a.classes.items

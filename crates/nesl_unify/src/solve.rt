@@ -1,0 +1,93 @@
+//! Equations between types, and what solves them.
+
+ghost use Rattle.std.specs.Prelude.{◌≡◌, ◌<◌, ℕ, All, IfOk, IsErrOf};
+ghost use Rattle.nesl_types.specs.declared.classes.Class.{Class};
+ghost use Rattle.nesl_types.specs.Class.{class_at};
+ghost use Rattle.nesl_types.specs.Substitution.{substitute};
+ghost use Rattle.nesl_types.specs.Term.{Term, term};
+ghost use Rattle.nesl_unify.specs.At.{IsBounded, IsBelow};
+
+use crate::fault::SolveFault;
+use crate::narrow::{Member, narrow};
+use crate::table::make_room;
+use crate::unify::unify;
+use crate::walk::apply;
+use nesl_types::{Class, Ty};
+use std::alloc::{AllocError, Global};
+
+/// Two types that have to be one.
+#[derive(Drop)]
+pub struct Equation {
+    pub left: Ty,
+    pub right: Ty,
+}
+
+/// A most general solution: a type for each variable, and the class of each variable that is left in these types.
+#[derive(Drop)]
+pub struct Solution {
+    types: Vec<Ty>,
+    /// The class of each variable at the variable's place; a variable past the end is in `Any`.
+    pub classes: Vec<Class>,
+}
+
+impl Solution {
+    ghost use Rattle.nesl_unify.specs.Solves.{type_of};
+
+    /// The type with what stands for its variables in their place.
+    pub fn apply(&self, alloc: Global, ty: &Ty) -> Result<Ty, AllocError>
+        ensures { IfOk result (λ t. term t ≡ substitute (type_of self.now) (term ty.now)) }
+    {
+        apply(alloc, &self.types, ty)
+    }
+}
+
+ghost use Rattle.std.specs.Prelude.{◌↔◌, IsTrue};
+ghost use Rattle.nesl_unify.specs.Solves.{AreBelow, IsSolution, IsInstance, type_of, class_of};
+
+/// Whether each variable of the type is below the count.
+pub fn is_below(count: u64, ty: &Ty) -> bool
+    ensures { IsTrue result ↔ IsBelow count (term ty.now) }
+{
+    match ty {
+        Ty::Var(variable) => *variable < count,
+        Ty::SeqOf(item) => is_below(count, item),
+        Ty::Both(first, second) => is_below(count, first) && is_below(count, second),
+        _ => true,
+    }
+}
+
+/// Whether each variable of the equations is below the count.
+pub fn are_below(count: u64, equations: &[Equation]) -> bool
+    ensures { IsTrue result ↔ AreBelow count equations.now }
+{
+    for equation in equations {
+        if !is_below(count, &equation.left) || !is_below(count, &equation.right) {
+            return false;
+        }
+    }
+    true
+}
+
+/// A most general solution of the equations in which each member's variable has a type of its class. The variables are numbers
+/// below `count`.
+pub fn solve(
+    alloc: Global,
+    count: u64,
+    equations: &[Equation],
+    members: &[Member],
+) -> Result<Solution, SolveFault>
+    requires equations { AreBelow count equations.now }
+    requires members { All (λ m. m.variable < count) members.now }
+    ensures solves { IfOk result (λ a. IsSolution equations.now members.now (type_of a) (class_of a)) }
+    ensures general { IfOk result (λ a. (s : ℕ → Term) → (of : ℕ → Class) → IsSolution equations.now members.now s of → IsInstance (type_of a) (class_of a) s of) }
+    ensures bounded { IfOk result (λ a. IsBounded (type_of a)) }
+    ensures none { IsErrOf result SolveFault.NoSolution → (s : ℕ → Term) → (of : ℕ → Class) → IsBounded s → IsSolution equations.now members.now s of → ⊥ }
+{
+    let mut types = Vec::new(alloc);
+    make_room(&mut types, count)?;
+    for equation in equations {
+        unify(alloc, &mut types, &equation.left, &equation.right)?;
+    }
+    let classes = narrow(alloc, &types, members)?;
+    Ok(Solution { types, classes })
+}

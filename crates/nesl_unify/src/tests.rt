@@ -1,0 +1,169 @@
+use crate::fault::SolveFault;
+use crate::narrow::{Member, members_are_below};
+use crate::solve::{Equation, Solution, are_below, solve};
+use nesl_types::{Class, Ty};
+use std::alloc::{AllocError, Global};
+use std::test::Fail;
+
+/// What solves the equations, or `None` where nothing does.
+fn solved(
+    alloc: Global,
+    count: u64,
+    equations: &[Equation],
+    members: &[Member],
+) -> Result<Option<Solution>, AllocError> {
+    if !are_below(count, equations) || !members_are_below(count, members) {
+        return Err(AllocError);
+    }
+    match solve(alloc, count, equations, members) {
+        Ok(solution) => Ok(Some(solution)),
+        Err(SolveFault::NoSolution) => Ok(None),
+        Err(SolveFault::Memory) => Err(AllocError),
+    }
+}
+
+fn member(variable: u64, class: Class) -> Member {
+    Member { variable, class }
+}
+
+/// Adds that the variable is the sequences of the type.
+fn add_seq_of(
+    alloc: Global,
+    equations: &mut Vec<Equation>,
+    variable: u64,
+    item: Ty,
+) -> Result<(), AllocError> {
+    let right = Ty::SeqOf(Box::new(alloc, item)?);
+    let left = Ty::Var(variable);
+    equations.push(Equation { left, right })?;
+    Ok(())
+}
+
+/// Adds that the variable is the pairs of another with itself.
+fn add_double(
+    alloc: Global,
+    equations: &mut Vec<Equation>,
+    variable: u64,
+    half: u64,
+) -> Result<(), AllocError> {
+    let first = Box::new(alloc, Ty::Var(half))?;
+    let right = Ty::Both(first, Box::new(alloc, Ty::Var(half))?);
+    let left = Ty::Var(variable);
+    equations.push(Equation { left, right })?;
+    Ok(())
+}
+
+/// v1 = (v0, v0), .. vN = (vM, vM) with M one less than N.
+fn doubled(alloc: Global, count: u64) -> Result<Vec<Equation>, AllocError> {
+    let mut equations = Vec::new(alloc);
+    for half in 0..count {
+        add_double(alloc, &mut equations, half.saturating_add(1), half)?;
+    }
+    Ok(equations)
+}
+
+/// The same equations, the last first.
+fn doubled_from_the_end(alloc: Global, count: u64) -> Result<Vec<Equation>, AllocError> {
+    let mut equations = Vec::new(alloc);
+    for half in (0..count).rev() {
+        add_double(alloc, &mut equations, half.saturating_add(1), half)?;
+    }
+    Ok(equations)
+}
+
+/// v0 = v1, v1 = v2, .. up to vN.
+fn chained(alloc: Global, count: u64) -> Result<Vec<Equation>, AllocError> {
+    let mut equations = Vec::new(alloc);
+    for variable in 0..count {
+        let left = Ty::Var(variable);
+        let right = Ty::Var(variable.saturating_add(1));
+        equations.push(Equation { left, right })?;
+    }
+    Ok(equations)
+}
+
+/// The number of nodes of what stands for the variable.
+fn nodes_of(
+    alloc: Global,
+    solution: Option<Solution>,
+    variable: u64,
+) -> Result<Option<u64>, AllocError> {
+    match solution {
+        Some(solution) => {
+            let ty = solution.apply(alloc, &Ty::Var(variable))?;
+            Ok(
+                ty.room_left(5000)
+                    .and_then(|left| 5000u64.checked_sub(left)),
+            )
+        }
+        None => Ok(None),
+    }
+}
+
+/// The class of the first variable.
+fn first_class(solution: Option<Solution>) -> Option<Class> {
+    solution?.classes.first().copied()
+}
+
+#[test]
+fn two_classes_meet(rt: HostRuntime) -> Result<(), Fail> {
+    let members = [member(0, Class::Ordinal), member(0, Class::Logical)];
+    let solution = solved(rt.alloc(), 1, &[], &members)?;
+    assert!(rt; first_class(solution) == Some(Class::Number));
+    Ok(())
+}
+
+#[test]
+fn a_type_has_no_sequence_of_itself(rt: HostRuntime) -> Result<(), Fail> {
+    let mut equations = Vec::new(rt.alloc());
+    add_seq_of(rt.alloc(), &mut equations, 0, Ty::Var(0))?;
+    assert!(rt; solved(rt.alloc(), 1, &equations, &[])?.is_none());
+    Ok(())
+}
+
+#[test]
+fn no_sequence_is_ordinal(rt: HostRuntime) -> Result<(), Fail> {
+    let mut equations = Vec::new(rt.alloc());
+    add_seq_of(rt.alloc(), &mut equations, 0, Ty::Int)?;
+    let members = [member(0, Class::Ordinal)];
+    assert!(rt; solved(rt.alloc(), 1, &equations, &members)?.is_none());
+    Ok(())
+}
+
+#[test]
+fn the_largest_type(rt: HostRuntime) -> Result<(), Fail> {
+    let equations = doubled(rt.alloc(), 11)?;
+    let solution = solved(rt.alloc(), 12, &equations, &[])?;
+    assert!(rt; nodes_of(rt.alloc(), solution, 11)? == Some(4095));
+    Ok(())
+}
+
+#[test]
+fn too_large_a_type(rt: HostRuntime) -> Result<(), Fail> {
+    let equations = doubled(rt.alloc(), 12)?;
+    assert!(rt; solved(rt.alloc(), 13, &equations, &[])?.is_none());
+    Ok(())
+}
+
+#[test]
+fn far_too_large_a_type(rt: HostRuntime) -> Result<(), Fail> {
+    let equations = doubled(rt.alloc(), 5000)?;
+    assert!(rt; solved(rt.alloc(), 5001, &equations, &[])?.is_none());
+    Ok(())
+}
+
+#[test]
+fn far_too_large_from_the_end(rt: HostRuntime) -> Result<(), Fail> {
+    let equations = doubled_from_the_end(rt.alloc(), 5000)?;
+    assert!(rt; solved(rt.alloc(), 5001, &equations, &[])?.is_none());
+    Ok(())
+}
+
+#[test]
+fn a_chain_of_equal_variables(rt: HostRuntime) -> Result<(), Fail> {
+    let equations = chained(rt.alloc(), 1000)?;
+    let members = [member(0, Class::Ordinal), member(1000, Class::Logical)];
+    let solution = solved(rt.alloc(), 1001, &equations, &members)?;
+    assert!(rt; nodes_of(rt.alloc(), solution, 0)? == Some(1));
+    Ok(())
+}
