@@ -1,0 +1,4 @@
+pub mod Outcomes
+pub mod Integers
+pub mod Scalars
+pub mod Laws

@@ -1,0 +1,16 @@
+//! Costs, the faults of evaluation, and the functions on numbers, truth values and characters.
+#![tactic(auto)]
+
+pub mod binary;
+pub mod cost;
+pub mod laws;
+mod number;
+#[cfg(test)]
+mod tests;
+pub mod trap;
+pub mod unary;
+
+pub use binary::Binary;
+pub use cost::Cost;
+pub use trap::Trap;
+pub use unary::Unary;
