@@ -1,0 +1,4 @@
+pub mod Faults
+pub mod Values
+pub mod Replies
+pub mod Tasks

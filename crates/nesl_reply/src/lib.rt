@@ -1,0 +1,14 @@
+//! The texts of faults, values and replies, byte for byte.
+#![tactic(auto)]
+
+pub mod fault;
+mod leaf;
+pub mod reply;
+#[cfg(test)]
+mod tests;
+pub mod value;
+mod writing;
+
+pub use fault::{Fault, Stop};
+pub use reply::{Reply, Used, no_memory, reply_text};
+pub use value::value_text;

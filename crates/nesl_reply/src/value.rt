@@ -1,0 +1,419 @@
+//! The texts of values.
+
+ghost use Rattle.std.specs.Prelude.{◌≡◌, ◌+◌, ◌*◌, ◌-◌, ◌<◌, ◌∷◌, [], ◌++◌, ◌==◌, ◌&&◌, not, ℕ, Bool, true, false, IfOk, OnOk, MatchOption, codes, map, unwrap_or, slice_get};
+ghost use Rattle.std.specs.List.{list_all};
+ghost use Rattle.nesl_values.specs.Tree.{int, boolean, character, seq, trees_of, size, sizes};
+ghost use Rattle.nesl_values.specs.Parts.{list_of};
+ghost use Rattle.nesl_values.specs.View.{tree_of, trees_view};
+ghost use Rattle.nesl_types.specs.Term.{term};
+ghost use Rattle.nesl_types.specs.Texts.{name_at};
+ghost use Rattle.nesl_reply.specs.Values.{Datatypes, datatypes, value_text as text_of_value, is_quotable, code_of, quoted, is_text_type, elements_text, others_text, bracketed, left_type, right_type, element_type, held_by};
+ghost use Rattle.nesl_reply.specs.Tasks.{task_text, tasks_text, task_work, tasks_work, IsNext, empty_text, leaves_text, list_text};
+
+use crate::leaf::{Leaf, is_printable, write_character, write_other_leaves, write_truth};
+use crate::writing::{write_bytes, write_integer};
+use nesl_types::{Context, Top, Ty};
+use nesl_values::Value;
+use std::alloc::{AllocError, Global};
+
+/// What is still to be written.
+#[derive(Clone, Copy)]
+pub enum Task<'a> {
+    /// A value of that type; a pair stands in brackets where they are asked for.
+    Value(&'a Value, &'a Ty, bool),
+    /// Elements of that type, each with a comma before it.
+    Others(&'a [Value], &'a Ty),
+    Bytes(&'static [u8]),
+}
+
+/// The text of a value of a type. The context has the names of the datatypes, and what their records hold. What is
+/// still to be written stands in a list, so that a value of any depth takes no call depth.
+pub fn value_text<P: Drop>(
+    alloc: Global,
+    value: &Value,
+    ty: &Ty,
+    context: &Context<P>,
+) -> Result<Vec<u8>, AllocError>
+    ensures { IfOk result (λ text. text.items ≡ text_of_value (datatypes context.now) true (term ty.now) (tree_of value.now)) }
+{
+    let mut out = Vec::new(alloc);
+    write_value(&mut out, alloc, value, ty, context)?;
+    Ok(out)
+}
+
+/// Writes a value of a type.
+pub(crate) fn write_value<P: Drop>(
+    out: &mut Vec<u8>,
+    alloc: Global,
+    value: &Value,
+    ty: &Ty,
+    context: &Context<P>,
+) -> Result<(), AllocError>
+    ensures { OnOk result (out.new.items ≡ out.old.items ++ text_of_value (datatypes context.now) true (term ty.now) (tree_of value.now)) }
+{
+    let mut tasks = Vec::new(alloc);
+    plan(&mut tasks, Task::Value(value, ty, true))?;
+    while let Some(task) = next_task(&mut tasks) {
+        write_task(out, &mut tasks, context, task)?;
+    }
+    Ok(())
+}
+
+// The task that comes next.
+#[tactic(auto, using(crate::proofs::Lists::tasks_text_push, crate::proofs::Lists::tasks_work_push))]
+fn next_task<'a>(tasks: &mut Vec<Task<'a>>) -> Option<Task<'a>>
+    ensures { MatchOption result
+        ((known : Datatypes) → tasks_text known tasks.old.items ≡ [])
+        (λ task. IsNext task tasks.old.items tasks.new.items) }
+{
+    tasks.pop()
+}
+
+// Puts a task before all others.
+#[tactic(auto, using(crate::proofs::Lists::tasks_text_push, crate::proofs::Lists::tasks_work_push))]
+fn plan<'a>(tasks: &mut Vec<Task<'a>>, task: Task<'a>) -> Result<(), AllocError>
+    ensures { OnOk result (IsNext task.entry tasks.new.items tasks.old.items) }
+{
+    tasks.push(task)?;
+    Ok(())
+}
+
+// Writes the front of what a task asks for, and leaves the rest to other tasks.
+fn write_task<'a, P: Drop>(
+    out: &mut Vec<u8>,
+    tasks: &mut Vec<Task<'a>>,
+    context: &'a Context<P>,
+    task: Task<'a>,
+) -> Result<(), AllocError>
+    ensures text { OnOk result (out.new.items ++ tasks_text (datatypes context.now) tasks.new.items
+        ≡ out.old.items ++ (task_text (datatypes context.now) task.entry ++ tasks_text (datatypes context.now) tasks.old.items)) }
+    ensures less_work { OnOk result (tasks_work tasks.new.items < task_work task.entry + tasks_work tasks.old.items) }
+{
+    match task {
+        Task::Value(value, ty, brackets) => write_front(out, tasks, context, value, ty, brackets),
+        Task::Others(items, ty) => write_others(out, tasks, items, ty),
+        Task::Bytes(bytes) => write_bytes(out, bytes),
+    }
+}
+
+// Writes the front of a value, and leaves the rest to tasks.
+fn write_front<'a, P: Drop>(
+    out: &mut Vec<u8>,
+    tasks: &mut Vec<Task<'a>>,
+    context: &'a Context<P>,
+    value: &'a Value,
+    ty: &'a Ty,
+    brackets: bool,
+) -> Result<(), AllocError>
+    ensures text { OnOk result (out.new.items ++ tasks_text (datatypes context.now) tasks.new.items
+        ≡ out.old.items ++ (text_of_value (datatypes context.now) brackets (term ty.now) (tree_of value.now) ++ tasks_text (datatypes context.now) tasks.old.items)) }
+    ensures less_work { OnOk result (tasks_work tasks.new.items < 4 * size (tree_of value.now) - 1 + tasks_work tasks.old.items) }
+{
+    match value {
+        Value::Int(n) => write_integer(out, *n),
+        Value::Bool(b) => write_truth(out, *b),
+        Value::Char(c) => write_character(out, *c),
+        Value::Pair(left, right) => write_pair(out, tasks, left, right, ty, brackets),
+        Value::Tagged(tag, held) => write_record(out, tasks, context, *tag, held, ty),
+        Value::Seq(items) => write_sequence(out, tasks, items, ty),
+        Value::Ints(items) => {
+            write_integers(out, items, ty)?;
+            Ok(())
+        }
+        Value::Bools(items) => {
+            write_truths(out, items, ty)?;
+            Ok(())
+        }
+        Value::Chars(items) => {
+            write_characters(out, items, ty)?;
+            Ok(())
+        }
+    }
+}
+
+fn write_pair<'a>(
+    out: &mut Vec<u8>,
+    tasks: &mut Vec<Task<'a>>,
+    left: &'a Value,
+    right: &'a Value,
+    ty: &'a Ty,
+    brackets: bool,
+) -> Result<(), AllocError>
+    ensures text { OnOk result ((known : Datatypes) → out.new.items ++ tasks_text known tasks.new.items
+        ≡ out.old.items ++ (bracketed brackets (text_of_value known true (left_type (term ty.now)) (tree_of left.now) ++ codes ", " ++ text_of_value known false (right_type (term ty.now)) (tree_of right.now)) ++ tasks_text known tasks.old.items)) }
+    ensures less_work { OnOk result (tasks_work tasks.new.items < 4 * (size (tree_of left.now) + size (tree_of right.now)) + 3 + tasks_work tasks.old.items) }
+{
+    if brackets {
+        write_bytes(out, b"(")?;
+        plan(tasks, Task::Bytes(b")"))?;
+    }
+    plan(tasks, Task::Value(right, right_type(ty), false))?;
+    plan(tasks, Task::Bytes(b", "))?;
+    plan(tasks, Task::Value(left, left_type(ty), true))
+}
+
+fn write_record<'a, P: Drop>(
+    out: &mut Vec<u8>,
+    tasks: &mut Vec<Task<'a>>,
+    context: &'a Context<P>,
+    tag: u64,
+    held: &'a Value,
+    ty: &'a Ty,
+) -> Result<(), AllocError>
+    ensures text { OnOk result (out.new.items ++ tasks_text (datatypes context.now) tasks.new.items
+        ≡ out.old.items ++ (name_at context.now tag ++ (codes "(" ++ text_of_value (datatypes context.now) false (unwrap_or (held_by (slice_get context.now tag)) (term ty.now)) (tree_of held.now) ++ codes ")") ++ tasks_text (datatypes context.now) tasks.old.items)) }
+    ensures less_work { OnOk result (tasks_work tasks.new.items < 4 * size (tree_of held.now) + 3 + tasks_work tasks.old.items) }
+{
+    if let Some((name, _, _)) = context.at(tag as usize) {
+        write_bytes(out, name)?;
+    }
+    write_bytes(out, b"(")?;
+    plan(tasks, Task::Bytes(b")"))?;
+    plan(tasks, Task::Value(held, held_type(context, tag, ty), false))
+}
+
+fn write_sequence<'a>(
+    out: &mut Vec<u8>,
+    tasks: &mut Vec<Task<'a>>,
+    items: &'a [Value],
+    ty: &'a Ty,
+) -> Result<(), AllocError>
+    ensures text { OnOk result ((known : Datatypes) → out.new.items ++ tasks_text known tasks.new.items
+        ≡ out.old.items ++ (text_of_value known true (term ty.now) (seq (trees_view items.now)) ++ tasks_text known tasks.old.items)) }
+    ensures less_work { OnOk result (tasks_work tasks.new.items < 4 * sizes (trees_view items.now) + 3 + tasks_work tasks.old.items) }
+{
+    if is_text(items, ty) {
+        return write_quoted(out, items);
+    }
+    write_list(out, tasks, items, element_type(ty))
+}
+
+// Writes a sequence as a list.
+fn write_list<'a>(
+    out: &mut Vec<u8>,
+    tasks: &mut Vec<Task<'a>>,
+    items: &'a [Value],
+    ty: &'a Ty,
+) -> Result<(), AllocError>
+    ensures text { OnOk result ((known : Datatypes) → out.new.items ++ tasks_text known tasks.new.items
+        ≡ out.old.items ++ ((codes "[" ++ elements_text known (term ty.now) (trees_view items.now) ++ codes "]") ++ tasks_text known tasks.old.items)) }
+    ensures less_work { OnOk result (tasks_work tasks.new.items < 4 * sizes (trees_view items.now) + 3 + tasks_work tasks.old.items) }
+{
+    write_bytes(out, b"[")?;
+    plan(tasks, Task::Bytes(b"]"))?;
+    match items.split_first() {
+        None => Ok(()),
+        Some((first, others)) => {
+            plan(tasks, Task::Others(others, ty))?;
+            plan(tasks, Task::Value(first, ty, true))
+        }
+    }
+}
+
+fn write_others<'a>(
+    out: &mut Vec<u8>,
+    tasks: &mut Vec<Task<'a>>,
+    items: &'a [Value],
+    ty: &'a Ty,
+) -> Result<(), AllocError>
+    ensures text { OnOk result ((known : Datatypes) → out.new.items ++ tasks_text known tasks.new.items
+        ≡ out.old.items ++ (others_text known (term ty.now) (trees_view items.now) ++ tasks_text known tasks.old.items)) }
+    ensures less_work { OnOk result (tasks_work tasks.new.items < 4 * sizes (trees_view items.now) + 1 + tasks_work tasks.old.items) }
+{
+    match items.split_first() {
+        None => Ok(()),
+        Some((first, others)) => {
+            write_bytes(out, b", ")?;
+            plan(tasks, Task::Others(others, ty))?;
+            plan(tasks, Task::Value(first, ty, true))
+        }
+    }
+}
+
+// Writes a sequence with no element: as a text where its type allows it.
+fn write_empty(out: &mut Vec<u8>, ty: &Ty) -> Result<(), AllocError>
+    ensures { OnOk result (out.new.items ≡ out.old.items ++ empty_text (term ty.now)) }
+{
+    if is_text_type(ty) {
+        return write_bytes(out, b"\"\"");
+    }
+    write_bytes(out, b"[]")
+}
+
+// Writes a list of leaves.
+fn write_leaves<L: Leaf>(out: &mut Vec<u8>, items: &[L], ty: &Ty) -> Result<(), AllocError>
+    ensures { OnOk result (out.new.items ≡ out.old.items ++ list_text (term ty.now) (map L.leaf items.now)) }
+{
+    match items.split_first() {
+        None => write_empty(out, ty),
+        Some((first, others)) => write_first(out, *first, others),
+    }
+}
+
+// Writes a list of leaves of which there is at least one.
+fn write_first<L: Leaf>(out: &mut Vec<u8>, first: L, others: &[L]) -> Result<(), AllocError>
+    ensures { OnOk result (out.new.items ≡ out.old.items ++ leaves_text (L.leaf first) (map L.leaf others.now)) }
+{
+    write_bytes(out, b"[")?;
+    first.write(out)?;
+    write_other_leaves(out, others)?;
+    write_bytes(out, b"]")
+}
+
+// Writes a packed sequence of numbers.
+fn write_integers(out: &mut Vec<u8>, items: &[i64], ty: &Ty) -> Result<(), AllocError>
+    ensures { OnOk result ((known : Datatypes) (brackets : Bool) → out.new.items ≡ out.old.items ++ text_of_value known brackets (term ty.now) (seq (trees_of (map int items.now)))) }
+{
+    write_leaves(out, items, ty)?;
+    Ok(())
+}
+
+// Writes a packed sequence of truth values.
+fn write_truths(out: &mut Vec<u8>, items: &[bool], ty: &Ty) -> Result<(), AllocError>
+    ensures { OnOk result ((known : Datatypes) (brackets : Bool) → out.new.items ≡ out.old.items ++ text_of_value known brackets (term ty.now) (seq (trees_of (map boolean items.now)))) }
+{
+    write_leaves(out, items, ty)?;
+    Ok(())
+}
+
+// Writes a packed sequence of characters: as a text where its type and its bytes allow it.
+fn write_characters(out: &mut Vec<u8>, bytes: &[u8], ty: &Ty) -> Result<(), AllocError>
+    ensures { OnOk result ((known : Datatypes) (brackets : Bool) → out.new.items ≡ out.old.items ++ text_of_value known brackets (term ty.now) (seq (trees_of (map character bytes.now)))) }
+{
+    if is_packed_text(bytes, ty) {
+        write_text(out, bytes)?;
+        return Ok(());
+    }
+    write_leaves(out, bytes, ty)?;
+    Ok(())
+}
+
+// Writes bytes between double quotes.
+#[tactic(auto, using(crate::proofs::Lists::between))]
+fn write_text(out: &mut Vec<u8>, bytes: &[u8]) -> Result<(), AllocError>
+    ensures { OnOk result (out.new.items ≡ out.old.items ++ (codes "\"" ++ bytes.now ++ codes "\"")) }
+{
+    write_bytes(out, b"\"")?;
+    write_bytes(out, bytes)?;
+    write_bytes(out, b"\"")?;
+    Ok(())
+}
+
+// Writes characters that are values of their own between double quotes.
+fn write_quoted(out: &mut Vec<u8>, items: &[Value]) -> Result<(), AllocError>
+    ensures { OnOk result (out.new.items ≡ out.old.items ++ quoted (list_of (trees_view items.now))) }
+{
+    write_bytes(out, b"\"")?;
+    write_codes(out, items)?;
+    write_bytes(out, b"\"")?;
+    Ok(())
+}
+
+fn write_codes(out: &mut Vec<u8>, items: &[Value]) -> Result<(), AllocError>
+    ensures { OnOk result (out.new.items ≡ out.old.items ++ map code_of (map tree_of items.now)) }
+{
+    for item in items {
+        out.push(code_of(item))?;
+    }
+    Ok(())
+}
+
+// Whether the sequence is written as a text.
+fn is_text(items: &[Value], ty: &Ty) -> bool
+    ensures { result ≡ (is_text_type (term ty.now) && list_all is_quotable (list_of (trees_view items.now))) }
+{
+    is_text_type(ty) && can_be_quoted(items)
+}
+
+// The same, of packed characters.
+#[tactic(auto, using(crate::proofs::Lists::all_of))]
+fn is_packed_text(bytes: &[u8], ty: &Ty) -> bool
+    ensures { result ≡ (is_text_type (term ty.now) && list_all is_quotable (list_of (trees_of (map character bytes.now)))) }
+{
+    is_text_type(ty) && all_quotable(bytes)
+}
+
+// Whether all these characters can stand between double quotes.
+fn all_quotable(bytes: &[u8]) -> bool
+    ensures { result ≡ list_all (λ c. is_quotable (character c)) bytes.now }
+{
+    bytes.iter().all(|c| is_text_byte(*c))
+}
+
+// Whether all these are characters that can stand between double quotes.
+fn can_be_quoted(items: &[Value]) -> bool
+    ensures { result ≡ list_all (λ v. is_quotable (tree_of v)) items.now }
+{
+    items.iter().all(is_quotable)
+}
+
+fn is_quotable(item: &Value) -> bool
+    ensures { result ≡ is_quotable (tree_of item.now) }
+{
+    match item {
+        Value::Char(c) => is_text_byte(*c),
+        _ => false,
+    }
+}
+
+fn is_text_byte(c: u8) -> bool
+    ensures { result ≡ is_quotable (character c) }
+{
+    is_printable(c) && c != b'"'
+}
+
+// The code of a character.
+fn code_of(item: &Value) -> u8
+    ensures { result ≡ code_of (tree_of item.now) }
+{
+    match item {
+        Value::Char(c) => *c,
+        _ => 0,
+    }
+}
+
+fn is_text_type(ty: &Ty) -> bool
+    ensures { result ≡ is_text_type (term ty.now) }
+{
+    match ty {
+        Ty::SeqOf(item) => matches!(**item, Ty::Char),
+        _ => false,
+    }
+}
+
+fn left_type(ty: &Ty) -> &Ty
+    ensures { term result.now ≡ left_type (term ty.now) }
+{
+    match ty {
+        Ty::Both(left, _) => left,
+        _ => ty,
+    }
+}
+
+fn right_type(ty: &Ty) -> &Ty
+    ensures { term result.now ≡ right_type (term ty.now) }
+{
+    match ty {
+        Ty::Both(_, right) => right,
+        _ => ty,
+    }
+}
+
+fn element_type(ty: &Ty) -> &Ty
+    ensures { term result.now ≡ element_type (term ty.now) }
+{
+    match ty {
+        Ty::SeqOf(item) => item,
+        _ => ty,
+    }
+}
+
+// The type of what the records of a datatype hold, or `ty` where the tag stands for no datatype.
+fn held_type<'a, P: Drop>(context: &'a Context<P>, tag: u64, ty: &'a Ty) -> &'a Ty
+    ensures { term result.now ≡ unwrap_or (held_by (slice_get context.now tag)) (term ty.now) }
+{
+    match context.at(tag as usize) {
+        Some((_, Top::Datatype(_, held), _)) => held,
+        _ => ty,
+    }
+}
