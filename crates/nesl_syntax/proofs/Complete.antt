@@ -13,7 +13,7 @@ use Rattle.nesl_syntax.specs.declared.tree.Prefix.TheVariants as prefix
 use Rattle.nesl_syntax.specs.declared.mark.Mark.{Mark}
 use Rattle.nesl_syntax.specs.declared.mark.Mark.TheVariants as mark
 use Rattle.nesl_syntax.specs.declared.mark.Follow.TheVariants as follow
-use Rattle.nesl_syntax.specs.Trees.{Tree, Shape, Trees, Binders, PatternTree, PatternShape, TypeTree, node, pattern, span_of, pattern_span, widened, widened_pattern, and_then, and_bind, none, no_binders, binder, pattern_in, pattern_shape_in, with_span, shape_pair, shape_record, tree_of_pattern, shape_of_pattern}
+use Rattle.nesl_syntax.specs.Trees.{Tree, Shape, Trees, Binders, PatternTree, PatternShape, TypeTree, node, pattern, written, span_of, pattern_span, widened, widened_pattern, widened_type, and_then, and_bind, none, no_binders, binder, pattern_in, pattern_shape_in, with_span, shape_pair, shape_record, tree_of_pattern, shape_of_pattern}
 use Rattle.nesl_syntax.specs.Trees as trees
 use Rattle.nesl_syntax.specs.Marks.{operator_token, follow_of}
 use Rattle.nesl_syntax.specs.Grammar as grammar
@@ -298,12 +298,12 @@ mutual
   type_comes (grammar.type_name x s) ws = record { goes = refl }
   type_comes (grammar.type_sequence {a = a} s t q) ws =
       let open_it : Steps (ws, typing) (sign_at sign.OpenBracket s) (type_at (type_list s) ∷ ws, typing) = record { steps = refl } in
-      let close_it : Steps (type_at (type_list s) ∷ ws, typed a) (sign_at sign.CloseBracket t) (type_done ws t (trees.sequence_type a)) = record { steps = refl } in
+      let close_it : Steps (type_at (type_list s) ∷ ws, typed a) (sign_at sign.CloseBracket t) (type_done ws t (written (over s t) (trees.sequence_type a))) = record { steps = refl } in
       Goes-cons open_it (Goes-append (type_comes q (type_at (type_list s) ∷ ws)) (Goes-one close_it))
   type_comes (grammar.type_rounds {a = a} s t q) ws =
       let open_it : Steps (ws, typing) (sign_at sign.OpenParenthesis s) (type_at (type_round s) ∷ ws, typing) = record { steps = refl } in
       let c = types_come q (type_at (type_round s) ∷ ws) (in_round s ws) in
-      let close_it : Steps (c.now, typed c.last) (sign_at sign.CloseParenthesis t) (type_done ws t a) = record { steps = c.closes t } in
+      let close_it : Steps (c.now, typed c.last) (sign_at sign.CloseParenthesis t) (type_done ws t (widened_type (over s t) a)) = record { steps = c.closes t } in
       Goes-cons open_it (Goes-append c.goes (Goes-one close_it))
 
   types_come : {us : List Placed} {a : TypeTree} → AreTypes us a → (ws : List Waiting) → InTypes ws → TypesCome ws us a

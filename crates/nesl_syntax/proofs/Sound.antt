@@ -20,7 +20,7 @@ use Rattle.nesl_syntax.specs.Trees as trees
 use Rattle.nesl_syntax.specs.Marks.{operator_token, mark_token, follow_of}
 use Rattle.nesl_syntax.specs.Grammar as grammar
 use Rattle.nesl_syntax.specs.Grammar.{level_of, prefix_sign, over, token_at, sign_at, word_at, name_at, IsType, AreTypes, IsPattern, Parses, looser, Lists, Binds, Bodies, own_body}
-use Rattle.nesl_syntax.specs.Machine.{Group, let_group, each_group, Opening, round, call, index_of, test, branch, list, range_from, range_to, brace, binders, value, filter, empty_at, type_list, type_round, type_comma, Waiting, open_at, comma_behind, else_behind, body_of, prefix_at, sign_behind, type_at, opening_begins, wanted_by, begun_by, rank, completed, wanted, folded, Mode, before, behind, typing, typed, State, opened, called, Turn, becomes, ends, bound, turned, took, marked, separated, mark_level, followed, let_closed, emptied, begun_with, type_done, typed_with, type_separated, type_bracketed, type_closed, typed_on, step, run, alone, finished_in, finished, expression, type_alone, type_finished_in, type_finished, written_type}
+use Rattle.nesl_syntax.specs.Machine.{Group, let_group, each_group, Opening, round, call, index_of, test, branch, list, range_from, range_to, brace, binders, value, filter, empty_at, type_list, type_round, type_comma, Waiting, open_at, comma_behind, else_behind, body_of, prefix_at, sign_behind, type_at, opening_begins, wanted_by, begun_by, rank, completed, wanted, folded, Mode, before, behind, typing, typed, State, opened, called, Turn, becomes, ends, bound, turned, took, marked, separated, mark_level, followed, let_closed, emptied, begun_with, type_done, typed_with, type_separated, type_bracketed, type_pair, type_closed, typed_on, step, run, alone, finished_in, finished, expression, type_alone, type_finished_in, type_finished, written_type}
 use Rattle.nesl_syntax.proofs.Complete.{wanted_small, level_low, level_high, separator}
 use Rattle.nesl_syntax.proofs.Patterns.{pattern_of_phrase}
 
@@ -419,7 +419,7 @@ type_bracketed_means (waits {ws = ws} l (type_list_stands r) k) s q i h = simp a
 type_bracketed_means _ s q i h = cc
 
 type_closed_means : {ws : List Waiting} {us : List Placed} → Line_so_far ws us → (vs : List Placed) (a : TypeTree) (s : Span) (q : State) → AreTypes vs a → type_closed ws s a ≡ Some q → Means q.0 q.1 ((us ++ vs) ++ (sign_at sign.CloseParenthesis s ∷ []))
-type_closed_means (waits l (type_comma_stands {us = own} {a = b} r j) k) vs a s q i h = simp append_assoc (simp append_assoc at (type_closed_means l (own ++ (sign_at sign.Comma r ∷ vs)) (trees.pair_type b a) s q (grammar.type_pairs r j i) h))
+type_closed_means (waits l (type_comma_stands {us = own} {a = b} r j) k) vs a s q i h = simp append_assoc (simp append_assoc at (type_closed_means l (own ++ (sign_at sign.Comma r ∷ vs)) (type_pair b a) s q (grammar.type_pairs r j i) h))
 type_closed_means (waits l (type_round_stands r) k) vs a s q i h = simp append_assoc (type_done_means l s q (grammar.type_rounds r s i) cc)
 type_closed_means _ vs a s q i h = cc
 

@@ -17,13 +17,14 @@ use Rattle.nesl_syntax.specs.declared.mark.Mark.{Mark}
 use Rattle.nesl_syntax.specs.declared.fault.ParseFault.{ParseFault}
 use Rattle.nesl_syntax.specs.Turns.{SeesTurn, Turns}
 use Rattle.nesl_syntax.specs.declared.types.TypePart.{TypePart}
-use Rattle.nesl_syntax.specs.Trees.{Tree, TypeTree}
+use Rattle.nesl_syntax.specs.Trees.{Tree, TypeTree, widened_type}
+use Rattle.nesl_syntax.specs.Grammar.{over}
 use Rattle.nesl_syntax.specs.Trees as trees
 use Rattle.nesl_syntax.specs.Machine as machine
 use Rattle.nesl_syntax.specs.Parts.{Sees, SeesType}
 use Rattle.nesl_syntax.specs.Stack.{SeesOpening, SeesTypeOpening, SeesPending, SeesEach, SeesStack}
 use Rattle.nesl_syntax.specs.Grammar.{level_of}
-use Rattle.nesl_syntax.specs.Machine.{round, call, binders, list, Waiting, open_at, comma_behind, else_behind, body_of, prefix_at, sign_behind, type_at, opening_wants, wanted, before, State, opened, separated, run, step, on_both, alone, type_alone, type_closed, type_comma, type_done, took, turned, marked, listed, with_newest}
+use Rattle.nesl_syntax.specs.Machine.{round, call, binders, list, Waiting, open_at, comma_behind, else_behind, body_of, prefix_at, sign_behind, type_at, opening_wants, wanted, before, State, opened, separated, run, step, on_both, alone, type_alone, type_closed, type_pair, type_comma, type_done, took, turned, marked, listed, with_newest}
 use Rattle.nesl_syntax.specs.Steps.{list_newest, SeesMode, Follows, Runs, Closes}
 use Rattle.nesl_syntax.proofs.Stacks.{stack_pop, stack_none}
 use Rattle.nesl_syntax.proofs.Complete.{level_low}
@@ -66,13 +67,13 @@ type_alone_none ps [] a s h = let e : ps ≡ [] = sym (reverse-reverse ps) ∙ a
 type_alone_none ps (w ∷ ws) a s h = refl
 
 -- a comma is put together with the type behind it
-pub closes_turn : (t : Span) (old new : List Pending) (p : Pending) (left part r : TypePart) (ws : List Waiting) (a : TypeTree) → old ≡ new ++ p ∷ [] → ((w : Waiting) → SeesPending p w → (b : TypeTree) × (w ≡ type_at (type_comma b)) × SeesType left b) → ((b c : TypeTree) → SeesType left b → SeesType part c → SeesType r (trees.pair_type b c)) → Closes t ws a old part → Closes t ws a new r
+pub closes_turn : (t : Span) (old new : List Pending) (p : Pending) (left part r : TypePart) (ws : List Waiting) (a : TypeTree) → old ≡ new ++ p ∷ [] → ((w : Waiting) → SeesPending p w → (b : TypeTree) × (w ≡ type_at (type_comma b)) × SeesType left b) → ((b c : TypeTree) → SeesType left b → SeesType part c → SeesType r (type_pair b c)) → Closes t ws a old part → Closes t ws a new r
 closes_turn t old new p left part r ws a e comma put f =
     let k = stack_pop p new f.now old e f.stack in
     let b = comma k.newest k.sees in
     record {
       now = k.others;
-      last = trees.pair_type b.0 f.last;
+      last = type_pair b.0 f.last;
       stack = k.stack;
       sees = put b.0 f.last b.2 f.sees;
       same = sym (ap (λ (vs : List Waiting). type_closed vs t f.last) (k.both ∙ ap (λ (w : Waiting). w ∷ k.others) b.1)) ∙ f.same;
@@ -104,14 +105,15 @@ list_follows old mid new opening part r h f ws x s p far =
     subst (λ (z : Option State). Follows r new z) (ap (λ (us : List Waiting). list_newest us x) (sym e) ∙ sym (far_comma ws x far)) (f k.others o.0 x k.stack o.2 p)
 
 -- a ( is closed
-pub round_closes : (t u : Span) (old mid new : List Pending) (part : TypePart) (mode : Mode) → old ≡ mid ++ pendings.Type (types.Round u) ∷ []
-    → ((vs : List Waiting) (a : TypeTree) → SeesStack mid vs → SeesType part a → SeesStack new (type_done vs t a).0 × SeesMode mode (type_done vs t a).1)
+pub round_closes : (t u : Span) (old mid new : List Pending) (part wide : TypePart) (mode : Mode) → old ≡ mid ++ pendings.Type (types.Round u) ∷ []
+    → ((a : TypeTree) → SeesType part a → SeesType wide (widened_type (over u t) a))
+    → ((vs : List Waiting) (a : TypeTree) → SeesStack mid vs → SeesType wide a → SeesStack new (type_done vs t a).0 × SeesMode mode (type_done vs t a).1)
     → (ws : List Waiting) (a : TypeTree) → Closes t ws a old part → Follows (Ok mode) new (type_closed ws t a)
-round_closes t u old mid new part mode h f ws a c =
+round_closes t u old mid new part wide mode h widen f ws a c =
     let k = stack_pop (pendings.Type (types.Round u)) mid c.now old h c.stack in
     let o = k.sees in
     let e : c.now ≡ type_at (machine.type_round u) ∷ k.others = k.both ∙ ap (λ (w : Waiting). w ∷ k.others) (o.1 ∙ ap type_at o.2) in
-    subst (λ (z : Option State). Follows (Ok mode) new z) (ap (λ (us : List Waiting). type_closed us t c.last) (sym e) ∙ c.same) (f k.others c.last k.stack c.sees)
+    subst (λ (z : Option State). Follows (Ok mode) new z) (ap (λ (us : List Waiting). type_closed us t c.last) (sym e) ∙ c.same) (f k.others (widened_type (over u t) c.last) k.stack (widen c.last c.sees))
 
 -- nothing else is
 pub none_closes : (t : Span) (old mid : List Pending) (opening : TypeOpening) (part : TypePart) → old ≡ mid ++ pendings.Type opening ∷ [] → ((u : Span) → opening ≡ types.Round u → ⊥) → ((p : TypePart) → opening ≡ types.Comma p → ⊥)

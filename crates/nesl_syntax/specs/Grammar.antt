@@ -14,7 +14,7 @@ use Rattle.nesl_syntax.specs.declared.tree.Operator.{Operator}
 use Rattle.nesl_syntax.specs.declared.tree.Operator.TheVariants as operator
 use Rattle.nesl_syntax.specs.declared.tree.Prefix.{Prefix}
 use Rattle.nesl_syntax.specs.declared.tree.Prefix.TheVariants as prefix
-use Rattle.nesl_syntax.specs.Trees.{Tree, Shape, Trees, Binders, PatternTree, TypeTree, node, pattern, span_of, pattern_span, widened, widened_pattern, and_then, and_bind, none, no_binders}
+use Rattle.nesl_syntax.specs.Trees.{Tree, Shape, Trees, Binders, PatternTree, TypeTree, node, pattern, written, span_of, pattern_span, type_span, widened, widened_pattern, widened_type, and_then, and_bind, none, no_binders}
 use Rattle.nesl_syntax.specs.Trees as trees
 use Rattle.nesl_syntax.specs.Marks.{operator_token}
 
@@ -59,20 +59,20 @@ word_at w s = token_at (reserved w) s
 abbrev pub name_at : List ℕ → Span → Placed
 name_at x s = token_at (tokens.name x) s
 
--- these tokens are this type, and the last stands there
+-- these tokens are this type, and the last stands there; parentheses widen its span
 mutual
   pub data IsType : List Placed → Span → TypeTree → Type 0 where
-    type_int : (s : Span) → IsType (word_at word.Int s ∷ []) s trees.int
-    type_bool : (s : Span) → IsType (word_at word.Bool s ∷ []) s trees.bool
-    type_char : (s : Span) → IsType (word_at word.Char s ∷ []) s trees.char
-    type_name : (x : List ℕ) (s : Span) → IsType (name_at x s ∷ []) s (trees.named x s)
-    type_sequence : {us : List Placed} {z : Span} {a : TypeTree} (s t : Span) → IsType us z a → IsType (sign_at sign.OpenBracket s ∷ (us ++ (sign_at sign.CloseBracket t ∷ []))) t (trees.sequence_type a)
-    type_rounds : {us : List Placed} {a : TypeTree} (s t : Span) → AreTypes us a → IsType (sign_at sign.OpenParenthesis s ∷ (us ++ (sign_at sign.CloseParenthesis t ∷ []))) t a
+    type_int : (s : Span) → IsType (word_at word.Int s ∷ []) s (written s trees.int)
+    type_bool : (s : Span) → IsType (word_at word.Bool s ∷ []) s (written s trees.bool)
+    type_char : (s : Span) → IsType (word_at word.Char s ∷ []) s (written s trees.char)
+    type_name : (x : List ℕ) (s : Span) → IsType (name_at x s ∷ []) s (written s (trees.named x s))
+    type_sequence : {us : List Placed} {z : Span} {a : TypeTree} (s t : Span) → IsType us z a → IsType (sign_at sign.OpenBracket s ∷ (us ++ (sign_at sign.CloseBracket t ∷ []))) t (written (over s t) (trees.sequence_type a))
+    type_rounds : {us : List Placed} {a : TypeTree} (s t : Span) → AreTypes us a → IsType (sign_at sign.OpenParenthesis s ∷ (us ++ (sign_at sign.CloseParenthesis t ∷ []))) t (widened_type (over s t) a)
 
   -- types with commas between
   pub data AreTypes : List Placed → TypeTree → Type 0 where
     one_type : {us : List Placed} {z : Span} {a : TypeTree} → IsType us z a → AreTypes us a
-    type_pairs : {us vs : List Placed} {z : Span} {a b : TypeTree} (s : Span) → IsType us z a → AreTypes vs b → AreTypes (us ++ (sign_at sign.Comma s ∷ vs)) (trees.pair_type a b)
+    type_pairs : {us vs : List Placed} {z : Span} {a b : TypeTree} (s : Span) → IsType us z a → AreTypes vs b → AreTypes (us ++ (sign_at sign.Comma s ∷ vs)) (written (over (type_span a) (type_span b)) (trees.pair_type a b))
 
 -- these tokens are this pattern
 mutual

@@ -1,9 +1,11 @@
 -- Laws of the grammar.
-use Rattle.std.specs.Prelude.{◌≡◌, List}
+use Rattle.std.specs.Prelude.{◌≡◌, ℕ, List}
 use Rattle.nesl_lex.specs.Tokens.{Placed}
 use Rattle.nesl_lex.specs.declared.token.Span.{Span}
-use Rattle.nesl_syntax.specs.Trees.{Tree, PatternTree, TypeTree}
+use Rattle.nesl_syntax.specs.Trees.{Tree, PatternTree, TypeTree, Line}
 use Rattle.nesl_syntax.specs.Grammar.{Parses, IsPattern, IsType}
+use Rattle.nesl_syntax.specs.Lines.{IsLine}
+use Rattle.nesl_syntax.specs.Spans.{Lined, InOrder, line_items}
 
 -- tokens are at most one expression
 abbrev pub OneTree : Type 0
@@ -16,3 +18,7 @@ OnePattern = (ts : List Placed) (p q : PatternTree) → IsPattern ts p → IsPat
 -- and at most one type
 abbrev pub OneType : Type 0
 OneType = (ts : List Placed) (y z : Span) (a b : TypeTree) → IsType ts y a → IsType ts z b → a ≡ b
+
+-- where tokens stand one behind another, so do a line's nodes, and within each node its parts
+abbrev pub OrderlySpans : Type 0
+OrderlySpans = (ts : List Placed) (l : Line) (i j : ℕ) → InOrder i ts j → IsLine ts l → Lined i (line_items l) j

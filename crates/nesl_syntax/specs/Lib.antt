@@ -9,4 +9,6 @@ pub mod Stack
 pub mod Turns
 pub mod Steps
 pub mod Reading
+pub mod Given
+pub mod Spans
 pub mod Laws

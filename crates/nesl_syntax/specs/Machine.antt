@@ -12,7 +12,7 @@ use Rattle.nesl_syntax.specs.declared.mark.Mark.{Mark}
 use Rattle.nesl_syntax.specs.declared.mark.Mark.TheVariants as mark
 use Rattle.nesl_syntax.specs.declared.mark.Follow.{Follow}
 use Rattle.nesl_syntax.specs.declared.mark.Follow.TheVariants as follow
-use Rattle.nesl_syntax.specs.Trees.{Tree, Shape, Trees, Binders, PatternTree, TypeTree, node, span_of, widened, and_then, and_bind, none, no_binders, binder, pattern_in}
+use Rattle.nesl_syntax.specs.Trees.{Tree, Shape, Trees, Binders, PatternTree, TypeTree, node, written, span_of, type_span, widened, widened_type, and_then, and_bind, none, no_binders, binder, pattern_in}
 use Rattle.nesl_syntax.specs.Trees as trees
 use Rattle.nesl_syntax.specs.Marks.{follow_of}
 use Rattle.nesl_syntax.specs.Grammar.{level_of, over, own_body}
@@ -271,10 +271,10 @@ type_done ws z a = (ws, typed a)
 
 -- where a type is to come
 abbrev pub typed_with : List Waiting → Span → Lexeme → Option State
-typed_with ws s (reserved word.Int) = Some (type_done ws s trees.int)
-typed_with ws s (reserved word.Bool) = Some (type_done ws s trees.bool)
-typed_with ws s (reserved word.Char) = Some (type_done ws s trees.char)
-typed_with ws s (tokens.name x) = Some (type_done ws s (trees.named x s))
+typed_with ws s (reserved word.Int) = Some (type_done ws s (written s trees.int))
+typed_with ws s (reserved word.Bool) = Some (type_done ws s (written s trees.bool))
+typed_with ws s (reserved word.Char) = Some (type_done ws s (written s trees.char))
+typed_with ws s (tokens.name x) = Some (type_done ws s (written s (trees.named x s)))
 typed_with ws s (symbol sign.OpenBracket) = Some (type_at (type_list s) ∷ ws, typing)
 typed_with ws s (symbol sign.OpenParenthesis) = Some (type_at (type_round s) ∷ ws, typing)
 typed_with ws s _ = None
@@ -293,21 +293,24 @@ abbrev pub type_separated : List Waiting → TypeTree → Option State
 type_separated ws a = if newest_has_commas ws then Some (type_at (type_comma a) ∷ ws, typing) else None
 
 -- a type in brackets
-abbrev pub bracket_type : TypeOpening → TypeTree → Option TypeTree
-bracket_type (type_list s) a = Some (trees.sequence_type a)
-bracket_type _ a = None
+abbrev pub bracket_type : TypeOpening → Span → TypeTree → Option TypeTree
+bracket_type (type_list s) t a = Some (written (over s t) (trees.sequence_type a))
+bracket_type _ t a = None
 
 abbrev pub done_with : List Waiting → Span → Option TypeTree → Option State
 done_with ws t (Some a) = Some (type_done ws t a)
 done_with ws t None = None
 
 abbrev pub type_bracketed : List Waiting → Span → TypeTree → Option State
-type_bracketed (type_at o ∷ ws) t a = done_with ws t (bracket_type o a)
+type_bracketed (type_at o ∷ ws) t a = done_with ws t (bracket_type o t a)
 type_bracketed _ t a = None
 
+abbrev pub type_pair : TypeTree → TypeTree → TypeTree
+type_pair a b = written (over (type_span a) (type_span b)) (trees.pair_type a b)
+
 abbrev pub type_closed : List Waiting → Span → TypeTree → Option State
-type_closed (type_at (type_comma b) ∷ ws) t a = type_closed ws t (trees.pair_type b a)
-type_closed (type_at (type_round s) ∷ ws) t a = Some (type_done ws t a)
+type_closed (type_at (type_comma b) ∷ ws) t a = type_closed ws t (type_pair b a)
+type_closed (type_at (type_round s) ∷ ws) t a = Some (type_done ws t (widened_type (over s t) a))
 type_closed _ t a = None
 
 -- behind a type

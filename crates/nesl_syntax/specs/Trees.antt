@@ -5,14 +5,18 @@ use Rattle.nesl_syntax.specs.declared.tree.Operator.{Operator}
 use Rattle.nesl_syntax.specs.declared.tree.Prefix.{Prefix}
 use Rattle.nesl_syntax.specs.declared.tree.Class.{Class}
 
--- a type as it is written
-pub data TypeTree : Type 0 where
-  int : TypeTree
-  bool : TypeTree
-  char : TypeTree
-  named : List ℕ → Span → TypeTree
-  sequence_type : TypeTree → TypeTree
-  pair_type : TypeTree → TypeTree → TypeTree
+-- a type as it is written, with its span; a name has its token's span besides
+mutual
+  pub data TypeTree : Type 0 where
+    written : Span → TypeShape → TypeTree
+
+  pub data TypeShape : Type 0 where
+    int : TypeShape
+    bool : TypeShape
+    char : TypeShape
+    named : List ℕ → Span → TypeShape
+    sequence_type : TypeTree → TypeShape
+    pair_type : TypeTree → TypeTree → TypeShape
 
 -- a pattern, with its span
 mutual
@@ -62,12 +66,18 @@ mutual
 abbrev pub span_of : Tree → Span
 span_of (node s k) = s
 
+abbrev pub type_span : TypeTree → Span
+type_span (written s k) = s
+
 abbrev pub pattern_span : PatternTree → Span
 pattern_span (pattern s k) = s
 
 -- the same node, standing in these bytes
 abbrev pub widened : Span → Tree → Tree
 widened s (node t k) = node s k
+
+abbrev pub widened_type : Span → TypeTree → TypeTree
+widened_type s (written t k) = written s k
 
 abbrev pub widened_pattern : Span → PatternTree → PatternTree
 widened_pattern s (pattern t k) = pattern s k
@@ -82,13 +92,17 @@ and_bind no_binders p e = binder p e no_binders
 and_bind (binder q d bs) p e = binder q d (and_bind bs p e)
 
 -- a leaf is 1, any other node 1 plus the greatest of its parts
-abbrev pub type_height : TypeTree → ℕ
-type_height int = 1
-type_height bool = 1
-type_height char = 1
-type_height (named x s) = 1
-type_height (sequence_type a) = type_height a + 1
-type_height (pair_type a b) = max (type_height a) (type_height b) + 1
+abbrev mutual
+  pub type_height : TypeTree → ℕ
+  type_height (written s k) = type_height_of k
+
+  pub type_height_of : TypeShape → ℕ
+  type_height_of int = 1
+  type_height_of bool = 1
+  type_height_of char = 1
+  type_height_of (named x s) = 1
+  type_height_of (sequence_type a) = type_height a + 1
+  type_height_of (pair_type a b) = max (type_height a) (type_height b) + 1
 
 abbrev mutual
   pub pattern_height : PatternTree → ℕ

@@ -1,7 +1,8 @@
 -- The trees that the code's values stand for.
 use Rattle.std.specs.Prelude.{Bool, true, false, ◌&&◌, List, [], ◌∷◌, option_map, map}
 use Rattle.nesl_syntax.specs.declared.tree.TypeExp.{TypeExp}
-use Rattle.nesl_syntax.specs.declared.tree.TypeExp.TheVariants as types
+use Rattle.nesl_syntax.specs.declared.tree.TypeNode.{TypeNode}
+use Rattle.nesl_syntax.specs.declared.tree.TypeNode.TheVariants as types
 use Rattle.nesl_syntax.specs.declared.tree.Pattern.{Pattern}
 use Rattle.nesl_syntax.specs.declared.tree.PatternNode.{PatternNode}
 use Rattle.nesl_syntax.specs.declared.tree.PatternNode.TheVariants as patterns
@@ -12,16 +13,19 @@ use Rattle.nesl_syntax.specs.declared.tree.Member.{Member}
 use Rattle.nesl_syntax.specs.declared.tree.Signature.{Signature}
 use Rattle.nesl_syntax.specs.declared.tree.Form.{Form}
 use Rattle.nesl_syntax.specs.declared.tree.Form.TheVariants as forms
-use Rattle.nesl_syntax.specs.Trees.{TypeTree, PatternTree, PatternShape, Tree, Shape, Trees, Binders, MemberTree, SignatureTree, Line, pattern, node, none, more, no_binders, binder}
+use Rattle.nesl_syntax.specs.Trees.{TypeTree, TypeShape, PatternTree, PatternShape, Tree, Shape, Trees, Binders, MemberTree, SignatureTree, Line, written, pattern, node, none, more, no_binders, binder}
 use Rattle.nesl_syntax.specs.Trees as trees
 
+abbrev pub type_shape : TypeNode → TypeShape
+type_shape types.Int = trees.int
+type_shape types.Bool = trees.bool
+type_shape types.Char = trees.char
+type_shape (types.Name x s) = trees.named x.items s
+type_shape (types.Sequence' p s a) = trees.sequence_type (written s (type_shape a))
+type_shape (types.Pair' p s a q t b) = trees.pair_type (written s (type_shape a)) (written t (type_shape b))
+
 abbrev pub type_tree : TypeExp → TypeTree
-type_tree types.Int = trees.int
-type_tree types.Bool = trees.bool
-type_tree types.Char = trees.char
-type_tree (types.Name x s) = trees.named x.items s
-type_tree (types.Sequence' p a) = trees.sequence_type (type_tree a)
-type_tree (types.Pair' p a q b) = trees.pair_type (type_tree a) (type_tree b)
+type_tree a = written a.span (type_shape a.node)
 
 abbrev pub pattern_shape : PatternNode → PatternShape
 pattern_shape (patterns.Name x) = trees.name_pattern x.items

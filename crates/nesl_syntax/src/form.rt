@@ -1,19 +1,23 @@
 // The form of a line's tokens.
 
-ghost use Rattle.std.specs.Prelude.{◌≡◌, ◌≤◌, ◌<◌, IfOk, IsErrOf, IsTrue, ◌↔◌, List, option_map};
+ghost use Rattle.std.specs.Prelude.{◌≡◌, ◌≤◌, ◌<◌, IfOk, IfSome, IfNone, IsErrOf, IsTrue, ◌↔◌, List, codes, option_map};
 ghost use Rattle.nesl_syntax.specs.Trees.{Line, line_height};
 ghost use Rattle.nesl_syntax.specs.Trees as trees;
 ghost use Rattle.nesl_syntax.specs.Views.{line_of};
 ghost use Rattle.nesl_syntax.specs.Lines.{IsLine};
-ghost use Rattle.nesl_syntax.specs.Reading.{GivesExp, GivesLine, line_in};
+ghost use Rattle.nesl_syntax.specs.Reading as reading;
+ghost use Rattle.nesl_syntax.specs.Given.{IsCommand, GivesExp, GivesLine};
 ghost use Rattle.nesl_syntax.specs.Machine as machine;
 ghost use Rattle.nesl_lex.specs.Tokens.{Placed, placed, lexeme_of, symbol};
+ghost use Rattle.nesl_lex.specs.Tokens as lexemes;
 
 use crate::fault::ParseFault;
-use crate::parse::expression;
+use crate::function::function;
+use crate::parse::{expression, written_type};
 use crate::part::Part;
 use crate::tree::{Exp, Form};
-use nesl_lex::token::{Kind, Sign, Token};
+use crate::types::TypePart;
+use nesl_lex::token::{Kind, Sign, Token, Word};
 use std::alloc::Global;
 
 // The expression that the tokens are, where it isn't too high.
@@ -33,7 +37,7 @@ fn eval(alloc: Global, tokens: &[Token]) -> Result<Form, ParseFault>
     Ok(Form::Eval(body(alloc, tokens)?))
 }
 
-// A definition's line.
+// A line that binds this name to what the tokens are.
 fn bind(alloc: Global, name: &Vec<u8>, tokens: &[Token]) -> Result<Form, ParseFault>
     ensures { GivesLine result (option_map (trees.bind name.now.items) (machine.expression (placed tokens.now))) }
 {
@@ -41,18 +45,145 @@ fn bind(alloc: Global, name: &Vec<u8>, tokens: &[Token]) -> Result<Form, ParseFa
     Ok(Form::Bind(name, body(alloc, tokens)?))
 }
 
+// A line that begins with a name: a binding, where a `=` stands behind it, or else an expression.
+fn named(
+    alloc: Global,
+    name: &Vec<u8>,
+    tokens: &[Token],
+    behind: &[Token],
+) -> Result<Form, ParseFault>
+    ensures { GivesLine result (reading.bound_in name.now.items (placed tokens.now) (placed behind.now)) }
+{
+    let [first, rest @ ..] = behind else {
+        return eval(alloc, tokens);
+    };
+    match &first.kind {
+        Kind::Symbol(sign) => match sign {
+            Sign::Equal => bind(alloc, name, rest),
+            _ => eval(alloc, tokens),
+        },
+        _ => eval(alloc, tokens),
+    }
+}
+
+// A datatype's line behind its name.
+fn datatype_named(alloc: Global, name: &Vec<u8>, tokens: &[Token]) -> Result<Form, ParseFault>
+    ensures { GivesLine result (option_map (trees.datatype name.now.items) (machine.written_type (placed tokens.now))) }
+{
+    let name = name.clone()?;
+    match written_type(alloc, tokens)? {
+        TypePart::Built(of, _) => Ok(Form::Datatype(name, of)),
+        TypePart::High => Err(ParseFault::Nested),
+    }
+}
+
+// A datatype's line behind its first word.
+fn datatype(alloc: Global, tokens: &[Token]) -> Result<Form, ParseFault>
+    ensures { GivesLine result (reading.datatype_in (placed tokens.now)) }
+{
+    let [first, rest @ ..] = tokens else {
+        return Err(ParseFault::Syntax);
+    };
+    match &first.kind {
+        Kind::Name(name) => datatype_named(alloc, name, rest),
+        _ => Err(ParseFault::Syntax),
+    }
+}
+
+// Whether it is the word of the command that asks for a type.
+fn is_type(name: &[u8]) -> bool
+    ensures { result ≡ reading.is_text name.now (codes "type") }
+{
+    name == b"type".as_slice()
+}
+
+// The command that asks for a type, behind its word.
+fn show_named(alloc: Global, name: &Vec<u8>, tokens: &[Token]) -> Result<Form, ParseFault>
+    ensures { GivesLine result (reading.typed_named (lexemes.name name.now.items) (placed tokens.now)) }
+{
+    if !is_type(name.as_slice()) {
+        return Err(ParseFault::Syntax);
+    }
+    Ok(Form::ShowType(body(alloc, tokens)?))
+}
+
+// The command that asks for a type, behind its `:`.
+fn show_type(alloc: Global, tokens: &[Token]) -> Result<Form, ParseFault>
+    ensures { GivesLine result (reading.typed_in (placed tokens.now)) }
+{
+    let [first, rest @ ..] = tokens else {
+        return Err(ParseFault::Syntax);
+    };
+    match &first.kind {
+        Kind::Name(name) => show_named(alloc, name, rest),
+        _ => Err(ParseFault::Syntax),
+    }
+}
+
 // The line of the tokens before a last `;`.
 fn line(alloc: Global, tokens: &[Token]) -> Result<Form, ParseFault>
-    ensures { GivesLine result (line_in (placed tokens.now)) }
+    ensures { GivesLine result (reading.line_in (placed tokens.now)) }
 {
-    if let [name, equal, rest @ ..] = tokens {
-        if let Kind::Name(name) = &name.kind {
-            if let Kind::Symbol(Sign::Equal) = &equal.kind {
-                return bind(alloc, name, rest);
-            }
-        }
+    let [first, rest @ ..] = tokens else {
+        return eval(alloc, tokens);
+    };
+    match &first.kind {
+        Kind::Name(name) => named(alloc, name, tokens, rest),
+        Kind::Reserved(word) => match word {
+            Word::Function => function(alloc, rest),
+            Word::Datatype => datatype(alloc, rest),
+            _ => eval(alloc, tokens),
+        },
+        Kind::Symbol(sign) => match sign {
+            Sign::Colon => show_type(alloc, rest),
+            _ => eval(alloc, tokens),
+        },
+        _ => eval(alloc, tokens),
     }
-    eval(alloc, tokens)
+}
+
+// The command of a word that no `;` stands behind.
+fn command_named(name: &[u8]) -> Option<Form>
+    ensures some { IfSome result (λ form. IsCommand name.now (line_of form)) }
+    ensures none { IfNone result ((line : Line) → IsCommand name.now line → ⊥) }
+{
+    match name {
+        b"names" => Some(Form::ShowNames),
+        b"budget" => Some(Form::ShowBudget),
+        _ => None,
+    }
+}
+
+fn command_of(name: &[u8]) -> Option<Form>
+    ensures { option_map line_of result ≡ reading.command_of name.now }
+{
+    command_named(name)
+}
+
+// A `:` and such a word.
+fn command_with(first: &Token, second: &Token) -> Option<Form>
+    ensures { option_map line_of result ≡ reading.command_with (lexeme_of first.now.kind) (lexeme_of second.now.kind) }
+{
+    match &first.kind {
+        Kind::Symbol(sign) => match sign {
+            Sign::Colon => match &second.kind {
+                Kind::Name(name) => command_of(name.as_slice()),
+                _ => None,
+            },
+            _ => None,
+        },
+        _ => None,
+    }
+}
+
+// The command that ends in no `;`.
+fn command(tokens: &[Token]) -> Option<Form>
+    ensures { option_map line_of result ≡ reading.command_in (placed tokens.now) }
+{
+    match tokens {
+        [first, second] => command_with(first, second),
+        _ => None,
+    }
 }
 
 // Whether it is a `;`.
@@ -79,6 +210,9 @@ pub fn parse_form(alloc: Global, tokens: &[Token]) -> Result<Form, ParseFault>
     ensures nested { IsErrOf result ParseFault.Nested →
         (line : Line) × IsLine (placed tokens.now) line × (100 < line_height line) }
 {
+    if let Some(form) = command(tokens) {
+        return Ok(form);
+    }
     let Some((last, rest)) = tokens.split_last() else {
         return Ok(Form::Nothing);
     };

@@ -1,8 +1,10 @@
 // The grammar: the one tree of a line's tokens.
 #![tactic(auto)]
 
+mod cut;
 mod fault;
 mod form;
+mod function;
 mod laws;
 mod lists;
 mod mark;
@@ -10,10 +12,14 @@ mod parse;
 mod part;
 mod pattern;
 mod pending;
+mod signature;
 pub mod tree;
 mod turn;
 mod types;
 
 pub use fault::ParseFault;
 pub use form::{one_form, parse_form};
-pub use laws::one_phrase;
+pub use laws::{one_phrase, spans_in_order};
+
+#[cfg(test)]
+mod tests;

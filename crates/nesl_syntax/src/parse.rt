@@ -19,9 +19,9 @@ use crate::part::{Part, empty_of, over};
 use crate::pending::{
     Group, Opening, Pending, TypeOpening, fold, level_begun, level_of, newest, wanted,
 };
-use crate::tree::{Exp, Node, Prefix, TypeExp};
+use crate::tree::{Exp, Node, Prefix, TypeNode};
 use crate::turn::{Turn, no_bindings, turn_of};
-use crate::types::{TypePart, pair_of, sequence_of};
+use crate::types::{self, TypePart, pair_of, sequence_of};
 use nesl_lex::token::{Kind, Sign, Span, Token, Word};
 use std::alloc::Global;
 
@@ -362,14 +362,14 @@ fn begin_written(stack: &mut Vec<Pending>, token: &Token) -> Result<Mode, ParseF
     let span = token.span;
     match &token.kind {
         Kind::Reserved(word) => match word {
-            Word::Int => Ok(end_type(stack, TypePart::Built(TypeExp::Int, 1), span)),
-            Word::Bool => Ok(end_type(stack, TypePart::Built(TypeExp::Bool, 1), span)),
-            Word::Char => Ok(end_type(stack, TypePart::Built(TypeExp::Char, 1), span)),
+            Word::Int => Ok(end_type(stack, types::leaf(span, TypeNode::Int), span)),
+            Word::Bool => Ok(end_type(stack, types::leaf(span, TypeNode::Bool), span)),
+            Word::Char => Ok(end_type(stack, types::leaf(span, TypeNode::Char), span)),
             _ => Err(ParseFault::Syntax),
         },
         Kind::Name(name) => {
-            let name = TypeExp::Name(name.clone()?, span);
-            Ok(end_type(stack, TypePart::Built(name, 1), span))
+            let name = TypeNode::Name(name.clone()?, span);
+            Ok(end_type(stack, types::leaf(span, name), span))
         }
         Kind::Symbol(sign) => match sign {
             Sign::OpenBracket => {
@@ -421,11 +421,16 @@ fn separate_types(stack: &mut Vec<Pending>, part: TypePart) -> Result<Mode, Pars
 }
 
 // A type in brackets.
-fn bracketed(alloc: Global, opening: TypeOpening, part: TypePart) -> Result<TypePart, ParseFault>
-    ensures { (o : machine.TypeOpening) (a : TypeTree) → SeesTypeOpening opening o → SeesType part a → TypeGiven result (bracket_type o a) }
+fn bracketed(
+    alloc: Global,
+    opening: TypeOpening,
+    part: TypePart,
+    at: Span,
+) -> Result<TypePart, ParseFault>
+    ensures { (o : machine.TypeOpening) (a : TypeTree) → SeesTypeOpening opening o → SeesType part a → TypeGiven result (bracket_type o at a) }
 {
     match opening {
-        TypeOpening::List(_) => Ok(sequence_of(alloc, part)?),
+        TypeOpening::List(from) => Ok(sequence_of(alloc, part, over(from, at))?),
         other => {
             drop((other, part));
             Err(ParseFault::Syntax)
@@ -445,7 +450,7 @@ fn bracket(
 {
     match stack.pop() {
         Some(Pending::Type(opening)) => {
-            let part = bracketed(alloc, opening, part)?;
+            let part = bracketed(alloc, opening, part, at)?;
             Ok(end_type(stack, part, at))
         }
         other => refuse((other, part)),
@@ -470,7 +475,10 @@ fn close_types(
         match pending {
             Pending::Type(opening) => match opening {
                 TypeOpening::Comma(left) => part = pair_of(alloc, left, part)?,
-                TypeOpening::Round(_) => return Ok(end_type(stack, part, at)),
+                TypeOpening::Round(from) => {
+                    let part = types::widen(part, over(from, at));
+                    return Ok(end_type(stack, part, at));
+                }
                 other => return refuse((other, part)),
             },
             other => return refuse((other, part)),

@@ -41,12 +41,22 @@ pub enum Class {
     Logical,
 }
 
-/// A type as it is written. Only a name has its span, which is all that a fault tells of a type.
+/// A type as it is written, with the bytes that it stands in.
+#[cycle(written)]
 #[derive(Debug, Drop)]
-pub enum TypeExp {
+pub struct TypeExp {
+    pub span: Span,
+    pub node: TypeNode,
+}
+
+/// What a type is.
+#[cycle(written)]
+#[derive(Debug, Drop)]
+pub enum TypeNode {
     Int,
     Bool,
     Char,
+    /// A name, and where its token stands, which parentheses don't widen.
     Name(Vec<u8>, Span),
     Sequence(Box<TypeExp>),
     Pair(Box<TypeExp>, Box<TypeExp>),

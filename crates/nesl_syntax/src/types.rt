@@ -2,11 +2,13 @@
 
 ghost use Rattle.std.specs.Prelude.{◌≡◌, ◌≤◌, ◌<◌, IfOk};
 ghost use Rattle.nesl_syntax.specs.declared.types.TypePart.TheVariants as types;
-ghost use Rattle.nesl_syntax.specs.Trees.{TypeTree, sequence_type, pair_type};
+ghost use Rattle.nesl_syntax.specs.Trees.{TypeTree, written, sequence_type, widened_type};
+ghost use Rattle.nesl_syntax.specs.Machine.{type_pair};
 ghost use Rattle.nesl_syntax.specs.Parts.{SeesType};
 
-use crate::part::LIMIT;
-use crate::tree::TypeExp;
+use crate::part::{LIMIT, over};
+use crate::tree::{TypeExp, TypeNode};
+use nesl_lex::token::Span;
 use std::alloc::{AllocError, Global};
 
 /// A type with its height, or one that is too high and isn't built.
@@ -24,26 +26,46 @@ fn too_high<T: Drop>(parts: T) -> TypePart
     TypePart::High
 }
 
-pub fn sequence_of(alloc: Global, part: TypePart) -> Result<TypePart, AllocError>
-    ensures { IfOk result (λ r. (x : TypeTree) → SeesType part x → SeesType r (sequence_type x)) }
+/// A type of one token.
+pub fn leaf(span: Span, node: TypeNode) -> TypePart
+    ensures { result ≡ types.Built (record { span = span; node = node }) 1 }
+{
+    TypePart::Built(TypeExp { span, node }, 1)
+}
+
+/// The same type, standing in these bytes.
+pub fn widen(part: TypePart, span: Span) -> TypePart
+    ensures { (x : TypeTree) → SeesType part x → SeesType result (widened_type span x) }
 {
     match part {
-        TypePart::Built(element, height) if height < LIMIT => Ok(TypePart::Built(
-            TypeExp::Sequence(Box::new(alloc, element)?),
-            height + 1,
-        )),
+        TypePart::Built(TypeExp { node, .. }, height) => {
+            TypePart::Built(TypeExp { span, node }, height)
+        }
+        TypePart::High => TypePart::High,
+    }
+}
+
+pub fn sequence_of(alloc: Global, part: TypePart, span: Span) -> Result<TypePart, AllocError>
+    ensures { IfOk result (λ r. (x : TypeTree) → SeesType part x → SeesType r (written span (sequence_type x))) }
+{
+    match part {
+        TypePart::Built(element, height) if height < LIMIT => {
+            let node = TypeNode::Sequence(Box::new(alloc, element)?);
+            Ok(TypePart::Built(TypeExp { span, node }, height + 1))
+        }
         other => Ok(too_high(other)),
     }
 }
 
 pub fn pair_of(alloc: Global, left: TypePart, right: TypePart) -> Result<TypePart, AllocError>
-    ensures { IfOk result (λ r. (x y : TypeTree) → SeesType left x → SeesType right y → SeesType r (pair_type x y)) }
+    ensures { IfOk result (λ r. (x y : TypeTree) → SeesType left x → SeesType right y → SeesType r (type_pair x y)) }
 {
     match left {
         TypePart::Built(a, m) => match right {
             TypePart::Built(b, n) if m.max(n) < LIMIT => {
-                let pair = TypeExp::Pair(Box::new(alloc, a)?, Box::new(alloc, b)?);
-                Ok(TypePart::Built(pair, m.max(n) + 1))
+                let span = over(a.span, b.span);
+                let node = TypeNode::Pair(Box::new(alloc, a)?, Box::new(alloc, b)?);
+                Ok(TypePart::Built(TypeExp { span, node }, m.max(n) + 1))
             }
             other => Ok(too_high((a, other))),
         },

@@ -2,14 +2,14 @@
 use Rattle.std.proofs.Common.{◌≡◌, ℕ, zero, suc, ◌+◌, ◌<◌, ◌≤◌, Bool, true, false, ◌||◌, List, [], ◌∷◌, ◌++◌, length, fold, map, nat_eq, nat_lt, position, Some, None, cond, refl, sym, ap, subst, ◌∙◌, append_assoc, append-nil, length-append, inl, inr, arith}
 use Rattle.std.proofs.lemmas.List.{map-append}
 use Rattle.std.proofs.lemmas.List.Sums.{fold-append}
-use Rattle.std.proofs.lemmas.Bool.{cases_lt}
+use Rattle.std.proofs.lemmas.Bool.{cases_lt, false≢true}
 use Rattle.std.proofs.lemmas.Bool.Decides.{nat_tests}
 use Rattle.std.proofs.lemmas.List.Folds.{list_any-append}
 use Rattle.std.specs.List.{list_any, position_or_len}
 use Rattle.std.proofs.lemmas.List.Recursion.{is_position_or_len}
 use Rattle.nesl_types.specs.Term.{Term, int, bool, char, variable, seq_of, both, named}
 use Rattle.nesl_types.specs.Substitution.{substitute}
-use Rattle.nesl_types.specs.Numbering.{variables, with_number, first_occurrences, numbers_below, number_of}
+use Rattle.nesl_types.specs.Numbering.{variables, with_number, first_occurrences, numbers_below, number_of, IsBelow}
 
 nat_eq-self : (n : ℕ) → nat_eq n n ≡ true
 nat_eq-self n = grind (arith, nat_tests)
@@ -145,3 +145,56 @@ numbered-renamed t u a b p q =
 pub noted-both : (t u : Term) (none some all : List ℕ) → none ≡ [] → some ≡ fold with_number none (variables t) → all ≡ fold with_number some (variables u) → all ≡ first_occurrences (variables t ++ variables u)
 noted-both t u none some all p q r =
     r ∙ ap (λ l. fold with_number l (variables u)) (q ∙ ap (λ l. fold with_number l (variables t)) p) ∙ sym (fold-append with_number [] (variables t) (variables u))
+
+-- what was noted stays noted
+noted-kept : (v : ℕ) (xs seen : List ℕ) → list_any (nat_eq v) seen ≡ true → list_any (nat_eq v) (fold with_number seen xs) ≡ true
+noted-kept v xs seen h =
+    let front = fold-prefix xs seen in
+    ap (list_any (nat_eq v)) front.1 ∙ list_any-append (nat_eq v) seen front.0 ∙ or_left _ _ h
+
+same_number : (v x : ℕ) → nat_eq v x ≡ true → v ≡ x
+same_number v x h = grind (arith, nat_tests)
+
+noted-here : (v x : ℕ) (seen : List ℕ) → nat_eq v x ≡ true → list_any (nat_eq v) (with_number seen x) ≡ true
+noted-here v x seen h = by (list_any (nat_eq x) seen) refl
+  where
+    by : (b : Bool) → list_any (nat_eq x) seen ≡ b → list_any (nat_eq v) (cond b seen (seen ++ x ∷ [])) ≡ true
+    by true e = ap (λ k. list_any (nat_eq k) seen) (same_number v x h) ∙ e
+    by false e = list_any-append (nat_eq v) seen (x ∷ []) ∙ or_right _ _ (or_left _ _ h)
+
+-- each number of a list is noted
+noted-all : (v : ℕ) (xs seen : List ℕ) → list_any (nat_eq v) xs ≡ true → list_any (nat_eq v) (fold with_number seen xs) ≡ true
+noted-all v [] seen h = cc
+noted-all v (x ∷ xs) seen h = by (nat_eq v x) refl h (noted-all v xs (with_number seen x))
+  where
+    by : (b : Bool) → nat_eq v x ≡ b → (b || list_any (nat_eq v) xs) ≡ true → (list_any (nat_eq v) xs ≡ true → list_any (nat_eq v) (fold with_number (with_number seen x) xs) ≡ true) →
+        list_any (nat_eq v) (fold with_number (with_number seen x) xs) ≡ true
+    by true e i j = noted-kept v xs (with_number seen x) (noted-here v x seen e)
+    by false e i j = j i
+
+among-below : (v n : ℕ) → list_any (nat_eq v) (numbers_below n) ≡ true → v < n
+among-below v n h =
+    elim (cases_lt v n) [
+      | inl l ↦ l
+      | inr g ↦ absurd (false≢true (sym (above-absent v n g) ∙ h))
+    ]
+
+all-below : (n : ℕ) (t : Term) → ((v : ℕ) → list_any (nat_eq v) (variables t) ≡ true → v < n) → IsBelow n t
+all-below n int h = tt
+all-below n bool h = tt
+all-below n char h = tt
+all-below n (variable v) h = h v (same v v refl)
+all-below n (seq_of t) h = all-below n t h
+all-below n (both t u) h = (
+  all-below n t (λ v i. h v (list_any-append (nat_eq v) (variables t) (variables u) ∙ or_left _ _ i)),
+  all-below n u (λ v i. h v (list_any-append (nat_eq v) (variables t) (variables u) ∙ or_right _ _ i)),
+)
+all-below n (named k) h = tt
+
+-- each variable of a scheme that is numbered is below the number of its classes
+pub numbered-below : (t u : Term) (n : ℕ) → first_occurrences (variables t ++ variables u) ≡ numbers_below n → IsBelow n t × IsBelow n u
+numbered-below t u n e =
+    let all : (v : ℕ) → list_any (nat_eq v) (variables t ++ variables u) ≡ true → v < n = λ v i. among-below v n (sym (ap (list_any (nat_eq v)) e) ∙ noted-all v (variables t ++ variables u) [] i) in (
+      all-below n t (λ v i. all v (list_any-append (nat_eq v) (variables t) (variables u) ∙ or_left _ _ i)),
+      all-below n u (λ v i. all v (list_any-append (nat_eq v) (variables t) (variables u) ∙ or_right _ _ i)),
+    )

@@ -1,5 +1,5 @@
 -- Variables numbered from 0 in the order in which they first occur.
-use Rattle.std.specs.Prelude.{ℕ, zero, suc, List, [], ◌∷◌, ◌++◌, ◌+◌, fold, nat_eq, if◌then◌else◌}
+use Rattle.std.specs.Prelude.{ℕ, zero, suc, List, [], ◌∷◌, ◌++◌, ◌+◌, ◌<◌, fold, nat_eq, if◌then◌else◌}
 use Rattle.std.specs.List.{list_any}
 use Rattle.nesl_types.specs.Term.{Term, int, bool, char, variable, seq_of, both, named}
 
@@ -30,3 +30,13 @@ numbers_below (suc n) = numbers_below n ++ n ∷ []
 abbrev pub number_of : List ℕ → ℕ → ℕ
 number_of [] v = 0
 number_of (w ∷ vs) v = if nat_eq v w then 0 else 1 + number_of vs v
+
+-- each variable of a type is below n
+abbrev pub IsBelow : ℕ → Term → Type 0
+IsBelow n int = Unit {0}
+IsBelow n bool = Unit {0}
+IsBelow n char = Unit {0}
+IsBelow n (variable v) = v < n
+IsBelow n (seq_of t) = IsBelow n t
+IsBelow n (both t u) = IsBelow n t × IsBelow n u
+IsBelow n (named tag) = Unit {0}

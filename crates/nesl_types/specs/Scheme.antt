@@ -12,3 +12,9 @@ pub record IsSchemeOf (t u : Term) (of : ℕ → Class) (s : Scheme) : Type 0 wh
   pub argument : term s.argument ≡ substitute (λ v. variable (number_of (first_occurrences (variables t ++ variables u)) v)) t
   pub result : term s.result ≡ substitute (λ v. variable (number_of (first_occurrences (variables t ++ variables u)) v)) u
   pub classes : s.classes.items ≡ map of (first_occurrences (variables t ++ variables u))
+
+-- the same types and the same classes
+pub record IsSameScheme (a b : Scheme) : Type 0 where
+  pub argument : term a.argument ≡ term b.argument
+  pub result : term a.result ≡ term b.result
+  pub classes : a.classes.items ≡ b.classes.items

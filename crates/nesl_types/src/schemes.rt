@@ -1,10 +1,10 @@
 //! The types of functions.
 
-ghost use Rattle.std.specs.Prelude.{◌≡◌, ◌++◌, [], ℕ, map, fold, length, IfOk, OnOk};
+ghost use Rattle.std.specs.Prelude.{◌≡◌, ◌++◌, ◌↔◌, [], ℕ, IsTrue, map, fold, length, IfOk, OnOk};
 ghost use Rattle.nesl_types.specs.Term.{term, variable};
 ghost use Rattle.nesl_types.specs.Class.{class_at};
 ghost use Rattle.nesl_types.specs.Substitution.{substitute};
-ghost use Rattle.nesl_types.specs.Numbering.{variables, with_number, first_occurrences, numbers_below, number_of};
+ghost use Rattle.nesl_types.specs.Numbering.{IsBelow, variables, with_number, first_occurrences, numbers_below, number_of};
 
 use crate::classes::Class;
 use crate::types::Ty;
@@ -91,8 +91,30 @@ fn classes_of(alloc: Global, classes: &[Class], variables: &[u64]) -> Result<Vec
         .collect(alloc)
 }
 
+/// Whether both are the same classes in the same order.
+fn are_same(first: &[Class], second: &[Class]) -> bool
+    ensures { IsTrue result ↔ (first.now ≡ second.now) }
+{
+    first == second
+}
+
 impl Scheme {
-    ghost use Rattle.nesl_types.specs.Scheme.{IsSchemeOf};
+    ghost use Rattle.nesl_types.specs.Scheme.{IsSchemeOf, IsSameScheme};
+
+    /// A law: each variable of a scheme has a class.
+    pub fn variables_have_classes(&self)
+        ensures argument { IsBelow (length self.now.classes.items) (term self.now.argument) }
+        ensures result { IsBelow (length self.now.classes.items) (term self.now.result) }
+    {}
+
+    /// Whether both are the same scheme.
+    pub fn same(&self, other: &Scheme) -> bool
+        ensures { IsTrue result ↔ IsSameScheme self.now other.now }
+    {
+        self.argument.same(&other.argument)
+            && self.result.same(&other.result)
+            && are_same(self.classes.as_slice(), other.classes.as_slice())
+    }
 
     /// The scheme of a function that takes and gives these types, where `classes` has the class of each variable at the
     /// variable's place: a variable past its end is in `Any`.

@@ -146,3 +146,21 @@ fn a_name_keeps_its_place(rt: HostRuntime) -> Result<(), Fail> {
     assert!(rt; context.get(b"y").is_none());
     Ok(())
 }
+
+/// The scheme of a function from pairs of variables 0 and 1 to variable 1, where 0 is in the class and 1 in `Any`.
+fn second_of(alloc: Global, class: Class) -> Result<Scheme, AllocError> {
+    let takes = both(alloc, Ok(Ty::Var(0)), Ok(Ty::Var(1)))?;
+    Scheme::new(alloc, &takes, &Ty::Var(1), &[class])
+}
+
+#[test]
+fn schemes_are_compared(rt: HostRuntime) -> Result<(), Fail> {
+    let alloc = rt.alloc();
+    let number = second_of(alloc, Class::Number)?;
+    number.variables_have_classes();
+    assert!(rt; number.same(&second_of(alloc, Class::Number)?));
+    assert!(rt; !number.same(&second_of(alloc, Class::Ordinal)?));
+    let takes = both(alloc, Ok(Ty::Var(7)), Ok(Ty::Var(3)))?;
+    assert!(rt; !number.same(&Scheme::new(alloc, &takes, &Ty::Var(7), &[])?));
+    Ok(())
+}

@@ -1,6 +1,6 @@
 //! Types.
 
-ghost use Rattle.std.specs.Prelude.{◌≡◌, ◌+◌, ◌<◌, IfOk, MatchOption};
+ghost use Rattle.std.specs.Prelude.{◌≡◌, ◌+◌, ◌<◌, ◌↔◌, IsTrue, IfOk, MatchOption};
 ghost use Rattle.nesl_types.specs.Term.{term, nodes};
 
 use std::alloc::{AllocError, Global};
@@ -41,6 +41,24 @@ impl Ty {
                 Ok(Ty::Both(Box::new(alloc, first)?, Box::new(alloc, second)?))
             }
             Ty::Named(tag) => Ok(Ty::Named(*tag)),
+        }
+    }
+
+    /// Whether both are the same type.
+    pub fn same(&self, other: &Ty) -> bool
+        ensures { IsTrue result ↔ (term self.now ≡ term other.now) }
+    {
+        match (self, other) {
+            (Ty::Int, Ty::Int) => true,
+            (Ty::Bool, Ty::Bool) => true,
+            (Ty::Char, Ty::Char) => true,
+            (Ty::Var(variable), Ty::Var(other)) => *variable == *other,
+            (Ty::SeqOf(item), Ty::SeqOf(other)) => item.same(other),
+            (Ty::Both(first, second), Ty::Both(third, fourth)) => {
+                first.same(third) && second.same(fourth)
+            }
+            (Ty::Named(tag), Ty::Named(other)) => *tag == *other,
+            _ => false,
         }
     }
 

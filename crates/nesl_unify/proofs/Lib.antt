@@ -1,4 +1,9 @@
-pub mod Counts
+pub mod Tables
+pub mod Joins
 pub mod Steps
-pub mod Narrowing
+pub mod Grown
+pub mod Measured
+pub mod Readings
+pub mod Extensions
 pub mod Solved
+pub mod Narrowing

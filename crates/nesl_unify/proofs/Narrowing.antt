@@ -1,26 +1,17 @@
 -- Restricted classes of variables.
-use Rattle.std.proofs.Common.{◌≡◌, ◌≢◌, ◌+◌, ◌<◌, ◌↔◌, inl, inr, ℕ, List, length, get_or, sym, ap, ◌∙◌, subst, arith}
-use Rattle.std.proofs.lemmas.Bool.{cases_eq, cases_lt}
+use Rattle.std.proofs.Common.{◌≡◌, ◌+◌, ◌<◌, inl, inr, ℕ, List, length, get_or, refl, sym, ap, ◌∙◌, subst, arith}
+use Rattle.std.proofs.lemmas.Bool.{cases_lt}
 use Rattle.std.proofs.lemmas.List.{get_or_default}
 use Rattle.nesl_types.specs.declared.classes.Class.{Class}
-use Rattle.nesl_types.specs.Term.{Term}
-use Rattle.nesl_types.specs.Class.{IsIn}
-use Rattle.nesl_types.proofs.Members.{IsIn-narrowed, IsWithin-from_types}
+use Rattle.nesl_types.specs.declared.classes.Class.TheVariants.{Any, Ordinal, Number, Logical}
 use Rattle.nesl_types.specs.Substitution.{substitute}
+use Rattle.nesl_types.specs.Term.{Term, int, seq_of, both}
+use Rattle.nesl_types.specs.Class.{IsMember, IsIn}
+use Rattle.nesl_types.proofs.Members.{IsIn-narrowed, IsWithin-from_types}
 use Rattle.nesl_unify.specs.declared.narrow.Member.{Member}
-use Rattle.nesl_unify.specs.Members.{IsInAll}
-use Rattle.nesl_unify.specs.Solution.{Follows}
-
--- a solution whose type for x is in c is in the classes that are left after x is restricted to c
-pub restricted : (old new : ℕ → Class) (x : ℕ) (c : Class) →
-    ((of : ℕ → Class) → (t : Term) → IsIn of (new x) t ↔ (IsIn of (old x) t × IsIn of c t)) →
-    ((v : ℕ) → v ≢ x → new v ≡ old v) →
-    (w : ℕ → Term) (of : ℕ → Class) → IsIn of c (w x) → ((v : ℕ) → IsIn of (old v) (w v)) → (v : ℕ) → IsIn of (new v) (w v)
-restricted old new x c here others w of h m v =
-    elim (cases_eq v x) [
-      | inl e ↦ subst (λ (u : ℕ). IsIn of (new u) (w u)) (sym e) ((here of (w x)).1 (m x, h))
-      | inr d ↦ subst (λ (k : Class). IsIn of k (w v)) (sym (others v d)) (m v)
-    ]
+use Rattle.nesl_unify.specs.declared.table.Node.{Node}
+use Rattle.nesl_unify.specs.declared.table.Node.TheVariants.{Free, Same, Int, Bool, Char, Named, SeqOf, Both}
+use Rattle.nesl_unify.specs.Table.{node_at, target, IsRoot, built, outside, outside_at}
 
 -- one member more
 pub more_within : (old new : ℕ → Class) (s : ℕ → Term) (members : List Member) (i : ℕ) (e : Member) → i < length members →
@@ -39,9 +30,39 @@ more_within old new s members i e inside narrower before here k d below =
           subst (λ (m : Member). IsIn new m.class (s m.variable)) (sym at_end) here
     ]
 
--- what a solution puts in the member's class
-pub member_of_solution : (w s : ℕ → Term) (of : ℕ → Class) (members : List Member) (i : ℕ) (e : Member) → i < length members →
-    Follows w s → IsInAll w of members → IsIn of (get_or members i e).class (substitute w (s (get_or members i e).variable))
-member_of_solution w s of members i e inside f h =
-    let m = get_or members i e in
-    subst (λ (t : Term). IsIn of m.class t) (f m.variable) (h i e inside)
+-- a class with one sequence has each, and so with pairs
+seq_member : (c : Class) (t u : Term) → IsMember c (seq_of t) → IsMember c (seq_of u)
+seq_member Any t u h = tt
+seq_member Ordinal t u h = elim h [ inl e ↦ cc | inr e ↦ cc ]
+seq_member Number t u h = cc
+seq_member Logical t u h = elim h [ inl e ↦ cc | inr e ↦ cc ]
+
+both_member : (c : Class) (t u x y : Term) → IsMember c (both t u) → IsMember c (both x y)
+both_member Any t u x y h = tt
+both_member Ordinal t u x y h = elim h [ inl e ↦ cc | inr e ↦ cc ]
+both_member Number t u x y h = cc
+both_member Logical t u x y h = elim h [ inl e ↦ cc | inr e ↦ cc ]
+
+pub outside_found : (ns : List Node) (v root : ℕ) (n : Node) → root ≡ target ns v → n ≡ node_at ns root → outside root n ≡ outside_at ns v
+outside_found ns v root n e d = rw d (rw e refl)
+
+-- a class has a type of a node without links exactly where it has what is seen from outside
+pub in_outside : (of : ℕ → Class) (c : Class) (w f : ℕ → Term) (p : ℕ) (n : Node) → IsRoot n → IsIn of c (substitute w (built f p n)) → IsIn of c (substitute w (outside p n))
+in_outside of c w f p Free r h = h
+in_outside of c w f p (Same q) r h = absurd r
+in_outside of c w f p Int r h = h
+in_outside of c w f p Bool r h = h
+in_outside of c w f p Char r h = h
+in_outside of c w f p (Named m) r h = h
+in_outside of c w f p (SeqOf q) r h = seq_member c (substitute w (f q)) int h
+in_outside of c w f p (Both q i) r h = both_member c (substitute w (f q)) (substitute w (f i)) int int h
+
+pub from_outside : (of : ℕ → Class) (c : Class) (f : ℕ → Term) (p : ℕ) (n : Node) → IsRoot n → IsIn of c (outside p n) → IsIn of c (built f p n)
+from_outside of c f p Free r h = h
+from_outside of c f p (Same q) r h = absurd r
+from_outside of c f p Int r h = h
+from_outside of c f p Bool r h = h
+from_outside of c f p Char r h = h
+from_outside of c f p (Named m) r h = h
+from_outside of c f p (SeqOf q) r h = seq_member c int (f q) h
+from_outside of c f p (Both q i) r h = both_member c int int (f q) (f i) h

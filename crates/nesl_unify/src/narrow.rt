@@ -2,16 +2,16 @@
 
 ghost use Rattle.std.specs.Prelude.{◌≡◌, ◌≢◌, ◌<◌, ◌↔◌, ℕ, All, IsTrue, IfOk, IsErrOf, OnOk, vec_len};
 ghost use Rattle.nesl_types.specs.declared.classes.Class.{Class};
-ghost use Rattle.nesl_types.specs.Term.{Term, term, variable};
+ghost use Rattle.nesl_types.specs.Term.{Term};
 ghost use Rattle.nesl_types.specs.Substitution.{substitute};
 ghost use Rattle.nesl_types.specs.Class.{IsIn};
-ghost use Rattle.nesl_unify.specs.At.{at};
+ghost use Rattle.nesl_unify.specs.Table.{outside, outside_at};
 ghost use Rattle.nesl_types.specs.Class.{class_at};
-ghost use Rattle.nesl_unify.specs.Solution.{Follows};
 ghost use Rattle.nesl_unify.specs.Members.{IsInAll};
 
 use crate::fault::SolveFault;
-use nesl_types::{Class, Ty, meet};
+use crate::table::{Node, node_at, target};
+use nesl_types::{Class, meet};
 use std::alloc::{AllocError, Global};
 
 /// What a variable stands for has to be in a class.
@@ -50,63 +50,54 @@ fn restrict(classes: &mut Vec<Class>, variable: u64, class: Class) -> Result<(),
     Ok(())
 }
 
-/// Restricts the variables of a type so that the type is in a class.
-fn restrict_type(classes: &mut Vec<Class>, ty: &Ty, class: Class) -> Result<(), SolveFault>
-    ensures within { OnOk result (IsIn (class_at classes.new.items) class (term ty.now)) }
+/// Restricts the variable where the node at a place is one, so that its type is in a class.
+fn restrict_node(
+    classes: &mut Vec<Class>,
+    place: usize,
+    node: Node,
+    class: Class,
+) -> Result<(), SolveFault>
+    ensures within { OnOk result (IsIn (class_at classes.new.items) class (outside place node)) }
     ensures narrower { OnOk result ((v : ℕ) → (of : ℕ → Class) → (t : Term) → IsIn of (class_at classes.new.items v) t → IsIn of (class_at classes.old.items v) t) }
-    ensures general { OnOk result ((w : ℕ → Term) → (of : ℕ → Class) → IsIn of class (substitute w (term ty.now)) → ((v : ℕ) → IsIn of (class_at classes.old.items v) (w v)) → (v : ℕ) → IsIn of (class_at classes.new.items v) (w v)) }
-    ensures none { IsErrOf result SolveFault.NoSolution → (w : ℕ → Term) → (of : ℕ → Class) → IsIn of class (substitute w (term ty.now)) → ⊥ }
+    ensures general { OnOk result ((w : ℕ → Term) → (of : ℕ → Class) → IsIn of class (substitute w (outside place node)) → ((v : ℕ) → IsIn of (class_at classes.old.items v) (w v)) → (v : ℕ) → IsIn of (class_at classes.new.items v) (w v)) }
+    ensures none { IsErrOf result SolveFault.NoSolution → (w : ℕ → Term) → (of : ℕ → Class) → IsIn of class (substitute w (outside place node)) → ⊥ }
 {
-    match (ty, class) {
-        (Ty::Var(variable), _) => Ok(restrict(classes, *variable, class)?),
+    match (node, class) {
+        (Node::Free, _) => Ok(restrict(classes, place as u64, class)?),
+        (Node::Same(up), _) => Ok(restrict(classes, up as u64, class)?),
         (_, Class::Any) => Ok(()),
-        (Ty::Int, _) => Ok(()),
-        (Ty::Bool, Class::Logical) => Ok(()),
-        (Ty::Char, Class::Ordinal) => Ok(()),
+        (Node::Int, _) => Ok(()),
+        (Node::Bool, Class::Logical) => Ok(()),
+        (Node::Char, Class::Ordinal) => Ok(()),
         _ => Err(SolveFault::NoSolution),
     }
 }
 
-/// The type at a place, or the variable itself past the end.
-fn stands_for<'a>(types: &'a Vec<Ty>, place: u64, own: &'a Ty) -> &'a Ty
-    requires { term own.now ≡ variable place }
-    ensures { term result.now ≡ at types.now.items place }
-{
-    match types.get(place as usize) {
-        Some(ty) => ty,
-        None => own,
-    }
-}
-
-/// Restricts the variables of the type that stands for a member's variable so that the type is in the member's class.
+/// Restricts the variable that stands for a member's variable, if one does, so that the type is in the member's class.
 fn restrict_member(
     classes: &mut Vec<Class>,
-    types: &Vec<Ty>,
+    nodes: &[Node],
     member: &Member,
 ) -> Result<(), SolveFault>
-    ensures within { OnOk result (IsIn (class_at classes.new.items) member.now.class (at types.now.items member.now.variable)) }
+    ensures within { OnOk result (IsIn (class_at classes.new.items) member.now.class (outside_at nodes.now member.now.variable)) }
     ensures narrower { OnOk result ((v : ℕ) → (of : ℕ → Class) → (t : Term) → IsIn of (class_at classes.new.items v) t → IsIn of (class_at classes.old.items v) t) }
-    ensures general { OnOk result ((w : ℕ → Term) → (of : ℕ → Class) → IsIn of member.now.class (substitute w (at types.now.items member.now.variable)) → ((v : ℕ) → IsIn of (class_at classes.old.items v) (w v)) → (v : ℕ) → IsIn of (class_at classes.new.items v) (w v)) }
-    ensures none { IsErrOf result SolveFault.NoSolution → (w : ℕ → Term) → (of : ℕ → Class) → IsIn of member.now.class (substitute w (at types.now.items member.now.variable)) → ⊥ }
+    ensures general { OnOk result ((w : ℕ → Term) → (of : ℕ → Class) → IsIn of member.now.class (substitute w (outside_at nodes.now member.now.variable)) → ((v : ℕ) → IsIn of (class_at classes.old.items v) (w v)) → (v : ℕ) → IsIn of (class_at classes.new.items v) (w v)) }
+    ensures none { IsErrOf result SolveFault.NoSolution → (w : ℕ → Term) → (of : ℕ → Class) → IsIn of member.now.class (substitute w (outside_at nodes.now member.now.variable)) → ⊥ }
 {
-    let own = Ty::Var(member.variable);
-    restrict_type(
-        classes,
-        stands_for(types, member.variable, &own),
-        member.class,
-    )?;
+    let root = target(nodes, member.variable as usize);
+    restrict_node(classes, root, node_at(nodes, root), member.class)?;
     Ok(())
 }
 
-/// The classes of the variables in `types`, as wide as the members allow.
-pub fn narrow(alloc: Global, types: &Vec<Ty>, members: &[Member]) -> Result<Vec<Class>, SolveFault>
-    ensures within { IfOk result (λ cs. IsInAll (at types.now.items) (class_at cs.items) members.now) }
-    ensures general { IfOk result (λ cs. (w : ℕ → Term) → (of : ℕ → Class) → Follows w (at types.now.items) → IsInAll w of members.now → (v : ℕ) → IsIn of (class_at cs.items v) (w v)) }
-    ensures none { IsErrOf result SolveFault.NoSolution → (w : ℕ → Term) → (of : ℕ → Class) → Follows w (at types.now.items) → IsInAll w of members.now → ⊥ }
+/// The classes of the variables in a table without chains of links, as wide as the members allow.
+pub fn narrow(alloc: Global, nodes: &[Node], members: &[Member]) -> Result<Vec<Class>, SolveFault>
+    ensures within { IfOk result (λ cs. IsInAll (outside_at nodes.now) (class_at cs.items) members.now) }
+    ensures general { IfOk result (λ cs. (w : ℕ → Term) → (of : ℕ → Class) → IsInAll (λ v. substitute w (outside_at nodes.now v)) of members.now → (v : ℕ) → IsIn of (class_at cs.items v) (w v)) }
+    ensures none { IsErrOf result SolveFault.NoSolution → (w : ℕ → Term) → (of : ℕ → Class) → IsInAll (λ v. substitute w (outside_at nodes.now v)) of members.now → ⊥ }
 {
     let mut classes = Vec::new(alloc);
     for member in members {
-        restrict_member(&mut classes, types, member)?;
+        restrict_member(&mut classes, nodes, member)?;
     }
     Ok(classes)
 }

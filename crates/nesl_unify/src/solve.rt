@@ -5,13 +5,16 @@ ghost use Rattle.nesl_types.specs.declared.classes.Class.{Class};
 ghost use Rattle.nesl_types.specs.Class.{class_at};
 ghost use Rattle.nesl_types.specs.Substitution.{substitute};
 ghost use Rattle.nesl_types.specs.Term.{Term, term};
-ghost use Rattle.nesl_unify.specs.At.{IsBounded, IsBelow};
+ghost use Rattle.nesl_types.specs.Numbering.{IsBelow};
+ghost use Rattle.nesl_unify.specs.Bounds.{IsBounded};
 
+use crate::build::{add_equations, free_nodes};
 use crate::fault::SolveFault;
+use crate::measure::measure_variables;
 use crate::narrow::{Member, narrow};
-use crate::table::make_room;
+use crate::read::apply;
+use crate::table::Node;
 use crate::unify::unify;
-use crate::walk::apply;
 use nesl_types::{Class, Ty};
 use std::alloc::{AllocError, Global};
 
@@ -25,7 +28,10 @@ pub struct Equation {
 /// A most general solution: a type for each variable, and the class of each variable that is left in these types.
 #[derive(Drop)]
 pub struct Solution {
-    types: Vec<Ty>,
+    /// A table of the nodes of the types: the place of a variable is its number.
+    nodes: Vec<Node>,
+    /// How many nodes the type of each variable has.
+    sizes: Vec<u64>,
     /// The class of each variable at the variable's place; a variable past the end is in `Any`.
     pub classes: Vec<Class>,
 }
@@ -37,7 +43,7 @@ impl Solution {
     pub fn apply(&self, alloc: Global, ty: &Ty) -> Result<Ty, AllocError>
         ensures { IfOk result (λ t. term t ≡ substitute (type_of self.now) (term ty.now)) }
     {
-        apply(alloc, &self.types, ty)
+        apply(alloc, self.nodes.as_slice(), self.sizes.as_slice(), ty)
     }
 }
 
@@ -83,11 +89,14 @@ pub fn solve(
     ensures bounded { IfOk result (λ a. IsBounded (type_of a)) }
     ensures none { IsErrOf result SolveFault.NoSolution → (s : ℕ → Term) → (of : ℕ → Class) → IsBounded s → IsSolution equations.now members.now s of → ⊥ }
 {
-    let mut types = Vec::new(alloc);
-    make_room(&mut types, count)?;
-    for equation in equations {
-        unify(alloc, &mut types, &equation.left, &equation.right)?;
-    }
-    let classes = narrow(alloc, &types, members)?;
-    Ok(Solution { types, classes })
+    let mut nodes = free_nodes(alloc, count as usize)?;
+    let pending = add_equations(alloc, &mut nodes, equations)?;
+    unify(nodes.as_mut_slice(), pending)?;
+    let sizes = measure_variables(alloc, nodes.as_slice(), count as usize)?;
+    let classes = narrow(alloc, nodes.as_slice(), members)?;
+    Ok(Solution {
+        nodes,
+        sizes,
+        classes,
+    })
 }

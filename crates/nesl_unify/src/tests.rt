@@ -159,11 +159,68 @@ fn far_too_large_from_the_end(rt: HostRuntime) -> Result<(), Fail> {
     Ok(())
 }
 
+/// The type of the variable, where it is a variable.
+fn variable_for(
+    alloc: Global,
+    solution: &Option<Solution>,
+    variable: u64,
+) -> Result<Option<u64>, AllocError> {
+    match solution {
+        Some(solution) => match solution.apply(alloc, &Ty::Var(variable))? {
+            Ty::Var(found) => Ok(Some(found)),
+            _ => Ok(None),
+        },
+        None => Ok(None),
+    }
+}
+
 #[test]
 fn a_chain_of_equal_variables(rt: HostRuntime) -> Result<(), Fail> {
-    let equations = chained(rt.alloc(), 1000)?;
-    let members = [member(0, Class::Ordinal), member(1000, Class::Logical)];
-    let solution = solved(rt.alloc(), 1001, &equations, &members)?;
-    assert!(rt; nodes_of(rt.alloc(), solution, 0)? == Some(1));
+    let equations = chained(rt.alloc(), 99999)?;
+    let members = [member(0, Class::Number), member(99999, Class::Logical)];
+    let solution = solved(rt.alloc(), 100000, &equations, &members)?;
+    assert!(rt; variable_for(rt.alloc(), &solution, 0)? == Some(0));
+    assert!(rt; variable_for(rt.alloc(), &solution, 54321)? == Some(0));
+    assert!(rt; variable_for(rt.alloc(), &solution, 99999)? == Some(0));
+    assert!(rt; first_class(solution) == Some(Class::Number));
+    Ok(())
+}
+
+/// As many variables, each the first of 12 numbers, that stand for types of 4,095 nodes, and are then all made equal.
+fn large_and_equal(alloc: Global, count: u64) -> Result<Vec<Equation>, AllocError> {
+    let mut equations = Vec::new(alloc);
+    for large in 0..count {
+        let first = large.saturating_mul(12);
+        for half in first..first.saturating_add(11) {
+            add_double(alloc, &mut equations, half, half.saturating_add(1))?;
+        }
+    }
+    for large in 1..count {
+        let left = Ty::Var(large.saturating_mul(12));
+        let right = Ty::Var(large.saturating_sub(1).saturating_mul(12));
+        equations.push(Equation { left, right })?;
+    }
+    Ok(equations)
+}
+
+#[test]
+fn many_large_types_are_made_equal(rt: HostRuntime) -> Result<(), Fail> {
+    let equations = large_and_equal(rt.alloc(), 1000)?;
+    let solution = solved(rt.alloc(), 12000, &equations, &[])?;
+    assert!(rt; variable_for(rt.alloc(), &solution, 11999)? == Some(11));
+    assert!(rt; nodes_of(rt.alloc(), solution, 11988)? == Some(4095));
+    Ok(())
+}
+
+#[test]
+fn other_types_are_not_equal(rt: HostRuntime) -> Result<(), Fail> {
+    let mut equations = Vec::new(rt.alloc());
+    add_seq_of(rt.alloc(), &mut equations, 0, Ty::Named(3))?;
+    add_seq_of(rt.alloc(), &mut equations, 1, Ty::Named(4))?;
+    assert!(rt; solved(rt.alloc(), 2, &equations, &[])?.is_some());
+    let left = Ty::Var(0);
+    let right = Ty::Var(1);
+    equations.push(Equation { left, right })?;
+    assert!(rt; solved(rt.alloc(), 2, &equations, &[])?.is_none());
     Ok(())
 }

@@ -1,16 +1,15 @@
-use Rattle.nesl_types.specs.declared.classes.Class.TheVariants.{Any}
-use Rattle.nesl_unify.specs.declared.narrow.Member.{Member}
-use Rattle.nesl_unify.specs.At.{at}
-use Rattle.nesl_types.specs.Class.{class_at}
-use Rattle.nesl_unify.proofs.Narrowing.{more_within, member_of_solution}
-use Rattle.nesl_unify.proofs.narrow.narrow.Goals as goal
 use Rattle.std.proofs.Common.{rules}
+use Rattle.nesl_types.specs.declared.classes.Class.TheVariants.{Any}
+use Rattle.nesl_types.specs.Class.{class_at}
+use Rattle.nesl_unify.specs.declared.narrow.Member.{Member}
+use Rattle.nesl_unify.specs.Table.{outside_at}
+use Rattle.nesl_unify.proofs.Narrowing.{more_within}
+use Rattle.nesl_unify.proofs.narrow.narrow.Goals as goal
 
 pub returns-in_err-restrict_member-clause-none : goal.returns-in_err-restrict_member-clause-none
-returns-in_err-restrict_member-clause-none c = λ e w of f h.
-    let i = c.loop-member.member-index in
+returns-in_err-restrict_member-clause-none c = λ e w of h.
     let none : Member = record { variable = 0; class = Any } in
-    c.in_err-restrict_member.ensures.none (search rules) w of (member_of_solution w (at c.args.types.now.items) of c.args.members.now i none c.loop-member-test.true f h)
+    c.in_err-restrict_member.ensures.none (search rules) w of (h c.loop-member.member-index none c.loop-member-test.true)
 
 pub loop-member-preserved : goal.loop-member-preserved
 loop-member-preserved c =
@@ -18,6 +17,6 @@ loop-member-preserved c =
     let i = c.loop-member.member-index in
     let none : Member = record { variable = 0; class = Any } in
     record {
-      within = more_within (class_at c.loop-member.classes.items) (class_at c.restrict_member.new.classes.items) (at c.args.types.now.items) c.args.members.now i none c.loop-member-test.true e.narrower c.loop-member.invariant.within e.within;
-      general = λ w of f h. e.general w of (member_of_solution w (at c.args.types.now.items) of c.args.members.now i none c.loop-member-test.true f h) (c.loop-member.invariant.general w of f h);
+      within = more_within (class_at c.loop-member.classes.items) (class_at c.restrict_member.new.classes.items) (outside_at c.args.nodes.now) c.args.members.now i none c.loop-member-test.true e.narrower c.loop-member.invariant.within e.within;
+      general = λ w of h. e.general w of (h i none c.loop-member-test.true) (c.loop-member.invariant.general w of h);
     }

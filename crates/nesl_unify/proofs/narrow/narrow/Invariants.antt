@@ -1,16 +1,15 @@
 use Rattle.std.proofs.Common.{ℕ, ◌<◌, get_or}
 use Rattle.nesl_types.specs.declared.classes.Class.{Class}
-use Rattle.nesl_types.specs.Class.{IsIn}
+use Rattle.nesl_types.specs.Class.{IsIn, class_at}
 use Rattle.nesl_types.specs.Term.{Term}
+use Rattle.nesl_types.specs.Substitution.{substitute}
 use Rattle.nesl_unify.specs.declared.narrow.Member.{Member}
-use Rattle.nesl_unify.specs.At.{at}
-use Rattle.nesl_types.specs.Class.{class_at}
 use Rattle.nesl_unify.specs.Members.{IsInAll}
-use Rattle.nesl_unify.specs.Solution.{Follows}
+use Rattle.nesl_unify.specs.Table.{outside_at}
 use Rattle.nesl_unify.proofs.narrow.narrow.Given as goal
 
 abbrev pub invariant-loop-member : goal.invariant-loop-member
 invariant-loop-member l = record {
-  within : (k : ℕ) (d : Member) → k < l.member-index → IsIn (class_at l.classes.items) (get_or l.members k d).class (at l.types.items (get_or l.members k d).variable);
-  general : (w : ℕ → Term) (of : ℕ → Class) → Follows w (at l.types.items) → IsInAll w of l.members → (v : ℕ) → IsIn of (class_at l.classes.items v) (w v);
+  within : (k : ℕ) (d : Member) → k < l.member-index → IsIn (class_at l.classes.items) (get_or l.members k d).class (outside_at l.nodes (get_or l.members k d).variable);
+  general : (w : ℕ → Term) (of : ℕ → Class) → IsInAll (λ v. substitute w (outside_at l.nodes v)) of l.members → (v : ℕ) → IsIn of (class_at l.classes.items v) (w v);
 }

@@ -1,7 +1,7 @@
 use Rattle.std.proofs.Common.{ℕ, ◌<◌, get_or}
 use Rattle.nesl_types.specs.Term.{term}
 use Rattle.nesl_unify.specs.declared.solve.Equation.{Equation}
-use Rattle.nesl_unify.specs.At.{IsBelow}
+use Rattle.nesl_types.specs.Numbering.{IsBelow}
 use Rattle.nesl_unify.proofs.solve.are_below.Given as goal
 
 abbrev pub invariant-loop-equation : goal.invariant-loop-equation

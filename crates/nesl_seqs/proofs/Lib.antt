@@ -1,0 +1,9 @@
+pub mod Totals
+pub mod Turns
+pub mod Made
+pub mod Digits
+pub mod Numbers
+pub mod Folds
+pub mod Equality
+pub mod Bounds
+pub mod Pairing

@@ -1,0 +1,13 @@
+pub mod Outcome
+pub mod Arguments
+pub mod Pieces
+pub mod Reductions
+pub mod Ranges
+pub mod Pairs
+pub mod Equal
+pub mod Meaning
+pub mod Prices
+pub mod Held
+pub mod Scalar
+pub mod Steps
+pub mod Whole

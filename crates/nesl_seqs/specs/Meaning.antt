@@ -1,0 +1,35 @@
+-- What each function comes to.
+use Rattle.std.specs.Prelude.{pos, length}
+use Rattle.nesl_values.specs.Tree.{Tree, int, boolean}
+use Rattle.nesl_values.specs.Parts.{as_int, as_pair, as_sequence}
+use Rattle.nesl_seqs.specs.Outcome.{Outcome, gives, given}
+use Rattle.nesl_seqs.specs.Arguments.{sequence_and_int, two_sequences, tree_and_int, two_ints, three_ints, sequence_item_place, numbers, truths}
+use Rattle.nesl_seqs.specs.Pieces.{element_at, joined, halves, taken, dropped, reversed, rotated, replaced}
+use Rattle.nesl_seqs.specs.Reductions.{summed, some_true, all_true, counted}
+use Rattle.nesl_seqs.specs.Equal.{tree_eq}
+use Rattle.nesl_seqs.specs.Pairs.{zipped}
+use Rattle.nesl_seqs.specs.Ranges.{repeated, ranged, first_numbers}
+use Rattle.nesl_seqs.specs.declared.seq_fn.SeqFn.{SeqFn}
+use Rattle.nesl_seqs.specs.declared.seq_fn.SeqFn.TheVariants.{Length, Index, Append, Dist, Range, RangeBy, Iota, Sum, Any, All, Count, Bottop, Take, Drop, Reverse, Rotate, Zip, Rep, Eql}
+
+-- this profile's table of sequence functions
+abbrev pub meaning : SeqFn → Tree → Outcome
+meaning Length t = given (as_sequence t) (λ ts. gives (int (pos (length ts))))
+meaning Index t = given (sequence_and_int t) (λ p. element_at p.0 p.1)
+meaning Append t = given (two_sequences t) (λ p. joined p.0 p.1)
+meaning Dist t = given (tree_and_int t) (λ p. repeated p.0 p.1)
+meaning Range t = given (two_ints t) (λ p. ranged p.0 p.1 (pos 1))
+meaning RangeBy t = given (three_ints t) (λ p. ranged p.0 p.1.0 p.1.1)
+meaning Iota t = given (as_int t) first_numbers
+meaning Sum t = given (numbers t) summed
+meaning Any t = given (truths t) some_true
+meaning All t = given (truths t) all_true
+meaning Count t = given (truths t) counted
+meaning Bottop t = given (as_sequence t) halves
+meaning Take t = given (sequence_and_int t) (λ p. taken p.0 p.1)
+meaning Drop t = given (sequence_and_int t) (λ p. dropped p.0 p.1)
+meaning Reverse t = given (as_sequence t) reversed
+meaning Rotate t = given (sequence_and_int t) (λ p. rotated p.0 p.1)
+meaning Zip t = given (two_sequences t) (λ p. zipped p.0 p.1)
+meaning Rep t = given (sequence_item_place t) (λ p. replaced p.0 p.1.0 p.1.1)
+meaning Eql t = given (as_pair t) (λ p. gives (boolean (tree_eq p.0 p.1)))

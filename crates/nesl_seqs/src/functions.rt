@@ -1,0 +1,109 @@
+// All functions: their prices, and their results.
+ghost use Rattle.std.specs.Prelude.{◌≡◌, ◌-◌, ◌<◌, ◌^◌, IfOk, IsSome};
+ghost use Rattle.nesl_values.specs.Tree.{size};
+ghost use Rattle.nesl_values.specs.View.{tree_of};
+ghost use Rattle.nesl_seqs.specs.Outcome.{IsGiven, gives};
+ghost use Rattle.nesl_seqs.specs.Meaning.{meaning};
+ghost use Rattle.nesl_seqs.specs.Prices.{Prices, reads, depth_of};
+ghost use Rattle.nesl_seqs.specs.Whole.{PricesAll};
+
+use crate::price::Price;
+use crate::reductions::{self, price_of_reduction, value_of};
+use crate::seq_fn::SeqFn;
+use crate::{equal, pairs, pieces, ranges, replace};
+use nesl_scalars::Trap;
+use nesl_values::Value;
+use std::alloc::{AllocError, Allocator};
+
+/// The price of a function at an argument, where the work is at most the fuel: known before anything
+/// is built, without memory, in a time that grows with the argument's length and the fuel.
+pub fn price_within<A: Allocator>(
+    function: SeqFn,
+    argument: &Value<A>,
+    fuel: u64,
+) -> Result<Option<Price>, Trap>
+    ensures { Prices (meaning function (tree_of argument.now))
+        (reads function (tree_of argument.now))
+        (depth_of function (reads function (tree_of argument.now))) fuel result }
+{
+    price(function, argument, fuel as u128)
+}
+
+/// The price of a function at an argument, known before anything is built and without memory.
+pub fn cost_and_size<A: Allocator>(function: SeqFn, argument: &Value<A>) -> Result<Price, Trap>
+    requires { size (tree_of argument.now) < 2 ^ 65 }
+    ensures { PricesAll (meaning function (tree_of argument.now))
+        (reads function (tree_of argument.now))
+        (depth_of function (reads function (tree_of argument.now))) result }
+{
+    match price(function, argument, u128::MAX)? {
+        Some(price) => Ok(price),
+        None => unreachable!(),
+    }
+}
+
+fn price<A: Allocator>(
+    function: SeqFn,
+    argument: &Value<A>,
+    limit: u128,
+) -> Result<Option<Price>, Trap>
+    ensures always { size (tree_of argument.now) < 2 ^ 65 → limit ≡ 2 ^ 128 - 1
+        → IfOk result (λ p. IsSome p) }
+    ensures price { Prices (meaning function (tree_of argument.now))
+        (reads function (tree_of argument.now))
+        (depth_of function (reads function (tree_of argument.now))) limit result }
+{
+    match function {
+        SeqFn::Length => pieces::price_length(argument, limit),
+        SeqFn::Index => pieces::price_index(argument, limit),
+        SeqFn::Append => pieces::price_append(argument, limit),
+        SeqFn::Dist => ranges::price_dist(argument, limit),
+        SeqFn::Range => ranges::price_range(argument, limit),
+        SeqFn::RangeBy => ranges::price_range_by(argument, limit),
+        SeqFn::Iota => ranges::price_iota(argument, limit),
+        SeqFn::Sum => price_of_reduction(argument, reductions::sum(argument), limit),
+        SeqFn::Any => price_of_reduction(argument, reductions::any(argument), limit),
+        SeqFn::All => price_of_reduction(argument, reductions::all(argument), limit),
+        SeqFn::Count => price_of_reduction(argument, reductions::count(argument), limit),
+        SeqFn::Bottop => pieces::price_bottop(argument, limit),
+        SeqFn::Take => pieces::price_take(argument, limit),
+        SeqFn::Drop => pieces::price_drop(argument, limit),
+        SeqFn::Reverse => pieces::price_reverse(argument, limit),
+        SeqFn::Rotate => pieces::price_rotate(argument, limit),
+        SeqFn::Zip => pairs::price_zip(argument, limit),
+        SeqFn::Rep => replace::price_rep(argument, limit),
+        SeqFn::Eql => equal::price_eql(argument, limit),
+    }
+}
+
+/// The result of a function at an argument.
+pub fn apply<A: Allocator + Copy, B: Allocator>(
+    alloc: A,
+    function: SeqFn,
+    argument: &Value<B>,
+) -> Result<Value<A>, AllocError>
+    requires { IsGiven (meaning function (tree_of argument.now)) }
+    ensures { IfOk result (λ v. meaning function (tree_of argument.now) ≡ gives (tree_of v)) }
+{
+    match function {
+        SeqFn::Length => Ok(pieces::apply_length(argument)),
+        SeqFn::Index => pieces::apply_index(alloc, argument),
+        SeqFn::Append => pieces::apply_append(alloc, argument),
+        SeqFn::Dist => ranges::apply_dist(alloc, argument),
+        SeqFn::Range => ranges::apply_range(alloc, argument),
+        SeqFn::RangeBy => ranges::apply_range_by(alloc, argument),
+        SeqFn::Iota => ranges::apply_iota(alloc, argument),
+        SeqFn::Sum => Ok(value_of(reductions::sum(argument))),
+        SeqFn::Any => Ok(value_of(reductions::any(argument))),
+        SeqFn::All => Ok(value_of(reductions::all(argument))),
+        SeqFn::Count => Ok(value_of(reductions::count(argument))),
+        SeqFn::Bottop => pieces::apply_bottop(alloc, argument),
+        SeqFn::Take => pieces::apply_take(alloc, argument),
+        SeqFn::Drop => pieces::apply_drop(alloc, argument),
+        SeqFn::Reverse => pieces::apply_reverse(alloc, argument),
+        SeqFn::Rotate => pieces::apply_rotate(alloc, argument),
+        SeqFn::Zip => pairs::apply_zip(alloc, argument),
+        SeqFn::Rep => replace::apply_rep(alloc, argument),
+        SeqFn::Eql => Ok(equal::apply_eql(argument)),
+    }
+}

@@ -1,0 +1,22 @@
+//! The functions on sequences, priced before they are built.
+#![tactic(auto)]
+
+mod arguments;
+mod copies;
+mod equal;
+mod functions;
+mod item;
+mod nodes;
+mod pairs;
+mod pieces;
+mod price;
+mod ranges;
+mod reductions;
+mod replace;
+mod seq_fn;
+#[cfg(test)]
+mod tests;
+
+pub use functions::{apply, cost_and_size, price_within};
+pub use price::Price;
+pub use seq_fn::SeqFn;

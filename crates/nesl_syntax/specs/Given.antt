@@ -1,0 +1,75 @@
+-- What a part of a line answered stands for.
+use Rattle.std.specs.Prelude.{◌≡◌, ◌≤◌, ◌<◌, ℕ, List, ◌++◌, codes, map, option_map, Option, Some, None, Result, Ok, Err}
+use Rattle.nesl_syntax.specs.declared.fault.ParseFault.{ParseFault}
+use Rattle.nesl_syntax.specs.declared.fault.ParseFault.TheVariants.{Syntax, Nested, Memory}
+use Rattle.nesl_syntax.specs.declared.tree.Exp.{Exp}
+use Rattle.nesl_syntax.specs.declared.tree.Form.{Form}
+use Rattle.nesl_syntax.specs.declared.tree.Member.{Member}
+use Rattle.nesl_syntax.specs.declared.signature.SignaturePart.{SignaturePart}
+use Rattle.nesl_syntax.specs.declared.signature.SignaturePart.TheVariants as signatures
+use Rattle.nesl_syntax.specs.declared.signature.Target.{Target}
+use Rattle.nesl_syntax.specs.declared.function.Head.{Head}
+use Rattle.nesl_syntax.specs.Trees.{Tree, MemberTree, SignatureTree, Line, show_names, show_budget, height, signature_height, line_height}
+use Rattle.nesl_syntax.specs.Views.{tree_of, member_tree, signature_tree, line_of}
+use Rattle.nesl_syntax.specs.Parts.{SeesType, SeesPattern}
+use Rattle.nesl_syntax.specs.Reading.{Targets, Heads, members_in}
+use Rattle.nesl_lex.specs.Tokens.{Placed}
+
+-- what a call answered stands for this, or there is nothing and the answer says so, or memory ran out
+abbrev pub Given : {A B : Type 0} → (A → B → Type 0) → Result A ParseFault → Option B → Type 0
+Given sees (Ok a) (Some b) = sees a b
+Given sees (Ok a) None = ⊥
+Given sees (Err Syntax) b = b ≡ None
+Given sees (Err Nested) b = ⊥
+Given sees (Err Memory) b = Unit {0}
+
+abbrev pub SeesMember : Member → MemberTree → Type 0
+SeesMember m t = member_tree m ≡ t
+
+abbrev pub SeesMembers : List Member → List MemberTree → Type 0
+SeesMembers ms ts = map member_tree ms ≡ ts
+
+abbrev pub behind_members : List MemberTree → List MemberTree → List MemberTree
+behind_members ms ns = ms ++ ns
+
+-- with these tokens to come, all are read as these members and those to come
+pub record Listing (ms : List Member) (rest all : List Placed) : Type 0 where
+  pub same : members_in all ≡ option_map (behind_members (map member_tree ms)) (members_in rest)
+
+abbrev pub SeesTarget : Target → Targets → Type 0
+SeesTarget p r = SeesType p.to r.0 × SeesMembers p.members.items r.1
+
+abbrev pub SeesSignature : SignaturePart → SignatureTree → Type 0
+SeesSignature (signatures.Built s) t = (signature_tree s ≡ t) × (signature_height (Some t) ≤ 100)
+SeesSignature signatures.High t = 100 < signature_height (Some t)
+
+abbrev pub SeesOptional : Option SignaturePart → Option SignatureTree → Type 0
+SeesOptional (Some p) (Some t) = SeesSignature p t
+SeesOptional None None = Unit {0}
+SeesOptional _ _ = ⊥
+
+abbrev pub SeesHead : Head → Heads → Type 0
+SeesHead h p = SeesPattern h.pattern p.0 × SeesOptional h.signature p.1
+
+-- what a call answered is this expression, or there is none and the answer says so, or it is too high, or memory ran out
+abbrev pub GivesExp : Result Exp ParseFault → Option Tree → Type 0
+GivesExp (Ok e) (Some x) = (tree_of e ≡ x) × (height x ≤ 100)
+GivesExp (Ok e) None = ⊥
+GivesExp (Err Syntax) x = x ≡ None
+GivesExp (Err Nested) (Some x) = 100 < height x
+GivesExp (Err Nested) None = ⊥
+GivesExp (Err Memory) x = Unit {0}
+
+abbrev pub GivesLine : Result Form ParseFault → Option Line → Type 0
+GivesLine (Ok f) (Some l) = (line_of f ≡ l) × (line_height l ≤ 100)
+GivesLine (Ok f) None = ⊥
+GivesLine (Err Syntax) l = l ≡ None
+GivesLine (Err Nested) (Some l) = 100 < line_height l
+GivesLine (Err Nested) None = ⊥
+GivesLine (Err Memory) l = Unit {0}
+
+-- the words of the commands that end in no ;
+abbrev pub IsCommand : List ℕ → Line → Type 0
+IsCommand x show_names = x ≡ codes "names"
+IsCommand x show_budget = x ≡ codes "budget"
+IsCommand x _ = ⊥

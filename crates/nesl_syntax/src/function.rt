@@ -1,0 +1,127 @@
+// A function's line, from its head and its body.
+
+ghost use Rattle.std.specs.Prelude.{◌≡◌, ◌≤◌, ◌<◌, Some, Err, Option};
+ghost use Rattle.nesl_syntax.specs.Trees.{Tree, SignatureTree, height, pattern_height};
+ghost use Rattle.nesl_syntax.specs.Trees as trees;
+ghost use Rattle.nesl_syntax.specs.Views.{tree_of, pattern_tree};
+ghost use Rattle.nesl_syntax.specs.Parts.{Sees, SeesPattern};
+ghost use Rattle.nesl_syntax.specs.Reading as reading;
+ghost use Rattle.nesl_syntax.specs.declared.cut.Divider.TheVariants as divider;
+ghost use Rattle.nesl_syntax.specs.Given.{Given, SeesOptional, SeesHead, GivesLine};
+ghost use Rattle.nesl_lex.specs.Tokens.{placed};
+
+use crate::cut::{Divider, cut};
+use crate::fault::ParseFault;
+use crate::parse::expression;
+use crate::part::Part;
+use crate::pattern::{PatternPart, pattern_of};
+use crate::signature::{SignaturePart, signature};
+use crate::tree::{Exp, Form, Pattern};
+use nesl_lex::token::{Kind, Token};
+use std::alloc::Global;
+
+/// A function's parameter and its signature.
+#[derive(Debug, Drop)]
+pub struct Head {
+    pub pattern: PatternPart,
+    pub signature: Option<SignaturePart>,
+}
+
+// The pattern that the tokens are.
+fn pattern(alloc: Global, tokens: &[Token]) -> Result<PatternPart, ParseFault>
+    ensures { Given SeesPattern result (reading.pattern_read (placed tokens.now)) }
+{
+    let part = expression(alloc, tokens)?;
+    match pattern_of(alloc, part)? {
+        Some(pattern) => Ok(pattern),
+        None => Err(ParseFault::Syntax),
+    }
+}
+
+// A parameter, and a signature behind a `:`, if there is one.
+fn read_head(alloc: Global, tokens: &[Token]) -> Result<Head, ParseFault>
+    ensures { Given SeesHead result (reading.head_in (placed tokens.now)) }
+{
+    match cut(Divider::Colon, tokens) {
+        None => {
+            let pattern = pattern(alloc, tokens)?;
+            Ok(Head {
+                pattern,
+                signature: None,
+            })
+        }
+        Some((front, behind)) => {
+            let pattern = pattern(alloc, front)?;
+            let signature = Some(signature(alloc, behind)?);
+            Ok(Head { pattern, signature })
+        }
+    }
+}
+
+// Drops the parts of a line with one that is too high.
+fn too_high<T: Drop>(parts: T) -> Result<Form, ParseFault>
+    ensures { result ≡ Err ParseFault.Nested }
+{
+    drop(parts);
+    Err(ParseFault::Nested)
+}
+
+// The line of a pattern and what is too high or not behind it.
+fn function_with(
+    name: Vec<u8>,
+    pattern: Pattern,
+    signature: Option<SignaturePart>,
+    body: Exp,
+) -> Result<Form, ParseFault>
+    ensures { (s : Option SignatureTree) → SeesOptional signature s → height (tree_of body) ≤ 100 → pattern_height (pattern_tree pattern) ≤ 100 →
+        GivesLine result (Some (trees.function name.items (pattern_tree pattern) s (tree_of body))) }
+{
+    match signature {
+        None => Ok(Form::Fun(name, pattern, None, body)),
+        Some(part) => match part {
+            SignaturePart::Built(signature) => {
+                Ok(Form::Fun(name, pattern, Some(signature), body))
+            }
+            SignaturePart::High => too_high((name, pattern, body)),
+        },
+    }
+}
+
+// The line of a function's parts.
+fn function_of(name: Vec<u8>, head: Head, body: Part) -> Result<Form, ParseFault>
+    ensures { (h : reading.Heads) (e : Tree) → SeesHead head h → Sees body e → GivesLine result (Some (reading.function_of name.items h e)) }
+{
+    let Head { pattern, signature } = head;
+    match pattern {
+        PatternPart::Built(pattern, _) => match body {
+            Part::Built(body, _, _) => function_with(name, pattern, signature, body),
+            Part::High(_) => too_high((name, pattern, signature)),
+        },
+        PatternPart::High => too_high((name, signature, body)),
+    }
+}
+
+// A function's line behind its name.
+fn function_named(alloc: Global, name: &Vec<u8>, tokens: &[Token]) -> Result<Form, ParseFault>
+    ensures { GivesLine result (reading.function_with name.now.items (reading.cut divider.Equal (placed tokens.now))) }
+{
+    let Some((front, behind)) = cut(Divider::Equal, tokens) else {
+        return Err(ParseFault::Syntax);
+    };
+    let head = read_head(alloc, front)?;
+    let body = expression(alloc, behind)?;
+    function_of(name.clone()?, head, body)
+}
+
+/// A function's line behind its first word.
+pub fn function(alloc: Global, tokens: &[Token]) -> Result<Form, ParseFault>
+    ensures { GivesLine result (reading.function_in (placed tokens.now)) }
+{
+    let [first, rest @ ..] = tokens else {
+        return Err(ParseFault::Syntax);
+    };
+    match &first.kind {
+        Kind::Name(name) => function_named(alloc, name, rest),
+        _ => Err(ParseFault::Syntax),
+    }
+}

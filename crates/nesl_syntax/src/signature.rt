@@ -1,0 +1,197 @@
+// A function's signature: its types, and the classes of names in them.
+
+ghost use Rattle.std.specs.Prelude.{◌≡◌, ◌≢◌, ◌≤◌, ◌<◌, IfSome, IfNone};
+ghost use Rattle.nesl_syntax.specs.declared.tree.Class as class;
+ghost use Rattle.nesl_syntax.specs.Lines.{class_text};
+ghost use Rattle.nesl_syntax.specs.declared.signature.SignaturePart.TheVariants as signatures;
+ghost use Rattle.nesl_syntax.specs.Trees.{TypeTree};
+ghost use Rattle.nesl_syntax.specs.Views.{member_tree};
+ghost use Rattle.nesl_syntax.specs.Parts.{SeesType};
+ghost use Rattle.nesl_syntax.specs.Reading as reading;
+ghost use Rattle.nesl_syntax.specs.Given.{Given, SeesMember, SeesMembers, SeesTarget, SeesSignature};
+ghost use Rattle.nesl_lex.specs.Tokens.{lexeme_of, placed};
+
+use crate::cut::{Divider, cut};
+use crate::fault::ParseFault;
+use crate::parse::written_type;
+use crate::tree::{Class, Member, Signature};
+use crate::types::TypePart;
+use nesl_lex::token::{Kind, Sign, Token, Word};
+use std::alloc::Global;
+
+/// A signature, or one with a type that is too high.
+#[derive(Debug, Drop)]
+pub enum SignaturePart {
+    Built(Signature),
+    High,
+}
+
+/// What stands behind a signature's `->`.
+#[derive(Debug, Drop)]
+pub struct Target {
+    pub to: TypePart,
+    pub members: Vec<Member>,
+}
+
+// The class of this name.
+fn class_named(name: &[u8]) -> Option<Class>
+    ensures some { IfSome result (λ k. name.now ≡ class_text k) }
+    ensures none { IfNone result ((k : class.Class) → name.now ≢ class_text k) }
+{
+    match name {
+        b"any" => Some(Class::Any),
+        b"ordinal" => Some(Class::Ordinal),
+        b"number" => Some(Class::Number),
+        b"logical" => Some(Class::Logical),
+        _ => None,
+    }
+}
+
+fn class_of(name: &[u8]) -> Option<Class>
+    ensures { result ≡ reading.class_of name.now }
+{
+    class_named(name)
+}
+
+// The member of a name's token and a class's.
+fn member_named(name: &Token, class: &Token) -> Result<Member, ParseFault>
+    ensures { Given SeesMember result (reading.member_named (lexeme_of name.now.kind) (lexeme_of class.now.kind)) }
+{
+    match &name.kind {
+        Kind::Name(name) => match &class.kind {
+            Kind::Name(class) => match class_of(class.as_slice()) {
+                Some(class) => {
+                    let name = name.clone()?;
+                    Ok(Member { name, class })
+                }
+                None => Err(ParseFault::Syntax),
+            },
+            _ => Err(ParseFault::Syntax),
+        },
+        _ => Err(ParseFault::Syntax),
+    }
+}
+
+// A name, `in` and a class.
+fn member(name: &Token, word: &Token, class: &Token) -> Result<Member, ParseFault>
+    ensures { Given SeesMember result (reading.member_of (lexeme_of name.now.kind) (lexeme_of word.now.kind) (lexeme_of class.now.kind)) }
+{
+    match &word.kind {
+        Kind::Reserved(word) => match word {
+            Word::In => member_named(name, class),
+            _ => Err(ParseFault::Syntax),
+        },
+        _ => Err(ParseFault::Syntax),
+    }
+}
+
+/// What stands behind a member.
+#[derive(Clone, Copy, PartialEq, Eq, Debug)]
+enum Behind {
+    /// A `)`, and nothing more.
+    Close,
+    Semicolon,
+    Other,
+}
+
+// What a token and those behind it are.
+fn behind_of(token: &Token, rest: &[Token]) -> Behind
+    ensures { result ≡ reading.behind_of (lexeme_of token.now.kind) (placed rest.now) }
+{
+    match &token.kind {
+        Kind::Symbol(sign) => match sign {
+            Sign::CloseParenthesis => match rest {
+                [] => Behind::Close,
+                _ => Behind::Other,
+            },
+            Sign::Semicolon => Behind::Semicolon,
+            _ => Behind::Other,
+        },
+        _ => Behind::Other,
+    }
+}
+
+// Members with `;` between, and a `)` behind them.
+fn members(alloc: Global, tokens: &[Token]) -> Result<Vec<Member>, ParseFault>
+    ensures { Given (λ v. SeesMembers v.items) result (reading.members_in (placed tokens.now)) }
+{
+    let mut members = Vec::new(alloc);
+    let mut rest = tokens;
+    while let [name, word, class, sign, behind @ ..] = rest {
+        members.push(member(name, word, class)?)?;
+        match behind_of(sign, behind) {
+            Behind::Semicolon => rest = behind,
+            Behind::Close => return Ok(members),
+            Behind::Other => return Err(ParseFault::Syntax),
+        }
+    }
+    Err(ParseFault::Syntax)
+}
+
+// Members in parentheses.
+fn bracketed(alloc: Global, tokens: &[Token]) -> Result<Vec<Member>, ParseFault>
+    ensures { Given (λ v. SeesMembers v.items) result (reading.bracketed_in (placed tokens.now)) }
+{
+    let [first, rest @ ..] = tokens else {
+        return Err(ParseFault::Syntax);
+    };
+    match &first.kind {
+        Kind::Symbol(sign) => match sign {
+            Sign::OpenParenthesis => members(alloc, rest),
+            _ => Err(ParseFault::Syntax),
+        },
+        _ => Err(ParseFault::Syntax),
+    }
+}
+
+// A type, and the members behind a `::`, if there is one.
+fn read_target(alloc: Global, tokens: &[Token]) -> Result<Target, ParseFault>
+    ensures { Given SeesTarget result (reading.target_in (placed tokens.now)) }
+{
+    match cut(Divider::DoubleColon, tokens) {
+        None => {
+            let to = written_type(alloc, tokens)?;
+            let members = Vec::new(alloc);
+            Ok(Target { to, members })
+        }
+        Some((front, behind)) => {
+            let to = written_type(alloc, front)?;
+            let members = bracketed(alloc, behind)?;
+            Ok(Target { to, members })
+        }
+    }
+}
+
+// Drops the parts of what is too high.
+fn too_high<T: Drop>(parts: T) -> SignaturePart
+    ensures { result ≡ signatures.High }
+{
+    drop(parts);
+    SignaturePart::High
+}
+
+// The signature of its parts.
+fn signature_of(from: TypePart, target: Target) -> SignaturePart
+    ensures { (a : TypeTree) (r : reading.Targets) → SeesType from a → SeesTarget target r → SeesSignature result (reading.signature_of a r) }
+{
+    let Target { to, members } = target;
+    match from {
+        TypePart::Built(from, _) => match to {
+            TypePart::Built(to, _) => SignaturePart::Built(Signature { from, to, members }),
+            TypePart::High => too_high((from, members)),
+        },
+        TypePart::High => too_high((to, members)),
+    }
+}
+
+/// The signature that the tokens are.
+pub fn signature(alloc: Global, tokens: &[Token]) -> Result<SignaturePart, ParseFault>
+    ensures { Given SeesSignature result (reading.signature_in (placed tokens.now)) }
+{
+    let Some((front, behind)) = cut(Divider::RightArrow, tokens) else {
+        return Err(ParseFault::Syntax);
+    };
+    let from = written_type(alloc, front)?;
+    let target = read_target(alloc, behind)?;
+    Ok(signature_of(from, target))
+}
