@@ -17,6 +17,7 @@ mod seq_fn;
 #[cfg(test)]
 mod tests;
 
+pub use equal::tells_equality;
 pub use functions::{apply, cost_and_size, price_within};
 pub use price::Price;
 pub use seq_fn::SeqFn;
