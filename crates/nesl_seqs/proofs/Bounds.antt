@@ -4,7 +4,7 @@ use Rattle.nesl_scalars.specs.declared.trap.Trap.{Trap}
 use Rattle.nesl_values.specs.Tree.{Tree, Trees, int, boolean, character, pair, seq, tagged, no_trees, tree_then, trees_of, sequence, size, sizes}
 use Rattle.nesl_values.specs.Parts.{list_of, as_sequence}
 use Rattle.nesl_values.proofs.Trees.{size_positive}
-use Rattle.nesl_seqs.specs.Outcome.{Outcome, gives, traps, undefined, given, number, fits_int, IsGiven}
+use Rattle.nesl_seqs.specs.Outcome.{Outcome, gives, traps, undefined, given, number, fits, IsGiven}
 use Rattle.nesl_seqs.specs.Arguments.{sequence_and_int, two_sequences, numbers, truths}
 use Rattle.nesl_seqs.specs.Pieces.{element_at, joined, halves, taken, dropped, reversed, rotated, places_on, replaced}
 use Rattle.nesl_seqs.specs.Pairs.{pairs, zipped}
@@ -74,7 +74,7 @@ fits_rotated ts z h l =
 
 -- a leaf that is given
 fits_number : (z : ℤ) (n : ℕ) → n < 2 ^ 65 → Fits (number z) n
-fits_number z n h = fits_if (fits_int z) (int z) _ n (omega arith)
+fits_number z n h = fits_if (fits z) (int z) _ n (omega arith)
 
 by_two_sequences : (t : Tree) (g : List Tree → List Tree → Outcome) → size t < 2 ^ 65 → ((ts us : List Tree) → sizes (trees_of ts) + sizes (trees_of us) < 2 ^ 65 → length ts + length us < 2 ^ 65 → Fits (g ts us) (length ts + length us))
     → Fits (given (two_sequences t) (λ p. g p.0 p.1)) (unwrap_or (option_map (λ p. length p.0 + length p.1) (two_sequences t)) 0)
