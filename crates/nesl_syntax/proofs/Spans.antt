@@ -1,5 +1,5 @@
 -- Spans lie in order within the line.
-use Rattle.std.proofs.Common.{◌≡◌, ℕ, ◌≤◌, List, [], ◌∷◌, ◌++◌, Option, Some, None, refl, ap, sym, subst, ◌∙◌, arith}
+use Rattle.std.proofs.Common.{◌≡◌, ℕ, ◌≤◌, List, [], ◌∷◌, ◌++◌, Option, Some, refl, ap, sym, subst, arith}
 use Rattle.nesl_lex.specs.Tokens.{Placed, Lexeme}
 use Rattle.nesl_lex.specs.declared.token.Span.{Span}
 use Rattle.nesl_lex.specs.declared.token.Word.TheVariants as word

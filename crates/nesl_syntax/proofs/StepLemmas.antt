@@ -19,7 +19,6 @@ use Rattle.nesl_syntax.specs.Turns.{SeesTurn, Turns}
 use Rattle.nesl_syntax.specs.declared.types.TypePart.{TypePart}
 use Rattle.nesl_syntax.specs.Trees.{Tree, TypeTree, widened_type}
 use Rattle.nesl_syntax.specs.Grammar.{over}
-use Rattle.nesl_syntax.specs.Trees as trees
 use Rattle.nesl_syntax.specs.Machine as machine
 use Rattle.nesl_syntax.specs.Parts.{Sees, SeesType}
 use Rattle.nesl_syntax.specs.Stack.{SeesOpening, SeesTypeOpening, SeesPending, SeesEach, SeesStack}

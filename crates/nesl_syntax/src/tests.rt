@@ -90,8 +90,8 @@ fn atoms_pairs_and_calls(rt: HostRuntime) -> Result<(), AllocError> {
 }
 
 #[test]
-fn operators_by_level(rt: HostRuntime) -> Result<(), AllocError> {
-    let rows: [(&[u8], &str); 13] = [
+fn arithmetic_by_level(rt: HostRuntime) -> Result<(), AllocError> {
+    let rows: [(&[u8], &str); 8] = [
         (
             b"1 - (2 - 3);",
             "Eval(0..11 Infix(Minus, 0..1 Number(1), 4..11 Infix(Minus, 5..6 Number(2), 9..10 Number(3))))",
@@ -103,26 +103,6 @@ fn operators_by_level(rt: HostRuntime) -> Result<(), AllocError> {
         (
             b"a * b + c;",
             "Eval(0..9 Infix(Plus, 0..5 Infix(Times, 0..1 Variable([97]), 4..5 Variable([98])), 8..9 Variable([99])))",
-        ),
-        (
-            b"a < b < c;",
-            "Eval(0..9 Infix(Less, 0..5 Infix(Less, 0..1 Variable([97]), 4..5 Variable([98])), 8..9 Variable([99])))",
-        ),
-        (
-            b"a or b nor c xor d;",
-            "Eval(0..18 Infix(Xor, 0..12 Infix(Nor, 0..6 Infix(Or, 0..1 Variable([97]), 5..6 Variable([98])), 11..12 Variable([99])), 17..18 Variable([100])))",
-        ),
-        (
-            b"a and b or c nand d;",
-            "Eval(0..19 Infix(Or, 0..7 Infix(And, 0..1 Variable([97]), 6..7 Variable([98])), 11..19 Infix(Nand, 11..12 Variable([99]), 18..19 Variable([100]))))",
-        ),
-        (
-            b"a == b /= c >= d;",
-            "Eval(0..16 Infix(GreaterOrEqual, 0..11 Infix(NotEqual, 0..6 Infix(Equal, 0..1 Variable([97]), 5..6 Variable([98])), 10..11 Variable([99])), 15..16 Variable([100])))",
-        ),
-        (
-            b"a <= b > c;",
-            "Eval(0..10 Infix(Greater, 0..6 Infix(LessOrEqual, 0..1 Variable([97]), 5..6 Variable([98])), 9..10 Variable([99])))",
         ),
         (
             b"a ++ b - c;",
@@ -143,6 +123,37 @@ fn operators_by_level(rt: HostRuntime) -> Result<(), AllocError> {
         (
             b"- #v;",
             "Eval(0..4 Prefix(Negate, 2..4 Prefix(Length, 3..4 Variable([118]))))",
+        ),
+    ];
+    for (line, want) in rows {
+        let text = shown(rt.alloc(), line)?;
+        assert_eq!(rt; text.as_str(), want);
+    }
+    Ok(())
+}
+
+#[test]
+fn logic_and_comparisons_by_level(rt: HostRuntime) -> Result<(), AllocError> {
+    let rows: [(&[u8], &str); 5] = [
+        (
+            b"a < b < c;",
+            "Eval(0..9 Infix(Less, 0..5 Infix(Less, 0..1 Variable([97]), 4..5 Variable([98])), 8..9 Variable([99])))",
+        ),
+        (
+            b"a or b nor c xor d;",
+            "Eval(0..18 Infix(Xor, 0..12 Infix(Nor, 0..6 Infix(Or, 0..1 Variable([97]), 5..6 Variable([98])), 11..12 Variable([99])), 17..18 Variable([100])))",
+        ),
+        (
+            b"a and b or c nand d;",
+            "Eval(0..19 Infix(Or, 0..7 Infix(And, 0..1 Variable([97]), 6..7 Variable([98])), 11..19 Infix(Nand, 11..12 Variable([99]), 18..19 Variable([100]))))",
+        ),
+        (
+            b"a == b /= c >= d;",
+            "Eval(0..16 Infix(GreaterOrEqual, 0..11 Infix(NotEqual, 0..6 Infix(Equal, 0..1 Variable([97]), 5..6 Variable([98])), 10..11 Variable([99])), 15..16 Variable([100])))",
+        ),
+        (
+            b"a <= b > c;",
+            "Eval(0..10 Infix(Greater, 0..6 Infix(LessOrEqual, 0..1 Variable([97]), 5..6 Variable([98])), 9..10 Variable([99])))",
         ),
     ];
     for (line, want) in rows {
