@@ -2,7 +2,7 @@
 use Rattle.std.specs.Prelude.{ℕ, List, ◌++◌, Bool, true, false, Option, Some, codes, decimal}
 use Rattle.nesl_session.specs.declared.fault.Fault.{Fault}
 use Rattle.nesl_session.specs.declared.fault.Fault.TheVariants.{Memory, User}
-use Rattle.nesl_session.specs.declared.formula.Span.{Span}
+use Rattle.nesl_lex.specs.declared.token.Span.{Span}
 use Rattle.nesl_session.specs.Faults.{name_of}
 
 -- the bytes with their line end, the fault if it is one, and whether the line was recorded
@@ -17,6 +17,10 @@ work_text work = codes " (work " ++ (decimal work ++ codes ")\n")
 
 abbrev pub fault_text : Fault → ℕ → List ℕ
 fault_text fault work = codes "fault " ++ (name_of fault ++ work_text work)
+
+-- a fault of one byte
+abbrev pub fault_place_text : Fault → ℕ → List ℕ
+fault_place_text fault at = codes "fault " ++ (name_of fault ++ (codes " at " ++ (decimal at ++ work_text 0)))
 
 -- a fault of a node, with the bytes that the node stands on
 abbrev pub fault_at_text : Fault → Span → ℕ → List ℕ

@@ -1,12 +1,12 @@
 //! What is told of a line.
 ghost use Rattle.std.specs.Prelude.{◌≡◌, ◌++◌, ◌∷◌, [], ℕ, Some, None, IfOk, OnOk, codes, decimal, true, false};
-ghost use Rattle.nesl_session.specs.Reply.{Reply, costs_text, fault_at_text, fault_text, it_text, work_text, no_memory, no_user};
+ghost use Rattle.nesl_session.specs.Reply.{Reply, costs_text, fault_at_text, fault_place_text, fault_text, it_text, work_text, no_memory, no_user};
 ghost use Rattle.nesl_session.specs.Step.{told};
 
 use crate::fault::Fault;
 use crate::finding::Finding;
-use crate::formula::Span;
 use itoa::Buffer;
+use nesl_lex::token::Span;
 use std::alloc::{AllocError, Global};
 use std::marker::Model;
 
@@ -93,9 +93,17 @@ impl Answer {
                 Some(Fault::Transcript),
             ),
             Finding::TooLong => (fault_text(alloc, Fault::Long, 0)?, Some(Fault::Long)),
+            Finding::Stuck(at) => (
+                fault_place_text(alloc, Fault::Lexical, at)?,
+                Some(Fault::Lexical),
+            ),
             Finding::Blank => (Vec::from_slice(alloc, b"ok\n")?, None),
-            Finding::NoFormula => (fault_text(alloc, Fault::Syntax, 0)?, Some(Fault::Syntax)),
+            Finding::NoForm => (fault_text(alloc, Fault::Syntax, 0)?, Some(Fault::Syntax)),
             Finding::TooHigh => (fault_text(alloc, Fault::Nested, 0)?, Some(Fault::Nested)),
+            Finding::IllTyped => (
+                fault_text(alloc, Fault::IllTyped, 0)?,
+                Some(Fault::IllTyped),
+            ),
             Finding::Overflow(span, work) => (
                 fault_at_text(alloc, Fault::Overflow, span, work)?,
                 Some(Fault::Overflow),
@@ -124,6 +132,18 @@ fn fault_text(alloc: Global, fault: Fault, work: u64) -> Result<Vec<u8>, AllocEr
     let mut text = Vec::from_slice(alloc, b"fault ")?;
     text.extend_from_slice(fault.name().as_bytes())?;
     push_work(&mut text, work)?;
+    Ok(text)
+}
+
+// A fault of one byte.
+fn fault_place_text(alloc: Global, fault: Fault, at: usize) -> Result<Vec<u8>, AllocError>
+    ensures { IfOk result (λ text. text.items ≡ fault_place_text fault at) }
+{
+    let mut text = Vec::from_slice(alloc, b"fault ")?;
+    text.extend_from_slice(fault.name().as_bytes())?;
+    text.extend_from_slice(b" at ")?;
+    push_number(&mut text, at as u64)?;
+    push_work(&mut text, 0)?;
     Ok(text)
 }
 
