@@ -2,7 +2,6 @@ pub mod Formulas
 pub mod Outcomes
 pub mod Reading
 pub mod Seen
-pub mod Faults
 pub mod Reply
 pub mod State
 pub mod Step

@@ -4,7 +4,7 @@ use Rattle.std.specs.Str.{bytes_eq}
 use Rattle.std.specs.Bool.{MatchBool}
 use Rattle.nesl_values.specs.Tree as values
 use Rattle.nesl_session.specs.declared.limits.Limits.{Limits}
-use Rattle.nesl_session.specs.declared.fault.Fault.TheVariants as faults
+use Rattle.nesl_reply.specs.declared.fault.Fault.TheVariants as faults
 use Rattle.nesl_session.specs.declared.finding.Finding.{Finding}
 use Rattle.nesl_session.specs.declared.finding.Finding.TheVariants.{Full, TooLong, Stuck, Blank, NoForm, TooHigh, IllTyped, Overflow, OverBudget, TooMany, Bound}
 use Rattle.nesl_session.specs.declared.evaluation.Outcome.{Outcome}
@@ -14,7 +14,7 @@ use Rattle.nesl_session.specs.Reading.{Meaning, Means, stuck, no_form, too_high,
 use Rattle.nesl_session.specs.Formulas.{Tree, formula_of}
 use Rattle.nesl_session.specs.Outcomes.{out, within}
 use Rattle.nesl_session.specs.State.{State, Binding, elements_of}
-use Rattle.nesl_session.specs.Reply.{Reply, fault_text, fault_place_text, fault_at_text, it_text}
+use Rattle.nesl_session.specs.Reply.{Reply, refused, given, it_text}
 
 -- the transcript has no room for the line
 abbrev pub is_full : Limits → State → List ℕ → Bool
@@ -93,17 +93,17 @@ after line s (Bound value work depth) = stored line (charged work (record s { bi
 
 -- what is told of this
 abbrev pub told : Finding → Reply
-told Full = record { bytes = fault_text faults.Transcript 0; fault = Some faults.Transcript; recorded = false }
-told TooLong = record { bytes = fault_text faults.Long 0; fault = Some faults.Long; recorded = false }
-told (Stuck at) = record { bytes = fault_place_text faults.Lexical at; fault = Some faults.Lexical; recorded = true }
-told Blank = record { bytes = codes "ok\n"; fault = None; recorded = true }
-told NoForm = record { bytes = fault_text faults.Syntax 0; fault = Some faults.Syntax; recorded = true }
-told TooHigh = record { bytes = fault_text faults.Nested 0; fault = Some faults.Nested; recorded = true }
-told IllTyped = record { bytes = fault_text faults.IllTyped 0; fault = Some faults.IllTyped; recorded = true }
-told (Overflow span work) = record { bytes = fault_at_text faults.Overflow span work; fault = Some faults.Overflow; recorded = true }
-told (OverBudget work) = record { bytes = fault_text faults.Work work; fault = Some faults.Work; recorded = true }
-told (TooMany work) = record { bytes = fault_text faults.Elements work; fault = Some faults.Elements; recorded = true }
-told (Bound value work depth) = record { bytes = it_text value work depth; fault = None; recorded = true }
+told Full = refused faults.Transcript false
+told TooLong = refused faults.Long false
+told (Stuck at) = refused (faults.Lexical at) true
+told Blank = given (codes "ok")
+told NoForm = refused faults.Syntax true
+told TooHigh = refused faults.Nested true
+told IllTyped = refused faults.IllTyped true
+told (Overflow span work) = refused (faults.Overflow (record { span = span; work = work })) true
+told (OverBudget work) = refused (faults.Work work) true
+told (TooMany work) = refused (faults.Elements work) true
+told (Bound value work depth) = given (it_text value (record { work = work; depth = depth }))
 
 -- In the state `s` the line is answered by the reply, and leaves the state `s'`.
 unfoldable pub Step : Limits → State → List ℕ → Reply → State → Type 0

@@ -1,6 +1,6 @@
 //! What holds of the step, whoever calls it.
 ghost use Rattle.nesl_session.specs.Laws.{GoesOn, OneRun, OneStep};
-ghost use Rattle.nesl_session.specs.Worked.{high_tree, no_formula, no_room_for_a_line, no_room_for_an_element, no_token, no_tokens, no_tree, over_the_work_of_a_line, overflow_where_it_stands, product_before_sum};
+ghost use Rattle.nesl_session.specs.Worked.{comment, high_tree, no_formula, no_room_for_a_line, no_room_for_an_element, no_token, no_tree, over_the_work_of_a_line, overflow_where_it_stands, product_before_sum};
 
 use nesl_lex::one_reading;
 use nesl_syntax::one_form;
@@ -29,14 +29,14 @@ pub fn goes_on()
     one_form();
 }
 
-/// Lines of a fresh session, worked by hand: the definition of a step gives these replies, and leaves this work.
+/// Lines of a fresh session, worked by hand from what they mean: the definition of a step gives these replies, and leaves this work.
 pub fn worked_lines()
     ensures value { product_before_sum }
     ensures overflow { overflow_where_it_stands }
     ensures lexical { no_token }
     ensures syntax { no_tree }
     ensures nested { high_tree }
-    ensures nothing { no_tokens }
+    ensures comment { comment }
     ensures ill_typed { no_formula }
     ensures work { over_the_work_of_a_line }
     ensures elements { no_room_for_an_element }

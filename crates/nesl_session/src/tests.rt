@@ -1,8 +1,9 @@
 //! Sessions spoken to. The replies are worked by hand from the rules, and were compared with another program's.
 use crate::answer::Answer;
-use crate::fault::Fault;
 use crate::limits::{Limits, Remaining};
 use crate::session::Session;
+use crate::{Fault, Stop};
+use nesl_lex::token::Span;
 use std::alloc::{AllocError, Global};
 use std::test::Fail;
 
@@ -237,7 +238,17 @@ fn fixed_answers(rt: HostRuntime) {
     assert!(rt; Answer::no_memory().bytes() == b"fault memory (work 0)\n".as_slice());
     assert!(rt; Answer::no_memory().fault() == Some(Fault::Memory));
     assert!(rt; Answer::no_user().bytes() == b"fault user\n".as_slice());
-    assert_eq!(rt; Fault::Long.number(), 1);
-    assert_eq!(rt; Fault::Busy.number(), 26);
-    assert!(rt; Fault::IllTyped.name() == "type");
+    assert!(rt; Answer::no_user().fault() == Some(Fault::User));
+}
+
+#[test]
+fn faults_tell_where_and_how_much(rt: HostRuntime) -> Result<(), Fail> {
+    let alloc = rt.alloc();
+    let mut session = Session::new(alloc, LIMITS)?;
+    let lexical = session.line(alloc, b"1 @ 2;");
+    assert!(rt; lexical.fault() == Some(Fault::Lexical(2)));
+    let overflow = session.line(alloc, b"9223372036854775807 + 1;");
+    let span = Span { start: 0, end: 23 };
+    assert!(rt; overflow.fault() == Some(Fault::Overflow(Stop { span, work: 3 })));
+    Ok(())
 }
