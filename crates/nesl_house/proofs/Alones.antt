@@ -10,8 +10,9 @@ use Rattle.std.proofs.lemmas.Slice.Eq.{bytes_eq-Decides}
 use Rattle.nesl_session.specs.State.{State, Log}
 use Rattle.nesl_session.specs.Reply.{Reply, no_memory, no_user, is_memory}
 use Rattle.nesl_session.specs.Solo.{Replays, Alone, Answers}
-use Rattle.nesl_session.proofs.Runs.{alone_none, alone_then, alone_unique}
+use Rattle.nesl_session.specs.Laws.{GoesOn, OneRun}
 use Rattle.nesl_house.specs.Script.{Event, lines_of, replies_of, own, kept}
+use Rattle.nesl_house.specs.Laws.{ScriptsFollow}
 use Rattle.nesl_house.specs.Runs.{Seat, roster_of, session_of, AllReplay, RunsAlone, IsTold, Runs}
 
 -- a session that is found is a replay
@@ -22,6 +23,10 @@ found_here false seat rest log here there e = there e
 pub session_replays : (seats : List Seat) (user : List ℕ) (log : Log) → AllReplay seats → session_of seats user ≡ Some log → (s : State) × Replays log s
 session_replays [] user log all e = absurd (cc)
 session_replays (seat ∷ seats) user log all e = found_here (bytes_eq seat.name user) seat (session_of seats user) log all.0 (session_replays seats user log all.1) e
+
+-- a session that is told nothing stays as it is
+alone_none : (log : Log) (s : State) → Replays log s → Alone log [] [] log
+alone_none log s r = record { before = s; after = s; starts = r; run = refl; ends = r; limits = refl }
 
 -- told nothing, a user's session stays
 pub alone_silent : (o : Option Log) → ((log : Log) → o ≡ Some log → (s : State) × Replays log s) → RunsAlone o [] o
@@ -36,12 +41,12 @@ all_append P Q f [] [] a b = tt
 all_append P Q f [] (y ∷ ys) a b = (f y b.0, all_append P Q f [] ys tt b.1)
 all_append P Q f (x ∷ xs) ys a b = (a.0, all_append P Q f xs ys a.1 b)
 
-alone_next : (o mid new : Option Log) (es fs : List Event) → RunsAlone o es mid → RunsAlone mid fs new → RunsAlone o (es ++ fs) new
-alone_next None mid new es fs a b = let P : Option Log → Type 0 = λ x. RunsAlone x fs new in subst P a b
-alone_next (Some old) mid new es fs a b =
+alone_next : GoesOn → (o mid new : Option Log) (es fs : List Event) → RunsAlone o es mid → RunsAlone mid fs new → RunsAlone o (es ++ fs) new
+alone_next goes_on None mid new es fs a b = let P : Option Log → Type 0 = λ x. RunsAlone x fs new in subst P a b
+alone_next goes_on (Some old) mid new es fs a b =
     let P : Option Log → Type 0 = λ x. RunsAlone x fs new in
     let c = subst P a.1 b in
-    let one = alone_then old a.0 c.0 (lines_of es) (lines_of fs) (replies_of es) (replies_of fs) a.2 c.2 in
+    let one = goes_on old a.0 c.0 (lines_of es) (lines_of fs) (replies_of es) (replies_of fs) a.2 c.2 in
     let Q : List (List ℕ) → Type 0 = λ x. Alone old x (replies_of es ++ replies_of fs) c.0 in
     let R : List Reply → Type 0 = λ x. Alone old (lines_of (es ++ fs)) x c.0 in
     (c.0, c.1, subst R (sym (map-append (λ (e : Event). e.reply) es fs)) (subst Q (sym (map-append (λ (e : Event). e.line) es fs)) one))
@@ -54,31 +59,31 @@ pub kept-append : (user : List ℕ) (es fs : List Event) → kept user (es ++ fs
 kept-append user es fs = ap (filter (λ (e : Event). not (is_memory e.reply))) (filter-append (λ (e : Event). bytes_eq e.user user) es fs) ∙ filter-append (λ (e : Event). not (is_memory e.reply)) (own user es) (own user fs)
 
 -- one script after another
-pub runs_then : (a b c : List Seat) (es fs : List Event) → Runs a es b → Runs b fs c → Runs a (es ++ fs) c
-runs_then a b c es fs p q = record {
+pub runs_then : GoesOn → ScriptsFollow
+runs_then goes_on a b c es fs p q = record {
   roster = q.roster ∙ p.roster;
   told = all_append (IsTold a) (IsTold b) (λ e t. record { stranger = λ none. t.stranger (stays_none (session_of a e.user) (session_of b e.user) (kept e.user es) (p.users e.user) none); memory = t.memory }) es fs p.told q.told;
   users = λ user.
       let P : List Event → Type 0 = λ x. RunsAlone (session_of a user) x (session_of c user) in
-      subst P (sym (kept-append user es fs)) (alone_next (session_of a user) (session_of b user) (session_of c user) (kept user es) (kept user fs) (p.users user) (q.users user));
+      subst P (sym (kept-append user es fs)) (alone_next goes_on (session_of a user) (session_of b user) (session_of c user) (kept user es) (kept user fs) (p.users user) (q.users user));
 }
 
 -- a user's own lines decide
-pub alone_decided : (one two : Option Log) (session : Log) (es fs : List Event) (after_one after_two : Option Log) → RunsAlone one es after_one → RunsAlone two fs after_two → one ≡ Some session → two ≡ Some session → lines_of es ≡ lines_of fs
+pub alone_decided : OneRun → (one two : Option Log) (session : Log) (es fs : List Event) (after_one after_two : Option Log) → RunsAlone one es after_one → RunsAlone two fs after_two → one ≡ Some session → two ≡ Some session → lines_of es ≡ lines_of fs
     → (replies_of es ≡ replies_of fs) × (after_one ≡ after_two)
-alone_decided one two session es fs after_one after_two p q e f same =
+alone_decided one_run one two session es fs after_one after_two p q e f same =
     let P : Option Log → Type 0 = λ x. RunsAlone x es after_one in
     let Q : Option Log → Type 0 = λ x. RunsAlone x fs after_two in
     let a = subst P e p in
     let b = subst Q f q in
     let R : List (List ℕ) → Type 0 = λ x. Alone session x (replies_of fs) b.0 in
-    let u = alone_unique session a.0 b.0 (lines_of es) (replies_of es) (replies_of fs) a.2 (subst R (sym same) b.2) in
+    let u = one_run session a.0 b.0 (lines_of es) (replies_of es) (replies_of fs) a.2 (subst R (sym same) b.2) in
     (u.0, a.1 ∙ ap (λ (x : Log). Some x) u.1 ∙ sym b.1)
 
-pub own_lines : (one two after_one after_two : List Seat) (said_one said_two : List Event) (user : List ℕ) → Runs one said_one after_one → Runs two said_two after_two → (session : Log) → session_of one user ≡ Some session → session_of two user ≡ Some session
+pub own_lines : OneRun → (one two after_one after_two : List Seat) (said_one said_two : List Event) (user : List ℕ) → Runs one said_one after_one → Runs two said_two after_two → (session : Log) → session_of one user ≡ Some session → session_of two user ≡ Some session
     → lines_of (kept user said_one) ≡ lines_of (kept user said_two) → (replies_of (kept user said_one) ≡ replies_of (kept user said_two)) × (session_of after_one user ≡ session_of after_two user)
-own_lines one two after_one after_two said_one said_two user p q session e f same =
-    alone_decided (session_of one user) (session_of two user) session (kept user said_one) (kept user said_two) (session_of after_one user) (session_of after_two user) (p.users user) (q.users user) e f same
+own_lines one_run one two after_one after_two said_one said_two user p q session e f same =
+    alone_decided one_run (session_of one user) (session_of two user) session (kept user said_one) (kept user said_two) (session_of after_one user) (session_of after_two user) (p.users user) (q.users user) e f same
 
 -- One line, of which a session gave the answer: to its user it is a run of one line or of none, and to the others of none.
 one_kept : (memory : Bool) (e : Event) (old new : Log) → is_memory e.reply ≡ memory → (s : State) × Replays old s → MatchBool memory ((e.reply ≡ no_memory) × (new ≡ old)) (Alone old (e.line ∷ []) (e.reply ∷ []) new)

@@ -14,7 +14,8 @@ use Rattle.nesl_house.specs.Script.{Event}
 use Rattle.nesl_session.specs.State.{State, Log}
 use Rattle.nesl_session.specs.Solo.{Replays, Alone, Answers}
 use Rattle.nesl_house.specs.Runs.{Seat, roster_of, session_of, AllReplay, Runs}
-use Rattle.nesl_house.proofs.Alones.{session_replays, runs_one, runs_then, runs_stranger}
+use Rattle.nesl_house.specs.Laws.{ScriptsFollow}
+use Rattle.nesl_house.proofs.Alones.{session_replays, runs_one, runs_stranger}
 use Rattle.nesl_house.specs.Said.{events_of}
 
 -- the user has no seat before the place k, and one there
@@ -119,13 +120,13 @@ pub session_missed : (house : List Seat) (users xs : List Seat) (user : List ℕ
 session_missed house users xs user h e x = sym (no_session users user (ap (position (λ u. bytes_eq u.name user)) (sym x) ∙ sym e)) ∙ ap (λ s. session_of s user) h
 
 -- one line more of a script that is run
-pub run_more : (start now next : List Seat) (script : List Said) (i : ℕ) (said : Said) (replies replies' : List Reply) (reply : Reply) (user line : List ℕ) → Runs start (events_of (take i script) replies) now
+pub run_more : ScriptsFollow → (start now next : List Seat) (script : List Said) (i : ℕ) (said : Said) (replies replies' : List Reply) (reply : Reply) (user line : List ℕ) → Runs start (events_of (take i script) replies) now
     → Runs now (record { user = user; line = line; reply = reply } ∷ []) next → i < length script → length replies ≡ i → said ≡ get_or script i said → user ≡ said.user.items → line ≡ said.text.items → replies' ≡ replies ++ reply ∷ []
     → Runs start (events_of (take (i + 1) script) replies') next
-run_more start now next script i said replies replies' reply user line p q h n s u l e =
+run_more follow start now next script i said replies replies' reply user line p q h n s u l e =
     let P : List Event → Type 0 = λ x. Runs start x next in
     let same : Event = record { user = user; line = line; reply = reply } in
     let there : Event = record { user = (get_or script i said).user.items; line = (get_or script i said).text.items; reply = reply } in
     let one : same ≡ there = λ k. record { user = (u ∙ ap (λ (x : Said). x.user.items) s) k; line = (l ∙ ap (λ (x : Said). x.text.items) s) k; reply = reply } in
     subst P (ap (λ x. events_of (take i script) replies ++ x ∷ []) one ∙ sym (events_push script i said replies reply h n) ∙ ap (events_of (take (i + 1) script)) (sym e))
-    (runs_then start now next (events_of (take i script) replies) (same ∷ []) p q)
+    (follow start now next (events_of (take i script) replies) (same ∷ []) p q)

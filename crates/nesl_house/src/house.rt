@@ -4,6 +4,7 @@ ghost use Rattle.std.specs.Str.{bytes_eq};
 ghost use Rattle.nesl_house.specs.Runs.{session_of, Runs, AllReplay};
 ghost use Rattle.nesl_house.specs.Roster.{IsRoster, IsRefused, opened};
 
+use crate::laws::scripts_follow;
 use crate::roster::{NewFault, check};
 use crate::user::User;
 use nesl_session::answer::Answer;
@@ -99,6 +100,7 @@ impl House {
         ensures runs { IfOk result (λ answers. Runs self.old (events_of script.now answers.items) self.new) }
         ensures err { OnErr result (self.new ≡ self.old) }
     {
+        scripts_follow();
         let _ = &self.users;
         let mut answers = Vec::with_capacity(alloc, script.len())?;
         for said in script {

@@ -1,7 +1,7 @@
 //! A house spoken to, in a few lines.
 use crate::house::{House, Said};
 use crate::roster::{NewFault, is_user_name};
-use nesl_session::fault::Fault;
+use nesl_session::Fault;
 use nesl_session::limits::Limits;
 use std::alloc::{AllocError, Global};
 use std::test::Fail;

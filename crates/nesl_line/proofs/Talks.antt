@@ -12,8 +12,9 @@ use Rattle.std.specs.Io.KnownBytes.{Appends}
 use Rattle.nesl_session.specs.State.{Log}
 use Rattle.nesl_session.specs.Reply.{Reply, no_user}
 use Rattle.nesl_house.specs.Script.{Event, kept}
+use Rattle.nesl_house.specs.Laws.{ScriptsFollow}
 use Rattle.nesl_house.specs.Runs.{Seat, roster_of, session_of, Runs}
-use Rattle.nesl_house.proofs.Alones.{runs_then, stays_none, was_none}
+use Rattle.nesl_house.proofs.Alones.{stays_none, was_none}
 use Rattle.nesl_line.specs.Lines.{HasNoFeed, ended, handed, last_line, Splits}
 use Rattle.nesl_line.specs.Conversation.{IsUserLine, NamesNobody, Turn, selects, stranger, nobody, says, Conversation, silence, goes_on, Talked, text_of}
 use Rattle.nesl_line.specs.declared.line.Line.{Line}
@@ -69,9 +70,9 @@ answered_user house who items line name held held' well u n e s = record {
   sent = s;
 }
 
-pub answered_says : (house house' : List Seat) (items user line bytes : List ℕ) (reply : Reply) (held held' : Option (List ℕ)) (well : Bool) → NamesNobody line → 0 < length items → user ≡ items
+pub answered_says : ScriptsFollow → (house house' : List Seat) (items user line bytes : List ℕ) (reply : Reply) (held held' : Option (List ℕ)) (well : Bool) → NamesNobody line → 0 < length items → user ≡ items
     → Runs house (record { user = user; line = line; reply = reply } ∷ []) house' → bytes ≡ reply.bytes → Sent held held' bytes well → Answered house house' (chosen items) (chosen items) line held held' well
-answered_says house house' items user line bytes reply held held' well u h e r b s = record {
+answered_says follow house house' items user line bytes reply held held' well u h e r b s = record {
   text = reply.bytes;
   events = record { user = items; line = line; reply = reply } ∷ [];
   turn =
@@ -79,7 +80,7 @@ answered_says house house' items user line bytes reply held held' well u h e r b
       subst P (sym (chosen_some items h)) (says items reply u (chosen_some items h));
   runs = λ start before q.
       let P : List ℕ → Type 0 = λ x. Runs house (record { user = x; line = line; reply = reply } ∷ []) house' in
-      runs_then start house house' before (record { user = items; line = line; reply = reply } ∷ []) q (subst P e r);
+      follow start house house' before (record { user = items; line = line; reply = reply } ∷ []) q (subst P e r);
   sent = let P : List ℕ → Type 0 = λ x. Sent held held' x well in subst P b s;
 }
 

@@ -6,6 +6,7 @@ ghost use Rattle.nesl_line.specs.Steps.{Sent, Counted, chosen, NamesFit, Answere
 
 use crate::device::Sink;
 use nesl_house::house::House;
+use nesl_house::laws::scripts_follow;
 use std::alloc::Global;
 
 // The name in a user line.
@@ -84,6 +85,7 @@ pub fn answer<W: Sink>(
     if who.is_empty() {
         return say(writer, b"fault user\n");
     }
+    scripts_follow();
     let answer = house.say(alloc, who.as_slice(), line);
     say(writer, answer.bytes())
 }

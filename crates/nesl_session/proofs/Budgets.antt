@@ -1,7 +1,7 @@
 -- What a formula comes to under a budget, part by part.
 use Rattle.std.proofs.Common.{◌≡◌, ℕ, ◌+◌, ◌-◌, ◌≤◌, ◌<◌, Bool, true, false, Some, None, cond, ltb, refl, sym, subst, arith}
 use Rattle.std.proofs.lemmas.Bool.{ltb-true, ltb-false, lt-ltb, le-ltb}
-use Rattle.nesl_session.specs.declared.formula.Span.{Span}
+use Rattle.nesl_lex.specs.declared.token.Span.{Span}
 use Rattle.nesl_session.specs.declared.formula.Operator.{Operator}
 use Rattle.nesl_session.specs.declared.evaluation.Outcome.{Outcome}
 use Rattle.nesl_session.specs.declared.evaluation.Outcome.TheVariants.{Comes, Overflows}

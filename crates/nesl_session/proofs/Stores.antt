@@ -8,7 +8,7 @@ use Rattle.nesl_session.specs.Inside.{state_of, log_of, it_of, Keeps}
 use Rattle.nesl_session.specs.declared.limits.Limits.{Limits}
 use Rattle.nesl_values.specs.Tree as values
 use Rattle.nesl_session.specs.declared.finding.Finding.{Finding}
-use Rattle.nesl_session.specs.declared.finding.Finding.TheVariants.{Full, TooLong, Blank, NoFormula, TooHigh, Overflow, OverBudget, TooMany, Bound}
+use Rattle.nesl_session.specs.declared.finding.Finding.TheVariants.{Full, TooLong, Stuck, Blank, NoForm, TooHigh, IllTyped, Overflow, OverBudget, TooMany, Bound}
 use Rattle.nesl_session.specs.State.{State, Log}
 use Rattle.nesl_session.specs.Reply.{Reply, is_memory}
 use Rattle.nesl_session.specs.Step.{Step, Finds, told, after, bound}
@@ -20,9 +20,11 @@ use Rattle.nesl_session.proofs.Runs.{replays_more}
 pub told-memory : (f : Finding) → is_memory (told f) ≡ false
 told-memory Full = refl
 told-memory TooLong = refl
+told-memory (Stuck at) = refl
 told-memory Blank = refl
-told-memory NoFormula = refl
+told-memory NoForm = refl
 told-memory TooHigh = refl
+told-memory IllTyped = refl
 told-memory (Overflow span work) = refl
 told-memory (OverBudget work) = refl
 told-memory (TooMany work) = refl
@@ -31,9 +33,11 @@ told-memory (Bound value work depth) = refl
 unstored : (f : Finding) (line : List ℕ) (s : State) → is_stored f ≡ false → after line s f ≡ s
 unstored Full line s h = refl
 unstored TooLong line s h = refl
+unstored (Stuck at) line s h = cc
 unstored Blank line s h = cc
-unstored NoFormula line s h = cc
+unstored NoForm line s h = cc
 unstored TooHigh line s h = cc
+unstored IllTyped line s h = cc
 unstored (Overflow span work) line s h = cc
 unstored (OverBudget work) line s h = cc
 unstored (TooMany work) line s h = cc
@@ -42,9 +46,11 @@ unstored (Bound value work depth) line s h = cc
 after-transcript : (f : Finding) (line : List ℕ) (s : State) → is_stored f ≡ true → (after line s f).transcript ≡ s.transcript ++ line ∷ []
 after-transcript Full line s h = cc
 after-transcript TooLong line s h = cc
+after-transcript (Stuck at) line s h = refl
 after-transcript Blank line s h = refl
-after-transcript NoFormula line s h = refl
+after-transcript NoForm line s h = refl
 after-transcript TooHigh line s h = refl
+after-transcript IllTyped line s h = refl
 after-transcript (Overflow span work) line s h = refl
 after-transcript (OverBudget work) line s h = refl
 after-transcript (TooMany work) line s h = refl
@@ -62,9 +68,11 @@ pub after_fields : (f : Finding) (line : List ℕ) (was : Option values.Tree) (w
     → after line (record { bindings = bindings_of was; work_left = work_left; transcript = lines }) f ≡ record { bindings = bindings_of (it_after was f); work_left = work_left - work_of f; transcript = lines ++ line ∷ [] }
 after_fields Full line was work_left lines h = cc
 after_fields TooLong line was work_left lines h = cc
+after_fields (Stuck at) line was work_left lines h = λ i. record { bindings = bindings_of was; work_left = less_none work_left i; transcript = lines ++ line ∷ [] }
 after_fields Blank line was work_left lines h = λ i. record { bindings = bindings_of was; work_left = less_none work_left i; transcript = lines ++ line ∷ [] }
-after_fields NoFormula line was work_left lines h = λ i. record { bindings = bindings_of was; work_left = less_none work_left i; transcript = lines ++ line ∷ [] }
+after_fields NoForm line was work_left lines h = λ i. record { bindings = bindings_of was; work_left = less_none work_left i; transcript = lines ++ line ∷ [] }
 after_fields TooHigh line was work_left lines h = λ i. record { bindings = bindings_of was; work_left = less_none work_left i; transcript = lines ++ line ∷ [] }
+after_fields IllTyped line was work_left lines h = λ i. record { bindings = bindings_of was; work_left = less_none work_left i; transcript = lines ++ line ∷ [] }
 after_fields (Overflow span work) line was work_left lines h = refl
 after_fields (OverBudget work) line was work_left lines h = refl
 after_fields (TooMany work) line was work_left lines h = refl

@@ -1,6 +1,6 @@
 -- A formula, level by level.
 use Rattle.std.proofs.Common.{◌≡◌, ◌∙◌, ap, rules, Box, Global}
-use Rattle.nesl_session.specs.declared.formula.Span.{Span}
+use Rattle.nesl_lex.specs.declared.token.Span.{Span}
 use Rattle.nesl_session.specs.declared.formula.Operator.{Operator}
 use Rattle.nesl_session.specs.declared.formula.Formula.{Formula, Joined, the_lemmas}
 use Rattle.nesl_session.specs.Formulas.{joined, tree_of}

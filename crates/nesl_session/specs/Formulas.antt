@@ -1,7 +1,11 @@
--- Formulas without where they lie in memory.
-use Rattle.std.specs.Prelude.{ℕ, ◌+◌, max}
-use Rattle.nesl_session.specs.declared.formula.Span.{Span}
+-- Formulas, without where they lie in memory: the expressions of numbers with `+` and `*` between them.
+use Rattle.std.specs.Prelude.{ℕ, Option, Some, None}
+use Rattle.nesl_lex.specs.declared.token.Span.{Span}
+use Rattle.nesl_syntax.specs.Trees as trees
+use Rattle.nesl_syntax.specs.declared.tree.Operator as syntax
+use Rattle.nesl_syntax.specs.declared.tree.Operator.TheVariants.{Plus, Times}
 use Rattle.nesl_session.specs.declared.formula.Operator.{Operator}
+use Rattle.nesl_session.specs.declared.formula.Operator.TheVariants.{Add, Multiply}
 use Rattle.nesl_session.specs.declared.formula.Formula.{Formula, fold-Formula}
 use Rattle.nesl_session.specs.declared.formula.Formula.TheOpen.{Formula-F}
 
@@ -10,22 +14,25 @@ pub data Tree : Type 0 where
   number : Span → ℕ → Tree
   joined : Span → Operator → Tree → Tree → Tree
 
-abbrev pub span_of : Tree → Span
-span_of (number s n) = s
-span_of (joined s o a b) = s
+-- `+` and `*` alone
+abbrev pub sign_of : syntax.Operator → Option Operator
+sign_of Plus = Some Add
+sign_of Times = Some Multiply
+sign_of _ = None
 
--- a number is 1 high, and what is joined 1 more than the higher part
-abbrev pub height : Tree → ℕ
-height (number s n) = 1
-height (joined s o a b) = max (height a) (height b) + 1
+abbrev pub joined_of : Span → Option Operator → Option Tree → Option Tree → Option Tree
+joined_of s (Some o) (Some a) (Some b) = Some (joined s o a b)
+joined_of s _ _ _ = None
 
--- the bytes from the one to the end of the other
-abbrev pub over : Span → Span → Span
-over s t = record { start = s.start; end = t.end }
+-- the formula that an expression is, if it is one
+abbrev mutual
+  pub formula_of : trees.Tree → Option Tree
+  formula_of (trees.node s k) = formula_in s k
 
--- two formulas joined, with all their bytes
-abbrev pub join : Operator → Tree → Tree → Tree
-join o a b = joined (over (span_of a) (span_of b)) o a b
+  pub formula_in : Span → trees.Shape → Option Tree
+  formula_in s (trees.number n) = Some (number s n)
+  formula_in s (trees.infix_of o a b) = joined_of s (sign_of o) (formula_of a) (formula_of b)
+  formula_in s _ = None
 
 abbrev pub step : Formula-F Tree → Tree
 step (Formula-F.Number s n) = number s n

@@ -1,13 +1,12 @@
 pub mod Formulas
 pub mod Outcomes
 pub mod Reading
-pub mod Pending
 pub mod Seen
-pub mod Faults
 pub mod Reply
 pub mod State
 pub mod Step
 pub mod Solo
+pub mod Laws
 pub mod Worked
 pub mod Found
 pub mod Names

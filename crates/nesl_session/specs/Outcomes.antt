@@ -1,6 +1,6 @@
 -- What a formula comes to, and what that costs.
 use Rattle.std.specs.Prelude.{ℕ, ◌+◌, ◌*◌, Option, Some, None, nat_lt, if◌then◌else◌}
-use Rattle.nesl_session.specs.declared.formula.Span.{Span}
+use Rattle.nesl_lex.specs.declared.token.Span.{Span}
 use Rattle.nesl_session.specs.declared.formula.Operator.{Operator}
 use Rattle.nesl_session.specs.declared.formula.Operator.TheVariants.{Add, Multiply}
 use Rattle.nesl_session.specs.declared.evaluation.Outcome.{Outcome}

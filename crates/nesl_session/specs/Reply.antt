@@ -1,9 +1,10 @@
 -- What is told of a line.
-use Rattle.std.specs.Prelude.{ℕ, List, ◌++◌, Bool, true, false, Option, Some, codes, decimal}
-use Rattle.nesl_session.specs.declared.fault.Fault.{Fault}
-use Rattle.nesl_session.specs.declared.fault.Fault.TheVariants.{Memory, User}
-use Rattle.nesl_session.specs.declared.formula.Span.{Span}
-use Rattle.nesl_session.specs.Faults.{name_of}
+use Rattle.std.specs.Prelude.{ℕ, List, ◌++◌, Bool, true, false, Option, Some, None, codes, decimal}
+use Rattle.nesl_scalars.specs.declared.cost.Cost.{Cost}
+use Rattle.nesl_reply.specs.declared.fault.Fault.{Fault}
+use Rattle.nesl_reply.specs.declared.fault.Fault.TheVariants.{Memory, User}
+use Rattle.nesl_reply.specs.Faults.{fault_text}
+use Rattle.nesl_reply.specs.Replies.{cost_text}
 
 -- the bytes with their line end, the fault if it is one, and whether the line was recorded
 pub record Reply : Type 0 where
@@ -11,32 +12,25 @@ pub record Reply : Type 0 where
   pub fault : Option Fault
   pub recorded : Bool
 
--- ` (work W)` and the line end
-abbrev pub work_text : ℕ → List ℕ
-work_text work = codes " (work " ++ (decimal work ++ codes ")\n")
+-- a line that is refused is told why
+abbrev pub refused : Fault → Bool → Reply
+refused fault recorded = record { bytes = fault_text fault ++ codes "\n"; fault = Some fault; recorded = recorded }
 
-abbrev pub fault_text : Fault → ℕ → List ℕ
-fault_text fault work = codes "fault " ++ (name_of fault ++ work_text work)
-
--- a fault of a node, with the bytes that the node stands on
-abbrev pub fault_at_text : Fault → Span → ℕ → List ℕ
-fault_at_text fault span work = codes "fault " ++ (name_of fault ++ (codes " at " ++ (decimal span.start ++ (codes ".." ++ (decimal span.end ++ work_text work)))))
-
--- ` (work W, depth D)` and the line end
-abbrev pub costs_text : ℕ → ℕ → List ℕ
-costs_text work depth = codes " (work " ++ (decimal work ++ (codes ", depth " ++ (decimal depth ++ codes ")\n")))
+-- any other line is told this
+abbrev pub given : List ℕ → Reply
+given text = record { bytes = text ++ codes "\n"; fault = None; recorded = true }
 
 -- the value of `it`, which is a number, and its costs
-abbrev pub it_text : ℕ → ℕ → ℕ → List ℕ
-it_text value work depth = codes "it = " ++ (decimal value ++ (codes " : int" ++ costs_text work depth))
+abbrev pub it_text : ℕ → Cost → List ℕ
+it_text value cost = codes "it = " ++ decimal value ++ codes " : int" ++ cost_text cost
 
 -- want of memory, which is no part of a step
 abbrev pub no_memory : Reply
-no_memory = record { bytes = codes "fault memory (work 0)\n"; fault = Some Memory; recorded = false }
+no_memory = refused Memory false
 
 -- a user who isn't in the house
 abbrev pub no_user : Reply
-no_user = record { bytes = codes "fault user\n"; fault = Some User; recorded = false }
+no_user = refused User false
 
 abbrev pub is_memory : Reply → Bool
 is_memory reply = is_memory_fault reply.fault

@@ -4,15 +4,17 @@ use Rattle.std.specs.Str.{bytes_eq}
 use Rattle.std.specs.Bool.{MatchBool}
 use Rattle.nesl_values.specs.Tree as values
 use Rattle.nesl_session.specs.declared.limits.Limits.{Limits}
-use Rattle.nesl_session.specs.declared.fault.Fault.TheVariants as faults
+use Rattle.nesl_reply.specs.declared.fault.Fault.TheVariants as faults
 use Rattle.nesl_session.specs.declared.finding.Finding.{Finding}
-use Rattle.nesl_session.specs.declared.finding.Finding.TheVariants.{Full, TooLong, Blank, NoFormula, TooHigh, Overflow, OverBudget, TooMany, Bound}
+use Rattle.nesl_session.specs.declared.finding.Finding.TheVariants.{Full, TooLong, Stuck, Blank, NoForm, TooHigh, IllTyped, Overflow, OverBudget, TooMany, Bound}
 use Rattle.nesl_session.specs.declared.evaluation.Outcome.{Outcome}
 use Rattle.nesl_session.specs.declared.evaluation.Outcome.TheVariants.{Comes, Overflows}
-use Rattle.nesl_session.specs.Reading.{Meaning, Means, nothing, no_formula, too_high, formula}
+use Rattle.nesl_syntax.specs.Trees.{Line, nothing, eval}
+use Rattle.nesl_session.specs.Reading.{Meaning, Means, stuck, no_form, too_high, reads}
+use Rattle.nesl_session.specs.Formulas.{Tree, formula_of}
 use Rattle.nesl_session.specs.Outcomes.{out, within}
 use Rattle.nesl_session.specs.State.{State, Binding, elements_of}
-use Rattle.nesl_session.specs.Reply.{Reply, fault_text, fault_at_text, it_text}
+use Rattle.nesl_session.specs.Reply.{Reply, refused, given, it_text}
 
 -- the transcript has no room for the line
 abbrev pub is_full : Limits → State → List ℕ → Bool
@@ -44,11 +46,22 @@ found_of limits s b None = OverBudget b
 found_of limits s b (Some (Overflows span work)) = Overflow span work
 found_of limits s b (Some (Comes value work depth)) = if nat_lt limits.elements (elements_of (bound value s.bindings)) then TooMany work else Bound value work depth
 
+-- what is found of a line whose expression is this formula, or is none
+abbrev pub found_formula : Limits → State → Option Tree → Finding
+found_formula limits s None = IllTyped
+found_formula limits s (Some t) = found_of limits s (budget limits s) (within (budget limits s) (out t))
+
+-- What is found of a line with this tree. Numbers, `+` and `*` are all that has a type so far.
+abbrev pub found_line : Limits → State → Line → Finding
+found_line limits s nothing = Blank
+found_line limits s (eval e) = found_formula limits s (formula_of e)
+found_line limits s _ = IllTyped
+
 abbrev pub found_in : Limits → State → Meaning → Finding
-found_in limits s nothing = Blank
-found_in limits s no_formula = NoFormula
+found_in limits s (stuck at) = Stuck at
+found_in limits s no_form = NoForm
 found_in limits s too_high = TooHigh
-found_in limits s (formula t) = found_of limits s (budget limits s) (within (budget limits s) (out t))
+found_in limits s (reads l) = found_line limits s l
 
 -- What is found of a line: the first check that fails, or what its meaning comes to. A line that fails before it is read has no need to mean anything.
 unfoldable pub Finds : Limits → State → List ℕ → Finding → Type 0
@@ -68,9 +81,11 @@ charged work s = record s { work_left = s.work_left - work }
 abbrev pub after : List ℕ → State → Finding → State
 after line s Full = s
 after line s TooLong = s
+after line s (Stuck at) = stored line s
 after line s Blank = stored line s
-after line s NoFormula = stored line s
+after line s NoForm = stored line s
 after line s TooHigh = stored line s
+after line s IllTyped = stored line s
 after line s (Overflow span work) = stored line (charged work s)
 after line s (OverBudget work) = stored line (charged work s)
 after line s (TooMany work) = stored line (charged work s)
@@ -78,15 +93,17 @@ after line s (Bound value work depth) = stored line (charged work (record s { bi
 
 -- what is told of this
 abbrev pub told : Finding → Reply
-told Full = record { bytes = fault_text faults.Transcript 0; fault = Some faults.Transcript; recorded = false }
-told TooLong = record { bytes = fault_text faults.Long 0; fault = Some faults.Long; recorded = false }
-told Blank = record { bytes = codes "ok\n"; fault = None; recorded = true }
-told NoFormula = record { bytes = fault_text faults.Syntax 0; fault = Some faults.Syntax; recorded = true }
-told TooHigh = record { bytes = fault_text faults.Nested 0; fault = Some faults.Nested; recorded = true }
-told (Overflow span work) = record { bytes = fault_at_text faults.Overflow span work; fault = Some faults.Overflow; recorded = true }
-told (OverBudget work) = record { bytes = fault_text faults.Work work; fault = Some faults.Work; recorded = true }
-told (TooMany work) = record { bytes = fault_text faults.Elements work; fault = Some faults.Elements; recorded = true }
-told (Bound value work depth) = record { bytes = it_text value work depth; fault = None; recorded = true }
+told Full = refused faults.Transcript false
+told TooLong = refused faults.Long false
+told (Stuck at) = refused (faults.Lexical at) true
+told Blank = given (codes "ok")
+told NoForm = refused faults.Syntax true
+told TooHigh = refused faults.Nested true
+told IllTyped = refused faults.IllTyped true
+told (Overflow span work) = refused (faults.Overflow (record { span = span; work = work })) true
+told (OverBudget work) = refused (faults.Work work) true
+told (TooMany work) = refused (faults.Elements work) true
+told (Bound value work depth) = given (it_text value (record { work = work; depth = depth }))
 
 -- In the state `s` the line is answered by the reply, and leaves the state `s'`.
 unfoldable pub Step : Limits → State → List ℕ → Reply → State → Type 0

@@ -1,12 +1,15 @@
 //! What is told of a line.
-ghost use Rattle.std.specs.Prelude.{◌≡◌, ◌++◌, ◌∷◌, [], ℕ, Some, None, IfOk, OnOk, codes, decimal, true, false};
-ghost use Rattle.nesl_session.specs.Reply.{Reply, costs_text, fault_at_text, fault_text, it_text, work_text, no_memory, no_user};
+ghost use Rattle.std.specs.Prelude.{◌≡◌, ◌≤◌, IfOk, codes};
+ghost use Rattle.nesl_session.specs.Found.{value_of};
+ghost use Rattle.nesl_session.specs.Outcomes.{greatest};
+ghost use Rattle.nesl_session.specs.Reply.{Reply, given, it_text, refused, no_memory, no_user};
 ghost use Rattle.nesl_session.specs.Step.{told};
 
-use crate::fault::Fault;
 use crate::finding::Finding;
-use crate::formula::Span;
-use itoa::Buffer;
+use nesl_reply::{Fault, Reply, Stop, reply_text};
+use nesl_scalars::Cost;
+use nesl_types::{Context, Ty};
+use nesl_values::Value;
 use std::alloc::{AllocError, Global};
 use std::marker::Model;
 
@@ -63,7 +66,7 @@ impl Answer {
         ensures { result.now ≡ self.now.bytes }
     {
         match &self.text {
-            Text::NoMemory => b"fault memory (work 0)\n",
+            Text::NoMemory => nesl_reply::no_memory(),
             Text::NoUser => b"fault user\n",
             Text::Made(text) => text.as_slice(),
         }
@@ -85,95 +88,66 @@ impl Answer {
 
     // What is told of this.
     pub(crate) fn of(alloc: Global, finding: Finding) -> Result<Answer, AllocError>
+        requires { value_of finding ≤ greatest }
         ensures { IfOk result (λ a. a ≡ told finding) }
     {
-        let (text, fault) = match finding {
-            Finding::Full => (
-                fault_text(alloc, Fault::Transcript, 0)?,
-                Some(Fault::Transcript),
+        match finding {
+            Finding::Full => refused(alloc, Fault::Transcript, false),
+            Finding::TooLong => refused(alloc, Fault::Long, false),
+            Finding::Stuck(at) => refused(alloc, Fault::Lexical(at), true),
+            Finding::Blank => blank(alloc),
+            Finding::NoForm => refused(alloc, Fault::Syntax, true),
+            Finding::TooHigh => refused(alloc, Fault::Nested, true),
+            Finding::IllTyped => refused(alloc, Fault::IllTyped, true),
+            Finding::Overflow(span, work) => refused(
+                alloc,
+                Fault::Overflow(Stop { span, work }),
+                true,
             ),
-            Finding::TooLong => (fault_text(alloc, Fault::Long, 0)?, Some(Fault::Long)),
-            Finding::Blank => (Vec::from_slice(alloc, b"ok\n")?, None),
-            Finding::NoFormula => (fault_text(alloc, Fault::Syntax, 0)?, Some(Fault::Syntax)),
-            Finding::TooHigh => (fault_text(alloc, Fault::Nested, 0)?, Some(Fault::Nested)),
-            Finding::Overflow(span, work) => (
-                fault_at_text(alloc, Fault::Overflow, span, work)?,
-                Some(Fault::Overflow),
-            ),
-            Finding::OverBudget(work) => (fault_text(alloc, Fault::Work, work)?, Some(Fault::Work)),
-            Finding::TooMany(work) => {
-                (
-                    fault_text(alloc, Fault::Elements, work)?,
-                    Some(Fault::Elements),
-                )
-            }
-            Finding::Bound(value, work, depth) => (it_text(alloc, value, work, depth)?, None),
-        };
-        Ok(Answer {
-            text: Text::Made(text),
-            fault,
-            recorded: finding.is_stored(),
-        })
+            Finding::OverBudget(work) => refused(alloc, Fault::Work(work), true),
+            Finding::TooMany(work) => refused(alloc, Fault::Elements(work), true),
+            Finding::Bound(value, work, depth) => bound(alloc, value, Cost { work, depth }),
+        }
     }
 }
 
-// A fault without a place.
-fn fault_text(alloc: Global, fault: Fault, work: u64) -> Result<Vec<u8>, AllocError>
-    ensures { IfOk result (λ text. text.items ≡ fault_text fault work) }
+// A line that is refused is told why.
+fn refused(alloc: Global, fault: Fault, recorded: bool) -> Result<Answer, AllocError>
+    ensures { IfOk result (λ a. a ≡ refused fault recorded) }
 {
-    let mut text = Vec::from_slice(alloc, b"fault ")?;
-    text.extend_from_slice(fault.name().as_bytes())?;
-    push_work(&mut text, work)?;
-    Ok(text)
+    let names: Context<()> = Context::new(alloc);
+    let text = reply_text(alloc, &Reply::Refused(fault), &names)?;
+    Ok(Answer {
+        text: Text::Made(text),
+        fault: Some(fault),
+        recorded,
+    })
 }
 
-// A fault of a node.
-fn fault_at_text(alloc: Global, fault: Fault, span: Span, work: u64) -> Result<Vec<u8>, AllocError>
-    ensures { IfOk result (λ text. text.items ≡ fault_at_text fault span work) }
+// A line without tokens.
+fn blank(alloc: Global) -> Result<Answer, AllocError>
+    ensures { IfOk result (λ a. a ≡ given (codes "ok")) }
 {
-    let mut text = Vec::from_slice(alloc, b"fault ")?;
-    text.extend_from_slice(fault.name().as_bytes())?;
-    text.extend_from_slice(b" at ")?;
-    push_number(&mut text, span.start as u64)?;
-    text.extend_from_slice(b"..")?;
-    push_number(&mut text, span.end as u64)?;
-    push_work(&mut text, work)?;
-    Ok(text)
+    let names: Context<()> = Context::new(alloc);
+    let text = reply_text(alloc, &Reply::Blank, &names)?;
+    Ok(Answer {
+        text: Text::Made(text),
+        fault: None,
+        recorded: true,
+    })
 }
 
 // A value of `it` and its costs.
-fn it_text(alloc: Global, value: u64, work: u64, depth: u64) -> Result<Vec<u8>, AllocError>
-    ensures { IfOk result (λ text. text.items ≡ it_text value work depth) }
+fn bound(alloc: Global, value: u64, cost: Cost) -> Result<Answer, AllocError>
+    requires { value ≤ greatest }
+    ensures { IfOk result (λ a. a ≡ given (it_text value cost)) }
 {
-    let mut text = Vec::from_slice(alloc, b"it = ")?;
-    push_number(&mut text, value)?;
-    text.extend_from_slice(b" : int")?;
-    push_costs(&mut text, work, depth)?;
-    Ok(text)
-}
-
-// ` (work W, depth D)` and the line end.
-fn push_costs(text: &mut Vec<u8>, work: u64, depth: u64) -> Result<(), AllocError>
-    ensures { OnOk result (text.new.items ≡ text.old.items ++ costs_text work depth) }
-{
-    text.extend_from_slice(b" (work ")?;
-    push_number(text, work)?;
-    text.extend_from_slice(b", depth ")?;
-    push_number(text, depth)?;
-    text.extend_from_slice(b")\n")
-}
-
-// ` (work W)` and the line end.
-fn push_work(text: &mut Vec<u8>, work: u64) -> Result<(), AllocError>
-    ensures { OnOk result (text.new.items ≡ text.old.items ++ work_text work) }
-{
-    text.extend_from_slice(b" (work ")?;
-    push_number(text, work)?;
-    text.extend_from_slice(b")\n")
-}
-
-fn push_number(text: &mut Vec<u8>, number: u64) -> Result<(), AllocError>
-    ensures { OnOk result (text.new.items ≡ text.old.items ++ decimal number) }
-{
-    text.extend_from_slice(Buffer::new().format(number).as_bytes())
+    let names: Context<()> = Context::new(alloc);
+    let value = Value::Int(value as i64);
+    let text = reply_text(alloc, &Reply::Bound(b"it", &value, &Ty::Int, cost), &names)?;
+    Ok(Answer {
+        text: Text::Made(text),
+        fault: None,
+        recorded: true,
+    })
 }

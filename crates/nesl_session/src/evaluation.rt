@@ -3,7 +3,8 @@ ghost use Rattle.std.specs.Prelude.{◌≡◌, ℕ, ◌+◌, ◌≤◌, ◌<◌,
 ghost use Rattle.nesl_session.specs.Formulas.{tree_of};
 ghost use Rattle.nesl_session.specs.Outcomes.{applied, came, depth_of, greatest, out, value_of, within, work_of};
 
-use crate::formula::{Formula, Operator, Span};
+use crate::formula::{Formula, Operator};
+use nesl_lex::token::Span;
 
 /// What a formula comes to. Work and depth count as in Blelloch's 'Programming Parallel Algorithms' (CACM 39(3), 1996):
 /// a sign has 1 and both its parts in each.

@@ -1,6 +1,6 @@
 //! What is found of a line.
 
-use crate::formula::Span;
+use nesl_lex::token::Span;
 
 /// What is found of a line: the first check that fails, or what the line comes to.
 #[derive(Clone, Copy, PartialEq, Eq, Debug)]
@@ -9,12 +9,16 @@ pub enum Finding {
     Full,
     /// It has too many bytes.
     TooLong,
+    /// At this byte no token, blank or whole comment stands.
+    Stuck(usize),
     /// It has no tokens.
     Blank,
-    /// It is no formula.
-    NoFormula,
-    /// Its formula is too high.
+    /// Its tokens have no tree.
+    NoForm,
+    /// The tree of its tokens is too high.
     TooHigh,
+    /// It is no formula.
+    IllTyped,
     /// A part of it overflows: where that stands, and the work until then.
     Overflow(Span, u64),
     /// It takes more work than its budget, which this is.
@@ -47,9 +51,11 @@ impl Finding {
             | Finding::Bound(_, work, _) => work,
             Finding::Full
             | Finding::TooLong
+            | Finding::Stuck(_)
             | Finding::Blank
-            | Finding::NoFormula
-            | Finding::TooHigh => 0,
+            | Finding::NoForm
+            | Finding::TooHigh
+            | Finding::IllTyped => 0,
         }
     }
 }

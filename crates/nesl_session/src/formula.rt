@@ -1,11 +1,12 @@
 //! Formulas: numbers joined by `+` and `*`.
+ghost use Rattle.std.specs.Prelude.{◌≡◌, IfOk, option_map};
+ghost use Rattle.nesl_syntax.specs.Views.{tree_of as exp_of};
+ghost use Rattle.nesl_session.specs.Formulas.{formula_of, sign_of, tree_of};
 
-/// A stretch of a line: from the byte `start`, counted from 0, to the byte before `end`.
-#[derive(Clone, Copy, PartialEq, Eq, Debug)]
-pub struct Span {
-    pub start: usize,
-    pub end: usize,
-}
+use nesl_lex::token::Span;
+use nesl_syntax::tree;
+use nesl_syntax::tree::{Exp, Node};
+use std::alloc::{AllocError, Global};
 
 /// A sign between two formulas.
 #[derive(Clone, Copy, PartialEq, Eq, Debug)]
@@ -21,28 +22,37 @@ pub enum Formula {
     Joined(Span, Operator, Box<Formula>, Box<Formula>),
 }
 
-impl Formula {
-    ghost use Rattle.std.specs.Prelude.{◌≡◌, ◌<◌, ◌↔◌, IsTrue};
-    ghost use Rattle.nesl_session.specs.Formulas.{tree_of, span_of, height};
-
-    /// The bytes that it stands on.
-    pub fn span(&self) -> Span
-        ensures { result ≡ span_of (tree_of self.now) }
-    {
-        match self {
-            Formula::Number(span, _) | Formula::Joined(span, _, _, _) => *span,
+/// The formula that an expression is, if it is one. It recurs over a tree that is at most 100 high.
+pub fn as_formula(alloc: Global, exp: &Exp) -> Result<Option<Formula>, AllocError>
+    ensures { IfOk result (λ formula. option_map tree_of formula ≡ formula_of (exp_of exp.now)) }
+{
+    match &exp.node {
+        Node::Number(value) => Ok(Some(Formula::Number(exp.span, *value))),
+        Node::Infix(operator, left, right) => {
+            let Some(sign) = sign_of(*operator) else {
+                return Ok(None);
+            };
+            let Some(left) = as_formula(alloc, left)? else {
+                return Ok(None);
+            };
+            let Some(right) = as_formula(alloc, right)? else {
+                return Ok(None);
+            };
+            let left = Box::new(alloc, left)?;
+            let right = Box::new(alloc, right)?;
+            Ok(Some(Formula::Joined(exp.span, sign, left, right)))
         }
+        _ => Ok(None),
     }
+}
 
-    /// Whether it is higher than `limit`; a number is 1 high. It looks no further down than the limit.
-    pub fn is_higher_than(&self, limit: u32) -> bool
-        ensures { IsTrue result ↔ limit < height (tree_of self.now) }
-    {
-        match self {
-            Formula::Number(_, _) => limit < 1,
-            Formula::Joined(_, _, left, right) => {
-                limit < 1 || left.is_higher_than(limit - 1) || right.is_higher_than(limit - 1)
-            }
-        }
+// The sign of a formula that an operator is, if it is one.
+fn sign_of(operator: tree::Operator) -> Option<Operator>
+    ensures { result ≡ sign_of operator }
+{
+    match operator {
+        tree::Operator::Plus => Some(Operator::Add),
+        tree::Operator::Times => Some(Operator::Multiply),
+        _ => None,
     }
 }

@@ -3,12 +3,14 @@
 
 pub mod answer;
 mod evaluation;
-pub mod fault;
 mod finding;
 mod formula;
 pub mod laws;
 pub mod limits;
 mod reading;
 pub mod session;
+
+pub use nesl_reply::{Fault, Stop};
+
 #[cfg(test)]
 mod tests;

@@ -6,15 +6,18 @@ ghost use Rattle.nesl_session.specs.State.{State, Log, names_of, remaining_of};
 ghost use Rattle.nesl_session.specs.Reply.{Reply, is_memory, no_memory};
 ghost use Rattle.nesl_session.specs.Step.{Finds};
 ghost use Rattle.nesl_session.specs.Outcomes.{greatest};
-ghost use Rattle.nesl_session.specs.Found.{bindings_of, is_stored, work_of, value_of, it_after, found_by};
+ghost use Rattle.nesl_session.specs.Found.{bindings_of, is_stored, work_of, value_of, it_after, found_by, found_by_line, FoundBy};
+ghost use Rattle.nesl_syntax.specs.Views.{line_of};
 ghost use Rattle.nesl_session.specs.Solo.{Solo, Replays, Alone, Answers};
 ghost use Rattle.std.specs.Iterator.{item_count, YieldsFirstRef};
 
 use crate::answer::Answer;
 use crate::evaluation::{Outcome, evaluate};
 use crate::finding::Finding;
+use crate::formula::as_formula;
 use crate::limits::{Limits, Remaining};
 use crate::reading::{Meaning, read};
+use nesl_syntax::tree::Form;
 use nesl_values::Value;
 use std::alloc::{AllocError, Global};
 use std::marker::Model;
@@ -183,12 +186,51 @@ fn find(
         return Ok(Finding::TooLong);
     }
     let budget = limits.line_work.min(work_left);
-    Ok(match read(alloc, text)? {
-        Meaning::Nothing => Finding::Blank,
-        Meaning::NoFormula => Finding::NoFormula,
-        Meaning::TooHigh => Finding::TooHigh,
-        Meaning::Formula(formula) => found(evaluate(&formula, budget), budget, limits.elements),
-    })
+    let finding = find_by_meaning(alloc, text, budget, limits.elements)?;
+    Ok(finding)
+}
+
+// What is found of a line by what it means, under the budget.
+fn find_by_meaning(
+    alloc: Global,
+    text: &[u8],
+    budget: u64,
+    elements: u64,
+) -> Result<Finding, AllocError>
+    ensures found { IfOk result (FoundBy text.now elements budget) }
+    ensures paid { IfOk result (λ finding. work_of finding ≤ budget) }
+    ensures fits { IfOk result (λ finding. value_of finding ≤ greatest) }
+{
+    match read(alloc, text)? {
+        Meaning::Stuck(at) => Ok(Finding::Stuck(at)),
+        Meaning::NoForm => Ok(Finding::NoForm),
+        Meaning::TooHigh => Ok(Finding::TooHigh),
+        Meaning::Reads(form) => {
+            let finding = find_by_form(alloc, &form, budget, elements)?;
+            Ok(finding)
+        }
+    }
+}
+
+// What is found of a line with this tree, under the budget.
+fn find_by_form(
+    alloc: Global,
+    form: &Form,
+    budget: u64,
+    elements: u64,
+) -> Result<Finding, AllocError>
+    ensures found { IfOk result (λ finding. finding ≡ found_by_line elements budget (line_of form.now)) }
+    ensures paid { IfOk result (λ finding. work_of finding ≤ budget) }
+    ensures fits { IfOk result (λ finding. value_of finding ≤ greatest) }
+{
+    match form {
+        Form::Nothing => Ok(Finding::Blank),
+        Form::Eval(exp) => match as_formula(alloc, exp)? {
+            Some(formula) => Ok(found(evaluate(&formula, budget), budget, elements)),
+            None => Ok(Finding::IllTyped),
+        },
+        _ => Ok(Finding::IllTyped),
+    }
 }
 
 // What is found of a line whose formula comes to this under the budget. The number that it binds is one node.

@@ -1,8 +1,9 @@
 //! Sessions spoken to. The replies are worked by hand from the rules, and were compared with another program's.
 use crate::answer::Answer;
-use crate::fault::Fault;
 use crate::limits::{Limits, Remaining};
 use crate::session::Session;
+use crate::{Fault, Stop};
+use nesl_lex::token::Span;
 use std::alloc::{AllocError, Global};
 use std::test::Fail;
 
@@ -53,19 +54,61 @@ fn sums_and_products(rt: HostRuntime) -> Result<(), Fail> {
             "9223372036854775807;",
             "it = 9223372036854775807 : int (work 1, depth 1)\n",
         ),
-        ("9223372036854775808;", "fault syntax (work 0)\n"),
-        ("99999999999999999999999999;", "fault syntax (work 0)\n"),
+        ("(1 + 2) * ((3));", "it = 9 : int (work 5, depth 5)\n"),
+        ("2 * % twice % 4;", "it = 8 : int (work 3, depth 3)\n"),
+        ("", "ok\n"),
+        (" \t\r ", "ok\n"),
+        ("% note %", "ok\n"),
+    ];
+    assert_eq!(rt; first_wrong(rt.alloc(), LIMITS, &lines)?, None);
+    Ok(())
+}
+
+#[test]
+fn lines_without_tokens_or_trees(rt: HostRuntime) -> Result<(), Fail> {
+    let lines = [
+        ("1 @ 2;", "fault lexical at 2 (work 0)\n"),
+        ("9223372036854775808;", "fault lexical at 0 (work 0)\n"),
+        (
+            " 99999999999999999999999999;",
+            "fault lexical at 1 (work 0)\n",
+        ),
+        ("1; % open", "fault lexical at 3 (work 0)\n"),
+        ("\"ab", "fault lexical at 0 (work 0)\n"),
         ("1 2;", "fault syntax (work 0)\n"),
         ("1; 2;", "fault syntax (work 0)\n"),
         ("1", "fault syntax (work 0)\n"),
         ("1 +;", "fault syntax (work 0)\n"),
         ("* 2;", "fault syntax (work 0)\n"),
         (";", "fault syntax (work 0)\n"),
-        ("1 @ 2;", "fault syntax (work 0)\n"),
-        ("", "ok\n"),
-        (" \t\r ", "ok\n"),
+        ("x = ;", "fault syntax (work 0)\n"),
+        (":names;", "fault syntax (work 0)\n"),
     ];
     assert_eq!(rt; first_wrong(rt.alloc(), LIMITS, &lines)?, None);
+    Ok(())
+}
+
+// Until types are inferred, only numbers, `+` and `*` have one.
+#[test]
+fn all_else_is_ill_typed(rt: HostRuntime) -> Result<(), Fail> {
+    let lines = [
+        ("x + 1;", "fault type (work 0)\n"),
+        ("2 - 1;", "fault type (work 0)\n"),
+        ("1 * (2 + T);", "fault type (work 0)\n"),
+        ("1 + -2;", "fault type (work 0)\n"),
+        ("[1, 2];", "fault type (work 0)\n"),
+        ("x = 3;", "fault type (work 0)\n"),
+        ("function f2(x) = x;", "fault type (work 0)\n"),
+        ("datatype point (int, int);", "fault type (work 0)\n"),
+        (":names", "fault type (work 0)\n"),
+        (":type 1;", "fault type (work 0)\n"),
+    ];
+    assert_eq!(rt; first_wrong(rt.alloc(), LIMITS, &lines)?, None);
+    let mut session = Session::new(rt.alloc(), LIMITS)?;
+    let answer = session.line(rt.alloc(), b"x + 1;");
+    assert!(rt; answer.recorded() && answer.fault() == Some(Fault::IllTyped));
+    assert_eq!(rt; session.remaining().work, LIMITS.session_work);
+    assert_eq!(rt; session.lines().len(), 1);
     Ok(())
 }
 
@@ -195,7 +238,17 @@ fn fixed_answers(rt: HostRuntime) {
     assert!(rt; Answer::no_memory().bytes() == b"fault memory (work 0)\n".as_slice());
     assert!(rt; Answer::no_memory().fault() == Some(Fault::Memory));
     assert!(rt; Answer::no_user().bytes() == b"fault user\n".as_slice());
-    assert_eq!(rt; Fault::Long.number(), 1);
-    assert_eq!(rt; Fault::Busy.number(), 26);
-    assert!(rt; Fault::IllTyped.name() == "type");
+    assert!(rt; Answer::no_user().fault() == Some(Fault::User));
+}
+
+#[test]
+fn faults_tell_where_and_how_much(rt: HostRuntime) -> Result<(), Fail> {
+    let alloc = rt.alloc();
+    let mut session = Session::new(alloc, LIMITS)?;
+    let lexical = session.line(alloc, b"1 @ 2;");
+    assert!(rt; lexical.fault() == Some(Fault::Lexical(2)));
+    let overflow = session.line(alloc, b"9223372036854775807 + 1;");
+    let span = Span { start: 0, end: 23 };
+    assert!(rt; overflow.fault() == Some(Fault::Overflow(Stop { span, work: 3 })));
+    Ok(())
 }

@@ -36,7 +36,7 @@ returns-then-is_empty-clause-answered g c =
 
 pub returns-clause-answered : goal.returns-clause-answered
 returns-clause-answered g c =
-    answered_says c.args.house.now c.say-answer.new.self c.args.who.now.items c.as_slice.result.now c.args.line.now c.bytes.result.now c.say-answer.result _ _ c.say-2.result c.in_default.ensures.none
+    answered_says c.scripts_follow.ensures c.args.house.now c.say-answer.new.self c.args.who.now.items c.as_slice.result.now c.args.line.now c.bytes.result.now c.say-answer.result _ _ c.say-2.result c.in_default.ensures.none
     (filled c.args.who.now.items _ c.is_empty.result c.args.who.now.ok.0 c.is_empty.ensures c.if-is_empty.false) c.as_slice.ensures.value c.say-answer.ensures c.bytes.ensures c.say-2.ensures.sent
 
 pub returns-clause-room : goal.returns-clause-room

@@ -16,6 +16,6 @@ loop-said-preserved c = record {
   answered = omega (arith, c.loop-said.invariant.answered, ap length c.push_reserved.ensures.items, length-append c.loop-said.answers.items (c.say-answer.result ∷ []));
   room = omega (arith, c.loop-said.invariant.room, c.push_reserved.ensures.capacity);
   runs =
-      run_more c.args.self.now c.loop-said.self c.say-answer.new.self c.args.script.now c.loop-said.said-index c.said-item.result c.loop-said.answers.items c.push_reserved.new.self.items c.say-answer.result c.as_slice.result.now
+      run_more c.scripts_follow.ensures c.args.self.now c.loop-said.self c.say-answer.new.self c.args.script.now c.loop-said.said-index c.said-item.result c.loop-said.answers.items c.push_reserved.new.self.items c.say-answer.result c.as_slice.result.now
       c.as_slice-in-loop-said.result.now c.loop-said.invariant.runs c.say-answer.ensures c.loop-said-test.true c.loop-said.invariant.answered c.said-item.is c.as_slice.ensures.value c.as_slice-in-loop-said.ensures.value c.push_reserved.ensures.items;
 }
