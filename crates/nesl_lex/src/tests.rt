@@ -30,8 +30,8 @@ fn only_kind(alloc: Global, line: &[u8]) -> Option<Kind> {
 }
 
 #[test]
-fn lines_have_these_tokens(rt: HostRuntime) -> Result<(), LexFault> {
-    let lines: [(&[u8], &str); 30] = [
+fn signs_are_as_long_as_they_can_be(rt: HostRuntime) -> Result<(), LexFault> {
+    let lines: [(&[u8], &str); 10] = [
         (b"", ""),
         (b" \t\r", ""),
         (
@@ -57,6 +57,17 @@ fn lines_have_these_tokens(rt: HostRuntime) -> Result<(), LexFault> {
             b"->>=",
             "0..2 Symbol(RightArrow); 2..4 Symbol(GreaterOrEqual); ",
         ),
+    ];
+    for (line, want) in lines {
+        let text = shown(rt.alloc(), line)?;
+        assert_eq!(rt; text.as_str(), want);
+    }
+    Ok(())
+}
+
+#[test]
+fn texts_characters_and_comments(rt: HostRuntime) -> Result<(), LexFault> {
+    let lines: [(&[u8], &str); 12] = [
         (b"%a%%b%", ""),
         (b"1%%2", "0..1 Number(1); 3..4 Number(2); "),
         (b"\"a%b\"", "0..5 Text([97, 37, 98]); "),
@@ -69,6 +80,17 @@ fn lines_have_these_tokens(rt: HostRuntime) -> Result<(), LexFault> {
         (b"x \"abc", "lexical at 2"),
         (b"x \"a\tb\"", "lexical at 2"),
         (b"x %abc", "lexical at 2"),
+    ];
+    for (line, want) in lines {
+        let text = shown(rt.alloc(), line)?;
+        assert_eq!(rt; text.as_str(), want);
+    }
+    Ok(())
+}
+
+#[test]
+fn numbers_names_and_truth_values(rt: HostRuntime) -> Result<(), LexFault> {
+    let lines: [(&[u8], &str); 8] = [
         (
             b"9223372036854775807",
             "0..19 Number(9223372036854775807); ",
@@ -95,7 +117,7 @@ fn lines_have_these_tokens(rt: HostRuntime) -> Result<(), LexFault> {
 }
 
 #[test]
-fn each_reserved_word_and_sign_is_read(rt: HostRuntime) {
+fn each_reserved_word_is_read(rt: HostRuntime) {
     let words: [(&[u8], Word); 15] = [
         (b"function", Word::Function),
         (b"datatype", Word::Datatype),
@@ -116,6 +138,10 @@ fn each_reserved_word_and_sign_is_read(rt: HostRuntime) {
     for (line, word) in words {
         assert!(rt; only_kind(rt.alloc(), line) == Some(Kind::Reserved(word)));
     }
+}
+
+#[test]
+fn each_sign_is_read(rt: HostRuntime) {
     let signs: [(&[u8], Sign); 26] = [
         (b"(", Sign::OpenParenthesis),
         (b")", Sign::CloseParenthesis),

@@ -98,6 +98,25 @@ fn blank_paper(alloc: Global) -> Device<Paper> {
 
 const NINE: &str = "it = 9 : int (work 1, depth 1)\n";
 
+// Whether that is answered to the text, however much of it comes at a time.
+fn is_answered(alloc: Global, text: &str, wanted: &str, lines: u64) -> Result<bool, Fail> {
+    let whole = Ran {
+        lines,
+        end: End::Input,
+    };
+    for step in [1, 3, 1000000] {
+        let mut house = house(alloc, &["ann", "bob"])?;
+        let mut reader = reader_of(text.as_bytes(), step);
+        let mut writer = blank_paper(alloc);
+        let ran = batch(alloc, &mut reader, &mut writer, &mut house);
+        let written = writer.into_inner().bytes;
+        if ran != whole || written.as_slice() != wanted.as_bytes() {
+            return Ok(false);
+        }
+    }
+    Ok(true)
+}
+
 #[test]
 fn lines_are_answered(rt: HostRuntime) -> Result<(), Fail> {
     let alloc = rt.alloc();
@@ -115,6 +134,17 @@ fn lines_are_answered(rt: HostRuntime) -> Result<(), Fail> {
         ),
         ("user ann\n2 *", "user ann\nfault syntax (work 0)\n", 2),
         ("user ann\n\n", "user ann\nok\n", 2),
+    ];
+    for (text, wanted, lines) in rows {
+        assert!(rt; is_answered(alloc, text, wanted, lines)?, "{text:?}");
+    }
+    Ok(())
+}
+
+#[test]
+fn line_ends_of_both_kinds(rt: HostRuntime) -> Result<(), Fail> {
+    let alloc = rt.alloc();
+    let rows = [
         (
             "user ann\r\n9;\r\n",
             "user ann\nit = 9 : int (work 1, depth 1)\n",
@@ -126,6 +156,17 @@ fn lines_are_answered(rt: HostRuntime) -> Result<(), Fail> {
             2,
         ),
         ("user ann\r", "fault user\n", 1),
+    ];
+    for (text, wanted, lines) in rows {
+        assert!(rt; is_answered(alloc, text, wanted, lines)?, "{text:?}");
+    }
+    Ok(())
+}
+
+#[test]
+fn user_lines_that_are_none(rt: HostRuntime) -> Result<(), Fail> {
+    let alloc = rt.alloc();
+    let rows = [
         (
             "user ann\nuser 1a\n9;\n",
             "user ann\nfault user\nfault user\n",
@@ -143,25 +184,7 @@ fn lines_are_answered(rt: HostRuntime) -> Result<(), Fail> {
         ),
     ];
     for (text, wanted, lines) in rows {
-        for step in [1, 3, 1000000] {
-            let mut house = house(alloc, &["ann", "bob"])?;
-            let mut reader = reader_of(text.as_bytes(), step);
-            let mut writer = blank_paper(alloc);
-            let ran = batch(alloc, &mut reader, &mut writer, &mut house);
-            assert_eq!(rt;
-                ran,
-                Ran {
-                    lines,
-                    end: End::Input
-                },
-                "{text:?}"
-            );
-            assert_eq!(rt;
-                writer.into_inner().bytes.as_slice(),
-                wanted.as_bytes(),
-                "{text:?}"
-            );
-        }
+        assert!(rt; is_answered(alloc, text, wanted, lines)?, "{text:?}");
     }
     Ok(())
 }

@@ -1,8 +1,11 @@
 //! How a run of the program fails.
+ghost use Rattle.std.specs.Prelude.{◌≡◌, ◌≢◌, ℕ, IfSome, slice_get};
+ghost use Rattle.nesl_server.specs.Failures.{failure_of, status_of};
+ghost use Rattle.nesl_server.specs.declared.failure.Failure.TheVariants as failure;
+ghost use Rattle.nesl_house.specs.declared.roster.NewFault.TheVariants as refusal;
 
 use nesl_house::roster::NewFault;
 use nesl_line::batch::End;
-use std::alloc::AllocError;
 use thiserror::Error;
 
 /// Why a run failed; the text goes to standard error.
@@ -24,7 +27,15 @@ pub enum Failure<'a> {
 
 impl<'a> Failure<'a> {
     /// What a refusal of the roster of these users is told as.
-    pub fn of_roster(fault: NewFault, users: &[&'a str]) -> Failure<'a> {
+    pub fn of_roster(fault: NewFault, users: &[&'a str]) -> Failure<'a>
+        ensures count { fault ≡ refusal.Count → result ≡ failure.Count }
+        ensures memory { fault ≡ refusal.Memory → result ≡ failure.Memory }
+        ensures name { (place : ℕ) → fault ≡ refusal.Name place
+            → IfSome (slice_get users.now place) (λ user. result ≡ failure.Name user) }
+        ensures twice { (place : ℕ) → fault ≡ refusal.Twice place
+            → IfSome (slice_get users.now place) (λ user. result ≡ failure.Twice user) }
+        ensures no_device { (result ≢ failure.Read) × (result ≢ failure.Write) }
+    {
         match fault {
             NewFault::Count => Failure::Count,
             NewFault::Name { place } => Failure::Name(name_at(users, place)),
@@ -34,7 +45,9 @@ impl<'a> Failure<'a> {
     }
 
     /// What an end of a batch is told as; the end of input is no failure.
-    pub fn of_end(end: End) -> Option<Failure<'a>> {
+    pub fn of_end(end: End) -> Option<Failure<'a>>
+        ensures { result ≡ failure_of end }
+    {
         match end {
             End::Input => None,
             End::ReadFault => Some(Failure::Read),
@@ -44,7 +57,9 @@ impl<'a> Failure<'a> {
     }
 
     /// The exit status: 1 for a device or memory, 2 for the words.
-    pub fn status(self) -> u8 {
+    pub fn status(self) -> u8
+        ensures { result ≡ status_of self.entry }
+    {
         match self {
             Failure::Read | Failure::Write | Failure::Memory => 1,
             Failure::Count | Failure::Name(_) | Failure::Twice(_) => 2,
@@ -52,15 +67,12 @@ impl<'a> Failure<'a> {
     }
 }
 
-fn name_at<'a>(users: &[&'a str], place: usize) -> &'a str {
+// The name at a place.
+fn name_at<'a>(users: &[&'a str], place: usize) -> &'a str
+    ensures { IfSome (slice_get users.now place) (λ user. result ≡ user) }
+{
     match users.get(place) {
         Some(name) => name,
         None => "",
-    }
-}
-
-impl<'a> From<AllocError> for Failure<'a> {
-    fn from(_: AllocError) -> Failure<'a> {
-        Failure::Memory
     }
 }

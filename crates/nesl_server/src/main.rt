@@ -1,10 +1,16 @@
 //! The program: NESL sessions over standard input and output.
 #![tactic(auto)]
 
+ghost use Rattle.std.specs.Prelude.{◌≡◌, IfOk, OnOk, Err, map};
+ghost use Rattle.nesl_line.specs.declared.batch.End.TheVariants as end;
+ghost use Rattle.nesl_server.specs.Program.{Served};
+ghost use Rattle.nesl_server.specs.declared.failure.Failure.TheVariants as failure;
+
 mod failure;
 mod words;
 
 use crate::failure::Failure;
+use clap::error::ErrorKind;
 use nesl_house::house::House;
 use nesl_line::batch::batch;
 use nesl_line::device::{Device, Sink, Source};
@@ -43,13 +49,7 @@ fn main(rt: HostRuntime) -> ExitCode {
     };
     let users = match words::users(alloc, words.as_slice()) {
         Ok(users) => users,
-        Err(error) => {
-            let status = error.exit_code();
-            return match error.print(&rt) {
-                Ok(()) => ExitCode::from(if status == 0 { 0 } else { 2 }),
-                Err(_) => ExitCode::FAILURE,
-            };
-        }
+        Err(error) => return refused(&rt, &error),
     };
     let Ok(writer) = BufWriter::with_capacity(alloc, ANSWER_BYTES, rt.stdout()) else {
         return told(&rt, Failure::Memory);
@@ -59,6 +59,18 @@ fn main(rt: HostRuntime) -> ExitCode {
     match run(alloc, users.as_slice(), &mut reader, &mut writer) {
         Ok(()) => ExitCode::SUCCESS,
         Err(failure) => told(&rt, failure),
+    }
+}
+
+// A refusal of the words, or a request for help, told by its own text; want of memory is told as such.
+fn refused<R: Print + Eprint>(rt: &R, error: &clap::Error) -> ExitCode {
+    if error.kind() == ErrorKind::OutOfMemory {
+        return told(rt, Failure::Memory);
+    }
+    match error.print(rt) {
+        Ok(()) if error.use_stderr() => ExitCode::from(2),
+        Ok(()) => ExitCode::SUCCESS,
+        Err(_) => ExitCode::FAILURE,
     }
 }
 
@@ -76,8 +88,17 @@ fn run<'a, S: Source, W: Sink>(
     users: &[&'a str],
     reader: &mut S,
     writer: &mut W,
-) -> Result<(), Failure<'a>> {
-    let roster = roster(alloc, users)?;
+) -> Result<(), Failure<'a>>
+    ensures served { OnOk result (Served end.Input (map (λ user. user.now) users.now)
+        (S.left reader.old) (S.left reader.new) (W.held writer.old) (W.held writer.new)) }
+    ensures read { result ≡ Err failure.Read → Served end.ReadFault (map (λ user. user.now) users.now)
+        (S.left reader.old) (S.left reader.new) (W.held writer.old) (W.held writer.new) }
+    ensures write { result ≡ Err failure.Write → Served end.WriteFault (map (λ user. user.now) users.now)
+        (S.left reader.old) (S.left reader.new) (W.held writer.old) (W.held writer.new) }
+{
+    let Ok(roster) = roster(alloc, users) else {
+        return Err(Failure::Memory);
+    };
     let mut house = match House::new(alloc, roster.as_slice(), LIMITS) {
         Ok(house) => house,
         Err(fault) => return Err(Failure::of_roster(fault, users)),
@@ -89,7 +110,10 @@ fn run<'a, S: Source, W: Sink>(
     }
 }
 
-fn roster(alloc: Global, users: &[&str]) -> Result<Vec<Vec<u8>>, AllocError> {
+// The users' names as bytes.
+fn roster(alloc: Global, users: &[&str]) -> Result<Vec<Vec<u8>>, AllocError>
+    ensures { IfOk result (λ names. map (λ name. name.items) names.items ≡ map (λ user. user.now) users.now) }
+{
     let mut roster = Vec::new(alloc);
     for user in users {
         roster.push(Vec::from_slice(alloc, user.as_bytes())?)?;
