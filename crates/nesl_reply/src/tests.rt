@@ -154,7 +154,7 @@ fn a_million_levels(rt: HostRuntime) -> Result<(), Fail> {
 }
 
 #[test]
-fn told_of_lines(rt: HostRuntime) -> Result<(), Fail> {
+fn told_of_definitions(rt: HostRuntime) -> Result<(), Fail> {
     let alloc = rt.alloc();
     let point = Value::tagged(alloc, 0, numbers(alloc, 3, 4)?)?;
     let cost = Cost { work: 4, depth: 4 };
@@ -177,6 +177,12 @@ fn told_of_lines(rt: HostRuntime) -> Result<(), Fail> {
             "p : (a, b) -> p\n"
         )?
     );
+    Ok(())
+}
+
+#[test]
+fn told_of_names_and_budgets(rt: HostRuntime) -> Result<(), Fail> {
+    let alloc = rt.alloc();
     assert!(rt; replies(alloc, Reply::Names, "names: point, r, q\n")?);
     let elements = Used {
         used: 14,
