@@ -8,6 +8,7 @@ use Rattle.nesl_unify.specs.declared.table.Node.TheVariants.{Free, Same, Int, Bo
 use Rattle.nesl_unify.specs.Table.{node_at, Shows, Fits, IsPlaced, IsTable, IsRoot, IsFlat, target, link_or, built, written}
 use Rattle.nesl_unify.specs.Sizes.{size_at, IsSize, AreSizes}
 use Rattle.nesl_unify.specs.Extends.{Extends, IsMade}
+use Rattle.nesl_unify.proofs.Tables.{root_target}
 use Rattle.nesl_unify.proofs.Readings.{whole, whole_root, written_target, size_target}
 
 -- a node at place p that leads to smaller places
@@ -170,19 +171,9 @@ whole_link ns sizes p r f l e =
     let same : size_at ns sizes r ≡ size_at ns sizes p = ap (size_at ns sizes) (sym to) ∙ size_target ns sizes p f in
     (written_target ns (size_at ns sizes p) p f l ∙ ap (written (size_at ns sizes p) ns) to ∙ ap (λ (k : ℕ). written k ns r) (sym same), same)
 
-root_is : (p : ℕ) (n : Node) → IsRoot n → link_or p n ≡ p
-root_is p Free h = refl
-root_is p (Same q) h = absurd h
-root_is p Int h = refl
-root_is p Bool h = refl
-root_is p Char h = refl
-root_is p (Named m) h = refl
-root_is p (SeqOf q) h = refl
-root_is p (Both q r) h = refl
-
 whole_shows : (ns : List Node) (sizes : List ℕ) (p : ℕ) → AreSizes ns sizes → IsRoot (node_at ns p) → 0 < size_at ns sizes p → Shows (whole ns sizes) (whole ns sizes p) (node_at ns p) × IsSize ns sizes (node_at ns p) (size_at ns sizes p)
 whole_shows ns sizes p s r l =
-    let to : target ns p ≡ p = root_is p (node_at ns p) r in (
+    let to : target ns p ≡ p = root_target p (node_at ns p) r in (
       subst (λ (i : ℕ). Shows (whole ns sizes) (whole ns sizes p) (node_at ns i)) to (whole_root ns sizes p (size_at ns sizes p) s l refl),
       subst (λ (i : ℕ). IsSize ns sizes (node_at ns i) (size_at ns sizes p)) to (s (target ns p) l),
     )

@@ -7,7 +7,7 @@ use Rattle.nesl_unify.specs.declared.table.Node.TheVariants.{Free, Same, Int, Bo
 use Rattle.nesl_types.specs.Numbering.{IsBelow}
 use Rattle.nesl_unify.specs.Table.{node_at, Shows, Fits, IsPlaced, IsTable, IsRoot, IsFlat, target, link_or, built, written}
 use Rattle.nesl_unify.specs.Sizes.{size_at, IsSize, AreSizes}
-use Rattle.nesl_unify.proofs.Tables.{fits-target, target_le}
+use Rattle.nesl_unify.proofs.Tables.{fits-target, target_le, root_target}
 
 -- what fits a table is what is read, with its types in place of the variables
 ground_node : (w f : ℕ → Term) (p : ℕ) (n : Node) → Shows w (w p) n → ((q : ℕ) → w q ≡ substitute w (f q)) → w p ≡ substitute w (built f p n)
@@ -73,16 +73,6 @@ abbrev pub whole : List Node → List ℕ → ℕ → Term
 whole ns sizes p = written (size_at ns sizes p) ns p
 
 -- a link leads to the same type
-root_target : (p : ℕ) (n : Node) → IsRoot n → link_or p n ≡ p
-root_target p Free h = refl
-root_target p (Same q) h = absurd h
-root_target p Int h = refl
-root_target p Bool h = refl
-root_target p Char h = refl
-root_target p (Named m) h = refl
-root_target p (SeqOf q) h = refl
-root_target p (Both q r) h = refl
-
 pub written_target : (ns : List Node) (k p : ℕ) → IsFlat ns → 0 < k → written k ns p ≡ written k ns (target ns p)
 written_target ns zero p f l = absurd (omega arith)
 written_target ns (suc k) p f l =

@@ -167,17 +167,18 @@ relinks_more old mid new a b = record {
 pub link_lt : (count : ℕ) (ns : List Node) (p q : ℕ) → IsTable count ns → p < length ns → node_at ns p ≡ Same q → q < p
 link_lt count ns p q t inside e = subst (IsPlaced count (length ns) p) e (t p inside)
 
--- links up to a place lead to places without links
-target_root : (p : ℕ) (n : Node) → IsRoot n → link_or p n ≡ p
-target_root p Free h = refl
-target_root p (Same q) h = absurd h
-target_root p Int h = refl
-target_root p Bool h = refl
-target_root p Char h = refl
-target_root p (Named m) h = refl
-target_root p (SeqOf q) h = refl
-target_root p (Both q r) h = refl
+-- a place without a link leads to itself
+pub root_target : (p : ℕ) (n : Node) → IsRoot n → link_or p n ≡ p
+root_target p Free h = refl
+root_target p (Same q) h = absurd h
+root_target p Int h = refl
+root_target p Bool h = refl
+root_target p Char h = refl
+root_target p (Named m) h = refl
+root_target p (SeqOf q) h = refl
+root_target p (Both q r) h = refl
 
+-- links up to a place lead to places without links
 pub flat_past : (ns : List Node) → ((p : ℕ) → p < length ns → IsRoot (node_at ns (target ns p))) → IsFlat ns
 flat_past ns h p =
     elim (cases_lt p (length ns)) [
