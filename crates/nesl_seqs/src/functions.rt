@@ -10,7 +10,7 @@ ghost use Rattle.nesl_seqs.specs.Whole.{PricesAll};
 use crate::price::Price;
 use crate::reductions::{self, price_of_reduction, value_of};
 use crate::seq_fn::SeqFn;
-use crate::{equal, pairs, pieces, ranges, replace};
+use crate::{equal, extremes, pairs, pieces, ranges, replace};
 use nesl_scalars::Trap;
 use nesl_values::Value;
 use std::alloc::{AllocError, Allocator};
@@ -73,6 +73,10 @@ fn price<A: Allocator>(
         SeqFn::Zip => pairs::price_zip(argument, limit),
         SeqFn::Rep => replace::price_rep(argument, limit),
         SeqFn::Eql => equal::price_eql(argument, limit),
+        SeqFn::MaxVal => price_of_reduction(argument, extremes::max_val(argument), limit),
+        SeqFn::MinVal => price_of_reduction(argument, extremes::min_val(argument), limit),
+        SeqFn::MaxIndex => price_of_reduction(argument, extremes::max_index(argument), limit),
+        SeqFn::MinIndex => price_of_reduction(argument, extremes::min_index(argument), limit),
     }
 }
 
@@ -105,5 +109,9 @@ pub fn apply<A: Allocator + Copy, B: Allocator>(
         SeqFn::Zip => pairs::apply_zip(alloc, argument),
         SeqFn::Rep => replace::apply_rep(alloc, argument),
         SeqFn::Eql => Ok(equal::apply_eql(argument)),
+        SeqFn::MaxVal => Ok(value_of(extremes::max_val(argument))),
+        SeqFn::MinVal => Ok(value_of(extremes::min_val(argument))),
+        SeqFn::MaxIndex => Ok(value_of(extremes::max_index(argument))),
+        SeqFn::MinIndex => Ok(value_of(extremes::min_index(argument))),
     }
 }

@@ -4,6 +4,7 @@
 mod arguments;
 mod copies;
 mod equal;
+mod extremes;
 mod functions;
 mod item;
 mod nodes;

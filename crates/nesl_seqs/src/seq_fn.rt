@@ -42,4 +42,12 @@ pub enum SeqFn {
     Rep,
     /// `eql(x, y)`: whether they are the same.
     Eql,
+    /// `max_val(v)`: the greatest element.
+    MaxVal,
+    /// `min_val(v)`: the least element.
+    MinVal,
+    /// `max_index(v)`: the first place of the greatest element.
+    MaxIndex,
+    /// `min_index(v)`: the first place of the least element.
+    MinIndex,
 }
