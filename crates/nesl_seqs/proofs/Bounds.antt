@@ -22,7 +22,7 @@ Fits (gives t) read = 1 + read + (size t - 1) < 2 ^ 128
 Fits (traps e) read = Unit {0}
 Fits undefined read = Unit {0}
 
-fits_if : (b : Bool) (t : Tree) (e : Trap) (n : ℕ) → 1 + n + (size t - 1) < 2 ^ 128 → Fits (cond b (gives t) (traps e)) n
+pub fits_if : (b : Bool) (t : Tree) (e : Trap) (n : ℕ) → 1 + n + (size t - 1) < 2 ^ 128 → Fits (cond b (gives t) (traps e)) n
 fits_if true t e n p = p
 fits_if false t e n p = tt
 

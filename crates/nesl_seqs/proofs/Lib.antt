@@ -9,3 +9,5 @@ pub mod Bounds
 pub mod Pairing
 pub mod Best
 pub mod ScanBounds
+pub mod Before
+pub mod Leaves

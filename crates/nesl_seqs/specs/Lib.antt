@@ -13,3 +13,5 @@ pub mod Steps
 pub mod Whole
 pub mod Extremes
 pub mod Better
+pub mod Scans
+pub mod Leaves

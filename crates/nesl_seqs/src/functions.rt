@@ -9,8 +9,9 @@ ghost use Rattle.nesl_seqs.specs.Whole.{PricesAll};
 
 use crate::price::Price;
 use crate::reductions::{self, price_of_reduction, value_of};
+use crate::scans::Joint;
 use crate::seq_fn::SeqFn;
-use crate::{equal, extremes, pairs, pieces, ranges, replace};
+use crate::{equal, extremes, pairs, pieces, ranges, replace, scans};
 use nesl_scalars::Trap;
 use nesl_values::Value;
 use std::alloc::{AllocError, Allocator};
@@ -77,6 +78,9 @@ fn price<A: Allocator>(
         SeqFn::MinVal => price_of_reduction(argument, extremes::min_val(argument), limit),
         SeqFn::MaxIndex => price_of_reduction(argument, extremes::max_index(argument), limit),
         SeqFn::MinIndex => price_of_reduction(argument, extremes::min_index(argument), limit),
+        SeqFn::PlusScan => scans::price_plus_scan(argument, limit),
+        SeqFn::OrScan => scans::price_logic_scan(argument, Joint::Or, limit),
+        SeqFn::AndScan => scans::price_logic_scan(argument, Joint::And, limit),
     }
 }
 
@@ -113,5 +117,8 @@ pub fn apply<A: Allocator + Copy, B: Allocator>(
         SeqFn::MinVal => Ok(value_of(extremes::min_val(argument))),
         SeqFn::MaxIndex => Ok(value_of(extremes::max_index(argument))),
         SeqFn::MinIndex => Ok(value_of(extremes::min_index(argument))),
+        SeqFn::PlusScan => scans::apply_plus_scan(alloc, argument),
+        SeqFn::OrScan => scans::apply_logic_scan(alloc, argument, Joint::Or),
+        SeqFn::AndScan => scans::apply_logic_scan(alloc, argument, Joint::And),
     }
 }

@@ -14,6 +14,7 @@ mod price;
 mod ranges;
 mod reductions;
 mod replace;
+mod scans;
 mod seq_fn;
 #[cfg(test)]
 mod tests;

@@ -50,4 +50,10 @@ pub enum SeqFn {
     MaxIndex,
     /// `min_index(v)`: the first place of the least element.
     MinIndex,
+    /// `plus_scan(v)`: at each place the sum of the elements before it.
+    PlusScan,
+    /// `or_scan(v)`: at each place the elements before it, joined by `or`.
+    OrScan,
+    /// `and_scan(v)`: at each place the elements before it, joined by `and`.
+    AndScan,
 }
