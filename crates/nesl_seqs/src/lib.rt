@@ -18,6 +18,8 @@ mod scans;
 mod seq_fn;
 #[cfg(test)]
 mod tests;
+#[cfg(test)]
+mod tests_scans;
 
 pub use equal::tells_equality;
 pub use functions::{apply, cost_and_size, price_within};
