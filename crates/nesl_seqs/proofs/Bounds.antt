@@ -17,12 +17,12 @@ use Rattle.nesl_seqs.specs.declared.seq_fn.SeqFn.TheVariants.{Length, Index, App
 use Rattle.nesl_seqs.proofs.Totals.{sizes_append, sizes_reverse}
 
 -- the work of an outcome fits
-abbrev Fits : Outcome → ℕ → Type 0
+abbrev pub Fits : Outcome → ℕ → Type 0
 Fits (gives t) read = 1 + read + (size t - 1) < 2 ^ 128
 Fits (traps e) read = Unit {0}
 Fits undefined read = Unit {0}
 
-fits_if : (b : Bool) (t : Tree) (e : Trap) (n : ℕ) → 1 + n + (size t - 1) < 2 ^ 128 → Fits (cond b (gives t) (traps e)) n
+pub fits_if : (b : Bool) (t : Tree) (e : Trap) (n : ℕ) → 1 + n + (size t - 1) < 2 ^ 128 → Fits (cond b (gives t) (traps e)) n
 fits_if true t e n p = p
 fits_if false t e n p = tt
 
@@ -99,7 +99,7 @@ fits_leaf : (o : Option (List Bool)) (g : List Bool → Outcome) (n : ℕ) → (
 fits_leaf None g n h = tt
 fits_leaf (Some bs) g n h = h bs
 
-length_below : (t : Tree) → size t < 2 ^ 65 → length_of t < 2 ^ 65
+pub length_below : (t : Tree) → size t < 2 ^ 65 → length_of t < 2 ^ 65
 length_below (seq ts) h = omega (arith, sizes_list ts, length_le (list_of ts))
 length_below (int n) h = omega arith
 length_below (boolean b) h = omega arith

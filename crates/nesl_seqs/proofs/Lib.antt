@@ -7,3 +7,7 @@ pub mod Folds
 pub mod Equality
 pub mod Bounds
 pub mod Pairing
+pub mod Best
+pub mod ScanBounds
+pub mod Before
+pub mod Leaves

@@ -11,3 +11,7 @@ pub mod Held
 pub mod Scalar
 pub mod Steps
 pub mod Whole
+pub mod Extremes
+pub mod Better
+pub mod Scans
+pub mod Leaves

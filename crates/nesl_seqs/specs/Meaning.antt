@@ -9,8 +9,12 @@ use Rattle.nesl_seqs.specs.Reductions.{summed, some_true, all_true, counted}
 use Rattle.nesl_seqs.specs.Equal.{tree_eq}
 use Rattle.nesl_seqs.specs.Pairs.{zipped}
 use Rattle.nesl_seqs.specs.Ranges.{repeated, ranged, first_numbers}
+use Rattle.nesl_seqs.specs.Extremes.{best_element, best_place}
+use Rattle.nesl_seqs.specs.Scans.{plus_scanned, logic_scanned}
 use Rattle.nesl_seqs.specs.declared.seq_fn.SeqFn.{SeqFn}
-use Rattle.nesl_seqs.specs.declared.seq_fn.SeqFn.TheVariants.{Length, Index, Append, Dist, Range, RangeBy, Iota, Sum, Any, All, Count, Bottop, Take, Drop, Reverse, Rotate, Zip, Rep, Eql}
+use Rattle.nesl_seqs.specs.declared.extremes.Order.TheVariants.{Greatest, Least}
+use Rattle.nesl_seqs.specs.declared.scans.Joint.TheVariants.{Or, And}
+use Rattle.nesl_seqs.specs.declared.seq_fn.SeqFn.TheVariants.{Length, Index, Append, Dist, Range, RangeBy, Iota, Sum, Any, All, Count, Bottop, Take, Drop, Reverse, Rotate, Zip, Rep, Eql, MaxVal, MinVal, MaxIndex, MinIndex, PlusScan, OrScan, AndScan}
 
 -- this profile's table of sequence functions
 abbrev pub meaning : SeqFn → Tree → Outcome
@@ -33,3 +37,10 @@ meaning Rotate t = given (sequence_and_int t) (λ p. rotated p.0 p.1)
 meaning Zip t = given (two_sequences t) (λ p. zipped p.0 p.1)
 meaning Rep t = given (sequence_item_place t) (λ p. replaced p.0 p.1.0 p.1.1)
 meaning Eql t = given (as_pair t) (λ p. gives (boolean (tree_eq p.0 p.1)))
+meaning MaxVal t = best_element Greatest t
+meaning MinVal t = best_element Least t
+meaning MaxIndex t = best_place Greatest t
+meaning MinIndex t = best_place Least t
+meaning PlusScan t = given (numbers t) plus_scanned
+meaning OrScan t = logic_scanned Or t
+meaning AndScan t = logic_scanned And t

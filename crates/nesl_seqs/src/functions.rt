@@ -9,8 +9,9 @@ ghost use Rattle.nesl_seqs.specs.Whole.{PricesAll};
 
 use crate::price::Price;
 use crate::reductions::{self, price_of_reduction, value_of};
+use crate::scans::Joint;
 use crate::seq_fn::SeqFn;
-use crate::{equal, pairs, pieces, ranges, replace};
+use crate::{equal, extremes, pairs, pieces, ranges, replace, scans};
 use nesl_scalars::Trap;
 use nesl_values::Value;
 use std::alloc::{AllocError, Allocator};
@@ -73,6 +74,13 @@ fn price<A: Allocator>(
         SeqFn::Zip => pairs::price_zip(argument, limit),
         SeqFn::Rep => replace::price_rep(argument, limit),
         SeqFn::Eql => equal::price_eql(argument, limit),
+        SeqFn::MaxVal => price_of_reduction(argument, extremes::max_val(argument), limit),
+        SeqFn::MinVal => price_of_reduction(argument, extremes::min_val(argument), limit),
+        SeqFn::MaxIndex => price_of_reduction(argument, extremes::max_index(argument), limit),
+        SeqFn::MinIndex => price_of_reduction(argument, extremes::min_index(argument), limit),
+        SeqFn::PlusScan => scans::price_plus_scan(argument, limit),
+        SeqFn::OrScan => scans::price_logic_scan(argument, Joint::Or, limit),
+        SeqFn::AndScan => scans::price_logic_scan(argument, Joint::And, limit),
     }
 }
 
@@ -105,5 +113,12 @@ pub fn apply<A: Allocator + Copy, B: Allocator>(
         SeqFn::Zip => pairs::apply_zip(alloc, argument),
         SeqFn::Rep => replace::apply_rep(alloc, argument),
         SeqFn::Eql => Ok(equal::apply_eql(argument)),
+        SeqFn::MaxVal => Ok(value_of(extremes::max_val(argument))),
+        SeqFn::MinVal => Ok(value_of(extremes::min_val(argument))),
+        SeqFn::MaxIndex => Ok(value_of(extremes::max_index(argument))),
+        SeqFn::MinIndex => Ok(value_of(extremes::min_index(argument))),
+        SeqFn::PlusScan => scans::apply_plus_scan(alloc, argument),
+        SeqFn::OrScan => scans::apply_logic_scan(alloc, argument, Joint::Or),
+        SeqFn::AndScan => scans::apply_logic_scan(alloc, argument, Joint::And),
     }
 }

@@ -4,6 +4,7 @@
 mod arguments;
 mod copies;
 mod equal;
+mod extremes;
 mod functions;
 mod item;
 mod nodes;
@@ -13,9 +14,12 @@ mod price;
 mod ranges;
 mod reductions;
 mod replace;
+mod scans;
 mod seq_fn;
 #[cfg(test)]
 mod tests;
+#[cfg(test)]
+mod tests_scans;
 
 pub use equal::tells_equality;
 pub use functions::{apply, cost_and_size, price_within};

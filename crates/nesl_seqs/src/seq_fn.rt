@@ -42,4 +42,18 @@ pub enum SeqFn {
     Rep,
     /// `eql(x, y)`: whether they are the same.
     Eql,
+    /// `max_val(v)`: the greatest element.
+    MaxVal,
+    /// `min_val(v)`: the least element.
+    MinVal,
+    /// `max_index(v)`: the first place of the greatest element.
+    MaxIndex,
+    /// `min_index(v)`: the first place of the least element.
+    MinIndex,
+    /// `plus_scan(v)`: at each place the sum of the elements before it.
+    PlusScan,
+    /// `or_scan(v)`: at each place the elements before it, joined by `or`.
+    OrScan,
+    /// `and_scan(v)`: at each place the elements before it, joined by `and`.
+    AndScan,
 }
