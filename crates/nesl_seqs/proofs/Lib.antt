@@ -7,3 +7,8 @@ pub mod Folds
 pub mod Equality
 pub mod Bounds
 pub mod Pairing
+pub mod Shapes
+pub mod Priced
+pub mod Flattening
+pub mod Unzipping
+pub mod BoundsOfParts

@@ -10,7 +10,7 @@ ghost use Rattle.nesl_seqs.specs.Whole.{PricesAll};
 use crate::price::Price;
 use crate::reductions::{self, price_of_reduction, value_of};
 use crate::seq_fn::SeqFn;
-use crate::{equal, pairs, pieces, ranges, replace};
+use crate::{equal, levels, pairs, pieces, ranges, replace, sides};
 use nesl_scalars::Trap;
 use nesl_values::Value;
 use std::alloc::{AllocError, Allocator};
@@ -73,6 +73,8 @@ fn price<A: Allocator>(
         SeqFn::Zip => pairs::price_zip(argument, limit),
         SeqFn::Rep => replace::price_rep(argument, limit),
         SeqFn::Eql => equal::price_eql(argument, limit),
+        SeqFn::Flatten => levels::price_flatten(argument, limit),
+        SeqFn::Unzip => sides::price_unzip(argument, limit),
     }
 }
 
@@ -105,5 +107,7 @@ pub fn apply<A: Allocator + Copy, B: Allocator>(
         SeqFn::Zip => pairs::apply_zip(alloc, argument),
         SeqFn::Rep => replace::apply_rep(alloc, argument),
         SeqFn::Eql => Ok(equal::apply_eql(argument)),
+        SeqFn::Flatten => levels::apply_flatten(alloc, argument),
+        SeqFn::Unzip => sides::apply_unzip(alloc, argument),
     }
 }

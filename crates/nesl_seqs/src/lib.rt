@@ -6,6 +6,7 @@ mod copies;
 mod equal;
 mod functions;
 mod item;
+mod levels;
 mod nodes;
 mod pairs;
 mod pieces;
@@ -14,6 +15,7 @@ mod ranges;
 mod reductions;
 mod replace;
 mod seq_fn;
+mod sides;
 #[cfg(test)]
 mod tests;
 

@@ -42,4 +42,8 @@ pub enum SeqFn {
     Rep,
     /// `eql(x, y)`: whether they are the same.
     Eql,
+    /// `flatten(v)`: the elements of the inner sequences, one sequence after the other.
+    Flatten,
+    /// `unzip(v)`: the left parts of pairs and the right ones.
+    Unzip,
 }
