@@ -1,5 +1,5 @@
 -- No price of these functions is above what its numbers hold, where the argument has fewer than 2^65 nodes.
-use Rattle.std.proofs.Common.{◌≡◌, ℕ, ◌+◌, ◌-◌, ◌^◌, ◌<◌, ◌≤◌, List, length, map, refl, arith, Option, Some, None}
+use Rattle.std.proofs.Common.{◌≡◌, ℕ, ◌+◌, ◌-◌, ◌^◌, ◌<◌, ◌≤◌, List, [], ◌∷◌, ◌||◌, drop, length, map, nat_eq, refl, arith, Option, Some, None}
 use Rattle.std.specs.List.{flat_map}
 use Rattle.nesl_values.specs.Tree.{Tree, pair, seq, sequence, size, sizes, trees_of}
 use Rattle.nesl_values.specs.Parts.{list_of, as_pair, as_sequence}
@@ -7,8 +7,11 @@ use Rattle.nesl_seqs.specs.Outcome.{Outcome, given}
 use Rattle.nesl_seqs.specs.Reductions.{all_of}
 use Rattle.nesl_seqs.specs.Levels.{flattened}
 use Rattle.nesl_seqs.specs.Sides.{unzipped}
-use Rattle.nesl_seqs.specs.declared.seq_fn.SeqFn.TheVariants.{Flatten, Unzip}
-use Rattle.nesl_seqs.proofs.Bounds.{Fits, IsBounded, sizes_list, length_le}
+use Rattle.nesl_seqs.specs.Woven.{evens, woven, even_elements, odd_elements, interleaved}
+use Rattle.nesl_seqs.specs.declared.seq_fn.SeqFn.TheVariants.{Flatten, Unzip, OddElts, EvenElts, Interleave}
+use Rattle.nesl_seqs.proofs.Bounds.{Fits, IsBounded, fits_if, sizes_list, length_le, sizes_drop, by_sequence, by_two_sequences}
+use Rattle.nesl_seqs.proofs.Totals.{sizes_append}
+use Rattle.nesl_seqs.proofs.Weaving.{size_woven}
 use Rattle.nesl_seqs.proofs.Flattening.{size_flattened}
 use Rattle.nesl_seqs.proofs.Unzipping.{size_unzipped}
 
@@ -27,3 +30,18 @@ bounded_unzip (seq ts) h =
     let us = list_of ts in
     fits_given (all_of as_pair us) unzipped (length us) (λ ps k. omega (arith, size_unzipped us ps k, sizes_list ts, length_le us))
 bounded_unzip t h = tt
+
+sizes_evens : (ts : List Tree) → sizes (trees_of (evens ts)) ≤ sizes (trees_of ts)
+sizes_evens [] = omega arith
+sizes_evens (t ∷ []) = omega arith
+sizes_evens (t ∷ u ∷ ts) = omega (arith, sizes_evens ts)
+
+pub bounded_even_elts : IsBounded EvenElts
+bounded_even_elts t h = by_sequence t even_elements h (λ ts p q. omega (arith, sizes_evens ts))
+
+pub bounded_odd_elts : IsBounded OddElts
+bounded_odd_elts t h = by_sequence t odd_elements h (λ ts p q. omega (arith, sizes_evens (drop 1 ts), sizes_drop 1 ts))
+
+pub bounded_interleave : IsBounded Interleave
+bounded_interleave t h =
+    by_two_sequences t interleaved h (λ ts us p q. fits_if (nat_eq (length ts) (length us) || nat_eq (length ts) (length us + 1)) (sequence (woven ts us)) _ (length ts + length us) (omega (arith, size_woven ts us, sizes_append ts us)))

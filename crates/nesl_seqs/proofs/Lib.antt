@@ -11,4 +11,5 @@ pub mod Shapes
 pub mod Priced
 pub mod Flattening
 pub mod Unzipping
+pub mod Weaving
 pub mod BoundsOfParts

@@ -7,6 +7,7 @@ pub mod Pairs
 pub mod Equal
 pub mod Levels
 pub mod Sides
+pub mod Woven
 pub mod Meaning
 pub mod Prices
 pub mod Held

@@ -11,9 +11,10 @@ use Rattle.nesl_seqs.specs.Pairs.{zipped}
 use Rattle.nesl_seqs.specs.Ranges.{repeated, ranged, first_numbers}
 use Rattle.nesl_seqs.specs.Levels.{sequences, flattened}
 use Rattle.nesl_seqs.specs.Sides.{sequence_of_pairs, unzipped}
+use Rattle.nesl_seqs.specs.Woven.{odd_elements, even_elements, interleaved}
 use Rattle.nesl_seqs.specs.declared.seq_fn.SeqFn.{SeqFn}
 use Rattle.nesl_seqs.specs.declared.seq_fn.SeqFn.TheVariants.{Length, Index, Append, Dist, Range, RangeBy, Iota, Sum, Any, All, Count, Bottop, Take, Drop, Reverse, Rotate, Zip, Rep, Eql}
-use Rattle.nesl_seqs.specs.declared.seq_fn.SeqFn.TheVariants.{Flatten, Unzip}
+use Rattle.nesl_seqs.specs.declared.seq_fn.SeqFn.TheVariants.{Flatten, Unzip, OddElts, EvenElts, Interleave}
 
 -- this profile's table of sequence functions
 abbrev pub meaning : SeqFn → Tree → Outcome
@@ -38,3 +39,6 @@ meaning Rep t = given (sequence_item_place t) (λ p. replaced p.0 p.1.0 p.1.1)
 meaning Eql t = given (as_pair t) (λ p. gives (boolean (tree_eq p.0 p.1)))
 meaning Flatten t = given (sequences t) flattened
 meaning Unzip t = given (sequence_of_pairs t) unzipped
+meaning OddElts t = given (as_sequence t) odd_elements
+meaning EvenElts t = given (as_sequence t) even_elements
+meaning Interleave t = given (two_sequences t) (λ p. interleaved p.0 p.1)

@@ -8,7 +8,7 @@ use Rattle.nesl_seqs.specs.Arguments.{sequence_and_int, two_sequences, sequence_
 use Rattle.nesl_seqs.specs.declared.price.Price.{Price}
 use Rattle.nesl_seqs.specs.declared.seq_fn.SeqFn.{SeqFn}
 use Rattle.nesl_seqs.specs.declared.seq_fn.SeqFn.TheVariants.{Length, Index, Append, Dist, Range, RangeBy, Iota, Sum, Any, All, Count, Bottop, Take, Drop, Reverse, Rotate, Zip, Rep, Eql}
-use Rattle.nesl_seqs.specs.declared.seq_fn.SeqFn.TheVariants.{Flatten, Unzip}
+use Rattle.nesl_seqs.specs.declared.seq_fn.SeqFn.TheVariants.{Flatten, Unzip, OddElts, EvenElts, Interleave}
 
 -- the length of a sequence
 abbrev pub length_of : Tree → ℕ
@@ -37,6 +37,9 @@ reads Rep t = unwrap_or (option_map (λ p. length p.0) (sequence_item_place t)) 
 reads Eql t = unwrap_or (option_map (λ p. size p.0 + size p.1) (as_pair t)) 0
 reads Flatten t = length_of t
 reads Unzip t = length_of t
+reads OddElts t = length_of t
+reads EvenElts t = length_of t
+reads Interleave t = unwrap_or (option_map (λ p. length p.0 + length p.1) (two_sequences t)) 0
 
 -- how many of the first k powers of two are at most n
 abbrev pub powers_within : ℕ → ℕ → ℕ

@@ -10,7 +10,7 @@ ghost use Rattle.nesl_seqs.specs.Whole.{PricesAll};
 use crate::price::Price;
 use crate::reductions::{self, price_of_reduction, value_of};
 use crate::seq_fn::SeqFn;
-use crate::{equal, levels, pairs, pieces, ranges, replace, sides};
+use crate::{equal, levels, pairs, pieces, ranges, replace, sides, woven};
 use nesl_scalars::Trap;
 use nesl_values::Value;
 use std::alloc::{AllocError, Allocator};
@@ -75,6 +75,9 @@ fn price<A: Allocator>(
         SeqFn::Eql => equal::price_eql(argument, limit),
         SeqFn::Flatten => levels::price_flatten(argument, limit),
         SeqFn::Unzip => sides::price_unzip(argument, limit),
+        SeqFn::OddElts => woven::price_odd_elts(argument, limit),
+        SeqFn::EvenElts => woven::price_even_elts(argument, limit),
+        SeqFn::Interleave => woven::price_interleave(argument, limit),
     }
 }
 
@@ -109,5 +112,8 @@ pub fn apply<A: Allocator + Copy, B: Allocator>(
         SeqFn::Eql => Ok(equal::apply_eql(argument)),
         SeqFn::Flatten => levels::apply_flatten(alloc, argument),
         SeqFn::Unzip => sides::apply_unzip(alloc, argument),
+        SeqFn::OddElts => woven::apply_odd_elts(alloc, argument),
+        SeqFn::EvenElts => woven::apply_even_elts(alloc, argument),
+        SeqFn::Interleave => woven::apply_interleave(alloc, argument),
     }
 }

@@ -18,8 +18,10 @@ mod seq_fn;
 mod sides;
 #[cfg(test)]
 mod tests;
+mod woven;
 
 pub use equal::tells_equality;
 pub use functions::{apply, cost_and_size, price_within};
 pub use price::Price;
 pub use seq_fn::SeqFn;
+pub use woven::{takes_every_other, weaves};

@@ -46,4 +46,10 @@ pub enum SeqFn {
     Flatten,
     /// `unzip(v)`: the left parts of pairs and the right ones.
     Unzip,
+    /// `odd_elts(v)`: the elements at the places 1, 3 and so on.
+    OddElts,
+    /// `even_elts(v)`: the elements at the places 0, 2 and so on.
+    EvenElts,
+    /// `interleave(v, w)`: one element of each in turn.
+    Interleave,
 }

@@ -3,8 +3,8 @@ use Rattle.nesl_seqs.specs.Meaning.{meaning}
 use Rattle.nesl_seqs.specs.Prices.{reads, depth_of}
 use Rattle.nesl_seqs.specs.declared.seq_fn.SeqFn.TheVariants.{Length, Index, Append, Sum, Any, All, Count, Bottop, Take, Drop, Reverse, Rotate, Zip, Rep, Eql}
 use Rattle.nesl_seqs.proofs.Bounds.{always, bounded_length, bounded_index, bounded_append, bounded_bottop, bounded_take, bounded_drop, bounded_reverse, bounded_rotate, bounded_zip, bounded_rep, bounded_eql, bounded_sum, bounded_any, bounded_all, bounded_count}
-use Rattle.nesl_seqs.specs.declared.seq_fn.SeqFn.TheVariants.{Flatten, Unzip}
-use Rattle.nesl_seqs.proofs.BoundsOfParts.{bounded_flatten, bounded_unzip}
+use Rattle.nesl_seqs.specs.declared.seq_fn.SeqFn.TheVariants.{Flatten, Unzip, OddElts, EvenElts, Interleave}
+use Rattle.nesl_seqs.proofs.BoundsOfParts.{bounded_flatten, bounded_unzip, bounded_odd_elts, bounded_even_elts, bounded_interleave}
 use Rattle.nesl_seqs.proofs.functions.price.Goals as goal
 
 pub returns-in-Length-clause-always : goal.returns-in-Length-clause-always
@@ -91,3 +91,18 @@ pub returns-in-Unzip-clause-always : goal.returns-in-Unzip-clause-always
 returns-in-Unzip-clause-always g c h is =
     let t = tree_of c.args.argument.now in
     always (meaning Unzip t) (reads Unzip t) 1 c.args.limit c.price_unzip.result (bounded_unzip t h) is c.price_unzip.ensures
+
+pub returns-in-OddElts-clause-always : goal.returns-in-OddElts-clause-always
+returns-in-OddElts-clause-always g c h is =
+    let t = tree_of c.args.argument.now in
+    always (meaning OddElts t) (reads OddElts t) 1 c.args.limit c.price_odd_elts.result (bounded_odd_elts t h) is c.price_odd_elts.ensures
+
+pub returns-in-EvenElts-clause-always : goal.returns-in-EvenElts-clause-always
+returns-in-EvenElts-clause-always g c h is =
+    let t = tree_of c.args.argument.now in
+    always (meaning EvenElts t) (reads EvenElts t) 1 c.args.limit c.price_even_elts.result (bounded_even_elts t h) is c.price_even_elts.ensures
+
+pub returns-in-Interleave-clause-always : goal.returns-in-Interleave-clause-always
+returns-in-Interleave-clause-always g c h is =
+    let t = tree_of c.args.argument.now in
+    always (meaning Interleave t) (reads Interleave t) 1 c.args.limit c.price_interleave.result (bounded_interleave t h) is c.price_interleave.ensures
