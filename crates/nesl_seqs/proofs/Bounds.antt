@@ -26,29 +26,29 @@ pub fits_if : (b : Bool) (t : Tree) (e : Trap) (n : ℕ) → 1 + n + (size t - 1
 fits_if true t e n p = p
 fits_if false t e n p = tt
 
-sizes_list : (ts : Trees) → sizes (trees_of (list_of ts)) ≡ sizes ts
+pub sizes_list : (ts : Trees) → sizes (trees_of (list_of ts)) ≡ sizes ts
 sizes_list no_trees = refl
 sizes_list (tree_then t ts) = omega (arith, sizes_list ts)
 
-length_le : (ts : List Tree) → length ts ≤ sizes (trees_of ts)
+pub length_le : (ts : List Tree) → length ts ≤ sizes (trees_of ts)
 length_le [] = omega arith
 length_le (t ∷ ts) = omega (arith, length_le ts, size_positive t)
 
-sizes_take : (k : ℕ) (ts : List Tree) → sizes (trees_of (take k ts)) ≤ sizes (trees_of ts)
+pub sizes_take : (k : ℕ) (ts : List Tree) → sizes (trees_of (take k ts)) ≤ sizes (trees_of ts)
 sizes_take zero ts = omega arith
 sizes_take (suc k) [] = omega arith
 sizes_take (suc k) (t ∷ ts) = omega (arith, sizes_take k ts)
 
-sizes_drop : (k : ℕ) (ts : List Tree) → sizes (trees_of (drop k ts)) ≤ sizes (trees_of ts)
+pub sizes_drop : (k : ℕ) (ts : List Tree) → sizes (trees_of (drop k ts)) ≤ sizes (trees_of ts)
 sizes_drop zero ts = omega arith
 sizes_drop (suc k) [] = omega arith
 sizes_drop (suc k) (t ∷ ts) = omega (arith, sizes_drop k ts)
 
-by_sequence : (t : Tree) (g : List Tree → Outcome) → size t < 2 ^ 65 → ((ts : List Tree) → sizes (trees_of ts) < 2 ^ 65 → length ts < 2 ^ 65 → Fits (g ts) (length ts)) → Fits (given (as_sequence t) g) (length_of t)
+pub by_sequence : (t : Tree) (g : List Tree → Outcome) → size t < 2 ^ 65 → ((ts : List Tree) → sizes (trees_of ts) < 2 ^ 65 → length ts < 2 ^ 65 → Fits (g ts) (length ts)) → Fits (given (as_sequence t) g) (length_of t)
 by_sequence (seq ts) g h k = k (list_of ts) (omega (arith, sizes_list ts)) (omega (arith, sizes_list ts, length_le (list_of ts)))
 by_sequence t g h k = tt
 
-by_sequence_and_int : (t : Tree) (g : List Tree → ℤ → Outcome) → size t < 2 ^ 65 → ((ts : List Tree) (z : ℤ) → sizes (trees_of ts) < 2 ^ 65 → length ts < 2 ^ 65 → Fits (g ts z) (length ts))
+pub by_sequence_and_int : (t : Tree) (g : List Tree → ℤ → Outcome) → size t < 2 ^ 65 → ((ts : List Tree) (z : ℤ) → sizes (trees_of ts) < 2 ^ 65 → length ts < 2 ^ 65 → Fits (g ts z) (length ts))
     → Fits (given (sequence_and_int t) (λ p. g p.0 p.1)) (unwrap_or (option_map (λ p. length p.0) (sequence_and_int t)) 0)
 by_sequence_and_int (pair (seq ts) (int z)) g h k = k (list_of ts) z (omega (arith, sizes_list ts)) (omega (arith, sizes_list ts, length_le (list_of ts)))
 by_sequence_and_int t g h k = tt
@@ -76,7 +76,7 @@ fits_rotated ts z h l =
 fits_number : (z : ℤ) (n : ℕ) → n < 2 ^ 65 → Fits (number z) n
 fits_number z n h = fits_if (fits z) (int z) _ n (omega arith)
 
-by_two_sequences : (t : Tree) (g : List Tree → List Tree → Outcome) → size t < 2 ^ 65 → ((ts us : List Tree) → sizes (trees_of ts) + sizes (trees_of us) < 2 ^ 65 → length ts + length us < 2 ^ 65 → Fits (g ts us) (length ts + length us))
+pub by_two_sequences : (t : Tree) (g : List Tree → List Tree → Outcome) → size t < 2 ^ 65 → ((ts us : List Tree) → sizes (trees_of ts) + sizes (trees_of us) < 2 ^ 65 → length ts + length us < 2 ^ 65 → Fits (g ts us) (length ts + length us))
     → Fits (given (two_sequences t) (λ p. g p.0 p.1)) (unwrap_or (option_map (λ p. length p.0 + length p.1) (two_sequences t)) 0)
 by_two_sequences (pair (seq ts) (seq us)) g h k =
     k (list_of ts) (list_of us) (omega (arith, sizes_list ts, sizes_list us)) (omega (arith, sizes_list ts, sizes_list us, length_le (list_of ts), length_le (list_of us)))

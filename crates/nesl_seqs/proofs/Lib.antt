@@ -11,3 +11,9 @@ pub mod Best
 pub mod ScanBounds
 pub mod Before
 pub mod Leaves
+pub mod Shapes
+pub mod Priced
+pub mod Flattening
+pub mod Unzipping
+pub mod Weaving
+pub mod BoundsOfParts

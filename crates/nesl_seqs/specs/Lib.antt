@@ -5,6 +5,9 @@ pub mod Reductions
 pub mod Ranges
 pub mod Pairs
 pub mod Equal
+pub mod Levels
+pub mod Sides
+pub mod Woven
 pub mod Meaning
 pub mod Prices
 pub mod Held

@@ -11,10 +11,13 @@ use Rattle.nesl_seqs.specs.Pairs.{zipped}
 use Rattle.nesl_seqs.specs.Ranges.{repeated, ranged, first_numbers}
 use Rattle.nesl_seqs.specs.Extremes.{best_element, best_place}
 use Rattle.nesl_seqs.specs.Scans.{plus_scanned, logic_scanned}
+use Rattle.nesl_seqs.specs.Levels.{sequences, flattened}
+use Rattle.nesl_seqs.specs.Sides.{sequence_of_pairs, unzipped}
+use Rattle.nesl_seqs.specs.Woven.{odd_elements, even_elements, interleaved}
 use Rattle.nesl_seqs.specs.declared.seq_fn.SeqFn.{SeqFn}
 use Rattle.nesl_seqs.specs.declared.extremes.Order.TheVariants.{Greatest, Least}
 use Rattle.nesl_seqs.specs.declared.scans.Joint.TheVariants.{Or, And}
-use Rattle.nesl_seqs.specs.declared.seq_fn.SeqFn.TheVariants.{Length, Index, Append, Dist, Range, RangeBy, Iota, Sum, Any, All, Count, Bottop, Take, Drop, Reverse, Rotate, Zip, Rep, Eql, MaxVal, MinVal, MaxIndex, MinIndex, PlusScan, OrScan, AndScan}
+use Rattle.nesl_seqs.specs.declared.seq_fn.SeqFn.TheVariants.{Length, Index, Append, Dist, Range, RangeBy, Iota, Sum, Any, All, Count, Bottop, Take, Drop, Reverse, Rotate, Zip, Rep, Eql, MaxVal, MinVal, MaxIndex, MinIndex, PlusScan, OrScan, AndScan, Flatten, Unzip, OddElts, EvenElts, Interleave}
 
 -- this profile's table of sequence functions
 abbrev pub meaning : SeqFn → Tree → Outcome
@@ -44,3 +47,8 @@ meaning MinIndex t = best_place Least t
 meaning PlusScan t = given (numbers t) plus_scanned
 meaning OrScan t = logic_scanned Or t
 meaning AndScan t = logic_scanned And t
+meaning Flatten t = given (sequences t) flattened
+meaning Unzip t = given (sequence_of_pairs t) unzipped
+meaning OddElts t = given (as_sequence t) odd_elements
+meaning EvenElts t = given (as_sequence t) even_elements
+meaning Interleave t = given (two_sequences t) (λ p. interleaved p.0 p.1)

@@ -11,7 +11,7 @@ use crate::price::Price;
 use crate::reductions::{self, price_of_reduction, value_of};
 use crate::scans::Joint;
 use crate::seq_fn::SeqFn;
-use crate::{equal, extremes, pairs, pieces, ranges, replace, scans};
+use crate::{equal, extremes, pairs, pieces, ranges, replace, scans, levels, sides, woven};
 use nesl_scalars::Trap;
 use nesl_values::Value;
 use std::alloc::{AllocError, Allocator};
@@ -81,6 +81,11 @@ fn price<A: Allocator>(
         SeqFn::PlusScan => scans::price_plus_scan(argument, limit),
         SeqFn::OrScan => scans::price_logic_scan(argument, Joint::Or, limit),
         SeqFn::AndScan => scans::price_logic_scan(argument, Joint::And, limit),
+        SeqFn::Flatten => levels::price_flatten(argument, limit),
+        SeqFn::Unzip => sides::price_unzip(argument, limit),
+        SeqFn::OddElts => woven::price_odd_elts(argument, limit),
+        SeqFn::EvenElts => woven::price_even_elts(argument, limit),
+        SeqFn::Interleave => woven::price_interleave(argument, limit),
     }
 }
 
@@ -120,5 +125,10 @@ pub fn apply<A: Allocator + Copy, B: Allocator>(
         SeqFn::PlusScan => scans::apply_plus_scan(alloc, argument),
         SeqFn::OrScan => scans::apply_logic_scan(alloc, argument, Joint::Or),
         SeqFn::AndScan => scans::apply_logic_scan(alloc, argument, Joint::And),
+        SeqFn::Flatten => levels::apply_flatten(alloc, argument),
+        SeqFn::Unzip => sides::apply_unzip(alloc, argument),
+        SeqFn::OddElts => woven::apply_odd_elts(alloc, argument),
+        SeqFn::EvenElts => woven::apply_even_elts(alloc, argument),
+        SeqFn::Interleave => woven::apply_interleave(alloc, argument),
     }
 }

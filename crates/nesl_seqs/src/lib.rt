@@ -7,6 +7,7 @@ mod equal;
 mod extremes;
 mod functions;
 mod item;
+mod levels;
 mod nodes;
 mod pairs;
 mod pieces;
@@ -16,12 +17,15 @@ mod reductions;
 mod replace;
 mod scans;
 mod seq_fn;
+mod sides;
 #[cfg(test)]
 mod tests;
 #[cfg(test)]
 mod tests_scans;
+mod woven;
 
 pub use equal::tells_equality;
 pub use functions::{apply, cost_and_size, price_within};
 pub use price::Price;
 pub use seq_fn::SeqFn;
+pub use woven::{takes_every_other, weaves};

@@ -56,4 +56,14 @@ pub enum SeqFn {
     OrScan,
     /// `and_scan(v)`: at each place the elements before it, joined by `and`.
     AndScan,
+    /// `flatten(v)`: the elements of the inner sequences, one sequence after the other.
+    Flatten,
+    /// `unzip(v)`: the left parts of pairs and the right ones.
+    Unzip,
+    /// `odd_elts(v)`: the elements at the places 1, 3 and so on.
+    OddElts,
+    /// `even_elts(v)`: the elements at the places 0, 2 and so on.
+    EvenElts,
+    /// `interleave(v, w)`: one element of each in turn.
+    Interleave,
 }

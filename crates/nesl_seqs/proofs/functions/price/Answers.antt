@@ -4,6 +4,8 @@ use Rattle.nesl_seqs.specs.Prices.{reads, depth_of}
 use Rattle.nesl_seqs.specs.declared.seq_fn.SeqFn.TheVariants.{Length, Index, Append, Sum, Any, All, Count, Bottop, Take, Drop, Reverse, Rotate, Zip, Rep, Eql, MaxVal, MinVal, MaxIndex, MinIndex, PlusScan, OrScan, AndScan}
 use Rattle.nesl_seqs.proofs.Bounds.{always, bounded_length, bounded_index, bounded_append, bounded_bottop, bounded_take, bounded_drop, bounded_reverse, bounded_rotate, bounded_zip, bounded_rep, bounded_eql, bounded_sum, bounded_any, bounded_all, bounded_count}
 use Rattle.nesl_seqs.proofs.ScanBounds.{bounded_max_val, bounded_min_val, bounded_max_index, bounded_min_index, bounded_plus_scan, bounded_or_scan, bounded_and_scan}
+use Rattle.nesl_seqs.specs.declared.seq_fn.SeqFn.TheVariants.{Flatten, Unzip, OddElts, EvenElts, Interleave}
+use Rattle.nesl_seqs.proofs.BoundsOfParts.{bounded_flatten, bounded_unzip, bounded_odd_elts, bounded_even_elts, bounded_interleave}
 use Rattle.nesl_seqs.proofs.functions.price.Goals as goal
 
 pub returns-in-Length-clause-always : goal.returns-in-Length-clause-always
@@ -115,3 +117,28 @@ pub returns-in-AndScan-clause-always : goal.returns-in-AndScan-clause-always
 returns-in-AndScan-clause-always g c h is =
     let t = tree_of c.args.argument.now in
     always (meaning AndScan t) (reads AndScan t) (depth_of AndScan (reads AndScan t)) c.args.limit c.price_logic_scan-in-AndScan.result (bounded_and_scan t h) is c.price_logic_scan-in-AndScan.ensures
+
+pub returns-in-Flatten-clause-always : goal.returns-in-Flatten-clause-always
+returns-in-Flatten-clause-always g c h is =
+    let t = tree_of c.args.argument.now in
+    always (meaning Flatten t) (reads Flatten t) 1 c.args.limit c.price_flatten.result (bounded_flatten t h) is c.price_flatten.ensures
+
+pub returns-in-Unzip-clause-always : goal.returns-in-Unzip-clause-always
+returns-in-Unzip-clause-always g c h is =
+    let t = tree_of c.args.argument.now in
+    always (meaning Unzip t) (reads Unzip t) 1 c.args.limit c.price_unzip.result (bounded_unzip t h) is c.price_unzip.ensures
+
+pub returns-in-OddElts-clause-always : goal.returns-in-OddElts-clause-always
+returns-in-OddElts-clause-always g c h is =
+    let t = tree_of c.args.argument.now in
+    always (meaning OddElts t) (reads OddElts t) 1 c.args.limit c.price_odd_elts.result (bounded_odd_elts t h) is c.price_odd_elts.ensures
+
+pub returns-in-EvenElts-clause-always : goal.returns-in-EvenElts-clause-always
+returns-in-EvenElts-clause-always g c h is =
+    let t = tree_of c.args.argument.now in
+    always (meaning EvenElts t) (reads EvenElts t) 1 c.args.limit c.price_even_elts.result (bounded_even_elts t h) is c.price_even_elts.ensures
+
+pub returns-in-Interleave-clause-always : goal.returns-in-Interleave-clause-always
+returns-in-Interleave-clause-always g c h is =
+    let t = tree_of c.args.argument.now in
+    always (meaning Interleave t) (reads Interleave t) 1 c.args.limit c.price_interleave.result (bounded_interleave t h) is c.price_interleave.ensures
