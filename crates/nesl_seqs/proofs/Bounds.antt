@@ -17,20 +17,20 @@ use Rattle.nesl_seqs.specs.declared.seq_fn.SeqFn.TheVariants.{Length, Index, App
 use Rattle.nesl_seqs.proofs.Totals.{sizes_append, sizes_reverse}
 
 -- the work of an outcome fits
-abbrev Fits : Outcome → ℕ → Type 0
+abbrev pub Fits : Outcome → ℕ → Type 0
 Fits (gives t) read = 1 + read + (size t - 1) < 2 ^ 128
 Fits (traps e) read = Unit {0}
 Fits undefined read = Unit {0}
 
-fits_if : (b : Bool) (t : Tree) (e : Trap) (n : ℕ) → 1 + n + (size t - 1) < 2 ^ 128 → Fits (cond b (gives t) (traps e)) n
+pub fits_if : (b : Bool) (t : Tree) (e : Trap) (n : ℕ) → 1 + n + (size t - 1) < 2 ^ 128 → Fits (cond b (gives t) (traps e)) n
 fits_if true t e n p = p
 fits_if false t e n p = tt
 
-sizes_list : (ts : Trees) → sizes (trees_of (list_of ts)) ≡ sizes ts
+pub sizes_list : (ts : Trees) → sizes (trees_of (list_of ts)) ≡ sizes ts
 sizes_list no_trees = refl
 sizes_list (tree_then t ts) = omega (arith, sizes_list ts)
 
-length_le : (ts : List Tree) → length ts ≤ sizes (trees_of ts)
+pub length_le : (ts : List Tree) → length ts ≤ sizes (trees_of ts)
 length_le [] = omega arith
 length_le (t ∷ ts) = omega (arith, length_le ts, size_positive t)
 
@@ -166,7 +166,7 @@ sizes_pairs_le (t ∷ ts) (u ∷ us) = omega (arith, sizes_pairs_le ts us)
 pub bounded_zip : IsBounded Zip
 bounded_zip t h = by_two_sequences t zipped h (λ ts us p q. fits_if (nat_eq (length ts) (length us)) (sequence (pairs ts us)) _ (length ts + length us) (omega (arith, sizes_pairs_le ts us)))
 
-sizes_set : (ts : List Tree) (i : ℕ) (x : Tree) → sizes (trees_of (set ts i x)) ≤ sizes (trees_of ts) + size x
+pub sizes_set : (ts : List Tree) (i : ℕ) (x : Tree) → sizes (trees_of (set ts i x)) ≤ sizes (trees_of ts) + size x
 sizes_set [] i x = omega arith
 sizes_set (t ∷ ts) zero x = omega arith
 sizes_set (t ∷ ts) (suc i) x = omega (arith, sizes_set ts i x)

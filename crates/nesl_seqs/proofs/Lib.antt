@@ -7,3 +7,5 @@ pub mod Folds
 pub mod Equality
 pub mod Bounds
 pub mod Pairing
+pub mod Picking
+pub mod PlaceBounds

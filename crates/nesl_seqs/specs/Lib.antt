@@ -11,3 +11,5 @@ pub mod Held
 pub mod Scalar
 pub mod Steps
 pub mod Whole
+pub mod Places
+pub mod Gather

@@ -5,12 +5,13 @@ use Rattle.nesl_values.specs.Parts.{as_int, as_pair, as_sequence}
 use Rattle.nesl_seqs.specs.Outcome.{Outcome, gives, given}
 use Rattle.nesl_seqs.specs.Arguments.{sequence_and_int, two_sequences, tree_and_int, two_ints, three_ints, sequence_item_place, numbers, truths}
 use Rattle.nesl_seqs.specs.Pieces.{element_at, joined, halves, taken, dropped, reversed, rotated, replaced}
-use Rattle.nesl_seqs.specs.Reductions.{summed, some_true, all_true, counted}
+use Rattle.nesl_seqs.specs.Reductions.{all_of, summed, some_true, all_true, counted}
 use Rattle.nesl_seqs.specs.Equal.{tree_eq}
 use Rattle.nesl_seqs.specs.Pairs.{zipped}
 use Rattle.nesl_seqs.specs.Ranges.{repeated, ranged, first_numbers}
+use Rattle.nesl_seqs.specs.Gather.{gathered}
 use Rattle.nesl_seqs.specs.declared.seq_fn.SeqFn.{SeqFn}
-use Rattle.nesl_seqs.specs.declared.seq_fn.SeqFn.TheVariants.{Length, Index, Append, Dist, Range, RangeBy, Iota, Sum, Any, All, Count, Bottop, Take, Drop, Reverse, Rotate, Zip, Rep, Eql}
+use Rattle.nesl_seqs.specs.declared.seq_fn.SeqFn.TheVariants.{Length, Index, Append, Dist, Range, RangeBy, Iota, Sum, Any, All, Count, Bottop, Take, Drop, Reverse, Rotate, Zip, Rep, Eql, Gather}
 
 -- this profile's table of sequence functions
 abbrev pub meaning : SeqFn → Tree → Outcome
@@ -33,3 +34,4 @@ meaning Rotate t = given (sequence_and_int t) (λ p. rotated p.0 p.1)
 meaning Zip t = given (two_sequences t) (λ p. zipped p.0 p.1)
 meaning Rep t = given (sequence_item_place t) (λ p. replaced p.0 p.1.0 p.1.1)
 meaning Eql t = given (as_pair t) (λ p. gives (boolean (tree_eq p.0 p.1)))
+meaning Gather t = given (two_sequences t) (λ p. given (all_of as_int p.1) (gathered p.0))

@@ -10,7 +10,7 @@ ghost use Rattle.nesl_seqs.specs.Whole.{PricesAll};
 use crate::price::Price;
 use crate::reductions::{self, price_of_reduction, value_of};
 use crate::seq_fn::SeqFn;
-use crate::{equal, pairs, pieces, ranges, replace};
+use crate::{equal, gather, pairs, pieces, ranges, replace};
 use nesl_scalars::Trap;
 use nesl_values::Value;
 use std::alloc::{AllocError, Allocator};
@@ -73,6 +73,7 @@ fn price<A: Allocator>(
         SeqFn::Zip => pairs::price_zip(argument, limit),
         SeqFn::Rep => replace::price_rep(argument, limit),
         SeqFn::Eql => equal::price_eql(argument, limit),
+        SeqFn::Gather => gather::price_gather(argument, limit),
     }
 }
 
@@ -105,5 +106,6 @@ pub fn apply<A: Allocator + Copy, B: Allocator>(
         SeqFn::Zip => pairs::apply_zip(alloc, argument),
         SeqFn::Rep => replace::apply_rep(alloc, argument),
         SeqFn::Eql => Ok(equal::apply_eql(argument)),
+        SeqFn::Gather => gather::apply_gather(alloc, argument),
     }
 }

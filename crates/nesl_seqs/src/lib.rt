@@ -5,10 +5,12 @@ mod arguments;
 mod copies;
 mod equal;
 mod functions;
+mod gather;
 mod item;
 mod nodes;
 mod pairs;
 mod pieces;
+mod places;
 mod price;
 mod ranges;
 mod reductions;
@@ -16,6 +18,8 @@ mod replace;
 mod seq_fn;
 #[cfg(test)]
 mod tests;
+#[cfg(test)]
+mod tests_places;
 
 pub use equal::tells_equality;
 pub use functions::{apply, cost_and_size, price_within};

@@ -42,4 +42,6 @@ pub enum SeqFn {
     Rep,
     /// `eql(x, y)`: whether they are the same.
     Eql,
+    /// `v -> i`: the elements at the indices.
+    Gather,
 }
