@@ -166,7 +166,7 @@ sizes_pairs_le (t ∷ ts) (u ∷ us) = omega (arith, sizes_pairs_le ts us)
 pub bounded_zip : IsBounded Zip
 bounded_zip t h = by_two_sequences t zipped h (λ ts us p q. fits_if (nat_eq (length ts) (length us)) (sequence (pairs ts us)) _ (length ts + length us) (omega (arith, sizes_pairs_le ts us)))
 
-sizes_set : (ts : List Tree) (i : ℕ) (x : Tree) → sizes (trees_of (set ts i x)) ≤ sizes (trees_of ts) + size x
+pub sizes_set : (ts : List Tree) (i : ℕ) (x : Tree) → sizes (trees_of (set ts i x)) ≤ sizes (trees_of ts) + size x
 sizes_set [] i x = omega arith
 sizes_set (t ∷ ts) zero x = omega arith
 sizes_set (t ∷ ts) (suc i) x = omega (arith, sizes_set ts i x)

@@ -17,3 +17,5 @@ pub mod Flattening
 pub mod Unzipping
 pub mod Weaving
 pub mod BoundsOfParts
+pub mod Picking
+pub mod PlaceBounds

@@ -18,3 +18,5 @@ pub mod Extremes
 pub mod Better
 pub mod Scans
 pub mod Leaves
+pub mod Places
+pub mod Gather

@@ -5,7 +5,7 @@ use Rattle.nesl_values.specs.Parts.{as_int, as_pair, as_sequence}
 use Rattle.nesl_seqs.specs.Outcome.{Outcome, gives, given}
 use Rattle.nesl_seqs.specs.Arguments.{sequence_and_int, two_sequences, tree_and_int, two_ints, three_ints, sequence_item_place, numbers, truths}
 use Rattle.nesl_seqs.specs.Pieces.{element_at, joined, halves, taken, dropped, reversed, rotated, replaced}
-use Rattle.nesl_seqs.specs.Reductions.{summed, some_true, all_true, counted}
+use Rattle.nesl_seqs.specs.Reductions.{all_of, summed, some_true, all_true, counted}
 use Rattle.nesl_seqs.specs.Equal.{tree_eq}
 use Rattle.nesl_seqs.specs.Pairs.{zipped}
 use Rattle.nesl_seqs.specs.Ranges.{repeated, ranged, first_numbers}
@@ -14,10 +14,11 @@ use Rattle.nesl_seqs.specs.Scans.{plus_scanned, logic_scanned}
 use Rattle.nesl_seqs.specs.Levels.{sequences, flattened}
 use Rattle.nesl_seqs.specs.Sides.{sequence_of_pairs, unzipped}
 use Rattle.nesl_seqs.specs.Woven.{odd_elements, even_elements, interleaved}
+use Rattle.nesl_seqs.specs.Gather.{gathered}
 use Rattle.nesl_seqs.specs.declared.seq_fn.SeqFn.{SeqFn}
 use Rattle.nesl_seqs.specs.declared.extremes.Order.TheVariants.{Greatest, Least}
 use Rattle.nesl_seqs.specs.declared.scans.Joint.TheVariants.{Or, And}
-use Rattle.nesl_seqs.specs.declared.seq_fn.SeqFn.TheVariants.{Length, Index, Append, Dist, Range, RangeBy, Iota, Sum, Any, All, Count, Bottop, Take, Drop, Reverse, Rotate, Zip, Rep, Eql, MaxVal, MinVal, MaxIndex, MinIndex, PlusScan, OrScan, AndScan, Flatten, Unzip, OddElts, EvenElts, Interleave}
+use Rattle.nesl_seqs.specs.declared.seq_fn.SeqFn.TheVariants.{Length, Index, Append, Dist, Range, RangeBy, Iota, Sum, Any, All, Count, Bottop, Take, Drop, Reverse, Rotate, Zip, Rep, Eql, MaxVal, MinVal, MaxIndex, MinIndex, PlusScan, OrScan, AndScan, Flatten, Unzip, OddElts, EvenElts, Interleave, Gather}
 
 -- this profile's table of sequence functions
 abbrev pub meaning : SeqFn → Tree → Outcome
@@ -52,3 +53,4 @@ meaning Unzip t = given (sequence_of_pairs t) unzipped
 meaning OddElts t = given (as_sequence t) odd_elements
 meaning EvenElts t = given (as_sequence t) even_elements
 meaning Interleave t = given (two_sequences t) (λ p. interleaved p.0 p.1)
+meaning Gather t = given (two_sequences t) (λ p. given (all_of as_int p.1) (gathered p.0))

@@ -11,7 +11,7 @@ use crate::price::Price;
 use crate::reductions::{self, price_of_reduction, value_of};
 use crate::scans::Joint;
 use crate::seq_fn::SeqFn;
-use crate::{equal, extremes, pairs, pieces, ranges, replace, scans, levels, sides, woven};
+use crate::{equal, extremes, pairs, pieces, ranges, replace, scans, levels, sides, woven, gather};
 use nesl_scalars::Trap;
 use nesl_values::Value;
 use std::alloc::{AllocError, Allocator};
@@ -86,6 +86,7 @@ fn price<A: Allocator>(
         SeqFn::OddElts => woven::price_odd_elts(argument, limit),
         SeqFn::EvenElts => woven::price_even_elts(argument, limit),
         SeqFn::Interleave => woven::price_interleave(argument, limit),
+        SeqFn::Gather => gather::price_gather(argument, limit),
     }
 }
 
@@ -130,5 +131,6 @@ pub fn apply<A: Allocator + Copy, B: Allocator>(
         SeqFn::OddElts => woven::apply_odd_elts(alloc, argument),
         SeqFn::EvenElts => woven::apply_even_elts(alloc, argument),
         SeqFn::Interleave => woven::apply_interleave(alloc, argument),
+        SeqFn::Gather => gather::apply_gather(alloc, argument),
     }
 }

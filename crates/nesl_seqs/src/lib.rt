@@ -6,11 +6,13 @@ mod copies;
 mod equal;
 mod extremes;
 mod functions;
+mod gather;
 mod item;
 mod levels;
 mod nodes;
 mod pairs;
 mod pieces;
+mod places;
 mod price;
 mod ranges;
 mod reductions;
@@ -23,6 +25,8 @@ mod tests;
 #[cfg(test)]
 mod tests_scans;
 mod woven;
+#[cfg(test)]
+mod tests_places;
 
 pub use equal::tells_equality;
 pub use functions::{apply, cost_and_size, price_within};

@@ -62,6 +62,8 @@ fn nodes_of_all<A: Allocator>(values: &[Value<A>], limit: u128) -> Option<u128>
 
 /// As many nodes as there are leaves.
 pub fn leaves(count: usize, limit: u128) -> Option<u128>
+/// The nodes of so many leaves.
+pub fn leaves(count: usize, limit: u128) -> Option<u128>
     ensures { SomeIff result (count ≤ limit) count }
 {
     let count = count as u128;

@@ -66,4 +66,6 @@ pub enum SeqFn {
     EvenElts,
     /// `interleave(v, w)`: one element of each in turn.
     Interleave,
+    /// `v -> i`: the elements at the indices.
+    Gather,
 }

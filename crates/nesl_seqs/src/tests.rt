@@ -48,7 +48,7 @@ pub fn plain(alloc: Global, items: &[i64]) -> Result<Value, AllocError> {
     Ok(Value::Seq(values))
 }
 
-fn two(alloc: Global, one: Value, other: Value) -> Result<Value, AllocError> {
+pub fn two(alloc: Global, one: Value, other: Value) -> Result<Value, AllocError> {
     let mut values = Vec::new(alloc);
     values.push(one)?;
     values.push(other)?;

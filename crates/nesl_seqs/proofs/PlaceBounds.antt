@@ -1,0 +1,74 @@
+-- No price of a function on places is above what its numbers hold, where the argument has fewer than 2^65 nodes.
+use Rattle.std.proofs.Common.{◌≡◌, ℕ, ℤ, zero, suc, ◌+◌, ◌-◌, ◌*◌, ◌^◌, ◌<◌, ◌≤◌, Bool, true, false, nat_le, List, [], ◌∷◌, length, map, refl, ap, sym, ◌∙◌, arith, Option, Some, None, slice_get}
+use Rattle.std.specs.List.{filter_map, cons_option}
+use Rattle.std.proofs.Math.Nat.{mul_comm, mul-add, mul-le-mul_left}
+use Rattle.std.proofs.lemmas.Bool.Decides.{nat_tests}
+use Rattle.std.proofs.lemmas.List.{length-map}
+use Rattle.nesl_values.specs.Tree.{Tree, Trees, int, pair, seq, sequence, size, sizes, trees_of}
+use Rattle.nesl_values.specs.Parts.{as_int, list_of}
+use Rattle.nesl_seqs.specs.Outcome.{given}
+use Rattle.nesl_seqs.specs.Reductions.{all_of}
+use Rattle.nesl_seqs.specs.Places.{place_in, all_name, places, elements_at}
+use Rattle.nesl_seqs.specs.Gather.{gathered}
+use Rattle.nesl_seqs.specs.declared.seq_fn.SeqFn.TheVariants.{Gather}
+use Rattle.nesl_seqs.proofs.Bounds.{Fits, IsBounded, fits_if, sizes_list, length_le}
+use Rattle.nesl_seqs.proofs.Picking.{are_ints}
+
+-- the product of two numbers is at most the square of their mean
+product_le : (m s d k : ℕ) → k ≡ m + d → s ≤ k + d → m * s ≤ k * k
+product_le m s d k is h =
+    let first : m * s ≤ m * (k + d) = mul-le-mul_left m h in
+    let second : d * m ≤ d * k = mul-le-mul_left d (omega arith) in
+    let whole : k * k ≡ m * k + d * k = ap (λ n. n * k) is ∙ mul_comm (m + d) k ∙ mul-add k m d ∙ omega (arith, mul_comm k m, mul_comm k d) in
+    omega (arith, first, second, whole, mul-add m k d, mul_comm m d)
+
+length_found : {X Y : Type 0} (f : X → Option Y) (xs : List X) → length (filter_map f xs) ≤ length xs
+length_found f [] = omega arith
+length_found f (x ∷ xs) = one_more (f x) (filter_map f xs) (length xs) (length_found f xs)
+  where
+    one_more : {Z : Type 0} (o : Option Z) (ys : List Z) (n : ℕ) → length ys ≤ n → length (cons_option o ys) ≤ suc n
+    one_more None ys n h = omega arith
+    one_more (Some y) ys n h = omega arith
+
+element_le : (ts : List Tree) (k : ℕ) (t : Tree) → slice_get ts k ≡ Some t → size t ≤ sizes (trees_of ts)
+element_le [] k t h = absurd (cc h)
+element_le (u ∷ ts) zero t h =
+    let same : u ≡ t = cc h in
+    omega (arith, ap size same)
+element_le (u ∷ ts) (suc k) t h = omega (arith, element_le ts k t h)
+
+sizes_elements : (ts : List Tree) (ks : List ℕ) → sizes (trees_of (elements_at ts ks)) ≤ length ks * sizes (trees_of ts)
+sizes_elements ts [] = omega arith
+sizes_elements ts (k ∷ ks) = one_more (slice_get ts k) (elements_at ts ks) (length ks) (λ t e. element_le ts k t e) (sizes_elements ts ks) refl
+  where
+    one_more : (o : Option Tree) (us : List Tree) (n : ℕ) → ((t : Tree) → slice_get ts k ≡ Some t → size t ≤ sizes (trees_of ts)) → sizes (trees_of us) ≤ n * sizes (trees_of ts) → slice_get ts k ≡ o → sizes (trees_of (cons_option o us)) ≤ suc n * sizes (trees_of ts)
+    one_more None us n le h e = omega (arith, h)
+    one_more (Some t) us n le h e = omega (arith, h, le t e)
+
+-- so many copies of so much fit, where both together are below 2^65
+within_square : (m s : ℕ) → m + s ≤ 2 * (2 ^ 64 - 2) → m * s ≤ (2 ^ 64 - 2) * (2 ^ 64 - 2)
+within_square m s h = by_order (nat_le m (2 ^ 64 - 2)) refl
+  where
+    by_order : (b : Bool) → nat_le m (2 ^ 64 - 2) ≡ b → m * s ≤ (2 ^ 64 - 2) * (2 ^ 64 - 2)
+    by_order true e =
+        let le : m ≤ 2 ^ 64 - 2 = grind (arith, nat_tests) in
+        product_le m s (2 ^ 64 - 2 - m) (2 ^ 64 - 2) (omega arith) (omega arith)
+    by_order false e =
+        let le : 2 ^ 64 - 2 ≤ m = grind (arith, nat_tests) in
+        let turned : s * m ≤ (2 ^ 64 - 2) * (2 ^ 64 - 2) = product_le s m (2 ^ 64 - 2 - s) (2 ^ 64 - 2) (omega arith) (omega arith) in
+        omega (arith, turned, mul_comm m s)
+
+fits_gathered : (ts us : List Tree) → sizes (trees_of ts) + sizes (trees_of us) ≤ 2 ^ 65 - 4 → Fits (given (all_of as_int us) (gathered ts)) (length ts + length us)
+fits_gathered ts us h = by_ints (all_of as_int us) refl
+  where
+    by_ints : (o : Option (List ℤ)) → all_of as_int us ≡ o → Fits (given o (gathered ts)) (length ts + length us)
+    by_ints None e = tt
+    by_ints (Some zs) e =
+        let ks = places (length ts) zs in
+        let few : length zs ≡ length us = sym (length-map zs int) ∙ ap length (sym (are_ints us zs e)) in
+        let most : length ks * sizes (trees_of ts) ≤ (2 ^ 64 - 2) * (2 ^ 64 - 2) = within_square (length ks) (sizes (trees_of ts)) (omega (arith, few, length_found (place_in (length ts)) zs, length_le us)) in
+        fits_if (all_name (length ts) zs) (sequence (elements_at ts ks)) _ (length ts + length us) (omega (arith, most, sizes_elements ts ks, length_le ts, length_le us))
+
+pub bounded_gather : IsBounded Gather
+bounded_gather (pair (seq ts) (seq us)) h = fits_gathered (list_of ts) (list_of us) (omega (arith, sizes_list ts, sizes_list us))
+bounded_gather t h = tt
