@@ -1,5 +1,5 @@
 -- No price is above what its numbers hold, where the argument has fewer than 2^65 nodes.
-use Rattle.std.proofs.Common.{◌≡◌, ℕ, ℤ, zero, suc, pos, negsuc, ◌+◌, ◌-◌, ◌/◌, ◌^◌, ◌<◌, ◌≤◌, Bool, true, false, cond, List, [], ◌∷◌, length, take, drop, refl, arith, Option, Some, None, option_map, unwrap_or, Result, Ok, Err, nat_le, nat_lt, nat_eq, set, IfOk, IsSome, subst, rules}
+use Rattle.std.proofs.Common.{◌≡◌, ℕ, ℤ, zero, suc, pos, negsuc, ◌+◌, ◌-◌, ◌/◌, ◌^◌, ◌<◌, ◌≤◌, Bool, true, false, cond, List, [], ◌∷◌, length, take, drop, refl, arith, Option, Some, None, option_map, unwrap_or, Result, Ok, Err, nat_le, nat_lt, nat_eq, set, IfOk, IfSome, IsSome, subst, rules}
 use Rattle.nesl_scalars.specs.declared.trap.Trap.{Trap}
 use Rattle.nesl_values.specs.Tree.{Tree, Trees, int, boolean, character, pair, seq, tagged, no_trees, tree_then, trees_of, sequence, size, sizes}
 use Rattle.nesl_values.specs.Parts.{list_of, as_sequence}
@@ -195,3 +195,8 @@ pub given_if_priced : (o : Outcome) (read depth limit : ℕ) (p : Price) → Pri
 given_if_priced (gives t) read depth limit p h = tt
 given_if_priced (traps e) read depth limit p h = h
 given_if_priced undefined read depth limit p h = h
+
+pub given_where_priced : (o : Outcome) (read depth limit : ℕ) (r : Result (Option Price) Trap) → Prices o read depth limit r → IfOk r (λ p. IfSome p (λ _. IsGiven o))
+given_where_priced o read depth limit (Ok (Some p)) prices = given_if_priced o read depth limit p prices
+given_where_priced o read depth limit (Ok None) prices = tt
+given_where_priced o read depth limit (Err e) prices = tt

@@ -1,5 +1,5 @@
 // All functions: their prices, and their results.
-ghost use Rattle.std.specs.Prelude.{◌≡◌, ◌-◌, ◌<◌, ◌^◌, IfOk, IsSome};
+ghost use Rattle.std.specs.Prelude.{◌≡◌, ◌-◌, ◌<◌, ◌^◌, IfOk, IfSome, IsSome, OnOk};
 ghost use Rattle.nesl_values.specs.Tree.{size};
 ghost use Rattle.nesl_values.specs.View.{tree_of};
 ghost use Rattle.nesl_seqs.specs.Outcome.{IsGiven, gives};
@@ -11,19 +11,22 @@ use crate::price::Price;
 use crate::reductions::{self, price_of_reduction, value_of};
 use crate::scans::Joint;
 use crate::seq_fn::SeqFn;
-use crate::{equal, extremes, pairs, pieces, ranges, replace, scans, levels, sides, woven, gather};
+use crate::{equal, extremes, gather, levels, pairs, pieces, ranges, replace, scans, sides, woven};
 use nesl_scalars::Trap;
 use nesl_values::Value;
 use std::alloc::{AllocError, Allocator};
 
 /// The price of a function at an argument, where the work is at most the fuel: known before anything
 /// is built, without memory, in a time that grows with the argument's length and the fuel.
+#[tactic(auto, using(crate::proofs::Bounds::given_where_priced))]
 pub fn price_within<A: Allocator>(
     function: SeqFn,
     argument: &Value<A>,
     fuel: u64,
 ) -> Result<Option<Price>, Trap>
-    ensures { Prices (meaning function (tree_of argument.now))
+    ensures given { IfOk result (λ o. IfSome o
+        (λ _. IsGiven (meaning function (tree_of argument.now)))) }
+    ensures price { Prices (meaning function (tree_of argument.now))
         (reads function (tree_of argument.now))
         (depth_of function (reads function (tree_of argument.now))) fuel result }
 {
@@ -31,9 +34,11 @@ pub fn price_within<A: Allocator>(
 }
 
 /// The price of a function at an argument, known before anything is built and without memory.
+#[tactic(auto, using(crate::proofs::Bounds::given_where_priced))]
 pub fn cost_and_size<A: Allocator>(function: SeqFn, argument: &Value<A>) -> Result<Price, Trap>
     requires { size (tree_of argument.now) < 2 ^ 65 }
-    ensures { PricesAll (meaning function (tree_of argument.now))
+    ensures given { OnOk result (IsGiven (meaning function (tree_of argument.now))) }
+    ensures price { PricesAll (meaning function (tree_of argument.now))
         (reads function (tree_of argument.now))
         (depth_of function (reads function (tree_of argument.now))) result }
 {

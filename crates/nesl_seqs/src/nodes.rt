@@ -60,8 +60,6 @@ fn nodes_of_all<A: Allocator>(values: &[Value<A>], limit: u128) -> Option<u128>
     Some(used)
 }
 
-/// As many nodes as there are leaves.
-pub fn leaves(count: usize, limit: u128) -> Option<u128>
 /// The nodes of so many leaves.
 pub fn leaves(count: usize, limit: u128) -> Option<u128>
     ensures { SomeIff result (count ≤ limit) count }
