@@ -15,3 +15,4 @@ pub mod Extremes
 pub mod Better
 pub mod Scans
 pub mod Leaves
+pub mod Laws

@@ -7,6 +7,7 @@ mod equal;
 mod extremes;
 mod functions;
 mod item;
+mod laws;
 mod nodes;
 mod pairs;
 mod pieces;
@@ -23,5 +24,6 @@ mod tests_scans;
 
 pub use equal::tells_equality;
 pub use functions::{apply, cost_and_size, price_within};
+pub use laws::{places_of_rotate, steps_below_the_end};
 pub use price::Price;
 pub use seq_fn::SeqFn;
