@@ -3,7 +3,6 @@ use Rattle.std.proofs.Common.{◌≡◌, ℕ, ℤ, zero, suc, pos, negsuc, ◌+�
 use Rattle.nesl_scalars.specs.declared.trap.Trap.{Trap}
 use Rattle.nesl_values.specs.Tree.{Tree, Trees, int, boolean, character, pair, seq, tagged, no_trees, tree_then, trees_of, sequence, size, sizes}
 use Rattle.nesl_values.specs.Parts.{list_of, as_sequence}
-use Rattle.nesl_values.proofs.Trees.{size_positive}
 use Rattle.nesl_seqs.specs.Outcome.{Outcome, gives, traps, undefined, given, number, fits, IsGiven}
 use Rattle.nesl_seqs.specs.Arguments.{sequence_and_int, two_sequences, numbers, truths}
 use Rattle.nesl_seqs.specs.Pieces.{element_at, joined, halves, taken, dropped, reversed, rotated, places_on, replaced}
@@ -25,6 +24,14 @@ Fits undefined read = Unit {0}
 pub fits_if : (b : Bool) (t : Tree) (e : Trap) (n : ℕ) → 1 + n + (size t - 1) < 2 ^ 128 → Fits (cond b (gives t) (traps e)) n
 fits_if true t e n p = p
 fits_if false t e n p = tt
+
+size_positive : (t : Tree) → 1 ≤ size t
+size_positive (int n) = omega arith
+size_positive (boolean b) = omega arith
+size_positive (character c) = omega arith
+size_positive (pair l r) = omega arith
+size_positive (seq ts) = omega arith
+size_positive (tagged n t) = omega arith
 
 pub sizes_list : (ts : Trees) → sizes (trees_of (list_of ts)) ≡ sizes ts
 sizes_list no_trees = refl

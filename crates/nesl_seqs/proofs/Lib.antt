@@ -19,3 +19,4 @@ pub mod Weaving
 pub mod BoundsOfParts
 pub mod Picking
 pub mod PlaceBounds
+pub mod Places

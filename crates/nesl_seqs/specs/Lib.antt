@@ -20,3 +20,4 @@ pub mod Scans
 pub mod Leaves
 pub mod Places
 pub mod Gather
+pub mod Laws

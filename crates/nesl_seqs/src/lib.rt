@@ -9,6 +9,7 @@ mod functions;
 mod gather;
 mod item;
 mod levels;
+mod laws;
 mod nodes;
 mod pairs;
 mod pieces;
@@ -30,6 +31,7 @@ mod tests_places;
 
 pub use equal::tells_equality;
 pub use functions::{apply, cost_and_size, price_within};
+pub use laws::{places_of_rotate, steps_below_the_end};
 pub use price::Price;
 pub use seq_fn::SeqFn;
 pub use woven::{takes_every_other, weaves};

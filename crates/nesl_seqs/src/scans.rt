@@ -382,14 +382,14 @@ fn numbers_of<T: Item, A: Allocator>(
     ensures { IfOk result (λ o. option_map (λ v. v.items) o
         ≡ option_map (before_each (joined_bits joint)) (all_of as_int (map T.tree items.now))) }
 {
-    let mut joined = Vec::with_capacity(alloc, items.len())?;
+    let mut bits = Vec::with_capacity(alloc, items.len())?;
     let mut so_far = joint.of_no_numbers();
     for item in items {
         let Some(number) = item.as_int() else {
             return Ok(None);
         };
-        joined.push(so_far)?;
+        bits.push(so_far)?;
         so_far = joint.of_numbers(so_far, number);
     }
-    Ok(Some(joined))
+    Ok(Some(bits))
 }

@@ -7,4 +7,4 @@ use Rattle.nesl_seqs.proofs.scans.numbers_of.Given as goal
 
 abbrev pub invariant-loop-item : goal.invariant-loop-item
 invariant-loop-item g l =
-    folded (push_turn (join_bits l.joint)) as_int (l.joined.items, l.so_far) (map g.T.Item.tree (drop l.item-index l.items)) ≡ folded (push_turn (join_bits l.joint)) as_int ([], no_bits_joined l.joint) (map g.T.Item.tree l.items)
+    folded (push_turn (join_bits l.joint)) as_int (l.bits.items, l.so_far) (map g.T.Item.tree (drop l.item-index l.items)) ≡ folded (push_turn (join_bits l.joint)) as_int ([], no_bits_joined l.joint) (map g.T.Item.tree l.items)

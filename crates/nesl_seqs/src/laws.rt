@@ -1,0 +1,13 @@
+//! What the definitions' places and steps come to.
+ghost use Rattle.nesl_seqs.specs.Laws.{PlacesOfRotate, StepsBelow};
+
+/// `rotate` moves element j to place (j + k) modulo n, whatever number k is.
+pub fn places_of_rotate()
+    ensures { PlacesOfRotate }
+{}
+
+/// `[s:e:d]` has just the numbers s, s + d, s + 2d and so on that are below e.
+#[tactic(auto, using(crate::proofs::Places::steps_are_below))]
+pub fn steps_below_the_end()
+    ensures { StepsBelow }
+{}
