@@ -19,4 +19,4 @@ pub mod Weaving
 pub mod BoundsOfParts
 pub mod Picking
 pub mod PlaceBounds
-pub mod Places
+pub mod Rotations

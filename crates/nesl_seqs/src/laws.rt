@@ -7,7 +7,7 @@ pub fn places_of_rotate()
 {}
 
 /// `[s:e:d]` has just the numbers s, s + d, s + 2d and so on that are below e.
-#[tactic(auto, using(crate::proofs::Places::steps_are_below))]
+#[tactic(auto, using(crate::proofs::Rotations::steps_are_below))]
 pub fn steps_below_the_end()
     ensures { StepsBelow }
 {}
