@@ -5,11 +5,13 @@ use Rattle.std.specs.Int.{int_rem_euclid, int_gap}
 use Rattle.std.proofs.Math.Nat.{add-mod-mod, add-mod_right, mod-eq_of_lt, mod-lt, le-div_iff_mul-le}
 use Rattle.std.proofs.lemmas.Int.{ints, int_rem_euclid_is}
 use Rattle.std.proofs.lemmas.Bool.Decides.{nat_tests}
+use Rattle.std.proofs.lemmas.List.{length-append, length-drop, length-take-le}
 use Rattle.nesl_values.specs.Tree.{Tree, sequence, trees_of}
 use Rattle.nesl_values.specs.Parts.{list_of}
 use Rattle.nesl_seqs.specs.Outcome.{gives}
 use Rattle.nesl_seqs.specs.Pieces.{places_on}
 use Rattle.nesl_seqs.specs.Laws.{modulo, PlacesOfRotate, StepsBelow}
+use Rattle.nesl_seqs.proofs.Best.{get_front}
 
 below_gap : (s e : ℤ) (n : ℕ) → (n < int_gap s e) ↔ ((s +ℤ pos n) <ℤ e)
 below_gap (pos a) (pos b) n = (λ h. omega (arith, ints), λ h. omega (arith, ints, h))
@@ -50,30 +52,11 @@ get_in_drop (suc s) p (t ∷ ts) =
     let next : suc s + p ≡ suc (s + p) = omega arith in
     get_in_drop s p ts ∙ ap (slice_get (t ∷ ts)) (sym next)
 
-get_first : (us vs : List Tree) (p : ℕ) → p < length us → slice_get (us ++ vs) p ≡ slice_get us p
-get_first [] vs p h = absurd (omega arith)
-get_first (u ∷ us) vs zero h = refl
-get_first (u ∷ us) vs (suc p) h = get_first us vs p (omega arith)
-
 get_second : (us vs : List Tree) (p : ℕ) → slice_get (us ++ vs) (length us + p) ≡ slice_get vs p
 get_second [] vs p = ap (slice_get vs) (omega arith)
 get_second (u ∷ us) vs p =
     let next : suc (length us) + p ≡ suc (length us + p) = omega arith in
     ap (slice_get (u ∷ us ++ vs)) next ∙ get_second us vs p
-
-length_taken : (s : ℕ) (ts : List Tree) → s ≤ length ts → length (take s ts) ≡ s
-length_taken zero ts h = refl
-length_taken (suc s) [] h = absurd (omega arith)
-length_taken (suc s) (t ∷ ts) h = ap suc (length_taken s ts (omega arith))
-
-length_dropped : (s : ℕ) (ts : List Tree) → length (drop s ts) ≡ length ts - s
-length_dropped zero ts = omega arith
-length_dropped (suc s) [] = omega arith
-length_dropped (suc s) (t ∷ ts) = omega (arith, length_dropped s ts)
-
-length_both : (us vs : List Tree) → length (us ++ vs) ≡ length us + length vs
-length_both [] vs = omega arith
-length_both (u ∷ us) vs = omega (arith, length_both us vs)
 
 -- element j of what is turned by r places
 turned_at : (ts : List Tree) (r j : ℕ) → r < length ts → j < length ts → slice_get (drop (length ts - r) ts ++ take (length ts - r) ts) ((j + r) % length ts) ≡ slice_get ts j
@@ -89,7 +72,7 @@ turned_at ts r j h k = by (nat_lt (j + r) n) refl
     front = drop start ts
 
     size : length front ≡ r
-    size = length_dropped start ts ∙ omega (arith, h)
+    size = length-drop start ts ∙ omega (arith, h)
 
     by : (b : Bool) → nat_lt (j + r) n ≡ b → slice_get (front ++ take start ts) ((j + r) % n) ≡ slice_get ts j
     by true e =
@@ -101,7 +84,7 @@ turned_at ts r j h k = by (nat_lt (j + r) n) refl
         let parts : j + r ≡ (j + r - n) + n = omega (arith, beyond) in
         let place : (j + r) % n ≡ j + r - n = ap (λ m. m % n) parts ∙ add-mod_right (j + r - n) n ∙ mod-eq_of_lt (omega (arith, h, k)) in
         let there : start + (j + r - n) ≡ j = omega (arith, h, beyond) in
-        ap (slice_get (front ++ take start ts)) place ∙ get_first front (take start ts) (j + r - n) (omega (arith, size, k, h)) ∙ get_in_drop start (j + r - n) ts ∙ ap (slice_get ts) there
+        ap (slice_get (front ++ take start ts)) place ∙ get_front front (take start ts) (j + r - n) (omega (arith, size, k, h)) ∙ get_in_drop start (j + r - n) ts ∙ ap (slice_get ts) there
 
 -- k is a number that is not below 0, up to a multiple of n
 modulo_of : (k : ℤ) (n m q j : ℕ) → 0 < n → k +ℤ pos (q * n) ≡ pos m → modulo (pos j +ℤ k) n ≡ (j + modulo k n) % n
@@ -140,7 +123,7 @@ places_of_rotate ts us k is = (long, at)
     same = same_elements _ _ is
 
     long : length us ≡ n
-    long = sym (ap length same) ∙ length_both (drop (n - r) ts) (take (n - r) ts) ∙ omega (arith, length_dropped (n - r) ts, length_taken (n - r) ts (omega arith), on_within n k)
+    long = sym (ap length same) ∙ length-append (drop (n - r) ts) (take (n - r) ts) ∙ omega (arith, length-drop (n - r) ts, length-take-le (n - r) ts (omega arith), on_within n k)
 
     at : (j : ℕ) → j < n → (modulo (pos j +ℤ k) n < n) × (slice_get us (modulo (pos j +ℤ k) n) ≡ slice_get ts j)
     at j h =
