@@ -11,4 +11,4 @@ pub mod Best
 pub mod ScanBounds
 pub mod Before
 pub mod Leaves
-pub mod Places
+pub mod Moves
