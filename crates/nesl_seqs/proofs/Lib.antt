@@ -20,3 +20,4 @@ pub mod BoundsOfParts
 pub mod Picking
 pub mod PlaceBounds
 pub mod Rotations
+pub mod Moves

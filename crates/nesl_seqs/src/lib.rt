@@ -31,7 +31,7 @@ mod tests_places;
 
 pub use equal::tells_equality;
 pub use functions::{apply, cost_and_size, price_within};
-pub use laws::{places_of_rotate, steps_below_the_end};
+pub use laws::{numbers_of_range, places_of_rotate};
 pub use price::Price;
 pub use seq_fn::SeqFn;
 pub use woven::{takes_every_other, weaves};
