@@ -9,3 +9,6 @@ pub mod Bounds
 pub mod Pairing
 pub mod Picking
 pub mod PlaceBounds
+pub mod Marking
+pub mod Differing
+pub mod Permuting

@@ -13,3 +13,5 @@ pub mod Steps
 pub mod Whole
 pub mod Places
 pub mod Gather
+pub mod Permute
+pub mod Marks

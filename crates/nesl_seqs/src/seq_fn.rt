@@ -44,4 +44,6 @@ pub enum SeqFn {
     Eql,
     /// `v -> i`: the elements at the indices.
     Gather,
+    /// `permute(v, i)`: each element at its index.
+    Permute,
 }
