@@ -21,3 +21,6 @@ pub mod Picking
 pub mod PlaceBounds
 pub mod Rotations
 pub mod Moves
+pub mod Marking
+pub mod Differing
+pub mod Permuting

@@ -68,4 +68,6 @@ pub enum SeqFn {
     Interleave,
     /// `v -> i`: the elements at the indices.
     Gather,
+    /// `permute(v, i)`: each element at its index.
+    Permute,
 }
