@@ -19,7 +19,6 @@ pub mod Weaving
 pub mod BoundsOfParts
 pub mod Picking
 pub mod PlaceBounds
-pub mod Rotations
 pub mod Moves
 pub mod Marking
 pub mod Differing

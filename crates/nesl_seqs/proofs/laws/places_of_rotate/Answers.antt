@@ -1,10 +1,4 @@
-<<<<<<< HEAD
-use Rattle.nesl_seqs.proofs.Rotations.{places_of_rotate}
-||||||| 453ecdc
-use Rattle.nesl_seqs.proofs.Places.{places_of_rotate}
-=======
 use Rattle.nesl_seqs.proofs.Moves.{places_of_rotate}
->>>>>>> seqs2/main
 use Rattle.nesl_seqs.proofs.laws.places_of_rotate.Goals as goal
 
 pub returns : goal.returns
