@@ -12,4 +12,6 @@ pub mod Priced
 pub mod Flattening
 pub mod Unzipping
 pub mod Weaving
+pub mod Splitting
+pub mod Cutting
 pub mod BoundsOfParts

@@ -9,12 +9,12 @@ use Rattle.nesl_seqs.specs.Reductions.{summed, some_true, all_true, counted}
 use Rattle.nesl_seqs.specs.Equal.{tree_eq}
 use Rattle.nesl_seqs.specs.Pairs.{zipped}
 use Rattle.nesl_seqs.specs.Ranges.{repeated, ranged, first_numbers}
-use Rattle.nesl_seqs.specs.Levels.{sequences, flattened}
-use Rattle.nesl_seqs.specs.Sides.{sequence_of_pairs, unzipped}
+use Rattle.nesl_seqs.specs.Levels.{sequences, flattened, sequence_and_numbers, partitioned}
+use Rattle.nesl_seqs.specs.Sides.{sequence_of_pairs, unzipped, sequence_and_truths, split_apart}
 use Rattle.nesl_seqs.specs.Woven.{odd_elements, even_elements, interleaved}
 use Rattle.nesl_seqs.specs.declared.seq_fn.SeqFn.{SeqFn}
 use Rattle.nesl_seqs.specs.declared.seq_fn.SeqFn.TheVariants.{Length, Index, Append, Dist, Range, RangeBy, Iota, Sum, Any, All, Count, Bottop, Take, Drop, Reverse, Rotate, Zip, Rep, Eql}
-use Rattle.nesl_seqs.specs.declared.seq_fn.SeqFn.TheVariants.{Flatten, Unzip, OddElts, EvenElts, Interleave}
+use Rattle.nesl_seqs.specs.declared.seq_fn.SeqFn.TheVariants.{Flatten, Unzip, OddElts, EvenElts, Interleave, Split, Partition}
 
 -- this profile's table of sequence functions
 abbrev pub meaning : SeqFn → Tree → Outcome
@@ -42,3 +42,5 @@ meaning Unzip t = given (sequence_of_pairs t) unzipped
 meaning OddElts t = given (as_sequence t) odd_elements
 meaning EvenElts t = given (as_sequence t) even_elements
 meaning Interleave t = given (two_sequences t) (λ p. interleaved p.0 p.1)
+meaning Split t = given (sequence_and_truths t) (λ p. split_apart p.0 p.1)
+meaning Partition t = given (sequence_and_numbers t) (λ p. partitioned p.0 p.1)

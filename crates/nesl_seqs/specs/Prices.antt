@@ -8,7 +8,7 @@ use Rattle.nesl_seqs.specs.Arguments.{sequence_and_int, two_sequences, sequence_
 use Rattle.nesl_seqs.specs.declared.price.Price.{Price}
 use Rattle.nesl_seqs.specs.declared.seq_fn.SeqFn.{SeqFn}
 use Rattle.nesl_seqs.specs.declared.seq_fn.SeqFn.TheVariants.{Length, Index, Append, Dist, Range, RangeBy, Iota, Sum, Any, All, Count, Bottop, Take, Drop, Reverse, Rotate, Zip, Rep, Eql}
-use Rattle.nesl_seqs.specs.declared.seq_fn.SeqFn.TheVariants.{Flatten, Unzip, OddElts, EvenElts, Interleave}
+use Rattle.nesl_seqs.specs.declared.seq_fn.SeqFn.TheVariants.{Flatten, Unzip, OddElts, EvenElts, Interleave, Split, Partition}
 
 -- the length of a sequence
 abbrev pub length_of : Tree → ℕ
@@ -40,6 +40,8 @@ reads Unzip t = length_of t
 reads OddElts t = length_of t
 reads EvenElts t = length_of t
 reads Interleave t = unwrap_or (option_map (λ p. length p.0 + length p.1) (two_sequences t)) 0
+reads Split t = unwrap_or (option_map (λ p. length p.0 + length p.1) (two_sequences t)) 0
+reads Partition t = unwrap_or (option_map (λ p. length p.0 + length p.1) (two_sequences t)) 0
 
 -- how many of the first k powers of two are at most n
 abbrev pub powers_within : ℕ → ℕ → ℕ

@@ -78,6 +78,8 @@ fn price<A: Allocator>(
         SeqFn::OddElts => woven::price_odd_elts(argument, limit),
         SeqFn::EvenElts => woven::price_even_elts(argument, limit),
         SeqFn::Interleave => woven::price_interleave(argument, limit),
+        SeqFn::Split => sides::price_split(argument, limit),
+        SeqFn::Partition => levels::price_partition(argument, limit),
     }
 }
 
@@ -115,5 +117,7 @@ pub fn apply<A: Allocator + Copy, B: Allocator>(
         SeqFn::OddElts => woven::apply_odd_elts(alloc, argument),
         SeqFn::EvenElts => woven::apply_even_elts(alloc, argument),
         SeqFn::Interleave => woven::apply_interleave(alloc, argument),
+        SeqFn::Split => sides::apply_split(alloc, argument),
+        SeqFn::Partition => levels::apply_partition(alloc, argument),
     }
 }

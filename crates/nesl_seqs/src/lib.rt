@@ -18,10 +18,13 @@ mod seq_fn;
 mod sides;
 #[cfg(test)]
 mod tests;
+#[cfg(test)]
+mod tests_pieces;
 mod woven;
 
 pub use equal::tells_equality;
 pub use functions::{apply, cost_and_size, price_within};
+pub use levels::cuts_the_whole;
 pub use price::Price;
 pub use seq_fn::SeqFn;
 pub use woven::{takes_every_other, weaves};

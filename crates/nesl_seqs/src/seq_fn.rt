@@ -52,4 +52,8 @@ pub enum SeqFn {
     EvenElts,
     /// `interleave(v, w)`: one element of each in turn.
     Interleave,
+    /// `split(v, f)`: the elements with `F`, and those with `T`.
+    Split,
+    /// `partition(v, c)`: the pieces of these lengths.
+    Partition,
 }
