@@ -16,6 +16,8 @@ pub mod Priced
 pub mod Flattening
 pub mod Unzipping
 pub mod Weaving
+pub mod Splitting
+pub mod Cutting
 pub mod BoundsOfParts
 pub mod Picking
 pub mod PlaceBounds

@@ -93,6 +93,8 @@ fn price<A: Allocator>(
         SeqFn::Interleave => woven::price_interleave(argument, limit),
         SeqFn::Gather => gather::price_gather(argument, limit),
         SeqFn::Permute => permute::price_permute(argument, limit),
+        SeqFn::Split => sides::price_split(argument, limit),
+        SeqFn::Partition => levels::price_partition(argument, limit),
     }
 }
 
@@ -139,5 +141,7 @@ pub fn apply<A: Allocator + Copy, B: Allocator>(
         SeqFn::Interleave => woven::apply_interleave(alloc, argument),
         SeqFn::Gather => gather::apply_gather(alloc, argument),
         SeqFn::Permute => permute::apply_permute(alloc, argument),
+        SeqFn::Split => sides::apply_split(alloc, argument),
+        SeqFn::Partition => levels::apply_partition(alloc, argument),
     }
 }

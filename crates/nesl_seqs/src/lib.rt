@@ -27,6 +27,8 @@ mod sides;
 mod tests;
 #[cfg(test)]
 mod tests_scans;
+#[cfg(test)]
+mod tests_pieces;
 mod woven;
 #[cfg(test)]
 mod tests_places;
@@ -34,6 +36,7 @@ mod tests_places;
 pub use equal::tells_equality;
 pub use functions::{apply, cost_and_size, price_within};
 pub use laws::{numbers_of_range, places_of_rotate};
+pub use levels::cuts_the_whole;
 pub use price::Price;
 pub use seq_fn::SeqFn;
 pub use woven::{takes_every_other, weaves};

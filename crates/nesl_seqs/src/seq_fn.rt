@@ -70,4 +70,8 @@ pub enum SeqFn {
     Gather,
     /// `permute(v, i)`: each element at its index.
     Permute,
+    /// `split(v, f)`: the elements with `F`, and those with `T`.
+    Split,
+    /// `partition(v, c)`: the pieces of these lengths.
+    Partition,
 }
