@@ -7,7 +7,6 @@ use Rattle.nesl_seqs.proofs.Priced.{second_read}
 use Rattle.nesl_seqs.proofs.Splitting.{sizes_beside_le}
 use Rattle.nesl_seqs.proofs.Cutting.{size_pieces}
 use Rattle.std.proofs.Common.{◌≡◌, Bool, true, false, cond, option_map, option_and_then, unwrap_or, subst, sym, ℕ, ◌+◌, ◌-◌, ◌^◌, ◌<◌, ◌≤◌, List, [], ◌∷◌, ◌||◌, drop, length, map, nat_eq, refl, arith, Option, Some, None}
-use Rattle.std.specs.List.{flat_map}
 use Rattle.nesl_values.specs.Tree.{Tree, pair, seq, sequence, size, sizes, trees_of}
 use Rattle.nesl_values.specs.Parts.{list_of, as_int, as_bool, as_pair, as_sequence}
 use Rattle.nesl_seqs.specs.Outcome.{Outcome, given, gives, traps}

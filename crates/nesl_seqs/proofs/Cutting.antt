@@ -4,13 +4,13 @@ use Rattle.nesl_values.specs.Parts.{as_int}
 use Rattle.nesl_seqs.specs.Reductions.{all_of}
 use Rattle.nesl_seqs.specs.Prices.{Prices, price}
 use Rattle.nesl_seqs.specs.declared.price.Price.{Price}
-use Rattle.std.proofs.Common.{◌≡◌, SomeIff, Option, Some, None, option_map, option_and_then, get_or, Err, Ok, ◌<ℤ◌, ◌⊎◌, inl, inr, ℕ, ℤ, zero, suc, pos, negsuc, ◌+◌, ◌-◌, ◌<◌, ◌≤◌, ◌+ℤ◌, ◌≤ℤ◌, Bool, true, false, ◌&&◌, List, [], ◌∷◌, ◌++◌, length, map, take, drop, refl, ap, sym, ◌∙◌, subst, arith, unsigned_abs}
+use Rattle.std.proofs.Common.{◌≡◌, SomeIff, Option, Some, None, option_map, option_and_then, get_or, Err, Ok, ◌<ℤ◌, ◌⊎◌, inl, inr, ℕ, ℤ, pos, negsuc, ◌+◌, ◌-◌, ◌<◌, ◌≤◌, ◌+ℤ◌, ◌≤ℤ◌, Bool, true, false, ◌&&◌, List, [], ◌∷◌, ◌++◌, length, map, take, drop, refl, ap, sym, ◌∙◌, subst, arith}
 use Rattle.std.specs.List.{flat_map, list_all}
 use Rattle.std.specs.Ordering.{int_eq}
 use Rattle.std.proofs.lemmas.Bool.{cases_lt}
 use Rattle.std.proofs.lemmas.Bool.Decides.{Decides-int_eq, Decides-like, same_from_decides}
 use Rattle.std.proofs.lemmas.Int.{ints}
-use Rattle.std.proofs.lemmas.List.{drop_more, map_push, append_assoc, append-nil, drop_all, length-drop, length-take-le, take-append-drop, nil_from_length}
+use Rattle.std.proofs.lemmas.List.{drop_more, append-nil, drop_all, length-drop, length-take-le, take-append-drop, nil_from_length}
 use Rattle.nesl_values.specs.Tree.{Tree, sequence, size, sizes, trees_of}
 use Rattle.nesl_seqs.specs.Reductions.{total}
 use Rattle.nesl_seqs.specs.Levels.{is_natural, are_lengths, pieces, partitioned, Checks}

@@ -2,7 +2,7 @@
 use Rattle.std.proofs.lemmas.Option.{some_pair_parts}
 use Rattle.nesl_scalars.specs.declared.trap.Trap.{Trap}
 use Rattle.nesl_seqs.specs.Arguments.{both, two_sequences}
-use Rattle.std.proofs.Common.{◌≡◌, option_map, unwrap_or, ℕ, ◌+◌, ◌-◌, ◌≤◌, List, length, map, Option, Some, None, option_and_then, refl, ap, sym, ◌∙◌, subst, arith, Result, Ok, Err, IfOk, IsSome, SomeIff}
+use Rattle.std.proofs.Common.{◌≡◌, option_map, unwrap_or, ℕ, ◌+◌, ◌-◌, ◌≤◌, List, length, Option, Some, None, option_and_then, refl, ap, sym, ◌∙◌, subst, arith, Result, Ok, Err, IfOk, IsSome, SomeIff}
 use Rattle.nesl_values.specs.Tree.{Tree, int, boolean, character, pair, seq, tagged, size}
 use Rattle.nesl_values.specs.Parts.{as_pair, as_sequence}
 use Rattle.nesl_values.specs.View.{tree_of}

@@ -8,7 +8,6 @@ use Rattle.nesl_values.specs.Tree.{Tree, int, boolean, character}
 use Rattle.nesl_values.specs.declared.value.Value.{Value}
 use Rattle.nesl_seqs.specs.Held.{item_trees}
 use Rattle.nesl_seqs.specs.declared.item.Items.{Items}
-use Rattle.nesl_seqs.specs.Outcome.{Outcome, given, gives, IsGiven}
 use Rattle.nesl_seqs.specs.Reductions.{all_of}
 
 -- a list from which something is read is one whose first and others are read

@@ -6,10 +6,10 @@ use Rattle.std.proofs.lemmas.Bool.Decides.{Decides-eqb}
 use Rattle.nesl_seqs.specs.Prices.{Prices, price}
 use Rattle.nesl_seqs.specs.declared.price.Price.{Price}
 use Rattle.nesl_seqs.proofs.Cutting.{false_if_not}
-use Rattle.std.proofs.Common.{◌≡◌, ◌-◌, nat_eq, Option, Ok, Err, SomeIff, ◌⊎◌, inl, inr, ⊎_elim, ℕ, ◌+◌, ◌<◌, ◌≤◌, min, Bool, true, false, cond, List, [], ◌∷◌, ◌++◌, length, map, drop, get_or, refl, ap, sym, ◌∙◌, arith}
+use Rattle.std.proofs.Common.{◌≡◌, ◌-◌, nat_eq, Option, Ok, Err, SomeIff, ◌⊎◌, inl, inr, ℕ, ◌+◌, ◌<◌, ◌≤◌, min, Bool, true, false, cond, List, [], ◌∷◌, ◌++◌, length, map, drop, get_or, refl, ap, sym, ◌∙◌, arith}
 use Rattle.std.proofs.lemmas.Bool.{cases_lt}
 use Rattle.std.proofs.lemmas.List.{drop_more, drop_all, append_assoc, append-nil}
-use Rattle.nesl_values.specs.Tree.{Tree, sequence, size, sizes, trees_of}
+use Rattle.nesl_values.specs.Tree.{Tree, size, sizes, trees_of}
 use Rattle.nesl_seqs.specs.Equal.{bool_eq}
 use Rattle.nesl_seqs.specs.Pieces.{two}
 use Rattle.nesl_seqs.specs.Sides.{beside, split_apart}

@@ -1,5 +1,4 @@
 use Rattle.std.proofs.Common.{map, drop}
-use Rattle.nesl_values.specs.Tree.{sequence}
 use Rattle.nesl_values.specs.View.{tree_of}
 use Rattle.nesl_seqs.specs.Held.{item_trees}
 use Rattle.nesl_seqs.proofs.Made.{made_values}

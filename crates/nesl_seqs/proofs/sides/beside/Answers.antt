@@ -1,4 +1,4 @@
-use Rattle.std.proofs.Common.{◌≡◌, ◌<◌, ◌++◌, ◌+◌, length, drop, ap, ◌∙◌, arith}
+use Rattle.std.proofs.Common.{◌<◌, ◌++◌, ◌+◌, length, drop, ap, ◌∙◌, arith}
 use Rattle.nesl_seqs.specs.Sides.{beside}
 use Rattle.nesl_seqs.proofs.Splitting.{kept_turn, passed_turn, beside_end}
 use Rattle.nesl_seqs.proofs.sides.beside.Goals as goal

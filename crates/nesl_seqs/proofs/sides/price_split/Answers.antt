@@ -1,10 +1,9 @@
-use Rattle.std.proofs.Common.{◌≡◌, ◌+◌, Bool, true, false, List, None, Ok, Err, length, sym, ap, ◌∙◌, arith, is_some}
+use Rattle.std.proofs.Common.{◌≡◌, ◌+◌, true, false, Ok, Err, length, sym, ap, ◌∙◌, arith, is_some}
 use Rattle.nesl_scalars.specs.declared.trap.Trap.TheVariants.{Length}
 use Rattle.nesl_values.specs.Parts.{as_bool}
 use Rattle.nesl_values.specs.View.{tree_of}
 use Rattle.nesl_seqs.specs.Held.{item_trees}
 use Rattle.nesl_seqs.specs.Pieces.{two}
-use Rattle.nesl_seqs.specs.Reductions.{all_of}
 use Rattle.nesl_seqs.specs.Sides.{beside, split_apart}
 use Rattle.nesl_seqs.proofs.Shapes.{length_all}
 use Rattle.nesl_seqs.proofs.Priced.{second_priced, read_alike}
