@@ -12,3 +12,4 @@ pub mod PlaceBounds
 pub mod Marking
 pub mod Differing
 pub mod Permuting
+pub mod Writing

@@ -15,3 +15,4 @@ pub mod Places
 pub mod Gather
 pub mod Permute
 pub mod Marks
+pub mod Write

@@ -11,8 +11,9 @@ use Rattle.nesl_seqs.specs.Pairs.{zipped}
 use Rattle.nesl_seqs.specs.Ranges.{repeated, ranged, first_numbers}
 use Rattle.nesl_seqs.specs.Gather.{gathered}
 use Rattle.nesl_seqs.specs.Permute.{permuted}
+use Rattle.nesl_seqs.specs.Write.{int_and_tree, written}
 use Rattle.nesl_seqs.specs.declared.seq_fn.SeqFn.{SeqFn}
-use Rattle.nesl_seqs.specs.declared.seq_fn.SeqFn.TheVariants.{Length, Index, Append, Dist, Range, RangeBy, Iota, Sum, Any, All, Count, Bottop, Take, Drop, Reverse, Rotate, Zip, Rep, Eql, Gather, Permute}
+use Rattle.nesl_seqs.specs.declared.seq_fn.SeqFn.TheVariants.{Length, Index, Append, Dist, Range, RangeBy, Iota, Sum, Any, All, Count, Bottop, Take, Drop, Reverse, Rotate, Zip, Rep, Eql, Gather, Permute, Write}
 
 -- this profile's table of sequence functions
 abbrev pub meaning : SeqFn → Tree → Outcome
@@ -37,3 +38,4 @@ meaning Rep t = given (sequence_item_place t) (λ p. replaced p.0 p.1.0 p.1.1)
 meaning Eql t = given (as_pair t) (λ p. gives (boolean (tree_eq p.0 p.1)))
 meaning Gather t = given (two_sequences t) (λ p. given (all_of as_int p.1) (gathered p.0))
 meaning Permute t = given (two_sequences t) (λ p. given (all_of as_int p.1) (permuted p.0))
+meaning Write t = given (two_sequences t) (λ p. given (all_of int_and_tree p.1) (written p.0))

@@ -10,7 +10,7 @@ ghost use Rattle.nesl_seqs.specs.Whole.{PricesAll};
 use crate::price::Price;
 use crate::reductions::{self, price_of_reduction, value_of};
 use crate::seq_fn::SeqFn;
-use crate::{equal, gather, pairs, permute, pieces, ranges, replace};
+use crate::{equal, gather, pairs, permute, pieces, ranges, replace, write};
 use nesl_scalars::Trap;
 use nesl_values::Value;
 use std::alloc::{AllocError, Allocator};
@@ -75,6 +75,7 @@ fn price<A: Allocator>(
         SeqFn::Eql => equal::price_eql(argument, limit),
         SeqFn::Gather => gather::price_gather(argument, limit),
         SeqFn::Permute => permute::price_permute(argument, limit),
+        SeqFn::Write => write::price_write(argument, limit),
     }
 }
 
@@ -109,5 +110,6 @@ pub fn apply<A: Allocator + Copy, B: Allocator>(
         SeqFn::Eql => Ok(equal::apply_eql(argument)),
         SeqFn::Gather => gather::apply_gather(alloc, argument),
         SeqFn::Permute => permute::apply_permute(alloc, argument),
+        SeqFn::Write => write::apply_write(alloc, argument),
     }
 }

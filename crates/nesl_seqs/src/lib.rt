@@ -22,6 +22,7 @@ mod seq_fn;
 mod tests;
 #[cfg(test)]
 mod tests_places;
+mod write;
 
 pub use equal::tells_equality;
 pub use functions::{apply, cost_and_size, price_within};

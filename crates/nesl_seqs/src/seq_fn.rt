@@ -46,4 +46,6 @@ pub enum SeqFn {
     Gather,
     /// `permute(v, i)`: each element at its index.
     Permute,
+    /// `v <- p`: the pairs of an index and an element written in order.
+    Write,
 }

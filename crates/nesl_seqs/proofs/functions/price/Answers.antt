@@ -1,9 +1,9 @@
 use Rattle.nesl_values.specs.View.{tree_of}
 use Rattle.nesl_seqs.specs.Meaning.{meaning}
 use Rattle.nesl_seqs.specs.Prices.{reads, depth_of}
-use Rattle.nesl_seqs.specs.declared.seq_fn.SeqFn.TheVariants.{Length, Index, Append, Sum, Any, All, Count, Bottop, Take, Drop, Reverse, Rotate, Zip, Rep, Eql, Gather, Permute}
+use Rattle.nesl_seqs.specs.declared.seq_fn.SeqFn.TheVariants.{Length, Index, Append, Sum, Any, All, Count, Bottop, Take, Drop, Reverse, Rotate, Zip, Rep, Eql, Gather, Permute, Write}
 use Rattle.nesl_seqs.proofs.Bounds.{always, bounded_length, bounded_index, bounded_append, bounded_bottop, bounded_take, bounded_drop, bounded_reverse, bounded_rotate, bounded_zip, bounded_rep, bounded_eql, bounded_sum, bounded_any, bounded_all, bounded_count}
-use Rattle.nesl_seqs.proofs.PlaceBounds.{bounded_gather, bounded_permute}
+use Rattle.nesl_seqs.proofs.PlaceBounds.{bounded_gather, bounded_permute, bounded_write}
 use Rattle.nesl_seqs.proofs.functions.price.Goals as goal
 
 pub returns-in-Length-clause-always : goal.returns-in-Length-clause-always
@@ -90,3 +90,8 @@ pub returns-in-Permute-clause-always : goal.returns-in-Permute-clause-always
 returns-in-Permute-clause-always g c h is =
     let t = tree_of c.args.argument.now in
     always (meaning Permute t) (reads Permute t) 1 c.args.limit c.price_permute.result (bounded_permute t h) is c.price_permute.ensures
+
+pub returns-in-Write-clause-always : goal.returns-in-Write-clause-always
+returns-in-Write-clause-always g c h is =
+    let t = tree_of c.args.argument.now in
+    always (meaning Write t) (reads Write t) 1 c.args.limit c.price_write.result (bounded_write t h) is c.price_write.ensures
