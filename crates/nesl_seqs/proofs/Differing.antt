@@ -40,7 +40,7 @@ pub new_inside : (m : Marks) (window : ℕ) (seen : List ℕ) (place : ℕ) → 
 new_inside m window seen place inside holds =
     ap (λ b. not b || not (list_any (nat_eq place) seen)) ((Decides-eqb (place / 65536) window).1 inside) ∙ ap not (sym (holds place inside))
 
-append_none : {X : Type 0} (xs : List X) → xs ++ [] ≡ xs
+pub append_none : {X : Type 0} (xs : List X) → xs ++ [] ≡ xs
 append_none [] = refl
 append_none (x ∷ xs) = ap (λ ys. x ∷ ys) (append_none xs)
 

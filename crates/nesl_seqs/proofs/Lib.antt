@@ -25,3 +25,4 @@ pub mod Moves
 pub mod Marking
 pub mod Differing
 pub mod Permuting
+pub mod Writing

@@ -36,10 +36,10 @@ found_same : {X Y : Type 0} (f g : X → Option Y) (xs : List X) → ((x : X) �
 found_same f g [] h = refl
 found_same f g (x ∷ xs) h = ap (λ o. cons_option o (filter_map f xs)) (h x) ∙ ap (cons_option (g x)) (found_same f g xs h)
 
-abbrev arrival_or : ℕ → Tree → (ℕ → Option Tree) → ℕ → Option Tree
+abbrev pub arrival_or : ℕ → Tree → (ℕ → Option Tree) → ℕ → Option Tree
 arrival_or c t g k = cond (nat_eq k c) (Some t) (g k)
 
-first_arrival : (c : ℕ) (t : Tree) (ws : List (ℕ × Tree)) (k : ℕ) → arrival ((c, t) ∷ ws) k ≡ arrival_or c t (arrival ws) k
+pub first_arrival : (c : ℕ) (t : Tree) (ws : List (ℕ × Tree)) (k : ℕ) → arrival ((c, t) ∷ ws) k ≡ arrival_or c t (arrival ws) k
 first_arrival c t ws k = by_test (nat_eq k c)
   where
     by_test : (b : Bool) → option_map (λ w. w.1) (cond b (Some (c, t)) (find (λ w. nat_eq k w.0) ws)) ≡ cond b (Some t) (arrival ws k)
@@ -260,7 +260,7 @@ pub record IsArranged (ts js : List Tree) : Type 0 where
   pub differ : all_differ (places_of (length ts) js) ≡ true
   pub is : given (all_of as_int js) (permuted ts) ≡ gives (sequence (rearranged ts (places_of (length ts) js)))
 
-not_given : (o : Outcome) (e : Trap) → IsGiven o → Prices o 0 0 0 (Err e) → ⊥
+pub not_given : (o : Outcome) (e : Trap) → IsGiven o → Prices o 0 0 0 (Err e) → ⊥
 not_given (gives t) e p q = q
 not_given (traps d) e p q = p
 not_given undefined e p q = p

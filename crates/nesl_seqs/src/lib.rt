@@ -32,6 +32,7 @@ mod tests_pieces;
 mod woven;
 #[cfg(test)]
 mod tests_places;
+mod write;
 
 pub use equal::tells_equality;
 pub use functions::{apply, cost_and_size, price_within};
