@@ -56,7 +56,7 @@ fn sequences<A: Allocator>(argument: &Value<A>) -> Option<&[Value<A>]>
 
 /// The price of a tree that was made from these values, and has all their nodes but the roots and so
 /// many more.
-#[tactic(auto, using(crate::proofs::Flattening::length_le))]
+#[tactic(auto, using(crate::proofs::Bounds::length_le))]
 pub fn price_without_roots<A: Allocator>(
     values: &[Value<A>],
     more: u128,
