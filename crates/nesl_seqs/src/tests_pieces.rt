@@ -76,59 +76,36 @@ fn refuses(
 #[test]
 fn one_level_removed(rt: HostRuntime) -> Result<(), Fail> {
     let alloc = rt.alloc();
+    let f = SeqFn::Flatten;
     let none = Value::empty(alloc);
-    assert!(rt; gives(alloc, SeqFn::Flatten, &none, &none, price_of(1, 1, 1))?);
-    assert!(rt;
-        gives(
-            alloc,
-            SeqFn::Flatten,
-            &numbers(alloc, &[])?,
-            &none,
-            price_of(1, 1, 1)
-        )?
-    );
+    assert!(rt; gives(alloc, f, &none, &none, price_of(1, 1, 1))?);
+    assert!(rt; gives(alloc, f, &numbers(alloc, &[])?, &none, price_of(1, 1, 1))?);
     for packed in [true, false] {
         let mut values = Vec::new(alloc);
         values.push(ints(alloc, packed, &[1, 2])?)?;
         values.push(Value::empty(alloc))?;
         values.push(ints(alloc, true, &[3])?)?;
+        let several = Value::Seq(values);
         let all = numbers(alloc, &[1, 2, 3])?;
-        assert!(rt;
-            gives(
-                alloc,
-                SeqFn::Flatten,
-                &Value::Seq(values),
-                &all,
-                price_of(7, 1, 4)
-            )?
-        );
+        assert!(rt; gives(alloc, f, &several, &all, price_of(7, 1, 4))?);
         let single = one(alloc, ints(alloc, packed, &[5])?)?;
         let five = numbers(alloc, &[5])?;
-        assert!(rt; gives(alloc, SeqFn::Flatten, &single, &five, price_of(3, 1, 2))?);
+        assert!(rt; gives(alloc, f, &single, &five, price_of(3, 1, 2))?);
     }
+    Ok(())
+}
+
+#[test]
+fn one_level_of_words(rt: HostRuntime) -> Result<(), Fail> {
+    let alloc = rt.alloc();
+    let f = SeqFn::Flatten;
     let joined = text(alloc, b"abcd")?;
-    assert!(rt;
-        gives(
-            alloc,
-            SeqFn::Flatten,
-            &words(alloc)?,
-            &joined,
-            price_of(8, 1, 5)
-        )?
-    );
+    assert!(rt; gives(alloc, f, &words(alloc)?, &joined, price_of(8, 1, 5))?);
     let nested = two(alloc, words(alloc)?, Value::empty(alloc))?;
-    assert!(rt;
-        gives(
-            alloc,
-            SeqFn::Flatten,
-            &nested,
-            &words(alloc)?,
-            price_of(10, 1, 8)
-        )?
-    );
-    assert!(rt; told(alloc, SeqFn::Flatten, &numbers(alloc, &[1])?)?.is_err());
+    assert!(rt; gives(alloc, f, &nested, &words(alloc)?, price_of(10, 1, 8))?);
+    assert!(rt; told(alloc, f, &numbers(alloc, &[1])?)?.is_err());
     let mixed = two(alloc, Value::empty(alloc), Value::Int(1))?;
-    assert!(rt; told(alloc, SeqFn::Flatten, &mixed)?.is_err());
+    assert!(rt; told(alloc, f, &mixed)?.is_err());
     Ok(())
 }
 
@@ -162,66 +139,50 @@ fn both_sides_of_pairs(rt: HostRuntime) -> Result<(), Fail> {
 }
 
 #[test]
-fn every_other_element(rt: HostRuntime) -> Result<(), Fail> {
+fn every_other_number(rt: HostRuntime) -> Result<(), Fail> {
     let alloc = rt.alloc();
+    let (odds, evens) = (SeqFn::OddElts, SeqFn::EvenElts);
     for packed in [true, false] {
         let none = ints(alloc, packed, &[])?;
-        assert!(rt; gives(alloc, SeqFn::OddElts, &none, &none, price_of(1, 1, 1))?);
-        assert!(rt; gives(alloc, SeqFn::EvenElts, &none, &none, price_of(1, 1, 1))?);
+        assert!(rt; gives(alloc, odds, &none, &none, price_of(1, 1, 1))?);
+        assert!(rt; gives(alloc, evens, &none, &none, price_of(1, 1, 1))?);
         let single = ints(alloc, packed, &[7])?;
-        assert!(rt; gives(alloc, SeqFn::OddElts, &single, &none, price_of(2, 1, 1))?);
-        assert!(rt; gives(alloc, SeqFn::EvenElts, &single, &single, price_of(3, 1, 2))?);
+        assert!(rt; gives(alloc, odds, &single, &none, price_of(2, 1, 1))?);
+        assert!(rt; gives(alloc, evens, &single, &single, price_of(3, 1, 2))?);
         let four = ints(alloc, packed, &[1, 2, 3, 4])?;
         let odd = numbers(alloc, &[2, 4])?;
-        assert!(rt; gives(alloc, SeqFn::OddElts, &four, &odd, price_of(7, 1, 3))?);
+        assert!(rt; gives(alloc, odds, &four, &odd, price_of(7, 1, 3))?);
         let even = numbers(alloc, &[1, 3])?;
-        assert!(rt; gives(alloc, SeqFn::EvenElts, &four, &even, price_of(7, 1, 3))?);
+        assert!(rt; gives(alloc, evens, &four, &even, price_of(7, 1, 3))?);
         let five = ints(alloc, packed, &[1, 2, 3, 4, 5])?;
-        assert!(rt; gives(alloc, SeqFn::OddElts, &five, &odd, price_of(8, 1, 3))?);
+        assert!(rt; gives(alloc, odds, &five, &odd, price_of(8, 1, 3))?);
         let even = numbers(alloc, &[1, 3, 5])?;
-        assert!(rt; gives(alloc, SeqFn::EvenElts, &five, &even, price_of(9, 1, 4))?);
+        assert!(rt; gives(alloc, evens, &five, &even, price_of(9, 1, 4))?);
     }
+    Ok(())
+}
+
+#[test]
+fn every_other_word(rt: HostRuntime) -> Result<(), Fail> {
+    let alloc = rt.alloc();
+    let (odds, evens) = (SeqFn::OddElts, SeqFn::EvenElts);
     let word = text(alloc, b"abcde")?;
+    assert!(rt; gives(alloc, odds, &word, &text(alloc, b"bd")?, price_of(8, 1, 3))?);
     assert!(rt;
         gives(
             alloc,
-            SeqFn::OddElts,
-            &word,
-            &text(alloc, b"bd")?,
-            price_of(8, 1, 3)
-        )?
-    );
-    assert!(rt;
-        gives(
-            alloc,
-            SeqFn::EvenElts,
+            evens,
             &word,
             &text(alloc, b"ace")?,
             price_of(9, 1, 4)
         )?
     );
     let odd = one(alloc, text(alloc, b"bc")?)?;
-    assert!(rt;
-        gives(
-            alloc,
-            SeqFn::OddElts,
-            &words(alloc)?,
-            &odd,
-            price_of(7, 1, 4)
-        )?
-    );
+    assert!(rt; gives(alloc, odds, &words(alloc)?, &odd, price_of(7, 1, 4))?);
     let even = two(alloc, text(alloc, b"a")?, text(alloc, b"d")?)?;
-    assert!(rt;
-        gives(
-            alloc,
-            SeqFn::EvenElts,
-            &words(alloc)?,
-            &even,
-            price_of(8, 1, 5)
-        )?
-    );
-    assert!(rt; told(alloc, SeqFn::OddElts, &Value::Int(1))?.is_err());
-    assert!(rt; told(alloc, SeqFn::EvenElts, &Value::Int(1))?.is_err());
+    assert!(rt; gives(alloc, evens, &words(alloc)?, &even, price_of(8, 1, 5))?);
+    assert!(rt; told(alloc, odds, &Value::Int(1))?.is_err());
+    assert!(rt; told(alloc, evens, &Value::Int(1))?.is_err());
     Ok(())
 }
 
@@ -318,53 +279,39 @@ fn pieces_of_lengths(rt: HostRuntime) -> Result<(), Fail> {
         let nothing = ints(alloc, other, &[])?;
         assert!(rt; of_two(alloc, f, none, nothing, &Value::empty(alloc), (1, 1))?);
         let none = ints(alloc, packed, &[])?;
+        let counts = ints(alloc, other, &[0, 0])?;
         let empties = two(alloc, Value::empty(alloc), Value::empty(alloc))?;
-        assert!(rt;
-            of_two(
-                alloc,
-                f,
-                none,
-                ints(alloc, other, &[0, 0])?,
-                &empties,
-                (5, 3)
-            )?
-        );
+        assert!(rt; of_two(alloc, f, none, counts, &empties, (5, 3))?);
         let single = ints(alloc, packed, &[7])?;
+        let counts = ints(alloc, other, &[1])?;
         let whole = one(alloc, numbers(alloc, &[7])?)?;
-        assert!(rt; of_two(alloc, f, single, ints(alloc, other, &[1])?, &whole, (5, 3))?);
+        assert!(rt; of_two(alloc, f, single, counts, &whole, (5, 3))?);
         let three = ints(alloc, packed, &[4, 5, 6])?;
+        let counts = ints(alloc, other, &[1, 2])?;
         let pieces = two(alloc, numbers(alloc, &[4])?, numbers(alloc, &[5, 6])?)?;
-        assert!(rt;
-            of_two(
-                alloc,
-                f,
-                three,
-                ints(alloc, other, &[1, 2])?,
-                &pieces,
-                (11, 6)
-            )?
-        );
+        assert!(rt; of_two(alloc, f, three, counts, &pieces, (11, 6))?);
     }
-    let mut pieces = Vec::new(alloc);
-    pieces.push(Value::empty(alloc))?;
-    pieces.push(text(alloc, b"ab")?)?;
-    pieces.push(text(alloc, b"")?)?;
-    pieces.push(text(alloc, b"c")?)?;
+    Ok(())
+}
+
+#[test]
+fn pieces_of_words(rt: HostRuntime) -> Result<(), Fail> {
+    let alloc = rt.alloc();
+    let f = SeqFn::Partition;
+    let mut values = Vec::new(alloc);
+    values.push(Value::empty(alloc))?;
+    values.push(text(alloc, b"ab")?)?;
+    values.push(text(alloc, b"")?)?;
+    values.push(text(alloc, b"c")?)?;
+    let pieces = Value::Seq(values);
+    let word = text(alloc, b"abc")?;
     let counts = numbers(alloc, &[0, 2, 0, 1])?;
-    assert!(rt;
-        of_two(
-            alloc,
-            f,
-            text(alloc, b"abc")?,
-            counts,
-            &Value::Seq(pieces),
-            (15, 8)
-        )?
-    );
+    assert!(rt; of_two(alloc, f, word, counts, &pieces, (15, 8))?);
     let outer = two(alloc, text(alloc, b"ab")?, text(alloc, b"c")?)?;
+    let counts = numbers(alloc, &[1, 1])?;
     let first = one(alloc, text(alloc, b"ab")?)?;
     let pieces = two(alloc, first, one(alloc, text(alloc, b"c")?)?)?;
-    assert!(rt; of_two(alloc, f, outer, numbers(alloc, &[1, 1])?, &pieces, (12, 8))?);
+    assert!(rt; of_two(alloc, f, outer, counts, &pieces, (12, 8))?);
     Ok(())
 }
 
