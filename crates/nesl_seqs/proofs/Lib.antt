@@ -13,3 +13,5 @@ pub mod Marking
 pub mod Differing
 pub mod Permuting
 pub mod Writing
+pub mod Leaves
+pub mod Standing

@@ -26,5 +26,6 @@ mod write;
 
 pub use equal::tells_equality;
 pub use functions::{apply, cost_and_size, price_within};
+pub use permute::tells_places;
 pub use price::Price;
 pub use seq_fn::SeqFn;
