@@ -26,3 +26,5 @@ pub mod Marking
 pub mod Differing
 pub mod Permuting
 pub mod Writing
+pub mod WrittenLeaves
+pub mod Standing

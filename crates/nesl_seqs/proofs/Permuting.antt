@@ -1,5 +1,5 @@
 -- Elements that go to places of their own.
-use Rattle.std.proofs.Common.{◌≡◌, ◌≢◌, ℕ, ℤ, zero, suc, pos, ◌+◌, ◌-◌, ◌<◌, ◌≤◌, Bool, true, false, not, ◌||◌, ◌&&◌, cond, nat_eq, nat_lt, List, [], ◌∷◌, length, map, zip, set, refl, ap, sym, ◌∙◌, arith, Option, Some, None, is_some, option_map, option_and_then, slice_get, SomeIff, Result, Ok, Err, subst}
+use Rattle.std.proofs.Common.{◌≡◌, ◌≢◌, ℕ, ℤ, zero, suc, pos, ◌+◌, ◌-◌, ◌<◌, ◌≤◌, Bool, true, false, not, ◌||◌, ◌&&◌, cond, nat_eq, nat_lt, List, [], ◌∷◌, length, map, zip, set, refl, ap, sym, ◌∙◌, arith, Option, Some, None, is_some, option_map, option_and_then, slice_get, SomeIff, Ok, Err, subst}
 use Rattle.std.specs.List.{list_any, list_all, filter_map, cons_option, find, range_with_len}
 use Rattle.std.proofs.lemmas.Bool.{false≢true}
 use Rattle.std.proofs.lemmas.Bool.Decides.{Decides-eqb, Decides-ltb}
@@ -13,14 +13,14 @@ use Rattle.nesl_values.specs.Parts.{as_int}
 use Rattle.nesl_seqs.specs.Outcome.{Outcome, gives, traps, undefined, given, IsGiven}
 use Rattle.nesl_seqs.specs.Permute.{all_differ, rearranged, permuted, Inverts}
 use Rattle.nesl_seqs.specs.Places.{place_in, place_of, places_of, elements_at, at_places, arrival}
-use Rattle.nesl_seqs.specs.Prices.{Prices, price}
+use Rattle.nesl_seqs.specs.Prices.{Prices}
 use Rattle.nesl_seqs.specs.Reductions.{all_of}
 use Rattle.nesl_seqs.specs.declared.price.Price.{Price}
 use Rattle.nesl_seqs.proofs.Marking.{are_equal, are_apart, test_apart}
 use Rattle.nesl_seqs.proofs.Picking.{left_true, right_true, list_all_map, are_ints, given_all, refused, length_found, place_of_within}
 
 -- the weight of trees
-abbrev weights : (Tree → ℕ) → List Tree → ℕ
+abbrev pub weights : (Tree → ℕ) → List Tree → ℕ
 weights w [] = 0
 weights w (t ∷ ts) = w t + weights w ts
 
@@ -28,7 +28,7 @@ weights_size : (ts : List Tree) → weights size ts ≡ sizes (trees_of ts)
 weights_size [] = refl
 weights_size (t ∷ ts) = ap (λ n. size t + n) (weights_size ts)
 
-weights_one : (ts : List Tree) → weights (λ t. 1) ts ≡ length ts
+pub weights_one : (ts : List Tree) → weights (λ t. 1) ts ≡ length ts
 weights_one [] = refl
 weights_one (t ∷ ts) = omega (arith, weights_one ts)
 
@@ -83,12 +83,12 @@ none_arrive : (xs : List ℕ) → filter_map (arrival []) xs ≡ []
 none_arrive [] = refl
 none_arrive (x ∷ xs) = none_arrive xs
 
-not_true : (b : Bool) → not b ≡ true → b ≡ false
+pub not_true : (b : Bool) → not b ≡ true → b ≡ false
 not_true true h = absurd (cc h)
 not_true false h = refl
 
 -- all arrive
-weights_arrive : (w : Tree → ℕ) (m : ℕ) (ks : List ℕ) (ts : List Tree) → length ks ≡ length ts → list_all (λ k. nat_lt k m) ks ≡ true → all_differ ks ≡ true → weights w (filter_map (arrival (zip ks ts)) (range_with_len 0 m)) ≡ weights w ts
+pub weights_arrive : (w : Tree → ℕ) (m : ℕ) (ks : List ℕ) (ts : List Tree) → length ks ≡ length ts → list_all (λ k. nat_lt k m) ks ≡ true → all_differ ks ≡ true → weights w (filter_map (arrival (zip ks ts)) (range_with_len 0 m)) ≡ weights w ts
 weights_arrive w m [] [] h below differ = ap (weights w) (none_arrive (range_with_len 0 m))
 weights_arrive w m [] (t ∷ ts) h below differ = absurd (omega (arith, h))
 weights_arrive w m (k ∷ ks) [] h below differ = absurd (omega (arith, h))

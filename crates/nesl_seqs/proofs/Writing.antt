@@ -1,14 +1,14 @@
 -- Writes to places.
-use Rattle.std.proofs.Common.{◌≡◌, ◌≢◌, ℕ, ℤ, zero, suc, pos, ◌+◌, ◌-◌, ◌*◌, ◌/◌, ◌%◌, ◌<◌, ◌≤◌, Bool, true, false, ◌&&◌, cond, nat_eq, List, [], ◌∷◌, ◌++◌, length, map, zip, take, drop, reverse, set, get_or, min, refl, ap, sym, ◌∙◌, arith, Option, Some, None, is_some, option_map, option_and_then, unwrap_or, slice_get, Err}
-use Rattle.std.specs.List.{list_all, filter_map, cons_option, enumerate_from}
+use Rattle.std.proofs.Common.{◌≡◌, ◌≢◌, ℕ, ℤ, zero, suc, ◌+◌, ◌-◌, ◌*◌, ◌/◌, ◌%◌, ◌<◌, ◌≤◌, Bool, true, false, ◌&&◌, cond, nat_eq, List, [], ◌∷◌, ◌++◌, length, map, zip, take, drop, reverse, set, get_or, min, refl, ap, sym, ◌∙◌, arith, Option, Some, None, is_some, option_map, option_and_then, unwrap_or, slice_get, Err}
+use Rattle.std.specs.List.{list_all, cons_option, enumerate_from}
 use Rattle.std.proofs.lemmas.List.{take_more, map-append, length-map, reverse-append, take-append-drop, drop-drop, drop_all, length-take, length-drop, get_or-set_same, get_or-set_other}
 use Rattle.std.proofs.lemmas.Bool.Decides.{Decides-eqb}
 use Rattle.std.proofs.lemmas.Option.{slice_get-map, slice_get_read, slice_get_past}
 use Rattle.std.proofs.lemmas.List.Elements.{filter_map-append}
 use Rattle.nesl_scalars.specs.declared.trap.Trap.TheVariants.{Range}
 use Rattle.nesl_values.specs.Tree.{Tree, int, pair, size, sizes, sequence, trees_of}
-use Rattle.nesl_values.specs.Parts.{as_int, as_pair}
-use Rattle.nesl_seqs.specs.Outcome.{Outcome, gives, traps, undefined, given, IsGiven}
+use Rattle.nesl_values.specs.Parts.{as_pair}
+use Rattle.nesl_seqs.specs.Outcome.{gives, traps, given, IsGiven}
 use Rattle.nesl_seqs.specs.Reductions.{all_of}
 use Rattle.nesl_seqs.specs.Prices.{Prices}
 use Rattle.nesl_seqs.specs.Places.{place_in, place_of, all_name, places, arrival}

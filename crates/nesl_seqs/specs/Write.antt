@@ -1,8 +1,8 @@
 -- Sequences that are written to.
-use Rattle.std.specs.Prelude.{ℕ, zero, suc, ℤ, List, length, map, zip, reverse, Option, None, option_map, option_and_then, unwrap_or, slice_get}
+use Rattle.std.specs.Prelude.{ℕ, zero, suc, ℤ, Bool, false, ◌||◌, List, length, map, zip, reverse, Option, None, is_some, option_map, option_and_then, unwrap_or, slice_get}
 use Rattle.std.specs.List.{filter_map, enumerate_from}
 use Rattle.nesl_values.specs.Tree.{Tree, sequence}
-use Rattle.nesl_values.specs.Parts.{as_int, as_pair}
+use Rattle.nesl_values.specs.Parts.{as_int, as_bool, as_char, as_pair}
 use Rattle.nesl_seqs.specs.Outcome.{Outcome, gives}
 use Rattle.nesl_seqs.specs.Places.{place_of, at_places, arrival}
 
@@ -30,3 +30,11 @@ writes_of n ts = filter_map (write_of n) ts
 abbrev pub told_by : List Tree → ℕ → Option Tree
 told_by ts zero = None
 told_by ts (suc i) = option_and_then (λ t. option_map (λ p. p.1) (as_pair t)) (slice_get ts i)
+
+-- whether a tree is a leaf
+abbrev pub is_leaf : Tree → Bool
+is_leaf t = is_some (as_int t) || is_some (as_bool t) || is_some (as_char t)
+
+-- whether a pair writes a leaf
+abbrev pub writes_leaf : Tree → Bool
+writes_leaf t = unwrap_or (option_map (λ p. is_leaf p.1) (as_pair t)) false

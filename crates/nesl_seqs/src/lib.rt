@@ -8,8 +8,8 @@ mod extremes;
 mod functions;
 mod gather;
 mod item;
-mod levels;
 mod laws;
+mod levels;
 mod marks;
 mod nodes;
 mod pairs;
@@ -26,18 +26,19 @@ mod sides;
 #[cfg(test)]
 mod tests;
 #[cfg(test)]
-mod tests_scans;
-#[cfg(test)]
 mod tests_pieces;
-mod woven;
 #[cfg(test)]
 mod tests_places;
+#[cfg(test)]
+mod tests_scans;
+mod woven;
 mod write;
 
 pub use equal::tells_equality;
 pub use functions::{apply, cost_and_size, price_within};
 pub use laws::{numbers_of_range, places_of_rotate};
 pub use levels::cuts_the_whole;
+pub use permute::tells_places;
 pub use price::Price;
 pub use seq_fn::SeqFn;
 pub use woven::{takes_every_other, weaves};

@@ -245,19 +245,22 @@ fn writes_out_of_range(rt: HostRuntime) -> Result<(), Fail> {
 #[test]
 fn writes_in_several_windows(rt: HostRuntime) -> Result<(), Fail> {
     let alloc = rt.alloc();
-    let pairs = number_pairs(alloc, &[(9_999, 1), (5_000, 2), (3, 3), (9_999, 4)])?;
-    let v = Value::Ints(counted(alloc, 10_000)?);
+    let items = counted(alloc, 10_000)?;
     let mut expected = Vec::new(alloc);
     for number in 0..10_000 {
         expected.push(match number {
-            3 => 3,
+            3 => 30,
             5_000 => 2,
             9_999 => 4,
             _ => number,
         })?;
     }
-    let whole = price_of(20_005, 1, 10_001);
-    let four = Value::pair(alloc, v, pairs)?;
-    assert!(rt; gives(alloc, SeqFn::Write, &four, &Value::Ints(expected), whole)?);
+    let expected = Value::Ints(expected);
+    for packed in [true, false] {
+        let pairs = number_pairs(alloc, &[(9_999, 1), (5_000, 2), (3, 30), (9_999, 4)])?;
+        let four = Value::pair(alloc, held(alloc, packed, &items)?, pairs)?;
+        let whole = price_of(20_005, 1, 10_001);
+        assert!(rt; gives(alloc, SeqFn::Write, &four, &expected, whole)?);
+    }
     Ok(())
 }

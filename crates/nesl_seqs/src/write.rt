@@ -1,5 +1,5 @@
 // Sequences that are written to.
-ghost use Rattle.std.specs.Prelude.{◌≡◌, ◌+◌, ◌-◌, ◌*◌, ◌/◌, ◌≤◌, ◌<◌, ◌^◌, ℕ, None, length, map, take, drop, is_some, reverse, unwrap_or, option_map, slice_index, slice_get, SomeIff, IfSome, IfOk};
+ghost use Rattle.std.specs.Prelude.{◌≡◌, ◌+◌, ◌-◌, ◌*◌, ◌/◌, ◌≤◌, ◌<◌, ◌^◌, ℕ, None, length, map, take, drop, is_some, reverse, unwrap_or, option_map, slice_index, slice_get, SomeIff, IfSome, IfOk, IsTrue};
 ghost use Rattle.std.specs.List.{list_all};
 ghost use Rattle.std.specs.Option.{MatchOption};
 ghost use Rattle.nesl_values.specs.Tree.{Tree, size, sizes, sequence, trees_of, int, boolean, character};
@@ -11,7 +11,7 @@ ghost use Rattle.nesl_seqs.specs.Meaning.{meaning};
 ghost use Rattle.nesl_seqs.specs.Places.{arrival};
 ghost use Rattle.nesl_seqs.specs.Prices.{Prices, reads, price};
 ghost use Rattle.nesl_seqs.specs.Reductions.{all_of};
-ghost use Rattle.nesl_seqs.specs.Write.{int_and_tree, overwritten, written, write_of, writes_of, told_by};
+ghost use Rattle.nesl_seqs.specs.Write.{int_and_tree, overwritten, written, write_of, writes_of, told_by, is_leaf, writes_leaf};
 ghost use Rattle.nesl_seqs.specs.declared.seq_fn.SeqFn.TheVariants.{Write};
 
 use crate::arguments::{WRONG_SHAPE, two_sequences};
@@ -122,8 +122,60 @@ fn price_of_overwritten<A: Allocator>(
     })
 }
 
-// The nodes of all elements as they are in the end: one window of places after the other.
+// The nodes of all elements as they are in the end.
 fn overwritten_nodes<A: Allocator>(
+    items: Items<'_, A>,
+    pairs: &[Value<A>],
+    limit: u128,
+) -> Option<u128>
+    ensures { SomeIff result
+        (sizes (trees_of (overwritten (item_trees items.entry)
+        (writes_of (length (item_trees items.entry)) (map tree_of pairs.now)))) ≤ limit)
+        (sizes (trees_of (overwritten (item_trees items.entry)
+        (writes_of (length (item_trees items.entry)) (map tree_of pairs.now))))) }
+{
+    if is_packed(items) && all_write_leaves(pairs) {
+        return leaves(items.len(), limit);
+    }
+    nodes_of_windows(items, pairs, limit)
+}
+
+// Whether the items are held as leaves.
+fn is_packed<A: Allocator>(items: Items<'_, A>) -> bool
+    ensures { IsTrue result → IsTrue (list_all is_leaf (item_trees items.entry)) }
+{
+    match items {
+        Items::Ints(_) => true,
+        Items::Bools(_) => true,
+        Items::Chars(_) => true,
+        Items::Values(_) => false,
+    }
+}
+
+// Whether each pair writes a leaf.
+fn all_write_leaves<A: Allocator>(pairs: &[Value<A>]) -> bool
+    ensures { result ≡ list_all (λ p. writes_leaf (tree_of p)) pairs.now }
+{
+    pairs.iter().all(|pair| writes_leaf(pair))
+}
+
+fn writes_leaf<A: Allocator>(pair: &Value<A>) -> bool
+    ensures { result ≡ writes_leaf (tree_of pair.now) }
+{
+    match second_of(pair) {
+        Some(value) => is_leaf(value),
+        None => false,
+    }
+}
+
+fn is_leaf<A: Allocator>(value: &Value<A>) -> bool
+    ensures { result ≡ is_leaf (tree_of value.now) }
+{
+    value.as_int().is_some() || value.as_bool().is_some() || value.as_char().is_some()
+}
+
+// The same: one window of places after the other.
+fn nodes_of_windows<A: Allocator>(
     items: Items<'_, A>,
     pairs: &[Value<A>],
     limit: u128,

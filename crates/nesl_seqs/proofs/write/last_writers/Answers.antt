@@ -1,4 +1,4 @@
-use Rattle.std.proofs.Common.{◌≡◌, ◌≢◌, ◌∙◌, ◌+◌, ◌/◌, ◌%◌, length, set, rules}
+use Rattle.std.proofs.Common.{◌≡◌, ◌≢◌, ◌∙◌, ◌+◌, ◌/◌, ◌%◌, rules}
 use Rattle.std.proofs.lemmas.List.{length-set}
 use Rattle.nesl_values.specs.View.{tree_of}
 use Rattle.nesl_seqs.proofs.Writing.{last_inside, last_outside, last_same}

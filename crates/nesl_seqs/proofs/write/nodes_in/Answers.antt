@@ -1,5 +1,4 @@
-use Rattle.std.proofs.Common.{◌≡◌, ◌∙◌, ◌+◌, ◌-◌, ◌*◌, ◌<◌, ◌≤◌, ap, reverse, map, length, min, unwrap_or, get_or, arith, rules}
-use Rattle.nesl_values.specs.Tree.{size}
+use Rattle.std.proofs.Common.{◌∙◌, ◌+◌, ◌-◌, ◌*◌, ◌<◌, ◌≤◌, ap, reverse, map, length, min, unwrap_or, get_or, arith, rules}
 use Rattle.nesl_values.specs.View.{tree_of, element_tree}
 use Rattle.nesl_seqs.specs.Held.{item_trees}
 use Rattle.nesl_seqs.specs.Places.{arrival}

@@ -1,26 +1,15 @@
-use Rattle.std.proofs.Common.{◌≡◌, ◌/◌, ◌<◌, map, length, arith, rules}
+use Rattle.std.proofs.Common.{◌≡◌, length, true, sym, rules}
+use Rattle.std.specs.List.{list_all}
 use Rattle.nesl_values.specs.View.{tree_of}
 use Rattle.nesl_seqs.specs.Held.{item_trees}
-use Rattle.nesl_seqs.specs.Write.{overwritten, writes_of}
-use Rattle.nesl_seqs.proofs.Writing.{windows_rest, windows_end, length_overwritten}
+use Rattle.nesl_seqs.specs.Write.{is_leaf, writes_leaf}
+use Rattle.nesl_seqs.proofs.WrittenLeaves.{overwritten_leaves}
 use Rattle.nesl_seqs.proofs.write.overwritten_nodes.Goals as goal
 
-pub returns-in_err-used : goal.returns-in_err-used
-returns-in_err-used g c =
+pub returns-then-all_write_leaves : goal.returns-then-all_write_leaves
+returns-then-all_write_leaves g c =
     let ts = item_trees c.args.items in
-    let here = windows_rest (overwritten ts (writes_of (length ts) (map tree_of c.args.pairs.now))) c.loop-window.window in
-    rw c.from_residual.ensures (λ h. c.in_err-used.ensures (omega (arith, here, h)))
-
-pub loop-window-preserved : goal.loop-window-preserved
-loop-window-preserved g c =
-    let ts = item_trees c.args.items in
-    let here = windows_rest (overwritten ts (writes_of (length ts) (map tree_of c.args.pairs.now))) c.loop-window.window in
-    (omega (arith, here, c.in_ok-used.ensures.0, c.in_ok-used.ensures.1), omega (arith, c.in_ok-used.ensures.0, c.in_ok-used.ensures.1))
-
-pub returns : goal.returns
-returns g c =
-    let ts = item_trees c.args.items in
-    let ws = writes_of (length ts) (map tree_of c.args.pairs.now) in
-    let over : length ts / 4096 < c.loop-window.window = search rules in
-    let done = windows_end (overwritten ts ws) c.loop-window.window (omega (arith, length_overwritten ts ws, over)) in
-    (omega (arith, done), omega (arith, done))
+    let ps = c.args.pairs.now in
+    let packed : list_all is_leaf ts ≡ true = search rules in
+    let written : list_all (λ p. writes_leaf (tree_of p)) ps ≡ true = search rules in
+    rw (overwritten_leaves tree_of ts (length ts) ps packed written) (rw (sym c.len.ensures) c.leaves.ensures)

@@ -3,7 +3,7 @@ use Rattle.nesl_values.specs.Tree.{sizes, trees_of}
 use Rattle.nesl_values.specs.View.{tree_of}
 use Rattle.nesl_seqs.specs.Held.{item_trees}
 use Rattle.nesl_seqs.specs.Write.{overwritten, writes_of}
-use Rattle.nesl_seqs.proofs.write.overwritten_nodes.Given as goal
+use Rattle.nesl_seqs.proofs.write.nodes_of_windows.Given as goal
 
 abbrev pub invariant-loop-window : goal.invariant-loop-window
 invariant-loop-window g l =
