@@ -3,6 +3,7 @@ use Rattle.std.proofs.Common.{◌≡◌, ◌≢◌, ℕ, ℤ, zero, suc, pos, �
 use Rattle.std.specs.List.{list_any, list_all, filter_map, cons_option, find, range_with_len}
 use Rattle.std.proofs.lemmas.Bool.{false≢true}
 use Rattle.std.proofs.lemmas.Bool.Decides.{Decides-eqb, Decides-ltb}
+use Rattle.std.proofs.Math.Bool.{or-true}
 use Rattle.std.proofs.lemmas.List.{length-map}
 use Rattle.std.proofs.lemmas.List.FromFn.{length-range_with_len}
 use Rattle.std.proofs.lemmas.Option.{slice_get_within}
@@ -10,14 +11,15 @@ use Rattle.nesl_scalars.specs.declared.trap.Trap.{Trap}
 use Rattle.nesl_scalars.specs.declared.trap.Trap.TheVariants.{Length, Range, Permutation}
 use Rattle.nesl_values.specs.Tree.{Tree, int, size, sizes, sequence, trees_of}
 use Rattle.nesl_values.specs.Parts.{as_int}
-use Rattle.nesl_seqs.specs.Outcome.{Outcome, gives, traps, undefined, given, IsGiven}
+use Rattle.nesl_seqs.specs.Outcome.{Outcome, gives, traps, given, IsGiven}
 use Rattle.nesl_seqs.specs.Permute.{all_differ, rearranged, permuted, Inverts}
 use Rattle.nesl_seqs.specs.Places.{place_in, place_of, places_of, elements_at, at_places, arrival}
 use Rattle.nesl_seqs.specs.Prices.{Prices}
 use Rattle.nesl_seqs.specs.Reductions.{all_of}
 use Rattle.nesl_seqs.specs.declared.price.Price.{Price}
-use Rattle.nesl_seqs.proofs.Marking.{are_equal, are_apart, test_apart}
-use Rattle.nesl_seqs.proofs.Picking.{left_true, right_true, list_all_map, are_ints, given_all, refused, length_found, place_of_within}
+use Rattle.nesl_seqs.proofs.Equality.{left_true, right_true}
+use Rattle.nesl_seqs.proofs.Marking.{are_equal, are_apart, test_apart, not_true}
+use Rattle.nesl_seqs.proofs.Picking.{not_given, list_all_map, are_ints, given_all, refused, length_found, place_of_within}
 
 -- the weight of trees
 abbrev pub weights : (Tree → ℕ) → List Tree → ℕ
@@ -82,10 +84,6 @@ no_arrival k (c ∷ ks) (t ∷ ts) h = first_arrival c t (zip ks ts) k ∙ not_h
 none_arrive : (xs : List ℕ) → filter_map (arrival []) xs ≡ []
 none_arrive [] = refl
 none_arrive (x ∷ xs) = none_arrive xs
-
-pub not_true : (b : Bool) → not b ≡ true → b ≡ false
-not_true true h = absurd (cc h)
-not_true false h = refl
 
 -- all arrive
 pub weights_arrive : (w : Tree → ℕ) (m : ℕ) (ks : List ℕ) (ts : List Tree) → length ks ≡ length ts → list_all (λ k. nat_lt k m) ks ≡ true → all_differ ks ≡ true → weights w (filter_map (arrival (zip ks ts)) (range_with_len 0 m)) ≡ weights w ts
@@ -260,11 +258,6 @@ pub record IsArranged (ts js : List Tree) : Type 0 where
   pub differ : all_differ (places_of (length ts) js) ≡ true
   pub is : given (all_of as_int js) (permuted ts) ≡ gives (sequence (rearranged ts (places_of (length ts) js)))
 
-pub not_given : (o : Outcome) (e : Trap) → IsGiven o → Prices o 0 0 0 (Err e) → ⊥
-not_given (gives t) e p q = q
-not_given (traps d) e p q = p
-not_given undefined e p q = p
-
 -- the indices are refused, or each element has a place of its own
 pub by_outcome : {I : Type 0} (f : I → Tree) (is : List I) (ts : List Tree) (P : Outcome → Type 0) → ((o : Outcome) (e : Trap) → Prices o 0 0 0 (Err e) → P o) → (IsArranged ts (map f is) → P (given (all_of as_int (map f is)) (permuted ts)))
     → P (given (all_of as_int (map f is)) (permuted ts))
@@ -299,10 +292,6 @@ set_other (y ∷ xs) zero (suc i) x h = refl
 set_other (y ∷ xs) (suc k) zero x h = refl
 set_other (y ∷ xs) (suc k) (suc i) x h = set_other xs k i x (λ e. h (ap suc e))
 
-or_true : (b : Bool) → (b || true) ≡ true
-or_true true = refl
-or_true false = refl
-
 named_later : (n : ℕ) (js : List Tree) (j : ℕ) (y : Tree) (k : ℕ) → slice_get js j ≡ Some y → place_of n y ≡ Some k → list_any (nat_eq k) (places_of n js) ≡ true
 named_later n [] j y k at names = absurd (cc at)
 named_later n (x ∷ js) zero y k at names =
@@ -312,7 +301,7 @@ named_later n (x ∷ js) (suc j) y k at names = one_more (place_of n x) (places_
   where
     one_more : (o : Option ℕ) (ks : List ℕ) → list_any (nat_eq k) ks ≡ true → list_any (nat_eq k) (cons_option o ks) ≡ true
     one_more None ks h = h
-    one_more (Some c) ks h = ap (λ b. nat_eq k c || b) h ∙ or_true (nat_eq k c)
+    one_more (Some c) ks h = ap (λ b. nat_eq k c || b) h ∙ or-true (nat_eq k c)
 
 differ_apart : (n : ℕ) (js : List Tree) (i j : ℕ) (x y : Tree) (k : ℕ) → all_differ (places_of n js) ≡ true → i < j → slice_get js i ≡ Some x → slice_get js j ≡ Some y → place_of n x ≡ Some k → place_of n y ≡ Some k → ⊥
 differ_apart n [] i j x y k differ h at later p q = absurd (cc at)

@@ -1,6 +1,7 @@
 -- Each element stands where its index says.
-use Rattle.std.proofs.Common.{◌≡◌, ℕ, zero, suc, ◌+◌, ◌<◌, Bool, true, false, not, ◌||◌, ◌&&◌, cond, nat_eq, nat_lt, List, [], ◌∷◌, length, zip, refl, ap, sym, ◌∙◌, arith, Option, Some, None, slice_get}
+use Rattle.std.proofs.Common.{◌≡◌, ℕ, zero, suc, ◌<◌, Bool, true, false, not, ◌||◌, cond, nat_eq, nat_lt, List, [], ◌∷◌, length, zip, refl, ap, sym, ◌∙◌, arith, Option, Some, None, slice_get}
 use Rattle.std.specs.List.{list_any, list_all, filter_map, cons_option, range_with_len}
+use Rattle.std.proofs.Math.Bool.{or-true}
 use Rattle.std.proofs.lemmas.Bool.{false≢true}
 use Rattle.std.proofs.lemmas.Bool.Decides.{Decides-eqb, Decides-ltb}
 use Rattle.std.proofs.lemmas.List.FromFn.{length-range_with_len, get_or-range_with_len}
@@ -8,9 +9,10 @@ use Rattle.std.proofs.lemmas.Option.{slice_get-get_or}
 use Rattle.nesl_values.specs.Tree.{Tree}
 use Rattle.nesl_seqs.specs.Permute.{all_differ, rearranged}
 use Rattle.nesl_seqs.specs.Places.{arrival}
-use Rattle.nesl_seqs.proofs.Marking.{are_equal}
-use Rattle.nesl_seqs.proofs.Picking.{left_true, right_true, length_found}
-use Rattle.nesl_seqs.proofs.Permuting.{not_true, first_arrival, weights_arrive, weights_one}
+use Rattle.nesl_seqs.proofs.Equality.{left_true, right_true}
+use Rattle.nesl_seqs.proofs.Marking.{are_equal, not_true}
+use Rattle.nesl_seqs.proofs.Picking.{length_found}
+use Rattle.nesl_seqs.proofs.Permuting.{first_arrival, weights_arrive, weights_one}
 
 all_at : {X : Type 0} (p : X → Bool) (xs : List X) (j : ℕ) (x : X) → list_all p xs ≡ true → slice_get xs j ≡ Some x → p x ≡ true
 all_at p [] j x h at = absurd (cc at)
@@ -24,11 +26,7 @@ stands_in c [] j at = absurd (cc at)
 stands_in c (k ∷ ks) zero at =
     let same : k ≡ c = cc at in
     ap (λ b. b || list_any (nat_eq c) ks) ((Decides-eqb c k).1 (sym same))
-stands_in c (k ∷ ks) (suc j) at = ap (λ b. nat_eq c k || b) (stands_in c ks j at) ∙ or_true (nat_eq c k)
-  where
-    or_true : (b : Bool) → (b || true) ≡ true
-    or_true true = refl
-    or_true false = refl
+stands_in c (k ∷ ks) (suc j) at = ap (λ b. nat_eq c k || b) (stands_in c ks j at) ∙ or-true (nat_eq c k)
 
 arrives_to : (ks : List ℕ) (ts : List Tree) (j k : ℕ) (t : Tree) → all_differ ks ≡ true → slice_get ks j ≡ Some k → slice_get ts j ≡ Some t → arrival (zip ks ts) k ≡ Some t
 arrives_to [] ts j k t differ at there = absurd (cc at)

@@ -1,7 +1,7 @@
 -- Writes to places.
 use Rattle.std.proofs.Common.{◌≡◌, ◌≢◌, ℕ, ℤ, zero, suc, ◌+◌, ◌-◌, ◌*◌, ◌/◌, ◌%◌, ◌<◌, ◌≤◌, Bool, true, false, ◌&&◌, cond, nat_eq, List, [], ◌∷◌, ◌++◌, length, map, zip, take, drop, reverse, set, get_or, min, refl, ap, sym, ◌∙◌, arith, Option, Some, None, is_some, option_map, option_and_then, unwrap_or, slice_get, Err}
 use Rattle.std.specs.List.{list_all, cons_option, enumerate_from}
-use Rattle.std.proofs.lemmas.List.{take_more, map-append, length-map, reverse-append, take-append-drop, drop-drop, drop_all, length-take, length-drop, get_or-set_same, get_or-set_other}
+use Rattle.std.proofs.lemmas.List.{append-nil, take_more, map-append, length-map, reverse-append, take-append-drop, drop-drop, drop_all, length-take, length-drop, get_or-set_same, get_or-set_other}
 use Rattle.std.proofs.lemmas.Bool.Decides.{Decides-eqb}
 use Rattle.std.proofs.lemmas.Option.{slice_get-map, slice_get_read, slice_get_past}
 use Rattle.std.proofs.lemmas.List.Elements.{filter_map-append}
@@ -13,10 +13,10 @@ use Rattle.nesl_seqs.specs.Reductions.{all_of}
 use Rattle.nesl_seqs.specs.Prices.{Prices}
 use Rattle.nesl_seqs.specs.Places.{place_in, place_of, all_name, places, arrival}
 use Rattle.nesl_seqs.specs.Write.{int_and_tree, overwritten, written, write_of, writes_of, told_by}
+use Rattle.nesl_seqs.proofs.Equality.{left_true, right_true}
 use Rattle.nesl_seqs.proofs.Marking.{are_equal, are_apart, test_apart}
-use Rattle.nesl_seqs.proofs.Picking.{list_all_map, left_true, right_true}
-use Rattle.nesl_seqs.proofs.Differing.{append_none}
-use Rattle.nesl_seqs.proofs.Permuting.{arrival_or, first_arrival, not_given}
+use Rattle.nesl_seqs.proofs.Picking.{list_all_map, not_given}
+use Rattle.nesl_seqs.proofs.Permuting.{arrival_or, first_arrival}
 use Rattle.nesl_seqs.proofs.Totals.{sizes_append}
 use Rattle.nesl_seqs.proofs.Bounds.{sizes_set}
 
@@ -96,7 +96,7 @@ writes_more f n ps j p o h at writes =
     ap (λ qs. writes_of n (map f qs)) (take_more ps j p h ∙ ap (λ x. take j ps ++ x ∷ []) (sym at)) ∙ ap (writes_of n) (map-append f (take j ps) (p ∷ [])) ∙ filter_map-append (write_of n) (map f (take j ps)) (f p ∷ []) ∙ ap (λ q. writes_of n (map f (take j ps)) ++ cons_option q []) (sym writes)
 
 pub writes_same : {P : Type 0} (f : P → Tree) (n : ℕ) (ps : List P) (j : ℕ) (p : P) → j < length ps → p ≡ get_or ps j p → None ≡ write_of n (f p) → writes_of n (map f (take (j + 1) ps)) ≡ writes_of n (map f (take j ps))
-writes_same f n ps j p h at writes = writes_more f n ps j p None h at writes ∙ append_none (writes_of n (map f (take j ps)))
+writes_same f n ps j p h at writes = writes_more f n ps j p None h at writes ∙ append-nil (writes_of n (map f (take j ps)))
 
 arrival_more : (ws : List (ℕ × Tree)) (c : ℕ) (u : Tree) (k : ℕ) → arrival (reverse (ws ++ (c, u) ∷ [])) k ≡ arrival_or c u (arrival (reverse ws)) k
 arrival_more ws c u k = ap (λ vs. arrival vs k) (reverse-append ws ((c, u) ∷ [])) ∙ first_arrival c u (reverse ws) k

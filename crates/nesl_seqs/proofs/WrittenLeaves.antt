@@ -1,11 +1,12 @@
 -- Writes of leaves over leaves.
-use Rattle.std.proofs.Common.{◌≡◌, ℕ, ◌+◌, Bool, true, false, ◌&&◌, cond, nat_eq, List, [], ◌∷◌, ◌++◌, length, map, reverse, refl, ap, ◌∙◌, arith, Option, Some, None, option_map, unwrap_or}
+use Rattle.std.proofs.Common.{◌≡◌, ℕ, ◌+◌, Bool, true, false, cond, nat_eq, List, [], ◌∷◌, ◌++◌, length, map, reverse, refl, ap, ◌∙◌, arith, Option, Some, None, option_map, unwrap_or}
 use Rattle.std.specs.List.{list_all, cons_option, enumerate_from}
 use Rattle.std.proofs.lemmas.List.{reverse-append}
 use Rattle.nesl_values.specs.Tree.{Tree, int, boolean, character, pair, size, sizes, trees_of}
 use Rattle.nesl_seqs.specs.Places.{place_of, arrival}
 use Rattle.nesl_seqs.specs.Write.{overwritten, write_of, writes_of, is_leaf, writes_leaf}
-use Rattle.nesl_seqs.proofs.Picking.{left_true, right_true, list_all_map}
+use Rattle.nesl_seqs.proofs.Equality.{left_true, right_true, both_true}
+use Rattle.nesl_seqs.proofs.Picking.{list_all_map}
 use Rattle.nesl_seqs.proofs.Permuting.{first_arrival}
 
 size_leaf : (t : Tree) → is_leaf t ≡ true → size t ≡ 1
@@ -13,10 +14,6 @@ size_leaf (int n) h = refl
 size_leaf (boolean b) h = refl
 size_leaf (character c) h = refl
 size_leaf t h = absurd (cc h)
-
-both_true : (a b : Bool) → a ≡ true → b ≡ true → (a && b) ≡ true
-both_true true b h p = p
-both_true false b h p = absurd (cc h)
 
 all_append : {X : Type 0} (p : X → Bool) (xs ys : List X) → list_all p xs ≡ true → list_all p ys ≡ true → list_all p (xs ++ ys) ≡ true
 all_append p [] ys h k = k
