@@ -11,7 +11,10 @@ use crate::price::Price;
 use crate::reductions::{self, price_of_reduction, value_of};
 use crate::scans::Joint;
 use crate::seq_fn::SeqFn;
-use crate::{equal, extremes, gather, levels, pairs, permute, pieces, ranges, replace, scans, sides, woven, write};
+use crate::{
+    equal, extremes, gather, levels, pairs, permute, pieces, ranges, replace, scans, sides, woven,
+    write,
+};
 use nesl_scalars::Trap;
 use nesl_values::Value;
 use std::alloc::{AllocError, Allocator};
