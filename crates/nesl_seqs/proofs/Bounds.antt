@@ -1,9 +1,8 @@
 -- No price is above what its numbers hold, where the argument has fewer than 2^65 nodes.
-use Rattle.std.proofs.Common.{◌≡◌, ℕ, ℤ, zero, suc, pos, negsuc, ◌+◌, ◌-◌, ◌/◌, ◌^◌, ◌<◌, ◌≤◌, Bool, true, false, cond, List, [], ◌∷◌, length, take, drop, refl, arith, Option, Some, None, option_map, unwrap_or, Result, Ok, Err, nat_le, nat_lt, nat_eq, set, IfOk, IsSome, subst, rules}
+use Rattle.std.proofs.Common.{◌≡◌, ℕ, ℤ, zero, suc, pos, negsuc, ◌+◌, ◌-◌, ◌/◌, ◌^◌, ◌<◌, ◌≤◌, Bool, true, false, cond, List, [], ◌∷◌, length, take, drop, refl, arith, Option, Some, None, option_map, unwrap_or, Result, Ok, Err, nat_le, nat_lt, nat_eq, set, IfOk, IfSome, IsSome, subst, rules}
 use Rattle.nesl_scalars.specs.declared.trap.Trap.{Trap}
 use Rattle.nesl_values.specs.Tree.{Tree, Trees, int, boolean, character, pair, seq, tagged, no_trees, tree_then, trees_of, sequence, size, sizes}
 use Rattle.nesl_values.specs.Parts.{list_of, as_sequence}
-use Rattle.nesl_values.proofs.Trees.{size_positive}
 use Rattle.nesl_seqs.specs.Outcome.{Outcome, gives, traps, undefined, given, number, fits, IsGiven}
 use Rattle.nesl_seqs.specs.Arguments.{sequence_and_int, two_sequences, numbers, truths}
 use Rattle.nesl_seqs.specs.Pieces.{element_at, joined, halves, taken, dropped, reversed, rotated, places_on, replaced}
@@ -17,38 +16,46 @@ use Rattle.nesl_seqs.specs.declared.seq_fn.SeqFn.TheVariants.{Length, Index, App
 use Rattle.nesl_seqs.proofs.Totals.{sizes_append, sizes_reverse}
 
 -- the work of an outcome fits
-abbrev Fits : Outcome → ℕ → Type 0
+abbrev pub Fits : Outcome → ℕ → Type 0
 Fits (gives t) read = 1 + read + (size t - 1) < 2 ^ 128
 Fits (traps e) read = Unit {0}
 Fits undefined read = Unit {0}
 
-fits_if : (b : Bool) (t : Tree) (e : Trap) (n : ℕ) → 1 + n + (size t - 1) < 2 ^ 128 → Fits (cond b (gives t) (traps e)) n
+pub fits_if : (b : Bool) (t : Tree) (e : Trap) (n : ℕ) → 1 + n + (size t - 1) < 2 ^ 128 → Fits (cond b (gives t) (traps e)) n
 fits_if true t e n p = p
 fits_if false t e n p = tt
 
-sizes_list : (ts : Trees) → sizes (trees_of (list_of ts)) ≡ sizes ts
+size_positive : (t : Tree) → 1 ≤ size t
+size_positive (int n) = omega arith
+size_positive (boolean b) = omega arith
+size_positive (character c) = omega arith
+size_positive (pair l r) = omega arith
+size_positive (seq ts) = omega arith
+size_positive (tagged n t) = omega arith
+
+pub sizes_list : (ts : Trees) → sizes (trees_of (list_of ts)) ≡ sizes ts
 sizes_list no_trees = refl
 sizes_list (tree_then t ts) = omega (arith, sizes_list ts)
 
-length_le : (ts : List Tree) → length ts ≤ sizes (trees_of ts)
+pub length_le : (ts : List Tree) → length ts ≤ sizes (trees_of ts)
 length_le [] = omega arith
 length_le (t ∷ ts) = omega (arith, length_le ts, size_positive t)
 
-sizes_take : (k : ℕ) (ts : List Tree) → sizes (trees_of (take k ts)) ≤ sizes (trees_of ts)
+pub sizes_take : (k : ℕ) (ts : List Tree) → sizes (trees_of (take k ts)) ≤ sizes (trees_of ts)
 sizes_take zero ts = omega arith
 sizes_take (suc k) [] = omega arith
 sizes_take (suc k) (t ∷ ts) = omega (arith, sizes_take k ts)
 
-sizes_drop : (k : ℕ) (ts : List Tree) → sizes (trees_of (drop k ts)) ≤ sizes (trees_of ts)
+pub sizes_drop : (k : ℕ) (ts : List Tree) → sizes (trees_of (drop k ts)) ≤ sizes (trees_of ts)
 sizes_drop zero ts = omega arith
 sizes_drop (suc k) [] = omega arith
 sizes_drop (suc k) (t ∷ ts) = omega (arith, sizes_drop k ts)
 
-by_sequence : (t : Tree) (g : List Tree → Outcome) → size t < 2 ^ 65 → ((ts : List Tree) → sizes (trees_of ts) < 2 ^ 65 → length ts < 2 ^ 65 → Fits (g ts) (length ts)) → Fits (given (as_sequence t) g) (length_of t)
+pub by_sequence : (t : Tree) (g : List Tree → Outcome) → size t < 2 ^ 65 → ((ts : List Tree) → sizes (trees_of ts) < 2 ^ 65 → length ts < 2 ^ 65 → Fits (g ts) (length ts)) → Fits (given (as_sequence t) g) (length_of t)
 by_sequence (seq ts) g h k = k (list_of ts) (omega (arith, sizes_list ts)) (omega (arith, sizes_list ts, length_le (list_of ts)))
 by_sequence t g h k = tt
 
-by_sequence_and_int : (t : Tree) (g : List Tree → ℤ → Outcome) → size t < 2 ^ 65 → ((ts : List Tree) (z : ℤ) → sizes (trees_of ts) < 2 ^ 65 → length ts < 2 ^ 65 → Fits (g ts z) (length ts))
+pub by_sequence_and_int : (t : Tree) (g : List Tree → ℤ → Outcome) → size t < 2 ^ 65 → ((ts : List Tree) (z : ℤ) → sizes (trees_of ts) < 2 ^ 65 → length ts < 2 ^ 65 → Fits (g ts z) (length ts))
     → Fits (given (sequence_and_int t) (λ p. g p.0 p.1)) (unwrap_or (option_map (λ p. length p.0) (sequence_and_int t)) 0)
 by_sequence_and_int (pair (seq ts) (int z)) g h k = k (list_of ts) z (omega (arith, sizes_list ts)) (omega (arith, sizes_list ts, length_le (list_of ts)))
 by_sequence_and_int t g h k = tt
@@ -76,7 +83,7 @@ fits_rotated ts z h l =
 fits_number : (z : ℤ) (n : ℕ) → n < 2 ^ 65 → Fits (number z) n
 fits_number z n h = fits_if (fits z) (int z) _ n (omega arith)
 
-by_two_sequences : (t : Tree) (g : List Tree → List Tree → Outcome) → size t < 2 ^ 65 → ((ts us : List Tree) → sizes (trees_of ts) + sizes (trees_of us) < 2 ^ 65 → length ts + length us < 2 ^ 65 → Fits (g ts us) (length ts + length us))
+pub by_two_sequences : (t : Tree) (g : List Tree → List Tree → Outcome) → size t < 2 ^ 65 → ((ts us : List Tree) → sizes (trees_of ts) + sizes (trees_of us) < 2 ^ 65 → length ts + length us < 2 ^ 65 → Fits (g ts us) (length ts + length us))
     → Fits (given (two_sequences t) (λ p. g p.0 p.1)) (unwrap_or (option_map (λ p. length p.0 + length p.1) (two_sequences t)) 0)
 by_two_sequences (pair (seq ts) (seq us)) g h k =
     k (list_of ts) (list_of us) (omega (arith, sizes_list ts, sizes_list us)) (omega (arith, sizes_list ts, sizes_list us, length_le (list_of ts), length_le (list_of us)))
@@ -99,7 +106,7 @@ fits_leaf : (o : Option (List Bool)) (g : List Bool → Outcome) (n : ℕ) → (
 fits_leaf None g n h = tt
 fits_leaf (Some bs) g n h = h bs
 
-length_below : (t : Tree) → size t < 2 ^ 65 → length_of t < 2 ^ 65
+pub length_below : (t : Tree) → size t < 2 ^ 65 → length_of t < 2 ^ 65
 length_below (seq ts) h = omega (arith, sizes_list ts, length_le (list_of ts))
 length_below (int n) h = omega arith
 length_below (boolean b) h = omega arith
@@ -166,7 +173,7 @@ sizes_pairs_le (t ∷ ts) (u ∷ us) = omega (arith, sizes_pairs_le ts us)
 pub bounded_zip : IsBounded Zip
 bounded_zip t h = by_two_sequences t zipped h (λ ts us p q. fits_if (nat_eq (length ts) (length us)) (sequence (pairs ts us)) _ (length ts + length us) (omega (arith, sizes_pairs_le ts us)))
 
-sizes_set : (ts : List Tree) (i : ℕ) (x : Tree) → sizes (trees_of (set ts i x)) ≤ sizes (trees_of ts) + size x
+pub sizes_set : (ts : List Tree) (i : ℕ) (x : Tree) → sizes (trees_of (set ts i x)) ≤ sizes (trees_of ts) + size x
 sizes_set [] i x = omega arith
 sizes_set (t ∷ ts) zero x = omega arith
 sizes_set (t ∷ ts) (suc i) x = omega (arith, sizes_set ts i x)
@@ -195,3 +202,8 @@ pub given_if_priced : (o : Outcome) (read depth limit : ℕ) (p : Price) → Pri
 given_if_priced (gives t) read depth limit p h = tt
 given_if_priced (traps e) read depth limit p h = h
 given_if_priced undefined read depth limit p h = h
+
+pub given_where_priced : (o : Outcome) (read depth limit : ℕ) (r : Result (Option Price) Trap) → Prices o read depth limit r → IfOk r (λ p. IfSome p (λ _. IsGiven o))
+given_where_priced o read depth limit (Ok (Some p)) prices = given_if_priced o read depth limit p prices
+given_where_priced o read depth limit (Ok None) prices = tt
+given_where_priced o read depth limit (Err e) prices = tt

@@ -51,22 +51,22 @@ same_map : {X Y : Type 0} (f g : X → Y) → ((x : X) → f x ≡ g x) → (o :
 same_map f g same None = refl
 same_map f g same (Some x) = ap Some (same x)
 
-or_more : (s b : Bool) (bs : List Bool) → ((s || b) || list_any (λ c. c) bs) ≡ (s || list_any (λ c. c) (b ∷ bs))
+pub or_more : (s b : Bool) (bs : List Bool) → ((s || b) || list_any (λ c. c) bs) ≡ (s || list_any (λ c. c) (b ∷ bs))
 or_more true b bs = refl
 or_more false b bs = refl
 
-or_none : (s : Bool) → s ≡ (s || false)
+pub or_none : (s : Bool) → s ≡ (s || false)
 or_none true = refl
 or_none false = refl
 
 pub folded_or : (read : Tree → Option Bool) (ts : List Tree) → folded ◌||◌ read false ts ≡ option_map (list_any (λ b. b)) (all_of read ts)
 folded_or read ts = folded_is ◌||◌ read (λ s bs. s || list_any (λ b. b) bs) or_none or_more false ts
 
-and_more : (s b : Bool) (bs : List Bool) → ((s && b) && list_all (λ c. c) bs) ≡ (s && list_all (λ c. c) (b ∷ bs))
+pub and_more : (s b : Bool) (bs : List Bool) → ((s && b) && list_all (λ c. c) bs) ≡ (s && list_all (λ c. c) (b ∷ bs))
 and_more true b bs = refl
 and_more false b bs = refl
 
-and_none : (s : Bool) → s ≡ (s && true)
+pub and_none : (s : Bool) → s ≡ (s && true)
 and_none true = refl
 and_none false = refl
 

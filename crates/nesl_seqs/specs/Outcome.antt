@@ -9,6 +9,11 @@ abbrev pub given : {X : Type 0} → Option X → (X → Outcome) → Outcome
 given (Some x) f = f x
 given None f = undefined
 
+-- the same, and another outcome where it doesn't have that part
+abbrev pub given_first : {X : Type 0} → Option X → (X → Outcome) → Outcome → Outcome
+given_first (Some x) f o = f x
+given_first None f o = o
+
 -- the outcome is a tree
 abbrev pub IsGiven : Outcome → Type 0
 IsGiven (gives t) = Unit {0}

@@ -7,7 +7,7 @@ use Rattle.nesl_seqs.specs.Outcome.{Outcome, gives, traps, undefined}
 use Rattle.nesl_seqs.specs.Arguments.{sequence_and_int, two_sequences, sequence_item_place}
 use Rattle.nesl_seqs.specs.declared.price.Price.{Price}
 use Rattle.nesl_seqs.specs.declared.seq_fn.SeqFn.{SeqFn}
-use Rattle.nesl_seqs.specs.declared.seq_fn.SeqFn.TheVariants.{Length, Index, Append, Dist, Range, RangeBy, Iota, Sum, Any, All, Count, Bottop, Take, Drop, Reverse, Rotate, Zip, Rep, Eql}
+use Rattle.nesl_seqs.specs.declared.seq_fn.SeqFn.TheVariants.{Length, Index, Append, Dist, Range, RangeBy, Iota, Sum, Any, All, Count, Bottop, Take, Drop, Reverse, Rotate, Zip, Rep, Eql, MaxVal, MinVal, MaxIndex, MinIndex, PlusScan, OrScan, AndScan, Flatten, Unzip, OddElts, EvenElts, Interleave, Gather, Permute, Split, Partition, Write}
 
 -- the length of a sequence
 abbrev pub length_of : Tree → ℕ
@@ -34,6 +34,23 @@ reads Rotate t = unwrap_or (option_map (λ p. length p.0) (sequence_and_int t)) 
 reads Zip t = unwrap_or (option_map (λ p. length p.0 + length p.1) (two_sequences t)) 0
 reads Rep t = unwrap_or (option_map (λ p. length p.0) (sequence_item_place t)) 0
 reads Eql t = unwrap_or (option_map (λ p. size p.0 + size p.1) (as_pair t)) 0
+reads MaxVal t = length_of t
+reads MinVal t = length_of t
+reads MaxIndex t = length_of t
+reads MinIndex t = length_of t
+reads PlusScan t = length_of t
+reads OrScan t = length_of t
+reads AndScan t = length_of t
+reads Flatten t = length_of t
+reads Unzip t = length_of t
+reads OddElts t = length_of t
+reads EvenElts t = length_of t
+reads Interleave t = unwrap_or (option_map (λ p. length p.0 + length p.1) (two_sequences t)) 0
+reads Gather t = unwrap_or (option_map (λ p. length p.0 + length p.1) (two_sequences t)) 0
+reads Permute t = unwrap_or (option_map (λ p. length p.0 + length p.1) (two_sequences t)) 0
+reads Split t = unwrap_or (option_map (λ p. length p.0 + length p.1) (two_sequences t)) 0
+reads Partition t = unwrap_or (option_map (λ p. length p.0 + length p.1) (two_sequences t)) 0
+reads Write t = unwrap_or (option_map (λ p. length p.0 + length p.1) (two_sequences t)) 0
 
 -- how many of the first k powers of two are at most n
 abbrev pub powers_within : ℕ → ℕ → ℕ
@@ -50,6 +67,13 @@ depth_of Sum n = 1 + digits n
 depth_of Any n = 1 + digits n
 depth_of All n = 1 + digits n
 depth_of Count n = 1 + digits n
+depth_of MaxVal n = 1 + digits n
+depth_of MinVal n = 1 + digits n
+depth_of MaxIndex n = 1 + digits n
+depth_of MinIndex n = 1 + digits n
+depth_of PlusScan n = 1 + digits n
+depth_of OrScan n = 1 + digits n
+depth_of AndScan n = 1 + digits n
 depth_of _ n = 1
 
 -- the price of a result: 1, the elements read and the nodes below the result's root

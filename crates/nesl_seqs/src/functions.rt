@@ -1,5 +1,5 @@
 // All functions: their prices, and their results.
-ghost use Rattle.std.specs.Prelude.{◌≡◌, ◌-◌, ◌<◌, ◌^◌, IfOk, IsSome};
+ghost use Rattle.std.specs.Prelude.{◌≡◌, ◌-◌, ◌<◌, ◌^◌, IfOk, IfSome, IsSome, OnOk};
 ghost use Rattle.nesl_values.specs.Tree.{size};
 ghost use Rattle.nesl_values.specs.View.{tree_of};
 ghost use Rattle.nesl_seqs.specs.Outcome.{IsGiven, gives};
@@ -9,20 +9,27 @@ ghost use Rattle.nesl_seqs.specs.Whole.{PricesAll};
 
 use crate::price::Price;
 use crate::reductions::{self, price_of_reduction, value_of};
+use crate::scans::Joint;
 use crate::seq_fn::SeqFn;
-use crate::{equal, pairs, pieces, ranges, replace};
+use crate::{
+    equal, extremes, gather, levels, pairs, permute, pieces, ranges, replace, scans, sides, woven,
+    write,
+};
 use nesl_scalars::Trap;
 use nesl_values::Value;
 use std::alloc::{AllocError, Allocator};
 
 /// The price of a function at an argument, where the work is at most the fuel: known before anything
 /// is built, without memory, in a time that grows with the argument's length and the fuel.
+#[tactic(auto, using(crate::proofs::Bounds::given_where_priced))]
 pub fn price_within<A: Allocator>(
     function: SeqFn,
     argument: &Value<A>,
     fuel: u64,
 ) -> Result<Option<Price>, Trap>
-    ensures { Prices (meaning function (tree_of argument.now))
+    ensures given { IfOk result (λ o. IfSome o
+        (λ _. IsGiven (meaning function (tree_of argument.now)))) }
+    ensures price { Prices (meaning function (tree_of argument.now))
         (reads function (tree_of argument.now))
         (depth_of function (reads function (tree_of argument.now))) fuel result }
 {
@@ -30,9 +37,11 @@ pub fn price_within<A: Allocator>(
 }
 
 /// The price of a function at an argument, known before anything is built and without memory.
+#[tactic(auto, using(crate::proofs::Bounds::given_where_priced))]
 pub fn cost_and_size<A: Allocator>(function: SeqFn, argument: &Value<A>) -> Result<Price, Trap>
     requires { size (tree_of argument.now) < 2 ^ 65 }
-    ensures { PricesAll (meaning function (tree_of argument.now))
+    ensures given { OnOk result (IsGiven (meaning function (tree_of argument.now))) }
+    ensures price { PricesAll (meaning function (tree_of argument.now))
         (reads function (tree_of argument.now))
         (depth_of function (reads function (tree_of argument.now))) result }
 {
@@ -73,6 +82,23 @@ fn price<A: Allocator>(
         SeqFn::Zip => pairs::price_zip(argument, limit),
         SeqFn::Rep => replace::price_rep(argument, limit),
         SeqFn::Eql => equal::price_eql(argument, limit),
+        SeqFn::MaxVal => price_of_reduction(argument, extremes::max_val(argument), limit),
+        SeqFn::MinVal => price_of_reduction(argument, extremes::min_val(argument), limit),
+        SeqFn::MaxIndex => price_of_reduction(argument, extremes::max_index(argument), limit),
+        SeqFn::MinIndex => price_of_reduction(argument, extremes::min_index(argument), limit),
+        SeqFn::PlusScan => scans::price_plus_scan(argument, limit),
+        SeqFn::OrScan => scans::price_logic_scan(argument, Joint::Or, limit),
+        SeqFn::AndScan => scans::price_logic_scan(argument, Joint::And, limit),
+        SeqFn::Flatten => levels::price_flatten(argument, limit),
+        SeqFn::Unzip => sides::price_unzip(argument, limit),
+        SeqFn::OddElts => woven::price_odd_elts(argument, limit),
+        SeqFn::EvenElts => woven::price_even_elts(argument, limit),
+        SeqFn::Interleave => woven::price_interleave(argument, limit),
+        SeqFn::Gather => gather::price_gather(argument, limit),
+        SeqFn::Permute => permute::price_permute(argument, limit),
+        SeqFn::Split => sides::price_split(argument, limit),
+        SeqFn::Partition => levels::price_partition(argument, limit),
+        SeqFn::Write => write::price_write(argument, limit),
     }
 }
 
@@ -105,5 +131,22 @@ pub fn apply<A: Allocator + Copy, B: Allocator>(
         SeqFn::Zip => pairs::apply_zip(alloc, argument),
         SeqFn::Rep => replace::apply_rep(alloc, argument),
         SeqFn::Eql => Ok(equal::apply_eql(argument)),
+        SeqFn::MaxVal => Ok(value_of(extremes::max_val(argument))),
+        SeqFn::MinVal => Ok(value_of(extremes::min_val(argument))),
+        SeqFn::MaxIndex => Ok(value_of(extremes::max_index(argument))),
+        SeqFn::MinIndex => Ok(value_of(extremes::min_index(argument))),
+        SeqFn::PlusScan => scans::apply_plus_scan(alloc, argument),
+        SeqFn::OrScan => scans::apply_logic_scan(alloc, argument, Joint::Or),
+        SeqFn::AndScan => scans::apply_logic_scan(alloc, argument, Joint::And),
+        SeqFn::Flatten => levels::apply_flatten(alloc, argument),
+        SeqFn::Unzip => sides::apply_unzip(alloc, argument),
+        SeqFn::OddElts => woven::apply_odd_elts(alloc, argument),
+        SeqFn::EvenElts => woven::apply_even_elts(alloc, argument),
+        SeqFn::Interleave => woven::apply_interleave(alloc, argument),
+        SeqFn::Gather => gather::apply_gather(alloc, argument),
+        SeqFn::Permute => permute::apply_permute(alloc, argument),
+        SeqFn::Split => sides::apply_split(alloc, argument),
+        SeqFn::Partition => levels::apply_partition(alloc, argument),
+        SeqFn::Write => write::apply_write(alloc, argument),
     }
 }

@@ -1,7 +1,7 @@
 // The elements of sequences, packed or not, as slices.
 ghost use Rattle.std.specs.Prelude.{◌≡◌, ◌≤◌, ◌<◌, ◌^◌, Some, length, slice_get, slice_range};
 ghost use Rattle.nesl_values.specs.Tree.{Tree, int, boolean, character};
-ghost use Rattle.nesl_values.specs.Parts.{as_int, as_bool, elements};
+ghost use Rattle.nesl_values.specs.Parts.{as_int, as_bool, as_char, elements};
 ghost use Rattle.nesl_values.specs.View.{tree_of, element_tree};
 ghost use Rattle.nesl_seqs.specs.Held.{item_trees};
 
@@ -80,6 +80,9 @@ pub trait Item {
 
     fn as_bool(&self) -> Option<bool>
         ensures { result ≡ as_bool (tree self.now) };
+
+    fn as_char(&self) -> Option<u8>
+        ensures { result ≡ as_char (tree self.now) };
 }
 
 impl Item for i64 {
@@ -90,6 +93,10 @@ impl Item for i64 {
     }
 
     fn as_bool(&self) -> Option<bool> {
+        None
+    }
+
+    fn as_char(&self) -> Option<u8> {
         None
     }
 }
@@ -104,6 +111,10 @@ impl Item for bool {
     fn as_bool(&self) -> Option<bool> {
         Some(*self)
     }
+
+    fn as_char(&self) -> Option<u8> {
+        None
+    }
 }
 
 impl Item for u8 {
@@ -116,6 +127,10 @@ impl Item for u8 {
     fn as_bool(&self) -> Option<bool> {
         None
     }
+
+    fn as_char(&self) -> Option<u8> {
+        Some(*self)
+    }
 }
 
 impl<A: Allocator> Item for Value<A> {
@@ -127,5 +142,9 @@ impl<A: Allocator> Item for Value<A> {
 
     fn as_bool(&self) -> Option<bool> {
         Value::as_bool(self)
+    }
+
+    fn as_char(&self) -> Option<u8> {
+        Value::as_char(self)
     }
 }

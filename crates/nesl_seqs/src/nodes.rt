@@ -60,7 +60,8 @@ fn nodes_of_all<A: Allocator>(values: &[Value<A>], limit: u128) -> Option<u128>
     Some(used)
 }
 
-fn leaves(count: usize, limit: u128) -> Option<u128>
+/// The nodes of so many leaves.
+pub fn leaves(count: usize, limit: u128) -> Option<u128>
     ensures { SomeIff result (count ≤ limit) count }
 {
     let count = count as u128;

@@ -148,14 +148,14 @@ fn taken<A: Allocator>(items: Items<'_, A>, count: i64) -> Result<Items<'_, A>, 
         (λ trap. taken (item_trees items.entry) count ≡ traps trap) }
 {
     let len = items.len();
-    let size = count.unsigned_abs() as usize;
-    if size > len {
+    let kept = count.unsigned_abs() as usize;
+    if kept > len {
         return Err(Trap::Range);
     }
     if count < 0 {
-        return Ok(items.part(len - size, len));
+        return Ok(items.part(len - kept, len));
     }
-    Ok(items.part(0, size))
+    Ok(items.part(0, kept))
 }
 
 pub fn price_take<A: Allocator>(argument: &Value<A>, limit: u128) -> Result<Option<Price>, Trap>
@@ -192,14 +192,14 @@ fn dropped<A: Allocator>(items: Items<'_, A>, count: i64) -> Result<Items<'_, A>
         (λ trap. dropped (item_trees items.entry) count ≡ traps trap) }
 {
     let len = items.len();
-    let size = count.unsigned_abs() as usize;
-    if size > len {
+    let left = count.unsigned_abs() as usize;
+    if left > len {
         return Err(Trap::Range);
     }
     if count < 0 {
-        return Ok(items.part(0, len - size));
+        return Ok(items.part(0, len - left));
     }
-    Ok(items.part(size, len))
+    Ok(items.part(left, len))
 }
 
 pub fn price_drop<A: Allocator>(argument: &Value<A>, limit: u128) -> Result<Option<Price>, Trap>

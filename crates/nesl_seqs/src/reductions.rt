@@ -63,9 +63,9 @@ pub fn value_of<A: Allocator>(outcome: Result<Scalar, Trap>) -> Value<A>
     }
 }
 
-// How many binary digits a number has.
+/// How many binary digits a number has.
 #[tactic(auto, using(crate::proofs::Digits::digits_is, crate::proofs::Digits::digits_none))]
-fn digits(n: usize) -> u64
+pub fn digits(n: usize) -> u64
     ensures count { result ≡ digits n }
     ensures few { result ≤ 64 }
 {

@@ -8,7 +8,7 @@ use std::test::Fail;
 
 // What a function comes to: a fault, or its result and price.
 #[tactic(auto, using(crate::proofs::Bounds::given_if_priced))]
-fn told(
+pub fn told(
     alloc: Global,
     function: SeqFn,
     argument: &Value,
@@ -23,24 +23,24 @@ fn told(
     }
 }
 
-fn price_of(work: u128, depth: u64, nodes: u128) -> Price {
+pub fn price_of(work: u128, depth: u64, nodes: u128) -> Price {
     Price { work, depth, nodes }
 }
 
-fn numbers(alloc: Global, items: &[i64]) -> Result<Value, AllocError> {
+pub fn numbers(alloc: Global, items: &[i64]) -> Result<Value, AllocError> {
     Ok(Value::Ints(Vec::from_slice(alloc, items)?))
 }
 
-fn truths(alloc: Global, items: &[bool]) -> Result<Value, AllocError> {
+pub fn truths(alloc: Global, items: &[bool]) -> Result<Value, AllocError> {
     Ok(Value::Bools(Vec::from_slice(alloc, items)?))
 }
 
-fn text(alloc: Global, items: &[u8]) -> Result<Value, AllocError> {
+pub fn text(alloc: Global, items: &[u8]) -> Result<Value, AllocError> {
     Ok(Value::Chars(Vec::from_slice(alloc, items)?))
 }
 
 // The same numbers, not packed.
-fn plain(alloc: Global, items: &[i64]) -> Result<Value, AllocError> {
+pub fn plain(alloc: Global, items: &[i64]) -> Result<Value, AllocError> {
     let mut values = Vec::new(alloc);
     for item in items {
         values.push(Value::Int(*item))?;
@@ -48,7 +48,7 @@ fn plain(alloc: Global, items: &[i64]) -> Result<Value, AllocError> {
     Ok(Value::Seq(values))
 }
 
-fn two(alloc: Global, one: Value, other: Value) -> Result<Value, AllocError> {
+pub fn two(alloc: Global, one: Value, other: Value) -> Result<Value, AllocError> {
     let mut values = Vec::new(alloc);
     values.push(one)?;
     values.push(other)?;
@@ -56,7 +56,7 @@ fn two(alloc: Global, one: Value, other: Value) -> Result<Value, AllocError> {
 }
 
 // Whether the function comes to that result at that price.
-fn gives(
+pub fn gives(
     alloc: Global,
     function: SeqFn,
     argument: &Value,
@@ -69,7 +69,12 @@ fn gives(
     }
 }
 
-fn traps(alloc: Global, function: SeqFn, argument: &Value, trap: Trap) -> Result<bool, AllocError> {
+pub fn traps(
+    alloc: Global,
+    function: SeqFn,
+    argument: &Value,
+    trap: Trap,
+) -> Result<bool, AllocError> {
     match told(alloc, function, argument)? {
         Ok(_) => Ok(false),
         Err(told) => Ok(told == trap),

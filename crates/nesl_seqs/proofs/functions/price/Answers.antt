@@ -1,8 +1,12 @@
 use Rattle.nesl_values.specs.View.{tree_of}
 use Rattle.nesl_seqs.specs.Meaning.{meaning}
 use Rattle.nesl_seqs.specs.Prices.{reads, depth_of}
-use Rattle.nesl_seqs.specs.declared.seq_fn.SeqFn.TheVariants.{Length, Index, Append, Sum, Any, All, Count, Bottop, Take, Drop, Reverse, Rotate, Zip, Rep, Eql}
+use Rattle.nesl_seqs.specs.declared.seq_fn.SeqFn.TheVariants.{Length, Index, Append, Sum, Any, All, Count, Bottop, Take, Drop, Reverse, Rotate, Zip, Rep, Eql, MaxVal, MinVal, MaxIndex, MinIndex, PlusScan, OrScan, AndScan, Gather, Permute, Write}
 use Rattle.nesl_seqs.proofs.Bounds.{always, bounded_length, bounded_index, bounded_append, bounded_bottop, bounded_take, bounded_drop, bounded_reverse, bounded_rotate, bounded_zip, bounded_rep, bounded_eql, bounded_sum, bounded_any, bounded_all, bounded_count}
+use Rattle.nesl_seqs.proofs.ScanBounds.{bounded_max_val, bounded_min_val, bounded_max_index, bounded_min_index, bounded_plus_scan, bounded_or_scan, bounded_and_scan}
+use Rattle.nesl_seqs.specs.declared.seq_fn.SeqFn.TheVariants.{Flatten, Unzip, OddElts, EvenElts, Interleave, Split, Partition}
+use Rattle.nesl_seqs.proofs.BoundsOfParts.{bounded_flatten, bounded_unzip, bounded_odd_elts, bounded_even_elts, bounded_interleave, bounded_split, bounded_partition}
+use Rattle.nesl_seqs.proofs.PlaceBounds.{bounded_gather, bounded_permute, bounded_write}
 use Rattle.nesl_seqs.proofs.functions.price.Goals as goal
 
 pub returns-in-Length-clause-always : goal.returns-in-Length-clause-always
@@ -79,3 +83,88 @@ pub returns-in-Rep-clause-always : goal.returns-in-Rep-clause-always
 returns-in-Rep-clause-always g c h is =
     let t = tree_of c.args.argument.now in
     always (meaning Rep t) (reads Rep t) 1 c.args.limit c.price_rep.result (bounded_rep t h) is c.price_rep.ensures
+
+pub returns-in-MaxVal-clause-always : goal.returns-in-MaxVal-clause-always
+returns-in-MaxVal-clause-always g c h is =
+    let t = tree_of c.args.argument.now in
+    always (meaning MaxVal t) (reads MaxVal t) (depth_of MaxVal (reads MaxVal t)) c.args.limit c.price_of_reduction-in-MaxVal.result (bounded_max_val t h) is (c.price_of_reduction-in-MaxVal.ensures (meaning MaxVal t) c.max_val.ensures)
+
+pub returns-in-MinVal-clause-always : goal.returns-in-MinVal-clause-always
+returns-in-MinVal-clause-always g c h is =
+    let t = tree_of c.args.argument.now in
+    always (meaning MinVal t) (reads MinVal t) (depth_of MinVal (reads MinVal t)) c.args.limit c.price_of_reduction-in-MinVal.result (bounded_min_val t h) is (c.price_of_reduction-in-MinVal.ensures (meaning MinVal t) c.min_val.ensures)
+
+pub returns-in-MaxIndex-clause-always : goal.returns-in-MaxIndex-clause-always
+returns-in-MaxIndex-clause-always g c h is =
+    let t = tree_of c.args.argument.now in
+    always (meaning MaxIndex t) (reads MaxIndex t) (depth_of MaxIndex (reads MaxIndex t)) c.args.limit c.price_of_reduction-in-MaxIndex.result (bounded_max_index t h) is (c.price_of_reduction-in-MaxIndex.ensures (meaning MaxIndex t) c.max_index.ensures)
+
+pub returns-in-MinIndex-clause-always : goal.returns-in-MinIndex-clause-always
+returns-in-MinIndex-clause-always g c h is =
+    let t = tree_of c.args.argument.now in
+    always (meaning MinIndex t) (reads MinIndex t) (depth_of MinIndex (reads MinIndex t)) c.args.limit c.price_of_reduction-in-MinIndex.result (bounded_min_index t h) is (c.price_of_reduction-in-MinIndex.ensures (meaning MinIndex t) c.min_index.ensures)
+
+pub returns-in-PlusScan-clause-always : goal.returns-in-PlusScan-clause-always
+returns-in-PlusScan-clause-always g c h is =
+    let t = tree_of c.args.argument.now in
+    always (meaning PlusScan t) (reads PlusScan t) (depth_of PlusScan (reads PlusScan t)) c.args.limit c.price_plus_scan.result (bounded_plus_scan t h) is c.price_plus_scan.ensures
+
+pub returns-in-OrScan-clause-always : goal.returns-in-OrScan-clause-always
+returns-in-OrScan-clause-always g c h is =
+    let t = tree_of c.args.argument.now in
+    always (meaning OrScan t) (reads OrScan t) (depth_of OrScan (reads OrScan t)) c.args.limit c.price_logic_scan.result (bounded_or_scan t h) is c.price_logic_scan.ensures
+
+pub returns-in-AndScan-clause-always : goal.returns-in-AndScan-clause-always
+returns-in-AndScan-clause-always g c h is =
+    let t = tree_of c.args.argument.now in
+    always (meaning AndScan t) (reads AndScan t) (depth_of AndScan (reads AndScan t)) c.args.limit c.price_logic_scan-in-AndScan.result (bounded_and_scan t h) is c.price_logic_scan-in-AndScan.ensures
+
+pub returns-in-Flatten-clause-always : goal.returns-in-Flatten-clause-always
+returns-in-Flatten-clause-always g c h is =
+    let t = tree_of c.args.argument.now in
+    always (meaning Flatten t) (reads Flatten t) 1 c.args.limit c.price_flatten.result (bounded_flatten t h) is c.price_flatten.ensures
+
+pub returns-in-Unzip-clause-always : goal.returns-in-Unzip-clause-always
+returns-in-Unzip-clause-always g c h is =
+    let t = tree_of c.args.argument.now in
+    always (meaning Unzip t) (reads Unzip t) 1 c.args.limit c.price_unzip.result (bounded_unzip t h) is c.price_unzip.ensures
+
+pub returns-in-OddElts-clause-always : goal.returns-in-OddElts-clause-always
+returns-in-OddElts-clause-always g c h is =
+    let t = tree_of c.args.argument.now in
+    always (meaning OddElts t) (reads OddElts t) 1 c.args.limit c.price_odd_elts.result (bounded_odd_elts t h) is c.price_odd_elts.ensures
+
+pub returns-in-EvenElts-clause-always : goal.returns-in-EvenElts-clause-always
+returns-in-EvenElts-clause-always g c h is =
+    let t = tree_of c.args.argument.now in
+    always (meaning EvenElts t) (reads EvenElts t) 1 c.args.limit c.price_even_elts.result (bounded_even_elts t h) is c.price_even_elts.ensures
+
+pub returns-in-Interleave-clause-always : goal.returns-in-Interleave-clause-always
+returns-in-Interleave-clause-always g c h is =
+    let t = tree_of c.args.argument.now in
+    always (meaning Interleave t) (reads Interleave t) 1 c.args.limit c.price_interleave.result (bounded_interleave t h) is c.price_interleave.ensures
+
+pub returns-in-Gather-clause-always : goal.returns-in-Gather-clause-always
+returns-in-Gather-clause-always g c h is =
+    let t = tree_of c.args.argument.now in
+    always (meaning Gather t) (reads Gather t) 1 c.args.limit c.price_gather.result (bounded_gather t h) is c.price_gather.ensures
+
+pub returns-in-Permute-clause-always : goal.returns-in-Permute-clause-always
+returns-in-Permute-clause-always g c h is =
+    let t = tree_of c.args.argument.now in
+    always (meaning Permute t) (reads Permute t) 1 c.args.limit c.price_permute.result (bounded_permute t h) is c.price_permute.ensures
+
+pub returns-in-Split-clause-always : goal.returns-in-Split-clause-always
+returns-in-Split-clause-always g c h is =
+    let t = tree_of c.args.argument.now in
+    always (meaning Split t) (reads Split t) 1 c.args.limit c.price_split.result (bounded_split t h) is c.price_split.ensures
+
+pub returns-in-Partition-clause-always : goal.returns-in-Partition-clause-always
+returns-in-Partition-clause-always g c h is =
+    let t = tree_of c.args.argument.now in
+    always (meaning Partition t) (reads Partition t) 1 c.args.limit c.price_partition.result (bounded_partition t h) is c.price_partition.ensures
+
+pub returns-in-Write-clause-always : goal.returns-in-Write-clause-always
+returns-in-Write-clause-always g c h is =
+    let t = tree_of c.args.argument.now in
+    always (meaning Write t) (reads Write t) 1 c.args.limit c.price_write.result (bounded_write t h) is c.price_write.ensures
