@@ -8,8 +8,8 @@ mod extremes;
 mod functions;
 mod gather;
 mod item;
-mod levels;
 mod laws;
+mod levels;
 mod nodes;
 mod pairs;
 mod pieces;
@@ -24,10 +24,24 @@ mod sides;
 #[cfg(test)]
 mod tests;
 #[cfg(test)]
-mod tests_scans;
-mod woven;
+mod tests_extremes;
+#[cfg(test)]
+mod tests_levels;
+#[cfg(test)]
+mod tests_numbers;
+#[cfg(test)]
+mod tests_pairs;
+#[cfg(test)]
+mod tests_pieces;
 #[cfg(test)]
 mod tests_places;
+#[cfg(test)]
+mod tests_reductions;
+#[cfg(test)]
+mod tests_scans;
+#[cfg(test)]
+mod tests_shapes;
+mod woven;
 
 pub use equal::tells_equality;
 pub use functions::{apply, cost_and_size, price_within};

@@ -1,0 +1,121 @@
+use crate::seq_fn::SeqFn;
+use crate::tests::Lit::{Bools, Ints, Pair, Seq, Text};
+use crate::tests::{comes_to, is_refused};
+use nesl_scalars::Trap;
+use std::test::Fail;
+
+#[test]
+fn one_level_removed(rt: HostRuntime) -> Result<(), Fail> {
+    let alloc = rt.alloc();
+    for (argument, expected, price) in [
+        (Seq(&[]), Ints(&[]), (1, 1, 1)),
+        (Seq(&[Ints(&[])]), Ints(&[]), (2, 1, 1)),
+        (Seq(&[Ints(&[5])]), Ints(&[5]), (3, 1, 2)),
+        (
+            Seq(&[Ints(&[1, 2]), Ints(&[]), Ints(&[3])]),
+            Ints(&[1, 2, 3]),
+            (7, 1, 4),
+        ),
+        (
+            Seq(&[Text(b"ab"), Text(b""), Text(b"c")]),
+            Text(b"abc"),
+            (7, 1, 4),
+        ),
+        (
+            Seq(&[Bools(&[true]), Bools(&[false, true])]),
+            Bools(&[true, false, true]),
+            (6, 1, 4),
+        ),
+        (
+            Seq(&[Seq(&[Ints(&[1, 2])]), Seq(&[Ints(&[3]), Ints(&[4])])]),
+            Seq(&[Ints(&[1, 2]), Ints(&[3]), Ints(&[4])]),
+            (10, 1, 8),
+        ),
+    ] {
+        assert!(rt; comes_to(alloc, SeqFn::Flatten, &argument, &expected, price)?);
+    }
+    Ok(())
+}
+
+#[test]
+fn elements_at_odd_places(rt: HostRuntime) -> Result<(), Fail> {
+    let alloc = rt.alloc();
+    for (argument, expected, price) in [
+        (Ints(&[]), Ints(&[]), (1, 1, 1)),
+        (Ints(&[5]), Ints(&[]), (2, 1, 1)),
+        (Ints(&[1, 2, 3, 4]), Ints(&[2, 4]), (7, 1, 3)),
+        (Ints(&[1, 2, 3, 4, 5]), Ints(&[2, 4]), (8, 1, 3)),
+        (Text(b"abcd"), Text(b"bd"), (7, 1, 3)),
+        (Bools(&[true, false, true]), Bools(&[false]), (5, 1, 2)),
+        (
+            Seq(&[Ints(&[1]), Ints(&[2, 3]), Ints(&[4, 5, 6])]),
+            Seq(&[Ints(&[2, 3])]),
+            (7, 1, 4),
+        ),
+    ] {
+        assert!(rt; comes_to(alloc, SeqFn::OddElts, &argument, &expected, price)?);
+    }
+    Ok(())
+}
+
+#[test]
+fn elements_at_even_places(rt: HostRuntime) -> Result<(), Fail> {
+    let alloc = rt.alloc();
+    for (argument, expected, price) in [
+        (Ints(&[]), Ints(&[]), (1, 1, 1)),
+        (Ints(&[5]), Ints(&[5]), (3, 1, 2)),
+        (Ints(&[1, 2, 3, 4]), Ints(&[1, 3]), (7, 1, 3)),
+        (Ints(&[1, 2, 3, 4, 5]), Ints(&[1, 3, 5]), (9, 1, 4)),
+        (Text(b"abcd"), Text(b"ac"), (7, 1, 3)),
+        (Bools(&[true, false, true]), Bools(&[true, true]), (6, 1, 3)),
+        (
+            Seq(&[Ints(&[1]), Ints(&[2, 3]), Ints(&[4, 5, 6])]),
+            Seq(&[Ints(&[1]), Ints(&[4, 5, 6])]),
+            (10, 1, 7),
+        ),
+    ] {
+        assert!(rt; comes_to(alloc, SeqFn::EvenElts, &argument, &expected, price)?);
+    }
+    Ok(())
+}
+
+#[test]
+fn elements_in_turn(rt: HostRuntime) -> Result<(), Fail> {
+    let alloc = rt.alloc();
+    for (argument, expected, price) in [
+        (Pair(&Ints(&[]), &Ints(&[])), Ints(&[]), (1, 1, 1)),
+        (Pair(&Ints(&[5]), &Ints(&[])), Ints(&[5]), (3, 1, 2)),
+        (Pair(&Ints(&[1]), &Ints(&[2])), Ints(&[1, 2]), (5, 1, 3)),
+        (
+            Pair(&Ints(&[1, 3]), &Ints(&[2, 4])),
+            Ints(&[1, 2, 3, 4]),
+            (9, 1, 5),
+        ),
+        (
+            Pair(&Ints(&[1, 3, 5]), &Ints(&[2, 4])),
+            Ints(&[1, 2, 3, 4, 5]),
+            (11, 1, 6),
+        ),
+        (Pair(&Text(b"ac"), &Text(b"b")), Text(b"abc"), (7, 1, 4)),
+        (
+            Pair(&Bools(&[true]), &Bools(&[false])),
+            Bools(&[true, false]),
+            (5, 1, 3),
+        ),
+        (
+            Pair(&Seq(&[Ints(&[1])]), &Seq(&[Ints(&[2, 3])])),
+            Seq(&[Ints(&[1]), Ints(&[2, 3])]),
+            (8, 1, 6),
+        ),
+    ] {
+        assert!(rt; comes_to(alloc, SeqFn::Interleave, &argument, &expected, price)?);
+    }
+    for argument in [
+        Pair(&Ints(&[]), &Ints(&[1])),
+        Pair(&Ints(&[1]), &Ints(&[2, 3])),
+        Pair(&Ints(&[1, 2, 3]), &Ints(&[4])),
+    ] {
+        assert!(rt; is_refused(alloc, SeqFn::Interleave, &argument, Trap::Length)?);
+    }
+    Ok(())
+}
