@@ -32,7 +32,7 @@ mod tests_numbers;
 #[cfg(test)]
 mod tests_pairs;
 #[cfg(test)]
-mod tests_pieces;
+mod tests_parts;
 #[cfg(test)]
 mod tests_places;
 #[cfg(test)]
