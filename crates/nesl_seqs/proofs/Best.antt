@@ -1,8 +1,9 @@
 -- The best of numbers.
-use Rattle.std.proofs.Common.{◌≡◌, ℕ, zero, suc, ◌+◌, ◌<◌, ℤ, Bool, true, false, not, ◌&&◌, cond, List, [], ◌∷◌, ◌++◌, length, Option, Some, None, option_map, refl, ap, sym, ◌∙◌, arith, nat_lt, slice_get, append_assoc, subst, option_and_then, Err}
+use Rattle.std.proofs.Common.{◌≡◌, ℕ, zero, suc, ◌+◌, ◌<◌, ℤ, Bool, true, false, not, cond, List, [], ◌∷◌, ◌++◌, length, Option, Some, None, option_map, refl, ap, sym, ◌∙◌, arith, nat_lt, slice_get, append_assoc, subst, option_and_then, Err}
 use Rattle.std.specs.List.{list_all, position, position_or_len, fold}
 use Rattle.std.proofs.lemmas.Int.{ints}
-use Rattle.std.proofs.lemmas.List.{append-nil}
+use Rattle.std.proofs.lemmas.List.{append-nil, length-append}
+use Rattle.std.proofs.lemmas.Bool.{and_from, and_parts}
 use Rattle.std.proofs.lemmas.Bool.Decides.{Decides-ltb}
 use Rattle.nesl_values.specs.Tree.{Tree}
 use Rattle.nesl_seqs.specs.Reductions.{all_of}
@@ -45,36 +46,24 @@ position_at : {X : Type 0} (p : X → Bool) (xs : List X) (i : ℕ) (x : X) → 
 position_at p xs i x at passes fails =
     ap (λ n. cond (nat_lt n (length xs)) (Some n) None) (stops_at p xs i x at passes fails) ∙ ap (λ b. cond b (Some i) None) ((Decides-ltb i (length xs)).1 (is_within xs i x at))
 
-left_true : (a b : Bool) → (a && b) ≡ true → a ≡ true
-left_true true b h = refl
-left_true false b h = absurd (cc h)
-
-right_true : (a b : Bool) → (a && b) ≡ true → b ≡ true
-right_true true b h = h
-right_true false b h = absurd (cc h)
-
-both_true : (a b : Bool) → a ≡ true → b ≡ true → (a && b) ≡ true
-both_true true b h p = p
-both_true false b h p = absurd (cc h)
-
 all_through : (o : Order) (x y : ℤ) → leads o x y ≡ true → (zs : List ℤ) → list_all (leads o y) zs ≡ true → list_all (leads o x) zs ≡ true
 all_through o x y h [] all = refl
 all_through o x y h (z ∷ zs) all =
-    both_true (leads o x z) (list_all (leads o x) zs) (leads_through o x y z h (left_true (leads o y z) (list_all (leads o y) zs) all)) (all_through o x y h zs (right_true (leads o y z) (list_all (leads o y) zs) all))
+    and_from (leads o x z) (list_all (leads o x) zs) (leads_through o x y z h (and_parts (leads o y z) (list_all (leads o y) zs) all).0) (all_through o x y h zs (and_parts (leads o y z) (list_all (leads o y) zs) all).1)
 
 all_at : (p : ℤ → Bool) (zs : List ℤ) (k : ℕ) (c : ℤ) → list_all p zs ≡ true → slice_get zs k ≡ Some c → p c ≡ true
 all_at p [] k c all at = absurd (cc at)
 all_at p (z ∷ zs) zero c all at =
     let same : z ≡ c = cc at in
-    ap p (sym same) ∙ left_true (p z) (list_all p zs) all
-all_at p (z ∷ zs) (suc k) c all at = all_at p zs k c (right_true (p z) (list_all p zs) all) at
+    ap p (sym same) ∙ (and_parts (p z) (list_all p zs) all).0
+all_at p (z ∷ zs) (suc k) c all at = all_at p zs k c (and_parts (p z) (list_all p zs) all).1 at
 
 all_pushed : (p : ℤ → Bool) (zs : List ℤ) (z : ℤ) → list_all p zs ≡ true → p z ≡ true → list_all p (zs ++ z ∷ []) ≡ true
-all_pushed p [] z all is = both_true (p z) true is refl
+all_pushed p [] z all is = and_from (p z) true is refl
 all_pushed p (y ∷ ys) z all is =
-    both_true (p y) (list_all p (ys ++ z ∷ [])) (left_true (p y) (list_all p ys) all) (all_pushed p ys z (right_true (p y) (list_all p ys) all) is)
+    and_from (p y) (list_all p (ys ++ z ∷ [])) (and_parts (p y) (list_all p ys) all).0 (all_pushed p ys z (and_parts (p y) (list_all p ys) all).1 is)
 
-get_front : (zs us : List ℤ) (k : ℕ) → k < length zs → slice_get (zs ++ us) k ≡ slice_get zs k
+pub get_front : {X : Type 0} (zs us : List X) (k : ℕ) → k < length zs → slice_get (zs ++ us) k ≡ slice_get zs k
 get_front [] us k h = absurd (omega arith)
 get_front (z ∷ zs) us zero h = refl
 get_front (z ∷ zs) us (suc k) h = get_front zs us k (omega arith)
@@ -118,15 +107,11 @@ best_kept o zs (Some (i, b)) z h = by (leads o b z) refl
 abbrev pub turn : Order → Option (ℕ × ℤ) × ℕ → ℤ → Option (ℕ × ℤ) × ℕ
 turn o s z = (Some (better o s.0 (s.1, z)), s.1 + 1)
 
-length_pushed : (zs : List ℤ) (z : ℤ) → length (zs ++ z ∷ []) ≡ length zs + 1
-length_pushed [] z = refl
-length_pushed (y ∷ ys) z = omega (arith, length_pushed ys z)
-
 best_so_far : (o : Order) (zs us : List ℤ) (b : Option (ℕ × ℤ)) → IsBest o zs b → IsBest o (zs ++ us) (fold (turn o) (b, length zs) us).0
 best_so_far o zs [] b h = rw (append-nil zs) h
 best_so_far o zs (u ∷ us) b h =
     let next = Some (better o b (length zs, u)) in
-    subst (λ vs. IsBest o vs (fold (turn o) (next, length zs + 1) us).0) (append_assoc zs (u ∷ []) us) (subst (λ n. IsBest o ((zs ++ u ∷ []) ++ us) (fold (turn o) (next, n) us).0) (length_pushed zs u) (best_so_far o (zs ++ u ∷ []) us next (best_kept o zs b u h)))
+    subst (λ vs. IsBest o vs (fold (turn o) (next, length zs + 1) us).0) (append_assoc zs (u ∷ []) us) (subst (λ n. IsBest o ((zs ++ u ∷ []) ++ us) (fold (turn o) (next, n) us).0) (length-append zs (u ∷ [])) (best_so_far o (zs ++ u ∷ []) us next (best_kept o zs b u h)))
 
 best_is : (o : Order) (zs : List ℤ) (b : Option (ℕ × ℤ)) → IsBest o zs b → b ≡ best o zs
 best_is o [] None h = refl

@@ -1,14 +1,20 @@
 -- No price of these functions is above what its numbers hold, where the argument has fewer than 2^65 nodes.
-use Rattle.std.proofs.Common.{◌≡◌, ℕ, ◌+◌, ◌-◌, ◌^◌, ◌<◌, ◌≤◌, List, [], ◌∷◌, ◌||◌, drop, length, map, nat_eq, refl, arith, Option, Some, None}
-use Rattle.std.specs.List.{flat_map}
+use Rattle.nesl_scalars.specs.declared.trap.Trap.{Trap}
+use Rattle.nesl_seqs.specs.Arguments.{both, two_sequences}
+use Rattle.nesl_seqs.specs.Pieces.{two}
+use Rattle.nesl_seqs.proofs.Shapes.{length_all}
+use Rattle.nesl_seqs.proofs.Priced.{second_read}
+use Rattle.nesl_seqs.proofs.Splitting.{sizes_beside_le}
+use Rattle.nesl_seqs.proofs.Cutting.{size_pieces}
+use Rattle.std.proofs.Common.{◌≡◌, Bool, true, false, cond, option_map, option_and_then, unwrap_or, subst, sym, ℕ, ◌+◌, ◌-◌, ◌^◌, ◌<◌, ◌≤◌, List, [], ◌∷◌, ◌||◌, drop, length, map, nat_eq, refl, arith, Option, Some, None}
 use Rattle.nesl_values.specs.Tree.{Tree, pair, seq, sequence, size, sizes, trees_of}
-use Rattle.nesl_values.specs.Parts.{list_of, as_pair, as_sequence}
-use Rattle.nesl_seqs.specs.Outcome.{Outcome, given}
+use Rattle.nesl_values.specs.Parts.{list_of, as_int, as_bool, as_pair, as_sequence}
+use Rattle.nesl_seqs.specs.Outcome.{Outcome, given, gives, traps}
 use Rattle.nesl_seqs.specs.Reductions.{all_of}
-use Rattle.nesl_seqs.specs.Levels.{flattened}
-use Rattle.nesl_seqs.specs.Sides.{unzipped}
+use Rattle.nesl_seqs.specs.Levels.{flattened, are_lengths, pieces, partitioned}
+use Rattle.nesl_seqs.specs.Sides.{unzipped, beside, split_apart}
 use Rattle.nesl_seqs.specs.Woven.{evens, woven, even_elements, odd_elements, interleaved}
-use Rattle.nesl_seqs.specs.declared.seq_fn.SeqFn.TheVariants.{Flatten, Unzip, OddElts, EvenElts, Interleave}
+use Rattle.nesl_seqs.specs.declared.seq_fn.SeqFn.TheVariants.{Flatten, Unzip, OddElts, EvenElts, Interleave, Split, Partition}
 use Rattle.nesl_seqs.proofs.Bounds.{Fits, IsBounded, fits_if, sizes_list, length_le, sizes_drop, by_sequence, by_two_sequences}
 use Rattle.nesl_seqs.proofs.Totals.{sizes_append}
 use Rattle.nesl_seqs.proofs.Weaving.{size_woven}
@@ -45,3 +51,26 @@ bounded_odd_elts t h = by_sequence t odd_elements h (λ ts p q. omega (arith, si
 pub bounded_interleave : IsBounded Interleave
 bounded_interleave t h =
     by_two_sequences t interleaved h (λ ts us p q. fits_if (nat_eq (length ts) (length us) || nat_eq (length ts) (length us + 1)) (sequence (woven ts us)) _ (length ts + length us) (omega (arith, size_woven ts us, sizes_append ts us)))
+
+fits_second : {X : Type 0} (o : Option (List X)) (g : List Tree → List X → Outcome) (ts : List Tree) (n : ℕ) → ((xs : List X) → o ≡ Some xs → Fits (g ts xs) n) → Fits (given {X = List Tree × List X} (option_map (λ xs. (ts, xs)) o) (λ p. g p.0 p.1)) n
+fits_second None g ts n k = tt
+fits_second (Some xs) g ts n k = k xs refl
+
+by_second : {X : Type 0} (read : Tree → Option X) (g : List Tree → List X → Outcome) (t : Tree) → size t < 2 ^ 65 → ((ts us : List Tree) (xs : List X) → all_of read us ≡ Some xs → sizes (trees_of ts) + sizes (trees_of us) < 2 ^ 65 → length ts + length us < 2 ^ 65 → Fits (g ts xs) (length ts + length us))
+    → Fits (given (option_and_then (λ p. both (as_sequence p.0) (option_and_then (all_of read) (as_sequence p.1))) (as_pair t)) (λ p. g p.0 p.1)) (unwrap_or (option_map (λ p. length p.0 + length p.1) (two_sequences t)) 0)
+by_second {X} read g (pair (seq ts) (seq us)) h k =
+    subst (λ o. Fits (given {X = List Tree × List X} o (λ p. g p.0 p.1)) (length (list_of ts) + length (list_of us))) (sym (second_read read (pair (seq ts) (seq us)) (list_of ts) (list_of us) refl)) (fits_second (all_of read (list_of us)) g (list_of ts) (length (list_of ts) + length (list_of us)) (λ xs e. k (list_of ts) (list_of us) xs e (omega (arith, sizes_list ts, sizes_list us)) (omega (arith, sizes_list ts, sizes_list us, length_le (list_of ts), length_le (list_of us)))))
+by_second read g (pair (seq ts) u) h k = tt
+by_second read g t h k = tt
+
+pub bounded_split : IsBounded Split
+bounded_split t h =
+    by_second as_bool split_apart t h (λ ts us bs e p q. fits_if (nat_eq (length ts) (length bs)) (two (beside false ts bs) (beside true ts bs)) _ (length ts + length us) (omega (arith, sizes_beside_le false ts bs, sizes_beside_le true ts bs)))
+
+fits_checked : (b : Bool) (t : Tree) (e : Trap) (n : ℕ) → (b ≡ true → 1 + n + (size t - 1) < 2 ^ 128) → Fits (cond b (gives t) (traps e)) n
+fits_checked true t e n h = h refl
+fits_checked false t e n h = tt
+
+pub bounded_partition : IsBounded Partition
+bounded_partition t h =
+    by_second as_int partitioned t h (λ ts us zs e p q. fits_checked (are_lengths (length ts) zs) (sequence (map sequence (pieces ts zs))) _ (length ts + length us) (λ k. omega (arith, size_pieces ts zs k, length_all as_int us zs e)))

@@ -16,7 +16,12 @@ pub mod Priced
 pub mod Flattening
 pub mod Unzipping
 pub mod Weaving
+pub mod Splitting
+pub mod Cutting
 pub mod BoundsOfParts
 pub mod Picking
 pub mod PlaceBounds
-pub mod Places
+pub mod Moves
+pub mod Marking
+pub mod Differing
+pub mod Permuting

@@ -1,5 +1,5 @@
 -- Elements that are picked by the places that others name.
-use Rattle.std.proofs.Common.{◌≡◌, ℕ, ℤ, zero, suc, pos, negsuc, ◌+◌, ◌-◌, ◌*◌, ◌<◌, ◌≤◌, Bool, true, false, ◌&&◌, cond, nat_lt, List, [], ◌∷◌, ◌++◌, length, map, take, drop, get_or, refl, ap, sym, ◌∙◌, arith, Option, Some, None, is_some, option_map, option_and_then, slice_get, Err}
+use Rattle.std.proofs.Common.{◌≡◌, ℕ, ℤ, zero, suc, pos, negsuc, ◌+◌, ◌-◌, ◌*◌, ◌<◌, ◌≤◌, Bool, true, false, ◌&&◌, cond, nat_lt, List, [], ◌∷◌, ◌++◌, length, map, take, drop, get_or, refl, ap, sym, ◌∙◌, arith, Option, Some, None, is_some, option_map, option_and_then, slice_get, Result, Ok, Err, IfOk}
 use Rattle.std.specs.List.{list_all, filter_map, cons_option}
 use Rattle.std.proofs.lemmas.Bool.Decides.{Decides-ltb}
 use Rattle.std.proofs.lemmas.List.{take_more, drop_more, map-append, length-map}
@@ -8,6 +8,8 @@ use Rattle.std.proofs.lemmas.Option.{slice_get-map, slice_get_read}
 use Rattle.nesl_scalars.specs.declared.trap.Trap.TheVariants.{Range}
 use Rattle.nesl_values.specs.Tree.{Tree, int, size, sizes, trees_of}
 use Rattle.nesl_values.specs.Parts.{as_int}
+use Rattle.nesl_values.specs.View.{tree_of}
+use Rattle.nesl_values.specs.declared.value.Value.{Value}
 use Rattle.nesl_seqs.specs.Outcome.{Outcome, gives, traps, undefined, given, IsGiven}
 use Rattle.nesl_seqs.specs.Reductions.{all_of}
 use Rattle.nesl_seqs.specs.Prices.{Prices}
@@ -18,7 +20,7 @@ list_all_map p f [] = refl
 list_all_map p f (x ∷ xs) = ap (λ b. p (f x) && b) (list_all_map p f xs)
 
 -- one more index, where it names a place or not
-places_more : {I : Type 0} (f : I → Tree) (n : ℕ) (is : List I) (j : ℕ) (i : I) (o : Option ℕ) → j < length is → i ≡ get_or is j i → o ≡ place_of n (f i)
+pub places_more : {I : Type 0} (f : I → Tree) (n : ℕ) (is : List I) (j : ℕ) (i : I) (o : Option ℕ) → j < length is → i ≡ get_or is j i → o ≡ place_of n (f i)
     → places_of n (map f (take (j + 1) is)) ≡ places_of n (map f (take j is)) ++ cons_option o []
 places_more f n is j i o h at names =
     ap (λ js. places_of n (map f js)) (take_more is j i h ∙ ap (λ x. take j is ++ x ∷ []) (sym at)) ∙ ap (places_of n) (map-append f (take j is) (i ∷ [])) ∙ filter_map-append (place_of n) (map f (take j is)) (f i ∷ []) ∙ ap (λ p. places_of n (map f (take j is)) ++ cons_option p []) (sym names)
@@ -43,7 +45,7 @@ picked_same f xs is j i h at names =
     none_more (y ∷ ys) = ap (λ zs. y ∷ zs) (none_more ys)
 
 -- the elements that are still to come
-rest_places : {I : Type 0} (f : I → Tree) (n : ℕ) (is : List I) (j : ℕ) (i : I) (o : Option ℕ) → j < length is → i ≡ get_or is j i → o ≡ place_of n (f i)
+pub rest_places : {I : Type 0} (f : I → Tree) (n : ℕ) (is : List I) (j : ℕ) (i : I) (o : Option ℕ) → j < length is → i ≡ get_or is j i → o ≡ place_of n (f i)
     → places_of n (map f (drop j is)) ≡ cons_option o (places_of n (map f (drop (j + 1) is)))
 rest_places f n is j i o h at names =
     ap (λ js. places_of n (map f js)) (drop_more is j i h ∙ ap (λ x. x ∷ drop (j + 1) is) (sym at)) ∙ ap (λ p. cons_option p (places_of n (map f (drop (j + 1) is)))) (sym names)
@@ -77,7 +79,7 @@ pub picked_seen : {X : Type 0} (leaf : X → Tree) (xs : List X) (is : List Tree
 picked_seen leaf xs is = elements_seen leaf xs (places_of (length xs) is) ∙ ap (λ n. elements_at (map leaf xs) (places_of n is)) (sym (length-map xs leaf))
 
 -- a place that is named is within
-place_within : (n : ℕ) (z : ℤ) (k : ℕ) → place_in n z ≡ Some k → k < n
+pub place_within : (n : ℕ) (z : ℤ) (k : ℕ) → place_in n z ≡ Some k → k < n
 place_within n (pos i) k h = by_test (nat_lt i n) refl h
   where
     by_test : (b : Bool) → nat_lt i n ≡ b → cond b (Some i) None ≡ Some k → k < n
@@ -87,11 +89,11 @@ place_within n (pos i) k h = by_test (nat_lt i n) refl h
     by_test false e p = absurd (cc p)
 place_within n (negsuc i) k h = absurd (cc h)
 
-left_true : (a b : Bool) → (a && b) ≡ true → a ≡ true
+pub left_true : (a b : Bool) → (a && b) ≡ true → a ≡ true
 left_true true b h = refl
 left_true false b h = absurd (cc h)
 
-right_true : (a b : Bool) → (a && b) ≡ true → b ≡ true
+pub right_true : (a b : Bool) → (a && b) ≡ true → b ≡ true
 right_true true b h = h
 right_true false b h = absurd (cc h)
 
@@ -179,3 +181,20 @@ given_is n f is h there = by_test (list_all (λ i. is_some (place_of n (f i))) i
     by_test : (b : Bool) → list_all (λ i. is_some (place_of n (f i))) is ≡ b → given (all_of as_int (map f is)) (λ zs. at_places n zs h) ≡ h (places_of n (map f is))
     by_test true e = given_all n f is h e
     by_test false e = absurd (not_both (given (all_of as_int (map f is)) (λ zs. at_places n zs h)) there (refused n f is h 0 0 0 e))
+
+pub length_found : {X Y : Type 0} (f : X → Option Y) (xs : List X) → length (filter_map f xs) ≤ length xs
+length_found f [] = omega arith
+length_found f (x ∷ xs) = one_more (f x) (filter_map f xs) (length xs) (length_found f xs)
+  where
+    one_more : {Z : Type 0} (o : Option Z) (ys : List Z) (n : ℕ) → length ys ≤ n → length (cons_option o ys) ≤ suc n
+    one_more None ys n h = omega arith
+    one_more (Some y) ys n h = omega arith
+
+pub place_of_within : (n : ℕ) (t : Tree) (k : ℕ) → place_of n t ≡ Some k → k < n
+place_of_within n (int z) k h = place_within n z k h
+place_of_within n t k h = absurd (cc h)
+
+-- a value that is the tree that an outcome gives
+pub told : {A E : Type 0} (r : Result (Value A) E) (o : Outcome) (t : Tree) → o ≡ gives t → IfOk r (λ v. tree_of v ≡ t) → IfOk r (λ v. o ≡ gives (tree_of v))
+told (Ok v) o t is h = is ∙ ap gives (sym h)
+told (Err e) o t is h = tt

@@ -1,18 +1,22 @@
 -- No price of a function on places is above what its numbers hold, where the argument has fewer than 2^65 nodes.
-use Rattle.std.proofs.Common.{◌≡◌, ℕ, ℤ, zero, suc, ◌+◌, ◌-◌, ◌*◌, ◌^◌, ◌<◌, ◌≤◌, Bool, true, false, nat_le, List, [], ◌∷◌, length, map, refl, ap, sym, ◌∙◌, arith, Option, Some, None, slice_get}
+use Rattle.std.proofs.Common.{◌≡◌, ℕ, ℤ, zero, suc, ◌+◌, ◌-◌, ◌*◌, ◌^◌, ◌<◌, ◌≤◌, Bool, true, false, nat_le, List, [], ◌∷◌, length, map, refl, ap, sym, ◌∙◌, arith, Option, Some, None, slice_get, Err, subst}
 use Rattle.std.specs.List.{filter_map, cons_option}
 use Rattle.std.proofs.Math.Nat.{mul_comm, mul-add, mul-le-mul_left}
 use Rattle.std.proofs.lemmas.Bool.Decides.{nat_tests}
-use Rattle.std.proofs.lemmas.List.{length-map}
-use Rattle.nesl_values.specs.Tree.{Tree, Trees, int, pair, seq, sequence, size, sizes, trees_of}
+use Rattle.std.proofs.lemmas.List.{length-map, map-id}
+use Rattle.nesl_scalars.specs.declared.trap.Trap.{Trap}
+use Rattle.nesl_values.specs.Tree.{Tree, int, pair, seq, sequence, size, sizes, trees_of}
 use Rattle.nesl_values.specs.Parts.{as_int, list_of}
-use Rattle.nesl_seqs.specs.Outcome.{given}
+use Rattle.nesl_seqs.specs.Outcome.{Outcome, gives, traps, undefined, given}
 use Rattle.nesl_seqs.specs.Reductions.{all_of}
 use Rattle.nesl_seqs.specs.Places.{place_in, all_name, places, elements_at}
 use Rattle.nesl_seqs.specs.Gather.{gathered}
-use Rattle.nesl_seqs.specs.declared.seq_fn.SeqFn.TheVariants.{Gather}
+use Rattle.nesl_seqs.specs.Permute.{permuted}
+use Rattle.nesl_seqs.specs.Prices.{Prices}
+use Rattle.nesl_seqs.specs.declared.seq_fn.SeqFn.TheVariants.{Gather, Permute}
 use Rattle.nesl_seqs.proofs.Bounds.{Fits, IsBounded, fits_if, sizes_list, length_le}
-use Rattle.nesl_seqs.proofs.Picking.{are_ints}
+use Rattle.nesl_seqs.proofs.Permuting.{by_outcome, size_rearranged}
+use Rattle.nesl_seqs.proofs.Picking.{are_ints, length_found}
 
 -- the product of two numbers is at most the square of their mean
 product_le : (m s d k : ℕ) → k ≡ m + d → s ≤ k + d → m * s ≤ k * k
@@ -21,14 +25,6 @@ product_le m s d k is h =
     let second : d * m ≤ d * k = mul-le-mul_left d (omega arith) in
     let whole : k * k ≡ m * k + d * k = ap (λ n. n * k) is ∙ mul_comm (m + d) k ∙ mul-add k m d ∙ omega (arith, mul_comm k m, mul_comm k d) in
     omega (arith, first, second, whole, mul-add m k d, mul_comm m d)
-
-length_found : {X Y : Type 0} (f : X → Option Y) (xs : List X) → length (filter_map f xs) ≤ length xs
-length_found f [] = omega arith
-length_found f (x ∷ xs) = one_more (f x) (filter_map f xs) (length xs) (length_found f xs)
-  where
-    one_more : {Z : Type 0} (o : Option Z) (ys : List Z) (n : ℕ) → length ys ≤ n → length (cons_option o ys) ≤ suc n
-    one_more None ys n h = omega arith
-    one_more (Some y) ys n h = omega arith
 
 element_le : (ts : List Tree) (k : ℕ) (t : Tree) → slice_get ts k ≡ Some t → size t ≤ sizes (trees_of ts)
 element_le [] k t h = absurd (cc h)
@@ -72,3 +68,16 @@ fits_gathered ts us h = by_ints (all_of as_int us) refl
 pub bounded_gather : IsBounded Gather
 bounded_gather (pair (seq ts) (seq us)) h = fits_gathered (list_of ts) (list_of us) (omega (arith, sizes_list ts, sizes_list us))
 bounded_gather t h = tt
+
+fits_refused : (o : Outcome) (e : Trap) (read : ℕ) → Prices o 0 0 0 (Err e) → Fits o read
+fits_refused (gives t) e read p = absurd p
+fits_refused (traps d) e read p = tt
+fits_refused undefined e read p = tt
+
+fits_permuted : (ts us : List Tree) → sizes (trees_of ts) + sizes (trees_of us) ≤ 2 ^ 65 - 4 → Fits (given (all_of as_int us) (permuted ts)) (length ts + length us)
+fits_permuted ts us h =
+    subst (λ js. Fits (given (all_of as_int js) (permuted ts)) (length ts + length us)) (map-id us) (by_outcome (λ t. t) us ts (λ o. Fits o (length ts + length us)) (λ o e p. fits_refused o e (length ts + length us) p) (λ a. rw a.is (omega (arith, h, length_le ts, length_le us, size_rearranged ts (map (λ t. t) us) a.same a.named a.differ))))
+
+pub bounded_permute : IsBounded Permute
+bounded_permute (pair (seq ts) (seq us)) h = fits_permuted (list_of ts) (list_of us) (omega (arith, sizes_list ts, sizes_list us))
+bounded_permute t h = tt

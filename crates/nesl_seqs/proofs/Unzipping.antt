@@ -1,5 +1,5 @@
 -- Sequences that are taken apart in two.
-use Rattle.std.proofs.Common.{◌≡◌, ℕ, ◌+◌, Option, Result, Ok, Err, IfOk, get_or, slice_get, take, ◌++◌, List, [], ◌∷◌, length, map, Some, refl, ap, sym, ◌∙◌, arith}
+use Rattle.std.proofs.Common.{◌≡◌, ℕ, ◌+◌, Option, Result, Ok, Err, IfOk, get_or, slice_get, take, ◌++◌, List, [], ◌∷◌, length, map, Some, ap, sym, ◌∙◌, arith}
 use Rattle.nesl_values.specs.Tree.{Tree, int, boolean, character, pair, seq, tagged, size, sizes, trees_of, sequence}
 use Rattle.std.proofs.lemmas.List.{take_more, map-append}
 use Rattle.std.proofs.lemmas.Option.{slice_get_within, get_or_from_slice_get}

@@ -1,6 +1,6 @@
 -- Every other element of a list, and lists that are woven together.
 use Rattle.std.proofs.lemmas.Option.{slice_get_within, get_or_from_slice_get}
-use Rattle.std.proofs.Common.{◌≡◌, slice_range, Some, min, ◌%◌, Bor, ◌⊎◌, inl, inr, ℕ, zero, suc, ◌+◌, ◌*◌, ◌/◌, ◌<◌, ◌≤◌, List, [], ◌∷◌, ◌++◌, length, map, take, drop, refl, ap, sym, ◌∙◌, arith, slice_get, get_or}
+use Rattle.std.proofs.Common.{◌≡◌, slice_range, Some, min, ◌%◌, Bor, ◌⊎◌, inl, inr, ℕ, zero, suc, ◌+◌, ◌*◌, ◌/◌, ◌<◌, ◌≤◌, List, [], ◌∷◌, ◌++◌, length, map, drop, refl, ap, sym, ◌∙◌, arith, slice_get, get_or}
 use Rattle.std.proofs.lemmas.List.{drop_more, drop_all, take_rest, drop-drop, append_assoc, append-nil, get_or-map}
 use Rattle.nesl_values.specs.declared.value.Value.{Value}
 use Rattle.nesl_seqs.specs.Held.{item_trees}

@@ -21,3 +21,5 @@ pub mod Leaves
 pub mod Places
 pub mod Gather
 pub mod Laws
+pub mod Permute
+pub mod Marks

@@ -11,14 +11,15 @@ use Rattle.nesl_seqs.specs.Pairs.{zipped}
 use Rattle.nesl_seqs.specs.Ranges.{repeated, ranged, first_numbers}
 use Rattle.nesl_seqs.specs.Extremes.{best_element, best_place}
 use Rattle.nesl_seqs.specs.Scans.{plus_scanned, logic_scanned}
-use Rattle.nesl_seqs.specs.Levels.{sequences, flattened}
-use Rattle.nesl_seqs.specs.Sides.{sequence_of_pairs, unzipped}
+use Rattle.nesl_seqs.specs.Levels.{sequences, flattened, sequence_and_numbers, partitioned}
+use Rattle.nesl_seqs.specs.Sides.{sequence_of_pairs, unzipped, sequence_and_truths, split_apart}
 use Rattle.nesl_seqs.specs.Woven.{odd_elements, even_elements, interleaved}
 use Rattle.nesl_seqs.specs.Gather.{gathered}
+use Rattle.nesl_seqs.specs.Permute.{permuted}
 use Rattle.nesl_seqs.specs.declared.seq_fn.SeqFn.{SeqFn}
 use Rattle.nesl_seqs.specs.declared.extremes.Order.TheVariants.{Greatest, Least}
 use Rattle.nesl_seqs.specs.declared.scans.Joint.TheVariants.{Or, And}
-use Rattle.nesl_seqs.specs.declared.seq_fn.SeqFn.TheVariants.{Length, Index, Append, Dist, Range, RangeBy, Iota, Sum, Any, All, Count, Bottop, Take, Drop, Reverse, Rotate, Zip, Rep, Eql, MaxVal, MinVal, MaxIndex, MinIndex, PlusScan, OrScan, AndScan, Flatten, Unzip, OddElts, EvenElts, Interleave, Gather}
+use Rattle.nesl_seqs.specs.declared.seq_fn.SeqFn.TheVariants.{Length, Index, Append, Dist, Range, RangeBy, Iota, Sum, Any, All, Count, Bottop, Take, Drop, Reverse, Rotate, Zip, Rep, Eql, MaxVal, MinVal, MaxIndex, MinIndex, PlusScan, OrScan, AndScan, Flatten, Unzip, OddElts, EvenElts, Interleave, Gather, Permute, Split, Partition}
 
 -- this profile's table of sequence functions
 abbrev pub meaning : SeqFn → Tree → Outcome
@@ -54,3 +55,6 @@ meaning OddElts t = given (as_sequence t) odd_elements
 meaning EvenElts t = given (as_sequence t) even_elements
 meaning Interleave t = given (two_sequences t) (λ p. interleaved p.0 p.1)
 meaning Gather t = given (two_sequences t) (λ p. given (all_of as_int p.1) (gathered p.0))
+meaning Permute t = given (two_sequences t) (λ p. given (all_of as_int p.1) (permuted p.0))
+meaning Split t = given (sequence_and_truths t) (λ p. split_apart p.0 p.1)
+meaning Partition t = given (sequence_and_numbers t) (λ p. partitioned p.0 p.1)

@@ -1,6 +1,6 @@
 -- Places that are named by numbers.
-use Rattle.std.specs.Prelude.{ℕ, ◌+◌, ℤ, pos, negsuc, Bool, List, length, cond, nat_lt, Option, Some, None, is_some, option_and_then, slice_get}
-use Rattle.std.specs.List.{list_all, filter_map}
+use Rattle.std.specs.Prelude.{ℕ, ℤ, pos, negsuc, Bool, List, length, cond, nat_lt, nat_eq, Option, Some, None, is_some, option_map, option_and_then, slice_get}
+use Rattle.std.specs.List.{list_all, filter_map, find}
 use Rattle.nesl_scalars.specs.declared.trap.Trap.TheVariants.{Range}
 use Rattle.nesl_values.specs.Tree.{Tree}
 use Rattle.nesl_values.specs.Parts.{as_int}
@@ -34,3 +34,7 @@ place_of n t = option_and_then (place_in n) (as_int t)
 -- the places that elements name
 abbrev pub places_of : ℕ → List Tree → List ℕ
 places_of n ts = filter_map (place_of n) ts
+
+-- the first of the elements that are put at a place
+abbrev pub arrival : List (ℕ × Tree) → ℕ → Option Tree
+arrival ws k = option_map (λ w. w.1) (find (λ w. nat_eq k w.0) ws)

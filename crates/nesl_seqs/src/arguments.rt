@@ -36,7 +36,8 @@ pub fn sequence_and_int<A: Allocator>(argument: &Value<A>) -> Option<(Items<'_, 
 
 /// Two sequences.
 pub fn two_sequences<A: Allocator>(argument: &Value<A>) -> Option<(Items<'_, A>, Items<'_, A>)>
-    ensures { option_map (λ p. (item_trees p.0, item_trees p.1)) result
+    ensures len { IfSome result (λ p. length (item_trees p.0) < 2 ^ 63) }
+    ensures parts { option_map (λ p. (item_trees p.0, item_trees p.1)) result
         ≡ two_sequences (tree_of argument.now) }
 {
     let (first, second) = argument.as_pair()?;

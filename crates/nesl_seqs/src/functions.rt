@@ -11,7 +11,7 @@ use crate::price::Price;
 use crate::reductions::{self, price_of_reduction, value_of};
 use crate::scans::Joint;
 use crate::seq_fn::SeqFn;
-use crate::{equal, extremes, gather, levels, pairs, pieces, ranges, replace, scans, sides, woven};
+use crate::{equal, extremes, gather, levels, pairs, pieces, ranges, replace, scans, sides, woven, permute};
 use nesl_scalars::Trap;
 use nesl_values::Value;
 use std::alloc::{AllocError, Allocator};
@@ -92,6 +92,9 @@ fn price<A: Allocator>(
         SeqFn::EvenElts => woven::price_even_elts(argument, limit),
         SeqFn::Interleave => woven::price_interleave(argument, limit),
         SeqFn::Gather => gather::price_gather(argument, limit),
+        SeqFn::Permute => permute::price_permute(argument, limit),
+        SeqFn::Split => sides::price_split(argument, limit),
+        SeqFn::Partition => levels::price_partition(argument, limit),
     }
 }
 
@@ -137,5 +140,8 @@ pub fn apply<A: Allocator + Copy, B: Allocator>(
         SeqFn::EvenElts => woven::apply_even_elts(alloc, argument),
         SeqFn::Interleave => woven::apply_interleave(alloc, argument),
         SeqFn::Gather => gather::apply_gather(alloc, argument),
+        SeqFn::Permute => permute::apply_permute(alloc, argument),
+        SeqFn::Split => sides::apply_split(alloc, argument),
+        SeqFn::Partition => levels::apply_partition(alloc, argument),
     }
 }

@@ -1,5 +1,5 @@
 //! What the definitions' places and steps come to.
-ghost use Rattle.nesl_seqs.specs.Laws.{PlacesOfRotate, StepsBelow};
+ghost use Rattle.nesl_seqs.specs.Laws.{PlacesOfRotate, NumbersOfRange};
 
 /// `rotate` moves element j to place (j + k) modulo n, whatever number k is.
 pub fn places_of_rotate()
@@ -7,7 +7,6 @@ pub fn places_of_rotate()
 {}
 
 /// `[s:e:d]` has just the numbers s, s + d, s + 2d and so on that are below e.
-#[tactic(auto, using(crate::proofs::Places::steps_are_below))]
-pub fn steps_below_the_end()
-    ensures { StepsBelow }
+pub fn numbers_of_range()
+    ensures { NumbersOfRange }
 {}

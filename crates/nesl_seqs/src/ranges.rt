@@ -285,7 +285,12 @@ fn copies<A: Allocator + Copy, B: Allocator>(
     }
 }
 
-fn repeated<T: Copy, A: Allocator>(alloc: A, item: T, count: usize) -> Result<Vec<T, A>, AllocError>
+/// So many of the same item.
+pub fn repeated<T: Copy, A: Allocator>(
+    alloc: A,
+    item: T,
+    count: usize,
+) -> Result<Vec<T, A>, AllocError>
     ensures { IfOk result (λ v. v.items ≡ replicate count item) }
 {
     let mut items = Vec::new(alloc);

@@ -107,6 +107,7 @@ pub fn price_plus_scan<A: Allocator>(
     price_of_scan(argument, check_sums(argument), limit)
 }
 
+// Why `plus_scan` has no result, where it has none.
 fn check_sums<A: Allocator>(argument: &Value<A>) -> Result<(), Trap>
     ensures { HasLeaves (meaning PlusScan (tree_of argument.now)) (length_of (tree_of argument.now)) result }
 {
@@ -224,6 +225,7 @@ pub fn price_logic_scan<A: Allocator>(
     price_of_scan(argument, check_logic(argument), limit)
 }
 
+// Why `or_scan` and `and_scan` have no result, where they have none.
 fn check_logic<A: Allocator>(argument: &Value<A>) -> Result<(), Trap>
     ensures { (j : Joint) → HasLeaves (logic_scanned j (tree_of argument.now)) (length_of (tree_of argument.now)) result }
 {

@@ -119,3 +119,117 @@ fn elements_in_turn(rt: HostRuntime) -> Result<(), Fail> {
     }
     Ok(())
 }
+
+#[test]
+fn those_with_each_flag(rt: HostRuntime) -> Result<(), Fail> {
+    let alloc = rt.alloc();
+    for (argument, expected, price) in [
+        (
+            Pair(&Ints(&[]), &Bools(&[])),
+            Seq(&[Ints(&[]), Ints(&[])]),
+            (3, 1, 3),
+        ),
+        (
+            Pair(&Ints(&[7]), &Bools(&[true])),
+            Seq(&[Ints(&[]), Ints(&[7])]),
+            (6, 1, 4),
+        ),
+        (
+            Pair(&Ints(&[1, 2, 3]), &Bools(&[true, false, true])),
+            Seq(&[Ints(&[2]), Ints(&[1, 3])]),
+            (12, 1, 6),
+        ),
+        (
+            Pair(&Text(b"abcd"), &Bools(&[false, false, true, false])),
+            Seq(&[Text(b"abd"), Text(b"c")]),
+            (15, 1, 7),
+        ),
+        (
+            Pair(&Bools(&[true, false, false]), &Bools(&[false, true, false])),
+            Seq(&[Bools(&[true, false]), Bools(&[false])]),
+            (12, 1, 6),
+        ),
+        (
+            Pair(
+                &Seq(&[Text(b"a"), Text(b"bc"), Text(b"d")]),
+                &Bools(&[true, false, true]),
+            ),
+            Seq(&[Seq(&[Text(b"bc")]), Seq(&[Text(b"a"), Text(b"d")])]),
+            (16, 1, 10),
+        ),
+    ] {
+        assert!(rt; comes_to(alloc, SeqFn::Split, &argument, &expected, price)?);
+    }
+    Ok(())
+}
+
+#[test]
+fn flags_of_another_length(rt: HostRuntime) -> Result<(), Fail> {
+    let alloc = rt.alloc();
+    for argument in [
+        Pair(&Ints(&[7]), &Bools(&[true, false])),
+        Pair(&Ints(&[]), &Bools(&[true])),
+        Pair(&Ints(&[1, 2]), &Bools(&[true])),
+    ] {
+        assert!(rt; is_refused(alloc, SeqFn::Split, &argument, Trap::Length)?);
+    }
+    Ok(())
+}
+
+#[test]
+fn pieces_of_lengths(rt: HostRuntime) -> Result<(), Fail> {
+    let alloc = rt.alloc();
+    for (argument, expected, price) in [
+        (Pair(&Ints(&[]), &Ints(&[])), Seq(&[]), (1, 1, 1)),
+        (
+            Pair(&Ints(&[]), &Ints(&[0, 0])),
+            Seq(&[Ints(&[]), Ints(&[])]),
+            (5, 1, 3),
+        ),
+        (
+            Pair(&Ints(&[7]), &Ints(&[1])),
+            Seq(&[Ints(&[7])]),
+            (5, 1, 3),
+        ),
+        (
+            Pair(&Ints(&[4, 5, 6]), &Ints(&[1, 2])),
+            Seq(&[Ints(&[4]), Ints(&[5, 6])]),
+            (11, 1, 6),
+        ),
+        (
+            Pair(&Text(b"abc"), &Ints(&[0, 2, 0, 1])),
+            Seq(&[Text(b""), Text(b"ab"), Text(b""), Text(b"c")]),
+            (15, 1, 8),
+        ),
+        (
+            Pair(&Bools(&[true, false]), &Ints(&[2])),
+            Seq(&[Bools(&[true, false])]),
+            (7, 1, 4),
+        ),
+        (
+            Pair(&Seq(&[Text(b"ab"), Text(b"c")]), &Ints(&[1, 1])),
+            Seq(&[Seq(&[Text(b"ab")]), Seq(&[Text(b"c")])]),
+            (12, 1, 8),
+        ),
+    ] {
+        assert!(rt; comes_to(alloc, SeqFn::Partition, &argument, &expected, price)?);
+    }
+    Ok(())
+}
+
+#[test]
+fn counts_that_are_no_lengths(rt: HostRuntime) -> Result<(), Fail> {
+    let alloc = rt.alloc();
+    for argument in [
+        Pair(&Ints(&[7]), &Ints(&[])),
+        Pair(&Ints(&[7]), &Ints(&[2, -1])),
+        Pair(&Ints(&[7]), &Ints(&[-1, 2])),
+        Pair(&Ints(&[7]), &Ints(&[0])),
+        Pair(&Ints(&[7]), &Ints(&[2])),
+        Pair(&Ints(&[7]), &Ints(&[i64::MAX, i64::MAX, 3])),
+        Pair(&Ints(&[]), &Ints(&[1])),
+    ] {
+        assert!(rt; is_refused(alloc, SeqFn::Partition, &argument, Trap::Count)?);
+    }
+    Ok(())
+}

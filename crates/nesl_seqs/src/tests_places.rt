@@ -89,3 +89,81 @@ fn a_price_that_stops(rt: HostRuntime) -> Result<(), Fail> {
     assert_eq!(rt; price_within(SeqFn::Gather, &many, 2_000_000), Ok(None));
     Ok(())
 }
+
+#[test]
+fn elements_at_their_indices(rt: HostRuntime) -> Result<(), Fail> {
+    let alloc = rt.alloc();
+    for packed in [true, false] {
+        let two_ints = with(alloc, held(alloc, packed, &[7, 8])?, packed, &[1, 0])?;
+        let turned = numbers(alloc, &[8, 7])?;
+        assert!(rt; gives(alloc, SeqFn::Permute, &two_ints, &turned, price_of(7, 1, 3))?);
+        let one = with(alloc, held(alloc, packed, &[7])?, packed, &[0])?;
+        let same = numbers(alloc, &[7])?;
+        assert!(rt; gives(alloc, SeqFn::Permute, &one, &same, price_of(4, 1, 2))?);
+        let none = with(alloc, held(alloc, packed, &[])?, packed, &[])?;
+        let empty = Value::empty(alloc);
+        assert!(rt; gives(alloc, SeqFn::Permute, &none, &empty, price_of(1, 1, 1))?);
+        let letters = with(alloc, text(alloc, b"abc")?, packed, &[1, 2, 0])?;
+        let moved = text(alloc, b"cab")?;
+        assert!(rt; gives(alloc, SeqFn::Permute, &letters, &moved, price_of(10, 1, 4))?);
+        let texts = with(alloc, words(alloc)?, packed, &[2, 0, 1])?;
+        let mut values = Vec::new(alloc);
+        values.push(text(alloc, b"bcd")?)?;
+        values.push(text(alloc, b"ef")?)?;
+        values.push(text(alloc, b"a")?)?;
+        let moved = Value::Seq(values);
+        assert!(rt; gives(alloc, SeqFn::Permute, &texts, &moved, price_of(16, 1, 10))?);
+    }
+    Ok(())
+}
+
+#[test]
+fn indices_that_are_no_permutation(rt: HostRuntime) -> Result<(), Fail> {
+    let alloc = rt.alloc();
+    for packed in [true, false] {
+        let v = held(alloc, packed, &[7, 8])?;
+        let twice = with(alloc, v, packed, &[0, 0])?;
+        assert!(rt; traps(alloc, SeqFn::Permute, &twice, Trap::Permutation)?);
+        let less = with(alloc, held(alloc, packed, &[7, 8])?, packed, &[3])?;
+        assert!(rt; traps(alloc, SeqFn::Permute, &less, Trap::Length)?);
+        let beyond = with(alloc, held(alloc, packed, &[7, 8, 9])?, packed, &[0, 0, 3])?;
+        assert!(rt; traps(alloc, SeqFn::Permute, &beyond, Trap::Range)?);
+    }
+    Ok(())
+}
+
+// The numbers from 0 on.
+fn counted(alloc: Global, len: i64) -> Result<Vec<i64>, AllocError> {
+    let mut numbers = Vec::new(alloc);
+    for number in 0..len {
+        numbers.push(number)?;
+    }
+    Ok(numbers)
+}
+
+#[test]
+fn places_of_several_windows(rt: HostRuntime) -> Result<(), Fail> {
+    let alloc = rt.alloc();
+    let mut indices = counted(alloc, 140_000)?;
+    indices.reverse();
+    let v = Value::Ints(counted(alloc, 140_000)?);
+    let turned = Value::pair(alloc, v, Value::Ints(indices))?;
+    let mut expected = counted(alloc, 140_000)?;
+    expected.reverse();
+    let whole = price_of(420_001, 1, 140_001);
+    assert!(rt;
+        gives(
+            alloc,
+            SeqFn::Permute,
+            &turned,
+            &Value::Ints(expected),
+            whole
+        )?
+    );
+    let mut indices = counted(alloc, 140_000)?;
+    indices[3] = 139_999;
+    let v = Value::Ints(counted(alloc, 140_000)?);
+    let twice = Value::pair(alloc, v, Value::Ints(indices))?;
+    assert!(rt; traps(alloc, SeqFn::Permute, &twice, Trap::Permutation)?);
+    Ok(())
+}

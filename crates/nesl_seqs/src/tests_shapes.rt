@@ -4,7 +4,7 @@ use crate::tests::is_no_argument;
 use std::test::Fail;
 
 // For each function an argument whose parts are of another shape.
-const WRONG: [(SeqFn, Lit<'static>); 42] = [
+const WRONG: [(SeqFn, Lit<'static>); 46] = [
     (SeqFn::Length, Int(1)),
     (SeqFn::Length, Pair(&Ints(&[1]), &Ints(&[1]))),
     (SeqFn::Index, Pair(&Ints(&[1]), &Bool(true))),
@@ -41,12 +41,16 @@ const WRONG: [(SeqFn, Lit<'static>); 42] = [
     (SeqFn::OrScan, Seq(&[Int(1), Bool(true)])),
     (SeqFn::AndScan, Text(b"a")),
     (SeqFn::Flatten, Ints(&[1])),
+    (SeqFn::Partition, Pair(&Ints(&[1]), &Bools(&[true]))),
+    (SeqFn::Split, Pair(&Ints(&[1]), &Ints(&[1]))),
     (SeqFn::Unzip, Ints(&[1])),
     (SeqFn::OddElts, Int(1)),
     (SeqFn::EvenElts, Int(1)),
     (SeqFn::Interleave, Pair(&Ints(&[1]), &Int(1))),
     (SeqFn::Gather, Pair(&Ints(&[1]), &Bools(&[true]))),
     (SeqFn::Gather, Pair(&Int(1), &Ints(&[0]))),
+    (SeqFn::Permute, Pair(&Ints(&[1]), &Bools(&[true]))),
+    (SeqFn::Permute, Pair(&Int(1), &Ints(&[0]))),
 ];
 
 #[test]

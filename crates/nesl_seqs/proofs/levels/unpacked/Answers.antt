@@ -1,4 +1,4 @@
-use Rattle.std.proofs.Common.{refl, sym, ◌∙◌}
+use Rattle.std.proofs.Common.{refl, ◌∙◌}
 use Rattle.nesl_values.specs.Parts.{as_pair, as_sequence}
 use Rattle.nesl_seqs.proofs.Shapes.{packed_unread}
 use Rattle.nesl_seqs.proofs.levels.unpacked.Goals as goal

@@ -1,4 +1,4 @@
-use Rattle.std.proofs.Common.{◌≡◌, ◌∙◌, ◌≤◌, List, Some, map, length, slice_get, take, refl, ap, sym, arith}
+use Rattle.std.proofs.Common.{◌≡◌, ◌∙◌, Some, map, slice_get, take, refl, ap, sym, arith}
 use Rattle.std.proofs.lemmas.List.{take_all}
 use Rattle.nesl_values.specs.Tree.{Tree}
 use Rattle.nesl_values.specs.Parts.{as_pair}

@@ -1,4 +1,4 @@
-use Rattle.std.proofs.Common.{◌≡◌, ◌*◌, ◌+◌, ◌<◌, ◌≤◌, ◌++◌, ◌∷◌, [], ◌∙◌, ap, map, length, get_or, arith}
+use Rattle.std.proofs.Common.{◌*◌, ◌<◌, ◌∙◌, ap, map, length, arith}
 use Rattle.std.proofs.lemmas.List.{length-map, map_push}
 use Rattle.nesl_values.specs.View.{tree_of}
 use Rattle.nesl_seqs.proofs.Weaving.{evens_turn, evens_end, seen_at}

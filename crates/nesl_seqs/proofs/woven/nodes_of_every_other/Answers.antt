@@ -1,4 +1,4 @@
-use Rattle.std.proofs.Common.{◌≡◌, ◌≤◌, SomeIff, sym, subst, arith}
+use Rattle.std.proofs.Common.{◌≡◌, ◌≤◌, SomeIff, subst, arith}
 use Rattle.nesl_values.specs.Tree.{sizes, trees_of}
 use Rattle.nesl_seqs.specs.Held.{item_trees}
 use Rattle.nesl_seqs.specs.Woven.{evens}

@@ -1,8 +1,6 @@
-use Rattle.std.proofs.Common.{◌≡◌, ◌*◌, ◌+◌, ◌<◌, length, map, drop, refl, arith}
+use Rattle.std.proofs.Common.{◌*◌, ◌<◌, length, map, refl, arith}
 use Rattle.std.proofs.lemmas.List.{length-map}
-use Rattle.nesl_values.specs.Tree.{size, sizes, trees_of}
 use Rattle.nesl_values.specs.View.{tree_of}
-use Rattle.nesl_seqs.specs.Woven.{evens}
 use Rattle.nesl_seqs.proofs.Weaving.{sizes_next, seen_at}
 use Rattle.nesl_seqs.proofs.woven.nodes_of_every_other_value.Goals as goal
 

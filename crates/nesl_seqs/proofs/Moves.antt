@@ -1,15 +1,19 @@
 -- The places of `rotate`, and the steps of a range.
-use Rattle.std.proofs.Common.{◌≡◌, ◌↔◌, ℕ, zero, suc, ◌+◌, ◌-◌, ◌*◌, ◌/◌, ◌%◌, ◌≤◌, ◌<◌, ℤ, pos, negsuc, ◌+ℤ◌, ◌<ℤ◌, Bool, true, false, List, [], ◌∷◌, ◌++◌, length, take, drop, slice_get, refl, ap, sym, ◌∙◌, arith, nat_lt}
+use Rattle.std.proofs.Common.{Some, None, map, ◌≤ℤ◌, ◌≡◌, ◌↔◌, ℕ, zero, suc, ◌+◌, ◌-◌, ◌*◌, ◌/◌, ◌%◌, ◌≤◌, ◌<◌, ℤ, pos, negsuc, ◌+ℤ◌, ◌<ℤ◌, Bool, true, false, List, [], ◌∷◌, ◌++◌, length, take, drop, slice_get, refl, ap, sym, ◌∙◌, arith, nat_lt}
 use Rattle.std.specs.Prelude.{unsigned_abs}
+use Rattle.std.specs.List.{range_with_len}
 use Rattle.std.specs.Int.{int_rem_euclid, int_gap}
 use Rattle.std.proofs.Math.Nat.{add-mod-mod, add-mod_right, mod-eq_of_lt, mod-lt, le-div_iff_mul-le}
 use Rattle.std.proofs.lemmas.Int.{ints, int_rem_euclid_is}
 use Rattle.std.proofs.lemmas.Bool.Decides.{nat_tests}
-use Rattle.nesl_values.specs.Tree.{Tree, sequence, trees_of}
+use Rattle.std.proofs.lemmas.List.{length-append, length-drop, length-take-le}
+use Rattle.nesl_values.specs.Tree.{Tree, int, sequence, trees_of}
 use Rattle.nesl_values.specs.Parts.{list_of}
 use Rattle.nesl_seqs.specs.Outcome.{gives}
 use Rattle.nesl_seqs.specs.Pieces.{places_on}
-use Rattle.nesl_seqs.specs.Laws.{modulo, PlacesOfRotate, StepsBelow}
+use Rattle.nesl_seqs.specs.Ranges.{steps_below}
+use Rattle.nesl_seqs.specs.Laws.{modulo, PlacesOfRotate, NumbersOfRange}
+use Rattle.nesl_seqs.proofs.Best.{get_front}
 
 below_gap : (s e : ℤ) (n : ℕ) → (n < int_gap s e) ↔ ((s +ℤ pos n) <ℤ e)
 below_gap (pos a) (pos b) n = (λ h. omega (arith, ints), λ h. omega (arith, ints, h))
@@ -22,11 +26,23 @@ steps_within gap d j h =
     let both : (j + 1 ≤ (gap + (d - 1)) / d) ↔ ((j + 1) * d ≤ gap + (d - 1)) = le-div_iff_mul-le (omega arith) in
     (λ p. omega (arith, both.0 (omega (arith, p))), λ p. omega (arith, both.1 (omega (arith, p))))
 
-pub steps_are_below : StepsBelow
-steps_are_below s e d j h =
+step_is_below : (s e : ℤ) (d j : ℕ) → 1 ≤ d → (j < steps_below s e d) ↔ ((s +ℤ pos (j * d)) <ℤ e)
+step_is_below s e d j h =
     let within = steps_within (int_gap s e) d j h in
     let below = below_gap s e (j * d) in
     (λ p. below.0 (within.0 p), λ p. within.1 (below.1 p))
+
+get_number : (f : ℕ → Tree) (a n j : ℕ) → j < n → slice_get (map f (range_with_len a n)) j ≡ Some (f (a + j))
+get_number f a zero j h = absurd (omega arith)
+get_number f a (suc n) zero h = ap (λ k. Some (f k)) (omega arith)
+get_number f a (suc n) (suc j) h =
+    let next : a + 1 + j ≡ a + suc j = omega arith in
+    get_number f (a + 1) n j (omega arith) ∙ ap (λ k. Some (f k)) next
+
+get_no_number : (f : ℕ → Tree) (a n j : ℕ) → n ≤ j → slice_get (map f (range_with_len a n)) j ≡ None
+get_no_number f a zero j h = refl
+get_no_number f a (suc n) zero h = absurd (omega arith)
+get_no_number f a (suc n) (suc j) h = get_no_number f (a + 1) n j (omega arith)
 
 list_back : (ts : List Tree) → list_of (trees_of ts) ≡ ts
 list_back [] = refl
@@ -50,30 +66,11 @@ get_in_drop (suc s) p (t ∷ ts) =
     let next : suc s + p ≡ suc (s + p) = omega arith in
     get_in_drop s p ts ∙ ap (slice_get (t ∷ ts)) (sym next)
 
-get_first : (us vs : List Tree) (p : ℕ) → p < length us → slice_get (us ++ vs) p ≡ slice_get us p
-get_first [] vs p h = absurd (omega arith)
-get_first (u ∷ us) vs zero h = refl
-get_first (u ∷ us) vs (suc p) h = get_first us vs p (omega arith)
-
 get_second : (us vs : List Tree) (p : ℕ) → slice_get (us ++ vs) (length us + p) ≡ slice_get vs p
 get_second [] vs p = ap (slice_get vs) (omega arith)
 get_second (u ∷ us) vs p =
     let next : suc (length us) + p ≡ suc (length us + p) = omega arith in
     ap (slice_get (u ∷ us ++ vs)) next ∙ get_second us vs p
-
-length_taken : (s : ℕ) (ts : List Tree) → s ≤ length ts → length (take s ts) ≡ s
-length_taken zero ts h = refl
-length_taken (suc s) [] h = absurd (omega arith)
-length_taken (suc s) (t ∷ ts) h = ap suc (length_taken s ts (omega arith))
-
-length_dropped : (s : ℕ) (ts : List Tree) → length (drop s ts) ≡ length ts - s
-length_dropped zero ts = omega arith
-length_dropped (suc s) [] = omega arith
-length_dropped (suc s) (t ∷ ts) = omega (arith, length_dropped s ts)
-
-length_both : (us vs : List Tree) → length (us ++ vs) ≡ length us + length vs
-length_both [] vs = omega arith
-length_both (u ∷ us) vs = omega (arith, length_both us vs)
 
 -- element j of what is turned by r places
 turned_at : (ts : List Tree) (r j : ℕ) → r < length ts → j < length ts → slice_get (drop (length ts - r) ts ++ take (length ts - r) ts) ((j + r) % length ts) ≡ slice_get ts j
@@ -89,7 +86,7 @@ turned_at ts r j h k = by (nat_lt (j + r) n) refl
     front = drop start ts
 
     size : length front ≡ r
-    size = length_dropped start ts ∙ omega (arith, h)
+    size = length-drop start ts ∙ omega (arith, h)
 
     by : (b : Bool) → nat_lt (j + r) n ≡ b → slice_get (front ++ take start ts) ((j + r) % n) ≡ slice_get ts j
     by true e =
@@ -101,7 +98,7 @@ turned_at ts r j h k = by (nat_lt (j + r) n) refl
         let parts : j + r ≡ (j + r - n) + n = omega (arith, beyond) in
         let place : (j + r) % n ≡ j + r - n = ap (λ m. m % n) parts ∙ add-mod_right (j + r - n) n ∙ mod-eq_of_lt (omega (arith, h, k)) in
         let there : start + (j + r - n) ≡ j = omega (arith, h, beyond) in
-        ap (slice_get (front ++ take start ts)) place ∙ get_first front (take start ts) (j + r - n) (omega (arith, size, k, h)) ∙ get_in_drop start (j + r - n) ts ∙ ap (slice_get ts) there
+        ap (slice_get (front ++ take start ts)) place ∙ get_front front (take start ts) (j + r - n) (omega (arith, size, k, h)) ∙ get_in_drop start (j + r - n) ts ∙ ap (slice_get ts) there
 
 -- k is a number that is not below 0, up to a multiple of n
 modulo_of : (k : ℤ) (n m q j : ℕ) → 0 < n → k +ℤ pos (q * n) ≡ pos m → modulo (pos j +ℤ k) n ≡ (j + modulo k n) % n
@@ -140,7 +137,7 @@ places_of_rotate ts us k is = (long, at)
     same = same_elements _ _ is
 
     long : length us ≡ n
-    long = sym (ap length same) ∙ length_both (drop (n - r) ts) (take (n - r) ts) ∙ omega (arith, length_dropped (n - r) ts, length_taken (n - r) ts (omega arith), on_within n k)
+    long = sym (ap length same) ∙ length-append (drop (n - r) ts) (take (n - r) ts) ∙ omega (arith, length-drop (n - r) ts, length-take-le (n - r) ts (omega arith), on_within n k)
 
     at : (j : ℕ) → j < n → (modulo (pos j +ℤ k) n < n) × (slice_get us (modulo (pos j +ℤ k) n) ≡ slice_get ts j)
     at j h =
@@ -149,3 +146,31 @@ places_of_rotate ts us k is = (long, at)
         let place : modulo (pos j +ℤ k) n ≡ (j + r) % n = multiple k n j some ∙ sym (ap (λ m. (j + m) % n) on) in
         let within : r < n = omega (arith, on, modulo_below k n some) in
         (modulo_below (pos j +ℤ k) n some, ap (slice_get us) place ∙ sym (ap (λ vs. slice_get vs ((j + r) % n)) same) ∙ turned_at ts r j within h)
+
+pub numbers_of_range : NumbersOfRange
+numbers_of_range s e zero j us is = absurd (cc is)
+numbers_of_range s e (suc d) j us is = (below, beyond)
+  where
+    f : ℕ → Tree
+    f i = int (s +ℤ pos (i * suc d))
+
+    n : ℕ
+    n = steps_below s e (suc d)
+
+    same : map f (range_with_len 0 n) ≡ us
+    same = same_elements _ _ is
+
+    counted : (j < n) ↔ ((s +ℤ pos (j * suc d)) <ℤ e)
+    counted = step_is_below s e (suc d) j (omega arith)
+
+    below : (s +ℤ pos (j * suc d)) <ℤ e → slice_get us j ≡ Some (f j)
+    below h = sym (ap (λ vs. slice_get vs j) same) ∙ get_number f 0 n j (counted.1 h) ∙ ap (λ i. Some (f i)) (omega arith)
+
+    beyond : e ≤ℤ (s +ℤ pos (j * suc d)) → slice_get us j ≡ None
+    beyond h = sym (ap (λ vs. slice_get vs j) same) ∙ get_no_number f 0 n j (over (nat_lt j n) refl)
+      where
+        over : (b : Bool) → nat_lt j n ≡ b → n ≤ j
+        over true e =
+            let less : j < n = grind (arith, nat_tests) in
+            absurd (omega (arith, ints, h, counted.0 less))
+        over false e = grind (arith, nat_tests)
