@@ -7,16 +7,19 @@ use std::alloc::{AllocError, Global};
 
 // A value as a table writes it.
 #[derive(Clone, Copy)]
-pub enum Lit<'a> {
+pub enum Lit {
     Int(i64),
     Bool(bool),
     Char(u8),
-    Ints(&'a [i64]),
-    Bools(&'a [bool]),
-    Text(&'a [u8]),
-    Pair(&'a Lit<'a>, &'a Lit<'a>),
-    Seq(&'a [Lit<'a>]),
+    Ints(&'static [i64]),
+    Bools(&'static [bool]),
+    Text(&'static [u8]),
+    Pair(&'static Lit, &'static Lit),
+    Seq(&'static [Lit]),
 }
+
+/// An argument, the result of a function at it, and its work, depth and nodes.
+pub type Row = (Lit, Lit, (u64, u64, u128));
 
 // What a function comes to: a fault, or its result and price.
 #[tactic(auto, using(crate::proofs::Bounds::given_if_priced))]
@@ -84,7 +87,7 @@ pub fn value_of(
     alloc: Global,
     packed: bool,
     right_packed: bool,
-    lit: &Lit<'_>,
+    lit: &Lit,
 ) -> Result<Value, AllocError> {
     match lit {
         Lit::Int(n) => Ok(Value::Int(*n)),
@@ -157,11 +160,11 @@ fn stops_below(function: SeqFn, argument: &Value, work: u64) -> bool {
 }
 
 // Whether the function comes to that result at that work, depth and nodes, packed or not.
-pub fn comes_to(
+fn comes_to(
     alloc: Global,
     function: SeqFn,
-    argument: &Lit<'_>,
-    expected: &Lit<'_>,
+    argument: &Lit,
+    expected: &Lit,
     price: (u64, u64, u128),
 ) -> Result<bool, AllocError> {
     let (work, depth, nodes) = price;
@@ -179,10 +182,10 @@ pub fn comes_to(
 }
 
 // Whether the function has that fault, packed or not.
-pub fn is_refused(
+fn is_refused(
     alloc: Global,
     function: SeqFn,
-    argument: &Lit<'_>,
+    argument: &Lit,
     trap: Trap,
 ) -> Result<bool, AllocError> {
     for (packed, right_packed) in HELD {
@@ -197,11 +200,7 @@ pub fn is_refused(
 }
 
 // Whether the function has some fault, packed or not.
-pub fn is_no_argument(
-    alloc: Global,
-    function: SeqFn,
-    argument: &Lit<'_>,
-) -> Result<bool, AllocError> {
+pub fn is_no_argument(alloc: Global, function: SeqFn, argument: &Lit) -> Result<bool, AllocError> {
     for (packed, right_packed) in HELD {
         let argument = value_of(alloc, packed, right_packed, argument)?;
         if told(alloc, function, &argument)?.is_ok() {
@@ -209,4 +208,33 @@ pub fn is_no_argument(
         }
     }
     Ok(true)
+}
+
+// The place of the first row that the function does not come to.
+pub fn first_wrong(
+    alloc: Global,
+    function: SeqFn,
+    rows: &[Row],
+) -> Result<Option<usize>, AllocError> {
+    for (place, (argument, expected, price)) in rows.iter().enumerate() {
+        if !comes_to(alloc, function, argument, expected, *price)? {
+            return Ok(Some(place));
+        }
+    }
+    Ok(None)
+}
+
+// The place of the first argument at which the function has not that fault.
+pub fn first_allowed(
+    alloc: Global,
+    function: SeqFn,
+    arguments: &[Lit],
+    trap: Trap,
+) -> Result<Option<usize>, AllocError> {
+    for (place, argument) in arguments.iter().enumerate() {
+        if !is_refused(alloc, function, argument, trap)? {
+            return Ok(Some(place));
+        }
+    }
+    Ok(None)
 }

@@ -160,8 +160,8 @@ fn places_of_several_windows(rt: HostRuntime) -> Result<(), Fail> {
             whole
         )?
     );
-    let mut indices = counted(alloc, 140_000)?;
-    indices[3] = 139_999;
+    let mut indices = counted(alloc, 139_999)?;
+    indices.push(139_998)?;
     let v = Value::Ints(counted(alloc, 140_000)?);
     let twice = Value::pair(alloc, v, Value::Ints(indices))?;
     assert!(rt; traps(alloc, SeqFn::Permute, &twice, Trap::Permutation)?);

@@ -4,7 +4,7 @@ use crate::tests::is_no_argument;
 use std::test::Fail;
 
 // For each function an argument whose parts are of another shape.
-const WRONG: [(SeqFn, Lit<'static>); 46] = [
+const WRONG: [(SeqFn, Lit); 46] = [
     (SeqFn::Length, Int(1)),
     (SeqFn::Length, Pair(&Ints(&[1]), &Ints(&[1]))),
     (SeqFn::Index, Pair(&Ints(&[1]), &Bool(true))),
