@@ -15,18 +15,7 @@ use Rattle.nesl_values.specs.Tree.{Tree, sequence, size, sizes, trees_of}
 use Rattle.nesl_seqs.specs.Reductions.{total}
 use Rattle.nesl_seqs.specs.Levels.{is_natural, are_lengths, pieces, partitioned, Checks}
 use Rattle.nesl_seqs.proofs.Totals.{sizes_append}
-
-pub false_if_not : (b : Bool) → (b ≡ true → ⊥) → b ≡ false
-false_if_not true h = absurd (h refl)
-false_if_not false h = refl
-
-left_true : (b c : Bool) → (b && c) ≡ true → b ≡ true
-left_true true c h = refl
-left_true false c h = h
-
-right_true : (b c : Bool) → (b && c) ≡ true → c ≡ true
-right_true true c h = h
-right_true false c h = absurd (cc h)
+use Rattle.nesl_seqs.proofs.Shapes.{and_left, and_right, false_if_not}
 
 -- the sum of numbers that are 0 or more
 total_up : (zs : List ℤ) → list_all is_natural zs ≡ true → pos 0 ≤ℤ total zs
@@ -42,8 +31,8 @@ lengths_more n k zs h =
 pub lengths_over : (n k : ℕ) (zs : List ℤ) → n < k → are_lengths n (pos k ∷ zs) ≡ false
 lengths_over n k zs h =
     false_if_not (are_lengths n (pos k ∷ zs)) (λ e.
-    let up = total_up zs (left_true (list_all is_natural zs) (int_eq (pos k +ℤ total zs) (pos n)) e) in
-    let is = (Decides-int_eq (pos k +ℤ total zs) (pos n)).0 (right_true (list_all is_natural zs) (int_eq (pos k +ℤ total zs) (pos n)) e) in
+    let up = total_up zs (and_left (list_all is_natural zs) (int_eq (pos k +ℤ total zs) (pos n)) e) in
+    let is = (Decides-int_eq (pos k +ℤ total zs) (pos n)).0 (and_right (list_all is_natural zs) (int_eq (pos k +ℤ total zs) (pos n)) e) in
     absurd (omega (arith, ints, up, is, h)))
 
 within : (n k : ℕ) (zs : List ℤ) → are_lengths n (pos k ∷ zs) ≡ true → (k ≤ n) × (are_lengths (n - k) zs ≡ true)

@@ -1,16 +1,18 @@
 -- Places that differ from those before them.
-use Rattle.std.proofs.Common.{◌≡◌, ◌≢◌, ℕ, zero, suc, ◌+◌, ◌/◌, ◌%◌, ◌<◌, Bool, true, false, not, ◌||◌, ◌&&◌, nat_eq, nat_lt, List, [], ◌∷◌, ◌++◌, length, map, take, drop, get_or, refl, ap, sym, ◌∙◌, arith, append_assoc, Option, Some, None}
+use Rattle.std.proofs.Common.{◌≡◌, ◌≢◌, ℕ, ◌+◌, ◌/◌, ◌%◌, ◌<◌, Bool, true, false, not, ◌||◌, ◌&&◌, nat_eq, nat_lt, List, [], ◌∷◌, ◌++◌, length, map, take, drop, get_or, refl, ap, sym, ◌∙◌, arith, append_assoc, Option, Some, None}
 use Rattle.std.specs.List.{list_any, list_all, cons_option}
-use Rattle.std.proofs.lemmas.Bool.{false≢true}
 use Rattle.std.proofs.lemmas.Bool.Decides.{Decides-eqb, Decides-ltb}
+use Rattle.std.proofs.lemmas.List.{append-nil}
 use Rattle.std.proofs.lemmas.List.Folds.{list_any-append}
+use Rattle.std.proofs.Math.Bool.{or-true}
 use Rattle.nesl_values.specs.Tree.{Tree}
 use Rattle.nesl_seqs.specs.Marks.{is_marked, is_new, are_new, Holds}
 use Rattle.nesl_seqs.specs.Permute.{all_differ}
 use Rattle.nesl_seqs.specs.Places.{place_of, places_of}
 use Rattle.nesl_seqs.specs.declared.marks.Marks.{Marks}
-use Rattle.nesl_seqs.proofs.Marking.{are_equal, are_apart, test_apart, or_false}
-use Rattle.nesl_seqs.proofs.Picking.{left_true, right_true, places_more, rest_places, place_of_within}
+use Rattle.nesl_seqs.proofs.Equality.{left_true, right_true, both_true}
+use Rattle.nesl_seqs.proofs.Marking.{are_equal, are_apart, test_apart, or_false, not_true}
+use Rattle.nesl_seqs.proofs.Picking.{places_more, rest_places, place_of_within}
 
 -- one more that was seen
 seen_more : (k : ℕ) (seen : List ℕ) (place : ℕ) → list_any (nat_eq k) (seen ++ place ∷ []) ≡ (list_any (nat_eq k) seen || nat_eq k place)
@@ -40,10 +42,6 @@ pub new_inside : (m : Marks) (window : ℕ) (seen : List ℕ) (place : ℕ) → 
 new_inside m window seen place inside holds =
     ap (λ b. not b || not (list_any (nat_eq place) seen)) ((Decides-eqb (place / 65536) window).1 inside) ∙ ap not (sym (holds place inside))
 
-append_none : {X : Type 0} (xs : List X) → xs ++ [] ≡ xs
-append_none [] = refl
-append_none (x ∷ xs) = ap (λ ys. x ∷ ys) (append_none xs)
-
 -- one more turn of the loop over one window
 pub held_turn : {I : Type 0} (f : I → Tree) (m : Marks) (n window : ℕ) (is : List I) (j : ℕ) (i : I) (k : ℕ) → j < length is → i ≡ get_or is j i → Some k ≡ place_of n (f i) → Holds m window (places_of n (map f (take j is)) ++ k ∷ []) → Holds m window (places_of n (map f (take (j + 1) is)))
 held_turn f m n window is j i k h at names holds = rw (places_more f n is j i (Some k) h at names) holds
@@ -56,13 +54,13 @@ new_turn f n window is j i k all h at names new before =
     ap (λ ks. are_new window ks rest) (places_more f n is j i (Some k) h at names) ∙ ap (λ b. b && are_new window (seen ++ k ∷ []) rest) (sym new) ∙ ap (are_new window seen) (sym (rest_places f n is j i (Some k) h at names)) ∙ before
 
 pub held_same : {I : Type 0} (f : I → Tree) (m : Marks) (n window : ℕ) (is : List I) (j : ℕ) (i : I) → j < length is → i ≡ get_or is j i → None ≡ place_of n (f i) → Holds m window (places_of n (map f (take j is))) → Holds m window (places_of n (map f (take (j + 1) is)))
-held_same f m n window is j i h at names holds = rw (places_more f n is j i None h at names ∙ append_none (places_of n (map f (take j is)))) holds
+held_same f m n window is j i h at names holds = rw (places_more f n is j i None h at names ∙ append-nil (places_of n (map f (take j is)))) holds
 
 pub new_same : {I : Type 0} (f : I → Tree) (n window : ℕ) (is : List I) (j : ℕ) (i : I) (all : Bool) → j < length is → i ≡ get_or is j i → None ≡ place_of n (f i)
     → are_new window (places_of n (map f (take j is))) (places_of n (map f (drop j is))) ≡ all → are_new window (places_of n (map f (take (j + 1) is))) (places_of n (map f (drop (j + 1) is))) ≡ all
 new_same f n window is j i all h at names before =
     let seen = places_of n (map f (take j is)) in
-    ap (λ ks. are_new window ks (places_of n (map f (drop (j + 1) is)))) (places_more f n is j i None h at names ∙ append_none seen) ∙ ap (are_new window seen) (sym (rest_places f n is j i None h at names)) ∙ before
+    ap (λ ks. are_new window ks (places_of n (map f (drop (j + 1) is)))) (places_more f n is j i None h at names ∙ append-nil seen) ∙ ap (are_new window seen) (sym (rest_places f n is j i None h at names)) ∙ before
 
 -- all differ where in each window all differ
 or_left : (b c : Bool) → (b || c) ≡ false → b ≡ false
@@ -72,14 +70,6 @@ or_left false c h = refl
 or_right : (b c : Bool) → (b || c) ≡ false → c ≡ false
 or_right true c h = absurd (cc h)
 or_right false c h = h
-
-not_true : (b : Bool) → not b ≡ true → b ≡ false
-not_true true h = absurd (cc h)
-not_true false h = refl
-
-both_true : (a b : Bool) → a ≡ true → b ≡ true → (a && b) ≡ true
-both_true true b h p = p
-both_true false b h p = absurd (cc h)
 
 -- what comes later differs from what comes before
 differ_split : (xs : List ℕ) (k : ℕ) (ys : List ℕ) → all_differ (xs ++ k ∷ ys) ≡ true → list_any (nat_eq k) xs ≡ false
@@ -99,11 +89,7 @@ differ_more (x ∷ xs) k h p =
     both_true (not (list_any (nat_eq x) (xs ++ k ∷ []))) _ (ap not none) (differ_more xs k (right_true (not (list_any (nat_eq x) xs)) _ h) (or_right (nat_eq k x) (list_any (nat_eq k) xs) p))
 
 new_if_none : (window : ℕ) (seen : List ℕ) (k : ℕ) → list_any (nat_eq k) seen ≡ false → is_new window seen k ≡ true
-new_if_none window seen k h = ap (λ b. not (nat_eq (k / 65536) window) || not b) h ∙ always_true (not (nat_eq (k / 65536) window))
-  where
-    always_true : (b : Bool) → (b || true) ≡ true
-    always_true true = refl
-    always_true false = refl
+new_if_none window seen k h = ap (λ b. not (nat_eq (k / 65536) window) || not b) h ∙ or-true (not (nat_eq (k / 65536) window))
 
 all_new : (window : ℕ) (seen ks : List ℕ) → all_differ (seen ++ ks) ≡ true → are_new window seen ks ≡ true
 all_new window seen [] h = refl
@@ -118,7 +104,7 @@ not_new window ks h = by_test (all_differ ks) refl
     by_test false e = refl
 
 all_from_windows : (count : ℕ) (seen ks : List ℕ) → ((w : ℕ) → w < count → are_new w seen ks ≡ true) → list_all (λ k. nat_lt (k / 65536) count) ks ≡ true → all_differ seen ≡ true → all_differ (seen ++ ks) ≡ true
-all_from_windows count seen [] new below h = ap all_differ (append_none seen) ∙ h
+all_from_windows count seen [] new below h = ap all_differ (append-nil seen) ∙ h
 all_from_windows count seen (k ∷ ks) new below h =
     let within : k / 65536 < count = (Decides-ltb (k / 65536) count).0 (left_true (nat_lt (k / 65536) count) _ below) in
     let here : is_new (k / 65536) seen k ≡ true = left_true (is_new (k / 65536) seen k) _ (new (k / 65536) within) in

@@ -1,17 +1,14 @@
 -- Sequences of sequences.
-use Rattle.std.proofs.Common.{◌≡◌, ℕ, ◌+◌, ◌<◌, ◌≤◌, get_or, take, List, [], ◌∷◌, ◌++◌, length, map, Some, refl, ap, sym, ◌∙◌, arith}
+use Rattle.std.proofs.Common.{◌≡◌, ℕ, ◌+◌, ◌<◌, get_or, take, List, [], ◌∷◌, ◌++◌, length, map, Some, refl, ap, sym, ◌∙◌, arith}
 use Rattle.std.specs.List.{flat_map}
 use Rattle.std.proofs.lemmas.List.{take_more, append-nil}
 use Rattle.std.proofs.lemmas.List.Concat.{flat_map-append}
-use Rattle.nesl_values.specs.Tree.{Tree, Trees, int, boolean, character, pair, seq, tagged, no_trees, tree_then, size, sizes, trees_of}
+use Rattle.nesl_values.specs.Tree.{Tree, int, boolean, character, pair, seq, tagged, size, sizes, trees_of}
 use Rattle.nesl_values.specs.Parts.{as_sequence, list_of, elements}
 use Rattle.nesl_seqs.specs.Reductions.{all_of}
 use Rattle.nesl_seqs.proofs.Totals.{sizes_append}
+use Rattle.nesl_seqs.proofs.Bounds.{sizes_list}
 use Rattle.nesl_seqs.proofs.Shapes.{first_read}
-
-sizes_list : (ts : Trees) → sizes (trees_of (list_of ts)) ≡ sizes ts
-sizes_list no_trees = refl
-sizes_list (tree_then t ts) = omega (arith, sizes_list ts)
 
 size_sequence : (t : Tree) (us : List Tree) → as_sequence t ≡ Some us → size t ≡ 1 + sizes (trees_of us)
 size_sequence (seq ts) us h =
@@ -31,18 +28,6 @@ size_flattened (t ∷ ts) tss h =
     first_read (as_sequence t) (all_of as_sequence ts) tss h _ (λ us uss first rest is.
     let split : sizes (trees_of (flat_map (λ vs. vs) tss)) ≡ sizes (trees_of (us ++ flat_map (λ vs. vs) uss)) = ap (λ vss. sizes (trees_of (flat_map (λ vs. vs) vss))) is in
     omega (arith, split, sizes_append us (flat_map (λ vs. vs) uss), size_sequence t us first, size_flattened ts uss rest))
-
-size_positive : (t : Tree) → 0 < size t
-size_positive (int n) = omega arith
-size_positive (boolean b) = omega arith
-size_positive (character c) = omega arith
-size_positive (pair l r) = omega arith
-size_positive (seq ts) = omega arith
-size_positive (tagged n t) = omega arith
-
-pub length_le : (ts : List Tree) → length ts ≤ sizes (trees_of ts)
-length_le [] = omega arith
-length_le (t ∷ ts) = omega (arith, length_le ts, size_positive t)
 
 elements_read : (t : Tree) (us : List Tree) → as_sequence t ≡ Some us → elements t ≡ us
 elements_read t us h = rw h refl

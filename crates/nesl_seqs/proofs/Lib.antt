@@ -25,3 +25,6 @@ pub mod Moves
 pub mod Marking
 pub mod Differing
 pub mod Permuting
+pub mod Writing
+pub mod WrittenLeaves
+pub mod Standing

@@ -1,5 +1,5 @@
 -- Bits that mark the places of a window.
-use Rattle.std.proofs.Common.{◌≡◌, ◌≢◌, ℕ, zero, suc, ◌*◌, ◌/◌, ◌%◌, ◌^◌, ◌<◌, Bool, true, false, ◌||◌, nat_eq, List, length, replicate, get_or, set, refl, ap, sym, ◌∙◌, arith, w64, bit_or}
+use Rattle.std.proofs.Common.{◌≡◌, ◌≢◌, ℕ, zero, suc, ◌*◌, ◌/◌, ◌%◌, ◌^◌, ◌<◌, Bool, true, false, not, ◌||◌, nat_eq, List, length, replicate, get_or, set, refl, ap, sym, ◌∙◌, arith, w64, bit_or}
 use Rattle.std.specs.Int.{bit_at}
 use Rattle.std.proofs.lemmas.Bool.{false≢true}
 use Rattle.std.proofs.lemmas.Bool.Decides.{Decides-eqb, nat_tests}
@@ -67,3 +67,7 @@ one_marked ws p q h = by_word (nat_eq (q / 64) (p / 64)) refl
         let word : q / 64 ≢ p / 64 = are_apart (q / 64) (p / 64) e in
         let apart : nat_eq p q ≡ false = test_apart p q (λ s. word (omega (arith, s))) in
         ap (λ w. nat_eq (bit_at w (q % 64)) 1) (get_or-set_other ws (p / 64) (q / 64) new 0 word) ∙ sym (or_false (bit_of ws q) (nat_eq p q) apart)
+
+pub not_true : (b : Bool) → not b ≡ true → b ≡ false
+not_true true h = absurd (cc h)
+not_true false h = refl

@@ -1,8 +1,9 @@
 -- Elements that go to places of their own.
-use Rattle.std.proofs.Common.{◌≡◌, ◌≢◌, ℕ, ℤ, zero, suc, pos, ◌+◌, ◌-◌, ◌<◌, ◌≤◌, Bool, true, false, not, ◌||◌, ◌&&◌, cond, nat_eq, nat_lt, List, [], ◌∷◌, length, map, zip, set, refl, ap, sym, ◌∙◌, arith, Option, Some, None, is_some, option_map, option_and_then, slice_get, SomeIff, Result, Ok, Err, subst}
+use Rattle.std.proofs.Common.{◌≡◌, ◌≢◌, ℕ, ℤ, zero, suc, pos, ◌+◌, ◌-◌, ◌<◌, ◌≤◌, Bool, true, false, not, ◌||◌, ◌&&◌, cond, nat_eq, nat_lt, List, [], ◌∷◌, length, map, zip, set, refl, ap, sym, ◌∙◌, arith, Option, Some, None, is_some, option_map, option_and_then, slice_get, SomeIff, Ok, Err, subst}
 use Rattle.std.specs.List.{list_any, list_all, filter_map, cons_option, find, range_with_len}
 use Rattle.std.proofs.lemmas.Bool.{false≢true}
 use Rattle.std.proofs.lemmas.Bool.Decides.{Decides-eqb, Decides-ltb}
+use Rattle.std.proofs.Math.Bool.{or-true}
 use Rattle.std.proofs.lemmas.List.{length-map}
 use Rattle.std.proofs.lemmas.List.FromFn.{length-range_with_len}
 use Rattle.std.proofs.lemmas.Option.{slice_get_within}
@@ -10,17 +11,18 @@ use Rattle.nesl_scalars.specs.declared.trap.Trap.{Trap}
 use Rattle.nesl_scalars.specs.declared.trap.Trap.TheVariants.{Length, Range, Permutation}
 use Rattle.nesl_values.specs.Tree.{Tree, int, size, sizes, sequence, trees_of}
 use Rattle.nesl_values.specs.Parts.{as_int}
-use Rattle.nesl_seqs.specs.Outcome.{Outcome, gives, traps, undefined, given, IsGiven}
+use Rattle.nesl_seqs.specs.Outcome.{Outcome, gives, traps, given, IsGiven}
 use Rattle.nesl_seqs.specs.Permute.{all_differ, rearranged, permuted, Inverts}
 use Rattle.nesl_seqs.specs.Places.{place_in, place_of, places_of, elements_at, at_places, arrival}
-use Rattle.nesl_seqs.specs.Prices.{Prices, price}
+use Rattle.nesl_seqs.specs.Prices.{Prices}
 use Rattle.nesl_seqs.specs.Reductions.{all_of}
 use Rattle.nesl_seqs.specs.declared.price.Price.{Price}
-use Rattle.nesl_seqs.proofs.Marking.{are_equal, are_apart, test_apart}
-use Rattle.nesl_seqs.proofs.Picking.{left_true, right_true, list_all_map, are_ints, given_all, refused, length_found, place_of_within}
+use Rattle.nesl_seqs.proofs.Equality.{left_true, right_true}
+use Rattle.nesl_seqs.proofs.Marking.{are_equal, are_apart, test_apart, not_true}
+use Rattle.nesl_seqs.proofs.Picking.{not_given, list_all_map, are_ints, given_all, refused, length_found, place_of_within}
 
 -- the weight of trees
-abbrev weights : (Tree → ℕ) → List Tree → ℕ
+abbrev pub weights : (Tree → ℕ) → List Tree → ℕ
 weights w [] = 0
 weights w (t ∷ ts) = w t + weights w ts
 
@@ -28,7 +30,7 @@ weights_size : (ts : List Tree) → weights size ts ≡ sizes (trees_of ts)
 weights_size [] = refl
 weights_size (t ∷ ts) = ap (λ n. size t + n) (weights_size ts)
 
-weights_one : (ts : List Tree) → weights (λ t. 1) ts ≡ length ts
+pub weights_one : (ts : List Tree) → weights (λ t. 1) ts ≡ length ts
 weights_one [] = refl
 weights_one (t ∷ ts) = omega (arith, weights_one ts)
 
@@ -36,10 +38,10 @@ found_same : {X Y : Type 0} (f g : X → Option Y) (xs : List X) → ((x : X) �
 found_same f g [] h = refl
 found_same f g (x ∷ xs) h = ap (λ o. cons_option o (filter_map f xs)) (h x) ∙ ap (cons_option (g x)) (found_same f g xs h)
 
-abbrev arrival_or : ℕ → Tree → (ℕ → Option Tree) → ℕ → Option Tree
+abbrev pub arrival_or : ℕ → Tree → (ℕ → Option Tree) → ℕ → Option Tree
 arrival_or c t g k = cond (nat_eq k c) (Some t) (g k)
 
-first_arrival : (c : ℕ) (t : Tree) (ws : List (ℕ × Tree)) (k : ℕ) → arrival ((c, t) ∷ ws) k ≡ arrival_or c t (arrival ws) k
+pub first_arrival : (c : ℕ) (t : Tree) (ws : List (ℕ × Tree)) (k : ℕ) → arrival ((c, t) ∷ ws) k ≡ arrival_or c t (arrival ws) k
 first_arrival c t ws k = by_test (nat_eq k c)
   where
     by_test : (b : Bool) → option_map (λ w. w.1) (cond b (Some (c, t)) (find (λ w. nat_eq k w.0) ws)) ≡ cond b (Some t) (arrival ws k)
@@ -83,12 +85,8 @@ none_arrive : (xs : List ℕ) → filter_map (arrival []) xs ≡ []
 none_arrive [] = refl
 none_arrive (x ∷ xs) = none_arrive xs
 
-not_true : (b : Bool) → not b ≡ true → b ≡ false
-not_true true h = absurd (cc h)
-not_true false h = refl
-
 -- all arrive
-weights_arrive : (w : Tree → ℕ) (m : ℕ) (ks : List ℕ) (ts : List Tree) → length ks ≡ length ts → list_all (λ k. nat_lt k m) ks ≡ true → all_differ ks ≡ true → weights w (filter_map (arrival (zip ks ts)) (range_with_len 0 m)) ≡ weights w ts
+pub weights_arrive : (w : Tree → ℕ) (m : ℕ) (ks : List ℕ) (ts : List Tree) → length ks ≡ length ts → list_all (λ k. nat_lt k m) ks ≡ true → all_differ ks ≡ true → weights w (filter_map (arrival (zip ks ts)) (range_with_len 0 m)) ≡ weights w ts
 weights_arrive w m [] [] h below differ = ap (weights w) (none_arrive (range_with_len 0 m))
 weights_arrive w m [] (t ∷ ts) h below differ = absurd (omega (arith, h))
 weights_arrive w m (k ∷ ks) [] h below differ = absurd (omega (arith, h))
@@ -260,11 +258,6 @@ pub record IsArranged (ts js : List Tree) : Type 0 where
   pub differ : all_differ (places_of (length ts) js) ≡ true
   pub is : given (all_of as_int js) (permuted ts) ≡ gives (sequence (rearranged ts (places_of (length ts) js)))
 
-not_given : (o : Outcome) (e : Trap) → IsGiven o → Prices o 0 0 0 (Err e) → ⊥
-not_given (gives t) e p q = q
-not_given (traps d) e p q = p
-not_given undefined e p q = p
-
 -- the indices are refused, or each element has a place of its own
 pub by_outcome : {I : Type 0} (f : I → Tree) (is : List I) (ts : List Tree) (P : Outcome → Type 0) → ((o : Outcome) (e : Trap) → Prices o 0 0 0 (Err e) → P o) → (IsArranged ts (map f is) → P (given (all_of as_int (map f is)) (permuted ts)))
     → P (given (all_of as_int (map f is)) (permuted ts))
@@ -299,10 +292,6 @@ set_other (y ∷ xs) zero (suc i) x h = refl
 set_other (y ∷ xs) (suc k) zero x h = refl
 set_other (y ∷ xs) (suc k) (suc i) x h = set_other xs k i x (λ e. h (ap suc e))
 
-or_true : (b : Bool) → (b || true) ≡ true
-or_true true = refl
-or_true false = refl
-
 named_later : (n : ℕ) (js : List Tree) (j : ℕ) (y : Tree) (k : ℕ) → slice_get js j ≡ Some y → place_of n y ≡ Some k → list_any (nat_eq k) (places_of n js) ≡ true
 named_later n [] j y k at names = absurd (cc at)
 named_later n (x ∷ js) zero y k at names =
@@ -312,7 +301,7 @@ named_later n (x ∷ js) (suc j) y k at names = one_more (place_of n x) (places_
   where
     one_more : (o : Option ℕ) (ks : List ℕ) → list_any (nat_eq k) ks ≡ true → list_any (nat_eq k) (cons_option o ks) ≡ true
     one_more None ks h = h
-    one_more (Some c) ks h = ap (λ b. nat_eq k c || b) h ∙ or_true (nat_eq k c)
+    one_more (Some c) ks h = ap (λ b. nat_eq k c || b) h ∙ or-true (nat_eq k c)
 
 differ_apart : (n : ℕ) (js : List Tree) (i j : ℕ) (x y : Tree) (k : ℕ) → all_differ (places_of n js) ≡ true → i < j → slice_get js i ≡ Some x → slice_get js j ≡ Some y → place_of n x ≡ Some k → place_of n y ≡ Some k → ⊥
 differ_apart n [] i j x y k differ h at later p q = absurd (cc at)

@@ -1,10 +1,11 @@
 -- Elements that are picked by the places that others name.
-use Rattle.std.proofs.Common.{◌≡◌, ℕ, ℤ, zero, suc, pos, negsuc, ◌+◌, ◌-◌, ◌*◌, ◌<◌, ◌≤◌, Bool, true, false, ◌&&◌, cond, nat_lt, List, [], ◌∷◌, ◌++◌, length, map, take, drop, get_or, refl, ap, sym, ◌∙◌, arith, Option, Some, None, is_some, option_map, option_and_then, slice_get, Result, Ok, Err, IfOk}
+use Rattle.std.proofs.Common.{◌≡◌, ℕ, ℤ, zero, suc, pos, negsuc, ◌+◌, ◌<◌, ◌≤◌, Bool, true, false, ◌&&◌, cond, nat_lt, List, [], ◌∷◌, ◌++◌, length, map, take, drop, get_or, refl, ap, sym, ◌∙◌, arith, Option, Some, None, is_some, option_map, slice_get, Result, Ok, Err, IfOk}
 use Rattle.std.specs.List.{list_all, filter_map, cons_option}
 use Rattle.std.proofs.lemmas.Bool.Decides.{Decides-ltb}
 use Rattle.std.proofs.lemmas.List.{take_more, drop_more, map-append, length-map}
 use Rattle.std.proofs.lemmas.List.Elements.{filter_map-append}
 use Rattle.std.proofs.lemmas.Option.{slice_get-map, slice_get_read}
+use Rattle.nesl_scalars.specs.declared.trap.Trap.{Trap}
 use Rattle.nesl_scalars.specs.declared.trap.Trap.TheVariants.{Range}
 use Rattle.nesl_values.specs.Tree.{Tree, int, size, sizes, trees_of}
 use Rattle.nesl_values.specs.Parts.{as_int}
@@ -14,6 +15,7 @@ use Rattle.nesl_seqs.specs.Outcome.{Outcome, gives, traps, undefined, given, IsG
 use Rattle.nesl_seqs.specs.Reductions.{all_of}
 use Rattle.nesl_seqs.specs.Prices.{Prices}
 use Rattle.nesl_seqs.specs.Places.{place_in, all_name, places, at_places, place_of, places_of, elements_at}
+use Rattle.nesl_seqs.proofs.Equality.{left_true, right_true}
 
 pub list_all_map : {X Y : Type 0} (p : Y → Bool) (f : X → Y) (xs : List X) → list_all p (map f xs) ≡ list_all (λ x. p (f x)) xs
 list_all_map p f [] = refl
@@ -89,14 +91,6 @@ place_within n (pos i) k h = by_test (nat_lt i n) refl h
     by_test false e p = absurd (cc p)
 place_within n (negsuc i) k h = absurd (cc h)
 
-pub left_true : (a b : Bool) → (a && b) ≡ true → a ≡ true
-left_true true b h = refl
-left_true false b h = absurd (cc h)
-
-pub right_true : (a b : Bool) → (a && b) ≡ true → b ≡ true
-right_true true b h = h
-right_true false b h = absurd (cc h)
-
 -- leaves that are picked
 abbrev pub AreLeaves : List Tree → Type 0
 AreLeaves ts = (k : ℕ) → k < length ts → (t : Tree) × (slice_get ts k ≡ Some t) × (size t ≡ 1)
@@ -169,18 +163,19 @@ refused n f is h read depth limit named = by_ints (all_of as_int (map f is)) ref
         let some : all_name n zs ≡ false = sym (names_seen n zs) ∙ ap (list_all (λ t. is_some (place_of n t))) (sym (are_ints (map f is) zs e)) ∙ list_all_map (λ t. is_some (place_of n t)) f is ∙ named in
         rw some refl
 
+-- what is given is not refused
+pub not_given : (o : Outcome) (e : Trap) → IsGiven o → Prices o 0 0 0 (Err e) → ⊥
+not_given (gives t) e p q = q
+not_given (traps d) e p q = p
+not_given undefined e p q = p
+
 -- what comes of indices that each name a place
 pub given_is : {I : Type 0} (n : ℕ) (f : I → Tree) (is : List I) (h : List ℕ → Outcome) → IsGiven (given (all_of as_int (map f is)) (λ zs. at_places n zs h)) → given (all_of as_int (map f is)) (λ zs. at_places n zs h) ≡ h (places_of n (map f is))
 given_is n f is h there = by_test (list_all (λ i. is_some (place_of n (f i))) is) refl
   where
-    not_both : (o : Outcome) → IsGiven o → Prices o 0 0 0 (Err Range) → ⊥
-    not_both (gives t) p q = q
-    not_both (traps e) p q = p
-    not_both undefined p q = p
-
     by_test : (b : Bool) → list_all (λ i. is_some (place_of n (f i))) is ≡ b → given (all_of as_int (map f is)) (λ zs. at_places n zs h) ≡ h (places_of n (map f is))
     by_test true e = given_all n f is h e
-    by_test false e = absurd (not_both (given (all_of as_int (map f is)) (λ zs. at_places n zs h)) there (refused n f is h 0 0 0 e))
+    by_test false e = absurd (not_given (given (all_of as_int (map f is)) (λ zs. at_places n zs h)) Range there (refused n f is h 0 0 0 e))
 
 pub length_found : {X Y : Type 0} (f : X → Option Y) (xs : List X) → length (filter_map f xs) ≤ length xs
 length_found f [] = omega arith

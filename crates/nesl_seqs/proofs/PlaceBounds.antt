@@ -1,10 +1,11 @@
 -- No price of a function on places is above what its numbers hold, where the argument has fewer than 2^65 nodes.
-use Rattle.std.proofs.Common.{◌≡◌, ℕ, ℤ, zero, suc, ◌+◌, ◌-◌, ◌*◌, ◌^◌, ◌<◌, ◌≤◌, Bool, true, false, nat_le, List, [], ◌∷◌, length, map, refl, ap, sym, ◌∙◌, arith, Option, Some, None, slice_get, Err, subst}
-use Rattle.std.specs.List.{filter_map, cons_option}
+use Rattle.std.proofs.Common.{◌≡◌, ℕ, ℤ, zero, suc, ◌+◌, ◌-◌, ◌*◌, ◌^◌, ◌≤◌, Bool, true, false, nat_le, List, [], ◌∷◌, length, map, refl, ap, sym, ◌∙◌, arith, Option, Some, None, is_some, slice_get, Err, subst}
+use Rattle.std.specs.List.{list_all, cons_option}
 use Rattle.std.proofs.Math.Nat.{mul_comm, mul-add, mul-le-mul_left}
 use Rattle.std.proofs.lemmas.Bool.Decides.{nat_tests}
 use Rattle.std.proofs.lemmas.List.{length-map, map-id}
 use Rattle.nesl_scalars.specs.declared.trap.Trap.{Trap}
+use Rattle.nesl_scalars.specs.declared.trap.Trap.TheVariants.{Range}
 use Rattle.nesl_values.specs.Tree.{Tree, int, pair, seq, sequence, size, sizes, trees_of}
 use Rattle.nesl_values.specs.Parts.{as_int, list_of}
 use Rattle.nesl_seqs.specs.Outcome.{Outcome, gives, traps, undefined, given}
@@ -13,9 +14,11 @@ use Rattle.nesl_seqs.specs.Places.{place_in, all_name, places, elements_at}
 use Rattle.nesl_seqs.specs.Gather.{gathered}
 use Rattle.nesl_seqs.specs.Permute.{permuted}
 use Rattle.nesl_seqs.specs.Prices.{Prices}
-use Rattle.nesl_seqs.specs.declared.seq_fn.SeqFn.TheVariants.{Gather, Permute}
+use Rattle.nesl_seqs.specs.Write.{int_and_tree, written, write_of}
+use Rattle.nesl_seqs.specs.declared.seq_fn.SeqFn.TheVariants.{Gather, Permute, Write}
 use Rattle.nesl_seqs.proofs.Bounds.{Fits, IsBounded, fits_if, sizes_list, length_le}
 use Rattle.nesl_seqs.proofs.Permuting.{by_outcome, size_rearranged}
+use Rattle.nesl_seqs.proofs.Writing.{given_written, refused_write, sizes_overwritten}
 use Rattle.nesl_seqs.proofs.Picking.{are_ints, length_found}
 
 -- the product of two numbers is at most the square of their mean
@@ -81,3 +84,15 @@ fits_permuted ts us h =
 pub bounded_permute : IsBounded Permute
 bounded_permute (pair (seq ts) (seq us)) h = fits_permuted (list_of ts) (list_of us) (omega (arith, sizes_list ts, sizes_list us))
 bounded_permute t h = tt
+
+fits_written : (ts us : List Tree) → sizes (trees_of ts) + sizes (trees_of us) ≤ 2 ^ 65 - 4 → Fits (given (all_of int_and_tree us) (written ts)) (length ts + length us)
+fits_written ts us h = subst (λ js. Fits (given (all_of int_and_tree js) (written ts)) (length ts + length us)) (map-id us) (by_test (list_all (λ p. is_some (write_of (length ts) p)) us) refl)
+  where
+    by_test : (b : Bool) → list_all (λ p. is_some (write_of (length ts) p)) us ≡ b → Fits (given (all_of int_and_tree (map (λ t. t) us)) (written ts)) (length ts + length us)
+    by_test true e =
+        rw (given_written (λ t. t) us ts e) (omega (arith, h, length_le ts, length_le us, sizes_overwritten ts (length ts) (map (λ t. t) us), ap (λ js. sizes (trees_of js)) (map-id us)))
+    by_test false e = fits_refused (given (all_of int_and_tree (map (λ t. t) us)) (written ts)) Range (length ts + length us) (refused_write (λ t. t) us ts 0 0 0 e)
+
+pub bounded_write : IsBounded Write
+bounded_write (pair (seq ts) (seq us)) h = fits_written (list_of ts) (list_of us) (omega (arith, sizes_list ts, sizes_list us))
+bounded_write t h = tt

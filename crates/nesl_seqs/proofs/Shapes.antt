@@ -16,11 +16,15 @@ joined_some (Some x) (Some xs) h k = k
 joined_some (Some x) None h k = k
 joined_some None p h k = absurd (cc h)
 
-and_left : (b c : Bool) → (b && c) ≡ true → b ≡ true
+pub false_if_not : (b : Bool) → (b ≡ true → ⊥) → b ≡ false
+false_if_not true h = absurd (h refl)
+false_if_not false h = refl
+
+pub and_left : (b c : Bool) → (b && c) ≡ true → b ≡ true
 and_left true c h = refl
 and_left false c h = h
 
-and_right : (b c : Bool) → (b && c) ≡ true → c ≡ true
+pub and_right : (b c : Bool) → (b && c) ≡ true → c ≡ true
 and_right true c h = h
 and_right false c h = absurd (cc h)
 

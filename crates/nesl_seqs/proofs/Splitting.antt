@@ -5,7 +5,7 @@ use Rattle.std.proofs.lemmas.Bool.{eq-eqb}
 use Rattle.std.proofs.lemmas.Bool.Decides.{Decides-eqb}
 use Rattle.nesl_seqs.specs.Prices.{Prices, price}
 use Rattle.nesl_seqs.specs.declared.price.Price.{Price}
-use Rattle.nesl_seqs.proofs.Cutting.{false_if_not}
+use Rattle.nesl_seqs.proofs.Shapes.{false_if_not}
 use Rattle.std.proofs.Common.{◌≡◌, ◌-◌, nat_eq, Option, Ok, Err, SomeIff, ◌⊎◌, inl, inr, ℕ, ◌+◌, ◌<◌, ◌≤◌, min, Bool, true, false, cond, List, [], ◌∷◌, ◌++◌, length, map, drop, get_or, refl, ap, sym, ◌∙◌, arith}
 use Rattle.std.proofs.lemmas.Bool.{cases_lt}
 use Rattle.std.proofs.lemmas.List.{drop_more, drop_all, append_assoc, append-nil}

@@ -23,3 +23,4 @@ pub mod Gather
 pub mod Laws
 pub mod Permute
 pub mod Marks
+pub mod Write

@@ -16,10 +16,11 @@ use Rattle.nesl_seqs.specs.Sides.{sequence_of_pairs, unzipped, sequence_and_trut
 use Rattle.nesl_seqs.specs.Woven.{odd_elements, even_elements, interleaved}
 use Rattle.nesl_seqs.specs.Gather.{gathered}
 use Rattle.nesl_seqs.specs.Permute.{permuted}
+use Rattle.nesl_seqs.specs.Write.{int_and_tree, written}
 use Rattle.nesl_seqs.specs.declared.seq_fn.SeqFn.{SeqFn}
 use Rattle.nesl_seqs.specs.declared.extremes.Order.TheVariants.{Greatest, Least}
 use Rattle.nesl_seqs.specs.declared.scans.Joint.TheVariants.{Or, And}
-use Rattle.nesl_seqs.specs.declared.seq_fn.SeqFn.TheVariants.{Length, Index, Append, Dist, Range, RangeBy, Iota, Sum, Any, All, Count, Bottop, Take, Drop, Reverse, Rotate, Zip, Rep, Eql, MaxVal, MinVal, MaxIndex, MinIndex, PlusScan, OrScan, AndScan, Flatten, Unzip, OddElts, EvenElts, Interleave, Gather, Permute, Split, Partition}
+use Rattle.nesl_seqs.specs.declared.seq_fn.SeqFn.TheVariants.{Length, Index, Append, Dist, Range, RangeBy, Iota, Sum, Any, All, Count, Bottop, Take, Drop, Reverse, Rotate, Zip, Rep, Eql, MaxVal, MinVal, MaxIndex, MinIndex, PlusScan, OrScan, AndScan, Flatten, Unzip, OddElts, EvenElts, Interleave, Gather, Permute, Split, Partition, Write}
 
 -- this profile's table of sequence functions
 abbrev pub meaning : SeqFn → Tree → Outcome
@@ -58,3 +59,4 @@ meaning Gather t = given (two_sequences t) (λ p. given (all_of as_int p.1) (gat
 meaning Permute t = given (two_sequences t) (λ p. given (all_of as_int p.1) (permuted p.0))
 meaning Split t = given (sequence_and_truths t) (λ p. split_apart p.0 p.1)
 meaning Partition t = given (sequence_and_numbers t) (λ p. partitioned p.0 p.1)
+meaning Write t = given (two_sequences t) (λ p. given (all_of int_and_tree p.1) (written p.0))

@@ -1,5 +1,5 @@
 -- Places that are named by numbers.
-use Rattle.std.specs.Prelude.{ℕ, ℤ, pos, negsuc, Bool, List, length, cond, nat_lt, nat_eq, Option, Some, None, is_some, option_map, option_and_then, slice_get}
+use Rattle.std.specs.Prelude.{ℕ, ℤ, pos, negsuc, Bool, List, cond, nat_lt, nat_eq, Option, Some, None, is_some, option_map, option_and_then, slice_get}
 use Rattle.std.specs.List.{list_all, filter_map, find}
 use Rattle.nesl_scalars.specs.declared.trap.Trap.TheVariants.{Range}
 use Rattle.nesl_values.specs.Tree.{Tree}

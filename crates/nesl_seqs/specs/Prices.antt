@@ -7,7 +7,7 @@ use Rattle.nesl_seqs.specs.Outcome.{Outcome, gives, traps, undefined}
 use Rattle.nesl_seqs.specs.Arguments.{sequence_and_int, two_sequences, sequence_item_place}
 use Rattle.nesl_seqs.specs.declared.price.Price.{Price}
 use Rattle.nesl_seqs.specs.declared.seq_fn.SeqFn.{SeqFn}
-use Rattle.nesl_seqs.specs.declared.seq_fn.SeqFn.TheVariants.{Length, Index, Append, Dist, Range, RangeBy, Iota, Sum, Any, All, Count, Bottop, Take, Drop, Reverse, Rotate, Zip, Rep, Eql, MaxVal, MinVal, MaxIndex, MinIndex, PlusScan, OrScan, AndScan, Flatten, Unzip, OddElts, EvenElts, Interleave, Gather, Permute, Split, Partition}
+use Rattle.nesl_seqs.specs.declared.seq_fn.SeqFn.TheVariants.{Length, Index, Append, Dist, Range, RangeBy, Iota, Sum, Any, All, Count, Bottop, Take, Drop, Reverse, Rotate, Zip, Rep, Eql, MaxVal, MinVal, MaxIndex, MinIndex, PlusScan, OrScan, AndScan, Flatten, Unzip, OddElts, EvenElts, Interleave, Gather, Permute, Split, Partition, Write}
 
 -- the length of a sequence
 abbrev pub length_of : Tree → ℕ
@@ -50,6 +50,7 @@ reads Gather t = unwrap_or (option_map (λ p. length p.0 + length p.1) (two_sequ
 reads Permute t = unwrap_or (option_map (λ p. length p.0 + length p.1) (two_sequences t)) 0
 reads Split t = unwrap_or (option_map (λ p. length p.0 + length p.1) (two_sequences t)) 0
 reads Partition t = unwrap_or (option_map (λ p. length p.0 + length p.1) (two_sequences t)) 0
+reads Write t = unwrap_or (option_map (λ p. length p.0 + length p.1) (two_sequences t)) 0
 
 -- how many of the first k powers of two are at most n
 abbrev pub powers_within : ℕ → ℕ → ℕ

@@ -11,7 +11,7 @@ use crate::price::Price;
 use crate::reductions::{self, price_of_reduction, value_of};
 use crate::scans::Joint;
 use crate::seq_fn::SeqFn;
-use crate::{equal, extremes, gather, levels, pairs, pieces, ranges, replace, scans, sides, woven, permute};
+use crate::{equal, extremes, gather, levels, pairs, permute, pieces, ranges, replace, scans, sides, woven, write};
 use nesl_scalars::Trap;
 use nesl_values::Value;
 use std::alloc::{AllocError, Allocator};
@@ -95,6 +95,7 @@ fn price<A: Allocator>(
         SeqFn::Permute => permute::price_permute(argument, limit),
         SeqFn::Split => sides::price_split(argument, limit),
         SeqFn::Partition => levels::price_partition(argument, limit),
+        SeqFn::Write => write::price_write(argument, limit),
     }
 }
 
@@ -143,5 +144,6 @@ pub fn apply<A: Allocator + Copy, B: Allocator>(
         SeqFn::Permute => permute::apply_permute(alloc, argument),
         SeqFn::Split => sides::apply_split(alloc, argument),
         SeqFn::Partition => levels::apply_partition(alloc, argument),
+        SeqFn::Write => write::apply_write(alloc, argument),
     }
 }

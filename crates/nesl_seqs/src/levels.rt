@@ -5,7 +5,7 @@ ghost use Rattle.nesl_values.specs.Tree.{Tree, size, sizes, sequence, trees_of};
 ghost use Rattle.nesl_values.specs.Parts.{as_int, as_pair, as_sequence, elements};
 ghost use Rattle.nesl_values.specs.View.{tree_of};
 ghost use Rattle.nesl_seqs.specs.Held.{item_trees};
-ghost use Rattle.nesl_seqs.specs.Levels.{sequences, are_lengths, pieces, partitioned, Checks};
+ghost use Rattle.nesl_seqs.specs.Levels.{sequences, are_lengths, pieces, Checks};
 ghost use Rattle.nesl_seqs.specs.Outcome.{IsGiven, gives};
 ghost use Rattle.nesl_seqs.specs.Reductions.{all_of};
 ghost use Rattle.nesl_seqs.specs.Meaning.{meaning};
@@ -56,7 +56,7 @@ fn sequences<A: Allocator>(argument: &Value<A>) -> Option<&[Value<A>]>
 
 /// The price of a tree that was made from these values, and has all their nodes but the roots and so
 /// many more.
-#[tactic(auto, using(crate::proofs::Flattening::length_le))]
+#[tactic(auto, using(crate::proofs::Bounds::length_le))]
 pub fn price_without_roots<A: Allocator>(
     values: &[Value<A>],
     more: u128,

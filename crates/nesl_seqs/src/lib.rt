@@ -44,11 +44,13 @@ mod tests_scans;
 #[cfg(test)]
 mod tests_shapes;
 mod woven;
+mod write;
 
 pub use equal::tells_equality;
 pub use functions::{apply, cost_and_size, price_within};
 pub use laws::{numbers_of_range, places_of_rotate};
 pub use levels::cuts_the_whole;
+pub use permute::tells_places;
 pub use price::Price;
 pub use seq_fn::SeqFn;
 pub use woven::{takes_every_other, weaves};

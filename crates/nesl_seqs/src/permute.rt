@@ -1,12 +1,14 @@
 // Sequences of which each element goes to a place of its own.
-ghost use Rattle.std.specs.Prelude.{◌≡◌, ◌+◌, ◌<◌, ◌^◌, [], length, map, IfOk, IsTrue};
+ghost use Rattle.std.specs.Prelude.{◌≡◌, ◌+◌, ◌<◌, ◌^◌, ℕ, List, [], Some, length, map, nat_lt, slice_get, IfOk, IsTrue};
+ghost use Rattle.std.specs.List.{list_all};
+ghost use Rattle.nesl_values.specs.Tree.{Tree};
 ghost use Rattle.nesl_values.specs.Parts.{as_int};
 ghost use Rattle.nesl_values.specs.View.{tree_of};
 ghost use Rattle.nesl_seqs.specs.Held.{item_trees};
 ghost use Rattle.nesl_seqs.specs.Marks.{are_new};
 ghost use Rattle.nesl_seqs.specs.Outcome.{IsGiven, given, gives};
 ghost use Rattle.nesl_seqs.specs.Meaning.{meaning};
-ghost use Rattle.nesl_seqs.specs.Permute.{all_differ, permuted, Inverts};
+ghost use Rattle.nesl_seqs.specs.Permute.{all_differ, rearranged, permuted, Inverts};
 ghost use Rattle.nesl_seqs.specs.Places.{places_of};
 ghost use Rattle.nesl_seqs.specs.Prices.{Prices, reads};
 ghost use Rattle.nesl_seqs.specs.Reductions.{all_of};
@@ -135,3 +137,12 @@ fn inverse_of<A: Allocator, I: Item>(alloc: A, indices: &[I]) -> Result<Vec<i64,
     }
     Ok(sources)
 }
+
+/// `permute` puts each element where its index says.
+#[tactic(auto, using(crate::proofs::Standing::stands_at))]
+pub fn tells_places()
+    ensures { (ts : List Tree) (ks : List ℕ) (j k : ℕ) (t : Tree) → length ks ≡ length ts
+        → IsTrue (list_all (λ i. nat_lt i (length ts)) ks) → IsTrue (all_differ ks)
+        → slice_get ks j ≡ Some k → slice_get ts j ≡ Some t
+        → slice_get (rearranged ts ks) k ≡ Some t }
+{}

@@ -167,3 +167,100 @@ fn places_of_several_windows(rt: HostRuntime) -> Result<(), Fail> {
     assert!(rt; traps(alloc, SeqFn::Permute, &twice, Trap::Permutation)?);
     Ok(())
 }
+
+// The pairs of these numbers.
+fn number_pairs(alloc: Global, items: &[(i64, i64)]) -> Result<Value, AllocError> {
+    let mut values = Vec::new(alloc);
+    for (index, number) in items {
+        values.push(Value::pair(alloc, Value::Int(*index), Value::Int(*number))?)?;
+    }
+    Ok(Value::Seq(values))
+}
+
+#[test]
+fn numbers_that_are_written(rt: HostRuntime) -> Result<(), Fail> {
+    let alloc = rt.alloc();
+    for packed in [true, false] {
+        let pairs = number_pairs(alloc, &[(1, 5), (1, 7)])?;
+        let twice = Value::pair(alloc, held(alloc, packed, &[0, 0, 0])?, pairs)?;
+        let last = numbers(alloc, &[0, 7, 0])?;
+        assert!(rt; gives(alloc, SeqFn::Write, &twice, &last, price_of(9, 1, 4))?);
+        let pairs = number_pairs(alloc, &[(0, 9)])?;
+        let one = Value::pair(alloc, held(alloc, packed, &[1])?, pairs)?;
+        let nine = numbers(alloc, &[9])?;
+        assert!(rt; gives(alloc, SeqFn::Write, &one, &nine, price_of(4, 1, 2))?);
+        let none = with(alloc, held(alloc, packed, &[1, 2])?, packed, &[])?;
+        let same = numbers(alloc, &[1, 2])?;
+        assert!(rt; gives(alloc, SeqFn::Write, &none, &same, price_of(5, 1, 3))?);
+        let empty = with(alloc, held(alloc, packed, &[])?, packed, &[])?;
+        let nothing = Value::empty(alloc);
+        assert!(rt; gives(alloc, SeqFn::Write, &empty, &nothing, price_of(1, 1, 1))?);
+    }
+    Ok(())
+}
+
+#[test]
+fn texts_that_are_written(rt: HostRuntime) -> Result<(), Fail> {
+    let alloc = rt.alloc();
+    let mut values = Vec::new(alloc);
+    values.push(Value::pair(alloc, Value::Int(0), text(alloc, b"xyz")?)?)?;
+    values.push(Value::pair(alloc, Value::Int(2), Value::empty(alloc))?)?;
+    values.push(Value::pair(alloc, Value::Int(0), text(alloc, b"uv")?)?)?;
+    let three = Value::pair(alloc, words(alloc)?, Value::Seq(values))?;
+    let mut values = Vec::new(alloc);
+    values.push(text(alloc, b"uv")?)?;
+    values.push(text(alloc, b"bcd")?)?;
+    values.push(Value::empty(alloc))?;
+    let last = Value::Seq(values);
+    assert!(rt; gives(alloc, SeqFn::Write, &three, &last, price_of(15, 1, 9))?);
+    let mut values = Vec::new(alloc);
+    values.push(Value::pair(alloc, Value::Int(1), Value::Char(b'z'))?)?;
+    let letter = Value::pair(alloc, text(alloc, b"abc")?, Value::Seq(values))?;
+    let letters = text(alloc, b"azc")?;
+    assert!(rt; gives(alloc, SeqFn::Write, &letter, &letters, price_of(8, 1, 4))?);
+    let mut values = Vec::new(alloc);
+    values.push(Value::pair(alloc, Value::Int(0), Value::Bool(false))?)?;
+    values.push(Value::pair(alloc, Value::Int(1), Value::Bool(true))?)?;
+    let bits = Value::pair(alloc, truths(alloc, &[true, false])?, Value::Seq(values))?;
+    let turned = truths(alloc, &[false, true])?;
+    assert!(rt; gives(alloc, SeqFn::Write, &bits, &turned, price_of(7, 1, 3))?);
+    Ok(())
+}
+
+#[test]
+fn writes_out_of_range(rt: HostRuntime) -> Result<(), Fail> {
+    let alloc = rt.alloc();
+    for packed in [true, false] {
+        for index in [2, -1, i64::MIN, i64::MAX] {
+            let pairs = number_pairs(alloc, &[(0, 5), (index, 0)])?;
+            let beyond = Value::pair(alloc, held(alloc, packed, &[1, 2])?, pairs)?;
+            assert!(rt; traps(alloc, SeqFn::Write, &beyond, Trap::Range)?);
+        }
+        let none = Value::pair(alloc, Value::empty(alloc), number_pairs(alloc, &[(0, 0)])?)?;
+        assert!(rt; traps(alloc, SeqFn::Write, &none, Trap::Range)?);
+    }
+    Ok(())
+}
+
+#[test]
+fn writes_in_several_windows(rt: HostRuntime) -> Result<(), Fail> {
+    let alloc = rt.alloc();
+    let items = counted(alloc, 10_000)?;
+    let mut expected = Vec::new(alloc);
+    for number in 0..10_000 {
+        expected.push(match number {
+            3 => 30,
+            5_000 => 2,
+            9_999 => 4,
+            _ => number,
+        })?;
+    }
+    let expected = Value::Ints(expected);
+    for packed in [true, false] {
+        let pairs = number_pairs(alloc, &[(9_999, 1), (5_000, 2), (3, 30), (9_999, 4)])?;
+        let four = Value::pair(alloc, held(alloc, packed, &items)?, pairs)?;
+        let whole = price_of(20_005, 1, 10_001);
+        assert!(rt; gives(alloc, SeqFn::Write, &four, &expected, whole)?);
+    }
+    Ok(())
+}

@@ -4,7 +4,7 @@ use crate::tests::is_no_argument;
 use std::test::Fail;
 
 // For each function an argument whose parts are of another shape.
-const WRONG: [(SeqFn, Lit); 46] = [
+const WRONG: [(SeqFn, Lit); 48] = [
     (SeqFn::Length, Int(1)),
     (SeqFn::Length, Pair(&Ints(&[1]), &Ints(&[1]))),
     (SeqFn::Index, Pair(&Ints(&[1]), &Bool(true))),
@@ -51,6 +51,11 @@ const WRONG: [(SeqFn, Lit); 46] = [
     (SeqFn::Gather, Pair(&Int(1), &Ints(&[0]))),
     (SeqFn::Permute, Pair(&Ints(&[1]), &Bools(&[true]))),
     (SeqFn::Permute, Pair(&Int(1), &Ints(&[0]))),
+    (SeqFn::Write, Pair(&Ints(&[1]), &Ints(&[0]))),
+    (
+        SeqFn::Write,
+        Pair(&Ints(&[1]), &Seq(&[Pair(&Bool(true), &Int(0))])),
+    ),
 ];
 
 #[test]

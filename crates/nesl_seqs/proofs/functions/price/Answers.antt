@@ -1,12 +1,12 @@
 use Rattle.nesl_values.specs.View.{tree_of}
 use Rattle.nesl_seqs.specs.Meaning.{meaning}
 use Rattle.nesl_seqs.specs.Prices.{reads, depth_of}
-use Rattle.nesl_seqs.specs.declared.seq_fn.SeqFn.TheVariants.{Length, Index, Append, Sum, Any, All, Count, Bottop, Take, Drop, Reverse, Rotate, Zip, Rep, Eql, MaxVal, MinVal, MaxIndex, MinIndex, PlusScan, OrScan, AndScan, Gather, Permute}
+use Rattle.nesl_seqs.specs.declared.seq_fn.SeqFn.TheVariants.{Length, Index, Append, Sum, Any, All, Count, Bottop, Take, Drop, Reverse, Rotate, Zip, Rep, Eql, MaxVal, MinVal, MaxIndex, MinIndex, PlusScan, OrScan, AndScan, Gather, Permute, Write}
 use Rattle.nesl_seqs.proofs.Bounds.{always, bounded_length, bounded_index, bounded_append, bounded_bottop, bounded_take, bounded_drop, bounded_reverse, bounded_rotate, bounded_zip, bounded_rep, bounded_eql, bounded_sum, bounded_any, bounded_all, bounded_count}
 use Rattle.nesl_seqs.proofs.ScanBounds.{bounded_max_val, bounded_min_val, bounded_max_index, bounded_min_index, bounded_plus_scan, bounded_or_scan, bounded_and_scan}
 use Rattle.nesl_seqs.specs.declared.seq_fn.SeqFn.TheVariants.{Flatten, Unzip, OddElts, EvenElts, Interleave, Split, Partition}
 use Rattle.nesl_seqs.proofs.BoundsOfParts.{bounded_flatten, bounded_unzip, bounded_odd_elts, bounded_even_elts, bounded_interleave, bounded_split, bounded_partition}
-use Rattle.nesl_seqs.proofs.PlaceBounds.{bounded_gather, bounded_permute}
+use Rattle.nesl_seqs.proofs.PlaceBounds.{bounded_gather, bounded_permute, bounded_write}
 use Rattle.nesl_seqs.proofs.functions.price.Goals as goal
 
 pub returns-in-Length-clause-always : goal.returns-in-Length-clause-always
@@ -163,3 +163,8 @@ pub returns-in-Partition-clause-always : goal.returns-in-Partition-clause-always
 returns-in-Partition-clause-always g c h is =
     let t = tree_of c.args.argument.now in
     always (meaning Partition t) (reads Partition t) 1 c.args.limit c.price_partition.result (bounded_partition t h) is c.price_partition.ensures
+
+pub returns-in-Write-clause-always : goal.returns-in-Write-clause-always
+returns-in-Write-clause-always g c h is =
+    let t = tree_of c.args.argument.now in
+    always (meaning Write t) (reads Write t) 1 c.args.limit c.price_write.result (bounded_write t h) is c.price_write.ensures

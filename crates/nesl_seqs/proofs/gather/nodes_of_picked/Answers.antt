@@ -1,7 +1,6 @@
-use Rattle.std.proofs.Common.{◌≡◌, ◌+◌, length, map, drop, ap, arith}
-use Rattle.nesl_values.specs.Tree.{size, sizes}
-use Rattle.nesl_values.specs.View.{tree_of, trees_view}
-use Rattle.nesl_seqs.specs.Places.{elements_at, places_of}
+use Rattle.std.proofs.Common.{ap, arith}
+use Rattle.nesl_values.specs.Tree.{sizes}
+use Rattle.nesl_values.specs.View.{trees_view}
 use Rattle.nesl_seqs.proofs.Picking.{picked_rest, picked_rest_same}
 use Rattle.nesl_seqs.proofs.gather.nodes_of_picked.Goals as goal
 use Rattle.nesl_seqs.proofs.gather.nodes_of_picked.Goals.{in-Some+in_ok-used, in_default}

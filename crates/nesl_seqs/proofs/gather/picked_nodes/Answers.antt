@@ -1,4 +1,4 @@
-use Rattle.std.proofs.Common.{◌≤◌, length, map, SomeIff, refl, subst}
+use Rattle.std.proofs.Common.{◌≤◌, map, SomeIff, refl, subst}
 use Rattle.nesl_values.specs.Tree.{int, boolean, character, sizes, trees_of}
 use Rattle.nesl_values.specs.View.{tree_of}
 use Rattle.nesl_seqs.specs.Held.{item_trees}

@@ -1,10 +1,9 @@
-use Rattle.std.proofs.Common.{◌≡◌, ◌+◌, ◌-◌, ◌≤◌, length, map, true, false, is_some, SomeIff, rules, sym, subst}
+use Rattle.std.proofs.Common.{◌≡◌, ◌+◌, length, true, false, is_some, rules}
 use Rattle.std.specs.List.{list_all}
-use Rattle.nesl_values.specs.Tree.{size, sequence}
+use Rattle.nesl_values.specs.Tree.{sequence}
 use Rattle.nesl_seqs.specs.Outcome.{gives}
 use Rattle.nesl_seqs.specs.Held.{item_trees}
-use Rattle.nesl_seqs.specs.Places.{elements_at, place_of, places_of}
-use Rattle.nesl_seqs.specs.Prices.{Prices, price}
+use Rattle.nesl_seqs.specs.Places.{elements_at, place_of}
 use Rattle.nesl_seqs.proofs.Picking.{given_all, refused}
 use Rattle.nesl_seqs.proofs.gather.price_of_gathered.Goals as goal
 

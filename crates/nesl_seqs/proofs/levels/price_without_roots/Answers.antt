@@ -1,7 +1,7 @@
 use Rattle.std.proofs.Common.{length, map, arith}
 use Rattle.std.proofs.lemmas.List.{length-map}
 use Rattle.nesl_values.specs.View.{tree_of}
-use Rattle.nesl_seqs.proofs.Flattening.{length_le}
+use Rattle.nesl_seqs.proofs.Bounds.{length_le}
 use Rattle.nesl_seqs.proofs.Priced.{price_of_rest}
 use Rattle.nesl_seqs.proofs.levels.price_without_roots.Goals as goal
 

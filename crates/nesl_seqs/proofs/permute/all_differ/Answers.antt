@@ -1,4 +1,4 @@
-use Rattle.std.proofs.Common.{◌≡◌, ℕ, ◌+◌, ◌/◌, ◌<◌, ◌≤◌, [], map, true, false, rules, arith}
+use Rattle.std.proofs.Common.{◌≡◌, [], map, false, rules, arith}
 use Rattle.nesl_seqs.specs.Marks.{are_new}
 use Rattle.nesl_seqs.specs.Places.{places_of}
 use Rattle.nesl_seqs.proofs.Differing.{not_new, all_windows}

@@ -1,4 +1,4 @@
-use Rattle.std.proofs.Common.{◌≡◌, map, take, true, rules, arith}
+use Rattle.std.proofs.Common.{◌≡◌, map, take, true, rules}
 use Rattle.nesl_seqs.specs.Marks.{is_new}
 use Rattle.nesl_seqs.specs.Places.{places_of}
 use Rattle.nesl_seqs.proofs.Differing.{held_turn, new_turn, held_same, new_same}

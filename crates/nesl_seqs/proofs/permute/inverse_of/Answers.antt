@@ -1,4 +1,4 @@
-use Rattle.std.proofs.Common.{◌≡◌, ◌∙◌, ℕ, pos, length, map, set, ap, sym, refl, true, Some, None, option_map, slice_get, rules, arith}
+use Rattle.std.proofs.Common.{◌≡◌, ◌∙◌, pos, length, map, set, ap, sym, refl, true, Some, None, option_map, slice_get, rules, arith}
 use Rattle.std.proofs.lemmas.List.{length-map, length-replicate, length-set}
 use Rattle.std.proofs.lemmas.Option.{slice_get-map, slice_get_within, slice_get_read}
 use Rattle.nesl_seqs.specs.Permute.{all_differ}

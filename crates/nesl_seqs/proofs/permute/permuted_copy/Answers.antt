@@ -1,7 +1,6 @@
 use Rattle.std.proofs.Common.{◌≡◌, ◌∙◌, length, map, ap, sym, arith}
 use Rattle.std.proofs.lemmas.List.{length-map}
 use Rattle.nesl_values.specs.Tree.{int, sequence}
-use Rattle.nesl_values.specs.View.{tree_of}
 use Rattle.nesl_seqs.specs.Outcome.{gives}
 use Rattle.nesl_seqs.specs.Held.{item_trees}
 use Rattle.nesl_seqs.specs.Permute.{all_differ}

@@ -2,7 +2,7 @@ use Rattle.std.proofs.Common.{◌≡◌, ◌+◌, ◌<◌, ◌∙◌, refl, sym,
 use Rattle.nesl_values.specs.View.{tree_of}
 use Rattle.nesl_values.specs.Copying.{all_around, tree_at, work_at, work_above, work_around}
 use Rattle.nesl_values.proofs.Copies.{framed, framed_work}
-use Rattle.nesl_values.proofs.value.Value.copy_into.Goals as goal
+use Rattle.nesl_values.proofs.copy.copy_of_parts.Goals as goal
 
 pub loop-place-smaller : goal.loop-place-smaller
 loop-place-smaller g c =
