@@ -26,11 +26,23 @@ mod sides;
 #[cfg(test)]
 mod tests;
 #[cfg(test)]
-mod tests_pieces;
+mod tests_extremes;
+#[cfg(test)]
+mod tests_levels;
+#[cfg(test)]
+mod tests_numbers;
+#[cfg(test)]
+mod tests_pairs;
+#[cfg(test)]
+mod tests_parts;
 #[cfg(test)]
 mod tests_places;
 #[cfg(test)]
+mod tests_reductions;
+#[cfg(test)]
 mod tests_scans;
+#[cfg(test)]
+mod tests_shapes;
 mod woven;
 mod write;
 

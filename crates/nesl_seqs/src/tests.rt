@@ -4,7 +4,22 @@ use crate::seq_fn::SeqFn;
 use nesl_scalars::Trap;
 use nesl_values::Value;
 use std::alloc::{AllocError, Global};
-use std::test::Fail;
+
+// A value as a table writes it.
+#[derive(Clone, Copy)]
+pub enum Lit {
+    Int(i64),
+    Bool(bool),
+    Char(u8),
+    Ints(&'static [i64]),
+    Bools(&'static [bool]),
+    Text(&'static [u8]),
+    Pair(&'static Lit, &'static Lit),
+    Seq(&'static [Lit]),
+}
+
+/// An argument, the result of a function at it, and its work, depth and nodes.
+pub type Row = (Lit, Lit, (u64, u64, u128));
 
 // What a function comes to: a fault, or its result and price.
 #[tactic(auto, using(crate::proofs::Bounds::given_if_priced))]
@@ -48,6 +63,57 @@ pub fn plain(alloc: Global, items: &[i64]) -> Result<Value, AllocError> {
     Ok(Value::Seq(values))
 }
 
+// The same truth values, not packed.
+pub fn plain_truths(alloc: Global, items: &[bool]) -> Result<Value, AllocError> {
+    let mut values = Vec::new(alloc);
+    for item in items {
+        values.push(Value::Bool(*item))?;
+    }
+    Ok(Value::Seq(values))
+}
+
+// The same characters, not packed.
+pub fn plain_text(alloc: Global, items: &[u8]) -> Result<Value, AllocError> {
+    let mut values = Vec::new(alloc);
+    for item in items {
+        values.push(Value::Char(*item))?;
+    }
+    Ok(Value::Seq(values))
+}
+
+// The value. Its sequences of leaves are packed or not, those in the right part of a pair by a word
+// of their own.
+pub fn value_of(
+    alloc: Global,
+    packed: bool,
+    right_packed: bool,
+    lit: &Lit,
+) -> Result<Value, AllocError> {
+    match lit {
+        Lit::Int(n) => Ok(Value::Int(*n)),
+        Lit::Bool(b) => Ok(Value::Bool(*b)),
+        Lit::Char(c) => Ok(Value::Char(*c)),
+        Lit::Ints(items) if packed => numbers(alloc, items),
+        Lit::Ints(items) => plain(alloc, items),
+        Lit::Bools(items) if packed => truths(alloc, items),
+        Lit::Bools(items) => plain_truths(alloc, items),
+        Lit::Text(items) if packed => text(alloc, items),
+        Lit::Text(items) => plain_text(alloc, items),
+        Lit::Pair(left, right) => {
+            let left = value_of(alloc, packed, packed, left)?;
+            let right = value_of(alloc, right_packed, right_packed, right)?;
+            Value::pair(alloc, left, right)
+        }
+        Lit::Seq(items) => {
+            let mut values = Vec::new(alloc);
+            for item in *items {
+                values.push(value_of(alloc, packed, right_packed, item)?)?;
+            }
+            Ok(Value::Seq(values))
+        }
+    }
+}
+
 pub fn two(alloc: Global, one: Value, other: Value) -> Result<Value, AllocError> {
     let mut values = Vec::new(alloc);
     values.push(one)?;
@@ -81,296 +147,94 @@ pub fn traps(
     }
 }
 
-#[test]
-fn parts_of_numbers(rt: HostRuntime) -> Result<(), Fail> {
-    let alloc = rt.alloc();
-    for packed in [true, false] {
-        let items = [1, 2, 3, 4];
-        let v = if packed {
-            numbers(alloc, &items)?
-        } else {
-            plain(alloc, &items)?
-        };
-        let pair = Value::pair(alloc, v, Value::Int(1))?;
-        let turned = numbers(alloc, &[4, 1, 2, 3])?;
-        assert!(rt; gives(alloc, SeqFn::Rotate, &pair, &turned, price_of(9, 1, 5))?);
-        assert!(rt;
-            gives(
-                alloc,
-                SeqFn::Index,
-                &pair,
-                &Value::Int(2),
-                price_of(1, 1, 1)
-            )?
-        );
-        assert!(rt;
-            gives(
-                alloc,
-                SeqFn::Take,
-                &pair,
-                &numbers(alloc, &[1])?,
-                price_of(6, 1, 2)
-            )?
-        );
-        assert!(rt;
-            gives(
-                alloc,
-                SeqFn::Drop,
-                &pair,
-                &numbers(alloc, &[2, 3, 4])?,
-                price_of(8, 1, 4)
-            )?
-        );
+// How the two parts of an argument are packed.
+const HELD: [(bool, bool); 4] = [(true, true), (true, false), (false, true), (false, false)];
+
+// Whether there is a price just within that work, and none below.
+fn stops_below(function: SeqFn, argument: &Value, work: u64) -> bool {
+    let Some(less) = work.checked_sub(1) else {
+        return false;
+    };
+    matches!(price_within(function, argument, work), Ok(Some(_)))
+        && price_within(function, argument, less) == Ok(None)
+}
+
+// Whether the function comes to that result at that work, depth and nodes, packed or not.
+fn comes_to(
+    alloc: Global,
+    function: SeqFn,
+    argument: &Lit,
+    expected: &Lit,
+    price: (u64, u64, u128),
+) -> Result<bool, AllocError> {
+    let (work, depth, nodes) = price;
+    let price = price_of(u128::from(work), depth, nodes);
+    let expected = value_of(alloc, true, true, expected)?;
+    for (packed, right_packed) in HELD {
+        let argument = value_of(alloc, packed, right_packed, argument)?;
+        if !gives(alloc, function, &argument, &expected, price)?
+            || !stops_below(function, &argument, work)
+        {
+            return Ok(false);
+        }
     }
-    Ok(())
+    Ok(true)
 }
 
-#[test]
-fn refused_parts(rt: HostRuntime) -> Result<(), Fail> {
-    let alloc = rt.alloc();
-    for count in [3, -3, i64::MIN] {
-        let pair = Value::pair(alloc, numbers(alloc, &[1, 2])?, Value::Int(count))?;
-        assert!(rt; traps(alloc, SeqFn::Take, &pair, Trap::Range)?);
-        assert!(rt; traps(alloc, SeqFn::Drop, &pair, Trap::Range)?);
-        assert!(rt; traps(alloc, SeqFn::Index, &pair, Trap::Range)?);
+// Whether the function has that fault, packed or not.
+fn is_refused(
+    alloc: Global,
+    function: SeqFn,
+    argument: &Lit,
+    trap: Trap,
+) -> Result<bool, AllocError> {
+    for (packed, right_packed) in HELD {
+        let argument = value_of(alloc, packed, right_packed, argument)?;
+        if !traps(alloc, function, &argument, trap)?
+            || price_within(function, &argument, 0) != Err(trap)
+        {
+            return Ok(false);
+        }
     }
-    let last = Value::pair(alloc, plain(alloc, &[1, 2])?, Value::Int(-1))?;
-    assert!(rt;
-        gives(
-            alloc,
-            SeqFn::Take,
-            &last,
-            &numbers(alloc, &[2])?,
-            price_of(4, 1, 2)
-        )?
-    );
-    assert!(rt;
-        gives(
-            alloc,
-            SeqFn::Drop,
-            &last,
-            &numbers(alloc, &[1])?,
-            price_of(4, 1, 2)
-        )?
-    );
-    assert!(rt;
-        gives(
-            alloc,
-            SeqFn::Rotate,
-            &last,
-            &numbers(alloc, &[2, 1])?,
-            price_of(5, 1, 3)
-        )?
-    );
-    Ok(())
+    Ok(true)
 }
 
-#[test]
-fn whole_sequences(rt: HostRuntime) -> Result<(), Fail> {
-    let alloc = rt.alloc();
-    let none = Value::empty(alloc);
-    let halves = two(alloc, Value::empty(alloc), Value::empty(alloc))?;
-    assert!(rt;
-        gives(
-            alloc,
-            SeqFn::Length,
-            &none,
-            &Value::Int(0),
-            price_of(1, 1, 1)
-        )?
-    );
-    assert!(rt; gives(alloc, SeqFn::Reverse, &none, &none, price_of(1, 1, 1))?);
-    assert!(rt; gives(alloc, SeqFn::Bottop, &none, &halves, price_of(3, 1, 3))?);
-    let word = text(alloc, b"abc")?;
-    let parts = two(alloc, text(alloc, b"ab")?, text(alloc, b"c")?)?;
-    assert!(rt;
-        gives(
-            alloc,
-            SeqFn::Length,
-            &word,
-            &Value::Int(3),
-            price_of(1, 1, 1)
-        )?
-    );
-    assert!(rt;
-        gives(
-            alloc,
-            SeqFn::Reverse,
-            &word,
-            &text(alloc, b"cba")?,
-            price_of(7, 1, 4)
-        )?
-    );
-    assert!(rt; gives(alloc, SeqFn::Bottop, &word, &parts, price_of(9, 1, 6))?);
-    let pair = Value::pair(alloc, text(alloc, b"ab")?, text(alloc, b"c")?)?;
-    assert!(rt; gives(alloc, SeqFn::Append, &pair, &word, price_of(7, 1, 4))?);
-    Ok(())
+// Whether the function has some fault, packed or not.
+pub fn is_no_argument(alloc: Global, function: SeqFn, argument: &Lit) -> Result<bool, AllocError> {
+    for (packed, right_packed) in HELD {
+        let argument = value_of(alloc, packed, right_packed, argument)?;
+        if told(alloc, function, &argument)?.is_ok() {
+            return Ok(false);
+        }
+    }
+    Ok(true)
 }
 
-#[test]
-fn sums_and_truths(rt: HostRuntime) -> Result<(), Fail> {
-    let alloc = rt.alloc();
-    let most = i64::MAX;
-    let exact = numbers(alloc, &[most, 1, -1])?;
-    assert!(rt;
-        gives(
-            alloc,
-            SeqFn::Sum,
-            &exact,
-            &Value::Int(most),
-            price_of(4, 3, 1)
-        )?
-    );
-    assert!(rt;
-        traps(
-            alloc,
-            SeqFn::Sum,
-            &plain(alloc, &[most, 1])?,
-            Trap::Overflow
-        )?
-    );
-    let none = Value::empty(alloc);
-    assert!(rt; gives(alloc, SeqFn::Sum, &none, &Value::Int(0), price_of(1, 1, 1))?);
-    assert!(rt;
-        gives(
-            alloc,
-            SeqFn::Any,
-            &none,
-            &Value::Bool(false),
-            price_of(1, 1, 1)
-        )?
-    );
-    assert!(rt;
-        gives(
-            alloc,
-            SeqFn::All,
-            &none,
-            &Value::Bool(true),
-            price_of(1, 1, 1)
-        )?
-    );
-    let some = truths(alloc, &[true, false, true])?;
-    assert!(rt;
-        gives(
-            alloc,
-            SeqFn::Any,
-            &some,
-            &Value::Bool(true),
-            price_of(4, 3, 1)
-        )?
-    );
-    assert!(rt;
-        gives(
-            alloc,
-            SeqFn::All,
-            &some,
-            &Value::Bool(false),
-            price_of(4, 3, 1)
-        )?
-    );
-    assert!(rt;
-        gives(
-            alloc,
-            SeqFn::Count,
-            &some,
-            &Value::Int(2),
-            price_of(4, 3, 1)
-        )?
-    );
-    assert!(rt; told(alloc, SeqFn::Sum, &some)?.is_err());
-    assert!(rt; told(alloc, SeqFn::Count, &exact)?.is_err());
-    Ok(())
+// The place of the first row that the function does not come to.
+pub fn first_wrong(
+    alloc: Global,
+    function: SeqFn,
+    rows: &[Row],
+) -> Result<Option<usize>, AllocError> {
+    for (place, (argument, expected, price)) in rows.iter().enumerate() {
+        if !comes_to(alloc, function, argument, expected, *price)? {
+            return Ok(Some(place));
+        }
+    }
+    Ok(None)
 }
 
-#[test]
-fn from_numbers(rt: HostRuntime) -> Result<(), Fail> {
-    let alloc = rt.alloc();
-    let steps = Value::pair(alloc, Value::Int(1), Value::Int(2))?;
-    let range = Value::pair(alloc, Value::Int(5), steps)?;
-    assert!(rt;
-        gives(
-            alloc,
-            SeqFn::RangeBy,
-            &range,
-            &Value::empty(alloc),
-            price_of(1, 1, 1)
-        )?
-    );
-    let steps = Value::pair(alloc, Value::Int(6), Value::Int(2))?;
-    let range = Value::pair(alloc, Value::Int(1), steps)?;
-    let odd = numbers(alloc, &[1, 3, 5])?;
-    assert!(rt; gives(alloc, SeqFn::RangeBy, &range, &odd, price_of(4, 1, 4))?);
-    let pair = Value::pair(alloc, Value::Int(i64::MAX - 1), Value::Int(i64::MAX))?;
-    let top = numbers(alloc, &[i64::MAX - 1])?;
-    assert!(rt; gives(alloc, SeqFn::Range, &pair, &top, price_of(2, 1, 2))?);
-    assert!(rt;
-        gives(
-            alloc,
-            SeqFn::Iota,
-            &Value::Int(2),
-            &numbers(alloc, &[0, 1])?,
-            price_of(3, 1, 3)
-        )?
-    );
-    assert!(rt; traps(alloc, SeqFn::Iota, &Value::Int(-1), Trap::Length)?);
-    let many = Value::pair(alloc, Value::Int(0), Value::Int(1_000_000_000_000))?;
-    assert_eq!(rt;
-        price_within(SeqFn::Dist, &many, 1_000_000_000_000),
-        Ok(None)
-    );
-    let whole = price_of(1_000_000_000_001, 1, 1_000_000_000_001);
-    assert_eq!(rt;
-        price_within(SeqFn::Dist, &many, 1_000_000_000_001),
-        Ok(Some(whole))
-    );
-    let less = Value::pair(alloc, text(alloc, b"ab")?, Value::Int(-1))?;
-    assert!(rt; traps(alloc, SeqFn::Dist, &less, Trap::Length)?);
-    let twice = Value::pair(alloc, text(alloc, b"ab")?, Value::Int(2))?;
-    let both = two(alloc, text(alloc, b"ab")?, text(alloc, b"ab")?)?;
-    assert!(rt; gives(alloc, SeqFn::Dist, &twice, &both, price_of(7, 1, 7))?);
-    Ok(())
-}
-
-#[test]
-fn pairs_and_equality(rt: HostRuntime) -> Result<(), Fail> {
-    let alloc = rt.alloc();
-    let words = Value::pair(alloc, text(alloc, b"ab")?, text(alloc, b"ab")?)?;
-    assert!(rt;
-        gives(
-            alloc,
-            SeqFn::Eql,
-            &words,
-            &Value::Bool(true),
-            price_of(7, 1, 1)
-        )?
-    );
-    let place = Value::pair(alloc, Value::Int(9), Value::Int(2))?;
-    let beyond = Value::pair(alloc, numbers(alloc, &[1, 2])?, place)?;
-    assert!(rt; traps(alloc, SeqFn::Rep, &beyond, Trap::Range)?);
-    let place = Value::pair(alloc, Value::Int(9), Value::Int(0))?;
-    let first = Value::pair(alloc, plain(alloc, &[1, 2])?, place)?;
-    assert!(rt;
-        gives(
-            alloc,
-            SeqFn::Rep,
-            &first,
-            &numbers(alloc, &[9, 2])?,
-            price_of(5, 1, 3)
-        )?
-    );
-    let uneven = Value::pair(alloc, numbers(alloc, &[1])?, text(alloc, b"ab")?)?;
-    assert!(rt; traps(alloc, SeqFn::Zip, &uneven, Trap::Length)?);
-    let even = Value::pair(alloc, numbers(alloc, &[1])?, text(alloc, b"a")?)?;
-    let mut zipped = Vec::new(alloc);
-    zipped.push(Value::pair(alloc, Value::Int(1), Value::Char(b'a'))?)?;
-    assert!(rt;
-        gives(
-            alloc,
-            SeqFn::Zip,
-            &even,
-            &Value::Seq(zipped),
-            price_of(6, 1, 4)
-        )?
-    );
-    Ok(())
+// The place of the first argument at which the function has not that fault.
+pub fn first_allowed(
+    alloc: Global,
+    function: SeqFn,
+    arguments: &[Lit],
+    trap: Trap,
+) -> Result<Option<usize>, AllocError> {
+    for (place, argument) in arguments.iter().enumerate() {
+        if !is_refused(alloc, function, argument, trap)? {
+            return Ok(Some(place));
+        }
+    }
+    Ok(None)
 }
