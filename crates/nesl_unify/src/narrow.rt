@@ -90,7 +90,11 @@ fn restrict_member(
 }
 
 /// The classes of the variables in a table without chains of links, as wide as the members allow.
-pub(crate) fn narrow(alloc: Global, nodes: &[Node], members: &[Member]) -> Result<Vec<Class>, SolveFault>
+pub(crate) fn narrow(
+    alloc: Global,
+    nodes: &[Node],
+    members: &[Member],
+) -> Result<Vec<Class>, SolveFault>
     ensures within { IfOk result (λ cs. IsInAll (outside_at nodes.now) (class_at cs.items) members.now) }
     ensures general { IfOk result (λ cs. (w : ℕ → Term) → (of : ℕ → Class) → IsInAll (λ v. substitute w (outside_at nodes.now v)) of members.now → (v : ℕ) → IsIn of (class_at cs.items v) (w v)) }
     ensures none { IsErrOf result SolveFault.NoSolution → (w : ℕ → Term) → (of : ℕ → Class) → IsInAll (λ v. substitute w (outside_at nodes.now v)) of members.now → ⊥ }
