@@ -8,12 +8,12 @@ use Rattle.std.proofs.lemmas.List.{map-append}
 use Rattle.std.proofs.lemmas.List.Elements.{filter-append}
 use Rattle.std.proofs.lemmas.Slice.Eq.{bytes_eq-Decides}
 use Rattle.nesl_session.specs.State.{State, Log}
-use Rattle.nesl_session.specs.Reply.{Reply, no_memory, no_user, is_memory}
-use Rattle.nesl_session.specs.Solo.{Replays, Alone, Answers}
-use Rattle.nesl_session.specs.Laws.{GoesOn, OneRun}
+use Rattle.nesl_session.specs.Response.{Response, no_memory, no_user, is_memory}
+use Rattle.nesl_session.specs.Solo.{Replays, Alone, Responds}
+use Rattle.nesl_session.specs.Laws.{GoesOn, OneRun, OneState}
 use Rattle.nesl_house.specs.Script.{Event, lines_of, replies_of, own, kept}
-use Rattle.nesl_house.specs.Laws.{ScriptsFollow}
-use Rattle.nesl_house.specs.Runs.{Seat, roster_of, session_of, AllReplay, RunsAlone, IsTold, Runs}
+use Rattle.nesl_house.specs.Laws.{ScriptsFollow, SameBindings, OwnLinesDecide}
+use Rattle.nesl_house.specs.Runs.{Seat, roster_of, session_of, AllReplay, Binds, RunsAlone, IsTold, Runs}
 
 -- a session that is found is a replay
 found_here : (b : Bool) (seat : Seat) (rest : Option Log) (log : Log) → (s : State) × Replays seat.session s → (rest ≡ Some log → (s : State) × Replays log s) → cond b (Some seat.session) rest ≡ Some log → (s : State) × Replays log s
@@ -34,7 +34,7 @@ alone_silent None h = refl
 alone_silent (Some log) h = let r = h log refl in (log, refl, alone_none log r.0 r.1)
 
 pub runs_none : (house : List Seat) → AllReplay house → Runs house [] house
-runs_none house all = record { roster = refl; told = tt; users = λ user. alone_silent (session_of house user) (λ log. session_replays house user log all) }
+runs_none house all = record { roster = refl; each = tt; users = λ user. alone_silent (session_of house user) (λ log. session_replays house user log all) }
 
 all_append : {X : Type 0} (P Q : X → Type 0) → ((x : X) → Q x → P x) → (xs ys : List X) → AllByRecursion P xs → AllByRecursion Q ys → AllByRecursion P (xs ++ ys)
 all_append P Q f [] [] a b = tt
@@ -48,7 +48,7 @@ alone_next goes_on (Some old) mid new es fs a b =
     let c = subst P a.1 b in
     let one = goes_on old a.0 c.0 (lines_of es) (lines_of fs) (replies_of es) (replies_of fs) a.2 c.2 in
     let Q : List (List ℕ) → Type 0 = λ x. Alone old x (replies_of es ++ replies_of fs) c.0 in
-    let R : List Reply → Type 0 = λ x. Alone old (lines_of (es ++ fs)) x c.0 in
+    let R : List Response → Type 0 = λ x. Alone old (lines_of (es ++ fs)) x c.0 in
     (c.0, c.1, subst R (sym (map-append (λ (e : Event). e.reply) es fs)) (subst Q (sym (map-append (λ (e : Event). e.line) es fs)) one))
 
 pub stays_none : (o new : Option Log) (es : List Event) → RunsAlone o es new → o ≡ None → new ≡ None
@@ -62,7 +62,7 @@ kept-append user es fs = ap (filter (λ (e : Event). not (is_memory e.reply))) (
 pub runs_then : GoesOn → ScriptsFollow
 runs_then goes_on a b c es fs p q = record {
   roster = q.roster ∙ p.roster;
-  told = all_append (IsTold a) (IsTold b) (λ e t. record { stranger = λ none. t.stranger (stays_none (session_of a e.user) (session_of b e.user) (kept e.user es) (p.users e.user) none); memory = t.memory }) es fs p.told q.told;
+  each = all_append (IsTold a) (IsTold b) (λ e t. record { stranger = λ none. t.stranger (stays_none (session_of a e.user) (session_of b e.user) (kept e.user es) (p.users e.user) none); memory = t.memory }) es fs p.each q.each;
   users = λ user.
       let P : List Event → Type 0 = λ x. RunsAlone (session_of a user) x (session_of c user) in
       subst P (sym (kept-append user es fs)) (alone_next goes_on (session_of a user) (session_of b user) (session_of c user) (kept user es) (kept user fs) (p.users user) (q.users user));
@@ -80,10 +80,19 @@ alone_decided one_run one two session es fs after_one after_two p q e f same =
     let u = one_run session a.0 b.0 (lines_of es) (replies_of es) (replies_of fs) a.2 (subst R (sym same) b.2) in
     (u.0, a.1 ∙ ap (λ (x : Log). Some x) u.1 ∙ sym b.1)
 
-pub own_lines : OneRun → (one two after_one after_two : List Seat) (said_one said_two : List Event) (user : List ℕ) → Runs one said_one after_one → Runs two said_two after_two → (session : Log) → session_of one user ≡ Some session → session_of two user ≡ Some session
-    → lines_of (kept user said_one) ≡ lines_of (kept user said_two) → (replies_of (kept user said_one) ≡ replies_of (kept user said_two)) × (session_of after_one user ≡ session_of after_two user)
-own_lines one_run one two after_one after_two said_one said_two user p q session e f same =
-    alone_decided one_run (session_of one user) (session_of two user) session (kept user said_one) (kept user said_two) (session_of after_one user) (session_of after_two user) (p.users user) (q.users user) e f same
+-- one session has one list of bindings
+pub same_bindings : OneState → (house other : List Seat) (user : List ℕ) → session_of house user ≡ session_of other user → SameBindings house other user
+same_bindings one_state house other user e bindings others a b =
+    let both : Some a.session ≡ Some b.session = sym a.has ∙ e ∙ b.has in
+    let same : a.session ≡ b.session = cc in
+    let P : Log → Type 0 = λ x. Replays x b.state in
+    let state = one_state a.session a.state b.state a.replayed (subst P (sym same) b.replayed) in
+    a.are ∙ ap (λ (s : State). s.bindings) state ∙ sym b.are
+
+pub own_lines : OneRun → OneState → OwnLinesDecide
+own_lines one_run one_state one two after_one after_two said_one said_two user session p q e f same =
+    let d = alone_decided one_run (session_of one user) (session_of two user) session (kept user said_one) (kept user said_two) (session_of after_one user) (session_of after_two user) (p.users user) (q.users user) e f same in
+    (d.0, d.1, same_bindings one_state after_one after_two user d.1)
 
 -- One line, of which a session gave the answer: to its user it is a run of one line or of none, and to the others of none.
 one_kept : (memory : Bool) (e : Event) (old new : Log) → is_memory e.reply ≡ memory → (s : State) × Replays old s → MatchBool memory ((e.reply ≡ no_memory) × (new ≡ old)) (Alone old (e.line ∷ []) (e.reply ∷ []) new)
@@ -91,7 +100,7 @@ one_kept : (memory : Bool) (e : Event) (old new : Log) → is_memory e.reply ≡
 one_kept true e old new m r a = (old, ap (λ (x : Log). Some x) a.1, alone_none old r.0 r.1)
 one_kept false e old new m r a = (new, refl, a)
 
-memory_told : (memory : Bool) (reply : Reply) (old new : Log) (P : Type 0) → MatchBool memory ((reply ≡ no_memory) × (new ≡ old)) P → memory ≡ true → reply ≡ no_memory
+memory_told : (memory : Bool) (reply : Response) (old new : Log) (P : Type 0) → MatchBool memory ((reply ≡ no_memory) × (new ≡ old)) P → memory ≡ true → reply ≡ no_memory
 memory_told true reply old new P a h = a.0
 memory_told false reply old new P a h = absurd (cc)
 
@@ -101,10 +110,10 @@ one_user false e old new o p h k = let P : Option Log → Type 0 = λ x. RunsAlo
 
 -- a line of a user who is in the house
 pub runs_one : (house house' : List Seat) (e : Event) (old new : Log) → AllReplay house → roster_of house' ≡ roster_of house → session_of house e.user ≡ Some old → session_of house' e.user ≡ Some new
-    → ((v : List ℕ) → bytes_eq e.user v ≡ false → session_of house' v ≡ session_of house v) → Answers old e.line e.reply new → Runs house (e ∷ []) house'
+    → ((v : List ℕ) → bytes_eq e.user v ≡ false → session_of house' v ≡ session_of house v) → Responds old e.line e.reply new → Runs house (e ∷ []) house'
 runs_one house house' e old new all names had has others a = record {
   roster = names;
-  told = (record { stranger = λ none. absurd (cc); memory = memory_told (is_memory e.reply) e.reply old new (Alone old (e.line ∷ []) (e.reply ∷ []) new) a }, tt);
+  each = (record { stranger = λ none. absurd (cc); memory = memory_told (is_memory e.reply) e.reply old new (Alone old (e.line ∷ []) (e.reply ∷ []) new) a }, tt);
   users = λ v.
       one_user (bytes_eq e.user v) e None None (session_of house v) (session_of house' v)
       (λ yes'.
@@ -120,7 +129,7 @@ runs_one house house' e old new all names had has others a = record {
 pub runs_stranger : (house : List Seat) (e : Event) → AllReplay house → session_of house e.user ≡ None → e.reply ≡ no_user → Runs house (e ∷ []) house
 runs_stranger house e all none a = record {
   roster = refl;
-  told = (record { stranger = λ h. a; memory = λ h. let m : is_memory no_user ≡ true = ap is_memory (sym a) ∙ h in absurd (cc) }, tt);
+  each = (record { stranger = λ h. a; memory = λ h. let m : is_memory no_user ≡ true = ap is_memory (sym a) ∙ h in absurd (cc) }, tt);
   users = λ v.
       one_user (bytes_eq e.user v) e None None (session_of house v) (session_of house v)
       (λ yes'.

@@ -1,8 +1,27 @@
 -- Laws of houses.
-use Rattle.std.specs.Prelude.{◌++◌, List}
-use Rattle.nesl_house.specs.Script.{Event}
-use Rattle.nesl_house.specs.Runs.{Seat, Runs}
+use Rattle.std.specs.Prelude.{◌≡◌, ◌++◌, ℕ, List, Some}
+use Rattle.nesl_session.specs.State.{Binding, Log}
+use Rattle.nesl_house.specs.Script.{Event, kept, lines_of, replies_of}
+use Rattle.nesl_house.specs.Runs.{Seat, session_of, Binds, Runs}
 
 -- of one script after another, what comes of the second goes on from the house that the first leaves
 abbrev pub ScriptsFollow : Type 0
-ScriptsFollow = (old mid new : List Seat) (first second : List Event) → Runs old first mid → Runs mid second new → Runs old (first ++ second) new
+ScriptsFollow =
+    (old mid new : List Seat) (first second : List Event)
+    → Runs old first mid → Runs mid second new → Runs old (first ++ second) new
+
+-- whatever a user's names stand for in the one house, they stand for in the other
+abbrev pub SameBindings : List Seat → List Seat → List ℕ → Type 0
+SameBindings house other user =
+    (bindings others : List Binding) → Binds house user bindings → Binds other user others → bindings ≡ others
+
+-- Two scripts that agree on a user's kept lines, said to houses in which that user has one session, give that user the
+-- same replies, and leave the same session and the same bindings.
+abbrev pub OwnLinesDecide : Type 0
+OwnLinesDecide =
+    (one two after_one after_two : List Seat) (said_one said_two : List Event) (user : List ℕ) (session : Log)
+    → Runs one said_one after_one → Runs two said_two after_two
+    → session_of one user ≡ Some session → session_of two user ≡ Some session
+    → lines_of (kept user said_one) ≡ lines_of (kept user said_two)
+    → (replies_of (kept user said_one) ≡ replies_of (kept user said_two))
+    × (session_of after_one user ≡ session_of after_two user) × SameBindings after_one after_two user

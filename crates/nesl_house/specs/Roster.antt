@@ -1,5 +1,6 @@
 -- Who may have a session in a house.
-use Rattle.std.specs.Prelude.{◌≡◌, ◌≢◌, ℕ, ◌≤◌, List, [], ◌∷◌, ◌++◌, Bool, true, false, ◌&&◌, ◌||◌, nat_le, length, map, All, AllPairs, Contains}
+use Rattle.std.specs.Prelude.{◌≡◌, ◌≢◌, ℕ, ◌≤◌, List, [], ◌∷◌, ◌++◌, Bool, true, false, ◌&&◌, ◌||◌, nat_le}
+use Rattle.std.specs.Prelude.{length, map, All, AllPairs, Contains}
 use Rattle.std.specs.List.{list_all}
 use Rattle.nesl_session.specs.declared.limits.Limits.{Limits}
 use Rattle.nesl_house.specs.declared.roster.NewFault.{NewFault}
@@ -20,7 +21,8 @@ begins_with_letter (b ∷ bs) = is_letter b
 
 -- a user name: a letter, then letters and digits, at most 16 in all
 abbrev pub is_user_name : List ℕ → Bool
-is_user_name name = begins_with_letter name && (nat_le (length name) 16 && list_all (λ b. is_letter b || is_digit b) name)
+is_user_name name =
+    begins_with_letter name && (nat_le (length name) 16 && list_all (λ b. is_letter b || is_digit b) name)
 
 -- user names, of which none stands twice
 pub record AreUsers (names : List (List ℕ)) : Type 0 where
@@ -36,11 +38,18 @@ pub record IsRoster (names : List (List ℕ)) : Type 0 where
   pub count : IsCount (length names)
   pub users : AreUsers names
 
--- Why a list of names is refused: the count is looked at first, and then place by place first the name, then whether it stands twice. Want of memory comes to a roster alone.
+-- Why a list of names is refused: the count is looked at first, and then place by place first the name, then whether it
+-- stands twice. Want of memory comes to a roster alone.
 pub data IsRefused (names : List (List ℕ)) : NewFault → Type 0 where
   bad_count : ¬ IsCount (length names) → IsRefused names Count
-  bad_name : (before after : List (List ℕ)) (it : List ℕ) → IsCount (length names) → names ≡ before ++ it ∷ after → AreUsers before → is_user_name it ≡ false → IsRefused names (Name (length before))
-  stands_twice : (before after : List (List ℕ)) (it : List ℕ) → IsCount (length names) → names ≡ before ++ it ∷ after → AreUsers before → is_user_name it ≡ true → Contains before it → IsRefused names (Twice (length before))
+  bad_name :
+      (before after : List (List ℕ)) (it : List ℕ)
+      → IsCount (length names) → names ≡ before ++ it ∷ after → AreUsers before
+      → is_user_name it ≡ false → IsRefused names (Name (length before))
+  stands_twice :
+      (before after : List (List ℕ)) (it : List ℕ)
+      → IsCount (length names) → names ≡ before ++ it ∷ after → AreUsers before
+      → is_user_name it ≡ true → Contains before it → IsRefused names (Twice (length before))
   no_memory_left : IsRoster names → IsRefused names Memory
 
 -- a seat with an empty session

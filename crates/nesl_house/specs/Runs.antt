@@ -2,8 +2,8 @@
 use Rattle.std.specs.Prelude.{◌≡◌, ℕ, List, [], ◌∷◌, Option, Some, None, true, map, if◌then◌else◌}
 use Rattle.std.specs.List.{AllByRecursion}
 use Rattle.std.specs.Str.{bytes_eq}
-use Rattle.nesl_session.specs.State.{State, Log}
-use Rattle.nesl_session.specs.Reply.{no_memory, no_user, is_memory}
+use Rattle.nesl_session.specs.State.{Binding, State, Log}
+use Rattle.nesl_session.specs.Response.{no_memory, no_user, is_memory}
 use Rattle.nesl_session.specs.Solo.{Replays, Alone}
 use Rattle.nesl_house.specs.Script.{Event, lines_of, replies_of, kept}
 
@@ -25,18 +25,29 @@ session_of (seat ∷ seats) user = if bytes_eq seat.name user then Some seat.ses
 abbrev pub AllReplay : List Seat → Type 0
 AllReplay house = AllByRecursion (λ seat. (s : State) × Replays seat.session s) house
 
--- To one user the house is a session that no one else uses: alone, the session `old` answers these lines by these replies, and becomes what the user has after them. A stranger has no session, and gets none.
+-- the names of this user's session and what they stand for: the bindings of the state that it is the replay to
+pub record Binds (house : List Seat) (user : List ℕ) (bindings : List Binding) : Type 0 where
+  pub session : Log
+  pub state : State
+  pub has : session_of house user ≡ Some session
+  pub replayed : Replays session state
+  pub are : bindings ≡ state.bindings
+
+-- To one user the house is a session that no one else uses: alone, the session `old` answers these lines by these
+-- replies, and becomes what the user has after them. A stranger has no session, and gets none.
 abbrev pub RunsAlone : Option Log → List Event → Option Log → Type 0
 RunsAlone None events after = after ≡ None
-RunsAlone (Some old) events after = (new : Log) × (after ≡ Some new) × Alone old (lines_of events) (replies_of events) new
+RunsAlone (Some old) events after =
+    (new : Log) × (after ≡ Some new) × Alone old (lines_of events) (replies_of events) new
 
 -- A stranger is told `fault user`. Who is told of want of memory is told nothing else.
 pub record IsTold (house : List Seat) (e : Event) : Type 0 where
   pub stranger : session_of house e.user ≡ None → e.reply ≡ no_user
   pub memory : is_memory e.reply ≡ true → e.reply ≡ no_memory
 
--- The house `old` answers a script so, one line after another, and is the house `new` then: the same users, each of whom was told what a session alone tells of that user's kept lines.
+-- The house `old` answers a script so, one line after another, and is the house `new` then: the same users, each of
+-- whom was told what a session alone tells of that user's kept lines.
 pub record Runs (old : List Seat) (events : List Event) (new : List Seat) : Type 0 where
   pub roster : roster_of new ≡ roster_of old
-  pub told : AllByRecursion (IsTold old) events
+  pub each : AllByRecursion (IsTold old) events
   pub users : (user : List ℕ) → RunsAlone (session_of old user) (kept user events) (session_of new user)

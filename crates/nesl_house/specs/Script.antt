@@ -1,18 +1,18 @@
 -- What users say, and what they are told.
 use Rattle.std.specs.Prelude.{ℕ, List, not, filter, map}
 use Rattle.std.specs.Str.{bytes_eq}
-use Rattle.nesl_session.specs.Reply.{Reply, is_memory}
+use Rattle.nesl_session.specs.Response.{Response, is_memory}
 
 -- a user said this line, and was told this
 pub record Event : Type 0 where
   pub user : List ℕ
   pub line : List ℕ
-  pub reply : Reply
+  pub reply : Response
 
 abbrev pub lines_of : List Event → List (List ℕ)
 lines_of events = map (λ e. e.line) events
 
-abbrev pub replies_of : List Event → List Reply
+abbrev pub replies_of : List Event → List Response
 replies_of events = map (λ e. e.reply) events
 
 -- what this user said and was told, in order

@@ -60,8 +60,15 @@ fn rosters_are_counted(rt: HostRuntime) -> Result<(), Fail> {
     for place in 0u8..64 {
         names.push([b'a' + place / 26, b'a' + place % 26].to_vec(alloc)?)?;
     }
-    let house = House::new(alloc, names.as_slice(), LIMITS)?;
+    let mut house = House::new(alloc, names.as_slice(), LIMITS)?;
     assert_eq!(rt; house.users().len(), 64);
+    for name in names.iter() {
+        let answer = house.say(alloc, name.as_slice(), b"1;");
+        assert_eq!(rt; answer.bytes(), ONE.as_bytes());
+    }
+    for user in house.users() {
+        assert_eq!(rt; user.session().lines().len(), 1);
+    }
     names.push(b"zz".to_vec(alloc)?)?;
     match House::new(alloc, names.as_slice(), LIMITS) {
         Ok(_) => assert!(rt; false, "65 names are too many"),
@@ -92,6 +99,46 @@ fn users_have_sessions_of_their_own(rt: HostRuntime) -> Result<(), Fail> {
     let second = house.users().get(1).ok_or("second")?;
     assert_eq!(rt; second.name(), b"bob".as_slice());
     assert_eq!(rt; second.session().lines().len(), 1);
+    Ok(())
+}
+
+const ONE: &str = "it = 1 : int (work 1, depth 1)\n";
+
+#[test]
+fn a_line_may_be_too_long(rt: HostRuntime) -> Result<(), Fail> {
+    let alloc = rt.alloc();
+    let names = roster(alloc, &["ann"])?;
+    let mut house = House::new(alloc, names.as_slice(), LIMITS)?;
+    let mut line = Vec::from_slice(alloc, b"1;")?;
+    for _ in 0..4095 {
+        line.push(b' ')?;
+    }
+    let answer = house.say(alloc, b"ann", line.as_slice());
+    assert_eq!(rt; answer.bytes(), b"fault long (work 0)\n".as_slice());
+    let answer = house.say(alloc, b"ann", &line.as_slice()[..4096]);
+    assert_eq!(rt; answer.bytes(), ONE.as_bytes());
+    let ann = house.session(b"ann").ok_or("ann")?;
+    assert_eq!(rt; ann.lines().len(), 1);
+    Ok(())
+}
+
+// No answer is want of memory while there is memory.
+#[test]
+fn a_session_takes_many_lines(rt: HostRuntime) -> Result<(), Fail> {
+    let alloc = rt.alloc();
+    let names = roster(alloc, &["ann"])?;
+    let limits = Limits {
+        session_work: 3000,
+        transcript_lines: 3000,
+        ..LIMITS
+    };
+    let mut house = House::new(alloc, names.as_slice(), limits)?;
+    for place in 0..3000 {
+        let answer = house.say(alloc, b"ann", b"1;");
+        assert_eq!(rt; answer.bytes(), ONE.as_bytes(), "line {place}");
+    }
+    let answer = house.say(alloc, b"ann", b"1;");
+    assert_eq!(rt; answer.bytes(), b"fault transcript (work 0)\n".as_slice());
     Ok(())
 }
 

@@ -1,7 +1,7 @@
 //! One user of a house.
 ghost use Rattle.std.specs.Prelude.{◌≡◌, IfOk};
 ghost use Rattle.nesl_session.specs.State.{State};
-ghost use Rattle.nesl_session.specs.Solo.{Replays, Answers};
+ghost use Rattle.nesl_session.specs.Solo.{Replays, Responds};
 ghost use Rattle.nesl_house.specs.Roster.{fresh};
 
 use nesl_session::answer::Answer;
@@ -53,7 +53,7 @@ impl User {
     /// One line of this user.
     pub(crate) fn say(&mut self, alloc: Global, text: &[u8]) -> Answer
         ensures name { self.new.name ≡ self.old.name }
-        ensures answers { Answers self.old.session text.now result self.new.session }
+        ensures answers { Responds self.old.session text.now result self.new.session }
     {
         self.session.line(alloc, text)
     }

@@ -1,6 +1,6 @@
 -- Runs of bytes at the front.
 use Rattle.std.proofs.Common.{◌≡◌, ℕ, suc, ◌≤◌, ◌<◌, Bool, true, false, cond, List, [], ◌∷◌, ◌++◌, length, get_or, refl, ap, subst, arith}
-use Rattle.nesl_lex.specs.Lexemes.{Each}
+use Rattle.nesl_lex.specs.Lexemes.{AllBytes}
 use Rattle.nesl_lex.specs.Scan.{front_len, Stops, Front}
 use Rattle.nesl_lex.proofs.Starts.{clash}
 
@@ -14,7 +14,7 @@ front_of p [] = record { front = []; rest = []; whole = refl; long = refl; each 
 front_of p (b ∷ bs) = front_more p b bs (p b) refl (front_of p bs)
 
 -- no run at the front is longer
-pub each_le : (p : ℕ → Bool) (us xs front rest : List ℕ) → Each p us → Stops p rest → us ++ xs ≡ front ++ rest → length us ≤ length front
+pub each_le : (p : ℕ → Bool) (us xs front rest : List ℕ) → AllBytes p us → Stops p rest → us ++ xs ≡ front ++ rest → length us ≤ length front
 each_le p [] xs front rest e s h = omega arith
 each_le p (u ∷ us) xs [] [] e s h = cc
 each_le p (u ∷ us) xs [] (r ∷ rest) e s h = let k : r ≡ u = cc in absurd (clash (p u) e.0 (subst (λ (x : ℕ). p x ≡ false) k s))
@@ -26,7 +26,7 @@ pub record Closed (p : ℕ → Bool) (c : ℕ) (bytes : List ℕ) : Type 0 where
   pub rest : List ℕ
   pub whole : bytes ≡ inside ++ c ∷ rest
   pub long : length inside ≡ front_len p bytes
-  pub each : Each p inside
+  pub each : AllBytes p inside
 
 -- where a run ends
 pub record Ended (p : ℕ → Bool) (c : ℕ) (n : ℕ) (bytes : List ℕ) : Type 0 where
@@ -59,12 +59,12 @@ ended_more : (p : ℕ → Bool) (c n b : ℕ) (bs : List ℕ) → p b ≡ true �
 ended_more p c n b bs k e = record { long = rw k (ap suc e.long); within = omega (arith, e.within); closes = e.closes }
 
 -- a run that is closed ends there
-pub ended_at : (p : ℕ → Bool) (c : ℕ) → p c ≡ false → (us back bs : List ℕ) → us ++ c ∷ back ≡ bs → Each p us → Ended p c (length us) bs
+pub ended_at : (p : ℕ → Bool) (c : ℕ) → p c ≡ false → (us back bs : List ℕ) → us ++ c ∷ back ≡ bs → AllBytes p us → Ended p c (length us) bs
 ended_at p c k [] back bs h e = subst (Ended p c 0) h (record { long = rw k refl; within = omega arith; closes = refl })
 ended_at p c k (u ∷ us) back bs h e = subst (Ended p c (suc (length us))) h (ended_more p c (length us) u (us ++ c ∷ back) e.0 (ended_at p c k us back (us ++ c ∷ back) refl e.1))
 
 -- closed runs at one place have one length
-pub insides_same : (p : ℕ → Bool) (c : ℕ) → p c ≡ false → (us xs vs ys : List ℕ) → us ++ c ∷ xs ≡ vs ++ c ∷ ys → Each p us → Each p vs → length us ≡ length vs
+pub insides_same : (p : ℕ → Bool) (c : ℕ) → p c ≡ false → (us xs vs ys : List ℕ) → us ++ c ∷ xs ≡ vs ++ c ∷ ys → AllBytes p us → AllBytes p vs → length us ≡ length vs
 insides_same p c k us xs vs ys h d e =
     let a = ended_at p c k us xs (us ++ c ∷ xs) refl d in
     let b = ended_at p c k vs ys (us ++ c ∷ xs) (sym_of h) e in

@@ -8,3 +8,4 @@ mod Pieces
 mod Unique
 mod Turns
 mod Reading
+mod Places

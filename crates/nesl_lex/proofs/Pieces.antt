@@ -6,7 +6,7 @@ use Rattle.nesl_lex.specs.declared.token.Sign.{Sign}
 use Rattle.nesl_lex.specs.declared.scan.Start.{Start}
 use Rattle.nesl_lex.specs.declared.scan.Start.TheVariants as start
 use Rattle.nesl_lex.specs.Tokens.{Lexeme, number, name, reserved, truth, character, quoted, symbol}
-use Rattle.nesl_lex.specs.Lexemes.{is_digit, is_name_byte, is_printable, is_comment_byte, is_text_byte, folded, Each, value_behind, sign_text, IsNameText, IsNamed, Spells, IsStuck}
+use Rattle.nesl_lex.specs.Lexemes.{is_digit, is_name_byte, is_printable, is_comment_byte, is_text_byte, small_letter, AllBytes, value_behind, sign_text, IsNameText, IsNamed, Spells, IsStuck}
 use Rattle.nesl_lex.specs.Scan.{start_of, front_len, Stops, sign_in, GapAt, TextAt}
 use Rattle.nesl_lex.proofs.Starts.{start_blank, start_comment, start_number, start_name, start_character, start_text, letter_is_name_byte, no_comment_byte}
 use Rattle.nesl_lex.proofs.Fronts.{front_of, Closed, closed_at, stopped_at}
@@ -32,7 +32,7 @@ pub record Run (p : ℕ → Bool) (bytes : List ℕ) : Type 0 where
   pub whole : bytes ≡ (first ∷ front) ++ rest
   pub at : first ≡ get_or bytes 0 0
   pub long : length (first ∷ front) ≡ front_len p bytes
-  pub each : Each p (first ∷ front)
+  pub each : AllBytes p (first ∷ front)
   pub stops : Stops p rest
   pub taken : take (front_len p bytes) bytes ≡ first ∷ front
 
@@ -60,8 +60,8 @@ digit_run bytes h k = run_of is_digit bytes h (start_number (get_or bytes 0 0) k
 run_start : (bytes : List ℕ) (p : ℕ → Bool) (s : Start) → start_of (get_or bytes 0 0) ≡ s → (r : Run p bytes) → start_of r.first ≡ s
 run_start bytes p s k r = ap start_of r.at ∙ k
 
-pub run_each : (bytes : List ℕ) → 0 < length bytes → start_of (get_or bytes 0 0) ≡ start.Number → Each is_digit (take (front_len is_digit bytes) bytes)
-run_each bytes h k = let r = digit_run bytes h k in subst (λ (us : List ℕ). Each is_digit us) (sym r.taken) r.each
+pub run_each : (bytes : List ℕ) → 0 < length bytes → start_of (get_or bytes 0 0) ≡ start.Number → AllBytes is_digit (take (front_len is_digit bytes) bytes)
+run_each bytes h k = let r = digit_run bytes h k in subst (λ (us : List ℕ). AllBytes is_digit us) (sym r.taken) r.each
 
 pub number_text : (bytes : List ℕ) → 0 < length bytes → start_of (get_or bytes 0 0) ≡ start.Number → (v : ℕ) → v ≡ value_behind 0 (take (front_len is_digit bytes) bytes) → v < 2 ^ 63 → TextAt bytes (front_len is_digit bytes) (number v)
 number_text bytes h k v e small =
@@ -84,7 +84,7 @@ number_stuck bytes h k large =
 name_run : (bytes : List ℕ) → 0 < length bytes → start_of (get_or bytes 0 0) ≡ start.Name → Run is_name_byte bytes
 name_run bytes h k = run_of is_name_byte bytes h (letter_is_name_byte (get_or bytes 0 0) (start_name (get_or bytes 0 0) k))
 
-spells_named : (text : List ℕ) (x : Lexeme) → IsNameText text → IsNamed (map folded text) x → Spells text x
+spells_named : (text : List ℕ) (x : Lexeme) → IsNameText text → IsNamed (map small_letter text) x → Spells text x
 spells_named text (number n) t i = absurd i
 spells_named text (name bytes) t i = (t, i)
 spells_named text (reserved w) t i = (t, i)
@@ -93,7 +93,7 @@ spells_named text (character c) t i = absurd i
 spells_named text (quoted bytes) t i = absurd i
 spells_named text (symbol s) t i = absurd i
 
-pub name_text : (bytes : List ℕ) → 0 < length bytes → start_of (get_or bytes 0 0) ≡ start.Name → (x : Lexeme) → IsNamed (map folded (take (front_len is_name_byte bytes) bytes)) x → TextAt bytes (front_len is_name_byte bytes) x
+pub name_text : (bytes : List ℕ) → 0 < length bytes → start_of (get_or bytes 0 0) ≡ start.Name → (x : Lexeme) → IsNamed (map small_letter (take (front_len is_name_byte bytes) bytes)) x → TextAt bytes (front_len is_name_byte bytes) x
 name_text bytes h k x i =
     let r = name_run bytes h k in
     let s = run_start bytes is_name_byte start.Name k r in
@@ -102,7 +102,7 @@ name_text bytes h k x i =
       rest = r.rest;
       whole = r.whole;
       long = r.long;
-      spells = spells_named (r.first ∷ r.front) x (start_name r.first s, r.each.1) (subst (λ (us : List ℕ). IsNamed (map folded us) x) r.taken i);
+      spells = spells_named (r.first ∷ r.front) x (start_name r.first s, r.each.1) (subst (λ (us : List ℕ). IsNamed (map small_letter us) x) r.taken i);
       longest = name_longest r.first r.front r.rest s r.stops;
     }
 
@@ -137,7 +137,7 @@ quoted_of bs c = record {
   rest = c.rest;
   whole = ap (λ (xs : List ℕ). 34 ∷ xs) (c.whole ∙ sym (append_assoc c.inside (34 ∷ []) c.rest));
   long = omega (arith, length-append c.inside (34 ∷ []), c.long);
-  spells = let t = taken_of (front_len is_text_byte bs) bs c.inside (34 ∷ c.rest) c.whole c.long in (ap (λ (xs : List ℕ). 34 ∷ (xs ++ 34 ∷ [])) (sym t), subst (λ (xs : List ℕ). Each is_text_byte xs) (sym t) c.each);
+  spells = let t = taken_of (front_len is_text_byte bs) bs c.inside (34 ∷ c.rest) c.whole c.long in (ap (λ (xs : List ℕ). 34 ∷ (xs ++ 34 ∷ [])) (sym t), subst (λ (xs : List ℕ). AllBytes is_text_byte xs) (sym t) c.each);
   longest = quoted_longest c.inside c.rest c.each;
 }
 

@@ -4,7 +4,7 @@ use Rattle.nesl_lex.specs.declared.token.Sign.{Sign}
 use Rattle.nesl_lex.specs.declared.scan.Start.{Start}
 use Rattle.nesl_lex.specs.declared.scan.Start.TheVariants as start
 use Rattle.nesl_lex.specs.Tokens.{Lexeme, number, name, reserved, truth, character, quoted, symbol}
-use Rattle.nesl_lex.specs.Lexemes.{is_blank, is_digit, is_name_byte, is_printable, is_comment_byte, is_text_byte, Each, value_behind, sign_text, IsDigits, IsNameText, HasShape, Spells, IsLongest, IsGap, IsStuck}
+use Rattle.nesl_lex.specs.Lexemes.{is_blank, is_digit, is_name_byte, is_printable, is_comment_byte, is_text_byte, AllBytes, value_behind, sign_text, IsDigits, IsNameText, HasShape, Spells, IsLongest, IsGap, IsStuck}
 use Rattle.nesl_lex.specs.Scan.{start_of, front_len, Stops, sign_in}
 use Rattle.nesl_lex.proofs.Starts.{blank_starts, digit_starts, letter_starts}
 use Rattle.nesl_lex.proofs.Fronts.{each_le, Ended, ended_at, insides_same, SameFront, same_front}
@@ -15,7 +15,7 @@ pub data Form (text : List ℕ) : Type 0 where
   of_digits : IsDigits text → Form text
   of_letters : IsNameText text → Form text
   of_character : (c : ℕ) → text ≡ 96 ∷ c ∷ [] → Form text
-  of_quoted : (inside : List ℕ) → text ≡ 34 ∷ (inside ++ 34 ∷ []) → Each is_text_byte inside → Form text
+  of_quoted : (inside : List ℕ) → text ≡ 34 ∷ (inside ++ 34 ∷ []) → AllBytes is_text_byte inside → Form text
   of_sign : (s : Sign) → text ≡ sign_text s → Form text
 
 spelled_form : (text : List ℕ) (x : Lexeme) → Spells text x → Form text
@@ -108,7 +108,7 @@ no_gap_form (b ∷ bs) text xs ys h g f = gap_begins (b ∷ bs) xs b (bs ++ xs) 
 abbrev AtMost : List ℕ → ℕ → Type 0
 AtMost f n = length f ≤ n
 
-digits_each : (f : List ℕ) → IsDigits f → Each is_digit f
+digits_each : (f : List ℕ) → IsDigits f → AllBytes is_digit f
 digits_each [] d = absurd d
 digits_each (c ∷ cs) d = d
 
@@ -159,7 +159,7 @@ inside_of text back bs inside h k =
     let f : (inside ++ 34 ∷ []) ++ back ≡ bs = cc in
     sym (append_assoc inside (34 ∷ []) back) ∙ f
 
-quoted_le : (inside rest f back : List ℕ) → Each is_text_byte inside → f ++ back ≡ 34 ∷ (inside ++ 34 ∷ rest) → (x : Form f) → start_of 34 ≡ begins x → length f ≤ suc (length (inside ++ 34 ∷ []))
+quoted_le : (inside rest f back : List ℕ) → AllBytes is_text_byte inside → f ++ back ≡ 34 ∷ (inside ++ 34 ∷ rest) → (x : Form f) → start_of 34 ≡ begins x → length f ≤ suc (length (inside ++ 34 ∷ []))
 quoted_le inside rest f back d h (of_digits i) e = cc
 quoted_le inside rest f back d h (of_letters i) e = cc
 quoted_le inside rest f back d h (of_character c k) e = cc
@@ -168,7 +168,7 @@ quoted_le inside rest f back d h (of_quoted other k i) e =
     omega (arith, ap length k, length-append other (34 ∷ []), length-append inside (34 ∷ []))
 quoted_le inside rest f back d h (of_sign g k) e = cc
 
-pub quoted_longest : (inside rest : List ℕ) → Each is_text_byte inside → IsLongest (34 ∷ (inside ++ 34 ∷ [])) rest
+pub quoted_longest : (inside rest : List ℕ) → AllBytes is_text_byte inside → IsLongest (34 ∷ (inside ++ 34 ∷ [])) rest
 quoted_longest inside rest d = λ f back h x.
     let y = form_of f x in
     let k : f ++ back ≡ 34 ∷ (inside ++ 34 ∷ rest) = sym h ∙ ap (λ (us : List ℕ). 34 ∷ us) (append_assoc inside (34 ∷ []) rest) in
@@ -210,7 +210,7 @@ digits_spell b front (quoted inside) d s = let e : start_of b ≡ start.Text = b
 digits_spell b front (symbol g) d s = let e : start_of b ≡ start.Other = begins_at (b ∷ front) [] b (front ++ []) refl (of_sign g s) in cc
 
 -- a number that is too large
-pub no_number : (b : ℕ) (front rest : List ℕ) → start_of b ≡ start.Number → Each is_digit (b ∷ front) → Stops is_digit rest → 2 ^ 63 ≤ value_behind 0 (b ∷ front) → IsStuck ((b ∷ front) ++ rest)
+pub no_number : (b : ℕ) (front rest : List ℕ) → start_of b ≡ start.Number → AllBytes is_digit (b ∷ front) → Stops is_digit rest → 2 ^ 63 ≤ value_behind 0 (b ∷ front) → IsStuck ((b ∷ front) ++ rest)
 no_number b front rest d e s v = stuck_at b (front ++ rest) start.Number d (λ k. cc) (λ k. cc) (λ text back x h t u.
     let k = longest_same text back (b ∷ front) rest (sym h) (inr (x, t)) (inl e) u (digits_longest b front rest d s) in
     let y = digits_spell b front x d (subst (λ (us : List ℕ). Spells us x) k.fronts t) in omega arith)

@@ -4,16 +4,17 @@ use Rattle.nesl_lex.specs.declared.token.Sign.{Sign}
 use Rattle.nesl_lex.specs.declared.scan.Start.{Start}
 use Rattle.nesl_lex.specs.declared.scan.Start.TheVariants as start
 use Rattle.nesl_lex.specs.Tokens.{Lexeme, number, name, reserved, truth, character, quoted, symbol, Placed}
-use Rattle.nesl_lex.specs.Lexemes.{is_blank, is_comment_byte, is_text_byte, folded, Each, value_behind, sign_text, IsNameText, IsNamed, Spells, IsGap, Ending, at_place, Reads, finished, halted, passed, took}
+use Rattle.nesl_lex.specs.Lexemes.{is_blank, is_comment_byte, is_text_byte, small_letter, AllBytes, value_behind, sign_text, IsNameText, IsNamed, Spells, IsGap, Ending, at_place, Reads, finished, halted, passed, took}
 use Rattle.nesl_lex.specs.Scan.{start_of, front_len, sign_in}
 use Rattle.nesl_lex.proofs.Starts.{clash, digit_starts, letter_starts}
 use Rattle.nesl_lex.proofs.Fronts.{insides_same, ended_at, same_front}
-use Rattle.nesl_lex.proofs.Words.{named_in, named_one}
+use Rattle.nesl_lex.specs.Reading.{named_in}
+use Rattle.nesl_lex.proofs.Words.{named_one}
 use Rattle.nesl_lex.proofs.Signs.{sign_read, sign_start}
 use Rattle.nesl_lex.proofs.Shapes.{form_of, form_byte, gap_byte, no_gap_form, longest_same}
 use Rattle.std.proofs.Math.Seq.{take-append_seam}
 
-comments_same : (us inside xs vs outside ys : List ℕ) → us ≡ inside ++ 37 ∷ [] → vs ≡ outside ++ 37 ∷ [] → us ++ xs ≡ vs ++ ys → Each is_comment_byte inside → Each is_comment_byte outside → length us ≡ length vs
+comments_same : (us inside xs vs outside ys : List ℕ) → us ≡ inside ++ 37 ∷ [] → vs ≡ outside ++ 37 ∷ [] → us ++ xs ≡ vs ++ ys → AllBytes is_comment_byte inside → AllBytes is_comment_byte outside → length us ≡ length vs
 comments_same us inside xs vs outside ys i j h d e =
     let f : (inside ++ 37 ∷ []) ++ xs ≡ (outside ++ 37 ∷ []) ++ ys = ap (λ (ts : List ℕ). ts ++ xs) (sym i) ∙ h ∙ ap (λ (ts : List ℕ). ts ++ ys) j in
     let g : inside ++ 37 ∷ xs ≡ outside ++ 37 ∷ ys = simp append_assoc at f in
@@ -44,7 +45,7 @@ symbol_of None = None
 -- the one lexeme that a text may spell, by its first byte
 abbrev spelled_as : Start → List ℕ → Option Lexeme
 spelled_as start.Number text = Some (number (value_behind 0 text))
-spelled_as start.Name text = Some (named_in (map folded text))
+spelled_as start.Name text = Some (named_in (map small_letter text))
 spelled_as start.Character (b ∷ c ∷ cs) = Some (character c)
 spelled_as start.Text (b ∷ bs) = Some (quoted (take (front_len is_text_byte bs) bs))
 spelled_as start.Other text = symbol_of (sign_in text)
@@ -54,15 +55,15 @@ abbrev spelled : List ℕ → Option Lexeme
 spelled [] = None
 spelled (b ∷ bs) = spelled_as (start_of b) (b ∷ bs)
 
-name_spelled : (text : List ℕ) (x : Lexeme) → IsNameText text → IsNamed (map folded text) x → spelled text ≡ Some x
+name_spelled : (text : List ℕ) (x : Lexeme) → IsNameText text → IsNamed (map small_letter text) x → spelled text ≡ Some x
 name_spelled [] x t i = absurd t
-name_spelled (b ∷ bs) x t i = rw (letter_starts b t.0) (ap (λ (y : Lexeme). Some y) (named_one (map folded (b ∷ bs)) x i))
+name_spelled (b ∷ bs) x t i = rw (letter_starts b t.0) (ap (λ (y : Lexeme). Some y) (named_one (map small_letter (b ∷ bs)) x i))
 
 number_spelled : (text : List ℕ) (n : ℕ) → Spells text (number n) → spelled text ≡ Some (number n)
 number_spelled [] n s = absurd s.0
 number_spelled (b ∷ bs) n s = rw (digit_starts b s.0.0) (ap (λ (m : ℕ). Some (number m)) (sym s.1))
 
-quoted_spelled : (inside : List ℕ) → Each is_text_byte inside → spelled (34 ∷ (inside ++ 34 ∷ [])) ≡ Some (quoted inside)
+quoted_spelled : (inside : List ℕ) → AllBytes is_text_byte inside → spelled (34 ∷ (inside ++ 34 ∷ [])) ≡ Some (quoted inside)
 quoted_spelled inside e =
     let q = ended_at is_text_byte 34 refl inside [] (inside ++ 34 ∷ []) refl e in
     ap (λ (m : ℕ). Some (quoted (take m (inside ++ 34 ∷ [])))) q.long ∙ ap (λ (us : List ℕ). Some (quoted us)) (take-append_seam inside (34 ∷ []))

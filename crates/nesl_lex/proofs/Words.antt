@@ -7,29 +7,7 @@ use Rattle.nesl_lex.specs.declared.token.Word.{Word}
 use Rattle.nesl_lex.specs.declared.token.Word.TheVariants as word
 use Rattle.nesl_lex.specs.Tokens.{Lexeme, number, name, reserved, truth, character, quoted, symbol}
 use Rattle.nesl_lex.specs.Lexemes.{word_text, IsTruthText, IsNamed}
-
-abbrev pub all_words : List Word
-all_words = word.Function ∷ word.Datatype ∷ word.Let ∷ word.In ∷ word.If ∷ word.Then ∷ word.Else ∷ word.Or ∷ word.Nor ∷ word.Xor ∷ word.And ∷ word.Nand ∷ word.Int ∷ word.Bool ∷ word.Char ∷ []
-
--- the first of these words that is spelled so
-abbrev pub word_among : List Word → List ℕ → Option Word
-word_among [] bytes = None
-word_among (w ∷ ws) bytes = cond (bytes_eq bytes (word_text w)) (Some w) (word_among ws bytes)
-
-abbrev pub word_in : List ℕ → Option Word
-word_in bytes = word_among all_words bytes
-
-abbrev pub truth_in : List ℕ → Option Bool
-truth_in bytes = cond (bytes_eq bytes (codes "t")) (Some true) (cond (bytes_eq bytes (codes "true")) (Some true) (cond (bytes_eq bytes (codes "f")) (Some false) (cond (bytes_eq bytes (codes "false")) (Some false) None)))
-
-abbrev pub named_by : List ℕ → Option Word → Option Bool → Lexeme
-named_by small (Some w) value = reserved w
-named_by small None (Some value) = truth value
-named_by small None None = name small
-
--- what the small letters are
-abbrev pub named_in : List ℕ → Lexeme
-named_in small = named_by small (word_in small) (truth_in small)
+use Rattle.nesl_lex.specs.Reading.{all_words, word_among, word_in, truth_in, named_by, named_in}
 
 word_read : (w : Word) → word_in (word_text w) ≡ Some w
 word_read word.Function = refl

@@ -10,14 +10,19 @@ abbrev token : ℕ → ℕ → Lexeme → Placed
 token start end x = record { lexeme = x; span = record { start = start; end = end } }
 
 abbrev pub Arrow : Type 0
-Arrow = HasTokens (codes "1<-2") (token 0 1 (number 1) ∷ token 1 3 (symbol sign.LeftArrow) ∷ token 3 4 (number 2) ∷ [])
+Arrow = HasTokens (codes "1<-2")
+    (token 0 1 (number 1) ∷ token 1 3 (symbol sign.LeftArrow) ∷ token 3 4 (number 2) ∷ [])
 
 abbrev pub ArrowAndMinus : Type 0
-ArrowAndMinus = HasTokens (codes "1<--2") (token 0 1 (number 1) ∷ token 1 3 (symbol sign.LeftArrow) ∷ token 3 4 (symbol sign.Minus) ∷ token 4 5 (number 2) ∷ [])
+ArrowAndMinus = HasTokens (codes "1<--2")
+    (token 0 1 (number 1) ∷ token 1 3 (symbol sign.LeftArrow)
+    ∷ token 3 4 (symbol sign.Minus) ∷ token 4 5 (number 2) ∷ [])
 
 -- there is no sign --
 abbrev pub TwoMinuses : Type 0
-TwoMinuses = HasTokens (codes "a--b") (token 0 1 (name (codes "a")) ∷ token 1 2 (symbol sign.Minus) ∷ token 2 3 (symbol sign.Minus) ∷ token 3 4 (name (codes "b")) ∷ [])
+TwoMinuses = HasTokens (codes "a--b")
+    (token 0 1 (name (codes "a")) ∷ token 1 2 (symbol sign.Minus) ∷ token 2 3 (symbol sign.Minus)
+    ∷ token 3 4 (name (codes "b")) ∷ [])
 
 abbrev pub ThreeColons : Type 0
 ThreeColons = HasTokens (codes ":::") (token 0 2 (symbol sign.DoubleColon) ∷ token 2 3 (symbol sign.Colon) ∷ [])
@@ -58,7 +63,8 @@ abbrev pub TruthAndName : Type 0
 TruthAndName = HasTokens (codes "T tt") (token 0 1 (truth true) ∷ token 2 4 (name (codes "tt")) ∷ [])
 
 abbrev pub FoldedWords : Type 0
-FoldedWords = HasTokens (codes "iF False X_1") (token 0 2 (reserved word.If) ∷ token 3 8 (truth false) ∷ token 9 12 (name (codes "x_1")) ∷ [])
+FoldedWords = HasTokens (codes "iF False X_1")
+    (token 0 2 (reserved word.If) ∷ token 3 8 (truth false) ∷ token 9 12 (name (codes "x_1")) ∷ [])
 
 abbrev pub NumberAndName : Type 0
 NumberAndName = HasTokens (codes "1in2") (token 0 1 (number 1) ∷ token 1 4 (name (codes "in2")) ∷ [])

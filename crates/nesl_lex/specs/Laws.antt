@@ -1,7 +1,9 @@
 -- Laws of the definition of tokens.
-use Rattle.std.specs.Prelude.{◌≡◌, ℕ, List, ◌⊎◌}
+use Rattle.std.specs.Prelude.{◌≡◌, ℕ, List, length, All, ◌⊎◌}
 use Rattle.nesl_lex.specs.Tokens.{Placed}
-use Rattle.nesl_lex.specs.Lexemes.{HasTokens, IsStuckAt}
+use Rattle.nesl_lex.specs.Lexemes.{Reads, HasTokens, IsStuckAt}
+use Rattle.nesl_lex.specs.Places.{InOrder, StandsIn}
+use Rattle.nesl_lex.specs.Reading.{reading_of}
 
 -- a line has at most one list of tokens
 abbrev pub OneList : Type 0
@@ -18,3 +20,15 @@ NotBoth = (line : List ℕ) (ts : List Placed) (at : ℕ) → HasTokens line ts 
 -- a line has tokens or is stuck somewhere
 abbrev pub Either : Type 0
 Either = (line : List ℕ) → ((ts : List Placed) × HasTokens line ts) ⊎ ((at : ℕ) × IsStuckAt line at)
+
+-- a line's tokens stand within it, one behind another
+abbrev pub TokensInOrder : Type 0
+TokensInOrder = (line : List ℕ) (ts : List Placed) → HasTokens line ts → InOrder 0 ts (length line)
+
+-- and each is spelled by the bytes of its span
+abbrev pub TokensStandIn : Type 0
+TokensStandIn = (line : List ℕ) (ts : List Placed) → HasTokens line ts → All (StandsIn line) ts
+
+-- what is computed of a line is its reading
+abbrev pub ReadingComputes : Type 0
+ReadingComputes = (line : List ℕ) → Reads 0 line (reading_of line).tokens (reading_of line).ending

@@ -1,6 +1,7 @@
 -- Which tokens a line has: a relation between bytes and tokens with spans.
 -- The words, the signs and the form of numbers, characters and texts are this profile's of NESL.
-use Rattle.std.specs.Prelude.{◌≡◌, ◌≢◌, ℕ, ◌+◌, ◌-◌, ◌*◌, ◌^◌, ◌<◌, ◌≤◌, Bool, true, false, ◌&&◌, ◌||◌, ◌==◌, nat_le, if◌then◌else◌, List, [], ◌∷◌, ◌++◌, length, map, ◌⊎◌, codes}
+use Rattle.std.specs.Prelude.{◌≡◌, ◌≢◌, ℕ, ◌+◌, ◌-◌, ◌*◌, ◌^◌, ◌<◌, ◌≤◌, Bool, true, false, ◌&&◌, ◌||◌, ◌==◌, nat_le}
+use Rattle.std.specs.Prelude.{if◌then◌else◌, List, [], ◌∷◌, ◌++◌, length, map, ◌⊎◌, codes}
 use Rattle.nesl_lex.specs.declared.token.Word.{Word}
 use Rattle.nesl_lex.specs.declared.token.Word.TheVariants as word
 use Rattle.nesl_lex.specs.declared.token.Sign.{Sign}
@@ -37,13 +38,13 @@ abbrev pub is_text_byte : ℕ → Bool
 is_text_byte b = if b == 34 then false else is_printable b
 
 -- the byte as a small letter, where it is a capital
-abbrev pub folded : ℕ → ℕ
-folded b = if is_capital b then b + 32 else b
+abbrev pub small_letter : ℕ → ℕ
+small_letter b = if is_capital b then b + 32 else b
 
 -- each byte passes the test
-abbrev pub Each : (ℕ → Bool) → List ℕ → Type 0
-Each p [] = Unit {0}
-Each p (b ∷ bs) = (p b ≡ true) × Each p bs
+abbrev pub AllBytes : (ℕ → Bool) → List ℕ → Type 0
+AllBytes p [] = Unit {0}
+AllBytes p (b ∷ bs) = (p b ≡ true) × AllBytes p bs
 
 -- the number that digits behind a value make
 abbrev pub value_behind : ℕ → List ℕ → ℕ
@@ -103,16 +104,17 @@ IsTruthText text false = (text ≡ codes "f") ⊎ (text ≡ codes "false")
 -- digits, one or more
 abbrev pub IsDigits : List ℕ → Type 0
 IsDigits [] = ⊥
-IsDigits (b ∷ bs) = (is_digit b ≡ true) × Each is_digit bs
+IsDigits (b ∷ bs) = (is_digit b ≡ true) × AllBytes is_digit bs
 
 -- a letter, then letters, digits and _
 abbrev pub IsNameText : List ℕ → Type 0
 IsNameText [] = ⊥
-IsNameText (b ∷ bs) = (is_letter b ≡ true) × Each is_name_byte bs
+IsNameText (b ∷ bs) = (is_letter b ≡ true) × AllBytes is_name_byte bs
 
 -- what a text of a name's form is, in small letters: a reserved word, a truth value, or else a name
 abbrev pub IsNamed : List ℕ → Lexeme → Type 0
-IsNamed small (name bytes) = (bytes ≡ small) × ((w : Word) → small ≢ word_text w) × ((value : Bool) → IsTruthText small value → ⊥)
+IsNamed small (name bytes) =
+    (bytes ≡ small) × ((w : Word) → small ≢ word_text w) × ((value : Bool) → IsTruthText small value → ⊥)
 IsNamed small (reserved w) = small ≡ word_text w
 IsNamed small (truth value) = IsTruthText small value
 IsNamed small _ = ⊥
@@ -121,9 +123,9 @@ IsNamed small _ = ⊥
 abbrev pub Spells : List ℕ → Lexeme → Type 0
 Spells text (number n) = IsDigits text × (n ≡ value_behind 0 text) × (n < 2 ^ 63)
 Spells text (character c) = (text ≡ 96 ∷ c ∷ []) × (is_printable c ≡ true)
-Spells text (quoted inside) = (text ≡ 34 ∷ (inside ++ 34 ∷ [])) × Each is_text_byte inside
+Spells text (quoted inside) = (text ≡ 34 ∷ (inside ++ 34 ∷ [])) × AllBytes is_text_byte inside
 Spells text (symbol s) = text ≡ sign_text s
-Spells text x = IsNameText text × IsNamed (map folded text) x
+Spells text x = IsNameText text × IsNamed (map small_letter text) x
 
 -- a token's text, also where it is a number that is too large
 abbrev pub HasShape : List ℕ → Type 0
@@ -131,18 +133,22 @@ HasShape text = IsDigits text ⊎ ((x : Lexeme) × Spells text x)
 
 -- no longer front of what stands here has a token's shape
 abbrev pub IsLongest : List ℕ → List ℕ → Type 0
-IsLongest text rest = (front back : List ℕ) → text ++ rest ≡ front ++ back → HasShape front → length front ≤ length text
+IsLongest text rest =
+    (front back : List ℕ) → text ++ rest ≡ front ++ back → HasShape front → length front ≤ length text
 
 -- a blank, or a comment from % to the next %
 abbrev pub IsGap : List ℕ → Type 0
 IsGap [] = ⊥
-IsGap (b ∷ bs) = ((is_blank b ≡ true) × (bs ≡ [])) ⊎ ((b ≡ 37) × (inside : List ℕ) × (bs ≡ inside ++ 37 ∷ []) × Each is_comment_byte inside)
+IsGap (b ∷ bs) =
+    ((is_blank b ≡ true) × (bs ≡ []))
+    ⊎ ((b ≡ 37) × (inside : List ℕ) × (bs ≡ inside ++ 37 ∷ []) × AllBytes is_comment_byte inside)
 
 -- no token, blank or whole comment stands at the front of these bytes, and there is a byte
 pub record IsStuck (bytes : List ℕ) : Type 0 where
   pub byte : bytes ≢ []
   pub no_gap : (gap rest : List ℕ) → bytes ≡ gap ++ rest → IsGap gap → ⊥
-  pub no_token : (text rest : List ℕ) (x : Lexeme) → bytes ≡ text ++ rest → Spells text x → IsLongest text rest → ⊥
+  pub no_token : (text rest : List ℕ) (x : Lexeme)
+      → bytes ≡ text ++ rest → Spells text x → IsLongest text rest → ⊥
 
 -- how a reading ends: at the end of the bytes, or at a place where nothing stands
 pub data Ending : Type 0 where
@@ -157,8 +163,14 @@ at_place x at n = record { lexeme = x; span = record { start = at; end = at + n 
 pub data Reads : ℕ → List ℕ → List Placed → Ending → Type 0 where
   finished : {at : ℕ} → Reads at [] [] whole
   halted : {at : ℕ} {bytes : List ℕ} → IsStuck bytes → Reads at bytes [] (stuck at)
-  passed : {at : ℕ} {bytes : List ℕ} {ts : List Placed} {e : Ending} (gap rest : List ℕ) → bytes ≡ gap ++ rest → IsGap gap → Reads (at + length gap) rest ts e → Reads at bytes ts e
-  took : {at : ℕ} {bytes : List ℕ} {ts : List Placed} {e : Ending} (text rest : List ℕ) (x : Lexeme) → bytes ≡ text ++ rest → Spells text x → IsLongest text rest → Reads (at + length text) rest ts e → Reads at bytes (at_place x at (length text) ∷ ts) e
+  passed : {at : ℕ} {bytes : List ℕ} {ts : List Placed} {e : Ending} (gap rest : List ℕ)
+      → bytes ≡ gap ++ rest → IsGap gap
+      → Reads (at + length gap) rest ts e
+      → Reads at bytes ts e
+  took : {at : ℕ} {bytes : List ℕ} {ts : List Placed} {e : Ending} (text rest : List ℕ) (x : Lexeme)
+      → bytes ≡ text ++ rest → Spells text x → IsLongest text rest
+      → Reads (at + length text) rest ts e
+      → Reads at bytes (at_place x at (length text) ∷ ts) e
 
 -- the tokens of a line
 abbrev pub HasTokens : List ℕ → List Placed → Type 0

@@ -1,7 +1,9 @@
 pub mod Tokens
 pub mod Lexemes
+pub mod Places
+pub mod Reading
 pub mod Laws
 pub mod Examples
 pub mod Scan
-pub mod Outcome
+pub mod Faults
 pub mod Progress

@@ -1,15 +1,17 @@
 -- What stands at the front of some bytes.
-use Rattle.std.specs.Prelude.{◌≡◌, ℕ, suc, Bool, false, ◌==◌, ◌&&◌, if◌then◌else◌, List, [], ◌∷◌, ◌++◌, length, Option, Some, None}
+use Rattle.std.specs.Prelude.{◌≡◌, ℕ, suc, Bool, false, ◌==◌, ◌&&◌, if◌then◌else◌, List, [], ◌∷◌, ◌++◌, length, Option}
+use Rattle.std.specs.Prelude.{Some, None}
 use Rattle.nesl_lex.specs.declared.token.Sign.{Sign}
 use Rattle.nesl_lex.specs.declared.token.Sign.TheVariants as sign
 use Rattle.nesl_lex.specs.declared.scan.Start.{Start}
 use Rattle.nesl_lex.specs.declared.scan.Start.TheVariants as start
-use Rattle.nesl_lex.specs.declared.scan.Class.{Class}
-use Rattle.nesl_lex.specs.declared.scan.Class.TheVariants as class
+use Rattle.nesl_lex.specs.declared.scan.ByteClass.{ByteClass}
+use Rattle.nesl_lex.specs.declared.scan.ByteClass.TheVariants as class
 use Rattle.nesl_lex.specs.declared.scan.Piece.{Piece}
 use Rattle.nesl_lex.specs.declared.scan.Piece.TheVariants.{Gap, Token, Nothing}
 use Rattle.nesl_lex.specs.Tokens.{Lexeme, lexeme_of}
-use Rattle.nesl_lex.specs.Lexemes.{Each, is_blank, is_digit, is_letter, is_name_byte, is_comment_byte, is_text_byte, IsGap, IsStuck, Spells, IsLongest}
+use Rattle.nesl_lex.specs.Lexemes.{AllBytes, is_blank, is_digit, is_letter, is_name_byte, is_comment_byte, is_text_byte}
+use Rattle.nesl_lex.specs.Lexemes.{IsGap, IsStuck, Spells, IsLongest}
 
 -- what a first byte begins
 abbrev pub start_of : ℕ → Start
@@ -21,7 +23,7 @@ start_of b =
     if b == 96 then start.Character else (
     if b == 34 then start.Text else start.Other)))))
 
-abbrev pub test_of : Class → ℕ → Bool
+abbrev pub test_of : ByteClass → ℕ → Bool
 test_of class.Digit = is_digit
 test_of class.NameByte = is_name_byte
 test_of class.Comment = is_comment_byte
@@ -65,7 +67,7 @@ pub record Front (p : ℕ → Bool) (bytes : List ℕ) : Type 0 where
   pub rest : List ℕ
   pub whole : bytes ≡ front ++ rest
   pub long : length front ≡ front_len p bytes
-  pub each : Each p front
+  pub each : AllBytes p front
   pub stops : Stops p rest
 
 -- the sign of one byte

@@ -7,7 +7,8 @@ use Rattle.nesl_lex.specs.declared.token.Kind.{Kind}
 use Rattle.nesl_lex.specs.declared.token.Kind.TheVariants.{Number, Name, Reserved, Truth, Character, Text, Symbol}
 use Rattle.nesl_lex.specs.declared.token.Token.{Token}
 
--- what a token is: a number's value, a name in small letters, a reserved word, a truth value, a character's code, the bytes of a text, or a sign
+-- what a token is: a number's value, a name in small letters, a reserved word, a truth value, a character's code,
+-- the bytes of a text, or a sign
 pub data Lexeme : Type 0 where
   number : ℕ → Lexeme
   name : List ℕ → Lexeme

@@ -1,6 +1,6 @@
 // Laws of the definition of tokens, and worked lines.
 
-ghost use Rattle.nesl_lex.specs.Laws.{OneList, OnePlace, NotBoth, Either};
+ghost use Rattle.nesl_lex.specs.Laws.{OneList, OnePlace, NotBoth, Either, TokensInOrder, TokensStandIn, ReadingComputes};
 ghost use Rattle.nesl_lex.specs.Examples.{Arrow, ArrowAndMinus, TwoMinuses, ThreeColons, TwoComments, PercentInText, OpenText, OpenComment, BlankCharacter, LoneBackquote, BackquoteAndDelete, GreatestNumber, TooLargeNumber, LeadingZeros, TruthAndName, FoldedWords, NumberAndName, ZeroByte, LargeByte};
 
 /// Each line either has one list of tokens or is stuck at one place.
@@ -9,6 +9,18 @@ pub fn one_reading()
     ensures one_place { OnePlace }
     ensures not_both { NotBoth }
     ensures either { Either }
+{}
+
+/// A line's tokens stand within it one behind another, and the bytes of each one's span are its text.
+pub fn tokens_in_order()
+    ensures in_order { TokensInOrder }
+    ensures stand_in { TokensStandIn }
+{}
+
+/// A line's tokens, or the place where it is stuck, computed: so a crate above can state a worked line as bytes, call this
+/// law and give its clause the bytes.
+pub fn reading_computes()
+    ensures { ReadingComputes }
 {}
 
 /// Lines that are worked by hand.

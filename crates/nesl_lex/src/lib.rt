@@ -8,8 +8,5 @@ mod scan;
 pub mod token;
 
 pub use fault::LexFault;
-pub use laws::{one_reading, worked_lines};
+pub use laws::{one_reading, reading_computes, tokens_in_order, worked_lines};
 pub use line::lex;
-
-#[cfg(test)]
-mod tests;

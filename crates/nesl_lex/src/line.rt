@@ -3,7 +3,7 @@
 ghost use Rattle.std.specs.Prelude.{◌≡◌, List, IfOk, IsErrOf};
 ghost use Rattle.nesl_lex.specs.Tokens.{Placed, placed};
 ghost use Rattle.nesl_lex.specs.Lexemes.{HasTokens, IsStuckAt};
-ghost use Rattle.nesl_lex.specs.Outcome.{OnLexical};
+ghost use Rattle.nesl_lex.specs.Faults.{OnLexical};
 
 use crate::fault::LexFault;
 use crate::scan::{Piece, next_piece};

@@ -1,7 +1,7 @@
 // What stands at the front of some bytes.
 
 ghost use Rattle.std.specs.Prelude.{◌≡◌, ◌≢◌, ◌≤◌, ◌<◌, ◌^◌, ◌+◌, ◌-◌, ◌*◌, ◌==◌, ◌↔◌, IsTrue, IfOk, IfSome, IfNone, length, map, slice_index, Bool};
-ghost use Rattle.nesl_lex.specs.Lexemes.{is_digit, is_capital, is_letter, is_name_byte, is_printable, is_text_byte, folded, Each, value_behind, word_text, IsTruthText, IsNamed, sign_text};
+ghost use Rattle.nesl_lex.specs.Lexemes.{is_digit, is_capital, is_letter, is_name_byte, is_printable, is_text_byte, small_letter, AllBytes, value_behind, word_text, IsTruthText, IsNamed, sign_text};
 ghost use Rattle.nesl_lex.specs.Tokens.{lexeme_of};
 ghost use Rattle.nesl_lex.specs.Scan.{start_of, test_of, front_len, Stands, single, double, sign_in};
 ghost use Rattle.nesl_lex.specs.declared.token.Word as word;
@@ -25,7 +25,7 @@ pub enum Start {
 
 /// A kind of byte that stands in a row.
 #[derive(Clone, Copy, PartialEq, Eq, Debug)]
-pub enum Class {
+pub enum ByteClass {
     Digit,
     NameByte,
     /// A byte inside a comment.
@@ -82,8 +82,8 @@ fn is_text_byte(b: u8) -> bool
     b != b'"' && is_printable(b)
 }
 
-fn folded(b: u8) -> u8
-    ensures { result ≡ folded b }
+fn small_letter(b: u8) -> u8
+    ensures { result ≡ small_letter b }
 {
     if is_capital(b) { b + 32 } else { b }
 }
@@ -103,20 +103,20 @@ fn start_of(b: u8) -> Start
 }
 
 #[inline(always)]
-fn passes(class: Class, b: u8) -> bool
+fn passes(class: ByteClass, b: u8) -> bool
     ensures { result ≡ test_of class b }
 {
     match class {
-        Class::Digit => is_digit(b),
-        Class::NameByte => is_name_byte(b),
-        Class::Comment => b != b'%',
-        Class::Text => is_text_byte(b),
+        ByteClass::Digit => is_digit(b),
+        ByteClass::NameByte => is_name_byte(b),
+        ByteClass::Comment => b != b'%',
+        ByteClass::Text => is_text_byte(b),
     }
 }
 
 // How many bytes at the front are of the class.
 #[inline(always)]
-fn front_len(bytes: &[u8], class: Class) -> usize
+fn front_len(bytes: &[u8], class: ByteClass) -> usize
     ensures value { result ≡ front_len (test_of class) bytes.now }
     ensures within { result ≤ length bytes.now }
 {
@@ -129,7 +129,7 @@ fn front_len(bytes: &[u8], class: Class) -> usize
 
 // The number that the digits make.
 fn number(digits: &[u8]) -> Option<u64>
-    requires { Each is_digit digits.now }
+    requires { AllBytes is_digit digits.now }
     ensures some { IfSome result (λ n. (n ≡ value_behind 0 digits.now) × (n < 2 ^ 63)) }
     ensures none { IfNone result (2 ^ 63 ≤ value_behind 0 digits.now) }
 {
@@ -186,9 +186,9 @@ fn truth(bytes: &[u8]) -> Option<bool>
 
 // The text in small letters.
 fn small(alloc: Global, text: &[u8]) -> Result<Vec<u8>, AllocError>
-    ensures { IfOk result (λ v. v.items ≡ map folded text.now) }
+    ensures { IfOk result (λ v. v.items ≡ map small_letter text.now) }
 {
-    text.iter().map(|b| folded(*b)).collect(alloc)
+    text.iter().map(|b| small_letter(*b)).collect(alloc)
 }
 
 // The sign of one byte.
@@ -270,7 +270,7 @@ fn comment(bytes: &[u8]) -> Piece
     ensures { Stands bytes.now result }
 {
     let rest = &bytes[1..];
-    let n = front_len(rest, Class::Comment);
+    let n = front_len(rest, ByteClass::Comment);
     if n < rest.len() {
         Piece::Gap(n + 2)
     } else {
@@ -284,7 +284,7 @@ fn digits(bytes: &[u8]) -> Piece
     requires digit { start_of (slice_index bytes.now 0) ≡ start.Number }
     ensures { Stands bytes.now result }
 {
-    let n = front_len(bytes, Class::Digit);
+    let n = front_len(bytes, ByteClass::Digit);
     match number(&bytes[..n]) {
         Some(value) => Piece::Token(n, Kind::Number(value)),
         None => Piece::Nothing,
@@ -310,7 +310,7 @@ fn name(alloc: Global, bytes: &[u8]) -> Result<Piece, AllocError>
     requires letter { start_of (slice_index bytes.now 0) ≡ start.Name }
     ensures { IfOk result (λ piece. Stands bytes.now piece) }
 {
-    let n = front_len(bytes, Class::NameByte);
+    let n = front_len(bytes, ByteClass::NameByte);
     let text = small(alloc, &bytes[..n])?;
     Ok(Piece::Token(n, named(text)))
 }
@@ -335,7 +335,7 @@ fn text(alloc: Global, bytes: &[u8]) -> Result<Piece, AllocError>
     ensures { IfOk result (λ piece. Stands bytes.now piece) }
 {
     let rest = &bytes[1..];
-    let n = front_len(rest, Class::Text);
+    let n = front_len(rest, ByteClass::Text);
     if n < rest.len() && rest[n] == b'"' {
         let inside = Vec::from_slice(alloc, &rest[..n])?;
         Ok(Piece::Token(n + 2, Kind::Text(inside)))

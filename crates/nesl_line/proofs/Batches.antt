@@ -8,10 +8,10 @@ use Rattle.nesl_house.specs.Runs.{Seat, Runs}
 use Rattle.nesl_line.specs.declared.line.Line.{Line}
 use Rattle.nesl_line.specs.declared.talk.Talk.{Talk}
 use Rattle.nesl_line.specs.declared.batch.End.TheVariants.{Input, ReadFault, WriteFault, NoMemory}
-use Rattle.nesl_line.specs.Lines.{handed, cut, last_line}
+use Rattle.nesl_line.specs.Lines.{handed, cut, last_line, AllLines}
 use Rattle.nesl_line.specs.Conversation.{silence, Talked, text_of}
-use Rattle.nesl_line.specs.Steps.{Progress, Stopped, Finished, chosen, Answered, SoFar, IsFresh, Goes, Stops, Done}
-use Rattle.nesl_line.specs.Batch.{IsBatch}
+use Rattle.nesl_line.specs.Steps.{Progress, Stopped, Finished, chosen, Answered, SoFar, IsFresh, Goes, Stops, StopsAtEnd, Done}
+use Rattle.nesl_line.specs.Batch.{IsBatch, by_their_feeds, by_the_end}
 use Rattle.nesl_line.proofs.Bytes.{consumes_none, consumes_keep, consumes_then, appends_none, appends_then, splits_none}
 use Rattle.nesl_line.proofs.Talks.{talked_more, text_of-push}
 
@@ -26,7 +26,6 @@ no_memory_batch left held house quiet = record {
   appended = appends_none held;
   talked = record { events = []; said = silence None; runs = quiet };
   ended = (refl, refl, refl);
-  at_input = tt;
   counted = refl;
 }
 
@@ -57,7 +56,6 @@ read_fault_batch left mid left' held held' house house' talk s k = record {
   appended = s.progress.appended;
   talked = s.progress.talked;
   ended = (record { whole = s.progress.whole; rest = s.progress.raw; splits = s.progress.splits; are = refl }, refl);
-  at_input = tt;
   counted = s.progress.counted ∙ sym (length-map s.progress.whole handed);
 }
 
@@ -78,8 +76,7 @@ stopped_batch left mid left' held held' house house' talk read bytes c d s = rec
   consumed = consumes_then left mid left' read bytes c d;
   appended = s.appended;
   talked = s.talked;
-  ended = s.ended;
-  at_input = tt;
+  ended = (s.more, by_their_feeds s.are, s.partly);
   counted = s.counted;
 }
 
@@ -87,10 +84,20 @@ nothing_more : (left mid left' : Option (List ℕ)) (read : List ℕ) → Consum
 nothing_more left mid left' read c d = let P : List ℕ → Type 0 = λ x. Consumes left left' x in subst P (append-nil read) (consumes_then left mid left' read [] c d)
 
 -- at the end of input the last answer could not be sent
-pub last_stopped_batch : (left mid left' held held' : Option (List ℕ)) (house house' : List Seat) (talk : Talk) (read : List ℕ) → Consumes left mid read → Consumes mid left' [] → Stops house house' talk read held held' → IsBatch WriteFault talk.lines left left' held held' house house'
-last_stopped_batch left mid left' held held' house house' talk read c d s =
-    let P : List ℕ → Type 0 = λ x. Stops house house' talk x held held' in
-    stopped_batch left mid left' held held' house house' talk read [] c d (subst P (sym (append-nil read)) s)
+pub last_stopped_batch : (left mid left' held held' : Option (List ℕ)) (house house' : List Seat) (talk : Talk) (read : List ℕ) → Consumes left mid read → Consumes mid left' [] → IsAtEnd left' → StopsAtEnd house house' talk read held held'
+    → IsBatch WriteFault talk.lines left left' held held' house house'
+last_stopped_batch left mid left' held held' house house' talk read c d at_end s = record {
+  read = read;
+  lines = s.lines;
+  texts = s.texts;
+  written = s.written;
+  who = chosen talk.who.items;
+  consumed = nothing_more left mid left' read c d;
+  appended = s.appended;
+  talked = s.talked;
+  ended = (s.more, by_the_end at_end s.are, s.partly);
+  counted = s.counted;
+}
 
 -- at the end of input all was answered
 pub input_batch : (left mid left' held held' : Option (List ℕ)) (house house' : List Seat) (talk : Talk) (read : List ℕ) → Consumes left mid read → Consumes mid left' [] → IsAtEnd left' → Done house house' talk read held held' → IsBatch Input talk.lines left left' held held' house house'
@@ -103,8 +110,7 @@ input_batch left mid left' held held' house house' talk read c d at_end f = reco
   consumed = nothing_more left mid left' read c d;
   appended = f.appended;
   talked = f.talked;
-  ended = (f.are, refl);
-  at_input = at_end;
+  ended = (at_end, f.are, refl);
   counted = f.counted;
 }
 
@@ -132,7 +138,7 @@ finished_before start house who read line held held' n p e = record {
 
 -- what is left at the end of input is a line, and is answered
 pub last_answered : (start house house' : List Seat) (who who' : Option (List ℕ)) (read bytes : List ℕ) (line : Line) (held held' held'' : Option (List ℕ)) (n : ℕ) (well : Bool) → Progress start house who read line held held' n → bytes ≡ line.bytes.items → 0 < length bytes
-    → Answered house house' who who' bytes held' held'' well → MatchBool well (Finished start house' who' read held held'' (n + 1)) (Stopped start house' who' read held held'' (n + 1))
+    → Answered house house' who who' bytes held' held'' well → MatchBool well (Finished start house' who' read held held'' (n + 1)) (Stopped AllLines start house' who' read held held'' (n + 1))
 last_answered start house house' who who' read bytes line held held' held'' n true p b some a =
     let same : bytes ≡ cut p.raw = b ∙ p.holds.0 in
     let raw_some : 0 < length p.raw = omega (arith, some, ap length same, length-take 4097 p.raw) in
@@ -155,11 +161,9 @@ last_answered start house house' who who' read bytes line held held' held'' n fa
       texts = p.texts ++ a.text ∷ [];
       written = text_of p.texts ++ a.sent.front;
       talked = talked_more start house house' who who' (map handed p.whole) p.texts bytes held' held'' false p.talked a;
-      ended = (
-        [],
-        record { whole = p.whole; rest = p.raw; splits = p.splits; are = append-nil _ ∙ ap (λ x. map handed p.whole ++ x ∷ []) same ∙ ap (λ x. map handed p.whole ++ x) (sym (last_line_some p.raw raw_some)) },
-        record { before = p.texts; last = a.text; front = a.sent.front; lost = a.sent.lost; all = refl; cut = a.sent.split; sent = refl },
-      );
+      more = [];
+      are = record { whole = p.whole; rest = p.raw; splits = p.splits; are = append-nil _ ∙ ap (λ x. map handed p.whole ++ x ∷ []) same ∙ ap (λ x. map handed p.whole ++ x) (sym (last_line_some p.raw raw_some)) };
+      partly = record { before = p.texts; last = a.text; front = a.sent.front; lost = a.sent.lost; all = refl; cut = a.sent.split; sent = refl };
       appended = appends_then held held' held'' (text_of p.texts) a.sent.front p.appended a.sent.appended;
       counted = omega (arith, p.counted, length-map p.whole handed, length-append (map handed p.whole) (bytes ∷ []));
     }

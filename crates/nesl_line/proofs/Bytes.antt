@@ -8,7 +8,7 @@ use Rattle.std.proofs.lemmas.List.{take_all, take-append-drop, length-take}
 use Rattle.std.proofs.Math.Seq.{take-add}
 use Rattle.std.proofs.lemmas.Bool.{le-ltb, lt-ltb, ltb-true, ltb-false, eqb-true, cases_lt}
 use Rattle.nesl_line.specs.Steps.{Sent}
-use Rattle.nesl_line.specs.Lines.{HasNoFeed, ended, Splits, handed}
+use Rattle.nesl_line.specs.Lines.{HasNoFeed, with_feed, Splits, handed}
 use Rattle.std.proofs.lemmas.List.{length-drop}
 
 -- nothing more
@@ -55,7 +55,7 @@ splits_none = record { spelled = refl; each = tt; open_end = tt }
 -- more of the rest
 pub splits_more : (text : List ℕ) (whole : List (List ℕ)) (raw more : List ℕ) → Splits text whole raw → HasNoFeed more → Splits (text ++ more) whole (raw ++ more)
 splits_more text whole raw more s n = record {
-  spelled = ap (λ x. x ++ more) s.spelled ∙ append_assoc (flat_map ended whole) raw more;
+  spelled = ap (λ x. x ++ more) s.spelled ∙ append_assoc (flat_map with_feed whole) raw more;
   each = s.each;
   open_end = all_both (λ x. x ≢ 10) raw more s.open_end n;
 }
@@ -64,7 +64,7 @@ splits_more text whole raw more s n = record {
 pub splits_feed : (text : List ℕ) (whole : List (List ℕ)) (raw : List ℕ) → Splits text whole raw → Splits (text ++ 10 ∷ []) (whole ++ raw ∷ []) []
 splits_feed text whole raw s = record {
   spelled =
-      ap (λ x. x ++ 10 ∷ []) s.spelled ∙ append_assoc (flat_map ended whole) raw (10 ∷ []) ∙ sym (append-nil _) ∙ ap (λ x. x ++ []) (ap (λ x. flat_map ended whole ++ x) (sym (append-nil (ended raw))) ∙ sym (flat_map-append ended whole (raw ∷ [])));
+      ap (λ x. x ++ 10 ∷ []) s.spelled ∙ append_assoc (flat_map with_feed whole) raw (10 ∷ []) ∙ sym (append-nil _) ∙ ap (λ x. x ++ []) (ap (λ x. flat_map with_feed whole ++ x) (sym (append-nil (with_feed raw))) ∙ sym (flat_map-append with_feed whole (raw ∷ [])));
   each = all_both HasNoFeed whole (raw ∷ []) s.each (s.open_end, tt);
   open_end = tt;
 }
@@ -72,7 +72,7 @@ splits_feed text whole raw s = record {
 -- more text behind a line that ended
 pub splits_then : (a b : List ℕ) (one two : List (List ℕ)) (raw : List ℕ) → Splits a one [] → Splits b two raw → Splits (a ++ b) (one ++ two) raw
 splits_then a b one two raw s t = record {
-  spelled = ap (λ x. x ++ b) (s.spelled ∙ append-nil _) ∙ ap (λ x. flat_map ended one ++ x) t.spelled ∙ sym (append_assoc (flat_map ended one) (flat_map ended two) raw) ∙ ap (λ x. x ++ raw) (sym (flat_map-append ended one two));
+  spelled = ap (λ x. x ++ b) (s.spelled ∙ append-nil _) ∙ ap (λ x. flat_map with_feed one ++ x) t.spelled ∙ sym (append_assoc (flat_map with_feed one) (flat_map with_feed two) raw) ∙ ap (λ x. x ++ raw) (sym (flat_map-append with_feed one two));
   each = all_both HasNoFeed one two s.each t.each;
   open_end = t.open_end;
 }

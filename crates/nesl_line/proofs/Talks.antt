@@ -10,12 +10,12 @@ use Rattle.std.proofs.lemmas.Grind.{flat_map-append}
 use Rattle.std.specs.Option.{option_map, is_some}
 use Rattle.std.specs.Io.KnownBytes.{Appends}
 use Rattle.nesl_session.specs.State.{Log}
-use Rattle.nesl_session.specs.Reply.{Reply, no_user}
+use Rattle.nesl_session.specs.Response.{Response, no_user}
 use Rattle.nesl_house.specs.Script.{Event, kept}
 use Rattle.nesl_house.specs.Laws.{ScriptsFollow}
 use Rattle.nesl_house.specs.Runs.{Seat, roster_of, session_of, Runs}
 use Rattle.nesl_house.proofs.Alones.{stays_none, was_none}
-use Rattle.nesl_line.specs.Lines.{HasNoFeed, ended, handed, last_line, Splits}
+use Rattle.nesl_line.specs.Lines.{HasNoFeed, with_feed, handed, Splits, WholeLines}
 use Rattle.nesl_line.specs.Conversation.{IsUserLine, NamesNobody, Turn, selects, stranger, nobody, says, Conversation, silence, goes_on, Talked, text_of}
 use Rattle.nesl_line.specs.declared.line.Line.{Line}
 use Rattle.nesl_line.specs.Steps.{Sent, chosen, NamesFit, Answered, Holds, Progress, Stopped}
@@ -60,17 +60,17 @@ answered_nobody house items line held held' well u e s = record {
   sent = s;
 }
 
-pub answered_user : (house : List Seat) (who : Option (List ℕ)) (items line name : List ℕ) (held held' : Option (List ℕ)) (well : Bool) → IsUserLine line name → session_of house name ≢ None → items ≡ name → Sent held held' (ended line) well
+pub answered_user : (house : List Seat) (who : Option (List ℕ)) (items line name : List ℕ) (held held' : Option (List ℕ)) (well : Bool) → IsUserLine line name → session_of house name ≢ None → items ≡ name → Sent held held' (with_feed line) well
     → Answered house house who (chosen items) line held held' well
 answered_user house who items line name held held' well u n e s = record {
-  text = ended line;
+  text = with_feed line;
   events = [];
-  turn = let P : Option (List ℕ) → Type 0 = λ x. Turn house who line (ended line) [] x in subst P (sym (ap chosen e ∙ chosen_some name u.some)) (selects name u n);
+  turn = let P : Option (List ℕ) → Type 0 = λ x. Turn house who line (with_feed line) [] x in subst P (sym (ap chosen e ∙ chosen_some name u.some)) (selects name u n);
   runs = silent house;
   sent = s;
 }
 
-pub answered_says : ScriptsFollow → (house house' : List Seat) (items user line bytes : List ℕ) (reply : Reply) (held held' : Option (List ℕ)) (well : Bool) → NamesNobody line → 0 < length items → user ≡ items
+pub answered_says : ScriptsFollow → (house house' : List Seat) (items user line bytes : List ℕ) (reply : Response) (held held' : Option (List ℕ)) (well : Bool) → NamesNobody line → 0 < length items → user ≡ items
     → Runs house (record { user = user; line = line; reply = reply } ∷ []) house' → bytes ≡ reply.bytes → Sent held held' bytes well → Answered house house' (chosen items) (chosen items) line held held' well
 answered_says follow house house' items user line bytes reply held held' well u h e r b s = record {
   text = reply.bytes;
@@ -148,7 +148,7 @@ progress_line start house house' who who' read bytes line line' held held' held'
     }
 
 pub stopped_line : (start house house' : List Seat) (who who' : Option (List ℕ)) (read bytes tail : List ℕ) (line : Line) (held held' held'' : Option (List ℕ)) (n : ℕ) → Progress start house who read line held held' n → ((raw : List ℕ) → Holds line raw → bytes ≡ handed raw)
-    → Answered house house' who who' bytes held' held'' false → Stopped start house' who' (read ++ 10 ∷ tail) held held'' (n + 1)
+    → Answered house house' who who' bytes held' held'' false → Stopped WholeLines start house' who' (read ++ 10 ∷ tail) held held'' (n + 1)
 stopped_line start house house' who who' read bytes tail line held held' held'' n p h a =
     let same : bytes ≡ handed p.raw = h p.raw p.holds in
     let rest = splits_some tail in
@@ -159,26 +159,24 @@ stopped_line start house house' who who' read bytes tail line held held' held'' 
       texts = p.texts ++ a.text ∷ [];
       written = text_of p.texts ++ a.sent.front;
       talked = talked_more start house house' who who' (map handed p.whole) p.texts bytes held' held'' false p.talked a;
-      ended = (
-        map handed rest.0 ++ last_line rest.1,
-        record {
-          whole = (p.whole ++ p.raw ∷ []) ++ rest.0;
-          rest = rest.1;
-          splits = subst S (append_assoc read (10 ∷ []) tail) (splits_then (read ++ 10 ∷ []) tail (p.whole ++ p.raw ∷ []) rest.0 rest.1 (splits_feed read p.whole p.raw p.splits) rest.2);
-          are =
-              ap (λ x. (map handed p.whole ++ x ∷ []) ++ (map handed rest.0 ++ last_line rest.1)) same ∙ ap (λ x. x ++ (map handed rest.0 ++ last_line rest.1)) (sym (handed_push p.whole p.raw))
-              ∙ sym (append_assoc (map handed (p.whole ++ p.raw ∷ [])) (map handed rest.0) (last_line rest.1)) ∙ ap (λ x. x ++ last_line rest.1) (sym (map-append handed (p.whole ++ p.raw ∷ []) rest.0));
-        },
-        record {
-          before = p.texts;
-          last = a.text;
-          front = a.sent.front;
-          lost = a.sent.lost;
-          all = refl;
-          cut = a.sent.split;
-          sent = refl;
-        },
-      );
+      more = map handed rest.0;
+      are = record {
+        whole = (p.whole ++ p.raw ∷ []) ++ rest.0;
+        rest = rest.1;
+        splits = subst S (append_assoc read (10 ∷ []) tail) (splits_then (read ++ 10 ∷ []) tail (p.whole ++ p.raw ∷ []) rest.0 rest.1 (splits_feed read p.whole p.raw p.splits) rest.2);
+        are =
+            ap (λ x. (map handed p.whole ++ x ∷ []) ++ map handed rest.0) same ∙ ap (λ x. x ++ map handed rest.0) (sym (handed_push p.whole p.raw))
+            ∙ sym (map-append handed (p.whole ++ p.raw ∷ []) rest.0);
+      };
+      partly = record {
+        before = p.texts;
+        last = a.text;
+        front = a.sent.front;
+        lost = a.sent.lost;
+        all = refl;
+        cut = a.sent.split;
+        sent = refl;
+      };
       appended = appends_then held held' held'' (text_of p.texts) a.sent.front p.appended a.sent.appended;
       counted = omega (arith, p.counted, length-append (map handed p.whole) (bytes ∷ []), length-map p.whole handed);
     }
@@ -193,7 +191,7 @@ filled (x ∷ xs) n b l e t = omega arith
 
 pub line_ended : (start house house' : List Seat) (who who' : Option (List ℕ)) (read bytes : List ℕ) (line line' : Line) (held held' held'' : Option (List ℕ)) (n : ℕ) (well : Bool) → Progress start house who read line held held' n → ((raw : List ℕ) → Holds line raw → bytes ≡ handed raw)
     → Answered house house' who who' bytes held' held'' well → Holds line' []
-    → MatchBool well (Progress start house' who' (read ++ 10 ∷ []) line' held held'' (n + 1)) ((tail : List ℕ) → Stopped start house' who' (read ++ 10 ∷ tail) held held'' (n + 1))
+    → MatchBool well (Progress start house' who' (read ++ 10 ∷ []) line' held held'' (n + 1)) ((tail : List ℕ) → Stopped WholeLines start house' who' (read ++ 10 ∷ tail) held held'' (n + 1))
 line_ended start house house' who who' read bytes line line' held held' held'' n true p h a e = progress_line start house house' who who' read bytes line line' held held' held'' n p h a e
 line_ended start house house' who who' read bytes line line' held held' held'' n false p h a e = λ tail. stopped_line start house house' who who' read bytes tail line held held' held'' n p h a
 

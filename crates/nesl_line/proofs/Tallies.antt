@@ -1,8 +1,8 @@
 -- Counts of what was written.
 use Rattle.std.proofs.Common.{◌≡◌, ℕ, ◌+◌, ◌-◌, ◌^◌, ◌<◌, ◌≤◌, ◌==◌, ◌&&◌, Bool, true, false, nat_lt, refl, sym, ap, ◌∙◌, subst, arith, ◌⊎◌, inl, inr, ⊎_elim, cond, lt-ltb}
 use Rattle.std.proofs.lemmas.Bool.{cases_lt, eqb-true}
-use Rattle.nesl_line.specs.Tally.{WriteTally, counted, Rose, flushed_by, Blames, ReadTally}
-use Rattle.nesl_line.specs.Steps.{Counted}
+use Rattle.nesl_line.specs.Tally.{WriteTally, counted, Rose, flushed_by, written_by, Blames, ReadTally}
+use Rattle.nesl_line.specs.Steps.{Wrote, Flushed}
 
 pub counted_none : (n : ℕ) → counted 0 n ≡ n
 counted_none n = omega arith
@@ -13,19 +13,42 @@ counted_then a b n = omega arith
 pub rose : (n : ℕ) → Rose n (counted 1 n)
 rose n = ⊎_elim (λ h. inl (omega (arith, h))) (λ h. inr (omega (arith, h))) (cases_lt n (2 ^ 64 - 1))
 
+pub written_none : (t : WriteTally) → t ≡ written_by 0 t
+written_none t = ap (λ n. record t { behind = n }) (sym (counted_none t.behind))
+
+pub written_then : (a b : ℕ) (t : WriteTally) → written_by b (written_by a t) ≡ written_by (a + b) t
+written_then a b t = ap (λ n. record t { behind = n }) (counted_then a b t.behind)
+
+-- n bytes more
+pub written_more : (a n : ℕ) (s t u : WriteTally) → t ≡ written_by a s → u ≡ written_by n t → u ≡ written_by (a + n) s
+written_more a n s t u e f = f ∙ ap (written_by n) e ∙ written_then a n s
+
 pub flushed_none : (t : WriteTally) → t ≡ flushed_by 0 t
 flushed_none t = ap (λ n. record t { flushed = n }) (sym (counted_none t.flushed))
 
+-- what is behind after some flushes, and some more
+left_behind : (a b k : ℕ) (first second both : Bool) → (a == 0) ≡ first → (b == 0) ≡ second → (a + b == 0) ≡ both → cond second (cond first k 0) 0 ≡ cond both k 0
+left_behind a b k true true true e f g = refl
+left_behind a b k true true false e f g = let x = eqb-true a 0 e in let y = eqb-true b 0 f in let sum : a + b ≡ 0 = omega (arith, x, y) in let z : (a + b == 0) ≡ true = ap (λ (n : ℕ). n == 0) sum in let no' : true ≡ false = sym z ∙ g in absurd (cc)
+left_behind a b k true false true e f g = let x : a + b ≡ 0 = eqb-true (a + b) 0 g in let none : b ≡ 0 = omega (arith, x) in let z : (b == 0) ≡ true = ap (λ (n : ℕ). n == 0) none in let no' : true ≡ false = sym z ∙ f in absurd (cc)
+left_behind a b k true false false e f g = refl
+left_behind a b k false true true e f g = let x : a + b ≡ 0 = eqb-true (a + b) 0 g in let none : a ≡ 0 = omega (arith, x) in let z : (a == 0) ≡ true = ap (λ (n : ℕ). n == 0) none in let no' : true ≡ false = sym z ∙ e in absurd (cc)
+left_behind a b k false true false e f g = refl
+left_behind a b k false false true e f g = let x : a + b ≡ 0 = eqb-true (a + b) 0 g in let none : a ≡ 0 = omega (arith, x) in let z : (a == 0) ≡ true = ap (λ (n : ℕ). n == 0) none in let no' : true ≡ false = sym z ∙ e in absurd (cc)
+left_behind a b k false false false e f g = refl
+
 pub flushed_then : (a b : ℕ) (t : WriteTally) → flushed_by b (flushed_by a t) ≡ flushed_by (a + b) t
-flushed_then a b t = ap (λ n. record t { flushed = n }) (counted_then a b t.flushed)
+flushed_then a b t = let behind = left_behind a b t.behind (a == 0) (b == 0) (a + b == 0) refl refl refl in λ i. record t { flushed = counted_then a b t.flushed i; behind = behind i }
 
 -- n flushes, and then what else was counted
-pub counted_more : (well : Bool) (m n : ℕ) (a b c : WriteTally) → b ≡ flushed_by m a → Counted well n b c → Counted well (m + n) a c
-counted_more true m n a b c e t = t ∙ ap (flushed_by n) e ∙ flushed_then m n a
-counted_more false m n a b c e t = let P : WriteTally → Type 0 = λ x. Blames x c in subst P e t
+pub flushed_more : (well : Bool) (m n : ℕ) (a b c : WriteTally) → b ≡ flushed_by m a → Flushed well n b c → Flushed well (m + n) a c
+flushed_more true m n a b c e t = t ∙ ap (flushed_by n) e ∙ flushed_then m n a
+flushed_more false m n a b c e t = let P : WriteTally → Type 0 = λ x. Blames x c in subst P e t
 
-pub counted_same : (well : Bool) (n : ℕ) (a b c : WriteTally) → b ≡ a → Counted well n b c → Counted well n a c
-counted_same well n a b c e t = let P : WriteTally → Type 0 = λ x. Counted well n x c in subst P e t
+-- a flush leaves nothing behind of what was written before it
+pub flushed_after : (well : Bool) (k : ℕ) (a b c : WriteTally) → b ≡ written_by k a → Flushed well 1 b c → Flushed well 1 a c
+flushed_after true k a b c e t = t ∙ ap (flushed_by 1) e
+flushed_after false k a b c e t = let P : WriteTally → Type 0 = λ x. Blames x c in subst P e t
 
 pub stalled : (a b : WriteTally) → b ≡ record a { stalled = counted 1 a.stalled } → Blames a b
 stalled a b e = let P : WriteTally → Type 0 = λ x. Blames a x in subst P (sym e) (inr (rose a.stalled))
@@ -34,21 +57,23 @@ pub failed : (a b : WriteTally) → b ≡ record a { failed = counted 1 a.failed
 failed a b e = let P : WriteTally → Type 0 = λ x. Blames a x in subst P (sym e) (inl (rose a.failed))
 
 -- what a write did to the tally, by how many bytes it took
-took : (m n : ℕ) (a b : WriteTally) (none some : Bool) → (n == 0) ≡ none → nat_lt 0 m ≡ some → b ≡ cond (n == 0 && nat_lt 0 m) (record a { stalled = counted 1 a.stalled }) a → b ≡ cond (none && some) (record a { stalled = counted 1 a.stalled }) a
-took m n a b none some e f t = t ∙ (λ i. cond (e i && f i) (record a { stalled = counted 1 a.stalled }) a)
+took : (m n : ℕ) (a b : WriteTally) (none some : Bool) → (n == 0) ≡ none → nat_lt 0 m ≡ some → b ≡ cond (n == 0 && nat_lt 0 m) (record a { stalled = counted 1 a.stalled }) (written_by n a)
+    → b ≡ cond (none && some) (record a { stalled = counted 1 a.stalled }) (written_by n a)
+took m n a b none some e f t = t ∙ (λ i. cond (e i && f i) (record a { stalled = counted 1 a.stalled }) (written_by n a))
 
 none_of : (n : ℕ) (b : Bool) → (n == 0) ≡ b → (n ≡ 0 → ⊥) → b ≡ false
 none_of n true e h = absurd (h (eqb-true n 0 e))
 none_of n false e h = refl
 
-pub took_some : (m n : ℕ) (a b : WriteTally) → (n ≡ 0 → ⊥) → b ≡ cond (n == 0 && nat_lt 0 m) (record a { stalled = counted 1 a.stalled }) a → b ≡ a
+pub took_some : (m n : ℕ) (a b : WriteTally) → (n ≡ 0 → ⊥) → b ≡ cond (n == 0 && nat_lt 0 m) (record a { stalled = counted 1 a.stalled }) (written_by n a) → b ≡ written_by n a
 took_some m n a b h t = took m n a b false (nat_lt 0 m) (none_of n (n == 0) refl h) refl t
 
-pub took_none : (m n : ℕ) (a b : WriteTally) → n ≡ 0 → 0 < m → b ≡ cond (n == 0 && nat_lt 0 m) (record a { stalled = counted 1 a.stalled }) a → Blames a b
+pub took_none : (m n : ℕ) (a b : WriteTally) → n ≡ 0 → 0 < m → b ≡ cond (n == 0 && nat_lt 0 m) (record a { stalled = counted 1 a.stalled }) (written_by n a) → Blames a b
 took_none m n a b e h t = stalled a b (took m n a b true true (ap (λ k. k == 0) e) (lt-ltb 0 m h) t)
 
-pub blamed_from : (a b c : WriteTally) → b ≡ a → Blames b c → Blames a c
-blamed_from a b c e t = let P : WriteTally → Type 0 = λ x. Blames x c in subst P e t
+-- something was written, and then something failed
+pub blamed_after : (k : ℕ) (a b c : WriteTally) → b ≡ written_by k a → Blames b c → Blames a c
+blamed_after k a b c e t = let P : WriteTally → Type 0 = λ x. Blames x c in subst P e t
 
 -- so many reads were made, and none of them failed
 abbrev pub ReadsMade : ℕ → ReadTally → ReadTally → Type 0

@@ -5,10 +5,10 @@ use Rattle.std.specs.List.{AllByRecursion}
 use Rattle.std.specs.Str.{bytes_eq}
 use Rattle.std.proofs.lemmas.List.{map-append}
 use Rattle.nesl_session.specs.State.{Log}
-use Rattle.nesl_session.specs.Reply.{Reply}
+use Rattle.nesl_session.specs.Response.{Response}
 use Rattle.nesl_house.specs.Script.{Event, replies_of}
 use Rattle.nesl_house.specs.Runs.{Seat, roster_of, session_of}
-use Rattle.nesl_line.specs.Lines.{HasNoFeed, ended, Splits, handed, last_line, AllLines, WholeLines}
+use Rattle.nesl_line.specs.Lines.{HasNoFeed, with_feed, Splits, handed, last_line, AllLines, WholeLines}
 use Rattle.nesl_line.specs.Conversation.{IsUserLine, Turn, selects, stranger, nobody, says, Conversation, silence, goes_on}
 
 -- bytes without an LF have none inside
@@ -29,15 +29,15 @@ first_line (a ∷ l) (b ∷ m) x y h k e =
     (λ i. first i ∷ rest.0 i, rest.1)
 
 -- a line, and then the others
-unwound : (l : List ℕ) (ls : List (List ℕ)) (r : List ℕ) → flat_map ended (l ∷ ls) ++ r ≡ l ++ 10 ∷ (flat_map ended ls ++ r)
-unwound l ls r = append_assoc (ended l) (flat_map ended ls) r ∙ append_assoc l (10 ∷ []) (flat_map ended ls ++ r)
+unwound : (l : List ℕ) (ls : List (List ℕ)) (r : List ℕ) → flat_map with_feed (l ∷ ls) ++ r ≡ l ++ 10 ∷ (flat_map with_feed ls ++ r)
+unwound l ls r = append_assoc (with_feed l) (flat_map with_feed ls) r ∙ append_assoc l (10 ∷ []) (flat_map with_feed ls ++ r)
 
-pub splits_one : (ls ms : List (List ℕ)) (r s : List ℕ) → AllByRecursion HasNoFeed ls → AllByRecursion HasNoFeed ms → HasNoFeed r → HasNoFeed s → flat_map ended ls ++ r ≡ flat_map ended ms ++ s → (ls ≡ ms) × (r ≡ s)
+pub splits_one : (ls ms : List (List ℕ)) (r s : List ℕ) → AllByRecursion HasNoFeed ls → AllByRecursion HasNoFeed ms → HasNoFeed r → HasNoFeed s → flat_map with_feed ls ++ r ≡ flat_map with_feed ms ++ s → (ls ≡ ms) × (r ≡ s)
 splits_one [] [] r s h k f g e = (refl, e)
-splits_one [] (m ∷ ms) r s h k f g e = absurd (no_feed r m (flat_map ended ms ++ s) f (e ∙ unwound m ms s))
-splits_one (l ∷ ls) [] r s h k f g e = absurd (no_feed s l (flat_map ended ls ++ r) g (sym e ∙ unwound l ls r))
+splits_one [] (m ∷ ms) r s h k f g e = absurd (no_feed r m (flat_map with_feed ms ++ s) f (e ∙ unwound m ms s))
+splits_one (l ∷ ls) [] r s h k f g e = absurd (no_feed s l (flat_map with_feed ls ++ r) g (sym e ∙ unwound l ls r))
 splits_one (l ∷ ls) (m ∷ ms) r s h k f g e =
-    let one = first_line l m (flat_map ended ls ++ r) (flat_map ended ms ++ s) h.0 k.0 (sym (unwound l ls r) ∙ e ∙ unwound m ms s) in
+    let one = first_line l m (flat_map with_feed ls ++ r) (flat_map with_feed ms ++ s) h.0 k.0 (sym (unwound l ls r) ∙ e ∙ unwound m ms s) in
     let rest = splits_one ls ms r s h.1 k.1 f g one.1 in
     (λ i. one.0 i ∷ rest.0 i, rest.1)
 
@@ -69,10 +69,10 @@ one_name : (line n m : List ℕ) → IsUserLine line n → IsUserLine line m →
 one_name line n m a b = let e = sym a.spelled ∙ b.spelled in cc
 
 -- One line has one turn, up to the session's reply.
-abbrev Same : List ℕ → List ℕ → List Event → List Event → Option (List ℕ) → Option (List ℕ) → List Reply → List Reply → Type 0
+abbrev Same : List ℕ → List ℕ → List Event → List Event → Option (List ℕ) → Option (List ℕ) → List Response → List Response → Type 0
 Same text told events said next then rest more = (text ≡ told) × (events ≡ said) × (next ≡ then) × (rest ≡ more)
 
-turn_one : (house other : List Seat) (who : Option (List ℕ)) (line text told : List ℕ) (events said : List Event) (next then : Option (List ℕ)) (rest more : List Reply) → roster_of house ≡ roster_of other → Turn house who line text events next → Turn other who line told said then
+turn_one : (house other : List Seat) (who : Option (List ℕ)) (line text told : List ℕ) (events said : List Event) (next then : Option (List ℕ)) (rest more : List Response) → roster_of house ≡ roster_of other → Turn house who line text events next → Turn other who line told said then
     → replies_of events ++ rest ≡ replies_of said ++ more → Same text told events said next then rest more
 turn_one house other who line text told events said next then rest more r (selects n u f) (selects m v g) e = let same = one_name line n m u v in (refl, refl, ap (λ x. Some x) same, e)
 turn_one house other who line text told events said next then rest more r (selects n u f) (stranger m v g) e =
@@ -100,7 +100,7 @@ turn_one house other who line text told events said next then rest more r (says 
     let user : n ≡ m = cc in
     let same : q ≡ reply = cc in
     let others : rest ≡ more = cc in
-    (ap (λ (x : Reply). x.bytes) same, λ i. record { user = user i; line = line; reply = same i } ∷ [], ap (λ x. Some x) user, others)
+    (ap (λ (x : Response). x.bytes) same, λ i. record { user = user i; line = line; reply = same i } ∷ [], ap (λ x. Some x) user, others)
 
 pub conversation_one : (house other : List Seat) (who last final : Option (List ℕ)) (lines texts others : List (List ℕ)) (events said : List Event) → roster_of house ≡ roster_of other → Conversation house who lines texts events last → Conversation other who lines others said final
     → replies_of events ≡ replies_of said → (texts ≡ others) × (events ≡ said) × (last ≡ final)

@@ -1,10 +1,11 @@
 -- What is told of the lines that come in.
-use Rattle.std.specs.Prelude.{◌≡◌, ◌≢◌, ℕ, ◌<◌, List, [], ◌∷◌, ◌++◌, Option, Some, None, length, codes, flat_map, ◌||◌, ◌&&◌, nat_le, Bool, true}
+use Rattle.std.specs.Prelude.{◌≡◌, ◌≢◌, ℕ, ◌<◌, List, [], ◌∷◌, ◌++◌, Option, Some, None, Bool, true, ◌||◌, ◌&&◌}
+use Rattle.std.specs.Prelude.{length, codes, flat_map, nat_le}
 use Rattle.std.specs.List.{AllByRecursion}
-use Rattle.nesl_session.specs.Reply.{Reply, no_user}
+use Rattle.nesl_session.specs.Response.{Response, no_user}
 use Rattle.nesl_house.specs.Script.{Event}
 use Rattle.nesl_house.specs.Runs.{Seat, session_of, Runs}
-use Rattle.nesl_line.specs.Lines.{ended}
+use Rattle.nesl_line.specs.Lines.{with_feed}
 
 -- a to z, or 0 to 9
 abbrev pub is_name_byte : ℕ → Bool
@@ -20,21 +21,36 @@ pub record IsUserLine (line name : List ℕ) : Type 0 where
 abbrev pub NamesNobody : List ℕ → Type 0
 NamesNobody line = (name : List ℕ) → ¬ IsUserLine line name
 
--- One line that comes while `who` is selected: what is told of it, what was said to a session for it, and who is selected then.
--- A user line selects its user, where that is one of the house, and is told back. Another user line is told `fault user`, and then nobody is selected. So is any other line while nobody is selected. While a user is selected, any other line is said to that user's session, and its reply is told.
-pub data Turn (house : List Seat) (who : Option (List ℕ)) (line : List ℕ) : List ℕ → List Event → Option (List ℕ) → Type 0 where
-  selects : (name : List ℕ) → IsUserLine line name → session_of house name ≢ None → Turn house who line (ended line) [] (Some name)
-  stranger : (name : List ℕ) → IsUserLine line name → session_of house name ≡ None → Turn house who line no_user.bytes [] None
+-- One line that comes while `who` is selected: what is told of it, what was said to a session for it, and who is
+-- selected then. A user line selects its user, where that is one of the house, and is told back. Another user line is
+-- told `fault user`, and then nobody is selected. So is any other line while nobody is selected. While a user is
+-- selected, any other line is said to that user's session, and its reply is told.
+pub data Turn (house : List Seat) (who : Option (List ℕ)) (line : List ℕ)
+    : List ℕ → List Event → Option (List ℕ) → Type 0 where
+  selects :
+      (name : List ℕ) → IsUserLine line name → session_of house name ≢ None
+      → Turn house who line (with_feed line) [] (Some name)
+  stranger :
+      (name : List ℕ) → IsUserLine line name → session_of house name ≡ None → Turn house who line no_user.bytes [] None
   nobody : NamesNobody line → who ≡ None → Turn house who line no_user.bytes [] None
-  says : (user : List ℕ) (reply : Reply) → NamesNobody line → who ≡ Some user → Turn house who line reply.bytes (record { user = user; line = line; reply = reply } ∷ []) (Some user)
+  says :
+      (user : List ℕ) (reply : Response) → NamesNobody line → who ≡ Some user
+      → Turn house who line reply.bytes (record { user = user; line = line; reply = reply } ∷ []) (Some user)
 
--- Lines that come one after another while `who` is selected: what is told of each, what was said to sessions for them, and who is selected then.
-pub data Conversation (house : List Seat) : Option (List ℕ) → List (List ℕ) → List (List ℕ) → List Event → Option (List ℕ) → Type 0 where
+-- Lines that come one after another while `who` is selected: what is told of each, what was said to sessions for them,
+-- and who is selected then.
+pub data Conversation (house : List Seat)
+    : Option (List ℕ) → List (List ℕ) → List (List ℕ) → List Event → Option (List ℕ) → Type 0 where
   silence : (who : Option (List ℕ)) → Conversation house who [] [] [] who
-  goes_on : (who next last : Option (List ℕ)) (line text : List ℕ) (lines texts : List (List ℕ)) (events more : List Event) → Turn house who line text events next → Conversation house next lines texts more last → Conversation house who (line ∷ lines) (text ∷ texts) (events ++ more) last
+  goes_on :
+      (who next last : Option (List ℕ)) (line text : List ℕ) (lines texts : List (List ℕ)) (events more : List Event)
+      → Turn house who line text events next → Conversation house next lines texts more last
+      → Conversation house who (line ∷ lines) (text ∷ texts) (events ++ more) last
 
--- At first nobody is selected. These lines were told of so, `who` is selected then, and the house answered what was said to it so, and has become `house'`.
-pub record Talked (house : List Seat) (lines texts : List (List ℕ)) (who : Option (List ℕ)) (house' : List Seat) : Type 0 where
+-- At first nobody is selected. These lines were told of so, `who` is selected then, and the house answered what was
+-- said to it so, and has become `house'`.
+pub record Talked (house : List Seat) (lines texts : List (List ℕ)) (who : Option (List ℕ)) (house' : List Seat)
+    : Type 0 where
   pub events : List Event
   pub said : Conversation house None lines texts events who
   pub runs : Runs house events house'

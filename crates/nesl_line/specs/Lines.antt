@@ -8,12 +8,12 @@ abbrev pub HasNoFeed : List ℕ → Type 0
 HasNoFeed bytes = AllByRecursion (λ b. b ≢ 10) bytes
 
 -- a line as it stands in a text, with its LF
-abbrev pub ended : List ℕ → List ℕ
-ended line = line ++ 10 ∷ []
+abbrev pub with_feed : List ℕ → List ℕ
+with_feed line = line ++ 10 ∷ []
 
 -- The text is these lines, each with its LF, and then a rest without one.
 pub record Splits (text : List ℕ) (lines : List (List ℕ)) (rest : List ℕ) : Type 0 where
-  pub spelled : text ≡ flat_map ended lines ++ rest
+  pub spelled : text ≡ flat_map with_feed lines ++ rest
   pub each : AllByRecursion HasNoFeed lines
   pub open_end : HasNoFeed rest
 

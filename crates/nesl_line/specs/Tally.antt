@@ -1,5 +1,6 @@
--- How often a reader and a writer were called, and how often that failed.
-use Rattle.std.specs.Prelude.{ℕ, ◌+◌, ◌-◌, ◌^◌, ◌<◌, ◌≤◌, ◌==◌, ◌&&◌, ◌⊎◌, List, Result, Ok, Err, length, min, max, nat_lt, if◌then◌else◌}
+-- How often a reader and a writer were called, how often that failed, and what was written and not yet flushed.
+use Rattle.std.specs.Prelude.{ℕ, ◌+◌, ◌-◌, ◌^◌, ◌<◌, ◌≤◌, ◌==◌, ◌&&◌, ◌⊎◌, List, Result, Ok, Err}
+use Rattle.std.specs.Prelude.{length, min, max, nat_lt, if◌then◌else◌}
 
 -- n and k more, as far as the count goes: 2^64 - 1 stays
 abbrev pub counted : ℕ → ℕ → ℕ
@@ -19,20 +20,31 @@ abbrev pub after_read : {A E : Type 0} → ReadTally → Result A E → ReadTall
 after_read tally (Ok n) = record tally { made = counted 1 tally.made }
 after_read tally (Err e) = record tally { made = counted 1 tally.made; failed = counted 1 tally.failed }
 
--- how many writes and flushes failed, how many writes of some bytes took none, and how many flushes went well
+-- How many writes and flushes failed, how many writes of some bytes took none, and how many flushes went well; and what
+-- is behind: how many bytes were written since the last flush that went well.
 pub record WriteTally : Type 0 where
   pub failed : ℕ
   pub stalled : ℕ
   pub flushed : ℕ
+  pub behind : ℕ
+
+-- k bytes that were written
+abbrev pub written_by : ℕ → WriteTally → WriteTally
+written_by k tally = record tally { behind = counted k tally.behind }
 
 -- one write more
 abbrev pub after_write : {E : Type 0} → WriteTally → List ℕ → Result ℕ E → WriteTally
-after_write tally bytes (Ok n) = if n == 0 && nat_lt 0 (length bytes) then record tally { stalled = counted 1 tally.stalled } else tally
+after_write tally bytes (Ok n) =
+    if n == 0 && nat_lt 0 (length bytes) then record tally { stalled = counted 1 tally.stalled }
+    else written_by n tally
 after_write tally bytes (Err e) = record tally { failed = counted 1 tally.failed }
 
--- n flushes that went well
+-- n flushes that went well, after the last of which nothing was written: nothing is behind then, unless there was none
 abbrev pub flushed_by : ℕ → WriteTally → WriteTally
-flushed_by n tally = record tally { flushed = counted n tally.flushed }
+flushed_by n tally = record tally {
+  flushed = counted n tally.flushed;
+  behind = if n == 0 then tally.behind else 0;
+}
 
 -- one flush more
 abbrev pub after_flush : {A E : Type 0} → WriteTally → Result A E → WriteTally

@@ -5,9 +5,11 @@ ghost use Rattle.std.specs.Io.{ReadsAtMost, WritesAtMost};
 ghost use Rattle.nesl_line.specs.Tally.{ReadTally, WriteTally, after_read, after_write, after_flush};
 
 use std::io::{Read, Write};
+use thiserror::Error;
 
 /// A read, a write or a flush failed.
-#[derive(Clone, Copy, PartialEq, Eq, Debug)]
+#[derive(Clone, Copy, PartialEq, Eq, Debug, Error)]
+#[error("a read, a write or a flush failed")]
 pub struct Failed;
 
 /// Bytes to read.
@@ -34,7 +36,8 @@ pub trait Sink {
     /// The bytes that were written, where they are known.
     ghost held: { Self → Option (List ℕ) };
 
-    /// How many writes and flushes failed, how many writes took no byte, and how many flushes went well.
+    /// How many writes and flushes failed, how many writes took no byte, how many flushes went well, and how many bytes
+    /// were written since the last of these.
     ghost tally: { Self → WriteTally };
 
     /// Writes some bytes from the front of `buf`.
@@ -53,7 +56,8 @@ pub trait Sink {
         ensures { result ≡ (tally self.now).failed };
 }
 
-/// A reader or a writer of the system, with counts of what was asked of it. It adds no buffer: give it a `BufWriter` to gather the writes of one answer, which are flushed together.
+/// A reader or a writer of the system, with counts of what was asked of it. It adds no buffer: give it a `BufWriter` to
+/// gather the writes of one answer, which are flushed together.
 #[derive(Drop)]
 pub struct Device<T> {
     inner: T,
@@ -61,6 +65,7 @@ pub struct Device<T> {
     failed: u64,
     stalled: u64,
     flushed: u64,
+    behind: u64,
 }
 
 impl<T> Device<T> {
@@ -70,7 +75,7 @@ impl<T> Device<T> {
     pub fn new(inner: T) -> Device<T>
         ensures inner { device_inner result ≡ inner }
         ensures reads { device_reads result ≡ record { made = 0; failed = 0 } }
-        ensures writes { device_writes result ≡ record { failed = 0; stalled = 0; flushed = 0 } }
+        ensures writes { device_writes result ≡ record { failed = 0; stalled = 0; flushed = 0; behind = 0 } }
     {
         Device {
             inner,
@@ -78,6 +83,7 @@ impl<T> Device<T> {
             failed: 0,
             stalled: 0,
             flushed: 0,
+            behind: 0,
         }
     }
 
@@ -124,6 +130,8 @@ impl<T: Write> Sink for Device<T> {
             Ok(n) => {
                 if n == 0 && !buf.is_empty() {
                     self.stalled = self.stalled.saturating_add(1);
+                } else {
+                    self.behind = self.behind.saturating_add(n as u64);
                 }
                 Ok(n)
             }
@@ -138,6 +146,7 @@ impl<T: Write> Sink for Device<T> {
         match self.inner.flush() {
             Ok(()) => {
                 self.flushed = self.flushed.saturating_add(1);
+                self.behind = 0;
                 Ok(())
             }
             Err(_) => {

@@ -22,7 +22,7 @@ pub struct Talk {
 }
 
 impl Talk {
-    ghost use Rattle.nesl_line.specs.Steps.{Counted, Goes, Stops, Done, NamesFit, IsFresh};
+    ghost use Rattle.nesl_line.specs.Steps.{Flushed, Goes, Stops, StopsAtEnd, Done, NamesFit, IsFresh};
 
     // A conversation that begins, with room for names of so many bytes.
     pub fn new(alloc: Global, room: usize) -> Result<Talk, AllocError>
@@ -57,7 +57,7 @@ impl Talk {
         requires few { self.old.lines + length bytes.now < 2 ^ 64 }
         ensures talk { (start : List Seat) (held : Option (List ℕ)) (read : List ℕ) → Goes start house.old self.old read held (W.held writer.old)
             → MatchBool result (Goes start house.new self.new (read ++ bytes.now) held (W.held writer.new)) (Stops start house.new self.new (read ++ bytes.now) held (W.held writer.new)) }
-        ensures tally { (start : WriteTally) → W.tally writer.old ≡ flushed_by self.old.lines start → Counted result self.new.lines start (W.tally writer.new) }
+        ensures tally { (start : WriteTally) → W.tally writer.old ≡ flushed_by self.old.lines start → Flushed result self.new.lines start (W.tally writer.new) }
         ensures names { NamesFit (vec_capacity self.new.who) house.new }
         ensures few { self.new.lines ≤ self.old.lines + length bytes.now }
     {
@@ -79,7 +79,7 @@ impl Talk {
         requires few { self.old.lines + 1 < 2 ^ 64 }
         ensures talk { (start : List Seat) (held : Option (List ℕ)) (read : List ℕ) → Goes start house.old self.old read held (W.held writer.old)
             → MatchBool result (Goes start house.new self.new (read ++ 10 ∷ []) held (W.held writer.new)) ((tail : List ℕ) → Stops start house.new self.new (read ++ 10 ∷ tail) held (W.held writer.new)) }
-        ensures tally { Counted result 1 (W.tally writer.old) (W.tally writer.new) }
+        ensures tally { Flushed result 1 (W.tally writer.old) (W.tally writer.new) }
         ensures names { NamesFit (vec_capacity self.new.who) house.new }
         ensures lines { self.new.lines ≡ self.old.lines + 1 }
     {
@@ -95,8 +95,8 @@ impl Talk {
         requires names { NamesFit (vec_capacity self.old.who) house.old }
         requires few { self.old.lines + 1 < 2 ^ 64 }
         ensures talk { (start : List Seat) (held : Option (List ℕ)) (read : List ℕ) → Goes start house.old self.old read held (W.held writer.old)
-            → MatchBool result (Done start house.new self.new read held (W.held writer.new)) (Stops start house.new self.new read held (W.held writer.new)) }
-        ensures tally { (start : WriteTally) → W.tally writer.old ≡ flushed_by self.old.lines start → Counted result self.new.lines start (W.tally writer.new) }
+            → MatchBool result (Done start house.new self.new read held (W.held writer.new)) (StopsAtEnd start house.new self.new read held (W.held writer.new)) }
+        ensures tally { (start : WriteTally) → W.tally writer.old ≡ flushed_by self.old.lines start → Flushed result self.new.lines start (W.tally writer.new) }
     {
         if self.line.bytes().is_empty() {
             return true;

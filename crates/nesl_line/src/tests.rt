@@ -1,9 +1,10 @@
 //! A batch over readers and writers that do as they are told.
 use crate::batch::{End, Ran, batch};
-use crate::device::{Device, Sink, Source};
+use crate::device::{Device, Failed, Sink, Source};
 use nesl_house::house::House;
 use nesl_session::limits::Limits;
 use std::alloc::{AllocError, Global};
+use std::cell::Cell;
 use std::io;
 use std::io::{Read, Write};
 use std::test::Fail;
@@ -313,5 +314,162 @@ fn each_answer_is_flushed(rt: HostRuntime) -> Result<(), Fail> {
         );
         assert_eq!(rt; writer.into_inner().flushes, good_flushes);
     }
+    Ok(())
+}
+
+// How many bytes a writer was given, and how many of them it was told to hand on.
+#[derive(Drop)]
+struct Wire {
+    given: Cell<usize>,
+    handed_on: Cell<usize>,
+}
+
+#[derive(Drop)]
+struct Listener<'a> {
+    wire: &'a Wire,
+}
+
+impl Write for Listener<'_> {
+    fn write(&mut self, buf: &[u8]) -> io::Result<usize> {
+        let n = buf.len().min(7);
+        self.wire.given.set(self.wire.given.get().saturating_add(n));
+        Ok(n)
+    }
+
+    fn flush(&mut self) -> io::Result<()> {
+        self.wire.handed_on.set(self.wire.given.get());
+        Ok(())
+    }
+}
+
+// Gives one text at each read, and fails where not all answers to the lines so far were handed on.
+#[derive(Drop)]
+struct Speaker<'a> {
+    wire: &'a Wire,
+    texts: std::slice::Iter<'a, (&'a str, usize)>,
+    answered: usize,
+}
+
+impl Read for Speaker<'_> {
+    fn read(&mut self, buf: &mut [u8]) -> io::Result<usize> {
+        if self.wire.handed_on.get() != self.answered {
+            return Err(io::Error::from(io::ErrorKind::Other));
+        }
+        let Some((text, answer)) = self.texts.next() else {
+            return Ok(0);
+        };
+        let n = text.len().min(buf.len());
+        buf[..n].copy_from_slice(&text.as_bytes()[..n]);
+        self.answered = self.answered.saturating_add(*answer);
+        Ok(n)
+    }
+}
+
+#[test]
+fn an_answer_comes_before_the_next_line_is_read(rt: HostRuntime) -> Result<(), Fail> {
+    let alloc = rt.alloc();
+    let mut house = house(alloc, &["ann"])?;
+    let wire = Wire {
+        given: Cell::new(0),
+        handed_on: Cell::new(0),
+    };
+    // Each text, and how many bytes answer it.
+    let texts = [
+        ("user ann\n", 9),
+        ("9;\n", 31),
+        ("9", 0),
+        (";\r", 0),
+        ("\n", 31),
+        ("9;\nuser zed\n1;\n", 53),
+        ("9;", 0),
+    ];
+    let mut reader = Device::new(Speaker {
+        wire: &wire,
+        texts: texts.iter(),
+        answered: 0,
+    });
+    let mut writer = Device::new(Listener { wire: &wire });
+    let ran = batch(alloc, &mut reader, &mut writer, &mut house);
+    assert_eq!(rt;
+        ran,
+        Ran {
+            lines: 7,
+            end: End::Input
+        }
+    );
+    assert_eq!(rt; wire.given.get(), 135);
+    assert_eq!(rt; wire.handed_on.get(), 135);
+    Ok(())
+}
+
+// Fails once, and then has bytes.
+#[derive(Drop)]
+struct Hiccup<'a> {
+    rest: &'a [u8],
+    fails: bool,
+}
+
+impl Read for Hiccup<'_> {
+    fn read(&mut self, buf: &mut [u8]) -> io::Result<usize> {
+        if self.fails {
+            self.fails = false;
+            return Err(io::Error::from(io::ErrorKind::Other));
+        }
+        let n = self.rest.len().min(buf.len());
+        let (now, later) = self.rest.split_at(n);
+        buf[..n].copy_from_slice(now);
+        self.rest = later;
+        Ok(n)
+    }
+}
+
+#[test]
+fn a_device_tells_each_read_that_failed(rt: HostRuntime) -> Result<(), Fail> {
+    let alloc = rt.alloc();
+    let mut house = house(alloc, &["ann"])?;
+    let mut reader = Device::new(Hiccup {
+        rest: b"user ann\n9;\n",
+        fails: true,
+    });
+    let mut writer = blank_paper(alloc);
+    assert_eq!(rt; Source::failures(&reader), 0);
+    let ran = batch(alloc, &mut reader, &mut writer, &mut house);
+    assert_eq!(rt;
+        ran,
+        Ran {
+            lines: 0,
+            end: End::ReadFault
+        }
+    );
+    assert_eq!(rt; Source::failures(&reader), 1);
+    let mut chunk = [0u8; 9];
+    assert_eq!(rt; reader.read(&mut chunk), Ok(9));
+    assert_eq!(rt; &chunk[..], b"user ann\n".as_slice());
+    assert_eq!(rt; Source::failures(&reader), 1);
+    assert_eq!(rt; writer.into_inner().bytes.len(), 0);
+    Ok(())
+}
+
+#[test]
+fn a_device_hands_on_what_it_is_told(rt: HostRuntime) -> Result<(), Fail> {
+    let mut writer = Device::new(Paper {
+        bytes: Vec::new(rt.alloc()),
+        step: 2,
+        room: 5,
+        stalls: false,
+        flushes: 0,
+        good_flushes: 1,
+    });
+    assert_eq!(rt; writer.write(b"abc"), Ok(2));
+    assert_eq!(rt; writer.flush(), Ok(()));
+    assert_eq!(rt; Sink::failures(&writer), 0);
+    assert_eq!(rt; writer.flush(), Err(Failed));
+    assert_eq!(rt; writer.write(b"cde"), Ok(2));
+    assert_eq!(rt; writer.write(b"ef"), Ok(1));
+    assert_eq!(rt; writer.write(b"f"), Err(Failed));
+    assert_eq!(rt; Sink::failures(&writer), 2);
+    let paper = writer.into_inner();
+    assert_eq!(rt; paper.flushes, 1);
+    assert_eq!(rt; paper.bytes.as_slice(), b"abcde".as_slice());
     Ok(())
 }

@@ -2,7 +2,7 @@
 ghost use Rattle.std.specs.Prelude.{◌≡◌, ℕ, ◌+◌, ◌<◌, ◌≤◌, ◌==◌, [], ◌∷◌, ◌++◌, IfSome, IfNone, IsTrue, true, false, length};
 ghost use Rattle.std.specs.Vec.{vec_capacity};
 ghost use Rattle.nesl_line.specs.Conversation.{IsUserLine, NamesNobody, is_name_byte};
-ghost use Rattle.nesl_line.specs.Steps.{Sent, Counted, chosen, NamesFit, Answered};
+ghost use Rattle.nesl_line.specs.Steps.{Sent, Wrote, Flushed, chosen, NamesFit, Answered};
 
 use crate::device::Sink;
 use nesl_house::house::House;
@@ -34,7 +34,7 @@ fn is_name_byte(b: u8) -> bool
 // Writes all of the bytes, or says that a write failed or took none.
 fn send<W: Sink>(writer: &mut W, bytes: &[u8]) -> bool
     ensures sent { Sent (W.held writer.old) (W.held writer.new) bytes.now result }
-    ensures tally { Counted result 0 (W.tally writer.old) (W.tally writer.new) }
+    ensures tally { Wrote result (length bytes.now) (W.tally writer.old) (W.tally writer.new) }
 {
     let mut at = 0;
     while at < bytes.len() {
@@ -50,7 +50,7 @@ fn send<W: Sink>(writer: &mut W, bytes: &[u8]) -> bool
 // Sends the bytes, and flushes.
 fn say<W: Sink>(writer: &mut W, bytes: &[u8]) -> bool
     ensures sent { Sent (W.held writer.old) (W.held writer.new) bytes.now result }
-    ensures tally { Counted result 1 (W.tally writer.old) (W.tally writer.new) }
+    ensures tally { Flushed result 1 (W.tally writer.old) (W.tally writer.new) }
 {
     if !send(writer, bytes) {
         return false;
@@ -68,7 +68,7 @@ pub fn answer<W: Sink>(
 ) -> bool
     requires { NamesFit (vec_capacity who.old) house.old }
     ensures answered { Answered house.old house.new (chosen who.old.items) (chosen who.new.items) line.now (W.held writer.old) (W.held writer.new) result }
-    ensures tally { Counted result 1 (W.tally writer.old) (W.tally writer.new) }
+    ensures tally { Flushed result 1 (W.tally writer.old) (W.tally writer.new) }
     ensures room { NamesFit (vec_capacity who.new) house.new }
 {
     if let Some(name) = user_named(line) {

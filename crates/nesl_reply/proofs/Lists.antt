@@ -1,5 +1,5 @@
 -- Texts of lists that grow at their end.
-use Rattle.std.proofs.Common.{◌≡◌, ℕ, zero, suc, ℤ, Some, ◌+◌, ◌<◌, Bool, true, false, ◌&&◌, ◌==◌, List, [], ◌∷◌, ◌++◌, length, take, map, refl, ap, sym, ◌∙◌, append_assoc, append-nil, arith, codes, cond, slice_get, if◌then◌else◌, Global}
+use Rattle.std.proofs.Common.{◌≡◌, ℕ, zero, suc, ℤ, Some, ◌+◌, ◌<◌, Bool, true, false, ◌&&◌, ◌==◌, List, [], ◌∷◌, ◌++◌, length, take, map, refl, ap, sym, ◌∙◌, append_assoc, append-nil, arith, codes, cond, slice_get, if◌then◌else◌, Global, Result, Ok, Err, OnOk}
 use Rattle.std.specs.List.{list_all}
 use Rattle.std.proofs.lemmas.List.Folds.{list_all-map}
 use Rattle.nesl_values.specs.Parts.{list_of}
@@ -14,7 +14,7 @@ use Rattle.nesl_types.specs.Term.{Term}
 use Rattle.nesl_reply.specs.declared.value.Task.{Task}
 use Rattle.nesl_reply.specs.Values.{Datatypes, value_text, others_text, is_quotable, code_of, is_text_type, element_type}
 use Rattle.nesl_reply.specs.Replies.{names_text}
-use Rattle.nesl_reply.specs.Tasks.{task_text, tasks_text, task_work, tasks_work, leaf_text, other_leaves, list_text, empty_text}
+use Rattle.nesl_reply.specs.Tasks.{IsNext, task_text, tasks_text, task_work, tasks_work, leaf_text, other_leaves, list_text, empty_text}
 
 pub tasks_text_push : (known : Datatypes) (xs : List Task) (x : Task) → tasks_text known (xs ++ x ∷ []) ≡ task_text known x ++ tasks_text known xs
 tasks_text_push known [] x = simp append-nil
@@ -123,3 +123,8 @@ four_written o p q r s a b c d e f g h = simp (h, g, f, e, append_assoc)
 -- a value was written, and the rest is to follow
 pub front_written : (o p : List ℕ) (known : Datatypes) (brackets : Bool) (t : Term) (u v : Tree) (ts : List ℕ) → u ≡ v → p ≡ o ++ value_text known brackets t u → p ++ ts ≡ o ++ (value_text known brackets t v ++ ts)
 front_written o p known brackets t u v ts e f = ap (λ x. x ++ ts) (f ∙ ap (λ w. o ++ value_text known brackets t w) e) ∙ append_assoc o (value_text known brackets t v) ts
+
+-- a task comes before others, which are few enough
+pub less_after : {E : Type 0} → (r : Result Unit E) (x : Task) (ys xs zs : List Task) (m n : ℕ) → OnOk r (IsNext x ys xs) → tasks_work xs ≡ m + tasks_work zs → task_work x + m < n → OnOk r (tasks_work ys < n + tasks_work zs)
+less_after (Ok u) x ys xs zs m n h work less = omega (arith, h.work)
+less_after (Err e) x ys xs zs m n h work less = tt

@@ -1,14 +1,35 @@
--- The trees of packed sequences.
-use Rattle.std.proofs.Common.{◌≡◌, ℕ, ℤ, Bool, Vec, Global, map, rules}
-use Rattle.nesl_values.specs.Tree.{int, boolean, character, sequence}
-use Rattle.nesl_values.specs.View.{tree_of}
-use Rattle.nesl_values.specs.declared.value.Value.{Ints, Bools, Chars, the_lemmas}
+-- Characters, by what values are read as.
+use Rattle.std.proofs.Common.{◌≡◌, ℕ, Some, None, false, refl, ap}
+use Rattle.nesl_values.specs.Tree.{Tree, int, boolean, character, pair, seq, tagged}
+use Rattle.nesl_values.specs.Parts.{as_char}
+use Rattle.nesl_reply.specs.Values.{is_quotable, code_of}
 
-pub view_ints : (ns : Vec ℤ Global) → tree_of (Ints ns) ≡ sequence (map int ns.items)
-view_ints ns = search (rules, the_lemmas)
+a_char : (t : Tree) (c : ℕ) → Some c ≡ as_char t → t ≡ character c
+a_char (int m) c h = absurd (cc h)
+a_char (boolean d) c h = absurd (cc h)
+a_char (character d) c h = let same : c ≡ d = cc h in cc
+a_char (pair l r) c h = absurd (cc h)
+a_char (seq ts) c h = absurd (cc h)
+a_char (tagged k t) c h = absurd (cc h)
 
-pub view_bools : (bs : Vec Bool Global) → tree_of (Bools bs) ≡ sequence (map boolean bs.items)
-view_bools bs = search (rules, the_lemmas)
+pub quotable : (t : Tree) (c : ℕ) → Some c ≡ as_char t → is_quotable t ≡ is_quotable (character c)
+quotable t c h = ap is_quotable (a_char t c h)
 
-pub view_chars : (cs : Vec ℕ Global) → tree_of (Chars cs) ≡ sequence (map character cs.items)
-view_chars cs = search (rules, the_lemmas)
+pub not_quotable : (t : Tree) → None ≡ as_char t → is_quotable t ≡ false
+not_quotable (int m) h = refl
+not_quotable (boolean d) h = refl
+not_quotable (character d) h = absurd (cc h)
+not_quotable (pair l r) h = refl
+not_quotable (seq ts) h = refl
+not_quotable (tagged k t) h = refl
+
+pub code : (t : Tree) (c : ℕ) → Some c ≡ as_char t → code_of t ≡ c
+code t c h = ap code_of (a_char t c h)
+
+pub no_code : (t : Tree) → None ≡ as_char t → code_of t ≡ 0
+no_code (int m) h = refl
+no_code (boolean d) h = refl
+no_code (character d) h = absurd (cc h)
+no_code (pair l r) h = refl
+no_code (seq ts) h = refl
+no_code (tagged k t) h = refl

@@ -5,7 +5,10 @@ use Rattle.nesl_scalars.specs.declared.trap.Trap.{Trap}
 use Rattle.nesl_scalars.specs.declared.trap.Trap.TheVariants as trap
 use Rattle.nesl_reply.specs.declared.fault.Stop.{Stop}
 use Rattle.nesl_reply.specs.declared.fault.Fault.{Fault}
-use Rattle.nesl_reply.specs.declared.fault.Fault.TheVariants.{Long, Lexical, Syntax, Nested, Unknown, IllTyped, Ambiguous, Retype, Taken, Overflow, Division, Range, Code, Length, Empty, Permutation, Count, Stride, Deep, Large, Work, Elements, Transcript, Memory, User, Busy}
+use Rattle.nesl_reply.specs.declared.fault.Fault.TheVariants.{Long, Lexical, Syntax, Nested, Unknown, IllTyped}
+use Rattle.nesl_reply.specs.declared.fault.Fault.TheVariants.{Ambiguous, Retype, Taken, Overflow, Division, Range}
+use Rattle.nesl_reply.specs.declared.fault.Fault.TheVariants.{Code, Length, Empty, Permutation, Count, Stride, Deep}
+use Rattle.nesl_reply.specs.declared.fault.Fault.TheVariants.{Large, Work, Elements, Transcript, Memory, User, Busy}
 
 -- in the order of the checks
 abbrev pub number_of : Fault → ℕ

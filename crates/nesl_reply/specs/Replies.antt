@@ -25,14 +25,19 @@ names_text (n ∷ ns) = codes " " ++ n ++ flat_map (λ m. codes ", " ++ m) ns
 
 -- the work left; the elements, the lines and their bytes, of how many each
 abbrev pub budget_text : ℕ → Used → Used → Used → List ℕ
-budget_text work elements lines bytes = (codes "budget: work " ++ decimal work) ++ (codes ", elements" ++ used_text elements) ++ (codes ", lines" ++ used_text lines) ++ (codes ", bytes" ++ used_text bytes)
+budget_text work elements lines bytes =
+    (codes "budget: work " ++ decimal work) ++ (codes ", elements" ++ used_text elements)
+    ++ (codes ", lines" ++ used_text lines) ++ (codes ", bytes" ++ used_text bytes)
 
 module _ {P : Type 0} where
   -- what is told, where the names of a session are these
   abbrev pub told_of : List (List ℕ × Top × P) → Reply → List ℕ
-  told_of names (Reply.Bound name value ty cost) = name.now ++ codes " = " ++ value_text (datatypes names) true (term ty.now) (tree_of value.now) ++ codes " : " ++ type_text (name_at names) true (term ty.now) ++ cost_text cost
+  told_of names (Reply.Bound name value ty cost) =
+      name.now ++ codes " = " ++ value_text (datatypes names) true (term ty.now) (tree_of value.now)
+      ++ codes " : " ++ type_text (name_at names) true (term ty.now) ++ cost_text cost
   told_of names (Reply.FunTold name scheme) = name.now ++ codes " : " ++ scheme_text (name_at names) scheme.now
-  told_of names (Reply.DatatypeTold name ty) = name.now ++ codes " : " ++ type_text (name_at names) true (term ty.now) ++ codes " -> " ++ name.now
+  told_of names (Reply.DatatypeTold name ty) =
+      name.now ++ codes " : " ++ type_text (name_at names) true (term ty.now) ++ codes " -> " ++ name.now
   told_of names Reply.Names = codes "names:" ++ names_text (map (λ b. b.0) names)
   told_of names (Reply.Budget work elements lines bytes) = budget_text work elements lines bytes
   told_of names (Reply.Shown ty) = codes "type: " ++ type_text (name_at names) true (term ty.now)

@@ -1,10 +1,12 @@
 -- How values are written. The forms are this profile's.
-use Rattle.std.specs.Prelude.{ℕ, Bool, true, false, not, ◌&&◌, ◌==◌, nat_le, map, List, [], ◌∷◌, ◌++◌, Option, None, Some, unwrap_or, slice_get, codes, decimal, if◌then◌else◌}
+use Rattle.std.specs.Prelude.{ℕ, Bool, true, false, not, ◌&&◌, ◌==◌, nat_le, if◌then◌else◌}
+use Rattle.std.specs.Prelude.{map, List, [], ◌∷◌, ◌++◌, Option, None, Some, unwrap_or, codes, decimal}
 use Rattle.std.specs.Fmt.{signed_decimal}
 use Rattle.std.specs.List.{list_all}
 use Rattle.nesl_values.specs.Parts.{list_of}
 use Rattle.nesl_values.specs.Tree.{Tree, Trees, int, boolean, character, pair, seq, tagged, no_trees, tree_then}
 use Rattle.nesl_types.specs.Term.{Term, char, seq_of, both, term}
+use Rattle.nesl_types.specs.Names.{datatype_at}
 use Rattle.nesl_types.specs.Texts.{name_at}
 use Rattle.nesl_types.specs.declared.bindings.Top.{Top}
 use Rattle.nesl_types.specs.declared.bindings.Top.TheVariants as top
@@ -24,9 +26,10 @@ held_by (Some b) = held_in b.1
     held_in other = None
 
 abbrev pub datatypes : {P : Type 0} → List (List ℕ × Top × P) → Datatypes
-datatypes names = record { name = name_at names; held = λ tag. held_by (slice_get names tag) }
+datatypes names = record { name = name_at names; held = λ tag. held_by (datatype_at names tag) }
 
--- the types of a pair's parts, of a sequence's elements, of what a record holds. A value has its type, so the last case of each never comes up.
+-- the types of a pair's parts, of a sequence's elements, of what a record holds. A value has its type, so the last case
+-- of each never comes up.
 abbrev pub left_type : Term → Term
 left_type (both t u) = t
 left_type t = t
@@ -69,17 +72,22 @@ quoted ts = codes "\"" ++ map code_of ts ++ codes "\""
 abbrev pub bracketed : Bool → List ℕ → List ℕ
 bracketed brackets text = if brackets then codes "(" ++ text ++ codes ")" else text
 
--- A value of a type. A pair has brackets unless it is the right part of a pair or what a record holds. A text stands between double
--- quotes where its bytes allow it.
+-- A value of a type. A pair has brackets unless it is the right part of a pair or what a record holds. A text stands
+-- between double quotes where its bytes allow it.
 abbrev mutual
   pub value_text : Datatypes → Bool → Term → Tree → List ℕ
   value_text known brackets t (int n) = signed_decimal n
   value_text known brackets t (boolean b) = if b then codes "T" else codes "F"
   value_text known brackets t (character c) = character_text c
-  value_text known brackets t (pair v w) = bracketed brackets (value_text known true (left_type t) v ++ codes ", " ++ value_text known false (right_type t) w)
-  value_text known brackets t (tagged tag v) = known.name tag ++ codes "(" ++ value_text known false (unwrap_or (known.held tag) t) v ++ codes ")"
+  value_text known brackets t (pair v w) =
+      bracketed brackets
+      (value_text known true (left_type t) v ++ codes ", " ++ value_text known false (right_type t) w)
+  value_text known brackets t (tagged tag v) =
+      known.name tag ++ codes "(" ++ value_text known false (unwrap_or (known.held tag) t) v ++ codes ")"
   value_text known brackets t (seq vs) =
-      if is_text_type t && list_all is_quotable (list_of vs) then quoted (list_of vs) else codes "[" ++ elements_text known (element_type t) vs ++ codes "]"
+      if is_text_type t && list_all is_quotable (list_of vs)
+      then quoted (list_of vs)
+      else codes "[" ++ elements_text known (element_type t) vs ++ codes "]"
 
   pub elements_text : Datatypes → Term → Trees → List ℕ
   elements_text known t no_trees = []

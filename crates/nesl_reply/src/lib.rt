@@ -4,8 +4,6 @@
 pub mod fault;
 mod leaf;
 pub mod reply;
-#[cfg(test)]
-mod tests;
 pub mod value;
 mod writing;
 

@@ -1,11 +1,12 @@
 //! The texts of values.
 
-ghost use Rattle.std.specs.Prelude.{◌≡◌, ◌+◌, ◌*◌, ◌-◌, ◌<◌, ◌∷◌, [], ◌++◌, ◌==◌, ◌&&◌, not, ℕ, Bool, true, false, IfOk, OnOk, MatchOption, codes, map, unwrap_or, slice_get};
+ghost use Rattle.std.specs.Prelude.{◌≡◌, ◌+◌, ◌*◌, ◌-◌, ◌<◌, ◌∷◌, [], ◌++◌, ◌==◌, ◌&&◌, not, ℕ, Bool, true, false, IfOk, OnOk, MatchOption, codes, map, unwrap_or};
 ghost use Rattle.std.specs.List.{list_all};
-ghost use Rattle.nesl_values.specs.Tree.{int, boolean, character, seq, trees_of, size, sizes};
+ghost use Rattle.nesl_values.specs.Tree.{int, boolean, character, seq, sequence, trees_of, size, sizes};
 ghost use Rattle.nesl_values.specs.Parts.{list_of};
-ghost use Rattle.nesl_values.specs.View.{tree_of, trees_view};
+ghost use Rattle.nesl_values.specs.View.{tree_of, trees_view, item_trees};
 ghost use Rattle.nesl_types.specs.Term.{term};
+ghost use Rattle.nesl_types.specs.Names.{datatype_at};
 ghost use Rattle.nesl_types.specs.Texts.{name_at};
 ghost use Rattle.nesl_reply.specs.Values.{Datatypes, datatypes, value_text as text_of_value, is_quotable, code_of, quoted, is_text_type, elements_text, others_text, bracketed, left_type, right_type, element_type, held_by};
 ghost use Rattle.nesl_reply.specs.Tasks.{task_text, tasks_text, task_work, tasks_work, IsNext, empty_text, leaves_text, list_text};
@@ -13,7 +14,7 @@ ghost use Rattle.nesl_reply.specs.Tasks.{task_text, tasks_text, task_work, tasks
 use crate::leaf::{Leaf, is_printable, write_character, write_other_leaves, write_truth};
 use crate::writing::{write_bytes, write_integer};
 use nesl_types::{Context, Top, Ty};
-use nesl_values::Value;
+use nesl_values::{Items, Shape, Value};
 use std::alloc::{AllocError, Global};
 
 /// What is still to be written.
@@ -109,23 +110,45 @@ fn write_front<'a, P: Drop>(
         ≡ out.old.items ++ (text_of_value (datatypes context.now) brackets (term ty.now) (tree_of value.now) ++ tasks_text (datatypes context.now) tasks.old.items)) }
     ensures less_work { OnOk result (tasks_work tasks.new.items < 4 * size (tree_of value.now) - 1 + tasks_work tasks.old.items) }
 {
-    match value {
-        Value::Int(n) => write_integer(out, *n),
-        Value::Bool(b) => write_truth(out, *b),
-        Value::Char(c) => write_character(out, *c),
-        Value::Pair(left, right) => write_pair(out, tasks, left, right, ty, brackets),
-        Value::Tagged(tag, held) => write_record(out, tasks, context, *tag, held, ty),
-        Value::Seq(items) => write_sequence(out, tasks, items, ty),
-        Value::Ints(items) => {
-            write_integers(out, items, ty)?;
+    match value.shape() {
+        Shape::Int(n) => write_integer(out, n),
+        Shape::Bool(b) => write_truth(out, b),
+        Shape::Char(c) => write_character(out, c),
+        Shape::Pair(left, right) => write_pair(out, tasks, left, right, ty, brackets),
+        Shape::Tagged(tag, held) => write_record(out, tasks, context, tag, held, ty),
+        Shape::Sequence(_) => {
+            write_items(out, tasks, value.items(), ty)?;
             Ok(())
         }
-        Value::Bools(items) => {
-            write_truths(out, items, ty)?;
+    }
+}
+
+// Writes the front of a sequence: a packed one whole.
+fn write_items<'a>(
+    out: &mut Vec<u8>,
+    tasks: &mut Vec<Task<'a>>,
+    items: Items<'a>,
+    ty: &'a Ty,
+) -> Result<(), AllocError>
+    ensures text { OnOk result ((known : Datatypes) (brackets : Bool) → out.new.items ++ tasks_text known tasks.new.items
+        ≡ out.old.items ++ (text_of_value known brackets (term ty.now) (sequence (item_trees items.entry)) ++ tasks_text known tasks.old.items)) }
+    ensures less_work { OnOk result (tasks_work tasks.new.items < 4 * sizes (trees_of (item_trees items.entry)) + 3 + tasks_work tasks.old.items) }
+{
+    match items {
+        Items::Values(values) => {
+            write_sequence(out, tasks, values, ty)?;
             Ok(())
         }
-        Value::Chars(items) => {
-            write_characters(out, items, ty)?;
+        Items::Ints(ints) => {
+            write_integers(out, ints, ty)?;
+            Ok(())
+        }
+        Items::Bools(bools) => {
+            write_truths(out, bools, ty)?;
+            Ok(())
+        }
+        Items::Chars(chars) => {
+            write_characters(out, chars, ty)?;
             Ok(())
         }
     }
@@ -161,10 +184,10 @@ fn write_record<'a, P: Drop>(
     ty: &'a Ty,
 ) -> Result<(), AllocError>
     ensures text { OnOk result (out.new.items ++ tasks_text (datatypes context.now) tasks.new.items
-        ≡ out.old.items ++ (name_at context.now tag ++ (codes "(" ++ text_of_value (datatypes context.now) false (unwrap_or (held_by (slice_get context.now tag)) (term ty.now)) (tree_of held.now) ++ codes ")") ++ tasks_text (datatypes context.now) tasks.old.items)) }
+        ≡ out.old.items ++ (name_at context.now tag ++ (codes "(" ++ text_of_value (datatypes context.now) false (unwrap_or (held_by (datatype_at context.now tag)) (term ty.now)) (tree_of held.now) ++ codes ")") ++ tasks_text (datatypes context.now) tasks.old.items)) }
     ensures less_work { OnOk result (tasks_work tasks.new.items < 4 * size (tree_of held.now) + 3 + tasks_work tasks.old.items) }
 {
-    if let Some((name, _, _)) = context.at(tag as usize) {
+    if let Some((name, _, _)) = context.datatype(tag) {
         write_bytes(out, name)?;
     }
     write_bytes(out, b"(")?;
@@ -347,12 +370,13 @@ fn can_be_quoted(items: &[Value]) -> bool
     items.iter().all(is_quotable)
 }
 
+#[tactic(auto, using(crate::proofs::Views::quotable, crate::proofs::Views::not_quotable))]
 fn is_quotable(item: &Value) -> bool
     ensures { result ≡ is_quotable (tree_of item.now) }
 {
-    match item {
-        Value::Char(c) => is_text_byte(*c),
-        _ => false,
+    match item.as_char() {
+        Some(c) => is_text_byte(c),
+        None => false,
     }
 }
 
@@ -363,12 +387,13 @@ fn is_text_byte(c: u8) -> bool
 }
 
 // The code of a character.
+#[tactic(auto, using(crate::proofs::Views::code, crate::proofs::Views::no_code))]
 fn code_of(item: &Value) -> u8
     ensures { result ≡ code_of (tree_of item.now) }
 {
-    match item {
-        Value::Char(c) => *c,
-        _ => 0,
+    match item.as_char() {
+        Some(c) => c,
+        None => 0,
     }
 }
 
@@ -410,9 +435,9 @@ fn element_type(ty: &Ty) -> &Ty
 
 // The type of what the records of a datatype hold, or `ty` where the tag stands for no datatype.
 fn held_type<'a, P: Drop>(context: &'a Context<P>, tag: u64, ty: &'a Ty) -> &'a Ty
-    ensures { term result.now ≡ unwrap_or (held_by (slice_get context.now tag)) (term ty.now) }
+    ensures { term result.now ≡ unwrap_or (held_by (datatype_at context.now tag)) (term ty.now) }
 {
-    match context.at(tag as usize) {
+    match context.datatype(tag) {
         Some((_, Top::Datatype(_, held), _)) => held,
         _ => ty,
     }

@@ -1,3 +1,4 @@
+pub mod Matches
 pub mod Powers
 pub mod Roots
 pub mod Quotients

@@ -1,5 +1,6 @@
 -- Whole numbers, as the functions on numbers speak of them.
-use Rattle.std.specs.Prelude.{ℕ, zero, suc, ◌+◌, ◌*◌, ◌/◌, ◌^◌, ℤ, pos, negsuc, ◌-ℤ◌, ◌*ℤ◌, Bool, ◌≤◌, ◌<◌, nat_lt, nat_le, int_div, if◌then◌else◌}
+use Rattle.std.specs.Prelude.{ℕ, zero, suc, ◌+◌, ◌*◌, ◌/◌, ◌^◌, ℤ, pos, negsuc, ◌-ℤ◌, ◌*ℤ◌, Bool, ◌≤◌, ◌<◌}
+use Rattle.std.specs.Prelude.{nat_lt, nat_le, int_div, if◌then◌else◌}
 
 -- from -2^63 to 2^63 - 1
 abbrev pub fits : ℤ → Bool

@@ -1,5 +1,7 @@
--- The functions on numbers, truth values and characters. They and their refusals are this profile's; each is checked for its refusals in the order given here.
-use Rattle.std.specs.Prelude.{ℕ, ◌^◌, ◌%◌, ℤ, pos, ◌+ℤ◌, ◌-ℤ◌, ◌*ℤ◌, neg_ℤ, Bool, not, ◌&&◌, ◌||◌, ◌==◌, nat_lt, nat_le, max, min, int_lt, int_le, int_div, unsigned_abs, if◌then◌else◌}
+-- The functions on numbers, truth values and characters. They and their refusals are this profile's; each is checked
+-- for its refusals in the order given here.
+use Rattle.std.specs.Prelude.{ℕ, ◌^◌, ◌%◌, ℤ, pos, ◌+ℤ◌, ◌-ℤ◌, ◌*ℤ◌, neg_ℤ, Bool, not, ◌&&◌, ◌||◌, ◌==◌}
+use Rattle.std.specs.Prelude.{nat_lt, nat_le, max, min, int_lt, int_le, int_div, unsigned_abs, if◌then◌else◌}
 use Rattle.std.specs.Int.{w64, int_min, int_max, int_bit_and, int_bit_or, int_bit_xor, int_bit_not}
 use Rattle.nesl_values.specs.Tree.{Tree, int, boolean, character}
 use Rattle.nesl_scalars.specs.declared.trap.Trap.TheVariants as trap
@@ -38,7 +40,8 @@ of_int one.Evenp a = truth (not (is_odd a))
 of_int one.Negate a = number (neg_ℤ a)
 of_int one.Abs a = number (pos (unsigned_abs a))
 of_int one.Isqrt a = if int_lt a (pos 0) then traps trap.Range else gives (int (pos (root (unsigned_abs a))))
-of_int one.CodeChar a = if int_le (pos 0) a && int_lt a (pos 256) then gives (character (unsigned_abs a)) else traps trap.Code
+of_int one.CodeChar a =
+    if int_le (pos 0) a && int_lt a (pos 256) then gives (character (unsigned_abs a)) else traps trap.Code
 of_int f a = undefined
 
 -- of a truth value

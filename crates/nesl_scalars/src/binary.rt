@@ -9,7 +9,7 @@ ghost use Rattle.nesl_scalars.specs.Scalars.{of_ints, of_bools, of_chars, binary
 
 use crate::number::number;
 use crate::trap::Trap;
-use nesl_values::Value;
+use nesl_values::{Shape, Value};
 use std::alloc::Allocator;
 
 /// A function of two scalars of one type.
@@ -49,20 +49,20 @@ impl Binary {
     ) -> Result<Value<C>, Trap>
         ensures { Answers result (binary self (tree_of left.now) (tree_of right.now)) }
     {
-        match left {
-            Value::Int(a) => match right {
-                Value::Int(b) => self.of_ints(*a, *b),
-                _ => Err(Trap::Range),
+        match left.shape() {
+            Shape::Int(a) => match right.as_int() {
+                Some(b) => self.of_ints(a, b),
+                None => Err(Trap::Range),
             },
-            Value::Bool(a) => match right {
-                Value::Bool(b) => self.of_bools(*a, *b),
-                _ => Err(Trap::Range),
+            Shape::Bool(a) => match right.as_bool() {
+                Some(b) => self.of_bools(a, b),
+                None => Err(Trap::Range),
             },
-            Value::Char(c) => match right {
-                Value::Char(d) => self.of_chars(*c, *d),
-                _ => Err(Trap::Range),
+            Shape::Char(c) => match right.as_char() {
+                Some(d) => self.of_chars(c, d),
+                None => Err(Trap::Range),
             },
-            _ => Err(Trap::Range),
+            Shape::Pair(_, _) | Shape::Sequence(_) | Shape::Tagged(_, _) => Err(Trap::Range),
         }
     }
 

@@ -8,7 +8,7 @@ ghost use Rattle.nesl_scalars.specs.Scalars.{of_int, of_bool, of_char, unary};
 
 use crate::number::number;
 use crate::trap::Trap;
-use nesl_values::Value;
+use nesl_values::{Shape, Value};
 use std::alloc::Allocator;
 
 /// A function of one scalar.
@@ -36,11 +36,11 @@ impl Unary {
     pub fn apply<A: Allocator, B: Allocator>(self, argument: &Value<A>) -> Result<Value<B>, Trap>
         ensures { Answers result (unary self (tree_of argument.now)) }
     {
-        match argument {
-            Value::Int(a) => self.of_int(*a),
-            Value::Bool(b) => self.of_bool(*b),
-            Value::Char(c) => self.of_char(*c),
-            _ => Err(Trap::Range),
+        match argument.shape() {
+            Shape::Int(a) => self.of_int(a),
+            Shape::Bool(b) => self.of_bool(b),
+            Shape::Char(c) => self.of_char(c),
+            Shape::Pair(_, _) | Shape::Sequence(_) | Shape::Tagged(_, _) => Err(Trap::Range),
         }
     }
 

@@ -1,19 +1,20 @@
 -- No price is above what its numbers hold, where the argument has fewer than 2^65 nodes.
-use Rattle.std.proofs.Common.{◌≡◌, ℕ, ℤ, zero, suc, pos, negsuc, ◌+◌, ◌-◌, ◌/◌, ◌^◌, ◌<◌, ◌≤◌, Bool, true, false, cond, List, [], ◌∷◌, length, take, drop, refl, arith, Option, Some, None, option_map, unwrap_or, Result, Ok, Err, nat_le, nat_lt, nat_eq, set, IfOk, IfSome, IsSome, subst, rules}
+use Rattle.std.proofs.Common.{◌≡◌, ℕ, ℤ, zero, suc, pos, negsuc, ◌+◌, ◌-◌, ◌/◌, ◌^◌, ◌<◌, ◌≤◌, Bool, true, false, cond, List, [], ◌∷◌, length, take, drop, arith, Option, Some, None, option_map, unwrap_or, Result, Ok, Err, nat_le, nat_lt, nat_eq, set, IfOk, IfSome, IsSome, subst, rules}
 use Rattle.nesl_scalars.specs.declared.trap.Trap.{Trap}
-use Rattle.nesl_values.specs.Tree.{Tree, Trees, int, boolean, character, pair, seq, tagged, no_trees, tree_then, trees_of, sequence, size, sizes}
+use Rattle.nesl_values.specs.Tree.{Tree, int, boolean, character, pair, seq, tagged, trees_of, sequence, size, sizes}
 use Rattle.nesl_values.specs.Parts.{list_of, as_sequence}
-use Rattle.nesl_seqs.specs.Outcome.{Outcome, gives, traps, undefined, given, number, fits, IsGiven}
-use Rattle.nesl_seqs.specs.Arguments.{sequence_and_int, two_sequences, numbers, truths}
-use Rattle.nesl_seqs.specs.Pieces.{element_at, joined, halves, taken, dropped, reversed, rotated, places_on, replaced}
-use Rattle.nesl_seqs.specs.Pairs.{pairs, zipped}
-use Rattle.nesl_seqs.specs.Reductions.{summed, some_true, all_true, counted, total}
-use Rattle.nesl_seqs.specs.Prices.{Prices, reads, length_of}
-use Rattle.nesl_seqs.specs.Meaning.{meaning}
-use Rattle.nesl_seqs.specs.declared.price.Price.{Price}
-use Rattle.nesl_seqs.specs.declared.seq_fn.SeqFn.{SeqFn}
-use Rattle.nesl_seqs.specs.declared.seq_fn.SeqFn.TheVariants.{Length, Index, Append, Sum, Any, All, Count, Bottop, Take, Drop, Reverse, Rotate, Zip, Rep, Eql}
-use Rattle.nesl_seqs.proofs.Totals.{sizes_append, sizes_reverse}
+use Rattle.nesl_seq_base.specs.Outcome.{Outcome, gives, traps, undefined, given, number, fits, IsGiven}
+use Rattle.nesl_seq_base.specs.Arguments.{sequence_and_int, two_sequences, numbers, truths}
+use Rattle.nesl_seq_base.specs.Pieces.{element_at, joined, halves, taken, dropped, reversed, rotated, places_on, replaced}
+use Rattle.nesl_seq_base.specs.Pairs.{pairs, zipped}
+use Rattle.nesl_seq_base.specs.Reductions.{summed, some_true, all_true, counted, total}
+use Rattle.nesl_seq_base.specs.Prices.{Prices, reads, length_of}
+use Rattle.nesl_seq_base.specs.Meaning.{meaning}
+use Rattle.nesl_seq_base.specs.declared.price.Price.{Price}
+use Rattle.nesl_seq_base.specs.declared.seq_fn.SeqFn.{SeqFn}
+use Rattle.nesl_seq_base.specs.declared.seq_fn.SeqFn.TheVariants.{Length, ElementAt, Append, Sum, Any, All, Count, Bottop, Take, Drop, Reverse, Rotate, Zip, Rep, Eql}
+use Rattle.nesl_seq_base.proofs.Sizes.{sizes_list, length_le, sizes_take, sizes_drop, sizes_set}
+use Rattle.nesl_seq_base.proofs.Totals.{sizes_append, sizes_reverse}
 
 -- the work of an outcome fits
 abbrev pub Fits : Outcome → ℕ → Type 0
@@ -24,32 +25,6 @@ Fits undefined read = Unit {0}
 pub fits_if : (b : Bool) (t : Tree) (e : Trap) (n : ℕ) → 1 + n + (size t - 1) < 2 ^ 128 → Fits (cond b (gives t) (traps e)) n
 fits_if true t e n p = p
 fits_if false t e n p = tt
-
-size_positive : (t : Tree) → 1 ≤ size t
-size_positive (int n) = omega arith
-size_positive (boolean b) = omega arith
-size_positive (character c) = omega arith
-size_positive (pair l r) = omega arith
-size_positive (seq ts) = omega arith
-size_positive (tagged n t) = omega arith
-
-pub sizes_list : (ts : Trees) → sizes (trees_of (list_of ts)) ≡ sizes ts
-sizes_list no_trees = refl
-sizes_list (tree_then t ts) = omega (arith, sizes_list ts)
-
-pub length_le : (ts : List Tree) → length ts ≤ sizes (trees_of ts)
-length_le [] = omega arith
-length_le (t ∷ ts) = omega (arith, length_le ts, size_positive t)
-
-pub sizes_take : (k : ℕ) (ts : List Tree) → sizes (trees_of (take k ts)) ≤ sizes (trees_of ts)
-sizes_take zero ts = omega arith
-sizes_take (suc k) [] = omega arith
-sizes_take (suc k) (t ∷ ts) = omega (arith, sizes_take k ts)
-
-pub sizes_drop : (k : ℕ) (ts : List Tree) → sizes (trees_of (drop k ts)) ≤ sizes (trees_of ts)
-sizes_drop zero ts = omega arith
-sizes_drop (suc k) [] = omega arith
-sizes_drop (suc k) (t ∷ ts) = omega (arith, sizes_drop k ts)
 
 pub by_sequence : (t : Tree) (g : List Tree → Outcome) → size t < 2 ^ 65 → ((ts : List Tree) → sizes (trees_of ts) < 2 ^ 65 → length ts < 2 ^ 65 → Fits (g ts) (length ts)) → Fits (given (as_sequence t) g) (length_of t)
 by_sequence (seq ts) g h k = k (list_of ts) (omega (arith, sizes_list ts)) (omega (arith, sizes_list ts, length_le (list_of ts)))
@@ -94,9 +69,9 @@ fits_element [] i h = tt
 fits_element (t ∷ ts) zero h = omega arith
 fits_element (t ∷ ts) (suc i) h = fits_element ts i (omega arith)
 
-fits_index : (t : Tree) → size t < 2 ^ 65 → Fits (meaning Index t) 0
-fits_index (pair (seq ts) (int (pos i))) h = fits_element (list_of ts) i (omega (arith, sizes_list ts))
-fits_index t h = tt
+fits_element_at : (t : Tree) → size t < 2 ^ 65 → Fits (meaning ElementAt t) 0
+fits_element_at (pair (seq ts) (int (pos i))) h = fits_element (list_of ts) i (omega (arith, sizes_list ts))
+fits_element_at t h = tt
 
 fits_sum : (o : Option (List ℤ)) (n : ℕ) → n < 2 ^ 65 → Fits (given o summed) n
 fits_sum None n h = tt
@@ -129,8 +104,8 @@ IsBounded f = (t : Tree) → size t < 2 ^ 65 → Fits (meaning f t) (reads f t)
 pub bounded_length : IsBounded Length
 bounded_length = fits_length
 
-pub bounded_index : IsBounded Index
-bounded_index = fits_index
+pub bounded_element_at : IsBounded ElementAt
+bounded_element_at = fits_element_at
 
 pub bounded_append : IsBounded Append
 bounded_append t h = by_two_sequences t joined h (λ ts us p q. omega (arith, sizes_append ts us))
@@ -172,11 +147,6 @@ sizes_pairs_le (t ∷ ts) (u ∷ us) = omega (arith, sizes_pairs_le ts us)
 
 pub bounded_zip : IsBounded Zip
 bounded_zip t h = by_two_sequences t zipped h (λ ts us p q. fits_if (nat_eq (length ts) (length us)) (sequence (pairs ts us)) _ (length ts + length us) (omega (arith, sizes_pairs_le ts us)))
-
-pub sizes_set : (ts : List Tree) (i : ℕ) (x : Tree) → sizes (trees_of (set ts i x)) ≤ sizes (trees_of ts) + size x
-sizes_set [] i x = omega arith
-sizes_set (t ∷ ts) zero x = omega arith
-sizes_set (t ∷ ts) (suc i) x = omega (arith, sizes_set ts i x)
 
 fits_replaced : (ts : List Tree) (x : Tree) (z : ℤ) → sizes (trees_of ts) + size x < 2 ^ 65 → length ts < 2 ^ 65 → Fits (replaced ts x z) (length ts)
 fits_replaced ts x (pos i) h l = fits_if (nat_lt i (length ts)) (sequence (set ts i x)) _ (length ts) (omega (arith, sizes_set ts i x))

@@ -7,12 +7,12 @@ use Rattle.std.proofs.lemmas.Bool.Decides.{Decides-eqb, Decides-ltb}
 use Rattle.std.proofs.lemmas.List.FromFn.{length-range_with_len, get_or-range_with_len}
 use Rattle.std.proofs.lemmas.Option.{slice_get-get_or}
 use Rattle.nesl_values.specs.Tree.{Tree}
-use Rattle.nesl_seqs.specs.Permute.{all_differ, rearranged}
-use Rattle.nesl_seqs.specs.Places.{arrival}
-use Rattle.nesl_seqs.proofs.Equality.{left_true, right_true}
-use Rattle.nesl_seqs.proofs.Marking.{are_equal, not_true}
-use Rattle.nesl_seqs.proofs.Picking.{length_found}
-use Rattle.nesl_seqs.proofs.Permuting.{first_arrival, weights_arrive, weights_one}
+use Rattle.nesl_seq_base.specs.Permute.{all_differ, rearranged}
+use Rattle.nesl_seq_base.specs.Places.{arrival}
+use Rattle.nesl_seq_base.proofs.Equality.{left_true, right_true}
+use Rattle.nesl_seq_reorders.proofs.Marking.{are_equal, not_true}
+use Rattle.nesl_seq_reorders.proofs.Picking.{length_found}
+use Rattle.nesl_seq_reorders.proofs.Permuting.{first_arrival, weights_arrive, weights_one}
 
 all_at : {X : Type 0} (p : X → Bool) (xs : List X) (j : ℕ) (x : X) → list_all p xs ≡ true → slice_get xs j ≡ Some x → p x ≡ true
 all_at p [] j x h at = absurd (cc at)

@@ -1,49 +1,55 @@
 // All functions: their prices, and their results.
-ghost use Rattle.std.specs.Prelude.{◌≡◌, ◌-◌, ◌<◌, ◌^◌, IfOk, IfSome, IsSome, OnOk};
+ghost use Rattle.std.specs.Prelude.{◌≡◌, ◌-◌, ◌<◌, ◌≤◌, ◌^◌, IfOk, IfSome, IsSome, OnOk};
 ghost use Rattle.nesl_values.specs.Tree.{size};
 ghost use Rattle.nesl_values.specs.View.{tree_of};
-ghost use Rattle.nesl_seqs.specs.Outcome.{IsGiven, gives};
-ghost use Rattle.nesl_seqs.specs.Meaning.{meaning};
-ghost use Rattle.nesl_seqs.specs.Prices.{Prices, reads, depth_of};
-ghost use Rattle.nesl_seqs.specs.Whole.{PricesAll};
+ghost use Rattle.nesl_seq_base.specs.Lent.{argument_tree};
+ghost use Rattle.nesl_seq_base.specs.Outcome.{IsGiven, gives};
+ghost use Rattle.nesl_seq_base.specs.Meaning.{meaning};
+ghost use Rattle.nesl_seq_base.specs.Prices.{Prices, reads, depth_of};
+ghost use Rattle.nesl_seq_base.specs.Prices.{PricesAll};
 
-use crate::price::Price;
-use crate::reductions::{self, price_of_reduction, value_of};
-use crate::scans::Joint;
-use crate::seq_fn::SeqFn;
-use crate::{
-    equal, extremes, gather, levels, pairs, permute, pieces, ranges, replace, scans, sides, woven,
-    write,
-};
 use nesl_scalars::Trap;
+use nesl_seq_base::argument::Argument;
+use nesl_seq_base::joint::Joint;
+use nesl_seq_base::price::Price;
+use nesl_seq_base::seq_fn::SeqFn;
+use nesl_seq_moves::{levels, pairs, pieces, ranges, replace, sides};
+use nesl_seq_reads::reductions::{self, price_of_reduction, value_of};
+use nesl_seq_reads::{equal, extremes, scans};
+use nesl_seq_reorders::{gather, permute, woven, write};
 use nesl_values::Value;
 use std::alloc::{AllocError, Allocator};
 
-/// The price of a function at an argument, where the work is at most the fuel: known before anything
-/// is built, without memory, in a time that grows with the argument's length and the fuel.
+/// The price of a function at an argument, where the work is at most the limit: known before anything
+/// is built, without memory, in a time that grows with the argument's length and the limit.
 #[tactic(auto, using(crate::proofs::Bounds::given_where_priced))]
 pub fn price_within<A: Allocator>(
     function: SeqFn,
-    argument: &Value<A>,
-    fuel: u64,
+    argument: Argument<'_, A>,
+    limit: u128,
 ) -> Result<Option<Price>, Trap>
     ensures given { IfOk result (λ o. IfSome o
-        (λ _. IsGiven (meaning function (tree_of argument.now)))) }
-    ensures price { Prices (meaning function (tree_of argument.now))
-        (reads function (tree_of argument.now))
-        (depth_of function (reads function (tree_of argument.now))) fuel result }
+        (λ _. IsGiven (meaning function (argument_tree argument.entry)))) }
+    ensures price { Prices (meaning function (argument_tree argument.entry))
+        (reads function (argument_tree argument.entry))
+        (depth_of function (reads function (argument_tree argument.entry))) limit result }
+    ensures depth { IfOk result (λ o. IfSome o (λ p. (1 ≤ p.depth) × (p.depth ≤ p.work))) }
 {
-    price(function, argument, fuel as u128)
+    price(function, argument, limit)
 }
 
 /// The price of a function at an argument, known before anything is built and without memory.
 #[tactic(auto, using(crate::proofs::Bounds::given_where_priced))]
-pub fn cost_and_size<A: Allocator>(function: SeqFn, argument: &Value<A>) -> Result<Price, Trap>
-    requires { size (tree_of argument.now) < 2 ^ 65 }
-    ensures given { OnOk result (IsGiven (meaning function (tree_of argument.now))) }
-    ensures price { PricesAll (meaning function (tree_of argument.now))
-        (reads function (tree_of argument.now))
-        (depth_of function (reads function (tree_of argument.now))) result }
+pub fn cost_and_size<A: Allocator>(
+    function: SeqFn,
+    argument: Argument<'_, A>,
+) -> Result<Price, Trap>
+    requires { size (argument_tree argument) < 2 ^ 65 }
+    ensures given { OnOk result (IsGiven (meaning function (argument_tree argument.entry))) }
+    ensures price { PricesAll (meaning function (argument_tree argument.entry))
+        (reads function (argument_tree argument.entry))
+        (depth_of function (reads function (argument_tree argument.entry))) result }
+    ensures depth { IfOk result (λ p. (1 ≤ p.depth) × (p.depth ≤ p.work)) }
 {
     match price(function, argument, u128::MAX)? {
         Some(price) => Ok(price),
@@ -53,23 +59,23 @@ pub fn cost_and_size<A: Allocator>(function: SeqFn, argument: &Value<A>) -> Resu
 
 fn price<A: Allocator>(
     function: SeqFn,
-    argument: &Value<A>,
+    argument: Argument<'_, A>,
     limit: u128,
 ) -> Result<Option<Price>, Trap>
-    ensures always { size (tree_of argument.now) < 2 ^ 65 → limit ≡ 2 ^ 128 - 1
+    ensures always { size (argument_tree argument.entry) < 2 ^ 65 → limit ≡ 2 ^ 128 - 1
         → IfOk result (λ p. IsSome p) }
-    ensures price { Prices (meaning function (tree_of argument.now))
-        (reads function (tree_of argument.now))
-        (depth_of function (reads function (tree_of argument.now))) limit result }
+    ensures price { Prices (meaning function (argument_tree argument.entry))
+        (reads function (argument_tree argument.entry))
+        (depth_of function (reads function (argument_tree argument.entry))) limit result }
 {
     match function {
         SeqFn::Length => pieces::price_length(argument, limit),
-        SeqFn::Index => pieces::price_index(argument, limit),
+        SeqFn::ElementAt => pieces::price_element_at(argument, limit),
         SeqFn::Append => pieces::price_append(argument, limit),
         SeqFn::Dist => ranges::price_dist(argument, limit),
         SeqFn::Range => ranges::price_range(argument, limit),
         SeqFn::RangeBy => ranges::price_range_by(argument, limit),
-        SeqFn::Iota => ranges::price_iota(argument, limit),
+        SeqFn::Index => ranges::price_index(argument, limit),
         SeqFn::Sum => price_of_reduction(argument, reductions::sum(argument), limit),
         SeqFn::Any => price_of_reduction(argument, reductions::any(argument), limit),
         SeqFn::All => price_of_reduction(argument, reductions::all(argument), limit),
@@ -103,22 +109,22 @@ fn price<A: Allocator>(
 }
 
 /// The result of a function at an argument.
-pub fn apply<A: Allocator + Copy, B: Allocator>(
+pub fn apply<A: Allocator + Copy>(
     alloc: A,
     function: SeqFn,
-    argument: &Value<B>,
+    argument: Argument<'_, A>,
 ) -> Result<Value<A>, AllocError>
-    requires { IsGiven (meaning function (tree_of argument.now)) }
-    ensures { IfOk result (λ v. meaning function (tree_of argument.now) ≡ gives (tree_of v)) }
+    requires { IsGiven (meaning function (argument_tree argument)) }
+    ensures { IfOk result (λ v. meaning function (argument_tree argument.entry) ≡ gives (tree_of v)) }
 {
     match function {
         SeqFn::Length => Ok(pieces::apply_length(argument)),
-        SeqFn::Index => pieces::apply_index(alloc, argument),
+        SeqFn::ElementAt => pieces::apply_element_at(alloc, argument),
         SeqFn::Append => pieces::apply_append(alloc, argument),
         SeqFn::Dist => ranges::apply_dist(alloc, argument),
         SeqFn::Range => ranges::apply_range(alloc, argument),
         SeqFn::RangeBy => ranges::apply_range_by(alloc, argument),
-        SeqFn::Iota => ranges::apply_iota(alloc, argument),
+        SeqFn::Index => ranges::apply_index(alloc, argument),
         SeqFn::Sum => Ok(value_of(reductions::sum(argument))),
         SeqFn::Any => Ok(value_of(reductions::any(argument))),
         SeqFn::All => Ok(value_of(reductions::all(argument))),
@@ -130,7 +136,7 @@ pub fn apply<A: Allocator + Copy, B: Allocator>(
         SeqFn::Rotate => pieces::apply_rotate(alloc, argument),
         SeqFn::Zip => pairs::apply_zip(alloc, argument),
         SeqFn::Rep => replace::apply_rep(alloc, argument),
-        SeqFn::Eql => Ok(equal::apply_eql(argument)),
+        SeqFn::Eql => equal::apply_eql(alloc, argument),
         SeqFn::MaxVal => Ok(value_of(extremes::max_val(argument))),
         SeqFn::MinVal => Ok(value_of(extremes::min_val(argument))),
         SeqFn::MaxIndex => Ok(value_of(extremes::max_index(argument))),

@@ -1,8 +1,8 @@
 //! How a run of the program fails.
-ghost use Rattle.std.specs.Prelude.{◌≡◌, ◌≢◌, ℕ, IfSome, slice_get};
+ghost use Rattle.std.specs.Prelude.{◌≡◌, ℕ, List, Option, IfSome, map, slice_get};
+ghost use Rattle.nesl_house.specs.Roster.{IsRefused};
 ghost use Rattle.nesl_server.specs.Failures.{failure_of, status_of};
-ghost use Rattle.nesl_server.specs.declared.failure.Failure.TheVariants as failure;
-ghost use Rattle.nesl_house.specs.declared.roster.NewFault.TheVariants as refusal;
+ghost use Rattle.nesl_server.specs.Program.{Fails};
 
 use nesl_house::roster::NewFault;
 use nesl_line::batch::End;
@@ -25,16 +25,22 @@ pub enum Failure<'a> {
     Twice(&'a str),
 }
 
+/// Why the words came to no whole run.
+#[derive(Debug, Drop, Error)]
+pub enum Refusal<'a> {
+    /// They were refused, or asked for help.
+    #[error("{0}")]
+    Words(clap::Error),
+    /// The run failed.
+    #[error("{0}")]
+    Run(Failure<'a>),
+}
+
 impl<'a> Failure<'a> {
-    /// What a refusal of the roster of these users is told as.
+    /// What a refusal of the roster of these users is told as; nothing was read or written then.
     pub fn of_roster(fault: NewFault, users: &[&'a str]) -> Failure<'a>
-        ensures count { fault ≡ refusal.Count → result ≡ failure.Count }
-        ensures memory { fault ≡ refusal.Memory → result ≡ failure.Memory }
-        ensures name { (place : ℕ) → fault ≡ refusal.Name place
-            → IfSome (slice_get users.now place) (λ user. result ≡ failure.Name user) }
-        ensures twice { (place : ℕ) → fault ≡ refusal.Twice place
-            → IfSome (slice_get users.now place) (λ user. result ≡ failure.Twice user) }
-        ensures no_device { (result ≢ failure.Read) × (result ≢ failure.Write) }
+        requires { IsRefused (map (λ user. user.now) users.now) fault }
+        ensures { (left held : Option (List ℕ)) → Fails result (map (λ user. user.now) users.now) left left held held }
     {
         match fault {
             NewFault::Count => Failure::Count,

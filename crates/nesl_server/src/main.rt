@@ -1,15 +1,21 @@
 //! The program: NESL sessions over standard input and output.
 #![tactic(auto)]
 
-ghost use Rattle.std.specs.Prelude.{◌≡◌, IfOk, OnOk, Err, map};
+ghost use Rattle.std.specs.Prelude.{◌≡◌, ◌≤◌, ℕ, List, IfOk, OnOk, IfErr, Err, map};
+ghost use Rattle.std.specs.Process.{exit_status};
+ghost use Rattle.clap.specs.Values.{kind_of};
+ghost use Rattle.clap.specs.declared.error.Error as clap;
+ghost use Rattle.clap.specs.declared.error.kind.ErrorKind.TheVariants.{OutOfMemory};
 ghost use Rattle.nesl_line.specs.declared.batch.End.TheVariants as end;
-ghost use Rattle.nesl_server.specs.Program.{Served};
-ghost use Rattle.nesl_server.specs.declared.failure.Failure.TheVariants as failure;
+ghost use Rattle.nesl_server.specs.Failures.{status_of};
+ghost use Rattle.nesl_server.specs.Program.{Fails, Served, Untouched};
+ghost use Rattle.nesl_server.specs.declared.failure.Failure.{Failure};
+ghost use Rattle.nesl_server.specs.declared.failure.Refusal.TheVariants as refusal;
 
 mod failure;
 mod words;
 
-use crate::failure::Failure;
+use crate::failure::{Failure, Refusal};
 use clap::error::ErrorKind;
 use nesl_house::house::House;
 use nesl_line::batch::batch;
@@ -34,10 +40,7 @@ const ANSWER_BYTES: usize = 8192;
 
 fn main(rt: HostRuntime) -> ExitCode {
     let alloc = rt.alloc();
-    let Ok(args) = env::args(&rt) else {
-        return told(&rt, Failure::Memory);
-    };
-    let Ok(args) = args.collect::<Vec<String>>(alloc) else {
+    let Ok(args) = arguments(&rt, alloc) else {
         return told(&rt, Failure::Memory);
     };
     let Ok(words) = args
@@ -47,23 +50,28 @@ fn main(rt: HostRuntime) -> ExitCode {
     else {
         return told(&rt, Failure::Memory);
     };
-    let users = match words::users(alloc, words.as_slice()) {
-        Ok(users) => users,
-        Err(error) => return refused(&rt, &error),
-    };
     let Ok(writer) = BufWriter::with_capacity(alloc, ANSWER_BYTES, rt.stdout()) else {
         return told(&rt, Failure::Memory);
     };
     let mut reader = Device::new(rt.stdin());
     let mut writer = Device::new(writer);
-    match run(alloc, users.as_slice(), &mut reader, &mut writer) {
+    match serve(alloc, words.as_slice(), &mut reader, &mut writer) {
         Ok(()) => ExitCode::SUCCESS,
-        Err(failure) => told(&rt, failure),
+        Err(Refusal::Words(error)) => refused(&rt, &error),
+        Err(Refusal::Run(failure)) => told(&rt, failure),
     }
 }
 
+fn arguments(rt: &HostRuntime, alloc: Global) -> io::Result<Vec<String>> {
+    let args = env::args(rt)?;
+    Ok(args.collect::<Vec<String>>(alloc)?)
+}
+
 // A refusal of the words, or a request for help, told by its own text; want of memory is told as such.
-fn refused<R: Print + Eprint>(rt: &R, error: &clap::Error) -> ExitCode {
+fn refused<R: Print + Eprint>(rt: &R, error: &clap::Error) -> ExitCode
+    ensures memory { kind_of error.now ≡ OutOfMemory → exit_status result ≡ 1 }
+    ensures few { exit_status result ≤ 2 }
+{
     if error.kind() == ErrorKind::OutOfMemory {
         return told(rt, Failure::Memory);
     }
@@ -75,10 +83,37 @@ fn refused<R: Print + Eprint>(rt: &R, error: &clap::Error) -> ExitCode {
 }
 
 // A failure, told on standard error.
-fn told(rt: &impl Eprint, failure: Failure<'_>) -> ExitCode {
+fn told(rt: &impl Eprint, failure: Failure<'_>) -> ExitCode
+    ensures { exit_status result ≡ status_of failure.entry }
+{
     match rt.eprintln(failure) {
         Ok(()) => ExitCode::from(failure.status()),
         Err(_) => ExitCode::from(failure.status()),
+    }
+}
+
+// What the words ask for: a batch for the users that they name.
+fn serve<'a, S: Source, W: Sink>(
+    alloc: Global,
+    words: &'a [&'a str],
+    reader: &mut S,
+    writer: &mut W,
+) -> Result<(), Refusal<'a>>
+    ensures served { OnOk result ((users : List (List ℕ))
+        × Served end.Input users (S.left reader.old) (S.left reader.new) (W.held writer.old) (W.held writer.new)) }
+    ensures failed { (failure : Failure) → result ≡ Err (refusal.Run failure)
+        → (users : List (List ℕ))
+        × Fails failure users (S.left reader.old) (S.left reader.new) (W.held writer.old) (W.held writer.new) }
+    ensures words { (error : clap.Error) → result ≡ Err (refusal.Words error)
+        → Untouched (S.left reader.old) (S.left reader.new) (W.held writer.old) (W.held writer.new) }
+{
+    let users = match words::users(alloc, words) {
+        Ok(users) => users,
+        Err(error) => return Err(Refusal::Words(error)),
+    };
+    match run(alloc, users.as_slice(), reader, writer) {
+        Ok(()) => Ok(()),
+        Err(failure) => Err(Refusal::Run(failure)),
     }
 }
 
@@ -91,10 +126,8 @@ fn run<'a, S: Source, W: Sink>(
 ) -> Result<(), Failure<'a>>
     ensures served { OnOk result (Served end.Input (map (λ user. user.now) users.now)
         (S.left reader.old) (S.left reader.new) (W.held writer.old) (W.held writer.new)) }
-    ensures read { result ≡ Err failure.Read → Served end.ReadFault (map (λ user. user.now) users.now)
-        (S.left reader.old) (S.left reader.new) (W.held writer.old) (W.held writer.new) }
-    ensures write { result ≡ Err failure.Write → Served end.WriteFault (map (λ user. user.now) users.now)
-        (S.left reader.old) (S.left reader.new) (W.held writer.old) (W.held writer.new) }
+    ensures failed { IfErr result (λ failure. Fails failure (map (λ user. user.now) users.now)
+        (S.left reader.old) (S.left reader.new) (W.held writer.old) (W.held writer.new)) }
 {
     let Ok(roster) = roster(alloc, users) else {
         return Err(Failure::Memory);

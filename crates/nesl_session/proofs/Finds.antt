@@ -8,22 +8,22 @@ use Rattle.nesl_syntax.specs.Trees.{Line, nothing, function, datatype, bind, eva
 use Rattle.nesl_session.specs.declared.limits.Limits.{Limits}
 use Rattle.nesl_session.specs.declared.finding.Finding.{Finding}
 use Rattle.nesl_session.specs.declared.finding.Finding.TheVariants.{Full, TooLong}
-use Rattle.nesl_session.specs.declared.evaluation.Outcome.{Outcome}
-use Rattle.nesl_session.specs.declared.evaluation.Outcome.TheVariants.{Comes, Overflows}
-use Rattle.nesl_session.specs.Formulas.{Tree, formula_of}
-use Rattle.nesl_session.specs.Outcomes.{out, within}
+use Rattle.nesl_session.specs.declared.evaluation.Evaluation.{Evaluation}
+use Rattle.nesl_session.specs.declared.evaluation.Evaluation.TheVariants.{Comes, Overflows}
+use Rattle.nesl_session.specs.Formulas.{FormulaTree, formula_of}
+use Rattle.nesl_session.specs.Evaluations.{out, within}
 use Rattle.nesl_session.specs.State.{State}
-use Rattle.nesl_session.specs.Reading.{Meaning, stuck, no_form, too_high, reads}
+use Rattle.nesl_session.specs.Sense.{Sense, stuck, no_form, too_high, form}
 use Rattle.nesl_session.specs.Step.{Finds, is_full, longest, found_in, found_line, found_formula, found_of}
-use Rattle.nesl_session.specs.Found.{bindings_of, found_by, found_by_formula, found_by_line, found_by_meaning, FoundBy}
+use Rattle.nesl_session.specs.Found.{bindings_of, found_by, found_by_formula, found_by_line, found_by_sense, FoundBy}
 
-by_outcome : (limits : Limits) (w b : ℕ) (ls : List (List ℕ)) (was : Option values.Tree) (o : Option Outcome) → found_by limits.elements b o ≡ found_of limits (record { bindings = bindings_of was; work_left = w; transcript = ls }) b o
+by_outcome : (limits : Limits) (w b : ℕ) (ls : List (List ℕ)) (was : Option values.Tree) (o : Option Evaluation) → found_by limits.elements b o ≡ found_of limits (record { bindings = bindings_of was; work_left = w; transcript = ls }) b o
 by_outcome limits w b ls was None = refl
 by_outcome limits w b ls was (Some (Overflows span work)) = refl
 by_outcome limits w b ls None (Some (Comes value work depth)) = refl
 by_outcome limits w b ls (Some old) (Some (Comes value work depth)) = refl
 
-by_formula : (limits : Limits) (w : ℕ) (ls : List (List ℕ)) (was : Option values.Tree) (t : Option Tree) → found_by_formula limits.elements (min limits.line_work w) t ≡ found_formula limits (record { bindings = bindings_of was; work_left = w; transcript = ls }) t
+by_formula : (limits : Limits) (w : ℕ) (ls : List (List ℕ)) (was : Option values.Tree) (t : Option FormulaTree) → found_by_formula limits.elements (min limits.line_work w) t ≡ found_formula limits (record { bindings = bindings_of was; work_left = w; transcript = ls }) t
 by_formula limits w ls was None = refl
 by_formula limits w ls was (Some t) = by_outcome limits w (min limits.line_work w) ls was (within (min limits.line_work w) (out t))
 
@@ -37,15 +37,15 @@ by_line limits w ls was show_names = refl
 by_line limits w ls was show_budget = refl
 by_line limits w ls was (show_type e) = refl
 
-by_fields : (limits : Limits) (w : ℕ) (ls : List (List ℕ)) (was : Option values.Tree) (m : Meaning) → found_by_meaning limits.elements (min limits.line_work w) m ≡ found_in limits (record { bindings = bindings_of was; work_left = w; transcript = ls }) m
+by_fields : (limits : Limits) (w : ℕ) (ls : List (List ℕ)) (was : Option values.Tree) (m : Sense) → found_by_sense limits.elements (min limits.line_work w) m ≡ found_in limits (record { bindings = bindings_of was; work_left = w; transcript = ls }) m
 by_fields limits w ls was (stuck at) = refl
 by_fields limits w ls was no_form = refl
 by_fields limits w ls was too_high = refl
-by_fields limits w ls was (reads l) = by_line limits w ls was l
+by_fields limits w ls was (form l) = by_line limits w ls was l
 
--- what is found by a meaning, from what the fields hold
-pub by_meaning : (limits : Limits) (s : State) (was : Option values.Tree) (work_left : ℕ) (m : Meaning) → s.work_left ≡ work_left → s.bindings ≡ bindings_of was → found_by_meaning limits.elements (min limits.line_work work_left) m ≡ found_in limits s m
-by_meaning limits s was work_left m w b = by_fields limits work_left s.transcript was m ∙ λ i. found_in limits (record { bindings = sym b i; work_left = sym w i; transcript = s.transcript }) m
+-- what is found by a sense, from what the fields hold
+pub by_sense : (limits : Limits) (s : State) (was : Option values.Tree) (work_left : ℕ) (m : Sense) → s.work_left ≡ work_left → s.bindings ≡ bindings_of was → found_by_sense limits.elements (min limits.line_work work_left) m ≡ found_in limits s m
+by_sense limits s was work_left m w b = by_fields limits work_left s.transcript was m ∙ λ i. found_in limits (record { bindings = sym b i; work_left = sym w i; transcript = s.transcript }) m
 
 neither : (a b : Bool) → a ≡ false → b ≡ false → (a || b) ≡ false
 neither true b e f = absurd cc
@@ -62,4 +62,4 @@ pub finds_read : (limits : Limits) (s : State) (was : Option values.Tree) (work_
 unfolding Finds
 finds_read limits s was work_left line finding lines bytes short w b found =
     let full : is_full limits s line ≡ false = neither _ _ (lt-leb limits.transcript_lines (length s.transcript) lines) (le-ltb limits.transcript_bytes (sum_by length s.transcript + length line) bytes) in
-    read_cases (is_full limits s line) (nat_lt longest (length line)) finding _ full (le-ltb longest (length line) short) (found.0, found.1, found.2 ∙ by_meaning limits s was work_left found.0 w b)
+    read_cases (is_full limits s line) (nat_lt longest (length line)) finding _ full (le-ltb longest (length line) short) (found.0, found.1, found.2 ∙ by_sense limits s was work_left found.0 w b)

@@ -10,9 +10,9 @@ use Rattle.nesl_lex.specs.Lexemes.{HasTokens}
 use Rattle.nesl_lex.specs.Laws.{OneList, OnePlace, NotBoth}
 use Rattle.nesl_syntax.specs.Trees.{Line, line_height}
 use Rattle.nesl_syntax.specs.Lines.{IsLine}
-use Rattle.nesl_session.specs.Reading.{Meaning, Means, stuck, no_form, too_high, reads, is_stuck, has_no_form, has_high_form, has_form}
-use Rattle.nesl_session.specs.Reply.{Reply}
-use Rattle.nesl_session.specs.Step.{Step, Finds, told, found_in, is_full, after}
+use Rattle.nesl_session.specs.Sense.{Sense, HasSense, stuck, no_form, too_high, form, is_stuck, has_no_form, has_high_form, has_form}
+use Rattle.nesl_session.specs.Response.{Response}
+use Rattle.nesl_session.specs.Step.{Step, Finds, response_of, found_in, is_full, after}
 use Rattle.nesl_session.specs.Solo.{Solo, Replays, Alone}
 
 -- what is known of tokens and of trees
@@ -33,23 +33,23 @@ no_height : (l k : Line) → l ≡ k → 100 < line_height l → line_height k �
 no_height l k e h g = let P : Line → Type 0 = λ x. 100 < line_height x in let over : 100 < line_height k = subst P e h in omega (arith, over, g)
 
 -- a line means one thing
-pub means_unique : Laws → (line : List ℕ) (m n : Meaning) → Means line m → Means line n → m ≡ n
+pub means_unique : Laws → (line : List ℕ) (m n : Sense) → HasSense line m → HasSense line n → m ≡ n
 means_unique laws line (stuck a) (stuck b) (is_stuck s) (is_stuck t) = ap stuck (laws.one_place line b a t s)
 means_unique laws line (stuck a) no_form (is_stuck s) (has_no_form t n) = absurd (laws.not_both line _ a t s)
 means_unique laws line (stuck a) too_high (is_stuck s) (has_high_form t f h) = absurd (laws.not_both line _ a t s)
-means_unique laws line (stuck a) (reads l) (is_stuck s) (has_form t f h) = absurd (laws.not_both line _ a t s)
+means_unique laws line (stuck a) (form l) (is_stuck s) (has_form t f h) = absurd (laws.not_both line _ a t s)
 means_unique laws line no_form (stuck b) (has_no_form t n) (is_stuck s) = absurd (laws.not_both line _ b t s)
 means_unique laws line no_form no_form (has_no_form t n) (has_no_form u m) = refl
 means_unique laws line no_form too_high (has_no_form t n) (has_high_form u f h) = absurd (n _ (formed laws t u f))
-means_unique laws line no_form (reads l) (has_no_form t n) (has_form u f h) = absurd (n l (formed laws t u f))
+means_unique laws line no_form (form l) (has_no_form t n) (has_form u f h) = absurd (n l (formed laws t u f))
 means_unique laws line too_high (stuck b) (has_high_form t f h) (is_stuck s) = absurd (laws.not_both line _ b t s)
 means_unique laws line too_high no_form (has_high_form t f h) (has_no_form u n) = absurd (n _ (formed laws u t f))
 means_unique laws line too_high too_high (has_high_form t f h) (has_high_form u g k) = refl
-means_unique laws line too_high (reads l) (has_high_form t f h) (has_form u g k) = absurd (no_height _ l (same_line laws t u f g) h k)
-means_unique laws line (reads l) (stuck b) (has_form t f h) (is_stuck s) = absurd (laws.not_both line _ b t s)
-means_unique laws line (reads l) no_form (has_form t f h) (has_no_form u n) = absurd (n l (formed laws u t f))
-means_unique laws line (reads l) too_high (has_form t f h) (has_high_form u g k) = absurd (no_height _ l (same_line laws u t g f) k h)
-means_unique laws line (reads l) (reads k) (has_form t f h) (has_form u g i) = ap reads (same_line laws t u f g)
+means_unique laws line too_high (form l) (has_high_form t f h) (has_form u g k) = absurd (no_height _ l (same_line laws t u f g) h k)
+means_unique laws line (form l) (stuck b) (has_form t f h) (is_stuck s) = absurd (laws.not_both line _ b t s)
+means_unique laws line (form l) no_form (has_form t f h) (has_no_form u n) = absurd (n l (formed laws u t f))
+means_unique laws line (form l) too_high (has_form t f h) (has_high_form u g k) = absurd (no_height _ l (same_line laws u t g f) k h)
+means_unique laws line (form l) (form k) (has_form t f h) (has_form u g i) = ap form (same_line laws t u f g)
 
 first_check : (full long : Bool) (full_found long_found : Finding) {M : Type 0} (P : M → Type 0) (f : M → Finding) → ((m n : M) → P m → P n → m ≡ n) → (x y : Finding)
     → MatchBool full (x ≡ full_found) (MatchBool long (x ≡ long_found) ((m : M) × P m × (x ≡ f m))) → MatchBool full (y ≡ full_found) (MatchBool long (y ≡ long_found) ((m : M) × P m × (y ≡ f m))) → x ≡ y
@@ -60,17 +60,17 @@ first_check false false g h P f u x y a b = a.2 ∙ ap f (u a.0 b.0 a.1 b.1) ∙
 -- one thing is found
 pub finds_unique : Laws → (limits : Limits) (s : State) (line : List ℕ) (x y : Finding) → Finds limits s line x → Finds limits s line y → x ≡ y
 unfolding Finds
-finds_unique laws limits s line x y a b = first_check (is_full limits s line) (nat_lt 4096 (length line)) Full TooLong (Means line) (found_in limits s) (means_unique laws line) x y a b
+finds_unique laws limits s line x y a b = first_check (is_full limits s line) (nat_lt 4096 (length line)) Full TooLong (HasSense line) (found_in limits s) (means_unique laws line) x y a b
 
 -- in one state a line has one answer, and leaves one state
-pub step_unique : Laws → (limits : Limits) (s t u : State) (line : List ℕ) (q r : Reply) → Step limits s line q t → Step limits s line r u → (q ≡ r) × (t ≡ u)
+pub step_unique : Laws → (limits : Limits) (s t u : State) (line : List ℕ) (q r : Response) → Step limits s line q t → Step limits s line r u → (q ≡ r) × (t ≡ u)
 unfolding Step
 step_unique laws limits s t u line q r a b =
     let same = finds_unique laws limits s line a.0 b.0 a.1 b.1 in
-    (a.2 ∙ ap told same ∙ sym b.2, a.3 ∙ ap (after line s) same ∙ sym b.3)
+    (a.2 ∙ ap response_of same ∙ sym b.2, a.3 ∙ ap (after line s) same ∙ sym b.3)
 
 -- so has a run
-pub solo_unique : Laws → (limits : Limits) (s t u : State) (lines : List (List ℕ)) (qs rs : List Reply) → Solo limits s lines qs t → Solo limits s lines rs u → (qs ≡ rs) × (t ≡ u)
+pub solo_unique : Laws → (limits : Limits) (s t u : State) (lines : List (List ℕ)) (qs rs : List Response) → Solo limits s lines qs t → Solo limits s lines rs u → (qs ≡ rs) × (t ≡ u)
 solo_unique laws limits s t u [] [] [] a b = (refl, a ∙ sym b)
 solo_unique laws limits s t u [] (q ∷ qs) rs a b = absurd a
 solo_unique laws limits s t u [] [] (r ∷ rs) a b = absurd b
@@ -83,7 +83,7 @@ solo_unique laws limits s t u (line ∷ lines) (q ∷ qs) (r ∷ rs) a b =
     (λ i. e.0 i ∷ rest.0 i, rest.1)
 
 -- one run after another is a run
-pub solo_append : (limits : Limits) (s mid t : State) (xs ys : List (List ℕ)) (qs rs : List Reply) → Solo limits s xs qs mid → Solo limits mid ys rs t → Solo limits s (xs ++ ys) (qs ++ rs) t
+pub solo_append : (limits : Limits) (s mid t : State) (xs ys : List (List ℕ)) (qs rs : List Response) → Solo limits s xs qs mid → Solo limits mid ys rs t → Solo limits s (xs ++ ys) (qs ++ rs) t
 solo_append limits s mid t [] ys [] rs a b = let P : State → Type 0 = λ x. Solo limits x ys rs t in subst P a b
 solo_append limits s mid t [] ys (q ∷ qs) rs a b = absurd a
 solo_append limits s mid t (x ∷ xs) ys [] rs a b = absurd a
@@ -94,7 +94,7 @@ pub replays_unique : Laws → (log : Log) (s t : State) → Replays log s → Re
 replays_unique laws log s t a b = (solo_unique laws log.limits (empty log.limits) s t log.lines a.replies b.replies a.run b.run).1
 
 -- alone, the same lines have one outcome
-pub alone_unique : Laws → (old new other : Log) (lines : List (List ℕ)) (replies others : List Reply) → Alone old lines replies new → Alone old lines others other → (replies ≡ others) × (new ≡ other)
+pub alone_unique : Laws → (old new other : Log) (lines : List (List ℕ)) (replies others : List Response) → Alone old lines replies new → Alone old lines others other → (replies ≡ others) × (new ≡ other)
 alone_unique laws old new other lines replies others a b =
     let P : State → Type 0 = λ x. Solo old.limits x lines others b.after in
     let e = solo_unique laws old.limits a.before a.after b.after lines replies others a.run (subst P (replays_unique laws old b.before a.before b.starts a.starts) b.run) in
@@ -103,7 +103,7 @@ alone_unique laws old new other lines replies others a b =
     (e.0, λ i. record { limits = limits i; lines = lines i })
 
 -- told more, it goes on from there
-pub alone_then : Laws → (a b c : Log) (xs ys : List (List ℕ)) (qs rs : List Reply) → Alone a xs qs b → Alone b ys rs c → Alone a (xs ++ ys) (qs ++ rs) c
+pub alone_then : Laws → (a b c : Log) (xs ys : List (List ℕ)) (qs rs : List Response) → Alone a xs qs b → Alone b ys rs c → Alone a (xs ++ ys) (qs ++ rs) c
 alone_then laws a b c xs ys qs rs p q =
     let same : q.before ≡ p.after = replays_unique laws b q.before p.after q.starts p.ends in
     let P : State → Type 0 = λ x. Solo b.limits x ys rs q.after in
@@ -118,7 +118,7 @@ alone_then laws a b c xs ys qs rs p q =
     }
 
 -- a line more of the replay
-pub replays_more : (log : Log) (s t : State) (line : List ℕ) (reply : Reply) → Replays log s → Step log.limits s line reply t → t.transcript ≡ s.transcript ++ line ∷ []
+pub replays_more : (log : Log) (s t : State) (line : List ℕ) (reply : Response) → Replays log s → Step log.limits s line reply t → t.transcript ≡ s.transcript ++ line ∷ []
     → Replays (record log { lines = log.lines ++ line ∷ [] }) t
 replays_more log s t line reply r step e = record {
   replies = r.replies ++ reply ∷ [];

@@ -14,7 +14,11 @@ abbrev pub log_of : Inside → Log
 log_of a = record { limits = a.limits; lines = map (λ v. v.items) a.transcript.items }
 
 abbrev pub state_of : Inside → State
-state_of a = record { bindings = bindings_of (it_of a); work_left = a.work_left; transcript = map (λ v. v.items) a.transcript.items }
+state_of a = record {
+  bindings = bindings_of (it_of a);
+  work_left = a.work_left;
+  transcript = map (λ v. v.items) a.transcript.items;
+}
 
 -- what the fields of every session keep
 pub record Keeps (a : Inside) : Type 0 where

@@ -1,8 +1,8 @@
 pub mod Formulas
-pub mod Outcomes
-pub mod Reading
+pub mod Evaluations
+pub mod Sense
 pub mod Seen
-pub mod Reply
+pub mod Response
 pub mod State
 pub mod Step
 pub mod Solo
@@ -11,4 +11,4 @@ pub mod Worked
 pub mod Found
 pub mod Names
 pub mod Inside
-pub mod Answer
+pub mod Text

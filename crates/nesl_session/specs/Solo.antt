@@ -4,23 +4,24 @@ use Rattle.std.specs.Bool.{MatchBool}
 use Rattle.nesl_session.specs.declared.limits.Limits.{Limits}
 use Rattle.nesl_session.specs.State.{State, Log, empty}
 use Rattle.nesl_session.specs.Step.{Step}
-use Rattle.nesl_session.specs.Reply.{Reply, no_memory, is_memory}
+use Rattle.nesl_session.specs.Response.{Response, no_memory, is_memory}
 
 -- from the state `s` the lines are answered by these replies, one step after another, and leave the state `s'`
-abbrev pub Solo : Limits → State → List (List ℕ) → List Reply → State → Type 0
+abbrev pub Solo : Limits → State → List (List ℕ) → List Response → State → Type 0
 Solo limits s [] [] s' = s' ≡ s
-Solo limits s (line ∷ lines) (reply ∷ replies) s' = (mid : State) × Step limits s line reply mid × Solo limits mid lines replies s'
+Solo limits s (line ∷ lines) (reply ∷ replies) s' =
+    (mid : State) × Step limits s line reply mid × Solo limits mid lines replies s'
 Solo limits s [] (reply ∷ replies) s' = ⊥
 Solo limits s (line ∷ lines) [] s' = ⊥
 
 -- the state of a session is the replay of the lines that it stored
 pub record Replays (log : Log) (s : State) : Type 0 where
-  pub replies : List Reply
+  pub replies : List Response
   pub run : Solo log.limits (empty log.limits) log.lines replies s
   pub lines : s.transcript ≡ log.lines
 
 -- alone, a session answers these lines with these replies, and has become `new` then
-pub record Alone (old : Log) (lines : List (List ℕ)) (replies : List Reply) (new : Log) : Type 0 where
+pub record Alone (old : Log) (lines : List (List ℕ)) (replies : List Response) (new : Log) : Type 0 where
   pub before : State
   pub after : State
   pub starts : Replays old before
@@ -29,5 +30,6 @@ pub record Alone (old : Log) (lines : List (List ℕ)) (replies : List Reply) (n
   pub limits : new.limits ≡ old.limits
 
 -- a session's answer to one line: a step, or want of memory, which leaves all as it was
-abbrev pub Answers : Log → List ℕ → Reply → Log → Type 0
-Answers old line reply new = MatchBool (is_memory reply) ((reply ≡ no_memory) × (new ≡ old)) (Alone old (line ∷ []) (reply ∷ []) new)
+abbrev pub Responds : Log → List ℕ → Response → Log → Type 0
+Responds old line reply new =
+    MatchBool (is_memory reply) ((reply ≡ no_memory) × (new ≡ old)) (Alone old (line ∷ []) (reply ∷ []) new)

@@ -1,24 +1,28 @@
 -- One line of a session: what is found, what is answered, and what changes.
-use Rattle.std.specs.Prelude.{◌≡◌, ℕ, ◌+◌, ◌-◌, List, [], ◌∷◌, ◌++◌, Bool, true, false, ◌||◌, Some, None, length, sum_by, min, nat_lt, nat_le, if◌then◌else◌, codes, Option, pos}
+use Rattle.std.specs.Prelude.{◌≡◌, ℕ, ◌+◌, ◌-◌, List, [], ◌∷◌, ◌++◌, Bool, true, false, ◌||◌, Option, Some, None}
+use Rattle.std.specs.Prelude.{length, sum_by, min, nat_lt, nat_le, if◌then◌else◌, codes, pos}
 use Rattle.std.specs.Str.{bytes_eq}
 use Rattle.std.specs.Bool.{MatchBool}
 use Rattle.nesl_values.specs.Tree as values
 use Rattle.nesl_session.specs.declared.limits.Limits.{Limits}
 use Rattle.nesl_reply.specs.declared.fault.Fault.TheVariants as faults
 use Rattle.nesl_session.specs.declared.finding.Finding.{Finding}
-use Rattle.nesl_session.specs.declared.finding.Finding.TheVariants.{Full, TooLong, Stuck, Blank, NoForm, TooHigh, IllTyped, Overflow, OverBudget, TooMany, Bound}
-use Rattle.nesl_session.specs.declared.evaluation.Outcome.{Outcome}
-use Rattle.nesl_session.specs.declared.evaluation.Outcome.TheVariants.{Comes, Overflows}
+use Rattle.nesl_session.specs.declared.finding.Finding.TheVariants.{Full, TooLong, Stuck, Blank, NoForm, TooHigh}
+use Rattle.nesl_session.specs.declared.finding.Finding.TheVariants.{IllTyped, Overflow, OverBudget, TooMany, Bound}
+use Rattle.nesl_session.specs.declared.evaluation.Evaluation.{Evaluation}
+use Rattle.nesl_session.specs.declared.evaluation.Evaluation.TheVariants.{Comes, Overflows}
 use Rattle.nesl_syntax.specs.Trees.{Line, nothing, eval}
-use Rattle.nesl_session.specs.Reading.{Meaning, Means, stuck, no_form, too_high, reads}
-use Rattle.nesl_session.specs.Formulas.{Tree, formula_of}
-use Rattle.nesl_session.specs.Outcomes.{out, within}
+use Rattle.nesl_session.specs.Sense.{Sense, HasSense, stuck, no_form, too_high, form}
+use Rattle.nesl_session.specs.Formulas.{FormulaTree, formula_of}
+use Rattle.nesl_session.specs.Evaluations.{out, within}
 use Rattle.nesl_session.specs.State.{State, Binding, elements_of}
-use Rattle.nesl_session.specs.Reply.{Reply, refused, given, it_text}
+use Rattle.nesl_session.specs.Response.{Response, refused, accepted, it_text}
 
 -- the transcript has no room for the line
 abbrev pub is_full : Limits → State → List ℕ → Bool
-is_full limits s line = nat_le limits.transcript_lines (length s.transcript) || nat_lt limits.transcript_bytes (sum_by length s.transcript + length line)
+is_full limits s line =
+    nat_le limits.transcript_lines (length s.transcript)
+    || nat_lt limits.transcript_bytes (sum_by length s.transcript + length line)
 
 -- the most bytes of a line
 abbrev pub longest : ℕ
@@ -41,13 +45,14 @@ abbrev pub bound : ℕ → List Binding → List Binding
 bound value bindings = put it (values.int (pos value)) bindings
 
 -- what is found of a line whose formula comes to this under the budget `b`
-abbrev pub found_of : Limits → State → ℕ → Option Outcome → Finding
+abbrev pub found_of : Limits → State → ℕ → Option Evaluation → Finding
 found_of limits s b None = OverBudget b
 found_of limits s b (Some (Overflows span work)) = Overflow span work
-found_of limits s b (Some (Comes value work depth)) = if nat_lt limits.elements (elements_of (bound value s.bindings)) then TooMany work else Bound value work depth
+found_of limits s b (Some (Comes value work depth)) =
+    if nat_lt limits.elements (elements_of (bound value s.bindings)) then TooMany work else Bound value work depth
 
 -- what is found of a line whose expression is this formula, or is none
-abbrev pub found_formula : Limits → State → Option Tree → Finding
+abbrev pub found_formula : Limits → State → Option FormulaTree → Finding
 found_formula limits s None = IllTyped
 found_formula limits s (Some t) = found_of limits s (budget limits s) (within (budget limits s) (out t))
 
@@ -57,18 +62,19 @@ found_line limits s nothing = Blank
 found_line limits s (eval e) = found_formula limits s (formula_of e)
 found_line limits s _ = IllTyped
 
-abbrev pub found_in : Limits → State → Meaning → Finding
+abbrev pub found_in : Limits → State → Sense → Finding
 found_in limits s (stuck at) = Stuck at
 found_in limits s no_form = NoForm
 found_in limits s too_high = TooHigh
-found_in limits s (reads l) = found_line limits s l
+found_in limits s (form l) = found_line limits s l
 
--- What is found of a line: the first check that fails, or what its meaning comes to. A line that fails before it is read has no need to mean anything.
+-- What is found of a line: the first check that fails, or what its sense comes to. A line that fails before it is read
+-- has no need to have any.
 unfoldable pub Finds : Limits → State → List ℕ → Finding → Type 0
 Finds limits s line finding =
     MatchBool (is_full limits s line) (finding ≡ Full)
     (MatchBool (nat_lt longest (length line)) (finding ≡ TooLong)
-    ((meaning : Meaning) × Means line meaning × (finding ≡ found_in limits s meaning)))
+    ((sense : Sense) × HasSense line sense × (finding ≡ found_in limits s sense)))
 
 abbrev pub stored : List ℕ → State → State
 stored line s = record s { transcript = s.transcript ++ line ∷ [] }
@@ -76,8 +82,9 @@ stored line s = record s { transcript = s.transcript ++ line ∷ [] }
 abbrev pub charged : ℕ → State → State
 charged work s = record s { work_left = s.work_left - work }
 
--- The state after a line of which this was found. Where the transcript is full or the line too long, nothing changes; every other line is stored.
--- What is not read charges nothing, a fault of evaluation its work, a line over its budget that budget.
+-- The state after a line of which this was found. Where the transcript is full or the line too long, nothing changes;
+-- every other line is stored. What is not read charges nothing, a fault of evaluation its work, a line over its budget
+-- that budget.
 abbrev pub after : List ℕ → State → Finding → State
 after line s Full = s
 after line s TooLong = s
@@ -92,19 +99,20 @@ after line s (TooMany work) = stored line (charged work s)
 after line s (Bound value work depth) = stored line (charged work (record s { bindings = bound value s.bindings }))
 
 -- what is told of this
-abbrev pub told : Finding → Reply
-told Full = refused faults.Transcript false
-told TooLong = refused faults.Long false
-told (Stuck at) = refused (faults.Lexical at) true
-told Blank = given (codes "ok")
-told NoForm = refused faults.Syntax true
-told TooHigh = refused faults.Nested true
-told IllTyped = refused faults.IllTyped true
-told (Overflow span work) = refused (faults.Overflow (record { span = span; work = work })) true
-told (OverBudget work) = refused (faults.Work work) true
-told (TooMany work) = refused (faults.Elements work) true
-told (Bound value work depth) = given (it_text value (record { work = work; depth = depth }))
+abbrev pub response_of : Finding → Response
+response_of Full = refused faults.Transcript false
+response_of TooLong = refused faults.Long false
+response_of (Stuck at) = refused (faults.Lexical at) true
+response_of Blank = accepted (codes "ok")
+response_of NoForm = refused faults.Syntax true
+response_of TooHigh = refused faults.Nested true
+response_of IllTyped = refused faults.IllTyped true
+response_of (Overflow span work) = refused (faults.Overflow (record { span = span; work = work })) true
+response_of (OverBudget work) = refused (faults.Work work) true
+response_of (TooMany work) = refused (faults.Elements work) true
+response_of (Bound value work depth) = accepted (it_text value (record { work = work; depth = depth }))
 
 -- In the state `s` the line is answered by the reply, and leaves the state `s'`.
-unfoldable pub Step : Limits → State → List ℕ → Reply → State → Type 0
-Step limits s line reply s' = (finding : Finding) × Finds limits s line finding × (reply ≡ told finding) × (s' ≡ after line s finding)
+unfoldable pub Step : Limits → State → List ℕ → Response → State → Type 0
+Step limits s line reply s' =
+    (finding : Finding) × Finds limits s line finding × (reply ≡ response_of finding) × (s' ≡ after line s finding)

@@ -1,9 +1,9 @@
 //! What is told of a line.
 ghost use Rattle.std.specs.Prelude.{◌≡◌, ◌≤◌, IfOk, codes};
-ghost use Rattle.nesl_session.specs.Found.{value_of};
-ghost use Rattle.nesl_session.specs.Outcomes.{greatest};
-ghost use Rattle.nesl_session.specs.Reply.{Reply, given, it_text, refused, no_memory, no_user};
-ghost use Rattle.nesl_session.specs.Step.{told};
+ghost use Rattle.nesl_session.specs.Found.{value_bound};
+ghost use Rattle.nesl_session.specs.Evaluations.{greatest};
+ghost use Rattle.nesl_session.specs.Response.{Response, accepted, it_text, refused, no_memory, no_user};
+ghost use Rattle.nesl_session.specs.Step.{response_of};
 
 use crate::finding::Finding;
 use nesl_reply::{Fault, Reply, Stop, reply_text};
@@ -30,12 +30,12 @@ pub struct Answer {
 }
 
 impl Model for Answer {
-    ghost use Rattle.nesl_session.specs.Reply.{Reply};
-    ghost use Rattle.nesl_session.specs.Answer.{text_of};
+    ghost use Rattle.nesl_session.specs.Response.{Response};
+    ghost use Rattle.nesl_session.specs.Text.{text_bytes};
 
-    ghost Value = { Reply };
+    ghost Value = { Response };
 
-    ghost view = { λ a. record { bytes = text_of a.text; fault = a.fault; recorded = a.recorded } };
+    ghost view = { λ a. record { bytes = text_bytes a.text; fault = a.fault; recorded = a.recorded } };
 }
 
 impl Answer {
@@ -88,8 +88,8 @@ impl Answer {
 
     // What is told of this.
     pub(crate) fn of(alloc: Global, finding: Finding) -> Result<Answer, AllocError>
-        requires { value_of finding ≤ greatest }
-        ensures { IfOk result (λ a. a ≡ told finding) }
+        requires { value_bound finding ≤ greatest }
+        ensures { IfOk result (λ a. a ≡ response_of finding) }
     {
         match finding {
             Finding::Full => refused(alloc, Fault::Transcript, false),
@@ -126,7 +126,7 @@ fn refused(alloc: Global, fault: Fault, recorded: bool) -> Result<Answer, AllocE
 
 // A line without tokens.
 fn blank(alloc: Global) -> Result<Answer, AllocError>
-    ensures { IfOk result (λ a. a ≡ given (codes "ok")) }
+    ensures { IfOk result (λ a. a ≡ accepted (codes "ok")) }
 {
     let names: Context<()> = Context::new(alloc);
     let text = reply_text(alloc, &Reply::Blank, &names)?;
@@ -140,7 +140,7 @@ fn blank(alloc: Global) -> Result<Answer, AllocError>
 // A value of `it` and its costs.
 fn bound(alloc: Global, value: u64, cost: Cost) -> Result<Answer, AllocError>
     requires { value ≤ greatest }
-    ensures { IfOk result (λ a. a ≡ given (it_text value cost)) }
+    ensures { IfOk result (λ a. a ≡ accepted (it_text value cost)) }
 {
     let names: Context<()> = Context::new(alloc);
     let value = Value::Int(value as i64);

@@ -1,7 +1,7 @@
 //! What a formula comes to, under a budget of work.
 ghost use Rattle.std.specs.Prelude.{◌≡◌, ℕ, ◌+◌, ◌≤◌, ◌<◌, ◌^◌, IfSome, SomeIff};
-ghost use Rattle.nesl_session.specs.Formulas.{tree_of};
-ghost use Rattle.nesl_session.specs.Outcomes.{applied, came, depth_of, greatest, out, value_of, within, work_of};
+ghost use Rattle.nesl_session.specs.Seen.{seen_formula};
+ghost use Rattle.nesl_session.specs.Evaluations.{applied, came, depth_of, greatest, out, value_of, within, work_of};
 
 use crate::formula::{Formula, Operator};
 use nesl_lex::token::Span;
@@ -9,7 +9,7 @@ use nesl_lex::token::Span;
 /// What a formula comes to. Work and depth count as in Blelloch's 'Programming Parallel Algorithms' (CACM 39(3), 1996):
 /// a sign has 1 and both its parts in each.
 #[derive(Clone, Copy, PartialEq, Eq, Debug)]
-pub enum Outcome {
+pub enum Evaluation {
     /// A value, its work and its depth.
     Comes(u64, u64, u64),
     /// No number of 64 bits is the result of the formula that stands there, and the work until then.
@@ -20,8 +20,8 @@ pub enum Outcome {
 const GREATEST: u64 = i64::MAX as u64;
 
 /// What the formula comes to, or nothing where its whole work is more than `fuel`.
-pub fn evaluate(formula: &Formula, fuel: u64) -> Option<Outcome>
-    ensures outcome { result ≡ within fuel (out (tree_of formula.now)) }
+pub fn evaluate(formula: &Formula, fuel: u64) -> Option<Evaluation>
+    ensures outcome { result ≡ within fuel (out (seen_formula formula.now)) }
     ensures shallow { IfSome result (λ o. depth_of o ≤ work_of o) }
     ensures fits { IfSome result (λ o. value_of o ≤ greatest) }
 {
@@ -29,10 +29,10 @@ pub fn evaluate(formula: &Formula, fuel: u64) -> Option<Outcome>
     match formula {
         Formula::Number(span, value) => Some(came(*span, Some(*value), 1, 1)),
         Formula::Joined(span, operator, left, right) => match evaluate(left, fuel)? {
-            Outcome::Overflows(at, work) => Some(Outcome::Overflows(at, 1 + work)),
-            Outcome::Comes(m, w, d) => match evaluate(right, fuel - w)? {
-                Outcome::Overflows(at, work) => Some(Outcome::Overflows(at, 1 + w + work)),
-                Outcome::Comes(n, x, e) => {
+            Evaluation::Overflows(at, work) => Some(Evaluation::Overflows(at, 1 + work)),
+            Evaluation::Comes(m, w, d) => match evaluate(right, fuel - w)? {
+                Evaluation::Overflows(at, work) => Some(Evaluation::Overflows(at, 1 + w + work)),
+                Evaluation::Comes(n, x, e) => {
                     let value = applied(*operator, m, n);
                     Some(came(*span, value, 1 + w + x, 1 + d + e))
                 }
@@ -42,12 +42,12 @@ pub fn evaluate(formula: &Formula, fuel: u64) -> Option<Outcome>
 }
 
 // A value, or an overflow where there is none of 64 bits.
-fn came(span: Span, value: Option<u64>, work: u64, depth: u64) -> Outcome
+fn came(span: Span, value: Option<u64>, work: u64, depth: u64) -> Evaluation
     ensures { (n : ℕ) → SomeIff value (n < 2 ^ 64) n → result ≡ came span n work depth }
 {
     match value {
-        Some(value) if value <= GREATEST => Outcome::Comes(value, work, depth),
-        _ => Outcome::Overflows(span, work),
+        Some(value) if value <= GREATEST => Evaluation::Comes(value, work, depth),
+        _ => Evaluation::Overflows(span, work),
     }
 }
 

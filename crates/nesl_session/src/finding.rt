@@ -31,7 +31,7 @@ pub enum Finding {
 
 impl Finding {
     ghost use Rattle.std.specs.Prelude.{◌≡◌};
-    ghost use Rattle.nesl_session.specs.Found.{is_stored, work_of};
+    ghost use Rattle.nesl_session.specs.Found.{is_stored, charge_of};
 
     /// Whether the line is stored.
     pub fn is_stored(self) -> bool
@@ -42,7 +42,7 @@ impl Finding {
 
     /// The work that the line is charged.
     pub fn work(self) -> u64
-        ensures { result ≡ work_of self }
+        ensures { result ≡ charge_of self }
     {
         match self {
             Finding::Overflow(_, work)

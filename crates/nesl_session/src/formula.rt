@@ -1,7 +1,8 @@
 //! Formulas: numbers joined by `+` and `*`.
 ghost use Rattle.std.specs.Prelude.{◌≡◌, IfOk, option_map};
 ghost use Rattle.nesl_syntax.specs.Views.{tree_of as exp_of};
-ghost use Rattle.nesl_session.specs.Formulas.{formula_of, sign_of, tree_of};
+ghost use Rattle.nesl_session.specs.Formulas.{formula_of, sign_of};
+ghost use Rattle.nesl_session.specs.Seen.{seen_formula};
 
 use nesl_lex::token::Span;
 use nesl_syntax::tree;
@@ -24,11 +25,15 @@ pub enum Formula {
 
 /// The formula that an expression is, if it is one. It recurs over a tree that is at most 100 high.
 pub fn as_formula(alloc: Global, exp: &Exp) -> Result<Option<Formula>, AllocError>
-    ensures { IfOk result (λ formula. option_map tree_of formula ≡ formula_of (exp_of exp.now)) }
+    ensures { IfOk result (λ formula. option_map seen_formula formula ≡ formula_of (exp_of exp.now)) }
 {
     match &exp.node {
         Node::Number(value) => Ok(Some(Formula::Number(exp.span, *value))),
-        Node::Infix(operator, left, right) => {
+        Node::Infix {
+            operator,
+            left,
+            right,
+        } => {
             let Some(sign) = sign_of(*operator) else {
                 return Ok(None);
             };

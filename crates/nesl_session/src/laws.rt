@@ -1,13 +1,21 @@
 //! What holds of the step, whoever calls it.
-ghost use Rattle.nesl_session.specs.Laws.{GoesOn, OneRun, OneStep};
+ghost use Rattle.nesl_session.specs.Laws.{GoesOn, OneRun, OneState, OneStep};
 ghost use Rattle.nesl_session.specs.Worked.{comment, high_tree, no_formula, no_room_for_a_line, no_room_for_an_element, no_token, no_tree, over_the_work_of_a_line, overflow_where_it_stands, product_before_sum};
 
-use nesl_lex::one_reading;
-use nesl_syntax::one_form;
+use nesl_lex::{one_reading, reading_computes};
+use nesl_syntax::{form_computes, one_form};
 
 /// In one state a line has one answer, and leaves one state.
 pub fn one_step()
     ensures { OneStep }
+{
+    one_reading();
+    one_form();
+}
+
+/// What a session stored has one replay: a session has one state.
+pub fn one_state()
+    ensures { OneState }
 {
     one_reading();
     one_form();
@@ -29,7 +37,7 @@ pub fn goes_on()
     one_form();
 }
 
-/// Lines of a fresh session, worked by hand from what they mean: the definition of a step gives these replies, and leaves this work.
+/// Lines of a fresh session, worked by hand: the definition of a step gives these replies, and leaves this work.
 pub fn worked_lines()
     ensures value { product_before_sum }
     ensures overflow { overflow_where_it_stands }
@@ -41,4 +49,7 @@ pub fn worked_lines()
     ensures work { over_the_work_of_a_line }
     ensures elements { no_room_for_an_element }
     ensures transcript { no_room_for_a_line }
-{}
+{
+    reading_computes();
+    form_computes();
+}

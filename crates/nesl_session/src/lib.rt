@@ -7,7 +7,7 @@ mod finding;
 mod formula;
 pub mod laws;
 pub mod limits;
-mod reading;
+mod sense;
 pub mod session;
 
 pub use nesl_reply::{Fault, Stop};

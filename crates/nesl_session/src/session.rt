@@ -3,20 +3,20 @@ ghost use Rattle.std.specs.Prelude.{◌≡◌, ℕ, ◌+◌, ◌-◌, ◌≤◌,
 ghost use Rattle.nesl_values.specs.Tree as values;
 ghost use Rattle.nesl_values.specs.View.{tree_of};
 ghost use Rattle.nesl_session.specs.State.{State, Log, names_of, remaining_of};
-ghost use Rattle.nesl_session.specs.Reply.{Reply, is_memory, no_memory};
+ghost use Rattle.nesl_session.specs.Response.{is_memory, no_memory};
 ghost use Rattle.nesl_session.specs.Step.{Finds};
-ghost use Rattle.nesl_session.specs.Outcomes.{greatest};
-ghost use Rattle.nesl_session.specs.Found.{bindings_of, is_stored, work_of, value_of, it_after, found_by, found_by_line, FoundBy};
+ghost use Rattle.nesl_session.specs.Evaluations.{greatest};
+ghost use Rattle.nesl_session.specs.Found.{bindings_of, is_stored, charge_of, value_bound, it_after, found_by, found_by_line, FoundBy};
 ghost use Rattle.nesl_syntax.specs.Views.{line_of};
-ghost use Rattle.nesl_session.specs.Solo.{Solo, Replays, Alone, Answers};
+ghost use Rattle.nesl_session.specs.Solo.{Solo, Replays, Alone, Responds};
 ghost use Rattle.std.specs.Iterator.{item_count, YieldsFirstRef};
 
 use crate::answer::Answer;
-use crate::evaluation::{Outcome, evaluate};
+use crate::evaluation::{Evaluation, evaluate};
 use crate::finding::Finding;
 use crate::formula::as_formula;
 use crate::limits::{Limits, Remaining};
-use crate::reading::{Meaning, read};
+use crate::sense::{Sense, sense_of};
 use nesl_syntax::tree::Form;
 use nesl_values::Value;
 use std::alloc::{AllocError, Global};
@@ -131,7 +131,7 @@ impl Session {
 
     /// One line. The answer is the step's, or want of memory, which leaves all as it was.
     pub fn line(&mut self, alloc: Global, text: &[u8]) -> Answer
-        ensures { Answers self.old text.now result self.new }
+        ensures { Responds self.old text.now result self.new }
     {
         match self.try_line(alloc, text) {
             Ok(answer) => answer,
@@ -173,8 +173,8 @@ fn find(
     ensures found { IfOk result (λ finding. (s : State) (was : Option values.Tree) → length s.transcript ≡ lines → sum_by length s.transcript ≡ bytes → s.work_left ≡ work_left → s.bindings ≡ bindings_of was
         → Finds limits s text.now finding) }
     ensures room { IfOk result (λ finding. IsTrue (is_stored finding) → bytes + length text.now < 2 ^ 64) }
-    ensures paid { IfOk result (λ finding. work_of finding ≤ work_left) }
-    ensures fits { IfOk result (λ finding. value_of finding ≤ greatest) }
+    ensures paid { IfOk result (λ finding. charge_of finding ≤ work_left) }
+    ensures fits { IfOk result (λ finding. value_bound finding ≤ greatest) }
 {
     let Some(total) = bytes.checked_add(text.len() as u64) else {
         return Ok(Finding::Full);
@@ -186,26 +186,26 @@ fn find(
         return Ok(Finding::TooLong);
     }
     let budget = limits.line_work.min(work_left);
-    let finding = find_by_meaning(alloc, text, budget, limits.elements)?;
+    let finding = find_by_sense(alloc, text, budget, limits.elements)?;
     Ok(finding)
 }
 
-// What is found of a line by what it means, under the budget.
-fn find_by_meaning(
+// What is found of a line by its sense, under the budget.
+fn find_by_sense(
     alloc: Global,
     text: &[u8],
     budget: u64,
     elements: u64,
 ) -> Result<Finding, AllocError>
     ensures found { IfOk result (FoundBy text.now elements budget) }
-    ensures paid { IfOk result (λ finding. work_of finding ≤ budget) }
-    ensures fits { IfOk result (λ finding. value_of finding ≤ greatest) }
+    ensures paid { IfOk result (λ finding. charge_of finding ≤ budget) }
+    ensures fits { IfOk result (λ finding. value_bound finding ≤ greatest) }
 {
-    match read(alloc, text)? {
-        Meaning::Stuck(at) => Ok(Finding::Stuck(at)),
-        Meaning::NoForm => Ok(Finding::NoForm),
-        Meaning::TooHigh => Ok(Finding::TooHigh),
-        Meaning::Reads(form) => {
+    match sense_of(alloc, text)? {
+        Sense::Stuck(at) => Ok(Finding::Stuck(at)),
+        Sense::NoForm => Ok(Finding::NoForm),
+        Sense::TooHigh => Ok(Finding::TooHigh),
+        Sense::Form(form) => {
             let finding = find_by_form(alloc, &form, budget, elements)?;
             Ok(finding)
         }
@@ -220,8 +220,8 @@ fn find_by_form(
     elements: u64,
 ) -> Result<Finding, AllocError>
     ensures found { IfOk result (λ finding. finding ≡ found_by_line elements budget (line_of form.now)) }
-    ensures paid { IfOk result (λ finding. work_of finding ≤ budget) }
-    ensures fits { IfOk result (λ finding. value_of finding ≤ greatest) }
+    ensures paid { IfOk result (λ finding. charge_of finding ≤ budget) }
+    ensures fits { IfOk result (λ finding. value_bound finding ≤ greatest) }
 {
     match form {
         Form::Nothing => Ok(Finding::Blank),
@@ -234,20 +234,20 @@ fn find_by_form(
 }
 
 // What is found of a line whose formula comes to this under the budget. The number that it binds is one node.
-fn found(outcome: Option<Outcome>, budget: u64, elements: u64) -> Finding
-    ensures { result ≡ found_by elements budget outcome }
+fn found(evaluation: Option<Evaluation>, budget: u64, elements: u64) -> Finding
+    ensures { result ≡ found_by elements budget evaluation }
 {
-    match outcome {
+    match evaluation {
         None => Finding::OverBudget(budget),
-        Some(Outcome::Overflows(span, work)) => Finding::Overflow(span, work),
-        Some(Outcome::Comes(_, work, _)) if elements < 1 => Finding::TooMany(work),
-        Some(Outcome::Comes(value, work, depth)) => Finding::Bound(value, work, depth),
+        Some(Evaluation::Overflows(span, work)) => Finding::Overflow(span, work),
+        Some(Evaluation::Comes(_, work, _)) if elements < 1 => Finding::TooMany(work),
+        Some(Evaluation::Comes(value, work, depth)) => Finding::Bound(value, work, depth),
     }
 }
 
 // What `it` stands for after a line of which this was found.
 fn it_after(was: Option<Value>, finding: Finding) -> Option<Value>
-    requires { value_of finding ≤ greatest }
+    requires { value_bound finding ≤ greatest }
     ensures { option_map tree_of result ≡ it_after (option_map tree_of was) finding }
 {
     match finding {

@@ -13,12 +13,14 @@ use Rattle.nesl_syntax.specs.declared.tree.Prefix.TheVariants as prefix
 use Rattle.nesl_syntax.specs.declared.mark.Mark.{Mark}
 use Rattle.nesl_syntax.specs.declared.mark.Mark.TheVariants as mark
 use Rattle.nesl_syntax.specs.declared.mark.Follow.TheVariants as follow
-use Rattle.nesl_syntax.specs.Trees.{Tree, Shape, Trees, Binders, PatternTree, PatternShape, TypeTree, node, pattern, written, span_of, pattern_span, widened, widened_pattern, widened_type, and_then, and_bind, none, no_binders, binder, pattern_in, pattern_shape_in, with_span, shape_pair, shape_record, tree_of_pattern, shape_of_pattern}
+use Rattle.nesl_syntax.specs.Trees.{Tree, Shape, Trees, Binders, PatternTree, PatternShape, TypeTree, node, pattern, written, span_of, pattern_span, widened, widened_pattern, widened_type, and_then, and_bind, none, no_binders, binder}
 use Rattle.nesl_syntax.specs.Trees as trees
-use Rattle.nesl_syntax.specs.Marks.{operator_token, follow_of}
+use Rattle.nesl_syntax.specs.Marks.{follow_of}
 use Rattle.nesl_syntax.specs.Grammar as grammar
-use Rattle.nesl_syntax.specs.Grammar.{level_of, prefix_sign, over, token_at, sign_at, word_at, name_at, IsType, AreTypes, IsPattern, ArePatterns, Parses, Lists, Binds, Bodies, own_body}
-use Rattle.nesl_syntax.specs.Machine.{Group, let_group, each_group, Opening, round, call, index_of, test, branch, list, range_from, range_to, brace, binders, value, filter, empty_at, type_list, type_round, type_comma, Waiting, open_at, comma_behind, else_behind, body_of, prefix_at, sign_behind, type_at, opening_wants, wanted_by, begun_by, rank, completed, wanted, folded, before, behind, typing, typed, State, opened, becomes, ends, bound, body_or, turned, took, marked, separated, mark_level, on_both, followed, let_closed, type_done, type_separated, type_closed, step, run, alone, expression, written_type}
+use Rattle.nesl_syntax.specs.Grammar.{operator_token, level_of, prefix_sign, over, token_at, sign_at, word_at, name_at, IsType, AreTypes, IsPattern, ArePatterns, Parses, Lists, Binds, Bodies, own_body}
+use Rattle.nesl_syntax.specs.Machine.{Group, let_group, each_group, Opening, round, call, index_of, test, branch, list, range_from, range_to, brace, binders, value, filter, empty_at, type_list, type_round, type_comma, Waiting, open_at, comma_behind, else_behind, body_of, prefix_at, sign_behind, type_at, opening_wants, wanted_by, begun_by, rank, completed, wanted, folded, before, behind, typing, typed, State, opened, becomes, ends, bound, body_or, turned, taken_up, marked, separated, mark_level, on_both, followed, let_closed, type_done, type_separated, type_closed, step, run, alone, expression, written_type}
+use Rattle.nesl_syntax.specs.Patterns.{pattern_in, pattern_shape_in, with_span}
+use Rattle.nesl_syntax.proofs.PatternTrees.{shape_of_pattern, tree_of_pattern}
 
 -- from one state over a token, and over some tokens, to another
 pub record Steps (q : State) (t : Placed) (p : State) : Type 0 where
@@ -197,10 +199,10 @@ step_indexes {ns = ns} {ws = ws} {x = x} {a = a} s e h = record { steps = ap (on
 
 -- a mark behind what folds to an opening and its last part
 step_marks : {ns ws : List Waiting} {b : Bool} {x a : Tree} {o : Opening} {w : Waiting} (m : Mark) (t : Placed) → follow_of t.lexeme ≡ follow.Mark m → folded (mark_level m) ns x ≡ (open_at o ∷ ws, a) → turned m t.span o a ≡ Some (becomes w) → Steps (ns, behind b x) t (w ∷ ws, before)
-step_marks {ns = ns} {ws = ws} {b = b} {x = x} m t k e h = record { steps = ap (λ f. followed f ns b x t.span) k ∙ ap (on_both (marked m t.span)) e ∙ ap (took ws) h }
+step_marks {ns = ns} {ws = ws} {b = b} {x = x} m t k e h = record { steps = ap (λ f. followed f ns b x t.span) k ∙ ap (on_both (marked m t.span)) e ∙ ap (taken_up ws) h }
 
 step_ends : {ns ws : List Waiting} {b : Bool} {x a y : Tree} {o : Opening} (m : Mark) (t : Placed) → follow_of t.lexeme ≡ follow.Mark m → folded (mark_level m) ns x ≡ (open_at o ∷ ws, a) → turned m t.span o a ≡ Some (ends y) → Steps (ns, behind b x) t (ws, behind false y)
-step_ends {ns = ns} {ws = ws} {b = b} {x = x} m t k e h = record { steps = ap (λ f. followed f ns b x t.span) k ∙ ap (on_both (marked m t.span)) e ∙ ap (took ws) h }
+step_ends {ns = ns} {ws = ws} {b = b} {x = x} m t k e h = record { steps = ap (λ f. followed f ns b x t.span) k ∙ ap (on_both (marked m t.span)) e ∙ ap (taken_up ws) h }
 
 -- behind these tokens stands a state that folds to the tree, at each level up to this one
 pub record Comes (ws : List Waiting) (ts : List Placed) (n : ℕ) (e : Tree) : Type 0 where
@@ -275,7 +277,7 @@ mutual
 
 -- a type comes by itself
 pub record InTypes (ws : List Waiting) : Type 0 where
-  pub done : (z : Span) (a : TypeTree) → type_done ws z a ≡ (ws, typed a)
+  pub done : (a : TypeTree) → type_done ws a ≡ (ws, typed a)
   pub commas : (a : TypeTree) → type_separated ws a ≡ Some (type_at (type_comma a) ∷ ws, typing)
 
 pub record TypesCome (ws : List Waiting) (us : List Placed) (a : TypeTree) : Type 0 where
@@ -285,36 +287,36 @@ pub record TypesCome (ws : List Waiting) (us : List Placed) (a : TypeTree) : Typ
   pub closes : (t : Span) → type_closed now t last ≡ type_closed ws t a
 
 in_round : (s : Span) (ws : List Waiting) → InTypes (type_at (type_round s) ∷ ws)
-in_round s ws = record { done = λ z a. refl; commas = λ a. refl }
+in_round s ws = record { done = λ a. refl; commas = λ a. refl }
 
 in_comma : (b : TypeTree) (ws : List Waiting) → InTypes (type_at (type_comma b) ∷ ws)
-in_comma b ws = record { done = λ z a. refl; commas = λ a. refl }
+in_comma b ws = record { done = λ a. refl; commas = λ a. refl }
 
 mutual
-  pub type_comes : {us : List Placed} {z : Span} {a : TypeTree} → IsType us z a → (ws : List Waiting) → Goes (ws, typing) us (type_done ws z a)
+  pub type_comes : {us : List Placed} {a : TypeTree} → IsType us a → (ws : List Waiting) → Goes (ws, typing) us (type_done ws a)
   type_comes (grammar.type_int s) ws = record { goes = refl }
   type_comes (grammar.type_bool s) ws = record { goes = refl }
   type_comes (grammar.type_char s) ws = record { goes = refl }
   type_comes (grammar.type_name x s) ws = record { goes = refl }
   type_comes (grammar.type_sequence {a = a} s t q) ws =
       let open_it : Steps (ws, typing) (sign_at sign.OpenBracket s) (type_at (type_list s) ∷ ws, typing) = record { steps = refl } in
-      let close_it : Steps (type_at (type_list s) ∷ ws, typed a) (sign_at sign.CloseBracket t) (type_done ws t (written (over s t) (trees.sequence_type a))) = record { steps = refl } in
+      let close_it : Steps (type_at (type_list s) ∷ ws, typed a) (sign_at sign.CloseBracket t) (type_done ws (written (over s t) (trees.sequence_type a))) = record { steps = refl } in
       Goes-cons open_it (Goes-append (type_comes q (type_at (type_list s) ∷ ws)) (Goes-one close_it))
   type_comes (grammar.type_rounds {a = a} s t q) ws =
       let open_it : Steps (ws, typing) (sign_at sign.OpenParenthesis s) (type_at (type_round s) ∷ ws, typing) = record { steps = refl } in
       let c = types_come q (type_at (type_round s) ∷ ws) (in_round s ws) in
-      let close_it : Steps (c.now, typed c.last) (sign_at sign.CloseParenthesis t) (type_done ws t (widened_type (over s t) a)) = record { steps = c.closes t } in
+      let close_it : Steps (c.now, typed c.last) (sign_at sign.CloseParenthesis t) (type_done ws (widened_type (over s t) a)) = record { steps = c.closes t } in
       Goes-cons open_it (Goes-append c.goes (Goes-one close_it))
 
   types_come : {us : List Placed} {a : TypeTree} → AreTypes us a → (ws : List Waiting) → InTypes ws → TypesCome ws us a
-  types_come (grammar.one_type {us = us} {z = z} {a = a} q) ws i = record {
+  types_come (grammar.one_type {us = us} {a = a} q) ws i = record {
     now = ws;
     last = a;
-    goes = subst (λ (p : State). Goes (ws, typing) us p) (i.done z a) (type_comes q ws);
+    goes = subst (λ (p : State). Goes (ws, typing) us p) (i.done a) (type_comes q ws);
     closes = λ t. refl;
   }
-  types_come (grammar.type_pairs {us = us} {z = z} {a = a} {b = b} s q r) ws i =
-      let c : Goes (ws, typing) us (ws, typed a) = subst (λ (p : State). Goes (ws, typing) us p) (i.done z a) (type_comes q ws) in
+  types_come (grammar.type_pairs {us = us} {a = a} {b = b} s q r) ws i =
+      let c : Goes (ws, typing) us (ws, typed a) = subst (λ (p : State). Goes (ws, typing) us p) (i.done a) (type_comes q ws) in
       let comma : Steps (ws, typed a) (sign_at sign.Comma s) (type_at (type_comma a) ∷ ws, typing) = record { steps = i.commas a } in
       let d = types_come r (type_at (type_comma a) ∷ ws) (in_comma a ws) in
       record { now = d.now; last = d.last; goes = Goes-append c (Goes-cons comma d.goes); closes = λ t. d.closes t }
@@ -462,7 +464,7 @@ mutual
   complete (grammar.names x s) ws h = names_come ws x s
   complete (grammar.calls x s t u p) ws h = calls_come x s t u (complete p (open_at (call x s) ∷ ws) (omega arith))
   complete (grammar.rounds s t p) ws h = rounds_come s t (complete p (open_at (round s) ∷ ws) (omega arith))
-  complete (grammar.empties {z = z} {a = a} s t q) ws h =
+  complete (grammar.empties {a = a} s t q) ws h =
       let open_it : Steps (ws, before) (sign_at sign.OpenBracket s) (open_at (list s none) ∷ ws, before) = record { steps = opens (open_at (list s none)) ws h } in
       let close_it : Steps (open_at (list s none) ∷ ws, before) (sign_at sign.CloseBracket t) (type_at (empty_at s) ∷ ws, typing) = record { steps = refl } in
       ended 10 false (Goes-cons open_it (Goes-cons close_it (type_comes q (type_at (empty_at s) ∷ ws))))
@@ -539,11 +541,11 @@ one_tree p q = let e = reads_it p in let f = reads_it q in cc
 pub reads_pattern : {ts : List Placed} {p : PatternTree} → IsPattern ts p → option_and_then pattern_in (expression ts) ≡ Some p
 reads_pattern {ts = ts} {p = p} i = rw (expression_from ts (tree_of_pattern p) (loosely (omega arith) (pattern_comes i []))) (pattern_read p)
 
-pub reads_type : {ts : List Placed} {z : Span} {a : TypeTree} → IsType ts z a → written_type ts ≡ Some a
+pub reads_type : {ts : List Placed} {a : TypeTree} → IsType ts a → written_type ts ≡ Some a
 reads_type i = let g = type_comes i [] in rw g.goes refl
 
 pub one_pattern : {ts : List Placed} {p q : PatternTree} → IsPattern ts p → IsPattern ts q → p ≡ q
 one_pattern i j = let e = reads_pattern i in let f = reads_pattern j in cc
 
-pub one_type : {ts : List Placed} {y z : Span} {a b : TypeTree} → IsType ts y a → IsType ts z b → a ≡ b
+pub one_type : {ts : List Placed} {a b : TypeTree} → IsType ts a → IsType ts b → a ≡ b
 one_type i j = let e = reads_type i in let f = reads_type j in cc

@@ -149,7 +149,7 @@ mutual
   patterns_uncut d (grammar.pattern_pairs {us = us} {vs = vs} s i j) = with_comma d us vs s (pattern_uncut d i) (patterns_uncut d j)
 
 mutual
-  pub type_uncut : {us : List Placed} {z : Span} {a : TypeTree} (d : Divider) → IsType us z a → cut d us ≡ None
+  pub type_uncut : {us : List Placed} {a : TypeTree} (d : Divider) → IsType us a → cut d us ≡ None
   type_uncut d (grammar.type_int s) = uncut_one d (word_at word.Int s) (word_divides d word.Int)
   type_uncut d (grammar.type_bool s) = uncut_one d (word_at word.Bool s) (word_divides d word.Bool)
   type_uncut d (grammar.type_char s) = uncut_one d (word_at word.Char s) (word_divides d word.Char)

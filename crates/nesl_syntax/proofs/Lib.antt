@@ -12,3 +12,4 @@ pub mod Signatures
 pub mod Targets
 pub mod Lines
 pub mod Spans
+mod PatternTrees

@@ -1,6 +1,7 @@
 -- A line's tokens, its one line, and what is read.
 use Rattle.std.proofs.Common.{◌≡◌, ◌≤◌, ◌<◌, ℕ, Bool, true, false, cond, List, [], ◌∷◌, ◌++◌, codes, length, reverse, Option, Some, None, refl, ap, sym, subst, ◌∙◌, arith, append_assoc}
-use Rattle.std.specs.Option.{option_map}
+use Rattle.std.specs.Option.{option_map, option_and_then}
+use Rattle.std.proofs.lemmas.Option.{option_and_then_some}
 use Rattle.std.proofs.lemmas.List.{reverse-reverse, reverse-append, map-append}
 use Rattle.nesl_lex.specs.Tokens.{Placed, Lexeme, reserved, symbol, lexeme_of, placed_of, placed}
 use Rattle.nesl_lex.specs.declared.token.Token.{Token}
@@ -15,7 +16,7 @@ use Rattle.nesl_syntax.specs.declared.fault.ParseFault.{ParseFault}
 use Rattle.nesl_syntax.specs.declared.fault.ParseFault.TheVariants.{Syntax, Nested, Memory}
 use Rattle.nesl_syntax.specs.Views.{line_of}
 use Rattle.nesl_syntax.specs.Given.{GivesLine}
-use Rattle.nesl_syntax.specs.Reading.{Halves, cut, head_in, function_of, function_with, function_named, datatype_named, typed_named, bound_with, bound_in, begun_line, line_in, command_with, command_in, is_text}
+use Rattle.nesl_syntax.specs.Reading.{form_with, form_in, closed_in, is_semicolon, behind_token, Halves, cut, head_in, function_of, function_with, function_named, datatype_named, typed_named, bound_with, bound_in, begun_line, line_in, command_with, command_in, is_text}
 use Rattle.nesl_syntax.specs.Trees.{Tree, Line, nothing, function, datatype, bind, eval, show_names, show_budget, show_type, line_height}
 use Rattle.nesl_syntax.specs.Grammar.{token_at, sign_at, word_at, name_at}
 use Rattle.nesl_syntax.specs.Lines.{IsLine, no_tokens, functions, datatypes, binds, evaluates, names_shown, budget_shown, type_shown}
@@ -105,7 +106,7 @@ function_is _ i j u ts l h = cc
 datatype_is : (y : Lexeme) (i j u : Span) (ts : List Placed) (l : Line) → datatype_named y ts ≡ Some l → IsLine (word_at word.Datatype i ∷ (token_at y j ∷ (ts ++ (sign_at sign.Semicolon u ∷ [])))) l
 datatype_is (tokens.name x) i j u ts l h =
     let m = mapped (datatype x) (written_type ts) l h in
-    subst (λ (y : Line). IsLine (word_at word.Datatype i ∷ (name_at x j ∷ (ts ++ (sign_at sign.Semicolon u ∷ [])))) y) m.2 (datatypes x i j u (is_type_read ts m.0 m.1).is_type)
+    subst (λ (y : Line). IsLine (word_at word.Datatype i ∷ (name_at x j ∷ (ts ++ (sign_at sign.Semicolon u ∷ [])))) y) m.2 (datatypes x i j u (is_type_read ts m.0 m.1))
 datatype_is _ i j u ts l h = cc
 
 typed_as : (x : List ℕ) (c s u : Span) (ts : List Placed) (l : Line) (b : Bool) → is_text x (codes "type") ≡ b → cond b (option_map show_type (expression ts)) None ≡ Some l → IsLine (sign_at sign.Colon c ∷ (name_at x s ∷ (ts ++ (sign_at sign.Semicolon u ∷ [])))) l
@@ -249,3 +250,62 @@ pub command_answers : (ts : List Placed) (f : Form) → Some (line_of f) ≡ com
 command_answers ts f h =
     let c = command_is ts (line_of f) (sym h) in
     record { tree = c.0; only = λ other p. one_line p c.0; low = omega (arith, c.1); syntax = λ x. cc; nested = λ x. cc }
+
+-- what is computed is the line
+semicolon_is : (x : Lexeme) → is_semicolon x ≡ true → x ≡ symbol sign.Semicolon
+semicolon_is (symbol sign.Semicolon) h = refl
+semicolon_is _ h = cc
+
+-- the tokens before a last ;
+record ClosedOf (ts front : List Placed) : Type 0 where
+  at : Span
+  whole : front ++ sign_at sign.Semicolon at ∷ [] ≡ ts
+
+last_closed : (t : Placed) (front : List Placed) (b : Bool) → is_semicolon t.lexeme ≡ b → cond b (Some []) None ≡ Some front → ClosedOf (t ∷ []) front
+last_closed t front true e h =
+    let k : [] ≡ front = cc in
+    record { at = t.span; whole = ap (λ (us : List Placed). us ++ sign_at sign.Semicolon t.span ∷ []) (sym k) ∙ ap (λ (x : Lexeme). token_at x t.span ∷ []) (sym (semicolon_is t.lexeme e)) }
+last_closed t front false e h = cc
+
+closed_of : (ts front : List Placed) → closed_in ts ≡ Some front → ClosedOf ts front
+closed_of [] front h = cc
+closed_of (t ∷ []) front h = last_closed t front (is_semicolon t.lexeme) refl h
+closed_of (t ∷ u ∷ ts) front h =
+    let m = mapped (behind_token t) (closed_in (u ∷ ts)) front h in
+    let c = closed_of (u ∷ ts) m.0 m.1 in
+    record { at = c.at; whole = ap (λ (us : List Placed). us ++ sign_at sign.Semicolon c.at ∷ []) (sym m.2) ∙ ap (λ (us : List Placed). t ∷ us) c.whole }
+
+closed_back : (front : List Placed) (s : Span) → closed_in (front ++ sign_at sign.Semicolon s ∷ []) ≡ Some front
+closed_back [] s = refl
+closed_back (t ∷ []) s = refl
+closed_back (t ∷ u ∷ us) s = ap (option_map (behind_token t)) (closed_back (u ∷ us) s)
+
+closed_line : (ts : List Placed) (l : Line) → option_and_then line_in (closed_in ts) ≡ Some l → IsLine ts l
+closed_line ts l h = option_and_then_some line_in (closed_in ts) l h (λ front e k.
+    let c = closed_of ts front e in
+    subst (λ (us : List Placed). IsLine us l) c.whole (line_is front c.at l k))
+
+form_as : (ts : List Placed) (l : Line) (o : Option Line) → command_in ts ≡ o → form_with o ts ≡ Some l → IsLine ts l
+form_as ts l (Some k) e h = (command_is ts l (e ∙ h)).0
+form_as [] l None e h = let k : nothing ≡ l = cc in subst (λ (x : Line). IsLine [] x) k no_tokens
+form_as (t ∷ ts) l None e h = closed_line (t ∷ ts) l h
+
+pub form_is : (ts : List Placed) (l : Line) → form_in ts ≡ Some l → IsLine ts l
+form_is ts l h = form_as ts l (command_in ts) refl h
+
+closed_form : (ts : List Placed) (l : Line) → 0 < length ts → command_in ts ≡ None → option_and_then line_in (closed_in ts) ≡ Some l → form_in ts ≡ Some l
+closed_form [] l g e h = absurd (omega arith)
+closed_form (t ∷ ts) l g e h = ap (λ (o : Option Line). form_with o (t ∷ ts)) e ∙ h
+
+some_tokens : (front : List Placed) (t : Placed) → 0 < length (front ++ t ∷ [])
+some_tokens [] t = omega arith
+some_tokens (u ∷ us) t = omega arith
+
+form_read : {ts : List Placed} {l : Line} → Reads ts l → form_in ts ≡ Some l
+form_read reads_nothing = refl
+form_read (reads_command {us = us} k) = ap (λ (o : Option Line). form_with o us) k
+form_read (reads_closed {l = l} rest s k) =
+    closed_form (rest ++ sign_at sign.Semicolon s ∷ []) l (some_tokens rest (sign_at sign.Semicolon s)) (no_command rest s) (ap (option_and_then line_in) (closed_back rest s) ∙ k)
+
+pub form_of : (ts : List Placed) (l : Line) → IsLine ts l → form_in ts ≡ Some l
+form_of ts l p = form_read (reads p)

@@ -7,8 +7,8 @@ use Rattle.nesl_lex.specs.Tokens as tokens
 use Rattle.nesl_lex.specs.declared.token.Span.{Span}
 use Rattle.nesl_lex.specs.declared.token.Word.TheVariants as word
 use Rattle.nesl_lex.specs.declared.token.Sign.TheVariants as sign
-use Rattle.nesl_syntax.specs.declared.signature.Behind.{Behind}
-use Rattle.nesl_syntax.specs.declared.signature.Behind.TheVariants as behind
+use Rattle.nesl_syntax.specs.declared.signature.MemberEnd.{MemberEnd}
+use Rattle.nesl_syntax.specs.declared.signature.MemberEnd.TheVariants as end
 use Rattle.nesl_syntax.specs.Trees.{MemberTree}
 use Rattle.nesl_syntax.specs.Grammar.{sign_at}
 use Rattle.nesl_syntax.specs.Lines.{class_text, member_tokens, AreMembers, one_member, more_members}
@@ -55,13 +55,13 @@ member_is : (x y z : Lexeme) (m : MemberTree) → member_of x y z ≡ Some m →
 member_is x (reserved word.In) z m h = named_is x z m h
 member_is x _ z m h = cc
 
-close_is : (x : Lexeme) (ts : List Placed) → behind_of x ts ≡ behind.Close → (x ≡ symbol sign.CloseParenthesis) × (ts ≡ [])
+close_is : (x : Lexeme) (ts : List Placed) → behind_of x ts ≡ end.Close → (x ≡ symbol sign.CloseParenthesis) × (ts ≡ [])
 close_is (symbol sign.CloseParenthesis) [] h = (refl, refl)
 close_is (symbol sign.CloseParenthesis) (t ∷ ts) h = cc
 close_is (symbol sign.Semicolon) ts h = cc
 close_is _ ts h = cc
 
-semicolon_is : (x : Lexeme) (ts : List Placed) → behind_of x ts ≡ behind.Semicolon → x ≡ symbol sign.Semicolon
+semicolon_is : (x : Lexeme) (ts : List Placed) → behind_of x ts ≡ end.Semicolon → x ≡ symbol sign.Semicolon
 semicolon_is (symbol sign.CloseParenthesis) [] h = cc
 semicolon_is (symbol sign.CloseParenthesis) (t ∷ ts) h = cc
 semicolon_is (symbol sign.Semicolon) ts h = refl
@@ -77,9 +77,9 @@ pub record MembersOf (ts : List Placed) (ms : List MemberTree) : Type 0 where
 token_is : (t : Placed) (x : Lexeme) → t.lexeme ≡ x → t ≡ record { lexeme = x; span = t.span }
 token_is t x e = ap (λ (y : Lexeme). record { lexeme = y; span = t.span }) e
 
-by_behind : (n i k e : Placed) (ts : List Placed) (ms : List MemberTree) (b : Behind) (o : Option MemberTree) (os : Option (List MemberTree))
+by_behind : (n i k e : Placed) (ts : List Placed) (ms : List MemberTree) (b : MemberEnd) (o : Option MemberTree) (os : Option (List MemberTree))
     → behind_of e.lexeme ts ≡ b → member_of n.lexeme i.lexeme k.lexeme ≡ o → ((xs : List MemberTree) → os ≡ Some xs → MembersOf ts xs) → members_with b o os ≡ Some ms → MembersOf (n ∷ i ∷ k ∷ e ∷ ts) ms
-by_behind n i k e ts ms behind.Close (Some m) os f g r h =
+by_behind n i k e ts ms end.Close (Some m) os f g r h =
     let p = member_is n.lexeme i.lexeme k.lexeme m g in
     let z = close_is e.lexeme ts f in
     let a = token_is n _ p.names in
@@ -89,7 +89,7 @@ by_behind n i k e ts ms behind.Close (Some m) os f g r h =
     let y = z.1 in
     let q : m ∷ [] ≡ ms = cc in
     record { front = member_tokens m n.span i.span k.span; at = e.span; whole = cc; are = subst (λ (x : List MemberTree). AreMembers (member_tokens m n.span i.span k.span) x) q (one_member m n.span i.span k.span) }
-by_behind n i k e ts ms behind.Semicolon (Some m) (Some xs) f g r h =
+by_behind n i k e ts ms end.Semicolon (Some m) (Some xs) f g r h =
     let p = member_is n.lexeme i.lexeme k.lexeme m g in
     let w = r xs refl in
     let a = token_is n _ p.names in
@@ -99,10 +99,10 @@ by_behind n i k e ts ms behind.Semicolon (Some m) (Some xs) f g r h =
     let v = w.whole in
     let q : m ∷ xs ≡ ms = cc in
     record { front = member_tokens m n.span i.span k.span ++ sign_at sign.Semicolon e.span ∷ w.front; at = w.at; whole = cc; are = subst (λ (x : List MemberTree). AreMembers (member_tokens m n.span i.span k.span ++ sign_at sign.Semicolon e.span ∷ w.front) x) q (more_members m n.span i.span k.span e.span w.are) }
-by_behind n i k e ts ms behind.Close None os f g r h = cc
-by_behind n i k e ts ms behind.Semicolon None os f g r h = cc
-by_behind n i k e ts ms behind.Semicolon (Some m) None f g r h = cc
-by_behind n i k e ts ms behind.Other o os f g r h = cc
+by_behind n i k e ts ms end.Close None os f g r h = cc
+by_behind n i k e ts ms end.Semicolon None os f g r h = cc
+by_behind n i k e ts ms end.Semicolon (Some m) None f g r h = cc
+by_behind n i k e ts ms end.Other o os f g r h = cc
 
 pub members_are : (ts : List Placed) (ms : List MemberTree) → members_in ts ≡ Some ms → MembersOf ts ms
 members_are (n ∷ i ∷ k ∷ e ∷ ts) ms h = by_behind n i k e ts ms (behind_of e.lexeme ts) (member_of n.lexeme i.lexeme k.lexeme) (members_in ts) refl refl (λ xs j. members_are ts xs j) h

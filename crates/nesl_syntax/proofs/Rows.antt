@@ -6,9 +6,10 @@ use Rattle.nesl_syntax.specs.declared.tree.Pattern.{Pattern}
 use Rattle.nesl_syntax.specs.declared.pattern.PatternPart.TheVariants as patterns
 use Rattle.nesl_syntax.specs.Parts.{PatternGiven}
 use Rattle.nesl_syntax.specs.declared.tree.Node as declared
-use Rattle.nesl_syntax.specs.Trees.{Tree, Shape, Trees, Binders, PatternTree, PatternShape, node, pattern, none, more, no_binders, binder, height, height_of, greatest, greatest_bound, pattern_height, pattern_height_of, and_then, and_bind, pattern_in, pattern_shape_in, with_span, shape_pair, shape_record}
+use Rattle.nesl_syntax.specs.Trees.{Tree, Shape, Trees, Binders, PatternTree, PatternShape, node, pattern, none, more, no_binders, binder, height, height_of, greatest, greatest_bound, pattern_height, pattern_height_of, and_then, and_bind}
 use Rattle.nesl_syntax.specs.Trees as trees
-use Rattle.nesl_syntax.specs.Views.{shape_of, tree_of, trees_in, trees_of, binders_in, binders_of, pattern_tree, is_pattern, is_pattern_shape}
+use Rattle.nesl_syntax.specs.Views.{shape_of, tree_of, trees_in, trees_of, binders_in, binders_of, pattern_tree}
+use Rattle.nesl_syntax.specs.Patterns.{is_pattern, is_pattern_shape, pattern_in, pattern_shape_in, shape_pair, shape_record, with_span}
 
 pub greatest_and_then : (xs : Trees) (x : Tree) → greatest (and_then xs x) ≡ max (greatest xs) (height x)
 greatest_and_then none x = omega arith

@@ -17,8 +17,8 @@ use Rattle.nesl_syntax.proofs.Members.{both_parts, mapped, members_read, members
 
 -- a type, and the members behind it
 pub data IsTarget : List Placed → Targets → Type 0 where
-  plain_target : {vs : List Placed} {z : Span} {b : TypeTree} → IsType vs z b → IsTarget vs (b, [])
-  target_of_members : {vs ws : List Placed} {z : Span} {b : TypeTree} {ms : List MemberTree} (d t u : Span) → IsType vs z b → AreMembers ws ms
+  plain_target : {vs : List Placed} {b : TypeTree} → IsType vs b → IsTarget vs (b, [])
+  target_of_members : {vs ws : List Placed} {b : TypeTree} {ms : List MemberTree} (d t u : Span) → IsType vs b → AreMembers ws ms
       → IsTarget (vs ++ (sign_at sign.DoubleColon d ∷ (sign_at sign.OpenParenthesis t ∷ (ws ++ (sign_at sign.CloseParenthesis u ∷ []))))) (b, ms)
 
 target_read : {vs : List Placed} {r : Targets} → IsTarget vs r → target_in vs ≡ Some r
@@ -27,7 +27,7 @@ target_read (target_of_members {vs = vs} {ws = ws} d t u i p) =
     let e = cut_here divider.DoubleColon vs (sign_at sign.OpenParenthesis t ∷ (ws ++ sign_at sign.CloseParenthesis u ∷ [])) (sign_at sign.DoubleColon d) (type_uncut divider.DoubleColon i) refl in
     rw (e, reads_type i, members_read p u) refl
 
-signature_read_with : {us vs : List Placed} {y : Span} {a : TypeTree} {r : Targets} (s : Span) → IsType us y a → IsTarget vs r → signature_in (us ++ (sign_at sign.RightArrow s ∷ vs)) ≡ Some (signature_of a r)
+signature_read_with : {us vs : List Placed} {a : TypeTree} {r : Targets} (s : Span) → IsType us a → IsTarget vs r → signature_in (us ++ (sign_at sign.RightArrow s ∷ vs)) ≡ Some (signature_of a r)
 signature_read_with {us = us} {vs = vs} s i t =
     let e = cut_here divider.RightArrow us vs (sign_at sign.RightArrow s) (type_uncut divider.RightArrow i) refl in
     rw (e, reads_type i, target_read t) refl
@@ -54,7 +54,7 @@ target_uncut (target_of_members {vs = vs} {ws = ws} d t u i p) =
     let inner : cut divider.Equal (ws ++ close) ≡ None = uncut_both divider.Equal ws close (members_uncut p) refl in
     uncut_both divider.Equal vs (sign_at sign.DoubleColon d ∷ (sign_at sign.OpenParenthesis t ∷ (ws ++ close))) (type_uncut divider.Equal i) (uncut_next divider.Equal (sign_at sign.DoubleColon d) (sign_at sign.OpenParenthesis t ∷ (ws ++ close)) refl (uncut_next divider.Equal (sign_at sign.OpenParenthesis t) (ws ++ close) refl inner))
 
-signature_uncut_with : {us vs : List Placed} {y : Span} {a : TypeTree} {r : Targets} (s : Span) → IsType us y a → IsTarget vs r → cut divider.Equal (us ++ (sign_at sign.RightArrow s ∷ vs)) ≡ None
+signature_uncut_with : {us vs : List Placed} {a : TypeTree} {r : Targets} (s : Span) → IsType us a → IsTarget vs r → cut divider.Equal (us ++ (sign_at sign.RightArrow s ∷ vs)) ≡ None
 signature_uncut_with {us = us} {vs = vs} s i t = uncut_both divider.Equal us (sign_at sign.RightArrow s ∷ vs) (type_uncut divider.Equal i) (uncut_next divider.Equal (sign_at sign.RightArrow s) vs refl (target_uncut t))
 
 signature_uncut : {us : List Placed} {s : SignatureTree} → IsSignature us s → cut divider.Equal us ≡ None
@@ -86,16 +86,16 @@ bracketed_is (t ∷ ts) ms h = bracketed_as t.lexeme t.span ts ms h
 target_as : (ts : List Placed) (r : Targets) (o : Option Halves) → cut divider.DoubleColon ts ≡ o → target_with ts o ≡ Some r → IsTarget ts r
 target_as ts r None e h =
     let m = mapped bare_target (written_type ts) r h in
-    subst (λ (x : Targets). IsTarget ts x) m.2 (plain_target (is_type_read ts m.0 m.1).is_type)
+    subst (λ (x : Targets). IsTarget ts x) m.2 (plain_target (is_type_read ts m.0 m.1))
 target_as ts r (Some c) e h =
     let b = both_parts target (written_type c.0) (bracketed_in c.1) r h in
     let w = cut_whole divider.DoubleColon ts c.0 c.1 e in
     let i = is_type_read c.0 b.left b.is_left in
     let k = bracketed_is c.1 b.right b.is_right in
     let whole : ts ≡ c.0 ++ sign_at sign.DoubleColon w.at ∷ (sign_at sign.OpenParenthesis k.opens ∷ (k.front ++ sign_at sign.CloseParenthesis k.closes ∷ [])) = w.whole ∙ ap (λ (us : List Placed). c.0 ++ sign_at sign.DoubleColon w.at ∷ us) k.whole in
-    subst (λ (us : List Placed). IsTarget us r) (sym whole) (subst (λ (x : Targets). IsTarget (c.0 ++ sign_at sign.DoubleColon w.at ∷ (sign_at sign.OpenParenthesis k.opens ∷ (k.front ++ sign_at sign.CloseParenthesis k.closes ∷ []))) x) b.is (target_of_members w.at k.opens k.closes i.is_type k.are))
+    subst (λ (us : List Placed). IsTarget us r) (sym whole) (subst (λ (x : Targets). IsTarget (c.0 ++ sign_at sign.DoubleColon w.at ∷ (sign_at sign.OpenParenthesis k.opens ∷ (k.front ++ sign_at sign.CloseParenthesis k.closes ∷ []))) x) b.is (target_of_members w.at k.opens k.closes i k.are))
 
-signed_with : {us vs : List Placed} {y : Span} {a : TypeTree} {r : Targets} (s : Span) → IsType us y a → IsTarget vs r → IsSignature (us ++ (sign_at sign.RightArrow s ∷ vs)) (signature_of a r)
+signed_with : {us vs : List Placed} {a : TypeTree} {r : Targets} (s : Span) → IsType us a → IsTarget vs r → IsSignature (us ++ (sign_at sign.RightArrow s ∷ vs)) (signature_of a r)
 signed_with s i (plain_target j) = plain_signature s i j
 signed_with s i (target_of_members d t u j p) = signature_of_members s d t u i j p
 
@@ -106,7 +106,7 @@ signature_as ts s (Some c) e h =
     let w = cut_whole divider.RightArrow ts c.0 c.1 e in
     let i = is_type_read c.0 b.left b.is_left in
     let t = target_as c.1 b.right (cut divider.DoubleColon c.1) refl b.is_right in
-    subst (λ (us : List Placed). IsSignature us s) (sym w.whole) (subst (λ (x : SignatureTree). IsSignature (c.0 ++ (sign_at sign.RightArrow w.at ∷ c.1)) x) b.is (signed_with w.at i.is_type t))
+    subst (λ (us : List Placed). IsSignature us s) (sym w.whole) (subst (λ (x : SignatureTree). IsSignature (c.0 ++ (sign_at sign.RightArrow w.at ∷ c.1)) x) b.is (signed_with w.at i t))
 
 head_as : (ts : List Placed) (h : Heads) (o : Option Halves) → cut divider.Colon ts ≡ o → head_with ts o ≡ Some h → IsHead ts h.0 h.1
 head_as ts h None e k =

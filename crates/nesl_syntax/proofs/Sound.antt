@@ -15,14 +15,28 @@ use Rattle.nesl_syntax.specs.declared.mark.Mark.{Mark}
 use Rattle.nesl_syntax.specs.declared.mark.Mark.TheVariants as mark
 use Rattle.nesl_syntax.specs.declared.mark.Follow.{Follow}
 use Rattle.nesl_syntax.specs.declared.mark.Follow.TheVariants as follow
-use Rattle.nesl_syntax.specs.Trees.{Tree, Shape, Trees, Binders, PatternTree, TypeTree, node, span_of, widened, and_then, and_bind, none, no_binders, binder, pattern_in}
+use Rattle.nesl_syntax.specs.Trees.{Tree, Shape, Trees, Binders, PatternTree, TypeTree, node, span_of, widened, and_then, and_bind, none, no_binders, binder}
 use Rattle.nesl_syntax.specs.Trees as trees
-use Rattle.nesl_syntax.specs.Marks.{operator_token, mark_token, follow_of}
+use Rattle.nesl_syntax.specs.Marks.{follow_of}
 use Rattle.nesl_syntax.specs.Grammar as grammar
-use Rattle.nesl_syntax.specs.Grammar.{level_of, prefix_sign, over, token_at, sign_at, word_at, name_at, IsType, AreTypes, IsPattern, Parses, looser, Lists, Binds, Bodies, own_body}
-use Rattle.nesl_syntax.specs.Machine.{Group, let_group, each_group, Opening, round, call, index_of, test, branch, list, range_from, range_to, brace, binders, value, filter, empty_at, type_list, type_round, type_comma, Waiting, open_at, comma_behind, else_behind, body_of, prefix_at, sign_behind, type_at, opening_begins, wanted_by, begun_by, rank, completed, wanted, folded, Mode, before, behind, typing, typed, State, opened, called, Turn, becomes, ends, bound, turned, took, marked, separated, mark_level, followed, let_closed, emptied, begun_with, type_done, typed_with, type_separated, type_bracketed, type_pair, type_closed, typed_on, step, run, alone, finished_in, finished, expression, type_alone, type_finished_in, type_finished, written_type}
+use Rattle.nesl_syntax.specs.Grammar.{operator_token, level_of, prefix_sign, over, token_at, sign_at, word_at, name_at, IsType, AreTypes, IsPattern, Parses, looser, Lists, Binds, Bodies, own_body}
+use Rattle.nesl_syntax.specs.Machine.{Group, let_group, each_group, Opening, round, call, index_of, test, branch, list, range_from, range_to, brace, binders, value, filter, empty_at, type_list, type_round, type_comma, Waiting, open_at, comma_behind, else_behind, body_of, prefix_at, sign_behind, type_at, opening_begins, wanted_by, begun_by, rank, completed, wanted, folded, Mode, before, behind, typing, typed, State, opened, called, Turn, becomes, ends, bound, turned, taken_up, marked, separated, mark_level, followed, let_closed, emptied, begun_with, type_done, typed_with, type_separated, type_bracketed, type_pair, type_closed, typed_on, step, run, alone, tree_left_in, tree_left, expression, type_alone, type_left_in, type_left, written_type}
 use Rattle.nesl_syntax.proofs.Complete.{wanted_small, level_low, level_high, separator}
 use Rattle.nesl_syntax.proofs.Patterns.{pattern_of_phrase}
+use Rattle.nesl_syntax.specs.Patterns.{pattern_in}
+
+-- the token that ends a part so
+abbrev mark_token : Mark → Lexeme
+mark_token mark.CloseParenthesis = symbol sign.CloseParenthesis
+mark_token mark.CloseBracket = symbol sign.CloseBracket
+mark_token mark.CloseBrace = symbol sign.CloseBrace
+mark_token mark.Colon = symbol sign.Colon
+mark_token mark.Semicolon = symbol sign.Semicolon
+mark_token mark.Bar = symbol sign.Bar
+mark_token mark.Equal = symbol sign.Equal
+mark_token mark.Then = reserved word.Then
+mark_token mark.Else = reserved word.Else
+mark_token mark.In = reserved word.In
 
 -- the tokens that open a group
 pub data Opens : Group → List Placed → Type 0 where
@@ -59,7 +73,7 @@ pub data Stands : Waiting → List Placed → Type 0 where
   empty_stands : (s t : Span) → Stands (type_at (empty_at s)) (sign_at sign.OpenBracket s ∷ (sign_at sign.CloseBracket t ∷ []))
   type_list_stands : (s : Span) → Stands (type_at (type_list s)) (sign_at sign.OpenBracket s ∷ [])
   type_round_stands : (s : Span) → Stands (type_at (type_round s)) (sign_at sign.OpenParenthesis s ∷ [])
-  type_comma_stands : {us : List Placed} {z : Span} {a : TypeTree} (s : Span) → IsType us z a → Stands (type_at (type_comma a)) (us ++ (sign_at sign.Comma s ∷ []))
+  type_comma_stands : {us : List Placed} {a : TypeTree} (s : Span) → IsType us a → Stands (type_at (type_comma a)) (us ++ (sign_at sign.Comma s ∷ []))
 
 -- the tokens of all that waits, each where it may stand
 pub data Line_so_far : List Waiting → List Placed → Type 0 where
@@ -96,7 +110,7 @@ pub data Means : List Waiting → Mode → List Placed → Type 0 where
   means_before : {ws : List Waiting} {ts : List Placed} → Line_so_far ws ts → Means ws before ts
   means_behind : {ws : List Waiting} {us vs : List Placed} {e : Tree} (b : Bool) → Line_so_far ws us → Tight ws vs e → (b ≡ true → IsName vs e) → Means ws (behind b e) (us ++ vs)
   means_typing : {ws : List Waiting} {ts : List Placed} → Line_so_far ws ts → Means ws typing ts
-  means_typed : {ws : List Waiting} {us vs : List Placed} {z : Span} {a : TypeTree} → Line_so_far ws us → IsType vs z a → Means ws (typed a) (us ++ vs)
+  means_typed : {ws : List Waiting} {us vs : List Placed} {a : TypeTree} → Line_so_far ws us → IsType vs a → Means ws (typed a) (us ++ vs)
 
 -- a phrase is one of each looser level
 loosened_by : (k m : ℕ) (ts : List Placed) (e : Tree) → Parses (m + k) ts e → Parses m ts e
@@ -279,11 +293,11 @@ turned_means (filter_stands c (bare_opens j) b) mark.CloseBrace t vs e q p h = t
 turned_means (filter_stands c (body_opens j d r) b) mark.CloseBrace t vs e q p h = turned_at q (ends_so (simp append_assoc (simp append_assoc at (grammar.filters j c t (grammar.body d r) b p))) (omega arith)) h
 turned_means _ _ t vs e q p h = cc
 
-took_means : {ws : List Waiting} {o : Opening} {us ts : List Placed} (r : Option Turn) (q : State) → Line_so_far ws us → wanted ws ≤ opening_begins o → ((t : Turn) → r ≡ Some t → Turned o ts t) → took ws r ≡ Some q → Means q.0 q.1 (us ++ ts)
+took_means : {ws : List Waiting} {o : Opening} {us ts : List Placed} (r : Option Turn) (q : State) → Line_so_far ws us → wanted ws ≤ opening_begins o → ((t : Turn) → r ≡ Some t → Turned o ts t) → taken_up ws r ≡ Some q → Means q.0 q.1 (us ++ ts)
 took_means None q l k f h = cc
 took_means {o = o} (Some t) q l k f h = turn_means t q (f t refl) l k h
   where
-    turn_means : {ws : List Waiting} {o : Opening} {us ts : List Placed} (t : Turn) (q : State) → Turned o ts t → Line_so_far ws us → wanted ws ≤ opening_begins o → took ws (Some t) ≡ Some q → Means q.0 q.1 (us ++ ts)
+    turn_means : {ws : List Waiting} {o : Opening} {us ts : List Placed} (t : Turn) (q : State) → Turned o ts t → Line_so_far ws us → wanted ws ≤ opening_begins o → taken_up ws (Some t) ≡ Some q → Means q.0 q.1 (us ++ ts)
     turn_means (becomes w) q (becomes_so s e) l k h = means_at q (means_before (waits l s (omega arith))) h
     turn_means {o = o} (ends x) q (ends_so p i) l k h = means_at q (means_behind false l (record { level = opening_begins o; phrase = p; fits = k; tight = i }) (λ j. cc)) h
 
@@ -396,44 +410,44 @@ module _ (ws : List Waiting) (us vs : List Placed) (e : Tree) (l : Line_so_far w
   gone_on_means x b s q (unknown k) f h = let j : followed follow.Nothing ws b e s ≡ Some q = ap (λ (y : Follow). followed y ws b e s) (sym k) ∙ h in cc
 
 -- a type
-type_done_means : {ws : List Waiting} {us vs : List Placed} {a : TypeTree} → Line_so_far ws us → (z : Span) (q : State) → IsType vs z a → type_done ws z a ≡ q → Means q.0 q.1 (us ++ vs)
-type_done_means (waits l (empty_stands s t) k) z q i h = means_from q (simp append_assoc (means_behind false l (atom (grammar.empties s t i)) (λ j. cc))) h
-type_done_means l z q i h = means_from q (means_typed l i) h
+type_done_means : {ws : List Waiting} {us vs : List Placed} {a : TypeTree} → Line_so_far ws us → (q : State) → IsType vs a → type_done ws a ≡ q → Means q.0 q.1 (us ++ vs)
+type_done_means (waits l (empty_stands s t) k) q i h = means_from q (simp append_assoc (means_behind false l (atom (grammar.empties s t i)) (λ j. cc))) h
+type_done_means l q i h = means_from q (means_typed l i) h
 
 typed_with_means : (ws : List Waiting) (s : Span) (x : Lexeme) (q : State) (ts : List Placed) → Line_so_far ws ts → typed_with ws s x ≡ Some q → Means q.0 q.1 (ts ++ (token_at x s ∷ []))
-typed_with_means ws s (reserved word.Int) q ts l h = type_done_means l s q (grammar.type_int s) cc
-typed_with_means ws s (reserved word.Bool) q ts l h = type_done_means l s q (grammar.type_bool s) cc
-typed_with_means ws s (reserved word.Char) q ts l h = type_done_means l s q (grammar.type_char s) cc
-typed_with_means ws s (tokens.name x) q ts l h = type_done_means l s q (grammar.type_name x s) cc
+typed_with_means ws s (reserved word.Int) q ts l h = type_done_means l q (grammar.type_int s) cc
+typed_with_means ws s (reserved word.Bool) q ts l h = type_done_means l q (grammar.type_bool s) cc
+typed_with_means ws s (reserved word.Char) q ts l h = type_done_means l q (grammar.type_char s) cc
+typed_with_means ws s (tokens.name x) q ts l h = type_done_means l q (grammar.type_name x s) cc
 typed_with_means ws s (symbol sign.OpenBracket) q ts l h = means_at q (means_typing (waits l (type_list_stands s) (wanted_small ws))) h
 typed_with_means ws s (symbol sign.OpenParenthesis) q ts l h = means_at q (means_typing (waits l (type_round_stands s) (wanted_small ws))) h
 typed_with_means ws s _ q ts l h = cc
 
-type_separated_means : {ws : List Waiting} {us vs : List Placed} {y : Span} {a : TypeTree} → Line_so_far ws us → (s : Span) (q : State) → IsType vs y a → type_separated ws a ≡ Some q → Means q.0 q.1 ((us ++ vs) ++ (sign_at sign.Comma s ∷ []))
+type_separated_means : {ws : List Waiting} {us vs : List Placed} {a : TypeTree} → Line_so_far ws us → (s : Span) (q : State) → IsType vs a → type_separated ws a ≡ Some q → Means q.0 q.1 ((us ++ vs) ++ (sign_at sign.Comma s ∷ []))
 type_separated_means (waits {ws = ws} l (type_round_stands r) k) s q i h = means_at q (simp append_assoc (simp append_assoc at (means_typing (waits (waits l (type_round_stands r) k) (type_comma_stands s i) (omega arith))))) h
 type_separated_means (waits {ws = ws} l (type_comma_stands r j) k) s q i h = means_at q (simp append_assoc (simp append_assoc at (means_typing (waits (waits l (type_comma_stands r j) k) (type_comma_stands s i) (omega arith))))) h
 type_separated_means _ s q i h = cc
 
-type_bracketed_means : {ws : List Waiting} {us vs : List Placed} {y : Span} {a : TypeTree} → Line_so_far ws us → (s : Span) (q : State) → IsType vs y a → type_bracketed ws s a ≡ Some q → Means q.0 q.1 ((us ++ vs) ++ (sign_at sign.CloseBracket s ∷ []))
-type_bracketed_means (waits {ws = ws} l (type_list_stands r) k) s q i h = simp append_assoc (type_done_means l s q (grammar.type_sequence r s i) cc)
+type_bracketed_means : {ws : List Waiting} {us vs : List Placed} {a : TypeTree} → Line_so_far ws us → (s : Span) (q : State) → IsType vs a → type_bracketed ws s a ≡ Some q → Means q.0 q.1 ((us ++ vs) ++ (sign_at sign.CloseBracket s ∷ []))
+type_bracketed_means (waits {ws = ws} l (type_list_stands r) k) s q i h = simp append_assoc (type_done_means l q (grammar.type_sequence r s i) cc)
 type_bracketed_means _ s q i h = cc
 
 type_closed_means : {ws : List Waiting} {us : List Placed} → Line_so_far ws us → (vs : List Placed) (a : TypeTree) (s : Span) (q : State) → AreTypes vs a → type_closed ws s a ≡ Some q → Means q.0 q.1 ((us ++ vs) ++ (sign_at sign.CloseParenthesis s ∷ []))
 type_closed_means (waits l (type_comma_stands {us = own} {a = b} r j) k) vs a s q i h = simp append_assoc (simp append_assoc at (type_closed_means l (own ++ (sign_at sign.Comma r ∷ vs)) (type_pair b a) s q (grammar.type_pairs r j i) h))
-type_closed_means (waits l (type_round_stands r) k) vs a s q i h = simp append_assoc (type_done_means l s q (grammar.type_rounds r s i) cc)
+type_closed_means (waits l (type_round_stands r) k) vs a s q i h = simp append_assoc (type_done_means l q (grammar.type_rounds r s i) cc)
 type_closed_means _ vs a s q i h = cc
 
-typed_on_means : (ws : List Waiting) (us vs : List Placed) (y : Span) (a : TypeTree) (s : Span) (x : Lexeme) (q : State) → Line_so_far ws us → IsType vs y a → typed_on ws a s x ≡ Some q → Means q.0 q.1 ((us ++ vs) ++ (token_at x s ∷ []))
-typed_on_means ws us vs y a s (symbol sign.Comma) q l i h = type_separated_means l s q i h
-typed_on_means ws us vs y a s (symbol sign.CloseBracket) q l i h = type_bracketed_means l s q i h
-typed_on_means ws us vs y a s (symbol sign.CloseParenthesis) q l i h = type_closed_means l vs a s q (grammar.one_type i) h
-typed_on_means ws us vs y a s _ q l i h = cc
+typed_on_means : (ws : List Waiting) (us vs : List Placed) (a : TypeTree) (s : Span) (x : Lexeme) (q : State) → Line_so_far ws us → IsType vs a → typed_on ws a s x ≡ Some q → Means q.0 q.1 ((us ++ vs) ++ (token_at x s ∷ []))
+typed_on_means ws us vs a s (symbol sign.Comma) q l i h = type_separated_means l s q i h
+typed_on_means ws us vs a s (symbol sign.CloseBracket) q l i h = type_bracketed_means l s q i h
+typed_on_means ws us vs a s (symbol sign.CloseParenthesis) q l i h = type_closed_means l vs a s q (grammar.one_type i) h
+typed_on_means ws us vs a s _ q l i h = cc
 
 pub step_means : (ws : List Waiting) (m : Mode) (t : Placed) (q : State) (ts : List Placed) → Means ws m ts → step ws m t ≡ Some q → Means q.0 q.1 (ts ++ (t ∷ []))
 step_means ws m t q ts (means_before l) h = begun_means ws t.span t.lexeme q ts l h
 step_means ws m t q ts (means_behind {us = us} {vs = vs} {e = e} b l p f) h = gone_on_means ws us vs e l p t.lexeme b t.span q (is_known t.lexeme) f h
 step_means ws m t q ts (means_typing l) h = typed_with_means ws t.span t.lexeme q ts l h
-step_means ws m t q ts (means_typed {us = us} {vs = vs} {z = z} {a = a} l i) h = typed_on_means ws us vs z a t.span t.lexeme q l i h
+step_means ws m t q ts (means_typed {us = us} {vs = vs} {a = a} l i) h = typed_on_means ws us vs a t.span t.lexeme q l i h
 
 run_next : (ts us : List Placed) (t : Placed) (ws : List Waiting) (m : Mode) (p : State) (o : Option State) → step ws m t ≡ o → Means ws m ts → ((q : State) → Means q.0 q.1 (ts ++ (t ∷ [])) → run q us ≡ Some p → Means p.0 p.1 ((ts ++ (t ∷ [])) ++ us)) → option_and_then (λ q. run q us) o ≡ Some p → Means p.0 p.1 (ts ++ (t ∷ us))
 run_next ts us t ws m p None k n f h = cc
@@ -447,7 +461,7 @@ alone_parses : {ws : List Waiting} {us : List Placed} → Line_so_far ws us → 
 alone_parses nothing_waits vs e x p h = let k : e ≡ x = cc in subst (λ (y : Tree). Parses 2 vs y) k p
 alone_parses (waits l s k) vs e x p h = cc
 
-finished_parses : (ws : List Waiting) (m : Mode) (ts : List Placed) (x : Tree) → Means ws m ts → finished_in ws m ≡ Some x → Parses 2 ts x
+finished_parses : (ws : List Waiting) (m : Mode) (ts : List Placed) (x : Tree) → Means ws m ts → tree_left_in ws m ≡ Some x → Parses 2 ts x
 finished_parses ws m ts x (means_behind {us = us} {vs = vs} {e = e} b l p f) h =
     let c = split_at ws us vs e l p 2 (omega arith) (omega arith) in
     subst (λ (y : List Placed). Parses 2 y x) (sym c.whole) (alone_parses c.so_far c.rest _ x (loosened c.phrase 2 c.tight) h)
@@ -455,23 +469,18 @@ finished_parses ws m ts x _ h = cc
 
 -- what is read is in the grammar
 pub is_read : (ts : List Placed) (x : Tree) → expression ts ≡ Some x → Parses 2 ts x
-is_read ts x h = option_and_then_some finished (run ([], before) ts) x h (λ q k e. finished_parses q.0 q.1 ts x (run_means [] ts ([], before) q (means_before nothing_waits) k) e)
+is_read ts x h = option_and_then_some tree_left (run ([], before) ts) x h (λ q k e. finished_parses q.0 q.1 ts x (run_means [] ts ([], before) q (means_before nothing_waits) k) e)
 
 pub is_pattern_read : (ts : List Placed) (p : PatternTree) → option_and_then pattern_in (expression ts) ≡ Some p → IsPattern ts p
 is_pattern_read ts p h = option_and_then_some pattern_in (expression ts) p h (λ e k i. pattern_from (is_read ts e k) p i)
 
--- a type, with where its last token stands
-pub record TypeOf (ts : List Placed) (a : TypeTree) : Type 0 where
-  pub last : Span
-  pub is_type : IsType ts last a
-
-type_alone_is : {ws : List Waiting} {us vs : List Placed} {z : Span} {a b : TypeTree} → Line_so_far ws us → IsType vs z b → type_alone ws b ≡ Some a → TypeOf (us ++ vs) a
-type_alone_is {vs = vs} {z = z} {a = a} {b = b} nothing_waits i h = let e : b ≡ a = cc in subst (λ (y : TypeTree). TypeOf vs y) e (record { last = z; is_type = i })
+type_alone_is : {ws : List Waiting} {us vs : List Placed} {a b : TypeTree} → Line_so_far ws us → IsType vs b → type_alone ws b ≡ Some a → IsType (us ++ vs) a
+type_alone_is {vs = vs} {a = a} {b = b} nothing_waits i h = let e : b ≡ a = cc in subst (λ (y : TypeTree). IsType vs y) e i
 type_alone_is (waits l s k) i h = cc
 
-type_finished_is : (ws : List Waiting) (m : Mode) (ts : List Placed) (a : TypeTree) → Means ws m ts → type_finished_in ws m ≡ Some a → TypeOf ts a
+type_finished_is : (ws : List Waiting) (m : Mode) (ts : List Placed) (a : TypeTree) → Means ws m ts → type_left_in ws m ≡ Some a → IsType ts a
 type_finished_is ws m ts a (means_typed l i) h = type_alone_is l i h
 type_finished_is ws m ts a _ h = cc
 
-pub is_type_read : (ts : List Placed) (a : TypeTree) → written_type ts ≡ Some a → TypeOf ts a
-is_type_read ts a h = option_and_then_some type_finished (run ([], typing) ts) a h (λ q k e. type_finished_is q.0 q.1 ts a (run_means [] ts ([], typing) q (means_typing nothing_waits) k) e)
+pub is_type_read : (ts : List Placed) (a : TypeTree) → written_type ts ≡ Some a → IsType ts a
+is_type_read ts a h = option_and_then_some type_left (run ([], typing) ts) a h (λ q k e. type_finished_is q.0 q.1 ts a (run_means [] ts ([], typing) q (means_typing nothing_waits) k) e)

@@ -1,6 +1,7 @@
 -- Spans lie in order within the line.
 use Rattle.std.proofs.Common.{◌≡◌, ℕ, ◌≤◌, List, [], ◌∷◌, ◌++◌, Option, Some, refl, ap, sym, subst, arith}
 use Rattle.nesl_lex.specs.Tokens.{Placed, Lexeme}
+use Rattle.nesl_lex.specs.Places.{InOrder, none_left, more_left}
 use Rattle.nesl_lex.specs.declared.token.Span.{Span}
 use Rattle.nesl_lex.specs.declared.token.Word.TheVariants as word
 use Rattle.nesl_lex.specs.declared.token.Sign.TheVariants as sign
@@ -10,7 +11,7 @@ use Rattle.nesl_syntax.specs.Grammar as grammar
 use Rattle.nesl_syntax.specs.Grammar.{over, token_at, sign_at, word_at, name_at, IsType, AreTypes, IsPattern, ArePatterns, Parses, Lists, Binds, Bodies}
 use Rattle.nesl_syntax.specs.Lines as lines
 use Rattle.nesl_syntax.specs.Lines.{IsSignature, IsHead, IsLine}
-use Rattle.nesl_syntax.specs.Spans.{Item, exp_item, pattern_item, type_item, item_span, items_of, bound_items, body_items, parts_of, Lined, none_lined, more_lined, Orderly, orderly, InOrder, none_left, more_left, signature_items, line_items}
+use Rattle.nesl_syntax.specs.Spans.{Item, exp_item, pattern_item, type_item, item_span, items_of, bound_items, body_items, parts_of, Lined, none_lined, more_lined, Orderly, orderly, signature_items, line_items}
 
 -- a node between two places
 record Stands (i : ℕ) (x : Item) (j : ℕ) : Type 0 where
@@ -67,15 +68,6 @@ wide_pattern s (pattern t k) = refl
 wide_type : (s : Span) (a : TypeTree) → item_span (type_item (widened_type s a)) ≡ s
 wide_type s (written t k) = refl
 
--- a type's span ends with its last token
-type_ends : {us : List Placed} {z : Span} {a : TypeTree} → IsType us z a → (type_span a).end ≡ z.end
-type_ends (grammar.type_int s) = refl
-type_ends (grammar.type_bool s) = refl
-type_ends (grammar.type_char s) = refl
-type_ends (grammar.type_name x s) = refl
-type_ends (grammar.type_sequence s t q) = refl
-type_ends (grammar.type_rounds {a = a} s t q) = ap (λ (x : Span). x.end) (wide_type (over s t) a)
-
 -- tokens in two parts
 record Parted (i : ℕ) (us vs : List Placed) (j : ℕ) : Type 0 where
   mid : ℕ
@@ -93,7 +85,7 @@ record Fronted (i : ℕ) (t : Placed) (ts : List Placed) (j : ℕ) : Type 0 wher
   rest : InOrder t.span.end ts j
 
 fronted : {i j : ℕ} {t : Placed} {ts : List Placed} → InOrder i (t ∷ ts) j → Fronted i t ts j
-fronted (more_left a b r) = record { low = a; own = b; rest = r }
+fronted (more_left a b r) = record { low = a; own = omega arith; rest = r }
 
 ended : {i j : ℕ} → InOrder i [] j → i ≤ j
 ended (none_left h) = h
@@ -103,7 +95,7 @@ in_order_low (none_left h) = h
 in_order_low (more_left a b r) = let c = in_order_low r in omega arith
 
 mutual
-  type_stands : {us : List Placed} {z : Span} {a : TypeTree} {i j : ℕ} → IsType us z a → InOrder i us j → Stands i (type_item a) j
+  type_stands : {us : List Placed} {a : TypeTree} {i j : ℕ} → IsType us a → InOrder i us j → Stands i (type_item a) j
   type_stands (grammar.type_int s) h = let f = fronted h in record { low = f.low; own = orderly (none_lined f.own); high = ended f.rest }
   type_stands (grammar.type_bool s) h = let f = fronted h in record { low = f.low; own = orderly (none_lined f.own); high = ended f.rest }
   type_stands (grammar.type_char s) h = let f = fronted h in record { low = f.low; own = orderly (none_lined f.own); high = ended f.rest }
@@ -254,12 +246,11 @@ mutual
       let e = wide_tree (over s t) x in
       let z = ended g.rest in
       record { low = rw e f.low; own = widen_tree (over s t) x k.own (omega arith) (omega arith); high = rw e z }
-  stands (grammar.empties {us = us} {z = z} s t q) h =
+  stands (grammar.empties {us = us} {a = x} s t q) h =
       let f = fronted h in
       let g = fronted f.rest in
       let a = type_stands q g.rest in
-      let e = type_ends q in
-      record { low = f.low; own = orderly (within s.start z.end (omega arith) (omega arith) (exactly a.own)); high = omega arith }
+      record { low = f.low; own = orderly (within s.start (type_span x).end (omega arith) (omega arith) (exactly a.own)); high = a.high }
   stands (grammar.sequences {us = us} s t p) h =
       let f = fronted h in
       let c = parted us (sign_at sign.CloseBracket t ∷ []) f.rest in

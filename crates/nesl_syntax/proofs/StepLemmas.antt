@@ -23,7 +23,7 @@ use Rattle.nesl_syntax.specs.Machine as machine
 use Rattle.nesl_syntax.specs.Parts.{Sees, SeesType}
 use Rattle.nesl_syntax.specs.Stack.{SeesOpening, SeesTypeOpening, SeesPending, SeesEach, SeesStack}
 use Rattle.nesl_syntax.specs.Grammar.{level_of}
-use Rattle.nesl_syntax.specs.Machine.{round, call, binders, list, Waiting, open_at, comma_behind, else_behind, body_of, prefix_at, sign_behind, type_at, opening_wants, wanted, before, State, opened, separated, run, step, on_both, alone, type_alone, type_closed, type_pair, type_comma, type_done, took, turned, marked, listed, with_newest}
+use Rattle.nesl_syntax.specs.Machine.{round, call, binders, list, Waiting, open_at, comma_behind, else_behind, body_of, prefix_at, sign_behind, type_at, opening_wants, wanted, before, State, opened, separated, run, step, on_both, alone, type_alone, type_closed, type_pair, type_comma, type_done, taken_up, turned, marked, listed, with_newest}
 use Rattle.nesl_syntax.specs.Steps.{list_newest, SeesMode, Follows, Runs, Closes}
 use Rattle.nesl_syntax.proofs.Stacks.{stack_pop, stack_none}
 use Rattle.nesl_syntax.proofs.Complete.{level_low}
@@ -78,14 +78,14 @@ closes_turn t old new p left part r ws a e comma put f =
       same = sym (ap (λ (vs : List Waiting). type_closed vs t f.last) (k.both ∙ ap (λ (w : Waiting). w ∷ k.others) b.1)) ∙ f.same;
     }
 
-turn_ends : (turn : Turn) (r : Result Mode ParseFault) (new : List Pending) (vs : List Waiting) (z : Option machine.Turn) → Turns (Ok turn) z → ((q : machine.Turn) → SeesTurn turn q → Follows r new (took vs (Some q))) → Follows r new (took vs z)
+turn_ends : (turn : Turn) (r : Result Mode ParseFault) (new : List Pending) (vs : List Waiting) (z : Option machine.Turn) → Turns (Ok turn) z → ((q : machine.Turn) → SeesTurn turn q → Follows r new (taken_up vs (Some q))) → Follows r new (taken_up vs z)
 turn_ends turn r new vs None h f = absurd h
 turn_ends turn r new vs (Some q) h f = f q h
 
 -- a token that ends a part of the newest opening
 pub part_ends : (old mid new : List Pending) (opening : Opening) (part : Part) (turn : Turn) (r : Result Mode ParseFault) (m : Mark) (t : Span) → old ≡ mid ++ pendings.Open opening ∷ []
     → ((o : machine.Opening) (x : Tree) → SeesOpening opening o → Sees part x → Turns (Ok turn) (turned m t o x))
-    → ((vs : List Waiting) (q : machine.Turn) → SeesStack mid vs → SeesTurn turn q → Follows r new (took vs (Some q)))
+    → ((vs : List Waiting) (q : machine.Turn) → SeesStack mid vs → SeesTurn turn q → Follows r new (taken_up vs (Some q)))
     → (ws : List Waiting) (x : Tree) → SeesStack old ws → Sees part x → Follows r new (marked m t ws x)
 part_ends old mid new opening part turn r m t h turns takes ws x s p =
     let k = stack_pop (pendings.Open opening) mid ws old h s in
@@ -106,7 +106,7 @@ list_follows old mid new opening part r h f ws x s p far =
 -- a ( is closed
 pub round_closes : (t u : Span) (old mid new : List Pending) (part wide : TypePart) (mode : Mode) → old ≡ mid ++ pendings.Type (types.Round u) ∷ []
     → ((a : TypeTree) → SeesType part a → SeesType wide (widened_type (over u t) a))
-    → ((vs : List Waiting) (a : TypeTree) → SeesStack mid vs → SeesType wide a → SeesStack new (type_done vs t a).0 × SeesMode mode (type_done vs t a).1)
+    → ((vs : List Waiting) (a : TypeTree) → SeesStack mid vs → SeesType wide a → SeesStack new (type_done vs a).0 × SeesMode mode (type_done vs a).1)
     → (ws : List Waiting) (a : TypeTree) → Closes t ws a old part → Follows (Ok mode) new (type_closed ws t a)
 round_closes t u old mid new part wide mode h widen f ws a c =
     let k = stack_pop (pendings.Type (types.Round u)) mid c.now old h c.stack in

@@ -9,7 +9,8 @@ use Rattle.nesl_syntax.specs.declared.signature.SignaturePart.{SignaturePart}
 use Rattle.nesl_syntax.specs.declared.signature.SignaturePart.TheVariants as signatures
 use Rattle.nesl_syntax.specs.declared.signature.Target.{Target}
 use Rattle.nesl_syntax.specs.declared.function.Head.{Head}
-use Rattle.nesl_syntax.specs.Trees.{Tree, MemberTree, SignatureTree, Line, show_names, show_budget, height, signature_height, line_height}
+use Rattle.nesl_syntax.specs.Trees.{Tree, MemberTree, SignatureTree, Line, show_names, show_budget, height}
+use Rattle.nesl_syntax.specs.Trees.{signature_height, line_height}
 use Rattle.nesl_syntax.specs.Views.{tree_of, member_tree, signature_tree, line_of}
 use Rattle.nesl_syntax.specs.Parts.{SeesType, SeesPattern}
 use Rattle.nesl_syntax.specs.Reading.{Targets, Heads, members_in}
@@ -51,7 +52,8 @@ SeesOptional _ _ = ⊥
 abbrev pub SeesHead : Head → Heads → Type 0
 SeesHead h p = SeesPattern h.pattern p.0 × SeesOptional h.signature p.1
 
--- what a call answered is this expression, or there is none and the answer says so, or it is too high, or memory ran out
+-- what a call answered is this expression, or there is none and the answer says so, or it is too high,
+-- or memory ran out
 abbrev pub GivesExp : Result Exp ParseFault → Option Tree → Type 0
 GivesExp (Ok e) (Some x) = (tree_of e ≡ x) × (height x ≤ 100)
 GivesExp (Ok e) None = ⊥

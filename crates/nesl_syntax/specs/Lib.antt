@@ -1,7 +1,8 @@
 pub mod Trees
-pub mod Marks
 pub mod Grammar
 pub mod Lines
+pub mod Marks
+pub mod Patterns
 pub mod Machine
 pub mod Views
 pub mod Parts

@@ -1,5 +1,6 @@
 -- Reading by a list of what is open: brackets, operators with their left sides, parts of a choice, binders.
-use Rattle.std.specs.Prelude.{ℕ, suc, Bool, true, false, nat_le, if◌then◌else◌, List, [], ◌∷◌, Option, Some, None, option_and_then}
+use Rattle.std.specs.Prelude.{ℕ, suc, Bool, true, false, nat_le, if◌then◌else◌, List, [], ◌∷◌, Option, Some, None}
+use Rattle.std.specs.Prelude.{option_and_then}
 use Rattle.nesl_lex.specs.Tokens.{Placed, Lexeme, reserved, symbol}
 use Rattle.nesl_lex.specs.Tokens as tokens
 use Rattle.nesl_lex.specs.declared.token.Span.{Span}
@@ -12,8 +13,10 @@ use Rattle.nesl_syntax.specs.declared.mark.Mark.{Mark}
 use Rattle.nesl_syntax.specs.declared.mark.Mark.TheVariants as mark
 use Rattle.nesl_syntax.specs.declared.mark.Follow.{Follow}
 use Rattle.nesl_syntax.specs.declared.mark.Follow.TheVariants as follow
-use Rattle.nesl_syntax.specs.Trees.{Tree, Shape, Trees, Binders, PatternTree, TypeTree, node, written, span_of, type_span, widened, widened_type, and_then, and_bind, none, no_binders, binder, pattern_in}
+use Rattle.nesl_syntax.specs.Trees.{Tree, Shape, Trees, Binders, PatternTree, TypeTree, node, written, span_of}
+use Rattle.nesl_syntax.specs.Trees.{type_span, widened, widened_type, and_then, and_bind, none, no_binders, binder}
 use Rattle.nesl_syntax.specs.Trees as trees
+use Rattle.nesl_syntax.specs.Patterns.{pattern_in}
 use Rattle.nesl_syntax.specs.Marks.{follow_of}
 use Rattle.nesl_syntax.specs.Grammar.{level_of, over, own_body}
 
@@ -122,7 +125,8 @@ abbrev pub folded : ℕ → List Waiting → Tree → List Waiting × Tree
 folded n [] e = ([], e)
 folded n (w ∷ ws) e = if nat_le n (rank w) then folded n ws (completed w e) else (w ∷ ws, e)
 
--- an expression is to come, or stands before this place; then it may be a name, and nothing else behind it; the same of a type
+-- an expression is to come, or stands before this place; then it may be a name, and nothing else behind it;
+-- the same of a type
 pub data Mode : Type 0 where
   before : Mode
   behind : Bool → Tree → Mode
@@ -172,17 +176,18 @@ turned mark.Equal t (binders (let_group s) bs) e = bound (let_group s) bs (patte
 turned mark.Semicolon t (value g bs p) e = Some (becomes (open_at (binders g (and_bind bs p e))))
 turned mark.In t (value (let_group s) bs p) e = Some (becomes (body_of s (and_bind bs p e)))
 turned mark.Bar t (value (each_group s b) bs p) e = Some (becomes (open_at (filter s b (and_bind bs p e))))
-turned mark.CloseBrace t (value (each_group s b) bs p) e = Some (ends (node (over s t) (trees.each (body_or b (and_bind bs p e)) (and_bind bs p e))))
+turned mark.CloseBrace t (value (each_group s b) bs p) e =
+    Some (ends (node (over s t) (trees.each (body_or b (and_bind bs p e)) (and_bind bs p e))))
 turned mark.CloseBrace t (filter s b bs) e = Some (ends (node (over s t) (trees.filtered_each (body_or b bs) bs e)))
 turned _ t o e = None
 
-abbrev pub took : List Waiting → Option Turn → Option State
-took ws (Some (becomes w)) = Some (w ∷ ws, before)
-took ws (Some (ends e)) = Some (ws, behind false e)
-took ws None = None
+abbrev pub taken_up : List Waiting → Option Turn → Option State
+taken_up ws (Some (becomes w)) = Some (w ∷ ws, before)
+taken_up ws (Some (ends e)) = Some (ws, behind false e)
+taken_up ws None = None
 
 abbrev pub marked : Mark → Span → List Waiting → Tree → Option State
-marked m t (open_at o ∷ ws) e = took ws (turned m t o e)
+marked m t (open_at o ∷ ws) e = taken_up ws (turned m t o e)
 marked m t _ e = None
 
 -- behind a comma
@@ -264,17 +269,17 @@ abbrev pub empty_newest : List Waiting → Option Span
 empty_newest [] = None
 empty_newest (w ∷ ws) = empty_of w
 
--- a type that has come, its last token at z
-abbrev pub type_done : List Waiting → Span → TypeTree → State
-type_done (type_at (empty_at s) ∷ ws) z a = (ws, behind false (node (over s z) (trees.empty a)))
-type_done ws z a = (ws, typed a)
+-- a type that has come
+abbrev pub type_done : List Waiting → TypeTree → State
+type_done (type_at (empty_at s) ∷ ws) a = (ws, behind false (node (over s (type_span a)) (trees.empty a)))
+type_done ws a = (ws, typed a)
 
 -- where a type is to come
 abbrev pub typed_with : List Waiting → Span → Lexeme → Option State
-typed_with ws s (reserved word.Int) = Some (type_done ws s (written s trees.int))
-typed_with ws s (reserved word.Bool) = Some (type_done ws s (written s trees.bool))
-typed_with ws s (reserved word.Char) = Some (type_done ws s (written s trees.char))
-typed_with ws s (tokens.name x) = Some (type_done ws s (written s (trees.named x s)))
+typed_with ws s (reserved word.Int) = Some (type_done ws (written s trees.int))
+typed_with ws s (reserved word.Bool) = Some (type_done ws (written s trees.bool))
+typed_with ws s (reserved word.Char) = Some (type_done ws (written s trees.char))
+typed_with ws s (tokens.name x) = Some (type_done ws (written s (trees.named x s)))
 typed_with ws s (symbol sign.OpenBracket) = Some (type_at (type_list s) ∷ ws, typing)
 typed_with ws s (symbol sign.OpenParenthesis) = Some (type_at (type_round s) ∷ ws, typing)
 typed_with ws s _ = None
@@ -297,12 +302,12 @@ abbrev pub bracket_type : TypeOpening → Span → TypeTree → Option TypeTree
 bracket_type (type_list s) t a = Some (written (over s t) (trees.sequence_type a))
 bracket_type _ t a = None
 
-abbrev pub done_with : List Waiting → Span → Option TypeTree → Option State
-done_with ws t (Some a) = Some (type_done ws t a)
-done_with ws t None = None
+abbrev pub done_with : List Waiting → Option TypeTree → Option State
+done_with ws (Some a) = Some (type_done ws a)
+done_with ws None = None
 
 abbrev pub type_bracketed : List Waiting → Span → TypeTree → Option State
-type_bracketed (type_at o ∷ ws) t a = done_with ws t (bracket_type o t a)
+type_bracketed (type_at o ∷ ws) t a = done_with ws (bracket_type o t a)
 type_bracketed _ t a = None
 
 abbrev pub type_pair : TypeTree → TypeTree → TypeTree
@@ -310,7 +315,7 @@ type_pair a b = written (over (type_span a) (type_span b)) (trees.pair_type a b)
 
 abbrev pub type_closed : List Waiting → Span → TypeTree → Option State
 type_closed (type_at (type_comma b) ∷ ws) t a = type_closed ws t (type_pair b a)
-type_closed (type_at (type_round s) ∷ ws) t a = Some (type_done ws t (widened_type (over s t) a))
+type_closed (type_at (type_round s) ∷ ws) t a = Some (type_done ws (widened_type (over s t) a))
 type_closed _ t a = None
 
 -- behind a type
@@ -335,28 +340,28 @@ alone [] e = Some e
 alone (w ∷ ws) e = None
 
 -- the expression that has come, where nothing waits any more
-abbrev pub finished_in : List Waiting → Mode → Option Tree
-finished_in ws (behind b e) = on_both alone (folded 2 ws e)
-finished_in ws _ = None
+abbrev pub tree_left_in : List Waiting → Mode → Option Tree
+tree_left_in ws (behind b e) = on_both alone (folded 2 ws e)
+tree_left_in ws _ = None
 
-abbrev pub finished : State → Option Tree
-finished q = finished_in q.0 q.1
+abbrev pub tree_left : State → Option Tree
+tree_left q = tree_left_in q.0 q.1
 
 -- the expression that these tokens are
 abbrev pub expression : List Placed → Option Tree
-expression ts = option_and_then finished (run ([], before) ts)
+expression ts = option_and_then tree_left (run ([], before) ts)
 
 abbrev pub type_alone : List Waiting → TypeTree → Option TypeTree
 type_alone [] a = Some a
 type_alone (w ∷ ws) a = None
 
-abbrev pub type_finished_in : List Waiting → Mode → Option TypeTree
-type_finished_in ws (typed a) = type_alone ws a
-type_finished_in ws _ = None
+abbrev pub type_left_in : List Waiting → Mode → Option TypeTree
+type_left_in ws (typed a) = type_alone ws a
+type_left_in ws _ = None
 
-abbrev pub type_finished : State → Option TypeTree
-type_finished q = type_finished_in q.0 q.1
+abbrev pub type_left : State → Option TypeTree
+type_left q = type_left_in q.0 q.1
 
 -- the type that these tokens are
 abbrev pub written_type : List Placed → Option TypeTree
-written_type ts = option_and_then type_finished (run ([], typing) ts)
+written_type ts = option_and_then type_left (run ([], typing) ts)

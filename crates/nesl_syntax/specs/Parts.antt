@@ -2,16 +2,18 @@
 use Rattle.std.specs.Prelude.{◌≡◌, ◌≤◌, ◌<◌, Option, Some, None}
 use Rattle.nesl_syntax.specs.declared.part.Part.{Part}
 use Rattle.nesl_syntax.specs.declared.part.Part.TheVariants as part
-use Rattle.nesl_syntax.specs.declared.lists.Parts.{Parts}
-use Rattle.nesl_syntax.specs.declared.lists.Parts.TheVariants as parts
-use Rattle.nesl_syntax.specs.declared.lists.Bound.{Bound}
-use Rattle.nesl_syntax.specs.declared.lists.Bound.TheVariants as bound
+use Rattle.nesl_syntax.specs.declared.lists.Elements.{Elements}
+use Rattle.nesl_syntax.specs.declared.lists.Elements.TheVariants as elements
+use Rattle.nesl_syntax.specs.declared.lists.Bindings.{Bindings}
+use Rattle.nesl_syntax.specs.declared.lists.Bindings.TheVariants as bindings
 use Rattle.nesl_syntax.specs.declared.pattern.PatternPart.{PatternPart}
 use Rattle.nesl_syntax.specs.declared.pattern.PatternPart.TheVariants as patterns
 use Rattle.nesl_syntax.specs.declared.types.TypePart.{TypePart}
 use Rattle.nesl_syntax.specs.declared.types.TypePart.TheVariants as types
-use Rattle.nesl_syntax.specs.Trees.{Tree, Trees, Binders, PatternTree, TypeTree, height, greatest, greatest_bound, pattern_height, type_height}
-use Rattle.nesl_syntax.specs.Views.{tree_of, trees_in, binders_in, pattern_tree, type_tree, is_pattern}
+use Rattle.nesl_syntax.specs.Trees.{Tree, Trees, Binders, PatternTree, TypeTree, height, greatest, greatest_bound}
+use Rattle.nesl_syntax.specs.Trees.{pattern_height, type_height}
+use Rattle.nesl_syntax.specs.Views.{tree_of, trees_in, binders_in, pattern_tree, type_tree}
+use Rattle.nesl_syntax.specs.Patterns.{is_pattern}
 
 abbrev pub Sees : Part → Tree → Type 0
 Sees (part.Built e h b) t = (tree_of e ≡ t) × (h ≡ height t) × (h ≤ 100) × (b ≡ is_pattern t)
@@ -22,13 +24,13 @@ SeesBody (Some p) (Some t) = Sees p t
 SeesBody None None = Unit {0}
 SeesBody _ _ = ⊥
 
-abbrev pub SeesAll : Parts → Trees → Type 0
-SeesAll (parts.Built v h) ts = (trees_in v.items ≡ ts) × (h ≡ greatest ts) × (h ≤ 100)
-SeesAll parts.High ts = 100 < greatest ts
+abbrev pub SeesAll : Elements → Trees → Type 0
+SeesAll (elements.Built v h) ts = (trees_in v.items ≡ ts) × (h ≡ greatest ts) × (h ≤ 100)
+SeesAll elements.High ts = 100 < greatest ts
 
-abbrev pub SeesBound : Bound → Binders → Type 0
-SeesBound (bound.Built v h) bs = (binders_in v.items ≡ bs) × (h ≡ greatest_bound bs) × (h ≤ 100)
-SeesBound bound.High bs = 100 < greatest_bound bs
+abbrev pub SeesBound : Bindings → Binders → Type 0
+SeesBound (bindings.Built v h) bs = (binders_in v.items ≡ bs) × (h ≡ greatest_bound bs) × (h ≤ 100)
+SeesBound bindings.High bs = 100 < greatest_bound bs
 
 abbrev pub SeesPattern : PatternPart → PatternTree → Type 0
 SeesPattern (patterns.Built p h) t = (pattern_tree p ≡ t) × (h ≡ pattern_height t) × (h ≤ 100)

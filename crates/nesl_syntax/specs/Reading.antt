@@ -1,16 +1,19 @@
 -- A line, read by its first tokens and cut at signs that stand in no part before them.
-use Rattle.std.specs.Prelude.{ℕ, Bool, true, false, ◌&&◌, if◌then◌else◌, nat_eq, List, [], ◌∷◌, codes, Option, Some, None, option_map, option_and_then}
+use Rattle.std.specs.Prelude.{ℕ, Bool, true, false, ◌&&◌, if◌then◌else◌, nat_eq, List, [], ◌∷◌, codes, Option, Some}
+use Rattle.std.specs.Prelude.{None, option_map, option_and_then}
 use Rattle.nesl_lex.specs.Tokens.{Placed, Lexeme, symbol, reserved}
 use Rattle.nesl_lex.specs.Tokens as tokens
 use Rattle.nesl_lex.specs.declared.token.Word.TheVariants as word
 use Rattle.nesl_lex.specs.declared.token.Sign.TheVariants as sign
 use Rattle.nesl_syntax.specs.declared.cut.Divider.{Divider}
 use Rattle.nesl_syntax.specs.declared.cut.Divider.TheVariants as divider
-use Rattle.nesl_syntax.specs.declared.signature.Behind.{Behind}
-use Rattle.nesl_syntax.specs.declared.signature.Behind.TheVariants as behind
+use Rattle.nesl_syntax.specs.declared.signature.MemberEnd.{MemberEnd}
+use Rattle.nesl_syntax.specs.declared.signature.MemberEnd.TheVariants as end
 use Rattle.nesl_syntax.specs.declared.tree.Class.{Class}
 use Rattle.nesl_syntax.specs.declared.tree.Class.TheVariants as class
-use Rattle.nesl_syntax.specs.Trees.{Tree, PatternTree, TypeTree, MemberTree, SignatureTree, Line, pattern_in, function, datatype, bind, eval, show_names, show_budget, show_type}
+use Rattle.nesl_syntax.specs.Trees.{Tree, PatternTree, TypeTree, MemberTree, SignatureTree, Line, nothing, function}
+use Rattle.nesl_syntax.specs.Trees.{datatype, bind, eval, show_names, show_budget, show_type}
+use Rattle.nesl_syntax.specs.Patterns.{pattern_in}
 use Rattle.nesl_syntax.specs.Machine.{expression, written_type}
 
 -- the sign of a divider
@@ -47,7 +50,12 @@ is_text (x ∷ xs) (y ∷ ys) = nat_eq x y && is_text xs ys
 is_text _ _ = false
 
 abbrev pub class_of : List ℕ → Option Class
-class_of x = if is_text x (codes "any") then Some class.Any else if is_text x (codes "ordinal") then Some class.Ordinal else if is_text x (codes "number") then Some class.Number else if is_text x (codes "logical") then Some class.Logical else None
+class_of x =
+    if is_text x (codes "any") then Some class.Any
+    else if is_text x (codes "ordinal") then Some class.Ordinal
+    else if is_text x (codes "number") then Some class.Number
+    else if is_text x (codes "logical") then Some class.Logical
+    else None
 
 abbrev pub member_with : List ℕ → Class → MemberTree
 member_with x k = record { name = x; class = k }
@@ -69,20 +77,21 @@ abbrev pub more_of : MemberTree → List MemberTree → List MemberTree
 more_of m ms = m ∷ ms
 
 -- what stands behind a member: a ; or a ) at the end
-abbrev pub behind_of : Lexeme → List Placed → Behind
-behind_of (symbol sign.CloseParenthesis) [] = behind.Close
-behind_of (symbol sign.Semicolon) ts = behind.Semicolon
-behind_of _ ts = behind.Other
+abbrev pub behind_of : Lexeme → List Placed → MemberEnd
+behind_of (symbol sign.CloseParenthesis) [] = end.Close
+behind_of (symbol sign.Semicolon) ts = end.Semicolon
+behind_of _ ts = end.Other
 
 -- a member, with this behind it
-abbrev pub members_with : Behind → Option MemberTree → Option (List MemberTree) → Option (List MemberTree)
-members_with behind.Close m ms = option_map one_of m
-members_with behind.Semicolon m ms = with_both more_of m ms
-members_with behind.Other m ms = None
+abbrev pub members_with : MemberEnd → Option MemberTree → Option (List MemberTree) → Option (List MemberTree)
+members_with end.Close m ms = option_map one_of m
+members_with end.Semicolon m ms = with_both more_of m ms
+members_with end.Other m ms = None
 
 -- members, and a ) behind them
 abbrev pub members_in : List Placed → Option (List MemberTree)
-members_in (n ∷ i ∷ k ∷ e ∷ ts) = members_with (behind_of e.lexeme ts) (member_of n.lexeme i.lexeme k.lexeme) (members_in ts)
+members_in (n ∷ i ∷ k ∷ e ∷ ts) =
+    members_with (behind_of e.lexeme ts) (member_of n.lexeme i.lexeme k.lexeme) (members_in ts)
 members_in _ = None
 
 abbrev pub bracketed_with : Lexeme → List Placed → Option (List MemberTree)
@@ -193,7 +202,8 @@ line_in (t ∷ ts) = begun_line t.lexeme (t ∷ ts) ts
 
 -- the lines that end in no ;
 abbrev pub command_of : List ℕ → Option Line
-command_of x = if is_text x (codes "names") then Some show_names else if is_text x (codes "budget") then Some show_budget else None
+command_of x =
+    if is_text x (codes "names") then Some show_names else if is_text x (codes "budget") then Some show_budget else None
 
 abbrev pub command_with : Lexeme → Lexeme → Option Line
 command_with (symbol sign.Colon) (tokens.name x) = command_of x
@@ -202,3 +212,25 @@ command_with _ _ = None
 abbrev pub command_in : List Placed → Option Line
 command_in (t ∷ u ∷ []) = command_with t.lexeme u.lexeme
 command_in _ = None
+
+abbrev pub is_semicolon : Lexeme → Bool
+is_semicolon (symbol sign.Semicolon) = true
+is_semicolon _ = false
+
+abbrev pub behind_token : Placed → List Placed → List Placed
+behind_token t ts = t ∷ ts
+
+-- the tokens before a last ;
+abbrev pub closed_in : List Placed → Option (List Placed)
+closed_in [] = None
+closed_in (t ∷ []) = if is_semicolon t.lexeme then Some [] else None
+closed_in (t ∷ u ∷ ts) = option_map (behind_token t) (closed_in (u ∷ ts))
+
+abbrev pub form_with : Option Line → List Placed → Option Line
+form_with (Some l) ts = Some l
+form_with None [] = Some nothing
+form_with None (t ∷ ts) = option_and_then line_in (closed_in (t ∷ ts))
+
+-- a line
+abbrev pub form_in : List Placed → Option Line
+form_in ts = form_with (command_in ts) ts

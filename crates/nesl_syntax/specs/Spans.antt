@@ -1,8 +1,8 @@
 -- Where the nodes of a line stand: each node's parts within its span, one behind another.
 use Rattle.std.specs.Prelude.{ℕ, ◌≤◌, List, [], ◌∷◌, ◌++◌, Option, Some, None}
-use Rattle.nesl_lex.specs.Tokens.{Placed}
 use Rattle.nesl_lex.specs.declared.token.Span.{Span}
-use Rattle.nesl_syntax.specs.Trees.{Tree, Shape, Trees, Binders, PatternTree, PatternShape, TypeTree, TypeShape, SignatureTree, Line, node, pattern, written, span_of, pattern_span, type_span}
+use Rattle.nesl_syntax.specs.Trees.{Tree, Shape, Trees, Binders, PatternTree, PatternShape, TypeTree, TypeShape}
+use Rattle.nesl_syntax.specs.Trees.{SignatureTree, Line, node, pattern, written, span_of, pattern_span, type_span}
 use Rattle.nesl_syntax.specs.Trees as trees
 
 -- a node of an expression, a pattern or a type
@@ -65,15 +65,12 @@ parts_of (type_item (written s k)) = type_items k
 mutual
   pub data Lined : ℕ → List Item → ℕ → Type 0 where
     none_lined : {i j : ℕ} → i ≤ j → Lined i [] j
-    more_lined : {i j : ℕ} {x : Item} {xs : List Item} → i ≤ (item_span x).start → Orderly x → Lined (item_span x).end xs j → Lined i (x ∷ xs) j
+    more_lined : {i j : ℕ} {x : Item} {xs : List Item}
+        → i ≤ (item_span x).start → Orderly x → Lined (item_span x).end xs j
+        → Lined i (x ∷ xs) j
 
   pub data Orderly : Item → Type 0 where
     orderly : {x : Item} → Lined (item_span x).start (parts_of x) (item_span x).end → Orderly x
-
--- tokens between these places, one behind another
-pub data InOrder : ℕ → List Placed → ℕ → Type 0 where
-  none_left : {i j : ℕ} → i ≤ j → InOrder i [] j
-  more_left : {i j : ℕ} {t : Placed} {ts : List Placed} → i ≤ t.span.start → t.span.start ≤ t.span.end → InOrder t.span.end ts j → InOrder i (t ∷ ts) j
 
 abbrev pub signature_items : Option SignatureTree → List Item
 signature_items (Some s) = type_item s.from ∷ (type_item s.to ∷ [])

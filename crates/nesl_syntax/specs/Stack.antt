@@ -11,7 +11,8 @@ use Rattle.nesl_syntax.specs.declared.pending.Pending.{Pending}
 use Rattle.nesl_syntax.specs.declared.pending.Pending.TheVariants as pendings
 use Rattle.nesl_syntax.specs.Trees.{Tree, Trees, Binders, PatternTree, TypeTree, none, more, no_binders, binder}
 use Rattle.nesl_syntax.specs.Machine as machine
-use Rattle.nesl_syntax.specs.Machine.{Waiting, open_at, comma_behind, else_behind, body_of, prefix_at, sign_behind, type_at, folded}
+use Rattle.nesl_syntax.specs.Machine.{Waiting, open_at, comma_behind, else_behind, body_of, prefix_at, sign_behind}
+use Rattle.nesl_syntax.specs.Machine.{type_at, folded}
 use Rattle.nesl_syntax.specs.Parts.{Sees, SeesBody, SeesAll, SeesBound, SeesPattern, SeesType}
 
 abbrev pub some_elements : Trees → Bool
@@ -36,9 +37,14 @@ SeesOpening (openings.List s b ps) o = (xs : Trees) × (o ≡ machine.list s xs)
 SeesOpening (openings.RangeFrom s p) o = (a : Tree) × (o ≡ machine.range_from s a) × Sees p a
 SeesOpening (openings.RangeTo s p q) o = (a b : Tree) × (o ≡ machine.range_to s a b) × Sees p a × Sees q b
 SeesOpening (openings.Brace s) o = o ≡ machine.brace s
-SeesOpening (openings.Binders g b bound) o = (h : machine.Group) × (bs : Binders) × (o ≡ machine.binders h bs) × SeesGroup g h × (b ≡ some_binders bs) × SeesBound bound bs
-SeesOpening (openings.Value g bound p) o = (h : machine.Group) × (bs : Binders) × (t : PatternTree) × (o ≡ machine.value h bs t) × SeesGroup g h × SeesBound bound bs × SeesPattern p t
-SeesOpening (openings.Filter s b bound) o = (e : Option Tree) × (bs : Binders) × (o ≡ machine.filter s e bs) × SeesBody b e × SeesBound bound bs
+SeesOpening (openings.Binders g b bound) o =
+    (h : machine.Group) × (bs : Binders) × (o ≡ machine.binders h bs) × SeesGroup g h × (b ≡ some_binders bs)
+    × SeesBound bound bs
+SeesOpening (openings.Value g bound p) o =
+    (h : machine.Group) × (bs : Binders) × (t : PatternTree) × (o ≡ machine.value h bs t) × SeesGroup g h
+    × SeesBound bound bs × SeesPattern p t
+SeesOpening (openings.Filter s b bound) o =
+    (e : Option Tree) × (bs : Binders) × (o ≡ machine.filter s e bs) × SeesBody b e × SeesBound bound bs
 
 abbrev pub SeesTypeOpening : TypeOpening → machine.TypeOpening → Type 0
 SeesTypeOpening (types.Empty s) o = o ≡ machine.empty_at s

@@ -10,7 +10,8 @@ use Rattle.nesl_syntax.specs.declared.fault.ParseFault.TheVariants.{Syntax, Nest
 use Rattle.nesl_syntax.specs.Trees.{Tree, TypeTree}
 use Rattle.nesl_lex.specs.Tokens.{Placed}
 use Rattle.nesl_lex.specs.declared.token.Span.{Span}
-use Rattle.nesl_syntax.specs.Machine.{Waiting, State, before, behind, typing, typed, run, with_newest, open_at, listed, type_closed}
+use Rattle.nesl_syntax.specs.Machine.{Waiting, State, before, behind, typing, typed, run, with_newest, open_at, listed}
+use Rattle.nesl_syntax.specs.Machine.{type_closed}
 use Rattle.nesl_syntax.specs.Machine as machine
 use Rattle.nesl_syntax.specs.Parts.{Sees, SeesType}
 use Rattle.nesl_syntax.specs.Stack.{SeesPending, SeesStack}

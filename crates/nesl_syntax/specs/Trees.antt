@@ -14,9 +14,9 @@ mutual
     int : TypeShape
     bool : TypeShape
     char : TypeShape
-    named : List ℕ → Span → TypeShape
-    sequence_type : TypeTree → TypeShape
-    pair_type : TypeTree → TypeTree → TypeShape
+    named : (name : List ℕ) (token : Span) → TypeShape
+    sequence_type : (element : TypeTree) → TypeShape
+    pair_type : (left right : TypeTree) → TypeShape
 
 -- a pattern, with its span
 mutual
@@ -24,9 +24,9 @@ mutual
     pattern : Span → PatternShape → PatternTree
 
   pub data PatternShape : Type 0 where
-    name_pattern : List ℕ → PatternShape
-    pair_pattern : PatternTree → PatternTree → PatternShape
-    record_pattern : List ℕ → PatternTree → PatternShape
+    name_pattern : (name : List ℕ) → PatternShape
+    pair_pattern : (left right : PatternTree) → PatternShape
+    record_pattern : (name : List ℕ) (part : PatternTree) → PatternShape
 
 -- an expression, with its span
 mutual
@@ -34,34 +34,34 @@ mutual
     node : Span → Shape → Tree
 
   pub data Shape : Type 0 where
-    number : ℕ → Shape
-    truth : Bool → Shape
-    character : ℕ → Shape
-    text : List ℕ → Shape
-    variable : List ℕ → Shape
-    call : List ℕ → Tree → Shape
-    pair : Tree → Tree → Shape
-    prefix_of : Prefix → Tree → Shape
-    infix_of : Operator → Tree → Tree → Shape
-    index : Tree → Tree → Shape
-    choice : Tree → Tree → Tree → Shape
-    sequence : Trees → Shape
-    empty : TypeTree → Shape
-    range : Tree → Tree → Shape
-    strided_range : Tree → Tree → Tree → Shape
-    let_in : Binders → Tree → Shape
-    each : Tree → Binders → Shape
-    filtered_each : Tree → Binders → Tree → Shape
+    number : (value : ℕ) → Shape
+    truth : (value : Bool) → Shape
+    character : (code : ℕ) → Shape
+    text : (bytes : List ℕ) → Shape
+    variable : (name : List ℕ) → Shape
+    call : (name : List ℕ) (argument : Tree) → Shape
+    pair : (left right : Tree) → Shape
+    prefix_of : (operator : Prefix) (operand : Tree) → Shape
+    infix_of : (operator : Operator) (left right : Tree) → Shape
+    index : (sequence index : Tree) → Shape
+    choice : (test yes no : Tree) → Shape
+    sequence : (elements : Trees) → Shape
+    empty : (of : TypeTree) → Shape
+    range : (from to : Tree) → Shape
+    strided_range : (from to stride : Tree) → Shape
+    let_in : (binders : Binders) (body : Tree) → Shape
+    each : (body : Tree) (binders : Binders) → Shape
+    filtered_each : (body : Tree) (binders : Binders) (filter : Tree) → Shape
     element : Shape
 
   pub data Trees : Type 0 where
     none : Trees
-    more : Tree → Trees → Trees
+    more : (first : Tree) (rest : Trees) → Trees
 
   -- patterns, each with what it is bound to
   pub data Binders : Type 0 where
     no_binders : Binders
-    binder : PatternTree → Tree → Binders → Binders
+    binder : (pattern : PatternTree) (value : Tree) (rest : Binders) → Binders
 
 abbrev pub span_of : Tree → Span
 span_of (node s k) = s
@@ -147,39 +147,6 @@ abbrev mutual
   greatest_bound no_binders = 0
   greatest_bound (binder p t bs) = max (pattern_height p) (max (height t) (greatest_bound bs))
 
--- the expression with a pattern's tokens
-abbrev mutual
-  pub tree_of_pattern : PatternTree → Tree
-  tree_of_pattern (pattern s k) = node s (shape_of_pattern k)
-
-  pub shape_of_pattern : PatternShape → Shape
-  shape_of_pattern (name_pattern x) = variable x
-  shape_of_pattern (pair_pattern a b) = pair (tree_of_pattern a) (tree_of_pattern b)
-  shape_of_pattern (record_pattern x a) = call x (tree_of_pattern a)
-
-abbrev pub shape_pair : Option PatternTree → Option PatternTree → Option PatternShape
-shape_pair (Some a) (Some b) = Some (pair_pattern a b)
-shape_pair _ _ = None
-
-abbrev pub shape_record : List ℕ → Option PatternTree → Option PatternShape
-shape_record x (Some a) = Some (record_pattern x a)
-shape_record x None = None
-
-abbrev pub with_span : Span → Option PatternShape → Option PatternTree
-with_span s (Some k) = Some (pattern s k)
-with_span s None = None
-
--- the pattern with an expression's tokens, if there is one
-abbrev mutual
-  pub pattern_in : Tree → Option PatternTree
-  pattern_in (node s k) = with_span s (pattern_shape_in k)
-
-  pub pattern_shape_in : Shape → Option PatternShape
-  pattern_shape_in (variable x) = Some (name_pattern x)
-  pattern_shape_in (pair a b) = shape_pair (pattern_in a) (pattern_in b)
-  pattern_shape_in (call x a) = shape_record x (pattern_in a)
-  pattern_shape_in _ = None
-
 -- a name and the class that it is put in
 pub record MemberTree : Type 0 where
   pub name : List ℕ
@@ -193,13 +160,13 @@ pub record SignatureTree : Type 0 where
 -- a line
 pub data Line : Type 0 where
   nothing : Line
-  function : List ℕ → PatternTree → Option SignatureTree → Tree → Line
-  datatype : List ℕ → TypeTree → Line
-  bind : List ℕ → Tree → Line
-  eval : Tree → Line
+  function : (name : List ℕ) (parameter : PatternTree) (signature : Option SignatureTree) (body : Tree) → Line
+  datatype : (name : List ℕ) (content : TypeTree) → Line
+  bind : (name : List ℕ) (value : Tree) → Line
+  eval : (value : Tree) → Line
   show_names : Line
   show_budget : Line
-  show_type : Tree → Line
+  show_type : (value : Tree) → Line
 
 abbrev pub signature_height : Option SignatureTree → ℕ
 signature_height (Some s) = max (type_height s.from) (type_height s.to)

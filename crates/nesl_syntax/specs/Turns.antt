@@ -11,7 +11,8 @@ use Rattle.nesl_syntax.specs.Trees.{Tree, Binders, node}
 use Rattle.nesl_syntax.specs.Trees as trees
 use Rattle.nesl_syntax.specs.Grammar.{over}
 use Rattle.nesl_syntax.specs.Machine as machine
-use Rattle.nesl_syntax.specs.Machine.{Waiting, becomes, ends, open_at, binders, body_of, filter, body_or, let_group, each_group}
+use Rattle.nesl_syntax.specs.Machine.{Waiting, becomes, ends, open_at, binders, body_of, filter, body_or, let_group}
+use Rattle.nesl_syntax.specs.Machine.{each_group}
 use Rattle.nesl_syntax.specs.Parts.{Sees}
 use Rattle.nesl_syntax.specs.Stack.{SeesPending}
 

@@ -1,5 +1,5 @@
 -- The trees that the code's values stand for.
-use Rattle.std.specs.Prelude.{Bool, true, false, ◌&&◌, List, [], ◌∷◌, option_map, map}
+use Rattle.std.specs.Prelude.{List, [], ◌∷◌, option_map, map}
 use Rattle.nesl_syntax.specs.declared.tree.TypeExp.{TypeExp}
 use Rattle.nesl_syntax.specs.declared.tree.TypeNode.{TypeNode}
 use Rattle.nesl_syntax.specs.declared.tree.TypeNode.TheVariants as types
@@ -13,7 +13,9 @@ use Rattle.nesl_syntax.specs.declared.tree.Member.{Member}
 use Rattle.nesl_syntax.specs.declared.tree.Signature.{Signature}
 use Rattle.nesl_syntax.specs.declared.tree.Form.{Form}
 use Rattle.nesl_syntax.specs.declared.tree.Form.TheVariants as forms
-use Rattle.nesl_syntax.specs.Trees.{TypeTree, TypeShape, PatternTree, PatternShape, Tree, Shape, Trees, Binders, MemberTree, SignatureTree, Line, written, pattern, node, none, more, no_binders, binder}
+use Rattle.nesl_syntax.specs.Trees.{TypeTree, TypeShape, PatternTree, PatternShape, Tree, Shape, Trees, Binders}
+use Rattle.nesl_syntax.specs.Trees.{MemberTree, SignatureTree, Line, written, pattern, node, none, more, no_binders}
+use Rattle.nesl_syntax.specs.Trees.{binder}
 use Rattle.nesl_syntax.specs.Trees as trees
 
 abbrev pub type_shape : TypeNode → TypeShape
@@ -29,7 +31,8 @@ type_tree a = written a.span (type_shape a.node)
 
 abbrev pub pattern_shape : PatternNode → PatternShape
 pattern_shape (patterns.Name x) = trees.name_pattern x.items
-pattern_shape (patterns.Pair' p s a q t b) = trees.pair_pattern (pattern s (pattern_shape a)) (pattern t (pattern_shape b))
+pattern_shape (patterns.Pair' p s a q t b) =
+    trees.pair_pattern (pattern s (pattern_shape a)) (pattern t (pattern_shape b))
 pattern_shape (patterns.Record' x p s a) = trees.record_pattern x.items (pattern s (pattern_shape a))
 
 abbrev pub pattern_tree : Pattern → PatternTree
@@ -47,14 +50,17 @@ abbrev mutual
   shape_of (declared.Prefix' o p s a) = trees.prefix_of o (node s (shape_of a))
   shape_of (declared.Infix' o p s a q t b) = trees.infix_of o (node s (shape_of a)) (node t (shape_of b))
   shape_of (declared.Index' p s a q t b) = trees.index (node s (shape_of a)) (node t (shape_of b))
-  shape_of (declared.Choice' p s a q t b r u c) = trees.choice (node s (shape_of a)) (node t (shape_of b)) (node u (shape_of c))
+  shape_of (declared.Choice' p s a q t b r u c) =
+      trees.choice (node s (shape_of a)) (node t (shape_of b)) (node u (shape_of c))
   shape_of (declared.Sequence' v all) = trees.sequence (trees_of all)
   shape_of (declared.Empty t) = trees.empty (type_tree t)
   shape_of (declared.Range' p s a q t b) = trees.range (node s (shape_of a)) (node t (shape_of b))
-  shape_of (declared.StridedRange' p s a q t b r u c) = trees.strided_range (node s (shape_of a)) (node t (shape_of b)) (node u (shape_of c))
+  shape_of (declared.StridedRange' p s a q t b r u c) =
+      trees.strided_range (node s (shape_of a)) (node t (shape_of b)) (node u (shape_of c))
   shape_of (declared.Let' v all p s e) = trees.let_in (binders_of all) (node s (shape_of e))
   shape_of (declared.Each' p s e v all) = trees.each (node s (shape_of e)) (binders_of all)
-  shape_of (declared.FilteredEach' p s e v all q t f) = trees.filtered_each (node s (shape_of e)) (binders_of all) (node t (shape_of f))
+  shape_of (declared.FilteredEach' p s e v all q t f) =
+      trees.filtered_each (node s (shape_of e)) (binders_of all) (node t (shape_of f))
   shape_of declared.Element = trees.element
 
   pub trees_of : {m : _} → declared.Row_of-Exp m → Trees
@@ -75,17 +81,6 @@ trees_in (e ∷ es) = more (tree_of e) (trees_in es)
 abbrev pub binders_in : List Binding → Binders
 binders_in [] = no_binders
 binders_in (b ∷ bs) = binder (pattern_tree b.pattern) (tree_of b.value) (binders_in bs)
-
--- whether an expression's tokens are a pattern's
-abbrev mutual
-  pub is_pattern : Tree → Bool
-  is_pattern (node s k) = is_pattern_shape k
-
-  pub is_pattern_shape : Shape → Bool
-  is_pattern_shape (trees.variable x) = true
-  is_pattern_shape (trees.pair a b) = is_pattern a && is_pattern b
-  is_pattern_shape (trees.call x a) = is_pattern a
-  is_pattern_shape _ = false
 
 abbrev pub member_tree : Member → MemberTree
 member_tree m = record { name = m.name.items; class = m.class }

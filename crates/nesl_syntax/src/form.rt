@@ -25,7 +25,7 @@ fn body(alloc: Global, tokens: &[Token]) -> Result<Exp, ParseFault>
     ensures { GivesExp result (machine.expression (placed tokens.now)) }
 {
     match expression(alloc, tokens)? {
-        Part::Built(exp, _, _) => Ok(exp),
+        Part::Built { exp, .. } => Ok(exp),
         Part::High(_) => Err(ParseFault::Nested),
     }
 }
@@ -42,7 +42,10 @@ fn bind(alloc: Global, name: &Vec<u8>, tokens: &[Token]) -> Result<Form, ParseFa
     ensures { GivesLine result (option_map (trees.bind name.now.items) (machine.expression (placed tokens.now))) }
 {
     let name = name.clone()?;
-    Ok(Form::Bind(name, body(alloc, tokens)?))
+    Ok(Form::Bind {
+        name,
+        value: body(alloc, tokens)?,
+    })
 }
 
 // A line that begins with a name: a binding, where a `=` stands behind it, or else an expression.
@@ -72,7 +75,7 @@ fn datatype_named(alloc: Global, name: &Vec<u8>, tokens: &[Token]) -> Result<For
 {
     let name = name.clone()?;
     match written_type(alloc, tokens)? {
-        TypePart::Built(of, _) => Ok(Form::Datatype(name, of)),
+        TypePart::Built { written: of, .. } => Ok(Form::Datatype { name, content: of }),
         TypePart::High => Err(ParseFault::Nested),
     }
 }

@@ -77,10 +77,20 @@ fn function_with(
         GivesLine result (Some (trees.function name.items (pattern_tree pattern) s (tree_of body))) }
 {
     match signature {
-        None => Ok(Form::Fun(name, pattern, None, body)),
+        None => Ok(Form::Fun {
+            name,
+            parameter: pattern,
+            signature: None,
+            body,
+        }),
         Some(part) => match part {
             SignaturePart::Built(signature) => {
-                Ok(Form::Fun(name, pattern, Some(signature), body))
+                Ok(Form::Fun {
+                    name,
+                    parameter: pattern,
+                    signature: Some(signature),
+                    body,
+                })
             }
             SignaturePart::High => too_high((name, pattern, body)),
         },
@@ -93,8 +103,8 @@ fn function_of(name: Vec<u8>, head: Head, body: Part) -> Result<Form, ParseFault
 {
     let Head { pattern, signature } = head;
     match pattern {
-        PatternPart::Built(pattern, _) => match body {
-            Part::Built(body, _, _) => function_with(name, pattern, signature, body),
+        PatternPart::Built { pattern, .. } => match body {
+            Part::Built { exp: body, .. } => function_with(name, pattern, signature, body),
             Part::High(_) => too_high((name, pattern, signature)),
         },
         PatternPart::High => too_high((name, signature, body)),

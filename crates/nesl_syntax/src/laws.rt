@@ -1,6 +1,8 @@
 // Laws of the grammar.
 
-ghost use Rattle.nesl_syntax.specs.Laws.{OneTree, OnePattern, OneType, OrderlySpans};
+ghost use Rattle.nesl_syntax.specs.Laws.{OneTree, OnePattern, OneType, OrderlySpans, FormComputes};
+
+use nesl_lex::tokens_in_order;
 
 /// Tokens have at most one expression, one pattern and one type.
 pub fn one_phrase()
@@ -9,7 +11,15 @@ pub fn one_phrase()
     ensures written_type { OneType }
 {}
 
-/// Spans lie in order within the line, where its tokens do: a node's parts lie in its span, one behind another.
+/// The nodes of a line stand within it one behind another, and within each node its parts do.
 pub fn spans_in_order()
     ensures { OrderlySpans }
+{
+    tokens_in_order();
+}
+
+/// A line's form, computed of its tokens: so a crate above can state a worked line as bytes, call this law and give its
+/// clause the tokens that `nesl_lex::reading_computes` computes of them.
+pub fn form_computes()
+    ensures { FormComputes }
 {}

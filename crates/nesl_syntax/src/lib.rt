@@ -19,7 +19,4 @@ mod types;
 
 pub use fault::ParseFault;
 pub use form::{one_form, parse_form};
-pub use laws::{one_phrase, spans_in_order};
-
-#[cfg(test)]
-mod tests;
+pub use laws::{form_computes, one_phrase, spans_in_order};

@@ -3,7 +3,7 @@
 ghost use Rattle.std.specs.Prelude.{◌≡◌, ◌≤◌, ◌<◌, IfOk, Option};
 ghost use Rattle.nesl_syntax.specs.Trees.{Tree, Trees, Binders, PatternTree, node, span_of, and_then, and_bind};
 ghost use Rattle.nesl_syntax.specs.Trees as trees;
-ghost use Rattle.nesl_syntax.specs.declared.lists.Bound.TheVariants as bound;
+ghost use Rattle.nesl_syntax.specs.declared.lists.Bindings.TheVariants as many;
 ghost use Rattle.nesl_syntax.specs.Views.{shape_of, trees_in, binders_in, tree_of};
 ghost use Rattle.nesl_syntax.specs.Grammar.{over, own_body};
 ghost use Rattle.nesl_syntax.specs.Machine.{body_or};
@@ -17,66 +17,81 @@ use std::alloc::{AllocError, Global};
 
 /// Elements so far with their greatest height, or some that are too high.
 #[derive(Debug, Drop)]
-pub enum Parts {
-    Built(Vec<Exp>, usize),
+pub enum Elements {
+    Built { items: Vec<Exp>, height: usize },
     High,
 }
 
 /// Binders so far with the greatest height of their parts, or some that are too high.
 #[derive(Debug, Drop)]
-pub enum Bound {
-    Built(Vec<Binding>, usize),
+pub enum Bindings {
+    Built { items: Vec<Binding>, height: usize },
     High,
 }
 
 #[tactic(auto, using(crate::proofs::Rows::greatest_and_then, crate::proofs::Rows::trees_push))]
-pub fn push_part(parts: Parts, part: Part) -> Result<Parts, AllocError>
-    ensures { IfOk result (λ r. (xs : Trees) (x : Tree) → SeesAll parts xs → Sees part x → SeesAll r (and_then xs x)) }
+pub fn push_part(elements: Elements, part: Part) -> Result<Elements, AllocError>
+    ensures { IfOk result (λ r. (xs : Trees) (x : Tree) → SeesAll elements xs → Sees part x → SeesAll r (and_then xs x)) }
 {
-    match parts {
-        Parts::Built(items, m) => match part {
-            Part::Built(exp, n, _) => {
+    match elements {
+        Elements::Built { items, height: m } => match part {
+            Part::Built { exp, height: n, .. } => {
                 let mut items = items;
                 items.push(exp)?;
-                Ok(Parts::Built(items, m.max(n)))
+                Ok(Elements::Built {
+                    items,
+                    height: m.max(n),
+                })
             }
             Part::High(_) => {
                 drop(items);
-                Ok(Parts::High)
+                Ok(Elements::High)
             }
         },
-        Parts::High => {
+        Elements::High => {
             drop(part);
-            Ok(Parts::High)
+            Ok(Elements::High)
         }
     }
 }
 
 // Drops the parts of what is too high.
-fn no_binders<T: Drop>(parts: T) -> Bound
-    ensures { result ≡ bound.High }
+fn not_built<T: Drop>(parts: T) -> Bindings
+    ensures { result ≡ many.High }
 {
     drop(parts);
-    Bound::High
+    Bindings::High
 }
 
 #[tactic(auto, using(crate::proofs::Rows::greatest_and_bind, crate::proofs::Rows::binders_push))]
-pub fn push_binding(bound: Bound, pattern: PatternPart, value: Part) -> Result<Bound, AllocError>
-    ensures { IfOk result (λ r. (bs : Binders) (p : PatternTree) (x : Tree) → SeesBound bound bs → SeesPattern pattern p → Sees value x →
+pub fn push_binding(
+    bindings: Bindings,
+    pattern: PatternPart,
+    value: Part,
+) -> Result<Bindings, AllocError>
+    ensures { IfOk result (λ r. (bs : Binders) (p : PatternTree) (x : Tree) → SeesBound bindings bs → SeesPattern pattern p → Sees value x →
         SeesBound r (and_bind bs p x)) }
 {
-    let Bound::Built(items, m) = bound else {
-        return Ok(no_binders((pattern, value)));
+    let Bindings::Built { items, height: m } = bindings else {
+        return Ok(not_built((pattern, value)));
     };
-    let PatternPart::Built(pattern, n) = pattern else {
-        return Ok(no_binders((items, value)));
+    let PatternPart::Built { pattern, height: n } = pattern else {
+        return Ok(not_built((items, value)));
     };
-    let Part::Built(value, k, _) = value else {
-        return Ok(no_binders((items, pattern)));
+    let Part::Built {
+        exp: value,
+        height: k,
+        ..
+    } = value
+    else {
+        return Ok(not_built((items, pattern)));
     };
     let mut items = items;
     items.push(Binding { pattern, value })?;
-    Ok(Bound::Built(items, m.max(n.max(k))))
+    Ok(Bindings::Built {
+        items,
+        height: m.max(n.max(k)),
+    })
 }
 
 fn sequence_node(items: Vec<Exp>) -> Node
@@ -88,47 +103,69 @@ fn sequence_node(items: Vec<Exp>) -> Node
 fn let_node(items: Vec<Binding>, body: Box<Exp>) -> Node
     ensures { shape_of result ≡ trees.let_in (binders_in items.items) (tree_of body.value) }
 {
-    Node::Let(items, body)
+    Node::Let {
+        bindings: items,
+        body,
+    }
 }
 
 fn each_node(body: Box<Exp>, items: Vec<Binding>) -> Node
     ensures { shape_of result ≡ trees.each (tree_of body.value) (binders_in items.items) }
 {
-    Node::Each(body, items)
+    Node::Each {
+        body,
+        bindings: items,
+    }
 }
 
 fn filtered_node(body: Box<Exp>, items: Vec<Binding>, filter: Box<Exp>) -> Node
     ensures { shape_of result ≡ trees.filtered_each (tree_of body.value) (binders_in items.items) (tree_of filter.value) }
 {
-    Node::FilteredEach(body, items, filter)
+    Node::FilteredEach {
+        body,
+        bindings: items,
+        filter,
+    }
 }
 
-pub fn sequence_of(parts: Parts, span: Span) -> Part
-    ensures { (xs : Trees) → SeesAll parts xs → Sees result (node span (trees.sequence xs)) }
+pub fn sequence_of(elements: Elements, span: Span) -> Part
+    ensures { (xs : Trees) → SeesAll elements xs → Sees result (node span (trees.sequence xs)) }
 {
-    match parts {
-        Parts::Built(items, height) if height < LIMIT => {
+    match elements {
+        Elements::Built { items, height } if height < LIMIT => {
             let node = sequence_node(items);
-            Part::Built(Exp { span, node }, height + 1, false)
+            Part::Built {
+                exp: Exp { span, node },
+                height: height + 1,
+                pattern: false,
+            }
         }
         other => too_high(other, false),
     }
 }
 
-pub fn let_of(alloc: Global, word: Span, bound: Bound, body: Part) -> Result<Part, AllocError>
-    ensures { IfOk result (λ r. (bs : Binders) (x : Tree) → SeesBound bound bs → Sees body x →
+pub fn let_of(alloc: Global, word: Span, bindings: Bindings, body: Part) -> Result<Part, AllocError>
+    ensures { IfOk result (λ r. (bs : Binders) (x : Tree) → SeesBound bindings bs → Sees body x →
         Sees r (node (over word (span_of x)) (trees.let_in bs x))) }
 {
-    match bound {
-        Bound::Built(items, m) => match body {
-            Part::Built(body, n, _) if m.max(n) < LIMIT => {
+    match bindings {
+        Bindings::Built { items, height: m } => match body {
+            Part::Built {
+                exp: body,
+                height: n,
+                ..
+            } if m.max(n) < LIMIT => {
                 let span = over(word, body.span);
                 let node = let_node(items, Box::new(alloc, body)?);
-                Ok(Part::Built(Exp { span, node }, m.max(n) + 1, false))
+                Ok(Part::Built {
+                    exp: Exp { span, node },
+                    height: m.max(n) + 1,
+                    pattern: false,
+                })
             }
             other => Ok(too_high((other, items), false)),
         },
-        Bound::High => Ok(too_high(body, false)),
+        Bindings::High => Ok(too_high(body, false)),
     }
 }
 
@@ -152,53 +189,77 @@ fn body_of(body: Option<Part>, items: &[Binding]) -> Part
 {
     match body {
         Some(part) => part,
-        None => Part::Built(element_of(items), 1, false),
+        None => Part::Built {
+            exp: element_of(items),
+            height: 1,
+            pattern: false,
+        },
     }
 }
 
 pub fn each_of(
     alloc: Global,
     body: Option<Part>,
-    bound: Bound,
+    bindings: Bindings,
     span: Span,
 ) -> Result<Part, AllocError>
-    ensures { IfOk result (λ r. (b : Option Tree) (bs : Binders) → SeesBody body b → SeesBound bound bs →
+    ensures { IfOk result (λ r. (b : Option Tree) (bs : Binders) → SeesBody body b → SeesBound bindings bs →
         Sees r (node span (trees.each (body_or b bs) bs))) }
 {
-    match bound {
-        Bound::Built(items, m) => match body_of(body, items.as_slice()) {
-            Part::Built(body, n, _) if n.max(m) < LIMIT => {
+    match bindings {
+        Bindings::Built { items, height: m } => match body_of(body, items.as_slice()) {
+            Part::Built {
+                exp: body,
+                height: n,
+                ..
+            } if n.max(m) < LIMIT => {
                 let node = each_node(Box::new(alloc, body)?, items);
-                Ok(Part::Built(Exp { span, node }, n.max(m) + 1, false))
+                Ok(Part::Built {
+                    exp: Exp { span, node },
+                    height: n.max(m) + 1,
+                    pattern: false,
+                })
             }
             other => Ok(too_high((other, items), false)),
         },
-        Bound::High => Ok(too_high(body, false)),
+        Bindings::High => Ok(too_high(body, false)),
     }
 }
 
 pub fn filtered_each_of(
     alloc: Global,
     body: Option<Part>,
-    bound: Bound,
+    bindings: Bindings,
     filter: Part,
     span: Span,
 ) -> Result<Part, AllocError>
-    ensures { IfOk result (λ r. (b : Option Tree) (bs : Binders) (x : Tree) → SeesBody body b → SeesBound bound bs → Sees filter x →
+    ensures { IfOk result (λ r. (b : Option Tree) (bs : Binders) (x : Tree) → SeesBody body b → SeesBound bindings bs → Sees filter x →
         Sees r (node span (trees.filtered_each (body_or b bs) bs x))) }
 {
-    match bound {
-        Bound::Built(items, m) => match body_of(body, items.as_slice()) {
-            Part::Built(body, n, _) => match filter {
-                Part::Built(filter, k, _) if n.max(m.max(k)) < LIMIT => {
+    match bindings {
+        Bindings::Built { items, height: m } => match body_of(body, items.as_slice()) {
+            Part::Built {
+                exp: body,
+                height: n,
+                ..
+            } => match filter {
+                Part::Built {
+                    exp: filter,
+                    height: k,
+                    ..
+                } if n.max(m.max(k)) < LIMIT => {
                     let body = Box::new(alloc, body)?;
                     let node = filtered_node(body, items, Box::new(alloc, filter)?);
-                    Ok(Part::Built(Exp { span, node }, n.max(m.max(k)) + 1, false))
+                    Ok(Part::Built {
+                        exp: Exp { span, node },
+                        height: n.max(m.max(k)) + 1,
+                        pattern: false,
+                    })
                 }
                 other => Ok(too_high((body, other, items), false)),
             },
             Part::High(_) => Ok(too_high((filter, items), false)),
         },
-        Bound::High => Ok(too_high((body, filter), false)),
+        Bindings::High => Ok(too_high((body, filter), false)),
     }
 }

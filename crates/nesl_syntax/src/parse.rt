@@ -2,7 +2,7 @@
 
 ghost use Rattle.std.specs.Prelude.{◌≡◌, ◌≤◌, ◌<◌, Err, IfOk, if◌then◌else◌, None, Some, List};
 ghost use Rattle.nesl_syntax.specs.Trees.{Tree, TypeTree};
-ghost use Rattle.nesl_syntax.specs.Machine.{Waiting, opened, called, took, before, with_newest, marked, separated, listed, mark_level, followed, let_closed, let_body, emptied, empty_opening, type_done, type_separated, type_bracketed, bracket_type, type_closed, begun_with, typed_with, typed_on};
+ghost use Rattle.nesl_syntax.specs.Machine.{Waiting, opened, called, taken_up, before, with_newest, marked, separated, listed, mark_level, followed, let_closed, let_body, emptied, empty_opening, type_done, type_separated, type_bracketed, bracket_type, type_closed, begun_with, typed_with, typed_on};
 ghost use Rattle.nesl_syntax.specs.Machine as machine;
 ghost use Rattle.nesl_syntax.specs.Parts.{Sees, SeesType};
 ghost use Rattle.nesl_syntax.specs.Stack.{SeesOpening, SeesTypeOpening, SeesPending, SeesStack};
@@ -13,7 +13,7 @@ ghost use Rattle.nesl_syntax.specs.declared.part.Part.TheVariants as part;
 ghost use Rattle.nesl_lex.specs.Tokens.{lexeme_of, placed_of, placed, symbol, reserved};
 
 use crate::fault::ParseFault;
-use crate::lists::{Parts, push_part};
+use crate::lists::{Elements, push_part};
 use crate::mark::{Follow, Mark, follow_of};
 use crate::part::{Part, empty_of, over};
 use crate::pending::{
@@ -30,8 +30,8 @@ use std::alloc::Global;
 pub enum Mode {
     /// An expression is to come.
     Before,
-    /// An expression stands before this place; where the flag is set it is a name and nothing else.
-    Behind(bool, Part),
+    /// An expression stands before this place, and whether it is a name and nothing else.
+    Behind { fresh: bool, part: Part },
     /// A type is to come.
     Typing,
     /// A type stands before this place.
@@ -61,14 +61,14 @@ fn open(stack: &mut Vec<Pending>, pending: Pending) -> Result<Mode, ParseFault>
 // What comes of the newest opening.
 fn take(stack: &mut Vec<Pending>, turn: Turn) -> Result<Mode, ParseFault>
     ensures { (ws : List Waiting) (t : machine.Turn) → SeesStack stack.old.items ws → SeesTurn turn t →
-        Follows result stack.new.items (took ws (Some t)) }
+        Follows result stack.new.items (taken_up ws (Some t)) }
 {
     match turn {
         Turn::Becomes(pending) => {
             stack.push(pending)?;
             Ok(Mode::Before)
         }
-        Turn::Ends(part) => Ok(Mode::Behind(false, part)),
+        Turn::Ends(part) => Ok(Mode::Behind { fresh: false, part }),
     }
 }
 
@@ -98,9 +98,13 @@ fn list(stack: &mut Vec<Pending>, opening: Opening, part: Part) -> Result<Mode, 
         Follows result stack.new.items (with_newest before ws (listed o x)) }
 {
     match opening {
-        Opening::List(from, _, parts) => {
-            let parts = push_part(parts, part)?;
-            stack.push(Pending::Open(Opening::List(from, true, parts)))?;
+        Opening::List { from, elements, .. } => {
+            let elements = push_part(elements, part)?;
+            stack.push(Pending::Open(Opening::List {
+                from,
+                some: true,
+                elements,
+            }))?;
             Ok(Mode::Before)
         }
         other => refuse((other, part)),
@@ -131,10 +135,13 @@ fn call(stack: &mut Vec<Pending>, fresh: bool, part: Part) -> Result<Mode, Parse
         return refuse(part);
     }
     match part {
-        Part::Built(exp, _, _) => {
+        Part::Built { exp, .. } => {
             let Exp { span, node } = exp;
             match node {
-                Node::Variable(name) => open(stack, Pending::Open(Opening::Call(name, span))),
+                Node::Variable(name) => open(
+                    stack,
+                    Pending::Open(Opening::Call { name, from: span }),
+                ),
                 other => refuse(other),
             }
         }
@@ -173,7 +180,13 @@ fn follow(
         }
         Follow::Operator(operator) => {
             let part = fold(alloc, stack, level_of(operator), part)?;
-            open(stack, Pending::Sign(operator, part))
+            open(
+                stack,
+                Pending::Sign {
+                    operator,
+                    left: part,
+                },
+            )
         }
         Follow::Mark(mark) => {
             let part = fold(alloc, stack, level_at(mark), part)?;
@@ -188,10 +201,14 @@ fn close_let(opening: Opening) -> Result<Pending, ParseFault>
     ensures { (o : machine.Opening) → SeesOpening opening o → PendingGiven result (let_body o) }
 {
     match opening {
-        Opening::Binders(group, some, bound) => match group {
-            Group::Let(word) if some => Ok(Pending::Body(word, bound)),
+        Opening::Binders {
+            group,
+            some,
+            bindings,
+        } => match group {
+            Group::Let(word) if some => Ok(Pending::Body { word, bindings }),
             other => {
-                drop((other, bound));
+                drop((other, bindings));
                 Err(ParseFault::Syntax)
             }
         },
@@ -220,8 +237,12 @@ fn empty_list(opening: Opening) -> Result<Pending, ParseFault>
     ensures { (o : machine.Opening) → SeesOpening opening o → PendingGiven result (empty_opening o) }
 {
     match opening {
-        Opening::List(from, some, parts) => {
-            drop(parts);
+        Opening::List {
+            from,
+            some,
+            elements,
+        } => {
+            drop(elements);
             if some {
                 return Err(ParseFault::Syntax);
             }
@@ -251,7 +272,14 @@ fn begin_type(stack: &mut Vec<Pending>) -> Result<Mode, ParseFault>
 fn leaf(span: Span, node: Node, fresh: bool) -> Mode
     ensures { result ≡ mode.Behind fresh (part.Built (record { span = span; node = node }) 1 fresh) }
 {
-    Mode::Behind(fresh, Part::Built(Exp { span, node }, 1, fresh))
+    Mode::Behind {
+        fresh,
+        part: Part::Built {
+            exp: Exp { span, node },
+            height: 1,
+            pattern: fresh,
+        },
+    }
 }
 
 // A sign where an expression is to come.
@@ -266,13 +294,35 @@ fn begin_sign(
     match sign {
         Sign::OpenParenthesis => open(stack, Pending::Open(Opening::Round(span))),
         Sign::OpenBracket => {
-            let parts = Parts::Built(Vec::new(alloc), 0);
-            open(stack, Pending::Open(Opening::List(span, false, parts)))
+            let elements = Elements::Built {
+                items: Vec::new(alloc),
+                height: 0,
+            };
+            open(
+                stack,
+                Pending::Open(Opening::List {
+                    from: span,
+                    some: false,
+                    elements,
+                }),
+            )
         }
         Sign::OpenBrace => open(stack, Pending::Open(Opening::Brace(span))),
         Sign::CloseBracket => begin_type(stack),
-        Sign::Hash => open(stack, Pending::Prefix(Prefix::Length, span)),
-        Sign::Minus => open(stack, Pending::Prefix(Prefix::Negate, span)),
+        Sign::Hash => open(
+            stack,
+            Pending::Prefix {
+                operator: Prefix::Length,
+                sign: span,
+            },
+        ),
+        Sign::Minus => open(
+            stack,
+            Pending::Prefix {
+                operator: Prefix::Negate,
+                sign: span,
+            },
+        ),
         _ => Err(ParseFault::Syntax),
     }
 }
@@ -289,10 +339,14 @@ fn begin_word(
     match word {
         Word::If => open(stack, Pending::Open(Opening::Test(span))),
         Word::Let => {
-            let bound = no_bindings(alloc);
+            let bindings = no_bindings(alloc);
             open(
                 stack,
-                Pending::Open(Opening::Binders(Group::Let(span), false, bound)),
+                Pending::Open(Opening::Binders {
+                    group: Group::Let(span),
+                    some: false,
+                    bindings,
+                }),
             )
         }
         Word::In => begin_body(stack),
@@ -340,15 +394,18 @@ fn empty_from(stack: &[Pending]) -> Option<Span>
     }
 }
 
-// A type that has come, with its last token at this place.
-fn end_type(stack: &mut Vec<Pending>, part: TypePart, at: Span) -> Mode
+// A type that has come.
+fn end_type(stack: &mut Vec<Pending>, part: TypePart) -> Mode
     ensures { (ws : List Waiting) (a : TypeTree) → SeesStack stack.old.items ws → SeesType part a →
-        SeesStack stack.new.items (type_done ws at a).0 × SeesMode result (type_done ws at a).1 }
+        SeesStack stack.new.items (type_done ws a).0 × SeesMode result (type_done ws a).1 }
 {
     match empty_from(stack.as_slice()) {
         Some(from) => {
             drop(stack.pop());
-            Mode::Behind(false, empty_of(part, over(from, at)))
+            Mode::Behind {
+                fresh: false,
+                part: empty_of(part, from),
+            }
         }
         None => Mode::Typed(part),
     }
@@ -362,14 +419,17 @@ fn begin_written(stack: &mut Vec<Pending>, token: &Token) -> Result<Mode, ParseF
     let span = token.span;
     match &token.kind {
         Kind::Reserved(word) => match word {
-            Word::Int => Ok(end_type(stack, types::leaf(span, TypeNode::Int), span)),
-            Word::Bool => Ok(end_type(stack, types::leaf(span, TypeNode::Bool), span)),
-            Word::Char => Ok(end_type(stack, types::leaf(span, TypeNode::Char), span)),
+            Word::Int => Ok(end_type(stack, types::leaf(span, TypeNode::Int))),
+            Word::Bool => Ok(end_type(stack, types::leaf(span, TypeNode::Bool))),
+            Word::Char => Ok(end_type(stack, types::leaf(span, TypeNode::Char))),
             _ => Err(ParseFault::Syntax),
         },
         Kind::Name(name) => {
-            let name = TypeNode::Name(name.clone()?, span);
-            Ok(end_type(stack, types::leaf(span, name), span))
+            let name = TypeNode::Name {
+                name: name.clone()?,
+                token: span,
+            };
+            Ok(end_type(stack, types::leaf(span, name)))
         }
         Kind::Symbol(sign) => match sign {
             Sign::OpenBracket => {
@@ -451,7 +511,7 @@ fn bracket(
     match stack.pop() {
         Some(Pending::Type(opening)) => {
             let part = bracketed(alloc, opening, part, at)?;
-            Ok(end_type(stack, part, at))
+            Ok(end_type(stack, part))
         }
         other => refuse((other, part)),
     }
@@ -477,7 +537,7 @@ fn close_types(
                 TypeOpening::Comma(left) => part = pair_of(alloc, left, part)?,
                 TypeOpening::Round(from) => {
                     let part = types::widen(part, over(from, at));
-                    return Ok(end_type(stack, part, at));
+                    return Ok(end_type(stack, part));
                 }
                 other => return refuse((other, part)),
             },
@@ -519,7 +579,7 @@ fn step(
 {
     match mode {
         Mode::Before => begin(alloc, stack, token),
-        Mode::Behind(fresh, part) => {
+        Mode::Behind { fresh, part } => {
             follow(
                 alloc,
                 stack,
@@ -537,10 +597,10 @@ fn step(
 // The expression that stands behind the last token, where nothing is open any more.
 fn finish(alloc: Global, stack: &mut Vec<Pending>, mode: Mode) -> Result<Part, ParseFault>
     ensures { (ws : List Waiting) (m : machine.Mode) → SeesStack stack.old.items ws → SeesMode mode m →
-        Gives result (machine.finished_in ws m) }
+        Gives result (machine.tree_left_in ws m) }
 {
     match mode {
-        Mode::Behind(_, part) => {
+        Mode::Behind { part, .. } => {
             let part = fold(alloc, stack, 2, part)?;
             if !stack.is_empty() {
                 drop(part);
@@ -570,7 +630,7 @@ pub fn expression(alloc: Global, tokens: &[Token]) -> Result<Part, ParseFault>
 // The type that stands behind the last token, where nothing is open any more.
 fn finish_type(stack: &[Pending], mode: Mode) -> Result<TypePart, ParseFault>
     ensures { (ws : List Waiting) (m : machine.Mode) → SeesStack stack.now ws → SeesMode mode m →
-        TypeGiven result (machine.type_finished_in ws m) }
+        TypeGiven result (machine.type_left_in ws m) }
 {
     match mode {
         Mode::Typed(part) => {

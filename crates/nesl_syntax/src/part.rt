@@ -1,10 +1,10 @@
 // Parts of a tree, built only up to height 100.
 
 ghost use Rattle.std.specs.Prelude.{◌≡◌, ◌≤◌, ◌<◌, IfOk};
-ghost use Rattle.nesl_syntax.specs.Trees.{Tree, TypeTree, node, span_of, widened};
+ghost use Rattle.nesl_syntax.specs.Trees.{Tree, TypeTree, node, span_of, type_span, widened};
 ghost use Rattle.nesl_syntax.specs.Trees as trees;
 ghost use Rattle.nesl_syntax.specs.declared.part.Part.TheVariants as part;
-ghost use Rattle.nesl_syntax.specs.Views.{is_pattern};
+ghost use Rattle.nesl_syntax.specs.Patterns.{is_pattern};
 ghost use Rattle.nesl_syntax.specs.Grammar.{over};
 ghost use Rattle.nesl_syntax.specs.Parts.{Sees, SeesType};
 
@@ -16,10 +16,14 @@ use std::alloc::{AllocError, Global};
 /// The greatest height of a tree that is built.
 pub const LIMIT: usize = 100;
 
-/// An expression with its height, or one that is too high and isn't built. The flag says whether its tokens could be a pattern.
+/// An expression with its height, or one that is too high and isn't built; and whether its tokens could be a pattern.
 #[derive(Debug, Drop)]
 pub enum Part {
-    Built(Exp, usize, bool),
+    Built {
+        exp: Exp,
+        height: usize,
+        pattern: bool,
+    },
     High(bool),
 }
 
@@ -46,7 +50,7 @@ pub fn may_be_pattern(part: &Part) -> bool
     ensures { (x : Tree) → Sees part.now x → result ≡ is_pattern x }
 {
     match part {
-        Part::Built(_, _, pattern) => *pattern,
+        Part::Built { pattern, .. } => *pattern,
         Part::High(pattern) => *pattern,
     }
 }
@@ -56,14 +60,18 @@ pub fn widen(part: Part, span: Span) -> Part
     ensures { (x : Tree) → Sees part x → Sees result (widened span x) }
 {
     match part {
-        Part::Built(exp, height, pattern) => Part::Built(
-            Exp {
+        Part::Built {
+            exp,
+            height,
+            pattern,
+        } => Part::Built {
+            exp: Exp {
                 span,
                 node: exp.node,
             },
             height,
             pattern,
-        ),
+        },
         Part::High(pattern) => Part::High(pattern),
     }
 }
@@ -72,12 +80,23 @@ pub fn call_of(alloc: Global, name: Vec<u8>, part: Part, span: Span) -> Result<P
     ensures { IfOk result (λ r. (x : Tree) → Sees part x → Sees r (node span (trees.call name.items x))) }
 {
     match part {
-        Part::Built(exp, height, pattern) => {
+        Part::Built {
+            exp,
+            height,
+            pattern,
+        } => {
             if height >= LIMIT {
                 return Ok(Part::High(pattern));
             }
-            let node = Node::Call(name, Box::new(alloc, exp)?);
-            Ok(Part::Built(Exp { span, node }, height + 1, pattern))
+            let node = Node::Call {
+                name,
+                argument: Box::new(alloc, exp)?,
+            };
+            Ok(Part::Built {
+                exp: Exp { span, node },
+                height: height + 1,
+                pattern,
+            })
         }
         Part::High(pattern) => Ok(Part::High(pattern)),
     }
@@ -89,11 +108,26 @@ pub fn pair_of(alloc: Global, left: Part, right: Part) -> Result<Part, AllocErro
 {
     let pattern = may_be_pattern(&left) && may_be_pattern(&right);
     match left {
-        Part::Built(a, m, _) => match right {
-            Part::Built(b, n, _) if m.max(n) < LIMIT => {
+        Part::Built {
+            exp: a,
+            height: m,
+            ..
+        } => match right {
+            Part::Built {
+                exp: b,
+                height: n,
+                ..
+            } if m.max(n) < LIMIT => {
                 let span = over(a.span, b.span);
-                let node = Node::Pair(Box::new(alloc, a)?, Box::new(alloc, b)?);
-                Ok(Part::Built(Exp { span, node }, m.max(n) + 1, pattern))
+                let node = Node::Pair {
+                    left: Box::new(alloc, a)?,
+                    right: Box::new(alloc, b)?,
+                };
+                Ok(Part::Built {
+                    exp: Exp { span, node },
+                    height: m.max(n) + 1,
+                    pattern,
+                })
             }
             other => Ok(too_high((a, other), pattern)),
         },
@@ -105,10 +139,17 @@ pub fn prefix_of(alloc: Global, prefix: Prefix, sign: Span, part: Part) -> Resul
     ensures { IfOk result (λ r. (x : Tree) → Sees part x → Sees r (node (over sign (span_of x)) (trees.prefix_of prefix x))) }
 {
     match part {
-        Part::Built(exp, height, _) if height < LIMIT => {
+        Part::Built { exp, height, .. } if height < LIMIT => {
             let span = over(sign, exp.span);
-            let node = Node::Prefix(prefix, Box::new(alloc, exp)?);
-            Ok(Part::Built(Exp { span, node }, height + 1, false))
+            let node = Node::Prefix {
+                operator: prefix,
+                operand: Box::new(alloc, exp)?,
+            };
+            Ok(Part::Built {
+                exp: Exp { span, node },
+                height: height + 1,
+                pattern: false,
+            })
         }
         other => Ok(too_high(other, false)),
     }
@@ -124,11 +165,27 @@ pub fn infix_of(
         Sees r (node (over (span_of x) (span_of y)) (trees.infix_of operator x y))) }
 {
     match left {
-        Part::Built(a, m, _) => match right {
-            Part::Built(b, n, _) if m.max(n) < LIMIT => {
+        Part::Built {
+            exp: a,
+            height: m,
+            ..
+        } => match right {
+            Part::Built {
+                exp: b,
+                height: n,
+                ..
+            } if m.max(n) < LIMIT => {
                 let span = over(a.span, b.span);
-                let node = Node::Infix(operator, Box::new(alloc, a)?, Box::new(alloc, b)?);
-                Ok(Part::Built(Exp { span, node }, m.max(n) + 1, false))
+                let node = Node::Infix {
+                    operator,
+                    left: Box::new(alloc, a)?,
+                    right: Box::new(alloc, b)?,
+                };
+                Ok(Part::Built {
+                    exp: Exp { span, node },
+                    height: m.max(n) + 1,
+                    pattern: false,
+                })
             }
             other => Ok(too_high((a, other), false)),
         },
@@ -141,11 +198,26 @@ pub fn index_of(alloc: Global, base: Part, index: Part, close: Span) -> Result<P
         Sees r (node (over (span_of x) close) (trees.index x y))) }
 {
     match base {
-        Part::Built(a, m, _) => match index {
-            Part::Built(b, n, _) if m.max(n) < LIMIT => {
+        Part::Built {
+            exp: a,
+            height: m,
+            ..
+        } => match index {
+            Part::Built {
+                exp: b,
+                height: n,
+                ..
+            } if m.max(n) < LIMIT => {
                 let span = over(a.span, close);
-                let node = Node::Index(Box::new(alloc, a)?, Box::new(alloc, b)?);
-                Ok(Part::Built(Exp { span, node }, m.max(n) + 1, false))
+                let node = Node::Index {
+                    sequence: Box::new(alloc, a)?,
+                    index: Box::new(alloc, b)?,
+                };
+                Ok(Part::Built {
+                    exp: Exp { span, node },
+                    height: m.max(n) + 1,
+                    pattern: false,
+                })
             }
             other => Ok(too_high((a, other), false)),
         },
@@ -157,10 +229,25 @@ pub fn range_of(alloc: Global, from: Part, to: Part, span: Span) -> Result<Part,
     ensures { IfOk result (λ r. (x y : Tree) → Sees from x → Sees to y → Sees r (node span (trees.range x y))) }
 {
     match from {
-        Part::Built(a, m, _) => match to {
-            Part::Built(b, n, _) if m.max(n) < LIMIT => {
-                let node = Node::Range(Box::new(alloc, a)?, Box::new(alloc, b)?);
-                Ok(Part::Built(Exp { span, node }, m.max(n) + 1, false))
+        Part::Built {
+            exp: a,
+            height: m,
+            ..
+        } => match to {
+            Part::Built {
+                exp: b,
+                height: n,
+                ..
+            } if m.max(n) < LIMIT => {
+                let node = Node::Range {
+                    from: Box::new(alloc, a)?,
+                    to: Box::new(alloc, b)?,
+                };
+                Ok(Part::Built {
+                    exp: Exp { span, node },
+                    height: m.max(n) + 1,
+                    pattern: false,
+                })
             }
             other => Ok(too_high((a, other), false)),
         },
@@ -179,13 +266,33 @@ pub fn strided_range_of(
         Sees r (node span (trees.strided_range x y z))) }
 {
     match from {
-        Part::Built(a, m, _) => match to {
-            Part::Built(b, n, _) => match stride {
-                Part::Built(c, k, _) if m.max(n.max(k)) < LIMIT => {
+        Part::Built {
+            exp: a,
+            height: m,
+            ..
+        } => match to {
+            Part::Built {
+                exp: b,
+                height: n,
+                ..
+            } => match stride {
+                Part::Built {
+                    exp: c,
+                    height: k,
+                    ..
+                } if m.max(n.max(k)) < LIMIT => {
                     let a = Box::new(alloc, a)?;
                     let b = Box::new(alloc, b)?;
-                    let node = Node::StridedRange(a, b, Box::new(alloc, c)?);
-                    Ok(Part::Built(Exp { span, node }, m.max(n.max(k)) + 1, false))
+                    let node = Node::StridedRange {
+                        from: a,
+                        to: b,
+                        stride: Box::new(alloc, c)?,
+                    };
+                    Ok(Part::Built {
+                        exp: Exp { span, node },
+                        height: m.max(n.max(k)) + 1,
+                        pattern: false,
+                    })
                 }
                 other => Ok(too_high((a, b, other), false)),
             },
@@ -206,14 +313,34 @@ pub fn choice_of(
         Sees r (node (over word (span_of z)) (trees.choice x y z))) }
 {
     match test {
-        Part::Built(a, m, _) => match yes {
-            Part::Built(b, n, _) => match no {
-                Part::Built(c, k, _) if m.max(n.max(k)) < LIMIT => {
+        Part::Built {
+            exp: a,
+            height: m,
+            ..
+        } => match yes {
+            Part::Built {
+                exp: b,
+                height: n,
+                ..
+            } => match no {
+                Part::Built {
+                    exp: c,
+                    height: k,
+                    ..
+                } if m.max(n.max(k)) < LIMIT => {
                     let span = over(word, c.span);
                     let a = Box::new(alloc, a)?;
                     let b = Box::new(alloc, b)?;
-                    let node = Node::Choice(a, b, Box::new(alloc, c)?);
-                    Ok(Part::Built(Exp { span, node }, m.max(n.max(k)) + 1, false))
+                    let node = Node::Choice {
+                        test: a,
+                        yes: b,
+                        no: Box::new(alloc, c)?,
+                    };
+                    Ok(Part::Built {
+                        exp: Exp { span, node },
+                        height: m.max(n.max(k)) + 1,
+                        pattern: false,
+                    })
                 }
                 other => Ok(too_high((a, b, other), false)),
             },
@@ -223,18 +350,20 @@ pub fn choice_of(
     }
 }
 
-pub fn empty_of(written: TypePart, span: Span) -> Part
-    ensures { (x : TypeTree) → SeesType written x → Sees result (node span (trees.empty x)) }
+/// An empty sequence whose `[` stands here.
+pub fn empty_of(written: TypePart, from: Span) -> Part
+    ensures { (x : TypeTree) → SeesType written x → Sees result (node (over from (type_span x)) (trees.empty x)) }
 {
     match written {
-        TypePart::Built(written, height) if height < LIMIT => Part::Built(
-            Exp {
-                span,
-                node: Node::Empty(written),
-            },
-            height + 1,
-            false,
-        ),
+        TypePart::Built { written, height } if height < LIMIT => {
+            let span = over(from, written.span);
+            let node = Node::Empty(written);
+            Part::Built {
+                exp: Exp { span, node },
+                height: height + 1,
+                pattern: false,
+            }
+        }
         other => too_high(other, false),
     }
 }

@@ -1,7 +1,8 @@
 // Patterns, which are read as expressions.
 
 ghost use Rattle.std.specs.Prelude.{◌≡◌, ◌≤◌, ◌<◌, IfOk, Option, option_map, Some, None};
-ghost use Rattle.nesl_syntax.specs.Trees.{Tree, PatternTree, pattern_in};
+ghost use Rattle.nesl_syntax.specs.Trees.{Tree, PatternTree};
+ghost use Rattle.nesl_syntax.specs.Patterns.{pattern_in};
 ghost use Rattle.nesl_syntax.specs.Views.{tree_of, pattern_tree};
 ghost use Rattle.nesl_syntax.specs.Parts.{Sees, SeesPattern, PatternGiven};
 
@@ -12,7 +13,7 @@ use std::alloc::{AllocError, Global};
 /// A pattern with its height, or one that is too high and isn't built.
 #[derive(Debug, Drop)]
 pub enum PatternPart {
-    Built(Pattern, usize),
+    Built { pattern: Pattern, height: usize },
     High,
 }
 
@@ -34,7 +35,7 @@ fn pattern_from(alloc: Global, exp: Exp) -> Result<Option<Pattern>, AllocError>
             let node = PatternNode::Name(name);
             Ok(Some(Pattern { span, node }))
         }
-        Node::Pair(left, right) => {
+        Node::Pair { left, right } => {
             let left = pattern_from(alloc, Box::into_inner(left))?;
             let right = pattern_from(alloc, Box::into_inner(right))?;
             let Some(left) = left else {
@@ -43,12 +44,21 @@ fn pattern_from(alloc: Global, exp: Exp) -> Result<Option<Pattern>, AllocError>
             let Some(right) = right else {
                 return Ok(no_pattern(left));
             };
-            let node = PatternNode::Pair(Box::new(alloc, left)?, Box::new(alloc, right)?);
+            let node = PatternNode::Pair {
+                left: Box::new(alloc, left)?,
+                right: Box::new(alloc, right)?,
+            };
             Ok(Some(Pattern { span, node }))
         }
-        Node::Call(name, part) => match pattern_from(alloc, Box::into_inner(part))? {
+        Node::Call {
+            name,
+            argument: part,
+        } => match pattern_from(alloc, Box::into_inner(part))? {
             Some(part) => {
-                let node = PatternNode::Record(name, Box::new(alloc, part)?);
+                let node = PatternNode::Record {
+                    name,
+                    part: Box::new(alloc, part)?,
+                };
                 Ok(Some(Pattern { span, node }))
             }
             None => Ok(None),
@@ -62,8 +72,8 @@ pub fn pattern_of(alloc: Global, part: Part) -> Result<Option<PatternPart>, Allo
     ensures { IfOk result (λ r. (x : Tree) → Sees part x → PatternGiven r (pattern_in x)) }
 {
     match part {
-        Part::Built(exp, height, _) => match pattern_from(alloc, exp)? {
-            Some(pattern) => Ok(Some(PatternPart::Built(pattern, height))),
+        Part::Built { exp, height, .. } => match pattern_from(alloc, exp)? {
+            Some(pattern) => Ok(Some(PatternPart::Built { pattern, height })),
             None => Ok(None),
         },
         Part::High(true) => Ok(Some(PatternPart::High)),

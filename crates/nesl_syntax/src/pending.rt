@@ -9,7 +9,7 @@ ghost use Rattle.nesl_syntax.specs.Machine as machine;
 ghost use Rattle.nesl_syntax.specs.Parts.{Sees};
 ghost use Rattle.nesl_syntax.specs.Stack.{SeesGroup, SeesOpening, SeesPending, SeesStack};
 
-use crate::lists::{Bound, Parts, let_of};
+use crate::lists::{Bindings, Elements, let_of};
 use crate::part::{Part, choice_of, infix_of, pair_of, prefix_of};
 use crate::pattern::PatternPart;
 use crate::tree::{Operator, Prefix};
@@ -21,26 +21,55 @@ use std::alloc::{AllocError, Global};
 #[derive(Debug, Drop)]
 pub enum Group {
     Let(Span),
-    Each(Span, Option<Part>),
+    Each { from: Span, body: Option<Part> },
 }
 
-/// What is open and must be closed by a token, with its parts so far.
+/// What is open and must be closed by a token, with its parts so far. It stands from the span on, or from its word on.
 #[derive(Debug, Drop)]
 pub enum Opening {
     Round(Span),
-    Call(Vec<u8>, Span),
+    Call {
+        name: Vec<u8>,
+        from: Span,
+    },
     Index(Part),
     Test(Span),
-    Branch(Span, Part),
-    /// Elements of a sequence; the flag says whether there is one so far.
-    List(Span, bool, Parts),
-    RangeFrom(Span, Part),
-    RangeTo(Span, Part, Part),
+    Branch {
+        word: Span,
+        test: Part,
+    },
+    /// Elements of a sequence, and whether there is one so far.
+    List {
+        from: Span,
+        some: bool,
+        elements: Elements,
+    },
+    RangeFrom {
+        from: Span,
+        start: Part,
+    },
+    RangeTo {
+        from: Span,
+        start: Part,
+        stop: Part,
+    },
     Brace(Span),
-    /// A pattern is to come; the flag says whether binders stand before it.
-    Binders(Group, bool, Bound),
-    Value(Group, Bound, PatternPart),
-    Filter(Span, Option<Part>, Bound),
+    /// A pattern is to come, and whether binders stand before it.
+    Binders {
+        group: Group,
+        some: bool,
+        bindings: Bindings,
+    },
+    Value {
+        group: Group,
+        bindings: Bindings,
+        pattern: PatternPart,
+    },
+    Filter {
+        from: Span,
+        body: Option<Part>,
+        bindings: Bindings,
+    },
 }
 
 /// The same of a type.
@@ -57,10 +86,10 @@ pub enum TypeOpening {
 pub enum Pending {
     Open(Opening),
     Comma(Part),
-    Else(Span, Part, Part),
-    Body(Span, Bound),
-    Prefix(Prefix, Span),
-    Sign(Operator, Part),
+    Else { word: Span, test: Part, yes: Part },
+    Body { word: Span, bindings: Bindings },
+    Prefix { operator: Prefix, sign: Span },
+    Sign { operator: Operator, left: Part },
     Type(TypeOpening),
 }
 
@@ -87,8 +116,8 @@ fn opening_wants(opening: &Opening) -> u8
     ensures { (o : machine.Opening) → SeesOpening opening.now o → result ≡ opening_wants o }
 {
     match opening {
-        Opening::Round(_) | Opening::Call(_, _) => 1,
-        Opening::Binders(_, _, _) => 10,
+        Opening::Round(_) | Opening::Call { .. } => 1,
+        Opening::Binders { .. } => 10,
         _ => 2,
     }
 }
@@ -100,9 +129,9 @@ fn level_behind(pending: &Pending) -> u8
     match pending {
         Pending::Open(opening) => opening_wants(opening),
         Pending::Comma(_) => 1,
-        Pending::Else(_, _, _) | Pending::Body(_, _) => 2,
-        Pending::Prefix(_, _) => 8,
-        Pending::Sign(operator, _) => level_of(*operator) + 1,
+        Pending::Else { .. } | Pending::Body { .. } => 2,
+        Pending::Prefix { .. } => 8,
+        Pending::Sign { operator, .. } => level_of(*operator) + 1,
         Pending::Type(_) => 0,
     }
 }
@@ -112,7 +141,7 @@ fn group_level(group: &Group) -> u8
 {
     match group {
         Group::Let(_) => 2,
-        Group::Each(_, _) => 10,
+        Group::Each { .. } => 10,
     }
 }
 
@@ -122,9 +151,9 @@ fn opening_begins(opening: &Opening) -> u8
 {
     match opening {
         Opening::Index(_) => 9,
-        Opening::Test(_) | Opening::Branch(_, _) => 2,
-        Opening::Binders(group, _, _) => group_level(group),
-        Opening::Value(group, _, _) => group_level(group),
+        Opening::Test(_) | Opening::Branch { .. } => 2,
+        Opening::Binders { group, .. } => group_level(group),
+        Opening::Value { group, .. } => group_level(group),
         _ => 10,
     }
 }
@@ -136,9 +165,9 @@ pub fn level_begun(pending: &Pending) -> u8
     match pending {
         Pending::Open(opening) => opening_begins(opening),
         Pending::Comma(_) => 1,
-        Pending::Else(_, _, _) | Pending::Body(_, _) => 2,
-        Pending::Prefix(_, _) => 8,
-        Pending::Sign(operator, _) => level_of(*operator),
+        Pending::Else { .. } | Pending::Body { .. } => 2,
+        Pending::Prefix { .. } => 8,
+        Pending::Sign { operator, .. } => level_of(*operator),
         Pending::Type(_) => 10,
     }
 }
@@ -150,9 +179,9 @@ fn rank(pending: &Pending) -> u8
     match pending {
         Pending::Open(_) | Pending::Type(_) => 0,
         Pending::Comma(_) => 1,
-        Pending::Else(_, _, _) | Pending::Body(_, _) => 2,
-        Pending::Prefix(_, _) => 8,
-        Pending::Sign(operator, _) => level_of(*operator),
+        Pending::Else { .. } | Pending::Body { .. } => 2,
+        Pending::Prefix { .. } => 8,
+        Pending::Sign { operator, .. } => level_of(*operator),
     }
 }
 
@@ -170,10 +199,13 @@ fn complete(alloc: Global, pending: Pending, part: Part) -> Result<Part, AllocEr
 {
     match pending {
         Pending::Comma(left) => pair_of(alloc, left, part),
-        Pending::Else(word, test, yes) => choice_of(alloc, word, test, yes, part),
-        Pending::Body(word, bound) => let_of(alloc, word, bound, part),
-        Pending::Prefix(prefix, sign) => prefix_of(alloc, prefix, sign, part),
-        Pending::Sign(operator, left) => infix_of(alloc, operator, left, part),
+        Pending::Else { word, test, yes } => choice_of(alloc, word, test, yes, part),
+        Pending::Body { word, bindings } => let_of(alloc, word, bindings, part),
+        Pending::Prefix {
+            operator: prefix,
+            sign,
+        } => prefix_of(alloc, prefix, sign, part),
+        Pending::Sign { operator, left } => infix_of(alloc, operator, left, part),
         Pending::Open(open) => Ok(alone(open, part)),
         Pending::Type(open) => Ok(alone(open, part)),
     }

@@ -87,7 +87,7 @@ fn member(name: &Token, word: &Token, class: &Token) -> Result<Member, ParseFaul
 
 /// What stands behind a member.
 #[derive(Clone, Copy, PartialEq, Eq, Debug)]
-enum Behind {
+enum MemberEnd {
     /// A `)`, and nothing more.
     Close,
     Semicolon,
@@ -95,19 +95,19 @@ enum Behind {
 }
 
 // What a token and those behind it are.
-fn behind_of(token: &Token, rest: &[Token]) -> Behind
+fn behind_of(token: &Token, rest: &[Token]) -> MemberEnd
     ensures { result ≡ reading.behind_of (lexeme_of token.now.kind) (placed rest.now) }
 {
     match &token.kind {
         Kind::Symbol(sign) => match sign {
             Sign::CloseParenthesis => match rest {
-                [] => Behind::Close,
-                _ => Behind::Other,
+                [] => MemberEnd::Close,
+                _ => MemberEnd::Other,
             },
-            Sign::Semicolon => Behind::Semicolon,
-            _ => Behind::Other,
+            Sign::Semicolon => MemberEnd::Semicolon,
+            _ => MemberEnd::Other,
         },
-        _ => Behind::Other,
+        _ => MemberEnd::Other,
     }
 }
 
@@ -120,9 +120,9 @@ fn members(alloc: Global, tokens: &[Token]) -> Result<Vec<Member>, ParseFault>
     while let [name, word, class, sign, behind @ ..] = rest {
         members.push(member(name, word, class)?)?;
         match behind_of(sign, behind) {
-            Behind::Semicolon => rest = behind,
-            Behind::Close => return Ok(members),
-            Behind::Other => return Err(ParseFault::Syntax),
+            MemberEnd::Semicolon => rest = behind,
+            MemberEnd::Close => return Ok(members),
+            MemberEnd::Other => return Err(ParseFault::Syntax),
         }
     }
     Err(ParseFault::Syntax)
@@ -176,8 +176,12 @@ fn signature_of(from: TypePart, target: Target) -> SignaturePart
 {
     let Target { to, members } = target;
     match from {
-        TypePart::Built(from, _) => match to {
-            TypePart::Built(to, _) => SignaturePart::Built(Signature { from, to, members }),
+        TypePart::Built { written: from, .. } => match to {
+            TypePart::Built { written: to, .. } => SignaturePart::Built(Signature {
+                from,
+                to,
+                members,
+            }),
             TypePart::High => too_high((from, members)),
         },
         TypePart::High => too_high((to, members)),

@@ -57,9 +57,15 @@ pub enum TypeNode {
     Bool,
     Char,
     /// A name, and where its token stands, which parentheses don't widen.
-    Name(Vec<u8>, Span),
+    Name {
+        name: Vec<u8>,
+        token: Span,
+    },
     Sequence(Box<TypeExp>),
-    Pair(Box<TypeExp>, Box<TypeExp>),
+    Pair {
+        left: Box<TypeExp>,
+        right: Box<TypeExp>,
+    },
 }
 
 /// A pattern, with the bytes that it stands in.
@@ -75,9 +81,15 @@ pub struct Pattern {
 #[derive(Debug, Drop)]
 pub enum PatternNode {
     Name(Vec<u8>),
-    Pair(Box<Pattern>, Box<Pattern>),
+    Pair {
+        left: Box<Pattern>,
+        right: Box<Pattern>,
+    },
     /// A datatype's name before `(`.
-    Record(Vec<u8>, Box<Pattern>),
+    Record {
+        name: Vec<u8>,
+        part: Box<Pattern>,
+    },
 }
 
 /// An expression, with the bytes that it stands in.
@@ -106,23 +118,59 @@ pub enum Node {
     Text(Vec<u8>),
     Variable(Vec<u8>),
     /// A name before `(`: a built-in function, a user's function or a datatype.
-    Call(Vec<u8>, Box<Exp>),
-    Pair(Box<Exp>, Box<Exp>),
-    Prefix(Prefix, Box<Exp>),
-    Infix(Operator, Box<Exp>, Box<Exp>),
-    /// A sequence and an index.
-    Index(Box<Exp>, Box<Exp>),
-    Choice(Box<Exp>, Box<Exp>, Box<Exp>),
+    Call {
+        name: Vec<u8>,
+        argument: Box<Exp>,
+    },
+    Pair {
+        left: Box<Exp>,
+        right: Box<Exp>,
+    },
+    Prefix {
+        operator: Prefix,
+        operand: Box<Exp>,
+    },
+    Infix {
+        operator: Operator,
+        left: Box<Exp>,
+        right: Box<Exp>,
+    },
+    Index {
+        sequence: Box<Exp>,
+        index: Box<Exp>,
+    },
+    Choice {
+        test: Box<Exp>,
+        yes: Box<Exp>,
+        no: Box<Exp>,
+    },
     Sequence(Vec<Exp>),
     /// An empty sequence, with the type of its elements.
     Empty(TypeExp),
-    Range(Box<Exp>, Box<Exp>),
-    StridedRange(Box<Exp>, Box<Exp>, Box<Exp>),
-    Let(Vec<Binding>, Box<Exp>),
-    /// An apply-to-each: a body and binders.
-    Each(Box<Exp>, Vec<Binding>),
-    /// An apply-to-each with a filter, which comes last.
-    FilteredEach(Box<Exp>, Vec<Binding>, Box<Exp>),
+    Range {
+        from: Box<Exp>,
+        to: Box<Exp>,
+    },
+    StridedRange {
+        from: Box<Exp>,
+        to: Box<Exp>,
+        stride: Box<Exp>,
+    },
+    Let {
+        bindings: Vec<Binding>,
+        body: Box<Exp>,
+    },
+    /// An apply-to-each.
+    Each {
+        body: Box<Exp>,
+        bindings: Vec<Binding>,
+    },
+    /// An apply-to-each with a filter, which stands last.
+    FilteredEach {
+        body: Box<Exp>,
+        bindings: Vec<Binding>,
+        filter: Box<Exp>,
+    },
     /// The body of an apply-to-each that has none: the first binder's element.
     Element,
 }
@@ -146,9 +194,21 @@ pub struct Member {
 #[derive(Debug, Drop)]
 pub enum Form {
     Nothing,
-    Fun(Vec<u8>, Pattern, Option<Signature>, Exp),
-    Datatype(Vec<u8>, TypeExp),
-    Bind(Vec<u8>, Exp),
+    Fun {
+        name: Vec<u8>,
+        parameter: Pattern,
+        signature: Option<Signature>,
+        body: Exp,
+    },
+    /// A datatype's name, and the type that its records hold.
+    Datatype {
+        name: Vec<u8>,
+        content: TypeExp,
+    },
+    Bind {
+        name: Vec<u8>,
+        value: Exp,
+    },
     Eval(Exp),
     ShowNames,
     ShowBudget,

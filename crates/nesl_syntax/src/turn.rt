@@ -1,7 +1,8 @@
 // What comes of an opening when an expression and a token that ends a part stand behind it.
 
 ghost use Rattle.std.specs.Prelude.{◌≡◌, IfOk, Option, Some, None, Ok, Err, true};
-ghost use Rattle.nesl_syntax.specs.Trees.{Tree, Trees, Binders, PatternTree, no_binders, and_then, and_bind, pattern_in};
+ghost use Rattle.nesl_syntax.specs.Trees.{Tree, Trees, Binders, PatternTree, no_binders, and_then, and_bind};
+ghost use Rattle.nesl_syntax.specs.Patterns.{pattern_in};
 ghost use Rattle.nesl_syntax.specs.Machine.{turned};
 ghost use Rattle.nesl_syntax.specs.Machine as machine;
 ghost use Rattle.nesl_syntax.specs.Parts.{Sees, SeesAll, SeesBody, SeesBound, SeesPattern};
@@ -11,7 +12,9 @@ ghost use Rattle.nesl_syntax.specs.declared.turn.Turn.TheVariants as turn;
 ghost use Rattle.nesl_syntax.specs.declared.pending.Pending.TheVariants as pending;
 
 use crate::fault::ParseFault;
-use crate::lists::{Bound, Parts, each_of, filtered_each_of, push_binding, push_part, sequence_of};
+use crate::lists::{
+    Bindings, Elements, each_of, filtered_each_of, push_binding, push_part, sequence_of,
+};
 use crate::mark::Mark;
 use crate::part::{Part, call_of, index_of, over, range_of, strided_range_of, widen};
 use crate::pattern::{PatternPart, pattern_of};
@@ -84,7 +87,7 @@ fn end_test(part: Part, mark: Mark, word: Span, at: Span) -> Result<Turn, ParseF
     ensures { (x : Tree) → Sees part x → Turns result (turned mark at (machine.test word) x) }
 {
     match mark {
-        Mark::Then => becomes(Opening::Branch(word, part)),
+        Mark::Then => becomes(Opening::Branch { word, test: part }),
         _ => refuse(part),
     }
 }
@@ -93,7 +96,11 @@ fn end_branch(test: Part, part: Part, mark: Mark, word: Span, at: Span) -> Resul
     ensures { (a x : Tree) → Sees test a → Sees part x → Turns result (turned mark at (machine.branch word a) x) }
 {
     match mark {
-        Mark::Else => Ok(Turn::Becomes(Pending::Else(word, test, part))),
+        Mark::Else => Ok(Turn::Becomes(Pending::Else {
+            word,
+            test,
+            yes: part,
+        })),
         _ => refuse((test, part)),
     }
 }
@@ -101,27 +108,27 @@ fn end_branch(test: Part, part: Part, mark: Mark, word: Span, at: Span) -> Resul
 #[tactic(auto, using(crate::proofs::Turns::no_elements))]
 fn end_list(
     some: bool,
-    parts: Parts,
+    elements: Elements,
     part: Part,
     mark: Mark,
     from: Span,
     at: Span,
 ) -> Result<Turn, ParseFault>
-    ensures { (xs : Trees) (x : Tree) → some ≡ some_elements xs → SeesAll parts xs → Sees part x → Turns result (turned mark at (machine.list from xs) x) }
+    ensures { (xs : Trees) (x : Tree) → some ≡ some_elements xs → SeesAll elements xs → Sees part x → Turns result (turned mark at (machine.list from xs) x) }
 {
     match mark {
         Mark::CloseBracket => {
-            let parts = push_part(parts, part)?;
-            Ok(Turn::Ends(sequence_of(parts, over(from, at))))
+            let elements = push_part(elements, part)?;
+            Ok(Turn::Ends(sequence_of(elements, over(from, at))))
         }
         Mark::Colon => {
-            drop(parts);
+            drop(elements);
             if some {
                 return refuse(part);
             }
-            becomes(Opening::RangeFrom(from, part))
+            becomes(Opening::RangeFrom { from, start: part })
         }
-        _ => refuse((parts, part)),
+        _ => refuse((elements, part)),
     }
 }
 
@@ -136,7 +143,11 @@ fn end_range_from(
     ensures { (a x : Tree) → Sees start a → Sees part x → Turns result (turned mark at (machine.range_from from a) x) }
 {
     match mark {
-        Mark::Colon => becomes(Opening::RangeTo(from, start, part)),
+        Mark::Colon => becomes(Opening::RangeTo {
+            from,
+            start,
+            stop: part,
+        }),
         Mark::CloseBracket => Ok(Turn::Ends(range_of(alloc, start, part, over(from, at))?)),
         _ => refuse((start, part)),
     }
@@ -163,21 +174,28 @@ fn end_range_to(
 }
 
 // A pattern, where an expression may be one.
-fn bind(alloc: Global, group: Group, bound: Bound, part: Part) -> Result<Turn, ParseFault>
-    ensures { (g : machine.Group) (bs : Binders) (x : Tree) → SeesGroup group g → SeesBound bound bs → Sees part x →
+fn bind(alloc: Global, group: Group, bindings: Bindings, part: Part) -> Result<Turn, ParseFault>
+    ensures { (g : machine.Group) (bs : Binders) (x : Tree) → SeesGroup group g → SeesBound bindings bs → Sees part x →
         Turns result (machine.bound g bs (pattern_in x)) }
 {
     match pattern_of(alloc, part)? {
-        Some(pattern) => becomes(Opening::Value(group, bound, pattern)),
-        None => refuse((group, bound)),
+        Some(pattern) => becomes(Opening::Value {
+            group,
+            bindings,
+            pattern,
+        }),
+        None => refuse((group, bindings)),
     }
 }
 
 /// No binders so far.
-pub fn no_bindings(alloc: Global) -> Bound
+pub fn no_bindings(alloc: Global) -> Bindings
     ensures { SeesBound result no_binders }
 {
-    Bound::Built(Vec::new(alloc), 0)
+    Bindings::Built {
+        items: Vec::new(alloc),
+        height: 0,
+    }
 }
 
 fn end_brace(
@@ -191,10 +209,22 @@ fn end_brace(
 {
     match mark {
         Mark::Colon => {
-            let group = Group::Each(from, Some(part));
-            becomes(Opening::Binders(group, false, no_bindings(alloc)))
+            let group = Group::Each {
+                from,
+                body: Some(part),
+            };
+            becomes(Opening::Binders {
+                group,
+                some: false,
+                bindings: no_bindings(alloc),
+            })
         }
-        Mark::In => bind(alloc, Group::Each(from, None), no_bindings(alloc), part),
+        Mark::In => bind(
+            alloc,
+            Group::Each { from, body: None },
+            no_bindings(alloc),
+            part,
+        ),
         _ => refuse(part),
     }
 }
@@ -202,34 +232,38 @@ fn end_brace(
 fn end_pattern(
     alloc: Global,
     group: Group,
-    bound: Bound,
+    bindings: Bindings,
     part: Part,
     mark: Mark,
     at: Span,
 ) -> Result<Turn, ParseFault>
-    ensures { (g : machine.Group) (bs : Binders) (x : Tree) → SeesGroup group g → SeesBound bound bs → Sees part x →
+    ensures { (g : machine.Group) (bs : Binders) (x : Tree) → SeesGroup group g → SeesBound bindings bs → Sees part x →
         Turns result (turned mark at (machine.binders g bs) x) }
 {
     match group {
         Group::Let(word) => match mark {
-            Mark::Equal => bind(alloc, Group::Let(word), bound, part),
-            _ => refuse((bound, part)),
+            Mark::Equal => bind(alloc, Group::Let(word), bindings, part),
+            _ => refuse((bindings, part)),
         },
-        Group::Each(from, body) => match mark {
-            Mark::In => bind(alloc, Group::Each(from, body), bound, part),
-            _ => refuse((body, bound, part)),
+        Group::Each { from, body } => match mark {
+            Mark::In => bind(alloc, Group::Each { from, body }, bindings, part),
+            _ => refuse((body, bindings, part)),
         },
     }
 }
 
 // Behind the value of a binder of a let.
-fn end_let_value(bound: Bound, word: Span, mark: Mark) -> Result<Turn, ParseFault>
-    ensures { (bs : Binders) → SeesBound bound bs → some_binders bs ≡ true → Turns result (let_turned mark word bs) }
+fn end_let_value(bindings: Bindings, word: Span, mark: Mark) -> Result<Turn, ParseFault>
+    ensures { (bs : Binders) → SeesBound bindings bs → some_binders bs ≡ true → Turns result (let_turned mark word bs) }
 {
     match mark {
-        Mark::Semicolon => becomes(Opening::Binders(Group::Let(word), true, bound)),
-        Mark::In => Ok(Turn::Becomes(Pending::Body(word, bound))),
-        _ => refuse(bound),
+        Mark::Semicolon => becomes(Opening::Binders {
+            group: Group::Let(word),
+            some: true,
+            bindings,
+        }),
+        Mark::In => Ok(Turn::Becomes(Pending::Body { word, bindings })),
+        _ => refuse(bindings),
     }
 }
 
@@ -237,18 +271,26 @@ fn end_let_value(bound: Bound, word: Span, mark: Mark) -> Result<Turn, ParseFaul
 fn end_each_value(
     alloc: Global,
     body: Option<Part>,
-    bound: Bound,
+    bindings: Bindings,
     mark: Mark,
     from: Span,
     at: Span,
 ) -> Result<Turn, ParseFault>
-    ensures { (b : Option Tree) (bs : Binders) → SeesBody body b → SeesBound bound bs → some_binders bs ≡ true → Turns result (each_turned mark at from b bs) }
+    ensures { (b : Option Tree) (bs : Binders) → SeesBody body b → SeesBound bindings bs → some_binders bs ≡ true → Turns result (each_turned mark at from b bs) }
 {
     match mark {
-        Mark::Semicolon => becomes(Opening::Binders(Group::Each(from, body), true, bound)),
-        Mark::Bar => becomes(Opening::Filter(from, body, bound)),
-        Mark::CloseBrace => Ok(Turn::Ends(each_of(alloc, body, bound, over(from, at))?)),
-        _ => refuse((body, bound)),
+        Mark::Semicolon => becomes(Opening::Binders {
+            group: Group::Each { from, body },
+            some: true,
+            bindings,
+        }),
+        Mark::Bar => becomes(Opening::Filter {
+            from,
+            body,
+            bindings,
+        }),
+        Mark::CloseBrace => Ok(Turn::Ends(each_of(alloc, body, bindings, over(from, at))?)),
+        _ => refuse((body, bindings)),
     }
 }
 
@@ -256,40 +298,40 @@ fn end_each_value(
 fn end_value(
     alloc: Global,
     group: Group,
-    bound: Bound,
+    bindings: Bindings,
     pattern: PatternPart,
     part: Part,
     mark: Mark,
     at: Span,
 ) -> Result<Turn, ParseFault>
-    ensures { (g : machine.Group) (bs : Binders) (p : PatternTree) (x : Tree) → SeesGroup group g → SeesBound bound bs → SeesPattern pattern p → Sees part x →
+    ensures { (g : machine.Group) (bs : Binders) (p : PatternTree) (x : Tree) → SeesGroup group g → SeesBound bindings bs → SeesPattern pattern p → Sees part x →
         Turns result (turned mark at (machine.value g bs p) x) }
 {
-    let bound = push_binding(bound, pattern, part)?;
+    let bindings = push_binding(bindings, pattern, part)?;
     match group {
-        Group::Let(word) => end_let_value(bound, word, mark),
-        Group::Each(from, body) => end_each_value(alloc, body, bound, mark, from, at),
+        Group::Let(word) => end_let_value(bindings, word, mark),
+        Group::Each { from, body } => end_each_value(alloc, body, bindings, mark, from, at),
     }
 }
 
 fn end_filter(
     alloc: Global,
     body: Option<Part>,
-    bound: Bound,
+    bindings: Bindings,
     part: Part,
     mark: Mark,
     from: Span,
     at: Span,
 ) -> Result<Turn, ParseFault>
-    ensures { (b : Option Tree) (bs : Binders) (x : Tree) → SeesBody body b → SeesBound bound bs → Sees part x →
+    ensures { (b : Option Tree) (bs : Binders) (x : Tree) → SeesBody body b → SeesBound bindings bs → Sees part x →
         Turns result (turned mark at (machine.filter from b bs) x) }
 {
     match mark {
         Mark::CloseBrace => {
-            let each = filtered_each_of(alloc, body, bound, part, over(from, at))?;
+            let each = filtered_each_of(alloc, body, bindings, part, over(from, at))?;
             Ok(Turn::Ends(each))
         }
-        _ => refuse((body, bound, part)),
+        _ => refuse((body, bindings, part)),
     }
 }
 
@@ -305,22 +347,34 @@ pub fn turn_of(
 {
     match opening {
         Opening::Round(from) => end_round(part, mark, from, at),
-        Opening::Call(name, from) => end_call(alloc, name, part, mark, from, at),
+        Opening::Call { name, from } => end_call(alloc, name, part, mark, from, at),
         Opening::Index(base) => end_index(alloc, base, part, mark, at),
         Opening::Test(word) => end_test(part, mark, word, at),
-        Opening::Branch(word, test) => end_branch(test, part, mark, word, at),
-        Opening::List(from, some, parts) => end_list(some, parts, part, mark, from, at),
-        Opening::RangeFrom(from, start) => end_range_from(alloc, start, part, mark, from, at),
-        Opening::RangeTo(from, start, stop) => {
+        Opening::Branch { word, test } => end_branch(test, part, mark, word, at),
+        Opening::List {
+            from,
+            some,
+            elements,
+        } => end_list(some, elements, part, mark, from, at),
+        Opening::RangeFrom { from, start } => end_range_from(alloc, start, part, mark, from, at),
+        Opening::RangeTo { from, start, stop } => {
             end_range_to(alloc, start, stop, part, mark, from, at)
         }
         Opening::Brace(from) => end_brace(alloc, part, mark, from, at),
-        Opening::Binders(group, _, bound) => end_pattern(alloc, group, bound, part, mark, at),
-        Opening::Value(group, bound, pattern) => {
-            end_value(alloc, group, bound, pattern, part, mark, at)
-        }
-        Opening::Filter(from, body, bound) => {
-            end_filter(alloc, body, bound, part, mark, from, at)
-        }
+        Opening::Binders {
+            group,
+            bindings,
+            ..
+        } => end_pattern(alloc, group, bindings, part, mark, at),
+        Opening::Value {
+            group,
+            bindings,
+            pattern,
+        } => { end_value(alloc, group, bindings, pattern, part, mark, at) }
+        Opening::Filter {
+            from,
+            body,
+            bindings,
+        } => { end_filter(alloc, body, bindings, part, mark, from, at) }
     }
 }

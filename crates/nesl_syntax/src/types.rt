@@ -14,7 +14,7 @@ use std::alloc::{AllocError, Global};
 /// A type with its height, or one that is too high and isn't built.
 #[derive(Debug, Drop)]
 pub enum TypePart {
-    Built(TypeExp, usize),
+    Built { written: TypeExp, height: usize },
     High,
 }
 
@@ -30,7 +30,10 @@ fn too_high<T: Drop>(parts: T) -> TypePart
 pub fn leaf(span: Span, node: TypeNode) -> TypePart
     ensures { result ≡ types.Built (record { span = span; node = node }) 1 }
 {
-    TypePart::Built(TypeExp { span, node }, 1)
+    TypePart::Built {
+        written: TypeExp { span, node },
+        height: 1,
+    }
 }
 
 /// The same type, standing in these bytes.
@@ -38,8 +41,14 @@ pub fn widen(part: TypePart, span: Span) -> TypePart
     ensures { (x : TypeTree) → SeesType part x → SeesType result (widened_type span x) }
 {
     match part {
-        TypePart::Built(TypeExp { node, .. }, height) => {
-            TypePart::Built(TypeExp { span, node }, height)
+        TypePart::Built {
+            written: TypeExp { node, .. },
+            height,
+        } => {
+            TypePart::Built {
+                written: TypeExp { span, node },
+                height,
+            }
         }
         TypePart::High => TypePart::High,
     }
@@ -49,9 +58,15 @@ pub fn sequence_of(alloc: Global, part: TypePart, span: Span) -> Result<TypePart
     ensures { IfOk result (λ r. (x : TypeTree) → SeesType part x → SeesType r (written span (sequence_type x))) }
 {
     match part {
-        TypePart::Built(element, height) if height < LIMIT => {
+        TypePart::Built {
+            written: element,
+            height,
+        } if height < LIMIT => {
             let node = TypeNode::Sequence(Box::new(alloc, element)?);
-            Ok(TypePart::Built(TypeExp { span, node }, height + 1))
+            Ok(TypePart::Built {
+                written: TypeExp { span, node },
+                height: height + 1,
+            })
         }
         other => Ok(too_high(other)),
     }
@@ -61,11 +76,23 @@ pub fn pair_of(alloc: Global, left: TypePart, right: TypePart) -> Result<TypePar
     ensures { IfOk result (λ r. (x y : TypeTree) → SeesType left x → SeesType right y → SeesType r (type_pair x y)) }
 {
     match left {
-        TypePart::Built(a, m) => match right {
-            TypePart::Built(b, n) if m.max(n) < LIMIT => {
+        TypePart::Built {
+            written: a,
+            height: m,
+        } => match right {
+            TypePart::Built {
+                written: b,
+                height: n,
+            } if m.max(n) < LIMIT => {
                 let span = over(a.span, b.span);
-                let node = TypeNode::Pair(Box::new(alloc, a)?, Box::new(alloc, b)?);
-                Ok(TypePart::Built(TypeExp { span, node }, m.max(n) + 1))
+                let node = TypeNode::Pair {
+                    left: Box::new(alloc, a)?,
+                    right: Box::new(alloc, b)?,
+                };
+                Ok(TypePart::Built {
+                    written: TypeExp { span, node },
+                    height: m.max(n) + 1,
+                })
             }
             other => Ok(too_high((a, other))),
         },

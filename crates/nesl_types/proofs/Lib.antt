@@ -4,3 +4,4 @@ pub mod Members
 pub mod Bound
 pub mod Written
 pub mod Numbers
+pub mod Places

@@ -1,19 +1,21 @@
 -- The texts of types and schemes.
-use Rattle.std.specs.Prelude.{ℕ, ◌+◌, ◌/◌, ◌%◌, suc, Bool, true, false, List, [], ◌∷◌, ◌++◌, slice_get, codes, decimal, nat_lt, if◌then◌else◌}
+use Rattle.std.specs.Prelude.{ℕ, ◌+◌, ◌/◌, ◌%◌, suc, nat_lt, decimal, Bool, true, false, if◌then◌else◌}
+use Rattle.std.specs.Prelude.{List, [], ◌∷◌, ◌++◌, codes}
 use Rattle.std.specs.Option.{option_map_or}
 use Rattle.nesl_types.specs.declared.classes.Class.{Class}
 use Rattle.nesl_types.specs.declared.classes.Class.TheVariants.{Any, Ordinal, Number, Logical}
 use Rattle.nesl_types.specs.declared.bindings.Top.{Top}
 use Rattle.nesl_types.specs.declared.schemes.Scheme.{Scheme}
+use Rattle.nesl_types.specs.Names.{datatype_at}
 use Rattle.nesl_types.specs.Term.{Term, int, bool, char, variable, seq_of, both, named, term}
 
 -- the variables are a to z, then a1 to z1, a2 and so on
 abbrev pub variable_text : ℕ → List ℕ
 variable_text v = (97 + v % 26) ∷ (if nat_lt v 26 then [] else decimal (v / 26))
 
--- the name at a place in the order of first definition: a datatype's tag is the place of its name
+-- the name of the datatype with a tag
 abbrev pub name_at : {P : Type 0} → List (List ℕ × Top × P) → ℕ → List ℕ
-name_at names tag = option_map_or (λ b. b.0) (slice_get names tag) []
+name_at names tag = option_map_or (λ b. b.0) (datatype_at names tag) []
 
 -- a type, in which a pair has brackets unless it is the right part of a pair
 abbrev pub type_text : (ℕ → List ℕ) → Bool → Term → List ℕ
@@ -23,7 +25,8 @@ type_text names brackets char = codes "char"
 type_text names brackets (variable v) = variable_text v
 type_text names brackets (seq_of t) = codes "[" ++ type_text names true t ++ codes "]"
 type_text names brackets (both t u) =
-    (if brackets then codes "(" else []) ++ type_text names true t ++ codes ", " ++ type_text names false u ++ (if brackets then codes ")" else [])
+    (if brackets then codes "(" else []) ++ type_text names true t ++ codes ", " ++ type_text names false u
+    ++ (if brackets then codes ")" else [])
 type_text names brackets (named tag) = names tag
 
 -- the variables from v on, with their classes, but for those that stand for any type
@@ -46,4 +49,5 @@ members_text (t ∷ ts) = codes " :: (" ++ t ++ others_text ts ++ codes ")"
 -- what a function takes, what it gives, and the classes of the variables
 abbrev pub scheme_text : (ℕ → List ℕ) → Scheme → List ℕ
 scheme_text names s =
-    type_text names true (term s.argument) ++ codes " -> " ++ type_text names true (term s.result) ++ members_text (member_texts 0 s.classes.items)
+    type_text names true (term s.argument) ++ codes " -> " ++ type_text names true (term s.result)
+    ++ members_text (member_texts 0 s.classes.items)

@@ -13,7 +13,7 @@ pub enum Top {
     Variable(Ty),
     /// A function.
     Function(Scheme),
-    /// A datatype: its tag, and the type that its records hold.
+    /// A datatype: its tag, which is its number in order of definition from 0, and the type that its records hold.
     Datatype(u64, Ty),
 }
 
@@ -27,6 +27,8 @@ struct Entry<P> {
 #[derive(Drop)]
 pub struct Context<P> {
     bindings: IndexMap<Vec<u8>, Entry<P>>,
+    /// The place of each datatype, by its tag. After a name was made something else, a place may be too small.
+    places: Vec<usize>,
 }
 
 impl<P> Model for Context<P> {
@@ -39,13 +41,77 @@ impl<P> Model for Context<P> {
 
     ghost coded = { Prim.hlevel (codes, ty.the_row.coded, P.code) };
 
+    ghost use Rattle.nesl_types.specs.Names.{AreReached};
+
     ghost view = { λ c. map (λ e. (e.0.items, e.1.top, e.1.payload)) c.bindings.entries };
+
+    ghost invariant = { λ c. AreReached (map (λ e. (e.0.items, e.1.top, e.1.payload)) c.bindings.entries) c.places.items };
+}
+
+ghost use Rattle.std.specs.Prelude.{◌≡◌, ◌≢◌, ◌≤◌, ◌<◌, ℕ, Some, false, map, slice_index, vec_len, vec_capacity};
+ghost use Rattle.nesl_types.specs.Names.{AreReached, is_datatype, is_datatype_at, datatype_place};
+
+// Whether the entry at a place is the datatype with the tag.
+fn is_datatype_at<P: Drop>(bindings: &IndexMap<Vec<u8>, Entry<P>>, place: usize, tag: u64) -> bool
+    ensures { result ≡ is_datatype_at (map (λ e. (e.0.items, e.1.top, e.1.payload)) bindings.now.entries) place tag }
+{
+    match bindings.get_index(place) {
+        Some((_, entry)) => match entry.top {
+            Top::Datatype(number, _) => number == tag,
+            _ => false,
+        },
+        None => false,
+    }
+}
+
+// How many entries come before the datatype with the tag. There are at least as many as `from`.
+fn datatype_place<P: Drop>(bindings: &IndexMap<Vec<u8>, Entry<P>>, tag: u64, from: usize) -> usize
+    requires { from ≤ datatype_place (map (λ e. (e.0.items, e.1.top, e.1.payload)) bindings.now.entries) tag }
+    ensures { result ≡ datatype_place (map (λ e. (e.0.items, e.1.top, e.1.payload)) bindings.now.entries) tag }
+{
+    for place in from..bindings.len() {
+        if is_datatype_at(bindings, place, tag) {
+            return place;
+        }
+    }
+    bindings.len()
+}
+
+// The tag of a datatype.
+fn tag_of(top: &Top) -> Option<u64>
+    ensures { (tag : ℕ) → result ≢ Some tag → is_datatype tag top.now ≡ false }
+{
+    match top {
+        Top::Datatype(tag, _) => Some(*tag),
+        _ => None,
+    }
+}
+
+// Notes the place of the datatype with the tag, where one was set. A tag that skips some is not noted.
+fn note_place<P: Drop>(
+    places: &mut Vec<usize>,
+    bindings: &IndexMap<Vec<u8>, Entry<P>>,
+    tag: Option<u64>,
+)
+    requires room { vec_len places.old < vec_capacity places.old }
+    requires others { (other : ℕ) → tag ≢ Some other → slice_index places.old.items other ≤ datatype_place (map (λ e. (e.0.items, e.1.top, e.1.payload)) bindings.now.entries) other }
+    ensures { AreReached (map (λ e. (e.0.items, e.1.top, e.1.payload)) bindings.now.entries) places.new.items }
+{
+    if let Some(tag) = tag {
+        let place = datatype_place(bindings, tag, 0);
+        let number = tag as usize;
+        if number < places.len() {
+            places[number] = place;
+        } else if number == places.len() {
+            places.push_reserved(place);
+        }
+    }
 }
 
 impl<P: Drop> Context<P> {
     ghost use Rattle.std.specs.Prelude.{◌≡◌, [], length, OnOk, OnErr, slice_get};
     ghost use Rattle.std.specs.Option.{option_map};
-    ghost use Rattle.nesl_types.specs.Names.{found, with_name};
+    ghost use Rattle.nesl_types.specs.Names.{found, with_name, datatype_at};
 
     /// A context with no names.
     pub fn new(alloc: Global) -> Self
@@ -53,6 +119,7 @@ impl<P: Drop> Context<P> {
     {
         Context {
             bindings: IndexMap::new(alloc),
+            places: Vec::new(alloc),
         }
     }
 
@@ -72,6 +139,18 @@ impl<P: Drop> Context<P> {
         Some((name.as_slice(), &entry.top, &entry.payload))
     }
 
+    /// The name of the datatype with the tag, what it is, and its payload.
+    pub fn datatype(&self, tag: u64) -> Option<(&[u8], &Top, &P)>
+        ensures { option_map (λ b. (b.0.now, b.1.now, b.2.now)) result ≡ datatype_at self.now tag }
+    {
+        let from = match self.places.get(tag as usize) {
+            Some(place) => *place,
+            None => 0,
+        };
+        let place = datatype_place(&self.bindings, tag, from);
+        self.at(place)
+    }
+
     /// Makes the name what is given: in its place where it has one, else after all others.
     pub fn set(
         &mut self,
@@ -83,8 +162,11 @@ impl<P: Drop> Context<P> {
         ensures ok { OnOk result (self.new ≡ with_name name.now top payload self.old) }
         ensures err { OnErr result (self.new ≡ self.old) }
     {
+        self.places.reserve(1)?;
         let name = Vec::from_slice(alloc, name)?;
+        let tag = tag_of(&top);
         self.bindings.insert(name, Entry { top, payload })?;
+        note_place(&mut self.places, &self.bindings, tag);
         Ok(())
     }
 

@@ -135,6 +135,28 @@ fn thirty_variables_have_names(rt: HostRuntime) -> Result<(), Fail> {
 }
 
 #[test]
+fn datatypes_are_found_by_their_tags(rt: HostRuntime) -> Result<(), Fail> {
+    let alloc = rt.alloc();
+    let mut context = Context::new(alloc);
+    context.set(alloc, b"x", Top::Variable(Ty::Int), 5)?;
+    context.set(alloc, b"point", Top::Datatype(0, Ty::Int), 6)?;
+    context.set(alloc, b"x", Top::Datatype(1, Ty::Bool), 7)?;
+    let text = type_text(
+        alloc,
+        &both(alloc, Ok(Ty::Named(0)), Ok(Ty::Named(1)))?,
+        &context,
+    )?;
+    assert!(rt; text.as_slice() == b"(point, x)".as_slice());
+    assert!(rt; context.datatype(0).map(|b| *b.2) == Some(6));
+    assert!(rt; context.datatype(1).map(|b| *b.2) == Some(7));
+    assert!(rt; context.datatype(2).is_none());
+    context.set(alloc, b"point", Top::Variable(Ty::Int), 8)?;
+    assert!(rt; context.datatype(0).is_none());
+    assert!(rt; context.datatype(1).map(|b| *b.2) == Some(7));
+    Ok(())
+}
+
+#[test]
 fn a_name_keeps_its_place(rt: HostRuntime) -> Result<(), Fail> {
     let alloc = rt.alloc();
     let mut context = points(alloc)?;

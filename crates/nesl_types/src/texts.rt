@@ -37,7 +37,7 @@ fn write_if(out: &mut Vec<u8>, wanted: bool, byte: u8) -> Result<(), AllocError>
 fn write_name<P: Drop>(out: &mut Vec<u8>, context: &Context<P>, tag: u64) -> Result<(), AllocError>
     ensures { OnOk result (out.new.items ≡ out.old.items ++ name_at context.now tag) }
 {
-    if let Some((name, _, _)) = context.at(tag as usize) {
+    if let Some((name, _, _)) = context.datatype(tag) {
         out.extend_from_slice(name)?;
     }
     Ok(())

@@ -17,7 +17,7 @@ pub enum Ty {
     SeqOf(Box<Ty>),
     /// Pairs of two types.
     Both(Box<Ty>, Box<Ty>),
-    /// A datatype, by its tag: the place of its name in the context.
+    /// A datatype, by its tag: its number in order of definition from 0.
     Named(u64),
 }
 

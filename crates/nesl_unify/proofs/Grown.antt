@@ -12,7 +12,7 @@ use Rattle.nesl_unify.specs.declared.solve.Equation.{Equation}
 use Rattle.nesl_unify.specs.Pairs.{AreEqual, IsPairBelow}
 use Rattle.nesl_unify.specs.Solves.{SolvesAll}
 use Rattle.nesl_types.specs.Numbering.{IsBelow}
-use Rattle.nesl_unify.specs.Table.{node_at, Shows, Fits}
+use Rattle.nesl_unify.specs.Table.{node_at, Describes, Fits}
 use Rattle.nesl_unify.specs.Extends.{Extends, IsMade}
 
 pub extends_none : (ns : List Node) → Extends ns ns
@@ -36,8 +36,8 @@ extends_more old mid new a b = record {
 pub fits_grown : (w : ℕ → Term) (old new : List Node) → Extends old new → Fits w new → Fits w old
 fits_grown w old new e f p =
     elim (cases_lt p (length old)) [
-      | inl l ↦ subst (Shows w (w p)) (e.kept p l) (f p)
-      | inr g ↦ subst (Shows w (w p)) (sym (get_or_past old p Free g)) tt
+      | inl l ↦ subst (Describes w (w p)) (e.kept p l) (f p)
+      | inr g ↦ subst (Describes w (w p)) (sym (get_or_past old p Free g)) tt
     ]
 
 pub below_more : (n m : ℕ) (t : Term) → n ≤ m → IsBelow n t → IsBelow m t
@@ -52,13 +52,13 @@ below_more n m (named k) l h = tt
 -- the types of nodes that were added
 pub means_seq : (w : ℕ → Term) (mid new : List Node) (q p : ℕ) (t : Term) → Extends mid new → Fits w new → node_at new p ≡ SeqOf q → (Fits w mid → w q ≡ substitute w t) → w p ≡ substitute w (seq_of t)
 means_seq w mid new q p t e f at h =
-    let g : w p ≡ seq_of (w q) = subst (Shows w (w p)) at (f p) in
+    let g : w p ≡ seq_of (w q) = subst (Describes w (w p)) at (f p) in
     g ∙ ap seq_of (h (fits_grown w mid new e f))
 
 pub means_both : (w : ℕ → Term) (first second new : List Node) (q r p : ℕ) (t u : Term) → Extends first second → Extends second new → Fits w new → node_at new p ≡ Both q r →
     (Fits w first → w q ≡ substitute w t) → (Fits w second → w r ≡ substitute w u) → w p ≡ substitute w (both t u)
 means_both w first second new q r p t u d e f at h k =
-    let g : w p ≡ both (w q) (w r) = subst (Shows w (w p)) at (f p) in
+    let g : w p ≡ both (w q) (w r) = subst (Describes w (w p)) at (f p) in
     let fs = fits_grown w second new e f in
     let x = h (fits_grown w first second d fs) in
     let y = k fs in

@@ -10,7 +10,7 @@ use Rattle.nesl_unify.specs.declared.table.Node.TheVariants.{Free, Same, Int, Bo
 use Rattle.nesl_unify.specs.declared.unify.Pair.{Pair}
 use Rattle.nesl_unify.specs.declared.unify.Rest.{Rest}
 use Rattle.nesl_unify.specs.declared.unify.Rest.TheVariants.{Nothing, One, Two}
-use Rattle.nesl_unify.specs.Table.{node_at, Shows, Fits, IsPlaced, IsTable, IsRoot, standing}
+use Rattle.nesl_unify.specs.Table.{node_at, Describes, Fits, IsPlaced, IsTable, IsRoot, standing}
 use Rattle.nesl_unify.specs.Pairs.{IsPairBelow, AreEqual, merged, pairs_of}
 use Rattle.nesl_unify.proofs.Tables.{each_set, here_set, other_set}
 
@@ -23,13 +23,13 @@ equal_first w p ps h = h 0 p (omega arith)
 pub equal_second : (w : ℕ → Term) (p q : Pair) (ps : List Pair) → AreEqual w (p ∷ (q ∷ ps)) → w q.first ≡ w q.second
 equal_second w p q ps h = h 1 p (omega arith)
 
-pub seq_left : (w : ℕ → Term) (t : Term) (p : Pair) → (Shows w t (SeqOf p.first) × Shows w t (SeqOf p.second)) ↔ (Shows w t (SeqOf p.first) × AreEqual w (p ∷ []))
+pub seq_left : (w : ℕ → Term) (t : Term) (p : Pair) → (Describes w t (SeqOf p.first) × Describes w t (SeqOf p.second)) ↔ (Describes w t (SeqOf p.first) × AreEqual w (p ∷ []))
 seq_left w t p = (
   λ h. (h.0, let e : w p.first ≡ w p.second = cc (h.0, h.1) in All-cons (Equals w) p [] e (All-nil (Equals w))),
   λ h. (h.0, h.0 ∙ ap seq_of (equal_first w p [] h.1)),
 )
 
-pub both_left : (w : ℕ → Term) (t : Term) (p q : Pair) → (Shows w t (Both p.first q.first) × Shows w t (Both p.second q.second)) ↔ (Shows w t (Both p.first q.first) × AreEqual w (p ∷ (q ∷ [])))
+pub both_left : (w : ℕ → Term) (t : Term) (p q : Pair) → (Describes w t (Both p.first q.first) × Describes w t (Both p.second q.second)) ↔ (Describes w t (Both p.first q.first) × AreEqual w (p ∷ (q ∷ [])))
 both_left w t p q = (
   λ h. (
     h.0,
@@ -47,7 +47,7 @@ both_left w t p q = (
 
 -- what nodes a and b say of one type is what n says of it, where the pairs of `rest` are equal
 abbrev pub Meets : Node → Node → Rest → Type 0
-Meets a b rest = (w : ℕ → Term) → (t : Term) → (Shows w t a × Shows w t b) ↔ (Shows w t (merged a b) × AreEqual w (pairs_of rest))
+Meets a b rest = (w : ℕ → Term) → (t : Term) → (Describes w t a × Describes w t b) ↔ (Describes w t (merged a b) × AreEqual w (pairs_of rest))
 
 pub seq_meets : (a b : Node) (q r : ℕ) → a ≡ SeqOf q → b ≡ SeqOf r → Meets a b (One (record { first = q; second = r }))
 seq_meets a b q r e d = rw (e, d) (λ w t. seq_left w t (record { first = q; second = r }))
@@ -100,21 +100,21 @@ joined_other P ns low high n q d e h = other_set P ns low n q d (other_set P (se
 fits_joined : (w : ℕ → Term) (ns : List Node) (low high : ℕ) (rest : Rest) → low < high → high < length ns → Meets (node_at ns low) (node_at ns high) rest →
     Fits w ns → w low ≡ w high → Fits w (joined ns low high (merged (node_at ns low) (node_at ns high))) × AreEqual w (pairs_of rest)
 fits_joined w ns low high rest order inside meets f e =
-    let h = (meets w (w low)).0 (f low, subst (λ (t : Term). Shows w t (node_at ns high)) (sym e) (f high)) in
-    (each_joined (λ q m. Shows w (w q) m) ns low high (merged (node_at ns low) (node_at ns high)) order inside h.0 (sym e) f, h.1)
+    let h = (meets w (w low)).0 (f low, subst (λ (t : Term). Describes w t (node_at ns high)) (sym e) (f high)) in
+    (each_joined (λ q m. Describes w (w q) m) ns low high (merged (node_at ns low) (node_at ns high)) order inside h.0 (sym e) f, h.1)
 
 fits_unjoined : (w : ℕ → Term) (ns : List Node) (low high : ℕ) (rest : Rest) → low < high → high < length ns → Meets (node_at ns low) (node_at ns high) rest →
     Fits w (joined ns low high (merged (node_at ns low) (node_at ns high))) → AreEqual w (pairs_of rest) → Fits w ns × (w low ≡ w high)
 fits_unjoined w ns low high rest order inside meets f k =
     let n = merged (node_at ns low) (node_at ns high) in
-    let e : w high ≡ w low = joined_high (Shows w (w high)) ns low high n order inside (f high) in
-    let h = (meets w (w low)).1 (joined_low (Shows w (w low)) ns low high n order inside (f low), k) in
-    let g : Shows w (w high) (node_at ns high) = subst (λ (t : Term). Shows w t (node_at ns high)) (sym e) h.1 in (
+    let e : w high ≡ w low = joined_high (Describes w (w high)) ns low high n order inside (f high) in
+    let h = (meets w (w low)).1 (joined_low (Describes w (w low)) ns low high n order inside (f low), k) in
+    let g : Describes w (w high) (node_at ns high) = subst (λ (t : Term). Describes w t (node_at ns high)) (sym e) h.1 in (
       λ q. elim (cases_eq q low) [
-        | inl i ↦ subst (λ (k : ℕ). Shows w (w k) (node_at ns k)) (sym i) h.0
+        | inl i ↦ subst (λ (k : ℕ). Describes w (w k) (node_at ns k)) (sym i) h.0
         | inr d ↦ elim (cases_eq q high) [
-          | inl i ↦ subst (λ (k : ℕ). Shows w (w k) (node_at ns k)) (sym i) g
-          | inr u ↦ joined_other (Shows w (w q)) ns low high n q d u (f q)
+          | inl i ↦ subst (λ (k : ℕ). Describes w (w k) (node_at ns k)) (sym i) g
+          | inr u ↦ joined_other (Describes w (w q)) ns low high n q d u (f q)
         ]
       ],
       sym e,

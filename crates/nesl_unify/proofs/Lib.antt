@@ -7,3 +7,8 @@ pub mod Readings
 pub mod Extensions
 pub mod Solved
 pub mod Narrowing
+pub mod Shaped
+pub mod Sharing
+pub mod Instances
+pub mod Starts
+pub mod Asked

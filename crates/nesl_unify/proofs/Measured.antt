@@ -6,7 +6,7 @@ use Rattle.nesl_types.specs.Term.{Term, nodes}
 use Rattle.nesl_types.proofs.Nodes.{nodes_positive}
 use Rattle.nesl_unify.specs.declared.table.Node.{Node}
 use Rattle.nesl_unify.specs.declared.table.Node.TheVariants.{Free, Same, Int, Bool, Char, Named, SeqOf, Both}
-use Rattle.nesl_unify.specs.Table.{node_at, Shows, Fits, IsRoot, target}
+use Rattle.nesl_unify.specs.Table.{node_at, Describes, Fits, IsRoot, target}
 use Rattle.nesl_unify.specs.Sizes.{size_at, IsSize, AreSizes, IsMeasured, HasSizes}
 use Rattle.nesl_unify.proofs.Tables.{fits-target}
 
@@ -65,7 +65,7 @@ sizes_set ns sizes p k s inside h q l =
 pub nodes_target : (w : ℕ → Term) (ns : List Node) (p : ℕ) → Fits w ns → nodes (w p) ≡ nodes (w (target ns p))
 nodes_target w ns p f = ap nodes (fits-target w ns p f)
 
-size_le_node : (w : ℕ → Term) (ns : List Node) (sizes : List ℕ) (t : Term) (n : Node) (k : ℕ) → Fits w ns → Shows w t n → IsSize ns sizes n k →
+size_le_node : (w : ℕ → Term) (ns : List Node) (sizes : List ℕ) (t : Term) (n : Node) (k : ℕ) → Fits w ns → Describes w t n → IsSize ns sizes n k →
     ((q : ℕ) → 0 < get_or sizes q 0 → get_or sizes q 0 < k → get_or sizes q 0 ≤ nodes (w q)) → k ≤ nodes t
 size_le_node w ns sizes t Free k f h s i = omega (arith, nodes_positive t)
 size_le_node w ns sizes t (Same q) k f h s i = absurd s
@@ -101,21 +101,21 @@ pub none_seq : (ns : List Node) (place root item room less : ℕ) → root ≡ t
     (w : ℕ → Term) → Fits w ns → room < nodes (w place)
 none_seq ns place root item room less e at r h w f =
     let a : nodes (w place) ≡ nodes (w root) = nodes_target w ns place f ∙ sym (ap (λ (i : ℕ). nodes (w i)) e) in
-    let b = ap nodes (subst (Shows w (w root)) at (f root)) in
+    let b = ap nodes (subst (Describes w (w root)) at (f root)) in
     omega (arith, b, h w f)
 
 pub none_first : (ns : List Node) (place root first second room less : ℕ) → root ≡ target ns place → node_at ns root ≡ Both first second → room ≡ less + 1 → ((w : ℕ → Term) → Fits w ns → less < nodes (w first)) →
     (w : ℕ → Term) → Fits w ns → room < nodes (w place)
 none_first ns place root first second room less e at r h w f =
     let a : nodes (w place) ≡ nodes (w root) = nodes_target w ns place f ∙ sym (ap (λ (i : ℕ). nodes (w i)) e) in
-    let b = ap nodes (subst (Shows w (w root)) at (f root)) in
+    let b = ap nodes (subst (Describes w (w root)) at (f root)) in
     omega (arith, b, h w f)
 
 pub none_second : (ns : List Node) (sizes : List ℕ) (place root first second room less half : ℕ) → root ≡ target ns place → node_at ns root ≡ Both first second → room ≡ less + 1 → AreSizes ns sizes → 0 < half → half ≤ less → half ≡ size_at ns sizes first →
     ((w : ℕ → Term) → Fits w ns → less - half < nodes (w second)) → (w : ℕ → Term) → Fits w ns → room < nodes (w place)
 none_second ns sizes place root first second room less half e at r s p l m h w f =
     let a : nodes (w place) ≡ nodes (w root) = nodes_target w ns place f ∙ sym (ap (λ (i : ℕ). nodes (w i)) e) in
-    let b = ap nodes (subst (Shows w (w root)) at (f root)) in
+    let b = ap nodes (subst (Describes w (w root)) at (f root)) in
     let le = size_le w ns sizes (target ns first) f s (omega arith) in
     omega (arith, b, h w f, nodes_target w ns first f)
 

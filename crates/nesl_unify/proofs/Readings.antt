@@ -5,12 +5,12 @@ use Rattle.nesl_types.specs.Substitution.{substitute}
 use Rattle.nesl_unify.specs.declared.table.Node.{Node}
 use Rattle.nesl_unify.specs.declared.table.Node.TheVariants.{Free, Same, Int, Bool, Char, Named, SeqOf, Both}
 use Rattle.nesl_types.specs.Numbering.{IsBelow}
-use Rattle.nesl_unify.specs.Table.{node_at, Shows, Fits, IsPlaced, IsTable, IsRoot, IsFlat, target, link_or, built, written}
+use Rattle.nesl_unify.specs.Table.{node_at, Describes, Fits, IsPlaced, IsTable, IsFlat, target, built, written}
 use Rattle.nesl_unify.specs.Sizes.{size_at, IsSize, AreSizes}
 use Rattle.nesl_unify.proofs.Tables.{fits-target, target_le, root_target}
 
 -- what fits a table is what is read, with its types in place of the variables
-ground_node : (w f : ℕ → Term) (p : ℕ) (n : Node) → Shows w (w p) n → ((q : ℕ) → w q ≡ substitute w (f q)) → w p ≡ substitute w (built f p n)
+ground_node : (w f : ℕ → Term) (p : ℕ) (n : Node) → Describes w (w p) n → ((q : ℕ) → w q ≡ substitute w (f q)) → w p ≡ substitute w (built f p n)
 ground_node w f p Free h i = refl
 ground_node w f p (Same q) h i = h ∙ i q
 ground_node w f p Int h i = h
@@ -85,7 +85,7 @@ size_target ns sizes p f =
     ap (λ (i : ℕ). get_or sizes i 0) e
 
 -- the types of the places whose sizes are noted are as the table says
-whole_node : (ns : List Node) (sizes : List ℕ) (p : ℕ) (n : Node) (k : ℕ) → AreSizes ns sizes → IsSize ns sizes n (suc k) → Shows (whole ns sizes) (built (written k ns) p n) n
+whole_node : (ns : List Node) (sizes : List ℕ) (p : ℕ) (n : Node) (k : ℕ) → AreSizes ns sizes → IsSize ns sizes n (suc k) → Describes (whole ns sizes) (built (written k ns) p n) n
 whole_node ns sizes p Free k a s = tt
 whole_node ns sizes p (Same q) k a s = absurd s
 whole_node ns sizes p Int k a s = refl
@@ -98,7 +98,7 @@ whole_node ns sizes p (Both q r) k a s =
     let y = stable ns sizes a k (size_at ns sizes r) r s.1 (omega arith) (omega arith) in
     cc
 
-pub whole_root : (ns : List Node) (sizes : List ℕ) (p k : ℕ) → AreSizes ns sizes → 0 < k → k ≡ size_at ns sizes p → Shows (whole ns sizes) (written k ns p) (node_at ns (target ns p))
+pub whole_root : (ns : List Node) (sizes : List ℕ) (p k : ℕ) → AreSizes ns sizes → 0 < k → k ≡ size_at ns sizes p → Describes (whole ns sizes) (written k ns p) (node_at ns (target ns p))
 whole_root ns sizes p zero a l e = absurd (omega arith)
 whole_root ns sizes p (suc k) a l e =
     whole_node ns sizes (target ns p) (node_at ns (target ns p)) k a (subst (IsSize ns sizes (node_at ns (target ns p))) (sym e) (a (target ns p) (omega arith)))

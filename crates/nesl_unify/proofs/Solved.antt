@@ -17,6 +17,7 @@ use Rattle.nesl_unify.specs.Table.{node_at, Fits, IsTable, IsFlat, target, built
 use Rattle.nesl_unify.specs.Extends.{Extends}
 use Rattle.nesl_unify.specs.Pairs.{AreEqual}
 use Rattle.nesl_unify.specs.Sizes.{size_at, HasSizes}
+use Rattle.nesl_unify.specs.Met.{AreMet}
 use Rattle.nesl_unify.specs.Solves.{AreBelow, SolvesAll}
 use Rattle.nesl_unify.specs.Members.{IsInAll}
 use Rattle.nesl_unify.proofs.Readings.{ground, reads, whole}
@@ -45,13 +46,8 @@ pub record Stated (count : ℕ) (equations : List Equation) (start : List Node) 
   pub meaning : (w : ℕ → Term) → Fits w start → AreEqual w pending ↔ SolvesAll w equations
   pub below : AreBelow count equations
 
--- what solves the equations, continued to all places
-pub record Started (s : ℕ → Term) (count : ℕ) (start : List Node) (pending : List Pair) (w : ℕ → Term) : Type 0 where
-  pub fits : Fits w start
-  pub equal : AreEqual w pending
-  pub below : (v : ℕ) → v < count → w v ≡ s v
-
-pub started : (s : ℕ → Term) (count : ℕ) (equations : List Equation) (start : List Node) (pending : List Pair) → Stated count equations start pending → SolvesAll s equations → (w : ℕ → Term) × Started s count start pending w
+-- what solves the equations solves the table, and the other way round
+pub started : (s : ℕ → Term) (count : ℕ) (equations : List Equation) (start : List Node) (pending : List Pair) → Stated count equations start pending → SolvesAll s equations → AreMet count start pending s
 started s count equations start pending t h =
     let x = continued s start count (table_built count count start (omega arith) t.extends) in
     let f = fits_built s count start x.0 t.extends x.1 in (
@@ -62,6 +58,9 @@ started s count equations start pending t h =
         below = x.1.below;
       },
     )
+
+pub met_solves : (s : ℕ → Term) (count : ℕ) (equations : List Equation) (start : List Node) (pending : List Pair) → Stated count equations start pending → AreMet count start pending s → SolvesAll s equations
+met_solves s count equations start pending t m = solves_below count m.0 s equations t.below m.1.below ((t.meaning m.0 m.1.fits).0 m.1.equal)
 
 -- the table in which these places are one, with the sizes of the variables' types
 pub record Unified (count : ℕ) (start : List Node) (pending : List Pair) (ns : List Node) (found : List ℕ) : Type 0 where
@@ -81,14 +80,14 @@ types_whole count start ns pending found u v l = ap (λ (k : ℕ). written k ns 
 types_past : (count : ℕ) (start ns : List Node) (pending : List Pair) (found : List ℕ) → Unified count start pending ns found → (v : ℕ) → count ≤ v → types ns found v ≡ variable v
 types_past count start ns pending found u v l = ap (λ (k : ℕ). written k ns v) (u.sizes.past v l)
 
-pub types_solve : (count : ℕ) (equations : List Equation) (start ns : List Node) (pending : List Pair) (found : List ℕ) → Stated count equations start pending → Unified count start pending ns found → SolvesAll (types ns found) equations
-types_solve count equations start ns pending found t u =
+pub types_met : (count : ℕ) (start ns : List Node) (pending : List Pair) (found : List ℕ) → Unified count start pending ns found → AreMet count start pending (types ns found)
+types_met count start ns pending found u =
     let noted = u.sizes.noted in
     let x = continued (whole ns noted) ns count u.table in
     let positive : (p : ℕ) → p < count → 0 < size_at ns noted p = λ p l. let e = u.sizes.here p l in omega (arith, u.sizes.positive p l) in
     let f = fits_whole ns noted count x.0 u.longer u.table u.flat u.sizes.sizes positive x.1 in
     let g = (u.same x.0).0 f in
-    solves_below count x.0 (types ns found) equations t.below (λ v l. x.1.below v l ∙ sym (types_whole count start ns pending found u v l)) ((t.meaning x.0 g.0).0 g.1)
+    (x.0, record { fits = g.0; equal = g.1; below = λ v l. x.1.below v l ∙ sym (types_whole count start ns pending found u v l) })
 
 -- a type is read whole, and has variables of the equations alone
 pub record IsRead (count : ℕ) (ns : List Node) (t : Term) : Type 0 where
@@ -110,28 +109,20 @@ types_bounded count start ns pending found u v =
     ]
 
 -- each solution has what stands for the variables of these types in their place
-pub types_general : (count : ℕ) (equations : List Equation) (start ns : List Node) (pending : List Pair) (found : List ℕ) → Stated count equations start pending → Unified count start pending ns found →
-    (s : ℕ → Term) → SolvesAll s equations → (v : ℕ) → s v ≡ substitute s (types ns found v)
-types_general count equations start ns pending found t u s h v =
+pub types_general : (count : ℕ) (start ns : List Node) (pending : List Pair) (found : List ℕ) → Unified count start pending ns found →
+    (s : ℕ → Term) → AreMet count start pending s → (v : ℕ) → s v ≡ substitute s (types ns found v)
+types_general count start ns pending found u s x v =
     elim (cases_lt v count) [
       | inl l ↦
-          let x = started s count equations start pending t h in
           let f = (u.same x.0).1 (x.1.fits, x.1.equal) in
           sym (x.1.below v l) ∙ ground x.0 ns f (get_or found v 0) v ∙ substitute_below count x.0 s (types ns found v) (types_read count start ns pending found u v l).below x.1.below
       | inr g ↦ ap (substitute s) (sym (types_past count start ns pending found u v g))
     ]
 
 -- no solutions
-pub none_unified : (count : ℕ) (equations : List Equation) (start : List Node) (pending : List Pair) → Stated count equations start pending → ((w : ℕ → Term) → Fits w start → AreEqual w pending → ⊥) →
-    (s : ℕ → Term) → SolvesAll s equations → ⊥
-none_unified count equations start pending t none s h =
-    let x = started s count equations start pending t h in
-    none x.0 x.1.fits x.1.equal
-
-pub none_measured : (count : ℕ) (equations : List Equation) (start ns : List Node) (pending : List Pair) → Stated count equations start pending → ((w : ℕ → Term) → Fits w ns ↔ (Fits w start × AreEqual w pending)) →
-    ((w : ℕ → Term) → Fits w ns → (v : ℕ) × ((v < count) × (4096 < nodes (w v)))) → (s : ℕ → Term) → IsBounded s → SolvesAll s equations → ⊥
-none_measured count equations start ns pending t same large s b h =
-    let x = started s count equations start pending t h in
+pub none_measured : (count : ℕ) (start ns : List Node) (pending : List Pair) → ((w : ℕ → Term) → Fits w ns ↔ (Fits w start × AreEqual w pending)) →
+    ((w : ℕ → Term) → Fits w ns → (v : ℕ) × ((v < count) × (4096 < nodes (w v)))) → (s : ℕ → Term) → IsBounded s → AreMet count start pending s → ⊥
+none_measured count start ns pending same large s b x =
     let g = large x.0 ((same x.0).1 (x.1.fits, x.1.equal)) in
     let e = ap nodes (x.1.below g.0 g.1.0) in
     omega (arith, b g.0, g.1.1)
@@ -176,12 +167,12 @@ table_start count c start given ns le x e h = h (subst (IsTable c) (sym e) (tabl
 pub longer : (count : ℕ) (start given ns : List Node) → Extends (replicate count Free) start → given ≡ start → length ns ≡ length given → count ≤ length ns
 longer count start given ns x e l = let d = ap length e in omega (arith, x.longer, length-replicate count Free)
 
-pub unified : (count : ℕ) (equations : List Equation) (start given ns slice : List Node) (pending : List Pair) (found : List ℕ) → Stated count equations start pending → given ≡ start → ((w : ℕ → Term) → Fits w ns ↔ (Fits w given × AreEqual w pending)) →
+pub unified : (count : ℕ) (start given ns slice : List Node) (pending : List Pair) (found : List ℕ) → Extends (replicate count Free) start → given ≡ start → ((w : ℕ → Term) → Fits w ns ↔ (Fits w given × AreEqual w pending)) →
     ((c : ℕ) → IsTable c given → IsTable c ns) → IsFlat ns → length ns ≡ length given → slice ≡ ns → HasSizes slice count found → Unified count start pending ns found
-unified count equations start given ns slice pending found s e same table flat len at sizes = record {
+unified count start given ns slice pending found x e same table flat len at sizes = record {
   same = same_start start given ns pending e same;
-  table = table_start count count start given ns (omega arith) s.extends e (table count);
+  table = table_start count count start given ns (omega arith) x e (table count);
   flat = flat;
-  longer = longer count start given ns s.extends e len;
+  longer = longer count start given ns x e len;
   sizes = subst (λ (l : List Node). HasSizes l count found) at sizes;
 }

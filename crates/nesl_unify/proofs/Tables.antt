@@ -6,7 +6,7 @@ use Rattle.std.proofs.lemmas.List.Sums.{sum_by-set}
 use Rattle.nesl_types.specs.Term.{Term}
 use Rattle.nesl_unify.specs.declared.table.Node.{Node}
 use Rattle.nesl_unify.specs.declared.table.Node.TheVariants.{Free, Same, Int, Bool, Char, Named, SeqOf, Both}
-use Rattle.nesl_unify.specs.Table.{node_at, Shows, Fits, IsPlaced, IsTable, IsRoot, IsFlat, standing, link_or, target, shortened}
+use Rattle.nesl_unify.specs.Table.{node_at, Describes, Fits, IsPlaced, IsTable, IsRoot, IsFlat, standing, link_or, target, shortened}
 
 -- a fact of each place after a write
 pub each_set : (P : ℕ → Node → Type 0) (ns : List Node) (p : ℕ) (n : Node) → p < length ns → P p n → ((q : ℕ) → q ≢ p → P q (node_at ns q)) → (q : ℕ) → P q (node_at (set ns p n) q)
@@ -22,18 +22,18 @@ here_set P ns p n inside h = subst P (get_or-set_same ns p n Free inside) h
 pub other_set : (P : Node → Type 0) (ns : List Node) (p : ℕ) (n : Node) (q : ℕ) → q ≢ p → P (node_at (set ns p n) q) → P (node_at ns q)
 other_set P ns p n q d h = subst P (get_or-set_other ns p q n Free d) h
 
-pub shows-link : (w : ℕ → Term) (p : ℕ) (n : Node) → Shows w (w p) n → w p ≡ w (link_or p n)
-shows-link w p Free h = refl
-shows-link w p (Same q) h = h
-shows-link w p Int h = refl
-shows-link w p Bool h = refl
-shows-link w p Char h = refl
-shows-link w p (Named m) h = refl
-shows-link w p (SeqOf q) h = refl
-shows-link w p (Both q r) h = refl
+pub describes-link : (w : ℕ → Term) (p : ℕ) (n : Node) → Describes w (w p) n → w p ≡ w (link_or p n)
+describes-link w p Free h = refl
+describes-link w p (Same q) h = h
+describes-link w p Int h = refl
+describes-link w p Bool h = refl
+describes-link w p Char h = refl
+describes-link w p (Named m) h = refl
+describes-link w p (SeqOf q) h = refl
+describes-link w p (Both q r) h = refl
 
 pub fits-target : (w : ℕ → Term) (ns : List Node) (p : ℕ) → Fits w ns → w p ≡ w (target ns p)
-fits-target w ns p f = shows-link w p (node_at ns p) (f p)
+fits-target w ns p f = describes-link w p (node_at ns p) (f p)
 
 link_le : (count n p : ℕ) (m : Node) → IsPlaced count n p m → link_or p m ≤ p
 link_le count n p Free h = omega arith
@@ -49,25 +49,25 @@ pub target_le : (count : ℕ) (ns : List Node) (p : ℕ) → IsTable count ns �
 target_le count ns p t inside = link_le count (length ns) p (node_at ns p) (t p inside)
 
 -- what a link is made shorter by stays the same for types, places and counts
-shows_shortened : (w : ℕ → Term) (ns : List Node) (p : ℕ) (n : Node) → Fits w ns → Shows w (w p) n → Shows w (w p) (shortened ns n)
-shows_shortened w ns p Free f h = h
-shows_shortened w ns p (Same q) f h = h ∙ fits-target w ns q f
-shows_shortened w ns p Int f h = h
-shows_shortened w ns p Bool f h = h
-shows_shortened w ns p Char f h = h
-shows_shortened w ns p (Named m) f h = h
-shows_shortened w ns p (SeqOf q) f h = h
-shows_shortened w ns p (Both q r) f h = h
+describes_shortened : (w : ℕ → Term) (ns : List Node) (p : ℕ) (n : Node) → Fits w ns → Describes w (w p) n → Describes w (w p) (shortened ns n)
+describes_shortened w ns p Free f h = h
+describes_shortened w ns p (Same q) f h = h ∙ fits-target w ns q f
+describes_shortened w ns p Int f h = h
+describes_shortened w ns p Bool f h = h
+describes_shortened w ns p Char f h = h
+describes_shortened w ns p (Named m) f h = h
+describes_shortened w ns p (SeqOf q) f h = h
+describes_shortened w ns p (Both q r) f h = h
 
-shows_before : (w : ℕ → Term) (ns : List Node) (count m p : ℕ) (n : Node) → IsPlaced count m p n → Shows w (w p) (shortened ns n) → ((u : ℕ) → u < p → w u ≡ w (target ns u)) → Shows w (w p) n
-shows_before w ns count m p Free l h k = h
-shows_before w ns count m p (Same q) l h k = h ∙ sym (k q l)
-shows_before w ns count m p Int l h k = h
-shows_before w ns count m p Bool l h k = h
-shows_before w ns count m p Char l h k = h
-shows_before w ns count m p (Named i) l h k = h
-shows_before w ns count m p (SeqOf q) l h k = h
-shows_before w ns count m p (Both q r) l h k = h
+describes_before : (w : ℕ → Term) (ns : List Node) (count m p : ℕ) (n : Node) → IsPlaced count m p n → Describes w (w p) (shortened ns n) → ((u : ℕ) → u < p → w u ≡ w (target ns u)) → Describes w (w p) n
+describes_before w ns count m p Free l h k = h
+describes_before w ns count m p (Same q) l h k = h ∙ sym (k q l)
+describes_before w ns count m p Int l h k = h
+describes_before w ns count m p Bool l h k = h
+describes_before w ns count m p Char l h k = h
+describes_before w ns count m p (Named i) l h k = h
+describes_before w ns count m p (SeqOf q) l h k = h
+describes_before w ns count m p (Both q r) l h k = h
 
 placed_shortened : (ns : List Node) (count p : ℕ) (n : Node) → IsTable count ns → p < length ns → IsPlaced count (length ns) p n → IsPlaced count (length ns) p (shortened ns n)
 placed_shortened ns count p Free t l h = h
@@ -126,11 +126,11 @@ table_shortened ns p count inside t =
 fits_before : (w : ℕ → Term) (ns : List Node) (p count : ℕ) → p < length ns → IsTable count ns → Fits w (set ns p (shortened ns (node_at ns p))) → Fits w ns
 fits_before w ns p count inside t f =
     let n = shortened ns (node_at ns p) in
-    let other : (q : ℕ) → q ≢ p → Shows w (w q) (node_at ns q) = λ q d. other_set (Shows w (w q)) ns p n q d (f q) in
-    let here : Shows w (w p) (node_at ns p) =
-    shows_before w ns count (length ns) p (node_at ns p) (t p inside) (here_set (Shows w (w p)) ns p n inside (f p)) (λ u l. shows-link w u (node_at ns u) (other u (omega arith))) in
+    let other : (q : ℕ) → q ≢ p → Describes w (w q) (node_at ns q) = λ q d. other_set (Describes w (w q)) ns p n q d (f q) in
+    let here : Describes w (w p) (node_at ns p) =
+    describes_before w ns count (length ns) p (node_at ns p) (t p inside) (here_set (Describes w (w p)) ns p n inside (f p)) (λ u l. describes-link w u (node_at ns u) (other u (omega arith))) in
     λ q. elim (cases_eq q p) [
-      | inl e ↦ subst (λ (k : ℕ). Shows w (w k) (node_at ns k)) (sym e) here
+      | inl e ↦ subst (λ (k : ℕ). Describes w (w k) (node_at ns k)) (sym e) here
       | inr d ↦ other q d
     ]
 
@@ -142,7 +142,7 @@ relinks_shortened ns p inside t =
       len = length-set ns p n;
       same = λ w. (
         λ f. fits_before w ns p (length ns) inside t f,
-        λ f. each_set (λ q m. Shows w (w q) m) ns p n inside (shows_shortened w ns p (node_at ns p) f (f p)) (λ q _. f q),
+        λ f. each_set (λ q m. Describes w (w q) m) ns p n inside (describes_shortened w ns p (node_at ns p) f (f p)) (λ q _. f q),
       );
       table = λ count. table_shortened ns p count inside;
       kept = λ q r. elim (cases_eq q p) [

@@ -17,7 +17,8 @@ IsSize ns sizes Bool k = k ≡ 1
 IsSize ns sizes Char k = k ≡ 1
 IsSize ns sizes (Named m) k = k ≡ 1
 IsSize ns sizes (SeqOf q) k = (0 < size_at ns sizes q) × (k ≡ size_at ns sizes q + 1)
-IsSize ns sizes (Both q r) k = (0 < size_at ns sizes q) × (0 < size_at ns sizes r) × (k ≡ size_at ns sizes q + size_at ns sizes r + 1)
+IsSize ns sizes (Both q r) k =
+    (0 < size_at ns sizes q) × (0 < size_at ns sizes r) × (k ≡ size_at ns sizes q + size_at ns sizes r + 1)
 
 -- each size that is noted is the size of its node
 abbrev pub AreSizes : List Node → List ℕ → Type 0

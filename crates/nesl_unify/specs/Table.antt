@@ -9,22 +9,22 @@ abbrev pub node_at : List Node → ℕ → Node
 node_at ns p = slice_index_or ns p Free
 
 -- a node says of a type t what it is, where `w p` is the type at each place p
-abbrev pub Shows : (ℕ → Term) → Term → Node → Type 0
-Shows w t Free = Unit {0}
-Shows w t (Same q) = t ≡ w q
-Shows w t Int = t ≡ int
-Shows w t Bool = t ≡ bool
-Shows w t Char = t ≡ char
-Shows w t (Named n) = t ≡ named n
-Shows w t (SeqOf q) = t ≡ seq_of (w q)
-Shows w t (Both q r) = t ≡ both (w q) (w r)
+abbrev pub Describes : (ℕ → Term) → Term → Node → Type 0
+Describes w t Free = Unit {0}
+Describes w t (Same q) = t ≡ w q
+Describes w t Int = t ≡ int
+Describes w t Bool = t ≡ bool
+Describes w t Char = t ≡ char
+Describes w t (Named n) = t ≡ named n
+Describes w t (SeqOf q) = t ≡ seq_of (w q)
+Describes w t (Both q r) = t ≡ both (w q) (w r)
 
 -- the types `w p` of the places p are as the table says
 abbrev pub Fits : (ℕ → Term) → List Node → Type 0
-Fits w ns = (p : ℕ) → Shows w (w p) (node_at ns p)
+Fits w ns = (p : ℕ) → Describes w (w p) (node_at ns p)
 
--- where a node of a table of n places may lead from place p: links lead to smaller places, and the first `count` places are
--- those of the variables: what isn't a variable is made of what comes before
+-- where a node of a table of n places may lead from place p: links lead to smaller places, and the first `count` places
+-- are those of the variables: what isn't a variable is made of what comes before
 abbrev pub IsPlaced : ℕ → ℕ → ℕ → Node → Type 0
 IsPlaced count n p Free = p < count
 IsPlaced count n p (Same q) = q < p

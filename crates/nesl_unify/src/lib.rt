@@ -3,13 +3,19 @@
 
 mod build;
 pub mod fault;
+mod instance;
 mod measure;
 pub mod narrow;
 mod read;
+mod shapes;
+mod share;
 pub mod solve;
+mod start;
+pub mod system;
 mod table;
 #[cfg(test)]
 mod tests;
 mod unify;
 
 pub use fault::SolveFault;
+pub use system::System;

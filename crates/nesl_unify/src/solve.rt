@@ -14,7 +14,7 @@ use crate::measure::measure_variables;
 use crate::narrow::{Member, narrow};
 use crate::read::apply;
 use crate::table::Node;
-use crate::unify::unify;
+use crate::unify::{Pair, unify};
 use nesl_types::{Class, Ty};
 use std::alloc::{AllocError, Global};
 
@@ -74,6 +74,40 @@ pub fn are_below(count: u64, equations: &[Equation]) -> bool
     true
 }
 
+ghost use Rattle.std.specs.Prelude.{length, replicate};
+ghost use Rattle.nesl_unify.specs.Extends.{Extends};
+ghost use Rattle.nesl_unify.specs.Members.{IsInAll};
+ghost use Rattle.nesl_unify.specs.Met.{AreMet};
+ghost use Rattle.nesl_unify.specs.Pairs.{IsPairBelow};
+
+/// A most general solution of a table in which the places of each pair are one, and each member's variable has a type of its
+/// class. The first `count` places are those of the variables.
+pub(crate) fn solve_table(
+    alloc: Global,
+    count: usize,
+    mut nodes: Vec<Node>,
+    pending: Vec<Pair>,
+    members: &[Member],
+) -> Result<Solution, SolveFault>
+    requires nodes { Extends (replicate count Node.Free) nodes.items }
+    requires pending { All (IsPairBelow (length nodes.items)) pending.items }
+    requires members { All (λ m. m.variable < count) members.now }
+    ensures met { IfOk result (λ a. AreMet count nodes.items pending.items (type_of a)) }
+    ensures within { IfOk result (λ a. IsInAll (type_of a) (class_of a) members.now) }
+    ensures general { IfOk result (λ a. (s : ℕ → Term) → (of : ℕ → Class) → AreMet count nodes.items pending.items s → IsInAll s of members.now → IsInstance (type_of a) (class_of a) s of) }
+    ensures bounded { IfOk result (λ a. IsBounded (type_of a)) }
+    ensures none { IsErrOf result SolveFault.NoSolution → (s : ℕ → Term) → (of : ℕ → Class) → IsBounded s → AreMet count nodes.items pending.items s → IsInAll s of members.now → ⊥ }
+{
+    unify(nodes.as_mut_slice(), pending)?;
+    let sizes = measure_variables(alloc, nodes.as_slice(), count)?;
+    let classes = narrow(alloc, nodes.as_slice(), members)?;
+    Ok(Solution {
+        nodes,
+        sizes,
+        classes,
+    })
+}
+
 /// A most general solution of the equations in which each member's variable has a type of its class. The variables are numbers
 /// below `count`.
 pub fn solve(
@@ -91,12 +125,6 @@ pub fn solve(
 {
     let mut nodes = free_nodes(alloc, count as usize)?;
     let pending = add_equations(alloc, &mut nodes, equations)?;
-    unify(nodes.as_mut_slice(), pending)?;
-    let sizes = measure_variables(alloc, nodes.as_slice(), count as usize)?;
-    let classes = narrow(alloc, nodes.as_slice(), members)?;
-    Ok(Solution {
-        nodes,
-        sizes,
-        classes,
-    })
+    let solution = solve_table(alloc, count as usize, nodes, pending, members)?;
+    Ok(solution)
 }

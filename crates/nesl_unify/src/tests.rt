@@ -1,6 +1,7 @@
 use crate::fault::SolveFault;
 use crate::narrow::{Member, members_are_below};
-use crate::solve::{Equation, Solution, are_below, solve};
+use crate::solve::{Equation, Solution, are_below, is_below, solve};
+use crate::system::System;
 use nesl_types::{Class, Ty};
 use std::alloc::{AllocError, Global};
 use std::test::Fail;
@@ -222,5 +223,41 @@ fn other_types_are_not_equal(rt: HostRuntime) -> Result<(), Fail> {
     let right = Ty::Var(1);
     equations.push(Equation { left, right })?;
     assert!(rt; solved(rt.alloc(), 2, &equations, &[])?.is_none());
+    Ok(())
+}
+
+/// Whether this type stands for the variable.
+fn stands_for(
+    alloc: Global,
+    solution: Result<Solution, SolveFault>,
+    variable: u64,
+    wanted: &Ty,
+) -> Result<bool, AllocError> {
+    match solution {
+        Ok(solution) => Ok(solution.apply(alloc, &Ty::Var(variable))?.same(wanted)),
+        Err(SolveFault::NoSolution) => Ok(false),
+        Err(SolveFault::Memory) => Err(AllocError),
+    }
+}
+
+#[test]
+fn systems_are_solved(rt: HostRuntime) -> Result<(), Fail> {
+    let alloc = rt.alloc();
+    let mut system = System::new(alloc);
+    let list = system.fresh(Class::Any)?;
+    let item = system.fresh(Class::Number)?;
+    let left = Ty::Var(list);
+    let right = Ty::SeqOf(Box::new(alloc, Ty::Var(item))?);
+    let equation = Equation { left, right };
+    let count = system.len();
+    assert!(rt; count == 2);
+    assert!(rt; is_below(count, &equation.left));
+    assert!(rt; is_below(count, &equation.right));
+    system.equate(&equation)?;
+    let numbers = Ty::SeqOf(Box::new(alloc, Ty::Int)?);
+    let shared = system.share(alloc, &numbers)?;
+    assert!(rt; list < system.len());
+    system.equate_shared(list, shared, &[])?;
+    assert!(rt; stands_for(alloc, system.solve(alloc), list, &numbers)?);
     Ok(())
 }

@@ -1,12 +1,11 @@
 -- Copies that are on their way.
-use Rattle.std.proofs.Common.{◌≡◌, ℕ, ◌+◌, List, [], ◌∷◌, ◌++◌, length, map, refl, ap, sym, ◌∙◌, arith, append_assoc, Vec, Box}
+use Rattle.std.proofs.Common.{◌≡◌, ℕ, ◌+◌, List, [], ◌∷◌, ◌++◌, length, map, refl, ap, sym, ◌∙◌, arith, append_assoc}
 use Rattle.std.proofs.lemmas.List.{map-append, nil_from_length}
-use Rattle.nesl_values.specs.Tree.{Tree, pair, tagged, sequence}
+use Rattle.nesl_values.specs.Tree.{Tree, sequence}
 use Rattle.nesl_values.specs.View.{tree_of}
 use Rattle.nesl_values.specs.Copying.{around, all_around, work_around, work_above}
 use Rattle.nesl_values.specs.declared.copy.Frame.{Frame}
-use Rattle.nesl_values.specs.declared.value.Value.{Value, Pair, Seq, Tagged}
-use Rattle.nesl_values.proofs.Trees.{view-Pair, view-Seq, view-Tagged}
+use Rattle.nesl_values.specs.declared.value.Value.{Value}
 
 all_around-push : {A B : Type 0} → (fs : List (Frame A B)) (f : Frame A B) (t : Tree) → all_around (fs ++ f ∷ []) t ≡ all_around fs (around f t)
 all_around-push [] f t = refl
@@ -23,18 +22,10 @@ framed fs gs f t s push here = ap (λ hs. all_around hs t) push ∙ all_around-p
 pub framed_work : {A B : Type 0} → (fs gs : List (Frame A B)) (f : Frame A B) → gs ≡ fs ++ f ∷ [] → work_above gs ≡ work_above fs + work_around f
 framed_work fs gs f push = ap work_above push ∙ work_above-push fs f
 
--- values by their children
-pub pair_of : {A : Type 0} → (l r : Box (Value A) A) (w x y : Value A) → w ≡ Pair l r → x ≡ l.value → y ≡ r.value → pair (tree_of x) (tree_of y) ≡ tree_of w
-pair_of l r w x y is left right =
-    ap (λ u. pair (tree_of u) (tree_of y)) left ∙ ap (λ u. pair (tree_of l.value) (tree_of u)) right ∙ sym (ap tree_of is ∙ view-Pair l r)
-
-pub tagged_of : {A : Type 0} → (n : ℕ) (b : Box (Value A) A) (w x : Value A) → w ≡ Tagged n b → x ≡ b.value → tagged n (tree_of x) ≡ tree_of w
-tagged_of n b w x is inner = ap (λ u. tagged n (tree_of u)) inner ∙ sym (ap tree_of is ∙ view-Tagged n b)
-
-pub sequence_of : {A B : Type 0} → (v : Vec (Value A) A) (w x : Value A) (all others : List (Value A)) (copies : List (Value B)) → w ≡ Seq v → all ≡ v.items → all ≡ x ∷ others → copies ≡ []
-    → sequence (map tree_of copies ++ tree_of x ∷ map tree_of others) ≡ tree_of w
-sequence_of v w x all others copies is items parts none =
-    ap (λ cs. sequence (map tree_of cs ++ tree_of x ∷ map tree_of others)) none ∙ ap (λ us. sequence (map tree_of us)) (sym parts ∙ items) ∙ sym (ap tree_of is ∙ view-Seq v)
+pub sequence_of : {A B : Type 0} → (vs : List (Value A)) (x : Value A) (all others : List (Value A)) (copies : List (Value B)) (t : Tree) → t ≡ sequence (map tree_of vs) → all ≡ vs → all ≡ x ∷ others → copies ≡ []
+    → sequence (map tree_of copies ++ tree_of x ∷ map tree_of others) ≡ t
+sequence_of vs x all others copies t is items parts none =
+    ap (λ cs. sequence (map tree_of cs ++ tree_of x ∷ map tree_of others)) none ∙ ap (λ us. sequence (map tree_of us)) (sym parts ∙ items) ∙ sym is
 
 -- one more element of a sequence has been copied
 pub next_element : {A B : Type 0} → (old new : List (Value B)) (copy : Value B) (others rest : List (Value A)) (next : Value A) → new ≡ old ++ copy ∷ [] → others ≡ next ∷ rest

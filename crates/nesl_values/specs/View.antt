@@ -1,26 +1,32 @@
 -- The tree that a `Value` stands for.
-use Rattle.std.specs.Prelude.{List, [], map}
-use Rattle.nesl_values.specs.Tree.{Tree, Trees, int, boolean, character, pair, tagged, sequence, trees_of}
+use Rattle.std.specs.Prelude.{ℕ, List, [], map}
+use Rattle.nesl_values.specs.Tree.{Tree, Trees, trees_of, int, boolean, character, pair, tagged, sequence, size}
+use Rattle.nesl_values.specs.declared.value.Value.{Value}
+use Rattle.nesl_values.specs.declared.value.Value.TheVariants.{Int, Bool, Char, Shared}
+use Rattle.nesl_values.specs.declared.node.Parts.{Parts}
+use Rattle.nesl_values.specs.declared.node.Parts.TheVariants.{Pair, Tagged, Seq, Ints, Bools, Chars}
 use Rattle.nesl_values.specs.declared.element.Element.{Element}
+use Rattle.nesl_values.specs.declared.items.Items.{Items}
 use Rattle.nesl_values.specs.declared.builder.SequenceBuilder.{SequenceBuilder}
 use Rattle.nesl_values.specs.declared.run.Run.{Run}
-use Rattle.nesl_values.specs.declared.value.Value.{Value, fold-Value}
-use Rattle.nesl_values.specs.declared.value.Value.TheOpen.{Value-F}
-
--- one level, with each value inside already seen as its tree
-abbrev pub tree_step : {A : Type 0} → Value-F A Tree → Tree
-tree_step (Value-F.Int n) = int n
-tree_step (Value-F.Bool b) = boolean b
-tree_step (Value-F.Char c) = character c
-tree_step (Value-F.Pair l r) = pair l.value r.value
-tree_step (Value-F.Seq v) = sequence v.items
-tree_step (Value-F.Tagged n b) = tagged n b.value
-tree_step (Value-F.Ints v) = sequence (map int v.items)
-tree_step (Value-F.Bools v) = sequence (map boolean v.items)
-tree_step (Value-F.Chars v) = sequence (map character v.items)
 
 abbrev pub tree_of : {A : Type 0} → Value A → Tree
-tree_of {A} = fold-Value A Tree tree_step
+tree_of (Int n) = int n
+tree_of (Bool b) = boolean b
+tree_of (Char c) = character c
+tree_of (Shared node) = node.value
+
+abbrev pub parts_tree : {A : Type 0} → Parts A → Tree
+parts_tree (Pair l r) = pair (tree_of l) (tree_of r)
+parts_tree (Tagged n v) = tagged n (tree_of v)
+parts_tree (Seq vs) = sequence (map tree_of vs.items)
+parts_tree (Ints ns) = sequence (map int ns.items)
+parts_tree (Bools bs) = sequence (map boolean bs.items)
+parts_tree (Chars cs) = sequence (map character cs.items)
+
+-- the number of nodes of a tree, under a name that no member of a model hides
+abbrev pub nodes_of : Tree → ℕ
+nodes_of = size
 
 abbrev pub trees_view : {A : Type 0} → List (Value A) → Trees
 trees_view vs = trees_of (map tree_of vs)
@@ -30,6 +36,12 @@ element_tree (Element.Int n) = int n
 element_tree (Element.Bool b) = boolean b
 element_tree (Element.Char c) = character c
 element_tree (Element.Node v) = tree_of v.now
+
+abbrev pub item_trees : {A : Type 0} → Items A → List Tree
+item_trees (Items.Ints ns) = map int ns.now
+item_trees (Items.Bools bs) = map boolean bs.now
+item_trees (Items.Chars cs) = map character cs.now
+item_trees (Items.Values vs) = map tree_of vs.now
 
 abbrev pub run_trees : {A : Type 0} → Run A → List Tree
 run_trees Run.Empty = []

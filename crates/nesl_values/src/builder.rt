@@ -1,10 +1,10 @@
 // Sequences that are built from their front to their end.
-ghost use Rattle.std.specs.Prelude.{◌≡◌, ◌+◌, ◌≤◌, List, [], ◌∷◌, ◌++◌, length, slice_range, take, map, is_ok, if◌then◌else◌, OnOk, OnErr, IsSome, vec_len};
+ghost use Rattle.std.specs.Prelude.{◌≡◌, List, [], ◌∷◌, ◌++◌, take, map, is_ok, if◌then◌else◌, IfOk, OnOk, OnErr, vec_len};
 ghost use Rattle.nesl_values.specs.Tree.{int, boolean, character, sequence};
-ghost use Rattle.nesl_values.specs.Parts.{as_sequence, elements};
-ghost use Rattle.nesl_values.specs.View.{tree_of, element_tree, elements_of};
+ghost use Rattle.nesl_values.specs.View.{tree_of, element_tree, item_trees, elements_of};
 
 use crate::element::Element;
+use crate::items::Items;
 use crate::leaf::Leaf;
 use crate::run::Run;
 use crate::value::Value;
@@ -15,7 +15,7 @@ use std::mem;
 ///
 /// As long as all of them are numbers, all truth values or all characters, they lie packed. The
 /// first element of another kind turns them into values of their own.
-#[derive(Debug, Drop)]
+#[derive(Drop)]
 pub struct SequenceBuilder<A: Allocator = Global> {
     run: Run<A>,
     room: usize,
@@ -42,8 +42,8 @@ impl<A: Allocator + Copy> SequenceBuilder<A> {
     }
 
     /// The sequence of the elements.
-    pub fn finish(self) -> Value<A>
-        ensures { tree_of result ≡ sequence (elements_of self) }
+    pub fn finish(self) -> Result<Value<A>, AllocError>
+        ensures { IfOk result (λ v. tree_of v ≡ sequence (elements_of self)) }
     {
         let SequenceBuilder {
             run,
@@ -76,6 +76,19 @@ impl<A: Allocator + Copy> SequenceBuilder<A> {
             Element::Bool(b) => self.push_bool(b),
             Element::Char(c) => self.push_char(c),
             Element::Node(value) => self.push(value.copy_into(self.alloc)?),
+        }
+    }
+
+    /// Adds an element at the end, which stays where it is too.
+    pub fn push_shared(&mut self, element: Element<'_, A>) -> Result<(), AllocError>
+        ensures ok { OnOk result (elements_of self.new ≡ elements_of self.old ++ element_tree element.entry ∷ []) }
+        ensures err { OnErr result (elements_of self.new ≡ elements_of self.old) }
+    {
+        match element {
+            Element::Int(n) => self.push_int(n),
+            Element::Bool(b) => self.push_bool(b),
+            Element::Char(c) => self.push_char(c),
+            Element::Node(value) => self.push(value.share()?),
         }
     }
 
@@ -133,50 +146,29 @@ impl<A: Allocator + Copy> SequenceBuilder<A> {
         }
     }
 
-    /// Moves the elements of a sequence to the end. A builder with no element takes the sequence over
-    /// as it is.
-    pub fn append(&mut self, from: Value<A>) -> Result<(), AllocError>
-        requires { IsSome (as_sequence (tree_of from)) }
-        ensures ok { OnOk result
-            (elements_of self.new ≡ elements_of self.old ++ elements (tree_of from)) }
+    /// Adds copies of elements at the end. Where both sides are packed alike, this is one copy of memory.
+    pub fn extend_copies<B: Allocator>(&mut self, more: Items<'_, B>) -> Result<(), AllocError>
+        ensures ok { OnOk result (elements_of self.new ≡ elements_of self.old ++ item_trees more.entry) }
         ensures err { OnErr result (elements_of self.new ≡ elements_of self.old) }
     {
-        if let Run::Empty = &self.run {
-            self.run = from.into_run();
-            return Ok(());
-        }
-        match from.into_run() {
-            Run::Empty => Ok(()),
-            Run::Ints(ints) => self.extend_from_ints(&ints),
-            Run::Bools(bools) => self.extend_from_bools(&bools),
-            Run::Chars(chars) => self.extend_from_chars(&chars),
-            Run::Values(values) => self.append_values(values),
+        match more {
+            Items::Ints(ints) => self.extend_from_ints(ints),
+            Items::Bools(bools) => self.extend_from_bools(bools),
+            Items::Chars(chars) => self.extend_from_chars(chars),
+            Items::Values(values) => self.extend_from_copies(values),
         }
     }
 
-    /// Adds copies of the elements of a sequence from place `start` to before place `end`. Where
-    /// both sides are packed alike, this is one copy of memory.
-    pub fn extend_from_part<B: Allocator>(
-        &mut self,
-        from: &Value<B>,
-        start: usize,
-        end: usize,
-    ) -> Result<(), AllocError>
-        requires start_le_end { start ≤ end }
-        requires within { end ≤ length (elements (tree_of from.now)) }
-        ensures ok { OnOk result (elements_of self.new
-            ≡ elements_of self.old ++ slice_range (elements (tree_of from.now)) start end) }
+    /// Adds elements at the end, which stay where they are too. Leaves are copied.
+    pub fn extend_shared(&mut self, more: Items<'_, A>) -> Result<(), AllocError>
+        ensures ok { OnOk result (elements_of self.new ≡ elements_of self.old ++ item_trees more.entry) }
         ensures err { OnErr result (elements_of self.new ≡ elements_of self.old) }
     {
-        if start == end {
-            return Ok(());
-        }
-        match from {
-            Value::Ints(ints) => self.extend_from_ints(part_of(ints, start, end)),
-            Value::Bools(bools) => self.extend_from_bools(part_of(bools, start, end)),
-            Value::Chars(chars) => self.extend_from_chars(part_of(chars, start, end)),
-            Value::Seq(values) => self.extend_from_copies(part_of(values, start, end)),
-            _ => unreachable!(),
+        match more {
+            Items::Ints(ints) => self.extend_from_ints(ints),
+            Items::Bools(bools) => self.extend_from_bools(bools),
+            Items::Chars(chars) => self.extend_from_chars(chars),
+            Items::Values(values) => self.extend_from_shares(values),
         }
     }
 
@@ -269,14 +261,13 @@ impl<A: Allocator + Copy> SequenceBuilder<A> {
         }
     }
 
-    fn append_values(&mut self, mut more: Vec<Value<A>, A>) -> Result<(), AllocError>
-        ensures ok { OnOk result
-            (elements_of self.new ≡ elements_of self.old ++ map tree_of more.items) }
+    fn extend_from_shares(&mut self, more: &[Value<A>]) -> Result<(), AllocError>
+        ensures ok { OnOk result (elements_of self.new ≡ elements_of self.old ++ map tree_of more.now) }
         ensures err { OnErr result (elements_of self.new ≡ elements_of self.old) }
     {
         match mem::replace(&mut self.run, Run::Empty).into_values(self.alloc, self.room) {
             Ok(mut values) => {
-                let outcome = values.append(&mut more);
+                let outcome = extend_with_shares(&mut values, more);
                 self.run = Run::Values(values);
                 outcome
             }
@@ -303,14 +294,6 @@ impl<A: Allocator + Copy> SequenceBuilder<A> {
             }
         }
     }
-}
-
-fn part_of<T, A: Allocator>(items: &Vec<T, A>, start: usize, end: usize) -> &[T]
-    requires start_le_end { start ≤ end }
-    requires within { end ≤ vec_len items.now }
-    ensures { result.now ≡ slice_range items.now.items start end }
-{
-    &items[start..end]
 }
 
 // Adds an item at the end; the first one takes room for that many.
@@ -408,6 +391,39 @@ fn push_copies<A: Allocator + Copy, B: Allocator>(
     values.reserve(more.len())?;
     for value in more {
         values.push(value.copy_into(alloc)?)?;
+    }
+    Ok(())
+}
+
+// Adds owners of values, all of them or none.
+fn extend_with_shares<A: Allocator>(
+    values: &mut Vec<Value<A>, A>,
+    more: &[Value<A>],
+) -> Result<(), AllocError>
+    ensures ok { OnOk result
+        (map tree_of values.new.items ≡ map tree_of values.old.items ++ map tree_of more.now) }
+    ensures err { OnErr result (values.new.items ≡ values.old.items) }
+{
+    let len = values.len();
+    let outcome = push_shares(values, more);
+    if outcome.is_err() {
+        values.truncate(len);
+    }
+    outcome
+}
+
+// Adds owners of values, or of some of them.
+fn push_shares<A: Allocator>(
+    values: &mut Vec<Value<A>, A>,
+    more: &[Value<A>],
+) -> Result<(), AllocError>
+    ensures ok { OnOk result
+        (map tree_of values.new.items ≡ map tree_of values.old.items ++ map tree_of more.now) }
+    ensures kept { take (vec_len values.old) values.new.items ≡ values.old.items }
+{
+    values.reserve(more.len())?;
+    for value in more {
+        values.push(value.share()?)?;
     }
     Ok(())
 }

@@ -1,23 +1,28 @@
-// Values of the language, as trees under any allocator, with sequences of leaves packed.
+// Values of the language, as trees under any allocator. What has parts may have any number of owners
+// and knows how many nodes it has; sequences of leaves are packed.
 //
-// Outside this crate a value is looked at by `shape`, `element` and the `as_` calls, and is taken
-// apart by the `into_` calls. Every sequence is made by a `SequenceBuilder`.
+// Outside this crate a value is looked at by `shape`, `items`, `element` and the `as_` calls. Sequences
+// are made by a `SequenceBuilder`, or from a vector of their elements.
 #![tactic(auto)]
 
 mod builder;
 mod copy;
+mod count;
+mod dropping;
 mod element;
+mod items;
 mod leaf;
-mod nodes;
+mod listed;
+mod making;
+mod node;
 mod parts;
 mod run;
 mod same;
 mod shape;
-#[cfg(test)]
-mod tests;
 mod value;
 
 pub use builder::SequenceBuilder;
 pub use element::Element;
+pub use items::Items;
 pub use shape::Shape;
 pub use value::Value;

@@ -8,7 +8,7 @@ use crate::value::Value;
 use std::alloc::{AllocError, Allocator};
 
 /// Elements in order, packed as long as they are leaves of one kind.
-#[derive(Debug, Drop)]
+#[derive(Drop)]
 pub enum Run<A: Allocator> {
     Empty,
     Ints(Vec<i64, A>),
@@ -19,15 +19,15 @@ pub enum Run<A: Allocator> {
 
 impl<A: Allocator + Copy> Run<A> {
     // The sequence of the elements.
-    pub fn into_sequence(self, alloc: A) -> Value<A>
-        ensures { tree_of result ≡ sequence (run_trees self) }
+    pub fn into_sequence(self, alloc: A) -> Result<Value<A>, AllocError>
+        ensures { IfOk result (λ v. tree_of v ≡ sequence (run_trees self)) }
     {
         match self {
             Run::Empty => Value::empty(alloc),
-            Run::Ints(leaves) => Value::Ints(leaves),
-            Run::Bools(leaves) => Value::Bools(leaves),
-            Run::Chars(leaves) => Value::Chars(leaves),
-            Run::Values(values) => Value::Seq(values),
+            Run::Ints(leaves) => Value::ints(alloc, leaves),
+            Run::Bools(leaves) => Value::bools(alloc, leaves),
+            Run::Chars(leaves) => Value::chars(alloc, leaves),
+            Run::Values(values) => Value::sequence(alloc, values),
         }
     }
 

@@ -1,162 +1,143 @@
-ghost use Rattle.std.specs.Prelude.{◌≡◌, ◌+◌, ◌<◌, [], IfOk, IfSome, IsSome, option_map};
-ghost use Rattle.nesl_values.specs.Tree.{size, sequence, pair, tagged};
-ghost use Rattle.nesl_values.specs.Parts.{as_pair, as_tagged, as_sequence, elements};
-ghost use Rattle.nesl_values.specs.View.{tree_of, run_trees};
+ghost use Rattle.std.specs.Prelude.{◌≡◌, ◌+◌, ◌<◌, ◌≤◌, ◌^◌, IfSome, IsTrue, IsFalse, vec_len};
+ghost use Rattle.std.specs.Arc.{arc_value};
+ghost use Rattle.nesl_values.specs.Tree.{size};
+ghost use Rattle.nesl_values.specs.View.{tree_of};
+ghost use Rattle.nesl_values.specs.Weight.{weight};
+ghost use Rattle.nesl_values.specs.Dropping.{heft};
 
-use crate::run::Run;
-use std::alloc::{AllocError, Allocator, Global};
-use std::mem;
+use crate::dropping::{Turn, Way, entered_if_alone, turned_if_alone};
+use crate::node::{Node, Parts};
+use std::alloc::{Allocator, Global};
+use std::sync::Arc;
 
 /// A value of the language: a number, a truth value, a character, a pair, a sequence, or a tag with
 /// a value.
 ///
-/// The last three variants hold sequences of leaves packed. Such a sequence is the same tree as the
-/// `Seq` of the same leaves, and no call tells one from the other.
-#[derive(Debug)]
+/// The last variant holds what has parts. Such a value may have any number of owners, in any threads,
+/// and fewer than 2^64 nodes: whatever would make a larger one answers `AllocError`.
+#[cycle(value)]
 pub enum Value<A: Allocator = Global> {
     Int(i64),
     Bool(bool),
     Char(u8),
-    Pair(Box<Value<A>, A>, Box<Value<A>, A>),
-    Seq(Vec<Value<A>, A>),
-    Tagged(u64, Box<Value<A>, A>),
-    Ints(Vec<i64, A>),
-    Bools(Vec<bool, A>),
-    Chars(Vec<u8, A>),
+    Shared(Arc<Node<A>, A>),
 }
 
-// By link inversion: each node on the way down to a leaf holds its parent in the place of the
-// child that the way goes through, so a value of any depth is dropped with no recursion and no
-// memory of its own.
+// By link inversion: each node on the way down to a leaf holds its parent in the place of the child
+// that the way goes through, so a value of any depth is dropped with no memory of its own. A node that
+// has other owners stays as it is. Calls go down a value only where two threads let go of the last two
+// owners of a node at the same moment: one level for each such race that is lost.
 impl<A: Allocator> Drop for Value<A> {
-    fn drop(mut self) {
+    fn drop(self) {
+        self.taken_down()
+    }
+}
+
+impl<A: Allocator> Value<A> {
+    pub(crate) fn is_shared(&self) -> bool
+        ensures { IsTrue result → 0 < weight (tree_of self.now) }
+    {
+        match self {
+            Value::Shared(shared) => {
+                shared.weighs();
+                true
+            }
+            _ => false,
+        }
+    }
+
+    // Drops the value.
+    #[cycle(drops)]
+    fn taken_down(mut self) {
+        let _nodes = self.nodes();
         self = self.taken_apart(Value::Int(0));
         while let Some(rest) = self.next_taken_apart() {
             self = rest;
         }
     }
-}
 
-impl<A: Allocator> Value<A> {
     // Goes up from a leaf that was dropped to the next one, and drops it. `None` at the top.
+    #[cycle(drops)]
     fn next_taken_apart(self) -> Option<Self>
-        ensures { IfSome result (λ rest. size (tree_of rest) < size (tree_of self)) }
+        ensures { IfSome result (λ rest. weight (tree_of rest) < weight (tree_of self)) }
     {
-        match self {
-            Value::Tagged(_, parent) => Some(Box::into_inner(parent)),
-            Value::Pair(parent, mut right) => {
-                let next = Box::replace(&mut right, Box::into_inner(parent));
-                Some(next.taken_apart(Value::Tagged(0, right)))
+        let mut shared = match self {
+            Value::Shared(shared) => shared,
+            Value::Int(_) | Value::Bool(_) | Value::Char(_) => return None,
+        };
+        match turned_if_alone(&mut shared) {
+            Turn::Down(child) => Some(child.taken_apart(Value::Shared(shared))),
+            Turn::Up(parent) => {
+                let_go(shared);
+                Some(parent)
             }
-            Value::Seq(mut items) => match items.pop() {
-                Some(parent) => match items.len() {
-                    0 => {
-                        items.destroy_empty();
-                        Some(parent)
-                    }
-                    len => {
-                        let next = mem::replace(&mut items[len - 1], parent);
-                        Some(next.taken_apart(Value::Seq(items)))
-                    }
-                },
-                None => {
-                    items.destroy_empty();
-                    None
-                }
-            },
-            Value::Int(_) | Value::Bool(_) | Value::Char(_) => None,
-            Value::Ints(_) | Value::Bools(_) | Value::Chars(_) => None,
+            Turn::Stuck => {
+                let_go(shared);
+                None
+            }
         }
     }
 
     // Drops the first leaf of the value. What is left of it, where each node on the way to the
     // leaf holds its parent in place of the child on the way, and the topmost one holds `above`.
+    #[cycle(drops)]
     fn taken_apart(mut self, mut above: Self) -> Self
-        ensures { size (tree_of result) < size (tree_of self) + size (tree_of above) }
+        requires { size (tree_of self) + size (tree_of above) ≤ 2 ^ 64 }
+        ensures { weight (tree_of result) ≤ weight (tree_of self) + weight (tree_of above) }
     {
         loop {
-            match self {
-                Value::Tagged(tag, mut inner) => {
-                    self = Box::replace(&mut inner, above);
-                    above = Value::Tagged(tag, inner);
-                }
-                Value::Pair(mut left, right) => {
-                    self = Box::replace(&mut left, above);
-                    above = Value::Pair(left, right);
-                }
-                Value::Seq(mut items) => match items.len() {
-                    0 => {
-                        items.destroy_empty();
-                        return above;
-                    }
-                    len => {
-                        self = mem::replace(&mut items[len - 1], above);
-                        above = Value::Seq(items);
-                    }
-                },
+            let mut shared = match self {
+                Value::Shared(shared) => shared,
                 Value::Int(_) | Value::Bool(_) | Value::Char(_) => return above,
-                Value::Ints(_) | Value::Bools(_) | Value::Chars(_) => return above,
+            };
+            match entered_if_alone(&mut shared, above) {
+                Way::Down(child) => {
+                    self = child;
+                    above = Value::Shared(shared);
+                }
+                Way::End(parent) => {
+                    let_go(shared);
+                    return parent;
+                }
             }
         }
     }
 }
 
-impl<A: Allocator> Value<A> {
-    /// The parts of a pair.
-    pub fn into_pair(self) -> Option<(Value<A>, Value<A>)>
-        ensures { option_map (λ p. (tree_of p.0, tree_of p.1)) result ≡ as_pair (tree_of self) }
-    {
-        match self {
-            Value::Pair(left, right) => Some((Box::into_inner(left), Box::into_inner(right))),
-            _ => None,
-        }
-    }
-
-    /// The tag and the value that it stands before.
-    pub fn into_tagged(self) -> Option<(u64, Value<A>)>
-        ensures { option_map (λ p. (p.0, tree_of p.1)) result ≡ as_tagged (tree_of self) }
-    {
-        match self {
-            Value::Tagged(tag, inner) => Some((tag, Box::into_inner(inner))),
-            _ => None,
-        }
-    }
-
-    // The elements of a sequence.
-    pub(crate) fn into_run(self) -> Run<A>
-        requires { IsSome (as_sequence (tree_of self)) }
-        ensures { run_trees result ≡ elements (tree_of self) }
-    {
-        match self {
-            Value::Seq(values) => Run::Values(values),
-            Value::Ints(ints) => Run::Ints(ints),
-            Value::Bools(bools) => Run::Bools(bools),
-            Value::Chars(chars) => Run::Chars(chars),
-            _ => unreachable!(),
+// Gives up an owner of a node. Where it was the last one after all, since others were given up
+// meanwhile, its children are dropped one by one.
+#[cycle(drops)]
+fn let_go<A: Allocator>(shared: Arc<Node<A>, A>) {
+    if let Some(node) = Arc::into_inner(shared) {
+        match node.parts {
+            Parts::Pair(left, right) => {
+                left.taken_down();
+                right.taken_down();
+            }
+            Parts::Tagged(_, inner) => inner.taken_down(),
+            Parts::Seq(items) => all_let_go(items),
+            Parts::Ints(_) | Parts::Bools(_) | Parts::Chars(_) => {}
         }
     }
 }
 
-impl<A: Allocator + Copy> Value<A> {
-    /// The sequence with no element. Takes no memory.
-    pub fn empty(alloc: A) -> Value<A>
-        ensures { tree_of result ≡ sequence [] }
-    {
-        Value::Seq(Vec::new(alloc))
-    }
+#[cycle(drops)]
+fn all_let_go<A: Allocator>(mut items: Vec<Value<A>, A>) {
+    while last_let_go(&mut items) {}
+    items.destroy_empty();
+}
 
-    /// The pair of the two.
-    pub fn pair(alloc: A, left: Value<A>, right: Value<A>) -> Result<Value<A>, AllocError>
-        ensures { IfOk result (λ v. tree_of v ≡ pair (tree_of left) (tree_of right)) }
-    {
-        let left = Box::new(alloc, left)?;
-        Ok(Value::Pair(left, Box::new(alloc, right)?))
-    }
-
-    /// The value with that tag before it.
-    pub fn tagged(alloc: A, tag: u64, inner: Value<A>) -> Result<Value<A>, AllocError>
-        ensures { IfOk result (λ v. tree_of v ≡ tagged tag (tree_of inner)) }
-    {
-        Ok(Value::Tagged(tag, Box::new(alloc, inner)?))
+// Drops the last item, where there is one.
+#[cycle(drops)]
+fn last_let_go<A: Allocator>(items: &mut Vec<Value<A>, A>) -> bool
+    ensures some { IsTrue result → heft items.new.items < heft items.old.items }
+    ensures none { IsFalse result → vec_len items.new ≡ 0 }
+{
+    match items.pop() {
+        Some(item) => {
+            item.taken_down();
+            true
+        }
+        None => false,
     }
 }

@@ -40,7 +40,8 @@ pub returns-then-not-end_input-clause-batch : goal.returns-then-not-end_input-cl
 returns-then-not-end_input-clause-batch g c =
     let s = c.reads.invariant.so_far in
     let P : ℕ → Type 0 = λ k. Consumes (g.S.Source.left c.reads.reader) (g.S.Source.left c.read.new.self) (take k c.read.new.buf) in
-    last_stopped_batch _ _ _ _ _ c.args.house.now _ c.end_input.new.self s.read s.consumed (subst P c.in-Ok-eq0.field-0-test c.in-Ok-eq0.ensures.bytes.0) (c.if-not-end_input.ensures.talk c.args.house.now (g.W.Sink.held c.args.writer.now) s.read s.progress)
+    last_stopped_batch _ _ _ _ _ c.args.house.now _ c.end_input.new.self s.read s.consumed (subst P c.in-Ok-eq0.field-0-test c.in-Ok-eq0.ensures.bytes.0) (c.in-Ok-eq0.ensures.bytes.1 c.in-Ok-eq0.field-0-test (omega (arith, c.read.auto.buf)))
+    (c.if-not-end_input.ensures.talk c.args.house.now (g.W.Sink.held c.args.writer.now) s.read s.progress)
 
 pub returns-in-Ok-eq0-clause-batch : goal.returns-in-Ok-eq0-clause-batch
 returns-in-Ok-eq0-clause-batch g c =

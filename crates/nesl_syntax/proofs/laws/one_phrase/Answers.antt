@@ -5,5 +5,5 @@ pub returns : goal.returns
 returns c = record {
   expression = λ ts a b p q. one_tree p q;
   pattern = λ ts a b p q. one_pattern p q;
-  written_type = λ ts y z a b p q. one_type p q;
+  written_type = λ ts a b p q. one_type p q;
 }

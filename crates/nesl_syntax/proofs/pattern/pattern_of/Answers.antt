@@ -1,7 +1,7 @@
 use Rattle.std.proofs.Common.{ap, ◌∙◌, sym}
-use Rattle.nesl_syntax.specs.Trees.{pattern_in}
 use Rattle.nesl_syntax.proofs.Rows.{given_some, given_high, given_none}
 use Rattle.nesl_syntax.proofs.pattern.pattern_of.Goals as goal
+use Rattle.nesl_syntax.specs.Patterns.{pattern_in}
 
 pub returns-in-Some : goal.returns-in-Some
 returns-in-Some c = λ x s. let k = rw c.in-Built.is at s in given_some c.in-Some.pattern c.in-Built.height x ((rw c.in-Some.is at c.in_ok-pattern-in-Built.ensures) ∙ ap pattern_in k.0) k.1 k.2

@@ -1,121 +1,27 @@
-use Rattle.std.proofs.Common.{◌≡◌, ◌<◌, ℕ, List, length, sym, ◌∙◌, subst, rules, arith}
-use Rattle.std.proofs.lemmas.List.{with_items_is}
-use Rattle.nesl_types.specs.Class.{class_at}
-use Rattle.nesl_types.specs.Term.{Term, nodes}
-use Rattle.nesl_types.specs.Substitution.{substitute}
-use Rattle.nesl_unify.specs.declared.table.Node.{Node}
-use Rattle.nesl_unify.specs.Bounds.{IsBounded}
-use Rattle.nesl_unify.specs.Table.{Fits, IsTable, outside_at}
-use Rattle.nesl_unify.specs.Members.{IsInAll}
-use Rattle.nesl_unify.specs.Pairs.{AreEqual}
-use Rattle.nesl_unify.specs.Solves.{SolvesAll}
-use Rattle.nesl_unify.proofs.Solved.{stated, unified, types, same_start, table_start, longer, none_unified, none_measured, types_solve, types_bounded, types_general, members_outside, members_read}
+use Rattle.std.proofs.Common.{rules}
+use Rattle.nesl_unify.specs.Solves.{type_of}
+use Rattle.nesl_unify.proofs.Solved.{stated, started, met_solves}
 use Rattle.nesl_unify.proofs.solve.solve.Goals as goal
 
-pub returns-in_err-unify-clause-none : goal.returns-in_err-unify-clause-none
-returns-in_err-unify-clause-none c = λ e s of b h.
-    let start = c.add_equations.new.nodes.items in
-    let p = c.in_ok-pending.pending.items in
-    let t = stated c.args.count c.args.equations.now c.in_ok-nodes.nodes.items start p c.in_ok-nodes.ensures c.in_ok-pending.ensures.extends c.in_ok-pending.ensures.meaning c.requires.equations in
-    none_unified c.args.count c.args.equations.now start p t (subst (λ (l : List Node). (w : ℕ → Term) → Fits w l → AreEqual w p → ⊥) c.as_mut_slice.ensures.value (c.in_err-unify.ensures.none (search rules))) s h.equal
+pub solve_table-requires-clause-nodes : goal.solve_table-requires-clause-nodes
+solve_table-requires-clause-nodes c =
+    let t = stated c.args.count c.args.equations.now c.in_ok-nodes.nodes.items c.add_equations.new.nodes.items c.in_ok-pending.pending.items c.in_ok-nodes.ensures c.in_ok-pending.ensures.extends c.in_ok-pending.ensures.meaning c.requires.equations in
+    t.extends
 
-pub measure_variables-requires-clause-table : goal.measure_variables-requires-clause-table
-measure_variables-requires-clause-table c =
-    let start = c.add_equations.new.nodes.items in
-    let given = c.as_mut_slice.result.now in
-    let ns = c.unify.new.nodes in
-    let p = c.in_ok-pending.pending.items in
-    let t = stated c.args.count c.args.equations.now c.in_ok-nodes.nodes.items start p c.in_ok-nodes.ensures c.in_ok-pending.ensures.extends c.in_ok-pending.ensures.meaning c.requires.equations in
-    let l = longer c.args.count start given ns t.extends c.as_mut_slice.ensures.value c.unify.auto.nodes in
-    let at : c.as_slice.result.now ≡ ns = c.as_slice.ensures.value ∙ with_items_is c.add_equations.new.nodes ns (omega (arith, c.unify.auto.nodes, c.as_mut_slice.ensures.len)) in
-    subst (λ (k : List Node). IsTable (length k) k) (sym at) (table_start c.args.count (length ns) start given ns l t.extends c.as_mut_slice.ensures.value (c.in_ok-unify.ensures.table (length ns)))
-
-pub returns-in_err-sizes-clause-none : goal.returns-in_err-sizes-clause-none
-returns-in_err-sizes-clause-none c = λ i s of b h.
-    let start = c.add_equations.new.nodes.items in
-    let given = c.as_mut_slice.result.now in
-    let ns = c.unify.new.nodes in
-    let p = c.in_ok-pending.pending.items in
-    let n = c.args.count in
-    let eqs = c.args.equations.now in
-    let t = stated n eqs c.in_ok-nodes.nodes.items start p c.in_ok-nodes.ensures c.in_ok-pending.ensures.extends c.in_ok-pending.ensures.meaning c.requires.equations in
-    let e = with_items_is c.add_equations.new.nodes ns (omega (arith, c.unify.auto.nodes, c.as_mut_slice.ensures.len)) in
-    let k = c.in_ok-unify.ensures in
-    let same = same_start start given ns p c.as_mut_slice.ensures.value k.same in
-    none_measured n eqs start ns p t same (subst (λ (l : List Node). (w : ℕ → Term) → Fits w l → (v : ℕ) × ((v < n) × (4096 < nodes (w v)))) (c.as_slice.ensures.value ∙ e) (c.in_err-sizes.ensures.none (search rules))) s b h.equal
-
-pub returns-in_err-classes-clause-none : goal.returns-in_err-classes-clause-none
-returns-in_err-classes-clause-none c = λ i s of b h.
-    let start = c.add_equations.new.nodes.items in
-    let given = c.as_mut_slice.result.now in
-    let ns = c.unify.new.nodes in
-    let p = c.in_ok-pending.pending.items in
-    let n = c.args.count in
-    let eqs = c.args.equations.now in
-    let t = stated n eqs c.in_ok-nodes.nodes.items start p c.in_ok-nodes.ensures c.in_ok-pending.ensures.extends c.in_ok-pending.ensures.meaning c.requires.equations in
-    let e = with_items_is c.add_equations.new.nodes ns (omega (arith, c.unify.auto.nodes, c.as_mut_slice.ensures.len)) in
-    let k = c.in_ok-unify.ensures in
-    let found = c.in_ok-sizes.sizes.items in
-    let u = unified n eqs start given ns c.as_slice.result.now p found t c.as_mut_slice.ensures.value k.same k.table k.flat c.unify.auto.nodes (c.as_slice.ensures.value ∙ e) c.in_ok-sizes.ensures.ok in
-    let at : c.as_slice-2.result.now ≡ ns = c.as_slice-2.ensures.value ∙ e in
-    let m = members_outside n start ns p found u c.args.members.now s of c.requires.members (types_general n eqs start ns p found t u s h.equal) h.within in
-    c.in_err-classes.ensures.none (search rules) s of (subst (λ (l : List Node). IsInAll (λ v. substitute s (outside_at l v)) of c.args.members.now) (sym at) m)
+pub returns-in_err-solution-clause-none : goal.returns-in_err-solution-clause-none
+returns-in_err-solution-clause-none c = λ e s of b h.
+    let t = stated c.args.count c.args.equations.now c.in_ok-nodes.nodes.items c.add_equations.new.nodes.items c.in_ok-pending.pending.items c.in_ok-nodes.ensures c.in_ok-pending.ensures.extends c.in_ok-pending.ensures.meaning c.requires.equations in
+    c.in_err-solution.ensures.none (search rules) s of b (started s c.args.count c.args.equations.now c.add_equations.new.nodes.items c.in_ok-pending.pending.items t h.equal) h.within
 
 pub returns-clause-solves : goal.returns-clause-solves
 returns-clause-solves c =
-    let start = c.add_equations.new.nodes.items in
-    let given = c.as_mut_slice.result.now in
-    let ns = c.unify.new.nodes in
-    let p = c.in_ok-pending.pending.items in
-    let n = c.args.count in
-    let eqs = c.args.equations.now in
-    let t = stated n eqs c.in_ok-nodes.nodes.items start p c.in_ok-nodes.ensures c.in_ok-pending.ensures.extends c.in_ok-pending.ensures.meaning c.requires.equations in
-    let e = with_items_is c.add_equations.new.nodes ns (omega (arith, c.unify.auto.nodes, c.as_mut_slice.ensures.len)) in
-    let k = c.in_ok-unify.ensures in
-    let found = c.in_ok-sizes.sizes.items in
-    let u = unified n eqs start given ns c.as_slice.result.now p found t c.as_mut_slice.ensures.value k.same k.table k.flat c.unify.auto.nodes (c.as_slice.ensures.value ∙ e) c.in_ok-sizes.ensures.ok in
-    let at : c.as_slice-2.result.now ≡ ns = c.as_slice-2.ensures.value ∙ e in
-    let of = class_at c.in_ok-classes.classes.items in
-    let m = subst (λ (l : List Node). IsInAll (outside_at l) of c.args.members.now) at c.in_ok-classes.ensures.within in
+    let t = stated c.args.count c.args.equations.now c.in_ok-nodes.nodes.items c.add_equations.new.nodes.items c.in_ok-pending.pending.items c.in_ok-nodes.ensures c.in_ok-pending.ensures.extends c.in_ok-pending.ensures.meaning c.requires.equations in
     record {
-      equal = subst (λ (l : List Node). SolvesAll (types l found) eqs) (sym e) (types_solve n eqs start ns p found t u);
-      within = subst (λ (l : List Node). IsInAll (types l found) of c.args.members.now) (sym e) (members_read n start ns p found u c.args.members.now of c.requires.members m);
+      equal = met_solves (type_of c.in_ok-solution.solution) c.args.count c.args.equations.now c.add_equations.new.nodes.items c.in_ok-pending.pending.items t c.in_ok-solution.ensures.met;
+      within = c.in_ok-solution.ensures.within;
     }
 
 pub returns-clause-general : goal.returns-clause-general
 returns-clause-general c = λ s of h.
-    let start = c.add_equations.new.nodes.items in
-    let given = c.as_mut_slice.result.now in
-    let ns = c.unify.new.nodes in
-    let p = c.in_ok-pending.pending.items in
-    let n = c.args.count in
-    let eqs = c.args.equations.now in
-    let t = stated n eqs c.in_ok-nodes.nodes.items start p c.in_ok-nodes.ensures c.in_ok-pending.ensures.extends c.in_ok-pending.ensures.meaning c.requires.equations in
-    let e = with_items_is c.add_equations.new.nodes ns (omega (arith, c.unify.auto.nodes, c.as_mut_slice.ensures.len)) in
-    let k = c.in_ok-unify.ensures in
-    let found = c.in_ok-sizes.sizes.items in
-    let u = unified n eqs start given ns c.as_slice.result.now p found t c.as_mut_slice.ensures.value k.same k.table k.flat c.unify.auto.nodes (c.as_slice.ensures.value ∙ e) c.in_ok-sizes.ensures.ok in
-    let at : c.as_slice-2.result.now ≡ ns = c.as_slice-2.ensures.value ∙ e in
-    let g = types_general n eqs start ns p found t u s h.equal in
-    let m = members_outside n start ns p found u c.args.members.now s of c.requires.members g h.within in
-    record {
-      put = s;
-      same = subst (λ (l : List Node). (v : ℕ) → s v ≡ substitute s (types l found v)) (sym e) g;
-      within = c.in_ok-classes.ensures.general s of (subst (λ (l : List Node). IsInAll (λ v. substitute s (outside_at l v)) of c.args.members.now) (sym at) m);
-    }
-
-pub returns-clause-bounded : goal.returns-clause-bounded
-returns-clause-bounded c =
-    let start = c.add_equations.new.nodes.items in
-    let given = c.as_mut_slice.result.now in
-    let ns = c.unify.new.nodes in
-    let p = c.in_ok-pending.pending.items in
-    let n = c.args.count in
-    let eqs = c.args.equations.now in
-    let t = stated n eqs c.in_ok-nodes.nodes.items start p c.in_ok-nodes.ensures c.in_ok-pending.ensures.extends c.in_ok-pending.ensures.meaning c.requires.equations in
-    let e = with_items_is c.add_equations.new.nodes ns (omega (arith, c.unify.auto.nodes, c.as_mut_slice.ensures.len)) in
-    let k = c.in_ok-unify.ensures in
-    let found = c.in_ok-sizes.sizes.items in
-    let u = unified n eqs start given ns c.as_slice.result.now p found t c.as_mut_slice.ensures.value k.same k.table k.flat c.unify.auto.nodes (c.as_slice.ensures.value ∙ e) c.in_ok-sizes.ensures.ok in
-    let at : c.as_slice-2.result.now ≡ ns = c.as_slice-2.ensures.value ∙ e in
-    subst (λ (l : List Node). IsBounded (types l found)) (sym e) (types_bounded n start ns p found u)
+    let t = stated c.args.count c.args.equations.now c.in_ok-nodes.nodes.items c.add_equations.new.nodes.items c.in_ok-pending.pending.items c.in_ok-nodes.ensures c.in_ok-pending.ensures.extends c.in_ok-pending.ensures.meaning c.requires.equations in
+    c.in_ok-solution.ensures.general s of (started s c.args.count c.args.equations.now c.add_equations.new.nodes.items c.in_ok-pending.pending.items t h.equal) h.within

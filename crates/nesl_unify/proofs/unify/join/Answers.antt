@@ -1,6 +1,6 @@
 use Rattle.std.proofs.Common.{sym, subst}
 use Rattle.nesl_types.specs.Term.{Term}
-use Rattle.nesl_unify.specs.Table.{node_at, Shows}
+use Rattle.nesl_unify.specs.Table.{node_at, Describes}
 use Rattle.nesl_unify.proofs.Joins.{join_same, join_table, join_pending, join_fewer}
 use Rattle.nesl_unify.proofs.unify.join.Goals as goal
 
@@ -22,4 +22,4 @@ returns-in_ok-add_rest-in-Some-clause-fewer c =
 
 pub returns-in-None-clause-none : goal.returns-in-None-clause-none
 returns-in-None-clause-none c = λ _ w f e.
-    c.in-None.ensures.none w (w c.args.low) (f c.args.low) (subst (λ (t : Term). Shows w t (node_at c.args.nodes.now c.args.high)) (sym e) (f c.args.high))
+    c.in-None.ensures.none w (w c.args.low) (f c.args.low) (subst (λ (t : Term). Describes w t (node_at c.args.nodes.now c.args.high)) (sym e) (f c.args.high))

@@ -4,7 +4,7 @@ use Rattle.nesl_line.specs.Tally.{flushed_by}
 use Rattle.nesl_line.specs.Steps.{Goes, Stops, chosen}
 use Rattle.nesl_line.proofs.Bytes.{regrouped, taken_line, taken_all}
 use Rattle.nesl_line.proofs.Talks.{progress_more}
-use Rattle.nesl_line.proofs.Tallies.{counted_more}
+use Rattle.nesl_line.proofs.Tallies.{flushed_more}
 use Rattle.nesl_line.proofs.talk.Talk.take_in.Goals as goal
 
 pub returns-then-not-end_line-clause-talk : goal.returns-then-not-end_line-clause-talk
@@ -35,7 +35,7 @@ loop-place-preserved g c =
             (c.if-not-end_line.ensures.talk start held ((read ++ t.0) ++ take i rest)
             (progress_more start c.loop-place.house (chosen c.loop-place.self.who.items) (read ++ t.0) (take i rest) c.loop-place.self.line c.add.new.self held _ c.loop-place.self.lines (t.3 start held read p) s.2 c.add.ensures)),
       );
-      tally = λ start e. counted_more true c.loop-place.self.lines 1 start (g.W.Sink.tally c.loop-place.writer) _ (c.loop-place.invariant.tally start e) c.if-not-end_line.ensures.tally ∙ ap (λ n. flushed_by n start) (sym c.end_line.ensures.lines);
+      tally = λ start e. flushed_more true c.loop-place.self.lines 1 start (g.W.Sink.tally c.loop-place.writer) _ (c.loop-place.invariant.tally start e) c.if-not-end_line.ensures.tally ∙ ap (λ n. flushed_by n start) (sym c.end_line.ensures.lines);
       names = c.end_line.ensures.names;
     }
 

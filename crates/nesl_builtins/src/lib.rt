@@ -1,0 +1,11 @@
+//! The built-in functions: which name or sign is which, and their types.
+#![tactic(auto)]
+
+pub mod builtin;
+mod shapes;
+#[cfg(test)]
+mod tests;
+mod types;
+
+pub use builtin::{Builtin, named, of_infix, of_prefix};
+pub use types::scheme;

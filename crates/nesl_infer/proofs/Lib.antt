@@ -1,0 +1,17 @@
+pub mod Agreement
+pub mod Steps
+pub mod Places
+pub mod Arms
+pub mod Found
+pub mod Shapes
+pub mod Patterns
+pub mod Instances
+pub mod Applied
+pub mod Lets
+pub mod Wholes
+pub mod Eaches
+pub mod Signatures
+pub mod Functions
+pub mod Instanced
+pub mod Known
+pub mod Leaves

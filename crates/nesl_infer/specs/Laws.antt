@@ -1,0 +1,34 @@
+-- Laws of typing.
+use Rattle.std.specs.Prelude.{◌≡◌, ℕ, List, [], ◌∷◌, Option, Some}
+use Rattle.nesl_types.specs.declared.classes.Class.{Class}
+use Rattle.nesl_types.specs.Term.{Term}
+use Rattle.nesl_types.specs.Class.{IsIn}
+use Rattle.nesl_types.specs.Substitution.{substitute}
+use Rattle.nesl_syntax.specs.Trees.{Tree}
+use Rattle.nesl_infer.specs.World.{Meanings, Meaning, general, single}
+use Rattle.nesl_infer.specs.Typing.{Scope, HasType}
+use Rattle.nesl_infer.specs.Principal.{unbounded}
+
+-- with types in place of variables: local names, what a name before `(` means, and what all names mean
+abbrev pub scope_with : (ℕ → Term) → Scope → Scope
+scope_with put [] = []
+scope_with put (b ∷ bs) = (b.0, substitute put b.1) ∷ scope_with put bs
+
+abbrev pub meaning_with : (ℕ → Term) → Meaning → Meaning
+meaning_with put (general f) = general f
+meaning_with put (single t u) = single (substitute put t) (substitute put u)
+
+-- the datatypes hold types without variables
+pub record IsWith (put : ℕ → Term) (N M : Meanings) : Type 0 where
+  pub variables : (x : List ℕ) (t : Term) → N.variables x ≡ Some t → M.variables x ≡ Some (substitute put t)
+  pub functions : (x : List ℕ) (m : Meaning) → N.functions x ≡ Some m → M.functions x ≡ Some (meaning_with put m)
+  pub datatypes : (x : List ℕ) (d : ℕ × Term) → N.datatypes x ≡ Some d → M.datatypes x ≡ Some d
+  pub closed : (x : List ℕ) (d : ℕ × Term) → N.datatypes x ≡ Some d → substitute put d.1 ≡ d.1
+
+-- an expression that has a type has each type that comes of it by putting types of their classes for variables, of any
+-- size
+abbrev pub TypingsHaveInstances : Type 0
+TypingsHaveInstances =
+    (of k : ℕ → Class) (put : ℕ → Term) → ((v : ℕ) → IsIn k (of v) (put v)) → (N M : Meanings) → IsWith put N M →
+    (e : Tree) (sc : Scope) (t : Term) → HasType (unbounded N of) sc e t →
+    HasType (unbounded M k) (scope_with put sc) e (substitute put t)

@@ -1,0 +1,9 @@
+pub mod World
+pub mod Typing
+pub mod Principal
+pub mod Holds
+pub mod Instances
+pub mod Contexts
+pub mod Signatures
+pub mod Answers
+pub mod Laws

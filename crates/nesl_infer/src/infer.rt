@@ -1,0 +1,192 @@
+//! Principal types.
+
+ghost use Rattle.std.specs.Prelude.{◌≡◌, ℕ, option_map, IfOk, IsErrOf};
+ghost use Rattle.nesl_infer.specs.Holds.{Gives};
+ghost use Rattle.nesl_syntax.specs.Views.{tree_of, pattern_tree, signature_tree, type_tree};
+ghost use Rattle.nesl_infer.specs.Answers.{IsTypeOf, IsSchemeFor, IsDatatypeFor};
+ghost use Rattle.nesl_types.specs.declared.classes.Class.{Class};
+ghost use Rattle.nesl_types.specs.Class.{class_at};
+ghost use Rattle.nesl_types.specs.Term.{Term, term};
+ghost use Rattle.nesl_infer.specs.Contexts.{AreClosed};
+ghost use Rattle.nesl_infer.specs.Principal.{HasNone, HasNoScheme, IsPrincipal, IsPrincipalScheme, Typed, TypedFunction};
+
+use crate::constrain::constrain;
+use crate::fault::InferFault;
+use crate::pattern::constrain_pattern;
+use crate::signature::constrain_signature;
+use crate::state::{OwnName, State};
+use crate::written::written_type;
+use nesl_names::{unknown_in_exp, unknown_in_function, unknown_in_type};
+use nesl_syntax::tree::{Exp, Pattern, Signature, TypeExp};
+use nesl_types::{Class, Context, Scheme, Ty};
+use nesl_unify::SolveFault;
+use nesl_unify::solve::{is_below, solve};
+use std::alloc::{AllocError, Global};
+
+/// A type, and the class of each of its variables.
+#[derive(Drop)]
+struct PrincipalType {
+    ty: Ty,
+    classes: Vec<Class>,
+}
+
+/// The principal type of an expression.
+fn principal_type<P: Drop>(
+    alloc: Global,
+    context: &Context<P>,
+    exp: &Exp,
+) -> Result<PrincipalType, SolveFault>
+    requires { AreClosed context.now }
+    ensures principal { IfOk result (λ p. IsPrincipal (Typed context.now (tree_of exp.now)) (class_at p.classes.items) (term p.ty)) }
+    ensures ill_typed { IsErrOf result SolveFault.NoSolution → HasNone (Typed context.now (tree_of exp.now)) }
+{
+    let mut state = State::new(alloc);
+    let root = state.anything()?;
+    let mut locals = Vec::new(alloc);
+    constrain(alloc, &mut state, context, &None, &mut locals, exp, root)?;
+    let count = state.members.len() as u64;
+    let solution = solve(
+        alloc,
+        count,
+        state.equations.as_slice(),
+        state.members.as_slice(),
+    )?;
+    let ty = solution.apply(alloc, &Ty::Var(root))?;
+    Ok(PrincipalType {
+        ty,
+        classes: solution.classes,
+    })
+}
+
+/// The variables of what a function takes and gives.
+#[derive(Clone, Copy)]
+struct Ends {
+    takes: u64,
+    gives: u64,
+}
+
+/// Adds what makes the types of two new variables those that a function takes and gives.
+fn constrain_function<P: Drop>(
+    alloc: Global,
+    state: &mut State,
+    context: &Context<P>,
+    name: &[u8],
+    pattern: &Pattern,
+    signature: &Option<Signature>,
+    body: &Exp,
+) -> Result<Ends, AllocError>
+    requires { AreClosed context.now }
+    ensures { IfOk result (λ o. Gives {X = Term × Term} state.old state.new (λ s. (s o.takes, s o.gives)) (λ s of x. TypedFunction context.now name.now (pattern_tree pattern.now) (option_map signature_tree signature.now) (tree_of body.now) of x.0 x.1)) }
+{
+    let takes = state.anything()?;
+    let gives = state.anything()?;
+    let name = Vec::from_slice(alloc, name)?;
+    let own = Some(OwnName { name, takes, gives });
+    let mut locals = Vec::new(alloc);
+    constrain_pattern(alloc, state, context, &own, &mut locals, pattern, takes)?;
+    constrain_signature(alloc, state, context, signature, takes, gives)?;
+    constrain(alloc, state, context, &own, &mut locals, body, gives)?;
+    Ok(Ends { takes, gives })
+}
+
+/// The principal scheme of a function.
+fn principal_scheme<P: Drop>(
+    alloc: Global,
+    context: &Context<P>,
+    name: &[u8],
+    pattern: &Pattern,
+    signature: &Option<Signature>,
+    body: &Exp,
+) -> Result<Scheme, SolveFault>
+    requires { AreClosed context.now }
+    ensures principal { IfOk result (IsPrincipalScheme (TypedFunction context.now name.now (pattern_tree pattern.now) (option_map signature_tree signature.now) (tree_of body.now))) }
+    ensures ill_typed { IsErrOf result SolveFault.NoSolution → HasNoScheme (TypedFunction context.now name.now (pattern_tree pattern.now) (option_map signature_tree signature.now) (tree_of body.now)) }
+{
+    let mut state = State::new(alloc);
+    let ends = constrain_function(alloc, &mut state, context, name, pattern, signature, body)?;
+    let count = state.members.len() as u64;
+    let solution = solve(
+        alloc,
+        count,
+        state.equations.as_slice(),
+        state.members.as_slice(),
+    )?;
+    let takes = solution.apply(alloc, &Ty::Var(ends.takes))?;
+    let gives = solution.apply(alloc, &Ty::Var(ends.gives))?;
+    let scheme = Scheme::new(alloc, &takes, &gives, solution.classes.as_slice())?;
+    scheme.variables_have_classes();
+    Ok(scheme)
+}
+
+/// The type of an expression at the top level.
+///
+/// # Errors
+/// In this order: the first unknown name in the text; no type of at most 4,096 nodes for each node, name and pattern; more than one
+/// type.
+pub fn infer_exp<P: Drop>(alloc: Global, context: &Context<P>, exp: &Exp) -> Result<Ty, InferFault>
+    requires { AreClosed context.now }
+    ensures { IsTypeOf context.now (tree_of exp.now) result }
+{
+    if let Some(span) = unknown_in_exp(alloc, context, exp)? {
+        return Err(InferFault::Unknown { span });
+    }
+    match principal_type(alloc, context, exp) {
+        Ok(PrincipalType { ty, classes: _ }) => {
+            if is_below(0, &ty) {
+                Ok(ty)
+            } else {
+                Err(InferFault::Ambiguous)
+            }
+        }
+        Err(SolveFault::NoSolution) => Err(InferFault::IllTyped),
+        Err(SolveFault::Memory) => Err(InferFault::Memory),
+    }
+}
+
+/// The scheme of a function.
+///
+/// # Errors
+/// In this order: the first unknown name in the text; no types of at most 4,096 nodes.
+pub fn infer_function<P: Drop>(
+    alloc: Global,
+    context: &Context<P>,
+    name: &[u8],
+    pattern: &Pattern,
+    signature: &Option<Signature>,
+    body: &Exp,
+) -> Result<Scheme, InferFault>
+    requires { AreClosed context.now }
+    ensures { IsSchemeFor context.now name.now (pattern_tree pattern.now) (option_map signature_tree signature.now) (tree_of body.now) result }
+{
+    if let Some(span) = unknown_in_function(alloc, context, name, pattern, body)? {
+        return Err(InferFault::Unknown { span });
+    }
+    match principal_scheme(alloc, context, name, pattern, signature, body) {
+        Ok(scheme) => Ok(scheme),
+        Err(SolveFault::NoSolution) => Err(InferFault::IllTyped),
+        Err(SolveFault::Memory) => Err(InferFault::Memory),
+    }
+}
+
+/// The type that a datatype's records hold, as it is written.
+///
+/// # Errors
+/// In this order: the first unknown name in the text; more than 4,096 nodes.
+pub fn infer_datatype<P: Drop>(
+    alloc: Global,
+    context: &Context<P>,
+    written: &TypeExp,
+) -> Result<Ty, InferFault>
+    ensures { IsDatatypeFor context.now (type_tree written.now) result }
+{
+    if let Some(span) = unknown_in_type(context, written)? {
+        return Err(InferFault::Unknown { span });
+    }
+    match written_type(alloc, context, written)? {
+        Some(ty) => match ty.room_left(4096) {
+            Some(_) => Ok(ty),
+            None => Err(InferFault::IllTyped),
+        },
+        None => Err(InferFault::IllTyped),
+    }
+}

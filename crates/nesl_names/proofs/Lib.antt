@@ -1,0 +1,4 @@
+pub mod Scoping
+pub mod Firsts
+pub mod Loops
+pub mod Arms

@@ -1,0 +1,4 @@
+pub mod Names
+pub mod Firsts
+pub mod Scoping
+pub mod Scopes

@@ -1,0 +1,14 @@
+//! What names refer to, and the first name that refers to nothing.
+#![tactic(auto)]
+
+mod found;
+mod known;
+mod patterns;
+mod scope;
+#[cfg(test)]
+mod tests;
+mod types;
+mod unknown;
+mod walk;
+
+pub use unknown::{unknown_in_exp, unknown_in_function, unknown_in_type};

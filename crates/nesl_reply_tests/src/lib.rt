@@ -1,0 +1,5 @@
+//! Tests of the texts of faults, values and replies, by the public calls alone.
+#![tactic(auto)]
+
+#[cfg(test)]
+mod texts;

@@ -1,0 +1,8 @@
+pub mod Equality
+pub mod Made
+pub mod Priced
+pub mod Shapes
+pub mod Sizes
+pub mod Totals
+pub mod Turns
+pub mod Weaving

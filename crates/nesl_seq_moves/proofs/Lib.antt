@@ -1,0 +1,6 @@
+pub mod Cutting
+pub mod Flattening
+pub mod Numbers
+pub mod Pairing
+pub mod Splitting
+pub mod Unzipping

@@ -1,0 +1,9 @@
+//! Functions that make sequences of parts and pieces, ranges, pairs and levels.
+#![tactic(auto)]
+
+pub mod levels;
+pub mod pairs;
+pub mod pieces;
+pub mod ranges;
+pub mod replace;
+pub mod sides;

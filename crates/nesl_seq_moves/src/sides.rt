@@ -1,0 +1,247 @@
+// Sequences that are taken apart in two.
+ghost use Rattle.std.specs.Prelude.{◌≡◌, Bool, true, false, List, Some, None, map, is_some, unwrap_or, IfOk, IfSome, IsSome};
+ghost use Rattle.std.specs.List.{list_all};
+ghost use Rattle.nesl_values.specs.Tree.{Tree, pair, sequence};
+ghost use Rattle.nesl_values.specs.Parts.{as_bool, as_pair, as_sequence};
+ghost use Rattle.nesl_values.specs.View.{tree_of, item_trees};
+ghost use Rattle.nesl_seq_base.specs.Lent.{argument_tree};
+ghost use Rattle.nesl_seq_base.specs.Outcome.{IsGiven, gives};
+ghost use Rattle.nesl_seq_base.specs.Reductions.{all_of};
+ghost use Rattle.nesl_seq_base.specs.Pieces.{two};
+ghost use Rattle.nesl_seq_base.specs.Sides.{sequence_of_pairs, beside};
+ghost use Rattle.nesl_seq_base.specs.Meaning.{meaning};
+ghost use Rattle.nesl_seq_base.specs.Prices.{Prices, reads};
+ghost use Rattle.nesl_seq_base.specs.declared.seq_fn.SeqFn.TheVariants.{Unzip, Split};
+
+use nesl_scalars::Trap;
+use nesl_seq_base::argument::Argument;
+use nesl_seq_base::arguments::{WRONG_SHAPE, sequence, two_sequences};
+use nesl_seq_base::item::unpacked;
+use nesl_seq_base::nodes::{price_of_more, price_without_roots};
+use nesl_seq_base::price::Price;
+use nesl_values::{Element, Items, SequenceBuilder, Value};
+use std::alloc::{AllocError, Allocator};
+
+fn is_pair<A: Allocator>(value: &Value<A>) -> bool
+    ensures { result ≡ is_some (as_pair (tree_of value.now)) }
+{
+    value.as_pair().is_some()
+}
+
+fn are_pairs<A: Allocator>(values: &[Value<A>]) -> bool
+    ensures { result ≡ list_all (λ v. is_some (as_pair (tree_of v))) values.now }
+{
+    values.iter().all(|value| is_pair(value))
+}
+
+/// The pairs of which it is a sequence.
+fn sequence_of_pairs<A: Allocator>(argument: Argument<'_, A>) -> Option<&[Value<A>]>
+    ensures some { IfSome result (λ values.
+        (as_sequence (argument_tree argument.entry) ≡ Some (map tree_of values.now))
+        × IsSome (all_of as_pair (map tree_of values.now))) }
+    ensures none { result ≡ None → sequence_of_pairs (argument_tree argument.entry) ≡ None }
+{
+    let values = unpacked(sequence(argument)?)?;
+    if are_pairs(values) {
+        Some(values)
+    } else {
+        None
+    }
+}
+
+pub fn price_unzip<A: Allocator>(
+    argument: Argument<'_, A>,
+    limit: u128,
+) -> Result<Option<Price>, Trap>
+    ensures { Prices (meaning Unzip (argument_tree argument.entry))
+        (reads Unzip (argument_tree argument.entry)) 1 limit result }
+{
+    match sequence_of_pairs(argument) {
+        Some(values) => Ok(price_without_roots(values, 3, limit)),
+        None => Err(WRONG_SHAPE),
+    }
+}
+
+pub fn apply_unzip<A: Allocator + Copy>(
+    alloc: A,
+    argument: Argument<'_, A>,
+) -> Result<Value<A>, AllocError>
+    requires { IsGiven (meaning Unzip (argument_tree argument)) }
+    ensures { IfOk result (λ v. meaning Unzip (argument_tree argument.entry) ≡ gives (tree_of v)) }
+{
+    match sequence_of_pairs(argument) {
+        Some(values) => both_sides(alloc, values),
+        None => unreachable!(),
+    }
+}
+
+// The left parts and the right ones.
+fn both_sides<A: Allocator + Copy>(alloc: A, values: &[Value<A>]) -> Result<Value<A>, AllocError>
+    ensures { IfOk result (λ v. (ps : List (Tree × Tree)) → all_of as_pair (map tree_of values.now) ≡ Some ps
+        → tree_of v ≡ pair (sequence (map (λ p. p.0) ps)) (sequence (map (λ p. p.1) ps))) }
+{
+    let mut lefts = SequenceBuilder::with_room(alloc, values.len());
+    let mut rights = SequenceBuilder::with_room(alloc, values.len());
+    for value in values {
+        if let Some((left, right)) = value.as_pair() {
+            lefts.push_shared(Element::Node(left))?;
+            rights.push_shared(Element::Node(right))?;
+        }
+    }
+    let lefts = lefts.finish()?;
+    let rights = rights.finish()?;
+    Value::pair(alloc, lefts, rights)
+}
+
+fn are_truths<A: Allocator>(flags: Items<'_, A>) -> bool
+    ensures { result ≡ is_some (all_of as_bool (item_trees flags.entry)) }
+{
+    match flags {
+        Items::Bools(_) => true,
+        Items::Ints(ints) => ints.is_empty(),
+        Items::Chars(chars) => chars.is_empty(),
+        Items::Values(values) => are_all_truths(values),
+    }
+}
+
+fn are_all_truths<A: Allocator>(values: &[Value<A>]) -> bool
+    ensures { result ≡ list_all (λ v. is_some (as_bool (tree_of v))) values.now }
+{
+    values.iter().all(|value| value.as_bool().is_some())
+}
+
+pub fn price_split<A: Allocator>(
+    argument: Argument<'_, A>,
+    limit: u128,
+) -> Result<Option<Price>, Trap>
+    ensures { Prices (meaning Split (argument_tree argument.entry))
+        (reads Split (argument_tree argument.entry)) 1 limit result }
+{
+    let Some((items, flags)) = two_sequences(argument) else {
+        return Err(WRONG_SHAPE);
+    };
+    if !are_truths(flags) {
+        return Err(WRONG_SHAPE);
+    }
+    if items.len() != flags.len() {
+        return Err(Trap::Length);
+    }
+    let read = items.len() as u128 + flags.len() as u128;
+    Ok(price_of_more(items, 3, read, limit))
+}
+
+pub fn apply_split<A: Allocator + Copy>(
+    alloc: A,
+    argument: Argument<'_, A>,
+) -> Result<Value<A>, AllocError>
+    requires { IsGiven (meaning Split (argument_tree argument)) }
+    ensures { IfOk result (λ v. meaning Split (argument_tree argument.entry) ≡ gives (tree_of v)) }
+{
+    match two_sequences(argument) {
+        Some((items, flags)) => split_by(alloc, items, flags),
+        None => unreachable!(),
+    }
+}
+
+// The items with `F` and those with `T`. Flags that are not packed are packed first.
+fn split_by<A: Allocator + Copy>(
+    alloc: A,
+    items: Items<'_, A>,
+    flags: Items<'_, A>,
+) -> Result<Value<A>, AllocError>
+    ensures { IfOk result (λ v. (bs : List Bool) → all_of as_bool (item_trees flags.entry) ≡ Some bs
+        → tree_of v ≡ two (beside false (item_trees items.entry) bs) (beside true (item_trees items.entry) bs)) }
+{
+    match flags {
+        Items::Bools(bools) => both_pieces(alloc, items, bools),
+        Items::Values(values) => {
+            let bools = packed_truths(alloc, values)?;
+            both_pieces(alloc, items, &bools)
+        }
+        Items::Ints(_) => both_pieces(alloc, items, &[]),
+        Items::Chars(_) => both_pieces(alloc, items, &[]),
+    }
+}
+
+fn packed_truths<A: Allocator>(alloc: A, values: &[Value<A>]) -> Result<Vec<bool, A>, AllocError>
+    ensures { IfOk result (λ v. v.items ≡ map (λ v. unwrap_or (as_bool (tree_of v)) false) values.now) }
+{
+    let mut bools = Vec::with_capacity(alloc, values.len())?;
+    for value in values {
+        bools.push(value.as_bool().unwrap_or(false))?;
+    }
+    Ok(bools)
+}
+
+fn both_pieces<A: Allocator + Copy>(
+    alloc: A,
+    items: Items<'_, A>,
+    flags: &[bool],
+) -> Result<Value<A>, AllocError>
+    ensures { IfOk result (λ v. tree_of v
+        ≡ two (beside false (item_trees items.entry) flags.now) (beside true (item_trees items.entry) flags.now)) }
+{
+    let mut builder = SequenceBuilder::with_room(alloc, 2);
+    builder.push(items_beside(alloc, items, flags, false)?)?;
+    builder.push(items_beside(alloc, items, flags, true)?)?;
+    builder.finish()
+}
+
+// The items beside which that flag stands.
+fn items_beside<A: Allocator + Copy>(
+    alloc: A,
+    items: Items<'_, A>,
+    flags: &[bool],
+    wanted: bool,
+) -> Result<Value<A>, AllocError>
+    ensures { IfOk result (λ v. tree_of v
+        ≡ sequence (beside wanted (item_trees items.entry) flags.now)) }
+{
+    match items {
+        Items::Ints(ints) => Value::ints(alloc, beside(alloc, ints, flags, wanted)?),
+        Items::Bools(bools) => Value::bools(alloc, beside(alloc, bools, flags, wanted)?),
+        Items::Chars(chars) => Value::chars(alloc, beside(alloc, chars, flags, wanted)?),
+        Items::Values(values) => Value::sequence(
+            alloc,
+            values_beside(alloc, values, flags, wanted)?,
+        ),
+    }
+}
+
+fn count_equal(flags: &[bool], wanted: bool) -> usize {
+    flags.iter().filter(|flag| **flag == wanted).count()
+}
+
+fn beside<T: Copy, A: Allocator>(
+    alloc: A,
+    items: &[T],
+    flags: &[bool],
+    wanted: bool,
+) -> Result<Vec<T, A>, AllocError>
+    ensures { IfOk result (λ v. v.items ≡ beside wanted items.now flags.now) }
+{
+    let mut kept = Vec::with_capacity(alloc, count_equal(flags, wanted))?;
+    for place in 0..items.len().min(flags.len()) {
+        if flags[place] == wanted {
+            kept.push(items[place])?;
+        }
+    }
+    Ok(kept)
+}
+
+fn values_beside<A: Allocator + Copy>(
+    alloc: A,
+    values: &[Value<A>],
+    flags: &[bool],
+    wanted: bool,
+) -> Result<Vec<Value<A>, A>, AllocError>
+    ensures { IfOk result (λ v. map tree_of v.items ≡ beside wanted (map tree_of values.now) flags.now) }
+{
+    let mut kept = Vec::with_capacity(alloc, count_equal(flags, wanted))?;
+    for place in 0..values.len().min(flags.len()) {
+        if flags[place] == wanted {
+            kept.push(values[place].share()?)?;
+        }
+    }
+    Ok(kept)
+}

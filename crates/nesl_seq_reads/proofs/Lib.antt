@@ -1,0 +1,5 @@
+pub mod Before
+pub mod Best
+pub mod Digits
+pub mod Folds
+pub mod Leaves

@@ -1,0 +1,3 @@
+pub mod Better
+pub mod Leaves
+pub mod Scalar

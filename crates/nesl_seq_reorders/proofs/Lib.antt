@@ -1,0 +1,6 @@
+pub mod Differing
+pub mod Marking
+pub mod Permuting
+pub mod Picking
+pub mod Writing
+pub mod WrittenLeaves

@@ -1,0 +1,8 @@
+//! Functions that reorder: by places, by writes, and woven.
+#![tactic(auto)]
+
+pub mod gather;
+pub mod marks;
+pub mod permute;
+pub mod woven;
+pub mod write;

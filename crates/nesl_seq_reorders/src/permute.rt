@@ -1,0 +1,141 @@
+// Sequences of which each element goes to a place of its own.
+ghost use Rattle.std.specs.Prelude.{◌≡◌, ◌+◌, ◌<◌, ◌^◌, [], Some, length, map, IfOk, IsTrue};
+ghost use Rattle.nesl_values.specs.Parts.{as_int};
+ghost use Rattle.nesl_values.specs.View.{tree_of, item_trees};
+ghost use Rattle.nesl_seq_base.specs.Lent.{argument_tree};
+ghost use Rattle.nesl_seq_reorders.specs.Marks.{are_new};
+ghost use Rattle.nesl_seq_base.specs.Outcome.{IsGiven, given, gives};
+ghost use Rattle.nesl_seq_base.specs.Meaning.{meaning};
+ghost use Rattle.nesl_seq_base.specs.Permute.{all_differ, permuted, Inverts};
+ghost use Rattle.nesl_seq_base.specs.Places.{places_of};
+ghost use Rattle.nesl_seq_base.specs.Prices.{Prices, reads};
+ghost use Rattle.nesl_seq_base.specs.Reductions.{all_of};
+ghost use Rattle.nesl_seq_base.specs.declared.seq_fn.SeqFn.TheVariants.{Permute};
+
+use crate::gather::picked_copy;
+use crate::marks::{Marks, WINDOW};
+use nesl_scalars::Trap;
+use nesl_seq_base::argument::Argument;
+use nesl_seq_base::arguments::{WRONG_SHAPE, two_sequences};
+use nesl_seq_base::copies::repeated;
+use nesl_seq_base::item::Item;
+use nesl_seq_base::nodes::price_of_items;
+use nesl_seq_base::places::{all_name, place_of};
+use nesl_seq_base::price::Price;
+use nesl_values::{Items, Value};
+use std::alloc::{AllocError, Allocator};
+
+pub fn price_permute<A: Allocator>(
+    argument: Argument<'_, A>,
+    limit: u128,
+) -> Result<Option<Price>, Trap>
+    ensures { Prices (meaning Permute (argument_tree argument.entry))
+        (reads Permute (argument_tree argument.entry)) 1 limit result }
+{
+    match two_sequences(argument) {
+        Some((items, Items::Ints(indices))) => price_of_permuted(items, indices, limit),
+        Some((items, Items::Bools(indices))) => price_of_permuted(items, indices, limit),
+        Some((items, Items::Chars(indices))) => price_of_permuted(items, indices, limit),
+        Some((items, Items::Values(indices))) => price_of_permuted(items, indices, limit),
+        None => Err(WRONG_SHAPE),
+    }
+}
+
+// The price of the items at the places that the indices name: their own, since each has one place.
+fn price_of_permuted<A: Allocator, I: Item>(
+    items: Items<'_, A>,
+    indices: &[I],
+    limit: u128,
+) -> Result<Option<Price>, Trap>
+    ensures { Prices
+        (given (all_of as_int (map I.tree indices.now)) (permuted (item_trees items.entry)))
+        (length (item_trees items.entry) + length indices.now) 1 limit result }
+{
+    let len = items.len();
+    if len != indices.len() {
+        return Err(Trap::Length);
+    }
+    if !all_name(indices, len) {
+        return Err(Trap::Range);
+    }
+    if !all_differ(indices, len) {
+        return Err(Trap::Permutation);
+    }
+    Ok(price_of_items(items, len as u128 + len as u128, limit))
+}
+
+// Whether no place is named twice, without memory: one window of places after the other.
+fn all_differ<I: Item>(indices: &[I], len: usize) -> bool
+    ensures { result ≡ all_differ (places_of len (map I.tree indices.now)) }
+{
+    for window in 0..len / WINDOW + 1 {
+        if !differ_in(indices, len, window) {
+            return false;
+        }
+    }
+    true
+}
+
+// Whether no place of the window is named twice.
+fn differ_in<I: Item>(indices: &[I], len: usize, window: usize) -> bool
+    ensures { result ≡ are_new window [] (places_of len (map I.tree indices.now)) }
+{
+    let mut marks = Marks::new();
+    for index in indices {
+        if let Some(place) = place_of(index, len) {
+            if !marks.note(window, place) {
+                return false;
+            }
+        }
+    }
+    true
+}
+
+pub fn apply_permute<A: Allocator + Copy>(
+    alloc: A,
+    argument: Argument<'_, A>,
+) -> Result<Value<A>, AllocError>
+    requires { IsGiven (meaning Permute (argument_tree argument)) }
+    ensures { IfOk result (λ v. meaning Permute (argument_tree argument.entry) ≡ gives (tree_of v)) }
+{
+    match two_sequences(argument) {
+        Some((items, Items::Ints(indices))) => permuted_copy(alloc, items, indices),
+        Some((items, Items::Bools(indices))) => permuted_copy(alloc, items, indices),
+        Some((items, Items::Chars(indices))) => permuted_copy(alloc, items, indices),
+        Some((items, Items::Values(indices))) => permuted_copy(alloc, items, indices),
+        None => unreachable!(),
+    }
+}
+
+fn permuted_copy<A: Allocator + Copy, I: Item>(
+    alloc: A,
+    items: Items<'_, A>,
+    indices: &[I],
+) -> Result<Value<A>, AllocError>
+    requires few { length (item_trees items) < 2 ^ 63 }
+    requires given { IsGiven
+        (given (all_of as_int (map I.tree indices.now)) (permuted (item_trees items))) }
+    ensures { IfOk result (λ v.
+        given (all_of as_int (map I.tree indices.now)) (permuted (item_trees items.entry))
+        ≡ gives (tree_of v)) }
+{
+    let inverse = inverse_of(alloc, indices)?;
+    picked_copy(alloc, items, &inverse)
+}
+
+// For each place, which of the indices names it.
+fn inverse_of<A: Allocator, I: Item>(alloc: A, indices: &[I]) -> Result<Vec<i64, A>, AllocError>
+    requires few { length indices.now < 2 ^ 63 }
+    requires differ { IsTrue
+        (all_differ (places_of (length indices.now) (map I.tree indices.now))) }
+    ensures { IfOk result (λ v. Inverts v.items (map I.tree indices.now)) }
+{
+    let len = indices.len();
+    let mut sources = repeated(alloc, 0, len)?;
+    for number in 0..len {
+        if let Some(place) = place_of(&indices[number], len) {
+            sources[place] = number as i64;
+        }
+    }
+    Ok(sources)
+}

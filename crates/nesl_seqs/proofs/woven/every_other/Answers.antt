@@ -1,7 +1,0 @@
-use Rattle.std.proofs.Common.{arith}
-use Rattle.nesl_seqs.proofs.Weaving.{evens_turn}
-use Rattle.nesl_seqs.proofs.woven.every_other.Goals as goal
-
-pub loop-place-preserved : goal.loop-place-preserved
-loop-place-preserved g c =
-    evens_turn c.args.items.now c.loop-place.taken.items _ c.loop-place.place c.index-items-place.result (omega (arith, c.loop-place-test.true, c.div_ceil-count.ensures)) c.index-items-place.is c.in_ok-push.ensures.items c.loop-place.invariant

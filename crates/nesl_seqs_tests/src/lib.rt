@@ -1,0 +1,27 @@
+//! Tests of the functions on sequences: tables of calls with their results and prices, worked out by hand.
+#![tactic(auto)]
+
+#[cfg(test)]
+mod extremes;
+#[cfg(test)]
+mod heaps;
+#[cfg(test)]
+mod levels;
+#[cfg(test)]
+mod numbers;
+#[cfg(test)]
+mod pairs;
+#[cfg(test)]
+mod parts;
+#[cfg(test)]
+mod places;
+#[cfg(test)]
+mod reductions;
+#[cfg(test)]
+mod scans;
+#[cfg(test)]
+mod shapes;
+#[cfg(test)]
+mod shares;
+#[cfg(test)]
+mod told;

@@ -1,0 +1,101 @@
+// Values of a million levels, on a thread whose stack has 256 KiB.
+use nesl_values::Value;
+use std::alloc::{AllocError, Global};
+use std::test::Fail;
+use std::thread::Builder;
+
+const DEPTH: u64 = 1_000_000;
+
+const STACK: usize = 256 << 10;
+
+#[derive(Clone, Copy, Debug)]
+enum Link {
+    One,
+    First,
+    Left,
+    Right,
+    Tagged,
+    Mixed,
+}
+
+// That value one level deeper.
+fn deeper(alloc: Global, link: Link, level: u64, value: Value) -> Result<Value, AllocError> {
+    match link {
+        Link::One => {
+            let mut items = Vec::new(alloc);
+            items.push(value)?;
+            Value::sequence(alloc, items)
+        }
+        Link::First => {
+            let mut items = Vec::with_capacity(alloc, 2)?;
+            items.push(value)?;
+            items.push(Value::Int(0))?;
+            Value::sequence(alloc, items)
+        }
+        Link::Left => Value::pair(alloc, value, Value::Int(0)),
+        Link::Right => Value::pair(alloc, Value::Int(0), value),
+        Link::Tagged => Value::tagged(alloc, level, value),
+        Link::Mixed => Ok(value),
+    }
+}
+
+fn chain(alloc: Global, link: Link, leaf: i64) -> Result<Value, AllocError> {
+    let mut value = Value::Int(leaf);
+    for level in 0..DEPTH {
+        let link = match (link, level % 5) {
+            (Link::Mixed, 0) => Link::One,
+            (Link::Mixed, 1) => Link::First,
+            (Link::Mixed, 2) => Link::Left,
+            (Link::Mixed, 3) => Link::Right,
+            (Link::Mixed, _) => Link::Tagged,
+            (same, _) => same,
+        };
+        value = deeper(alloc, link, level, value)?;
+    }
+    Ok(value)
+}
+
+// Whether such a chain is made, shared, counted, copied, compared and dropped.
+fn goes_through(alloc: Global, link: Link, nodes: u64) -> Result<bool, AllocError> {
+    let value = chain(alloc, link, 0)?;
+    let twin = value.share()?;
+    drop(value);
+    let copy = twin.copy_into(alloc)?;
+    let other = chain(alloc, link, 1)?;
+    Ok(
+        twin.nodes_up_to(DEPTH).is_none()
+            && twin.nodes_up_to(nodes) == Some(nodes)
+            && copy.nodes() == nodes
+            && copy.same_by_list(alloc, &twin)?
+            && twin.same_by_list(alloc, &twin)?
+            && !twin.same_by_list(alloc, &other)?,
+    )
+}
+
+#[test]
+fn in_each_shape(rt: HostRuntime) -> Result<(), Fail> {
+    for (link, nodes) in [
+        (Link::One, 1_000_001),
+        (Link::First, 2_000_001),
+        (Link::Left, 2_000_001),
+        (Link::Right, 2_000_001),
+        (Link::Tagged, 1_000_001),
+        (Link::Mixed, 1_600_001),
+    ] {
+        let thread = Builder::new()
+            .stack_size(STACK)
+            .spawn(&rt, move || goes_through(rt.alloc(), link, nodes))?;
+        assert!(rt; thread.join(&rt)?, "{link:?}");
+    }
+    Ok(())
+}
+
+// Goes down to the last child of each node by a loop.
+#[test]
+fn compared_without_memory(rt: HostRuntime) -> Result<(), Fail> {
+    let value = chain(rt.alloc(), Link::Right, 0)?;
+    let copy = value.copy_into(rt.alloc())?;
+    assert!(rt; copy.same(&value));
+    assert!(rt; !copy.same(&chain(rt.alloc(), Link::Right, 1)?));
+    Ok(())
+}
