@@ -115,7 +115,8 @@ fn a_line_may_be_too_long(rt: HostRuntime) -> Result<(), Fail> {
     }
     let answer = house.say(alloc, b"ann", line.as_slice());
     assert_eq!(rt; answer.bytes(), b"fault long (work 0)\n".as_slice());
-    let answer = house.say(alloc, b"ann", &line.as_slice()[..4096]);
+    let _ = line.pop();
+    let answer = house.say(alloc, b"ann", line.as_slice());
     assert_eq!(rt; answer.bytes(), ONE.as_bytes());
     let ann = house.session(b"ann").ok_or("ann")?;
     assert_eq!(rt; ann.lines().len(), 1);
