@@ -1,25 +1,22 @@
 -- What a name before `(` adds.
-use Rattle.std.proofs.Common.{◌≡◌, ◌<◌, ℕ, Bool, true, false, cond, List, [], ◌∷◌, refl, sym, ap, ◌∙◌, subst, arith}
+use Rattle.std.proofs.Common.{◌≡◌, ◌<◌, ℕ, Bool, true, false, cond, List, refl, sym, ap, ◌∙◌, subst, arith}
 use Rattle.std.specs.Prelude.{Option, Some, None, option_map}
 use Rattle.std.specs.Str.{bytes_eq}
-use Rattle.nesl_types.specs.declared.classes.Class.{Class}
 use Rattle.nesl_types.specs.declared.bindings.Top.{Top}
-use Rattle.nesl_types.specs.declared.bindings.Top.TheVariants as top
 use Rattle.nesl_types.specs.Names.{found}
 use Rattle.nesl_types.specs.Numbering.{IsBelow}
 use Rattle.nesl_types.specs.Substitution.{substitute}
-use Rattle.nesl_types.specs.Term.{Term, int, bool, char, variable, seq_of, both, named, term}
-use Rattle.nesl_unify.specs.Bounds.{IsBounded}
+use Rattle.nesl_types.specs.Term.{Term, int, bool, char, variable, seq_of, both, named}
 use Rattle.nesl_builtins.specs.Table.{FunctionType, builtin_type}
 use Rattle.nesl_builtins.specs.Named.{named_builtin}
 use Rattle.nesl_builtins.specs.declared.builtin.Builtin.{Builtin}
 use Rattle.nesl_infer.specs.declared.state.State.{State}
 use Rattle.nesl_infer.specs.declared.state.OwnName.{OwnName}
-use Rattle.nesl_names.specs.Names.{Referent, itself, top_in, hides, as_variable, as_function, built_in_or}
+use Rattle.nesl_names.specs.Names.{itself, top_in, hides, as_variable, as_function, built_in_or}
 use Rattle.nesl_infer.specs.World.{Meanings, Meaning, Datatypes, general, single, own_name, meaning_of, meanings_in}
 use Rattle.nesl_infer.specs.Typing.{IsInstanceOf, IsApplied, IsRecord, Takes}
 use Rattle.nesl_infer.specs.Contexts.{IsOther}
-use Rattle.nesl_infer.specs.Holds.{Agrees, count, Gives, Adds, own_at}
+use Rattle.nesl_infer.specs.Holds.{Agrees, count, Adds, own_at}
 use Rattle.nesl_infer.proofs.Steps.{gives_then, gives_and, adds_as}
 
 abbrev pub Applies : State → State → ((ℕ → Term) → Meanings) → List ℕ → ℕ → ℕ → Type 0

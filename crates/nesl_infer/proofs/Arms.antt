@@ -1,6 +1,5 @@
 -- What each kind of node adds.
 use Rattle.std.proofs.Common.{◌≡◌, ◌<◌, ◌≤◌, ℕ, List, [], ◌∷◌, ◌++◌, ◌+◌, refl, sym, ap, ◌∙◌, subst, arith}
-use Rattle.std.specs.Prelude.{Option, Some, None}
 use Rattle.nesl_lex.specs.declared.token.Span.{Span}
 use Rattle.nesl_types.specs.declared.classes.Class.{Class}
 use Rattle.nesl_types.specs.Term.{Term, int, bool, char, seq_of, both, nodes}
@@ -11,7 +10,6 @@ use Rattle.nesl_syntax.specs.declared.tree.Prefix.{Prefix}
 use Rattle.nesl_syntax.specs.declared.tree.Operator.TheVariants as ops
 use Rattle.nesl_builtins.specs.Table.{a, builtin_type}
 use Rattle.nesl_builtins.specs.Named.{infix_builtin, prefix_builtin}
-use Rattle.nesl_unify.specs.Bounds.{IsBounded}
 use Rattle.nesl_syntax.specs.declared.tree.Exp.{Exp}
 use Rattle.nesl_syntax.specs.Views.{tree_of, trees_in}
 use Rattle.nesl_infer.specs.declared.state.State.{State}
@@ -19,7 +17,7 @@ use Rattle.nesl_infer.specs.declared.state.Local.{Local}
 use Rattle.nesl_infer.specs.World.{World, Meanings}
 use Rattle.nesl_infer.specs.Typing.{Scope, HasType, HasShapeType, HaveType, IsInstanceOf}
 use Rattle.nesl_infer.specs.Principal.{bounded}
-use Rattle.nesl_infer.specs.Holds.{Agrees, count, Gives, Adds, scope_at}
+use Rattle.nesl_infer.specs.Holds.{count, Gives, Adds, scope_at}
 use Rattle.nesl_infer.proofs.Places.{IsFixed, typed-moves, all-moves, small}
 use Rattle.nesl_infer.proofs.Steps.{gives_then, gives_and, adds_as}
 
@@ -204,10 +202,9 @@ arm_more {A = A} N S f v inside es e p h =
 pub nothing_yet : {A : State} (N : (ℕ → Term) → Meanings) (S : (ℕ → Term) → Scope) (v : ℕ) → AllType A A N S none v
 nothing_yet N S v = record {
   more = omega arith;
-  made = λ k. k;
   fixed = λ s z a. refl;
   sound = λ s of b h. (h, tt);
-  complete = λ s of k b h x c. (s, λ _ _. refl, h, b, refl);
+  complete = λ s of b h x c. (s, λ _ _. refl, h, b, refl);
 }
 
 -- an operator between two expressions takes a pair

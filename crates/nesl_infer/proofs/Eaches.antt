@@ -1,12 +1,10 @@
 -- What an apply-to-each adds.
-use Rattle.std.proofs.Common.{◌≡◌, ◌<◌, ◌≤◌, ◌+◌, ℕ, List, [], ◌∷◌, ◌++◌, length, map, refl, sym, ap, ◌∙◌, subst, arith, append_assoc, append-nil}
+use Rattle.std.proofs.Common.{◌≡◌, ◌<◌, ◌≤◌, ℕ, List, [], ◌∷◌, ◌++◌, map, refl, sym, ap, ◌∙◌, subst, arith, append_assoc, append-nil}
 use Rattle.std.specs.Prelude.{All, Some, None, slice_get}
 use Rattle.nesl_lex.specs.declared.token.Span.{Span}
-use Rattle.nesl_types.specs.declared.classes.Class.{Class}
 use Rattle.nesl_types.specs.Term.{Term, bool, seq_of, nodes}
 use Rattle.nesl_syntax.specs.Trees.{PatternTree, Tree, Binders, node, no_binders, binder, and_bind}
 use Rattle.nesl_syntax.specs.Trees as trees
-use Rattle.nesl_unify.specs.Bounds.{IsBounded}
 use Rattle.nesl_infer.specs.declared.state.State.{State}
 use Rattle.nesl_infer.specs.declared.state.Local.{Local}
 use Rattle.nesl_infer.specs.World.{World, Meanings}
@@ -149,6 +147,18 @@ allparts-pop w (binder q d bs) (j ∷ is) ns p e i h =
     let k = allparts-pop w bs is h.1 p e i h.3 in
     record { ms = k.ms ++ h.0; os = k.os; before = (h.0, k.ms, h.2, k.before, refl); parts = k.parts; whole = h.4 ∙ ap (λ (x : Scope). x ++ h.0) k.whole ∙ append_assoc k.os k.ms h.0 }
 
+pub no_elements : {A : State} (N : (ℕ → Term) → Meanings) (S : (ℕ → Term) → Scope) → ElementsOf A A N S no_binders []
+no_elements N S = record {
+  more = omega arith;
+  fixed = λ s z a. refl;
+  sound = λ s of b h. (h, tt);
+  complete = λ s of b h x c. (s, λ _ _. refl, h, b, none_is (bounded (N s) of) (S s) x c);
+}
+  where
+    none_is : (w : World) (sc : Scope) (is : List Term) → HaveElements w sc no_binders is → [] ≡ is
+    none_is w sc [] h = refl
+    none_is w sc (i ∷ is) h = absurd h
+
 abbrev pub PartsOf : State → State → List Local → List Local → ((ℕ → Term) → Meanings) → Binders → List ℕ → Type 0
 PartsOf A B ls ms N bs vs = AddsNames A B ls ms (λ s of ns. AllParts (bounded (N s) of) bs (map s vs) ns)
 
@@ -159,10 +169,9 @@ no_parts {A = A} N ls = record {
   below = All-nil (λ (x : Local). x.variable < count A);
   gives = record {
     more = omega arith;
-    made = λ k. k;
     fixed = λ s z a. refl;
     sound = λ s of b h. (h, refl);
-    complete = λ s of k b h x c. (s, λ _ _. refl, h, b, sym c);
+    complete = λ s of b h x c. (s, λ _ _. refl, h, b, sym c);
   };
 }
 

@@ -1,6 +1,6 @@
 -- From the equations of a function to its scheme.
 use Rattle.std.proofs.Common.{◌≡◌, ◌<◌, ◌≤◌, ◌+◌, ℕ, zero, suc, Bool, true, false, cond, inl, inr, List, [], ◌∷◌, ◌++◌, length, map, get_or, refl, sym, ap, ◌∙◌, subst, arith}
-use Rattle.std.specs.Prelude.{All, Option, Some, None, nat_lt, nat_eq}
+use Rattle.std.specs.Prelude.{Option, Some, None, nat_lt, nat_eq}
 use Rattle.std.proofs.lemmas.Bool.{cases_lt}
 use Rattle.std.proofs.lemmas.Bool.Decides.{nat_tests}
 use Rattle.std.proofs.lemmas.List.Elements.{All-weaker}
@@ -13,27 +13,32 @@ use Rattle.nesl_types.specs.Numbering.{IsBelow, variables, first_occurrences, nu
 use Rattle.nesl_types.specs.Scheme.{IsSchemeOf}
 use Rattle.nesl_types.specs.Substitution.{substitute}
 use Rattle.nesl_types.specs.Class.{IsIn, IsWithin, class_at}
-use Rattle.nesl_types.proofs.Substitutions.{substitute-substitute}
 use Rattle.nesl_types.proofs.Members.{IsIn-substitute}
 use Rattle.nesl_syntax.specs.Trees.{PatternTree, Tree, SignatureTree}
 use Rattle.nesl_unify.specs.Bounds.{IsBounded}
-use Rattle.nesl_unify.specs.Solves.{IsSolution, IsInstance}
+use Rattle.nesl_unify.specs.Solves.{IsInstance}
+use Rattle.nesl_unify.specs.Shapes.{part_type, shape_type, shape_at}
+use Rattle.nesl_unify.specs.Systems.{HoldIn}
+use Rattle.nesl_unify.specs.declared.shapes.Part.{Part}
+use Rattle.nesl_unify.specs.declared.shapes.Part.TheVariants as part
+use Rattle.nesl_unify.specs.declared.shapes.Shape.{Shape}
+use Rattle.nesl_unify.specs.declared.shapes.Shape.TheVariants as shape
+use Rattle.nesl_unify.specs.declared.shapes.Sides.{Sides}
+use Rattle.nesl_infer.specs.declared.table.Table.{Table}
 use Rattle.nesl_unify.specs.declared.narrow.Member.{Member}
-use Rattle.nesl_unify.specs.declared.solve.Equation.{Equation}
 use Rattle.nesl_infer.specs.declared.state.State.{State}
 use Rattle.nesl_infer.specs.declared.state.Local.{Local}
-use Rattle.nesl_builtins.specs.Table.{function_type}
 use Rattle.nesl_names.specs.Names.{datatype_in}
 use Rattle.nesl_infer.specs.World.{Meanings, meanings_in}
-use Rattle.nesl_infer.specs.Typing.{Scope, HasType, Parts, IsSigned, IsInstanceOf}
-use Rattle.nesl_infer.specs.Principal.{bounded, HasFunctionType, TypedFunction, IsPrincipalScheme}
-use Rattle.nesl_infer.specs.Holds.{Agrees, count, Holds, IsMade, Gives, Adds, AddsNames, scope_at}
+use Rattle.nesl_infer.specs.Typing.{HasType, Parts, IsSigned}
+use Rattle.nesl_infer.specs.Principal.{bounded, TypedFunction, IsPrincipalScheme}
+use Rattle.nesl_infer.specs.Holds.{Holds, HoldsIn, Gives, Adds, AddsNames, scope_at}
 use Rattle.nesl_infer.proofs.Places.{small}
 use Rattle.nesl_infer.proofs.Steps.{gives_then, gives_and, gives_as, adds_as, in_any}
 use Rattle.nesl_infer.proofs.Arms.{AnyTerm}
 use Rattle.nesl_infer.proofs.Instances.{int-in}
 use Rattle.nesl_infer.proofs.Patterns.{parts-small}
-use Rattle.nesl_infer.proofs.Wholes.{IsEmpty, made_empty, holds_empty}
+use Rattle.nesl_infer.proofs.Wholes.{IsEmpty}
 
 -- the variables of a type by their numbers, and `int` for one that has none
 numbered : List ℕ → ℕ → Term
@@ -123,14 +128,37 @@ put-in of k vs put h n =
       | inr g ↦ subst (λ (c : Class). IsIn k c (put (get_or vs n 0))) (sym (class-past of vs n g)) (in_any k (put (get_or vs n 0)))
     ]
 
+part_with : (r s f : ℕ → Term) (a : Part) → substitute r (part_type s f a) ≡ part_type (λ v. substitute r (s v)) (λ p. substitute r (f p)) a
+part_with r s f (part.Variable v) = refl
+part_with r s f (part.Built p) = refl
+
+shape_with : (r s f : ℕ → Term) (a : Shape) → substitute r (shape_type s f a) ≡ shape_type (λ v. substitute r (s v)) (λ p. substitute r (f p)) a
+shape_with r s f shape.Int = refl
+shape_with r s f shape.Bool = refl
+shape_with r s f shape.Char = refl
+shape_with r s f (shape.Named n) = refl
+shape_with r s f (shape.SeqOf a) = ap seq_of (part_with r s f a)
+shape_with r s f (shape.Both a b) = let e = part_with r s f a in let d = part_with r s f b in cc
+
+-- types put for the variables of a solution
+hold_with : (r : ℕ → Term) (ns : List Shape) (es : List Sides) (s : ℕ → Term) → HoldIn ns es s → HoldIn ns es (λ v. substitute r (s v))
+hold_with r ns es s h = (
+  λ p. substitute r (h.0 p),
+  λ p l. ap (substitute r) (h.1 p l) ∙ shape_with r s h.0 (shape_at ns p),
+  λ k d l. let e = get_or es k d in sym (part_with r s h.0 e.left) ∙ ap (substitute r) (h.2 k d l) ∙ part_with r s h.0 e.right,
+)
+
+numbered_in : (o : Option Table) (s : ℕ → Term) (of : ℕ → Class) (vs : List ℕ) → HoldsIn s of o → HoldsIn (λ v. substitute (numbered vs) (s v)) (class_at (map of vs)) o
+numbered_in None s of vs h = h
+numbered_in (Some t) s of vs h = record {
+  equal = hold_with (numbered vs) t.system.shapes.items t.system.sides.items s h.equal;
+  within = All-weaker (λ (m : Member). IsIn of m.class (s m.variable)) (λ (m : Member). IsIn (class_at (map of vs)) m.class (substitute (numbered vs) (s m.variable)))
+      (λ m k. IsIn-substitute of (class_at (map of vs)) (numbered vs) m.class (s m.variable) k (numbered-in of vs)) t.system.members.items h.within;
+}
+
 -- a solution with the numbers in place of its variables
 holds_numbered : (C : State) (s : ℕ → Term) (of : ℕ → Class) (vs : List ℕ) → Holds s of C → Holds (λ v. substitute (numbered vs) (s v)) (class_at (map of vs)) C
-holds_numbered C s of vs h = record {
-  equal = All-weaker (λ (e : Equation). substitute s (term e.left) ≡ substitute s (term e.right)) (λ (e : Equation). substitute (λ v. substitute (numbered vs) (s v)) (term e.left) ≡ substitute (λ v. substitute (numbered vs) (s v)) (term e.right))
-      (λ e k. sym (substitute-substitute (numbered vs) s (term e.left)) ∙ ap (substitute (numbered vs)) k ∙ substitute-substitute (numbered vs) s (term e.right)) C.equations.items h.equal;
-  within = All-weaker (λ (m : Member). IsIn of m.class (s m.variable)) (λ (m : Member). IsIn (class_at (map of vs)) m.class (substitute (numbered vs) (s m.variable)))
-      (λ m k. IsIn-substitute of (class_at (map of vs)) (numbered vs) m.class (s m.variable) k (numbered-in of vs)) C.members.items h.within;
-}
+holds_numbered C s of vs h = numbered_in C.table s of vs h
 
 bounded_numbered : (s : ℕ → Term) (vs : List ℕ) → IsBounded s → IsBounded (λ v. substitute (numbered vs) (s v))
 bounded_numbered s vs b v = subst (λ (n : ℕ). n ≤ 4096) (sym (same_nodes (numbered vs) (s v) (numbered-node vs))) (b v)
@@ -144,7 +172,7 @@ pub whole : {A C : State} (t u : ℕ) (F : (ℕ → Class) → Term → Term →
 whole {A = A} t u F h p = record {
   sound = λ s of b k. (p.sound s of b k).1;
   complete = λ of a b f.
-      let z = p.complete (λ v. int) of (made_empty A h) (λ v. omega arith) (holds_empty A (λ v. int) of h) (a, b) f in
+      let z = p.complete (λ v. int) of (λ v. omega arith) (h (λ v. int) of) (a, b) f in
       (z.0, z.2, z.3, ap (λ x. x.0) z.4, ap (λ x. x.1) z.4);
 }
 

@@ -1,8 +1,8 @@
 -- A typing with other types in place of its variables.
-use Rattle.std.proofs.Common.{◌≡◌, ℕ, Bool, true, false, cond, List, [], ◌∷◌, ◌++◌, map, refl, sym, ap, ◌∙◌, subst, arith}
-use Rattle.std.specs.Prelude.{All, Option, Some, None, option_map}
+use Rattle.std.proofs.Common.{◌≡◌, ℕ, Bool, true, false, cond, List, [], ◌∷◌, ◌++◌, map, refl, sym, ap, ◌∙◌, subst}
+use Rattle.std.specs.Prelude.{Option, Some, None, option_map}
 use Rattle.nesl_types.specs.declared.classes.Class.{Class}
-use Rattle.nesl_types.specs.Term.{Term, int, bool, char, variable, seq_of, both, named}
+use Rattle.nesl_types.specs.Term.{Term, int, bool, seq_of, both}
 use Rattle.nesl_types.specs.Substitution.{substitute}
 use Rattle.nesl_types.specs.Class.{IsIn, class_at}
 use Rattle.nesl_types.proofs.Substitutions.{substitute-substitute}
@@ -10,8 +10,8 @@ use Rattle.nesl_types.proofs.Members.{IsIn-substitute}
 use Rattle.nesl_syntax.specs.Trees.{TypeTree, TypeShape, PatternTree, PatternShape, Tree, Shape, Trees, Binders, written, pattern, node, none, more, no_binders, binder}
 use Rattle.nesl_syntax.specs.Trees as trees
 use Rattle.nesl_builtins.specs.Table.{FunctionType}
-use Rattle.nesl_infer.specs.World.{World, Meanings, Meaning, Datatypes, general, single}
-use Rattle.nesl_infer.specs.Typing.{Key, Scope, newest, is_name, is_element, element, name, local, IsInstanceOf, Takes, IsApplied, IsVariable, IsRecord, IsWritten, IsWrittenShape, Parts, ShapeParts, AllParts, Draws, HasType, HasShapeType, HaveType, Binds, HaveElements}
+use Rattle.nesl_infer.specs.World.{Meanings, Meaning, Datatypes, general, single}
+use Rattle.nesl_infer.specs.Typing.{Key, Scope, newest, is_name, is_element, element, local, IsInstanceOf, Takes, IsVariable, IsWritten, IsWrittenShape, Parts, ShapeParts, AllParts, Draws, HasType, HasShapeType, HaveType, Binds, HaveElements}
 use Rattle.nesl_infer.specs.Principal.{unbounded}
 use Rattle.nesl_infer.specs.Laws.{scope_with, meaning_with, IsWith}
 

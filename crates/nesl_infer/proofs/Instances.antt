@@ -1,9 +1,8 @@
 -- Types for the variables of a function's type.
-use Rattle.std.proofs.Common.{◌≡◌, ◌<◌, ◌≤◌, ◌+◌, ℕ, zero, suc, Bool, true, false, cond, inl, inr, List, [], ◌∷◌, ◌++◌, length, map, get_or, refl, sym, ap, ◌∙◌, subst, arith}
-use Rattle.std.specs.Prelude.{All, nat_lt, slice_index, slice_get, unwrap_or, ◌||◌}
+use Rattle.std.proofs.Common.{◌≡◌, ◌<◌, ◌≤◌, ℕ, zero, suc, Bool, true, false, cond, inl, inr, List, [], ◌∷◌, ◌++◌, length, map, refl, sym, ap, ◌∙◌, subst, arith}
+use Rattle.std.specs.Prelude.{All, nat_lt, slice_index, ◌||◌}
 use Rattle.std.proofs.lemmas.Bool.{cases_lt}
 use Rattle.std.proofs.lemmas.Bool.Decides.{nat_tests}
-use Rattle.std.proofs.lemmas.List.Elements.{All-nil, All-cons, All-head, All-tail}
 use Rattle.nesl_types.specs.declared.classes.Class.{Class}
 use Rattle.nesl_types.specs.declared.classes.Class.TheVariants.{Any, Ordinal, Number, Logical}
 use Rattle.nesl_types.specs.Term.{Term, int, bool, char, variable, seq_of, both, named, nodes}
@@ -12,13 +11,13 @@ use Rattle.nesl_types.specs.Numbering.{IsBelow}
 use Rattle.nesl_types.specs.Substitution.{substitute, occurs}
 use Rattle.nesl_types.proofs.Substitutions.{substitute-substitute, nodes_of_part}
 use Rattle.nesl_unify.proofs.Solved.{substitute_below}
-use Rattle.nesl_unify.specs.Bounds.{IsBounded}
+use Rattle.nesl_unify.specs.Instances.{fresh_at}
 use Rattle.nesl_builtins.specs.Table.{FunctionType}
 use Rattle.nesl_infer.specs.declared.state.State.{State}
 use Rattle.nesl_infer.specs.Typing.{IsInstanceOf}
 use Rattle.nesl_infer.specs.Instances.{AreOf, type_in}
-use Rattle.nesl_infer.specs.Holds.{Agrees, count, Gives, Adds}
-use Rattle.nesl_infer.proofs.Steps.{gives_then, gives_and, gives_as, adds_from, in_any}
+use Rattle.nesl_infer.specs.Holds.{count, Gives, Adds}
+use Rattle.nesl_infer.proofs.Steps.{gives_then, gives_and, gives_as, adds_from}
 
 pub renamed-below : (n : ℕ) (vs : List ℕ) (t : Term) → All (λ v. v < n) vs → IsBelow (length vs) t → IsBelow n (substitute (λ v. variable (slice_index vs v)) t)
 renamed-below n vs int a b = tt
@@ -37,6 +36,14 @@ type_in-map s (w ∷ vs) (suc v) b = type_in-map s vs v (omega arith)
 pub renamed_is : (s : ℕ → Term) (vs : List ℕ) (t : Term) → IsBelow (length vs) t → substitute s (substitute (λ v. variable (slice_index vs v)) t) ≡ substitute (type_in (map s vs)) t
 renamed_is s vs t b =
     substitute-substitute s (λ v. variable (slice_index vs v)) t ∙ substitute_below (length vs) (λ v. s (slice_index vs v)) (type_in (map s vs)) t b (type_in-map s vs)
+
+fresh-in : (s : ℕ → Term) (other : ℕ) (vs : List ℕ) (v : ℕ) → v < length vs → s (fresh_at other vs v) ≡ type_in (map s vs) v
+fresh-in s other [] v b = absurd (omega arith)
+fresh-in s other (w ∷ vs) zero b = refl
+fresh-in s other (w ∷ vs) (suc v) b = fresh-in s other vs v (omega arith)
+
+pub shared_is : (s : ℕ → Term) (other : ℕ) (vs : List ℕ) (t : Term) → IsBelow (length vs) t → substitute (λ v. s (fresh_at other vs v)) t ≡ substitute (type_in (map s vs)) t
+shared_is s other vs t b = substitute_below (length vs) (λ v. s (fresh_at other vs v)) (type_in (map s vs)) t b (fresh-in s other vs)
 
 -- one class more
 are-push : (of : ℕ → Class) (cs : List Class) (us : List Term) (c : Class) (u : Term) → AreOf of cs us → IsIn of c u → nodes u ≤ 4096 → AreOf of (cs ++ c ∷ []) (us ++ u ∷ [])
@@ -70,10 +77,9 @@ fresh_more {C = C} cs c vs v p h =
 pub fresh_none : {A : State} → Fresh A A [] []
 fresh_none = record {
   more = omega arith;
-  made = λ k. k;
   fixed = λ s z a. refl;
   sound = λ s of b h. (h, tt);
-  complete = λ s of k b h x c. (s, λ _ _. refl, h, b, none_is of x c);
+  complete = λ s of b h x c. (s, λ _ _. refl, h, b, none_is of x c);
 }
   where
     none_is : (of : ℕ → Class) (us : List Term) → AreOf of [] us → [] ≡ us

@@ -1,8 +1,8 @@
 -- What variables, elements and empty sequences add.
-use Rattle.std.proofs.Common.{◌≡◌, ◌<◌, ◌≤◌, ◌+◌, ℕ, List, refl, sym, ap, ◌∙◌, subst, arith}
+use Rattle.std.proofs.Common.{◌≡◌, ◌<◌, ◌≤◌, ◌+◌, ℕ, sym, ap, ◌∙◌, subst, arith}
 use Rattle.std.specs.Prelude.{Option, Some, None}
 use Rattle.nesl_types.specs.declared.classes.Class.{Class}
-use Rattle.nesl_types.specs.Term.{Term, int, bool, char, named, seq_of, both, nodes}
+use Rattle.nesl_types.specs.Term.{Term, named, seq_of, both, nodes}
 use Rattle.nesl_types.specs.Numbering.{IsBelow}
 use Rattle.nesl_types.specs.Substitution.{substitute}
 use Rattle.nesl_syntax.specs.Trees.{TypeTree, TypeShape, written}
@@ -10,7 +10,7 @@ use Rattle.nesl_syntax.specs.Trees as trees
 use Rattle.nesl_infer.specs.declared.state.State.{State}
 use Rattle.nesl_infer.specs.World.{Datatypes}
 use Rattle.nesl_infer.specs.Typing.{IsWritten, IsWrittenShape}
-use Rattle.nesl_infer.specs.Holds.{count, Gives, Adds}
+use Rattle.nesl_infer.specs.Holds.{count, Adds}
 use Rattle.nesl_infer.proofs.Steps.{gives_and, adds_as, adds_from, adds_is}
 use Rattle.nesl_infer.proofs.Arms.{AnyTerm}
 use Rattle.nesl_infer.proofs.Applied.{closed-kept}

@@ -1,6 +1,5 @@
 -- What a `let` and a call add.
 use Rattle.std.proofs.Common.{◌≡◌, ◌<◌, ◌≤◌, ◌+◌, ℕ, List, [], ◌∷◌, ◌++◌, length, take, get_or, refl, sym, ap, ◌∙◌, subst, arith, append_assoc, append-nil}
-use Rattle.std.specs.Prelude.{All}
 use Rattle.std.proofs.lemmas.List.{take_more}
 use Rattle.std.proofs.lemmas.List.Elements.{All-nil}
 use Rattle.nesl_lex.specs.declared.token.Span.{Span}
@@ -11,13 +10,12 @@ use Rattle.nesl_syntax.specs.Views.{tree_of, pattern_tree, binders_in}
 use Rattle.nesl_syntax.specs.Trees.{PatternTree, Tree, Binders, node, no_binders, binder, and_bind}
 use Rattle.nesl_syntax.specs.Trees as trees
 use Rattle.nesl_syntax.proofs.Rows.{binders_push}
-use Rattle.nesl_unify.specs.Bounds.{IsBounded}
 use Rattle.nesl_infer.specs.declared.state.State.{State}
 use Rattle.nesl_infer.specs.declared.state.Local.{Local}
 use Rattle.nesl_infer.specs.World.{World, Meanings}
 use Rattle.nesl_infer.specs.Typing.{Scope, Parts, HasType, Binds, IsApplied}
 use Rattle.nesl_infer.specs.Principal.{bounded}
-use Rattle.nesl_infer.specs.Holds.{Agrees, count, Gives, Adds, AddsNames, scope_at, AreLocalsBelow}
+use Rattle.nesl_infer.specs.Holds.{Agrees, count, Adds, AddsNames, scope_at, AreLocalsBelow}
 use Rattle.nesl_infer.proofs.Places.{IsFixed, scope-fixed, typed-moves, small}
 use Rattle.nesl_infer.proofs.Steps.{gives_then, gives_as, adds_as}
 use Rattle.nesl_infer.proofs.Arms.{AnyTerm, Types}
@@ -97,10 +95,9 @@ no_bindings {A = A} N ls = record {
   below = All-nil (λ (x : Local). x.variable < count A);
   gives = record {
     more = omega arith;
-    made = λ k. k;
     fixed = λ s z a. refl;
     sound = λ s of b h. (h, refl);
-    complete = λ s of k b h x c. (s, λ _ _. refl, h, b, sym c);
+    complete = λ s of b h x c. (s, λ _ _. refl, h, b, sym c);
   };
 }
 

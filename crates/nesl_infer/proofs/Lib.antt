@@ -1,3 +1,4 @@
+pub mod Kept
 pub mod Agreement
 pub mod Steps
 pub mod Places
@@ -15,3 +16,7 @@ pub mod Functions
 pub mod Instanced
 pub mod Known
 pub mod Leaves
+pub mod Contexts
+pub mod Meant
+pub mod Referred
+pub mod Unique

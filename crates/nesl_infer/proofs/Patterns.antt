@@ -1,21 +1,19 @@
 -- What each kind of pattern adds.
-use Rattle.std.proofs.Common.{◌≡◌, ◌<◌, ◌≤◌, ◌+◌, ℕ, List, [], ◌∷◌, ◌++◌, length, refl, sym, ap, ◌∙◌, subst, arith, append_assoc, append-nil}
-use Rattle.std.specs.Prelude.{All}
+use Rattle.std.proofs.Common.{◌≡◌, ◌<◌, ◌≤◌, ℕ, List, [], ◌∷◌, ◌++◌, refl, sym, ap, ◌∙◌, subst, arith, append_assoc, append-nil}
 use Rattle.std.proofs.lemmas.List.Elements.{All-nil, All-cons, All-append, All-weaker}
 use Rattle.nesl_lex.specs.declared.token.Span.{Span}
 use Rattle.nesl_types.specs.declared.classes.Class.{Class}
 use Rattle.nesl_types.specs.Term.{Term, both, nodes}
 use Rattle.nesl_syntax.specs.Trees.{PatternTree, pattern}
 use Rattle.nesl_syntax.specs.Trees as trees
-use Rattle.nesl_unify.specs.Bounds.{IsBounded}
 use Rattle.nesl_infer.specs.declared.state.State.{State}
 use Rattle.nesl_infer.specs.declared.state.Local.{Local}
-use Rattle.nesl_infer.specs.World.{World, Meanings}
+use Rattle.nesl_infer.specs.World.{Meanings}
 use Rattle.nesl_infer.specs.Typing.{Key, name, Scope, Parts, IsRecord}
 use Rattle.nesl_infer.specs.Principal.{bounded}
-use Rattle.nesl_infer.specs.Holds.{Agrees, count, Gives, Adds, AddsNames, key_of, scope_at, AreLocalsBelow}
-use Rattle.nesl_infer.proofs.Places.{IsFixed, scope-fixed}
-use Rattle.nesl_infer.proofs.Steps.{gives_then, gives_and, gives_as, adds_as}
+use Rattle.nesl_infer.specs.Holds.{Agrees, count, Adds, AddsNames, key_of, scope_at, AreLocalsBelow}
+use Rattle.nesl_infer.proofs.Places.{scope-fixed}
+use Rattle.nesl_infer.proofs.Steps.{gives_then, gives_and, gives_as}
 use Rattle.nesl_infer.proofs.Arms.{AnyTerm}
 
 abbrev pub NamesOf : State → State → List Local → List Local → ((ℕ → Term) → Meanings) → PatternTree → ℕ → Type 0
@@ -48,10 +46,9 @@ arm_name {A = A} N sp x v ls ms l b e p q = record {
       let read : (s : ℕ → Term) → scope_at s (l ∷ []) ≡ (name x, s v) ∷ [] = λ s. ap (λ (y : Key). (y, s l.variable) ∷ []) p ∙ ap (λ (k : ℕ). (name x, s k) ∷ []) q in
       record {
         more = omega arith;
-        made = λ k. k;
         fixed = λ s z a. read s ∙ ap (λ (t : Term). (name x, t) ∷ []) (a v b) ∙ sym (read z);
         sound = λ s of d h. (h, (d v, read s));
-        complete = λ s of k d h ns c. (s, λ _ _. refl, h, d, read s ∙ sym c.1);
+        complete = λ s of d h ns c. (s, λ _ _. refl, h, d, read s ∙ sym c.1);
       };
 }
 

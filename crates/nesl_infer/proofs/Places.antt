@@ -1,19 +1,17 @@
 -- What names mean under a substitution speaks of the variables so far alone.
-use Rattle.std.proofs.Common.{◌≡◌, ◌<◌, ◌≤◌, ◌+◌, ℕ, List, [], ◌∷◌, ◌++◌, length, refl, sym, ap, ◌∙◌, subst, arith, append_assoc}
-use Rattle.std.specs.Prelude.{All, Option, Some, None}
-use Rattle.std.proofs.lemmas.List.Elements.{All-head, All-tail, All-weaker}
+use Rattle.std.proofs.Common.{◌≡◌, ◌<◌, ◌≤◌, ℕ, List, [], ◌∷◌, ◌++◌, refl, ap, ◌∙◌, subst}
+use Rattle.std.specs.Prelude.{Option, Some, None}
+use Rattle.std.proofs.lemmas.List.Elements.{All-head, All-tail}
 use Rattle.nesl_types.specs.declared.classes.Class.{Class}
 use Rattle.nesl_types.specs.declared.bindings.Top.{Top}
-use Rattle.nesl_types.specs.Term.{Term, term, nodes}
+use Rattle.nesl_types.specs.Term.{Term, nodes}
 use Rattle.nesl_syntax.specs.Trees.{Tree, Trees, node}
-use Rattle.nesl_unify.specs.Bounds.{IsBounded}
-use Rattle.nesl_infer.specs.declared.state.State.{State}
 use Rattle.nesl_infer.specs.declared.state.Local.{Local}
 use Rattle.nesl_infer.specs.declared.state.OwnName.{OwnName}
 use Rattle.nesl_infer.specs.World.{World, Meanings, Own, meanings_in}
 use Rattle.nesl_infer.specs.Typing.{Scope, HasType, HaveType}
 use Rattle.nesl_infer.specs.Principal.{bounded}
-use Rattle.nesl_infer.specs.Holds.{Agrees, count, Gives, Adds, key_of, scope_at, own_at, AreLocalsBelow, IsOwnBelow}
+use Rattle.nesl_infer.specs.Holds.{Agrees, key_of, scope_at, own_at, AreLocalsBelow, IsOwnBelow}
 
 -- the meaning of names speaks of the variables below n alone
 pub record IsFixed (n : ℕ) (N : (ℕ → Term) → Meanings) (S : (ℕ → Term) → Scope) : Type 0 where

@@ -1,5 +1,5 @@
 -- Lists of parts.
-use Rattle.std.proofs.Common.{◌≡◌, ◌<◌, ◌+◌, ℕ, List, [], ◌∷◌, ◌++◌, length, take, get_or, refl, sym, ap, ◌∙◌, rules, Vec, Global, Box}
+use Rattle.std.proofs.Common.{◌≡◌, ◌<◌, ◌+◌, ℕ, List, [], ◌∷◌, ◌++◌, length, take, get_or, sym, ap, ◌∙◌, rules, Vec, Global, Box}
 use Rattle.std.proofs.lemmas.List.{take_more}
 use Rattle.nesl_syntax.proofs.Rows.{row_is, row_of_binders_is, trees_push}
 use Rattle.nesl_syntax.specs.declared.tree.Exp.{Exp}

@@ -3,14 +3,12 @@ use Rattle.std.proofs.Common.{◌≡◌, ◌<◌, ◌≤◌, ◌+◌, ℕ, Bool,
 use Rattle.std.specs.Prelude.{All, Option, Some, None, ◌⊎◌, unwrap_or}
 use Rattle.std.specs.Str.{bytes_eq}
 use Rattle.std.proofs.lemmas.Slice.Eq.{bytes_eq-Decides}
-use Rattle.std.proofs.lemmas.Bool.Decides.{nat_tests}
 use Rattle.std.proofs.lemmas.List.Elements.{All-nil, All-cons, All-push, All-pop, All-weaker}
 use Rattle.std.proofs.lemmas.List.{take_more, map-append}
 use Rattle.nesl_syntax.specs.declared.tree.Member.{Member}
 use Rattle.nesl_syntax.specs.Views.{member_tree}
 use Rattle.nesl_types.specs.declared.classes.Class.{Class}
-use Rattle.nesl_types.specs.Term.{Term, int, bool, char, variable, seq_of, both, named, term, nodes}
-use Rattle.nesl_types.specs.Substitution.{substitute}
+use Rattle.nesl_types.specs.Term.{Term, int, seq_of, nodes}
 use Rattle.nesl_types.specs.Class.{IsIn}
 use Rattle.nesl_syntax.specs.Trees.{TypeTree, TypeShape, MemberTree, SignatureTree, written}
 use Rattle.nesl_syntax.specs.Trees as trees
@@ -37,10 +35,9 @@ no_names {A = A} ls = record {
   below = All-nil (λ (x : Local). x.variable < count A);
   gives = record {
     more = omega arith;
-    made = λ k. k;
     fixed = λ s z a. refl;
     sound = λ s of b h. (h, refl);
-    complete = λ s of k b h x c. (s, λ _ _. refl, h, b, sym c);
+    complete = λ s of b h x c. (s, λ _ _. refl, h, b, sym c);
   };
 }
 
@@ -278,13 +275,20 @@ pub names_below : {A B : State} (ls ms : List Local) (P : Scope → Type 0) → 
 names_below {A = A} {B = B} ls ms P h p =
     subst (λ (ks : List Local). AreLocalsBelow (count B) ks) (sym p.after_is) (locals-append (count B) ls p.added (locals-weaker (count A) (count B) ls p.gives.more h) p.below)
 
+pub nothing_said : {A : State} → Adds A A (λ s of. Unit {0})
+nothing_said = record {
+  more = omega arith;
+  fixed = λ s z a. refl;
+  sound = λ s of b h. (h, tt);
+  complete = λ s of b h x c. (s, λ _ _. refl, h, b, refl);
+}
+
 pub no_members : {A : State} (Q : (ℕ → Term) → (ℕ → Class) → MemberTree → Type 0) → Adds A A (λ s of. All (Q s of) [])
 no_members Q = record {
   more = omega arith;
-  made = λ k. k;
   fixed = λ s z a. refl;
   sound = λ s of b h. (h, All-nil (Q s of));
-  complete = λ s of k b h x c. (s, λ _ _. refl, h, b, refl);
+  complete = λ s of b h x c. (s, λ _ _. refl, h, b, refl);
 }
 
 -- one member more

@@ -1,19 +1,20 @@
 -- Steps, one after another.
-use Rattle.std.proofs.Common.{◌≡◌, ◌+◌, ◌<◌, ◌≤◌, ℕ, List, [], ◌∷◌, ◌++◌, length, refl, sym, ap, ◌∙◌, subst, arith, length-append}
-use Rattle.std.specs.Prelude.{All, Some}
-use Rattle.std.proofs.lemmas.List.Elements.{All-push, All-pop, All-weaker}
+use Rattle.std.proofs.Common.{◌≡◌, ◌+◌, ◌≤◌, ℕ, [], ◌∷◌, ◌++◌, length, refl, sym, ap, ◌∙◌, subst, arith, length-append}
+use Rattle.std.specs.Prelude.{Some, ◌↔◌}
+use Rattle.std.proofs.lemmas.List.Elements.{All-push, All-pop}
 use Rattle.nesl_types.specs.declared.classes.Class.{Class}
 use Rattle.nesl_types.specs.declared.classes.Class.TheVariants.{Any}
-use Rattle.nesl_types.specs.Term.{Term, int, bool, char, variable, seq_of, both, named, term, nodes}
+use Rattle.nesl_types.specs.Term.{Term, int, bool, char, variable, seq_of, both, named, nodes}
 use Rattle.nesl_types.specs.Substitution.{substitute}
-use Rattle.nesl_types.specs.Numbering.{IsBelow}
 use Rattle.nesl_types.specs.Class.{IsIn}
 use Rattle.nesl_unify.specs.Bounds.{IsBounded}
 use Rattle.nesl_unify.specs.declared.narrow.Member.{Member}
-use Rattle.nesl_unify.specs.declared.solve.Equation.{Equation}
+use Rattle.nesl_unify.specs.Members.{IsInAll}
+use Rattle.nesl_unify.specs.Systems as system
 use Rattle.nesl_infer.specs.declared.state.State.{State}
-use Rattle.nesl_infer.specs.Holds.{Agrees, count, IsMade, Holds, Gives, Adds}
-use Rattle.nesl_infer.proofs.Agreement.{holds-agrees, below-weaker, Agrees-trans, Agrees-less, with_at, with_at-agrees, with_at-same, with_at-bounded}
+use Rattle.nesl_infer.specs.declared.table.Table.{Table}
+use Rattle.nesl_infer.specs.Holds.{Agrees, count, count_of, Holds, HoldsIn, Gives, Adds}
+use Rattle.nesl_infer.proofs.Agreement.{holds-agrees, Agrees-trans, with_at, with_at-agrees, with_at-same, with_at-bounded}
 
 -- one step after another, where what the second says of x speaks of the variables of the first state alone
 pub gives_then : {X Y : Type 0} {A B C : State} {r : (ℕ → Term) → X} {q : (ℕ → Term) → Y} (P : (ℕ → Term) → (ℕ → Class) → X → Type 0) (Q : X → (ℕ → Term) → (ℕ → Class) → Y → Type 0) →
@@ -22,7 +23,6 @@ pub gives_then : {X Y : Type 0} {A B C : State} {r : (ℕ → Term) → X} {q : 
     Gives {X = X × Y} A C (λ s. (r s, q s)) (λ s of k. P s of k.0 × Q k.0 s of k.1)
 gives_then {X = X} {Y = Y} {A = A} {B = B} {C = C} {r = r} {q = q} P Q p h m = record {
   more = let a = p.more in let b = h.more in omega arith;
-  made = λ k. h.made (p.made k);
   fixed = λ s z a.
       let l = h.more in
       let e = p.fixed s z (λ v o. a v (omega arith)) in
@@ -32,10 +32,10 @@ gives_then {X = X} {Y = Y} {A = A} {B = B} {C = C} {r = r} {q = q} P Q p h m = r
       let second = h.sound s of b o in
       let first = p.sound s of b second.0 in
       (first.0, (first.1, second.1));
-  complete = λ s of k b o x c.
-      let y = p.complete s of k b o x.0 c.0 in
+  complete = λ s of b o x c.
+      let y = p.complete s of b o x.0 c.0 in
       let moved = m x.0 s y.0 of x.1 y.1 c.1 in
-      let z = h.complete y.0 of (p.made k) y.3 y.2 x.1 (subst (λ (w : X). Q w y.0 of x.1) (sym y.4) moved) in
+      let z = h.complete y.0 of y.3 y.2 x.1 (subst (λ (w : X). Q w y.0 of x.1) (sym y.4) moved) in
       let kept : r z.0 ≡ x.0 = sym (p.fixed y.0 z.0 z.1) ∙ y.4 in (
         z.0,
         Agrees-trans (count A) (count B) s y.0 z.0 p.more y.1 z.1,
@@ -54,12 +54,11 @@ pub gives_as : {X Y : Type 0} {A B : State} {r : (ℕ → Term) → X} (q : (ℕ
     Gives A B q Q
 gives_as q P Q p g e d = record {
   more = p.more;
-  made = p.made;
   fixed = g;
   sound = λ s of b o. let h = p.sound s of b o in (h.0, e s of b h.1);
-  complete = λ s of k b o y c.
+  complete = λ s of b o y c.
       let x = d s of y c in
-      let z = p.complete s of k b o x.0 x.1 in
+      let z = p.complete s of b o x.0 x.1 in
       (z.0, z.1, z.2, z.3, x.2 z.0 z.1 z.4);
 }
 
@@ -71,12 +70,11 @@ pub adds_as : {X : Type 0} {A B : State} {r : (ℕ → Term) → X} (P : (ℕ �
     Adds A B Q
 adds_as P Q p e d = record {
   more = p.more;
-  made = p.made;
   fixed = λ s z a. refl;
   sound = λ s of b o. let h = p.sound s of b o in (h.0, e s of b h.1);
-  complete = λ s of k b o y c.
+  complete = λ s of b o y c.
       let x = d s of c in
-      let z = p.complete s of k b o x.0 x.1 in
+      let z = p.complete s of b o x.0 x.1 in
       (z.0, z.1, z.2, z.3, refl);
 }
 
@@ -88,12 +86,11 @@ pub adds_from : {X : Type 0} {A B : State} {r : (ℕ → Term) → X} (P : (ℕ 
     Adds A B Q
 adds_from P Q p e d = record {
   more = p.more;
-  made = p.made;
   fixed = λ s z a. refl;
   sound = λ s of b o. let h = p.sound s of b o in (h.0, e s of b h.1);
-  complete = λ s of k b o y c.
+  complete = λ s of b o y c.
       let x = d s of b c in
-      let z = p.complete s of k b o x.0 x.1 in
+      let z = p.complete s of b o x.0 x.1 in
       (z.0, z.1, z.2, z.3, refl);
 }
 
@@ -107,68 +104,44 @@ gives_and {X = X} {A = A} {r = r} P Q p h m =
     gives_as r _ (λ s of x. P s of x × Q x s of) q (λ s z a. ap (λ x. x.0) (q.fixed s z a)) (λ s of b k. k) (λ s of x k. ((x, tt), k, λ z a e. ap (λ x. x.0) e))
 
 -- one equation
-pub adds_equation : (A B : State) (e : Equation) → IsBelow (count A) (term e.left) → IsBelow (count A) (term e.right) →
-    B.members.items ≡ A.members.items → B.equations.items ≡ A.equations.items ++ e ∷ [] →
-    Adds A B (λ s of. substitute s (term e.left) ≡ substitute s (term e.right))
-adds_equation A B e l r m q =
-    let same : count B ≡ count A = ap length m in
+pub adds_equation : (A B : State) (a b : Table) → A.table ≡ Some a → B.table ≡ Some b → (Q : (ℕ → Term) → Type 0) →
+    b.system.members.items ≡ a.system.members.items → ((s : ℕ → Term) → system.Holds b.system s ↔ (system.Holds a.system s × Q s)) → Adds A B (λ s of. Q s)
+adds_equation A B a b i j Q m q =
+    let same : count B ≡ count A = ap count_of j ∙ ap length m ∙ sym (ap count_of i) in
     record {
       more = omega arith;
-      made = λ k. record {
-        equations = rw (q, same) (All-push (λ (x : Equation). IsBelow (count A) (term x.left) × IsBelow (count A) (term x.right)) A.equations.items e k.equations (l, r));
-        members = rw (same, m) k.members;
-      };
-      fixed = λ s z a. refl;
-      sound = λ s of b h.
-          let p = All-pop (λ (x : Equation). substitute s (term x.left) ≡ substitute s (term x.right)) B.equations.items A.equations.items (Some e) q h.equal in (
-            record {
-              equal = p.0;
-              within = subst (λ (ms : List Member). All (λ (x : Member). IsIn of x.class (s x.variable)) ms) m h.within;
-            },
-            p.1,
-          );
-      complete = λ s of k b h x c. (
-        s,
-        λ _ _. refl,
-        record {
-          equal = rw q (All-push (λ (x : Equation). substitute s (term x.left) ≡ substitute s (term x.right)) A.equations.items e h.equal c);
-          within = subst (λ (ms : List Member). All (λ (x : Member). IsIn of x.class (s x.variable)) ms) (sym m) h.within;
-        },
-        b,
-        refl,
-      );
+      fixed = λ s z g. refl;
+      sound = λ s of l h.
+          let k = subst (HoldsIn s of) j h in
+          let p = (q s).0 k.equal in
+          (subst (HoldsIn s of) (sym i) (record { equal = p.0; within = subst (IsInAll s of) m k.within }), p.1);
+      complete = λ s of l h x c.
+          let k = subst (HoldsIn s of) i h in
+          (s, λ _ _. refl, subst (HoldsIn s of) (sym j) (record { equal = (q s).1 (k.equal, c); within = subst (IsInAll s of) (sym m) k.within }), l, refl);
     }
 
 -- one variable, for some type of its class
-pub gives_fresh : (A B : State) (c : Class) (v : ℕ) → v ≡ count A →
-    B.members.items ≡ A.members.items ++ record { variable = v; class = c } ∷ [] → B.equations.items ≡ A.equations.items →
+pub gives_fresh : (A B : State) (a b : Table) → A.table ≡ Some a → B.table ≡ Some b → (c : Class) (v : ℕ) → v ≡ system.count a.system →
+    b.system.members.items ≡ a.system.members.items ++ record { variable = v; class = c } ∷ [] → ((s : ℕ → Term) → system.Holds b.system s ↔ system.Holds a.system s) →
     Gives A B (λ s. s v) (λ s of u. IsIn of c u × (nodes u ≤ 4096))
-gives_fresh A B c v i m q =
+gives_fresh A B a b i j c v is m q =
     let fresh : Member = record { variable = v; class = c } in
-    let grown : count B ≡ count A + 1 = rw m (length-append A.members.items (fresh ∷ [])) in
-    let made : IsMade A → IsMade B = λ k. record {
-      equations = rw (q, grown) (All-weaker (λ (x : Equation). IsBelow (count A) (term x.left) × IsBelow (count A) (term x.right)) (λ (x : Equation). IsBelow (count A + 1) (term x.left) × IsBelow (count A + 1) (term x.right))
-          (λ x h. (below-weaker (count A) (count A + 1) (term x.left) (omega arith) h.0, below-weaker (count A) (count A + 1) (term x.right) (omega arith) h.1)) A.equations.items k.equations);
-      members = subst (λ (n : ℕ). All (λ (x : Member). x.variable < n) B.members.items) (sym grown)
-          (subst (λ (ms : List Member). All (λ (x : Member). x.variable < count A + 1) ms) (sym m)
-          (All-push (λ (x : Member). x.variable < count A + 1) A.members.items fresh (All-weaker (λ (x : Member). x.variable < count A) (λ (x : Member). x.variable < count A + 1) (λ x h. omega arith) A.members.items k.members) (omega arith)));
-    } in
+    let grown : count B ≡ count A + 1 = ap count_of j ∙ ap length m ∙ length-append a.system.members.items (fresh ∷ []) ∙ ap (λ (n : ℕ). n + 1) (sym (ap count_of i)) in
+    let here : v ≡ count A = is ∙ sym (ap count_of i) in
     record {
       more = omega arith;
-      made = made;
-      fixed = λ s z a. a v (omega arith);
-      sound = λ s of b h.
-          let w = All-pop (λ (x : Member). IsIn of x.class (s x.variable)) B.members.items A.members.items (Some fresh) m h.within in
-          (record { equal = subst (λ (es : List Equation). All (λ (x : Equation). substitute s (term x.left) ≡ substitute s (term x.right)) es) q h.equal; within = w.0 }, (w.1, b v));
-      complete = λ s of k b h u e.
+      fixed = λ s z g. g v (omega arith);
+      sound = λ s of l h.
+          let k = subst (HoldsIn s of) j h in
+          let w = All-pop (λ (x : Member). IsIn of x.class (s x.variable)) b.system.members.items a.system.members.items (Some fresh) m k.within in
+          (subst (HoldsIn s of) (sym i) (record { equal = (q s).0 k.equal; within = w.0 }), (w.1, l v));
+      complete = λ s of l h u e.
           let y = with_at s v u in
-          let g : Agrees (count A) s y = subst (λ (n : ℕ). Agrees n s y) i (with_at-agrees s v u) in
-          let a = holds-agrees A s y of k g h in
-          let on : Holds y of B = record {
-            equal = subst (λ (es : List Equation). All (λ (x : Equation). substitute y (term x.left) ≡ substitute y (term x.right)) es) (sym q) a.equal;
-            within = rw m (All-push (λ (x : Member). IsIn of x.class (y x.variable)) A.members.items fresh a.within (subst (λ (t : Term). IsIn of c t) (sym (with_at-same s v u)) e.0));
-          } in
-          (y, g, on, with_at-bounded s v u b e.1, with_at-same s v u);
+          let g : Agrees (count A) s y = subst (λ (n : ℕ). Agrees n s y) here (with_at-agrees s v u) in
+          let k = subst (HoldsIn y of) i (holds-agrees A s y of g h) in
+          let all = All-push (λ (x : Member). IsIn of x.class (y x.variable)) a.system.members.items fresh k.within (subst (λ (t : Term). IsIn of c t) (sym (with_at-same s v u)) e.0) in
+          let on : Holds y of B = subst (HoldsIn y of) (sym j) (record { equal = (q y).1 k.equal; within = subst (IsInAll y of) (sym m) all }) in
+          (y, g, on, with_at-bounded s v u l e.1, with_at-same s v u);
     }
 
 -- a variable's type in other words

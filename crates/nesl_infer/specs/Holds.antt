@@ -1,13 +1,13 @@
 -- Steps that add variables and equations.
-use Rattle.std.specs.Prelude.{◌≡◌, ◌<◌, ◌≤◌, ℕ, List, [], ◌∷◌, ◌++◌, Option, Some, None, length, All}
-use Rattle.std.specs.Option.{option_map}
+use Rattle.std.specs.Prelude.{◌≡◌, ◌<◌, ◌≤◌, ℕ, List, [], ◌∷◌, ◌++◌, Option, Some, None, All}
 use Rattle.nesl_types.specs.declared.classes.Class.{Class}
 use Rattle.nesl_types.specs.declared.bindings.Top.{Top}
 use Rattle.nesl_types.specs.Term.{Term}
-use Rattle.nesl_unify.specs.declared.narrow.Member.{Member}
 use Rattle.nesl_unify.specs.Bounds.{IsBounded}
-use Rattle.nesl_unify.specs.Solves.{AreBelow, IsSolution}
+use Rattle.nesl_unify.specs.Systems.{SolvesSystem}
+use Rattle.nesl_unify.specs.Systems as system
 use Rattle.nesl_infer.specs.declared.state.State.{State}
+use Rattle.nesl_infer.specs.declared.table.Table.{Table}
 use Rattle.nesl_infer.specs.declared.state.Local.{Local}
 use Rattle.nesl_infer.specs.declared.state.OwnName.{OwnName}
 use Rattle.nesl_infer.specs.World.{World, Own, meanings_in}
@@ -21,16 +21,21 @@ use Rattle.nesl_infer.specs.Principal.{bounded}
 abbrev pub Agrees : ℕ → (ℕ → Term) → (ℕ → Term) → Type 0
 Agrees n s z = (v : ℕ) → v < n → s v ≡ z v
 
-abbrev pub count : State → ℕ
-count state = length state.members.items
+-- the variables are the numbers below this
+abbrev pub count_of : Option Table → ℕ
+count_of None = 0
+count_of (Some t) = system.count t.system
 
--- the equations and members speak of the variables below `count`
-pub record IsMade (state : State) : Type 0 where
-  pub equations : AreBelow (count state) state.equations.items
-  pub members : All (λ m. m.variable < count state) state.members.items
+abbrev pub count : State → ℕ
+count state = count_of state.table
+
+-- s and `of` solve the equations and the classes; nothing does after want of memory
+abbrev pub HoldsIn : (ℕ → Term) → (ℕ → Class) → Option Table → Type 0
+HoldsIn s of None = ⊥
+HoldsIn s of (Some t) = SolvesSystem t.system s of
 
 abbrev pub Holds : (ℕ → Term) → (ℕ → Class) → State → Type 0
-Holds s of state = IsSolution state.equations.items state.members.items s of
+Holds s of state = HoldsIn s of state.table
 
 -- a step from one state to a later one: each solution of the later one solves the earlier one, and P holds of what is
 -- read of it;
@@ -38,10 +43,9 @@ Holds s of state = IsSolution state.equations.items state.members.items s of
 pub record Gives {X : Type 0} (old new : State) (read : (ℕ → Term) → X)
     (P : (ℕ → Term) → (ℕ → Class) → X → Type 0) : Type 0 where
   pub more : count old ≤ count new
-  pub made : IsMade old → IsMade new
   pub fixed : (s z : ℕ → Term) → Agrees (count new) s z → read s ≡ read z
   pub sound : (s : ℕ → Term) (of : ℕ → Class) → IsBounded s → Holds s of new → Holds s of old × P s of (read s)
-  pub complete : (s : ℕ → Term) (of : ℕ → Class) → IsMade old → IsBounded s → Holds s of old → (x : X) → P s of x →
+  pub complete : (s : ℕ → Term) (of : ℕ → Class) → IsBounded s → Holds s of old → (x : X) → P s of x →
       (z : ℕ → Term) × Agrees (count old) s z × Holds z of new × IsBounded z × (read z ≡ x)
 
 abbrev pub Adds : State → State → ((ℕ → Term) → (ℕ → Class) → Type 0) → Type 0

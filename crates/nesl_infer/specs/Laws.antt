@@ -1,13 +1,16 @@
 -- Laws of typing.
-use Rattle.std.specs.Prelude.{◌≡◌, ℕ, List, [], ◌∷◌, Option, Some}
+use Rattle.std.specs.Prelude.{◌≡◌, ℕ, List, [], ◌∷◌, Option, Some, None}
 use Rattle.nesl_types.specs.declared.classes.Class.{Class}
 use Rattle.nesl_types.specs.Term.{Term}
 use Rattle.nesl_types.specs.Class.{IsIn}
 use Rattle.nesl_types.specs.Substitution.{substitute}
-use Rattle.nesl_syntax.specs.Trees.{Tree}
-use Rattle.nesl_infer.specs.World.{Meanings, Meaning, general, single}
+use Rattle.nesl_types.specs.declared.schemes.Scheme.{Scheme}
+use Rattle.nesl_types.specs.Scheme.{IsSameScheme}
+use Rattle.nesl_syntax.specs.Trees.{PatternTree, SignatureTree, Tree}
+use Rattle.nesl_types.specs.declared.bindings.Top.{Top}
+use Rattle.nesl_infer.specs.World.{Meanings, Meaning, general, single, Own, meanings_in}
 use Rattle.nesl_infer.specs.Typing.{Scope, HasType}
-use Rattle.nesl_infer.specs.Principal.{unbounded}
+use Rattle.nesl_infer.specs.Principal.{IsPrincipalScheme, TypedFunction, unbounded}
 
 -- with types in place of variables: local names, what a name before `(` means, and what all names mean
 abbrev pub scope_with : (ℕ → Term) → Scope → Scope
@@ -32,3 +35,20 @@ TypingsHaveInstances =
     (of k : ℕ → Class) (put : ℕ → Term) → ((v : ℕ) → IsIn k (of v) (put v)) → (N M : Meanings) → IsWith put N M →
     (e : Tree) (sc : Scope) (t : Term) → HasType (unbounded N of) sc e t →
     HasType (unbounded M k) (scope_with put sc) e (substitute put t)
+
+-- the function in whose body an expression stands, with types in place of variables
+abbrev pub own_with : (ℕ → Term) → Own → Own
+own_with put None = None
+own_with put (Some own) = Some (own.0, substitute put own.1, substitute put own.2)
+
+-- what names mean with types in place of variables is what they mean where the own function has such types
+abbrev pub MeaningsHaveInstances : {P : Type 0} → List (List ℕ × Top × P) → Type 0
+MeaningsHaveInstances context =
+    (own : Own) (put : ℕ → Term) → IsWith put (meanings_in context own) (meanings_in context (own_with put own))
+
+-- the principal types of a function make one scheme
+abbrev pub PrincipalSchemesAreOne : {P : Type 0} → List (List ℕ × Top × P) → Type 0
+PrincipalSchemesAreOne context =
+    (x : List ℕ) (p : PatternTree) (g : Option SignatureTree) (e : Tree) (s z : Scheme) →
+    IsPrincipalScheme (TypedFunction context x p g e) s → IsPrincipalScheme (TypedFunction context x p g e) z →
+    IsSameScheme s z

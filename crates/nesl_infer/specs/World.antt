@@ -1,6 +1,5 @@
 -- What names mean where an expression stands: what they refer to, with its types.
 use Rattle.std.specs.Prelude.{ℕ, List, Option, Some, None, ◌≤◌}
-use Rattle.std.specs.Option.{option_map}
 use Rattle.nesl_types.specs.declared.classes.Class.{Class}
 use Rattle.nesl_types.specs.declared.bindings.Top.{Top}
 use Rattle.nesl_types.specs.Term.{Term, named, nodes}

@@ -8,7 +8,7 @@ ghost use Rattle.nesl_infer.specs.Typing.{IsApplied, IsInstanceOf};
 ghost use Rattle.nesl_infer.specs.Contexts.{AreClosed, IsOther};
 ghost use Rattle.nesl_infer.specs.World.{meanings_in};
 
-use crate::instance::{instance, instance_of_two};
+use crate::instance::{instance, instance_of_two, shared_instance};
 use crate::state::{OwnName, State};
 use nesl_builtins::{Builtin, named};
 use nesl_types::{Context, Scheme, Top, Ty};
@@ -99,11 +99,11 @@ fn applied_beyond<P: Drop>(
     }
     match context.get(name) {
         Some((Top::Function(scheme), _)) => {
-            instance(state, alloc, scheme, given, target)?;
+            shared_instance(state, alloc, name, scheme, given, target)?;
             Ok(())
         }
         Some((Top::Datatype(tag, held), _)) => {
-            state.equate(given, held.duplicate(alloc)?)?;
+            state.equate_closed(alloc, name, given, held)?;
             state.equate(target, Ty::Named(*tag))?;
             Ok(())
         }

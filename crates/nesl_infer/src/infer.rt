@@ -20,7 +20,7 @@ use nesl_names::{unknown_in_exp, unknown_in_function, unknown_in_type};
 use nesl_syntax::tree::{Exp, Pattern, Signature, TypeExp};
 use nesl_types::{Class, Context, Scheme, Ty};
 use nesl_unify::SolveFault;
-use nesl_unify::solve::{is_below, solve};
+use nesl_unify::solve::is_below;
 use std::alloc::{AllocError, Global};
 
 /// A type, and the class of each of its variables.
@@ -44,13 +44,7 @@ fn principal_type<P: Drop>(
     let root = state.anything()?;
     let mut locals = Vec::new(alloc);
     constrain(alloc, &mut state, context, &None, &mut locals, exp, root)?;
-    let count = state.members.len() as u64;
-    let solution = solve(
-        alloc,
-        count,
-        state.equations.as_slice(),
-        state.members.as_slice(),
-    )?;
+    let solution = state.solve(alloc)?;
     let ty = solution.apply(alloc, &Ty::Var(root))?;
     Ok(PrincipalType {
         ty,
@@ -104,13 +98,7 @@ fn principal_scheme<P: Drop>(
 {
     let mut state = State::new(alloc);
     let ends = constrain_function(alloc, &mut state, context, name, pattern, signature, body)?;
-    let count = state.members.len() as u64;
-    let solution = solve(
-        alloc,
-        count,
-        state.equations.as_slice(),
-        state.members.as_slice(),
-    )?;
+    let solution = state.solve(alloc)?;
     let takes = solution.apply(alloc, &Ty::Var(ends.takes))?;
     let gives = solution.apply(alloc, &Ty::Var(ends.gives))?;
     let scheme = Scheme::new(alloc, &takes, &gives, solution.classes.as_slice())?;

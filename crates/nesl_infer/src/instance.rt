@@ -87,6 +87,26 @@ pub fn instance(
     Ok(())
 }
 
+/// The same for a function of the top level, whose types are put in once a line.
+pub fn shared_instance(
+    state: &mut State,
+    alloc: Global,
+    name: &[u8],
+    scheme: &Scheme,
+    given: u64,
+    target: u64,
+) -> Result<(), AllocError>
+    requires given { given < count state.old }
+    requires target { target < count state.old }
+    ensures { OnOk result (Adds state.old state.new (λ s of. IsInstanceOf (function_type scheme.now) of (s given) (s target))) }
+{
+    scheme.variables_have_classes();
+    let fresh = instantiate(state, alloc, scheme.classes.as_slice())?;
+    state.equate_shared(alloc, name, 0, given, fresh.as_slice(), &scheme.argument)?;
+    state.equate_shared(alloc, name, 1, target, fresh.as_slice(), &scheme.result)?;
+    Ok(())
+}
+
 /// The same for a function that takes a pair, where the types of its parts are given.
 pub fn instance_of_two(
     state: &mut State,

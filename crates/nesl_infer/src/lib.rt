@@ -14,6 +14,7 @@ mod pattern;
 mod record;
 mod signature;
 mod state;
+mod table;
 mod written;
 
 pub use fault::InferFault;

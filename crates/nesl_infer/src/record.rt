@@ -29,7 +29,7 @@ pub fn is_record<P: Drop>(
     match context.get(name) {
         Some((Top::Datatype(tag, ty), _)) => {
             state.equate(target, Ty::Named(*tag))?;
-            state.equate(held, ty.duplicate(alloc)?)?;
+            state.equate_closed(alloc, name, held, ty)?;
             Ok(())
         }
         Some((Top::Variable(_), _)) => {
@@ -76,7 +76,7 @@ pub fn is_top_variable<P: Drop>(
     }
     match context.get(name) {
         Some((Top::Variable(ty), _)) => {
-            state.equate(target, ty.duplicate(alloc)?)?;
+            state.equate_closed(alloc, name, target, ty)?;
             Ok(())
         }
         Some((Top::Function(_), _)) => {

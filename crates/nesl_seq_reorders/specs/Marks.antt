@@ -10,7 +10,7 @@ is_marked m q = nat_eq (bit_at (slice_index m.words (q / 64)) (q % 64)) 1
 
 -- whether a place is not in the window, or differs from all before it
 abbrev pub is_new : ℕ → List ℕ → ℕ → Bool
-is_new window seen k = not (nat_eq (k / 65536) window) || not (list_any (nat_eq k) seen)
+is_new window seen k = not (nat_eq (k / 262144) window) || not (list_any (nat_eq k) seen)
 
 -- whether each place of the window differs from all before it
 abbrev pub are_new : ℕ → List ℕ → List ℕ → Bool
@@ -19,4 +19,4 @@ are_new window seen (k ∷ ks) = is_new window seen k && are_new window (seen ++
 
 -- the marks of a window stand just at its places that were seen
 abbrev pub Holds : Marks → ℕ → List ℕ → Type 0
-Holds m window seen = (k : ℕ) → k / 65536 ≡ window → is_marked m (k % 65536) ≡ list_any (nat_eq k) seen
+Holds m window seen = (k : ℕ) → k / 262144 ≡ window → is_marked m (k % 262144) ≡ list_any (nat_eq k) seen

@@ -3,12 +3,12 @@ ghost use Rattle.std.specs.Prelude.{◌≡◌, ◌<◌, ℕ, ◌||◌, false, na
 ghost use Rattle.nesl_seq_reorders.specs.Marks.{is_marked, is_new, Holds};
 
 /// How many places a window has.
-pub const WINDOW: usize = 65_536;
+pub const WINDOW: usize = 262_144;
 
 /// Marks at the places of a window.
 #[derive(Drop)]
 pub struct Marks {
-    words: [u64; 1024],
+    words: [u64; 4096],
 }
 
 impl Marks {
@@ -16,12 +16,12 @@ impl Marks {
     pub fn new() -> Marks
         ensures { (q : ℕ) → is_marked result q ≡ false }
     {
-        Marks { words: [0; 1024] }
+        Marks { words: [0; 4096] }
     }
 
     /// Whether a place is marked.
     pub fn has(&self, place: usize) -> bool
-        requires { place < 65536 }
+        requires { place < 262144 }
         ensures { result ≡ is_marked self.now place }
     {
         self.words[place / 64] >> (place % 64) & 1 == 1
@@ -29,7 +29,7 @@ impl Marks {
 
     /// Marks a place.
     pub fn mark(&mut self, place: usize)
-        requires { place < 65536 }
+        requires { place < 262144 }
         ensures { (q : ℕ) → is_marked self.new q ≡ (is_marked self.old q || nat_eq place q) }
     {
         self.words[place / 64] |= 1 << (place % 64);

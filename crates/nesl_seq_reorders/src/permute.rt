@@ -1,5 +1,5 @@
 // Sequences of which each element goes to a place of its own.
-ghost use Rattle.std.specs.Prelude.{◌≡◌, ◌+◌, ◌<◌, ◌^◌, [], Some, length, map, IfOk, IsTrue};
+ghost use Rattle.std.specs.Prelude.{◌≡◌, ◌≢◌, ◌+◌, ◌/◌, ◌<◌, ◌^◌, ℕ, [], Some, length, map, IfOk, IsTrue};
 ghost use Rattle.nesl_values.specs.Parts.{as_int};
 ghost use Rattle.nesl_values.specs.View.{tree_of, item_trees};
 ghost use Rattle.nesl_seq_base.specs.Lent.{argument_tree};
@@ -7,7 +7,7 @@ ghost use Rattle.nesl_seq_reorders.specs.Marks.{are_new};
 ghost use Rattle.nesl_seq_base.specs.Outcome.{IsGiven, given, gives};
 ghost use Rattle.nesl_seq_base.specs.Meaning.{meaning};
 ghost use Rattle.nesl_seq_base.specs.Permute.{all_differ, permuted, Inverts};
-ghost use Rattle.nesl_seq_base.specs.Places.{places_of};
+ghost use Rattle.nesl_seq_base.specs.Places.{place_of, places_of};
 ghost use Rattle.nesl_seq_base.specs.Prices.{Prices, reads};
 ghost use Rattle.nesl_seq_base.specs.Reductions.{all_of};
 ghost use Rattle.nesl_seq_base.specs.declared.seq_fn.SeqFn.TheVariants.{Permute};
@@ -82,6 +82,9 @@ fn differ_in<I: Item>(indices: &[I], len: usize, window: usize) -> bool
 {
     let mut marks = Marks::new();
     for index in indices {
+        if is_elsewhere(index, window) {
+            continue;
+        }
         if let Some(place) = place_of(index, len) {
             if !marks.note(window, place) {
                 return false;
@@ -89,6 +92,19 @@ fn differ_in<I: Item>(indices: &[I], len: usize, window: usize) -> bool
         }
     }
     true
+}
+
+// Whether an index surely names no place of the window. Of a long sequence most name none, so this is
+// asked before all else.
+#[inline(always)]
+#[tactic(auto, using(crate::proofs::Differing::is_elsewhere))]
+fn is_elsewhere<I: Item>(index: &I, window: usize) -> bool
+    ensures { IsTrue result → (n k : ℕ) → Some k ≡ place_of n (I.tree index.now) → k / 262144 ≢ window }
+{
+    match index.as_int() {
+        Some(number) => number.cast_unsigned() as usize / WINDOW != window,
+        None => false,
+    }
 }
 
 pub fn apply_permute<A: Allocator + Copy>(

@@ -1,4 +1,4 @@
--- No price of these functions is above what its numbers hold, where the argument has fewer than 2^65 nodes.
+-- No price of these functions is above what its numbers hold, where the argument has fewer than 2^66 nodes.
 use Rattle.nesl_scalars.specs.declared.trap.Trap.{Trap}
 use Rattle.nesl_seq_base.specs.Arguments.{both, two_sequences}
 use Rattle.nesl_seq_base.specs.Pieces.{two}
@@ -57,7 +57,7 @@ fits_second : {X : Type 0} (o : Option (List X)) (g : List Tree → List X → O
 fits_second None g ts n k = tt
 fits_second (Some xs) g ts n k = k xs refl
 
-by_second : {X : Type 0} (read : Tree → Option X) (g : List Tree → List X → Outcome) (t : Tree) → size t < 2 ^ 65 → ((ts us : List Tree) (xs : List X) → all_of read us ≡ Some xs → sizes (trees_of ts) + sizes (trees_of us) < 2 ^ 65 → length ts + length us < 2 ^ 65 → Fits (g ts xs) (length ts + length us))
+by_second : {X : Type 0} (read : Tree → Option X) (g : List Tree → List X → Outcome) (t : Tree) → size t < 2 ^ 66 → ((ts us : List Tree) (xs : List X) → all_of read us ≡ Some xs → sizes (trees_of ts) + sizes (trees_of us) < 2 ^ 66 → length ts + length us < 2 ^ 66 → Fits (g ts xs) (length ts + length us))
     → Fits (given (option_and_then (λ p. both (as_sequence p.0) (option_and_then (all_of read) (as_sequence p.1))) (as_pair t)) (λ p. g p.0 p.1)) (unwrap_or (option_map (λ p. length p.0 + length p.1) (two_sequences t)) 0)
 by_second {X} read g (pair (seq ts) (seq us)) h k =
     subst (λ o. Fits (given {X = List Tree × List X} o (λ p. g p.0 p.1)) (length (list_of ts) + length (list_of us))) (sym (second_read read (pair (seq ts) (seq us)) (list_of ts) (list_of us) refl)) (fits_second (all_of read (list_of us)) g (list_of ts) (length (list_of ts) + length (list_of us)) (λ xs e. k (list_of ts) (list_of us) xs e (omega (arith, sizes_list ts, sizes_list us)) (omega (arith, sizes_list ts, sizes_list us, length_le (list_of ts), length_le (list_of us)))))

@@ -1,6 +1,9 @@
 pub mod Bounds
 pub mod BoundsOfParts
+pub mod Counting
 pub mod Depths
+pub mod Few
+pub mod Forms
 pub mod Moves
 pub mod PlaceBounds
 pub mod ScanBounds

@@ -1,5 +1,5 @@
 -- The places of `rotate`, and the steps of a range.
-use Rattle.std.proofs.Common.{Some, None, map, ◌≤ℤ◌, ◌≡◌, ◌↔◌, ℕ, zero, suc, ◌+◌, ◌-◌, ◌*◌, ◌/◌, ◌%◌, ◌≤◌, ◌<◌, ℤ, pos, negsuc, ◌+ℤ◌, ◌<ℤ◌, Bool, true, false, List, [], ◌∷◌, ◌++◌, length, take, drop, slice_get, refl, ap, sym, ◌∙◌, arith, nat_lt}
+use Rattle.std.proofs.Common.{Some, None, map, ◌≤ℤ◌, ◌≡◌, ◌↔◌, ℕ, zero, suc, ◌+◌, ◌-◌, ◌*◌, ◌/◌, ◌%◌, ◌≤◌, ◌<◌, ℤ, pos, negsuc, ◌+ℤ◌, ◌<ℤ◌, Bool, true, false, List, [], ◌∷◌, ◌++◌, length, take, drop, slice_get, refl, ap, sym, subst, ◌∙◌, arith, nat_lt}
 use Rattle.std.specs.Prelude.{unsigned_abs}
 use Rattle.std.specs.List.{range_with_len}
 use Rattle.std.specs.Int.{int_rem_euclid, int_gap}
@@ -10,7 +10,7 @@ use Rattle.std.proofs.lemmas.List.{length-append, length-drop, length-take-le}
 use Rattle.nesl_values.specs.Tree.{Tree, int, sequence, trees_of}
 use Rattle.nesl_values.specs.Parts.{list_of}
 use Rattle.nesl_seq_base.specs.Outcome.{gives}
-use Rattle.nesl_seq_base.specs.Pieces.{places_on}
+use Rattle.nesl_seq_base.specs.Pieces.{places_on, rotated}
 use Rattle.nesl_seq_base.specs.Ranges.{steps_below}
 use Rattle.nesl_seqs.specs.Laws.{modulo, PlacesOfRotate, NumbersOfRange}
 use Rattle.nesl_seq_reads.proofs.Best.{get_front}
@@ -44,11 +44,11 @@ get_no_number f a zero j h = refl
 get_no_number f a (suc n) zero h = absurd (omega arith)
 get_no_number f a (suc n) (suc j) h = get_no_number f (a + 1) n j (omega arith)
 
-list_back : (ts : List Tree) → list_of (trees_of ts) ≡ ts
+pub list_back : (ts : List Tree) → list_of (trees_of ts) ≡ ts
 list_back [] = refl
 list_back (t ∷ ts) = ap (λ us. t ∷ us) (list_back ts)
 
-same_elements : (ts us : List Tree) → gives (sequence ts) ≡ gives (sequence us) → ts ≡ us
+pub same_elements : (ts us : List Tree) → gives (sequence ts) ≡ gives (sequence us) → ts ≡ us
 same_elements ts us h =
     let trees : trees_of ts ≡ trees_of us = cc h in
     sym (list_back ts) ∙ ap list_of trees ∙ list_back us
@@ -134,7 +134,7 @@ places_of_rotate ts us k is = (long, at)
     r = places_on n k
 
     same : drop (n - r) ts ++ take (n - r) ts ≡ us
-    same = same_elements _ _ is
+    same = same_elements _ _ (subst (λ vs. rotated vs k ≡ gives (sequence us)) (list_back ts) is)
 
     long : length us ≡ n
     long = sym (ap length same) ∙ length-append (drop (n - r) ts) (take (n - r) ts) ∙ omega (arith, length-drop (n - r) ts, length-take-le (n - r) ts (omega arith), on_within n k)

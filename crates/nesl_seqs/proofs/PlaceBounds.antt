@@ -1,5 +1,6 @@
--- No price of a function on places is above what its numbers hold, where the argument has fewer than 2^65 nodes.
-use Rattle.std.proofs.Common.{◌≡◌, ℕ, ℤ, zero, suc, ◌+◌, ◌-◌, ◌*◌, ◌^◌, ◌≤◌, Bool, true, false, nat_le, List, [], ◌∷◌, length, map, refl, ap, sym, ◌∙◌, arith, Option, Some, None, is_some, slice_get, Err, subst}
+-- No price of a function on places is above what its numbers hold, where lent values have fewer than 2^64
+-- nodes each.
+use Rattle.std.proofs.Common.{◌≡◌, ℕ, ℤ, zero, suc, ◌+◌, ◌-◌, ◌*◌, ◌^◌, ◌<◌, ◌≤◌, Bool, true, false, nat_le, List, [], ◌∷◌, length, map, refl, ap, sym, ◌∙◌, arith, Option, Some, None, is_some, slice_get, Err, subst}
 use Rattle.std.specs.List.{list_all, cons_option}
 use Rattle.std.proofs.Math.Nat.{mul_comm, mul-add, mul-le-mul_left}
 use Rattle.std.proofs.lemmas.Bool.Decides.{nat_tests}
@@ -13,7 +14,12 @@ use Rattle.nesl_seq_base.specs.Reductions.{all_of}
 use Rattle.nesl_seq_base.specs.Places.{place_in, all_name, places, elements_at}
 use Rattle.nesl_seq_base.specs.Gather.{gathered}
 use Rattle.nesl_seq_base.specs.Permute.{permuted}
-use Rattle.nesl_seq_base.specs.Prices.{Prices}
+use Rattle.nesl_seq_base.specs.Prices.{Prices, reads}
+use Rattle.nesl_seq_base.specs.Meaning.{meaning}
+use Rattle.nesl_seq_base.specs.Lent.{argument_tree}
+use Rattle.nesl_seq_base.specs.declared.argument.Argument.{Argument}
+use Rattle.nesl_values.specs.View.{tree_of}
+use Rattle.nesl_seqs.specs.Few.{HasFewNodes}
 use Rattle.nesl_seq_base.specs.Write.{int_and_tree, written, write_of}
 use Rattle.nesl_seq_base.specs.declared.seq_fn.SeqFn.TheVariants.{Gather, Permute, Write}
 use Rattle.nesl_seqs.proofs.Bounds.{Fits, IsBounded, fits_if}
@@ -69,16 +75,25 @@ fits_gathered ts us h = by_ints (all_of as_int us) refl
         let most : length ks * sizes (trees_of ts) ≤ (2 ^ 64 - 2) * (2 ^ 64 - 2) = within_square (length ks) (sizes (trees_of ts)) (omega (arith, few, length_found (place_in (length ts)) zs, length_le us)) in
         fits_if (all_name (length ts) zs) (sequence (elements_at ts ks)) _ (length ts + length us) (omega (arith, most, sizes_elements ts ks, length_le ts, length_le us))
 
-pub bounded_gather : IsBounded Gather
-bounded_gather (pair (seq ts) (seq us)) h = fits_gathered (list_of ts) (list_of us) (omega (arith, sizes_list ts, sizes_list us))
-bounded_gather t h = tt
+few_gathered : (t : Tree) → size t < 2 ^ 65 → Fits (meaning Gather t) (reads Gather t)
+few_gathered (pair (seq ts) (seq us)) h = fits_gathered (list_of ts) (list_of us) (omega (arith, sizes_list ts, sizes_list us))
+few_gathered t h = tt
+
+none_gathered : (t u v : Tree) → Fits (meaning Gather (pair t (pair u v))) (reads Gather (pair t (pair u v)))
+none_gathered (seq ts) u v = tt
+none_gathered t u v = tt
+
+pub bounded_gather : {A : Type 0} (x : Argument A) → HasFewNodes x → Fits (meaning Gather (argument_tree x)) (reads Gather (argument_tree x))
+bounded_gather (Argument.One x) h = few_gathered (tree_of x.now) (omega (arith, h))
+bounded_gather (Argument.Two x y) h = few_gathered (pair (tree_of x.now) (tree_of y.now)) (omega (arith, h.0, h.1))
+bounded_gather (Argument.Three x y z) h = none_gathered (tree_of x.now) (tree_of y.now) (tree_of z.now)
 
 fits_refused : (o : Outcome) (e : Trap) (read : ℕ) → Prices o 0 0 0 (Err e) → Fits o read
 fits_refused (gives t) e read p = absurd p
 fits_refused (traps d) e read p = tt
 fits_refused undefined e read p = tt
 
-fits_permuted : (ts us : List Tree) → sizes (trees_of ts) + sizes (trees_of us) ≤ 2 ^ 65 - 4 → Fits (given (all_of as_int us) (permuted ts)) (length ts + length us)
+fits_permuted : (ts us : List Tree) → sizes (trees_of ts) + sizes (trees_of us) ≤ 2 ^ 66 - 4 → Fits (given (all_of as_int us) (permuted ts)) (length ts + length us)
 fits_permuted ts us h =
     subst (λ js. Fits (given (all_of as_int js) (permuted ts)) (length ts + length us)) (map-id us) (by_outcome (λ t. t) us ts (λ o. Fits o (length ts + length us)) (λ o e p. fits_refused o e (length ts + length us) p) (λ a. rw a.is (omega (arith, h, length_le ts, length_le us, size_rearranged ts (map (λ t. t) us) a.same a.named a.differ))))
 
@@ -86,7 +101,7 @@ pub bounded_permute : IsBounded Permute
 bounded_permute (pair (seq ts) (seq us)) h = fits_permuted (list_of ts) (list_of us) (omega (arith, sizes_list ts, sizes_list us))
 bounded_permute t h = tt
 
-fits_written : (ts us : List Tree) → sizes (trees_of ts) + sizes (trees_of us) ≤ 2 ^ 65 - 4 → Fits (given (all_of int_and_tree us) (written ts)) (length ts + length us)
+fits_written : (ts us : List Tree) → sizes (trees_of ts) + sizes (trees_of us) ≤ 2 ^ 66 - 4 → Fits (given (all_of int_and_tree us) (written ts)) (length ts + length us)
 fits_written ts us h = subst (λ js. Fits (given (all_of int_and_tree js) (written ts)) (length ts + length us)) (map-id us) (by_test (list_all (λ p. is_some (write_of (length ts) p)) us) refl)
   where
     by_test : (b : Bool) → list_all (λ p. is_some (write_of (length ts) p)) us ≡ b → Fits (given (all_of int_and_tree (map (λ t. t) us)) (written ts)) (length ts + length us)

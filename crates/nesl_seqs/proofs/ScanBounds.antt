@@ -28,11 +28,11 @@ fits_first : {X : Type 0} (o : Option X) (g : X → Outcome) (other : Outcome) (
 fits_first None g other n h k = k
 fits_first (Some x) g other n h k = h x
 
-fits_chosen : {X : Type 0} (f : X → Tree) (o : Option X) (n : ℕ) → n < 2 ^ 65 → ((x : X) → size (f x) ≡ 1) → Fits (chosen f o) n
+fits_chosen : {X : Type 0} (f : X → Tree) (o : Option X) (n : ℕ) → n < 2 ^ 66 → ((x : X) → size (f x) ≡ 1) → Fits (chosen f o) n
 fits_chosen f None n h leaf = tt
 fits_chosen f (Some x) n h leaf = omega (arith, leaf x)
 
-fits_best : (o : Order) (f : Kind → ℕ × ℤ → Tree) (t : Tree) (n : ℕ) → n < 2 ^ 65 → ((k : Kind) (b : ℕ × ℤ) → size (f k b) ≡ 1) → Fits (from_best o f t) n
+fits_best : (o : Order) (f : Kind → ℕ × ℤ → Tree) (t : Tree) (n : ℕ) → n < 2 ^ 66 → ((k : Kind) (b : ℕ × ℤ) → size (f k b) ≡ 1) → Fits (from_best o f t) n
 fits_best o f t n h leaf =
     fits_first (option_and_then (all_of (key Numbers)) (as_sequence t)) (λ zs. chosen (f Numbers) (best o zs)) _ n (λ zs. fits_chosen (f Numbers) (best o zs) n h (leaf Numbers)) (fits_given (option_and_then (all_of (key Codes)) (as_sequence t)) (λ zs. chosen (f Codes) (best o zs)) n (λ zs. fits_chosen (f Codes) (best o zs) n h (leaf Codes)))
 
@@ -52,7 +52,7 @@ bounded_max_index t h = fits_best Greatest (λ k b. int (pos b.0)) t (length_of 
 pub bounded_min_index : IsBounded MinIndex
 bounded_min_index t h = fits_best Least (λ k b. int (pos b.0)) t (length_of t) (length_below t h) (λ k b. refl)
 
-fits_sums : (ts : List Tree) → length ts < 2 ^ 65 → Fits (given (all_of as_int ts) plus_scanned) (length ts)
+fits_sums : (ts : List Tree) → length ts < 2 ^ 66 → Fits (given (all_of as_int ts) plus_scanned) (length ts)
 fits_sums ts h = by (all_of as_int ts) refl
   where
     by : (o : Option (List ℤ)) → all_of as_int ts ≡ o → Fits (given o plus_scanned) (length ts)
@@ -60,7 +60,7 @@ fits_sums ts h = by (all_of as_int ts) refl
     by (Some zs) e =
         fits_if (list_all fits (before_each total zs)) (sequence (map int (before_each total zs))) Overflow (length ts) (omega (arith, size_before int (λ z. refl) total zs, length_all as_int ts zs e))
 
-fits_logic : (j : Joint) (ts : List Tree) → length ts < 2 ^ 65 → Fits (logic_of j ts) (length ts)
+fits_logic : (j : Joint) (ts : List Tree) → length ts < 2 ^ 66 → Fits (logic_of j ts) (length ts)
 fits_logic j ts h = by (all_of as_bool ts) (all_of as_int ts) refl refl
   where
     by : (o : Option (List Bool)) (p : Option (List ℤ)) → all_of as_bool ts ≡ o → all_of as_int ts ≡ p
@@ -73,7 +73,7 @@ pub bounded_plus_scan : IsBounded PlusScan
 bounded_plus_scan (seq ts) h = fits_sums (list_of ts) (length_below (seq ts) h)
 bounded_plus_scan t h = tt
 
-fits_logic_scanned : (j : Joint) (t : Tree) → size t < 2 ^ 65 → Fits (logic_scanned j t) (length_of t)
+fits_logic_scanned : (j : Joint) (t : Tree) → size t < 2 ^ 66 → Fits (logic_scanned j t) (length_of t)
 fits_logic_scanned j (seq ts) h = fits_logic j (list_of ts) (length_below (seq ts) h)
 fits_logic_scanned j t h = tt
 

@@ -1,12 +1,12 @@
 // All functions: their prices, and their results.
-ghost use Rattle.std.specs.Prelude.{◌≡◌, ◌-◌, ◌<◌, ◌≤◌, ◌^◌, IfOk, IfSome, IsSome, OnOk};
-ghost use Rattle.nesl_values.specs.Tree.{size};
+ghost use Rattle.std.specs.Prelude.{◌≡◌, ◌-◌, ◌≤◌, ◌^◌, IfOk, IfSome, IsSome, OnOk};
 ghost use Rattle.nesl_values.specs.View.{tree_of};
 ghost use Rattle.nesl_seq_base.specs.Lent.{argument_tree};
 ghost use Rattle.nesl_seq_base.specs.Outcome.{IsGiven, gives};
 ghost use Rattle.nesl_seq_base.specs.Meaning.{meaning};
 ghost use Rattle.nesl_seq_base.specs.Prices.{Prices, reads, depth_of};
 ghost use Rattle.nesl_seq_base.specs.Prices.{PricesAll};
+ghost use Rattle.nesl_seqs.specs.Few.{HasFewNodes};
 
 use nesl_scalars::Trap;
 use nesl_seq_base::argument::Argument;
@@ -44,16 +44,36 @@ pub fn cost_and_size<A: Allocator>(
     function: SeqFn,
     argument: Argument<'_, A>,
 ) -> Result<Price, Trap>
-    requires { size (argument_tree argument) < 2 ^ 65 }
     ensures given { OnOk result (IsGiven (meaning function (argument_tree argument.entry))) }
     ensures price { PricesAll (meaning function (argument_tree argument.entry))
         (reads function (argument_tree argument.entry))
         (depth_of function (reads function (argument_tree argument.entry))) result }
     ensures depth { IfOk result (λ p. (1 ≤ p.depth) × (p.depth ≤ p.work)) }
 {
+    has_few_nodes(argument);
     match price(function, argument, u128::MAX)? {
         Some(price) => Ok(price),
         None => unreachable!(),
+    }
+}
+
+// What the values know of themselves.
+fn has_few_nodes<A: Allocator>(argument: Argument<'_, A>)
+    ensures { HasFewNodes argument.entry }
+{
+    match argument {
+        Argument::One(value) => {
+            value.nodes();
+        }
+        Argument::Two(first, second) => {
+            first.nodes();
+            second.nodes();
+        }
+        Argument::Three(first, second, third) => {
+            first.nodes();
+            second.nodes();
+            third.nodes();
+        }
     }
 }
 
@@ -62,7 +82,7 @@ fn price<A: Allocator>(
     argument: Argument<'_, A>,
     limit: u128,
 ) -> Result<Option<Price>, Trap>
-    ensures always { size (argument_tree argument.entry) < 2 ^ 65 → limit ≡ 2 ^ 128 - 1
+    ensures always { HasFewNodes argument.entry → limit ≡ 2 ^ 128 - 1
         → IfOk result (λ p. IsSome p) }
     ensures price { Prices (meaning function (argument_tree argument.entry))
         (reads function (argument_tree argument.entry))

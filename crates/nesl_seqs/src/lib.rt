@@ -6,8 +6,8 @@ mod laws;
 
 pub use functions::{apply, cost_and_size, price_within};
 pub use laws::{
-    cuts_the_whole, numbers_of_range, places_of_rotate, takes_every_other, tells_equality,
-    tells_places, weaves,
+    counts_digits, cuts_the_whole, numbers_of_range, places_of_rotate, takes_and_drops,
+    takes_every_other, tells_equality, tells_places, weaves, worked_calls, zips,
 };
 pub use nesl_seq_base::argument::Argument;
 pub use nesl_seq_base::price::Price;

@@ -2,6 +2,8 @@
 #![tactic(auto)]
 
 #[cfg(test)]
+mod empties;
+#[cfg(test)]
 mod extremes;
 #[cfg(test)]
 mod heaps;

@@ -1,14 +1,16 @@
 //! The program: NESL sessions over standard input and output.
 #![tactic(auto)]
 
-ghost use Rattle.std.specs.Prelude.{◌≡◌, ◌≤◌, ℕ, List, IfOk, OnOk, IfErr, Err, map};
+ghost use Rattle.std.specs.Prelude.{◌≡◌, ◌≤◌, IfOk, OnOk, IfErr, Err, map};
 ghost use Rattle.std.specs.Process.{exit_status};
 ghost use Rattle.clap.specs.Values.{kind_of};
+ghost use Rattle.clap.specs.Words.{fault_of, HasKind};
 ghost use Rattle.clap.specs.declared.error.Error as clap;
 ghost use Rattle.clap.specs.declared.error.kind.ErrorKind.TheVariants.{OutOfMemory};
 ghost use Rattle.nesl_line.specs.declared.batch.End.TheVariants as end;
 ghost use Rattle.nesl_server.specs.Failures.{status_of};
 ghost use Rattle.nesl_server.specs.Program.{Fails, Served, Untouched};
+ghost use Rattle.nesl_server.specs.Words.{program, users_of};
 ghost use Rattle.nesl_server.specs.declared.failure.Failure.{Failure};
 ghost use Rattle.nesl_server.specs.declared.failure.Refusal.TheVariants as refusal;
 
@@ -99,13 +101,14 @@ fn serve<'a, S: Source, W: Sink>(
     reader: &mut S,
     writer: &mut W,
 ) -> Result<(), Refusal<'a>>
-    ensures served { OnOk result ((users : List (List ℕ))
-        × Served end.Input users (S.left reader.old) (S.left reader.new) (W.held writer.old) (W.held writer.new)) }
+    ensures served { OnOk result (Served end.Input (users_of (map (λ word. word.now) words.entry.now))
+        (S.left reader.old) (S.left reader.new) (W.held writer.old) (W.held writer.new)) }
     ensures failed { (failure : Failure) → result ≡ Err (refusal.Run failure)
-        → (users : List (List ℕ))
-        × Fails failure users (S.left reader.old) (S.left reader.new) (W.held writer.old) (W.held writer.new) }
+        → Fails failure (users_of (map (λ word. word.now) words.entry.now))
+        (S.left reader.old) (S.left reader.new) (W.held writer.old) (W.held writer.new) }
     ensures words { (error : clap.Error) → result ≡ Err (refusal.Words error)
-        → Untouched (S.left reader.old) (S.left reader.new) (W.held writer.old) (W.held writer.new) }
+        → HasKind (fault_of program (map (λ word. word.now) words.entry.now)) error
+        × Untouched (S.left reader.old) (S.left reader.new) (W.held writer.old) (W.held writer.new) }
 {
     let users = match words::users(alloc, words) {
         Ok(users) => users,

@@ -1,5 +1,12 @@
 //! The words of the command line.
 
+ghost use Rattle.std.specs.Prelude.{◌≡◌, IfOk, false, map};
+ghost use Rattle.clap.specs.Walk.{rule_of, rows_of};
+ghost use Rattle.clap.specs.Matches.{found_of};
+ghost use Rattle.clap.specs.declared.builder.command.Command.TheViews.{out-Command as fields_of};
+ghost use Rattle.clap.specs.Words.{app_of, fault_of, FailsBy, shape_of, subcommand_rows_of};
+ghost use Rattle.nesl_server.specs.Words.{batch, program, users_among, users_in, users_of, users_rule};
+
 use clap::{Arg, ArgAction, ArgMatches, Command, Error};
 use std::alloc::{AllocError, Global};
 
@@ -27,35 +34,64 @@ Exit status: 0 at the end of input, 1 where a device or memory failed, 2 where t
 users' names are wrong.";
 
 /// What the words ask for: the users of a batch, in order.
-pub fn users<'a>(alloc: Global, words: &'a [&'a str]) -> Result<Vec<&'a str>, Error> {
+pub fn users<'a>(alloc: Global, words: &'a [&'a str]) -> Result<Vec<&'a str>, Error>
+    ensures users { IfOk result (λ users. map (λ user. user.now) users.items
+        ≡ users_of (map (λ word. word.now) words.entry.now)) }
+    ensures faults { FailsBy (fault_of program (map (λ word. word.now) words.entry.now)) result }
+{
     let matches = command(alloc)?.try_get_matches_from(words)?;
     Ok(named(alloc, &matches)?)
 }
 
-fn command<'a>(alloc: Global) -> Result<Command<'a>, AllocError> {
-    let users = Arg::new(alloc, "USER")
-        .help(USERS)
-        .required(true)
-        .num_args(1..)
-        .action(ArgAction::Append);
-    let batch = Command::new(alloc, "batch")
-        .about(BATCH)
-        .after_help(AFTER)
-        .arg(users)?;
+// The program's words: a subcommand and the users behind it.
+fn command<'a>(alloc: Global) -> Result<Command<'a>, AllocError>
+    ensures { IfOk result (λ command. app_of command ≡ program) }
+{
     Command::new(alloc, "pazkindu")
         .about(ABOUT)
         .subcommand_required(true)
         .arg_required_else_help(true)
-        .subcommand(batch)
+        .subcommand(batch(alloc)?)
+}
+
+fn batch<'a>(alloc: Global) -> Result<Command<'a>, AllocError>
+    ensures shape { IfOk result (λ command. shape_of command ≡ batch) }
+    ensures local { IfOk result (λ command. (fields_of command).has_globals ≡ false) }
+{
+    Command::new(alloc, "batch")
+        .about(BATCH)
+        .after_help(AFTER)
+        .arg(user(alloc))
+}
+
+fn user<'a>(alloc: Global) -> Arg<'a>
+    ensures rule { rule_of result ≡ users_rule }
+    ensures local { result.global ≡ false }
+{
+    Arg::new(alloc, "USER")
+        .help(USERS)
+        .required(true)
+        .num_args(1..)
+        .action(ArgAction::Append)
 }
 
 // The users named behind the subcommand.
-fn named<'a>(alloc: Global, matches: &ArgMatches<'a>) -> Result<Vec<&'a str>, AllocError> {
-    let mut users = Vec::new(alloc);
-    if let Some((_, inner)) = matches.subcommand() {
-        if let Some(names) = inner.get_strs("USER") {
-            users.extend_from_slice(names)?;
-        }
+fn named<'a>(alloc: Global, matches: &ArgMatches<'a>) -> Result<Vec<&'a str>, AllocError>
+    ensures { IfOk result (λ users. map (λ user. user.now) users.items
+        ≡ users_in (subcommand_rows_of matches.now)) }
+{
+    match matches.subcommand() {
+        Some((_, inner)) => named_behind(alloc, inner),
+        None => Ok(Vec::new(alloc)),
     }
-    Ok(users)
+}
+
+fn named_behind<'a>(alloc: Global, matches: &ArgMatches<'a>) -> Result<Vec<&'a str>, AllocError>
+    ensures { IfOk result (λ users. map (λ user. user.now) users.items
+        ≡ users_among (rows_of (found_of matches.now))) }
+{
+    match matches.get_strs("USER") {
+        Some(names) => Vec::from_slice(alloc, names),
+        None => Ok(Vec::new(alloc)),
+    }
 }

@@ -1,17 +1,12 @@
-use Rattle.std.proofs.Common.{◌≡◌, ◌<◌, ℕ, List, Some, None, sym, ap, subst, ◌∙◌, arith}
+use Rattle.std.proofs.Common.{ℕ, Some, None, sym, ap, subst, ◌∙◌}
 use Rattle.nesl_types.specs.declared.bindings.Top.{Top}
 use Rattle.nesl_infer.specs.Contexts.{IsClosed}
-use Rattle.nesl_infer.proofs.Agreement.{below-weaker}
 use Rattle.nesl_types.specs.Term.{Term, term, named}
-use Rattle.nesl_infer.proofs.Steps.{adds_is}
-use Rattle.nesl_types.specs.Substitution.{substitute}
-use Rattle.nesl_types.specs.Numbering.{IsBelow}
-use Rattle.nesl_builtins.specs.Table.{function_type, FunctionType, builtin_type}
+use Rattle.nesl_builtins.specs.Table.{function_type, builtin_type}
 use Rattle.nesl_names.specs.Names.{as_function}
 use Rattle.nesl_infer.specs.World.{Meanings, meaning_of, meanings_in}
-use Rattle.nesl_infer.specs.Typing.{IsInstanceOf}
-use Rattle.nesl_infer.specs.Holds.{own_at, count, Adds}
-use Rattle.nesl_infer.proofs.Applied.{applied_general, applied_single, applied_none, built_in_means, top_means, closed-kept}
+use Rattle.nesl_infer.specs.Holds.{own_at}
+use Rattle.nesl_infer.proofs.Applied.{applied_general, applied_single, applied_none, built_in_means, top_means}
 use Rattle.nesl_infer.proofs.apply.applied_beyond.Goals as goal
 
 pub returns-in-Some : goal.returns-in-Some
@@ -24,15 +19,14 @@ returns-in-Some g c =
     applied_general N c.args.name.now (builtin_type b) c.args.given c.args.target (λ s. built_in_means context own c.args.name.now b s c.requires.other found)
     c.in_ok-built_in.ensures
 
-pub equate-requires-clause-ty : goal.equate-requires-clause-ty
-equate-requires-clause-ty g c =
+pub equate_closed-requires-clause-ty : goal.equate_closed-requires-clause-ty
+equate_closed-requires-clause-ty g c =
     let d = c.in-Some-Datatype-default in
     let closed = c.requires.closed c.args.name.now d.field-0-0.now d.field-0-1.now (sym d.ensures) in
-    let held : IsBelow 0 (term d.held) = subst (λ (t : Top). IsClosed t) d.field-0-0-is closed in
-    subst (λ (t : Term). IsBelow (count c.args.state.now) t) (sym c.in_ok-duplicate-in-Some-Datatype-default.ensures) (below-weaker 0 (count c.args.state.now) (term d.held) (omega arith) held)
+    subst (λ (t : Top). IsClosed t) d.field-0-0-is closed
 
-pub returns-in_ok-instance-in-Some-Function-default : goal.returns-in_ok-instance-in-Some-Function-default
-returns-in_ok-instance-in-Some-Function-default g c =
+pub returns-in_ok-shared_instance-in-Some-Function-default : goal.returns-in_ok-shared_instance-in-Some-Function-default
+returns-in_ok-shared_instance-in-Some-Function-default g c =
     let context = c.args.context.now in
     let own = c.args.own.now in
     let x = c.args.name.now in
@@ -41,23 +35,20 @@ returns-in_ok-instance-in-Some-Function-default g c =
     let d = c.in-Some-Function-default in
     applied_general N x (function_type d.scheme) c.args.given c.args.target
     (λ s. top_means context own x s (Some (d.field-0-0.now, d.field-0-1.now)) c.requires.other none d.ensures ∙ ap (λ (t : Top). meaning_of (own_at s own) (as_function (Some t))) d.field-0-0-is)
-    c.in_ok-instance-in-Some-Function-default.ensures
+    c.in_ok-shared_instance-in-Some-Function-default.ensures
 
-pub returns-in_ok-equate-in-Some-Datatype-default-2 : goal.returns-in_ok-equate-in-Some-Datatype-default-2
-returns-in_ok-equate-in-Some-Datatype-default-2 g c =
+pub returns-in_ok-equate-in-Some-Datatype-default : goal.returns-in_ok-equate-in-Some-Datatype-default
+returns-in_ok-equate-in-Some-Datatype-default g c =
     let context = c.args.context.now in
     let own = c.args.own.now in
     let x = c.args.name.now in
     let N : (ℕ → Term) → Meanings = λ s. meanings_in context (own_at s own) in
     let none = c.in_default.ensures in
     let d = c.in-Some-Datatype-default in
-    let dup = c.in_ok-duplicate-in-Some-Datatype-default in
-    let closed = c.requires.closed x d.field-0-0.now d.field-0-1.now (sym d.ensures) in
-    let held : IsBelow 0 (term d.held) = subst (λ (t : Top). IsClosed t) d.field-0-0-is closed in
     applied_single N x (λ s. term d.held) (λ s. named d.tag) c.args.given c.args.target c.requires.target (λ s z a i. named d.tag)
     (λ s. top_means context own x s (Some (d.field-0-0.now, d.field-0-1.now)) c.requires.other none d.ensures ∙ ap (λ (t : Top). meaning_of (own_at s own) (as_function (Some t))) d.field-0-0-is)
-    (adds_is c.args.given (λ s. substitute s (term dup.field-0)) (λ s. term d.held) (λ s. ap (substitute s) dup.ensures ∙ closed-kept s (term d.held) held) c.in_ok-equate-in-Some-Datatype-default.ensures)
-    c.in_ok-equate-in-Some-Datatype-default-2.ensures
+    c.in_ok-equate_closed-in-Some-Datatype-default.ensures
+    c.in_ok-equate-in-Some-Datatype-default.ensures
 
 pub returns-in_ok-never-in-Some-Variable-default : goal.returns-in_ok-never-in-Some-Variable-default
 returns-in_ok-never-in-Some-Variable-default g c =

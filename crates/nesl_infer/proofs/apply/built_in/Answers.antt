@@ -1,5 +1,4 @@
-use Rattle.std.proofs.Common.{◌≡◌, ℕ, subst}
-use Rattle.nesl_types.specs.Term.{Term}
+use Rattle.std.proofs.Common.{subst}
 use Rattle.nesl_builtins.specs.Table.{FunctionType}
 use Rattle.nesl_infer.specs.Typing.{IsInstanceOf}
 use Rattle.nesl_infer.specs.Holds.{Adds}

@@ -1,5 +1,5 @@
-use Rattle.std.proofs.Common.{◌≡◌, ℕ, subst}
-use Rattle.nesl_types.specs.Term.{Term, both}
+use Rattle.std.proofs.Common.{subst}
+use Rattle.nesl_types.specs.Term.{both}
 use Rattle.nesl_builtins.specs.Table.{FunctionType}
 use Rattle.nesl_infer.specs.Typing.{IsInstanceOf}
 use Rattle.nesl_infer.specs.Holds.{Adds}

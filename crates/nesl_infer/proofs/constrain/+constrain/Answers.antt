@@ -1,6 +1,6 @@
-use Rattle.std.proofs.Common.{◌≡◌, ◌<◌, ◌+◌, ◌++◌, ◌∷◌, [], ℕ, List, take, map, length, Some, sym, ap, subst, ◌∙◌, arith, rules, length-append}
+use Rattle.std.proofs.Common.{◌≡◌, ◌<◌, ◌+◌, ◌++◌, ◌∷◌, [], ℕ, List, take, length, Some, sym, ap, subst, ◌∙◌, arith, rules, length-append}
 use Rattle.std.specs.Prelude.{All}
-use Rattle.std.proofs.lemmas.List.Elements.{All-push, All-weaker}
+use Rattle.std.proofs.lemmas.List.Elements.{All-nil, All-push, All-weaker}
 use Rattle.std.proofs.lemmas.Grind.{common_steps}
 use Rattle.nesl_types.specs.Term.{Term, int, bool, char, both}
 use Rattle.nesl_syntax.specs.declared.tree.Node as declared
@@ -10,7 +10,7 @@ use Rattle.nesl_syntax.specs.Views.{type_tree, shape_of, trees_in, tree_of, bind
 use Rattle.nesl_syntax.specs.declared.tree.Binding.{Binding}
 use Rattle.nesl_syntax.specs.declared.tree.Exp.{Exp}
 use Rattle.nesl_infer.specs.declared.state.Local.{Local}
-use Rattle.nesl_syntax.specs.Trees.{node, Trees, Shape, Binders}
+use Rattle.nesl_syntax.specs.Trees.{node, no_binders, Trees, Shape, Binders}
 use Rattle.nesl_syntax.specs.Trees as trees
 use Rattle.nesl_infer.specs.World.{Meanings, meanings_in}
 use Rattle.nesl_infer.specs.Typing.{Scope, local, newest, is_element, IsVariable, IsInstanceOf}
@@ -24,7 +24,7 @@ use Rattle.nesl_infer.proofs.Shapes.{sequence_shape, let_shape, each_shape, filt
 use Rattle.nesl_infer.proofs.Applied.{Applies}
 use Rattle.nesl_infer.proofs.Patterns.{NamesOf, added_below, locals-weaker}
 use Rattle.nesl_infer.proofs.Lets.{BindsOf, arm_let, arm_call, arm_binding, no_bindings, take-binders}
-use Rattle.nesl_infer.proofs.Eaches.{ElementsOf, DrawsOf, arm_value, arm_each, arm_filtered_each}
+use Rattle.nesl_infer.proofs.Eaches.{ElementsOf, DrawsOf, no_elements, arm_value, arm_each, arm_filtered_each}
 use Rattle.nesl_infer.proofs.constrain.+constrain.Goals as goal
 
 pub constrain-returns-in_ok-equate-in-Number-clause-adds : goal.constrain-returns-in_ok-equate-in-Number-clause-adds
@@ -150,6 +150,19 @@ constrain_bindings-returns g t c =
     let N : (ℕ → Term) → Meanings = λ s. meanings_in c.args.context.now (own_at s c.args.own.now) in
     let all : take c.loop-binding.binding-index c.args.bindings.now ≡ c.args.bindings.now = grind (arith, common_steps) in
     subst (λ (bs : List Binding). BindsOf c.args.state.now c.loop-binding.state c.args.locals.now.items c.loop-binding.locals.items N (binders_in bs)) all c.loop-binding.invariant
+
+pub constrain_values-loop-binding-init : goal.constrain_values-loop-binding-init
+constrain_values-loop-binding-init g t c =
+    let N : (ℕ → Term) → Meanings = λ s. meanings_in c.args.context.now (own_at s c.args.own.now) in
+    let S : (ℕ → Term) → Scope = λ s. scope_at s c.args.locals.now.items in
+    let s1 = c.args.state.now in
+    let none = sym c.new-items.ensures.items in
+    record {
+      gives = subst (λ (vs : List ℕ). ElementsOf s1 s1 N S no_binders vs) none (no_elements N S);
+      below = subst (λ (vs : List ℕ). All (λ (w : ℕ). w < count s1) vs) none (All-nil (λ (w : ℕ). w < count s1));
+      len = ap length c.new-items.ensures.items;
+      locals = λ i. c.args.locals.now.items;
+    }
 
 pub constrain_values-loop-binding-preserved : goal.constrain_values-loop-binding-preserved
 constrain_values-loop-binding-preserved g t c =

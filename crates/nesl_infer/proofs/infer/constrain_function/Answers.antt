@@ -1,4 +1,4 @@
-use Rattle.std.proofs.Common.{◌≡◌, ℕ, List, subst}
+use Rattle.std.proofs.Common.{ℕ, List, subst}
 use Rattle.std.specs.Prelude.{option_map}
 use Rattle.nesl_types.specs.Term.{Term}
 use Rattle.nesl_syntax.specs.Views.{tree_of, pattern_tree, signature_tree}

@@ -1,16 +1,15 @@
-use Rattle.std.proofs.Common.{◌≡◌, ◌∙◌, ℕ, List, [], ◌∷◌, ◌++◌, None, length, ap, sym, subst, rules}
-use Rattle.nesl_types.specs.declared.classes.Class.{Class}
+use Rattle.std.proofs.Common.{◌∙◌, List, [], None, ap, sym, subst, rules}
 use Rattle.nesl_types.specs.Term.{Term}
 use Rattle.nesl_types.specs.Substitution.{substitute}
 use Rattle.nesl_syntax.specs.Views.{tree_of}
-use Rattle.nesl_unify.specs.Solves.{IsSolution, type_of, class_of}
+use Rattle.nesl_unify.specs.Solves.{type_of, class_of}
 use Rattle.nesl_infer.specs.declared.state.Local.{Local}
 use Rattle.nesl_infer.specs.World.{Meanings, meanings_in}
 use Rattle.nesl_infer.specs.declared.state.State.{State}
 use Rattle.nesl_infer.specs.Typing.{HasType}
 use Rattle.nesl_infer.specs.Principal.{bounded}
 use Rattle.nesl_infer.specs.Holds.{Adds, scope_at}
-use Rattle.nesl_infer.proofs.Wholes.{IsEmpty, solution_of_typing, solution_as}
+use Rattle.nesl_infer.proofs.Wholes.{IsEmpty, solution_of_typing}
 use Rattle.nesl_infer.proofs.infer.principal_type.Goals as goal
 
 pub returns-in_err-solution-clause-ill_typed : goal.returns-in_err-solution-clause-ill_typed
@@ -19,11 +18,11 @@ returns-in_err-solution-clause-ill_typed g c = λ f of t h.
     let e = tree_of c.args.exp.now in
     let root = c.in_ok-root.root in
     let first : State = c.new-state.result in
-    let empty : IsEmpty first = record { members = c.new-state.ensures.members; equations = c.new-state.ensures.equations } in
+    let empty : IsEmpty first = c.new-state.ensures in
     let adds : Adds c.anything.new.self c.constrain.new.state (λ s of. HasType (bounded names of) [] e (s root)) =
     subst (λ (ls : List Local). Adds c.anything.new.self c.constrain.new.state (λ s of. HasType (bounded names of) (scope_at s ls) e (s root))) c.new-locals.ensures.items c.in_ok-constrain.ensures.adds in
     let z = solution_of_typing {A = first} names e root empty c.in_ok-root.ensures.below c.in_ok-root.ensures.gives adds of t h in
-    c.in_err-solution.ensures.none (search rules) z.0 of z.2 (solution_as _ _ _ _ z.0 of (sym c.as_slice.ensures.value) (sym c.as_slice-2.ensures.value) z.1)
+    c.in_err-solution.ensures.none (search rules) z.0 of z.2 z.1
 
 pub returns-clause-principal : goal.returns-clause-principal
 returns-clause-principal g c =
@@ -31,17 +30,16 @@ returns-clause-principal g c =
     let e = tree_of c.args.exp.now in
     let root = c.in_ok-root.root in
     let first : State = c.new-state.result in
-    let empty : IsEmpty first = record { members = c.new-state.ensures.members; equations = c.new-state.ensures.equations } in
+    let empty : IsEmpty first = c.new-state.ensures in
     let adds : Adds c.anything.new.self c.constrain.new.state (λ s of. HasType (bounded names of) [] e (s root)) =
     subst (λ (ls : List Local). Adds c.anything.new.self c.constrain.new.state (λ s of. HasType (bounded names of) (scope_at s ls) e (s root))) c.new-locals.ensures.items c.in_ok-constrain.ensures.adds in
     let a = c.in_ok-solution.solution in
     let q = c.in_ok-solution.ensures in
-    let holds = solution_as _ _ _ _ (type_of a) (class_of a) c.as_slice.ensures.value c.as_slice-2.ensures.value q.solves in
     record {
-      fits = subst (λ (t : Term). HasType (bounded names (class_of a)) [] e t) (sym c.in_ok-ty.ensures) (adds.sound (type_of a) (class_of a) q.bounded holds).1;
+      fits = subst (λ (t : Term). HasType (bounded names (class_of a)) [] e t) (sym c.in_ok-ty.ensures) (adds.sound (type_of a) (class_of a) q.bounded q.solves).1;
       most_general = λ of u k.
           let z = solution_of_typing {A = first} names e root empty c.in_ok-root.ensures.below c.in_ok-root.ensures.gives adds of u k in
-          let i = q.general z.0 of (solution_as _ _ _ _ z.0 of (sym c.as_slice.ensures.value) (sym c.as_slice-2.ensures.value) z.1) in
+          let i = q.general z.0 of z.1 in
           record {
             put = i.put;
             same = sym z.3 ∙ i.same root ∙ ap (substitute i.put) (sym c.in_ok-ty.ensures);

@@ -1,6 +1,6 @@
-use Rattle.std.proofs.Common.{◌≡◌, ◌<◌, ℕ, List, map, length, sym, ap, subst, ◌∙◌}
+use Rattle.std.proofs.Common.{◌≡◌, ℕ, List, map, subst}
 use Rattle.nesl_types.specs.declared.classes.Class.{Class}
-use Rattle.nesl_types.specs.Term.{Term, term}
+use Rattle.nesl_types.specs.Term.{term}
 use Rattle.nesl_types.specs.Substitution.{substitute}
 use Rattle.nesl_infer.specs.Instances.{type_in}
 use Rattle.nesl_infer.specs.Holds.{Adds}

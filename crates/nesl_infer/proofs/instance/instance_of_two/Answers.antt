@@ -1,7 +1,7 @@
-use Rattle.std.proofs.Common.{◌≡◌, ◌<◌, ℕ, List, map, length, sym, ap, subst, ◌∙◌}
+use Rattle.std.proofs.Common.{◌≡◌, ℕ, List, map, ap, subst}
 use Rattle.nesl_types.specs.declared.classes.Class.{Class}
 use Rattle.nesl_types.specs.declared.types.Ty.{Ty}
-use Rattle.nesl_types.specs.Term.{Term, both, term}
+use Rattle.nesl_types.specs.Term.{term}
 use Rattle.nesl_types.specs.Substitution.{substitute}
 use Rattle.nesl_builtins.specs.Table.{function_type}
 use Rattle.nesl_infer.specs.declared.state.State.{State}

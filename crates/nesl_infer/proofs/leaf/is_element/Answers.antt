@@ -1,7 +1,5 @@
-use Rattle.std.proofs.Common.{◌≡◌, ℕ, List}
-use Rattle.std.specs.Prelude.{Option, Some, None}
-use Rattle.nesl_types.specs.declared.classes.Class.{Class}
-use Rattle.nesl_types.specs.Term.{Term}
+use Rattle.std.proofs.Common.{◌≡◌}
+use Rattle.std.specs.Prelude.{Some, None}
 use Rattle.nesl_infer.specs.Holds.{scope_at}
 use Rattle.nesl_infer.specs.Typing.{is_element, newest}
 use Rattle.nesl_infer.proofs.Leaves.{looked_up, some_is, none_is}

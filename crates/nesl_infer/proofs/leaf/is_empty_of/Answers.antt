@@ -1,4 +1,4 @@
-use Rattle.std.proofs.Common.{◌≡◌, ◌≤◌, ℕ, arith}
+use Rattle.std.proofs.Common.{arith}
 use Rattle.nesl_types.specs.Term.{term}
 use Rattle.nesl_names.specs.Names.{datatype_in}
 use Rattle.nesl_syntax.specs.Views.{type_tree}

@@ -1,6 +1,5 @@
-use Rattle.std.proofs.Common.{◌≡◌, ◌<◌, ℕ, take, sym, ap, ◌∙◌, true, false, subst}
-use Rattle.std.specs.Prelude.{Option, Some, None, option_map, MatchOption}
-use Rattle.nesl_types.specs.Term.{Term}
+use Rattle.std.proofs.Common.{◌≡◌, ◌<◌, ℕ, sym, ap, ◌∙◌, true, false, subst}
+use Rattle.std.specs.Prelude.{Option, option_map, MatchOption}
 use Rattle.nesl_infer.specs.Typing.{is_element}
 use Rattle.nesl_infer.specs.Holds.{key_of, AreLocalsBelow}
 use Rattle.nesl_infer.proofs.Found.{found_here, found_before, item_below}

@@ -1,4 +1,4 @@
-use Rattle.std.proofs.Common.{◌≡◌, ◌<◌, ℕ, List, [], sym, ap, subst, ◌∙◌, refl}
+use Rattle.std.proofs.Common.{◌<◌, ℕ, List, [], sym, ap, subst, ◌∙◌, refl}
 use Rattle.std.proofs.lemmas.List.Elements.{All-nil}
 use Rattle.nesl_types.specs.Term.{Term}
 use Rattle.nesl_syntax.specs.declared.tree.Pattern.{Pattern}

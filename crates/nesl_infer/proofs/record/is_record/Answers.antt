@@ -1,35 +1,25 @@
-use Rattle.std.proofs.Common.{◌≡◌, ◌<◌, ℕ, List, Some, None, sym, ap, subst, ◌∙◌, arith}
+use Rattle.std.proofs.Common.{◌≡◌, Some, sym, ap, subst, ◌∙◌}
 use Rattle.std.specs.Prelude.{option_map}
 use Rattle.nesl_types.specs.declared.bindings.Top.{Top}
-use Rattle.nesl_types.specs.Term.{Term, term, named}
-use Rattle.nesl_types.specs.Substitution.{substitute}
-use Rattle.nesl_types.specs.Numbering.{IsBelow}
+use Rattle.nesl_types.specs.Term.{term}
 use Rattle.nesl_names.specs.Names.{datatype_in, as_datatype}
 use Rattle.nesl_infer.specs.Contexts.{IsClosed}
-use Rattle.nesl_infer.specs.Holds.{count}
-use Rattle.nesl_infer.proofs.Agreement.{below-weaker}
-use Rattle.nesl_infer.proofs.Steps.{adds_is}
-use Rattle.nesl_infer.proofs.Applied.{is_a_record, no_record, closed-kept}
+use Rattle.nesl_infer.proofs.Applied.{is_a_record, no_record}
 use Rattle.nesl_infer.proofs.record.is_record.Goals as goal
 
-pub equate-requires-in-Some-Datatype-default-clause-ty : goal.equate-requires-in-Some-Datatype-default-clause-ty
-equate-requires-in-Some-Datatype-default-clause-ty g c =
+pub equate_closed-requires-clause-ty : goal.equate_closed-requires-clause-ty
+equate_closed-requires-clause-ty g c =
     let d = c.in-Some-Datatype-default in
-    let n = count c.equate.new.self in
-    let dup = c.in_ok-duplicate-in-Some-Datatype-default in
-    let held : IsBelow 0 (term d.ty) = subst (λ (t : Top). IsClosed t) d.field-0-0-is (c.requires.closed c.args.name.now d.field-0-0.now d.field-0-1.now (sym d.ensures)) in
-    subst (λ (t : Term). IsBelow n t) (sym dup.ensures) (below-weaker 0 n (term d.ty) (omega arith) held)
+    subst (λ (t : Top). IsClosed t) d.field-0-0-is (c.requires.closed c.args.name.now d.field-0-0.now d.field-0-1.now (sym d.ensures))
 
-pub returns-in_ok-equate-in-Some-Datatype-default-2 : goal.returns-in_ok-equate-in-Some-Datatype-default-2
-returns-in_ok-equate-in-Some-Datatype-default-2 g c =
+pub returns-in_ok-equate_closed-in-Some-Datatype-default : goal.returns-in_ok-equate_closed-in-Some-Datatype-default
+returns-in_ok-equate_closed-in-Some-Datatype-default g c =
     let x = c.args.name.now in
     let d = c.in-Some-Datatype-default in
-    let dup = c.in_ok-duplicate-in-Some-Datatype-default in
-    let held : IsBelow 0 (term d.ty) = subst (λ (t : Top). IsClosed t) d.field-0-0-is (c.requires.closed x d.field-0-0.now d.field-0-1.now (sym d.ensures)) in
     let is : datatype_in c.args.context.now x ≡ Some (d.tag, term d.ty) = ap (λ k. as_datatype (option_map (λ b. b.0) k)) (sym d.ensures) ∙ ap (λ (t : Top). as_datatype (Some t)) d.field-0-0-is in
     is_a_record (datatype_in c.args.context.now) x d.tag (term d.ty) c.args.target c.args.held c.requires.held is
     c.in_ok-equate-in-Some-Datatype-default.ensures
-    (adds_is c.args.held (λ s. substitute s (term dup.field-0)) (λ s. term d.ty) (λ s. ap (substitute s) dup.ensures ∙ closed-kept s (term d.ty) held) c.in_ok-equate-in-Some-Datatype-default-2.ensures)
+    c.in_ok-equate_closed-in-Some-Datatype-default.ensures
 
 pub returns-in_ok-never-in-Some-Variable-default : goal.returns-in_ok-never-in-Some-Variable-default
 returns-in_ok-never-in-Some-Variable-default g c =

@@ -1,16 +1,11 @@
-use Rattle.std.proofs.Common.{◌≡◌, ◌<◌, ℕ, true, false, List, Some, None, sym, ap, subst, ◌∙◌, arith}
-use Rattle.std.specs.Prelude.{cond, option_map}
+use Rattle.std.proofs.Common.{ℕ, Some, None, sym, ap, subst, ◌∙◌}
 use Rattle.nesl_types.specs.declared.bindings.Top.{Top}
 use Rattle.nesl_types.specs.Term.{Term, term}
-use Rattle.nesl_types.specs.Substitution.{substitute}
-use Rattle.nesl_types.specs.Numbering.{IsBelow}
-use Rattle.nesl_names.specs.Names.{as_variable, top_in}
+use Rattle.nesl_names.specs.Names.{as_variable}
 use Rattle.nesl_infer.specs.Contexts.{IsClosed}
 use Rattle.nesl_infer.specs.World.{Meanings, meanings_in}
-use Rattle.nesl_infer.specs.Holds.{own_at, count}
-use Rattle.nesl_infer.proofs.Agreement.{below-weaker}
-use Rattle.nesl_infer.proofs.Steps.{adds_is}
-use Rattle.nesl_infer.proofs.Applied.{hidden_means, variable_means, is_variable, no_variable, closed-kept}
+use Rattle.nesl_infer.specs.Holds.{own_at}
+use Rattle.nesl_infer.proofs.Applied.{hidden_means, variable_means, is_variable, no_variable}
 use Rattle.nesl_infer.proofs.record.is_top_variable.Goals as goal
 
 pub returns-then-is_hidden : goal.returns-then-is_hidden
@@ -18,26 +13,21 @@ returns-then-is_hidden g c =
     let N : (ℕ → Term) → Meanings = λ s. meanings_in c.args.context.now (own_at s c.args.own.now) in
     no_variable N c.args.name.now c.args.target (λ s. hidden_means c.args.context.now c.args.own.now c.args.name.now s (sym (c.is_hidden.ensures s) ∙ c.if-is_hidden.true)) c.in_ok-never.ensures
 
-pub equate-requires-clause-ty : goal.equate-requires-clause-ty
-equate-requires-clause-ty g c =
+pub equate_closed-requires-clause-ty : goal.equate_closed-requires-clause-ty
+equate_closed-requires-clause-ty g c =
     let d = c.in-Some-Variable-default in
-    let n = count c.args.state.now in
-    let dup = c.in_ok-duplicate-in-Some-Variable-default in
-    let held : IsBelow 0 (term d.ty) = subst (λ (t : Top). IsClosed t) d.field-0-0-is (c.requires.closed c.args.name.now d.field-0-0.now d.field-0-1.now (sym d.ensures)) in
-    subst (λ (t : Term). IsBelow n t) (sym dup.ensures) (below-weaker 0 n (term d.ty) (omega arith) held)
+    subst (λ (t : Top). IsClosed t) d.field-0-0-is (c.requires.closed c.args.name.now d.field-0-0.now d.field-0-1.now (sym d.ensures))
 
-pub returns-in_ok-equate-in-Some-Variable-default : goal.returns-in_ok-equate-in-Some-Variable-default
-returns-in_ok-equate-in-Some-Variable-default g c =
+pub returns-in_ok-equate_closed-in-Some-Variable-default : goal.returns-in_ok-equate_closed-in-Some-Variable-default
+returns-in_ok-equate_closed-in-Some-Variable-default g c =
     let context = c.args.context.now in
     let own = c.args.own.now in
     let x = c.args.name.now in
     let N : (ℕ → Term) → Meanings = λ s. meanings_in context (own_at s own) in
     let d = c.in-Some-Variable-default in
-    let dup = c.in_ok-duplicate-in-Some-Variable-default in
-    let held : IsBelow 0 (term d.ty) = subst (λ (t : Top). IsClosed t) d.field-0-0-is (c.requires.closed x d.field-0-0.now d.field-0-1.now (sym d.ensures)) in
     is_variable N x (term d.ty) c.args.target
     (λ s. variable_means context own x s (Some (d.field-0-0.now, d.field-0-1.now)) (sym (c.is_hidden.ensures s) ∙ c.if-is_hidden.false) d.ensures ∙ ap (λ (t : Top). as_variable (Some t)) d.field-0-0-is)
-    (adds_is c.args.target (λ s. substitute s (term dup.field-0)) (λ s. term d.ty) (λ s. ap (substitute s) dup.ensures ∙ closed-kept s (term d.ty) held) c.in_ok-equate-in-Some-Variable-default.ensures)
+    c.in_ok-equate_closed-in-Some-Variable-default.ensures
 
 pub returns-in_ok-never-in-Some-Function-default : goal.returns-in_ok-never-in-Some-Function-default
 returns-in_ok-never-in-Some-Function-default g c =

@@ -1,5 +1,4 @@
-use Rattle.std.proofs.Common.{◌≡◌, ◌<◌, ℕ, List, [], ◌∷◌, sym, ap, subst, ◌∙◌, refl}
-use Rattle.nesl_types.specs.Term.{Term}
+use Rattle.std.proofs.Common.{sym, ap, subst, ◌∙◌, refl}
 use Rattle.nesl_syntax.specs.declared.tree.TypeExp.{TypeExp}
 use Rattle.nesl_syntax.specs.declared.tree.TypeNode.{TypeNode}
 use Rattle.nesl_syntax.specs.Views.{type_shape, type_tree}

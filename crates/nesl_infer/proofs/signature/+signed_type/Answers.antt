@@ -1,4 +1,4 @@
-use Rattle.std.proofs.Common.{◌≡◌, ℕ, List, sym, ap, ◌∙◌}
+use Rattle.std.proofs.Common.{ℕ, List, sym, ap, ◌∙◌}
 use Rattle.nesl_names.specs.Names.{datatype_in}
 use Rattle.nesl_syntax.specs.declared.tree.TypeNode.{TypeNode}
 use Rattle.nesl_syntax.specs.Views.{type_shape}

@@ -1,4 +1,4 @@
-use Rattle.std.proofs.Common.{◌≡◌, ◌<◌, ◌+◌, ℕ, List, take, map, sym, subst, arith}
+use Rattle.std.proofs.Common.{◌≡◌, ℕ, List, take, map, sym, subst, arith}
 use Rattle.std.specs.Prelude.{All}
 use Rattle.std.proofs.lemmas.Grind.{common_steps}
 use Rattle.nesl_types.specs.declared.classes.Class.{Class}

@@ -1,8 +1,7 @@
-use Rattle.std.proofs.Common.{◌≡◌, ◌<◌, ◌≤◌, ℕ, List, [], map, sym, ap, subst, ◌∙◌, arith}
+use Rattle.std.proofs.Common.{◌<◌, List, [], map, sym, ap, subst, ◌∙◌, arith}
 use Rattle.std.specs.Prelude.{All}
 use Rattle.std.proofs.lemmas.List.Elements.{All-nil}
-use Rattle.nesl_types.specs.Term.{Term, term}
-use Rattle.nesl_types.specs.Numbering.{IsBelow}
+use Rattle.nesl_types.specs.Term.{term}
 use Rattle.nesl_types.specs.Substitution.{substitute}
 use Rattle.nesl_names.specs.Names.{datatype_in}
 use Rattle.nesl_syntax.specs.declared.tree.Member.{Member}
@@ -11,7 +10,6 @@ use Rattle.nesl_infer.specs.declared.state.Local.{Local}
 use Rattle.nesl_infer.specs.Signatures.{FreeNames, put_in}
 use Rattle.nesl_infer.specs.Typing.{IsMeant, signed}
 use Rattle.nesl_infer.specs.Holds.{Adds, AreLocalsBelow, count, scope_at}
-use Rattle.nesl_infer.proofs.Agreement.{below-weaker}
 use Rattle.nesl_infer.proofs.Patterns.{locals-weaker}
 use Rattle.nesl_infer.proofs.Steps.{adds_is}
 use Rattle.nesl_infer.proofs.Signatures.{NamesIn, names_below, arm_signed}

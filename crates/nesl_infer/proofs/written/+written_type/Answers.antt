@@ -1,7 +1,7 @@
-use Rattle.std.proofs.Common.{◌≡◌, ◌∙◌, ℕ, Some, sym, ap, subst, refl}
+use Rattle.std.proofs.Common.{◌≡◌, ◌∙◌, Some, sym, ap, subst, refl}
 use Rattle.std.specs.Prelude.{option_map}
 use Rattle.nesl_types.specs.declared.bindings.Top.{Top}
-use Rattle.nesl_types.specs.Term.{Term, term, named}
+use Rattle.nesl_types.specs.Term.{term, named}
 use Rattle.nesl_syntax.specs.declared.tree.TypeNode.{TypeNode}
 use Rattle.nesl_syntax.specs.Views.{type_shape}
 use Rattle.nesl_names.specs.Names.{datatype_in, as_datatype}

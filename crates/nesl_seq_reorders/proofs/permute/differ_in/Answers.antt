@@ -1,7 +1,7 @@
-use Rattle.std.proofs.Common.{◌≡◌, map, take, true, rules}
+use Rattle.std.proofs.Common.{◌≡◌, map, take, true, refl, rules}
 use Rattle.nesl_seq_reorders.specs.Marks.{is_new}
 use Rattle.nesl_seq_base.specs.Places.{places_of}
-use Rattle.nesl_seq_reorders.proofs.Differing.{held_turn, new_turn, held_same, new_same}
+use Rattle.nesl_seq_reorders.proofs.Differing.{held_turn, new_turn, held_same, new_same, elsewhere_turn}
 use Rattle.nesl_seq_reorders.proofs.permute.differ_in.Goals as goal
 use Rattle.nesl_seq_reorders.proofs.permute.differ_in.Goals.{in-Some+else-not-note, in_default}
 
@@ -25,3 +25,7 @@ loop-index-preserved g c =
             new_same f c.args.len c.args.window is j c.index-item.result _ c.loop-index-test.true c.index-item.is w.in_default.ensures.place c.loop-index.invariant.1,
           )
     ]
+
+pub loop-index-preserved-then-is_elsewhere : goal.loop-index-preserved-then-is_elsewhere
+loop-index-preserved-then-is_elsewhere g c =
+    elsewhere_turn g.I.Item.tree c.loop-index.marks c.args.len c.args.window c.args.indices.now c.loop-index.index-index c.index-item.result _ c.loop-index-test.true c.index-item.is (λ k named. c.if-is_elsewhere.ensures refl c.args.len k named) c.loop-index.invariant

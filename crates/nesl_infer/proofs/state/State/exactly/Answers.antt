@@ -1,4 +1,4 @@
-use Rattle.std.proofs.Common.{◌≡◌, ◌≤◌, arith}
+use Rattle.std.proofs.Common.{arith}
 use Rattle.nesl_types.specs.Term.{term}
 use Rattle.nesl_infer.specs.Holds.{count}
 use Rattle.nesl_infer.proofs.Agreement.{below-weaker}

@@ -1,0 +1,12 @@
+pub mod Names
+pub mod Out
+pub mod Outcome
+pub mod Join
+pub mod Frames
+pub mod Run
+pub mod Worked
+pub mod Means
+pub mod Resolving
+pub mod Stored
+pub mod TopLevels
+pub mod Laws

@@ -1,0 +1,62 @@
+-- What evaluations come to, without budget, thread or order of work.
+use Rattle.std.specs.Prelude.{ℕ, ◌+◌, max, nat_le, List, [], ◌∷◌, ◌++◌, Option, Some, None, if◌then◌else◌}
+use Rattle.nesl_lex.specs.declared.token.Span.{Span}
+use Rattle.nesl_scalars.specs.declared.trap.Trap.{Trap}
+
+-- a value with its work and depth; a fault with its place and the work until then; or neither: a part has the wrong
+-- shape
+pub data Out (X : Type 0) : Type 0 where
+  value : X → (work depth : ℕ) → Out X
+  fault : Trap → Span → (work : ℕ) → Out X
+  stuck : Out X
+
+-- the same after so much work and depth
+abbrev pub added : {X : Type 0} → ℕ → ℕ → Out X → Out X
+added w d (value x w' d') = value x (w + w') (d + d')
+added w d (fault t s w') = fault t s (w + w')
+added w d stuck = stuck
+
+-- an outcome, and then the one that depends on its value
+abbrev pub then_out : {X Y : Type 0} → Out X → (X → Out Y) → Out Y
+then_out (value x w d) k = added w d (k x)
+then_out (fault t s w) k = fault t s w
+then_out stuck k = stuck
+
+-- what depends on something that may not be there
+abbrev pub given : {X Y : Type 0} → Option X → (X → Out Y) → Out Y
+given (Some x) k = k x
+given None k = stuck
+
+-- a fault inside a called body is told with the span of the call
+abbrev pub at_call : {X : Type 0} → Span → Out X → Out X
+at_call s (value x w d) = value x w d
+at_call s (fault t s' w) = fault t s w
+at_call s stuck = stuck
+
+-- two lists side by side: the works add, the greater depth counts, and the first fault in order is the fault
+abbrev pub beside : {X : Type 0} → Out (List X) → Out (List X) → Out (List X)
+beside (value xs w d) (value ys w' d') = value (xs ++ ys) (w + w') (max d d')
+beside (value xs w d) (fault t s w') = fault t s (w + w')
+beside (value xs w d) stuck = stuck
+beside (fault t s w) o = fault t s w
+beside stuck o = stuck
+
+-- all of them side by side
+abbrev pub all_beside : {I X : Type 0} → (I → Out (List X)) → List I → Out (List X)
+all_beside f [] = value [] 0 0
+all_beside f (i ∷ is) = beside (f i) (all_beside f is)
+
+-- the work of an outcome
+abbrev pub work_of : {X : Type 0} → Out X → ℕ
+work_of (value x w d) = w
+work_of (fault t s w) = w
+work_of stuck = 0
+
+-- an outcome under a budget: only the whole work decides
+pub data Budgeted (X : Type 0) : Type 0 where
+  told : Out X → Budgeted X
+  over : Budgeted X
+
+-- the outcome, where its work is within the budget
+abbrev pub within : {X : Type 0} → ℕ → Out X → Budgeted X
+within b o = if nat_le (work_of o) b then told o else over

@@ -1,0 +1,13 @@
+//! What expressions come to, the prepared code that stands for them, and what stands at top level.
+#![tactic(auto)]
+
+pub mod code;
+pub mod env;
+mod laws;
+mod layers;
+mod places;
+mod preparing;
+
+pub use code::{Code, Step};
+pub use env::{Env, Held, Payload, TopLevel, prepare};
+pub use laws::{depth_within_work, halves_places, joins_neighbours, runs_as_meant};

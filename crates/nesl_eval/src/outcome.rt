@@ -1,0 +1,62 @@
+//! What an evaluation under a budget tells.
+ghost use Rattle.std.specs.Prelude.{[]};
+ghost use Rattle.nesl_code.specs.Out.{within};
+ghost use Rattle.nesl_code.specs.Run.{run};
+ghost use Rattle.nesl_eval.specs.Tells.{Tells};
+
+use crate::eval::eval_in;
+use crate::held::Tops;
+use crate::meter::{Meter, Stop};
+use crate::scope::Scope;
+use nesl_code::Code;
+use nesl_lex::token::Span;
+use nesl_scalars::Trap;
+use nesl_values::Value;
+use std::alloc::Allocator;
+
+/// What an evaluation came to.
+#[derive(Drop)]
+pub enum Outcome<A: Allocator> {
+    Done {
+        value: Value<A>,
+        work: u64,
+        depth: u64,
+    },
+    /// The work is all that was done before the fault, the faulting node's own 1 included.
+    Fault {
+        trap: Trap,
+        span: Span,
+        work: u64,
+    },
+    /// The whole work is more than the budget.
+    Over,
+    /// There was no room. This also stands for an expression that has no type.
+    Memory,
+}
+
+/// What code comes to with so many levels and so much work, held by `heap`.
+pub fn evaluate<A: Allocator + Copy, T: Tops<A>>(
+    tops: &T,
+    code: &Code,
+    levels: u32,
+    fuel: u64,
+    heap: A,
+) -> Outcome<A>
+    ensures { Tells result (within fuel (run levels (T.table tops.now) [] code.now)) }
+{
+    let mut meter = Meter { fuel, depth: 0 };
+    let scope = Scope::Empty;
+    let found = eval_in(tops, &scope, code, levels, &mut meter, heap);
+    let work = fuel - meter.fuel;
+    match found {
+        Ok(value) => Outcome::Done {
+            value,
+            work,
+            depth: meter.depth,
+        },
+        Err(Stop::Fault(trap, span)) => Outcome::Fault { trap, span, work },
+        Err(Stop::Over) => Outcome::Over,
+        Err(Stop::Memory) => Outcome::Memory,
+        Err(Stop::Stuck) => Outcome::Memory,
+    }
+}

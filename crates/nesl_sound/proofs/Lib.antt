@@ -1,0 +1,16 @@
+pub mod Each
+pub mod Readers
+pub mod Sequences
+pub mod Functions
+pub mod Fine
+pub mod Scopes
+pub mod Ground
+pub mod Applied
+pub mod Meanings
+pub mod Nodes
+pub mod Instances
+pub mod Kept
+pub mod Lines
+pub mod Inferred
+pub mod Worked
+pub mod Referring
