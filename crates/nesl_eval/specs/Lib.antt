@@ -1,7 +1,2 @@
-pub mod Sides
-pub mod Scopes
-pub mod Holds
-pub mod Standing
-pub mod Meets
 pub mod Tells
 pub mod Copied

@@ -11,9 +11,9 @@ ghost use Rattle.nesl_code.specs.TopLevels.{table_in};
 ghost use Rattle.nesl_eval.specs.Tells.{Tells};
 ghost use Rattle.nesl_eval.specs.Copied.{AreCopies, copies-prop, tree_at};
 
-use crate::held::{Held, Tops};
 use crate::outcome::{Outcome, evaluate};
 use nesl_code::{Code, Env, TopLevel, prepare, runs_as_meant};
+use nesl_nodes::held::{Held, Tops};
 use nesl_syntax::tree::Exp;
 use nesl_values::Value;
 use std::alloc::{AllocError, Allocator, Global};
@@ -45,7 +45,7 @@ impl<'e, A: Allocator> Tops<A> for Copies<'e, A> {
         }
     }
 
-    #[tactic(auto, using(crate::proofs::Lent::place_named))]
+    #[tactic(auto, using(nesl_nodes::proofs::Lent::place_named))]
     fn place_of(&self, name: &[u8]) -> Option<usize> {
         self.tops.place_of(name)
     }

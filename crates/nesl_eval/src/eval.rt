@@ -10,25 +10,25 @@ ghost use Rattle.nesl_code.specs.Outcome.{made, applied, branch, kept, counted};
 ghost use Rattle.nesl_code.specs.Run.{run, run_node, run_two, run_three, run_all, run_let, run_at};
 ghost use Rattle.nesl_code.specs.Run.{run_filters, run_bodies};
 ghost use Rattle.nesl_code.specs.Run.{run_over, run_called, as_result, slot_at};
-ghost use Rattle.nesl_eval.specs.Scopes.{frames_of};
-ghost use Rattle.nesl_eval.specs.Standing.{Stands};
-ghost use Rattle.nesl_eval.specs.Sides.{places_of, Keeps, IsOne, Has};
-ghost use Rattle.nesl_eval.specs.Meets.{Meets, Is, Are};
+ghost use Rattle.nesl_nodes.specs.Scopes.{frames_of};
+ghost use Rattle.nesl_nodes.specs.Standing.{Stands};
+ghost use Rattle.nesl_nodes.specs.Sides.{places_of, Keeps, IsOne, Has};
+ghost use Rattle.nesl_nodes.specs.Meets.{Meets, Is, Are};
 
-use crate::held::{Held, Tops};
-use crate::meter::{Meter, Stop};
-use crate::nodes::{
-    add, empty, finished, keep, keep_if, length_of_all, named_top, of_two_made, paid, paired,
-    sequence_of, tagged, text, told_at, top, truth,
-};
-use crate::parts::{
-    Part, applied_to_one, applied_to_three, applied_to_two, entered_name, within_limit,
-};
-use crate::places::Places;
-use crate::scope::{Scope, local};
 use nesl_builtins::Builtin;
 use nesl_code::Code;
 use nesl_lex::token::Span;
+use nesl_nodes::held::{Held, Tops};
+use nesl_nodes::meter::{Meter, Stop};
+use nesl_nodes::nodes::{
+    add, empty, finished, keep, keep_if, length_of_all, named_top, of_two_made, paid, paired,
+    sequence_of, tagged, text, told_at, top, truth,
+};
+use nesl_nodes::parts::{
+    Part, applied_to_one, applied_to_three, applied_to_two, entered_name, within_limit,
+};
+use nesl_nodes::places::Places;
+use nesl_nodes::scope::{Scope, local};
 use nesl_scalars::Binary;
 use nesl_values::{SequenceBuilder, Value};
 use std::alloc::Allocator;

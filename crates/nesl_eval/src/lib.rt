@@ -3,15 +3,9 @@
 
 mod copies;
 mod eval;
-mod held;
-mod meter;
-mod nodes;
 mod one;
 mod outcome;
-mod parts;
-mod places;
-mod scope;
 
 pub use copies::eval_one_in;
 pub use one::eval_one;
-pub use outcome::Outcome;
+pub use outcome::{Outcome, outcome_of};

@@ -1,15 +1,17 @@
 //! What an evaluation under a budget tells.
-ghost use Rattle.std.specs.Prelude.{[]};
-ghost use Rattle.nesl_code.specs.Out.{within};
+ghost use Rattle.std.specs.Prelude.{◌≤◌, []};
+ghost use Rattle.nesl_values.specs.Tree.{Tree};
+ghost use Rattle.nesl_code.specs.Out.{Out, within};
 ghost use Rattle.nesl_code.specs.Run.{run};
+ghost use Rattle.nesl_nodes.specs.Meets.{Meets, Is};
 ghost use Rattle.nesl_eval.specs.Tells.{Tells};
 
 use crate::eval::eval_in;
-use crate::held::Tops;
-use crate::meter::{Meter, Stop};
-use crate::scope::Scope;
 use nesl_code::Code;
 use nesl_lex::token::Span;
+use nesl_nodes::held::Tops;
+use nesl_nodes::meter::{Meter, Stop};
+use nesl_nodes::scope::Scope;
 use nesl_scalars::Trap;
 use nesl_values::Value;
 use std::alloc::Allocator;
@@ -47,6 +49,19 @@ pub fn evaluate<A: Allocator + Copy, T: Tops<A>>(
     let mut meter = Meter { fuel, depth: 0 };
     let scope = Scope::Empty;
     let found = eval_in(tops, &scope, code, levels, &mut meter, heap);
+    outcome_of(found, fuel, meter)
+}
+
+/// What a run tells that began with so much fuel and ended with this meter.
+pub fn outcome_of<A: Allocator>(
+    found: Result<Value<A>, Stop>,
+    fuel: u64,
+    meter: Meter,
+) -> Outcome<A>
+    requires { meter.fuel ≤ fuel }
+    ensures { (o : Out Tree) → Meets Is (record { fuel = fuel; depth = 0 }) found meter o
+        → Tells result (within fuel o) }
+{
     let work = fuel - meter.fuel;
     match found {
         Ok(value) => Outcome::Done {

@@ -3,6 +3,7 @@ use Rattle.std.specs.Prelude.{◌≡◌, ◌≢◌, ℕ, ◌≤◌, List, [], �
 use Rattle.std.specs.Prelude.{length, map, All, AllPairs, Contains}
 use Rattle.std.specs.List.{list_all}
 use Rattle.nesl_session.specs.declared.limits.Limits.{Limits}
+use Rattle.nesl_session.specs.State.{unsaid}
 use Rattle.nesl_house.specs.declared.roster.NewFault.{NewFault}
 use Rattle.nesl_house.specs.declared.roster.NewFault.TheVariants.{Count, Name, Twice, Memory}
 use Rattle.nesl_house.specs.Runs.{Seat}
@@ -54,7 +55,7 @@ pub data IsRefused (names : List (List ℕ)) : NewFault → Type 0 where
 
 -- a seat with an empty session
 abbrev pub fresh : Limits → List ℕ → Seat
-fresh limits name = record { name = name; session = record { limits = limits; lines = [] } }
+fresh limits name = record { name = name; session = unsaid limits }
 
 -- the house in which each of these users has an empty session
 abbrev pub opened : Limits → List (List ℕ) → List Seat

@@ -2,7 +2,8 @@
 use Rattle.std.specs.Prelude.{◌≡◌, ℕ, List, [], ◌∷◌, Option, Some, None, true, map, if◌then◌else◌}
 use Rattle.std.specs.List.{AllByRecursion}
 use Rattle.std.specs.Str.{bytes_eq}
-use Rattle.nesl_session.specs.State.{Binding, State, Log}
+use Rattle.nesl_bindings.specs.Meanings.{Binding}
+use Rattle.nesl_session.specs.State.{State, Log}
 use Rattle.nesl_session.specs.Response.{no_memory, no_user, is_memory}
 use Rattle.nesl_session.specs.Solo.{Replays, Alone}
 use Rattle.nesl_house.specs.Script.{Event, lines_of, replies_of, kept}

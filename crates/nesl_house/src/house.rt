@@ -5,12 +5,13 @@ ghost use Rattle.nesl_house.specs.Runs.{session_of, Runs, AllReplay};
 ghost use Rattle.nesl_house.specs.Roster.{IsRoster, IsRefused, opened};
 
 use crate::laws::scripts_follow;
+use crate::manner::{InHeap, Manner, Plainly};
 use crate::roster::{NewFault, check};
 use crate::user::User;
 use nesl_session::answer::Answer;
 use nesl_session::limits::Limits;
 use nesl_session::session::Session;
-use std::alloc::{AllocError, Global};
+use std::alloc::{AllocError, Allocator, Global};
 use std::marker::Model;
 
 /// The users of a house, in the order of its roster. Contracts see the list of their seats.
@@ -88,10 +89,36 @@ impl House {
     pub fn say(&mut self, alloc: Global, user: &[u8], text: &[u8]) -> Answer
         ensures { Runs self.old (record { user = user.now; line = text.now; reply = result } ∷ []) self.new }
     {
+        self.say_by(alloc, &Plainly, user, text)
+    }
+
+    /// The same, evaluated in a heap.
+    pub fn say_in<A: Allocator + Copy>(
+        &mut self,
+        alloc: Global,
+        user: &[u8],
+        text: &[u8],
+        heap: A,
+    ) -> Answer
+        ensures { Runs self.old (record { user = user.now; line = text.now; reply = result } ∷ []) self.new }
+    {
+        self.say_by(alloc, &InHeap(heap), user, text)
+    }
+
+    /// The same, said in this manner.
+    pub fn say_by<M: Manner>(
+        &mut self,
+        alloc: Global,
+        manner: &M,
+        user: &[u8],
+        text: &[u8],
+    ) -> Answer
+        ensures { Runs self.old (record { user = user.now; line = text.now; reply = result } ∷ []) self.new }
+    {
         let Some(place) = place_of(self.users.as_slice(), user) else {
             return Answer::no_user();
         };
-        self.users[place].say(alloc, text)
+        self.users[place].say_by(alloc, manner, text)
     }
 
     /// Lines of many users, in order. Where the list of the answers is refused, no line was said.
@@ -100,11 +127,25 @@ impl House {
         ensures runs { IfOk result (λ answers. Runs self.old (events_of script.now answers.items) self.new) }
         ensures err { OnErr result (self.new ≡ self.old) }
     {
+        self.run_by(alloc, &Plainly, script)
+    }
+
+    /// The same, each line said in this manner.
+    pub fn run_by<M: Manner>(
+        &mut self,
+        alloc: Global,
+        manner: &M,
+        script: &[Said],
+    ) -> Result<Vec<Answer>, AllocError>
+        ensures answers { IfOk result (λ answers. length answers.items ≡ length script.now) }
+        ensures runs { IfOk result (λ answers. Runs self.old (events_of script.now answers.items) self.new) }
+        ensures err { OnErr result (self.new ≡ self.old) }
+    {
         scripts_follow();
         let _ = &self.users;
         let mut answers = Vec::with_capacity(alloc, script.len())?;
         for said in script {
-            let answer = self.say(alloc, said.user.as_slice(), said.text.as_slice());
+            let answer = self.say_by(alloc, manner, said.user.as_slice(), said.text.as_slice());
             answers.push_reserved(answer);
         }
         Ok(answers)

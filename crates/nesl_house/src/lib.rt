@@ -3,6 +3,7 @@
 
 pub mod house;
 pub mod laws;
+pub mod manner;
 pub mod roster;
 #[cfg(test)]
 mod tests;

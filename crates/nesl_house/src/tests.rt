@@ -1,5 +1,6 @@
 //! A house spoken to, in a few lines.
 use crate::house::{House, Said};
+use crate::manner::InHeap;
 use crate::roster::{NewFault, is_user_name};
 use nesl_session::Fault;
 use nesl_session::limits::Limits;
@@ -11,7 +12,7 @@ const LIMITS: Limits = Limits {
     session_work: 2,
     elements: 100,
     transcript_lines: 100,
-    transcript_bytes: 10000,
+    transcript_bytes: 100_000,
 };
 
 fn roster(alloc: Global, names: &[&str]) -> Result<Vec<Vec<u8>>, AllocError> {
@@ -87,6 +88,8 @@ fn users_have_sessions_of_their_own(rt: HostRuntime) -> Result<(), Fail> {
         answer.bytes(),
         b"it = 7 : int (work 1, depth 1)\n".as_slice()
     );
+    let answer = house.say_in(alloc, b"zed", b"7;", alloc);
+    assert_eq!(rt; answer.fault(), Some(Fault::User));
     let answer = house.say(alloc, b"zed", b"7;");
     assert_eq!(rt; answer.bytes(), b"fault user\n".as_slice());
     assert_eq!(rt; answer.fault(), Some(Fault::User));
@@ -102,6 +105,27 @@ fn users_have_sessions_of_their_own(rt: HostRuntime) -> Result<(), Fail> {
     Ok(())
 }
 
+#[test]
+fn lines_are_said_in_a_heap(rt: HostRuntime) -> Result<(), Fail> {
+    let alloc = rt.alloc();
+    let names = roster(alloc, &["ann", "bob"])?;
+    let mut house = House::new(alloc, names.as_slice(), LIMITS)?;
+    let answer = house.say_in(alloc, b"ann", b"1;", alloc);
+    assert_eq!(rt; answer.bytes(), ONE.as_bytes());
+    let mut script = Vec::new(alloc);
+    script.push(said(alloc, "bob", "1;")?)?;
+    script.push(said(alloc, "zed", "1;")?)?;
+    let answers = house.run_by(alloc, &InHeap(alloc), script.as_slice())?;
+    let first = answers.first().ok_or("first")?;
+    assert_eq!(rt; first.bytes(), ONE.as_bytes());
+    let second = answers.get(1).ok_or("second")?;
+    assert_eq!(rt; second.fault(), Some(Fault::User));
+    for user in house.users() {
+        assert_eq!(rt; user.session().lines().len(), 1);
+    }
+    Ok(())
+}
+
 const ONE: &str = "it = 1 : int (work 1, depth 1)\n";
 
 #[test]
@@ -110,7 +134,7 @@ fn a_line_may_be_too_long(rt: HostRuntime) -> Result<(), Fail> {
     let names = roster(alloc, &["ann"])?;
     let mut house = House::new(alloc, names.as_slice(), LIMITS)?;
     let mut line = Vec::from_slice(alloc, b"1;")?;
-    for _ in 0..4095 {
+    for _ in 0..65_535 {
         line.push(b' ')?;
     }
     let answer = house.say(alloc, b"ann", line.as_slice());

@@ -4,6 +4,7 @@ ghost use Rattle.nesl_session.specs.State.{State};
 ghost use Rattle.nesl_session.specs.Solo.{Replays, Responds};
 ghost use Rattle.nesl_house.specs.Roster.{fresh};
 
+use crate::manner::Manner;
 use nesl_session::answer::Answer;
 use nesl_session::limits::Limits;
 use nesl_session::session::Session;
@@ -50,11 +51,11 @@ impl User {
         &self.session
     }
 
-    /// One line of this user.
-    pub(crate) fn say(&mut self, alloc: Global, text: &[u8]) -> Answer
+    /// One line of this user, said in this manner.
+    pub(crate) fn say_by<M: Manner>(&mut self, alloc: Global, manner: &M, text: &[u8]) -> Answer
         ensures name { self.new.name ≡ self.old.name }
         ensures answers { Responds self.old.session text.now result self.new.session }
     {
-        self.session.line(alloc, text)
+        manner.say(alloc, &mut self.session, text)
     }
 }

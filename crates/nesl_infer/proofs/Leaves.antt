@@ -38,7 +38,7 @@ same_inside c d q = cc
 
 -- a type that is written is one type
 mutual
-  written-unique : (ds : Datatypes) (a : TypeTree) (t u : Term) → IsWritten ds a t → IsWritten ds a u → u ≡ t
+  pub written-unique : (ds : Datatypes) (a : TypeTree) (t u : Term) → IsWritten ds a t → IsWritten ds a u → u ≡ t
   written-unique ds (written s k) t u h j = written_shape-unique ds k t u h j
 
   written_shape-unique : (ds : Datatypes) (k : TypeShape) (t u : Term) → IsWrittenShape ds k t → IsWrittenShape ds k u → u ≡ t

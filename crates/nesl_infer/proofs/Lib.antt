@@ -20,3 +20,4 @@ pub mod Contexts
 pub mod Meant
 pub mod Referred
 pub mod Unique
+pub mod Verdicts

@@ -1,4 +1,4 @@
--- The principal types of a function make one scheme.
+-- A function has one most general type, its variables numbered in order of first occurrence.
 use Rattle.std.proofs.Common.{◌≡◌, ℕ, zero, suc, ◌+◌, ◌<◌, ◌≤◌, Bool, true, false, ◌||◌, List, [], ◌∷◌, ◌++◌, length, fold, map, nat_eq, cond, refl, sym, ap, subst, ◌∙◌, append_assoc, append-nil, length-append, inl, inr, arith}
 use Rattle.std.specs.Prelude.{◌⊎◌}
 use Rattle.std.proofs.lemmas.List.{map-append}
@@ -8,13 +8,12 @@ use Rattle.std.proofs.lemmas.List.Folds.{list_any-append}
 use Rattle.std.specs.List.{list_any}
 use Rattle.nesl_types.specs.declared.classes.Class.{Class}
 use Rattle.nesl_types.specs.declared.classes.Class.TheVariants.{Any, Ordinal, Number, Logical}
-use Rattle.nesl_types.specs.declared.schemes.Scheme.{Scheme}
-use Rattle.nesl_types.specs.Term.{Term, int, bool, char, variable, seq_of, both, named, term}
+use Rattle.nesl_types.specs.Term.{Term, int, bool, char, variable, seq_of, both, named}
 use Rattle.nesl_types.specs.Class.{IsIn, IsWithin, class_at}
-use Rattle.nesl_types.specs.Scheme.{IsSameScheme}
 use Rattle.nesl_types.specs.Substitution.{substitute}
 use Rattle.nesl_types.specs.Numbering.{variables, with_number, first_occurrences, numbers_below, number_of}
-use Rattle.nesl_infer.specs.Principal.{IsPrincipalScheme}
+use Rattle.nesl_builtins.specs.Table.{FunctionType}
+use Rattle.nesl_infer.specs.Principal.{IsPrincipalFunction, IsNumbered}
 
 -- each number of a list has a property
 abbrev Each : (ℕ → Type 0) → List ℕ → Type 0
@@ -304,27 +303,28 @@ same_classes (c ∷ cs) (d ∷ ds) e h =
     let rest = same_classes cs ds (omega arith) (λ v l. h (suc v) (omega arith)) in
     cc
 
-pub one_scheme : (F : (ℕ → Class) → Term → Term → Type 0) (s z : Scheme) → IsPrincipalScheme F s → IsPrincipalScheme F z → IsSameScheme s z
-one_scheme F s z a b =
-    let t = both (term s.argument) (term s.result) in
-    let u = both (term z.argument) (term z.result) in
-    let cs = s.classes.items in
-    let ds = z.classes.items in
-    let i = a.most_general (class_at ds) (term z.argument) (term z.result) b.fits in
-    let j = b.most_general (class_at cs) (term s.argument) (term s.result) a.fits in
-    let e : u ≡ substitute i.put t = ap (λ (x : Term). both x (term z.result)) i.argument ∙ ap (λ (x : Term). both (substitute i.put (term s.argument)) x) i.result in
-    let d : t ≡ substitute j.put u = ap (λ (x : Term). both x (term s.result)) j.argument ∙ ap (λ (x : Term). both (substitute j.put (term z.argument)) x) j.result in
-    let there = one_type t u (length cs) (length ds) i.put j.put s.numbered z.numbered e d in
-    let back = one_type u t (length ds) (length cs) j.put i.put z.numbered s.numbered d e in
+same_function : (f g : FunctionType) → f.argument ≡ g.argument → f.result ≡ g.result → f.classes ≡ g.classes → f ≡ g
+same_function f g a r c = λ i. record { argument = a i; result = r i; classes = c i }
+
+-- two most general types of one function, both with their variables numbered
+pub one_function : (F : (ℕ → Class) → Term → Term → Type 0) (f g : FunctionType) → IsNumbered f → IsNumbered g → IsPrincipalFunction F f → IsPrincipalFunction F g → f ≡ g
+one_function F f g m n a b =
+    let t = both f.argument f.result in
+    let u = both g.argument g.result in
+    let cs = f.classes in
+    let ds = g.classes in
+    let i = a.most_general (class_at ds) g.argument g.result b.fits in
+    let j = b.most_general (class_at cs) f.argument f.result a.fits in
+    let e : u ≡ substitute i.put t = ap (λ (x : Term). both x g.result) i.argument ∙ ap (λ (x : Term). both (substitute i.put f.argument) x) i.result in
+    let d : t ≡ substitute j.put u = ap (λ (x : Term). both x f.result) j.argument ∙ ap (λ (x : Term). both (substitute j.put g.argument) x) j.result in
+    let there = one_type t u (length cs) (length ds) i.put j.put m n e d in
+    let back = one_type u t (length ds) (length cs) j.put i.put n m d e in
     let one : t ≡ u = sym (e ∙ put-kept i.put t there.0) in
     let returned = subst (λ (x : Term). Each (λ v. j.put v ≡ variable v) (variables x)) (sym one) back.0 in
     let both_ways = each-and (λ v. i.put v ≡ variable v) (λ v. j.put v ≡ variable v) (variables t) there.0 returned in
     let same_at = each-as (λ v. (i.put v ≡ variable v) × (j.put v ≡ variable v)) (λ v. class_at cs v ≡ class_at ds v)
     (λ v h. sym (one_class (class_at ds v) (class_at cs v) (subst (λ (x : Term). IsIn (class_at ds) (class_at cs v) x) h.0 (i.within v)) (subst (λ (x : Term). IsIn (class_at cs) (class_at ds v) x) h.1 (j.within v))))
     (variables t) both_ways in
-    let all = subst (Each (λ v. class_at cs v ≡ class_at ds v)) s.numbered (each-fold (λ v. class_at cs v ≡ class_at ds v) (variables t) [] tt same_at) in
-    record {
-      argument = left_same _ _ _ _ one;
-      result = right_same _ _ _ _ one;
-      classes = same_classes cs ds there.1 (λ v l. each-below (λ w. class_at cs w ≡ class_at ds w) (length cs) v l all);
-    }
+    let all = subst (Each (λ v. class_at cs v ≡ class_at ds v)) m (each-fold (λ v. class_at cs v ≡ class_at ds v) (variables t) [] tt same_at) in
+    same_function f g (left_same _ _ _ _ one) (right_same _ _ _ _ one)
+    (same_classes cs ds there.1 (λ v l. each-below (λ w. class_at cs w ≡ class_at ds w) (length cs) v l all))

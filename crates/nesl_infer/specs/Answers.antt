@@ -1,44 +1,72 @@
 -- What the three calls answer: the first unknown name where there is one; else that there is no bounded type; else the
 -- principal type, or that it has a variable. Each may answer want of memory instead.
 use Rattle.std.specs.Prelude.{◌≡◌, ◌<◌, ◌≤◌, ℕ, List, [], Option, Some, None, Result, Ok, Err}
+use Rattle.nesl_lex.specs.declared.token.Span.{Span}
 use Rattle.nesl_types.specs.declared.bindings.Top.{Top}
 use Rattle.nesl_types.specs.declared.schemes.Scheme.{Scheme}
 use Rattle.nesl_types.specs.declared.types.Ty.{Ty}
 use Rattle.nesl_types.specs.Numbering.{IsBelow}
 use Rattle.nesl_types.specs.Term.{Term, term, nodes}
 use Rattle.nesl_syntax.specs.Trees.{TypeTree, PatternTree, Tree, SignatureTree}
+use Rattle.nesl_builtins.specs.Table.{FunctionType, function_type}
 use Rattle.nesl_names.specs.Firsts.{first}
-use Rattle.nesl_names.specs.Names.{names_in, datatype_in, unknown, unknown_of_function, unknown_types}
+use Rattle.nesl_names.specs.Names.{Names, names_in, unknown, unknown_of_function, unknown_types}
 use Rattle.nesl_infer.specs.declared.fault.InferFault.{InferFault}
 use Rattle.nesl_infer.specs.declared.fault.InferFault.TheVariants.{Unknown, IllTyped, Ambiguous, Memory}
 use Rattle.nesl_infer.specs.Typing.{IsWritten}
-use Rattle.nesl_infer.specs.Principal.{Typed, TypedFunction, IsPrincipalType, IsPrincipalScheme}
+use Rattle.nesl_infer.specs.Principal.{TypedBy, TypedFunctionBy, IsPrincipalType, IsPrincipalFunction, IsNumbered}
 use Rattle.nesl_infer.specs.Principal.{IsAmbiguous, HasNone, HasNoScheme}
+
+-- the type that there is, or why there is none
+pub data Verdict (T : Type 0) : Type 0 where
+  typed : T → Verdict T
+  unknown_at : Span → Verdict T
+  ill_typed : Verdict T
+  ambiguous : Verdict T
+
+-- where names refer to this
+module _ (known : Option (List ℕ) → Names) where
+  -- the type of an expression
+  abbrev pub IsTypeBy : Tree → Verdict Term → Type 0
+  IsTypeBy e (typed t) = (unknown (known None) [] e ≡ []) × IsPrincipalType (TypedBy known e) t × IsBelow 0 t
+  IsTypeBy e (unknown_at s) = first (unknown (known None) [] e) ≡ Some s
+  IsTypeBy e ill_typed = (unknown (known None) [] e ≡ []) × HasNone (TypedBy known e)
+  IsTypeBy e ambiguous = (unknown (known None) [] e ≡ []) × IsAmbiguous (TypedBy known e)
+
+  -- what a function takes and gives
+  abbrev pub IsFunctionBy : List ℕ → PatternTree → Option SignatureTree → Tree → Verdict FunctionType → Type 0
+  IsFunctionBy x p g e (typed f) =
+      (unknown_of_function (known (Some x)) p e ≡ []) × IsPrincipalFunction (TypedFunctionBy known x p g e) f ×
+      IsNumbered f
+  IsFunctionBy x p g e (unknown_at s) = first (unknown_of_function (known (Some x)) p e) ≡ Some s
+  IsFunctionBy x p g e ill_typed =
+      (unknown_of_function (known (Some x)) p e ≡ []) × HasNoScheme (TypedFunctionBy known x p g e)
+  IsFunctionBy x p g e ambiguous = ⊥
+
+  -- what the records of a datatype hold
+  abbrev pub IsContentBy : TypeTree → Verdict Term → Type 0
+  IsContentBy a (typed t) =
+      (unknown_types (known None).datatypes a ≡ []) × IsWritten (known None).datatypes a t × (nodes t ≤ 4096)
+  IsContentBy a (unknown_at s) = first (unknown_types (known None).datatypes a) ≡ Some s
+  IsContentBy a ill_typed =
+      (unknown_types (known None).datatypes a ≡ []) ×
+      (t : Term) × IsWritten (known None).datatypes a t × (4096 < nodes t)
+  IsContentBy a ambiguous = ⊥
+
+-- what a call answers: a verdict, or want of memory
+abbrev pub Answers : {T X : Type 0} → (X → T) → (Verdict T → Type 0) → Result X InferFault → Type 0
+Answers f Is (Ok x) = Is (typed (f x))
+Answers f Is (Err (Unknown s)) = Is (unknown_at s)
+Answers f Is (Err IllTyped) = Is ill_typed
+Answers f Is (Err Ambiguous) = Is ambiguous
+Answers f Is (Err Memory) = Unit {0}
 
 module _ {P : Type 0} (context : List (List ℕ × Top × P)) where
   abbrev pub IsTypeOf : Tree → Result Ty InferFault → Type 0
-  IsTypeOf e (Ok t) =
-      (unknown (names_in context None) [] e ≡ []) × IsPrincipalType (Typed context e) (term t) × IsBelow 0 (term t)
-  IsTypeOf e (Err (Unknown s)) = first (unknown (names_in context None) [] e) ≡ Some s
-  IsTypeOf e (Err IllTyped) = (unknown (names_in context None) [] e ≡ []) × HasNone (Typed context e)
-  IsTypeOf e (Err Ambiguous) = (unknown (names_in context None) [] e ≡ []) × IsAmbiguous (Typed context e)
-  IsTypeOf e (Err Memory) = Unit {0}
+  IsTypeOf e = Answers term (IsTypeBy (names_in context) e)
 
   abbrev pub IsSchemeFor : List ℕ → PatternTree → Option SignatureTree → Tree → Result Scheme InferFault → Type 0
-  IsSchemeFor x p g e (Ok s) =
-      (unknown_of_function (names_in context (Some x)) p e ≡ []) × IsPrincipalScheme (TypedFunction context x p g e) s
-  IsSchemeFor x p g e (Err (Unknown s)) = first (unknown_of_function (names_in context (Some x)) p e) ≡ Some s
-  IsSchemeFor x p g e (Err IllTyped) =
-      (unknown_of_function (names_in context (Some x)) p e ≡ []) × HasNoScheme (TypedFunction context x p g e)
-  IsSchemeFor x p g e (Err Ambiguous) = ⊥
-  IsSchemeFor x p g e (Err Memory) = Unit {0}
+  IsSchemeFor x p g e = Answers function_type (IsFunctionBy (names_in context) x p g e)
 
   abbrev pub IsDatatypeFor : TypeTree → Result Ty InferFault → Type 0
-  IsDatatypeFor a (Ok t) =
-      (unknown_types (datatype_in context) a ≡ []) × IsWritten (datatype_in context) a (term t) ×
-      (nodes (term t) ≤ 4096)
-  IsDatatypeFor a (Err (Unknown s)) = first (unknown_types (datatype_in context) a) ≡ Some s
-  IsDatatypeFor a (Err IllTyped) =
-      (unknown_types (datatype_in context) a ≡ []) × (t : Term) × IsWritten (datatype_in context) a t × (4096 < nodes t)
-  IsDatatypeFor a (Err Ambiguous) = ⊥
-  IsDatatypeFor a (Err Memory) = Unit {0}
+  IsDatatypeFor a = Answers term (IsContentBy (names_in context) a)

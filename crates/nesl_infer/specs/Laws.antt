@@ -4,13 +4,14 @@ use Rattle.nesl_types.specs.declared.classes.Class.{Class}
 use Rattle.nesl_types.specs.Term.{Term}
 use Rattle.nesl_types.specs.Class.{IsIn}
 use Rattle.nesl_types.specs.Substitution.{substitute}
-use Rattle.nesl_types.specs.declared.schemes.Scheme.{Scheme}
-use Rattle.nesl_types.specs.Scheme.{IsSameScheme}
-use Rattle.nesl_syntax.specs.Trees.{PatternTree, SignatureTree, Tree}
+use Rattle.nesl_syntax.specs.Trees.{TypeTree, PatternTree, SignatureTree, Tree}
 use Rattle.nesl_types.specs.declared.bindings.Top.{Top}
+use Rattle.nesl_builtins.specs.Table.{FunctionType}
+use Rattle.nesl_names.specs.Names.{Names}
 use Rattle.nesl_infer.specs.World.{Meanings, Meaning, general, single, Own, meanings_in}
 use Rattle.nesl_infer.specs.Typing.{Scope, HasType}
-use Rattle.nesl_infer.specs.Principal.{IsPrincipalScheme, TypedFunction, unbounded}
+use Rattle.nesl_infer.specs.Principal.{unbounded}
+use Rattle.nesl_infer.specs.Answers.{Verdict, IsTypeBy, IsFunctionBy, IsContentBy}
 
 -- with types in place of variables: local names, what a name before `(` means, and what all names mean
 abbrev pub scope_with : (ℕ → Term) → Scope → Scope
@@ -46,9 +47,20 @@ abbrev pub MeaningsHaveInstances : {P : Type 0} → List (List ℕ × Top × P) 
 MeaningsHaveInstances context =
     (own : Own) (put : ℕ → Term) → IsWith put (meanings_in context own) (meanings_in context (own_with put own))
 
--- the principal types of a function make one scheme
-abbrev pub PrincipalSchemesAreOne : {P : Type 0} → List (List ℕ × Top × P) → Type 0
-PrincipalSchemesAreOne context =
-    (x : List ℕ) (p : PatternTree) (g : Option SignatureTree) (e : Tree) (s z : Scheme) →
-    IsPrincipalScheme (TypedFunction context x p g e) s → IsPrincipalScheme (TypedFunction context x p g e) z →
-    IsSameScheme s z
+-- an expression has one verdict: one type, or one reason why it has none
+abbrev pub ExpressionsHaveOneVerdict : Type 0
+ExpressionsHaveOneVerdict =
+    (known : Option (List ℕ) → Names) (e : Tree) (v u : Verdict Term) →
+    IsTypeBy known e v → IsTypeBy known e u → v ≡ u
+
+-- so has a function, whatever way its most general type is found
+abbrev pub FunctionsHaveOneVerdict : Type 0
+FunctionsHaveOneVerdict =
+    (known : Option (List ℕ) → Names) (x : List ℕ) (p : PatternTree) (g : Option SignatureTree) (e : Tree)
+    (v u : Verdict FunctionType) → IsFunctionBy known x p g e v → IsFunctionBy known x p g e u → v ≡ u
+
+-- and what the records of a datatype hold
+abbrev pub ContentsHaveOneVerdict : Type 0
+ContentsHaveOneVerdict =
+    (known : Option (List ℕ) → Names) (a : TypeTree) (v u : Verdict Term) →
+    IsContentBy known a v → IsContentBy known a u → v ≡ u

@@ -1,15 +1,16 @@
 -- Bounded typings and principal types.
-use Rattle.std.specs.Prelude.{◌≡◌, ℕ, List, [], Option, Some, None}
+use Rattle.std.specs.Prelude.{◌≡◌, ℕ, List, [], ◌++◌, length, Option, Some, None}
 use Rattle.nesl_types.specs.declared.bindings.Top.{Top}
 use Rattle.nesl_types.specs.declared.classes.Class.{Class}
 use Rattle.nesl_types.specs.declared.schemes.Scheme.{Scheme}
-use Rattle.nesl_types.specs.Term.{Term, term}
+use Rattle.nesl_types.specs.Term.{Term}
 use Rattle.nesl_types.specs.Class.{IsIn, class_at}
 use Rattle.nesl_types.specs.Substitution.{substitute}
-use Rattle.nesl_types.specs.Numbering.{IsBelow}
+use Rattle.nesl_types.specs.Numbering.{IsBelow, variables, first_occurrences, numbers_below}
 use Rattle.nesl_syntax.specs.Trees.{PatternTree, Tree, SignatureTree}
-use Rattle.nesl_builtins.specs.Table.{function_type}
-use Rattle.nesl_infer.specs.World.{World, Meanings, Own, meanings_in}
+use Rattle.nesl_builtins.specs.Table.{FunctionType, function_type}
+use Rattle.nesl_names.specs.Names.{Names, names_in}
+use Rattle.nesl_infer.specs.World.{World, Meanings, Own, meanings_by}
 use Rattle.nesl_infer.specs.Typing.{Scope, HasType, Parts, IsSigned, IsInstanceOf}
 
 -- the world of a line in which each type has at most 4,096 nodes, or any number of nodes
@@ -38,17 +39,35 @@ pub record IsPrincipal (Fits : (ℕ → Class) → Term → Type 0) (classes : �
   pub fits : Fits classes t
   pub most_general : (of : ℕ → Class) (u : Term) → Fits of u → IsTypeInstance t classes of u
 
-pub record IsPrincipalScheme (Fits : (ℕ → Class) → Term → Term → Type 0) (s : Scheme) : Type 0 where
-  pub fits : Fits (class_at s.classes.items) (term s.argument) (term s.result)
-  pub most_general : (of : ℕ → Class) (t u : Term) → Fits of t u → IsInstanceOf (function_type s) of t u
+-- the most general of what a function can take and give
+pub record IsPrincipalFunction (Fits : (ℕ → Class) → Term → Term → Type 0) (f : FunctionType) : Type 0 where
+  pub fits : Fits (class_at f.classes) f.argument f.result
+  pub most_general : (of : ℕ → Class) (t u : Term) → Fits of t u → IsInstanceOf f of t u
+
+-- its variables are numbered from 0 in the order in which they first occur, and each has a class: so a function has one
+-- most general type, and not one for each way to name the variables
+abbrev pub IsNumbered : FunctionType → Type 0
+IsNumbered f = first_occurrences (variables f.argument ++ variables f.result) ≡ numbers_below (length f.classes)
+
+abbrev pub IsPrincipalScheme : ((ℕ → Class) → Term → Term → Type 0) → Scheme → Type 0
+IsPrincipalScheme Fits s = IsPrincipalFunction Fits (function_type s)
+
+-- where names refer to this
+module _ (known : Option (List ℕ) → Names) where
+  -- the bounded types of an expression, where no local names are
+  abbrev pub TypedBy : Tree → (ℕ → Class) → Term → Type 0
+  TypedBy e of t = HasType (bounded (meanings_by known None) of) [] e t
+
+  -- what a function takes and gives
+  abbrev pub TypedFunctionBy : List ℕ → PatternTree → Option SignatureTree → Tree → (ℕ → Class) → Term → Term → Type 0
+  TypedFunctionBy name p s body of t u = HasFunctionType (λ own. bounded (meanings_by known own) of) name p s body t u
 
 module _ {P : Type 0} (context : List (List ℕ × Top × P)) where
-  -- the bounded types of an expression, where no local names are
   abbrev pub Typed : Tree → (ℕ → Class) → Term → Type 0
-  Typed e of t = HasType (bounded (meanings_in context None) of) [] e t
+  Typed = TypedBy (names_in context)
 
   abbrev pub TypedFunction : List ℕ → PatternTree → Option SignatureTree → Tree → (ℕ → Class) → Term → Term → Type 0
-  TypedFunction name p s body of t u = HasFunctionType (λ own. bounded (meanings_in context own) of) name p s body t u
+  TypedFunction = TypedFunctionBy (names_in context)
 
 -- a principal type with some classes of its variables
 abbrev pub IsPrincipalType : ((ℕ → Class) → Term → Type 0) → Term → Type 0

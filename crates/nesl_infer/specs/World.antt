@@ -4,8 +4,7 @@ use Rattle.nesl_types.specs.declared.classes.Class.{Class}
 use Rattle.nesl_types.specs.declared.bindings.Top.{Top}
 use Rattle.nesl_types.specs.Term.{Term, named, nodes}
 use Rattle.nesl_builtins.specs.Table.{FunctionType, builtin_type}
-use Rattle.nesl_names.specs.Names.{Referent, itself, built_in, function, record_of}
-use Rattle.nesl_names.specs.Names.{variable_in, function_in, datatype_in}
+use Rattle.nesl_names.specs.Names.{Names, Referent, itself, built_in, function, record_of, names_in}
 
 -- what a name before `(` takes and gives: any instance of a function's type, or one type alone
 pub data Meaning : Type 0 where
@@ -53,9 +52,13 @@ meaning_of own (Some (function f)) = Some (general f)
 meaning_of own (Some (record_of tag held)) = Some (single held (named tag))
 meaning_of own None = None
 
-abbrev pub meanings_in : {P : Type 0} → List (List ℕ × Top × P) → Own → Meanings
-meanings_in context own = record {
-  variables = variable_in context (own_name own);
-  functions = λ x. meaning_of own (function_in context (own_name own) x);
-  datatypes = datatype_in context;
+-- what names mean, by what they refer to
+abbrev pub meanings_by : (Option (List ℕ) → Names) → Own → Meanings
+meanings_by known own = record {
+  variables = (known (own_name own)).variables;
+  functions = λ x. meaning_of own ((known (own_name own)).functions x);
+  datatypes = (known (own_name own)).datatypes;
 }
+
+abbrev pub meanings_in : {P : Type 0} → List (List ℕ × Top × P) → Own → Meanings
+meanings_in context = meanings_by (names_in context)

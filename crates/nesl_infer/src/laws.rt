@@ -1,7 +1,7 @@
 //! Laws of typing.
 
 ghost use Rattle.nesl_infer.specs.Contexts.{AreClosed};
-ghost use Rattle.nesl_infer.specs.Laws.{MeaningsHaveInstances, PrincipalSchemesAreOne, TypingsHaveInstances};
+ghost use Rattle.nesl_infer.specs.Laws.{ContentsHaveOneVerdict, ExpressionsHaveOneVerdict, FunctionsHaveOneVerdict, MeaningsHaveInstances, TypingsHaveInstances};
 ghost use Rattle.nesl_infer.specs.References.{TypingsDependOnReferences};
 
 use nesl_types::Context;
@@ -22,7 +22,10 @@ pub fn typings_depend_on_references()
     ensures { TypingsDependOnReferences }
 {}
 
-/// Whatever way the principal types of a function are found, they make one scheme.
-pub fn principal_schemes_are_one<P>(context: &Context<P>)
-    ensures { PrincipalSchemesAreOne context.now }
+/// Whatever way a verdict is found, there is no other: of an expression, of a function, and of what a datatype's records
+/// hold.
+pub fn verdicts_are_one()
+    ensures expressions { ExpressionsHaveOneVerdict }
+    ensures functions { FunctionsHaveOneVerdict }
+    ensures contents { ContentsHaveOneVerdict }
 {}

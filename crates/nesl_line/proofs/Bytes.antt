@@ -8,7 +8,7 @@ use Rattle.std.proofs.lemmas.List.{take_all, take-append-drop, length-take}
 use Rattle.std.proofs.Math.Seq.{take-add}
 use Rattle.std.proofs.lemmas.Bool.{le-ltb, lt-ltb, ltb-true, ltb-false, eqb-true, cases_lt}
 use Rattle.nesl_line.specs.Steps.{Sent}
-use Rattle.nesl_line.specs.Lines.{HasNoFeed, with_feed, Splits, handed}
+use Rattle.nesl_line.specs.Lines.{HasNoFeed, with_feed, Splits, handed, most_handed}
 use Rattle.std.proofs.lemmas.List.{length-drop}
 
 -- nothing more
@@ -67,14 +67,6 @@ splits_feed text whole raw s = record {
       ap (λ x. x ++ 10 ∷ []) s.spelled ∙ append_assoc (flat_map with_feed whole) raw (10 ∷ []) ∙ sym (append-nil _) ∙ ap (λ x. x ++ []) (ap (λ x. flat_map with_feed whole ++ x) (sym (append-nil (with_feed raw))) ∙ sym (flat_map-append with_feed whole (raw ∷ [])));
   each = all_both HasNoFeed whole (raw ∷ []) s.each (s.open_end, tt);
   open_end = tt;
-}
-
--- more text behind a line that ended
-pub splits_then : (a b : List ℕ) (one two : List (List ℕ)) (raw : List ℕ) → Splits a one [] → Splits b two raw → Splits (a ++ b) (one ++ two) raw
-splits_then a b one two raw s t = record {
-  spelled = ap (λ x. x ++ b) (s.spelled ∙ append-nil _) ∙ ap (λ x. flat_map with_feed one ++ x) t.spelled ∙ sym (append_assoc (flat_map with_feed one) (flat_map with_feed two) raw) ∙ ap (λ x. x ++ raw) (sym (flat_map-append with_feed one two));
-  each = all_both HasNoFeed one two s.each t.each;
-  open_end = t.open_end;
 }
 
 take_both : {A : Type 0} (n : ℕ) (xs ys : List A) → take n (xs ++ ys) ≡ take n xs ++ take (n - length xs) ys
@@ -147,29 +139,29 @@ strip_by n raw true h = take_shorter n (length raw - 1) raw (omega arith)
 strip_by n raw false h = refl
 
 -- of a line that is longer, the CR doesn't matter
-pub handed_long : (raw bytes : List ℕ) (longer : Bool) → (bytes ≡ take 4097 raw) × (longer ≡ nat_lt 4097 (length raw)) → longer ≡ true → bytes ≡ handed raw
-handed_long raw bytes longer h e = h.0 ∙ sym (strip_by 4097 raw (slice_index raw (length raw - 1) == 13) (ltb-true 4097 (length raw) (sym h.1 ∙ e)))
+pub handed_long : (raw bytes : List ℕ) (longer : Bool) → (bytes ≡ take most_handed raw) × (longer ≡ nat_lt most_handed (length raw)) → longer ≡ true → bytes ≡ handed raw
+handed_long raw bytes longer h e = h.0 ∙ sym (strip_by most_handed raw (slice_index raw (length raw - 1) == 13) (ltb-true most_handed (length raw) (sym h.1 ∙ e)))
 
 -- of one that is not, it is dropped
-pub whole_line : (raw bytes : List ℕ) (longer : Bool) → (bytes ≡ take 4097 raw) × (longer ≡ nat_lt 4097 (length raw)) → longer ≡ false → (bytes ≡ raw) × (length raw ≤ 4097)
-whole_line raw bytes longer h e = let few = ltb-false 4097 (length raw) (sym h.1 ∙ e) in (h.0 ∙ take_all 4097 raw few, few)
+pub whole_line : (raw bytes : List ℕ) (longer : Bool) → (bytes ≡ take most_handed raw) × (longer ≡ nat_lt most_handed (length raw)) → longer ≡ false → (bytes ≡ raw) × (length raw ≤ most_handed)
+whole_line raw bytes longer h e = let few = ltb-false most_handed (length raw) (sym h.1 ∙ e) in (h.0 ∙ take_all most_handed raw few, few)
 
-pub handed_return : (raw bytes bytes' : List ℕ) (longer : Bool) → (bytes ≡ take 4097 raw) × (longer ≡ nat_lt 4097 (length raw)) → longer ≡ false → slice_index bytes (length bytes - 1) ≡ 13 → bytes' ≡ take (length bytes - 1) bytes → bytes' ≡ handed raw
+pub handed_return : (raw bytes bytes' : List ℕ) (longer : Bool) → (bytes ≡ take most_handed raw) × (longer ≡ nat_lt most_handed (length raw)) → longer ≡ false → slice_index bytes (length bytes - 1) ≡ 13 → bytes' ≡ take (length bytes - 1) bytes → bytes' ≡ handed raw
 handed_return raw bytes bytes' longer h e last t =
     let w = whole_line raw bytes longer h e in
     let there : slice_index raw (length raw - 1) ≡ 13 = ap (λ (x : List ℕ). slice_index x (length x - 1)) (sym w.0) ∙ last in
-    let short : length (take (length raw - 1) raw) ≤ 4097 = omega (arith, length-take (length raw - 1) raw, w.1) in
-    t ∙ ap (λ (x : List ℕ). take (length x - 1) x) w.0 ∙ sym (take_all 4097 (take (length raw - 1) raw) short) ∙ ap (λ k. take 4097 (cond (k == 13) (take (length raw - 1) raw) raw)) (sym there)
+    let short : length (take (length raw - 1) raw) ≤ most_handed = omega (arith, length-take (length raw - 1) raw, w.1) in
+    t ∙ ap (λ (x : List ℕ). take (length x - 1) x) w.0 ∙ sym (take_all most_handed (take (length raw - 1) raw) short) ∙ ap (λ k. take most_handed (cond (k == 13) (take (length raw - 1) raw) raw)) (sym there)
 
 other_than : (k : ℕ) (b : Bool) → (k == 13) ≡ b → k ≢ 13 → b ≡ false
 other_than k true e n = absurd (n (eqb-true k 13 e))
 other_than k false e n = refl
 
-pub handed_other : (raw bytes : List ℕ) (longer : Bool) → (bytes ≡ take 4097 raw) × (longer ≡ nat_lt 4097 (length raw)) → longer ≡ false → slice_index bytes (length bytes - 1) ≢ 13 → bytes ≡ handed raw
+pub handed_other : (raw bytes : List ℕ) (longer : Bool) → (bytes ≡ take most_handed raw) × (longer ≡ nat_lt most_handed (length raw)) → longer ≡ false → slice_index bytes (length bytes - 1) ≢ 13 → bytes ≡ handed raw
 handed_other raw bytes longer h e last =
     let w = whole_line raw bytes longer h e in
     let there : slice_index raw (length raw - 1) ≢ 13 = λ k. last (ap (λ (x : List ℕ). slice_index x (length x - 1)) w.0 ∙ k) in
-    w.0 ∙ sym (take_all 4097 raw w.1) ∙ ap (λ b. take 4097 (cond b (take (length raw - 1) raw) raw)) (sym (other_than (slice_index raw (length raw - 1)) (slice_index raw (length raw - 1) == 13) refl there))
+    w.0 ∙ sym (take_all most_handed raw w.1) ∙ ap (λ b. take most_handed (cond b (take (length raw - 1) raw) raw)) (sym (other_than (slice_index raw (length raw - 1)) (slice_index raw (length raw - 1) == 13) refl there))
 
 pub rest_whole : (at : ℕ) (bytes : List ℕ) → take (length bytes - at) (drop at bytes) ≡ drop at bytes
 rest_whole at bytes = take_all (length bytes - at) (drop at bytes) (omega (arith, length-drop at bytes))
@@ -186,6 +178,21 @@ first_byte b bs (line ∷ whole) rest false e s =
 pub splits_some : (text : List ℕ) → (whole : List (List ℕ)) × (rest : List ℕ) × Splits text whole rest
 splits_some [] = ([], [], splits_none)
 splits_some (b ∷ bs) = let s = splits_some bs in first_byte b bs s.0 s.1 (b == 10) refl s.2
+
+-- more text behind some lines and a rest
+pub splits_on : (a b : List ℕ) (one : List (List ℕ)) (raw : List ℕ) → Splits a one raw → (two : List (List ℕ)) × (rest : List ℕ) × Splits (a ++ b) (one ++ two) rest
+splits_on a b one raw s =
+    let t = splits_some (raw ++ b) in (
+      t.0,
+      t.1,
+      record {
+        spelled =
+            ap (λ x. x ++ b) s.spelled ∙ append_assoc (flat_map with_feed one) raw b ∙ ap (λ x. flat_map with_feed one ++ x) t.2.spelled
+            ∙ sym (append_assoc (flat_map with_feed one) (flat_map with_feed t.0) t.1) ∙ ap (λ x. x ++ t.1) (sym (flat_map-append with_feed one t.0));
+        each = all_both HasNoFeed one t.0 s.each t.2.each;
+        open_end = t.2.open_end;
+      },
+    )
 
 -- bytes of which none is an LF
 pub no_feed_in : (bytes : List ℕ) → ((k : ℕ) → k < length bytes → slice_index bytes k ≢ 10) → HasNoFeed bytes

@@ -1,5 +1,6 @@
 pub mod Bytes
 pub mod Tallies
 pub mod Talks
-pub mod Batches
+pub mod Turns
+pub mod Exchanges
 pub mod Unique

@@ -1,6 +1,6 @@
 -- What is told of the lines that come in.
 use Rattle.std.specs.Prelude.{◌≡◌, ◌≢◌, ℕ, ◌<◌, List, [], ◌∷◌, ◌++◌, Option, Some, None, Bool, true, ◌||◌, ◌&&◌}
-use Rattle.std.specs.Prelude.{length, codes, flat_map, nat_le}
+use Rattle.std.specs.Prelude.{length, codes, nat_le}
 use Rattle.std.specs.List.{AllByRecursion}
 use Rattle.nesl_session.specs.Response.{Response, no_user}
 use Rattle.nesl_house.specs.Script.{Event}
@@ -54,7 +54,3 @@ pub record Talked (house : List Seat) (lines texts : List (List ℕ)) (who : Opt
   pub events : List Event
   pub said : Conversation house None lines texts events who
   pub runs : Runs house events house'
-
--- the answers one after the other
-abbrev pub text_of : List (List ℕ) → List ℕ
-text_of texts = flat_map (λ text. text) texts

@@ -1,7 +1,8 @@
 -- The lines of a text.
-use Rattle.std.specs.Prelude.{◌≡◌, ◌≢◌, ℕ, ◌==◌, List, [], ◌∷◌, ◌++◌, length, take, map, flat_map, if◌then◌else◌}
+use Rattle.std.specs.Prelude.{◌≡◌, ◌≢◌, ℕ, ◌+◌, ◌==◌, List, [], ◌∷◌, ◌++◌, length, take, map, flat_map, if◌then◌else◌}
 use Rattle.std.specs.List.{AllByRecursion}
 use Rattle.std.specs.Str.Lines.{strip_carriage_return}
+use Rattle.nesl_session.specs.Step.{longest}
 
 -- no LF is among these bytes
 abbrev pub HasNoFeed : List ℕ → Type 0
@@ -17,9 +18,12 @@ pub record Splits (text : List ℕ) (lines : List (List ℕ)) (rest : List ℕ) 
   pub each : AllByRecursion HasNoFeed lines
   pub open_end : HasNoFeed rest
 
--- A line has at most 4,096 bytes. Of a longer one the first 4,097 are handed on, so that it is seen to be too long.
+-- A form has at most 65,536 bytes. Of a longer line the first 65,537 are handed on, so that it is seen to be too long.
+abbrev pub most_handed : ℕ
+most_handed = longest + 1
+
 abbrev pub cut : List ℕ → List ℕ
-cut line = take 4097 line
+cut line = take most_handed line
 
 -- what is handed on of a line that had its LF: one CR directly before the LF is dropped
 abbrev pub handed : List ℕ → List ℕ

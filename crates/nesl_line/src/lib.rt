@@ -3,9 +3,12 @@
 
 pub mod batch;
 pub mod device;
+pub mod exchange;
+pub mod hearer;
 pub mod laws;
 mod line;
 mod talk;
+mod tell;
 #[cfg(test)]
 mod tests;
 mod turn;

@@ -1,23 +1,21 @@
 //! One line, as it comes in piece by piece.
 ghost use Rattle.std.specs.Prelude.{◌≡◌, ℕ, ◌≤◌, ◌==◌, ◌++◌, [], List, IfOk, length, vec_len};
 ghost use Rattle.std.specs.Vec.{vec_capacity};
-ghost use Rattle.nesl_line.specs.Lines.{handed};
+ghost use Rattle.nesl_line.specs.Lines.{handed, most_handed};
 
+use nesl_session::LONGEST;
 use std::alloc::{AllocError, Global};
 
-/// The most bytes of a line. Of a longer one this many and one more are handed on.
-pub const MOST_LINE_BYTES: usize = 4096;
-
-// The most bytes that are kept of a line.
-const KEPT: usize = MOST_LINE_BYTES + 1;
+/// The most bytes of a line that are handed on: one more than a form may have.
+pub const MOST_HANDED: usize = LONGEST + 1;
 
 // What has come of a line: its first bytes, and whether there were more.
 #[derive(Drop)]
 pub struct Line {
     bytes: Vec<u8>,
     is_longer: bool,
-    ghost room: { 4097 ≤ vec_capacity bytes },
-    ghost short: { vec_len bytes ≤ 4097 },
+    ghost room: { most_handed ≤ vec_capacity bytes },
+    ghost short: { vec_len bytes ≤ most_handed },
 }
 
 impl Line {
@@ -27,7 +25,7 @@ impl Line {
     pub fn new(alloc: Global) -> Result<Line, AllocError>
         ensures { IfOk result (λ line. Holds line []) }
     {
-        let bytes = Vec::with_capacity(alloc, KEPT)?;
+        let bytes = Vec::with_capacity(alloc, MOST_HANDED)?;
         Ok(Line {
             bytes,
             is_longer: false,
@@ -45,7 +43,7 @@ impl Line {
     pub fn add(&mut self, more: &[u8])
         ensures { (raw : List ℕ) → Holds self.old raw → Holds self.new (raw ++ more.now) }
     {
-        let kept = more.len().min(KEPT - self.bytes.len());
+        let kept = more.len().min(MOST_HANDED - self.bytes.len());
         if self.bytes.extend_from_slice(&more[..kept]).is_err() {
             unreachable!();
         }

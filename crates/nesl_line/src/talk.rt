@@ -1,41 +1,42 @@
-//! A conversation, as it goes on.
-ghost use Rattle.std.specs.Prelude.{◌≡◌, ℕ, ◌+◌, ◌<◌, ◌≤◌, ◌^◌, [], ◌∷◌, ◌++◌, List, Option, IfOk, IfSome, IfNone, length, take, slice_index};
-ghost use Rattle.std.specs.Vec.{vec_capacity};
+//! An exchange, as it goes on.
+ghost use Rattle.std.specs.Prelude.{◌≡◌, ℕ, ◌+◌, ◌<◌, ◌≤◌, ◌^◌, [], ◌∷◌, ◌++◌, List, Option, IfOk, IfSome, IfNone, length, take, slice_index, true, false, ⊤};
 ghost use Rattle.std.specs.Bool.{MatchBool};
-ghost use Rattle.nesl_house.specs.Runs.{Seat};
-ghost use Rattle.nesl_line.specs.Lines.{HasNoFeed};
+ghost use Rattle.nesl_line.specs.Lines.{HasNoFeed, AllLines, WholeLines};
 ghost use Rattle.nesl_line.specs.Tally.{WriteTally, flushed_by};
 
 use crate::device::Sink;
+use crate::hearer::Hearer;
 use crate::line::Line;
-use crate::turn::answer;
+use crate::tell::answer;
 use memchr::memchr;
-use nesl_house::house::House;
 use std::alloc::{AllocError, Global};
 
-// Who is selected, which is nobody where the name is empty; what has come of a line; and how many lines were given an answer.
+/// What becomes of an exchange.
+pub enum Flow {
+    /// More may come.
+    On,
+    /// Nothing more is heard.
+    Over,
+    /// What was told could not be sent.
+    Broken,
+}
+
+// What has come of a line, and how many lines were given an answer.
 #[derive(Drop)]
 pub struct Talk {
-    who: Vec<u8>,
     line: Line,
     lines: u64,
 }
 
 impl Talk {
-    ghost use Rattle.nesl_line.specs.Steps.{Flushed, Goes, Stops, StopsAtEnd, Done, NamesFit, IsFresh};
+    ghost use Rattle.nesl_line.specs.Steps.{By, is_sent, Flushed, Goes, Halts, Stops, Done, IsFresh};
 
-    // A conversation that begins, with room for names of so many bytes.
-    pub fn new(alloc: Global, room: usize) -> Result<Talk, AllocError>
-        ensures fresh { IfOk result IsFresh }
-        ensures room { IfOk result (λ talk. vec_capacity talk.who ≡ room) }
+    // An exchange that begins.
+    pub fn new(alloc: Global) -> Result<Talk, AllocError>
+        ensures { IfOk result IsFresh }
     {
         let line = Line::new(alloc)?;
-        let who = Vec::with_capacity(alloc, room)?;
-        Ok(Talk {
-            who,
-            line,
-            lines: 0,
-        })
+        Ok(Talk { line, lines: 0 })
     }
 
     // How many lines were given an answer.
@@ -45,64 +46,84 @@ impl Talk {
         self.lines
     }
 
-    // Takes in some bytes, and answers each line that ends there.
-    pub fn take_in<W: Sink>(
+    // Takes in some bytes: each line that ends there is heard, and told of.
+    pub fn take_in<H: Hearer, W: Sink>(
         &mut self,
         alloc: Global,
         writer: &mut W,
-        house: &mut House,
+        hearer: &mut H,
+        world: &mut H::World,
         bytes: &[u8],
-    ) -> bool
-        requires names { NamesFit (vec_capacity self.old.who) house.old }
+    ) -> Flow
+        requires ready { H.ready hearer.old world.old }
         requires few { self.old.lines + length bytes.now < 2 ^ 64 }
-        ensures talk { (start : List Seat) (held : Option (List ℕ)) (read : List ℕ) → Goes start house.old self.old read held (W.held writer.old)
-            → MatchBool result (Goes start house.new self.new (read ++ bytes.now) held (W.held writer.new)) (Stops start house.new self.new (read ++ bytes.now) held (W.held writer.new)) }
-        ensures tally { (start : WriteTally) → W.tally writer.old ≡ flushed_by self.old.lines start → Flushed result self.new.lines start (W.tally writer.new) }
-        ensures names { NamesFit (vec_capacity self.new.who) house.new }
+        ensures talk { (first : H) (start : H.World) (held : Option (List ℕ)) (read : List ℕ) → Goes (H.heard first start hearer.old world.old) self.old read held (W.held writer.old)
+            → By result (Goes (H.heard first start hearer.new world.new) self.new (read ++ bytes.now) held (W.held writer.new))
+            (Halts (H.heard first start hearer.new world.new) self.new (read ++ bytes.now) held (W.held writer.new))
+            (Stops WholeLines (H.heard first start hearer.new world.new) self.new (read ++ bytes.now) held (W.held writer.new)) }
+        ensures tally { (start : WriteTally) → W.tally writer.old ≡ flushed_by self.old.lines start → Flushed (is_sent result) self.new.lines start (W.tally writer.new) }
+        ensures ready { By result (H.ready hearer.new world.new) (H.over hearer.new ≡ true) ⊤ }
         ensures few { self.new.lines ≤ self.old.lines + length bytes.now }
     {
         let mut rest = bytes;
         while let Some(place) = feed_in(rest) {
             self.line.add(&rest[..place]);
             rest = &rest[place + 1..];
-            if !self.end_line(alloc, writer, house) {
-                return false;
+            if !self.end_line(alloc, writer, hearer, world) {
+                return Flow::Broken;
+            }
+            if hearer.is_over() {
+                return Flow::Over;
             }
         }
         self.line.add(rest);
-        true
+        Flow::On
     }
 
-    // A line ends at its LF, and is answered.
-    fn end_line<W: Sink>(&mut self, alloc: Global, writer: &mut W, house: &mut House) -> bool
-        requires names { NamesFit (vec_capacity self.old.who) house.old }
+    // A line ends at its LF, and is told of.
+    fn end_line<H: Hearer, W: Sink>(
+        &mut self,
+        alloc: Global,
+        writer: &mut W,
+        hearer: &mut H,
+        world: &mut H::World,
+    ) -> bool
+        requires ready { H.ready hearer.old world.old }
         requires few { self.old.lines + 1 < 2 ^ 64 }
-        ensures talk { (start : List Seat) (held : Option (List ℕ)) (read : List ℕ) → Goes start house.old self.old read held (W.held writer.old)
-            → MatchBool result (Goes start house.new self.new (read ++ 10 ∷ []) held (W.held writer.new)) ((tail : List ℕ) → Stops start house.new self.new (read ++ 10 ∷ tail) held (W.held writer.new)) }
+        ensures talk { (first : H) (start : H.World) (held : Option (List ℕ)) (read : List ℕ) → Goes (H.heard first start hearer.old world.old) self.old read held (W.held writer.old)
+            → MatchBool result (Goes (H.heard first start hearer.new world.new) self.new (read ++ 10 ∷ []) held (W.held writer.new))
+            ((tail : List ℕ) → Stops WholeLines (H.heard first start hearer.new world.new) self.new (read ++ 10 ∷ tail) held (W.held writer.new)) }
         ensures tally { Flushed result 1 (W.tally writer.old) (W.tally writer.new) }
-        ensures names { NamesFit (vec_capacity self.new.who) house.new }
+        ensures ready { H.over hearer.new ≡ false → H.ready hearer.new world.new }
         ensures lines { self.new.lines ≡ self.old.lines + 1 }
     {
         self.lines += 1;
         self.line.end();
-        let sent = answer(alloc, writer, house, &mut self.who, self.line.bytes());
+        let sent = answer(alloc, writer, hearer, world, self.line.bytes());
         self.line.clear();
         sent
     }
 
     // The input ends, and what is left of it is a line.
-    pub fn end_input<W: Sink>(&mut self, alloc: Global, writer: &mut W, house: &mut House) -> bool
-        requires names { NamesFit (vec_capacity self.old.who) house.old }
+    pub fn end_input<H: Hearer, W: Sink>(
+        &mut self,
+        alloc: Global,
+        writer: &mut W,
+        hearer: &mut H,
+        world: &mut H::World,
+    ) -> bool
+        requires ready { H.ready hearer.old world.old }
         requires few { self.old.lines + 1 < 2 ^ 64 }
-        ensures talk { (start : List Seat) (held : Option (List ℕ)) (read : List ℕ) → Goes start house.old self.old read held (W.held writer.old)
-            → MatchBool result (Done start house.new self.new read held (W.held writer.new)) (StopsAtEnd start house.new self.new read held (W.held writer.new)) }
+        ensures talk { (first : H) (start : H.World) (held : Option (List ℕ)) (read : List ℕ) → Goes (H.heard first start hearer.old world.old) self.old read held (W.held writer.old)
+            → MatchBool result (Done (H.heard first start hearer.new world.new) self.new read held (W.held writer.new))
+            (Stops AllLines (H.heard first start hearer.new world.new) self.new read held (W.held writer.new)) }
         ensures tally { (start : WriteTally) → W.tally writer.old ≡ flushed_by self.old.lines start → Flushed result self.new.lines start (W.tally writer.new) }
     {
         if self.line.bytes().is_empty() {
             return true;
         }
         self.lines += 1;
-        answer(alloc, writer, house, &mut self.who, self.line.bytes())
+        answer(alloc, writer, hearer, world, self.line.bytes())
     }
 }
 

@@ -1,6 +1,8 @@
 //! A batch over readers and writers that do as they are told.
-use crate::batch::{End, Ran, batch};
+use crate::batch::{batch, batch_in};
 use crate::device::{Device, Failed, Sink, Source};
+use crate::exchange::{End, Ran, exchange};
+use crate::hearer::{Hearer, Told};
 use nesl_house::house::House;
 use nesl_session::limits::Limits;
 use std::alloc::{AllocError, Global};
@@ -143,6 +145,75 @@ fn lines_are_answered(rt: HostRuntime) -> Result<(), Fail> {
 }
 
 #[test]
+fn lines_are_answered_in_a_heap(rt: HostRuntime) -> Result<(), Fail> {
+    let alloc = rt.alloc();
+    let mut house = house(alloc, &["ann"])?;
+    let mut reader = reader_of(b"user ann\n9;\nuser zed", 5);
+    let mut writer = blank_paper(alloc);
+    let ran = batch_in(alloc, &mut reader, &mut writer, &mut house, alloc);
+    assert_eq!(rt;
+        ran,
+        Ran {
+            lines: 3,
+            end: End::Input
+        }
+    );
+    let wanted = format!(in alloc; "user ann\n{NINE}fault user\n")?;
+    assert_eq!(rt; writer.into_inner().bytes.as_slice(), wanted.as_bytes());
+    Ok(())
+}
+
+// Hears one line, and nothing more.
+#[derive(Drop)]
+struct Once {
+    is_over: bool,
+}
+
+impl Hearer for Once {
+    ghost use Rattle.std.specs.Prelude.{⊤};
+
+    type World = usize;
+
+    ghost heard = { λ first start now world lines texts. ⊤ };
+
+    ghost over = { λ once. once.is_over };
+
+    ghost ready = { λ once world. ⊤ };
+
+    fn hear(&mut self, _alloc: Global, world: &mut usize, line: &[u8]) -> Told {
+        *world = line.len();
+        self.is_over = true;
+        Told::Back
+    }
+
+    fn is_over(&self) -> bool {
+        self.is_over
+    }
+}
+
+#[test]
+fn nothing_is_heard_once_all_is_over(rt: HostRuntime) -> Result<(), Fail> {
+    let alloc = rt.alloc();
+    for text in ["ab\n", "ab\nc\nd", "ab"] {
+        let mut once = Once { is_over: false };
+        let mut heard = 0;
+        let mut reader = reader_of(text.as_bytes(), 1000);
+        let mut writer = blank_paper(alloc);
+        let ran = exchange(alloc, &mut reader, &mut writer, &mut once, &mut heard);
+        assert_eq!(rt;
+            ran,
+            Ran {
+                lines: 1,
+                end: End::Input
+            }
+        );
+        assert_eq!(rt; heard, 2);
+        assert_eq!(rt; writer.into_inner().bytes.as_slice(), b"ab\n".as_slice());
+    }
+    Ok(())
+}
+
+#[test]
 fn line_ends_of_both_kinds(rt: HostRuntime) -> Result<(), Fail> {
     let alloc = rt.alloc();
     let rows = [
@@ -194,9 +265,9 @@ fn user_lines_that_are_none(rt: HostRuntime) -> Result<(), Fail> {
 fn long_lines_are_cut(rt: HostRuntime) -> Result<(), Fail> {
     let alloc = rt.alloc();
     let rows = [
-        (4094, NINE),
-        (4095, "fault long (work 0)\n"),
-        (20000, "fault long (work 0)\n"),
+        (65_534, NINE),
+        (65_535, "fault long (work 0)\n"),
+        (90_000, "fault long (work 0)\n"),
     ];
     for (blanks, answer) in rows {
         for end in ["\n", "\r\n", ""] {

@@ -1,13 +1,97 @@
-//! One line of a batch, and its answer.
-ghost use Rattle.std.specs.Prelude.{◌≡◌, ℕ, ◌+◌, ◌<◌, ◌≤◌, ◌==◌, [], ◌∷◌, ◌++◌, IfSome, IfNone, IsTrue, true, false, length};
+//! One line of a batch, as a house hears it.
+ghost use Rattle.std.specs.Prelude.{◌≡◌, ℕ, ◌≤◌, [], IfOk, IfSome, IfNone, false, length};
 ghost use Rattle.std.specs.Vec.{vec_capacity};
-ghost use Rattle.nesl_line.specs.Conversation.{IsUserLine, NamesNobody, is_name_byte};
-ghost use Rattle.nesl_line.specs.Steps.{Sent, Wrote, Flushed, chosen, NamesFit, Answered};
+ghost use Rattle.nesl_line.specs.Conversation.{IsUserLine, NamesNobody, is_name_byte, Talked};
+ghost use Rattle.nesl_line.specs.Told.{text_told};
+ghost use Rattle.nesl_line.specs.Steps.{chosen, NamesFit, Turns};
 
-use crate::device::Sink;
+use crate::hearer::{Hearer, Told};
 use nesl_house::house::House;
 use nesl_house::laws::scripts_follow;
-use std::alloc::Global;
+use nesl_house::manner::Manner;
+use nesl_session::answer::Answer;
+use std::alloc::{AllocError, Global};
+
+// Who is selected, which is nobody where the name is empty; and how lines are said to sessions.
+#[derive(Drop)]
+pub struct Chooser<'m, M> {
+    who: Vec<u8>,
+    manner: &'m M,
+}
+
+impl<'m, M: Manner> Chooser<'m, M> {
+    // Nobody is selected, and there is room for names of so many bytes.
+    pub fn new(alloc: Global, manner: &'m M, room: usize) -> Result<Chooser<'m, M>, AllocError>
+        ensures nobody { IfOk result (λ chooser. chooser.who.items ≡ []) }
+        ensures room { IfOk result (λ chooser. vec_capacity chooser.who ≡ room) }
+    {
+        let who = Vec::with_capacity(alloc, room)?;
+        Ok(Chooser { who, manner })
+    }
+
+    // Selects a user of the house; a stranger leaves nobody selected.
+    fn select(&mut self, house: &House, line: &[u8], name: &[u8]) -> Told
+        requires fit { NamesFit (vec_capacity self.old.who) house.now }
+        requires named { IsUserLine line.now name.now }
+        ensures turn { Turns house.now house.now (chosen self.old.who.items) (chosen self.new.who.items) line.now (text_told line.now result) }
+        ensures fit { NamesFit (vec_capacity self.new.who) house.now }
+    {
+        if house.session(name).is_none() {
+            self.who.clear();
+            return Told::By(Answer::no_user());
+        }
+        put_name(&mut self.who, name);
+        Told::Back
+    }
+
+    // Says a line to the session of who is selected.
+    fn say(&self, alloc: Global, house: &mut House, line: &[u8]) -> Told
+        requires named { NamesNobody line.now }
+        requires fit { NamesFit (vec_capacity self.now.who) house.old }
+        ensures turn { Turns house.old house.new (chosen self.now.who.items) (chosen self.now.who.items) line.now (text_told line.now result) }
+        ensures fit { NamesFit (vec_capacity self.now.who) house.new }
+    {
+        if self.who.is_empty() {
+            return Told::By(Answer::no_user());
+        }
+        scripts_follow();
+        let answer = house.say_by(alloc, self.manner, self.who.as_slice(), line);
+        Told::By(answer)
+    }
+}
+
+impl<M: Manner> Hearer for Chooser<'_, M> {
+    type World = House;
+
+    ghost heard = { λ first start now house lines texts. Talked start lines texts (chosen now.who.items) house };
+
+    ghost over = { λ chooser. false };
+
+    ghost ready = { λ chooser house. NamesFit (vec_capacity chooser.who) house };
+
+    fn hear(&mut self, alloc: Global, world: &mut House, line: &[u8]) -> Told {
+        match user_named(line) {
+            Some(name) => self.select(world, line, name),
+            None => self.say(alloc, world, line),
+        }
+    }
+
+    fn is_over(&self) -> bool {
+        false
+    }
+}
+
+// Puts this name in place of another.
+fn put_name(who: &mut Vec<u8>, name: &[u8])
+    requires { length name.now ≤ vec_capacity who.old }
+    ensures items { who.new.items ≡ name.now }
+    ensures room { vec_capacity who.old ≤ vec_capacity who.new }
+{
+    who.clear();
+    if who.extend_from_slice(name).is_err() {
+        unreachable!();
+    }
+}
 
 // The name in a user line.
 pub fn user_named(line: &[u8]) -> Option<&[u8]>
@@ -29,75 +113,4 @@ fn is_name_byte(b: u8) -> bool
     ensures { result ≡ is_name_byte b }
 {
     b'a' <= b && b <= b'z' || b'0' <= b && b <= b'9'
-}
-
-// Writes all of the bytes, or says that a write failed or took none.
-fn send<W: Sink>(writer: &mut W, bytes: &[u8]) -> bool
-    ensures sent { Sent (W.held writer.old) (W.held writer.new) bytes.now result }
-    ensures tally { Wrote result (length bytes.now) (W.tally writer.old) (W.tally writer.new) }
-{
-    let mut at = 0;
-    while at < bytes.len() {
-        match writer.write(&bytes[at..]) {
-            Err(_) => return false,
-            Ok(0) => return false,
-            Ok(n) => at += n,
-        }
-    }
-    true
-}
-
-// Sends the bytes, and flushes.
-fn say<W: Sink>(writer: &mut W, bytes: &[u8]) -> bool
-    ensures sent { Sent (W.held writer.old) (W.held writer.new) bytes.now result }
-    ensures tally { Flushed result 1 (W.tally writer.old) (W.tally writer.new) }
-{
-    if !send(writer, bytes) {
-        return false;
-    }
-    writer.flush().is_ok()
-}
-
-// Answers one line, and sends the answer.
-pub fn answer<W: Sink>(
-    alloc: Global,
-    writer: &mut W,
-    house: &mut House,
-    who: &mut Vec<u8>,
-    line: &[u8],
-) -> bool
-    requires { NamesFit (vec_capacity who.old) house.old }
-    ensures answered { Answered house.old house.new (chosen who.old.items) (chosen who.new.items) line.now (W.held writer.old) (W.held writer.new) result }
-    ensures tally { Flushed result 1 (W.tally writer.old) (W.tally writer.new) }
-    ensures room { NamesFit (vec_capacity who.new) house.new }
-{
-    if let Some(name) = user_named(line) {
-        if house.session(name).is_none() {
-            who.clear();
-            return say(writer, b"fault user\n");
-        }
-        select(who, name);
-        if !send(writer, line) {
-            return false;
-        }
-        return say(writer, b"\n");
-    }
-    if who.is_empty() {
-        return say(writer, b"fault user\n");
-    }
-    scripts_follow();
-    let answer = house.say(alloc, who.as_slice(), line);
-    say(writer, answer.bytes())
-}
-
-// Selects a user.
-fn select(who: &mut Vec<u8>, name: &[u8])
-    requires { length name.now ≤ vec_capacity who.old }
-    ensures items { who.new.items ≡ name.now }
-    ensures room { vec_capacity who.old ≤ vec_capacity who.new }
-{
-    who.clear();
-    if who.extend_from_slice(name).is_err() {
-        unreachable!();
-    }
 }

@@ -63,22 +63,36 @@ abbrev pub hides : Own → List ℕ → Bool
 hides None x = false
 hides (Some own) x = bytes_eq x own || bytes_eq x (codes "it")
 
-abbrev pub variable_in : {P : Type 0} → List (List ℕ × Top × P) → Own → List ℕ → Option Term
-variable_in context own x = if hides own x then None else as_variable (top_in context x)
+-- what the variables are where an expression stands, by what they are at the top level
+abbrev pub visible : (List ℕ → Option Term) → Own → List ℕ → Option Term
+visible variables own x = if hides own x then None else variables x
 
-abbrev pub function_in : {P : Type 0} → List (List ℕ × Top × P) → Own → List ℕ → Option Referent
-function_in context own x =
-    if is_own own x then Some itself else built_in_or (named_builtin x) (as_function (top_in context x))
+-- what may stand before `(`, by what functions and datatypes the top level has
+abbrev pub callable : (List ℕ → Option Referent) → Own → List ℕ → Option Referent
+callable functions own x = if is_own own x then Some itself else built_in_or (named_builtin x) (functions x)
 
-abbrev pub datatype_in : {P : Type 0} → List (List ℕ × Top × P) → List ℕ → Option (ℕ × Term)
-datatype_in context x = as_datatype (top_in context x)
-
-abbrev pub names_in : {P : Type 0} → List (List ℕ × Top × P) → Own → Names
-names_in context own = record {
-  variables = variable_in context own;
-  functions = function_in context own;
-  datatypes = datatype_in context;
+-- what names refer to where an expression stands, by what the top level has
+abbrev pub names_from :
+    (List ℕ → Option Term) → (List ℕ → Option Referent) → (List ℕ → Option (ℕ × Term)) → Own → Names
+names_from variables functions datatypes own = record {
+  variables = visible variables own;
+  functions = callable functions own;
+  datatypes = datatypes;
 }
+
+module _ {P : Type 0} (context : List (List ℕ × Top × P)) where
+  abbrev pub variable_in : Own → List ℕ → Option Term
+  variable_in = visible (λ x. as_variable (top_in context x))
+
+  abbrev pub function_in : Own → List ℕ → Option Referent
+  function_in = callable (λ x. as_function (top_in context x))
+
+  abbrev pub datatype_in : List ℕ → Option (ℕ × Term)
+  datatype_in x = as_datatype (top_in context x)
+
+  abbrev pub names_in : Own → Names
+  names_in =
+      names_from (λ x. as_variable (top_in context x)) (λ x. as_function (top_in context x)) datatype_in
 
 -- the span, where the name refers to nothing
 abbrev pub unless : Bool → Span → List Span

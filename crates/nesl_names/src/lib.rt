@@ -3,6 +3,7 @@
 
 mod found;
 mod known;
+pub mod laws;
 mod patterns;
 mod scope;
 #[cfg(test)]

@@ -6,8 +6,8 @@ use Rattle.std.specs.Io.KnownBytes.{Consumes, Appends}
 use Rattle.nesl_house.specs.declared.roster.NewFault.TheVariants.{Name, Twice}
 use Rattle.nesl_house.specs.Roster.{IsRoster, IsRefused, bad_name, stands_twice, opened}
 use Rattle.nesl_house.specs.Runs.{Seat}
-use Rattle.nesl_line.specs.declared.batch.End.{End}
-use Rattle.nesl_line.specs.declared.batch.End.TheVariants.{Input, ReadFault, WriteFault, NoMemory}
+use Rattle.nesl_line.specs.declared.exchange.End.{End}
+use Rattle.nesl_line.specs.declared.exchange.End.TheVariants.{Input, ReadFault, WriteFault, NoMemory}
 use Rattle.nesl_line.specs.Batch.{IsBatch}
 use Rattle.nesl_line.proofs.Bytes.{consumes_none, appends_none}
 use Rattle.nesl_server.specs.declared.failure.Failure.{Failure}
@@ -63,4 +63,4 @@ failed ReadFault failure count users left left' held held' house house' r o b e 
     let P : List Seat → Type 0 = λ x. IsBatch ReadFault count left left' held held' x house' in failed_as failure _ users left left' held held' e (r, (count, (house', subst P o b)))
 failed WriteFault failure count users left left' held held' house house' r o b e =
     let P : List Seat → Type 0 = λ x. IsBatch WriteFault count left left' held held' x house' in failed_as failure _ users left left' held held' e (r, (count, (house', subst P o b)))
-failed NoMemory failure count users left left' held held' house house' r o b e = failed_as failure _ users left left' held held' e (nothing_done left left' held held' b.read b.written b.consumed b.appended b.ended.0 b.ended.2)
+failed NoMemory failure count users left left' held held' house house' r o b e = failed_as failure _ users left left' held held' e (nothing_done left left' held held' b.1.read b.1.written b.1.consumed b.1.appended b.1.ended.0 b.1.ended.2)

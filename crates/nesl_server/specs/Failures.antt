@@ -1,7 +1,7 @@
 -- How a run of the program fails, and with which exit status.
 use Rattle.std.specs.Prelude.{ℕ, Option, Some, None}
-use Rattle.nesl_line.specs.declared.batch.End.{End}
-use Rattle.nesl_line.specs.declared.batch.End.TheVariants.{Input, ReadFault, WriteFault, NoMemory}
+use Rattle.nesl_line.specs.declared.exchange.End.{End}
+use Rattle.nesl_line.specs.declared.exchange.End.TheVariants.{Input, ReadFault, WriteFault, NoMemory}
 use Rattle.nesl_server.specs.declared.failure.Failure.{Failure}
 use Rattle.nesl_server.specs.declared.failure.Failure.TheVariants.{Read, Write, Memory, Count, Name, Twice}
 

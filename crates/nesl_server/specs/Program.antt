@@ -6,8 +6,8 @@ use Rattle.nesl_house.specs.declared.roster.NewFault.TheVariants as refusal
 use Rattle.nesl_house.specs.Roster.{IsRoster, IsRefused, opened}
 use Rattle.nesl_house.specs.Runs.{Seat}
 use Rattle.nesl_line.specs.Batch.{IsBatch}
-use Rattle.nesl_line.specs.declared.batch.End.{End}
-use Rattle.nesl_line.specs.declared.batch.End.TheVariants.{ReadFault, WriteFault}
+use Rattle.nesl_line.specs.declared.exchange.End.{End}
+use Rattle.nesl_line.specs.declared.exchange.End.TheVariants.{ReadFault, WriteFault}
 use Rattle.nesl_server.specs.declared.failure.Failure.{Failure}
 use Rattle.nesl_server.specs.declared.failure.Failure.TheVariants.{Read, Write, Memory, Count, Name, Twice}
 

@@ -5,7 +5,7 @@ ghost use Rattle.nesl_server.specs.Failures.{failure_of, status_of};
 ghost use Rattle.nesl_server.specs.Program.{Fails};
 
 use nesl_house::roster::NewFault;
-use nesl_line::batch::End;
+use nesl_line::exchange::End;
 use thiserror::Error;
 
 /// Why a run failed; the text goes to standard error.

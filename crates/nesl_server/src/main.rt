@@ -1,13 +1,14 @@
 //! The program: NESL sessions over standard input and output.
 #![tactic(auto)]
 
-ghost use Rattle.std.specs.Prelude.{◌≡◌, ◌≤◌, IfOk, OnOk, IfErr, Err, map};
+ghost use Rattle.std.specs.Prelude.{◌≡◌, ◌≤◌, IfOk, OnOk, OnErr, IfErr, Err, map};
 ghost use Rattle.std.specs.Process.{exit_status};
 ghost use Rattle.clap.specs.Values.{kind_of};
 ghost use Rattle.clap.specs.Words.{fault_of, HasKind};
 ghost use Rattle.clap.specs.declared.error.Error as clap;
 ghost use Rattle.clap.specs.declared.error.kind.ErrorKind.TheVariants.{OutOfMemory};
-ghost use Rattle.nesl_line.specs.declared.batch.End.TheVariants as end;
+ghost use Rattle.nesl_line.specs.declared.exchange.End.TheVariants as end;
+ghost use Rattle.nesl_line.specs.Batch.{IsBatch};
 ghost use Rattle.nesl_server.specs.Failures.{status_of};
 ghost use Rattle.nesl_server.specs.Program.{Fails, Served, Untouched};
 ghost use Rattle.nesl_server.specs.Words.{program, users_of};
@@ -19,9 +20,11 @@ mod words;
 
 use crate::failure::{Failure, Refusal};
 use clap::error::ErrorKind;
+use linked_list_allocator::LocalHeap;
 use nesl_house::house::House;
-use nesl_line::batch::batch;
+use nesl_line::batch::{batch, batch_in};
 use nesl_line::device::{Device, Sink, Source};
+use nesl_line::exchange::Ran;
 use nesl_session::limits::Limits;
 use std::alloc::{AllocError, Global};
 use std::env;
@@ -110,20 +113,21 @@ fn serve<'a, S: Source, W: Sink>(
         → HasKind (fault_of program (map (λ word. word.now) words.entry.now)) error
         × Untouched (S.left reader.old) (S.left reader.new) (W.held writer.old) (W.held writer.new) }
 {
-    let users = match words::users(alloc, words) {
-        Ok(users) => users,
+    let wanted = match words::read(alloc, words) {
+        Ok(wanted) => wanted,
         Err(error) => return Err(Refusal::Words(error)),
     };
-    match run(alloc, users.as_slice(), reader, writer) {
+    match run(alloc, wanted.users.as_slice(), wanted.heap, reader, writer) {
         Ok(()) => Ok(()),
         Err(failure) => Err(Refusal::Run(failure)),
     }
 }
 
-// A house for these users, and a batch of its lines.
+// A house for these users, and a batch of its lines, evaluated in a heap where one is wanted.
 fn run<'a, S: Source, W: Sink>(
     alloc: Global,
     users: &[&'a str],
+    heap: Option<usize>,
     reader: &mut S,
     writer: &mut W,
 ) -> Result<(), Failure<'a>>
@@ -139,10 +143,33 @@ fn run<'a, S: Source, W: Sink>(
         Ok(house) => house,
         Err(fault) => return Err(Failure::of_roster(fault, users)),
     };
-    let ran = batch(alloc, reader, writer, &mut house);
+    let Ok(ran) = ran(alloc, reader, writer, &mut house, heap) else {
+        return Err(Failure::Memory);
+    };
     match Failure::of_end(ran.end) {
         None => Ok(()),
         Some(failure) => Err(failure),
+    }
+}
+
+// A batch of a house, evaluated in one heap of this size where there is to be one.
+fn ran<S: Source, W: Sink>(
+    alloc: Global,
+    reader: &mut S,
+    writer: &mut W,
+    house: &mut House,
+    heap: Option<usize>,
+) -> Result<Ran, AllocError>
+    ensures batch { IfOk result (λ ran. IsBatch ran.end ran.lines
+        (S.left reader.old) (S.left reader.new) (W.held writer.old) (W.held writer.new) house.old house.new) }
+    ensures err { OnErr result (Untouched (S.left reader.old) (S.left reader.new) (W.held writer.old) (W.held writer.new)) }
+{
+    match heap {
+        None => Ok(batch(alloc, reader, writer, house)),
+        Some(size) => {
+            let heap = LocalHeap::new(alloc, size)?;
+            Ok(batch_in(alloc, reader, writer, house, &heap))
+        }
     }
 }
 

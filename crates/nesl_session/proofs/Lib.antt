@@ -1,6 +1,12 @@
-pub mod Runs
-pub mod Views
-pub mod Budgets
-pub mod Stores
-pub mod Worked
+pub mod Replayed
 pub mod Finds
+pub mod Comes
+pub mod Verdicts
+pub mod Parts
+pub mod Told
+pub mod Lines
+pub mod Runs
+pub mod Typed
+pub mod Worked
+pub mod Naming
+pub mod Opened

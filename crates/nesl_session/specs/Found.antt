@@ -1,87 +1,159 @@
--- What becomes of a line by what was found of it.
-use Rattle.std.specs.Prelude.{◌≡◌, ℕ, List, [], ◌∷◌, Bool, true, false, Option, Some, None, pos, nat_lt, if◌then◌else◌}
-use Rattle.nesl_values.specs.Tree as values
-use Rattle.nesl_syntax.specs.Trees.{Line, nothing, eval}
-use Rattle.nesl_session.specs.declared.evaluation.Evaluation.{Evaluation}
-use Rattle.nesl_session.specs.declared.evaluation.Evaluation.TheVariants.{Comes, Overflows}
-use Rattle.nesl_session.specs.State.{Binding}
-use Rattle.nesl_session.specs.Formulas.{FormulaTree, formula_of}
-use Rattle.nesl_session.specs.Evaluations.{out, within}
+-- What the code's own types stand for.
+use Rattle.std.specs.Prelude.{◌≡◌, ◌≤◌, ◌<◌, ◌+◌, ◌^◌, ◌++◌, ℕ, Bool, true, false, List, length, sum_by}
+use Rattle.std.specs.Prelude.{Option, Some, None}
+use Rattle.nesl_types.specs.Term.{term}
+use Rattle.nesl_values.specs.View as values
+use Rattle.nesl_syntax.specs.Trees.{SignatureTree, TypeTree}
+use Rattle.nesl_syntax.specs.Views.{line_of, tree_of, pattern_tree}
+use Rattle.nesl_builtins.specs.Table.{function_type}
+use Rattle.nesl_infer.specs.Answers.{IsFunctionBy, IsContentBy, typed}
+use Rattle.nesl_infer.specs.declared.fault.InferFault.{InferFault}
+use Rattle.nesl_infer.specs.declared.fault.InferFault.TheVariants.{Unknown, IllTyped, Ambiguous, Memory}
+use Rattle.nesl_code.specs.Names.{Name}
+use Rattle.nesl_reply.specs.declared.fault.Fault.{Fault}
+use Rattle.nesl_reply.specs.declared.fault.Fault.TheVariants as faults
+use Rattle.nesl_reply.specs.Replies as replies
+use Rattle.nesl_reply.specs.Replies.{Told}
+use Rattle.nesl_bindings.specs.Meanings as meanings
+use Rattle.nesl_bindings.specs.Meanings.{Binding, elements_of}
+use Rattle.nesl_bindings.specs.Known.{known, datatypes, put}
+use Rattle.nesl_bindings.specs.Redefinition.{a_variable, a_function, a_datatype, Refuses}
+use Rattle.nesl_bindings.specs.Stored.{IsComputed}
+use Rattle.nesl_bindings.specs.declared.refusal.Refusal.{Refusal}
+use Rattle.nesl_bindings.specs.declared.refusal.Refusal.TheVariants.{Retype, Taken}
+use Rattle.nesl_session.specs.declared.sense.Sense.{Sense as Seen}
+use Rattle.nesl_session.specs.declared.sense.Sense.TheVariants as seen
+use Rattle.nesl_session.specs.declared.finding.Meaning.{Meaning}
+use Rattle.nesl_session.specs.declared.finding.Meaning.TheVariants as code
+use Rattle.nesl_session.specs.declared.finding.Definition.{Definition}
+use Rattle.nesl_session.specs.declared.finding.Shown.{Shown}
+use Rattle.nesl_session.specs.declared.finding.Shown.TheVariants as shown
+use Rattle.nesl_session.specs.declared.finding.Finding.{Finding as Found}
+use Rattle.nesl_session.specs.declared.finding.Finding.TheVariants as found
 use Rattle.nesl_session.specs.Sense.{Sense, HasSense, stuck, no_form, too_high, form}
-use Rattle.nesl_session.specs.Step.{it}
-use Rattle.nesl_session.specs.declared.finding.Finding.{Finding}
-use Rattle.nesl_session.specs.declared.finding.Finding.TheVariants.{Full, TooLong, Stuck, Blank, NoForm, TooHigh}
-use Rattle.nesl_session.specs.declared.finding.Finding.TheVariants.{IllTyped, Overflow, OverBudget, TooMany, Bound}
+use Rattle.nesl_session.specs.Finding.{Finding, unread, reset, part, refused, answered, FindsSense}
+use Rattle.nesl_session.specs.declared.limits.Limits.{Limits}
+use Rattle.nesl_session.specs.State.{State}
+use Rattle.nesl_session.specs.Step.{told_by_reset, most_told, is_part}
 
--- whether it is stored
-abbrev pub is_stored : Finding → Bool
-is_stored Full = false
-is_stored TooLong = false
-is_stored (Stuck at) = true
-is_stored Blank = true
-is_stored NoForm = true
-is_stored TooHigh = true
-is_stored IllTyped = true
-is_stored (Overflow span work) = true
-is_stored (OverBudget work) = true
-is_stored (TooMany work) = true
-is_stored (Bound value work depth) = true
+abbrev pub seen_sense : Seen → Sense
+seen_sense (seen.Stuck at) = stuck at
+seen_sense seen.NoForm = no_form
+seen_sense seen.TooHigh = too_high
+seen_sense (seen.Form f) = form (line_of f)
 
--- the work that it is charged
-abbrev pub charge_of : Finding → ℕ
-charge_of Full = 0
-charge_of TooLong = 0
-charge_of (Stuck at) = 0
-charge_of Blank = 0
-charge_of NoForm = 0
-charge_of TooHigh = 0
-charge_of IllTyped = 0
-charge_of (Overflow span work) = work
-charge_of (OverBudget work) = work
-charge_of (TooMany work) = work
-charge_of (Bound value work depth) = work
+abbrev pub meaning_of : Meaning → meanings.Meaning
+meaning_of (code.Variable t v cost) = meanings.variable (term t) (values.tree_of v)
+meaning_of (code.Function f p e) = meanings.function (function_type f) (pattern_tree p) (tree_of e)
+meaning_of (code.Datatype tag t) = meanings.datatype tag (term t)
 
--- the value that it binds, if it binds one
-abbrev pub value_bound : Finding → ℕ
-value_bound (Bound value work depth) = value
-value_bound _ = 0
+-- the work that was done for it
+abbrev pub work_of : Meaning → ℕ
+work_of (code.Variable t v cost) = cost.work
+work_of (code.Function f p e) = 0
+work_of (code.Datatype tag t) = 0
 
--- what `it` stands for after it
-abbrev pub it_after : Option values.Tree → Finding → Option values.Tree
-it_after was (Bound value work depth) = Some (values.int (pos value))
-it_after was _ = was
+-- what is told of a name that is to be this
+abbrev pub told_as : Name → Meaning → Told
+told_as x (code.Variable t v cost) = replies.bound x (values.tree_of v) (term t) cost
+told_as x (code.Function f p e) = replies.function x (term f.argument) (term f.result) f.classes.items
+told_as x (code.Datatype tag t) = replies.datatype x (term t)
 
--- what is bound where `it` has this value
-abbrev pub bindings_of : Option values.Tree → List Binding
-bindings_of None = []
-bindings_of (Some value) = record { name = it; value = value } ∷ []
+abbrev pub binding_of : Definition → Binding
+binding_of d = record { name = d.name.items; meaning = meaning_of d.meaning }
 
--- what is found by what a formula comes to: a number is one node
-abbrev pub found_by : ℕ → ℕ → Option Evaluation → Finding
-found_by elements b None = OverBudget b
-found_by elements b (Some (Overflows span work)) = Overflow span work
-found_by elements b (Some (Comes value work depth)) =
-    if nat_lt elements 1 then TooMany work else Bound value work depth
+abbrev pub told_of : Shown → Told
+told_of shown.Blank = replies.blank
+told_of shown.Names = replies.names
+told_of (shown.Budget work elements lines bytes) = replies.budget work elements lines bytes
+told_of (shown.Type t) = replies.shown (term t)
 
--- what is found by the formula that an expression is, if it is one, under the budget `b`
-abbrev pub found_by_formula : ℕ → ℕ → Option FormulaTree → Finding
-found_by_formula elements b None = IllTyped
-found_by_formula elements b (Some t) = found_by elements b (within b (out t))
+abbrev pub finding_of : Found → Finding
+finding_of (found.Unread fault) = unread fault
+finding_of found.Reset = reset
+finding_of found.Part = part
+finding_of (found.Refused fault work) = refused fault work
+finding_of (found.Told t) = answered (told_of t) 0 None
+finding_of (found.Defined d) = answered (told_as d.name.items d.meaning) (work_of d.meaning) (Some (binding_of d))
 
--- what is found by the tree of a line
-abbrev pub found_by_line : ℕ → ℕ → Line → Finding
-found_by_line elements b nothing = Blank
-found_by_line elements b (eval e) = found_by_formula elements b (formula_of e)
-found_by_line elements b _ = IllTyped
+-- what is told of it, where so many lines are stored
+abbrev pub told_after : (lines : ℕ) → Found → Told
+told_after lines (found.Unread fault) = replies.refused fault
+told_after lines found.Reset = replies.cleared lines
+told_after lines found.Part = replies.more
+told_after lines (found.Refused fault work) = replies.refused fault
+told_after lines (found.Told t) = told_of t
+told_after lines (found.Defined d) = told_as d.name.items d.meaning
 
--- what is found by the sense of a line
-abbrev pub found_by_sense : ℕ → ℕ → Sense → Finding
-found_by_sense elements b (stuck at) = Stuck at
-found_by_sense elements b no_form = NoForm
-found_by_sense elements b too_high = TooHigh
-found_by_sense elements b (form l) = found_by_line elements b l
+abbrev pub fault_in : Found → Option Fault
+fault_in (found.Unread fault) = Some fault
+fault_in found.Reset = None
+fault_in found.Part = None
+fault_in (found.Refused fault work) = Some fault
+fault_in (found.Told t) = None
+fault_in (found.Defined d) = None
 
--- what is found by the line, whatever its sense
-abbrev pub FoundBy : List ℕ → ℕ → ℕ → Finding → Type 0
-FoundBy line elements b finding =
-    (m : Sense) × HasSense line m × (finding ≡ found_by_sense elements b m)
+abbrev pub is_recorded : Found → Bool
+is_recorded (found.Unread fault) = false
+is_recorded found.Reset = true
+is_recorded found.Part = true
+is_recorded (found.Refused fault work) = true
+is_recorded (found.Told t) = true
+is_recorded (found.Defined d) = true
+
+-- what is found of a line that is read
+abbrev pub FindsRead : Limits → State → List ℕ → Finding → Type 0
+FindsRead limits s line f = (sense : Sense) × HasSense (s.pending ++ line) sense × FindsSense limits s sense f
+
+-- why no type was found, and the finding
+abbrev pub IsUntyped : InferFault → Found → Type 0
+IsUntyped (Unknown span) f = f ≡ found.Refused (faults.Unknown span) 0
+IsUntyped IllTyped f = f ≡ found.Refused faults.IllTyped 0
+IsUntyped Ambiguous f = f ≡ found.Refused faults.Ambiguous 0
+IsUntyped Memory f = ⊥
+
+abbrev pub fault_against : Refusal → Fault
+fault_against Retype = faults.Retype
+fault_against Taken = faults.Taken
+
+-- there is room for the elements of the name
+abbrev pub HasRoom : List Binding → Name → meanings.Meaning → Type 0
+HasRoom bs x m = elements_of (put x m bs) < 2 ^ 64
+
+-- the name can be this: it is well typed, nothing stands against it, and there is room
+abbrev pub CanMean : List Binding → Name → Meaning → Type 0
+CanMean bs x (code.Variable t v cost) =
+    IsComputed bs (term t) (values.tree_of v) × Refuses bs x (a_variable (term t)) None
+    × HasRoom bs x (meanings.variable (term t) (values.tree_of v))
+CanMean bs x (code.Function f p e) =
+    ((g : Option SignatureTree) × IsFunctionBy (known bs) x (pattern_tree p) g (tree_of e) (typed (function_type f)))
+    × Refuses bs x (a_function (function_type f)) None
+    × HasRoom bs x (meanings.function (function_type f) (pattern_tree p) (tree_of e))
+CanMean bs x (code.Datatype tag t) =
+    (tag ≡ datatypes bs) × ((a : TypeTree) × IsContentBy (known bs) a (typed (term t)))
+    × Refuses bs x a_datatype None × HasRoom bs x (meanings.datatype (datatypes bs) (term t))
+
+abbrev pub CanBe : List Binding → Definition → Type 0
+CanBe bs d = CanMean bs d.name.items d.meaning
+
+-- what was found of a line that was read can be charged, and what it binds can be bound
+abbrev pub CanCharge : State → Found → Type 0
+CanCharge s (found.Unread fault) = ⊥
+CanCharge s found.Reset = ⊥
+CanCharge s found.Part = ⊥
+CanCharge s (found.Refused fault work) = work ≤ s.work_left
+CanCharge s (found.Told t) = Unit {0}
+CanCharge s (found.Defined d) = (work_of d.meaning ≤ s.work_left) × CanBe s.bindings d
+
+-- the line fits the transcript
+abbrev pub Fits : State → List ℕ → Type 0
+Fits s line = sum_by length s.transcript + length line < 2 ^ 64
+
+-- a line of which this was found can change the state
+abbrev pub CanSettle : State → List ℕ → Found → Type 0
+CanSettle s line (found.Unread fault) = Unit {0}
+CanSettle s line found.Reset = told_by_reset s ≤ most_told
+CanSettle s line found.Part = Fits s line × (is_part line ≡ true)
+CanSettle s line (found.Refused fault work) = Fits s line × (work ≤ s.work_left)
+CanSettle s line (found.Told t) = Fits s line
+CanSettle s line (found.Defined d) = Fits s line × (work_of d.meaning ≤ s.work_left) × CanBe s.bindings d

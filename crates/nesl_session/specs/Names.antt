@@ -1,6 +1,7 @@
 -- The names that an iterator still gives.
-use Rattle.std.specs.Prelude.{ℕ, List, option_to_list, option_map}
+use Rattle.std.specs.Prelude.{ℕ, List, map, drop}
+use Rattle.nesl_bindings.specs.Stored.{bindings_of}
 use Rattle.nesl_session.specs.declared.session.Names.{Names}
 
 abbrev pub names_left : Names → List (List ℕ)
-names_left names = option_to_list (option_map (λ name. name.now) names.0)
+names_left names = drop names.place (map (λ b. b.name) (bindings_of names.bindings.now))

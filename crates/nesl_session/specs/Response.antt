@@ -1,10 +1,11 @@
 -- What is told of a line.
-use Rattle.std.specs.Prelude.{ℕ, List, ◌++◌, Bool, true, false, Option, Some, None, codes, decimal}
-use Rattle.nesl_scalars.specs.declared.cost.Cost.{Cost}
+use Rattle.std.specs.Prelude.{ℕ, List, ◌++◌, Bool, true, false, Option, Some, None, codes}
 use Rattle.nesl_reply.specs.declared.fault.Fault.{Fault}
 use Rattle.nesl_reply.specs.declared.fault.Fault.TheVariants.{Memory, User}
 use Rattle.nesl_reply.specs.Faults.{fault_text}
-use Rattle.nesl_reply.specs.Replies.{cost_text}
+use Rattle.nesl_reply.specs.Replies.{Told, told_text}
+use Rattle.nesl_session.specs.State.{State, names_of}
+use Rattle.nesl_bindings.specs.Known.{datatypes_of}
 
 -- the bytes with their line end, the fault if it is one, and whether the line was recorded
 pub record Response : Type 0 where
@@ -13,24 +14,24 @@ pub record Response : Type 0 where
   pub recorded : Bool
 
 -- a line that is refused is told why
-abbrev pub refused : Fault → Bool → Response
-refused fault recorded = record { bytes = fault_text fault ++ codes "\n"; fault = Some fault; recorded = recorded }
+abbrev pub refusal : Fault → Bool → Response
+refusal fault recorded = record { bytes = fault_text fault ++ codes "\n"; fault = Some fault; recorded = recorded }
 
--- any other line is told this
-abbrev pub accepted : List ℕ → Response
-accepted text = record { bytes = text ++ codes "\n"; fault = None; recorded = true }
-
--- the value of `it`, which is a number, and its costs
-abbrev pub it_text : ℕ → Cost → List ℕ
-it_text value cost = codes "it = " ++ decimal value ++ codes " : int" ++ cost_text cost
+-- any other line is told this, with the names of the state before it
+abbrev pub accepted : State → Told → Response
+accepted s t = record {
+  bytes = told_text (datatypes_of s.bindings) (names_of s) t ++ codes "\n";
+  fault = None;
+  recorded = true;
+}
 
 -- want of memory, which is no part of a step
 abbrev pub no_memory : Response
-no_memory = refused Memory false
+no_memory = refusal Memory false
 
 -- a user who isn't in the house
 abbrev pub no_user : Response
-no_user = refused User false
+no_user = refusal User false
 
 abbrev pub is_memory : Response → Bool
 is_memory reply = is_memory_fault reply.fault

@@ -2,7 +2,7 @@
 use Rattle.std.specs.Prelude.{◌≡◌, ℕ, List, [], ◌∷◌}
 use Rattle.std.specs.Bool.{MatchBool}
 use Rattle.nesl_session.specs.declared.limits.Limits.{Limits}
-use Rattle.nesl_session.specs.State.{State, Log, empty}
+use Rattle.nesl_session.specs.State.{State, Log, opening}
 use Rattle.nesl_session.specs.Step.{Step}
 use Rattle.nesl_session.specs.Response.{Response, no_memory, is_memory}
 
@@ -14,11 +14,13 @@ Solo limits s (line ∷ lines) (reply ∷ replies) s' =
 Solo limits s [] (reply ∷ replies) s' = ⊥
 Solo limits s (line ∷ lines) [] s' = ⊥
 
--- the state of a session is the replay of the lines that it stored
+-- the state of a session is the replay of the lines that it stored, from what the last reset left
 pub record Replays (log : Log) (s : State) : Type 0 where
   pub replies : List Response
-  pub run : Solo log.limits (empty log.limits) log.lines replies s
+  pub run : Solo log.limits (opening log.base log.cleared) log.lines replies s
   pub lines : s.transcript ≡ log.lines
+  pub base : s.base ≡ log.base
+  pub cleared : s.cleared ≡ log.cleared
 
 -- alone, a session answers these lines with these replies, and has become `new` then
 pub record Alone (old : Log) (lines : List (List ℕ)) (replies : List Response) (new : Log) : Type 0 where

@@ -1,12 +1,11 @@
--- Lines of a fresh session, worked by hand.
-use Rattle.std.specs.Prelude.{◌≡◌, ◌≤◌, ℕ, ◌++◌, List, codes, length}
-use Rattle.nesl_reply.specs.declared.fault.Fault.TheVariants.{Lexical, Overflow, Work, Elements}
-use Rattle.nesl_reply.specs.Faults.{fault_text}
+-- Lines of a session, worked by hand.
+use Rattle.std.specs.Prelude.{◌≡◌, ◌<◌, ℕ, false, ◌++◌, List, [], ◌∷◌, map, codes}
+use Rattle.nesl_reply.specs.declared.fault.Fault.TheVariants as faults
 use Rattle.nesl_session.specs.declared.limits.Limits.{Limits}
 use Rattle.nesl_session.specs.State.{State, empty}
-use Rattle.nesl_session.specs.Sense.{Sense, HasSense, too_high}
-use Rattle.nesl_session.specs.Response.{Response, it_text}
-use Rattle.nesl_session.specs.Step.{Step}
+use Rattle.nesl_session.specs.Response.{Response, refusal}
+use Rattle.nesl_session.specs.Step.{Step, is_reset, most_told, told_by_reset}
+use Rattle.nesl_session.specs.Solo.{Solo}
 
 -- ample limits
 abbrev pub ample : Limits
@@ -18,49 +17,64 @@ ample = record {
   transcript_bytes = 1000;
 }
 
--- under these limits, a fresh session answers the line by a reply with this text, and then has this work left
+-- under these limits, a fresh session answers these lines by replies with these texts, and then has this work left
+abbrev pub AreAnswered : Limits → List (List ℕ) → List (List ℕ) → ℕ → Type 0
+AreAnswered limits lines texts left =
+    (replies : List Response) × (s : State) × Solo limits (empty limits) lines replies s
+    × (map (λ r. r.bytes) replies ≡ map (λ text. text ++ codes "\n") texts) × (s.work_left ≡ left)
+
 abbrev pub IsAnswered : Limits → List ℕ → List ℕ → ℕ → Type 0
-IsAnswered limits line text left =
-    (reply : Response) × (s : State) × Step limits (empty limits) line reply s
-    × (reply.bytes ≡ text ++ codes "\n") × (s.work_left ≡ left)
-
--- so it answers each line of at most 1,000 bytes that has this sense
-abbrev pub AreAnswered : Limits → Sense → List ℕ → ℕ → Type 0
-AreAnswered limits sense text left =
-    (line : List ℕ) → length line ≤ 1000 → HasSense line sense → IsAnswered limits line text left
-
-abbrev pub product_before_sum : Type 0
-product_before_sum = IsAnswered ample (codes "2 * 3 + 1;") (it_text 7 (record { work = 5; depth = 5 })) 995
-
-abbrev pub overflow_where_it_stands : Type 0
-overflow_where_it_stands =
-    IsAnswered ample (codes " 9223372036854775807 + 1;")
-    (fault_text (Overflow (record { span = record { start = 1; end = 24 }; work = 3 }))) 997
+IsAnswered limits line text left = AreAnswered limits (line ∷ []) (text ∷ []) left
 
 abbrev pub no_token : Type 0
-no_token = IsAnswered ample (codes "1 @ 2;") (fault_text (Lexical 2)) 1000
+no_token = IsAnswered ample (codes "1 @ 2;") (codes "fault lexical at 2 (work 0)") 1000
 
 abbrev pub no_tree : Type 0
 no_tree = IsAnswered ample (codes "1; 2;") (codes "fault syntax (work 0)") 1000
 
-abbrev pub high_tree : Type 0
-high_tree = AreAnswered ample too_high (codes "fault nested (work 0)") 1000
-
 abbrev pub comment : Type 0
 comment = IsAnswered ample (codes "% note %") (codes "ok") 1000
 
-abbrev pub no_formula : Type 0
-no_formula = IsAnswered ample (codes "x + 1;") (codes "fault type (work 0)") 1000
+abbrev pub names_of_none : Type 0
+names_of_none = IsAnswered ample (codes ":names") (codes "names:") 1000
 
-abbrev pub over_the_work_of_a_line : Type 0
-over_the_work_of_a_line =
-    IsAnswered (record ample { line_work = 2 }) (codes "1 + 1;") (fault_text (Work 2)) 998
+-- the state before the line itself is told
+abbrev pub budget_of_none : Type 0
+budget_of_none =
+    IsAnswered ample (codes ":budget")
+    (codes "budget: work 1000, elements 0 of 100, lines 0 of 100, bytes 0 of 1000") 1000
 
-abbrev pub no_room_for_an_element : Type 0
-no_room_for_an_element = IsAnswered (record ample { elements = 0 }) (codes "1;") (fault_text (Elements 1)) 999
+abbrev pub unknown_name : Type 0
+unknown_name = IsAnswered ample (codes "x;") (codes "fault unknown at 0..1 (work 0)") 1000
 
--- any line
+abbrev pub small_sum : Type 0
+small_sum = IsAnswered ample (codes "1 + 1;") (codes "it = 2 : int (work 3, depth 3)") 997
+
+abbrev pub sum_over_the_work_of_a_line : Type 0
+sum_over_the_work_of_a_line =
+    IsAnswered (record ample { line_work = 2 }) (codes "1 + 1;") (codes "fault work (work 2)") 998
+
+abbrev pub sum_without_room : Type 0
+sum_without_room =
+    IsAnswered (record ample { elements = 0 }) (codes "1 + 1;") (codes "fault elements (work 3)") 997
+
+abbrev pub sum_in_two_parts : Type 0
+sum_in_two_parts =
+    AreAnswered ample (codes "1 +\\" ∷ codes "1;" ∷ []) (codes "more" ∷ codes "it = 2 : int (work 3, depth 3)" ∷ []) 997
+
+-- a reset gives no work back
+abbrev pub reset_after_a_sum : Type 0
+reset_after_a_sum =
+    AreAnswered (record ample { session_work = 5 }) (codes "1 + 1;" ∷ codes ":reset" ∷ codes "1 + 1;" ∷ [])
+    (codes "it = 2 : int (work 3, depth 3)" ∷ codes "reset: lines 1" ∷ codes "fault work (work 2)" ∷ []) 0
+
+-- any line but a reset
 abbrev pub no_room_for_a_line : Type 0
 no_room_for_a_line =
-    (line : List ℕ)
+    (line : List ℕ) → is_reset line ≡ false
     → IsAnswered (record ample { transcript_lines = 0 }) line (codes "fault transcript (work 0)") 1000
+
+-- a session that was told as many lines as there may be
+abbrev pub reset_at_the_limit : Type 0
+reset_at_the_limit =
+    (s : State) → most_told < told_by_reset s → Step ample s (codes ":reset") (refusal faults.Transcript false) s

@@ -1,61 +1,142 @@
 //! What is found of a line.
+ghost use Rattle.std.specs.Prelude.{◌≡◌, ℕ};
 
-use nesl_lex::token::Span;
+use nesl_reply::{Fault, Reply, Used};
+use nesl_scalars::Cost;
+use nesl_syntax::tree::{Exp, Pattern};
+use nesl_types::{Scheme, Ty};
+use nesl_values::Value;
+
+/// What a name is to be.
+#[derive(Drop)]
+pub enum Meaning {
+    /// A variable: its type, its value, and what that cost.
+    Variable(Ty, Value, Cost),
+    /// A function: its type, its parameter and its body.
+    Function(Scheme, Pattern, Exp),
+    /// A datatype: its tag, and what its records hold.
+    Datatype(u64, Ty),
+}
+
+/// A name, and what it is to be.
+#[derive(Drop)]
+pub struct Definition {
+    pub name: Vec<u8>,
+    pub meaning: Meaning,
+}
+
+/// What is told of a line that binds no name.
+#[derive(Drop)]
+pub enum Shown {
+    /// The line has no tokens.
+    Blank,
+    /// All names.
+    Names,
+    /// The work left; the elements, the lines and their bytes, of how many each.
+    Budget(u64, Used, Used, Used),
+    /// The type of an expression.
+    Type(Ty),
+}
 
 /// What is found of a line: the first check that fails, or what the line comes to.
-#[derive(Clone, Copy, PartialEq, Eq, Debug)]
+#[derive(Drop)]
 pub enum Finding {
-    /// The transcript has no room for it.
-    Full,
-    /// It has too many bytes.
-    TooLong,
-    /// At this byte no token, blank or whole comment stands.
-    Stuck(usize),
-    /// It has no tokens.
-    Blank,
-    /// Its tokens have no tree.
-    NoForm,
-    /// The tree of its tokens is too high.
-    TooHigh,
-    /// It is no formula.
-    IllTyped,
-    /// A part of it overflows: where that stands, and the work until then.
-    Overflow(Span, u64),
-    /// It takes more work than its budget, which this is.
-    OverBudget(u64),
-    /// Its value has too many nodes beside the others: the work of its evaluation.
-    TooMany(u64),
-    /// A value for `it`, its work and its depth.
-    Bound(u64, u64, u64),
+    /// It is refused unread, and nothing changes.
+    Unread(Fault),
+    /// All is forgotten but the work that is left.
+    Reset,
+    /// It is part of a form that goes on.
+    Part,
+    /// It is refused, and so much work was done.
+    Refused(Fault, u64),
+    /// It is answered, and binds no name.
+    Told(Shown),
+    /// It binds a name.
+    Defined(Definition),
+}
+
+impl Meaning {
+    ghost use Rattle.nesl_session.specs.Found.{work_of};
+
+    /// The work that was done for it.
+    pub fn work(&self) -> u64
+        ensures { result ≡ work_of self.now }
+    {
+        match self {
+            Meaning::Variable(_, _, cost) => cost.work,
+            Meaning::Function(_, _, _) => 0,
+            Meaning::Datatype(_, _) => 0,
+        }
+    }
+}
+
+impl Definition {
+    ghost use Rattle.nesl_session.specs.Found.{told_as};
+    ghost use Rattle.nesl_reply.specs.Replies.{told};
+
+    fn reply(&self) -> Reply<'_>
+        ensures { told result ≡ told_as self.now.name.items self.now.meaning }
+    {
+        let name = self.name.as_slice();
+        match &self.meaning {
+            Meaning::Variable(ty, value, cost) => Reply::Bound(name, value, ty, *cost),
+            Meaning::Function(scheme, _, _) => Reply::FunTold(name, scheme),
+            Meaning::Datatype(_, content) => Reply::DatatypeTold(name, content),
+        }
+    }
+}
+
+impl Shown {
+    ghost use Rattle.nesl_session.specs.Found.{told_of};
+    ghost use Rattle.nesl_reply.specs.Replies.{told};
+
+    fn reply(&self) -> Reply<'_>
+        ensures { told result ≡ told_of self.now }
+    {
+        match self {
+            Shown::Blank => Reply::Blank,
+            Shown::Names => Reply::Names,
+            Shown::Budget(work, elements, lines, bytes) => Reply::Budget(
+                *work, *elements, *lines, *bytes,
+            ),
+            Shown::Type(ty) => Reply::Shown(ty),
+        }
+    }
 }
 
 impl Finding {
-    ghost use Rattle.std.specs.Prelude.{◌≡◌};
-    ghost use Rattle.nesl_session.specs.Found.{is_stored, charge_of};
+    ghost use Rattle.nesl_session.specs.Found.{told_after, fault_in, is_recorded};
+    ghost use Rattle.nesl_reply.specs.Replies.{told};
 
-    /// Whether the line is stored.
-    pub fn is_stored(self) -> bool
-        ensures { result ≡ is_stored self }
-    {
-        !matches!(self, Finding::Full | Finding::TooLong)
-    }
-
-    /// The work that the line is charged.
-    pub fn work(self) -> u64
-        ensures { result ≡ charge_of self }
+    /// What is told of it, where so many lines are stored.
+    pub fn reply(&self, lines: u64) -> Reply<'_>
+        ensures { told result ≡ told_after lines self.now }
     {
         match self {
-            Finding::Overflow(_, work)
-            | Finding::OverBudget(work)
-            | Finding::TooMany(work)
-            | Finding::Bound(_, work, _) => work,
-            Finding::Full
-            | Finding::TooLong
-            | Finding::Stuck(_)
-            | Finding::Blank
-            | Finding::NoForm
-            | Finding::TooHigh
-            | Finding::IllTyped => 0,
+            Finding::Unread(fault) => Reply::Refused(*fault),
+            Finding::Reset => Reply::Cleared(lines),
+            Finding::Part => Reply::More,
+            Finding::Refused(fault, _) => Reply::Refused(*fault),
+            Finding::Told(shown) => shown.reply(),
+            Finding::Defined(definition) => definition.reply(),
         }
+    }
+
+    /// Why the line is refused, if it is.
+    pub fn fault(&self) -> Option<Fault>
+        ensures { result ≡ fault_in self.now }
+    {
+        match self {
+            Finding::Unread(fault) => Some(*fault),
+            Finding::Refused(fault, _) => Some(*fault),
+            _ => None,
+        }
+    }
+
+    /// Whether the line is recorded.
+    pub fn is_recorded(&self) -> bool
+        ensures { result ≡ is_recorded self.now }
+    {
+        !matches!(self, Finding::Unread(_))
     }
 }

@@ -1,7 +1,8 @@
 //! What holds of the step, whoever calls it.
 ghost use Rattle.nesl_session.specs.Laws.{GoesOn, OneRun, OneState, OneStep};
-ghost use Rattle.nesl_session.specs.Worked.{comment, high_tree, no_formula, no_room_for_a_line, no_room_for_an_element, no_token, no_tree, over_the_work_of_a_line, overflow_where_it_stands, product_before_sum};
+ghost use Rattle.nesl_session.specs.Worked.{budget_of_none, comment, names_of_none, no_room_for_a_line, no_token, no_tree, reset_after_a_sum, reset_at_the_limit, small_sum, sum_in_two_parts, sum_over_the_work_of_a_line, sum_without_room, unknown_name};
 
+use nesl_infer::laws::verdicts_are_one;
 use nesl_lex::{one_reading, reading_computes};
 use nesl_syntax::{form_computes, one_form};
 
@@ -11,6 +12,7 @@ pub fn one_step()
 {
     one_reading();
     one_form();
+    verdicts_are_one();
 }
 
 /// What a session stored has one replay: a session has one state.
@@ -19,6 +21,7 @@ pub fn one_state()
 {
     one_reading();
     one_form();
+    verdicts_are_one();
 }
 
 /// Alone, a session answers the same lines by the same replies, and becomes the same session.
@@ -27,6 +30,7 @@ pub fn one_run()
 {
     one_reading();
     one_form();
+    verdicts_are_one();
 }
 
 /// Told more, a session goes on from what it has become.
@@ -35,20 +39,24 @@ pub fn goes_on()
 {
     one_reading();
     one_form();
+    verdicts_are_one();
 }
 
-/// Lines of a fresh session, worked by hand: the definition of a step gives these replies, and leaves this work.
+/// Lines of a session, worked by hand: the definition of a step gives these replies, and leaves this work.
 pub fn worked_lines()
-    ensures value { product_before_sum }
-    ensures overflow { overflow_where_it_stands }
     ensures lexical { no_token }
     ensures syntax { no_tree }
-    ensures nested { high_tree }
     ensures comment { comment }
-    ensures ill_typed { no_formula }
-    ensures work { over_the_work_of_a_line }
-    ensures elements { no_room_for_an_element }
+    ensures names { names_of_none }
+    ensures budget { budget_of_none }
+    ensures unknown { unknown_name }
+    ensures value { small_sum }
+    ensures work { sum_over_the_work_of_a_line }
+    ensures elements { sum_without_room }
+    ensures parts { sum_in_two_parts }
+    ensures reset { reset_after_a_sum }
     ensures transcript { no_room_for_a_line }
+    ensures limit { reset_at_the_limit }
 {
     reading_computes();
     form_computes();

@@ -2,15 +2,15 @@
 #![tactic(auto)]
 
 pub mod answer;
-mod evaluation;
+mod evaluator;
 mod finding;
-mod formula;
+mod form;
 pub mod laws;
 pub mod limits;
+mod line;
 mod sense;
 pub mod session;
+mod standing;
 
+pub use line::LONGEST;
 pub use nesl_reply::{Fault, Stop};
-
-#[cfg(test)]
-mod tests;

@@ -1,7 +1,7 @@
 //! What a line comes to by the grammar.
 ghost use Rattle.std.specs.Prelude.{IfOk};
 ghost use Rattle.nesl_session.specs.Sense.{HasSense};
-ghost use Rattle.nesl_session.specs.Seen.{seen_sense};
+ghost use Rattle.nesl_session.specs.Found.{seen_sense};
 
 use nesl_lex::{LexFault, lex};
 use nesl_syntax::tree::Form;

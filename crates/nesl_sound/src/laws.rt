@@ -7,7 +7,7 @@ ghost use Rattle.nesl_sound.specs.Sound.{TypesAreKept};
 ghost use Rattle.nesl_sound.specs.Lines.{NothingIsSound, VariablesStaySound, FunctionsStaySound, DatatypesStaySound};
 ghost use Rattle.nesl_sound.specs.Inferred.{SoundIsClosed, InferredTypesAreKept, InferredVariablesStaySound};
 ghost use Rattle.nesl_sound.specs.Inferred.{InferredFunctionsStaySound, WrittenDatatypesStaySound};
-ghost use Rattle.nesl_sound.specs.Worked.{IdentityIsSound, PointIsSound};
+ghost use Rattle.nesl_sound.specs.Worked.{IdentityIsSound, PointIsSound, NestedIsSound, GrowingIsSound};
 
 /// No function of scalars is stuck at an argument of its type, and what it gives has its result's type.
 pub fn scalars_keep_types()
@@ -52,4 +52,14 @@ pub fn identity_is_sound()
 /// The same of `datatype point (int, int);`, and of a record that is taken apart.
 pub fn point_is_sound()
     ensures { PointIsSound }
+{}
+
+/// A nested apply-to-each, `{{a + a : a in v} : v in [[1, 2], [3]]}`, is never stuck.
+pub fn nested_is_sound()
+    ensures { NestedIsSound }
+{}
+
+/// Nor is the call of a function whose body has types of more than 4,096 nodes there.
+pub fn growing_is_sound()
+    ensures { GrowingIsSound }
 {}

@@ -99,7 +99,7 @@ mutual
   type_stands (grammar.type_int s) h = let f = fronted h in record { low = f.low; own = orderly (none_lined f.own); high = ended f.rest }
   type_stands (grammar.type_bool s) h = let f = fronted h in record { low = f.low; own = orderly (none_lined f.own); high = ended f.rest }
   type_stands (grammar.type_char s) h = let f = fronted h in record { low = f.low; own = orderly (none_lined f.own); high = ended f.rest }
-  type_stands (grammar.type_name x s) h = let f = fronted h in record { low = f.low; own = orderly (none_lined f.own); high = ended f.rest }
+  type_stands (grammar.type_name x s) h = let f = fronted h in record { low = f.low; own = orderly (exactly (orderly (none_lined f.own))); high = ended f.rest }
   type_stands (grammar.type_sequence {us = us} s t q) h =
       let f = fronted h in
       let p = parted us (sign_at sign.CloseBracket t ∷ []) f.rest in

@@ -5,16 +5,18 @@ use Rattle.nesl_syntax.specs.Trees.{Tree, Shape, Trees, Binders, PatternTree, Pa
 use Rattle.nesl_syntax.specs.Trees.{SignatureTree, Line, node, pattern, written, span_of, pattern_span, type_span}
 use Rattle.nesl_syntax.specs.Trees as trees
 
--- a node of an expression, a pattern or a type
+-- a node of an expression, a pattern or a type; or the token of a type's name, which parentheses don't widen
 pub data Item : Type 0 where
   exp_item : Tree → Item
   pattern_item : PatternTree → Item
   type_item : TypeTree → Item
+  token_item : Span → Item
 
 abbrev pub item_span : Item → Span
 item_span (exp_item e) = span_of e
 item_span (pattern_item p) = pattern_span p
 item_span (type_item a) = type_span a
+item_span (token_item s) = s
 
 abbrev pub items_of : Trees → List Item
 items_of trees.none = []
@@ -52,6 +54,7 @@ pattern_items (trees.pair_pattern a b) = pattern_item a ∷ (pattern_item b ∷ 
 pattern_items (trees.record_pattern x a) = pattern_item a ∷ []
 
 abbrev pub type_items : TypeShape → List Item
+type_items (trees.named x s) = token_item s ∷ []
 type_items (trees.sequence_type a) = type_item a ∷ []
 type_items (trees.pair_type a b) = type_item a ∷ (type_item b ∷ [])
 type_items _ = []
@@ -60,6 +63,7 @@ abbrev pub parts_of : Item → List Item
 parts_of (exp_item (node s k)) = shape_items k
 parts_of (pattern_item (pattern s k)) = pattern_items k
 parts_of (type_item (written s k)) = type_items k
+parts_of (token_item s) = []
 
 -- nodes between these places, one behind another, and within each its parts so
 mutual

@@ -47,7 +47,9 @@ members_text [] = []
 members_text (t ∷ ts) = codes " :: (" ++ t ++ others_text ts ++ codes ")"
 
 -- what a function takes, what it gives, and the classes of the variables
+abbrev pub function_text : (ℕ → List ℕ) → Term → Term → List Class → List ℕ
+function_text names t u classes =
+    type_text names true t ++ codes " -> " ++ type_text names true u ++ members_text (member_texts 0 classes)
+
 abbrev pub scheme_text : (ℕ → List ℕ) → Scheme → List ℕ
-scheme_text names s =
-    type_text names true (term s.argument) ++ codes " -> " ++ type_text names true (term s.result)
-    ++ members_text (member_texts 0 s.classes.items)
+scheme_text names s = function_text names (term s.argument) (term s.result) s.classes.items

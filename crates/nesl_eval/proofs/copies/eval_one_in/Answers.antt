@@ -1,7 +1,7 @@
 use Rattle.nesl_syntax.specs.Views.{tree_of}
 use Rattle.nesl_code.specs.Stored.{environment, names_in}
 use Rattle.nesl_code.specs.TopLevels.{table_in}
-use Rattle.nesl_eval.proofs.Lent.{tells_meant}
+use Rattle.nesl_eval.proofs.Meant.{tells_meant}
 use Rattle.nesl_eval.proofs.copies.eval_one_in.Goals as goal
 
 pub returns-in-Ok-copies_for : goal.returns-in-Ok-copies_for

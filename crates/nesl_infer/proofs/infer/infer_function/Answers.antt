@@ -9,3 +9,10 @@ returns-in-Err-NoSolution g c = (
   none_first (unknown_of_function (names_in c.args.context.now (Some c.args.name.now)) (pattern_tree c.args.pattern.now) (tree_of c.args.body.now)) (sym c.in_default.is ∙ c.in_ok-span.ensures),
   c.in-Err-NoSolution.ensures.ill_typed (first_of (cc, search rules, grind arith)),
 )
+
+pub returns-in-Ok : goal.returns-in-Ok
+returns-in-Ok g c = (
+  none_first (unknown_of_function (names_in c.args.context.now (Some c.args.name.now)) (pattern_tree c.args.pattern.now) (tree_of c.args.body.now)) (sym c.in_default.is ∙ c.in_ok-span.ensures),
+  c.in-Ok.ensures.principal,
+  c.in-Ok.scheme.numbered,
+)

@@ -1,0 +1,9 @@
+pub mod Counts
+pub mod Entries
+pub mod Stable
+pub mod Free
+pub mod Kept
+pub mod Rooms
+pub mod Walks
+pub mod Refusals
+pub mod Readers

@@ -1,0 +1,13 @@
+//! The top-level names of a session, kept well typed.
+#![tactic(auto)]
+
+mod beside;
+mod bindings;
+mod kind;
+mod nodes;
+mod redefinition;
+mod refusal;
+
+pub use bindings::Bindings;
+pub use kind::Kind;
+pub use refusal::Refusal;

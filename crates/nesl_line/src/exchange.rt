@@ -1,0 +1,101 @@
+//! The lines of a reader, heard and told of one by one.
+ghost use Rattle.std.specs.Prelude.{◌≡◌, []};
+ghost use Rattle.nesl_line.specs.Exchange.{IsExchange, ReadsOf, WritesOf};
+ghost use Rattle.nesl_line.specs.Steps.{IsFresh};
+
+use crate::device::{Sink, Source};
+use crate::hearer::Hearer;
+use crate::talk::{Flow, Talk};
+use std::alloc::Global;
+
+/// How an exchange ended.
+#[derive(Clone, Copy, PartialEq, Eq, Debug)]
+pub enum End {
+    /// At the end of input, or where nothing more was heard.
+    Input,
+    /// A read failed, or 2^32 reads were made.
+    ReadFault,
+    /// A write or a flush failed, or a write took no byte.
+    WriteFault,
+    /// Memory ran out before the first read.
+    NoMemory,
+}
+
+/// How many lines were given an answer, one whose answer could not be written included, and how it ended.
+#[derive(Clone, Copy, PartialEq, Eq, Debug)]
+pub struct Ran {
+    pub lines: u64,
+    pub end: End,
+}
+
+/// The most reads of one call.
+pub const MOST_READS: u64 = 4294967296;
+
+// How many bytes are asked for at once.
+const CHUNK: usize = 4096;
+
+/// Has the lines of a reader heard, one by one: what is told of each is written and flushed before the next line is
+/// looked at.
+pub fn exchange<S: Source, W: Sink, H: Hearer>(
+    alloc: Global,
+    reader: &mut S,
+    writer: &mut W,
+    hearer: &mut H,
+    world: &mut H::World,
+) -> Ran
+    requires ready { H.ready hearer.old world.old }
+    requires untold { H.heard hearer.old world.old hearer.old world.old [] [] }
+    ensures exchange { IsExchange (H.heard hearer.old world.old hearer.new world.new) (H.over hearer.new) result.end result.lines
+        (S.left reader.old) (S.left reader.new) (W.held writer.old) (W.held writer.new) }
+    ensures reads { ReadsOf result.end (S.tally reader.old) (S.tally reader.new) }
+    ensures writes { WritesOf result.end result.lines (W.tally writer.old) (W.tally writer.new) }
+{
+    let Ok(mut talk) = Talk::new(alloc) else {
+        return Ran {
+            lines: 0,
+            end: End::NoMemory,
+        };
+    };
+    let end = converse(alloc, reader, writer, hearer, world, &mut talk);
+    Ran {
+        lines: talk.lines(),
+        end,
+    }
+}
+
+// Reads until the end of input, or until nothing more is heard, or something fails.
+fn converse<S: Source, W: Sink, H: Hearer>(
+    alloc: Global,
+    reader: &mut S,
+    writer: &mut W,
+    hearer: &mut H,
+    world: &mut H::World,
+    talk: &mut Talk,
+) -> End
+    requires fresh { IsFresh talk.old }
+    requires ready { H.ready hearer.old world.old }
+    requires untold { H.heard hearer.old world.old hearer.old world.old [] [] }
+    ensures exchange { IsExchange (H.heard hearer.old world.old hearer.new world.new) (H.over hearer.new) result talk.new.lines
+        (S.left reader.old) (S.left reader.new) (W.held writer.old) (W.held writer.new) }
+    ensures reads { ReadsOf result (S.tally reader.old) (S.tally reader.new) }
+    ensures writes { WritesOf result talk.new.lines (W.tally writer.old) (W.tally writer.new) }
+{
+    let mut chunk = [0u8; CHUNK];
+    'reads: for read_count in 0..MOST_READS {
+        match reader.read(&mut chunk) {
+            Err(_) => return End::ReadFault,
+            Ok(0) => {
+                if !talk.end_input(alloc, writer, hearer, world) {
+                    return End::WriteFault;
+                }
+                return End::Input;
+            }
+            Ok(n) => match talk.take_in(alloc, writer, hearer, world, &chunk[..n]) {
+                Flow::On => {}
+                Flow::Over => return End::Input,
+                Flow::Broken => return End::WriteFault,
+            },
+        }
+    }
+    End::ReadFault
+}

@@ -1,0 +1,5 @@
+pub mod Sides
+pub mod Scopes
+pub mod Holds
+pub mod Standing
+pub mod Meets

@@ -1,0 +1,62 @@
+//! How the expression of a line is evaluated.
+ghost use Rattle.std.specs.Prelude.{◌≡◌, [], IfOk};
+ghost use Rattle.nesl_syntax.specs.Views.{tree_of as tree_of_exp};
+ghost use Rattle.nesl_values.specs.View.{tree_of};
+ghost use Rattle.nesl_code.specs.Names.{outside};
+ghost use Rattle.nesl_code.specs.Out.{within};
+ghost use Rattle.nesl_code.specs.Outcome.{out};
+ghost use Rattle.nesl_code.specs.Stored.{environment};
+ghost use Rattle.nesl_eval.specs.Tells.{Tells};
+
+use nesl_code::Env;
+use nesl_eval::{Outcome, eval_one, eval_one_in};
+use nesl_syntax::tree::Exp;
+use nesl_values::Value;
+use std::alloc::{AllocError, Allocator, Global};
+
+/// Evaluates the expression of a line, and keeps its value. All evaluators have one outcome.
+pub(crate) trait Evaluator<A: Allocator> {
+    fn evaluate(&self, alloc: Global, env: &Env, exp: &Exp, levels: u32, fuel: u64) -> Outcome<A>
+        ensures { Tells result (within fuel (out levels (environment env.now) (outside []) (tree_of_exp exp.now))) };
+
+    /// The value as the bindings hold it.
+    fn keep(&self, alloc: Global, value: &Value<A>) -> Result<Value, AllocError>
+        ensures { IfOk result (λ kept. tree_of kept ≡ tree_of value.now) };
+}
+
+/// In the allocator of the bindings, where a value gets one more owner.
+#[derive(Clone, Copy)]
+pub(crate) struct InPlace;
+
+impl Evaluator<Global> for InPlace {
+    fn evaluate(
+        &self,
+        alloc: Global,
+        env: &Env,
+        exp: &Exp,
+        levels: u32,
+        fuel: u64,
+    ) -> Outcome<Global> {
+        eval_one(alloc, env, exp, levels, fuel)
+    }
+
+    fn keep(&self, _alloc: Global, value: &Value) -> Result<Value, AllocError> {
+        value.share()
+    }
+}
+
+/// In a heap of its own, from which a value is copied.
+#[derive(Clone, Copy)]
+pub(crate) struct InHeap<A> {
+    pub(crate) heap: A,
+}
+
+impl<A: Allocator + Copy> Evaluator<A> for InHeap<A> {
+    fn evaluate(&self, alloc: Global, env: &Env, exp: &Exp, levels: u32, fuel: u64) -> Outcome<A> {
+        eval_one_in(alloc, env, exp, levels, fuel, self.heap)
+    }
+
+    fn keep(&self, alloc: Global, value: &Value<A>) -> Result<Value, AllocError> {
+        value.copy_into(alloc)
+    }
+}
