@@ -13,7 +13,7 @@ use Rattle.nesl_session.specs.Solo.{Replays, Alone, Responds}
 use Rattle.nesl_session.specs.Laws.{GoesOn, OneRun, OneState}
 use Rattle.nesl_house.specs.Script.{Event, lines_of, replies_of, own, kept}
 use Rattle.nesl_house.specs.Laws.{ScriptsFollow, SameBindings, OwnLinesDecide}
-use Rattle.nesl_house.specs.Runs.{Seat, roster_of, session_of, AllReplay, Binds, RunsAlone, IsTold, Runs}
+use Rattle.nesl_house.specs.Runs.{Seat, roster_of, session_of, AllReplay, RunsAlone, IsTold, Runs}
 
 -- a session that is found is a replay
 found_here : (b : Bool) (seat : Seat) (rest : Option Log) (log : Log) → (s : State) × Replays seat.session s → (rest ≡ Some log → (s : State) × Replays log s) → cond b (Some seat.session) rest ≡ Some log → (s : State) × Replays log s

@@ -3,3 +3,6 @@ pub mod Runs
 pub mod Roster
 pub mod Said
 pub mod Laws
+pub mod Slots
+pub mod Register
+pub mod Table

@@ -1,7 +1,8 @@
 -- Who may have a session in a house.
 use Rattle.std.specs.Prelude.{◌≡◌, ◌≢◌, ℕ, ◌≤◌, List, [], ◌∷◌, ◌++◌, Bool, true, false, ◌&&◌, ◌||◌, nat_le}
-use Rattle.std.specs.Prelude.{length, map, All, AllPairs, Contains}
+use Rattle.std.specs.Prelude.{length, map, All, AllPairs, Contains, Option, position}
 use Rattle.std.specs.List.{list_all}
+use Rattle.std.specs.Str.{bytes_eq}
 use Rattle.nesl_session.specs.declared.limits.Limits.{Limits}
 use Rattle.nesl_session.specs.State.{unsaid}
 use Rattle.nesl_house.specs.declared.roster.NewFault.{NewFault}
@@ -38,6 +39,10 @@ IsCount n = (1 ≤ n) × (n ≤ 64)
 pub record IsRoster (names : List (List ℕ)) : Type 0 where
   pub count : IsCount (length names)
   pub users : AreUsers names
+
+-- the place of a user in a roster
+abbrev pub place_of : List (List ℕ) → List ℕ → Option ℕ
+place_of roster user = position (λ name. bytes_eq name user) roster
 
 -- Why a list of names is refused: the count is looked at first, and then place by place first the name, then whether it
 -- stands twice. Want of memory comes to a roster alone.

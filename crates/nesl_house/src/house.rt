@@ -1,18 +1,21 @@
 //! Users and their sessions.
 ghost use Rattle.std.specs.Prelude.{◌≡◌, ℕ, [], ◌∷◌, IfOk, IfErr, OnErr, map, length, option_map, position, OnOk};
 ghost use Rattle.std.specs.Str.{bytes_eq};
+ghost use Rattle.nesl_session.specs.Solo.{Responds};
 ghost use Rattle.nesl_house.specs.Runs.{session_of, Runs, AllReplay};
 ghost use Rattle.nesl_house.specs.Roster.{IsRoster, IsRefused, opened};
 
 use crate::laws::scripts_follow;
-use crate::manner::{InHeap, Manner, Plainly};
+use crate::manner::{By, ByCall, InHeap, Manner, Plainly, Saying};
 use crate::roster::{NewFault, check};
 use crate::user::User;
+use nesl_helpers::{Gate, Helpers};
 use nesl_session::answer::Answer;
 use nesl_session::limits::Limits;
 use nesl_session::session::Session;
 use std::alloc::{AllocError, Allocator, Global};
 use std::marker::Model;
+use std::thread::Threads;
 
 /// The users of a house, in the order of its roster. Contracts see the list of their seats.
 #[derive(Drop)]
@@ -67,6 +70,14 @@ impl House {
         Ok(House { users })
     }
 
+    // A house of these users.
+    pub(crate) fn of(users: Vec<User>) -> House
+        requires { AllReplay users.items }
+        ensures { result ≡ users.items }
+    {
+        House { users }
+    }
+
     /// The users, in the order of the roster. Each session is the replay of the lines that it stored.
     pub fn users(&self) -> &[User]
         ensures users { result.now ≡ self.now }
@@ -105,6 +116,24 @@ impl House {
         self.say_by(alloc, &InHeap(heap), user, text)
     }
 
+    /// The same, evaluated in halves that threads share where `helpers` are granted. It waits for these threads.
+    pub fn say_with<R: Threads + Sync, H: Helpers + Sync, G: Gate + Sync>(
+        &mut self,
+        rt: &R,
+        alloc: Global,
+        user: &[u8],
+        text: &[u8],
+        helpers: &H,
+        gate: &G,
+    ) -> Answer
+        ensures { Runs self.old (record { user = user.now; line = text.now; reply = result } ∷ []) self.new }
+    {
+        let call = |session: &mut Session, line: &[u8]| -> Answer
+            ensures { Responds session.old line.now result session.new }
+        { session.line_split(rt, alloc, line, helpers, gate) };
+        self.say_as(alloc, &ByCall { call }, user, text)
+    }
+
     /// The same, said in this manner.
     pub fn say_by<M: Manner>(
         &mut self,
@@ -115,10 +144,18 @@ impl House {
     ) -> Answer
         ensures { Runs self.old (record { user = user.now; line = text.now; reply = result } ∷ []) self.new }
     {
+        self.say_as(alloc, &By { manner }, user, text)
+    }
+
+    // One line of a user, said so.
+    fn say_as<S: Saying>(&mut self, alloc: Global, by: &S, user: &[u8], text: &[u8]) -> Answer
+        requires { S.sound by.now }
+        ensures { Runs self.old (record { user = user.now; line = text.now; reply = result } ∷ []) self.new }
+    {
         let Some(place) = place_of(self.users.as_slice(), user) else {
             return Answer::no_user();
         };
-        self.users[place].say_by(alloc, manner, text)
+        self.users[place].say_as(alloc, by, text)
     }
 
     /// Lines of many users, in order. Where the list of the answers is refused, no line was said.
@@ -128,6 +165,25 @@ impl House {
         ensures err { OnErr result (self.new ≡ self.old) }
     {
         self.run_by(alloc, &Plainly, script)
+    }
+
+    /// The same, each line evaluated in halves that threads share where `helpers` are granted. It waits for these threads.
+    pub fn run_with<R: Threads + Sync, H: Helpers + Sync, G: Gate + Sync>(
+        &mut self,
+        rt: &R,
+        alloc: Global,
+        script: &[Said],
+        helpers: &H,
+        gate: &G,
+    ) -> Result<Vec<Answer>, AllocError>
+        ensures answers { IfOk result (λ answers. length answers.items ≡ length script.now) }
+        ensures runs { IfOk result (λ answers. Runs self.old (events_of script.now answers.items) self.new) }
+        ensures err { OnErr result (self.new ≡ self.old) }
+    {
+        let call = |session: &mut Session, line: &[u8]| -> Answer
+            ensures { Responds session.old line.now result session.new }
+        { session.line_split(rt, alloc, line, helpers, gate) };
+        self.run_as(alloc, &ByCall { call }, script)
     }
 
     /// The same, each line said in this manner.
@@ -141,11 +197,26 @@ impl House {
         ensures runs { IfOk result (λ answers. Runs self.old (events_of script.now answers.items) self.new) }
         ensures err { OnErr result (self.new ≡ self.old) }
     {
+        self.run_as(alloc, &By { manner }, script)
+    }
+
+    // Lines of many users, in order, each said so.
+    fn run_as<S: Saying>(
+        &mut self,
+        alloc: Global,
+        by: &S,
+        script: &[Said],
+    ) -> Result<Vec<Answer>, AllocError>
+        requires { S.sound by.now }
+        ensures answers { IfOk result (λ answers. length answers.items ≡ length script.now) }
+        ensures runs { IfOk result (λ answers. Runs self.old (events_of script.now answers.items) self.new) }
+        ensures err { OnErr result (self.new ≡ self.old) }
+    {
         scripts_follow();
         let _ = &self.users;
         let mut answers = Vec::with_capacity(alloc, script.len())?;
         for said in script {
-            let answer = self.say_by(alloc, manner, said.user.as_slice(), said.text.as_slice());
+            let answer = self.say_as(alloc, by, said.user.as_slice(), said.text.as_slice());
             answers.push_reserved(answer);
         }
         Ok(answers)

@@ -3,8 +3,9 @@
 
 pub mod house;
 pub mod laws;
+pub mod lease;
 pub mod manner;
 pub mod roster;
-#[cfg(test)]
-mod tests;
+pub mod slots;
+pub mod table;
 pub mod user;

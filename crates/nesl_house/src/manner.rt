@@ -1,4 +1,5 @@
 //! How a line is said to a session.
+ghost use Rattle.std.specs.Prelude.{⊤};
 ghost use Rattle.nesl_session.specs.Solo.{Responds};
 
 use nesl_session::answer::Answer;
@@ -30,5 +31,46 @@ pub struct InHeap<A: Allocator + Copy>(pub A);
 impl<A: Allocator + Copy> Manner for InHeap<A> {
     fn say(&self, alloc: Global, session: &mut Session, text: &[u8]) -> Answer {
         session.line_in(alloc, text, self.0)
+    }
+}
+
+/// How a line is said to a session in this crate: in a manner, or by a closure.
+pub(crate) trait Saying {
+    // That it can be called, and answers as a session does.
+    ghost sound: { Self → Type 0 };
+
+    fn say(&self, alloc: Global, session: &mut Session, text: &[u8]) -> Answer
+        requires { sound self.now }
+        ensures { Responds session.old text.now result session.new };
+}
+
+/// In this manner.
+#[derive(Clone, Copy)]
+pub(crate) struct By<'a, M> {
+    pub(crate) manner: &'a M,
+}
+
+impl<M: Manner> Saying for By<'_, M> {
+    ghost sound = { λ _. ⊤ };
+
+    fn say(&self, alloc: Global, session: &mut Session, text: &[u8]) -> Answer {
+        self.manner.say(alloc, session, text)
+    }
+}
+
+/// By a closure. What evaluates between threads is a closure: it may rest on what the function around it knows of them,
+/// while a block of an `impl` knows that of its own thread alone.
+#[derive(Drop)]
+pub(crate) struct ByCall<F> {
+    pub(crate) call: F,
+}
+
+impl<F: Fn(&mut Session, &[u8]) -> Answer + Drop> Saying for ByCall<F> {
+    ghost sound = { λ by. ((args : _) → F.Fn.pre by.call args)
+        × ((session : _) (text : _) (answer : _) (after : _) → F.Fn.post by.call (session, (text, tt)) (answer, (after, tt))
+        → Responds session.now text.now answer after.now) };
+
+    fn say(&self, _alloc: Global, session: &mut Session, text: &[u8]) -> Answer {
+        (self.call)(session, text)
     }
 }

@@ -4,7 +4,7 @@ ghost use Rattle.nesl_session.specs.State.{State};
 ghost use Rattle.nesl_session.specs.Solo.{Replays, Responds};
 ghost use Rattle.nesl_house.specs.Roster.{fresh};
 
-use crate::manner::Manner;
+use crate::manner::Saying;
 use nesl_session::answer::Answer;
 use nesl_session::limits::Limits;
 use nesl_session::session::Session;
@@ -37,6 +37,13 @@ impl User {
         Ok(User { name, session })
     }
 
+    /// A user with this session.
+    pub(crate) fn of(name: Vec<u8>, session: Session) -> User
+        ensures { result ≡ record { name = name.items; session = session } }
+    {
+        User { name, session }
+    }
+
     /// The name, as it stands in the roster.
     pub fn name(&self) -> &[u8]
         ensures { result.now ≡ self.now.name }
@@ -51,11 +58,12 @@ impl User {
         &self.session
     }
 
-    /// One line of this user, said in this manner.
-    pub(crate) fn say_by<M: Manner>(&mut self, alloc: Global, manner: &M, text: &[u8]) -> Answer
+    /// One line of this user, said so.
+    pub(crate) fn say_as<S: Saying>(&mut self, alloc: Global, by: &S, text: &[u8]) -> Answer
+        requires { S.sound by.now }
         ensures name { self.new.name ≡ self.old.name }
         ensures answers { Responds self.old.session text.now result self.new.session }
     {
-        manner.say(alloc, &mut self.session, text)
+        by.say(alloc, &mut self.session, text)
     }
 }

@@ -4,3 +4,4 @@ pub mod Talks
 pub mod Turns
 pub mod Exchanges
 pub mod Unique
+pub mod Visits

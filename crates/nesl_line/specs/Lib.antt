@@ -4,5 +4,8 @@ pub mod Tally
 pub mod Told
 pub mod Exchange
 pub mod Batch
+pub mod Guest
+pub mod Serve
+pub mod Visiting
 pub mod Steps
 pub mod Device

@@ -4,11 +4,11 @@
 pub mod batch;
 pub mod device;
 pub mod exchange;
+mod guest;
 pub mod hearer;
 pub mod laws;
 mod line;
+pub mod serve;
 mod talk;
 mod tell;
-#[cfg(test)]
-mod tests;
 mod turn;

@@ -10,3 +10,4 @@ pub mod Typed
 pub mod Worked
 pub mod Naming
 pub mod Opened
+pub mod Grows

@@ -1,10 +1,10 @@
 -- Laws of a session.
-use Rattle.std.specs.Prelude.{◌≡◌, ◌++◌, ℕ, List}
+use Rattle.std.specs.Prelude.{◌≡◌, ◌++◌, ◌+◌, ℕ, List, if◌then◌else◌}
 use Rattle.nesl_session.specs.declared.limits.Limits.{Limits}
-use Rattle.nesl_session.specs.State.{State, Log}
+use Rattle.nesl_session.specs.State.{State, Log, told_lines}
 use Rattle.nesl_session.specs.Response.{Response}
 use Rattle.nesl_session.specs.Step.{Step}
-use Rattle.nesl_session.specs.Solo.{Replays, Alone}
+use Rattle.nesl_session.specs.Solo.{Replays, Alone, Responds}
 
 -- in one state a line has one answer, and leaves one state
 abbrev pub OneStep : Type 0
@@ -27,3 +27,14 @@ abbrev pub GoesOn : Type 0
 GoesOn =
     (old mid new : Log) (lines more : List (List ℕ)) (replies others : List Response)
     → Alone old lines replies mid → Alone mid more others new → Alone old (lines ++ more) (replies ++ others) new
+
+-- a line that is recorded is one told line more, a reset too; any other is none
+abbrev pub ToldLinesGrow : Type 0
+ToldLinesGrow =
+    (old new : Log) (line : List ℕ) (reply : Response)
+    → Responds old line reply new → told_lines new ≡ told_lines old + (if reply.recorded then 1 else 0)
+
+-- a line changes no limit
+abbrev pub LimitsStay : Type 0
+LimitsStay =
+    (old new : Log) (line : List ℕ) (reply : Response) → Responds old line reply new → new.limits ≡ old.limits

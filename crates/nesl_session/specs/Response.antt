@@ -1,7 +1,7 @@
 -- What is told of a line.
 use Rattle.std.specs.Prelude.{ℕ, List, ◌++◌, Bool, true, false, Option, Some, None, codes}
 use Rattle.nesl_reply.specs.declared.fault.Fault.{Fault}
-use Rattle.nesl_reply.specs.declared.fault.Fault.TheVariants.{Memory, User}
+use Rattle.nesl_reply.specs.declared.fault.Fault.TheVariants.{Memory, User, Busy}
 use Rattle.nesl_reply.specs.Faults.{fault_text}
 use Rattle.nesl_reply.specs.Replies.{Told, told_text}
 use Rattle.nesl_session.specs.State.{State, names_of}
@@ -32,6 +32,10 @@ no_memory = refusal Memory false
 -- a user who isn't in the house
 abbrev pub no_user : Response
 no_user = refusal User false
+
+-- a user whose session is away
+abbrev pub busy : Response
+busy = refusal Busy false
 
 abbrev pub is_memory : Response → Bool
 is_memory reply = is_memory_fault reply.fault

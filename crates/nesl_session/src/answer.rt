@@ -1,6 +1,6 @@
 //! What is told of a line.
 ghost use Rattle.std.specs.Prelude.{◌≡◌, codes};
-ghost use Rattle.nesl_session.specs.Response.{Response, no_memory, no_user};
+ghost use Rattle.nesl_session.specs.Response.{Response, busy, no_memory, no_user};
 
 use nesl_reply::Fault;
 use std::marker::Model;
@@ -10,6 +10,7 @@ use std::marker::Model;
 pub enum Text {
     NoMemory,
     NoUser,
+    Busy,
     Made(Vec<u8>),
 }
 
@@ -53,6 +54,17 @@ impl Answer {
         }
     }
 
+    /// The answer to who asks for a session that is away; it takes no memory.
+    pub fn busy() -> Answer
+        ensures { result ≡ busy }
+    {
+        Answer {
+            text: Text::Busy,
+            fault: Some(Fault::Busy),
+            recorded: false,
+        }
+    }
+
     // An answer with this text.
     pub(crate) fn made(text: Vec<u8>, fault: Option<Fault>, recorded: bool) -> Answer
         ensures { result ≡ record { bytes = text.items; fault = fault; recorded = recorded } }
@@ -71,6 +83,7 @@ impl Answer {
         match &self.text {
             Text::NoMemory => nesl_reply::no_memory(),
             Text::NoUser => b"fault user\n",
+            Text::Busy => b"fault busy\n",
             Text::Made(text) => text.as_slice(),
         }
     }

@@ -1,5 +1,5 @@
 //! How the expression of a line is evaluated.
-ghost use Rattle.std.specs.Prelude.{◌≡◌, [], IfOk};
+ghost use Rattle.std.specs.Prelude.{◌≡◌, [], ⊤, IfOk};
 ghost use Rattle.nesl_syntax.specs.Views.{tree_of as tree_of_exp};
 ghost use Rattle.nesl_values.specs.View.{tree_of};
 ghost use Rattle.nesl_code.specs.Names.{outside};
@@ -16,7 +16,11 @@ use std::alloc::{AllocError, Allocator, Global};
 
 /// Evaluates the expression of a line, and keeps its value. All evaluators have one outcome.
 pub(crate) trait Evaluator<A: Allocator> {
+    // That it can be called, and tells outcomes.
+    ghost sound: { Self → Type 0 };
+
     fn evaluate(&self, alloc: Global, env: &Env, exp: &Exp, levels: u32, fuel: u64) -> Outcome<A>
+        requires { sound self.now }
         ensures { Tells result (within fuel (out levels (environment env.now) (outside []) (tree_of_exp exp.now))) };
 
     /// The value as the bindings hold it.
@@ -29,6 +33,8 @@ pub(crate) trait Evaluator<A: Allocator> {
 pub(crate) struct InPlace;
 
 impl Evaluator<Global> for InPlace {
+    ghost sound = { λ _. ⊤ };
+
     fn evaluate(
         &self,
         alloc: Global,
@@ -52,11 +58,41 @@ pub(crate) struct InHeap<A> {
 }
 
 impl<A: Allocator + Copy> Evaluator<A> for InHeap<A> {
+    ghost sound = { λ _. ⊤ };
+
     fn evaluate(&self, alloc: Global, env: &Env, exp: &Exp, levels: u32, fuel: u64) -> Outcome<A> {
         eval_one_in(alloc, env, exp, levels, fuel, self.heap)
     }
 
     fn keep(&self, alloc: Global, value: &Value<A>) -> Result<Value, AllocError> {
         value.copy_into(alloc)
+    }
+}
+
+/// By a closure, in the allocator of the bindings. What evaluates between threads is a closure: it may rest on what the
+/// function around it knows of them, while a block of an `impl` knows that of its own thread alone.
+#[derive(Drop)]
+pub(crate) struct ByCall<F> {
+    pub(crate) call: F,
+}
+
+impl<F: Fn(&Env, &Exp, u32, u64) -> Outcome<Global> + Drop> Evaluator<Global> for ByCall<F> {
+    ghost sound = { λ by. ((args : _) → F.Fn.pre by.call args)
+        × ((env : _) (exp : _) (levels : _) (fuel : _) (outcome : _) → F.Fn.post by.call (env, (exp, (levels, (fuel, tt)))) outcome
+        → Tells outcome (within fuel (out levels (environment env.now) (outside []) (tree_of_exp exp.now)))) };
+
+    fn evaluate(
+        &self,
+        _alloc: Global,
+        env: &Env,
+        exp: &Exp,
+        levels: u32,
+        fuel: u64,
+    ) -> Outcome<Global> {
+        (self.call)(env, exp, levels, fuel)
+    }
+
+    fn keep(&self, _alloc: Global, value: &Value) -> Result<Value, AllocError> {
+        value.share()
     }
 }

@@ -37,7 +37,8 @@ impl Standing {
         form: Form,
         by: &E,
     ) -> Result<Finding, AllocError>
-        requires { Counts self.now }
+        requires counts { Counts self.now }
+        requires sound { E.sound by.now }
         ensures found { IfOk result (λ f. FindsLine self.now.limits (state_of self.now) (line_of form) (finding_of f)) }
         ensures charges { IfOk result (CanCharge (state_of self.now)) }
     {
@@ -166,6 +167,7 @@ impl Standing {
         exp: &Exp,
         by: &E,
     ) -> Result<Finding, AllocError>
+        requires { E.sound by.now }
         ensures found { IfOk result (λ f. FindsVariable self.now.limits (state_of self.now) name.items (tree_of exp.now) (finding_of f)) }
         ensures charges { IfOk result (CanCharge (state_of self.now)) }
     {
@@ -189,6 +191,7 @@ impl Standing {
         exp: &Exp,
         by: &E,
     ) -> Result<Finding, AllocError>
+        requires sound { E.sound by.now }
         requires typed { IsTypeBy (known (state_of self.now).bindings) (tree_of exp.now) (typed (term ty)) }
         requires free { Refuses (state_of self.now).bindings name.items (a_variable (term ty)) None }
         ensures found { IfOk result (λ f. Comes self.now.limits (state_of self.now) name.items (term ty)

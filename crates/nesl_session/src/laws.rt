@@ -1,5 +1,5 @@
 //! What holds of the step, whoever calls it.
-ghost use Rattle.nesl_session.specs.Laws.{GoesOn, OneRun, OneState, OneStep};
+ghost use Rattle.nesl_session.specs.Laws.{GoesOn, LimitsStay, OneRun, OneState, OneStep, ToldLinesGrow};
 ghost use Rattle.nesl_session.specs.Worked.{budget_of_none, comment, names_of_none, no_room_for_a_line, no_token, no_tree, reset_after_a_sum, reset_at_the_limit, small_sum, sum_in_two_parts, sum_over_the_work_of_a_line, sum_without_room, unknown_name};
 
 use nesl_infer::laws::verdicts_are_one;
@@ -41,6 +41,12 @@ pub fn goes_on()
     one_form();
     verdicts_are_one();
 }
+
+/// A line is one told line more where it is recorded, and none where it isn't; the limits stay.
+pub fn told_lines_grow()
+    ensures grow { ToldLinesGrow }
+    ensures limits { LimitsStay }
+{}
 
 /// Lines of a session, worked by hand: the definition of a step gives these replies, and leaves this work.
 pub fn worked_lines()

@@ -30,7 +30,8 @@ impl Standing {
         text: &[u8],
         by: &E,
     ) -> Result<Answer, AllocError>
-        requires { Counts self.old }
+        requires counts { Counts self.old }
+        requires sound { E.sound by.now }
         ensures step { IfOk result (λ a. Step self.old.limits (state_of self.old) text.now a (state_of self.new)) }
         ensures err { OnErr result (state_of self.new ≡ state_of self.old) }
         ensures counts { Counts self.new }
@@ -58,7 +59,8 @@ impl Standing {
         text: &[u8],
         by: &E,
     ) -> Result<Finding, AllocError>
-        requires { Counts self.now }
+        requires counts { Counts self.now }
+        requires sound { E.sound by.now }
         ensures found { IfOk result (λ f. Finds self.now.limits (state_of self.now) text.now (finding_of f)) }
         ensures settles { IfOk result (CanSettle (state_of self.now) text.now) }
     {
@@ -123,7 +125,8 @@ impl Standing {
         text: &[u8],
         by: &E,
     ) -> Result<Finding, AllocError>
-        requires { Counts self.now }
+        requires counts { Counts self.now }
+        requires sound { E.sound by.now }
         ensures found { IfOk result (λ f. FindsRead self.now.limits (state_of self.now) text.now (finding_of f)) }
         ensures charges { IfOk result (CanCharge (state_of self.now)) }
     {

@@ -1,16 +1,28 @@
 //! One user's session.
-ghost use Rattle.std.specs.Prelude.{◌≡◌, IfOk, OnErr, map};
+ghost use Rattle.std.specs.Prelude.{◌≡◌, [], IfOk, OnErr, map};
+ghost use Rattle.nesl_syntax.specs.Views.{tree_of};
+ghost use Rattle.nesl_code.specs.Names.{outside};
+ghost use Rattle.nesl_code.specs.Out.{within};
+ghost use Rattle.nesl_code.specs.Outcome.{out};
+ghost use Rattle.nesl_code.specs.Stored.{environment};
+ghost use Rattle.nesl_eval.specs.Tells.{Tells};
 ghost use Rattle.nesl_session.specs.State.{State, names_of, remaining_of, told_lines, unsaid};
 ghost use Rattle.nesl_session.specs.Solo.{Replays, Responds};
 ghost use Rattle.std.specs.Iterator.{item_count, YieldsFirstRef};
 
 use crate::answer::Answer;
-use crate::evaluator::{Evaluator, InHeap, InPlace};
+use crate::evaluator::{ByCall, Evaluator, InHeap, InPlace};
 use crate::limits::{Limits, Remaining};
 use crate::standing::Standing;
 use nesl_bindings::Bindings;
+use nesl_code::Env;
+use nesl_eval::Outcome;
+use nesl_helpers::{Gate, Helpers};
+use nesl_split::eval_split;
+use nesl_syntax::tree::Exp;
 use std::alloc::{AllocError, Allocator, Global};
 use std::marker::Model;
+use std::thread::Threads;
 
 /// A session. Contracts see its limits, what the last reset left, and the lines that it stored since, of which its
 /// state is the replay.
@@ -156,6 +168,23 @@ impl Session {
         self.line_by(alloc, text, &InHeap { heap })
     }
 
+    /// The same, evaluated in halves that threads share where `helpers` are granted. It waits for these threads.
+    pub fn line_split<R: Threads + Sync, H: Helpers + Sync, G: Gate + Sync>(
+        &mut self,
+        rt: &R,
+        alloc: Global,
+        text: &[u8],
+        helpers: &H,
+        gate: &G,
+    ) -> Answer
+        ensures { Responds self.old text.now result self.new }
+    {
+        let call = |env: &Env, exp: &Exp, levels: u32, fuel: u64| -> Outcome<Global>
+            ensures { Tells result (within fuel (out levels (environment env.now) (outside []) (tree_of exp.now))) }
+        { eval_split(rt, alloc, env, exp, levels, fuel, helpers, gate) };
+        self.line_by(alloc, text, &ByCall { call })
+    }
+
     // One line, whoever evaluates.
     fn line_by<A: Allocator, E: Evaluator<A>>(
         &mut self,
@@ -163,6 +192,7 @@ impl Session {
         text: &[u8],
         by: &E,
     ) -> Answer
+        requires { E.sound by.now }
         ensures { Responds self.old text.now result self.new }
     {
         match self.try_line(alloc, text, by) {
@@ -177,6 +207,7 @@ impl Session {
         text: &[u8],
         by: &E,
     ) -> Result<Answer, AllocError>
+        requires { E.sound by.now }
         ensures told { IfOk result (λ a. Responds self.old text.now a self.new) }
         ensures err { OnErr result (self.new ≡ self.old) }
     {

@@ -97,10 +97,10 @@ unchanged_means (Some (top.Datatype n t)) o d h = cc
 unchanged_means (Some t) o d h = absurd h
 unchanged_means None o d h = record { variables = λ a e. cc; functions = λ m e. cc }
 
-module _ {P : Type 0} (old new : List (List ℕ × Top × P)) (held : ℕ → Option Term) (env : Environment) (d10 : AreWellTyped old held env) where
+module _ {P : Type 0} (old new : List (List ℕ × Top × P)) (held : ℕ → Option Term) (env : Environment) (bindings_hold : AreWellTyped old held env) where
   -- types at the top level have no variables, but for those of functions
   ground_variable : (s : ℕ → Term) (y : Name) (t : Term) (o : Option Top) → top_in old y ≡ o → as_variable o ≡ Some t → substitute s t ≡ t
-  ground_variable s y t (Some (top.Variable u)) e h = let q : term u ≡ t = cc in subst (λ t. substitute s t ≡ t) q (substitute-ground s (term u) ((d10 y).variables u e).1)
+  ground_variable s y t (Some (top.Variable u)) e h = let q : term u ≡ t = cc in subst (λ t. substitute s t ≡ t) q (substitute-ground s (term u) ((bindings_hold y).variables u e).1)
   ground_variable s y t (Some (top.Function f)) e h = cc
   ground_variable s y t (Some (top.Datatype n u)) e h = cc
   ground_variable s y t None e h = cc
@@ -108,7 +108,7 @@ module _ {P : Type 0} (old new : List (List ℕ × Top × P)) (held : ℕ → Op
   ground_datatype : (s : ℕ → Term) (y : Name) (d : ℕ × Term) (o : Option Top) → top_in old y ≡ o → as_datatype o ≡ Some d → substitute s d.1 ≡ d.1
   ground_datatype s y d (Some (top.Variable u)) e h = cc
   ground_datatype s y d (Some (top.Function f)) e h = cc
-  ground_datatype s y d (Some (top.Datatype n u)) e h = let q : (n, term u) ≡ d = cc in subst (λ d. substitute s d.1 ≡ d.1) q (substitute-ground s (term u) ((d10 y).datatypes n u e).2)
+  ground_datatype s y d (Some (top.Datatype n u)) e h = let q : (n, term u) ≡ d = cc in subst (λ d. substitute s d.1 ≡ d.1) q (substitute-ground s (term u) ((bindings_hold y).datatypes n u e).2)
   ground_datatype s y d None e h = cc
 
   module _ (of of' : ℕ → Class) (s : ℕ → Term) (classes : (v : ℕ) → IsIn of' (of v) (s v)) where
@@ -121,7 +121,7 @@ module _ {P : Type 0} (old new : List (List ℕ × Top × P)) (held : ℕ → Op
         let q : single (term w) (type.named n) ≡ m = cc in
         let i : (t ≡ term w) × (u ≡ type.named n) = subst (λ m. Takes of m t u) (sym q) k in
         subst (λ m. Takes of' m (substitute s t) (substitute s u)) q
-        (ap (substitute s) i.0 ∙ substitute-ground s (term w) ((d10 y).datatypes n w e).2, ap (substitute s) i.1)
+        (ap (substitute s) i.0 ∙ substitute-ground s (term w) ((bindings_hold y).datatypes n w e).2, ap (substitute s) i.1)
     takes_top y m t u None e h k = cc
 
     named_takes : (y : Name) (m : Meaning) (t u : Term) (b : Option Builtin) → StillMeans (top_in old y) (top_in new y) → known_or b (top_meaning (top_in old y)) ≡ Some m → Takes of m t u
@@ -203,7 +203,7 @@ mutual
   each_grows held held' g value.no_trees t h = tt
   each_grows held held' g (value.tree_then v vs) t h = (grows held held' g v t h.0, each_grows held held' g vs t h.1)
 
-module _ {P : Type 0} (old new : List (List ℕ × Top × P)) (held held' : ℕ → Option Term) (env env' : Environment) (x : Name) (d10 : AreWellTyped old held env)
+module _ {P : Type 0} (old new : List (List ℕ × Top × P)) (held held' : ℕ → Option Term) (env env' : Environment) (x : Name) (bindings_hold : AreWellTyped old held env)
     (more : (n : ℕ) (t : Term) → held n ≡ Some t → held' n ≡ Some t) (redefines : Redefines old new x env env') where
   -- a datatype stays what it is
   tags_stay : (y : Name) (d : ℕ × Term) → as_datatype (top_in old y) ≡ Some d → as_datatype (top_in new y) ≡ Some d
@@ -223,7 +223,7 @@ module _ {P : Type 0} (old new : List (List ℕ × Top × P)) (held held' : ℕ 
   value_stays t None h = absurd h
 
   body_stays : (y : Name) (g : Scheme) (o : Option evaluated.Top) → bytes_eq y x ≡ false → named env y ≡ o → IsBody old y g o → IsBody new y g o
-  body_stays y g (Some (function_of p e)) n q h = λ of t u i. body_same old new held env d10 of y p e t u tags_stay (λ z f r. still z (bytes_eq z x) refl r) (h of t u i)
+  body_stays y g (Some (function_of p e)) n q h = λ of t u i. body_same old new held env bindings_hold of y p e t u tags_stay (λ z f r. still z (bytes_eq z x) refl r) (h of t u i)
     where
       still : (z : Name) (c : Bool) → bytes_eq z x ≡ c → body_refers z p e ≡ true → StillMeans (top_in old z) (top_in new z)
       still z true k r =
@@ -240,9 +240,9 @@ module _ {P : Type 0} (old new : List (List ℕ × Top × P)) (held held' : ℕ 
       let same = redefines.tops y n in
       let in_env = redefines.values y n in
       record {
-        variables = λ t h. let r = (d10 y).variables t (sym same ∙ h) in (subst (IsValue held' (term t)) (sym in_env) (value_stays (term t) (named env y) r.0), r.1);
-        functions = λ g h. let r = (d10 y).functions g (sym same ∙ h) in subst (IsBody new y g) (sym in_env) (body_stays y g (named env y) n refl r);
-        datatypes = λ k t h. let r = (d10 y).datatypes k t (sym same ∙ h) in (in_env ∙ r.0, more k (term t) r.1, r.2);
+        variables = λ t h. let r = (bindings_hold y).variables t (sym same ∙ h) in (subst (IsValue held' (term t)) (sym in_env) (value_stays (term t) (named env y) r.0), r.1);
+        functions = λ g h. let r = (bindings_hold y).functions g (sym same ∙ h) in subst (IsBody new y g) (sym in_env) (body_stays y g (named env y) n refl r);
+        datatypes = λ k t h. let r = (bindings_hold y).datatypes k t (sym same ∙ h) in (in_env ∙ r.0, more k (term t) r.1, r.2);
       }
 
   -- all bindings stay well typed
@@ -296,7 +296,7 @@ module _ {P : Type 0} (old new : List (List ℕ × Top × P)) (held held' : ℕ 
       whole of t u i =
           subst (λ t. HasBodyType (world new of None) x p e t u) (sym i.argument)
           (subst (HasBodyType (world new of None) x p e (substitute i.put (term s.argument))) (sym i.result)
-          (body_map old new held env d10 (class_at s.classes.items) of i.put i.within h.limit x p e (term s.argument) (term s.result) tags_stay (λ y n r. others_mean y n) h.has_types))
+          (body_map old new held env bindings_hold (class_at s.classes.items) of i.put i.within h.limit x p e (term s.argument) (term s.result) tags_stay (λ y n r. others_mean y n) h.has_types))
 
   pub one_stays : Binds old new held' env' x → AreWellTyped new held' env'
   one_stays (inl (t, v, h)) = all_stay (variable_there t v h)
@@ -304,4 +304,4 @@ module _ {P : Type 0} (old new : List (List ℕ × Top × P)) (held held' : ℕ 
   one_stays (inr (inr (n, t, h))) = all_stay (datatype_there n t h)
 
 pub stay_well_typed : {P : Type 0} (old new : List (List ℕ × Top × P)) → StayWellTyped old new
-stay_well_typed old new held held' env env' x more redefines h d10 = one_stays old new held held' env env' x d10 more redefines h
+stay_well_typed old new held held' env env' x more redefines h bindings_hold = one_stays old new held held' env env' x bindings_hold more redefines h

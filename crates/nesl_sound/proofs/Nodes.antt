@@ -44,7 +44,7 @@ use Rattle.nesl_sound.proofs.Applied.{fine_applied}
 use Rattle.nesl_sound.proofs.Sequences.{keeps_index, keeps_range, keeps_range_by, in_sequence}
 use Rattle.nesl_sound.proofs.Readers.{each_listed, read_map}
 
-module _ (P : Type 0) (context : List (List ℕ × Top × P)) (held : ℕ → Option Term) (env : Environment) (d10 : AreWellTyped context held env) where
+module _ (P : Type 0) (context : List (List ℕ × Top × P)) (held : ℕ → Option Term) (env : Environment) (bindings_hold : AreWellTyped context held env) where
   -- of the type that a type is at int
   abbrev Of : Term → Value → Type 0
   Of t v = HasType held v (ground t)
@@ -80,7 +80,7 @@ module _ (P : Type 0) (context : List (List ℕ × Top × P)) (held : ℕ → Op
 
   top_variable : (x : Name) (t : Term) (o : Option Top) → top_in context x ≡ o → as_variable o ≡ Some t → IsFine (Of t) (variable_in None (named env x))
   top_variable x t (Some (top.Variable u)) e h =
-      let q : term u ≡ t = cc in subst (λ t. IsFine (Of t) (variable_in None (named env x))) q (value_fine (term u) (named env x) ((d10 x).variables u e).0)
+      let q : term u ≡ t = cc in subst (λ t. IsFine (Of t) (variable_in None (named env x))) q (value_fine (term u) (named env x) ((bindings_hold x).variables u e).0)
   top_variable x t (Some (top.Function f)) e h = cc
   top_variable x t (Some (top.Datatype n u)) e h = cc
   top_variable x t None e h = cc
@@ -106,7 +106,7 @@ module _ (P : Type 0) (context : List (List ℕ × Top × P)) (held : ℕ → Op
   top_datatype x d (Some (top.Function f)) e h = cc
   top_datatype x d (Some (top.Datatype n u)) e h =
       let q : (n, term u) ≡ d = cc in
-      let k = (d10 x).datatypes n u e in
+      let k = (bindings_hold x).datatypes n u e in
       subst (λ d. (held d.0 ≡ Some d.1) × (ground d.1 ≡ d.1)) q (k.1, substitute-ground (λ x. type.int) (term u) k.2)
   top_datatype x d None e h = cc
 
@@ -140,11 +140,11 @@ module _ (P : Type 0) (context : List (List ℕ × Top × P)) (held : ℕ → Op
     top_called x free m t u (Some (top.Function g)) e h k v j =
         let q : general (function_type g) ≡ m = cc in
         let i : IsInstanceOf (function_type g) of t u = subst (λ m. Takes of m t u) (sym q) k in
-        user_fine x t u (named env x) (body_known x t u g (named env x) ((d10 x).functions g e) free i) refl v j
+        user_fine x t u (named env x) (body_known x t u g (named env x) ((bindings_hold x).functions g e) free i) refl v j
     top_called x free m t u (Some (top.Datatype n w)) e h k v j =
         let q : single (term w) (type.named n) ≡ m = cc in
         let i : (t ≡ term w) × (u ≡ type.named n) = subst (λ m. Takes of m t u) (sym q) k in
-        let d = (d10 x).datatypes n w e in
+        let d = (bindings_hold x).datatypes n w e in
         let inside : HasType held v (term w) = subst (HasType held v) (substitute-ground (λ x. type.int) (term w) d.2) (subst (λ t. HasType held v (ground t)) i.0 j) in
         subst (λ o. IsFine (Of u) (called f s None o v)) (sym d.0)
         (at_type u (type.named n) i.1 (made s (values.tagged n v))
@@ -418,5 +418,5 @@ module _ (P : Type 0) (context : List (List ℕ × Top × P)) (held : ℕ → Op
       fine_added (Of t) 1 1 (node_of (out n env) env vs (node s k)) (node_fine (out n env) (levels_keep n) of limit own known s k t vs ts g h.1)
 
 pub types_kept : {P : Type 0} (context : List (List ℕ × Top × P)) → TypesAreKept context
-types_kept {P} context held env d10 of limit e t h n =
-    levels_keep P context held env d10 n of limit None tt (outside []) [] (nothing_fits held) e t h
+types_kept {P} context held env bindings_hold of limit e t h n =
+    levels_keep P context held env bindings_hold n of limit None tt (outside []) [] (nothing_fits held) e t h

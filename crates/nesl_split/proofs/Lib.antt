@@ -1,0 +1,4 @@
+pub mod Ranges
+pub mod Halves
+pub mod Crosses
+pub mod Lent

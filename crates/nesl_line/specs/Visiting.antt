@@ -1,0 +1,54 @@
+-- What is kept while one connection's lines are heard.
+use Rattle.std.specs.Prelude.{◌≡◌, ℕ, ◌+◌, List, Option, Some, None, Bool, true, false}
+use Rattle.std.specs.Fn.{Shared}
+use denote.Ref.{Bor}
+use Rattle.nesl_session.specs.declared.limits.Limits.{Limits}
+use Rattle.nesl_session.specs.State.{Log, told_lines}
+use Rattle.nesl_session.specs.Response.{Response}
+use Rattle.nesl_session.specs.Solo.{Responds}
+use Rattle.nesl_house.specs.declared.lease.Receipt.{Receipt}
+use Rattle.nesl_house.specs.Register.{Leased}
+use Rattle.nesl_line.specs.declared.guest.Stage.{Stage}
+use Rattle.nesl_line.specs.declared.guest.Stage.TheVariants.{Waiting, Seated, Over}
+use Rattle.nesl_line.specs.Exchange.{Hearing}
+use Rattle.nesl_line.specs.Guest.{NothingCame, TurnedAway, Visits}
+
+-- a user was seated, and this was heard since
+abbrev pub IsSeated : (roster : List (List ℕ)) → Limits → Leased → Hearing
+IsSeated roster limits lease lines texts =
+    (had : Log) × (recorded : ℕ) × (lease.counted ≡ told_lines had)
+    × Visits roster limits lease.place recorded had lease.session lines texts
+
+-- by where a guest is: what was heard
+abbrev pub HeardAt : (roster : List (List ℕ)) → Limits → Stage → Hearing
+HeardAt roster limits Waiting lines texts = NothingCame lines texts
+HeardAt roster limits (Seated lease) lines texts = IsSeated roster limits lease lines texts
+HeardAt roster limits Over lines texts = TurnedAway roster lines texts
+
+-- nothing more is heard
+abbrev pub is_over : Stage → Bool
+is_over Waiting = false
+is_over (Seated lease) = false
+is_over Over = true
+
+-- a line was said to a session that is out: what that session is then, and what it answered
+pub record Says (lease : Leased) (line : List ℕ) (after : Leased × Response) : Type 0 where
+  pub answers : Responds lease.session line after.1 after.0.session
+  pub place : after.0.place ≡ lease.place
+  pub counted : after.0.counted ≡ lease.counted
+
+-- by calls of `f` lines are said to sessions that are out
+pub record Speaks
+    {F : Type 0} (calls : Shared F (Leased × (Bor (List ℕ) × Unit {0})) (Leased × Response)) (f : F) : Type 0 where
+  pub may : (lease : Leased) (line : Bor (List ℕ)) → calls.pre f (lease, (line, tt))
+  pub says :
+      (lease : Leased) (line : Bor (List ℕ)) (after : Leased × Response)
+      → calls.post f (lease, (line, tt)) after → Says lease line.now after
+
+-- who was seated has the receipt
+abbrev pub Gives : Stage → Option Receipt → Type 0
+Gives (Seated lease) (Some receipt) =
+    (receipt.place ≡ lease.place) × (receipt.recorded + lease.counted ≡ told_lines lease.session)
+Gives (Seated lease) None = ⊥
+Gives Waiting receipt = receipt ≡ None
+Gives Over receipt = receipt ≡ None

@@ -1,0 +1,58 @@
+//! The lines of one connection, answered by the session of one user.
+ghost use Rattle.nesl_line.specs.Serve.{IsServed};
+ghost use Rattle.nesl_line.specs.Exchange.{ReadsOf, WritesOf};
+ghost use Rattle.nesl_line.specs.Visiting.{Says};
+
+use crate::device::{Sink, Source};
+use crate::exchange::{End, exchange};
+use crate::guest::Guest;
+use nesl_helpers::{Gate, Helpers, Place};
+use nesl_house::lease::{Lease, Receipt};
+use nesl_house::table::Table;
+use nesl_session::answer::Answer;
+use std::alloc::Global;
+use std::sync::Wait;
+use std::thread::Threads;
+
+/// How many lines were given an answer, one whose answer could not be written included; what the session of the user
+/// who was seated was told, if one was; and how it ended.
+#[derive(Clone, Copy, PartialEq, Eq, Debug)]
+pub struct Served {
+    pub lines: u64,
+    pub receipt: Option<Receipt>,
+    pub end: End,
+}
+
+/// Answers the lines of a reader by the session of the user whom the first line names: each answer is written and
+/// flushed before the next line is looked at. The session is out of the table for as long, and goes back at every end.
+/// The gate is told of the user's place before each line is evaluated.
+pub fn serve<'t, S: Source, W: Sink, R: Threads + Wait + Sync, H: Helpers + Sync, G: Gate + Sync>(
+    rt: &'t R,
+    alloc: Global,
+    reader: &mut S,
+    writer: &mut W,
+    table: &'t Table,
+    helpers: &'t H,
+    gate: &'t G,
+) -> Served
+    ensures served { IsServed table.now.roster table.now.limits result.receipt result.end result.lines
+        (S.left reader.old) (S.left reader.new) (W.held writer.old) (W.held writer.new) }
+    ensures reads { ReadsOf result.end (S.tally reader.old) (S.tally reader.new) }
+    ensures writes { WritesOf result.end result.lines (W.tally writer.old) (W.tally writer.new) }
+{
+    let speak = |lease: Lease, line: &[u8]| -> (Lease, Answer)
+        ensures { Says lease line.now result }
+    {
+        let mut lease = lease;
+        gate.enter(Place::Line(lease.place()));
+        let answer = lease.line_split(rt, alloc, line, helpers, gate);
+        (lease, answer)
+    };
+    let mut guest = Guest::new(rt, table, speak);
+    let ran = exchange(alloc, reader, writer, &mut guest, &mut ());
+    Served {
+        lines: ran.lines,
+        receipt: guest.leave(),
+        end: ran.end,
+    }
+}

@@ -1,0 +1,15 @@
+//! Tests of exchanges of lines, by the public calls alone.
+#![tactic(auto)]
+
+#[cfg(test)]
+mod conversation;
+#[cfg(test)]
+mod devices;
+#[cfg(test)]
+mod faults;
+#[cfg(test)]
+mod lines;
+#[cfg(test)]
+mod served;
+#[cfg(test)]
+mod turns;

@@ -1,0 +1,41 @@
+-- The top level, which threads share.
+use denote.Param.Send.{IsSync, sendable}
+use Rattle.std.proofs.Crossing as standard
+use Rattle.std.proofs.MapsCrossing as maps
+use Rattle.nesl_lex.proofs.token.Span.TheSendSync as span_crosses
+use Rattle.nesl_syntax.specs.contracts.tree.Exp as exp_row
+use Rattle.nesl_syntax.specs.contracts.tree.Pattern as pattern_row
+use Rattle.nesl_syntax.proofs.tree.Node.TheLaws.TheKnot as exp_knot
+use Rattle.nesl_syntax.proofs.tree.PatternNode.TheLaws.TheKnot as pattern_knot
+use Rattle.nesl_syntax.proofs.tree.TypeNode.TheLaws.TheKnot as type_knot
+use Rattle.nesl_syntax.proofs.tree.Operator.TheSendSync as operator_crosses
+use Rattle.nesl_syntax.proofs.tree.Prefix.TheSendSync as prefix_crosses
+use Rattle.nesl_types.specs.contracts.types.Ty as ty_row
+use Rattle.nesl_types.proofs.types.Ty.TheLaws.TheKnot as ty_knot
+use Rattle.nesl_types.proofs.classes.Class.TheSendSync as kind_crosses
+use Rattle.nesl_types.specs.contracts.bindings.Top as kind_row
+use Rattle.nesl_code.specs.contracts.env.Payload as payload_row
+use Rattle.nesl_values.proofs.node.Node.TheLaws.TheKnot as value_knot
+use Rattle.nesl_types.specs.contracts.bindings.Entry as entry_row
+use Rattle.nesl_types.specs.contracts.bindings.Context as context_row
+
+pattern_sync : IsSync (pattern_row.the_field).row
+pattern_sync = search (sendable, standard.crosses, pattern_knot.crosses, span_crosses.the_field_sync) depth 20 fits 100000
+
+exp_sync : IsSync (exp_row.the_field).row
+exp_sync = search (sendable, standard.crosses, exp_knot.crosses, type_knot.crosses, pattern_knot.crosses, pattern_sync, span_crosses.the_field_sync, operator_crosses.the_field_sync, prefix_crosses.the_field_sync) depth 20 fits 100000
+
+ty_sync : IsSync (ty_row.the_field).row
+ty_sync = search (sendable, standard.crosses, ty_knot.crosses) depth 20
+
+kind_sync : IsSync (kind_row.the_field).row
+kind_sync = search (sendable, standard.crosses, ty_sync, ty_knot.crosses, kind_crosses.the_sync) depth 20 fits 100000
+
+pub payload_sync : IsSync payload_row.the_row
+payload_sync = search (sendable, standard.crosses, value_knot.crosses, exp_sync, pattern_sync) depth 20 fits 100000
+
+pub entry_sync : IsSync (entry_row.the_row payload_row.the_row)
+entry_sync = search (sendable, standard.crosses, kind_sync, payload_sync) depth 20 fits 100000
+
+pub context_sync : IsSync (context_row.the_row payload_row.the_row)
+context_sync = search (sendable, standard.crosses, maps.crosses, entry_sync) depth 30 fits 100000
