@@ -10,12 +10,14 @@ use Rattle.nesl_nodes.specs.Sides.{places_of}
 use Rattle.nesl_split.specs.declared.eval.Interval.{Interval}
 
 -- the places at which a filter holds, and the values of a body, in the turns from one to another
-abbrev pub filters_in : {R H G T : Type 0} → (T → Table) → ℕ → Interval R H G T → ℕ → ℕ → Out (List ℕ)
+abbrev pub filters_in
+    : {R H G T : Type 0} → (T → Table) → ℕ → Interval R H G T → ℕ → ℕ → Out (List ℕ)
 filters_in table n i from to =
     run_filters (run n (table i.tops.now)) (frames_of i.scope.now) (map tree_of i.values.now) i.code.now
     (slice_range (places_of i.places) from to)
 
-abbrev pub bodies_in : {R H G T : Type 0} → (T → Table) → ℕ → Interval R H G T → ℕ → ℕ → Out (List Tree)
+abbrev pub bodies_in
+    : {R H G T : Type 0} → (T → Table) → ℕ → Interval R H G T → ℕ → ℕ → Out (List Tree)
 bodies_in table n i from to =
     run_bodies (run n (table i.tops.now)) (frames_of i.scope.now) (map tree_of i.values.now) i.code.now
     (slice_range (places_of i.places) from to)
