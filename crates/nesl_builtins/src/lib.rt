@@ -3,8 +3,6 @@
 
 pub mod builtin;
 mod shapes;
-#[cfg(test)]
-mod tests;
 mod types;
 
 pub use builtin::{Builtin, named, of_infix, of_prefix};

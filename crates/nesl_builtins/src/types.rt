@@ -89,126 +89,110 @@ fn of_two(alloc: Global, function: Binary) -> Result<Scheme, AllocError>
 fn of_sequences(alloc: Global, function: SeqFn) -> Result<Scheme, AllocError>
     ensures { IfOk result (λ s. function_type s ≡ sequence_type function) }
 {
+    let taken = taken(alloc, function)?;
+    let given = given(alloc, function)?;
     match function {
-        SeqFn::Length => in_class(alloc, Class::Any, sequence(alloc)?, Ty::Int),
-        SeqFn::MaxIndex | SeqFn::MinIndex => {
-            in_class(alloc, Class::Ordinal, sequence(alloc)?, Ty::Int)
+        SeqFn::Sum | SeqFn::PlusScan => in_class(alloc, Class::Number, taken, given),
+        SeqFn::OrScan | SeqFn::AndScan => in_class(alloc, Class::Logical, taken, given),
+        SeqFn::MaxIndex | SeqFn::MinIndex | SeqFn::MaxVal | SeqFn::MinVal => {
+            in_class(alloc, Class::Ordinal, taken, given)
         }
-        SeqFn::Sum => in_class(alloc, Class::Number, sequence(alloc)?, Ty::Var(0)),
-        SeqFn::MaxVal | SeqFn::MinVal => {
-            in_class(alloc, Class::Ordinal, sequence(alloc)?, Ty::Var(0))
-        }
-        SeqFn::Reverse | SeqFn::OddElts | SeqFn::EvenElts => {
-            in_class(alloc, Class::Any, sequence(alloc)?, sequence(alloc)?)
-        }
-        SeqFn::PlusScan => in_class(alloc, Class::Number, sequence(alloc)?, sequence(alloc)?),
-        SeqFn::OrScan | SeqFn::AndScan => {
-            in_class(alloc, Class::Logical, sequence(alloc)?, sequence(alloc)?)
-        }
-        SeqFn::Bottop => in_class(alloc, Class::Any, sequence(alloc)?, pieces(alloc)?),
-        SeqFn::Flatten => in_class(alloc, Class::Any, pieces(alloc)?, sequence(alloc)?),
-        SeqFn::ElementAt => in_class(
-            alloc,
-            Class::Any,
-            with_sequence(alloc, Ty::Int)?,
-            Ty::Var(0),
+        SeqFn::Any | SeqFn::All | SeqFn::Count | SeqFn::Index | SeqFn::Range | SeqFn::RangeBy => Ok(
+            plain(alloc, taken, given),
         ),
-        SeqFn::Take | SeqFn::Drop | SeqFn::Rotate => {
-            in_class(
-                alloc,
-                Class::Any,
-                with_sequence(alloc, Ty::Int)?,
-                sequence(alloc)?,
-            )
+        SeqFn::Zip | SeqFn::Unzip => any_two(alloc, taken, given),
+        SeqFn::Length
+        | SeqFn::ElementAt
+        | SeqFn::Append
+        | SeqFn::Dist
+        | SeqFn::Bottop
+        | SeqFn::Take
+        | SeqFn::Drop
+        | SeqFn::Reverse
+        | SeqFn::Rotate
+        | SeqFn::Rep
+        | SeqFn::Eql
+        | SeqFn::Flatten
+        | SeqFn::OddElts
+        | SeqFn::EvenElts
+        | SeqFn::Interleave
+        | SeqFn::Gather
+        | SeqFn::Permute
+        | SeqFn::Split
+        | SeqFn::Partition
+        | SeqFn::Write => in_class(alloc, Class::Any, taken, given),
+    }
+}
+
+/// What a function on sequences takes.
+fn taken(alloc: Global, function: SeqFn) -> Result<Ty, AllocError>
+    ensures { IfOk result (λ t. term t ≡ (sequence_type function).argument) }
+{
+    match function {
+        SeqFn::Length
+        | SeqFn::Sum
+        | SeqFn::MaxIndex
+        | SeqFn::MinIndex
+        | SeqFn::MaxVal
+        | SeqFn::MinVal
+        | SeqFn::Reverse
+        | SeqFn::OddElts
+        | SeqFn::EvenElts
+        | SeqFn::PlusScan
+        | SeqFn::OrScan
+        | SeqFn::AndScan
+        | SeqFn::Bottop => sequence(alloc),
+        SeqFn::Flatten => pieces(alloc),
+        SeqFn::ElementAt | SeqFn::Take | SeqFn::Drop | SeqFn::Rotate => {
+            with_sequence(alloc, Ty::Int)
         }
-        SeqFn::Append | SeqFn::Interleave => {
-            let second = sequence(alloc)?;
-            in_class(
-                alloc,
-                Class::Any,
-                with_sequence(alloc, second)?,
-                sequence(alloc)?,
-            )
+        SeqFn::Append | SeqFn::Interleave => with_sequence(alloc, sequence(alloc)?),
+        SeqFn::Gather | SeqFn::Permute | SeqFn::Partition => {
+            with_sequence(alloc, seq_of(alloc, Ty::Int)?)
         }
-        SeqFn::Gather | SeqFn::Permute => {
-            let indices = seq_of(alloc, Ty::Int)?;
-            in_class(
-                alloc,
-                Class::Any,
-                with_sequence(alloc, indices)?,
-                sequence(alloc)?,
-            )
-        }
-        SeqFn::Partition => {
-            let lengths = seq_of(alloc, Ty::Int)?;
-            in_class(
-                alloc,
-                Class::Any,
-                with_sequence(alloc, lengths)?,
-                pieces(alloc)?,
-            )
-        }
-        SeqFn::Split => {
-            let flags = seq_of(alloc, Ty::Bool)?;
-            in_class(
-                alloc,
-                Class::Any,
-                with_sequence(alloc, flags)?,
-                pieces(alloc)?,
-            )
-        }
-        SeqFn::Write => {
-            let writes = seq_of(alloc, both(alloc, Ty::Int, Ty::Var(0))?)?;
-            in_class(
-                alloc,
-                Class::Any,
-                with_sequence(alloc, writes)?,
-                sequence(alloc)?,
-            )
-        }
-        SeqFn::Rep => {
-            let write = both(alloc, Ty::Var(0), Ty::Int)?;
-            in_class(
-                alloc,
-                Class::Any,
-                with_sequence(alloc, write)?,
-                sequence(alloc)?,
-            )
-        }
-        SeqFn::Dist => {
-            in_class(
-                alloc,
-                Class::Any,
-                both(alloc, Ty::Var(0), Ty::Int)?,
-                sequence(alloc)?,
-            )
-        }
-        SeqFn::Eql => in_class(
-            alloc,
-            Class::Any,
-            both(alloc, Ty::Var(0), Ty::Var(0))?,
-            Ty::Bool,
-        ),
-        SeqFn::Any | SeqFn::All => Ok(plain(alloc, seq_of(alloc, Ty::Bool)?, Ty::Bool)),
-        SeqFn::Count => Ok(plain(alloc, seq_of(alloc, Ty::Bool)?, Ty::Int)),
-        SeqFn::Index => Ok(plain(alloc, Ty::Int, seq_of(alloc, Ty::Int)?)),
-        SeqFn::Range => {
-            let bounds = both(alloc, Ty::Int, Ty::Int)?;
-            Ok(plain(alloc, bounds, seq_of(alloc, Ty::Int)?))
-        }
-        SeqFn::RangeBy => {
-            let rest = both(alloc, Ty::Int, Ty::Int)?;
-            let bounds = both(alloc, Ty::Int, rest)?;
-            Ok(plain(alloc, bounds, seq_of(alloc, Ty::Int)?))
-        }
-        SeqFn::Zip => {
-            let (separate, joined) = zipped(alloc)?;
-            any_two(alloc, separate, joined)
-        }
-        SeqFn::Unzip => {
-            let (separate, joined) = zipped(alloc)?;
-            any_two(alloc, joined, separate)
-        }
+        SeqFn::Split => with_sequence(alloc, seq_of(alloc, Ty::Bool)?),
+        SeqFn::Write => with_sequence(alloc, seq_of(alloc, both(alloc, Ty::Int, Ty::Var(0))?)?),
+        SeqFn::Rep => with_sequence(alloc, both(alloc, Ty::Var(0), Ty::Int)?),
+        SeqFn::Dist => both(alloc, Ty::Var(0), Ty::Int),
+        SeqFn::Eql => both(alloc, Ty::Var(0), Ty::Var(0)),
+        SeqFn::Any | SeqFn::All | SeqFn::Count => seq_of(alloc, Ty::Bool),
+        SeqFn::Index => Ok(Ty::Int),
+        SeqFn::Range => both(alloc, Ty::Int, Ty::Int),
+        SeqFn::RangeBy => both(alloc, Ty::Int, both(alloc, Ty::Int, Ty::Int)?),
+        SeqFn::Zip => separate(alloc),
+        SeqFn::Unzip => joined(alloc),
+    }
+}
+
+/// What a function on sequences gives.
+fn given(alloc: Global, function: SeqFn) -> Result<Ty, AllocError>
+    ensures { IfOk result (λ t. term t ≡ (sequence_type function).result) }
+{
+    match function {
+        SeqFn::Length | SeqFn::MaxIndex | SeqFn::MinIndex | SeqFn::Count => Ok(Ty::Int),
+        SeqFn::Any | SeqFn::All | SeqFn::Eql => Ok(Ty::Bool),
+        SeqFn::ElementAt | SeqFn::Sum | SeqFn::MaxVal | SeqFn::MinVal => Ok(Ty::Var(0)),
+        SeqFn::Index | SeqFn::Range | SeqFn::RangeBy => seq_of(alloc, Ty::Int),
+        SeqFn::Bottop | SeqFn::Split | SeqFn::Partition => pieces(alloc),
+        SeqFn::Reverse
+        | SeqFn::OddElts
+        | SeqFn::EvenElts
+        | SeqFn::PlusScan
+        | SeqFn::OrScan
+        | SeqFn::AndScan
+        | SeqFn::Flatten
+        | SeqFn::Take
+        | SeqFn::Drop
+        | SeqFn::Rotate
+        | SeqFn::Append
+        | SeqFn::Interleave
+        | SeqFn::Gather
+        | SeqFn::Permute
+        | SeqFn::Write
+        | SeqFn::Rep
+        | SeqFn::Dist => sequence(alloc),
+        SeqFn::Zip => joined(alloc),
+        SeqFn::Unzip => separate(alloc),
     }
 }
 
@@ -233,12 +217,16 @@ fn with_sequence(alloc: Global, second: Ty) -> Result<Ty, AllocError>
     both(alloc, sequence(alloc)?, second)
 }
 
-/// The pairs of two sequences, and the sequences of pairs.
-fn zipped(alloc: Global) -> Result<(Ty, Ty), AllocError>
-    ensures separate { IfOk result (λ p. term p.0 ≡ both (seq_of a) (seq_of b)) }
-    ensures joined { IfOk result (λ p. term p.1 ≡ seq_of (both a b)) }
+/// The pairs of two sequences.
+fn separate(alloc: Global) -> Result<Ty, AllocError>
+    ensures { IfOk result (λ t. term t ≡ both (seq_of a) (seq_of b)) }
 {
-    let separate = with_sequence(alloc, seq_of(alloc, Ty::Var(1))?)?;
-    let joined = seq_of(alloc, both(alloc, Ty::Var(0), Ty::Var(1))?)?;
-    Ok((separate, joined))
+    with_sequence(alloc, seq_of(alloc, Ty::Var(1))?)
+}
+
+/// The sequences of pairs.
+fn joined(alloc: Global) -> Result<Ty, AllocError>
+    ensures { IfOk result (λ t. term t ≡ seq_of (both a b)) }
+{
+    seq_of(alloc, both(alloc, Ty::Var(0), Ty::Var(1))?)
 }

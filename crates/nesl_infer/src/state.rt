@@ -57,6 +57,7 @@ impl State {
     }
 
     /// Puts a table in.
+    #[inline(always)]
     fn put(&mut self, table: Table)
         ensures { self.new.table ≡ Some table }
     {

@@ -6,8 +6,6 @@ mod known;
 pub mod laws;
 mod patterns;
 mod scope;
-#[cfg(test)]
-mod tests;
 mod types;
 mod unknown;
 mod walk;

@@ -22,6 +22,9 @@ pub fn no_memory() -> &'static [u8]
     b"fault memory (work 0)\n"
 }
 
+/// For how many bytes a reply takes room at first.
+const ROOM: usize = 64;
+
 /// How many there are of how many that there may be.
 #[derive(Clone, Copy, PartialEq, Eq, Debug)]
 pub struct Used {
@@ -61,7 +64,7 @@ pub fn reply_text<P: Drop>(
 ) -> Result<Vec<u8>, AllocError>
     ensures { IfOk result (λ text. text.items ≡ text_of_reply context.now reply.now) }
 {
-    let mut out = Vec::new(alloc);
+    let mut out = Vec::with_capacity(alloc, ROOM)?;
     write_reply(&mut out, alloc, *reply, context)?;
     write_bytes(&mut out, b"\n")?;
     Ok(out)

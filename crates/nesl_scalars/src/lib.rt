@@ -5,8 +5,6 @@ pub mod binary;
 pub mod cost;
 pub mod laws;
 mod number;
-#[cfg(test)]
-mod tests;
 pub mod trap;
 pub mod unary;
 

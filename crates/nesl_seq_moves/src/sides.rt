@@ -34,6 +34,15 @@ fn are_pairs<A: Allocator>(values: &[Value<A>]) -> bool
     values.iter().all(|value| is_pair(value))
 }
 
+/// Its elements, where it is a sequence that can be one of pairs.
+fn sequence_of_values<A: Allocator>(argument: Argument<'_, A>) -> Option<&[Value<A>]>
+    ensures some { IfSome result (λ values.
+        as_sequence (argument_tree argument.entry) ≡ Some (map tree_of values.now)) }
+    ensures none { result ≡ None → sequence_of_pairs (argument_tree argument.entry) ≡ None }
+{
+    unpacked(sequence(argument)?)
+}
+
 /// The pairs of which it is a sequence.
 fn sequence_of_pairs<A: Allocator>(argument: Argument<'_, A>) -> Option<&[Value<A>]>
     ensures some { IfSome result (λ values.
@@ -41,7 +50,7 @@ fn sequence_of_pairs<A: Allocator>(argument: Argument<'_, A>) -> Option<&[Value<
         × IsSome (all_of as_pair (map tree_of values.now))) }
     ensures none { result ≡ None → sequence_of_pairs (argument_tree argument.entry) ≡ None }
 {
-    let values = unpacked(sequence(argument)?)?;
+    let values = sequence_of_values(argument)?;
     if are_pairs(values) {
         Some(values)
     } else {
@@ -69,7 +78,7 @@ pub fn apply_unzip<A: Allocator + Copy>(
     requires { IsGiven (meaning Unzip (argument_tree argument)) }
     ensures { IfOk result (λ v. meaning Unzip (argument_tree argument.entry) ≡ gives (tree_of v)) }
 {
-    match sequence_of_pairs(argument) {
+    match sequence_of_values(argument) {
         Some(values) => both_sides(alloc, values),
         None => unreachable!(),
     }

@@ -1,109 +1,52 @@
-use crate::told::Lit::{self, Char, Int, Ints, Text};
-use crate::told::{Row, first_allowed, first_wrong};
-use nesl_scalars::Trap;
-use nesl_seqs::SeqFn;
+//! The greatest and the least.
+use crate::told::first_wrong;
 use std::test::Fail;
 
-const THE_GREATEST: [Row; 6] = [
-    (Ints(&[5]), Int(5), (2, 2, 1)),
-    (Ints(&[3, -2, 9, -2, 9]), Int(9), (6, 4, 1)),
-    (Ints(&[3, 9, 9]), Int(9), (4, 3, 1)),
-    (Ints(&[i64::MIN, i64::MAX]), Int(i64::MAX), (3, 3, 1)),
-    (Text(b"x"), Char(b'x'), (2, 2, 1)),
-    (Text(b"neslab"), Char(b's'), (7, 4, 1)),
-];
+const THE_GREATEST: &str = r#"max_val [5] = 5 : 2 2 1
+max_val [3,-2,9,-2,9] = 9 : 6 4 1
+max_val [3,9,9] = 9 : 4 3 1
+max_val [MIN,MAX] = MAX : 3 3 1
+max_val "x" = 'x : 2 2 1
+max_val "neslab" = 's : 7 4 1
+max_val [] ! empty
+max_val "" ! empty"#;
 
-const THE_GREATEST_REFUSED: [Lit; 2] = [Ints(&[]), Text(b"")];
+const THE_LEAST: &str = r#"min_val [5] = 5 : 2 2 1
+min_val [3,-2,9,-2,9] = -2 : 6 4 1
+min_val [3,9,9] = 3 : 4 3 1
+min_val [MIN,MAX] = MIN : 3 3 1
+min_val "x" = 'x : 2 2 1
+min_val "neslab" = 'a : 7 4 1
+min_val [] ! empty
+min_val "" ! empty"#;
 
-#[test]
-fn the_greatest(rt: HostRuntime) -> Result<(), Fail> {
-    let alloc = rt.alloc();
-    assert_eq!(rt; first_wrong(alloc, SeqFn::MaxVal, &THE_GREATEST)?, None);
-    assert_eq!(rt;
-        first_allowed(alloc, SeqFn::MaxVal, &THE_GREATEST_REFUSED, Trap::Empty)?,
-        None
-    );
-    Ok(())
-}
+const THE_FIRST_PLACE_OF_THE_GREATEST: &str = r#"max_index [5] = 0 : 2 2 1
+max_index [3,-2,9,-2,9] = 2 : 6 4 1
+max_index [3,9,9] = 1 : 4 3 1
+max_index [MIN,MAX] = 1 : 3 3 1
+max_index "x" = 0 : 2 2 1
+max_index "neslab" = 2 : 7 4 1
+max_index [] ! empty
+max_index "" ! empty"#;
 
-const THE_LEAST: [Row; 6] = [
-    (Ints(&[5]), Int(5), (2, 2, 1)),
-    (Ints(&[3, -2, 9, -2, 9]), Int(-2), (6, 4, 1)),
-    (Ints(&[3, 9, 9]), Int(3), (4, 3, 1)),
-    (Ints(&[i64::MIN, i64::MAX]), Int(i64::MIN), (3, 3, 1)),
-    (Text(b"x"), Char(b'x'), (2, 2, 1)),
-    (Text(b"neslab"), Char(b'a'), (7, 4, 1)),
-];
-
-const THE_LEAST_REFUSED: [Lit; 2] = [Ints(&[]), Text(b"")];
-
-#[test]
-fn the_least(rt: HostRuntime) -> Result<(), Fail> {
-    let alloc = rt.alloc();
-    assert_eq!(rt; first_wrong(alloc, SeqFn::MinVal, &THE_LEAST)?, None);
-    assert_eq!(rt;
-        first_allowed(alloc, SeqFn::MinVal, &THE_LEAST_REFUSED, Trap::Empty)?,
-        None
-    );
-    Ok(())
-}
-
-const THE_FIRST_PLACE_OF_THE_GREATEST: [Row; 6] = [
-    (Ints(&[5]), Int(0), (2, 2, 1)),
-    (Ints(&[3, -2, 9, -2, 9]), Int(2), (6, 4, 1)),
-    (Ints(&[3, 9, 9]), Int(1), (4, 3, 1)),
-    (Ints(&[i64::MIN, i64::MAX]), Int(1), (3, 3, 1)),
-    (Text(b"x"), Int(0), (2, 2, 1)),
-    (Text(b"neslab"), Int(2), (7, 4, 1)),
-];
-
-const THE_FIRST_PLACE_OF_THE_GREATEST_REFUSED: [Lit; 2] = [Ints(&[]), Text(b"")];
+const THE_FIRST_PLACE_OF_THE_LEAST: &str = r#"min_index [5] = 0 : 2 2 1
+min_index [3,-2,9,-2,9] = 1 : 6 4 1
+min_index [3,9,9] = 0 : 4 3 1
+min_index [MIN,MAX] = 0 : 3 3 1
+min_index "x" = 0 : 2 2 1
+min_index "neslab" = 4 : 7 4 1
+min_index [] ! empty
+min_index "" ! empty"#;
 
 #[test]
-fn the_first_place_of_the_greatest(rt: HostRuntime) -> Result<(), Fail> {
-    let alloc = rt.alloc();
-    assert_eq!(rt;
-        first_wrong(alloc, SeqFn::MaxIndex, &THE_FIRST_PLACE_OF_THE_GREATEST)?,
-        None
-    );
-    assert_eq!(rt;
-        first_allowed(
-            alloc,
-            SeqFn::MaxIndex,
-            &THE_FIRST_PLACE_OF_THE_GREATEST_REFUSED,
-            Trap::Empty
-        )?,
-        None
-    );
-    Ok(())
-}
-
-const THE_FIRST_PLACE_OF_THE_LEAST: [Row; 6] = [
-    (Ints(&[5]), Int(0), (2, 2, 1)),
-    (Ints(&[3, -2, 9, -2, 9]), Int(1), (6, 4, 1)),
-    (Ints(&[3, 9, 9]), Int(0), (4, 3, 1)),
-    (Ints(&[i64::MIN, i64::MAX]), Int(0), (3, 3, 1)),
-    (Text(b"x"), Int(0), (2, 2, 1)),
-    (Text(b"neslab"), Int(4), (7, 4, 1)),
-];
-
-const THE_FIRST_PLACE_OF_THE_LEAST_REFUSED: [Lit; 2] = [Ints(&[]), Text(b"")];
-
-#[test]
-fn the_first_place_of_the_least(rt: HostRuntime) -> Result<(), Fail> {
-    let alloc = rt.alloc();
-    assert_eq!(rt;
-        first_wrong(alloc, SeqFn::MinIndex, &THE_FIRST_PLACE_OF_THE_LEAST)?,
-        None
-    );
-    assert_eq!(rt;
-        first_allowed(
-            alloc,
-            SeqFn::MinIndex,
-            &THE_FIRST_PLACE_OF_THE_LEAST_REFUSED,
-            Trap::Empty
-        )?,
-        None
-    );
+fn rows_hold(rt: HostRuntime) -> Result<(), Fail> {
+    for rows in [
+        THE_GREATEST,
+        THE_LEAST,
+        THE_FIRST_PLACE_OF_THE_GREATEST,
+        THE_FIRST_PLACE_OF_THE_LEAST,
+    ] {
+        assert_eq!(rt; first_wrong(rt.alloc(), rows)?, None);
+    }
     Ok(())
 }

@@ -1,4 +1,4 @@
-//! Tests of the functions on sequences: tables of calls with their results and prices, worked out by hand.
+//! Tests of the functions on scalars and on sequences: rows of calls with their results and prices, worked out by hand.
 #![tactic(auto)]
 
 #[cfg(test)]
@@ -18,7 +18,11 @@ mod parts;
 #[cfg(test)]
 mod places;
 #[cfg(test)]
+mod reading;
+#[cfg(test)]
 mod reductions;
+#[cfg(test)]
+mod scalars;
 #[cfg(test)]
 mod scans;
 #[cfg(test)]

@@ -1,71 +1,63 @@
-use crate::told::{gives, numbers, plain, price_of, text, traps, truths, two};
+//! Elements at places that numbers tell.
+use crate::reading::plain;
+use crate::told::{first_wrong, gives, price_of, traps};
 use nesl_scalars::Trap;
 use nesl_seqs::{Argument, SeqFn, price_within};
 use nesl_values::Value;
 use std::alloc::{AllocError, Global};
 use std::test::Fail;
 
-// The numbers, packed or not.
-fn held(alloc: Global, packed: bool, items: &[i64]) -> Result<Value, AllocError> {
-    if packed {
-        numbers(alloc, items)
-    } else {
-        plain(alloc, items)
-    }
-}
+const ELEMENTS_AT_INDICES: &str = r#"gather ( [10,20,30] [2,0,0] ) = [30,10,10] : 10 1 4
+gather ( [7] [0] ) = [7] : 4 1 2
+gather ( [] [] ) = [] : 1 1 1
+gather ( "abc" [2,2,1] ) = "ccb" : 10 1 4
+gather ( {TF} [1,0,1] ) = {FTF} : 9 1 4
+gather ( < "a" "bcd" "ef" > [1,0] ) = < "bcd" "a" > : 12 1 7"#;
 
-// A sequence and numbers, packed or not.
-fn with(alloc: Global, v: Value, packed: bool, items: &[i64]) -> Result<Value, AllocError> {
-    Value::pair(alloc, v, held(alloc, packed, items)?)
-}
+const INDICES_OUT_OF_RANGE: &str = r#"gather ( [10,20] [0,2] ) ! range
+gather ( [10,20] [0,-1] ) ! range
+gather ( [10,20] [0,MIN] ) ! range
+gather ( [10,20] [0,MAX] ) ! range
+gather ( < > [0] ) ! range"#;
 
-// The sequence of "a", "bcd" and "ef".
-fn words(alloc: Global) -> Result<Value, AllocError> {
-    let mut values = Vec::new(alloc);
-    values.push(text(alloc, b"a")?)?;
-    values.push(text(alloc, b"bcd")?)?;
-    values.push(text(alloc, b"ef")?)?;
-    Value::sequence(alloc, values)
-}
+const ELEMENTS_AT_THEIR_INDICES: &str = r#"permute ( [7,8] [1,0] ) = [8,7] : 7 1 3
+permute ( [7] [0] ) = [7] : 4 1 2
+permute ( [] [] ) = [] : 1 1 1
+permute ( "abc" [1,2,0] ) = "cab" : 10 1 4
+permute ( < "a" "bcd" "ef" > [2,0,1] ) = < "bcd" "ef" "a" > : 16 1 10"#;
 
-#[test]
-fn elements_at_indices(rt: HostRuntime) -> Result<(), Fail> {
-    let alloc = rt.alloc();
-    for packed in [true, false] {
-        let v = held(alloc, packed, &[10, 20, 30])?;
-        let three = with(alloc, v, packed, &[2, 0, 0])?;
-        let picked = numbers(alloc, &[30, 10, 10])?;
-        assert!(rt; gives(alloc, SeqFn::Gather, &three, &picked, price_of(10, 1, 4))?);
-        let one = with(alloc, held(alloc, packed, &[7])?, packed, &[0])?;
-        let same = numbers(alloc, &[7])?;
-        assert!(rt; gives(alloc, SeqFn::Gather, &one, &same, price_of(4, 1, 2))?);
-        let none = with(alloc, held(alloc, packed, &[])?, packed, &[])?;
-        let empty = Value::empty(alloc)?;
-        assert!(rt; gives(alloc, SeqFn::Gather, &none, &empty, price_of(1, 1, 1))?);
-        let least = with(alloc, text(alloc, b"abc")?, packed, &[2, 2, 1])?;
-        let letters = text(alloc, b"ccb")?;
-        assert!(rt; gives(alloc, SeqFn::Gather, &least, &letters, price_of(10, 1, 4))?);
-        let turned = with(alloc, truths(alloc, &[true, false])?, packed, &[1, 0, 1])?;
-        let bits = truths(alloc, &[false, true, false])?;
-        assert!(rt; gives(alloc, SeqFn::Gather, &turned, &bits, price_of(9, 1, 4))?);
-        let texts = with(alloc, words(alloc)?, packed, &[1, 0])?;
-        let pair = two(alloc, text(alloc, b"bcd")?, text(alloc, b"a")?)?;
-        assert!(rt; gives(alloc, SeqFn::Gather, &texts, &pair, price_of(12, 1, 7))?);
-    }
-    Ok(())
-}
+const INDICES_THAT_ARE_NO_PERMUTATION: &str = r#"permute ( [7,8] [0,0] ) ! permutation
+permute ( [7,8] [3] ) ! length
+permute ( [7,8,9] [0,0,3] ) ! range"#;
+
+const NUMBERS_THAT_ARE_WRITTEN: &str = r#"write ( [0,0,0] < ( 1 5 ) ( 1 7 ) > ) = [0,7,0] : 9 1 4
+write ( [1] < ( 0 9 ) > ) = [9] : 4 1 2
+write ( [1,2] [] ) = [1,2] : 5 1 3
+write ( [] [] ) = [] : 1 1 1"#;
+
+const TEXTS_THAT_ARE_WRITTEN: &str =
+    r#"write ( < "a" "bcd" "ef" > < ( 0 "xyz" ) ( 2 < > ) ( 0 "uv" ) > ) = < "uv" "bcd" < > > : 15 1 9
+write ( "abc" < ( 1 'z ) > ) = "azc" : 8 1 4
+write ( {TF} < ( 0 F ) ( 1 T ) > ) = {FT} : 7 1 3"#;
+
+const WRITES_OUT_OF_RANGE: &str = r#"write ( [1,2] < ( 0 5 ) ( 2 0 ) > ) ! range
+write ( [1,2] < ( 0 5 ) ( -1 0 ) > ) ! range
+write ( [1,2] < ( 0 5 ) ( MIN 0 ) > ) ! range
+write ( [1,2] < ( 0 5 ) ( MAX 0 ) > ) ! range
+write ( < > < ( 0 0 ) > ) ! range"#;
 
 #[test]
-fn indices_out_of_range(rt: HostRuntime) -> Result<(), Fail> {
-    let alloc = rt.alloc();
-    for packed in [true, false] {
-        for index in [2, -1, i64::MIN, i64::MAX] {
-            let v = held(alloc, packed, &[10, 20])?;
-            let beyond = with(alloc, v, packed, &[0, index])?;
-            assert!(rt; traps(alloc, SeqFn::Gather, &beyond, Trap::Range)?);
-        }
-        let none = with(alloc, Value::empty(alloc)?, packed, &[0])?;
-        assert!(rt; traps(alloc, SeqFn::Gather, &none, Trap::Range)?);
+fn rows_hold(rt: HostRuntime) -> Result<(), Fail> {
+    for rows in [
+        ELEMENTS_AT_INDICES,
+        INDICES_OUT_OF_RANGE,
+        ELEMENTS_AT_THEIR_INDICES,
+        INDICES_THAT_ARE_NO_PERMUTATION,
+        NUMBERS_THAT_ARE_WRITTEN,
+        TEXTS_THAT_ARE_WRITTEN,
+        WRITES_OUT_OF_RANGE,
+    ] {
+        assert_eq!(rt; first_wrong(rt.alloc(), rows)?, None);
     }
     Ok(())
 }
@@ -93,48 +85,6 @@ fn a_price_that_stops(rt: HostRuntime) -> Result<(), Fail> {
         price_within(SeqFn::Gather, Argument::One(&many), 2_000_000),
         Ok(None)
     );
-    Ok(())
-}
-
-#[test]
-fn elements_at_their_indices(rt: HostRuntime) -> Result<(), Fail> {
-    let alloc = rt.alloc();
-    for packed in [true, false] {
-        let two_ints = with(alloc, held(alloc, packed, &[7, 8])?, packed, &[1, 0])?;
-        let turned = numbers(alloc, &[8, 7])?;
-        assert!(rt; gives(alloc, SeqFn::Permute, &two_ints, &turned, price_of(7, 1, 3))?);
-        let one = with(alloc, held(alloc, packed, &[7])?, packed, &[0])?;
-        let same = numbers(alloc, &[7])?;
-        assert!(rt; gives(alloc, SeqFn::Permute, &one, &same, price_of(4, 1, 2))?);
-        let none = with(alloc, held(alloc, packed, &[])?, packed, &[])?;
-        let empty = Value::empty(alloc)?;
-        assert!(rt; gives(alloc, SeqFn::Permute, &none, &empty, price_of(1, 1, 1))?);
-        let letters = with(alloc, text(alloc, b"abc")?, packed, &[1, 2, 0])?;
-        let moved = text(alloc, b"cab")?;
-        assert!(rt; gives(alloc, SeqFn::Permute, &letters, &moved, price_of(10, 1, 4))?);
-        let texts = with(alloc, words(alloc)?, packed, &[2, 0, 1])?;
-        let mut values = Vec::new(alloc);
-        values.push(text(alloc, b"bcd")?)?;
-        values.push(text(alloc, b"ef")?)?;
-        values.push(text(alloc, b"a")?)?;
-        let moved = Value::sequence(alloc, values)?;
-        assert!(rt; gives(alloc, SeqFn::Permute, &texts, &moved, price_of(16, 1, 10))?);
-    }
-    Ok(())
-}
-
-#[test]
-fn indices_that_are_no_permutation(rt: HostRuntime) -> Result<(), Fail> {
-    let alloc = rt.alloc();
-    for packed in [true, false] {
-        let v = held(alloc, packed, &[7, 8])?;
-        let twice = with(alloc, v, packed, &[0, 0])?;
-        assert!(rt; traps(alloc, SeqFn::Permute, &twice, Trap::Permutation)?);
-        let less = with(alloc, held(alloc, packed, &[7, 8])?, packed, &[3])?;
-        assert!(rt; traps(alloc, SeqFn::Permute, &less, Trap::Length)?);
-        let beyond = with(alloc, held(alloc, packed, &[7, 8, 9])?, packed, &[0, 0, 3])?;
-        assert!(rt; traps(alloc, SeqFn::Permute, &beyond, Trap::Range)?);
-    }
     Ok(())
 }
 
@@ -183,73 +133,13 @@ fn number_pairs(alloc: Global, items: &[(i64, i64)]) -> Result<Value, AllocError
     Value::sequence(alloc, values)
 }
 
-#[test]
-fn numbers_that_are_written(rt: HostRuntime) -> Result<(), Fail> {
-    let alloc = rt.alloc();
-    for packed in [true, false] {
-        let pairs = number_pairs(alloc, &[(1, 5), (1, 7)])?;
-        let twice = Value::pair(alloc, held(alloc, packed, &[0, 0, 0])?, pairs)?;
-        let last = numbers(alloc, &[0, 7, 0])?;
-        assert!(rt; gives(alloc, SeqFn::Write, &twice, &last, price_of(9, 1, 4))?);
-        let pairs = number_pairs(alloc, &[(0, 9)])?;
-        let one = Value::pair(alloc, held(alloc, packed, &[1])?, pairs)?;
-        let nine = numbers(alloc, &[9])?;
-        assert!(rt; gives(alloc, SeqFn::Write, &one, &nine, price_of(4, 1, 2))?);
-        let none = with(alloc, held(alloc, packed, &[1, 2])?, packed, &[])?;
-        let same = numbers(alloc, &[1, 2])?;
-        assert!(rt; gives(alloc, SeqFn::Write, &none, &same, price_of(5, 1, 3))?);
-        let empty = with(alloc, held(alloc, packed, &[])?, packed, &[])?;
-        let nothing = Value::empty(alloc)?;
-        assert!(rt; gives(alloc, SeqFn::Write, &empty, &nothing, price_of(1, 1, 1))?);
+// The numbers, packed or not.
+fn held(alloc: Global, packed: bool, items: &[i64]) -> Result<Value, AllocError> {
+    if packed {
+        Value::ints(alloc, Vec::from_slice(alloc, items)?)
+    } else {
+        plain(alloc, items)
     }
-    Ok(())
-}
-
-#[test]
-fn texts_that_are_written(rt: HostRuntime) -> Result<(), Fail> {
-    let alloc = rt.alloc();
-    let mut values = Vec::new(alloc);
-    values.push(Value::pair(alloc, Value::Int(0), text(alloc, b"xyz")?)?)?;
-    values.push(Value::pair(alloc, Value::Int(2), Value::empty(alloc)?)?)?;
-    values.push(Value::pair(alloc, Value::Int(0), text(alloc, b"uv")?)?)?;
-    let three = Value::pair(alloc, words(alloc)?, Value::sequence(alloc, values)?)?;
-    let mut values = Vec::new(alloc);
-    values.push(text(alloc, b"uv")?)?;
-    values.push(text(alloc, b"bcd")?)?;
-    values.push(Value::empty(alloc)?)?;
-    let last = Value::sequence(alloc, values)?;
-    assert!(rt; gives(alloc, SeqFn::Write, &three, &last, price_of(15, 1, 9))?);
-    let mut values = Vec::new(alloc);
-    values.push(Value::pair(alloc, Value::Int(1), Value::Char(b'z'))?)?;
-    let letter = Value::pair(alloc, text(alloc, b"abc")?, Value::sequence(alloc, values)?)?;
-    let letters = text(alloc, b"azc")?;
-    assert!(rt; gives(alloc, SeqFn::Write, &letter, &letters, price_of(8, 1, 4))?);
-    let mut values = Vec::new(alloc);
-    values.push(Value::pair(alloc, Value::Int(0), Value::Bool(false))?)?;
-    values.push(Value::pair(alloc, Value::Int(1), Value::Bool(true))?)?;
-    let bits = Value::pair(
-        alloc,
-        truths(alloc, &[true, false])?,
-        Value::sequence(alloc, values)?,
-    )?;
-    let turned = truths(alloc, &[false, true])?;
-    assert!(rt; gives(alloc, SeqFn::Write, &bits, &turned, price_of(7, 1, 3))?);
-    Ok(())
-}
-
-#[test]
-fn writes_out_of_range(rt: HostRuntime) -> Result<(), Fail> {
-    let alloc = rt.alloc();
-    for packed in [true, false] {
-        for index in [2, -1, i64::MIN, i64::MAX] {
-            let pairs = number_pairs(alloc, &[(0, 5), (index, 0)])?;
-            let beyond = Value::pair(alloc, held(alloc, packed, &[1, 2])?, pairs)?;
-            assert!(rt; traps(alloc, SeqFn::Write, &beyond, Trap::Range)?);
-        }
-        let none = Value::pair(alloc, Value::empty(alloc)?, number_pairs(alloc, &[(0, 0)])?)?;
-        assert!(rt; traps(alloc, SeqFn::Write, &none, Trap::Range)?);
-    }
-    Ok(())
 }
 
 #[test]

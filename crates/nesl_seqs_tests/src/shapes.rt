@@ -1,69 +1,94 @@
-use crate::told::Lit::{self, Bool, Bools, Char, Int, Ints, Pair, Seq, Text};
-use crate::told::is_no_argument;
-use nesl_seqs::SeqFn;
+//! Arguments whose parts are of another shape.
+use crate::told::first_wrong;
 use std::test::Fail;
 
-// For each function an argument whose parts are of another shape.
-const WRONG: [(SeqFn, Lit); 48] = [
-    (SeqFn::Length, Int(1)),
-    (SeqFn::Length, Pair(&Ints(&[1]), &Ints(&[1]))),
-    (SeqFn::ElementAt, Pair(&Ints(&[1]), &Bool(true))),
-    (SeqFn::ElementAt, Pair(&Int(1), &Int(0))),
-    (SeqFn::Append, Pair(&Ints(&[1]), &Int(1))),
-    (SeqFn::Append, Seq(&[Ints(&[1]), Ints(&[2])])),
-    (SeqFn::Dist, Pair(&Int(1), &Char(b'a'))),
-    (SeqFn::Range, Pair(&Int(1), &Bool(true))),
-    (SeqFn::Range, Pair(&Int(1), &Pair(&Int(2), &Int(3)))),
-    (SeqFn::RangeBy, Pair(&Int(1), &Int(2))),
-    (SeqFn::RangeBy, Pair(&Pair(&Int(1), &Int(2)), &Int(3))),
-    (SeqFn::Index, Char(b'a')),
-    (SeqFn::Sum, Bools(&[true])),
-    (SeqFn::Sum, Seq(&[Int(1), Bool(true)])),
-    (SeqFn::Any, Ints(&[1])),
-    (SeqFn::All, Ints(&[1])),
-    (SeqFn::Count, Ints(&[1])),
-    (SeqFn::Bottop, Int(1)),
-    (SeqFn::Take, Pair(&Int(1), &Int(0))),
-    (SeqFn::Drop, Pair(&Ints(&[1]), &Ints(&[1]))),
-    (SeqFn::Reverse, Pair(&Int(1), &Int(2))),
-    (SeqFn::Rotate, Pair(&Ints(&[1]), &Char(b'a'))),
-    (SeqFn::Zip, Pair(&Ints(&[1]), &Int(1))),
-    (SeqFn::Rep, Pair(&Ints(&[1]), &Int(0))),
-    (SeqFn::Rep, Pair(&Ints(&[1]), &Pair(&Int(2), &Bool(true)))),
-    (SeqFn::Eql, Ints(&[1, 1])),
-    (SeqFn::MaxVal, Bools(&[true])),
-    (SeqFn::MaxVal, Seq(&[Int(1), Char(b'a'), Bool(true)])),
-    (SeqFn::MinVal, Bools(&[true])),
-    (SeqFn::MaxIndex, Bools(&[true])),
-    (SeqFn::MinIndex, Seq(&[Ints(&[1])])),
-    (SeqFn::PlusScan, Text(b"a")),
-    (SeqFn::OrScan, Text(b"a")),
-    (SeqFn::OrScan, Seq(&[Int(1), Bool(true)])),
-    (SeqFn::AndScan, Text(b"a")),
-    (SeqFn::Flatten, Ints(&[1])),
-    (SeqFn::Partition, Pair(&Ints(&[1]), &Bools(&[true]))),
-    (SeqFn::Split, Pair(&Ints(&[1]), &Ints(&[1]))),
-    (SeqFn::Unzip, Ints(&[1])),
-    (SeqFn::OddElts, Int(1)),
-    (SeqFn::EvenElts, Int(1)),
-    (SeqFn::Interleave, Pair(&Ints(&[1]), &Int(1))),
-    (SeqFn::Gather, Pair(&Ints(&[1]), &Bools(&[true]))),
-    (SeqFn::Gather, Pair(&Int(1), &Ints(&[0]))),
-    (SeqFn::Permute, Pair(&Ints(&[1]), &Bools(&[true]))),
-    (SeqFn::Permute, Pair(&Int(1), &Ints(&[0]))),
-    (SeqFn::Write, Pair(&Ints(&[1]), &Ints(&[0]))),
-    (
-        SeqFn::Write,
-        Pair(&Ints(&[1]), &Seq(&[Pair(&Bool(true), &Int(0))])),
-    ),
-];
+const ARGUMENTS_OF_OTHER_SHAPES: &str = r#"length 1 ! some
+length T ! some
+length ( [1] [1] ) ! some
+element_at ( [1] T ) ! some
+element_at T ! some
+element_at ( 1 0 ) ! some
+append ( [1] 1 ) ! some
+append T ! some
+append < [1] [2] > ! some
+dist ( 1 'a ) ! some
+dist T ! some
+range ( 1 T ) ! some
+range T ! some
+range ( 1 ( 2 3 ) ) ! some
+range_by ( 1 2 ) ! some
+range_by T ! some
+range_by ( ( 1 2 ) 3 ) ! some
+index 'a ! some
+index T ! some
+sum {T} ! some
+sum T ! some
+sum < 1 T > ! some
+any [1] ! some
+any T ! some
+all [1] ! some
+all T ! some
+count [1] ! some
+count T ! some
+bottop 1 ! some
+bottop T ! some
+take ( 1 0 ) ! some
+take T ! some
+drop ( [1] [1] ) ! some
+drop T ! some
+reverse ( 1 2 ) ! some
+reverse T ! some
+rotate ( [1] 'a ) ! some
+rotate T ! some
+zip ( [1] 1 ) ! some
+zip T ! some
+rep ( [1] 0 ) ! some
+rep T ! some
+rep ( [1] ( 2 T ) ) ! some
+eql [1,1] ! some
+eql T ! some
+max_val {T} ! some
+max_val T ! some
+max_val < 1 'a T > ! some
+min_val {T} ! some
+min_val T ! some
+max_index {T} ! some
+max_index T ! some
+min_index < [1] > ! some
+min_index T ! some
+plus_scan "a" ! some
+plus_scan T ! some
+or_scan "a" ! some
+or_scan T ! some
+or_scan < 1 T > ! some
+and_scan "a" ! some
+and_scan T ! some
+flatten [1] ! some
+flatten T ! some
+partition ( [1] {T} ) ! some
+partition T ! some
+split ( [1] [1] ) ! some
+split T ! some
+unzip [1] ! some
+unzip T ! some
+odd_elts 1 ! some
+odd_elts T ! some
+even_elts 1 ! some
+even_elts T ! some
+interleave ( [1] 1 ) ! some
+interleave T ! some
+gather ( [1] {T} ) ! some
+gather T ! some
+gather ( 1 [0] ) ! some
+permute ( [1] {T} ) ! some
+permute T ! some
+permute ( 1 [0] ) ! some
+write ( [1] [0] ) ! some
+write T ! some
+write ( [1] < ( T 0 ) > ) ! some"#;
 
 #[test]
-fn arguments_of_other_shapes(rt: HostRuntime) -> Result<(), Fail> {
-    let alloc = rt.alloc();
-    for (function, argument) in WRONG {
-        assert!(rt; is_no_argument(alloc, function, &argument)?);
-        assert!(rt; is_no_argument(alloc, function, &Bool(true))?);
-    }
+fn rows_hold(rt: HostRuntime) -> Result<(), Fail> {
+    assert_eq!(rt; first_wrong(rt.alloc(), ARGUMENTS_OF_OTHER_SHAPES)?, None);
     Ok(())
 }

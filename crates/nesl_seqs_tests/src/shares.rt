@@ -40,46 +40,52 @@ fn sizes(
     }
 }
 
+const NODES: u64 = 2_199_023_255_551;
+
+// Three times the value, in a sequence.
+const THRICE: Option<(u64, u128)> = Some((6_597_069_766_654, 6_597_069_766_657));
+
+// Whether these functions of two such sequences come to results of the sizes that they should have.
+fn are_joined(alloc: Global, three: &Value) -> Result<bool, AllocError> {
+    let twice = Argument::Two(three, three);
+    let all = Some((13_194_139_533_307, 13_194_139_533_313));
+    let pairs = Some((13_194_139_533_310, 13_194_139_533_316));
+    Ok(
+        sizes(alloc, SeqFn::Append, twice)? == all
+            && sizes(alloc, SeqFn::Interleave, twice)? == all
+            && sizes(alloc, SeqFn::Zip, twice)? == pairs,
+    )
+}
+
+// The same of functions that move elements.
+fn are_moved(alloc: Global, three: &Value) -> Result<bool, AllocError> {
+    let rotated = Argument::Two(three, &Value::Int(1));
+    Ok(
+        sizes(alloc, SeqFn::Reverse, Argument::One(three))? == THRICE
+            && sizes(alloc, SeqFn::Rotate, rotated)? == THRICE,
+    )
+}
+
+// The same of functions of one element.
+fn are_picked(alloc: Global, three: &Value, value: &Value) -> Result<bool, AllocError> {
+    let third = Argument::Two(three, &Value::Int(2));
+    let first = Argument::Three(three, value, &Value::Int(0));
+    let one = Some((NODES, u128::from(NODES)));
+    Ok(sizes(alloc, SeqFn::ElementAt, third)? == one && sizes(alloc, SeqFn::Rep, first)? == THRICE)
+}
+
 #[test]
 fn elements_are_not_copied(rt: HostRuntime) -> Result<(), Fail> {
     let alloc = rt.alloc();
     let value = doubled(alloc)?;
-    let nodes: u64 = 2_199_023_255_551;
-    assert_eq!(rt; value.nodes(), nodes);
-    let one = told(alloc, SeqFn::Dist, Argument::Two(&value, &Value::Int(3)))?;
-    let Some((three, price)) = one else {
+    assert!(rt; value.nodes() == NODES);
+    let argument = Argument::Two(&value, &Value::Int(3));
+    let Some((three, price)) = told(alloc, SeqFn::Dist, argument)? else {
         return Err(Fail::from(AllocError));
     };
-    assert_eq!(rt; price.work, 6_597_069_766_654);
-    let twice = Argument::Two(&three, &three);
-    let six: u64 = 13_194_139_533_306;
-    let pairs: u64 = 13_194_139_533_306 + 3;
-    let all = 13_194_139_533_307;
-    assert_eq!(rt;
-        sizes(alloc, SeqFn::Append, twice)?,
-        Some((all, 7 + u128::from(six)))
-    );
-    assert_eq!(rt;
-        sizes(alloc, SeqFn::Interleave, twice)?,
-        Some((all, 7 + u128::from(six)))
-    );
-    assert_eq!(rt;
-        sizes(alloc, SeqFn::Zip, twice)?,
-        Some((pairs + 1, 7 + u128::from(pairs)))
-    );
-    let half = Some((3 * nodes + 1, 4 + 3 * u128::from(nodes)));
-    assert_eq!(rt; sizes(alloc, SeqFn::Reverse, Argument::One(&three))?, half);
-    assert_eq!(rt;
-        sizes(alloc, SeqFn::Rotate, Argument::Two(&three, &Value::Int(1)))?,
-        half
-    );
-    let element = sizes(
-        alloc,
-        SeqFn::ElementAt,
-        Argument::Two(&three, &Value::Int(2)),
-    )?;
-    assert_eq!(rt; element, Some((nodes, u128::from(nodes))));
-    let other = Argument::Three(&three, &value, &Value::Int(0));
-    assert_eq!(rt; sizes(alloc, SeqFn::Rep, other)?, half);
+    assert!(rt; price.work == 6_597_069_766_654);
+    assert!(rt; are_joined(alloc, &three)?);
+    assert!(rt; are_moved(alloc, &three)?);
+    assert!(rt; are_picked(alloc, &three, &value)?);
     Ok(())
 }

@@ -1,23 +1,9 @@
+//! What functions come to, and what the rows say of it.
+use crate::reading::{function_of, value_of};
 use nesl_scalars::Trap;
 use nesl_seqs::{Argument, Price, SeqFn, apply, cost_and_size, price_within};
 use nesl_values::Value;
 use std::alloc::{AllocError, Global};
-
-// A value as a table writes it.
-#[derive(Clone, Copy)]
-pub enum Lit {
-    Int(i64),
-    Bool(bool),
-    Char(u8),
-    Ints(&'static [i64]),
-    Bools(&'static [bool]),
-    Text(&'static [u8]),
-    Pair(&'static Lit, &'static Lit),
-    Seq(&'static [Lit]),
-}
-
-/// An argument, the result of a function at it, and its work, depth and nodes.
-pub type Row = (Lit, Lit, (u64, u64, u128));
 
 // What a function comes to: a fault, or its result and price.
 fn told(
@@ -37,85 +23,6 @@ fn told(
 
 pub fn price_of(work: u128, depth: u64, nodes: u128) -> Price {
     Price { work, depth, nodes }
-}
-
-pub fn numbers(alloc: Global, items: &[i64]) -> Result<Value, AllocError> {
-    Value::ints(alloc, Vec::from_slice(alloc, items)?)
-}
-
-pub fn truths(alloc: Global, items: &[bool]) -> Result<Value, AllocError> {
-    Value::bools(alloc, Vec::from_slice(alloc, items)?)
-}
-
-pub fn text(alloc: Global, items: &[u8]) -> Result<Value, AllocError> {
-    Value::chars(alloc, Vec::from_slice(alloc, items)?)
-}
-
-// The same numbers, not packed.
-pub fn plain(alloc: Global, items: &[i64]) -> Result<Value, AllocError> {
-    let mut values = Vec::new(alloc);
-    for item in items {
-        values.push(Value::Int(*item))?;
-    }
-    Value::sequence(alloc, values)
-}
-
-// The same truth values, not packed.
-pub fn plain_truths(alloc: Global, items: &[bool]) -> Result<Value, AllocError> {
-    let mut values = Vec::new(alloc);
-    for item in items {
-        values.push(Value::Bool(*item))?;
-    }
-    Value::sequence(alloc, values)
-}
-
-// The same characters, not packed.
-pub fn plain_text(alloc: Global, items: &[u8]) -> Result<Value, AllocError> {
-    let mut values = Vec::new(alloc);
-    for item in items {
-        values.push(Value::Char(*item))?;
-    }
-    Value::sequence(alloc, values)
-}
-
-// The value. Its sequences of leaves are packed or not, those in the right part of a pair by a word
-// of their own.
-pub fn value_of(
-    alloc: Global,
-    packed: bool,
-    right_packed: bool,
-    lit: &Lit,
-) -> Result<Value, AllocError> {
-    match lit {
-        Lit::Int(n) => Ok(Value::Int(*n)),
-        Lit::Bool(b) => Ok(Value::Bool(*b)),
-        Lit::Char(c) => Ok(Value::Char(*c)),
-        Lit::Ints(items) if packed => numbers(alloc, items),
-        Lit::Ints(items) => plain(alloc, items),
-        Lit::Bools(items) if packed => truths(alloc, items),
-        Lit::Bools(items) => plain_truths(alloc, items),
-        Lit::Text(items) if packed => text(alloc, items),
-        Lit::Text(items) => plain_text(alloc, items),
-        Lit::Pair(left, right) => {
-            let left = value_of(alloc, packed, packed, left)?;
-            let right = value_of(alloc, right_packed, right_packed, right)?;
-            Value::pair(alloc, left, right)
-        }
-        Lit::Seq(items) => {
-            let mut values = Vec::new(alloc);
-            for item in *items {
-                values.push(value_of(alloc, packed, right_packed, item)?)?;
-            }
-            Value::sequence(alloc, values)
-        }
-    }
-}
-
-pub fn two(alloc: Global, one: Value, other: Value) -> Result<Value, AllocError> {
-    let mut values = Vec::new(alloc);
-    values.push(one)?;
-    values.push(other)?;
-    Value::sequence(alloc, values)
 }
 
 // Whether the function comes to that result at that price, at the argument and at its parts.
@@ -185,9 +92,6 @@ fn traps_at(
     }
 }
 
-// How the two parts of an argument are packed.
-const HELD: [(bool, bool); 4] = [(true, true), (true, false), (false, true), (false, false)];
-
 // Whether there is a price just within that work, and none below.
 fn stops_below(function: SeqFn, argument: &Value, work: u64) -> bool {
     let argument = Argument::One(argument);
@@ -208,83 +112,120 @@ fn whole_price(function: SeqFn, argument: &Value) -> Result<Option<Price>, Trap>
     }
 }
 
-// Whether the function comes to that result at that work, depth and nodes, packed or not.
+// Whether the function comes to that result at that price, and to nothing below its work.
 fn comes_to(
     alloc: Global,
     function: SeqFn,
-    argument: &Lit,
-    expected: &Lit,
-    price: (u64, u64, u128),
+    argument: &Value,
+    expected: &Value,
+    price: (u64, u64, u64),
 ) -> Result<bool, AllocError> {
     let (work, depth, nodes) = price;
-    let price = price_of(u128::from(work), depth, nodes);
-    let expected = value_of(alloc, true, true, expected)?;
-    for (packed, right_packed) in HELD {
-        let argument = value_of(alloc, packed, right_packed, argument)?;
-        if !gives(alloc, function, &argument, &expected, price)?
-            || !stops_below(function, &argument, work)
-            || whole_price(function, &argument) != Ok(Some(price))
-        {
-            return Ok(false);
-        }
-    }
-    Ok(true)
+    let price = price_of(u128::from(work), depth, u128::from(nodes));
+    Ok(
+        gives(alloc, function, argument, expected, price)?
+            && stops_below(function, argument, work)
+            && whole_price(function, argument) == Ok(Some(price)),
+    )
 }
 
-// Whether the function has that fault, packed or not.
+// Whether the function has that fault, whatever the limit.
 fn is_refused(
     alloc: Global,
     function: SeqFn,
-    argument: &Lit,
+    argument: &Value,
     trap: Trap,
 ) -> Result<bool, AllocError> {
-    for (packed, right_packed) in HELD {
-        let argument = value_of(alloc, packed, right_packed, argument)?;
-        if !traps(alloc, function, &argument, trap)?
-            || price_within(function, Argument::One(&argument), 0) != Err(trap)
-            || whole_price(function, &argument) != Err(trap)
-        {
+    Ok(
+        traps(alloc, function, argument, trap)?
+            && price_within(function, Argument::One(argument), 0) == Err(trap)
+            && whole_price(function, argument) == Err(trap),
+    )
+}
+
+// Whether the function has some fault.
+fn is_no_argument(alloc: Global, function: SeqFn, argument: &Value) -> Result<bool, AllocError> {
+    Ok(told(alloc, function, Argument::One(argument))?.is_err())
+}
+
+fn trap_of(name: &str) -> Option<Trap> {
+    match name.as_bytes() {
+        b"length" => Some(Trap::Length),
+        b"range" => Some(Trap::Range),
+        b"empty" => Some(Trap::Empty),
+        b"stride" => Some(Trap::Stride),
+        b"overflow" => Some(Trap::Overflow),
+        b"permutation" => Some(Trap::Permutation),
+        b"count" => Some(Trap::Count),
+        _ => None,
+    }
+}
+
+// The work, the depth and the nodes.
+fn three_numbers(text: &str) -> Option<(u64, u64, u64)> {
+    let mut numbers = text.split_whitespace();
+    let work = numbers.next()?.parse::<u64>().ok()?;
+    let depth = numbers.next()?.parse::<u64>().ok()?;
+    let nodes = numbers.next()?.parse::<u64>().ok()?;
+    Some((work, depth, nodes))
+}
+
+// Whether what stands behind the sign of a row is so.
+fn is_so(
+    alloc: Global,
+    function: SeqFn,
+    argument: &Value,
+    sign: &str,
+    wanted: &str,
+) -> Result<bool, AllocError> {
+    if sign == "!" {
+        return match trap_of(wanted) {
+            Some(trap) => is_refused(alloc, function, argument, trap),
+            None if wanted == "some" => is_no_argument(alloc, function, argument),
+            None => Ok(false),
+        };
+    }
+    let Some((result, price)) = wanted.split_once(" : ") else {
+        return Ok(false);
+    };
+    let Some(expected) = value_of(alloc, result, 15)? else {
+        return Ok(false);
+    };
+    match three_numbers(price) {
+        Some(price) => comes_to(alloc, function, argument, &expected, price),
+        None => Ok(false),
+    }
+}
+
+// Whether a row holds, in each of the sixteen ways to pack the first four sequences of its argument.
+fn holds(alloc: Global, row: &str) -> Result<bool, AllocError> {
+    let sign = if row.contains(" = ") { "=" } else { "!" };
+    let Some((call, wanted)) = row.split_once(sign) else {
+        return Ok(false);
+    };
+    let Some((name, argument)) = call.split_once(' ') else {
+        return Ok(false);
+    };
+    let Some(function) = function_of(name) else {
+        return Ok(false);
+    };
+    for packed in 0..16 {
+        let Some(argument) = value_of(alloc, argument, packed)? else {
+            return Ok(false);
+        };
+        if !is_so(alloc, function, &argument, sign, wanted.trim())? {
             return Ok(false);
         }
     }
     Ok(true)
 }
 
-// Whether the function has some fault, packed or not.
-pub fn is_no_argument(alloc: Global, function: SeqFn, argument: &Lit) -> Result<bool, AllocError> {
-    for (packed, right_packed) in HELD {
-        let argument = value_of(alloc, packed, right_packed, argument)?;
-        if told(alloc, function, Argument::One(&argument))?.is_ok() {
-            return Ok(false);
-        }
-    }
-    Ok(true)
-}
-
-// The place of the first row that the function does not come to.
-pub fn first_wrong(
-    alloc: Global,
-    function: SeqFn,
-    rows: &[Row],
-) -> Result<Option<usize>, AllocError> {
-    for (place, (argument, expected, price)) in rows.iter().enumerate() {
-        if !comes_to(alloc, function, argument, expected, *price)? {
-            return Ok(Some(place));
-        }
-    }
-    Ok(None)
-}
-
-// The place of the first argument at which the function has not that fault.
-pub fn first_allowed(
-    alloc: Global,
-    function: SeqFn,
-    arguments: &[Lit],
-    trap: Trap,
-) -> Result<Option<usize>, AllocError> {
-    for (place, argument) in arguments.iter().enumerate() {
-        if !is_refused(alloc, function, argument, trap)? {
-            return Ok(Some(place));
+/// The first row that doesn't hold. A row is `NAME ARGUMENT = RESULT : WORK DEPTH NODES`, or `NAME ARGUMENT ! FAULT`,
+/// where the fault `some` is any.
+pub fn first_wrong<'a>(alloc: Global, rows: &'a str) -> Result<Option<&'a str>, AllocError> {
+    for row in rows.lines() {
+        if !holds(alloc, row)? {
+            return Ok(Some(row));
         }
     }
     Ok(None)

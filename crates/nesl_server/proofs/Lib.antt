@@ -1,2 +1,3 @@
 pub mod Failed
-pub mod Heaps
+pub mod Flags
+pub mod Numbers

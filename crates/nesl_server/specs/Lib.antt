@@ -1,3 +1,4 @@
 pub mod Failures
-pub mod Program
 pub mod Words
+pub mod Wanted
+pub mod Program

@@ -1,6 +1,7 @@
 -- What the words of the command line ask for, in clap's terms.
-use Rattle.std.specs.Prelude.{◌≡◌, refl, ℕ, ◌-◌, ◌^◌, true, List, [], ◌∷◌, Option, Some, None, codes, unwrap_or}
+use Rattle.std.specs.Prelude.{◌≡◌, refl, ℕ, ◌-◌, ◌^◌, true, List, [], ◌∷◌, ◌++◌, Option, Some, None, codes, unwrap_or, slice_get, Bool, false}
 use Rattle.std.specs.Prelude.{option_and_then, if◌then◌else◌}
+use Rattle.std.specs.Str.{bytes_eq}
 use Rattle.std.specs.Str.Parse.{digits_value, without_leading_plus}
 use Rattle.clap.specs.Lexer.{usize_max}
 use Rattle.clap.specs.Simple.{App, Shape, new_rule, new_shape, new_app, on_top, with_subcommand, subcommand_of}
@@ -8,7 +9,7 @@ use Rattle.clap.specs.Walk.{Rule, Row, all_of, one_of, walked}
 use Rattle.clap.specs.ValueTests.{is_unsigned_in}
 use Rattle.clap.specs.Faults.{fault_of, is_simple_and_free, walk_fault, defaults_fault}
 use Rattle.clap.specs.declared.error.kind.ErrorKind.TheVariants as kind
-use Rattle.clap.specs.declared.builder.action.ArgAction.TheVariants.{Set, Append}
+use Rattle.clap.specs.declared.builder.action.ArgAction.TheVariants.{Set, SetTrue, Append}
 use Rattle.clap.specs.declared.builder.value_parser.ValueParser.TheVariants as vp
 
 -- `--heap BYTES`: a number from 16 to 1073741824, at most once
@@ -31,10 +32,61 @@ users_rule = record (new_rule (codes "USER")) {
 abbrev pub batch : Shape
 batch = record (new_shape (codes "batch")) { rules = heap_rule ∷ users_rule ∷ [] }
 
+-- `--port P`: a number from 0 to 65535, once
+abbrev pub port_rule : Rule
+port_rule = record (new_rule (codes "PORT")) {
+  long = Some (codes "port");
+  action = Some Set;
+  parser = Some (vp.Unsigned 0 65535);
+  required = true;
+}
+
+-- `--workers W`: a number from 0 to 64, once
+abbrev pub workers_rule : Rule
+workers_rule = record (new_rule (codes "WORKERS")) {
+  long = Some (codes "workers");
+  action = Some Set;
+  parser = Some (vp.Unsigned 0 64);
+  required = true;
+}
+
+-- `--connections N`: a number from 1 to 1000000, at most once
+abbrev pub connections_rule : Rule
+connections_rule = record (new_rule (codes "CONNECTIONS")) {
+  long = Some (codes "connections");
+  action = Some Set;
+  parser = Some (vp.Unsigned 1 1000000);
+}
+
+-- `--idle SECONDS`: a number from 1 to 86400, at most once
+abbrev pub idle_rule : Rule
+idle_rule = record (new_rule (codes "SECONDS")) {
+  long = Some (codes "idle");
+  action = Some Set;
+  parser = Some (vp.Unsigned 1 86400);
+}
+
+-- `--log`, at most once
+abbrev pub log_rule : Rule
+log_rule = record (new_rule (codes "LOG")) {
+  long = Some (codes "log");
+  action = Some SetTrue;
+}
+
+-- the subcommand `serve --port P --workers W [--connections N] [--idle SECONDS] [--log] USER..`: first its numbers
+abbrev pub serve_numbers : Shape
+serve_numbers = record (new_shape (codes "serve")) {
+  rules = port_rule ∷ workers_rule ∷ connections_rule ∷ idle_rule ∷ [];
+}
+
+abbrev pub serve : Shape
+serve = record serve_numbers { rules = serve_numbers.rules ++ log_rule ∷ users_rule ∷ [] }
+
 -- the program: a subcommand is required, and help is told where there are no words
 abbrev pub program : App
-program = with_subcommand (on_top (λ s. record s { subcommand_required = true; arg_required_else_help = true })
-    (new_app (codes "pazkindu"))) batch
+program = with_subcommand (with_subcommand
+    (on_top (λ s. record s { subcommand_required = true; arg_required_else_help = true }) (new_app (codes "pazkindu")))
+    batch) serve
 
 -- the users among what was found, and those behind the subcommand
 abbrev pub users_among : List Row → List (List ℕ)
@@ -52,23 +104,61 @@ abbrev pub number : List ℕ → Option ℕ
 number text =
     if is_unsigned_in 0 (2 ^ 64 - 1) text then Some (digits_value 10 (without_leading_plus text)) else None
 
--- the bytes of the heap among what was found, if it is there, and those behind the subcommand
-abbrev pub heap_among : List Row → Option ℕ
-heap_among rows = option_and_then number (one_of (codes "BYTES") rows)
+-- the number of this name among what was found, if it is there
+abbrev pub number_among : List ℕ → List Row → Option ℕ
+number_among name rows = option_and_then number (one_of name rows)
 
-abbrev pub heap_in : Option (List ℕ × List Row) → Option ℕ
-heap_in None = None
-heap_in (Some p) = heap_among p.1
+-- whether the flag of this name is set, by what was found, which has `true` or `false` for each flag
+abbrev pub is_true : Option (List ℕ) → Bool
+is_true None = false
+is_true (Some text) = bytes_eq text (codes "true")
 
-abbrev pub heap_of : List (List ℕ) → Option ℕ
-heap_of words = heap_in (subcommand_of program words)
+abbrev pub is_among : List ℕ → List Row → Bool
+is_among name rows = is_true (slice_get (unwrap_or (all_of name rows) []) 0)
+
+-- a batch, with the bytes of its heap, if there is one
+pub record Batch : Type 0 where
+  pub heap : Option ℕ
+
+-- a service: its port, how many helpers its threads may have in all, how many connections it serves, if it ends, after
+-- how many seconds a silent connection has ended, if it does, and whether each connection is told of
+pub record Service : Type 0 where
+  pub port : Option ℕ
+  pub workers : Option ℕ
+  pub connections : Option ℕ
+  pub idle : Option ℕ
+  pub is_logged : Bool
+
+-- what is to be done
+pub data Task : Type 0 where
+  a_batch : Batch → Task
+  a_service : Service → Task
+
+-- by the subcommand and what was found behind it
+abbrev pub task_among : (name : List ℕ) → List Row → Task
+task_among name rows =
+    if bytes_eq name (codes "serve") then a_service (record {
+      port = number_among (codes "PORT") rows;
+      workers = number_among (codes "WORKERS") rows;
+      connections = number_among (codes "CONNECTIONS") rows;
+      idle = number_among (codes "SECONDS") rows;
+      is_logged = is_among (codes "LOG") rows;
+    })
+    else a_batch (record { heap = number_among (codes "BYTES") rows })
+
+abbrev pub task_in : Option (List ℕ × List Row) → Task
+task_in None = a_batch (record { heap = None })
+task_in (Some p) = task_among p.0 p.1
+
+abbrev pub task_of : List (List ℕ) → Task
+task_of words = task_in (subcommand_of program words)
 
 -- clap gives the matches and the faults of such a command whole
 pub program_is_simple : is_simple_and_free program ≡ true
 program_is_simple = refl
 
--- worked: two users; no heap, a heap, and one that is too small; users behind `--`; no word, no user, an unknown
--- subcommand, and a call for help
+-- worked: two users; no heap, a heap, and one that is too small; users behind `--`; a service that ends and one that
+-- doesn't, without a port, and with too many workers; no word, no user, an unknown subcommand, and a call for help
 abbrev pub asked : List (List ℕ) → List (List ℕ)
 asked words = codes "pazkindu" ∷ words
 
@@ -80,11 +170,13 @@ no_fault : fault_of program (asked (codes "batch" ∷ codes "ann" ∷ codes "bob
 unfolding walked walk_fault defaults_fault
 no_fault = refl
 
-no_heap : heap_of (asked (codes "batch" ∷ codes "ann" ∷ [])) ≡ None
+no_heap : task_of (asked (codes "batch" ∷ codes "ann" ∷ [])) ≡ a_batch (record { heap = None })
 unfolding walked
 no_heap = refl
 
-with_heap : heap_of (asked (codes "batch" ∷ codes "--heap" ∷ codes "65536" ∷ codes "ann" ∷ [])) ≡ Some 65536
+with_heap :
+    task_of (asked (codes "batch" ∷ codes "--heap" ∷ codes "65536" ∷ codes "ann" ∷ []))
+    ≡ a_batch (record { heap = Some 65536 })
 unfolding walked
 with_heap = refl
 
@@ -110,7 +202,35 @@ no_user : fault_of program (asked (codes "batch" ∷ [])) ≡ kind.MissingRequir
 unfolding walked walk_fault defaults_fault
 no_user = refl
 
-unknown : fault_of program (asked (codes "serve" ∷ [])) ≡ kind.UnknownArgument ∷ kind.InvalidSubcommand ∷ []
+served_twice :
+    task_of (asked (codes "serve" ∷ codes "--port" ∷ codes "0" ∷ codes "--workers" ∷ codes "4" ∷ codes "--connections"
+    ∷ codes "2" ∷ codes "ann" ∷ []))
+    ≡ a_service (record { port = Some 0; workers = Some 4; connections = Some 2; idle = None; is_logged = false })
+unfolding walked
+served_twice = refl
+
+served_on :
+    task_of
+    (asked (codes "serve" ∷ codes "--workers=0" ∷ codes "--idle=60" ∷ codes "ann" ∷ codes "--log" ∷ codes "--port=4000"
+    ∷ []))
+    ≡ a_service (record { port = Some 4000; workers = Some 0; connections = None; idle = Some 60; is_logged = true })
+unfolding walked
+served_on = refl
+
+no_port :
+    fault_of program (asked (codes "serve" ∷ codes "--workers" ∷ codes "4" ∷ codes "ann" ∷ []))
+    ≡ kind.MissingRequiredArgument ∷ []
+unfolding walked walk_fault defaults_fault
+no_port = refl
+
+many_workers :
+    fault_of program
+    (asked (codes "serve" ∷ codes "--port" ∷ codes "0" ∷ codes "--workers" ∷ codes "65" ∷ codes "ann" ∷ []))
+    ≡ kind.ValueValidation ∷ []
+unfolding walked walk_fault defaults_fault
+many_workers = refl
+
+unknown : fault_of program (asked (codes "listen" ∷ [])) ≡ kind.UnknownArgument ∷ kind.InvalidSubcommand ∷ []
 unfolding walked walk_fault defaults_fault
 unknown = refl
 

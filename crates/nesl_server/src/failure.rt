@@ -6,6 +6,7 @@ ghost use Rattle.nesl_server.specs.Program.{Fails};
 
 use nesl_house::roster::NewFault;
 use nesl_line::exchange::End;
+use nesl_service::service::ServeFault;
 use thiserror::Error;
 
 /// Why a run failed; the text goes to standard error.
@@ -17,6 +18,8 @@ pub enum Failure<'a> {
     Write,
     #[error("batch: no memory")]
     Memory,
+    #[error("{0}")]
+    Serve(ServeFault),
     #[error("roster: bad count")]
     Count,
     #[error("roster: bad name {0}")]
@@ -67,7 +70,7 @@ impl<'a> Failure<'a> {
         ensures { result ≡ status_of self.entry }
     {
         match self {
-            Failure::Read | Failure::Write | Failure::Memory => 1,
+            Failure::Read | Failure::Write | Failure::Memory | Failure::Serve(_) => 1,
             Failure::Count | Failure::Name(_) | Failure::Twice(_) => 2,
         }
     }

@@ -1,4 +1,4 @@
-//! The program: NESL sessions over standard input and output.
+//! The program: NESL sessions over standard input and output, or over sockets.
 #![tactic(auto)]
 
 ghost use Rattle.std.specs.Prelude.{◌≡◌, ◌≤◌, IfOk, OnOk, OnErr, IfErr, Err, map};
@@ -10,15 +10,19 @@ ghost use Rattle.clap.specs.declared.error.kind.ErrorKind.TheVariants.{OutOfMemo
 ghost use Rattle.nesl_line.specs.declared.exchange.End.TheVariants as end;
 ghost use Rattle.nesl_line.specs.Batch.{IsBatch};
 ghost use Rattle.nesl_server.specs.Failures.{status_of};
-ghost use Rattle.nesl_server.specs.Program.{Fails, Served, Untouched};
+ghost use Rattle.nesl_server.specs.Program.{Comes, Fails, Served, Untouched};
 ghost use Rattle.nesl_server.specs.Words.{program, users_of};
 ghost use Rattle.nesl_server.specs.declared.failure.Failure.{Failure};
 ghost use Rattle.nesl_server.specs.declared.failure.Refusal.TheVariants as refusal;
 
 mod failure;
+mod log;
+mod offer;
 mod words;
 
 use crate::failure::{Failure, Refusal};
+use crate::offer::{Offer, keep};
+use crate::words::Task;
 use clap::error::ErrorKind;
 use linked_list_allocator::LocalHeap;
 use nesl_house::house::House;
@@ -32,7 +36,7 @@ use std::io::{self, BufWriter};
 use std::process::ExitCode;
 
 /// The limits of each session of the program.
-const LIMITS: Limits = Limits {
+pub const LIMITS: Limits = Limits {
     line_work: 1_000_000,
     session_work: 100_000_000,
     elements: 100_000,
@@ -60,8 +64,12 @@ fn main(rt: HostRuntime) -> ExitCode {
     };
     let mut reader = Device::new(rt.stdin());
     let mut writer = Device::new(writer);
-    match serve(alloc, words.as_slice(), &mut reader, &mut writer) {
-        Ok(()) => ExitCode::SUCCESS,
+    match answered(alloc, words.as_slice(), &mut reader, &mut writer) {
+        Ok(None) => ExitCode::SUCCESS,
+        Ok(Some(offer)) => match keep(&rt, alloc, &offer) {
+            Ok(()) => ExitCode::SUCCESS,
+            Err(failure) => told(&rt, failure),
+        },
         Err(Refusal::Words(error)) => refused(&rt, &error),
         Err(Refusal::Run(failure)) => told(&rt, failure),
     }
@@ -97,14 +105,14 @@ fn told(rt: &impl Eprint, failure: Failure<'_>) -> ExitCode
     }
 }
 
-// What the words ask for: a batch for the users that they name.
-fn serve<'a, S: Source, W: Sink>(
+// What the words ask for: a batch for the users that they name, or a service that is to be offered to them.
+fn answered<'a, S: Source, W: Sink>(
     alloc: Global,
     words: &'a [&'a str],
     reader: &mut S,
     writer: &mut W,
-) -> Result<(), Refusal<'a>>
-    ensures served { OnOk result (Served end.Input (users_of (map (λ word. word.now) words.entry.now))
+) -> Result<Option<Offer<'a>>, Refusal<'a>>
+    ensures comes { IfOk result (λ offer. Comes offer (map (λ word. word.now) words.entry.now)
         (S.left reader.old) (S.left reader.new) (W.held writer.old) (W.held writer.new)) }
     ensures failed { (failure : Failure) → result ≡ Err (refusal.Run failure)
         → Fails failure (users_of (map (λ word. word.now) words.entry.now))
@@ -117,9 +125,26 @@ fn serve<'a, S: Source, W: Sink>(
         Ok(wanted) => wanted,
         Err(error) => return Err(Refusal::Words(error)),
     };
-    match run(alloc, wanted.users.as_slice(), wanted.heap, reader, writer) {
-        Ok(()) => Ok(()),
-        Err(failure) => Err(Refusal::Run(failure)),
+    let users = wanted.users;
+    match wanted.task {
+        Task::Batch { heap } => match run(alloc, users.as_slice(), heap, reader, writer) {
+            Ok(()) => Ok(None),
+            Err(failure) => Err(Refusal::Run(failure)),
+        },
+        Task::Service {
+            port,
+            workers,
+            connections,
+            idle,
+            is_logged,
+        } => Ok(Some(Offer {
+            users,
+            port,
+            workers,
+            connections,
+            idle,
+            is_logged,
+        })),
     }
 }
 
@@ -174,7 +199,7 @@ fn ran<S: Source, W: Sink>(
 }
 
 // The users' names as bytes.
-fn roster(alloc: Global, users: &[&str]) -> Result<Vec<Vec<u8>>, AllocError>
+pub fn roster(alloc: Global, users: &[&str]) -> Result<Vec<Vec<u8>>, AllocError>
     ensures { IfOk result (λ names. map (λ name. name.items) names.items ≡ map (λ user. user.now) users.now) }
 {
     let mut roster = Vec::new(alloc);

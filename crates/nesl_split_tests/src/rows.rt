@@ -1,11 +1,10 @@
 //! Rows: a line that is evaluated in halves and in order.
 
+use crate::driver::form_of;
 use nesl_code::{Env, Payload};
 use nesl_eval::{Outcome, eval_one};
 use nesl_helpers::{Free, Gate, Helpers};
-use nesl_lex::lex;
 use nesl_split::eval_split;
-use nesl_syntax::parse_form;
 use nesl_syntax::tree::{Exp, Form};
 use nesl_types::{Top, Ty};
 use std::alloc::{AllocError, Global};
@@ -40,15 +39,10 @@ pub const ROWS: [&str; 17] = [
     "halved(4);",
 ];
 
-fn form_of(alloc: Global, line: &str) -> Option<Form> {
-    let tokens = lex(alloc, line.as_bytes()).ok()?;
-    parse_form(alloc, tokens.as_slice()).ok()
-}
-
 /// The expression of a row.
 pub fn row_of(alloc: Global, line: &str) -> Option<Exp> {
-    match form_of(alloc, line)? {
-        Form::Eval(exp) => Some(exp),
+    match form_of(alloc, line).ok()? {
+        Some(Form::Eval(exp)) => Some(exp),
         _ => None,
     }
 }
@@ -64,7 +58,7 @@ pub fn with_functions(alloc: Global) -> Result<Env, AllocError> {
                 body,
                 ..
             },
-        ) = form_of(alloc, line)
+        ) = form_of(alloc, line)?
         {
             let function = Payload::Function {
                 pattern: parameter,

@@ -1,7 +1,8 @@
 //! Every kind of helper, and every budget.
 ghost use Rattle.std.specs.Prelude.{◌≡◌};
 
-use crate::granting::{Granting, HalfGate};
+use crate::gates::HalfGate;
+use crate::granting::Granting;
 use crate::rows::{ROWS, agrees, told_in_halves, with_functions, wrong_rows};
 use nesl_eval::Outcome;
 use nesl_helpers::{Free, Helpers, NoHelpers, Pool};

@@ -7,7 +7,7 @@ ghost use Rattle.nesl_lex.specs.Tokens.{lexeme_of, placed};
 use nesl_lex::token::{Kind, Sign, Token};
 
 /// A sign that divides a line: no pattern has a `=` or a `:`, and no type a `->` or a `::`.
-#[derive(Clone, Copy, PartialEq, Eq, Debug)]
+#[derive(Clone, Copy, PartialEq, Eq)]
 pub enum Divider {
     Equal,
     Colon,

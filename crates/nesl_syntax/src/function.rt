@@ -21,7 +21,7 @@ use nesl_lex::token::{Kind, Token};
 use std::alloc::Global;
 
 /// A function's parameter and its signature.
-#[derive(Debug, Drop)]
+#[derive(Drop)]
 pub struct Head {
     pub pattern: PatternPart,
     pub signature: Option<SignaturePart>,

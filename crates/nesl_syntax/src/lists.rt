@@ -16,14 +16,14 @@ use nesl_lex::token::Span;
 use std::alloc::{AllocError, Global};
 
 /// Elements so far with their greatest height, or some that are too high.
-#[derive(Debug, Drop)]
+#[derive(Drop)]
 pub enum Elements {
     Built { items: Vec<Exp>, height: usize },
     High,
 }
 
 /// Binders so far with the greatest height of their parts, or some that are too high.
-#[derive(Debug, Drop)]
+#[derive(Drop)]
 pub enum Bindings {
     Built { items: Vec<Binding>, height: usize },
     High,

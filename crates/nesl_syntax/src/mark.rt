@@ -8,7 +8,7 @@ use crate::tree::Operator;
 use nesl_lex::token::{Kind, Sign, Word};
 
 /// A token that ends a part of what is open.
-#[derive(Clone, Copy, PartialEq, Eq, Debug)]
+#[derive(Clone, Copy, PartialEq, Eq)]
 pub enum Mark {
     CloseParenthesis,
     CloseBracket,
@@ -23,7 +23,7 @@ pub enum Mark {
 }
 
 /// What a token does behind an expression.
-#[derive(Clone, Copy, PartialEq, Eq, Debug)]
+#[derive(Clone, Copy, PartialEq, Eq)]
 pub enum Follow {
     /// A `(`.
     Call,

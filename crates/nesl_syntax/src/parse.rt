@@ -26,7 +26,7 @@ use nesl_lex::token::{Kind, Sign, Span, Token, Word};
 use std::alloc::Global;
 
 /// What the tokens so far leave.
-#[derive(Debug, Drop)]
+#[derive(Drop)]
 pub enum Mode {
     /// An expression is to come.
     Before,

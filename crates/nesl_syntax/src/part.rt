@@ -7,6 +7,7 @@ ghost use Rattle.nesl_syntax.specs.declared.part.Part.TheVariants as part;
 ghost use Rattle.nesl_syntax.specs.Patterns.{is_pattern};
 ghost use Rattle.nesl_syntax.specs.Grammar.{over};
 ghost use Rattle.nesl_syntax.specs.Parts.{Sees, SeesType};
+ghost use Rattle.nesl_syntax.specs.Views.{shape_of, tree_of};
 
 use crate::tree::{Exp, Node, Operator, Prefix};
 use crate::types::TypePart;
@@ -17,7 +18,7 @@ use std::alloc::{AllocError, Global};
 pub const LIMIT: usize = 100;
 
 /// An expression with its height, or one that is too high and isn't built; and whether its tokens could be a pattern.
-#[derive(Debug, Drop)]
+#[derive(Drop)]
 pub enum Part {
     Built {
         exp: Exp,
@@ -255,6 +256,15 @@ pub fn range_of(alloc: Global, from: Part, to: Part, span: Span) -> Result<Part,
     }
 }
 
+fn strided_range(alloc: Global, from: Exp, to: Exp, stride: Exp) -> Result<Node, AllocError>
+    ensures { IfOk result (λ n. shape_of n ≡ trees.strided_range (tree_of from) (tree_of to) (tree_of stride)) }
+{
+    let from = Box::new(alloc, from)?;
+    let to = Box::new(alloc, to)?;
+    let stride = Box::new(alloc, stride)?;
+    Ok(Node::StridedRange { from, to, stride })
+}
+
 pub fn strided_range_of(
     alloc: Global,
     from: Part,
@@ -281,13 +291,7 @@ pub fn strided_range_of(
                     height: k,
                     ..
                 } if m.max(n.max(k)) < LIMIT => {
-                    let a = Box::new(alloc, a)?;
-                    let b = Box::new(alloc, b)?;
-                    let node = Node::StridedRange {
-                        from: a,
-                        to: b,
-                        stride: Box::new(alloc, c)?,
-                    };
+                    let node = strided_range(alloc, a, b, c)?;
                     Ok(Part::Built {
                         exp: Exp { span, node },
                         height: m.max(n.max(k)) + 1,
@@ -300,6 +304,15 @@ pub fn strided_range_of(
         },
         Part::High(_) => Ok(too_high((to, stride), false)),
     }
+}
+
+fn choice(alloc: Global, test: Exp, yes: Exp, no: Exp) -> Result<Node, AllocError>
+    ensures { IfOk result (λ n. shape_of n ≡ trees.choice (tree_of test) (tree_of yes) (tree_of no)) }
+{
+    let test = Box::new(alloc, test)?;
+    let yes = Box::new(alloc, yes)?;
+    let no = Box::new(alloc, no)?;
+    Ok(Node::Choice { test, yes, no })
 }
 
 pub fn choice_of(
@@ -329,13 +342,7 @@ pub fn choice_of(
                     ..
                 } if m.max(n.max(k)) < LIMIT => {
                     let span = over(word, c.span);
-                    let a = Box::new(alloc, a)?;
-                    let b = Box::new(alloc, b)?;
-                    let node = Node::Choice {
-                        test: a,
-                        yes: b,
-                        no: Box::new(alloc, c)?,
-                    };
+                    let node = choice(alloc, a, b, c)?;
                     Ok(Part::Built {
                         exp: Exp { span, node },
                         height: m.max(n.max(k)) + 1,

@@ -11,7 +11,7 @@ use crate::tree::{Exp, Node, Pattern, PatternNode};
 use std::alloc::{AllocError, Global};
 
 /// A pattern with its height, or one that is too high and isn't built.
-#[derive(Debug, Drop)]
+#[derive(Drop)]
 pub enum PatternPart {
     Built { pattern: Pattern, height: usize },
     High,

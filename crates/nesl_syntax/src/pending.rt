@@ -18,14 +18,14 @@ use nesl_lex::token::Span;
 use std::alloc::{AllocError, Global};
 
 /// What has binders: a let, or an apply-to-each with its body, if it has one.
-#[derive(Debug, Drop)]
+#[derive(Drop)]
 pub enum Group {
     Let(Span),
     Each { from: Span, body: Option<Part> },
 }
 
 /// What is open and must be closed by a token, with its parts so far. It stands from the span on, or from its word on.
-#[derive(Debug, Drop)]
+#[derive(Drop)]
 pub enum Opening {
     Round(Span),
     Call {
@@ -73,7 +73,7 @@ pub enum Opening {
 }
 
 /// The same of a type.
-#[derive(Debug, Drop)]
+#[derive(Drop)]
 pub enum TypeOpening {
     Empty(Span),
     List(Span),
@@ -82,7 +82,7 @@ pub enum TypeOpening {
 }
 
 /// What is open: it waits for what stands behind it.
-#[derive(Debug, Drop)]
+#[derive(Drop)]
 pub enum Pending {
     Open(Opening),
     Comma(Part),

@@ -20,14 +20,14 @@ use nesl_lex::token::{Kind, Sign, Token, Word};
 use std::alloc::Global;
 
 /// A signature, or one with a type that is too high.
-#[derive(Debug, Drop)]
+#[derive(Drop)]
 pub enum SignaturePart {
     Built(Signature),
     High,
 }
 
 /// What stands behind a signature's `->`.
-#[derive(Debug, Drop)]
+#[derive(Drop)]
 pub struct Target {
     pub to: TypePart,
     pub members: Vec<Member>,
@@ -86,7 +86,7 @@ fn member(name: &Token, word: &Token, class: &Token) -> Result<Member, ParseFaul
 }
 
 /// What stands behind a member.
-#[derive(Clone, Copy, PartialEq, Eq, Debug)]
+#[derive(Clone, Copy, PartialEq, Eq)]
 enum MemberEnd {
     /// A `)`, and nothing more.
     Close,

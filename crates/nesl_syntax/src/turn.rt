@@ -23,7 +23,7 @@ use nesl_lex::token::Span;
 use std::alloc::Global;
 
 /// Something else is open, or the part is whole.
-#[derive(Debug, Drop)]
+#[derive(Drop)]
 pub enum Turn {
     Becomes(Pending),
     Ends(Part),

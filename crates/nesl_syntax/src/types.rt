@@ -12,7 +12,7 @@ use nesl_lex::token::Span;
 use std::alloc::{AllocError, Global};
 
 /// A type with its height, or one that is too high and isn't built.
-#[derive(Debug, Drop)]
+#[derive(Drop)]
 pub enum TypePart {
     Built { written: TypeExp, height: usize },
     High,

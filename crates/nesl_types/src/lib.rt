@@ -4,8 +4,6 @@
 pub mod bindings;
 pub mod classes;
 pub mod schemes;
-#[cfg(test)]
-mod tests;
 pub mod texts;
 pub mod types;
 

@@ -15,11 +15,13 @@ use crate::unify::Pair;
 use nesl_types::Ty;
 use std::alloc::{AllocError, Global};
 
-/// A table of as many variables, of which nothing is known.
-pub fn free_nodes(alloc: Global, count: usize) -> Result<Vec<Node>, AllocError>
+/// A table of as many variables, of which nothing is known, with room for so many nodes more.
+pub fn free_nodes(alloc: Global, count: usize, more: usize) -> Result<Vec<Node>, AllocError>
     ensures { IfOk result (λ ns. ns.items ≡ replicate count Node.Free) }
 {
-    vec![in alloc; Node::Free; count]
+    let mut nodes = Vec::with_capacity(alloc, count.saturating_add(more))?;
+    nodes.resize(count, Node::Free)?;
+    Ok(nodes)
 }
 
 /// Adds a node, and gives its place.

@@ -7,14 +7,13 @@ mod instance;
 mod measure;
 pub mod narrow;
 mod read;
+mod room;
 mod shapes;
 mod share;
 pub mod solve;
 mod start;
 pub mod system;
 mod table;
-#[cfg(test)]
-mod tests;
 mod unify;
 
 pub use fault::SolveFault;

@@ -55,7 +55,7 @@ pub fn measure_variables(
 {
     let mut noted = vec![in alloc; 0u64; table.len()]?;
     let sizes = noted.as_mut_slice();
-    let mut found = Vec::new(alloc);
+    let mut found = Vec::with_capacity(alloc, count)?;
     for place in 0..count {
         match measure(table, sizes, place, MOST_NODES) {
             Some(size) => found.push(size)?,

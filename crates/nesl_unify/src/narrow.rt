@@ -99,7 +99,7 @@ pub(crate) fn narrow(
     ensures general { IfOk result (λ cs. (w : ℕ → Term) → (of : ℕ → Class) → IsInAll (λ v. substitute w (outside_at nodes.now v)) of members.now → (v : ℕ) → IsIn of (class_at cs.items v) (w v)) }
     ensures none { IsErrOf result SolveFault.NoSolution → (w : ℕ → Term) → (of : ℕ → Class) → IsInAll (λ v. substitute w (outside_at nodes.now v)) of members.now → ⊥ }
 {
-    let mut classes = Vec::new(alloc);
+    let mut classes = Vec::with_capacity(alloc, members.len())?;
     for member in members {
         restrict_member(&mut classes, nodes, member)?;
     }

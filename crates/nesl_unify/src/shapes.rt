@@ -6,6 +6,7 @@ ghost use Rattle.nesl_types.specs.Substitution.{substitute};
 ghost use Rattle.nesl_types.specs.Numbering.{IsBelow};
 ghost use Rattle.nesl_unify.specs.Shapes.{part_type, shape_type, Builds, Follows, AreMade, IsPartBelow, IsShapeBelow};
 
+use crate::room::push_with_room;
 use nesl_types::Ty;
 use std::alloc::AllocError;
 
@@ -41,7 +42,7 @@ pub fn push_shape(shapes: &mut Vec<Shape>, shape: Shape) -> Result<usize, AllocE
     ensures shapes { OnOk result (shapes.new.items ≡ shapes.old.items ++ shape ∷ []) }
 {
     let place = shapes.len();
-    shapes.push(shape)?;
+    push_with_room(shapes, shape)?;
     Ok(place)
 }
 

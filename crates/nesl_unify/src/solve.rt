@@ -123,7 +123,7 @@ pub fn solve(
     ensures bounded { IfOk result (λ a. IsBounded (type_of a)) }
     ensures none { IsErrOf result SolveFault.NoSolution → (s : ℕ → Term) → (of : ℕ → Class) → IsBounded s → IsSolution equations.now members.now s of → ⊥ }
 {
-    let mut nodes = free_nodes(alloc, count as usize)?;
+    let mut nodes = free_nodes(alloc, count as usize, 0)?;
     let pending = add_equations(alloc, &mut nodes, equations)?;
     let solution = solve_table(alloc, count as usize, nodes, pending, members)?;
     Ok(solution)

@@ -43,7 +43,7 @@ pub fn start_nodes(alloc: Global, count: usize, shapes: &[Shape]) -> Result<Vec<
     requires { AreShapes count shapes.now }
     ensures { IfOk result (λ ns. IsStart count shapes.now ns.items) }
 {
-    let mut nodes = free_nodes(alloc, count)?;
+    let mut nodes = free_nodes(alloc, count, shapes.len())?;
     for shape in shapes {
         nodes.push(node_of(count, *shape))?;
     }
@@ -55,7 +55,7 @@ pub fn start_pairs(alloc: Global, count: usize, sides: &[Sides]) -> Result<Vec<P
     requires { All (λ e. (end_of_part count e.left < 2 ^ 64) × (end_of_part count e.right < 2 ^ 64)) sides.now }
     ensures { IfOk result (λ ps. ArePairs count sides.now ps.items) }
 {
-    let mut pending = Vec::new(alloc);
+    let mut pending = Vec::with_capacity(alloc, sides.len())?;
     for side in sides {
         let first = place_of(count, side.left);
         let second = place_of(count, side.right);

@@ -13,6 +13,7 @@ ghost use Rattle.nesl_unify.specs.Systems.{count, Holds, SolvesSystem, IsShared,
 use crate::fault::SolveFault;
 use crate::instance::put_instance;
 use crate::narrow::Member;
+use crate::room::push_with_room;
 use crate::shapes::{Part, Shape, Sides, put_type};
 use crate::share::{Seen, Shared, put_piece};
 use crate::solve::{Equation, Solution, solve_table};
@@ -68,7 +69,7 @@ impl System {
         ensures shared { OnOk result ((number : ℕ) → (t : Term) → IsShared self.old number t → IsShared self.new number t) }
     {
         let variable = self.members.len() as u64;
-        self.members.push(Member { variable, class })?;
+        push_with_room(&mut self.members, Member { variable, class })?;
         Ok(variable)
     }
 
@@ -84,7 +85,7 @@ impl System {
     {
         let left = put_type(&mut self.shapes, &equation.left)?;
         let right = put_type(&mut self.shapes, &equation.right)?;
-        self.sides.push(Sides { left, right })?;
+        push_with_room(&mut self.sides, Sides { left, right })?;
         Ok(())
     }
 
@@ -130,10 +131,8 @@ impl System {
             variable,
             fresh,
         )?;
-        self.sides.push(Sides {
-            left: Part::Variable(variable),
-            right,
-        })?;
+        let left = Part::Variable(variable);
+        push_with_room(&mut self.sides, Sides { left, right })?;
         Ok(())
     }
 

@@ -97,6 +97,10 @@ impl<A: Allocator + Copy> SequenceBuilder<A> {
         ensures ok { OnOk result (elements_of self.new ≡ elements_of self.old ++ int n ∷ []) }
         ensures err { OnErr result (elements_of self.new ≡ elements_of self.old) }
     {
+        let room = self.room;
+        if let Run::Ints(ints) = &mut self.run {
+            return push_with_room(ints, n, room);
+        }
         match mem::replace(&mut self.run, Run::Empty).into_ints(self.alloc) {
             Ok(mut ints) => {
                 let outcome = push_with_room(&mut ints, n, self.room);
@@ -115,6 +119,10 @@ impl<A: Allocator + Copy> SequenceBuilder<A> {
         ensures ok { OnOk result (elements_of self.new ≡ elements_of self.old ++ boolean b ∷ []) }
         ensures err { OnErr result (elements_of self.new ≡ elements_of self.old) }
     {
+        let room = self.room;
+        if let Run::Bools(bools) = &mut self.run {
+            return push_with_room(bools, b, room);
+        }
         match mem::replace(&mut self.run, Run::Empty).into_bools(self.alloc) {
             Ok(mut bools) => {
                 let outcome = push_with_room(&mut bools, b, self.room);
@@ -133,6 +141,10 @@ impl<A: Allocator + Copy> SequenceBuilder<A> {
         ensures ok { OnOk result (elements_of self.new ≡ elements_of self.old ++ character c ∷ []) }
         ensures err { OnErr result (elements_of self.new ≡ elements_of self.old) }
     {
+        let room = self.room;
+        if let Run::Chars(chars) = &mut self.run {
+            return push_with_room(chars, c, room);
+        }
         match mem::replace(&mut self.run, Run::Empty).into_chars(self.alloc) {
             Ok(mut chars) => {
                 let outcome = push_with_room(&mut chars, c, self.room);
@@ -282,6 +294,10 @@ impl<A: Allocator + Copy> SequenceBuilder<A> {
         ensures ok { OnOk result (elements_of self.new ≡ elements_of self.old ++ tree_of item ∷ []) }
         ensures err { OnErr result (elements_of self.new ≡ elements_of self.old) }
     {
+        let room = self.room;
+        if let Run::Values(values) = &mut self.run {
+            return push_with_room(values, item, room);
+        }
         match mem::replace(&mut self.run, Run::Empty).into_values(self.alloc, self.room) {
             Ok(mut values) => {
                 let outcome = push_with_room(&mut values, item, self.room);

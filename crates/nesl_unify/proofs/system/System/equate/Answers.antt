@@ -19,7 +19,7 @@ returns-clause-system c =
     let e : Sides = record { left = c.in_ok-left.left; right = c.in_ok-right.right } in
     record {
       shapes = shapes_more n old new w a.shapes (made_more n old mid new y.follows (x.made n c.requires.left) (y.made n c.requires.right));
-      sides = sides_more n (length old) (length new) c.args.self.now.sides.items c.push.new.self.items e w.longer a.sides c.in_ok-push.ensures.items
+      sides = sides_more n (length old) (length new) c.args.self.now.sides.items c.push_with_room.new.items.items e w.longer a.sides c.in_ok-push_with_room.ensures
           (part_wider n n (length mid) (length new) c.in_ok-left.left (omega arith) y.follows.longer (x.below n c.requires.left), y.below n c.requires.right);
       members = a.members;
       shared = shared_wider (length old) (length new) c.args.self.now.shared.items w.longer a.shared;
@@ -36,8 +36,8 @@ returns-clause-holds c = λ s.
     let a = c.requires.system in
     let w = follows_more old mid new x.follows y.follows in
     let e : Sides = record { left = c.in_ok-left.left; right = c.in_ok-right.right } in
-    hold_more n s old new c.args.self.now.sides.items c.push.new.self.items e (substitute s (term c.args.equation.now.left)) (substitute s (term c.args.equation.now.right)) a.shapes
-    (shapes_more n old new w a.shapes (made_more n old mid new y.follows (x.made n c.requires.left) (y.made n c.requires.right))) w a.sides c.in_ok-push.ensures.items
+    hold_more n s old new c.args.self.now.sides.items c.push_with_room.new.items.items e (substitute s (term c.args.equation.now.left)) (substitute s (term c.args.equation.now.right)) a.shapes
+    (shapes_more n old new w a.shapes (made_more n old mid new y.follows (x.made n c.requires.left) (y.made n c.requires.right))) w a.sides c.in_ok-push_with_room.ensures
     (λ f b. (x.meaning s f (builds_before s f mid new y.follows b), y.meaning s f b))
 
 pub returns-clause-shared : goal.returns-clause-shared

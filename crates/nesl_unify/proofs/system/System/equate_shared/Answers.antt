@@ -22,7 +22,7 @@ returns-clause-system c =
     let e : Sides = record { left = Variable c.args.variable; right = c.in_ok-right.right } in
     record {
       shapes = shapes_more n old new r.follows a.shapes (r.made n c.requires.variable c.requires.fresh);
-      sides = sides_more n (length old) (length new) c.args.self.now.sides.items c.push.new.self.items e r.follows.longer a.sides c.in_ok-push.ensures.items (c.requires.variable, r.below n c.requires.variable c.requires.fresh);
+      sides = sides_more n (length old) (length new) c.args.self.now.sides.items c.push_with_room.new.items.items e r.follows.longer a.sides c.in_ok-push_with_room.ensures (c.requires.variable, r.below n c.requires.variable c.requires.fresh);
       members = a.members;
       shared = shared_wider (length old) (length new) c.args.self.now.shared.items r.follows.longer a.shared;
     }
@@ -40,7 +40,7 @@ returns-clause-holds c = λ t h s.
     let at : get_or c.args.self.now.shared.items c.args.number p ≡ p = sym (get_or_read c.args.self.now.shared.items c.args.number p c.requires.number c.index-pattern.ensures p) in
     let stands : Stands old p.opened.items p.root t = subst (λ (x : Shared). Stands old x.opened.items x.root t) at (h.stands p) in
     let z : ℕ → Term = λ v. s (fresh_at c.args.variable c.args.fresh.now v) in
-    hold_more n s old new c.args.self.now.sides.items c.push.new.self.items e (s c.args.variable) (substitute z t) a.shapes m r.follows a.sides c.in_ok-push.ensures.items
+    hold_more n s old new c.args.self.now.sides.items c.push_with_room.new.items.items e (s c.args.variable) (substitute z t) a.shapes m r.follows a.sides c.in_ok-push_with_room.ensures
     (λ f b.
     let g : ℕ → Term = λ q. f (length old + q) in
     let o : Opens z f g p.opened.items = subst (λ (l : List OpenShape). Opens z f g l) c.as_slice.ensures.value (r.opens s f b) in

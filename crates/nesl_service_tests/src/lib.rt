@@ -1,0 +1,11 @@
+// Tests of the service over sockets.
+#![tactic(auto)]
+
+#[cfg(test)]
+mod at_once;
+#[cfg(test)]
+mod client;
+#[cfg(test)]
+mod counting;
+#[cfg(test)]
+mod in_turn;
