@@ -1,5 +1,6 @@
 //! A house spoken to, in a few lines.
-use nesl_house::house::{House, Said};
+use crate::turns::{ORDERS, Talk, are_heard, orders, said, script};
+use nesl_house::house::House;
 use nesl_house::manner::InHeap;
 use nesl_house::roster::{NewFault, is_user_name};
 use nesl_session::Fault;
@@ -15,135 +16,151 @@ const LIMITS: Limits = Limits {
     transcript_bytes: 100_000,
 };
 
-fn roster(alloc: Global, names: &[&str]) -> Result<Vec<Vec<u8>>, AllocError> {
+const ONE: &str = "it = 1 : int (work 1, depth 1)\n";
+
+// The names between the blanks.
+fn roster(alloc: Global, names: &str) -> Result<Vec<Vec<u8>>, AllocError> {
     let mut roster = Vec::new(alloc);
-    for name in names {
+    for name in names.split(' ') {
         roster.push(Vec::from_slice(alloc, name.as_bytes())?)?;
     }
     Ok(roster)
 }
 
-fn said(alloc: Global, user: &str, text: &str) -> Result<Said, AllocError> {
-    Ok(Said {
-        user: Vec::from_slice(alloc, user.as_bytes())?,
-        text: Vec::from_slice(alloc, text.as_bytes())?,
-    })
+fn house(alloc: Global, names: &str) -> Result<House, Fail> {
+    let names = roster(alloc, names)?;
+    Ok(House::new(alloc, names.as_slice(), LIMITS)?)
+}
+
+// Whether this is what is answered.
+fn is_told(alloc: Global, house: &mut House, user: &[u8], text: &[u8], wanted: &str) -> bool {
+    house.say(alloc, user, text).bytes() == wanted.as_bytes()
+}
+
+// How many lines the user's session stored.
+fn lines_of(house: &House, user: &[u8]) -> Option<usize> {
+    house.session(user).map(|session| session.lines().len())
+}
+
+// Whether each session stored one line.
+fn all_have_one(house: &House) -> bool {
+    house
+        .users()
+        .iter()
+        .all(|user| user.session().lines().len() == 1)
+}
+
+// Why there is no house for the roster.
+fn refusal(alloc: Global, names: &[Vec<u8>]) -> Option<NewFault> {
+    House::new(alloc, names, LIMITS).err()
 }
 
 #[test]
 fn rosters_are_checked(rt: HostRuntime) -> Result<(), Fail> {
     let alloc = rt.alloc();
-    let long = "abcdefghijklmnopq";
-    let refused = [
-        (&[][..], NewFault::Count),
-        (&["ann", "Ann"][..], NewFault::Name { place: 1 }),
-        (&["ann", "bob", "ann"][..], NewFault::Twice { place: 2 }),
-        (&["ann", "ann", "Bob"][..], NewFault::Twice { place: 1 }),
-        (&["ann", "1a"][..], NewFault::Name { place: 1 }),
-        (&["ann", ""][..], NewFault::Name { place: 1 }),
-        (&["ann", long][..], NewFault::Name { place: 1 }),
-    ];
-    for (names, fault) in refused {
+    assert!(rt; refusal(alloc, &[]) == Some(NewFault::Count));
+    for (names, fault) in [
+        ("ann Ann", NewFault::Name { place: 1 }),
+        ("ann bob ann", NewFault::Twice { place: 2 }),
+        ("ann ann Bob", NewFault::Twice { place: 1 }),
+        ("ann 1a", NewFault::Name { place: 1 }),
+        ("ann ", NewFault::Name { place: 1 }),
+        ("ann abcdefghijklmnopq", NewFault::Name { place: 1 }),
+    ] {
         let names = roster(alloc, names)?;
-        match House::new(alloc, names.as_slice(), LIMITS) {
-            Ok(_) => assert!(rt; false, "{fault:?} is wanted"),
-            Err(found) => assert_eq!(rt; found, fault),
-        }
+        assert!(rt;
+            refusal(alloc, names.as_slice()) == Some(fault),
+            "{fault:?} is wanted"
+        );
     }
-    assert!(rt; is_user_name(&long.as_bytes()[..16]));
+    assert!(rt; is_user_name(b"abcdefghijklmnop"));
     Ok(())
+}
+
+// The names aa, ab, and so on.
+fn many_names(alloc: Global, count: u8) -> Result<Vec<Vec<u8>>, AllocError> {
+    let mut names = Vec::new(alloc);
+    for place in 0..count {
+        names.push([b'a' + place / 26, b'a' + place % 26].to_vec(alloc)?)?;
+    }
+    Ok(names)
 }
 
 #[test]
 fn rosters_are_counted(rt: HostRuntime) -> Result<(), Fail> {
     let alloc = rt.alloc();
-    let mut names = Vec::new(alloc);
-    for place in 0u8..64 {
-        names.push([b'a' + place / 26, b'a' + place % 26].to_vec(alloc)?)?;
-    }
+    let names = many_names(alloc, 64)?;
     let mut house = House::new(alloc, names.as_slice(), LIMITS)?;
-    assert_eq!(rt; house.users().len(), 64);
+    assert!(rt; house.users().len() == 64);
     for name in names.iter() {
-        let answer = house.say(alloc, name.as_slice(), b"1;");
-        assert_eq!(rt; answer.bytes(), ONE.as_bytes());
+        assert!(rt; is_told(alloc, &mut house, name.as_slice(), b"1;", ONE));
     }
-    for user in house.users() {
-        assert_eq!(rt; user.session().lines().len(), 1);
-    }
-    names.push(b"zz".to_vec(alloc)?)?;
-    match House::new(alloc, names.as_slice(), LIMITS) {
-        Ok(_) => assert!(rt; false, "65 names are too many"),
-        Err(found) => assert_eq!(rt; found, NewFault::Count),
-    }
+    assert!(rt; all_have_one(&house));
+    Ok(())
+}
+
+#[test]
+fn a_65th_name_is_too_many(rt: HostRuntime) -> Result<(), Fail> {
+    let names = many_names(rt.alloc(), 65)?;
+    assert!(rt; refusal(rt.alloc(), names.as_slice()) == Some(NewFault::Count));
     Ok(())
 }
 
 #[test]
 fn users_have_sessions_of_their_own(rt: HostRuntime) -> Result<(), Fail> {
     let alloc = rt.alloc();
-    let names = roster(alloc, &["ann", "bob"])?;
-    let mut house = House::new(alloc, names.as_slice(), LIMITS)?;
-    let answer = house.say(alloc, b"bob", b"7;");
-    assert_eq!(rt;
-        answer.bytes(),
-        b"it = 7 : int (work 1, depth 1)\n".as_slice()
-    );
-    let answer = house.say_in(alloc, b"zed", b"7;", alloc);
-    assert_eq!(rt; answer.fault(), Some(Fault::User));
-    let answer = house.say(alloc, b"zed", b"7;");
-    assert_eq!(rt; answer.bytes(), b"fault user\n".as_slice());
-    assert_eq!(rt; answer.fault(), Some(Fault::User));
-    assert!(rt; !answer.recorded());
-    let ann = house.session(b"ann").ok_or("ann")?;
-    assert_eq!(rt; ann.lines().len(), 0);
-    let bob = house.session(b"bob").ok_or("bob")?;
-    assert_eq!(rt; bob.lines().len(), 1);
-    assert!(rt; house.session(b"zed").is_none());
+    let mut house = house(alloc, "ann bob")?;
+    let seven = "it = 7 : int (work 1, depth 1)\n";
+    assert!(rt; is_told(alloc, &mut house, b"bob", b"7;", seven));
+    assert!(rt; lines_of(&house, b"ann") == Some(0));
+    assert!(rt; lines_of(&house, b"bob") == Some(1));
+    assert!(rt; lines_of(&house, b"zed").is_none());
     let second = house.users().get(1).ok_or("second")?;
-    assert_eq!(rt; second.name(), b"bob".as_slice());
-    assert_eq!(rt; second.session().lines().len(), 1);
+    assert!(rt; second.name() == b"bob".as_slice());
+    assert!(rt; second.session().lines().len() == 1);
+    Ok(())
+}
+
+#[test]
+fn strangers_have_none(rt: HostRuntime) -> Result<(), Fail> {
+    let alloc = rt.alloc();
+    let mut house = house(alloc, "ann bob")?;
+    let answer = house.say_in(alloc, b"zed", b"7;", alloc);
+    assert!(rt; answer.fault() == Some(Fault::User));
+    let answer = house.say(alloc, b"zed", b"7;");
+    assert!(rt; answer.bytes() == b"fault user\n".as_slice());
+    assert!(rt; answer.fault() == Some(Fault::User));
+    assert!(rt; !answer.recorded());
     Ok(())
 }
 
 #[test]
 fn lines_are_said_in_a_heap(rt: HostRuntime) -> Result<(), Fail> {
     let alloc = rt.alloc();
-    let names = roster(alloc, &["ann", "bob"])?;
-    let mut house = House::new(alloc, names.as_slice(), LIMITS)?;
+    let mut house = house(alloc, "ann bob")?;
     let answer = house.say_in(alloc, b"ann", b"1;", alloc);
-    assert_eq!(rt; answer.bytes(), ONE.as_bytes());
+    assert!(rt; answer.bytes() == ONE.as_bytes());
     let mut script = Vec::new(alloc);
     script.push(said(alloc, "bob", "1;")?)?;
     script.push(said(alloc, "zed", "1;")?)?;
     let answers = house.run_by(alloc, &InHeap(alloc), script.as_slice())?;
-    let first = answers.first().ok_or("first")?;
-    assert_eq!(rt; first.bytes(), ONE.as_bytes());
-    let second = answers.get(1).ok_or("second")?;
-    assert_eq!(rt; second.fault(), Some(Fault::User));
-    for user in house.users() {
-        assert_eq!(rt; user.session().lines().len(), 1);
-    }
+    assert!(rt; answers.first().map(|answer| answer.bytes()) == Some(ONE.as_bytes()));
+    assert!(rt; answers.get(1).map(|answer| answer.fault()) == Some(Some(Fault::User)));
+    assert!(rt; all_have_one(&house));
     Ok(())
 }
-
-const ONE: &str = "it = 1 : int (work 1, depth 1)\n";
 
 #[test]
 fn a_line_may_be_too_long(rt: HostRuntime) -> Result<(), Fail> {
     let alloc = rt.alloc();
-    let names = roster(alloc, &["ann"])?;
-    let mut house = House::new(alloc, names.as_slice(), LIMITS)?;
+    let mut house = house(alloc, "ann")?;
     let mut line = Vec::from_slice(alloc, b"1;")?;
-    for _ in 0..65_535 {
-        line.push(b' ')?;
-    }
-    let answer = house.say(alloc, b"ann", line.as_slice());
-    assert_eq!(rt; answer.bytes(), b"fault long (work 0)\n".as_slice());
+    line.resize(65_537, b' ')?;
+    let long = "fault long (work 0)\n";
+    assert!(rt; is_told(alloc, &mut house, b"ann", line.as_slice(), long));
     let _ = line.pop();
-    let answer = house.say(alloc, b"ann", line.as_slice());
-    assert_eq!(rt; answer.bytes(), ONE.as_bytes());
-    let ann = house.session(b"ann").ok_or("ann")?;
-    assert_eq!(rt; ann.lines().len(), 1);
+    assert!(rt; is_told(alloc, &mut house, b"ann", line.as_slice(), ONE));
+    assert!(rt; lines_of(&house, b"ann") == Some(1));
     Ok(())
 }
 
@@ -151,7 +168,7 @@ fn a_line_may_be_too_long(rt: HostRuntime) -> Result<(), Fail> {
 #[test]
 fn a_session_takes_many_lines(rt: HostRuntime) -> Result<(), Fail> {
     let alloc = rt.alloc();
-    let names = roster(alloc, &["ann"])?;
+    let names = roster(alloc, "ann")?;
     let limits = Limits {
         session_work: 3000,
         transcript_lines: 3000,
@@ -159,21 +176,23 @@ fn a_session_takes_many_lines(rt: HostRuntime) -> Result<(), Fail> {
     };
     let mut house = House::new(alloc, names.as_slice(), limits)?;
     for place in 0..3000 {
-        let answer = house.say(alloc, b"ann", b"1;");
-        assert_eq!(rt; answer.bytes(), ONE.as_bytes(), "line {place}");
+        assert!(rt;
+            is_told(alloc, &mut house, b"ann", b"1;", ONE),
+            "line {place}"
+        );
     }
-    let answer = house.say(alloc, b"ann", b"1;");
-    assert_eq!(rt; answer.bytes(), b"fault transcript (work 0)\n".as_slice());
+    let full = "fault transcript (work 0)\n";
+    assert!(rt; is_told(alloc, &mut house, b"ann", b"1;", full));
     Ok(())
 }
 
-const ANN: [(&str, &str); 3] = [
+const ANN: Talk = [
     ("3;", "it = 3 : int (work 1, depth 1)\n"),
     ("x", "fault syntax (work 0)\n"),
     ("4;", "it = 4 : int (work 1, depth 1)\n"),
 ];
 
-const BOB: [(&str, &str); 3] = [
+const BOB: Talk = [
     ("5;", "it = 5 : int (work 1, depth 1)\n"),
     ("6;", "it = 6 : int (work 1, depth 1)\n"),
     ("7;", "fault work (work 0)\n"),
@@ -182,37 +201,16 @@ const BOB: [(&str, &str); 3] = [
 #[test]
 fn no_one_hears_who_else_speaks(rt: HostRuntime) -> Result<(), Fail> {
     let alloc = rt.alloc();
-    let names = roster(alloc, &["ann", "bob"])?;
-    let mut interleavings = 0u8;
-    for choice in 0u8..64 {
-        if choice.count_ones() != 3 {
-            continue;
-        }
-        interleavings = interleavings.saturating_add(1);
-        let mut house = House::new(alloc, names.as_slice(), LIMITS)?;
-        let mut script = Vec::new(alloc);
-        let (mut ann, mut bob, mut turns) = (ANN.iter(), BOB.iter(), choice);
-        for _ in 0..6 {
-            let is_ann = turns & 1 == 1;
-            turns >>= 1;
-            let next = if is_ann { ann.next() } else { bob.next() };
-            let (line, _) = next.ok_or("three lines each")?;
-            script.push(said(alloc, if is_ann { "ann" } else { "bob" }, line)?)?;
-        }
+    let orders = orders(alloc)?;
+    assert!(rt; orders.len() == ORDERS);
+    for order in orders.iter() {
+        let script = script(alloc, &ANN, &BOB, *order)?;
+        let mut house = house(alloc, "ann bob")?;
         let answers = house.run(alloc, script.as_slice())?;
-        assert_eq!(rt; answers.len(), 6);
-        (ann, bob, turns) = (ANN.iter(), BOB.iter(), choice);
-        for answer in answers.iter() {
-            let next = if turns & 1 == 1 {
-                ann.next()
-            } else {
-                bob.next()
-            };
-            turns >>= 1;
-            let (_, reply) = next.ok_or("three replies each")?;
-            assert_eq!(rt; answer.bytes(), reply.as_bytes(), "in {choice}");
-        }
+        assert!(rt;
+            are_heard(&ANN, &BOB, *order, answers.as_slice()),
+            "in {order}"
+        );
     }
-    assert_eq!(rt; interleavings, 20);
     Ok(())
 }

@@ -11,3 +11,5 @@ mod houses;
 mod interleaving;
 #[cfg(test)]
 mod sample;
+#[cfg(test)]
+mod turns;

@@ -6,54 +6,52 @@ use std::alloc::{AllocError, Global};
 use std::test::Fail;
 
 /// The built-in functions that are called by a name, with their types as the language's tables have them.
-const NAMED: [(&[u8], &str); 46] = [
-    (b"not", "a -> a :: (a in logical)"),
-    (b"plusp", "a -> bool :: (a in number)"),
-    (b"minusp", "a -> bool :: (a in number)"),
-    (b"zerop", "a -> bool :: (a in number)"),
-    (b"oddp", "int -> bool"),
-    (b"evenp", "int -> bool"),
-    (b"negate", "a -> a :: (a in number)"),
-    (b"abs", "a -> a :: (a in number)"),
-    (b"rem", "(int, int) -> int"),
-    (b"max", "(a, a) -> a :: (a in ordinal)"),
-    (b"min", "(a, a) -> a :: (a in ordinal)"),
-    (b"lshift", "(int, int) -> int"),
-    (b"rshift", "(int, int) -> int"),
-    (b"isqrt", "int -> int"),
-    (b"btoi", "bool -> int"),
-    (b"char_code", "char -> int"),
-    (b"code_char", "int -> char"),
-    (b"dist", "(a, int) -> [a]"),
-    (b"index", "int -> [int]"),
-    (b"sum", "[a] -> a :: (a in number)"),
-    (b"max_val", "[a] -> a :: (a in ordinal)"),
-    (b"min_val", "[a] -> a :: (a in ordinal)"),
-    (b"any", "[bool] -> bool"),
-    (b"all", "[bool] -> bool"),
-    (b"count", "[bool] -> int"),
-    (b"max_index", "[a] -> int :: (a in ordinal)"),
-    (b"min_index", "[a] -> int :: (a in ordinal)"),
-    (b"plus_scan", "[a] -> [a] :: (a in number)"),
-    (b"or_scan", "[a] -> [a] :: (a in logical)"),
-    (b"and_scan", "[a] -> [a] :: (a in logical)"),
-    (b"flatten", "[[a]] -> [a]"),
-    (b"partition", "([a], [int]) -> [[a]]"),
-    (b"split", "([a], [bool]) -> [[a]]"),
-    (b"bottop", "[a] -> [[a]]"),
-    (b"take", "([a], int) -> [a]"),
-    (b"drop", "([a], int) -> [a]"),
-    (b"reverse", "[a] -> [a]"),
-    (b"rotate", "([a], int) -> [a]"),
-    (b"odd_elts", "[a] -> [a]"),
-    (b"even_elts", "[a] -> [a]"),
-    (b"interleave", "([a], [a]) -> [a]"),
-    (b"zip", "([a], [b]) -> [(a, b)]"),
-    (b"unzip", "[(a, b)] -> ([a], [b])"),
-    (b"permute", "([a], [int]) -> [a]"),
-    (b"rep", "([a], a, int) -> [a]"),
-    (b"eql", "(a, a) -> bool"),
-];
+const NAMED: &str = r#"not : a -> a :: (a in logical)
+plusp : a -> bool :: (a in number)
+minusp : a -> bool :: (a in number)
+zerop : a -> bool :: (a in number)
+oddp : int -> bool
+evenp : int -> bool
+negate : a -> a :: (a in number)
+abs : a -> a :: (a in number)
+rem : (int, int) -> int
+max : (a, a) -> a :: (a in ordinal)
+min : (a, a) -> a :: (a in ordinal)
+lshift : (int, int) -> int
+rshift : (int, int) -> int
+isqrt : int -> int
+btoi : bool -> int
+char_code : char -> int
+code_char : int -> char
+dist : (a, int) -> [a]
+index : int -> [int]
+sum : [a] -> a :: (a in number)
+max_val : [a] -> a :: (a in ordinal)
+min_val : [a] -> a :: (a in ordinal)
+any : [bool] -> bool
+all : [bool] -> bool
+count : [bool] -> int
+max_index : [a] -> int :: (a in ordinal)
+min_index : [a] -> int :: (a in ordinal)
+plus_scan : [a] -> [a] :: (a in number)
+or_scan : [a] -> [a] :: (a in logical)
+and_scan : [a] -> [a] :: (a in logical)
+flatten : [[a]] -> [a]
+partition : ([a], [int]) -> [[a]]
+split : ([a], [bool]) -> [[a]]
+bottop : [a] -> [[a]]
+take : ([a], int) -> [a]
+drop : ([a], int) -> [a]
+reverse : [a] -> [a]
+rotate : ([a], int) -> [a]
+odd_elts : [a] -> [a]
+even_elts : [a] -> [a]
+interleave : ([a], [a]) -> [a]
+zip : ([a], [b]) -> [(a, b)]
+unzip : [(a, b)] -> ([a], [b])
+permute : ([a], [int]) -> [a]
+rep : ([a], a, int) -> [a]
+eql : (a, a) -> bool"#;
 
 /// The operators between two expressions, with the types of their functions.
 const INFIX: [(Operator, &str); 18] = [
@@ -88,9 +86,10 @@ fn reads(alloc: Global, builtin: Builtin, wanted: &str) -> Result<bool, AllocErr
 #[test]
 fn names_have_the_types_of_the_table(rt: HostRuntime) -> Result<(), Fail> {
     let alloc = rt.alloc();
-    for (name, wanted) in &NAMED {
-        let builtin = named(*name).expect(&rt, "the name is known");
-        assert!(rt; reads(alloc, builtin, *wanted)?);
+    for row in NAMED.lines() {
+        let (name, wanted) = row.split_once(" : ").ok_or("a name and a type")?;
+        let builtin = named(name.as_bytes()).ok_or("a name that is known")?;
+        assert!(rt; reads(alloc, builtin, wanted)?, "{name}");
     }
     Ok(())
 }

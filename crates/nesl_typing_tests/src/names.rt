@@ -9,79 +9,77 @@ use nesl_types::{Context, Scheme, Top, Ty};
 use std::alloc::{AllocError, Global};
 use std::test::Fail;
 
-/// Lines with where their first unknown name stands. A variable `x`, a function `g` and a datatype `p` are defined, and
-/// `it` is a variable.
-const LINES: [(&str, Option<(usize, usize)>); 69] = [
-    ("x;", None),
-    ("y;", Some((0, 1))),
-    ("(y);", Some((0, 3))),
-    ("g;", Some((0, 1))),
-    ("x(1);", Some((0, 4))),
-    ("p(1);", None),
-    ("g(1);", None),
-    ("sum([1]);", None),
-    ("sum;", Some((0, 3))),
-    ("y(z);", Some((0, 4))),
-    ("g(z);", Some((2, 3))),
-    ("g((z));", Some((2, 5))),
-    ("1 + y;", Some((4, 5))),
-    ("((y) + 1) + z;", Some((1, 4))),
-    ("#w;", Some((1, 2))),
-    ("w[v];", Some((0, 1))),
-    ("[w, v];", Some((1, 2))),
-    ("[w : v];", Some((1, 2))),
-    ("[1 : 2 : v];", Some((9, 10))),
-    ("{y : x in z};", Some((1, 2))),
-    ("{x : y in z};", Some((10, 11))),
-    ("{a : a in [1]; b in a};", Some((20, 21))),
-    ("{y : a in [1]; b in a};", Some((1, 2))),
-    ("{q(a) in [1]; a in b};", Some((1, 5))),
-    ("{a in [1] | b};", Some((12, 13))),
-    ("{a in [1] | a == 1};", None),
-    ("{a + 1 : a in [1] | a == b};", Some((25, 26))),
-    ("let a = 1; b = a in b;", None),
-    ("let a = a in a;", Some((8, 9))),
-    ("let q(a) = b in a;", Some((4, 8))),
-    ("let p(a) = p(1) in a;", None),
-    ("let g(a) = 1 in a;", Some((4, 8))),
-    ("let (a, q(b)) = c in a;", Some((8, 12))),
-    ("let a = 1 in let b = a in c;", Some((26, 27))),
-    ("let a = (let b = 1 in b) in b;", Some((28, 29))),
-    ("[] int;", None),
-    ("[] q;", Some((3, 4))),
-    ("[] (int, (q));", Some((10, 11))),
-    ("[] (x, q);", Some((4, 5))),
-    ("[] p;", None),
-    ("if T then y else z;", Some((10, 11))),
-    ("let g = 1 in g;", None),
-    ("let g = 1 in g(g);", None),
-    ("let q = 1 in q(1);", Some((13, 17))),
-    ("`y;", None),
-    ("\"y\";", None),
-    (":type y;", Some((6, 7))),
-    ("it;", None),
-    ("function h(y) = y + x;", None),
-    ("function h(y) = z;", Some((16, 17))),
-    ("function h q(a) = b;", Some((11, 15))),
-    ("function h(p(a)) = a;", None),
-    ("function x(y) = x + y;", Some((16, 17))),
-    ("function h(x) = it;", Some((16, 18))),
-    ("function h(it) = it;", None),
-    ("function h(y) = let it = y in it;", None),
-    ("function h(x) = h(x);", None),
-    ("function h(x) = h;", Some((16, 17))),
-    ("function h(x) = {h : h in [x]};", None),
-    ("function h(x) : q -> c = x;", None),
-    ("datatype d (int, d);", Some((17, 18))),
-    ("datatype d [p];", None),
-    ("datatype d [x];", Some((12, 13))),
-    ("datatype d (int, (g, d));", Some((18, 19))),
-    ("k = k;", Some((4, 5))),
-    ("let a = 1 in (let a = 2 in a) + a;", None),
-    ("(let a = 2 in a) + a;", Some((19, 20))),
-    ("let a = 1; a = a in a;", None),
-    ("{a : (a, b) in [(1, c)]};", Some((20, 21))),
-];
+/// Lines, each behind the place of its first unknown name, or a `-` where it has none. A variable `x`, a function `g`
+/// and a datatype `p` are defined, and `it` is a variable.
+const LINES: &str = r#"- x;
+0..1 y;
+0..3 (y);
+0..1 g;
+0..4 x(1);
+- p(1);
+- g(1);
+- sum([1]);
+0..3 sum;
+0..4 y(z);
+2..3 g(z);
+2..5 g((z));
+4..5 1 + y;
+1..4 ((y) + 1) + z;
+1..2 #w;
+0..1 w[v];
+1..2 [w, v];
+1..2 [w : v];
+9..10 [1 : 2 : v];
+1..2 {y : x in z};
+10..11 {x : y in z};
+20..21 {a : a in [1]; b in a};
+1..2 {y : a in [1]; b in a};
+1..5 {q(a) in [1]; a in b};
+12..13 {a in [1] | b};
+- {a in [1] | a == 1};
+25..26 {a + 1 : a in [1] | a == b};
+- let a = 1; b = a in b;
+8..9 let a = a in a;
+4..8 let q(a) = b in a;
+- let p(a) = p(1) in a;
+4..8 let g(a) = 1 in a;
+8..12 let (a, q(b)) = c in a;
+26..27 let a = 1 in let b = a in c;
+28..29 let a = (let b = 1 in b) in b;
+- [] int;
+3..4 [] q;
+10..11 [] (int, (q));
+4..5 [] (x, q);
+- [] p;
+10..11 if T then y else z;
+- let g = 1 in g;
+- let g = 1 in g(g);
+13..17 let q = 1 in q(1);
+- `y;
+- "y";
+6..7 :type y;
+- it;
+- function h(y) = y + x;
+16..17 function h(y) = z;
+11..15 function h q(a) = b;
+- function h(p(a)) = a;
+16..17 function x(y) = x + y;
+16..18 function h(x) = it;
+- function h(it) = it;
+- function h(y) = let it = y in it;
+- function h(x) = h(x);
+16..17 function h(x) = h;
+- function h(x) = {h : h in [x]};
+- function h(x) : q -> c = x;
+17..18 datatype d (int, d);
+- datatype d [p];
+12..13 datatype d [x];
+18..19 datatype d (int, (g, d));
+4..5 k = k;
+- let a = 1 in (let a = 2 in a) + a;
+19..20 (let a = 2 in a) + a;
+- let a = 1; a = a in a;
+20..21 {a : (a, b) in [(1, c)]};"#;
 
 fn context(alloc: Global) -> Result<Context<u8>, AllocError> {
     let mut context = Context::new(alloc);
@@ -115,19 +113,32 @@ fn first_unknown(
 }
 
 /// Where the first unknown name of the line stands, if it has one.
-fn unknown(alloc: Global, line: &[u8]) -> Result<Option<(usize, usize)>, Fail> {
+fn unknown(alloc: Global, line: &[u8]) -> Result<Option<Span>, Fail> {
+    let form = form_of(alloc, line)?;
     let context = context(alloc)?;
+    Ok(first_unknown(alloc, &context, &form)?)
+}
+
+fn form_of(alloc: Global, line: &[u8]) -> Result<Form, Fail> {
     let tokens = lex(alloc, line)?;
-    let form = parse_form(alloc, tokens.as_slice())?;
-    let span = first_unknown(alloc, &context, &form)?;
-    Ok(span.map(|s| (s.start, s.end)))
+    Ok(parse_form(alloc, tokens.as_slice())?)
+}
+
+/// The place as a row has it.
+fn shown(alloc: Global, span: Option<Span>) -> Result<String, AllocError> {
+    match span {
+        Some(span) => format!(in alloc; "{}..{}", span.start, span.end),
+        None => String::from_str(alloc, "-"),
+    }
 }
 
 #[test]
 fn the_first_unknown_name_is_told(rt: HostRuntime) -> Result<(), Fail> {
     let alloc = rt.alloc();
-    for (line, wanted) in &LINES {
-        assert!(rt; unknown(alloc, line.as_bytes())? == *wanted);
+    for row in LINES.lines() {
+        let (wanted, line) = row.split_once(' ').ok_or("a place and a line")?;
+        let told = shown(alloc, unknown(alloc, line.as_bytes())?)?;
+        assert_eq!(rt; told.as_str(), wanted, "{line}");
     }
     Ok(())
 }

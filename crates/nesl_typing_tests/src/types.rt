@@ -134,25 +134,44 @@ fn thirty_variables_have_names(rt: HostRuntime) -> Result<(), Fail> {
     Ok(())
 }
 
-#[test]
-fn datatypes_are_found_by_their_tags(rt: HostRuntime) -> Result<(), Fail> {
-    let alloc = rt.alloc();
+/// A variable, a datatype, and the variable again, which is a datatype now.
+fn two_datatypes(alloc: Global) -> Result<Context<u8>, AllocError> {
     let mut context = Context::new(alloc);
     context.set(alloc, b"x", Top::Variable(Ty::Int), 5)?;
     context.set(alloc, b"point", Top::Datatype(0, Ty::Int), 6)?;
     context.set(alloc, b"x", Top::Datatype(1, Ty::Bool), 7)?;
-    let text = type_text(
-        alloc,
-        &both(alloc, Ok(Ty::Named(0)), Ok(Ty::Named(1)))?,
-        &context,
-    )?;
-    assert!(rt; text.as_slice() == b"(point, x)".as_slice());
-    assert!(rt; context.datatype(0).map(|b| *b.2) == Some(6));
-    assert!(rt; context.datatype(1).map(|b| *b.2) == Some(7));
-    assert!(rt; context.datatype(2).is_none());
+    Ok(context)
+}
+
+/// Whether the datatypes with the tags from 0 on have these payloads, as far as there are such.
+fn are_tagged(context: &Context<u8>, payloads: &[Option<u8>]) -> bool {
+    let mut tag = 0u64;
+    for payload in payloads {
+        if context.datatype(tag).map(|b| *b.2) != *payload {
+            return false;
+        }
+        tag = tag.saturating_add(1);
+    }
+    true
+}
+
+#[test]
+fn datatypes_are_found_by_their_tags(rt: HostRuntime) -> Result<(), Fail> {
+    let alloc = rt.alloc();
+    let mut context = two_datatypes(alloc)?;
+    assert!(rt; are_tagged(&context, &[Some(6), Some(7), None]));
     context.set(alloc, b"point", Top::Variable(Ty::Int), 8)?;
-    assert!(rt; context.datatype(0).is_none());
-    assert!(rt; context.datatype(1).map(|b| *b.2) == Some(7));
+    assert!(rt; are_tagged(&context, &[None, Some(7)]));
+    Ok(())
+}
+
+#[test]
+fn datatypes_are_written_by_their_names(rt: HostRuntime) -> Result<(), Fail> {
+    let alloc = rt.alloc();
+    let context = two_datatypes(alloc)?;
+    let ty = both(alloc, Ok(Ty::Named(0)), Ok(Ty::Named(1)))?;
+    let text = type_text(alloc, &ty, &context)?;
+    assert!(rt; text.as_slice() == b"(point, x)".as_slice());
     Ok(())
 }
 
