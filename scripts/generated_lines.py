@@ -126,6 +126,7 @@ class Session:
         self.functions = {}
         self.datatypes = {}
         self.count = 0
+        self.inside = []
 
     def name(self, letter):
         rng = self.rng
@@ -167,8 +168,12 @@ class Session:
             return "(" + self.leaf(ty[1], scope) + ", " + self.leaf(ty[2], scope) + ")"
         if isinstance(ty, tuple):
             return rng.choice(known) if known else rng.choice(UNKNOWN)
-        if ty in self.datatypes:
-            return f"{ty}({self.leaf(self.datatypes[ty], scope)})"
+        if ty in self.datatypes and ty not in self.inside:
+            # A datatype may hold another that was defined anew by way of it.
+            self.inside.append(ty)
+            text = f"{ty}({self.leaf(self.datatypes[ty], scope)})"
+            self.inside.pop()
+            return text
         return {INT: rng.choice(["0", "1", "7"]), BOOL: rng.choice(["T", "F"]), CHAR: "`c"}.get(ty, "nobody")
 
     def matched(self, ty, wanted, given):
