@@ -19,7 +19,7 @@ pub enum Step {
 /// Local names stand in frames. The body of a called function has one frame with one value, its argument; a `let` has
 /// a frame with the values of its bindings so far; an apply-to-each has one with the elements of its sequences at a
 /// place.
-#[derive(Debug, Drop)]
+#[derive(Drop)]
 pub enum Code {
     Number {
         span: Span,

@@ -140,6 +140,24 @@ fn code_of_payload(
     }
 }
 
+/// The name as a key, and the code of its payload. Room is made for one more name.
+fn entry_of(
+    alloc: Global,
+    bodies: &mut IndexMap<Vec<u8>, Option<Code>>,
+    name: &[u8],
+    payload: &Payload,
+) -> Result<(Vec<u8>, Option<Code>), AllocError>
+    ensures entries { bodies.new.entries ≡ bodies.old.entries }
+    ensures room { OnOk result (0 < spare bodies.new) }
+    ensures key { IfOk result (λ e. e.0.items ≡ name.now) }
+    ensures code { IfOk result (λ e. HasCode (with_place name.now (keys_of bodies.old.entries)) payload.now e.1) }
+{
+    bodies.reserve(1)?;
+    let key = Vec::from_slice(alloc, name)?;
+    let code = code_of_payload(alloc, bodies, name, payload)?;
+    Ok((key, code))
+}
+
 /// The name has this code. There is room for one more name.
 fn store(bodies: &mut IndexMap<Vec<u8>, Option<Code>>, name: Vec<u8>, code: Option<Code>)
     requires { 0 < spare bodies.old }
@@ -215,9 +233,7 @@ impl Env {
         ensures ok { OnOk result (self.new ≡ with_name name.now top payload self.old) }
         ensures err { OnErr result (self.new ≡ self.old) }
     {
-        let code = code_of_payload(alloc, &self.bodies, name, &payload)?;
-        let key = Vec::from_slice(alloc, name)?;
-        self.bodies.reserve(1)?;
+        let (key, code) = entry_of(alloc, &mut self.bodies, name, &payload)?;
         self.context.set(alloc, name, top, payload)?;
         store(&mut self.bodies, key, code);
         Ok(())

@@ -2,4 +2,10 @@
 #![tactic(auto)]
 
 #[cfg(test)]
-mod texts;
+mod faults;
+#[cfg(test)]
+mod made;
+#[cfg(test)]
+mod replies;
+#[cfg(test)]
+mod values;

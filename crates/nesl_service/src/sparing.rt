@@ -7,29 +7,34 @@ use std::sync::atomic::{AtomicU64, Ordering};
 use std::time::{Clock, Duration, Instant};
 
 /// How many microseconds a helper has to take to be worth its thread, which takes some tens of them to make.
-const WORTH: u64 = 200;
+const WORTH: u64 = 500;
 
 /// The most asks that are passed over at once.
 const MOST_PASSED: u64 = 4096;
 
-/// The most asks that are passed over where a line begins.
-const MOST_AT_FIRST: u64 = 63;
+/// The most lines at once whose first ask is passed over.
+const MOST_LINES: u64 = 63;
 
 /// Asks others for helpers, for one connection, and stops asking where that doesn't pay.
 ///
-/// After a helper that came back within 200 microseconds of its grant, asks are passed over: 1 after the first, and
-/// 2 n + 1 where n were at last, up to 4096. After one that took longer the next ask is put, and the n of the next short
-/// one is halved. Where a line begins, at most 63 asks are still passed over, and n stays. A helper counts as one that
-/// took longer where the clock can't be read. This is also the connection's gate, by which it sees that a line begins;
-/// it tells another gate of each place.
+/// The first ask of a line is most often for its longest interval, so it is judged apart from the others. After a helper
+/// that came back within 500 microseconds of its grant, asks of its kind are passed over: 1 after the first, and 2 n + 1
+/// where n were at last, up to 63 first asks and 4096 others. After one that took longer the next ask of its kind is put,
+/// and the n of the next short one is halved. A helper counts as one that took longer where the clock can't be read. This
+/// is also the connection's gate, by which it sees that a line begins; it tells another gate of each place.
 #[derive(Drop)]
 pub struct Sparing<'a, C, H, G> {
     clock: &'a C,
     helpers: H,
     gate: &'a G,
-    // How many asks are still passed over.
-    left: AtomicU64,
+    // 1 where a line has begun that has put or passed over no ask.
+    begun: AtomicU64,
+    // How many first asks are still passed over.
+    firsts_left: AtomicU64,
     // How many were to be passed over after the last short helper, halved for each long one since.
+    firsts_passed: AtomicU64,
+    // The same of the other asks.
+    left: AtomicU64,
     passed: AtomicU64,
 }
 
@@ -37,6 +42,7 @@ pub struct Sparing<'a, C, H, G> {
 pub struct Timed<P> {
     permit: P,
     since: Option<Instant>,
+    is_first: bool,
 }
 
 impl<'a, C: Clock, H: Helpers, G: Gate> Sparing<'a, C, H, G> {
@@ -46,29 +52,19 @@ impl<'a, C: Clock, H: Helpers, G: Gate> Sparing<'a, C, H, G> {
             clock,
             helpers,
             gate,
+            begun: AtomicU64::new(0),
+            firsts_left: AtomicU64::new(0),
+            firsts_passed: AtomicU64::new(0),
             left: AtomicU64::new(0),
             passed: AtomicU64::new(0),
         }
     }
 
-    // A line begins.
-    fn begin(&self) {
-        let left = self.left.load(Ordering::SeqCst);
-        self.left.store(left.min(MOST_AT_FIRST), Ordering::SeqCst);
-    }
-
-    // A helper came back that was worth its thread.
-    fn put_next(&self) {
-        let passed = self.passed.load(Ordering::SeqCst);
-        self.passed.store(passed / 2, Ordering::SeqCst);
-        self.left.store(0, Ordering::SeqCst);
-    }
-
-    // A helper came back that wasn't.
-    fn pass_over(&self) {
-        let passed = longer(self.passed.load(Ordering::SeqCst));
-        self.passed.store(passed, Ordering::SeqCst);
-        self.left.store(passed, Ordering::SeqCst);
+    // Whether an ask is the first of its line.
+    fn is_first(&self) -> bool {
+        let begun = self.begun.load(Ordering::SeqCst);
+        self.begun.store(0, Ordering::SeqCst);
+        begun != 0
     }
 
     // Whether what was granted then was worth its thread.
@@ -87,23 +83,41 @@ impl<C: Clock, H: Helpers, G: Gate> Helpers for Sparing<'_, C, H, G> {
     type Permit = Timed<H::Permit>;
 
     fn ask(&self) -> Option<Timed<H::Permit>> {
-        let left = self.left.load(Ordering::SeqCst);
-        if left > 0 {
-            self.left.store(left - 1, Ordering::SeqCst);
+        let is_first = self.is_first();
+        let left = if is_first {
+            &self.firsts_left
+        } else {
+            &self.left
+        };
+        if is_passed_over(left) {
             return None;
         }
         let permit = self.helpers.ask()?;
         let since = Instant::now(self.clock).ok();
-        Some(Timed { permit, since })
+        Some(Timed {
+            permit,
+            since,
+            is_first,
+        })
     }
 
     fn done(&self, permit: Timed<H::Permit>) {
-        let Timed { permit, since } = permit;
+        let Timed {
+            permit,
+            since,
+            is_first,
+        } = permit;
         self.helpers.done(permit);
-        if self.was_worth(since) {
-            self.put_next();
+        let was_worth = self.was_worth(since);
+        if is_first {
+            judge(
+                &self.firsts_left,
+                &self.firsts_passed,
+                was_worth,
+                MOST_LINES,
+            );
         } else {
-            self.pass_over();
+            judge(&self.left, &self.passed, was_worth, MOST_PASSED);
         }
     }
 }
@@ -111,13 +125,36 @@ impl<C: Clock, H: Helpers, G: Gate> Helpers for Sparing<'_, C, H, G> {
 impl<C: Clock, H: Helpers, G: Gate> Gate for Sparing<'_, C, H, G> {
     fn enter(&self, place: Place) {
         if let Place::Line(_) = place {
-            self.begin();
+            self.begun.store(1, Ordering::SeqCst);
         }
         self.gate.enter(place);
     }
 }
 
-// How many asks are passed over next.
+// Whether an ask is passed over; then one fewer is from now on.
+fn is_passed_over(left: &AtomicU64) -> bool {
+    let asks = left.load(Ordering::SeqCst);
+    if asks == 0 {
+        return false;
+    }
+    left.store(asks - 1, Ordering::SeqCst);
+    true
+}
+
+// A helper came back that was worth its thread, or one that wasn't: how many asks are passed over next.
+fn judge(left: &AtomicU64, passed: &AtomicU64, was_worth: bool, most: u64) {
+    let before = passed.load(Ordering::SeqCst);
+    if was_worth {
+        passed.store(before / 2, Ordering::SeqCst);
+        left.store(0, Ordering::SeqCst);
+    } else {
+        let next = longer(before).min(most);
+        passed.store(next, Ordering::SeqCst);
+        left.store(next, Ordering::SeqCst);
+    }
+}
+
+// How many asks are passed over after a helper that did little, where so many were before it.
 fn longer(passed: u64) -> u64
     ensures { result ≡ longer passed }
 {

@@ -9,7 +9,7 @@ use nesl_syntax::{ParseFault, parse_form};
 use std::alloc::{AllocError, Global};
 
 /// What a line comes to by the grammar.
-#[derive(Debug, Drop)]
+#[derive(Drop)]
 pub enum Sense {
     /// The first byte at which no token, blank or whole comment stands.
     Stuck(usize),

@@ -1,24 +1,27 @@
-// The texts of the refusals.
+//! The texts of the refusals.
 
 use nesl_lex::LexFault;
 use nesl_syntax::ParseFault;
-use std::alloc::AllocError;
+use std::alloc::{AllocError, Global};
+use std::test::Fail;
+
+const TEXTS: &str = "no token stands at byte 7; out of memory; the tokens have no tree; \
+    the tree of the tokens is higher than 100; out of memory; ";
+
+/// The text of each refusal.
+fn texts(alloc: Global) -> Result<String, AllocError> {
+    let mut text = String::new(alloc);
+    for fault in [LexFault::Lexical { at: 7 }, LexFault::Memory] {
+        write!(text, "{fault}; ")?;
+    }
+    for fault in [ParseFault::Syntax, ParseFault::Nested, ParseFault::Memory] {
+        write!(text, "{fault}; ")?;
+    }
+    Ok(text)
+}
 
 #[test]
-fn each_refusal_has_a_text(rt: HostRuntime) -> Result<(), AllocError> {
-    let alloc = rt.alloc();
-    let stuck = format!(in alloc; "{}", LexFault::Lexical { at: 7 })?;
-    assert_eq!(rt; stuck.as_str(), "no token stands at byte 7");
-    let memory = format!(in alloc; "{}", LexFault::Memory)?;
-    assert_eq!(rt; memory.as_str(), "out of memory");
-    let syntax = format!(in alloc; "{}", ParseFault::Syntax)?;
-    assert_eq!(rt; syntax.as_str(), "the tokens have no tree");
-    let nested = format!(in alloc; "{}", ParseFault::Nested)?;
-    assert_eq!(rt;
-        nested.as_str(),
-        "the tree of the tokens is higher than 100"
-    );
-    let memory = format!(in alloc; "{}", ParseFault::Memory)?;
-    assert_eq!(rt; memory.as_str(), "out of memory");
+fn each_refusal_has_a_text(rt: HostRuntime) -> Result<(), Fail> {
+    assert_eq!(rt; texts(rt.alloc())?.as_str(), TEXTS);
     Ok(())
 }

@@ -1,81 +1,121 @@
-// Lines that are deep, up to and beyond the height that a tree may have.
+//! Lines that are deep, up to and beyond the height that a tree may have.
 
-use crate::shown::{nested, shown};
+use crate::shown::shown;
 use std::alloc::{AllocError, Global};
+use std::test::Fail;
 
-// Lines that are deep: how often each part stands, and what they are.
-#[test]
-fn deep_lines_are_read_or_refused(rt: HostRuntime) -> Result<(), AllocError> {
-    let rows: [(usize, (&[u8], &[u8], &[u8]), &str); 11] = [
-        (2047, (b"(", b"1", b")"), "Eval(0..4095 Number(1))"),
-        (32767, (b"(", b"1", b")"), "Eval(0..65535 Number(1))"),
-        (100, (b"-", b"1", b""), "Nested"),
-        (60000, (b"-", b"1 1", b""), "Syntax"),
-        (4095, (b"[", b"", b""), "Syntax"),
-        (2047, (b"[", b"1", b"]"), "Nested"),
-        (100, (b"[", b"1", b"]"), "Nested"),
-        (99, (b"[", b"[] int", b"]"), "Nested"),
-        (50, (b"(a, ", b"b", b")) + 1"), "Syntax"),
-        (20000, (b"{a in ", b"v", b"}"), "Nested"),
-        (20000, (b"if a then ", b"b", b" else c"), "Nested"),
-    ];
-    for (count, parts, want) in rows {
-        let line = nested(rt.alloc(), count, parts)?;
-        let text = shown(rt.alloc(), line.as_slice())?;
-        assert_eq!(rt; text.as_str(), want);
+/// Lines that are deep.
+const DEEP: &str = r#"2047 (|1|) => Eval(0..4095 Number(1))
+32767 (|1|) => Eval(0..65535 Number(1))
+100 -|1| => Nested
+60000 -|1 1| => Syntax
+4095 [|| => Syntax
+2047 [|1|] => Nested
+100 [|1|] => Nested
+99 [|[] int|] => Nested
+50 (a, |b|)) + 1 => Syntax
+20000 {a in |v|} => Nested
+20000 if a then |b| else c => Nested"#;
+
+/// Lines whose trees have a height of 100.
+const AS_HIGH_AS_CAN_BE: &str =
+    r#"99 -|1| => Eval(0..100 Prefix operator: Negate, operand: 1..100 ..
+99 [|1|] => Eval(0..199 Sequence([1..198 ..
+98 [|[] int|] => Eval(0..202 Sequence([1..201 ..
+99 (a, |b|) => Eval(0..496 Pair left: 1..2 Variable([97]), right: .."#;
+
+/// What a row asks for: how often its line has its first part and its last, and the three parts.
+fn count_and_parts(asked: &str) -> Option<(usize, (&str, &str, &str))> {
+    let (count, parts) = asked.split_once(' ')?;
+    let (front, rest) = parts.split_once('|')?;
+    let (middle, back) = rest.split_once('|')?;
+    Some((count.parse::<usize>().ok()?, (front, middle, back)))
+}
+
+fn push_times(text: &mut String, count: usize, part: &str) -> Result<(), AllocError> {
+    for _ in 0..count {
+        text.push_str(part)?;
     }
     Ok(())
 }
 
+/// A text so many times, then another, then the last so many times.
+fn nested(alloc: Global, count: usize, parts: (&str, &str, &str)) -> Result<String, AllocError> {
+    let (front, middle, back) = parts;
+    let mut text = String::new(alloc);
+    push_times(&mut text, count, front)?;
+    text.push_str(middle)?;
+    push_times(&mut text, count, back)?;
+    Ok(text)
+}
+
+/// Whether a tree is the one that is wanted, of which two dots stand for all that is behind them.
+fn is_wanted(tree: &str, wanted: &str) -> bool {
+    match wanted.strip_suffix("..") {
+        Some(beginning) => tree.starts_with(beginning),
+        None => tree == wanted,
+    }
+}
+
+/// Whether the line that is asked for has the tree.
+fn holds(alloc: Global, asked: &str, wanted: &str) -> Result<bool, AllocError> {
+    let Some((count, parts)) = count_and_parts(asked) else {
+        return Ok(false);
+    };
+    let mut line = nested(alloc, count, parts)?;
+    line.push(';')?;
+    Ok(is_wanted(shown(alloc, line.as_bytes())?.as_str(), wanted))
+}
+
+/// The first row that doesn't hold. A row is `COUNT FRONT|MIDDLE|BACK => TREE`.
+fn first_wrong(alloc: Global, rows: &'static str) -> Result<Option<&'static str>, AllocError> {
+    for row in rows.lines() {
+        let (asked, wanted) = row.split_once(" => ").unwrap_or((row, ""));
+        if !holds(alloc, asked, wanted)? {
+            return Ok(Some(row));
+        }
+    }
+    Ok(None)
+}
+
 #[test]
-fn a_height_of_100_is_read(rt: HostRuntime) -> Result<(), AllocError> {
-    let rows: [(usize, (&[u8], &[u8], &[u8]), &str); 4] = [
-        (
-            99,
-            (b"-", b"1", b""),
-            "Eval(0..100 Prefix operator: Negate, operand: 1..100 ",
-        ),
-        (99, (b"[", b"1", b"]"), "Eval(0..199 Sequence([1..198 "),
-        (98, (b"[", b"[] int", b"]"), "Eval(0..202 Sequence([1..201 "),
-        (
-            99,
-            (b"(a, ", b"b", b")"),
-            "Eval(0..496 Pair left: 1..2 Variable([97]), right: ",
-        ),
-    ];
-    for (count, parts, want) in rows {
-        let line = nested(rt.alloc(), count, parts)?;
-        let text = shown(rt.alloc(), line.as_slice())?;
-        assert!(rt; text.starts_with(want), "{count}: {text}");
+fn deep_lines_are_read_or_refused(rt: HostRuntime) -> Result<(), Fail> {
+    for rows in [DEEP, AS_HIGH_AS_CAN_BE] {
+        assert_eq!(rt; first_wrong(rt.alloc(), rows)?, None);
     }
     Ok(())
 }
 
-// A definition with a type of this many brackets in it.
-fn defined(alloc: Global, front: &[u8], count: usize, back: &[u8]) -> Result<String, AllocError> {
-    let mut line = Vec::from_slice(alloc, front)?;
-    let mut written = nested(alloc, count, (b"[", b"int", b"]"))?;
-    let _semicolon = written.pop();
-    line.extend_from_slice(written.as_slice())?;
-    line.extend_from_slice(back)?;
-    shown(alloc, line.as_slice())
+/// Lines with a type in place of the `^`.
+const WITH_A_TYPE: &str = r#"datatype p ^;
+function g(x) : ^ -> int = x;
+function g(x) : int -> ^ :: (n in any) = x;"#;
+
+/// A line with a type of so many brackets.
+fn with_brackets(alloc: Global, line: &str, count: usize) -> Result<String, AllocError> {
+    let written = nested(alloc, count, ("[", "int", "]"))?;
+    line.replace(alloc, "^", written.as_str())
+}
+
+/// The fault of a line whose type has so many brackets; nothing where it has a tree.
+fn fault_of(alloc: Global, line: &str, count: usize) -> Result<&'static str, AllocError> {
+    let text = with_brackets(alloc, line, count)?;
+    let told = shown(alloc, text.as_bytes())?;
+    match told.as_bytes() {
+        b"Nested" => Ok("Nested"),
+        b"Syntax" => Ok("Syntax"),
+        _ => Ok(""),
+    }
 }
 
 #[test]
-fn each_type_of_a_line_is_measured_alone(rt: HostRuntime) -> Result<(), AllocError> {
+fn each_type_of_a_line_is_measured_alone(rt: HostRuntime) -> Result<(), Fail> {
     let alloc = rt.alloc();
-    let rows: [(&[u8], &[u8]); 3] = [
-        (b"datatype p ", b";"),
-        (b"function g(x) : ", b" -> int = x;"),
-        (b"function g(x) : int -> ", b" :: (n in any) = x;"),
-    ];
-    for (front, back) in rows {
-        let low = defined(alloc, front, 99, back)?;
-        assert!(rt; low.as_str() != "Nested" && low.as_str() != "Syntax");
-        let high = defined(alloc, front, 100, back)?;
-        assert_eq!(rt; high.as_str(), "Nested");
+    for line in WITH_A_TYPE.lines() {
+        assert_eq!(rt; fault_of(alloc, line, 99)?, "");
+        assert_eq!(rt; fault_of(alloc, line, 100)?, "Nested");
     }
-    let high = defined(alloc, b"function g(x) : ", 100, b" -> int = ;")?;
-    assert_eq!(rt; high.as_str(), "Syntax");
+    let wrong = "function g(x) : ^ -> int = ;";
+    assert_eq!(rt; fault_of(alloc, wrong, 100)?, "Syntax");
     Ok(())
 }

@@ -1,95 +1,83 @@
-// Lines that have no tree.
+//! Lines that have no tree.
 
-use crate::shown::shown;
-use std::alloc::AllocError;
+use crate::shown::first_wrong;
+use std::test::Fail;
+
+const EXPRESSIONS_AND_BINDINGS: &str = r#"; => Syntax
+1 => Syntax
+1; 2; => Syntax
+1;; => Syntax
+a b; => Syntax
+a = b = c; => Syntax
+2 = 1; => Syntax
+(x) = 1; => Syntax
+1 + if a then b else c; => Syntax
+-let x = 1 in x; => Syntax
+if a then b; => Syntax
+if a else b; => Syntax
+(); => Syntax
+g(); => Syntax
+(a, ); => Syntax
+g (1)(2); => Syntax
+(g)(1); => Syntax
+[]; => Syntax
+[1, ]; => Syntax
+[1, 2 : 3]; => Syntax
+[1 : 2 : 3 : 4]; => Syntax
+[] 1; => Syntax
+[] (int, ); => Syntax
+[] [int, int]; => Syntax
+{}; => Syntax
+{a}; => Syntax
+{a : }; => Syntax
+{1 in v}; => Syntax
+{a : b}; => Syntax
+{a in v |}; => Syntax
+{a in v; }; => Syntax
+{a in v | b; c in w}; => Syntax
+let x = 1; => Syntax"#;
+
+const DEFINITIONS_AND_COMMANDS: &str = r#"let in x; => Syntax
+let 1 = x in x; => Syntax
+let x == 1 in x; => Syntax
+let x = 1;; in x; => Syntax
+let (x, ) = 1 in x; => Syntax
+1 : 2; => Syntax
+:names; => Syntax
+:budget; => Syntax
+:type 1 => Syntax
+:type ; => Syntax
+:name => Syntax
+: => Syntax
+datatype p; => Syntax
+datatype int int; => Syntax
+datatype p = int; => Syntax
+datatype p int => Syntax
+datatype p int int; => Syntax
+function f(x) = x; => Syntax
+function g(x) = x => Syntax
+function g = x; => Syntax
+function g(1) = x; => Syntax
+function g(x) : int = x; => Syntax
+function g(x) : int -> = x; => Syntax
+function g(x) : -> int = x; => Syntax
+function g(x) :: int -> int = x; => Syntax
+function g(x) : int -> int :: () = x; => Syntax
+function g(x) : n -> n :: n in any = x; => Syntax
+function g(x) : n -> n :: (n in any;) = x; => Syntax
+function g(x) : n -> n :: (n in all) = x; => Syntax
+function g(x) : n -> n :: (n = any) = x; => Syntax
+function g(x) : n -> n :: (n in any, m in any) = x; => Syntax
+function g(x) : n -> n -> n = x; => Syntax
+function g(x) = x = y; => Syntax
+function (x) = x; => Syntax
+(function g(x) = x;) => Syntax
+1 % a comment % ;; => Syntax"#;
 
 #[test]
-fn lines_with_no_tree(rt: HostRuntime) -> Result<(), AllocError> {
-    let lines: [&[u8]; 33] = [
-        b";",
-        b"1",
-        b"1; 2;",
-        b"1;;",
-        b"a b;",
-        b"a = b = c;",
-        b"2 = 1;",
-        b"(x) = 1;",
-        b"1 + if a then b else c;",
-        b"-let x = 1 in x;",
-        b"if a then b;",
-        b"if a else b;",
-        b"();",
-        b"g();",
-        b"(a, );",
-        b"g (1)(2);",
-        b"(g)(1);",
-        b"[];",
-        b"[1, ];",
-        b"[1, 2 : 3];",
-        b"[1 : 2 : 3 : 4];",
-        b"[] 1;",
-        b"[] (int, );",
-        b"[] [int, int];",
-        b"{};",
-        b"{a};",
-        b"{a : };",
-        b"{1 in v};",
-        b"{a : b};",
-        b"{a in v |};",
-        b"{a in v; };",
-        b"{a in v | b; c in w};",
-        b"let x = 1;",
-    ];
-    for (i, line) in lines.iter().enumerate() {
-        let text = shown(rt.alloc(), line)?;
-        assert_eq!(rt; text.as_str(), "Syntax", "at {i}");
-    }
-    Ok(())
-}
-
-#[test]
-fn definitions_and_commands_with_no_tree(rt: HostRuntime) -> Result<(), AllocError> {
-    let lines: [&[u8]; 36] = [
-        b"let in x;",
-        b"let 1 = x in x;",
-        b"let x == 1 in x;",
-        b"let x = 1;; in x;",
-        b"let (x, ) = 1 in x;",
-        b"1 : 2;",
-        b":names;",
-        b":budget;",
-        b":type 1",
-        b":type ;",
-        b":name",
-        b":",
-        b"datatype p;",
-        b"datatype int int;",
-        b"datatype p = int;",
-        b"datatype p int",
-        b"datatype p int int;",
-        b"function f(x) = x;",
-        b"function g(x) = x",
-        b"function g = x;",
-        b"function g(1) = x;",
-        b"function g(x) : int = x;",
-        b"function g(x) : int -> = x;",
-        b"function g(x) : -> int = x;",
-        b"function g(x) :: int -> int = x;",
-        b"function g(x) : int -> int :: () = x;",
-        b"function g(x) : n -> n :: n in any = x;",
-        b"function g(x) : n -> n :: (n in any;) = x;",
-        b"function g(x) : n -> n :: (n in all) = x;",
-        b"function g(x) : n -> n :: (n = any) = x;",
-        b"function g(x) : n -> n :: (n in any, m in any) = x;",
-        b"function g(x) : n -> n -> n = x;",
-        b"function g(x) = x = y;",
-        b"function (x) = x;",
-        b"(function g(x) = x;)",
-        b"1 % a comment % ;;",
-    ];
-    for (i, line) in lines.iter().enumerate() {
-        let text = shown(rt.alloc(), line)?;
-        assert_eq!(rt; text.as_str(), "Syntax", "at {i}");
+fn lines_with_no_tree(rt: HostRuntime) -> Result<(), Fail> {
+    for rows in [EXPRESSIONS_AND_BINDINGS, DEFINITIONS_AND_COMMANDS] {
+        assert_eq!(rt; first_wrong(rt.alloc(), rows)?, None);
     }
     Ok(())
 }

@@ -1,53 +1,45 @@
-// Lines, and what they are read as, printed.
+//! Lines, and what they are read as, printed.
 
 use nesl_lex::lex;
 use nesl_syntax::parse_form;
+use nesl_syntax::tree::Form;
 use std::alloc::{AllocError, Global};
 
-// What a form's text has too much of, and what stands for it.
-const SHORTER: [(&str, &str); 8] = [
-    ("TypeExp { span: Span { start: ", ""),
-    ("Exp { span: Span { start: ", ""),
-    ("Pattern { span: Span { start: ", ""),
-    ("Span { start: ", ""),
-    (", end: ", ".."),
-    (" }, node: ", " "),
-    (" { ", " "),
-    (" }", ""),
-];
+/// What a form's text has too much of, and behind a `~` what stands for it.
+const SHORTER: &str =
+    "TypeExp { span: Span { start: ~\nExp { span: Span { start: ~\nPattern { span: Span { start: ~\n\
+    Span { start: ~\n, end: ~..\n }, node: ~ \n { ~ \n }~";
 
-// A line's form, or its fault, printed.
+/// A form, printed.
+fn form_text(alloc: Global, form: &Form) -> Result<String, AllocError> {
+    let mut text = format!(in alloc; "{form:?}")?;
+    for row in SHORTER.lines() {
+        let (long, short) = row.split_once('~').unwrap_or((row, ""));
+        text = text.replace(alloc, long, short)?;
+    }
+    Ok(text)
+}
+
+/// A line's form, or its fault, printed.
 pub fn shown(alloc: Global, line: &[u8]) -> Result<String, AllocError> {
     let Ok(tokens) = lex(alloc, line) else {
         return Ok(String::new(alloc));
     };
     match parse_form(alloc, tokens.as_slice()) {
-        Ok(form) => {
-            let mut text = format!(in alloc; "{form:?}")?;
-            for (long, short) in SHORTER {
-                text = text.replace(alloc, long, short)?;
-            }
-            Ok(text)
-        }
+        Ok(form) => form_text(alloc, &form),
         Err(fault) => format!(in alloc; "{fault:?}"),
     }
 }
 
-// These bytes so many times, then others, then the last so many times, and a `;`.
-pub fn nested(
-    alloc: Global,
-    count: usize,
-    parts: (&[u8], &[u8], &[u8]),
-) -> Result<Vec<u8>, AllocError> {
-    let (front, middle, back) = parts;
-    let mut line = Vec::new(alloc);
-    for _ in 0..count {
-        line.extend_from_slice(front)?;
+/// The first row that doesn't hold. A row is `LINE => TREE`, or `LINE => FAULT`.
+pub fn first_wrong(alloc: Global, rows: &'static str) -> Result<Option<&'static str>, AllocError> {
+    for row in rows.lines() {
+        let Some((line, wanted)) = row.split_once(" => ") else {
+            return Ok(Some(row));
+        };
+        if shown(alloc, line.as_bytes())?.as_str() != wanted {
+            return Ok(Some(row));
+        }
     }
-    line.extend_from_slice(middle)?;
-    for _ in 0..count {
-        line.extend_from_slice(back)?;
-    }
-    line.push(b';')?;
-    Ok(line)
+    Ok(None)
 }

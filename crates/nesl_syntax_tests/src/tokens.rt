@@ -1,26 +1,144 @@
-// Lines and their tokens, by hand from the rules.
+//! Lines and their tokens, by hand from the rules.
 
-use nesl_lex::token::{Kind, Sign, Word};
+use nesl_lex::token::{Kind, Token};
 use nesl_lex::{LexFault, lex};
-use std::alloc::Global;
+use std::alloc::{AllocError, Global};
+use std::test::Fail;
 
-// The tokens of a line or the place of its fault, printed.
-fn shown(alloc: Global, line: &[u8]) -> Result<String, LexFault> {
+const SIGNS_ARE_AS_LONG_AS_THEY_CAN_BE: &str = r#" => no tokens
+1<-2 => 0..1 Number(1); 1..3 Symbol(LeftArrow); 3..4 Number(2)
+1<--2 => 0..1 Number(1); 1..3 Symbol(LeftArrow); 3..4 Symbol(Minus); 4..5 Number(2)
+a--b => 0..1 Name([97]); 1..2 Symbol(Minus); 2..3 Symbol(Minus); 3..4 Name([98])
+::: => 0..2 Symbol(DoubleColon); 2..3 Symbol(Colon)
++++ => 0..2 Symbol(DoublePlus); 2..3 Symbol(Plus)
+=== => 0..2 Symbol(DoubleEqual); 2..3 Symbol(Equal)
+/ =/= => 0..1 Symbol(Slash); 2..3 Symbol(Equal); 3..5 Symbol(NotEqual)
+->>= => 0..2 Symbol(RightArrow); 2..4 Symbol(GreaterOrEqual)"#;
+
+const TEXTS_CHARACTERS_AND_COMMENTS: &str = r#"%a%%b% => no tokens
+1%%2 => 0..1 Number(1); 3..4 Number(2)
+"a%b" => 0..5 Text([97, 37, 98])
+"" => 0..2 Text([])
+%"%"%" => 3..6 Text([37])
+` => lexical at 0
+` `  => 0..2 Character(32); 2..4 Character(32)
+`` => 0..2 Character(96)
+x "abc => lexical at 2
+x %abc => lexical at 2"#;
+
+const NUMBERS_NAMES_AND_TRUTH_VALUES: &str =
+    r#"9223372036854775807 => 0..19 Number(9223372036854775807)
+1 9223372036854775808 => lexical at 2
+1 18446744073709551617 => lexical at 2
+00000000000000000000000000000009 => 0..32 Number(9)
+T tt F fF => 0..1 Truth(true); 2..4 Name([116, 116]); 5..6 Truth(false); 7..9 Name([102, 102])
+TRUE False => 0..4 Truth(true); 5..10 Truth(false)
+a_1B 1a => 0..4 Name([97, 95, 49, 98]); 5..6 Number(1); 6..7 Name([97])"#;
+
+const RESERVED_WORDS: &str = r#"function => 0..8 Reserved(Function)
+datatype => 0..8 Reserved(Datatype)
+let => 0..3 Reserved(Let)
+in => 0..2 Reserved(In)
+if => 0..2 Reserved(If)
+then => 0..4 Reserved(Then)
+else => 0..4 Reserved(Else)
+or => 0..2 Reserved(Or)
+nor => 0..3 Reserved(Nor)
+xor => 0..3 Reserved(Xor)
+and => 0..3 Reserved(And)
+nand => 0..4 Reserved(Nand)
+int => 0..3 Reserved(Int)
+bool => 0..4 Reserved(Bool)
+Char => 0..4 Reserved(Char)"#;
+
+const SIGNS: &str = r#"( => 0..1 Symbol(OpenParenthesis)
+) => 0..1 Symbol(CloseParenthesis)
+[ => 0..1 Symbol(OpenBracket)
+] => 0..1 Symbol(CloseBracket)
+{ => 0..1 Symbol(OpenBrace)
+} => 0..1 Symbol(CloseBrace)
+, => 0..1 Symbol(Comma)
+; => 0..1 Symbol(Semicolon)
+: => 0..1 Symbol(Colon)
+:: => 0..2 Symbol(DoubleColon)
+| => 0..1 Symbol(Bar)
+= => 0..1 Symbol(Equal)
+== => 0..2 Symbol(DoubleEqual)
+/= => 0..2 Symbol(NotEqual)
+< => 0..1 Symbol(Less)
+> => 0..1 Symbol(Greater)
+<= => 0..2 Symbol(LessOrEqual)
+>= => 0..2 Symbol(GreaterOrEqual)
++ => 0..1 Symbol(Plus)
+++ => 0..2 Symbol(DoublePlus)
+- => 0..1 Symbol(Minus)
+<- => 0..2 Symbol(LeftArrow)
+-> => 0..2 Symbol(RightArrow)
+* => 0..1 Symbol(Star)
+/ => 0..1 Symbol(Slash)
+# => 0..1 Symbol(Hash)"#;
+
+/// Lines with bytes that are not printed.
+const UNPRINTED_BYTES: &str = " \t\r => no tokens\n\
+    `\x7f => lexical at 0\n\
+    x \"a\tb\" => lexical at 2\n\
+    a\0 => lexical at 1";
+
+fn push_token(text: &mut String, token: &Token) -> Result<(), AllocError> {
+    let before = if text.is_empty() { "" } else { "; " };
+    let (start, end) = (token.span.start, token.span.end);
+    write!(text, "{before}{start}..{end} {:?}", token.kind)
+}
+
+fn text_of(alloc: Global, tokens: &[Token]) -> Result<String, AllocError> {
+    if tokens.is_empty() {
+        return String::from_str(alloc, "no tokens");
+    }
+    let mut text = String::new(alloc);
+    for token in tokens {
+        push_token(&mut text, token)?;
+    }
+    Ok(text)
+}
+
+/// The tokens of a line or the place of its fault, printed.
+fn shown(alloc: Global, line: &[u8]) -> Result<String, AllocError> {
     match lex(alloc, line) {
-        Ok(tokens) => {
-            let mut text = String::new(alloc);
-            for token in &tokens {
-                let (start, end) = (token.span.start, token.span.end);
-                write!(text, "{start}..{end} {:?}; ", token.kind)?;
-            }
-            Ok(text)
-        }
-        Err(LexFault::Lexical { at }) => Ok(format!(in alloc; "lexical at {at}")?),
-        Err(LexFault::Memory) => Err(LexFault::Memory),
+        Ok(tokens) => text_of(alloc, tokens.as_slice()),
+        Err(LexFault::Lexical { at }) => format!(in alloc; "lexical at {at}"),
+        Err(LexFault::Memory) => Err(AllocError),
     }
 }
 
-// The one token of a line.
+/// The first row that doesn't hold. A row is `LINE => TOKENS`.
+fn first_wrong(alloc: Global, rows: &'static str) -> Result<Option<&'static str>, AllocError> {
+    for row in rows.lines() {
+        let Some((line, wanted)) = row.split_once(" => ") else {
+            return Ok(Some(row));
+        };
+        if shown(alloc, line.as_bytes())?.as_str() != wanted {
+            return Ok(Some(row));
+        }
+    }
+    Ok(None)
+}
+
+#[test]
+fn lines_have_these_tokens(rt: HostRuntime) -> Result<(), Fail> {
+    for rows in [
+        SIGNS_ARE_AS_LONG_AS_THEY_CAN_BE,
+        TEXTS_CHARACTERS_AND_COMMENTS,
+        NUMBERS_NAMES_AND_TRUTH_VALUES,
+        RESERVED_WORDS,
+        SIGNS,
+        UNPRINTED_BYTES,
+    ] {
+        assert_eq!(rt; first_wrong(rt.alloc(), rows)?, None);
+    }
+    Ok(())
+}
+
+/// The one token of a line.
 fn only_kind(alloc: Global, line: &[u8]) -> Option<Kind> {
     let mut tokens = lex(alloc, line).ok()?;
     let token = tokens.pop()?;
@@ -31,167 +149,20 @@ fn only_kind(alloc: Global, line: &[u8]) -> Option<Kind> {
     }
 }
 
-#[test]
-fn signs_are_as_long_as_they_can_be(rt: HostRuntime) -> Result<(), LexFault> {
-    let lines: [(&[u8], &str); 10] = [
-        (b"", ""),
-        (b" \t\r", ""),
-        (
-            b"1<-2",
-            "0..1 Number(1); 1..3 Symbol(LeftArrow); 3..4 Number(2); ",
-        ),
-        (
-            b"1<--2",
-            "0..1 Number(1); 1..3 Symbol(LeftArrow); 3..4 Symbol(Minus); 4..5 Number(2); ",
-        ),
-        (
-            b"a--b",
-            "0..1 Name([97]); 1..2 Symbol(Minus); 2..3 Symbol(Minus); 3..4 Name([98]); ",
-        ),
-        (b":::", "0..2 Symbol(DoubleColon); 2..3 Symbol(Colon); "),
-        (b"+++", "0..2 Symbol(DoublePlus); 2..3 Symbol(Plus); "),
-        (b"===", "0..2 Symbol(DoubleEqual); 2..3 Symbol(Equal); "),
-        (
-            b"/ =/=",
-            "0..1 Symbol(Slash); 2..3 Symbol(Equal); 3..5 Symbol(NotEqual); ",
-        ),
-        (
-            b"->>=",
-            "0..2 Symbol(RightArrow); 2..4 Symbol(GreaterOrEqual); ",
-        ),
-    ];
-    for (line, want) in lines {
-        let text = shown(rt.alloc(), line)?;
-        assert_eq!(rt; text.as_str(), want);
-    }
-    Ok(())
-}
-
-#[test]
-fn texts_characters_and_comments(rt: HostRuntime) -> Result<(), LexFault> {
-    let lines: [(&[u8], &str); 12] = [
-        (b"%a%%b%", ""),
-        (b"1%%2", "0..1 Number(1); 3..4 Number(2); "),
-        (b"\"a%b\"", "0..5 Text([97, 37, 98]); "),
-        (b"\"\"", "0..2 Text([]); "),
-        (b"%\"%\"%\"", "3..6 Text([37]); "),
-        (b"`", "lexical at 0"),
-        (b"`\x7f", "lexical at 0"),
-        (b"` ` ", "0..2 Character(32); 2..4 Character(32); "),
-        (b"``", "0..2 Character(96); "),
-        (b"x \"abc", "lexical at 2"),
-        (b"x \"a\tb\"", "lexical at 2"),
-        (b"x %abc", "lexical at 2"),
-    ];
-    for (line, want) in lines {
-        let text = shown(rt.alloc(), line)?;
-        assert_eq!(rt; text.as_str(), want);
-    }
-    Ok(())
-}
-
-#[test]
-fn numbers_names_and_truth_values(rt: HostRuntime) -> Result<(), LexFault> {
-    let lines: [(&[u8], &str); 8] = [
-        (
-            b"9223372036854775807",
-            "0..19 Number(9223372036854775807); ",
-        ),
-        (b"1 9223372036854775808", "lexical at 2"),
-        (b"1 18446744073709551617", "lexical at 2"),
-        (b"00000000000000000000000000000009", "0..32 Number(9); "),
-        (
-            b"T tt F fF",
-            "0..1 Truth(true); 2..4 Name([116, 116]); 5..6 Truth(false); 7..9 Name([102, 102]); ",
-        ),
-        (b"TRUE False", "0..4 Truth(true); 5..10 Truth(false); "),
-        (b"a\0", "lexical at 1"),
-        (
-            b"a_1B 1a",
-            "0..4 Name([97, 95, 49, 98]); 5..6 Number(1); 6..7 Name([97]); ",
-        ),
-    ];
-    for (line, want) in lines {
-        let text = shown(rt.alloc(), line)?;
-        assert_eq!(rt; text.as_str(), want);
-    }
-    Ok(())
-}
-
-#[test]
-fn each_reserved_word_is_read(rt: HostRuntime) {
-    let words: [(&[u8], Word); 15] = [
-        (b"function", Word::Function),
-        (b"datatype", Word::Datatype),
-        (b"let", Word::Let),
-        (b"in", Word::In),
-        (b"if", Word::If),
-        (b"then", Word::Then),
-        (b"else", Word::Else),
-        (b"or", Word::Or),
-        (b"nor", Word::Nor),
-        (b"xor", Word::Xor),
-        (b"and", Word::And),
-        (b"nand", Word::Nand),
-        (b"int", Word::Int),
-        (b"bool", Word::Bool),
-        (b"Char", Word::Char),
-    ];
-    for (line, word) in words {
-        assert!(rt; only_kind(rt.alloc(), line) == Some(Kind::Reserved(word)));
-    }
-}
-
-#[test]
-fn each_sign_is_read(rt: HostRuntime) {
-    let signs: [(&[u8], Sign); 26] = [
-        (b"(", Sign::OpenParenthesis),
-        (b")", Sign::CloseParenthesis),
-        (b"[", Sign::OpenBracket),
-        (b"]", Sign::CloseBracket),
-        (b"{", Sign::OpenBrace),
-        (b"}", Sign::CloseBrace),
-        (b",", Sign::Comma),
-        (b";", Sign::Semicolon),
-        (b":", Sign::Colon),
-        (b"::", Sign::DoubleColon),
-        (b"|", Sign::Bar),
-        (b"=", Sign::Equal),
-        (b"==", Sign::DoubleEqual),
-        (b"/=", Sign::NotEqual),
-        (b"<", Sign::Less),
-        (b">", Sign::Greater),
-        (b"<=", Sign::LessOrEqual),
-        (b">=", Sign::GreaterOrEqual),
-        (b"+", Sign::Plus),
-        (b"++", Sign::DoublePlus),
-        (b"-", Sign::Minus),
-        (b"<-", Sign::LeftArrow),
-        (b"->", Sign::RightArrow),
-        (b"*", Sign::Star),
-        (b"/", Sign::Slash),
-        (b"#", Sign::Hash),
-    ];
-    for (line, sign) in signs {
-        assert!(rt; only_kind(rt.alloc(), line) == Some(Kind::Symbol(sign)));
-    }
-}
+/// The bytes that begin a token, or stand between tokens.
+const BEGINNINGS: &[u8] =
+    b" \t\r0123456789ABCDEFGHIJKLMNOPQRSTUVWXYZabcdefghijklmnopqrstuvwxyz()[]{},;:|=/<>+-*#";
 
 #[test]
 fn bytes_that_begin_nothing_are_faults(rt: HostRuntime) {
     for b in 0..=255u8 {
-        let begins = match b {
-            b' ' | b'\t' | b'\r' | b'0'..=b'9' | b'A'..=b'Z' | b'a'..=b'z' => true,
-            b'(' | b')' | b'[' | b']' | b'{' | b'}' | b',' | b';' | b':' | b'|' => true,
-            b'=' | b'/' | b'<' | b'>' | b'+' | b'-' | b'*' | b'#' => true,
-            _ => false,
-        };
-        assert_eq!(rt; lex(rt.alloc(), &[b]).is_ok(), begins, "at {b}");
+        let is_read = lex(rt.alloc(), &[b]).is_ok();
+        assert_eq!(rt; is_read, BEGINNINGS.contains(&b), "at {b}");
     }
 }
 
 #[test]
-fn a_number_may_have_many_digits(rt: HostRuntime) -> Result<(), LexFault> {
+fn a_number_may_have_many_digits(rt: HostRuntime) -> Result<(), Fail> {
     let mut line = vec![in rt.alloc(); b'0'; 65000]?;
     assert!(rt; only_kind(rt.alloc(), line.as_slice()) == Some(Kind::Number(0)));
     line[0] = b'1';

@@ -127,11 +127,25 @@ impl Scheme {
         ensures { IfOk result (IsSchemeOf (term takes.now) (term gives.now) (class_at classes.now)) }
     {
         let mut seen = IndexSet::new(alloc);
-        note_variables(&mut seen, takes)?;
-        note_variables(&mut seen, gives)?;
-        let argument = renumbered(alloc, &seen, takes)?;
-        let gives = renumbered(alloc, &seen, gives)?;
+        Scheme::over(alloc, &mut seen, takes, gives, classes)
+    }
+
+    // The scheme of a function with these types, whose variables are noted first.
+    fn over(
+        alloc: Global,
+        seen: &mut IndexSet<u64>,
+        takes: &Ty,
+        gives: &Ty,
+        classes: &[Class],
+    ) -> Result<Scheme, AllocError>
+        requires { seen.old.keys ≡ [] }
+        ensures { IfOk result (IsSchemeOf (term takes.now) (term gives.now) (class_at classes.now)) }
+    {
+        note_variables(seen, takes)?;
+        note_variables(seen, gives)?;
         let classes = classes_of(alloc, classes, seen.as_slice())?;
+        let argument = renumbered(alloc, seen, takes)?;
+        let gives = renumbered(alloc, seen, gives)?;
         Ok(Scheme {
             argument,
             result: gives,

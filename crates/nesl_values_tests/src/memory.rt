@@ -5,48 +5,72 @@ use nesl_values::{Element, SequenceBuilder, Value};
 use std::alloc::{AllocError, Global};
 use std::test::Fail;
 
+// Whether a copy of the value is made in the heap, and is right.
+fn is_copied(heap: &LocalHeap, value: &Value) -> Result<bool, AllocError> {
+    let before = heap.used();
+    let copy = value.copy_into(heap)?;
+    Ok(
+        heap.used() > before
+            && copy.same(value)
+            && copy.nodes_up_to(100) == Some(19)
+            && value.same_by_list(heap, &copy)?,
+    )
+}
+
 #[test]
 fn copied_into_a_heap(rt: HostRuntime) -> Result<(), Fail> {
-    let heap = LocalHeap::new(rt.alloc(), 65_536)?;
     let value = sample(rt.alloc())?;
+    let heap = LocalHeap::new(rt.alloc(), 65_536)?;
     let before = heap.used();
-    let copy = value.copy_into(&heap)?;
-    assert!(rt; heap.used() > before);
-    assert!(rt; copy.same(&value));
-    assert!(rt; value.same_by_list(&heap, &copy)?);
-    assert_eq!(rt; copy.nodes_up_to(100), Some(19));
-    drop(copy);
+    assert!(rt; is_copied(&heap, &value)?);
     assert_eq!(rt; heap.used(), before);
     Ok(())
+}
+
+// The bytes of the heap that are in use when a value is made, when it is shared, and when only its twin is left.
+fn used_by_a_shared_value(heap: &LocalHeap) -> Result<(usize, usize, usize), AllocError> {
+    let value = doubled(heap, 60)?;
+    let made = heap.used();
+    let _twin = value.share()?;
+    let shared = heap.used();
+    drop(value);
+    Ok((made, shared, heap.used()))
 }
 
 #[test]
 fn shared_in_a_heap(rt: HostRuntime) -> Result<(), Fail> {
     let heap = LocalHeap::new(rt.alloc(), 65_536)?;
     let before = heap.used();
-    let value = doubled(&heap, 60)?;
-    let used = heap.used();
-    let twin = value.share()?;
-    assert_eq!(rt; heap.used(), used);
-    drop(value);
-    assert_eq!(rt; heap.used(), used);
-    drop(twin);
-    assert_eq!(rt; heap.used(), before);
+    let (made, shared, left) = used_by_a_shared_value(&heap)?;
+    assert_eq!(rt; (shared, left, heap.used()), (made, made, before));
     Ok(())
+}
+
+// Whether a heap of so many bytes takes a copy, or is as it was.
+fn takes_all_or_nothing(alloc: Global, bytes: usize, value: &Value) -> Result<bool, AllocError> {
+    let heap = LocalHeap::new(alloc, bytes)?;
+    let before = heap.used();
+    let is_right = match value.copy_into(&heap) {
+        Ok(copy) => copy.same(value),
+        Err(_) => true,
+    };
+    Ok(is_right && heap.used() == before)
+}
+
+fn is_refused(alloc: Global, bytes: usize, value: &Value) -> Result<bool, AllocError> {
+    let heap = LocalHeap::new(alloc, bytes)?;
+    Ok(value.copy_into(&heap).is_err())
 }
 
 #[test]
 fn a_small_heap_refuses(rt: HostRuntime) -> Result<(), Fail> {
     let value = sample(rt.alloc())?;
-    let heap = LocalHeap::new(rt.alloc(), 64)?;
-    assert!(rt; value.copy_into(&heap).is_err());
+    assert!(rt; is_refused(rt.alloc(), 64, &value)?);
     for size in 2..64 {
-        let heap = LocalHeap::new(rt.alloc(), 32 * size)?;
-        let before = heap.used();
-        if let Ok(copy) = value.copy_into(&heap) {
-            assert!(rt; copy.same(&value));
-        }
-        assert_eq!(rt; heap.used(), before, "in {size} times 32 bytes");
+        assert!(rt;
+            takes_all_or_nothing(rt.alloc(), 32 * size, &value)?,
+            "in {size} times 32 bytes"
+        );
     }
     Ok(())
 }
@@ -59,37 +83,60 @@ fn second_try(alloc: Global) -> Result<Value, AllocError> {
     }
 }
 
-#[test]
-fn a_refused_push_changes_nothing(rt: HostRuntime) -> Result<(), Fail> {
-    let item = second_try(rt.alloc())?;
-    let mut builder = SequenceBuilder::with_room(rt.alloc(), 2);
+// Pushes numbers, each time once more where that is refused.
+fn push_numbers(builder: &mut SequenceBuilder) -> Result<(), AllocError> {
     if builder.push_int(1).is_err() {
         builder.push_int(1)?;
     }
     if builder.extend_from_ints(&[2, 3]).is_err() {
         builder.extend_from_ints(&[2, 3])?;
     }
-    if builder.push_copy(Element::Node(&item)).is_err() {
-        builder.push_copy(Element::Node(&item))?;
+    Ok(())
+}
+
+// The same of a copy of the item, of characters, and of the item itself.
+fn push_others(builder: &mut SequenceBuilder, item: &Value) -> Result<(), AllocError> {
+    if builder.push_copy(Element::Node(item)).is_err() {
+        builder.push_copy(Element::Node(item))?;
     }
     if builder.extend_from_chars(b"ab").is_err() {
         builder.extend_from_chars(b"ab")?;
     }
-    if builder.push_shared(Element::Node(&item)).is_err() {
-        builder.push_shared(Element::Node(&item))?;
+    if builder.push_shared(Element::Node(item)).is_err() {
+        builder.push_shared(Element::Node(item))?;
     }
-    let built = match builder.finish() {
-        Ok(built) => built,
-        Err(_) => return Ok(()),
-    };
-    assert_eq!(rt; built.nodes(), 44);
-    assert_eq!(rt; built.sequence_len(), Some(7));
-    assert_eq!(rt; built.element(2).as_int(), Some(3));
-    assert_eq!(rt; built.element(5).as_char(), Some(b'b'));
-    let copy = match built.copy_into(rt.alloc()) {
-        Ok(copy) => copy,
-        Err(_) => built.copy_into(rt.alloc())?,
-    };
-    assert!(rt; copy.same(&built));
+    Ok(())
+}
+
+// What is built of these, unless it is the end that is refused.
+fn built(alloc: Global, item: &Value) -> Result<Option<Value>, AllocError> {
+    let mut builder = SequenceBuilder::with_room(alloc, 2);
+    push_numbers(&mut builder)?;
+    push_others(&mut builder, item)?;
+    Ok(builder.finish().ok())
+}
+
+fn has_them_all(value: &Value) -> bool {
+    value.nodes() == 44
+        && value.sequence_len() == Some(7)
+        && value.element(2).as_int() == Some(3)
+        && value.element(5).as_char() == Some(b'b')
+}
+
+// A copy, at the second try where the first is refused.
+fn copied(alloc: Global, value: &Value) -> Result<Value, AllocError> {
+    match value.copy_into(alloc) {
+        Ok(copy) => Ok(copy),
+        Err(_) => value.copy_into(alloc),
+    }
+}
+
+#[test]
+fn a_refused_push_changes_nothing(rt: HostRuntime) -> Result<(), Fail> {
+    let item = second_try(rt.alloc())?;
+    if let Some(built) = built(rt.alloc(), &item)? {
+        assert!(rt; has_them_all(&built));
+        assert!(rt; copied(rt.alloc(), &built)?.same(&built));
+    }
     Ok(())
 }

@@ -4,41 +4,58 @@ use nesl_values::{Items, Shape, Value};
 use std::alloc::Global;
 use std::test::Fail;
 
+fn is_of_three(value: &Value) -> bool {
+    value.sequence_len() == Some(3) && matches!(value.shape(), Shape::Sequence(3))
+}
+
+// Whether the value has the tag 7 and a sequence of two values that have 13 nodes.
+fn is_seventh(value: &Value) -> bool {
+    let Shape::Tagged(7, inner) = value.shape() else {
+        return false;
+    };
+    let Some((7, held)) = value.as_tagged() else {
+        return false;
+    };
+    value.sequence_len().is_none()
+        && value.items().len() == 0
+        && matches!(inner.items(), Items::Values(_))
+        && inner.items().len() == 2
+        && held.nodes() == 13
+}
+
+fn is_the_sample(value: &Value) -> bool {
+    let Some((numbers, tagged)) = value.as_pair() else {
+        return false;
+    };
+    matches!(value.shape(), Shape::Pair(_, _)) && is_of_three(numbers) && is_seventh(tagged)
+}
+
 #[test]
 fn what_it_holds(rt: HostRuntime) -> Result<(), Fail> {
     let value = sample(rt.alloc())?;
-    assert_eq!(rt; value.nodes_up_to(19), Some(19));
-    assert_eq!(rt; value.nodes_up_to(18), None);
-    let (numbers, tagged) = value.as_pair().ok_or("no pair")?;
-    assert_eq!(rt; numbers.sequence_len(), Some(3));
-    assert_eq!(rt; tagged.sequence_len(), None);
-    assert!(rt; matches!(numbers.shape(), Shape::Sequence(3)));
-    assert!(rt; matches!(value.shape(), Shape::Pair(_, _)));
-    let Shape::Tagged(7, inner) = tagged.shape() else {
-        return Err("no tag".into());
-    };
-    assert!(rt; matches!(inner.items(), Items::Values(_)));
-    assert_eq!(rt; inner.items().len(), 2);
-    let (tag, held) = tagged.as_tagged().ok_or("no tag")?;
-    assert_eq!(rt; tag, 7);
-    assert_eq!(rt; held.nodes(), 13);
-    assert_eq!(rt; tagged.items().len(), 0);
+    let counts = (value.nodes_up_to(19), value.nodes_up_to(18));
+    assert_eq!(rt; counts, (Some(19), None));
+    assert!(rt; is_the_sample(&value));
     Ok(())
+}
+
+// The number, the truth value or the character that it is.
+fn leaf(value: &Value) -> (Option<i64>, Option<bool>, Option<u8>) {
+    (value.as_int(), value.as_bool(), value.as_char())
 }
 
 #[test]
 fn leaves(rt: HostRuntime) -> Result<(), Fail> {
-    let number = Value::<Global>::Int(-3);
-    let truth = Value::<Global>::Bool(true);
-    let letter = Value::<Global>::Char(b'q');
-    assert_eq!(rt; number.as_int(), Some(-3));
-    assert_eq!(rt; number.as_bool(), None);
-    assert_eq!(rt; truth.as_bool(), Some(true));
-    assert_eq!(rt; truth.as_char(), None);
-    assert_eq!(rt; letter.as_char(), Some(b'q'));
-    assert_eq!(rt; letter.as_int(), None);
-    assert_eq!(rt; one_and_two(rt.alloc())?.as_int(), None);
-    assert_eq!(rt; letter.nodes(), 1);
-    assert!(rt; !number.same(&letter));
+    assert!(rt; leaf(&Value::Int(-3)) == (Some(-3), None, None));
+    assert!(rt; leaf(&Value::Bool(true)) == (None, Some(true), None));
+    assert!(rt; leaf(&Value::Char(b'q')) == (None, None, Some(b'q')));
+    assert!(rt; leaf(&one_and_two(rt.alloc())?) == (None, None, None));
     Ok(())
+}
+
+#[test]
+fn leaves_are_one_node(rt: HostRuntime) {
+    let letter = Value::<Global>::Char(b'q');
+    assert!(rt; letter.nodes() == 1);
+    assert!(rt; !Value::<Global>::Int(-3).same(&letter));
 }

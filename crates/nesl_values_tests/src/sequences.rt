@@ -30,66 +30,114 @@ fn with_no_element(rt: HostRuntime) -> Result<(), Fail> {
     Ok(())
 }
 
-#[test]
-fn built_in_order(rt: HostRuntime) -> Result<(), Fail> {
-    let mut builder = SequenceBuilder::with_room(rt.alloc(), 4);
+// Pushes an element of each kind.
+fn push_each(builder: &mut SequenceBuilder) -> Result<(), AllocError> {
     builder.push(Value::Int(1))?;
     builder.push_int(2)?;
     builder.push_bool(true)?;
     builder.push_char(b'c')?;
     builder.push_copy::<Global>(Element::Int(5))?;
-    builder.push_shared(Element::Char(b'd'))?;
-    let value = builder.finish()?;
-    assert_eq!(rt; value.sequence_len(), Some(6));
-    assert_eq!(rt; value.element(0).as_int(), Some(1));
-    assert_eq!(rt; value.element(1).as_int(), Some(2));
-    assert_eq!(rt; value.element(2).as_bool(), Some(true));
-    assert_eq!(rt; value.element(3).as_char(), Some(b'c'));
-    assert_eq!(rt; value.element(4).as_int(), Some(5));
-    assert_eq!(rt; value.element(5).as_char(), Some(b'd'));
+    builder.push_shared(Element::Char(b'd'))
+}
+
+fn has_each(value: &Value) -> bool {
+    value.sequence_len() == Some(6)
+        && value.element(0).as_int() == Some(1)
+        && value.element(1).as_int() == Some(2)
+        && value.element(2).as_bool() == Some(true)
+        && value.element(3).as_char() == Some(b'c')
+        && value.element(4).as_int() == Some(5)
+        && value.element(5).as_char() == Some(b'd')
+}
+
+#[test]
+fn built_in_order(rt: HostRuntime) -> Result<(), Fail> {
+    let mut builder = SequenceBuilder::with_room(rt.alloc(), 4);
+    push_each(&mut builder)?;
+    assert!(rt; has_each(&builder.finish()?));
     Ok(())
+}
+
+fn numbers(alloc: Global, items: &[i64]) -> Result<Value, AllocError> {
+    Value::ints(alloc, Vec::from_slice(alloc, items)?)
+}
+
+// 0, 2 and 3, of which two come from a sequence.
+fn zero_two_three(alloc: Global) -> Result<Value, AllocError> {
+    let more = numbers(alloc, &[1, 2, 3, 4])?;
+    let mut builder = SequenceBuilder::new(alloc);
+    builder.push_int(0)?;
+    if more.items().len() == 4 {
+        builder.extend_shared(more.items().part(1, 3))?;
+    }
+    builder.finish()
 }
 
 #[test]
 fn packed_while_all_are_alike(rt: HostRuntime) -> Result<(), Fail> {
-    let mut builder = SequenceBuilder::new(rt.alloc());
-    builder.push_int(0)?;
-    let more = Value::ints(rt.alloc(), vec![in rt.alloc(); 1, 2, 3, 4]?)?;
-    builder.extend_shared(more.items().part(1, 3))?;
-    let packed = builder.finish()?;
+    let packed = zero_two_three(rt.alloc())?;
     assert!(rt; matches!(packed.items(), Items::Ints(_)));
-    assert!(rt; packed.same(&Value::ints(rt.alloc(), vec![in rt.alloc(); 0, 2, 3]?)?));
-    let mut builder = SequenceBuilder::new(rt.alloc());
+    assert!(rt; packed.same(&numbers(rt.alloc(), &[0, 2, 3])?));
+    Ok(())
+}
+
+// Characters, a truth value and a number.
+fn mixed(alloc: Global) -> Result<Value, AllocError> {
+    let mut builder = SequenceBuilder::new(alloc);
     builder.extend_from_chars(b"ab")?;
     builder.extend_from_bools(&[true])?;
     builder.extend_from_ints(&[7])?;
-    let mixed = builder.finish()?;
-    assert_eq!(rt; mixed.sequence_len(), Some(4));
-    assert_eq!(rt; mixed.element(1).as_char(), Some(b'b'));
-    assert_eq!(rt; mixed.element(2).as_bool(), Some(true));
-    assert_eq!(rt; mixed.element(3).as_int(), Some(7));
-    let mut again = SequenceBuilder::new(rt.alloc());
-    again.extend_copies(mixed.items().part(0, 3))?;
-    again.extend_from_ints(&[7])?;
-    assert!(rt; again.finish()?.same(&mixed));
+    builder.finish()
+}
+
+fn is_mixed(value: &Value) -> bool {
+    value.sequence_len() == Some(4)
+        && value.element(1).as_char() == Some(b'b')
+        && value.element(2).as_bool() == Some(true)
+        && value.element(3).as_int() == Some(7)
+}
+
+// The first three of them copied, and the number.
+fn mixed_again(alloc: Global, mixed: &Value) -> Result<Value, AllocError> {
+    let mut builder = SequenceBuilder::new(alloc);
+    if mixed.items().len() == 4 {
+        builder.extend_copies(mixed.items().part(0, 3))?;
+    }
+    builder.extend_from_ints(&[7])?;
+    builder.finish()
+}
+
+#[test]
+fn not_packed_where_they_are_not_alike(rt: HostRuntime) -> Result<(), Fail> {
+    let mixed = mixed(rt.alloc())?;
+    assert!(rt; is_mixed(&mixed));
+    assert!(rt; mixed_again(rt.alloc(), &mixed)?.same(&mixed));
     Ok(())
+}
+
+// The sample shared, and a copy.
+fn two_rows(alloc: Global) -> Result<Value, AllocError> {
+    let row = sample(alloc)?;
+    let mut builder = SequenceBuilder::new(alloc);
+    builder.push_shared(Element::Node(&row))?;
+    builder.push_copy(Element::Node(&row))?;
+    builder.finish()
+}
+
+// The rows shared, and copies.
+fn four_rows(alloc: Global) -> Result<Value, AllocError> {
+    let rows = two_rows(alloc)?;
+    let mut builder = SequenceBuilder::new(alloc);
+    builder.extend_shared(rows.items())?;
+    builder.extend_copies(rows.items())?;
+    builder.finish()
 }
 
 #[test]
 fn rows_that_are_shared(rt: HostRuntime) -> Result<(), Fail> {
-    let row = sample(rt.alloc())?;
-    let mut builder = SequenceBuilder::new(rt.alloc());
-    builder.push_shared(Element::Node(&row))?;
-    builder.push_copy(Element::Node(&row))?;
-    let rows = builder.finish()?;
-    let mut builder = SequenceBuilder::new(rt.alloc());
-    builder.extend_shared(rows.items())?;
-    builder.extend_copies(rows.items())?;
-    drop(row);
-    drop(rows);
-    let four = builder.finish()?;
-    assert_eq!(rt; four.nodes(), 77);
-    assert!(rt; four.element(3).share()?.same(&sample(rt.alloc())?));
+    let four = four_rows(rt.alloc())?;
+    assert!(rt; four.nodes() == 77 && four.sequence_len() == Some(4));
     assert!(rt; matches!(four.items().at(0), Element::Node(_)));
+    assert!(rt; four.element(3).share()?.same(&sample(rt.alloc())?));
     Ok(())
 }

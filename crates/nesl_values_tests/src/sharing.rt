@@ -1,7 +1,7 @@
 // Values with more than one owner.
 use crate::sample::{doubled, one_and_two, sample};
 use nesl_values::{Element, Value};
-use std::alloc::Global;
+use std::alloc::{AllocError, Global};
 use std::marker::{Send, Sync};
 use std::test::Fail;
 use std::thread;
@@ -30,19 +30,24 @@ fn the_greatest_value(rt: HostRuntime) -> Result<(), Fail> {
     Ok(())
 }
 
+// The nodes of the first part of a pair, and its second.
+fn second_of(pair: Value) -> Result<Option<(u64, Value)>, AllocError> {
+    match pair.into_pair()? {
+        Some((first, second)) => Ok(Some((first.nodes(), second))),
+        None => Ok(None),
+    }
+}
+
 #[test]
 fn parts_of_a_shared_pair(rt: HostRuntime) -> Result<(), Fail> {
     let pair = sample(rt.alloc())?;
     let twin = pair.share()?;
-    let (left, right) = pair.into_pair()?.ok_or("no pair")?;
-    assert_eq!(rt; left.nodes(), 4);
-    assert_eq!(rt; right.nodes(), 14);
+    let (nodes, tagged) = second_of(pair)?.ok_or("no pair")?;
+    assert_eq!(rt; (nodes, tagged.nodes()), (4, 14));
     assert!(rt; twin.same(&sample(rt.alloc())?));
-    drop(left);
-    let (tag, held) = right.into_tagged()?.ok_or("no tag")?;
-    assert_eq!(rt; tag, 7);
+    let (tag, held) = tagged.into_tagged()?.ok_or("no tag")?;
     drop(twin);
-    assert_eq!(rt; held.nodes(), 13);
+    assert_eq!(rt; (tag, held.nodes()), (7, 13));
     assert!(rt; held.into_pair()?.is_none());
     Ok(())
 }
@@ -76,20 +81,37 @@ fn dropped_in_a_thread_and_here(rt: HostRuntime) -> Result<(), Fail> {
     Ok(())
 }
 
+// Whether the two are equal, in each way to compare them.
+fn are_equal(alloc: Global, first: &Value, second: &Value) -> Result<bool, AllocError> {
+    Ok(
+        first.same(second)
+            && second.same(first)
+            && first.same_by_list(alloc, second)?
+            && second.same_by_list(alloc, first)?,
+    )
+}
+
+// Whether they are not, in either.
+fn are_other(alloc: Global, first: &Value, second: &Value) -> Result<bool, AllocError> {
+    Ok(!first.same(second) && !first.same_by_list(alloc, second)?)
+}
+
+fn numbers(alloc: Global, items: &[i64]) -> Result<Value, AllocError> {
+    Value::ints(alloc, Vec::from_slice(alloc, items)?)
+}
+
 #[test]
 fn packed_or_not(rt: HostRuntime) -> Result<(), Fail> {
-    let packed = Value::ints(rt.alloc(), vec![in rt.alloc(); 1, 2]?)?;
-    let plain = one_and_two(rt.alloc())?;
-    assert!(rt; packed.same(&plain));
-    assert!(rt; plain.same(&packed));
-    assert!(rt; packed.same_by_list(rt.alloc(), &plain)?);
-    assert!(rt; plain.same_by_list(rt.alloc(), &packed)?);
-    let longer = Value::ints(rt.alloc(), vec![in rt.alloc(); 1, 2, 3]?)?;
-    assert!(rt; !packed.same(&longer));
-    assert!(rt; !packed.same_by_list(rt.alloc(), &longer)?);
+    let packed = numbers(rt.alloc(), &[1, 2])?;
+    assert!(rt; are_equal(rt.alloc(), &packed, &one_and_two(rt.alloc())?)?);
+    assert!(rt; are_other(rt.alloc(), &packed, &numbers(rt.alloc(), &[1, 2, 3])?)?);
+    Ok(())
+}
+
+#[test]
+fn tags_are_compared(rt: HostRuntime) -> Result<(), Fail> {
     let seventh = Value::tagged(rt.alloc(), 7, Value::Int(1))?;
     let eighth = Value::tagged(rt.alloc(), 8, Value::Int(1))?;
-    assert!(rt; !seventh.same(&eighth));
-    assert!(rt; !seventh.same_by_list(rt.alloc(), &eighth)?);
+    assert!(rt; are_other(rt.alloc(), &seventh, &eighth)?);
     Ok(())
 }
