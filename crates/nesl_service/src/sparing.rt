@@ -20,8 +20,9 @@ const MOST_LINES: u64 = 63;
 /// The first ask of a line is most often for its longest interval, so it is judged apart from the others. After a helper
 /// that came back within 500 microseconds of its grant, asks of its kind are passed over: 1 after the first, and 2 n + 1
 /// where n were at last, up to 63 first asks and 4096 others. After one that took longer the next ask of its kind is put,
-/// and the n of the next short one is halved. A helper counts as one that took longer where the clock can't be read. This
-/// is also the connection's gate, by which it sees that a line begins; it tells another gate of each place.
+/// and the n of the next short one is halved. Where a first ask is granted the next of the others is put too, since it
+/// may be for a half of the same interval. A helper counts as one that took longer where the clock can't be read. This is
+/// also the connection's gate, by which it sees that a line begins; it tells another gate of each place.
 #[derive(Drop)]
 pub struct Sparing<'a, C, H, G> {
     clock: &'a C,
@@ -93,6 +94,9 @@ impl<C: Clock, H: Helpers, G: Gate> Helpers for Sparing<'_, C, H, G> {
             return None;
         }
         let permit = self.helpers.ask()?;
+        if is_first {
+            self.left.store(0, Ordering::SeqCst);
+        }
         let since = Instant::now(self.clock).ok();
         Some(Timed {
             permit,
