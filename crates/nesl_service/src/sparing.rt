@@ -61,8 +61,8 @@ impl<'a, C: Clock, H: Helpers, G: Gate> Sparing<'a, C, H, G> {
         }
     }
 
-    // Whether an ask is the first of its line.
-    fn is_first(&self) -> bool {
+    // Whether an ask is the first of its line; the next one isn't.
+    fn take_begun(&self) -> bool {
         let begun = self.begun.load(Ordering::SeqCst);
         self.begun.store(0, Ordering::SeqCst);
         begun != 0
@@ -84,13 +84,13 @@ impl<C: Clock, H: Helpers, G: Gate> Helpers for Sparing<'_, C, H, G> {
     type Permit = Timed<H::Permit>;
 
     fn ask(&self) -> Option<Timed<H::Permit>> {
-        let is_first = self.is_first();
+        let is_first = self.take_begun();
         let left = if is_first {
             &self.firsts_left
         } else {
             &self.left
         };
-        if is_passed_over(left) {
+        if pass_over(left) {
             return None;
         }
         let permit = self.helpers.ask()?;
@@ -136,7 +136,7 @@ impl<C: Clock, H: Helpers, G: Gate> Gate for Sparing<'_, C, H, G> {
 }
 
 // Whether an ask is passed over; then one fewer is from now on.
-fn is_passed_over(left: &AtomicU64) -> bool {
+fn pass_over(left: &AtomicU64) -> bool {
     let asks = left.load(Ordering::SeqCst);
     if asks == 0 {
         return false;
