@@ -9,10 +9,10 @@ use Rattle.nesl_types.specs.Term.{term, nodes}
 use Rattle.nesl_values.specs.declared.value.Value.{Value}
 use Rattle.nesl_values.specs.Tree.{size}
 use Rattle.nesl_values.specs.View.{tree_of}
-use Rattle.nesl_syntax.specs.declared.tree.Exp.{Exp}
-use Rattle.nesl_syntax.specs.declared.tree.Pattern.{Pattern}
-use Rattle.nesl_syntax.specs.Trees.{SignatureTree, TypeTree}
-use Rattle.nesl_syntax.specs.Views as syntax
+use Rattle.nesl_tree.specs.declared.tree.Exp.{Exp}
+use Rattle.nesl_tree.specs.declared.tree.Pattern.{Pattern}
+use Rattle.nesl_tree.specs.Trees.{SignatureTree, TypeTree}
+use Rattle.nesl_tree.specs.Views as syntax
 use Rattle.nesl_builtins.specs.Table.{function_type}
 use Rattle.nesl_names.specs.Names.{Names, Own}
 use Rattle.nesl_infer.specs.Answers.{IsTypeBy, IsFunctionBy, IsContentBy, typed}

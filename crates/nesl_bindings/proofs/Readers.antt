@@ -3,7 +3,7 @@ use Rattle.std.proofs.Common.{◌≡◌, ℕ, ◌++◌, sym, ap, subst, ◌∙�
 use Rattle.std.specs.declared.alloc.AllocError.{AllocError}
 use Rattle.std.specs.Prelude.{IfOk, codes}
 use Rattle.nesl_types.specs.Term.{Term}
-use Rattle.nesl_syntax.specs.Trees.{Tree}
+use Rattle.nesl_tree.specs.Trees.{Tree}
 use Rattle.nesl_names.specs.Names.{Names, Own, names_in}
 use Rattle.nesl_infer.specs.Answers.{IsTypeBy, typed}
 use Rattle.nesl_code.specs.declared.env.Payload.{Payload}

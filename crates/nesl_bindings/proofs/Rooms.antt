@@ -1,11 +1,11 @@
 -- What is left of a room after nodes, by what is left after their parts.
 use Rattle.std.proofs.Common.{◌≡◌, ℕ, ◌+◌, ◌<◌, sym, ap, subst, ◌∙◌, arith, List, Option, Some, None, Vec, Box, Global}
 use Rattle.std.specs.Prelude.{MatchOption}
-use Rattle.nesl_syntax.specs.declared.tree.Exp.{Exp}
-use Rattle.nesl_syntax.specs.declared.tree.Binding.{Binding}
-use Rattle.nesl_syntax.specs.declared.tree.Node as declared
-use Rattle.nesl_syntax.specs.Trees.{Shape}
-use Rattle.nesl_syntax.specs.Views.{shape_of, tree_of, trees_in, binders_in}
+use Rattle.nesl_tree.specs.declared.tree.Exp.{Exp}
+use Rattle.nesl_tree.specs.declared.tree.Binding.{Binding}
+use Rattle.nesl_tree.specs.declared.tree.Node as declared
+use Rattle.nesl_tree.specs.Trees.{Shape}
+use Rattle.nesl_tree.specs.Views.{shape_of, tree_of, trees_in, binders_in}
 use Rattle.nesl_names.proofs.Arms.{sequence_shape, let_shape, each_shape, filtered_shape}
 use Rattle.nesl_bindings.specs.Nodes.{expression_nodes, nodes_below, nodes_of_all, nodes_bound}
 

@@ -2,7 +2,7 @@
 use Rattle.std.specs.Prelude.{ℕ, List, sum_by}
 use Rattle.nesl_types.specs.Term.{Term, nodes}
 use Rattle.nesl_values.specs.Tree.{size}
-use Rattle.nesl_syntax.specs.Trees.{PatternTree, Tree}
+use Rattle.nesl_tree.specs.Trees.{PatternTree, Tree}
 use Rattle.nesl_builtins.specs.Table.{FunctionType}
 use Rattle.nesl_code.specs.Names.{Name, Value}
 use Rattle.nesl_bindings.specs.Nodes.{expression_nodes}

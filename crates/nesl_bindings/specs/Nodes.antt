@@ -1,8 +1,8 @@
 -- How many expression nodes a body has. Each node counts, the pair of an argument list and the unwritten body of an
 -- apply-to-each too; patterns and written types do not.
 use Rattle.std.specs.Prelude.{ℕ, ◌+◌}
-use Rattle.nesl_syntax.specs.Trees.{Tree, Shape, Trees, Binders, node, none, more, no_binders, binder}
-use Rattle.nesl_syntax.specs.Trees as trees
+use Rattle.nesl_tree.specs.Trees.{Tree, Shape, Trees, Binders, node, none, more, no_binders, binder}
+use Rattle.nesl_tree.specs.Trees as trees
 
 abbrev mutual
   pub expression_nodes : Tree → ℕ

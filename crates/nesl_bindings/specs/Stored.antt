@@ -4,8 +4,8 @@ use Rattle.nesl_types.specs.declared.bindings.Top as kinds
 use Rattle.nesl_types.specs.declared.bindings.Top.TheVariants as kind
 use Rattle.nesl_types.specs.Term.{Term, int, term}
 use Rattle.nesl_values.specs.View.{tree_of}
-use Rattle.nesl_syntax.specs.Views as syntax
-use Rattle.nesl_syntax.specs.Trees.{Tree}
+use Rattle.nesl_tree.specs.Views as syntax
+use Rattle.nesl_tree.specs.Trees.{Tree}
 use Rattle.nesl_builtins.specs.Table.{function_type}
 use Rattle.nesl_infer.specs.Answers.{IsTypeBy, typed}
 use Rattle.nesl_code.specs.declared.env.Payload.{Payload}

@@ -1,10 +1,10 @@
 //! How many nodes expressions have, counted no further than there is room.
 
 ghost use Rattle.std.specs.Prelude.{◌≡◌, ◌+◌, ◌<◌, ◌^◌, MatchOption};
-ghost use Rattle.nesl_syntax.specs.Views.{tree_of, trees_in, binders_in};
+ghost use Rattle.nesl_tree.specs.Views.{tree_of, trees_in, binders_in};
 ghost use Rattle.nesl_bindings.specs.Nodes.{expression_nodes, nodes_of_all, nodes_bound};
 
-use nesl_syntax::tree::{Binding, Exp, Node};
+use nesl_tree::tree::{Binding, Exp, Node};
 
 /// How many nodes the expression has.
 pub fn nodes(exp: &Exp) -> u64

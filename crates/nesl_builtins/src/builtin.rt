@@ -5,7 +5,7 @@ ghost use Rattle.nesl_builtins.specs.Named.{entry, named_builtin, infix_builtin,
 
 use nesl_scalars::{Binary, Unary};
 use nesl_seq_base::seq_fn::SeqFn;
-use nesl_syntax::tree::{Operator, Prefix};
+use nesl_tree::tree::{Operator, Prefix};
 
 /// A built-in function. It takes one value: two arguments are a pair, three are `(a, (b, c))`.
 #[derive(Clone, Copy, PartialEq, Eq, Debug)]

@@ -1,7 +1,7 @@
 -- The elements of sequences at a place.
 use Rattle.std.proofs.Common.{◌≡◌, ℕ, refl, ◌∙◌, ap, List, [], ◌∷◌, Option, Some, None}
 use Rattle.std.specs.Prelude.{slice_get, option_and_then}
-use Rattle.nesl_syntax.specs.Trees.{Binders, no_binders, binder}
+use Rattle.nesl_tree.specs.Trees.{Binders, no_binders, binder}
 use Rattle.nesl_values.specs.Parts.{elements}
 use Rattle.nesl_code.specs.Names.{Value, Locals, bound}
 use Rattle.nesl_code.specs.Frames.{frame, row}

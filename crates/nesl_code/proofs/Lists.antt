@@ -3,8 +3,8 @@ use Rattle.std.proofs.Common.{◌≡◌, ℕ, refl, sym, ◌∙◌, ap, subst, r
 use Rattle.std.proofs.Common.{Vec, Box, Global}
 use Rattle.std.specs.Prelude.{slice_get, option_map, option_and_then}
 use Rattle.nesl_lex.specs.declared.token.Span.{Span}
-use Rattle.nesl_syntax.specs.Trees.{Tree, Trees, Binders, PatternTree, node, none, more, no_binders, binder}
-use Rattle.nesl_syntax.specs.Trees as trees
+use Rattle.nesl_tree.specs.Trees.{Tree, Trees, Binders, PatternTree, node, none, more, no_binders, binder}
+use Rattle.nesl_tree.specs.Trees as trees
 use Rattle.nesl_values.specs.Tree as values
 use Rattle.nesl_code.specs.declared.code.Code.{Code, the_lemmas}
 use Rattle.nesl_code.specs.declared.code.Code as code

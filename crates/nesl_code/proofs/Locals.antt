@@ -1,7 +1,7 @@
 -- Where the values of local names are.
 use Rattle.std.proofs.Common.{◌≡◌, ℕ, zero, suc, refl, sym, ◌∙◌, ap, subst, List, [], ◌∷◌, Option, Some, None, Bool, true, false}
 use Rattle.std.specs.Prelude.{slice_get, option_map, option_and_then, if◌then◌else◌, ◌||◌}
-use Rattle.nesl_syntax.specs.Trees.{PatternTree, pattern, name_pattern, pair_pattern, record_pattern}
+use Rattle.nesl_tree.specs.Trees.{PatternTree, pattern, name_pattern, pair_pattern, record_pattern}
 use Rattle.nesl_values.specs.Parts.{as_pair, as_tagged}
 use Rattle.nesl_code.specs.declared.code.Step.{Step}
 use Rattle.nesl_code.specs.declared.code.Step.TheVariants.{Left, Right, Inside}

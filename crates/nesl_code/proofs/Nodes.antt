@@ -3,10 +3,10 @@ use Rattle.std.proofs.Common.{◌≡◌, ℕ, zero, suc, refl, sym, ◌∙◌, a
 use Rattle.std.proofs.Common.{Vec, Box, Global}
 use Rattle.std.specs.Prelude.{length}
 use Rattle.nesl_lex.specs.declared.token.Span.{Span}
-use Rattle.nesl_syntax.specs.Trees.{Tree, Trees, Binders, PatternTree, node, span_of, none, more, no_binders, binder}
-use Rattle.nesl_syntax.specs.Trees as trees
-use Rattle.nesl_syntax.specs.declared.tree.Operator.{Operator}
-use Rattle.nesl_syntax.specs.declared.tree.Prefix.{Prefix}
+use Rattle.nesl_tree.specs.Trees.{Tree, Trees, Binders, PatternTree, node, span_of, none, more, no_binders, binder}
+use Rattle.nesl_tree.specs.Trees as trees
+use Rattle.nesl_tree.specs.declared.tree.Operator.{Operator}
+use Rattle.nesl_tree.specs.declared.tree.Prefix.{Prefix}
 use Rattle.nesl_values.specs.Tree as values
 use Rattle.nesl_values.specs.Parts.{as_bool}
 use Rattle.nesl_scalars.specs.declared.trap.Trap.TheVariants.{Deep}

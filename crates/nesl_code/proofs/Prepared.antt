@@ -6,14 +6,14 @@ use Rattle.std.proofs.lemmas.Int.{to_z-of_z, ints}
 use Rattle.std.proofs.Common.{Vec, Box, Global, Result, Ok, IfOk}
 use Rattle.std.specs.declared.alloc.AllocError.{AllocError}
 use Rattle.std.proofs.lemmas.List.{take_more, take_all}
-use Rattle.nesl_syntax.specs.declared.tree.Exp.{Exp}
-use Rattle.nesl_syntax.specs.declared.tree.Binding.{Binding}
-use Rattle.nesl_syntax.specs.declared.tree.Node as declared
-use Rattle.nesl_syntax.specs.declared.tree.Node.TheViews.{the_lemmas}
-use Rattle.nesl_syntax.specs.Trees.{PatternTree, Tree}
-use Rattle.nesl_syntax.specs.Trees as trees
-use Rattle.nesl_syntax.specs.Views.{shape_of, tree_of, trees_in, binders_in, pattern_tree}
-use Rattle.nesl_syntax.proofs.Rows.{row_is, row_of_binders_is}
+use Rattle.nesl_tree.specs.declared.tree.Exp.{Exp}
+use Rattle.nesl_tree.specs.declared.tree.Binding.{Binding}
+use Rattle.nesl_tree.specs.declared.tree.Node as declared
+use Rattle.nesl_tree.specs.declared.tree.Node.TheViews.{the_lemmas}
+use Rattle.nesl_tree.specs.Trees.{PatternTree, Tree}
+use Rattle.nesl_tree.specs.Trees as trees
+use Rattle.nesl_tree.specs.Views.{shape_of, tree_of, trees_in, binders_in, pattern_tree}
+use Rattle.nesl_tree.proofs.Rows.{row_is, row_of_binders_is}
 use Rattle.nesl_code.specs.declared.code.Code.{Code}
 use Rattle.nesl_code.specs.Names.{Name}
 use Rattle.nesl_code.specs.Outcome.{sources, greatest}

@@ -2,10 +2,10 @@
 use Rattle.std.proofs.Common.{◌≡◌, ◌<◌, ◌+◌, ℕ, zero, suc, Bool, true, false, refl, sym, ◌∙◌, ap, subst, rules, arith, ◌≤◌, List, [], ◌∷◌, ◌++◌, Option, Some, None, Result, Ok, Err, length, take, get_or, IfOk, Bor}
 use Rattle.std.specs.Prelude.{if◌then◌else◌, slice_get}
 use Rattle.std.proofs.lemmas.List.{take_more, take_all, length-take-le}
-use Rattle.nesl_syntax.specs.declared.tree.Binding.{Binding}
-use Rattle.nesl_syntax.specs.declared.tree.Pattern.{Pattern}
-use Rattle.nesl_syntax.specs.Trees.{PatternTree}
-use Rattle.nesl_syntax.specs.Views.{pattern_tree, binders_in}
+use Rattle.nesl_tree.specs.declared.tree.Binding.{Binding}
+use Rattle.nesl_tree.specs.declared.tree.Pattern.{Pattern}
+use Rattle.nesl_tree.specs.Trees.{PatternTree}
+use Rattle.nesl_tree.specs.Views.{pattern_tree, binders_in}
 use Rattle.nesl_code.specs.declared.layers.Layers.{Layers, Top, Parameter, Let, Row, the_lemmas}
 use Rattle.nesl_code.specs.declared.layers.LocalPlace.{LocalPlace}
 use Rattle.nesl_code.specs.Names.{Name}

@@ -17,8 +17,8 @@ use Rattle.nesl_builtins.specs.declared.builtin.Builtin.{Builtin}
 use Rattle.nesl_builtins.specs.declared.builtin.Builtin.TheVariants.{OfOne, OfTwo, OfSequences}
 use Rattle.nesl_builtins.specs.Named.{named_builtin, prefix_builtin, infix_builtin}
 use Rattle.nesl_seq_base.specs.declared.seq_fn.SeqFn.TheVariants as seq
-use Rattle.nesl_syntax.specs.Trees.{Tree, Trees, Binders, node, none, more, no_binders, binder}
-use Rattle.nesl_syntax.specs.Trees as trees
+use Rattle.nesl_tree.specs.Trees.{Tree, Trees, Binders, node, none, more, no_binders, binder}
+use Rattle.nesl_tree.specs.Trees as trees
 use Rattle.nesl_code.specs.Names.{Value, Scope, Environment, Top, variable_of, function_of, datatype_of, nothing, named, bound, outside, with_names}
 use Rattle.nesl_code.specs.Out.{Out, value, fault, stuck, added, then_out, given, at_call, beside, all_beside}
 use Rattle.nesl_code.specs.Outcome.{Parts, out, node_of, made, on_scalars, on_sequence, applied, variable_in, called, branch, two_parts, all_parts, let_of, sources, places, lengths, scope_at, out_at, kept, counted, filters, bodies, over}

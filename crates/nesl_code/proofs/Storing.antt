@@ -5,8 +5,8 @@ use Rattle.std.specs.Str.{bytes_eq}
 use Rattle.nesl_types.specs.declared.bindings.Top as kinds
 use Rattle.nesl_types.specs.declared.bindings.Top.TheVariants as kind
 use Rattle.nesl_types.specs.Names.{with_name}
-use Rattle.nesl_syntax.specs.Trees.{Tree, PatternTree}
-use Rattle.nesl_syntax.specs.Views as syntax
+use Rattle.nesl_tree.specs.Trees.{Tree, PatternTree}
+use Rattle.nesl_tree.specs.Views as syntax
 use Rattle.nesl_code.specs.declared.code.Code.{Code}
 use Rattle.nesl_code.specs.declared.env.Payload.{Payload}
 use Rattle.nesl_code.specs.declared.env.Payload.TheVariants as payload

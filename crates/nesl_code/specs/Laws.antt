@@ -1,6 +1,6 @@
 -- Laws of what expressions come to.
 use Rattle.std.specs.Prelude.{◌≡◌, ◌≤◌, ℕ, suc, []}
-use Rattle.nesl_syntax.specs.Trees.{Tree}
+use Rattle.nesl_tree.specs.Trees.{Tree}
 use Rattle.nesl_code.specs.declared.code.Code.{Code}
 use Rattle.nesl_code.specs.Names.{Scope, Environment, outside}
 use Rattle.nesl_code.specs.Out.{Out, value, fault, stuck}

@@ -2,8 +2,8 @@
 use Rattle.std.specs.Prelude.{◌≡◌, ◌<◌, ℕ, List, [], ◌∷◌, ◌++◌, map, Bool, true, false, ◌||◌, Option, Some, None, suc}
 use Rattle.std.specs.Prelude.{option_map, option_and_then, slice_get, if◌then◌else◌}
 use Rattle.std.specs.Str.{bytes_eq}
-use Rattle.nesl_syntax.specs.Trees.{PatternTree, Tree, Trees, Binders, pattern, name_pattern, pair_pattern}
-use Rattle.nesl_syntax.specs.Trees.{record_pattern, none, more, no_binders, binder}
+use Rattle.nesl_tree.specs.Trees.{PatternTree, Tree, Trees, Binders, pattern, name_pattern, pair_pattern}
+use Rattle.nesl_tree.specs.Trees.{record_pattern, none, more, no_binders, binder}
 use Rattle.nesl_code.specs.declared.code.Code.{Code}
 use Rattle.nesl_code.specs.declared.code.Step.{Step}
 use Rattle.nesl_code.specs.declared.code.Step.TheVariants.{Left, Right, Inside}

@@ -3,7 +3,7 @@ use Rattle.std.specs.Prelude.{ℕ, List, [], ◌∷◌, Option, Some, None, if�
 use Rattle.std.specs.Str.{bytes_eq}
 use Rattle.nesl_values.specs.Tree as values
 use Rattle.nesl_values.specs.Parts.{as_pair, as_tagged}
-use Rattle.nesl_syntax.specs.Trees.{PatternTree, pattern, name_pattern, pair_pattern, record_pattern, Tree}
+use Rattle.nesl_tree.specs.Trees.{PatternTree, pattern, name_pattern, pair_pattern, record_pattern, Tree}
 
 -- values are plain trees, and names are their bytes
 abbrev pub Value : Type 0

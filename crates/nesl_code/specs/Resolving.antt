@@ -1,8 +1,8 @@
 -- What resolving a name gives.
 use Rattle.std.specs.Prelude.{◌≡◌, ℕ, List, [], ◌∷◌, ◌++◌, map, Option, Some, None, slice_get, option_map}
 use Rattle.std.proofs.Common.{Vec, Global}
-use Rattle.nesl_syntax.specs.Trees.{PatternTree}
-use Rattle.nesl_syntax.specs.Views.{pattern_tree, binders_in}
+use Rattle.nesl_tree.specs.Trees.{PatternTree}
+use Rattle.nesl_tree.specs.Views.{pattern_tree, binders_in}
 use Rattle.nesl_code.specs.declared.layers.Layers.{Layers, fold-Layers}
 use Rattle.nesl_code.specs.declared.layers.Layers.TheOpen.{Layers-F}
 use Rattle.nesl_code.specs.declared.layers.LocalPlace.{LocalPlace}

@@ -4,7 +4,7 @@ use Rattle.std.specs.Str.{bytes_eq}
 use Rattle.nesl_types.specs.declared.bindings.Top as kinds
 use Rattle.nesl_types.specs.declared.bindings.Top.TheVariants as kind
 use Rattle.nesl_values.specs.View.{tree_of}
-use Rattle.nesl_syntax.specs.Views as syntax
+use Rattle.nesl_tree.specs.Views as syntax
 use Rattle.std.proofs.Common.{Vec, Global}
 use Rattle.nesl_code.specs.declared.code.Code.{Code}
 use Rattle.nesl_code.specs.declared.env.Payload.{Payload}

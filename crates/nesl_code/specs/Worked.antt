@@ -1,10 +1,10 @@
 -- Expressions that are worked by hand.
 use Rattle.std.specs.Prelude.{◌≡◌, refl, ℕ, pos, codes, List, [], ◌∷◌, true}
 use Rattle.nesl_lex.specs.declared.token.Span.{Span}
-use Rattle.nesl_syntax.specs.declared.tree.Operator.TheVariants as sign
-use Rattle.nesl_syntax.specs.Trees.{PatternTree, Tree, Trees, Shape, node, none, more, no_binders, binder, number}
-use Rattle.nesl_syntax.specs.Trees.{truth, variable, call, pair, infix_of, choice, sequence, each, filtered_each}
-use Rattle.nesl_syntax.specs.Trees.{element, let_in, pattern, name_pattern, pair_pattern}
+use Rattle.nesl_tree.specs.declared.tree.Operator.TheVariants as sign
+use Rattle.nesl_tree.specs.Trees.{PatternTree, Tree, Trees, Shape, node, none, more, no_binders, binder, number}
+use Rattle.nesl_tree.specs.Trees.{truth, variable, call, pair, infix_of, choice, sequence, each, filtered_each}
+use Rattle.nesl_tree.specs.Trees.{element, let_in, pattern, name_pattern, pair_pattern}
 use Rattle.nesl_values.specs.Tree as values
 use Rattle.nesl_scalars.specs.declared.trap.Trap.TheVariants as trap
 use Rattle.nesl_builtins.specs.Named.{named_builtin}

@@ -3,7 +3,7 @@
 ghost use Rattle.std.specs.Prelude.{◌≡◌, ◌<◌, ℕ, IfOk, OnOk, OnErr, [], length, slice_get, unwrap_or};
 ghost use Rattle.std.specs.Option.{option_map};
 ghost use Rattle.indexmap.specs.IndexMap.{spare};
-ghost use Rattle.nesl_syntax.specs.Views.{tree_of};
+ghost use Rattle.nesl_tree.specs.Views.{tree_of};
 ghost use Rattle.nesl_code.specs.Means.{Means, IsTableOf, names_of, place_of};
 ghost use Rattle.nesl_code.specs.Run.{slot_at, nothing_slot};
 ghost use Rattle.nesl_code.specs.Resolving.{keys_of};
@@ -15,7 +15,7 @@ use crate::layers::Layers;
 use crate::places::{Places, place_in};
 use crate::preparing::{code_of, code_of_body};
 use indexmap::IndexMap;
-use nesl_syntax::tree::{Exp, Pattern};
+use nesl_tree::tree::{Exp, Pattern};
 use nesl_types::{Context, Top};
 use nesl_values::Value;
 use std::alloc::{AllocError, Global};

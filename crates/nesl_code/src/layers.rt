@@ -1,12 +1,12 @@
 //! Where the values of local names are.
 
 ghost use Rattle.std.specs.Prelude.{◌≡◌, ◌++◌, ◌∷◌, ◌<◌, [], IfOk, IfSome, suc, length};
-ghost use Rattle.nesl_syntax.specs.Views.{pattern_tree, binders_in};
+ghost use Rattle.nesl_tree.specs.Views.{pattern_tree, binders_in};
 ghost use Rattle.nesl_code.specs.Means.{bindings, binders, binds, steps_to, last_binding, patterns, spot, IsElementSpot};
 ghost use Rattle.nesl_code.specs.Resolving.{layers_of, FindsIn, Finds};
 
 use crate::code::Step;
-use nesl_syntax::tree::{Binding, Pattern, PatternNode};
+use nesl_tree::tree::{Binding, Pattern, PatternNode};
 use std::alloc::{AllocError, Global};
 
 /// The patterns whose names stand in the frames round an expression, those of the newest frame first.

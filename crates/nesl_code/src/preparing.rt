@@ -1,8 +1,8 @@
 //! Preparing expressions: their names are resolved.
 
 ghost use Rattle.std.specs.Prelude.{◌≡◌, ◌∷◌, [], IfOk, pos, min, List};
-ghost use Rattle.nesl_syntax.specs.Trees.{Tree, node, variable, call, element};
-ghost use Rattle.nesl_syntax.specs.Views.{tree_of, trees_in, binders_in, pattern_tree};
+ghost use Rattle.nesl_tree.specs.Trees.{Tree, node, variable, call, element};
+ghost use Rattle.nesl_tree.specs.Views.{tree_of, trees_in, binders_in, pattern_tree};
 ghost use Rattle.nesl_code.specs.Outcome.{greatest, sources};
 ghost use Rattle.nesl_code.specs.Means.{Means, AllMean, BindingsMean, Layer, bindings as layer};
 ghost use Rattle.nesl_code.specs.Resolving.{layers_of, known};
@@ -13,7 +13,7 @@ use crate::places::{Places, place_of};
 use nesl_builtins::{Builtin, named, of_infix, of_prefix};
 use nesl_lex::token::Span;
 use nesl_seq_base::seq_fn::SeqFn;
-use nesl_syntax::tree::{Binding, Exp, Node, Pattern};
+use nesl_tree::tree::{Binding, Exp, Node, Pattern};
 use std::alloc::{AllocError, Global};
 
 /// The code of an expression whose local names stand in these frames. It recurs as deep as the expression is high.

@@ -2,7 +2,7 @@
 use Rattle.std.proofs.Common.{◌≡◌, ℕ, List, [], true, nat_le, sym, subst, arith}
 use Rattle.std.specs.Prelude.{if◌then◌else◌}
 use Rattle.std.proofs.lemmas.Bool.Decides.{nat_tests}
-use Rattle.nesl_syntax.specs.Trees.{Tree}
+use Rattle.nesl_tree.specs.Trees.{Tree}
 use Rattle.nesl_code.specs.declared.code.Code.{Code}
 use Rattle.nesl_code.specs.Names.{Name, Value, Environment, outside}
 use Rattle.nesl_code.specs.Out.{Out, value, fault, stuck, within}

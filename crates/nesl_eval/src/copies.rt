@@ -1,6 +1,6 @@
 //! The top level in another heap than that of its bindings.
 ghost use Rattle.std.specs.Prelude.{◌≡◌, [], ℕ, IfOk, IfSome, OnOk, Some, slice_get};
-ghost use Rattle.nesl_syntax.specs.Views.{tree_of as tree_of_exp};
+ghost use Rattle.nesl_tree.specs.Views.{tree_of as tree_of_exp};
 ghost use Rattle.nesl_values.specs.View.{tree_of};
 ghost use Rattle.nesl_code.specs.Means.{IsTableOf, names_of};
 ghost use Rattle.nesl_code.specs.Names.{outside};
@@ -14,7 +14,7 @@ ghost use Rattle.nesl_eval.specs.Copied.{AreCopies, copies-prop, tree_at};
 use crate::outcome::{Outcome, evaluate};
 use nesl_code::{Code, Env, TopLevel, prepare, runs_as_meant};
 use nesl_nodes::held::{Held, Tops};
-use nesl_syntax::tree::Exp;
+use nesl_tree::tree::Exp;
 use nesl_values::Value;
 use std::alloc::{AllocError, Allocator, Global};
 

@@ -4,7 +4,7 @@ use crate::session::{LEVELS, WORK};
 use linked_list_allocator::LocalHeap;
 use nesl_code::Env;
 use nesl_eval::{Outcome, eval_one, eval_one_in};
-use nesl_syntax::tree::Exp;
+use nesl_tree::tree::Exp;
 use nesl_values::{Items, Value};
 use std::alloc::{AllocError, Allocator, Global};
 

@@ -5,7 +5,7 @@ use nesl_code::{Env, Payload};
 use nesl_eval::{Outcome, eval_one};
 use nesl_lex::lex;
 use nesl_syntax::parse_form;
-use nesl_syntax::tree::{Exp, Form};
+use nesl_tree::tree::{Exp, Form};
 use nesl_types::{Top, Ty};
 use nesl_values::Value;
 use std::alloc::{AllocError, Global};

@@ -19,6 +19,14 @@ pub struct Half<V> {
     pub cost: Cost,
 }
 
+/// The meter of a half: it has the whole fuel, for what the two halves took is judged when both have ended.
+pub fn begun_with(fuel: u64) -> Meter
+    ensures fuel { result.fuel ≡ fuel }
+    ensures depth { result.depth ≡ 0 }
+{
+    Meter { fuel, depth: 0 }
+}
+
 /// What was taken from one meter to another.
 pub fn cost_since(begun: Meter, meter: Meter) -> Cost
     ensures work { result.work ≡ begun.fuel - meter.fuel }

@@ -7,7 +7,7 @@ mod helpers;
 mod permits;
 mod pool;
 
-pub use halving::{Half, cost_since, joined_places, joined_values};
+pub use halving::{Half, begun_with, cost_since, joined_places, joined_values};
 pub use helpers::{Free, Gate, Helpers, NoHelpers, NoPermit, Place};
 pub use permits::Permits;
 pub use pool::{Asking, Permit, Pool};

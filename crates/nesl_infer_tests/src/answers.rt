@@ -8,7 +8,7 @@ use crate::definitions::Definitions;
 use nesl_infer::{InferFault, infer_datatype, infer_exp, infer_function};
 use nesl_lex::lex;
 use nesl_syntax::parse_form;
-use nesl_syntax::tree::{Exp, Form, Pattern, Signature, TypeExp};
+use nesl_tree::tree::{Exp, Form, Pattern, Signature, TypeExp};
 use nesl_types::{Top, scheme_text, type_text};
 use std::alloc::{AllocError, Global};
 

@@ -1,7 +1,7 @@
 //! What was defined.
 
-ghost use Rattle.nesl_infer.specs.Contexts.{AreClosed};
-ghost use Rattle.nesl_infer.specs.Closed.{closed-prop};
+ghost use Rattle.nesl_rules.specs.Contexts.{AreClosed};
+ghost use Rattle.nesl_rules.specs.Closed.{closed-prop};
 
 use nesl_types::{Context, Top};
 use std::alloc::{AllocError, Global};
@@ -14,7 +14,7 @@ pub struct Definitions {
 }
 
 impl Definitions {
-    ghost use Rattle.nesl_infer.specs.Contexts.{IsClosed};
+    ghost use Rattle.nesl_rules.specs.Contexts.{IsClosed};
 
     pub fn new(alloc: Global) -> Definitions {
         Definitions {

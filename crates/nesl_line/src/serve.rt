@@ -42,12 +42,7 @@ pub fn serve<'t, S: Source, W: Sink, R: Threads + Wait + Sync, H: Helpers + Sync
 {
     let speak = |lease: Lease, line: &[u8]| -> (Lease, Answer)
         ensures { Says lease line.now result }
-    {
-        let mut lease = lease;
-        gate.enter(Place::Line(lease.place()));
-        let answer = lease.line_split(rt, alloc, line, helpers, gate);
-        (lease, answer)
-    };
+    { said(rt, alloc, lease, line, helpers, gate) };
     let mut guest = Guest::new(rt, table, speak);
     let ran = exchange(alloc, reader, writer, &mut guest, &mut ());
     Served {
@@ -55,4 +50,21 @@ pub fn serve<'t, S: Source, W: Sink, R: Threads + Wait + Sync, H: Helpers + Sync
         receipt: guest.leave(),
         end: ran.end,
     }
+}
+
+// What the session of a lease answers to a line, and the lease after it.
+fn said<R: Threads + Wait + Sync, H: Helpers + Sync, G: Gate + Sync>(
+    rt: &R,
+    alloc: Global,
+    lease: Lease,
+    line: &[u8],
+    helpers: &H,
+    gate: &G,
+) -> (Lease, Answer)
+    ensures { Says lease line.now result }
+{
+    let mut lease = lease;
+    gate.enter(Place::Line(lease.place()));
+    let answer = lease.line_split(rt, alloc, line, helpers, gate);
+    (lease, answer)
 }

@@ -2,13 +2,13 @@
 use Rattle.std.proofs.Common.{◌≡◌, ◌≤◌, ◌-◌, ℕ, List, ◌++◌, Option, length, drop, refl, sym, ap, subst, ◌∙◌, rules, arith, length-append}
 use Rattle.std.proofs.Common.{Vec, Box, Global}
 use Rattle.nesl_lex.specs.declared.token.Span.{Span}
-use Rattle.nesl_syntax.specs.declared.tree.Exp.{Exp}
-use Rattle.nesl_syntax.specs.declared.tree.Binding.{Binding}
-use Rattle.nesl_syntax.specs.declared.tree.Node as declared
-use Rattle.nesl_syntax.specs.declared.tree.Node.TheViews.{the_lemmas}
-use Rattle.nesl_syntax.specs.Trees as trees
-use Rattle.nesl_syntax.specs.Views.{shape_of, tree_of, trees_in, binders_in}
-use Rattle.nesl_syntax.proofs.Rows.{row_is, row_of_binders_is}
+use Rattle.nesl_tree.specs.declared.tree.Exp.{Exp}
+use Rattle.nesl_tree.specs.declared.tree.Binding.{Binding}
+use Rattle.nesl_tree.specs.declared.tree.Node as declared
+use Rattle.nesl_tree.specs.declared.tree.Node.TheViews.{the_lemmas}
+use Rattle.nesl_tree.specs.Trees as trees
+use Rattle.nesl_tree.specs.Views.{shape_of, tree_of, trees_in, binders_in}
+use Rattle.nesl_tree.proofs.Rows.{row_is, row_of_binders_is}
 use Rattle.nesl_names.proofs.Scoping.{dropped}
 
 pub sequence_shape : (v : Vec Exp Global) → shape_of (declared.Sequence v) ≡ trees.sequence (trees_in v.items)

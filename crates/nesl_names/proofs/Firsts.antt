@@ -1,8 +1,8 @@
 -- What is found first in one part, then in another.
 use Rattle.std.proofs.Common.{◌≡◌, ℕ, List, [], ◌∷◌, ◌++◌, Option, Some, None, refl, sym, ap, subst, ◌∙◌}
 use Rattle.nesl_lex.specs.declared.token.Span.{Span}
-use Rattle.nesl_syntax.specs.declared.tree.Exp.{Exp}
-use Rattle.nesl_syntax.specs.Views.{tree_of}
+use Rattle.nesl_tree.specs.declared.tree.Exp.{Exp}
+use Rattle.nesl_tree.specs.Views.{tree_of}
 use Rattle.nesl_names.specs.Firsts.{first, earlier}
 use Rattle.nesl_names.specs.Names.{Names, unknown}
 

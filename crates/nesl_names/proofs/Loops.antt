@@ -2,10 +2,10 @@
 use Rattle.std.proofs.Common.{◌≡◌, ◌<◌, ◌+◌, ℕ, List, [], ◌∷◌, ◌++◌, Option, Some, None, length, get_or, drop, refl, sym, ap, subst, ◌∙◌, append_assoc}
 use Rattle.std.proofs.lemmas.List.{drop_more}
 use Rattle.nesl_lex.specs.declared.token.Span.{Span}
-use Rattle.nesl_syntax.specs.declared.tree.Exp.{Exp}
-use Rattle.nesl_syntax.specs.declared.tree.Binding.{Binding}
-use Rattle.nesl_syntax.specs.Trees.{PatternTree}
-use Rattle.nesl_syntax.specs.Views.{tree_of, trees_in, binders_in, pattern_tree}
+use Rattle.nesl_tree.specs.declared.tree.Exp.{Exp}
+use Rattle.nesl_tree.specs.declared.tree.Binding.{Binding}
+use Rattle.nesl_tree.specs.Trees.{PatternTree}
+use Rattle.nesl_tree.specs.Views.{tree_of, trees_in, binders_in, pattern_tree}
 use Rattle.nesl_names.specs.Firsts.{first, earlier}
 use Rattle.nesl_names.specs.Names.{Names, unknown, all_unknown, unknown_records, unknown_bound, unknown_drawn, bound, all_bound}
 use Rattle.nesl_names.proofs.Firsts.{joined, moved}

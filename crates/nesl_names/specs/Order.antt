@@ -3,8 +3,8 @@ use Rattle.std.specs.Prelude.{ℕ, ◌≤◌, List, [], ◌∷◌, length}
 use Rattle.nesl_lex.specs.declared.token.Span.{Span}
 use Rattle.nesl_lex.specs.Tokens.{Placed}
 use Rattle.nesl_lex.specs.Lexemes.{HasTokens}
-use Rattle.nesl_syntax.specs.Trees.{Line, function, datatype, bind, eval, show_type}
-use Rattle.nesl_syntax.specs.Lines.{IsLine}
+use Rattle.nesl_tree.specs.Trees.{Line, function, datatype, bind, eval, show_type}
+use Rattle.nesl_tree.specs.Lines.{IsLine}
 use Rattle.nesl_names.specs.Names.{Names, unknown, unknown_of_function, unknown_types}
 
 -- spans between these places, of which each begins where the one before it begins, or later

@@ -2,7 +2,7 @@
 
 ghost use Rattle.nesl_names.specs.Order.{UnknownInOrder};
 
-use nesl_syntax::spans_in_order;
+use nesl_tree::spans_in_order;
 
 /// The unknown names of a line are listed in the order of its text: the first of the list is the one that begins first.
 pub fn unknown_in_order()

@@ -1,7 +1,7 @@
 //! The names of patterns: those of record patterns, which are datatypes, and those that they bind.
 
 ghost use Rattle.std.specs.Prelude.{◌≡◌, ◌++◌, OnOk};
-ghost use Rattle.nesl_syntax.specs.Views.{pattern_tree, binders_in};
+ghost use Rattle.nesl_tree.specs.Views.{pattern_tree, binders_in};
 ghost use Rattle.nesl_names.specs.Firsts.{earlier, first};
 ghost use Rattle.nesl_names.specs.Scopes.{locals};
 ghost use Rattle.nesl_names.specs.Names.{unknown_records, datatype_in, bound, all_bound};
@@ -10,7 +10,7 @@ use crate::found::note;
 use crate::known::is_datatype;
 use crate::scope::Scope;
 use nesl_lex::token::Span;
-use nesl_syntax::tree::{Binding, Pattern, PatternNode};
+use nesl_tree::tree::{Binding, Pattern, PatternNode};
 use nesl_types::Context;
 use std::alloc::{AllocError, Global};
 

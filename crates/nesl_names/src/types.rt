@@ -1,14 +1,14 @@
 //! The names of a written type.
 
 ghost use Rattle.std.specs.Prelude.{◌≡◌};
-ghost use Rattle.nesl_syntax.specs.Views.{type_tree};
+ghost use Rattle.nesl_tree.specs.Views.{type_tree};
 ghost use Rattle.nesl_names.specs.Firsts.{earlier, first};
 ghost use Rattle.nesl_names.specs.Names.{unknown_types, datatype_in};
 
 use crate::found::note;
 use crate::known::is_datatype;
 use nesl_lex::token::Span;
-use nesl_syntax::tree::{TypeExp, TypeNode};
+use nesl_tree::tree::{TypeExp, TypeNode};
 use nesl_types::Context;
 
 /// Notes the first name that is no datatype.

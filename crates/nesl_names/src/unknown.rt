@@ -1,7 +1,7 @@
 //! The first name that refers to nothing.
 
 ghost use Rattle.std.specs.Prelude.{◌≡◌, None, Some, [], IfOk};
-ghost use Rattle.nesl_syntax.specs.Views.{tree_of, pattern_tree, type_tree};
+ghost use Rattle.nesl_tree.specs.Views.{tree_of, pattern_tree, type_tree};
 ghost use Rattle.nesl_names.specs.Firsts.{first};
 ghost use Rattle.nesl_names.specs.Names.{names_in, datatype_in, unknown, unknown_of_function, unknown_types};
 
@@ -10,7 +10,7 @@ use crate::scope::Scope;
 use crate::types::walk_type;
 use crate::walk::walk;
 use nesl_lex::token::Span;
-use nesl_syntax::tree::{Exp, Pattern, TypeExp};
+use nesl_tree::tree::{Exp, Pattern, TypeExp};
 use nesl_types::Context;
 use std::alloc::{AllocError, Global};
 

@@ -4,7 +4,7 @@ ghost use Rattle.std.specs.Prelude.{◌≡◌, ◌++◌, ◌||◌, OnOk};
 ghost use Rattle.std.specs.Option.{is_some, option_map};
 ghost use Rattle.std.specs.List.{list_any};
 ghost use Rattle.std.specs.Str.{bytes_eq};
-ghost use Rattle.nesl_syntax.specs.Views.{tree_of, trees_in, binders_in};
+ghost use Rattle.nesl_tree.specs.Views.{tree_of, trees_in, binders_in};
 ghost use Rattle.nesl_names.specs.Firsts.{earlier, first};
 ghost use Rattle.nesl_names.specs.Scopes.{locals};
 ghost use Rattle.nesl_names.specs.Names.{names_in, all_bound, unknown, all_unknown, unknown_bound, unknown_drawn};
@@ -15,7 +15,7 @@ use crate::patterns::{bind, bind_all, walk_pattern};
 use crate::scope::Scope;
 use crate::types::walk_type;
 use nesl_lex::token::Span;
-use nesl_syntax::tree::{Binding, Exp, Node};
+use nesl_tree::tree::{Binding, Exp, Node};
 use nesl_types::Context;
 use std::alloc::{AllocError, Global};
 

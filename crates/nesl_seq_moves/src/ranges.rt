@@ -121,7 +121,8 @@ fn number_at(numbers: Progression, place: u64) -> i64
     requires within { place < numbers.count }
     ensures { result ≡ numbers.first +ℤ pos (place * numbers.step) }
 {
-    (numbers.first as i128 + place as i128 * numbers.step as i128) as i64
+    let ahead = place * numbers.step;
+    (numbers.first as i128 + ahead as i128) as i64
 }
 
 pub fn price_range<A: Allocator>(

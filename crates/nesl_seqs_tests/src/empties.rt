@@ -1,8 +1,9 @@
 //! Sequences with no element, in each way that they are held.
-use crate::told::first_wrong;
+use crate::told::all_hold;
 use std::test::Fail;
 
-const FUNCTIONS_OF_ONE: &str = r#"length [] = 0 : 1 1 1
+const ROWS: &str = r#"% Functions of one
+length [] = 0 : 1 1 1
 length {} = 0 : 1 1 1
 length "" = 0 : 1 1 1
 sum [] = 0 : 1 1 1
@@ -44,20 +45,20 @@ odd_elts "" = [] : 1 1 1
 even_elts [] = [] : 1 1 1
 even_elts {} = [] : 1 1 1
 even_elts "" = [] : 1 1 1
-max_val [] ! empty
-max_val {} ! empty
-max_val "" ! empty
-min_val [] ! empty
-min_val {} ! empty
-min_val "" ! empty
-max_index [] ! empty
-max_index {} ! empty
-max_index "" ! empty
-min_index [] ! empty
-min_index {} ! empty
-min_index "" ! empty"#;
-
-const FUNCTIONS_OF_TWO: &str = r#"append ( [] [] ) = [] : 1 1 1
+max_val [] ! Empty
+max_val {} ! Empty
+max_val "" ! Empty
+min_val [] ! Empty
+min_val {} ! Empty
+min_val "" ! Empty
+max_index [] ! Empty
+max_index {} ! Empty
+max_index "" ! Empty
+min_index [] ! Empty
+min_index {} ! Empty
+min_index "" ! Empty
+% Functions of two
+append ( [] [] ) = [] : 1 1 1
 append ( [] {} ) = [] : 1 1 1
 append ( [] "" ) = [] : 1 1 1
 append ( {} [] ) = [] : 1 1 1
@@ -137,9 +138,9 @@ eql ( {} {} ) = T : 3 1 1
 eql ( {} "" ) = T : 3 1 1
 eql ( "" [] ) = T : 3 1 1
 eql ( "" {} ) = T : 3 1 1
-eql ( "" "" ) = T : 3 1 1"#;
-
-const FUNCTIONS_WITH_A_NUMBER: &str = r#"take ( [] 0 ) = [] : 1 1 1
+eql ( "" "" ) = T : 3 1 1
+% Functions with a number
+take ( [] 0 ) = [] : 1 1 1
 take ( {} 0 ) = [] : 1 1 1
 take ( "" 0 ) = [] : 1 1 1
 drop ( [] 0 ) = [] : 1 1 1
@@ -151,17 +152,14 @@ rotate ( "" 7 ) = [] : 1 1 1
 dist ( [] 2 ) = < [] [] > : 3 1 3
 dist ( {} 2 ) = < [] [] > : 3 1 3
 dist ( "" 2 ) = < [] [] > : 3 1 3
-element_at ( [] 0 ) ! range
-rep ( [] ( T 0 ) ) ! range
-element_at ( {} 0 ) ! range
-rep ( {} ( T 0 ) ) ! range
-element_at ( "" 0 ) ! range
-rep ( "" ( T 0 ) ) ! range"#;
+element_at ( [] 0 ) ! Range
+rep ( [] ( T 0 ) ) ! Range
+element_at ( {} 0 ) ! Range
+rep ( {} ( T 0 ) ) ! Range
+element_at ( "" 0 ) ! Range
+rep ( "" ( T 0 ) ) ! Range"#;
 
 #[test]
 fn rows_hold(rt: HostRuntime) -> Result<(), Fail> {
-    for rows in [FUNCTIONS_OF_ONE, FUNCTIONS_OF_TWO, FUNCTIONS_WITH_A_NUMBER] {
-        assert_eq!(rt; first_wrong(rt.alloc(), rows)?, None);
-    }
-    Ok(())
+    all_hold(rt.alloc(), ROWS)
 }

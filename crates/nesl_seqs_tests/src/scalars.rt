@@ -1,123 +1,204 @@
+//! The functions on scalars.
+use crate::reading::{place_of, value_of};
+use crate::told::is_named;
 use nesl_scalars::{Binary, Cost, Trap, Unary};
 use nesl_values::Value;
+use std::alloc::{AllocError, Global};
+use std::test::Fail;
 
-fn int(a: i64) -> Value {
-    Value::Int(a)
-}
+/// The names of the functions of one scalar.
+const NAMES_OF_ONE: &str =
+    "not plusp minusp zerop oddp evenp negate abs isqrt btoi char_code code_char";
 
-fn truth(b: bool) -> Value {
-    Value::Bool(b)
-}
+/// These functions, in the order of their names.
+const OF_ONE: [Unary; 12] = [
+    Unary::Not,
+    Unary::Plusp,
+    Unary::Minusp,
+    Unary::Zerop,
+    Unary::Oddp,
+    Unary::Evenp,
+    Unary::Negate,
+    Unary::Abs,
+    Unary::Isqrt,
+    Unary::Btoi,
+    Unary::CharCode,
+    Unary::CodeChar,
+];
 
-fn character(c: u8) -> Value {
-    Value::Char(c)
-}
+/// The names and the signs of the functions of two scalars.
+const NAMES_OF_TWO: &str = "and or xor nand nor == /= < > <= >= + - * / rem max min lshift rshift";
 
-fn of_one(function: Unary, argument: Value) -> Result<Value, Trap> {
-    function.apply(&argument)
-}
+/// These functions, in the order of their names.
+const OF_TWO: [Binary; 20] = [
+    Binary::And,
+    Binary::Or,
+    Binary::Xor,
+    Binary::Nand,
+    Binary::Nor,
+    Binary::Equal,
+    Binary::Unequal,
+    Binary::Less,
+    Binary::Greater,
+    Binary::AtMost,
+    Binary::AtLeast,
+    Binary::Add,
+    Binary::Subtract,
+    Binary::Multiply,
+    Binary::Divide,
+    Binary::Rem,
+    Binary::Max,
+    Binary::Min,
+    Binary::Lshift,
+    Binary::Rshift,
+];
 
-fn of_two(function: Binary, left: Value, right: Value) -> Result<Value, Trap> {
-    function.apply(&left, &right)
-}
-
-fn ints(function: Binary, a: i64, b: i64) -> Result<Value, Trap> {
-    of_two(function, int(a), int(b))
-}
-
-fn is(outcome: Result<Value, Trap>, wanted: Value) -> bool {
-    match outcome {
-        Ok(value) => value.same(&wanted),
-        Err(_) => false,
+/// What the function of this name comes to.
+fn outcome(name: &str, argument: &Value) -> Option<Result<Value, Trap>> {
+    match argument.as_pair() {
+        Some((left, right)) => {
+            let function = OF_TWO.get(place_of(NAMES_OF_TWO, name)?)?;
+            Some(function.apply(left, right))
+        }
+        None => {
+            let function = OF_ONE.get(place_of(NAMES_OF_ONE, name)?)?;
+            Some(function.apply(argument))
+        }
     }
 }
 
-fn traps(outcome: Result<Value, Trap>, wanted: Trap) -> bool {
-    match outcome {
-        Ok(_) => false,
-        Err(trap) => trap == wanted,
+/// Whether a function comes to the value of that text.
+fn gives(alloc: Global, name: &str, argument: &Value, wanted: &str) -> Result<bool, AllocError> {
+    let Some(expected) = value_of(alloc, alloc, wanted, 0)? else {
+        return Ok(false);
+    };
+    match outcome(name, argument) {
+        Some(Ok(value)) => Ok(value.same(&expected)),
+        Some(Err(_)) | None => Ok(false),
     }
 }
 
-#[test]
-fn numbers_stop_where_they_no_longer_fit(rt: HostRuntime) {
-    assert!(rt; is(ints(Binary::Add, i64::MAX, -1), int(i64::MAX - 1)));
-    assert!(rt; traps(ints(Binary::Add, i64::MAX, 1), Trap::Overflow));
-    assert!(rt; is(ints(Binary::Subtract, -1, i64::MAX), int(i64::MIN)));
-    assert!(rt; traps(ints(Binary::Subtract, 0, i64::MIN), Trap::Overflow));
-    assert!(rt; is(ints(Binary::Multiply, -3, 5), int(-15)));
-    assert!(rt; traps(ints(Binary::Multiply, i64::MIN, -1), Trap::Overflow));
-    assert!(rt; is(of_one(Unary::Negate, int(7)), int(-7)));
-    assert!(rt; traps(of_one(Unary::Negate, int(i64::MIN)), Trap::Overflow));
-    assert!(rt; is(of_one(Unary::Abs, int(-7)), int(7)));
-    assert!(rt; traps(of_one(Unary::Abs, int(i64::MIN)), Trap::Overflow));
+/// Whether a function has the fault of that name.
+fn traps(alloc: Global, name: &str, argument: &Value, wanted: &str) -> Result<bool, AllocError> {
+    match outcome(name, argument) {
+        Some(Err(trap)) => is_named(alloc, trap, wanted),
+        Some(Ok(_)) | None => Ok(false),
+    }
 }
 
-#[test]
-fn quotients_are_rounded_towards_zero(rt: HostRuntime) {
-    assert!(rt; is(ints(Binary::Divide, -7, 2), int(-3)));
-    assert!(rt; traps(ints(Binary::Divide, i64::MIN, -1), Trap::Overflow));
-    assert!(rt; traps(ints(Binary::Divide, 1, 0), Trap::Division));
-    assert!(rt; is(ints(Binary::Rem, -7, 2), int(-1)));
-    assert!(rt; is(ints(Binary::Rem, i64::MIN, -1), int(0)));
-    assert!(rt; traps(ints(Binary::Rem, 1, 0), Trap::Division));
+/// Whether a row holds.
+fn holds(alloc: Global, row: &str) -> Result<bool, AllocError> {
+    let Some((name, rest)) = row.split_once(' ') else {
+        return Ok(false);
+    };
+    let is_trap = rest.contains(" ! ");
+    let sign = if is_trap { " ! " } else { " = " };
+    let (argument, wanted) = rest.split_once(sign).unwrap_or((rest, ""));
+    match value_of(alloc, alloc, argument, 0)? {
+        Some(argument) if is_trap => traps(alloc, name, &argument, wanted),
+        Some(argument) => gives(alloc, name, &argument, wanted),
+        None => Ok(false),
+    }
 }
 
-#[test]
-fn shifts_and_roots(rt: HostRuntime) {
-    assert!(rt; is(ints(Binary::Rshift, -7, 1), int(-4)));
-    assert!(rt; is(ints(Binary::Rshift, -1, 63), int(-1)));
-    assert!(rt; traps(ints(Binary::Rshift, 1, 64), Trap::Range));
-    assert!(rt; is(ints(Binary::Lshift, 3, 61), int(6917529027641081856)));
-    assert!(rt; traps(ints(Binary::Lshift, 1, 63), Trap::Overflow));
-    assert!(rt; is(ints(Binary::Lshift, -1, 63), int(i64::MIN)));
-    assert!(rt; traps(ints(Binary::Lshift, 1, -1), Trap::Range));
-    assert!(rt; is(of_one(Unary::Isqrt, int(i64::MAX)), int(3037000499)));
-    assert!(rt; traps(of_one(Unary::Isqrt, int(-1)), Trap::Range));
+/// Fails at the first row that doesn't hold. A row is `NAME ARGUMENT = RESULT`, or `NAME ARGUMENT ! FAULT`.
+fn all_hold(alloc: Global, rows: &str) -> Result<(), Fail> {
+    for row in rows.lines() {
+        if !holds(alloc, row)? {
+            return Err(Fail::new(row));
+        }
+    }
+    Ok(())
 }
 
-#[test]
-fn comparisons_and_tests(rt: HostRuntime) {
-    assert!(rt; is(ints(Binary::Equal, 2, 2), truth(true)));
-    assert!(rt; is(ints(Binary::Unequal, 2, 2), truth(false)));
-    assert!(rt; is(ints(Binary::Less, -1, 0), truth(true)));
-    assert!(rt; is(ints(Binary::Greater, -1, 0), truth(false)));
-    assert!(rt; is(ints(Binary::AtMost, 3, 3), truth(true)));
-    assert!(rt; is(ints(Binary::AtLeast, 2, 3), truth(false)));
-    assert!(rt; is(ints(Binary::Max, -2, 3), int(3)));
-    assert!(rt; is(ints(Binary::Min, -2, 3), int(-2)));
-    assert!(rt;
-        is(
-            of_two(Binary::Max, character(b'a'), character(b'b')),
-            character(b'b')
-        )
-    );
-    assert!(rt; is(of_one(Unary::Plusp, int(0)), truth(false)));
-    assert!(rt; is(of_one(Unary::Minusp, int(-1)), truth(true)));
-    assert!(rt; is(of_one(Unary::Zerop, int(0)), truth(true)));
-    assert!(rt; is(of_one(Unary::Oddp, int(-3)), truth(true)));
-    assert!(rt; is(of_one(Unary::Evenp, int(-3)), truth(false)));
-}
+const NUMBERS: &str = r#"+ ( MAX -1 ) = 9223372036854775806
++ ( MAX 1 ) ! Overflow
+- ( -1 MAX ) = MIN
+- ( 0 MIN ) ! Overflow
+* ( -3 5 ) = -15
+* ( MIN -1 ) ! Overflow
+negate 7 = -7
+negate MIN ! Overflow
+abs -7 = 7
+abs MIN ! Overflow"#;
 
 #[test]
-fn bits_and_truth_values(rt: HostRuntime) {
-    assert!(rt; is(ints(Binary::And, 6, 3), int(2)));
-    assert!(rt; is(ints(Binary::Or, 6, 3), int(7)));
-    assert!(rt; is(ints(Binary::Xor, 6, 3), int(5)));
-    assert!(rt; is(ints(Binary::Nand, 6, 3), int(-3)));
-    assert!(rt; is(ints(Binary::Nor, 6, 3), int(-8)));
-    assert!(rt; is(of_one(Unary::Not, int(0)), int(-1)));
-    assert!(rt; is(of_two(Binary::Nand, truth(true), truth(true)), truth(false)));
-    assert!(rt; is(of_two(Binary::Xor, truth(true), truth(false)), truth(true)));
-    assert!(rt; is(of_one(Unary::Btoi, truth(true)), int(1)));
+fn numbers_stop_where_they_no_longer_fit(rt: HostRuntime) -> Result<(), Fail> {
+    all_hold(rt.alloc(), NUMBERS)
 }
 
+const QUOTIENTS: &str = r#"/ ( -7 2 ) = -3
+/ ( MIN -1 ) ! Overflow
+/ ( 1 0 ) ! Division
+rem ( -7 2 ) = -1
+rem ( MIN -1 ) = 0
+rem ( 1 0 ) ! Division"#;
+
 #[test]
-fn characters_and_their_codes(rt: HostRuntime) {
-    assert!(rt; is(of_one(Unary::CharCode, character(255)), int(255)));
-    assert!(rt; is(of_one(Unary::CodeChar, int(0)), character(0)));
-    assert!(rt; traps(of_one(Unary::CodeChar, int(256)), Trap::Code));
-    assert!(rt; traps(of_one(Unary::CodeChar, int(-1)), Trap::Code));
+fn quotients_are_rounded_towards_zero(rt: HostRuntime) -> Result<(), Fail> {
+    all_hold(rt.alloc(), QUOTIENTS)
+}
+
+const SHIFTS_AND_ROOTS: &str = r#"rshift ( -7 1 ) = -4
+rshift ( -1 63 ) = -1
+rshift ( 1 64 ) ! Range
+lshift ( 3 61 ) = 6917529027641081856
+lshift ( 1 63 ) ! Overflow
+lshift ( -1 63 ) = MIN
+lshift ( 1 -1 ) ! Range
+isqrt MAX = 3037000499
+isqrt -1 ! Range"#;
+
+#[test]
+fn shifts_and_roots(rt: HostRuntime) -> Result<(), Fail> {
+    all_hold(rt.alloc(), SHIFTS_AND_ROOTS)
+}
+
+const COMPARISONS: &str = r#"== ( 2 2 ) = T
+/= ( 2 2 ) = F
+< ( -1 0 ) = T
+> ( -1 0 ) = F
+<= ( 3 3 ) = T
+>= ( 2 3 ) = F
+max ( -2 3 ) = 3
+min ( -2 3 ) = -2
+max ( 'a 'b ) = 'b
+plusp 0 = F
+minusp -1 = T
+zerop 0 = T
+oddp -3 = T
+evenp -3 = F"#;
+
+#[test]
+fn comparisons_and_tests(rt: HostRuntime) -> Result<(), Fail> {
+    all_hold(rt.alloc(), COMPARISONS)
+}
+
+const BITS: &str = r#"and ( 6 3 ) = 2
+or ( 6 3 ) = 7
+xor ( 6 3 ) = 5
+nand ( 6 3 ) = -3
+nor ( 6 3 ) = -8
+not 0 = -1
+nand ( T T ) = F
+xor ( T F ) = T
+btoi T = 1"#;
+
+#[test]
+fn bits_and_truth_values(rt: HostRuntime) -> Result<(), Fail> {
+    all_hold(rt.alloc(), BITS)
+}
+
+/// The character with the code 0 stands in the first row.
+const CODES: &str = "code_char 0 = '\0\n\
+    code_char 256 ! Code\n\
+    code_char -1 ! Code";
+
+#[test]
+fn characters_and_their_codes(rt: HostRuntime) -> Result<(), Fail> {
+    let last: Result<Value, Trap> = Unary::CharCode.apply(&Value::<Global>::Char(255));
+    assert!(rt; last.map(|code| code.as_int()) == Ok(Some(255)));
+    all_hold(rt.alloc(), CODES)
 }
 
 #[test]

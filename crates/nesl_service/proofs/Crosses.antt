@@ -15,4 +15,4 @@ pub pool_sync : (L : RattleType) (g : Ghosts L.Denot) → IsSync L → IsSync (p
 pool_sync L g l = search (sendable, standard.crosses, kept_crosses.the_send) depth 30 fits 100000
 
 pub service_sync : (a : NamedLft) (R L G J : RattleType) (g : Ghosts L.Denot) → IsSync R → IsSync L → IsSync G → IsSync J → IsSync (service_row.the_row a R L G J g)
-service_sync a R L G J g r l t j = search (sendable, standard.crosses, table_sync, pool_sync, numbers_crosses.the_send, receipt_crosses.the_send) depth 40 fits 100000
+service_sync a R L G J g r l t j = search (sendable, standard.crosses, table_sync, pool_sync, numbers_crosses.the_send, receipt_crosses.the_send) depth 60 fits 1000000

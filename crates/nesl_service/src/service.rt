@@ -68,6 +68,7 @@ pub(crate) struct Service<'x, R, L: Ledger, G, J> {
     table: &'x Table,
     numbers: &'x Mutex<Numbers>,
     pool: &'x Pool<L>,
+    workers: u32,
     idle: Option<Duration>,
     gate: &'x G,
     journal: &'x J,
@@ -102,7 +103,7 @@ impl<
                 end: End::NoMemory,
             };
         };
-        let sparing = Sparing::new(self.rt, self.pool.by(self.rt), self.gate);
+        let sparing = Sparing::new(self.rt, self.pool.by(self.rt), self.workers, self.gate);
         serve(
             self.rt,
             self.alloc,
@@ -229,6 +230,7 @@ fn serve_in<
         table: &table,
         numbers: &numbers,
         pool: &pool,
+        workers: terms.workers,
         idle: terms.idle,
         gate,
         journal,

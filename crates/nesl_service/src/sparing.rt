@@ -21,15 +21,25 @@ const MOST_LINES: u64 = 63;
 /// that came back within 500 microseconds of its grant, asks of its kind are passed over: 1 after the first, and 2 n + 1
 /// where n were at last, up to 63 first asks and 4096 others. After one that took longer the next ask of its kind is put,
 /// and the n of the next short one is halved. Where a first ask is granted the next of the others is put too, since it
-/// may be for a half of the same interval. A helper counts as one that took longer where the clock can't be read. This is
-/// also the connection's gate, by which it sees that a line begins; it tells another gate of each place.
+/// may be for a half of the same interval. A helper counts as one that took longer where the clock can't be read.
+///
+/// No ask is put for a half that is one thread's share of the interval, where all helpers and the asking thread take part:
+/// else the thread that cuts first would take the helper that the other half is about to ask for.
+/// This is also the connection's gate, by which it sees that a line begins and how long halves are; it tells another gate
+/// of each place.
 #[derive(Drop)]
 pub struct Sparing<'a, C, H, G> {
     clock: &'a C,
     helpers: H,
     gate: &'a G,
+    // How many helpers there are, and the asking thread.
+    threads: u64,
     // 1 where a line has begun that has put or passed over no ask.
     begun: AtomicU64,
+    // How many places the half has that was entered last and has not asked; 0 where there is none.
+    entered: AtomicU64,
+    // The places of the longest half of the interval that was cut last.
+    longest: AtomicU64,
     // How many first asks are still passed over.
     firsts_left: AtomicU64,
     // How many were to be passed over after the last short helper, halved for each long one since.
@@ -47,13 +57,16 @@ pub struct Timed<P> {
 }
 
 impl<'a, C: Clock, H: Helpers, G: Gate> Sparing<'a, C, H, G> {
-    /// Nothing is known of helpers yet.
-    pub fn new(clock: &'a C, helpers: H, gate: &'a G) -> Sparing<'a, C, H, G> {
+    /// Nothing is known of so many helpers yet.
+    pub fn new(clock: &'a C, helpers: H, workers: u32, gate: &'a G) -> Sparing<'a, C, H, G> {
         Sparing {
             clock,
             helpers,
             gate,
+            threads: u64::from(workers).saturating_add(1),
             begun: AtomicU64::new(0),
+            entered: AtomicU64::new(0),
+            longest: AtomicU64::new(0),
             firsts_left: AtomicU64::new(0),
             firsts_passed: AtomicU64::new(0),
             left: AtomicU64::new(0),
@@ -61,11 +74,36 @@ impl<'a, C: Clock, H: Helpers, G: Gate> Sparing<'a, C, H, G> {
         }
     }
 
+    // A half of so many places is entered, which asks next unless it has one place alone.
+    fn enter_half(&self, places: u64) {
+        let longest = self.longest.load(Ordering::SeqCst);
+        self.longest.store(longest.max(places), Ordering::SeqCst);
+        self.entered
+            .store(if places < 2 { 0 } else { places }, Ordering::SeqCst);
+    }
+
+    // How many places the half has that asks; 0 where it is no half that asks. The next ask is another's.
+    fn take_entered(&self) -> u64 {
+        let places = self.entered.load(Ordering::SeqCst);
+        if places != 0 {
+            self.entered.store(0, Ordering::SeqCst);
+        }
+        places
+    }
+
+    // Whether a half of so many places is one thread's share of the interval. Halves of an odd interval differ by one.
+    fn is_share(&self, places: u64) -> bool {
+        let whole = self.longest.load(Ordering::SeqCst).saturating_mul(2);
+        places != 0 && places.saturating_mul(self.threads) <= whole.saturating_add(self.threads)
+    }
+
     // Whether an ask is the first of its line; the next one isn't.
     fn take_begun(&self) -> bool {
-        let begun = self.begun.load(Ordering::SeqCst);
+        if self.begun.load(Ordering::SeqCst) == 0 {
+            return false;
+        }
         self.begun.store(0, Ordering::SeqCst);
-        begun != 0
+        true
     }
 
     // Whether what was granted then was worth its thread.
@@ -85,6 +123,10 @@ impl<C: Clock, H: Helpers, G: Gate> Helpers for Sparing<'_, C, H, G> {
 
     fn ask(&self) -> Option<Timed<H::Permit>> {
         let is_first = self.take_begun();
+        let places = self.take_entered();
+        if self.is_share(places) {
+            return None;
+        }
         let left = if is_first {
             &self.firsts_left
         } else {
@@ -96,6 +138,9 @@ impl<C: Clock, H: Helpers, G: Gate> Helpers for Sparing<'_, C, H, G> {
         let permit = self.helpers.ask()?;
         if is_first {
             self.left.store(0, Ordering::SeqCst);
+        }
+        if places == 0 {
+            self.longest.store(0, Ordering::SeqCst);
         }
         let since = Instant::now(self.clock).ok();
         Some(Timed {
@@ -128,8 +173,13 @@ impl<C: Clock, H: Helpers, G: Gate> Helpers for Sparing<'_, C, H, G> {
 
 impl<C: Clock, H: Helpers, G: Gate> Gate for Sparing<'_, C, H, G> {
     fn enter(&self, place: Place) {
-        if let Place::Line(_) = place {
-            self.begun.store(1, Ordering::SeqCst);
+        match place {
+            Place::Line(_) => {
+                self.begun.store(1, Ordering::SeqCst);
+                self.entered.store(0, Ordering::SeqCst);
+                self.longest.store(0, Ordering::SeqCst);
+            }
+            Place::Half(from, to) => self.enter_half(to.saturating_sub(from) as u64),
         }
         self.gate.enter(place);
     }

@@ -5,7 +5,7 @@ use Rattle.nesl_values.specs.View.{tree_of}
 use Rattle.nesl_lex.specs.declared.token.Span.{Span}
 use Rattle.nesl_scalars.specs.declared.trap.Trap.{Trap}
 use Rattle.nesl_types.specs.Term.{Term}
-use Rattle.nesl_syntax.specs.Trees.{Tree}
+use Rattle.nesl_tree.specs.Trees.{Tree}
 use Rattle.nesl_code.specs.Names.{Value, Name, Environment, outside}
 use Rattle.nesl_code.specs.Outcome.{out}
 use Rattle.nesl_reply.specs.declared.fault.Fault.TheVariants as faults

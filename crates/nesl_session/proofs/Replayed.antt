@@ -2,8 +2,8 @@
 use Rattle.std.proofs.Common.{◌≡◌, ℕ, List, [], ◌∷◌, ◌++◌, ◌+◌, length, Bool, true, false, Option, Some, None, nat_lt, cond, refl, sym, ap, ◌∙◌, subst}
 use Rattle.std.specs.Bool.{MatchBool}
 use Rattle.nesl_types.specs.Term.{Term}
-use Rattle.nesl_syntax.specs.Trees.{Line}
-use Rattle.nesl_syntax.specs.Trees as trees
+use Rattle.nesl_tree.specs.Trees.{Line}
+use Rattle.nesl_tree.specs.Trees as trees
 use Rattle.nesl_scalars.specs.declared.trap.Trap.{Trap}
 use Rattle.nesl_scalars.specs.declared.trap.Trap.TheVariants as trap
 use Rattle.nesl_infer.specs.Answers.{Verdict, typed, unknown_at, ill_typed, ambiguous}

@@ -4,9 +4,9 @@ use Rattle.nesl_lex.specs.Tokens.{Placed}
 use Rattle.nesl_lex.specs.Lexemes.{HasTokens}
 use Rattle.nesl_lex.specs.Laws.{OneList, OnePlace, NotBoth}
 use Rattle.nesl_types.specs.Term.{Term}
-use Rattle.nesl_syntax.specs.Trees.{Line, line_height}
-use Rattle.nesl_syntax.specs.Trees as trees
-use Rattle.nesl_syntax.specs.Lines.{IsLine}
+use Rattle.nesl_tree.specs.Trees.{Line, line_height}
+use Rattle.nesl_tree.specs.Trees as trees
+use Rattle.nesl_tree.specs.Lines.{IsLine}
 use Rattle.nesl_infer.specs.Answers.{Verdict, typed, unknown_at, ill_typed, ambiguous, IsTypeBy, IsFunctionBy, IsContentBy}
 use Rattle.nesl_infer.specs.Laws.{ExpressionsHaveOneVerdict, FunctionsHaveOneVerdict, ContentsHaveOneVerdict}
 use Rattle.nesl_code.specs.Names.{Name, Value}

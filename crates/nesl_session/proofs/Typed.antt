@@ -7,14 +7,14 @@ use Rattle.nesl_types.specs.declared.classes.Class.TheVariants.{Any, Number}
 use Rattle.nesl_types.specs.Class.{IsIn, class_at}
 use Rattle.nesl_types.specs.Term.{Term, int, both}
 use Rattle.nesl_values.specs.Tree as values
-use Rattle.nesl_syntax.specs.declared.tree.Operator.TheVariants as ops
-use Rattle.nesl_syntax.specs.Trees.{Tree, node}
-use Rattle.nesl_syntax.specs.Trees as trees
+use Rattle.nesl_tree.specs.declared.tree.Operator.TheVariants as ops
+use Rattle.nesl_tree.specs.Trees.{Tree, node}
+use Rattle.nesl_tree.specs.Trees as trees
 use Rattle.nesl_builtins.specs.Named.{infix_builtin}
 use Rattle.nesl_builtins.specs.Table.{builtin_type}
 use Rattle.nesl_names.specs.Names.{Names}
-use Rattle.nesl_infer.specs.Typing.{IsInstanceOf}
-use Rattle.nesl_infer.specs.Principal.{IsTypeInstance, TypedBy}
+use Rattle.nesl_rules.specs.Typing.{IsInstanceOf}
+use Rattle.nesl_rules.specs.Principal.{IsTypeInstance, TypedBy}
 use Rattle.nesl_infer.specs.Answers.{typed, IsTypeBy}
 use Rattle.nesl_code.specs.Names.{Value, Environment, outside}
 use Rattle.nesl_code.specs.Out.{Out, value, within}

@@ -4,7 +4,7 @@ use Rattle.std.proofs.lemmas.Bool.{lt-ltb}
 use Rattle.nesl_lex.specs.Lexemes.{Ending, whole, stuck as stuck_at, Reads, HasTokens}
 use Rattle.nesl_lex.specs.Reading.{reading_of}
 use Rattle.nesl_lex.specs.Laws.{ReadingComputes}
-use Rattle.nesl_syntax.specs.Trees.{Line, line_height}
+use Rattle.nesl_tree.specs.Trees.{Line, line_height}
 use Rattle.nesl_syntax.specs.Reading.{form_in}
 use Rattle.nesl_syntax.specs.Laws.{FormComputes}
 use Rattle.nesl_reply.specs.declared.fault.Fault.TheVariants as faults

@@ -1,8 +1,8 @@
 -- What is found of a line with a tree: the first check that fails, or what it comes to.
 use Rattle.std.specs.Prelude.{◌≡◌, ℕ, [], Option, Some, None, length, sum_by, min, nat_lt, if◌then◌else◌}
 use Rattle.nesl_types.specs.Term.{Term}
-use Rattle.nesl_syntax.specs.Trees as trees
-use Rattle.nesl_syntax.specs.Trees.{Tree, Line}
+use Rattle.nesl_tree.specs.Trees as trees
+use Rattle.nesl_tree.specs.Trees.{Tree, Line}
 use Rattle.nesl_builtins.specs.Table.{FunctionType}
 use Rattle.nesl_infer.specs.Answers.{Verdict, typed, unknown_at, ill_typed, ambiguous}
 use Rattle.nesl_infer.specs.Answers.{IsTypeBy, IsFunctionBy, IsContentBy}

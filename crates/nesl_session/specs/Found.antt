@@ -3,8 +3,8 @@ use Rattle.std.specs.Prelude.{◌≡◌, ◌≤◌, ◌<◌, ◌+◌, ◌^◌, �
 use Rattle.std.specs.Prelude.{Option, Some, None}
 use Rattle.nesl_types.specs.Term.{term}
 use Rattle.nesl_values.specs.View as values
-use Rattle.nesl_syntax.specs.Trees.{SignatureTree, TypeTree}
-use Rattle.nesl_syntax.specs.Views.{line_of, tree_of, pattern_tree}
+use Rattle.nesl_tree.specs.Trees.{SignatureTree, TypeTree}
+use Rattle.nesl_tree.specs.Views.{line_of, tree_of, pattern_tree}
 use Rattle.nesl_builtins.specs.Table.{function_type}
 use Rattle.nesl_infer.specs.Answers.{IsFunctionBy, IsContentBy, typed}
 use Rattle.nesl_infer.specs.declared.fault.InferFault.{InferFault}

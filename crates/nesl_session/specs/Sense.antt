@@ -2,8 +2,8 @@
 use Rattle.std.specs.Prelude.{ℕ, ◌<◌, ◌≤◌, List}
 use Rattle.nesl_lex.specs.Tokens.{Placed}
 use Rattle.nesl_lex.specs.Lexemes.{HasTokens, IsStuckAt}
-use Rattle.nesl_syntax.specs.Trees.{Line, line_height}
-use Rattle.nesl_syntax.specs.Lines.{IsLine}
+use Rattle.nesl_tree.specs.Trees.{Line, line_height}
+use Rattle.nesl_tree.specs.Lines.{IsLine}
 
 -- what a line may come to by the grammar: a place where no token stands, no tree, a tree that is too high, a tree
 pub data Sense : Type 0 where

@@ -3,7 +3,7 @@ ghost use Rattle.std.specs.Prelude.{◌≡◌, ℕ};
 
 use nesl_reply::{Fault, Reply, Used};
 use nesl_scalars::Cost;
-use nesl_syntax::tree::{Exp, Pattern};
+use nesl_tree::tree::{Exp, Pattern};
 use nesl_types::{Scheme, Ty};
 use nesl_values::Value;
 

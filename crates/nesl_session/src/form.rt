@@ -1,7 +1,7 @@
 //! What is found of a line by its form.
 ghost use Rattle.std.specs.Prelude.{◌≡◌, [], None, IfOk, option_map};
-ghost use Rattle.nesl_syntax.specs.Trees as trees;
-ghost use Rattle.nesl_syntax.specs.Views.{line_of, tree_of, pattern_tree, signature_tree, type_tree};
+ghost use Rattle.nesl_tree.specs.Trees as trees;
+ghost use Rattle.nesl_tree.specs.Views.{line_of, tree_of, pattern_tree, signature_tree, type_tree};
 ghost use Rattle.nesl_types.specs.Term.{term};
 ghost use Rattle.nesl_infer.specs.Answers.{IsTypeBy, typed};
 ghost use Rattle.nesl_code.specs.Names.{outside};
@@ -20,7 +20,7 @@ use nesl_eval::Outcome;
 use nesl_infer::InferFault;
 use nesl_reply::{Fault, Stop, Used};
 use nesl_scalars::Cost;
-use nesl_syntax::tree::{Exp, Form, Pattern, Signature, TypeExp};
+use nesl_tree::tree::{Exp, Form, Pattern, Signature, TypeExp};
 use nesl_types::Ty;
 use std::alloc::{AllocError, Allocator, Global};
 

@@ -4,8 +4,8 @@ ghost use Rattle.nesl_session.specs.Sense.{HasSense};
 ghost use Rattle.nesl_session.specs.Found.{seen_sense};
 
 use nesl_lex::{LexFault, lex};
-use nesl_syntax::tree::Form;
 use nesl_syntax::{ParseFault, parse_form};
+use nesl_tree::tree::Form;
 use std::alloc::{AllocError, Global};
 
 /// What a line comes to by the grammar.

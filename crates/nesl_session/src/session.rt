@@ -1,6 +1,6 @@
 //! One user's session.
 ghost use Rattle.std.specs.Prelude.{◌≡◌, [], IfOk, OnErr, map};
-ghost use Rattle.nesl_syntax.specs.Views.{tree_of};
+ghost use Rattle.nesl_tree.specs.Views.{tree_of};
 ghost use Rattle.nesl_code.specs.Names.{outside};
 ghost use Rattle.nesl_code.specs.Out.{within};
 ghost use Rattle.nesl_code.specs.Outcome.{out};
@@ -19,7 +19,7 @@ use nesl_code::Env;
 use nesl_eval::Outcome;
 use nesl_helpers::{Gate, Helpers};
 use nesl_split::eval_split;
-use nesl_syntax::tree::Exp;
+use nesl_tree::tree::Exp;
 use std::alloc::{AllocError, Allocator, Global};
 use std::marker::Model;
 use std::thread::Threads;

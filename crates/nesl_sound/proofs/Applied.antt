@@ -15,7 +15,7 @@ use Rattle.nesl_seq_base.specs.Meaning.{meaning}
 use Rattle.nesl_builtins.specs.declared.builtin.Builtin.{Builtin}
 use Rattle.nesl_builtins.specs.declared.builtin.Builtin.TheVariants.{OfOne, OfTwo, OfSequences}
 use Rattle.nesl_builtins.specs.Table.{FunctionType, builtin_type}
-use Rattle.nesl_infer.specs.Typing.{IsInstanceOf}
+use Rattle.nesl_rules.specs.Typing.{IsInstanceOf}
 use Rattle.nesl_sound.specs.HasType.{HasType}
 use Rattle.nesl_sound.specs.Keeps.{Gives, AreMembers}
 use Rattle.nesl_sound.specs.Functions.{ScalarsKeepTypes, of_pair}

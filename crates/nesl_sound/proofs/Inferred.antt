@@ -4,11 +4,11 @@ use Rattle.nesl_types.specs.declared.bindings.Top.{Top}
 use Rattle.nesl_types.specs.declared.bindings.Top.TheVariants as top
 use Rattle.nesl_types.specs.Numbering.{IsBelow}
 use Rattle.nesl_types.specs.Term.{Term, term, int}
-use Rattle.nesl_syntax.specs.Trees.{TypeTree, TypeShape, written}
-use Rattle.nesl_syntax.specs.Trees as trees
+use Rattle.nesl_tree.specs.Trees.{TypeTree, TypeShape, written}
+use Rattle.nesl_tree.specs.Trees as trees
 use Rattle.nesl_names.specs.Names.{datatype_in}
-use Rattle.nesl_infer.specs.World.{Datatypes}
-use Rattle.nesl_infer.specs.Typing.{IsWritten, IsWrittenShape}
+use Rattle.nesl_rules.specs.World.{Datatypes}
+use Rattle.nesl_rules.specs.Typing.{IsWritten, IsWrittenShape}
 use Rattle.nesl_code.specs.Names.{outside}
 use Rattle.nesl_code.specs.Names as evaluated
 use Rattle.nesl_code.specs.Outcome.{out}

@@ -8,12 +8,12 @@ use Rattle.nesl_types.specs.Class.{IsIn, class_at}
 use Rattle.nesl_types.specs.Substitution.{substitute}
 use Rattle.nesl_types.proofs.Members.{IsIn-substitute}
 use Rattle.nesl_types.proofs.Substitutions.{substitute-substitute}
-use Rattle.nesl_syntax.specs.Trees.{TypeTree, TypeShape, written, PatternTree, PatternShape, pattern, Tree, Shape, Trees, Binders, node, none, more, no_binders, binder}
-use Rattle.nesl_syntax.specs.Trees as trees
+use Rattle.nesl_tree.specs.Trees.{TypeTree, TypeShape, written, PatternTree, PatternShape, pattern, Tree, Shape, Trees, Binders, node, none, more, no_binders, binder}
+use Rattle.nesl_tree.specs.Trees as trees
 use Rattle.nesl_builtins.specs.Table.{FunctionType, builtin_type}
 use Rattle.nesl_builtins.specs.Named.{prefix_builtin, infix_builtin}
-use Rattle.nesl_infer.specs.World.{World, Meaning, IsAllowed}
-use Rattle.nesl_infer.specs.Typing.{Key, name, element, is_name, is_element, newest, Scope, local, HasType, HasShapeType, HaveType, Binds, HaveElements, AllParts, Draws, Parts, ShapeParts, IsVariable, IsInstanceOf, Takes, IsWritten, IsWrittenShape}
+use Rattle.nesl_rules.specs.World.{World, Meaning, IsAllowed}
+use Rattle.nesl_rules.specs.Typing.{Key, name, element, is_name, is_element, newest, Scope, local, HasType, HasShapeType, HaveType, Binds, HaveElements, AllParts, Draws, Parts, ShapeParts, IsVariable, IsInstanceOf, Takes, IsWritten, IsWrittenShape}
 use Rattle.nesl_infer.specs.Laws.{scope_with}
 use Rattle.nesl_sound.specs.Refers.{binds, binds_in, some_binds, refers, refers_in, any_refers, bindings_refer, drawn_refers}
 

@@ -15,13 +15,13 @@ use Rattle.nesl_types.specs.Scheme.{IsSameScheme}
 use Rattle.nesl_types.specs.Substitution.{substitute}
 use Rattle.nesl_types.specs.Term.{Term, term, int, bool, char, variable, seq_of, both}
 use Rattle.nesl_types.specs.Term as type
-use Rattle.nesl_syntax.specs.Trees.{PatternTree, Tree}
+use Rattle.nesl_tree.specs.Trees.{PatternTree, Tree}
 use Rattle.nesl_builtins.specs.declared.builtin.Builtin.{Builtin}
 use Rattle.nesl_builtins.specs.Named.{named_builtin}
 use Rattle.nesl_builtins.specs.Table.{builtin_type, function_type}
 use Rattle.nesl_names.specs.Names.{top_in, as_variable, as_datatype, as_function, built_in_or, itself}
-use Rattle.nesl_infer.specs.World.{World, Meaning, general, single, meaning_of}
-use Rattle.nesl_infer.specs.Typing.{Takes}
+use Rattle.nesl_rules.specs.World.{World, Meaning, general, single, meaning_of}
+use Rattle.nesl_rules.specs.Typing.{Takes}
 use Rattle.nesl_infer.specs.Laws.{scope_with}
 use Rattle.nesl_code.specs.Names.{Name, Value, Environment, variable_of, function_of, datatype_of, nothing, named}
 use Rattle.nesl_code.specs.Names as evaluated

@@ -9,7 +9,7 @@ use Rattle.nesl_types.specs.declared.types.Ty.{Ty}
 use Rattle.nesl_types.specs.Names.{found, with_name, is_datatype, datatype_at}
 use Rattle.nesl_types.specs.Term.{Term, term}
 use Rattle.nesl_types.specs.Term as type
-use Rattle.nesl_syntax.specs.Trees.{PatternTree, Tree}
+use Rattle.nesl_tree.specs.Trees.{PatternTree, Tree}
 use Rattle.nesl_names.specs.Names.{top_in, as_datatype}
 use Rattle.nesl_code.specs.Names.{Name, Value, Environment, variable_of, function_of, datatype_of, named, outside}
 use Rattle.nesl_code.specs.Names as evaluated

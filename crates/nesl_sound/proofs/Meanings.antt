@@ -6,7 +6,7 @@ use Rattle.nesl_types.specs.Term.{term, named}
 use Rattle.nesl_builtins.specs.declared.builtin.Builtin.{Builtin}
 use Rattle.nesl_builtins.specs.Table.{builtin_type, function_type}
 use Rattle.nesl_names.specs.Names.{as_function, built_in_or}
-use Rattle.nesl_infer.specs.World.{Own, Meaning, general, single, meaning_of}
+use Rattle.nesl_rules.specs.World.{Own, Meaning, general, single, meaning_of}
 
 abbrev pub top_meaning : Option Top → Option Meaning
 top_meaning (Some (top.Variable t)) = None

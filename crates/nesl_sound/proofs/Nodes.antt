@@ -19,16 +19,16 @@ use Rattle.nesl_types.specs.Term as type
 use Rattle.nesl_scalars.specs.declared.trap.Trap.TheVariants as trap
 use Rattle.nesl_seq_base.specs.declared.seq_fn.SeqFn.TheVariants as seq
 use Rattle.nesl_seq_base.specs.Meaning.{meaning}
-use Rattle.nesl_syntax.specs.Trees.{PatternTree, Tree, Trees, Shape, Binders, node, none, more, no_binders, binder}
-use Rattle.nesl_syntax.specs.Trees as trees
+use Rattle.nesl_tree.specs.Trees.{PatternTree, Tree, Trees, Shape, Binders, node, none, more, no_binders, binder}
+use Rattle.nesl_tree.specs.Trees as trees
 use Rattle.nesl_builtins.specs.declared.builtin.Builtin.{Builtin}
 use Rattle.nesl_builtins.specs.declared.builtin.Builtin.TheVariants.{OfSequences}
 use Rattle.nesl_builtins.specs.Table.{builtin_type, function_type}
 use Rattle.nesl_builtins.specs.Named.{prefix_builtin, infix_builtin, named_builtin}
 use Rattle.nesl_names.specs.Names.{top_in, as_variable, as_datatype, as_function, built_in_or, itself}
-use Rattle.nesl_infer.specs.World.{World, Own, Meaning, general, single, meaning_of, meanings_in}
-use Rattle.nesl_infer.specs.Typing.{Scope, local, newest, is_element, element, HasShapeType, HaveType, Binds, HaveElements, AllParts, Draws, IsVariable, IsInstanceOf, Takes}
-use Rattle.nesl_infer.specs.Typing as typing
+use Rattle.nesl_rules.specs.World.{World, Own, Meaning, general, single, meaning_of, meanings_in}
+use Rattle.nesl_rules.specs.Typing.{Scope, local, newest, is_element, element, HasShapeType, HaveType, Binds, HaveElements, AllParts, Draws, IsVariable, IsInstanceOf, Takes}
+use Rattle.nesl_rules.specs.Typing as typing
 use Rattle.nesl_code.specs.Names.{Name, Value, Locals, with_names, outside, Environment, variable_of, function_of, datatype_of, nothing, named, bound}
 use Rattle.nesl_code.specs.Names as evaluated
 use Rattle.nesl_code.specs.Out.{Out, value, fault, then_out, given, all_beside}

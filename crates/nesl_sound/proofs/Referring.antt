@@ -1,11 +1,11 @@
 -- Nodes that refer to a name, by what was found of their parts.
 use Rattle.std.proofs.Common.{◌≡◌, Bool, true, false, subst, sym, ap, ◌∙◌, Vec, Box, Global}
 use Rattle.std.specs.Prelude.{◌||◌}
-use Rattle.nesl_syntax.specs.declared.tree.Exp.{Exp}
-use Rattle.nesl_syntax.specs.declared.tree.Binding.{Binding}
-use Rattle.nesl_syntax.specs.declared.tree.Node as declared
-use Rattle.nesl_syntax.specs.Trees.{Shape}
-use Rattle.nesl_syntax.specs.Views.{shape_of, tree_of, trees_in, binders_in}
+use Rattle.nesl_tree.specs.declared.tree.Exp.{Exp}
+use Rattle.nesl_tree.specs.declared.tree.Binding.{Binding}
+use Rattle.nesl_tree.specs.declared.tree.Node as declared
+use Rattle.nesl_tree.specs.Trees.{Shape}
+use Rattle.nesl_tree.specs.Views.{shape_of, tree_of, trees_in, binders_in}
 use Rattle.nesl_names.proofs.Arms.{sequence_shape, let_shape, each_shape, filtered_shape}
 use Rattle.nesl_code.specs.Names.{Name}
 use Rattle.nesl_sound.specs.Refers.{some_binds, refers, refers_in, any_refers, bindings_refer, drawn_refers}

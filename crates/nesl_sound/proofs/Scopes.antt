@@ -5,9 +5,9 @@ use Rattle.std.specs.Str.{bytes_eq}
 use Rattle.nesl_values.specs.Tree as values
 use Rattle.nesl_values.specs.Parts.{as_pair, as_tagged}
 use Rattle.nesl_types.specs.Term.{Term, named, both}
-use Rattle.nesl_syntax.specs.Trees.{PatternTree, PatternShape, pattern, name_pattern, pair_pattern, record_pattern}
-use Rattle.nesl_infer.specs.World.{World}
-use Rattle.nesl_infer.specs.Typing.{Scope, local, newest, is_element, name, element, Parts, ShapeParts}
+use Rattle.nesl_tree.specs.Trees.{PatternTree, PatternShape, pattern, name_pattern, pair_pattern, record_pattern}
+use Rattle.nesl_rules.specs.World.{World}
+use Rattle.nesl_rules.specs.Typing.{Scope, local, newest, is_element, name, element, Parts, ShapeParts}
 use Rattle.nesl_code.specs.Names.{Name, Value, Locals, bound}
 use Rattle.nesl_code.specs.Names as evaluated
 use Rattle.nesl_sound.specs.HasType.{HasType, Holding}

@@ -7,13 +7,13 @@ use Rattle.nesl_types.specs.declared.schemes.Scheme.{Scheme}
 use Rattle.nesl_types.specs.Class.{IsIn, class_at}
 use Rattle.nesl_types.specs.Substitution.{substitute}
 use Rattle.nesl_types.specs.Term as type
-use Rattle.nesl_syntax.specs.declared.tree.Operator.TheVariants as sign
+use Rattle.nesl_tree.specs.declared.tree.Operator.TheVariants as sign
 use Rattle.nesl_types.specs.Term.{Term, term, int, bool, char, seq_of, both}
 use Rattle.nesl_builtins.specs.Named.{named_builtin, infix_builtin}
 use Rattle.nesl_builtins.specs.Table.{function_type, builtin_type}
 use Rattle.nesl_names.specs.Names.{built_in_or, as_function, top_in}
-use Rattle.nesl_infer.specs.World.{general, meaning_of, World, single, IsAllowed}
-use Rattle.nesl_infer.specs.Typing.{HasType, IsInstanceOf, IsApplied, IsVariable, Binds, local, name, element, Scope, Parts}
+use Rattle.nesl_rules.specs.World.{general, meaning_of, World, single, IsAllowed}
+use Rattle.nesl_rules.specs.Typing.{HasType, IsInstanceOf, IsApplied, IsVariable, Binds, local, name, element, Scope, Parts}
 use Rattle.nesl_code.specs.Names.{function_of, datatype_of}
 use Rattle.nesl_types.specs.declared.types.Ty.{Ty}
 use Rattle.nesl_types.specs.Numbering.{IsBelow}

@@ -6,11 +6,11 @@ use Rattle.nesl_types.specs.declared.schemes.Scheme.{Scheme}
 use Rattle.nesl_types.specs.declared.types.Ty.{Ty}
 use Rattle.nesl_types.specs.Names.{found, with_name}
 use Rattle.nesl_types.specs.Term.{Term, term}
-use Rattle.nesl_syntax.specs.Trees.{PatternTree, Tree, TypeTree, SignatureTree}
+use Rattle.nesl_tree.specs.Trees.{PatternTree, Tree, TypeTree, SignatureTree}
 use Rattle.nesl_names.specs.Names.{datatype_in}
-use Rattle.nesl_infer.specs.Contexts.{AreClosed}
-use Rattle.nesl_infer.specs.Typing.{IsWritten}
-use Rattle.nesl_infer.specs.Principal.{IsPrincipalType, IsPrincipalScheme, Typed, TypedFunction}
+use Rattle.nesl_rules.specs.Contexts.{AreClosed}
+use Rattle.nesl_rules.specs.Typing.{IsWritten}
+use Rattle.nesl_rules.specs.Principal.{IsPrincipalType, IsPrincipalScheme, Typed, TypedFunction}
 use Rattle.nesl_code.specs.Names.{Name, Value, variable_of, function_of, datatype_of, outside}
 use Rattle.nesl_code.specs.Names as evaluated
 use Rattle.nesl_code.specs.Out.{value}

@@ -10,9 +10,9 @@ use Rattle.nesl_types.specs.Class.{class_at}
 use Rattle.nesl_types.specs.Names.{found, with_name, datatype_at}
 use Rattle.nesl_types.specs.Scheme.{IsSameScheme}
 use Rattle.nesl_types.specs.Term.{Term, term}
-use Rattle.nesl_syntax.specs.Trees.{PatternTree, Tree}
+use Rattle.nesl_tree.specs.Trees.{PatternTree, Tree}
 use Rattle.nesl_names.specs.Names.{top_in}
-use Rattle.nesl_infer.specs.Typing.{HasType}
+use Rattle.nesl_rules.specs.Typing.{HasType}
 use Rattle.nesl_code.specs.Names.{Name, Value, Environment, variable_of, function_of, datatype_of, outside}
 use Rattle.nesl_code.specs.Names as evaluated
 use Rattle.nesl_code.specs.Out.{value}

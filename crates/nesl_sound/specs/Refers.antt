@@ -2,9 +2,9 @@
 use Rattle.std.specs.Prelude.{Bool, false, not, ◌&&◌, ◌||◌}
 use Rattle.std.specs.Str.{bytes_eq}
 use Rattle.std.specs.List.{list_any}
-use Rattle.nesl_syntax.specs.Trees.{PatternTree, PatternShape, Tree, Shape, Trees, Binders}
-use Rattle.nesl_syntax.specs.Trees.{pattern, node, none, more, no_binders, binder}
-use Rattle.nesl_syntax.specs.Trees as trees
+use Rattle.nesl_tree.specs.Trees.{PatternTree, PatternShape, Tree, Shape, Trees, Binders}
+use Rattle.nesl_tree.specs.Trees.{pattern, node, none, more, no_binders, binder}
+use Rattle.nesl_tree.specs.Trees as trees
 use Rattle.nesl_code.specs.Names.{Name, Environment, Top, function_of}
 
 -- whether a pattern binds the name y

@@ -8,12 +8,12 @@ use Rattle.nesl_types.specs.declared.types.Ty.{Ty}
 use Rattle.nesl_types.specs.Numbering.{IsBelow}
 use Rattle.nesl_types.specs.Substitution.{substitute}
 use Rattle.nesl_types.specs.Term.{Term, term, int}
-use Rattle.nesl_syntax.specs.Trees.{PatternTree, Tree}
+use Rattle.nesl_tree.specs.Trees.{PatternTree, Tree}
 use Rattle.nesl_builtins.specs.Table.{function_type}
 use Rattle.nesl_names.specs.Names.{top_in}
-use Rattle.nesl_infer.specs.World.{World, Own, meanings_in}
-use Rattle.nesl_infer.specs.Typing.{HasType, IsInstanceOf}
-use Rattle.nesl_infer.specs.Principal.{HasFunctionType}
+use Rattle.nesl_rules.specs.World.{World, Own, meanings_in}
+use Rattle.nesl_rules.specs.Typing.{HasType, IsInstanceOf}
+use Rattle.nesl_rules.specs.Principal.{HasFunctionType}
 use Rattle.nesl_code.specs.Names.{Name, Environment, variable_of, function_of, datatype_of, named, outside}
 use Rattle.nesl_code.specs.Names as evaluated
 use Rattle.nesl_code.specs.Out.{Out, value, fault, stuck}

@@ -3,9 +3,9 @@
 -- `{{a + a : a in v} : v in [[1, 2], [3]]}`; and a function whose body has ever larger types.
 use Rattle.std.specs.Prelude.{◌≡◌, ℕ, zero, suc, true, List, [], ◌∷◌, codes}
 use Rattle.nesl_lex.specs.declared.token.Span.{Span}
-use Rattle.nesl_syntax.specs.declared.tree.Operator.TheVariants as sign
-use Rattle.nesl_syntax.specs.Trees.{PatternTree, Tree, Shape, Binders, pattern, node}
-use Rattle.nesl_syntax.specs.Trees as trees
+use Rattle.nesl_tree.specs.declared.tree.Operator.TheVariants as sign
+use Rattle.nesl_tree.specs.Trees.{PatternTree, Tree, Shape, Binders, pattern, node}
+use Rattle.nesl_tree.specs.Trees as trees
 use Rattle.nesl_types.specs.declared.bindings.Top.{Top}
 use Rattle.nesl_types.specs.declared.bindings.Top.TheVariants as top
 use Rattle.nesl_types.specs.declared.classes.Class.TheVariants.{Any}

@@ -1,11 +1,11 @@
 //! Which functions have to keep their types when a name is defined anew: those that refer to it.
 
 ghost use Rattle.std.specs.Prelude.{◌≡◌, ◌||◌};
-ghost use Rattle.nesl_syntax.specs.Views.{tree_of, trees_in, binders_in, pattern_tree};
+ghost use Rattle.nesl_tree.specs.Views.{tree_of, trees_in, binders_in, pattern_tree};
 ghost use Rattle.nesl_sound.specs.Refers.{binds, some_binds, refers, any_refers, bindings_refer, drawn_refers};
 ghost use Rattle.nesl_sound.specs.Refers.{body_refers};
 
-use nesl_syntax::tree::{Binding, Exp, Node, Pattern, PatternNode};
+use nesl_tree::tree::{Binding, Exp, Node, Pattern, PatternNode};
 
 /// Whether a function with this parameter and this body refers to the name.
 pub fn refers_to(name: &[u8], parameter: &Pattern, body: &Exp) -> bool

@@ -21,7 +21,9 @@ ghost use Rattle.nesl_split.specs.Finds.{Finds};
 use crate::crew::{Crew, fork};
 use nesl_builtins::Builtin;
 use nesl_code::Code;
-use nesl_helpers::{Gate, Half, Helpers, Place, cost_since, joined_places, joined_values};
+use nesl_helpers::{
+    Gate, Half, Helpers, Place, begun_with, cost_since, joined_places, joined_values,
+};
 use nesl_lex::token::Span;
 use nesl_nodes::held::{Held, Tops};
 use nesl_nodes::meter::{Meter, Stop};
@@ -804,7 +806,7 @@ fn half_of_filters<R: Threads + Sync, H: Helpers + Sync, G: Gate + Sync, T: Tops
     ensures { Finds ArePlaces fuel result (filters_in T.table levels interval.now from to) }
 {
     interval.crew.gate.enter(Place::Half(from, to));
-    let begun = Meter { fuel, depth: 0 };
+    let begun = begun_with(fuel);
     let mut meter = begun;
     let found = filters(interval, from, to, levels, &mut meter);
     let cost = cost_since(begun, meter);
@@ -977,7 +979,7 @@ fn half_of_bodies<R: Threads + Sync, H: Helpers + Sync, G: Gate + Sync, T: Tops<
     ensures { Finds Has fuel result (bodies_in T.table levels interval.now from to) }
 {
     interval.crew.gate.enter(Place::Half(from, to));
-    let begun = Meter { fuel, depth: 0 };
+    let begun = begun_with(fuel);
     let mut meter = begun;
     let found = bodies(interval, from, to, levels, &mut meter);
     let cost = cost_since(begun, meter);

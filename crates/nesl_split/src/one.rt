@@ -1,6 +1,6 @@
 //! Expressions of the top level, with helpers.
 ghost use Rattle.std.specs.Prelude.{[]};
-ghost use Rattle.nesl_syntax.specs.Views.{tree_of};
+ghost use Rattle.nesl_tree.specs.Views.{tree_of};
 ghost use Rattle.nesl_code.specs.Names.{outside};
 ghost use Rattle.nesl_code.specs.Out.{within};
 ghost use Rattle.nesl_code.specs.Outcome.{out};
@@ -16,7 +16,7 @@ use nesl_helpers::{Gate, Helpers};
 use nesl_nodes::held::Tops;
 use nesl_nodes::meter::Meter;
 use nesl_nodes::scope::Scope;
-use nesl_syntax::tree::Exp;
+use nesl_tree::tree::Exp;
 use std::alloc::Global;
 use std::thread::Threads;
 

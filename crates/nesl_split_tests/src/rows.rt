@@ -5,7 +5,7 @@ use nesl_code::{Env, Payload};
 use nesl_eval::{Outcome, eval_one};
 use nesl_helpers::{Free, Gate, Helpers};
 use nesl_split::eval_split;
-use nesl_syntax::tree::{Exp, Form};
+use nesl_tree::tree::{Exp, Form};
 use nesl_types::{Top, Ty};
 use std::alloc::{AllocError, Global};
 use std::thread::Threads;

@@ -1,9 +1,5 @@
-pub mod Complete
 pub mod Patterns
 pub mod Sound
-pub mod Rows
-pub mod Stacks
-pub mod Turns
 pub mod StepLemmas
 pub mod Cuts
 pub mod Texts
@@ -11,5 +7,3 @@ pub mod Members
 pub mod Signatures
 pub mod Targets
 pub mod Lines
-pub mod Spans
-mod PatternTrees

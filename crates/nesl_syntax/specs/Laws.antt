@@ -1,11 +1,9 @@
 -- Laws of the grammar.
-use Rattle.std.specs.Prelude.{◌≡◌, ◌↔◌, ℕ, List, length, Some}
+use Rattle.std.specs.Prelude.{◌≡◌, ◌↔◌, List, Some}
 use Rattle.nesl_lex.specs.Tokens.{Placed}
-use Rattle.nesl_lex.specs.Lexemes.{HasTokens}
-use Rattle.nesl_syntax.specs.Trees.{Tree, PatternTree, TypeTree, Line}
-use Rattle.nesl_syntax.specs.Grammar.{Parses, IsPattern, IsType}
-use Rattle.nesl_syntax.specs.Lines.{IsLine}
-use Rattle.nesl_syntax.specs.Spans.{Lined, line_items}
+use Rattle.nesl_tree.specs.Trees.{Tree, PatternTree, TypeTree, Line}
+use Rattle.nesl_tree.specs.Grammar.{Parses, IsPattern, IsType}
+use Rattle.nesl_tree.specs.Lines.{IsLine}
 use Rattle.nesl_syntax.specs.Reading.{form_in}
 
 -- tokens are at most one expression
@@ -19,12 +17,6 @@ OnePattern = (ts : List Placed) (p q : PatternTree) → IsPattern ts p → IsPat
 -- and at most one type
 abbrev pub OneType : Type 0
 OneType = (ts : List Placed) (a b : TypeTree) → IsType ts a → IsType ts b → a ≡ b
-
--- a line's nodes stand within it, one behind another, and within each node its parts
-abbrev pub OrderlySpans : Type 0
-OrderlySpans =
-    (line : List ℕ) (ts : List Placed) (l : Line) → HasTokens line ts → IsLine ts l
-    → Lined 0 (line_items l) (length line)
 
 -- tokens are the line that is computed of them, and no other
 abbrev pub FormComputes : Type 0

@@ -1,15 +1,4 @@
-pub mod Trees
-pub mod Grammar
-pub mod Lines
-pub mod Marks
-pub mod Patterns
-pub mod Machine
-pub mod Views
-pub mod Parts
-pub mod Stack
-pub mod Turns
 pub mod Steps
 pub mod Reading
 pub mod Given
-pub mod Spans
 pub mod Laws

@@ -1,23 +1,23 @@
 // A function's line, from its head and its body.
 
 ghost use Rattle.std.specs.Prelude.{◌≡◌, ◌≤◌, ◌<◌, Some, Err, Option};
-ghost use Rattle.nesl_syntax.specs.Trees.{Tree, SignatureTree, height, pattern_height};
-ghost use Rattle.nesl_syntax.specs.Trees as trees;
-ghost use Rattle.nesl_syntax.specs.Views.{tree_of, pattern_tree};
-ghost use Rattle.nesl_syntax.specs.Parts.{Sees, SeesPattern};
+ghost use Rattle.nesl_tree.specs.Trees.{Tree, SignatureTree, height, pattern_height};
+ghost use Rattle.nesl_tree.specs.Trees as trees;
+ghost use Rattle.nesl_tree.specs.Views.{tree_of, pattern_tree};
+ghost use Rattle.nesl_parts.specs.Parts.{Sees, SeesPattern};
 ghost use Rattle.nesl_syntax.specs.Reading as reading;
 ghost use Rattle.nesl_syntax.specs.declared.cut.Divider.TheVariants as divider;
 ghost use Rattle.nesl_syntax.specs.Given.{Given, SeesOptional, SeesHead, GivesLine};
 ghost use Rattle.nesl_lex.specs.Tokens.{placed};
 
 use crate::cut::{Divider, cut};
-use crate::fault::ParseFault;
 use crate::parse::expression;
-use crate::part::Part;
-use crate::pattern::{PatternPart, pattern_of};
 use crate::signature::{SignaturePart, signature};
-use crate::tree::{Exp, Form, Pattern};
 use nesl_lex::token::{Kind, Token};
+use nesl_parts::ParseFault;
+use nesl_parts::part::Part;
+use nesl_parts::pattern::{PatternPart, pattern_of};
+use nesl_tree::tree::{Exp, Form, Pattern};
 use std::alloc::Global;
 
 /// A function's parameter and its signature.

@@ -1,8 +1,6 @@
 // Laws of the grammar.
 
-ghost use Rattle.nesl_syntax.specs.Laws.{OneTree, OnePattern, OneType, OrderlySpans, FormComputes};
-
-use nesl_lex::tokens_in_order;
+ghost use Rattle.nesl_syntax.specs.Laws.{OneTree, OnePattern, OneType, FormComputes};
 
 /// Tokens have at most one expression, one pattern and one type.
 pub fn one_phrase()
@@ -10,13 +8,6 @@ pub fn one_phrase()
     ensures pattern { OnePattern }
     ensures written_type { OneType }
 {}
-
-/// The nodes of a line stand within it one behind another, and within each node its parts do.
-pub fn spans_in_order()
-    ensures { OrderlySpans }
-{
-    tokens_in_order();
-}
 
 /// A line's form, computed of its tokens: so a crate above can state a worked line as bytes, call this law and give its
 /// clause the tokens that `nesl_lex::reading_computes` computes of them.

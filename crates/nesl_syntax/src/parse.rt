@@ -1,28 +1,28 @@
 // Reading tokens with a list of what is open.
 
 ghost use Rattle.std.specs.Prelude.{◌≡◌, ◌≤◌, ◌<◌, Err, IfOk, if◌then◌else◌, None, Some, List};
-ghost use Rattle.nesl_syntax.specs.Trees.{Tree, TypeTree};
-ghost use Rattle.nesl_syntax.specs.Machine.{Waiting, opened, called, taken_up, before, with_newest, marked, separated, listed, mark_level, followed, let_closed, let_body, emptied, empty_opening, type_done, type_separated, type_bracketed, bracket_type, type_closed, begun_with, typed_with, typed_on};
-ghost use Rattle.nesl_syntax.specs.Machine as machine;
-ghost use Rattle.nesl_syntax.specs.Parts.{Sees, SeesType};
-ghost use Rattle.nesl_syntax.specs.Stack.{SeesOpening, SeesTypeOpening, SeesPending, SeesStack};
-ghost use Rattle.nesl_syntax.specs.Turns.{SeesTurn};
+ghost use Rattle.nesl_tree.specs.Trees.{Tree, TypeTree};
+ghost use Rattle.nesl_parts.specs.Machine.{Waiting, opened, called, taken_up, before, with_newest, marked, separated, listed, mark_level, followed, let_closed, let_body, emptied, empty_opening, type_done, type_separated, type_bracketed, bracket_type, type_closed, begun_with, typed_with, typed_on};
+ghost use Rattle.nesl_parts.specs.Machine as machine;
+ghost use Rattle.nesl_parts.specs.Parts.{Sees, SeesType};
+ghost use Rattle.nesl_parts.specs.Stack.{SeesOpening, SeesTypeOpening, SeesPending, SeesStack};
+ghost use Rattle.nesl_parts.specs.Turns.{SeesTurn};
 ghost use Rattle.nesl_syntax.specs.Steps.{SeesMode, Follows, Gives, PendingGiven, TypeGiven};
 ghost use Rattle.nesl_syntax.specs.declared.parse.Mode.TheVariants as mode;
-ghost use Rattle.nesl_syntax.specs.declared.part.Part.TheVariants as part;
+ghost use Rattle.nesl_parts.specs.declared.part.Part.TheVariants as part;
 ghost use Rattle.nesl_lex.specs.Tokens.{lexeme_of, placed_of, placed, symbol, reserved};
 
-use crate::fault::ParseFault;
-use crate::lists::{Elements, push_part};
-use crate::mark::{Follow, Mark, follow_of};
-use crate::part::{Part, empty_of, over};
-use crate::pending::{
+use nesl_lex::token::{Kind, Sign, Span, Token, Word};
+use nesl_parts::ParseFault;
+use nesl_parts::lists::{Elements, push_part};
+use nesl_parts::mark::{Follow, Mark, follow_of};
+use nesl_parts::part::{Part, empty_of, over};
+use nesl_parts::pending::{
     Group, Opening, Pending, TypeOpening, fold, level_begun, level_of, newest, wanted,
 };
-use crate::tree::{Exp, Node, Prefix, TypeNode};
-use crate::turn::{Turn, no_bindings, turn_of};
-use crate::types::{self, TypePart, pair_of, sequence_of};
-use nesl_lex::token::{Kind, Sign, Span, Token, Word};
+use nesl_parts::turn::{Turn, no_bindings, turn_of};
+use nesl_parts::types::{self, TypePart, pair_of, sequence_of};
+use nesl_tree::tree::{Exp, Node, Prefix, TypeNode};
 use std::alloc::Global;
 
 /// What the tokens so far leave.

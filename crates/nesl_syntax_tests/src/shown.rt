@@ -2,7 +2,7 @@
 
 use nesl_lex::lex;
 use nesl_syntax::parse_form;
-use nesl_syntax::tree::Form;
+use nesl_tree::tree::Form;
 use std::alloc::{AllocError, Global};
 
 /// What a form's text has too much of, and behind a `~` what stands for it.

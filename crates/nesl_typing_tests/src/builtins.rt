@@ -1,6 +1,7 @@
+//! The built-in functions and their types.
 use nesl_builtins::{Builtin, named, of_infix, of_prefix, scheme};
 use nesl_seq_base::seq_fn::SeqFn;
-use nesl_syntax::tree::{Operator, Prefix};
+use nesl_tree::tree::{Operator, Prefix};
 use nesl_types::{Context, scheme_text};
 use std::alloc::{AllocError, Global};
 use std::test::Fail;
@@ -53,90 +54,129 @@ permute : ([a], [int]) -> [a]
 rep : ([a], a, int) -> [a]
 eql : (a, a) -> bool"#;
 
-/// The operators between two expressions, with the types of their functions.
-const INFIX: [(Operator, &str); 18] = [
-    (Operator::And, "(a, a) -> a :: (a in logical)"),
-    (Operator::Or, "(a, a) -> a :: (a in logical)"),
-    (Operator::Xor, "(a, a) -> a :: (a in logical)"),
-    (Operator::Nand, "(a, a) -> a :: (a in logical)"),
-    (Operator::Nor, "(a, a) -> a :: (a in logical)"),
-    (Operator::Equal, "(a, a) -> bool :: (a in ordinal)"),
-    (Operator::NotEqual, "(a, a) -> bool :: (a in ordinal)"),
-    (Operator::Less, "(a, a) -> bool :: (a in ordinal)"),
-    (Operator::Greater, "(a, a) -> bool :: (a in ordinal)"),
-    (Operator::LessOrEqual, "(a, a) -> bool :: (a in ordinal)"),
-    (Operator::GreaterOrEqual, "(a, a) -> bool :: (a in ordinal)"),
-    (Operator::Plus, "(a, a) -> a :: (a in number)"),
-    (Operator::Minus, "(a, a) -> a :: (a in number)"),
-    (Operator::Times, "(a, a) -> a :: (a in number)"),
-    (Operator::Divide, "(a, a) -> a :: (a in number)"),
-    (Operator::Append, "([a], [a]) -> [a]"),
-    (Operator::Read, "([a], [int]) -> [a]"),
-    (Operator::Write, "([a], [(int, a)]) -> [a]"),
+/// The operators between two expressions.
+const INFIX: [Operator; 18] = [
+    Operator::And,
+    Operator::Or,
+    Operator::Xor,
+    Operator::Nand,
+    Operator::Nor,
+    Operator::Equal,
+    Operator::NotEqual,
+    Operator::Less,
+    Operator::Greater,
+    Operator::LessOrEqual,
+    Operator::GreaterOrEqual,
+    Operator::Plus,
+    Operator::Minus,
+    Operator::Times,
+    Operator::Divide,
+    Operator::Append,
+    Operator::Read,
+    Operator::Write,
 ];
 
-/// Whether the type of the built-in function has this text.
-fn reads(alloc: Global, builtin: Builtin, wanted: &str) -> Result<bool, AllocError> {
+/// These operators, with the types of their functions.
+const INFIX_TYPES: &str = r#"And : (a, a) -> a :: (a in logical)
+Or : (a, a) -> a :: (a in logical)
+Xor : (a, a) -> a :: (a in logical)
+Nand : (a, a) -> a :: (a in logical)
+Nor : (a, a) -> a :: (a in logical)
+Equal : (a, a) -> bool :: (a in ordinal)
+NotEqual : (a, a) -> bool :: (a in ordinal)
+Less : (a, a) -> bool :: (a in ordinal)
+Greater : (a, a) -> bool :: (a in ordinal)
+LessOrEqual : (a, a) -> bool :: (a in ordinal)
+GreaterOrEqual : (a, a) -> bool :: (a in ordinal)
+Plus : (a, a) -> a :: (a in number)
+Minus : (a, a) -> a :: (a in number)
+Times : (a, a) -> a :: (a in number)
+Divide : (a, a) -> a :: (a in number)
+Append : ([a], [a]) -> [a]
+Read : ([a], [int]) -> [a]
+Write : ([a], [(int, a)]) -> [a]
+"#;
+
+/// The type of the built-in function.
+fn type_of(alloc: Global, builtin: Builtin) -> Result<String, AllocError> {
     let context: Context<u8> = Context::new(alloc);
     let scheme = scheme(alloc, builtin)?;
     let text = scheme_text(alloc, &scheme, &context)?;
-    Ok(text.as_slice() == wanted.as_bytes())
+    String::from_str(alloc, str::from_utf8(text.as_slice()).unwrap_or(""))
+}
+
+/// Whether a row of a name and a type holds.
+fn holds(alloc: Global, row: &str) -> Result<bool, AllocError> {
+    let (name, wanted) = row.split_once(" : ").unwrap_or((row, ""));
+    match named(name.as_bytes()) {
+        Some(builtin) => Ok(type_of(alloc, builtin)?.as_str() == wanted),
+        None => Ok(false),
+    }
 }
 
 #[test]
 fn names_have_the_types_of_the_table(rt: HostRuntime) -> Result<(), Fail> {
-    let alloc = rt.alloc();
     for row in NAMED.lines() {
-        let (name, wanted) = row.split_once(" : ").ok_or("a name and a type")?;
-        let builtin = named(name.as_bytes()).ok_or("a name that is known")?;
-        assert!(rt; reads(alloc, builtin, wanted)?, "{name}");
+        if !holds(rt.alloc(), row)? {
+            return Err(Fail::new(row));
+        }
     }
     Ok(())
 }
 
+/// Names of no built-in function, of which the first is empty.
+const OTHERS: &str = "|no|nott|and|it|length|elt|Sum|sum ";
+
 #[test]
 fn other_names_are_no_builtins(rt: HostRuntime) {
-    for name in [
-        "", "no", "nott", "and", "it", "length", "elt", "Sum", "sum ",
-    ] {
+    for name in OTHERS.split('|') {
         assert!(rt; named(name.as_bytes()).is_none());
     }
 }
 
-#[test]
-fn operators_have_the_types_of_the_table(rt: HostRuntime) -> Result<(), Fail> {
-    let alloc = rt.alloc();
-    for (operator, wanted) in &INFIX {
-        assert!(rt; reads(alloc, of_infix(*operator), *wanted)?);
+/// The operators, each with its type.
+fn operator_types(alloc: Global) -> Result<String, AllocError> {
+    let mut text = String::new(alloc);
+    for operator in &INFIX {
+        let told = type_of(alloc, of_infix(*operator))?;
+        write!(text, "{operator:?} : {told}\n")?;
     }
-    assert!(rt; reads(alloc, of_prefix(Prefix::Length), "[a] -> int")?);
-    assert!(rt; reads(alloc, of_prefix(Prefix::Negate), "a -> a :: (a in number)")?);
-    Ok(())
+    Ok(text)
 }
 
 #[test]
-fn indices_and_ranges_have_types_too(rt: HostRuntime) -> Result<(), Fail> {
-    let alloc = rt.alloc();
-    assert!(rt;
-        reads(
-            alloc,
-            Builtin::OfSequences(SeqFn::ElementAt),
-            "([a], int) -> a"
-        )?
-    );
-    assert!(rt;
-        reads(
-            alloc,
-            Builtin::OfSequences(SeqFn::Range),
-            "(int, int) -> [int]"
-        )?
-    );
-    assert!(rt;
-        reads(
-            alloc,
-            Builtin::OfSequences(SeqFn::RangeBy),
-            "(int, int, int) -> [int]"
-        )?
-    );
+fn operators_have_the_types_of_the_table(rt: HostRuntime) -> Result<(), Fail> {
+    assert!(rt; operator_types(rt.alloc())?.as_str() == INFIX_TYPES);
+    Ok(())
+}
+
+/// The types of other signs: the length, the negation, an index, a range and one with a stride.
+const OTHER_TYPES: &str = r#"[a] -> int
+a -> a :: (a in number)
+([a], int) -> a
+(int, int) -> [int]
+(int, int, int) -> [int]
+"#;
+
+/// The types of these functions.
+fn types_of(alloc: Global, builtins: &[Builtin]) -> Result<String, AllocError> {
+    let mut text = String::new(alloc);
+    for builtin in builtins {
+        let told = type_of(alloc, *builtin)?;
+        write!(text, "{told}\n")?;
+    }
+    Ok(text)
+}
+
+#[test]
+fn other_signs_have_types_too(rt: HostRuntime) -> Result<(), Fail> {
+    let builtins = [
+        of_prefix(Prefix::Length),
+        of_prefix(Prefix::Negate),
+        Builtin::OfSequences(SeqFn::ElementAt),
+        Builtin::OfSequences(SeqFn::Range),
+        Builtin::OfSequences(SeqFn::RangeBy),
+    ];
+    assert!(rt; types_of(rt.alloc(), &builtins)?.as_str() == OTHER_TYPES);
     Ok(())
 }

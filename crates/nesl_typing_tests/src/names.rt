@@ -4,7 +4,7 @@ use nesl_lex::lex;
 use nesl_lex::token::Span;
 use nesl_names::{unknown_in_exp, unknown_in_function, unknown_in_type};
 use nesl_syntax::parse_form;
-use nesl_syntax::tree::Form;
+use nesl_tree::tree::Form;
 use nesl_types::{Context, Scheme, Top, Ty};
 use std::alloc::{AllocError, Global};
 use std::test::Fail;
@@ -114,31 +114,32 @@ fn first_unknown(
 
 /// Where the first unknown name of the line stands, if it has one.
 fn unknown(alloc: Global, line: &[u8]) -> Result<Option<Span>, Fail> {
-    let form = form_of(alloc, line)?;
-    let context = context(alloc)?;
-    Ok(first_unknown(alloc, &context, &form)?)
-}
-
-fn form_of(alloc: Global, line: &[u8]) -> Result<Form, Fail> {
     let tokens = lex(alloc, line)?;
-    Ok(parse_form(alloc, tokens.as_slice())?)
+    let form = parse_form(alloc, tokens.as_slice())?;
+    Ok(first_unknown(alloc, &context(alloc)?, &form)?)
 }
 
-/// The place as a row has it.
-fn shown(alloc: Global, span: Option<Span>) -> Result<String, AllocError> {
+/// Whether the place is the one that a row has.
+fn is_shown(alloc: Global, span: Option<Span>, wanted: &str) -> Result<bool, AllocError> {
     match span {
-        Some(span) => format!(in alloc; "{}..{}", span.start, span.end),
-        None => String::from_str(alloc, "-"),
+        Some(Span { start, end }) => Ok(format!(in alloc; "{start}..{end}")?.as_str() == wanted),
+        None => Ok(wanted == "-"),
     }
+}
+
+/// Whether a row holds.
+fn holds(alloc: Global, row: &str) -> Result<bool, Fail> {
+    let (wanted, line) = row.split_once(' ').unwrap_or((row, ""));
+    let told = unknown(alloc, line.as_bytes())?;
+    Ok(is_shown(alloc, told, wanted)?)
 }
 
 #[test]
 fn the_first_unknown_name_is_told(rt: HostRuntime) -> Result<(), Fail> {
-    let alloc = rt.alloc();
     for row in LINES.lines() {
-        let (wanted, line) = row.split_once(' ').ok_or("a place and a line")?;
-        let told = shown(alloc, unknown(alloc, line.as_bytes())?)?;
-        assert_eq!(rt; told.as_str(), wanted, "{line}");
+        if !holds(rt.alloc(), row)? {
+            return Err(Fail::new(row));
+        }
     }
     Ok(())
 }
@@ -153,12 +154,15 @@ fn chain(alloc: Global, count: usize, last: &str) -> Result<String, AllocError> 
     Ok(line)
 }
 
+/// Whether a line of 4,000 such names has none that is unknown.
+fn is_known(alloc: Global, last: &str) -> Result<bool, Fail> {
+    let line = chain(alloc, 4000, last)?;
+    Ok(unknown(alloc, line.as_bytes())?.is_none())
+}
+
 #[test]
 fn thousands_of_local_names_are_found(rt: HostRuntime) -> Result<(), Fail> {
-    let alloc = rt.alloc();
-    let line = chain(alloc, 4000, "n17")?;
-    assert!(rt; unknown(alloc, line.as_str().as_bytes())?.is_none());
-    let line = chain(alloc, 4000, "n4000")?;
-    assert!(rt; unknown(alloc, line.as_str().as_bytes())?.is_some());
+    assert!(rt; is_known(rt.alloc(), "n17")?);
+    assert!(rt; !is_known(rt.alloc(), "n4000")?);
     Ok(())
 }

@@ -1,5 +1,5 @@
 use Rattle.std.proofs.Common.{◌≡◌, ◌+◌, ◌<◌, Some, None, arith}
-use Rattle.nesl_syntax.specs.Views.{tree_of, trees_in, binders_in}
+use Rattle.nesl_tree.specs.Views.{tree_of, trees_in, binders_in}
 use Rattle.nesl_bindings.specs.Nodes.{expression_nodes, nodes_of_all, nodes_bound}
 use Rattle.nesl_bindings.proofs.Rooms.{leaves_one, leaves_two, leaves_three, at_sequence, at_let, at_each, at_filtered, same_all, same_bound, same_exp}
 use Rattle.nesl_bindings.proofs.nodes.+rooms.Goals as goal

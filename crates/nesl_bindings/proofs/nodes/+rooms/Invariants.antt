@@ -1,5 +1,5 @@
 use Rattle.std.proofs.Common.{◌≡◌, ◌+◌, drop}
-use Rattle.nesl_syntax.specs.Views.{trees_in, binders_in}
+use Rattle.nesl_tree.specs.Views.{trees_in, binders_in}
 use Rattle.nesl_bindings.specs.Nodes.{nodes_of_all, nodes_bound}
 use Rattle.nesl_bindings.proofs.nodes.+rooms.Given as goal
 

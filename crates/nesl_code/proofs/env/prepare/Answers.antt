@@ -1,5 +1,5 @@
 use Rattle.std.proofs.Common.{◌∙◌, ap, subst, List, []}
-use Rattle.nesl_syntax.specs.Views.{tree_of}
+use Rattle.nesl_tree.specs.Views.{tree_of}
 use Rattle.nesl_code.specs.Names.{Name}
 use Rattle.nesl_code.specs.Means.{Means, Layer}
 use Rattle.nesl_code.specs.Stored.{names_in}

@@ -1,6 +1,6 @@
 use Rattle.std.proofs.Common.{ℕ, List, [], suc, subst, sym, ◌∙◌}
 use Rattle.nesl_code.specs.Means.{Layer, patterns, spot, IsElementSpot}
-use Rattle.nesl_syntax.specs.Views.{binders_in}
+use Rattle.nesl_tree.specs.Views.{binders_in}
 use Rattle.nesl_code.specs.Resolving.{layers_of}
 use Rattle.nesl_code.proofs.Locals.{element_here, element_outside}
 use Rattle.nesl_code.proofs.Resolved.{layers-Let, layers-Row, if_ok}

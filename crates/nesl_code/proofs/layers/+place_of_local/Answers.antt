@@ -1,5 +1,5 @@
 use Rattle.std.proofs.Common.{◌∙◌, ap, subst, Option}
-use Rattle.nesl_syntax.specs.Views.{pattern_tree, binders_in}
+use Rattle.nesl_tree.specs.Views.{pattern_tree, binders_in}
 use Rattle.nesl_code.specs.declared.layers.LocalPlace.{LocalPlace}
 use Rattle.nesl_code.specs.Means.{bindings, binders, patterns}
 use Rattle.nesl_code.specs.Resolving.{layers_of, FindsIn, Finds}

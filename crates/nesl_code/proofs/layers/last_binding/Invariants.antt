@@ -1,5 +1,5 @@
 use Rattle.std.proofs.Common.{◌≡◌, ◌<◌, take, length, IfSome}
-use Rattle.nesl_syntax.specs.Views.{binders_in}
+use Rattle.nesl_tree.specs.Views.{binders_in}
 use Rattle.nesl_code.specs.Means.{last_binding, patterns}
 use Rattle.nesl_code.proofs.layers.last_binding.Given as goal
 

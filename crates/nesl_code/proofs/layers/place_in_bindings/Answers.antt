@@ -1,6 +1,6 @@
 use Rattle.std.proofs.Common.{refl, sym, ap, ◌∙◌}
-use Rattle.nesl_syntax.specs.declared.tree.Binding.{Binding}
-use Rattle.nesl_syntax.specs.Views.{pattern_tree}
+use Rattle.nesl_tree.specs.declared.tree.Binding.{Binding}
+use Rattle.nesl_tree.specs.Views.{pattern_tree}
 use Rattle.nesl_code.specs.Means.{steps_to}
 use Rattle.nesl_code.proofs.Resolved.{pattern_at}
 use Rattle.nesl_code.proofs.layers.place_in_bindings.Goals as goal

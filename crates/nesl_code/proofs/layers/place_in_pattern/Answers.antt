@@ -1,5 +1,5 @@
 use Rattle.std.proofs.Common.{◌≡◌, true, ap, refl, None, rules}
-use Rattle.nesl_syntax.specs.Views.{pattern_tree}
+use Rattle.nesl_tree.specs.Views.{pattern_tree}
 use Rattle.nesl_code.specs.Means.{or_later, binds}
 use Rattle.nesl_code.proofs.layers.place_in_pattern.Goals as goal
 

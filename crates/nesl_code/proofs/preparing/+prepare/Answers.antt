@@ -1,10 +1,10 @@
 use Rattle.std.proofs.Common.{◌≡◌, ◌∙◌, ap, sym, subst, List, [], ◌∷◌, take, to_z, of_z, w64}
-use Rattle.nesl_syntax.specs.declared.tree.Exp.{Exp}
-use Rattle.nesl_syntax.specs.declared.tree.Binding.{Binding}
-use Rattle.nesl_syntax.specs.declared.tree.Node as declared
-use Rattle.nesl_syntax.specs.Trees.{Shape, node}
-use Rattle.nesl_syntax.specs.Views.{shape_of, tree_of, trees_in, binders_in, type_tree}
-use Rattle.nesl_syntax.specs.Trees as trees
+use Rattle.nesl_tree.specs.declared.tree.Exp.{Exp}
+use Rattle.nesl_tree.specs.declared.tree.Binding.{Binding}
+use Rattle.nesl_tree.specs.declared.tree.Node as declared
+use Rattle.nesl_tree.specs.Trees.{Shape, node}
+use Rattle.nesl_tree.specs.Views.{shape_of, tree_of, trees_in, binders_in, type_tree}
+use Rattle.nesl_tree.specs.Trees as trees
 use Rattle.nesl_builtins.specs.declared.builtin.Builtin.{Builtin}
 use Rattle.nesl_builtins.specs.declared.builtin.Builtin.TheVariants.{OfSequences}
 use Rattle.nesl_seq_base.specs.declared.seq_fn.SeqFn.TheVariants as seq

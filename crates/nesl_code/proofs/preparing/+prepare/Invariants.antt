@@ -1,5 +1,5 @@
 use Rattle.std.proofs.Common.{[], take}
-use Rattle.nesl_syntax.specs.Views.{trees_in, binders_in}
+use Rattle.nesl_tree.specs.Views.{trees_in, binders_in}
 use Rattle.nesl_code.specs.Outcome.{sources}
 use Rattle.nesl_code.specs.Means.{AllMean, BindingsMean}
 use Rattle.nesl_code.specs.Resolving.{layers_of, known}

@@ -1,4 +1,4 @@
-use Rattle.nesl_syntax.specs.Views.{tree_of}
+use Rattle.nesl_tree.specs.Views.{tree_of}
 use Rattle.nesl_code.specs.Stored.{environment, names_in}
 use Rattle.nesl_code.specs.TopLevels.{table_in}
 use Rattle.nesl_eval.proofs.Meant.{tells_meant}

@@ -1,8 +1,8 @@
 use Rattle.std.proofs.Common.{◌≡◌}
 use Rattle.nesl_types.specs.Term.{term}
 use Rattle.nesl_names.specs.Names.{datatype_in}
-use Rattle.nesl_syntax.specs.Views.{type_tree}
-use Rattle.nesl_infer.proofs.Contexts.{written-closed}
+use Rattle.nesl_tree.specs.Views.{type_tree}
+use Rattle.nesl_rules.proofs.Contexts.{written-closed}
 use Rattle.nesl_infer_tests.proofs.answers.of_datatype.Goals as goal
 
 pub define-requires : goal.define-requires

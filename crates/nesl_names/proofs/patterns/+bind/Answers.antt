@@ -1,7 +1,7 @@
 use Rattle.std.proofs.Common.{◌≡◌, ◌∙◌, ◌++◌, List, ℕ, sym, ap, subst, append_assoc}
-use Rattle.nesl_syntax.specs.declared.tree.Pattern.{Pattern}
-use Rattle.nesl_syntax.specs.declared.tree.PatternNode.{PatternNode}
-use Rattle.nesl_syntax.specs.Views.{pattern_shape, pattern_tree}
+use Rattle.nesl_tree.specs.declared.tree.Pattern.{Pattern}
+use Rattle.nesl_tree.specs.declared.tree.PatternNode.{PatternNode}
+use Rattle.nesl_tree.specs.Views.{pattern_shape, pattern_tree}
 use Rattle.nesl_names.specs.Names.{bound, bound_in}
 use Rattle.nesl_names.specs.Scopes.{locals}
 use Rattle.nesl_names.proofs.patterns.+bind.Goals as goal

@@ -1,8 +1,8 @@
 use Rattle.std.proofs.Common.{◌≡◌, ◌∙◌, List, ℕ, Bool, sym, ap, subst}
 use Rattle.std.specs.Option.{is_some}
-use Rattle.nesl_syntax.specs.declared.tree.Pattern.{Pattern}
-use Rattle.nesl_syntax.specs.declared.tree.PatternNode.{PatternNode}
-use Rattle.nesl_syntax.specs.Views.{pattern_shape, pattern_tree}
+use Rattle.nesl_tree.specs.declared.tree.Pattern.{Pattern}
+use Rattle.nesl_tree.specs.declared.tree.PatternNode.{PatternNode}
+use Rattle.nesl_tree.specs.Views.{pattern_shape, pattern_tree}
 use Rattle.nesl_names.specs.Firsts.{first, earlier}
 use Rattle.nesl_names.specs.Names.{unless, datatype_in, unknown_records, unknown_records_in}
 use Rattle.nesl_names.proofs.Firsts.{joined, unchanged}

@@ -1,7 +1,7 @@
 use Rattle.std.proofs.Common.{◌≡◌, ◌∙◌, ◌++◌, List, [], sym, ap, drop, arith}
 use Rattle.std.proofs.lemmas.Grind.{common_steps}
-use Rattle.nesl_syntax.specs.declared.tree.Binding.{Binding}
-use Rattle.nesl_syntax.specs.Views.{binders_in}
+use Rattle.nesl_tree.specs.declared.tree.Binding.{Binding}
+use Rattle.nesl_tree.specs.Views.{binders_in}
 use Rattle.nesl_names.specs.Names.{all_bound}
 use Rattle.nesl_names.specs.Scopes.{locals}
 use Rattle.nesl_names.proofs.Loops.{bound_step}

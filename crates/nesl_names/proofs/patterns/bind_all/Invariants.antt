@@ -1,5 +1,5 @@
 use Rattle.std.proofs.Common.{◌≡◌, ◌++◌, drop}
-use Rattle.nesl_syntax.specs.Views.{binders_in}
+use Rattle.nesl_tree.specs.Views.{binders_in}
 use Rattle.nesl_names.specs.Names.{all_bound}
 use Rattle.nesl_names.specs.Scopes.{locals}
 use Rattle.nesl_names.proofs.patterns.bind_all.Given as goal

@@ -1,8 +1,8 @@
 use Rattle.std.proofs.Common.{◌≡◌, ◌∙◌, List, ℕ, Bool, sym, ap, subst}
 use Rattle.std.specs.Option.{is_some}
-use Rattle.nesl_syntax.specs.declared.tree.TypeExp.{TypeExp}
-use Rattle.nesl_syntax.specs.declared.tree.TypeNode.{TypeNode}
-use Rattle.nesl_syntax.specs.Views.{type_shape, type_tree}
+use Rattle.nesl_tree.specs.declared.tree.TypeExp.{TypeExp}
+use Rattle.nesl_tree.specs.declared.tree.TypeNode.{TypeNode}
+use Rattle.nesl_tree.specs.Views.{type_shape, type_tree}
 use Rattle.nesl_names.specs.Firsts.{first, earlier}
 use Rattle.nesl_names.specs.Names.{unless, datatype_in, unknown_types, unknown_types_in}
 use Rattle.nesl_names.proofs.Firsts.{joined, unchanged}

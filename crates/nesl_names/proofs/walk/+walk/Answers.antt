@@ -4,11 +4,11 @@ use Rattle.std.specs.Option.{is_some, option_map}
 use Rattle.std.specs.List.{list_any}
 use Rattle.std.specs.Str.{bytes_eq}
 use Rattle.nesl_lex.specs.declared.token.Span.{Span}
-use Rattle.nesl_syntax.specs.declared.tree.Exp.{Exp}
-use Rattle.nesl_syntax.specs.declared.tree.Binding.{Binding}
-use Rattle.nesl_syntax.specs.declared.tree.Node as declared
-use Rattle.nesl_syntax.specs.Trees.{Shape}
-use Rattle.nesl_syntax.specs.Views.{shape_of, tree_of, trees_in, binders_in, pattern_tree}
+use Rattle.nesl_tree.specs.declared.tree.Exp.{Exp}
+use Rattle.nesl_tree.specs.declared.tree.Binding.{Binding}
+use Rattle.nesl_tree.specs.declared.tree.Node as declared
+use Rattle.nesl_tree.specs.Trees.{Shape}
+use Rattle.nesl_tree.specs.Views.{shape_of, tree_of, trees_in, binders_in, pattern_tree}
 use Rattle.nesl_names.specs.Firsts.{first, earlier}
 use Rattle.nesl_names.specs.Names.{Names, Own, names_in, unless, bound, all_bound, unknown, unknown_in, all_unknown, unknown_bound, unknown_drawn}
 use Rattle.nesl_names.specs.Scopes.{locals}

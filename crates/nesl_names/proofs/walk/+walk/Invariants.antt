@@ -1,6 +1,6 @@
 use Rattle.std.proofs.Common.{◌≡◌, ◌++◌, drop}
 use Rattle.std.specs.Option.{option_map}
-use Rattle.nesl_syntax.specs.Views.{trees_in, binders_in}
+use Rattle.nesl_tree.specs.Views.{trees_in, binders_in}
 use Rattle.nesl_names.specs.Firsts.{first, earlier}
 use Rattle.nesl_names.specs.Names.{names_in, all_bound, all_unknown, unknown_bound, unknown_drawn}
 use Rattle.nesl_names.specs.Scopes.{locals}

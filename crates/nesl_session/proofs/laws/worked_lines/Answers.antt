@@ -4,8 +4,8 @@ use Rattle.std.specs.Fmt.{digits}
 use Rattle.nesl_lex.specs.declared.token.Span.{Span}
 use Rattle.nesl_types.specs.Term.{int}
 use Rattle.nesl_values.specs.Tree as values
-use Rattle.nesl_syntax.specs.Trees.{Line}
-use Rattle.nesl_syntax.specs.Trees as trees
+use Rattle.nesl_tree.specs.Trees.{Line}
+use Rattle.nesl_tree.specs.Trees as trees
 use Rattle.nesl_builtins.specs.Named.{named_builtin}
 use Rattle.nesl_infer.specs.Answers.{unknown_at}
 use Rattle.nesl_code.specs.Out.{value, within}

@@ -4,9 +4,9 @@ use Rattle.nesl_lex.specs.declared.fault.LexFault.{LexFault}
 use Rattle.nesl_lex.specs.Tokens.{placed}
 use Rattle.nesl_lex.specs.Lexemes.{IsStuckAt}
 use Rattle.nesl_lex.specs.Faults.{OnLexical}
-use Rattle.nesl_syntax.specs.Trees.{Line, line_height}
-use Rattle.nesl_syntax.specs.Lines.{IsLine}
-use Rattle.nesl_syntax.specs.Views.{line_of}
+use Rattle.nesl_tree.specs.Trees.{Line, line_height}
+use Rattle.nesl_tree.specs.Lines.{IsLine}
+use Rattle.nesl_tree.specs.Views.{line_of}
 use Rattle.nesl_session.specs.Sense.{HasSense, stuck, is_stuck, has_no_form, has_high_form, has_form, highest}
 use Rattle.nesl_session.proofs.sense.sense_of.Goals as goal
 

@@ -1,8 +1,8 @@
 use Rattle.std.proofs.Common.{◌≡◌, ◌∙◌, true, List, sym, ap, refl}
 use Rattle.std.specs.Prelude.{◌||◌}
-use Rattle.nesl_syntax.specs.declared.tree.Exp.{Exp}
-use Rattle.nesl_syntax.specs.declared.tree.Binding.{Binding}
-use Rattle.nesl_syntax.specs.Views.{tree_of, trees_in, binders_in}
+use Rattle.nesl_tree.specs.declared.tree.Exp.{Exp}
+use Rattle.nesl_tree.specs.declared.tree.Binding.{Binding}
+use Rattle.nesl_tree.specs.Views.{tree_of, trees_in, binders_in}
 use Rattle.nesl_sound.specs.Refers.{some_binds, refers, any_refers, bindings_refer, drawn_refers}
 use Rattle.nesl_sound.proofs.Referring.{or_first, or_second, same_refers, at_sequence, at_let, at_each, at_filtered}
 use Rattle.nesl_sound.proofs.refers.+uses.Goals as goal

@@ -1,5 +1,5 @@
 use Rattle.std.proofs.Common.{◌≡◌, drop}
-use Rattle.nesl_syntax.specs.Views.{trees_in, binders_in}
+use Rattle.nesl_tree.specs.Views.{trees_in, binders_in}
 use Rattle.nesl_sound.specs.Refers.{any_refers, bindings_refer, drawn_refers}
 use Rattle.nesl_sound.proofs.refers.+uses.Given as goal
 

@@ -1,6 +1,6 @@
 use Rattle.std.proofs.Common.{◌≡◌, drop}
 use Rattle.std.specs.Prelude.{◌||◌}
-use Rattle.nesl_syntax.specs.Views.{binders_in}
+use Rattle.nesl_tree.specs.Views.{binders_in}
 use Rattle.nesl_sound.specs.Refers.{some_binds}
 use Rattle.nesl_sound.proofs.refers.is_hidden_by.Given as goal
 

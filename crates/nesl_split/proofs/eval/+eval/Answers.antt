@@ -27,6 +27,7 @@ use Rattle.nesl_nodes.proofs.Arms.{over_runs, over_stops}
 use denote.Param.Send.{sendable}
 use Rattle.std.proofs.Crossing as standard
 use Rattle.nesl_split.specs.Intervals.{ArePlaces}
+use Rattle.nesl_split.specs.Finds.{Finds}
 use Rattle.nesl_split.proofs.Ranges.{range_whole, range_first, range_none, range_cut, range_all}
 use Rattle.nesl_split.proofs.Halves.{finds}
 use Rattle.nesl_split.proofs.Crosses.{interval_sync}
@@ -518,7 +519,9 @@ half_of_filters-returns g t c =
     let s = c.args.interval.now in
     let q = λ (k : ℕ). then_out (run_at (run c.args.levels (g.T.Tops.table s.tops.now)) (frames_of s.scope.now) (map tree_of s.values.now) s.code.now k) (outcome.kept k) in
     let is = places_of s.places in
-    finds (ArePlaces {A = Global}) (record { fuel = c.args.fuel; depth = 0 }) c.filters-found.new.meter c.filters-found.result c.cost_since-cost.result (all_beside q (slice_range is c.args.from c.args.to)) refl c.filters-found.ensures.spent c.cost_since-cost.ensures.work c.cost_since-cost.ensures.depth c.filters-found.ensures.meets
+    let begun = c.begun_with-begun in
+    subst (λ (fuel : ℕ). Finds (ArePlaces {A = Global}) fuel (record { found = c.filters-found.result; cost = c.cost_since-cost.result }) (all_beside q (slice_range is c.args.from c.args.to))) begun.ensures.fuel
+    (finds (ArePlaces {A = Global}) begun.result c.filters-found.new.meter c.filters-found.result c.cost_since-cost.result (all_beside q (slice_range is c.args.from c.args.to)) begun.ensures.depth c.filters-found.ensures.spent c.cost_since-cost.ensures.work c.cost_since-cost.ensures.depth c.filters-found.ensures.meets)
 
 pub filters-joined_places-requires-clause-left : goal.filters-joined_places-requires-clause-left
 filters-joined_places-requires-clause-left g t c = (c.fork-left.ensures.left c.args.meter.now refl).0
@@ -593,7 +596,9 @@ half_of_bodies-returns g t c =
     let s = c.args.interval.now in
     let q = λ (k : ℕ). then_out (run_at (run c.args.levels (g.T.Tops.table s.tops.now)) (frames_of s.scope.now) (map tree_of s.values.now) s.code.now k) counted in
     let is = places_of s.places in
-    finds (Has {A = Global}) (record { fuel = c.args.fuel; depth = 0 }) c.bodies-found.new.meter c.bodies-found.result c.cost_since-cost.result (all_beside q (slice_range is c.args.from c.args.to)) refl c.bodies-found.ensures.spent c.cost_since-cost.ensures.work c.cost_since-cost.ensures.depth c.bodies-found.ensures.meets
+    let begun = c.begun_with-begun in
+    subst (λ (fuel : ℕ). Finds (Has {A = Global}) fuel (record { found = c.bodies-found.result; cost = c.cost_since-cost.result }) (all_beside q (slice_range is c.args.from c.args.to))) begun.ensures.fuel
+    (finds (Has {A = Global}) begun.result c.bodies-found.new.meter c.bodies-found.result c.cost_since-cost.result (all_beside q (slice_range is c.args.from c.args.to)) begun.ensures.depth c.bodies-found.ensures.spent c.cost_since-cost.ensures.work c.cost_since-cost.ensures.depth c.bodies-found.ensures.meets)
 
 pub bodies-joined_values-requires-clause-left : goal.bodies-joined_values-requires-clause-left
 bodies-joined_values-requires-clause-left g t c = (c.fork-left.ensures.left c.args.meter.now refl).0

@@ -1,5 +1,5 @@
 use Rattle.std.proofs.Common.{◌≡◌, length, ap, ◌∙◌, arith}
-use Rattle.nesl_syntax.specs.Machine.{type_at}
+use Rattle.nesl_parts.specs.Machine.{type_at}
 use Rattle.nesl_syntax.proofs.StepLemmas.{closes_turn, round_closes, none_closes, other_closes, nothing_closes}
 use Rattle.nesl_syntax.proofs.parse.close_types.Goals as goal
 

@@ -2,7 +2,7 @@ use Rattle.std.proofs.Common.{◌≡◌, ◌+◌, ◌∷◌, subst, ap, sym, ◌
 use Rattle.std.proofs.lemmas.List.{at_drop_more}
 use Rattle.nesl_lex.specs.Tokens.{Placed, placed, placed_of}
 use Rattle.nesl_lex.specs.declared.token.Token.{Token}
-use Rattle.nesl_syntax.specs.Machine.{before}
+use Rattle.nesl_parts.specs.Machine.{before}
 use Rattle.nesl_syntax.specs.Steps.{Runs}
 use Rattle.nesl_syntax.proofs.StepLemmas.{run_turn}
 use Rattle.nesl_syntax.proofs.parse.expression.Goals as goal

@@ -1,6 +1,6 @@
 use Rattle.std.proofs.Common.{drop}
 use Rattle.nesl_lex.specs.Tokens.{placed}
-use Rattle.nesl_syntax.specs.Machine.{before}
+use Rattle.nesl_parts.specs.Machine.{before}
 use Rattle.nesl_syntax.specs.Steps.{Runs}
 use Rattle.nesl_syntax.proofs.parse.expression.Given as goal
 

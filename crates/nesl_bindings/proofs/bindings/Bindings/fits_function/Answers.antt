@@ -1,5 +1,5 @@
 use Rattle.std.proofs.Common.{◌≡◌, ◌+◌, ◌<◌, ◌∙◌, arith}
-use Rattle.nesl_syntax.specs.Views.{tree_of}
+use Rattle.nesl_tree.specs.Views.{tree_of}
 use Rattle.nesl_bindings.specs.Meanings.{function}
 use Rattle.nesl_bindings.specs.Beside.{elements_beside}
 use Rattle.nesl_bindings.specs.Stored.{bindings_of}

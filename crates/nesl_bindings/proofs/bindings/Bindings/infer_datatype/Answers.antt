@@ -1,6 +1,6 @@
 use Rattle.std.proofs.Common.{subst}
 use Rattle.nesl_types.specs.Term.{term}
-use Rattle.nesl_syntax.specs.Views.{type_tree}
+use Rattle.nesl_tree.specs.Views.{type_tree}
 use Rattle.nesl_names.specs.Names.{Names, Own}
 use Rattle.nesl_infer.specs.Answers.{Answers, IsContentBy}
 use Rattle.nesl_bindings.proofs.Readers.{known_there}

@@ -1,9 +1,9 @@
 use Rattle.std.proofs.Common.{List, sym, subst}
 use Rattle.nesl_types.specs.Term.{term}
-use Rattle.nesl_syntax.specs.Views.{tree_of}
+use Rattle.nesl_tree.specs.Views.{tree_of}
 use Rattle.nesl_names.specs.Names.{Names, Own}
 use Rattle.nesl_infer.specs.Answers.{Answers, IsTypeBy}
-use Rattle.nesl_infer.specs.Contexts.{AreClosed}
+use Rattle.nesl_rules.specs.Contexts.{AreClosed}
 use Rattle.nesl_code.specs.Stored.{Entry, top_of}
 use Rattle.nesl_bindings.proofs.Readers.{known_there}
 use Rattle.nesl_bindings.proofs.bindings.Bindings.infer_exp.Goals as goal

@@ -1,9 +1,9 @@
 use Rattle.std.proofs.Common.{List, option_map, sym, subst}
-use Rattle.nesl_syntax.specs.Views.{pattern_tree, signature_tree, tree_of}
+use Rattle.nesl_tree.specs.Views.{pattern_tree, signature_tree, tree_of}
 use Rattle.nesl_builtins.specs.Table.{function_type}
 use Rattle.nesl_names.specs.Names.{Names, Own}
 use Rattle.nesl_infer.specs.Answers.{Answers, IsFunctionBy}
-use Rattle.nesl_infer.specs.Contexts.{AreClosed}
+use Rattle.nesl_rules.specs.Contexts.{AreClosed}
 use Rattle.nesl_code.specs.Stored.{Entry, top_of}
 use Rattle.nesl_bindings.proofs.Readers.{known_there}
 use Rattle.nesl_bindings.proofs.bindings.Bindings.infer_function.Goals as goal

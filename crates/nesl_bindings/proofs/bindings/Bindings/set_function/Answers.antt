@@ -1,6 +1,6 @@
 use Rattle.std.proofs.Common.{◌+◌, ◌<◌, ◌^◌, arith}
 use Rattle.nesl_types.specs.declared.bindings.Top.TheVariants as kind
-use Rattle.nesl_syntax.specs.Views.{pattern_tree, tree_of}
+use Rattle.nesl_tree.specs.Views.{pattern_tree, tree_of}
 use Rattle.nesl_builtins.specs.Table.{function_type}
 use Rattle.nesl_code.specs.declared.env.Payload.TheVariants as payload
 use Rattle.nesl_code.specs.Stored.{top_of}

@@ -2,8 +2,8 @@ use Rattle.std.proofs.Common.{◌≡◌, ℕ, List, sym, subst}
 use Rattle.std.specs.Prelude.{Result, Ok, Err, OnOk, OnErr}
 use Rattle.nesl_types.specs.declared.bindings.Top.{Top}
 use Rattle.nesl_types.specs.Names.{with_name}
-use Rattle.nesl_infer.specs.Contexts.{IsClosed, AreClosed}
-use Rattle.nesl_infer.proofs.Contexts.{closed_with}
+use Rattle.nesl_rules.specs.Contexts.{IsClosed, AreClosed}
+use Rattle.nesl_rules.proofs.Contexts.{closed_with}
 use Rattle.nesl_infer_tests.proofs.definitions.Definitions.define.Goals as goal
 
 set_closed : {E P : Type 0} (x : List ℕ) (t : Top) (p : P) (old new : List (List ℕ × Top × P)) (r : Result (Unit {0}) E) → IsClosed t → AreClosed old →

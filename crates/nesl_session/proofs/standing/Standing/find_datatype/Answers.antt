@@ -1,6 +1,6 @@
 use Rattle.std.proofs.Common.{◌≡◌, ◌≤◌, ℕ, Some, None, refl, sym, ap, ◌∙◌, subst, arith, option_map}
 use Rattle.nesl_types.specs.Term.{term}
-use Rattle.nesl_syntax.specs.Views.{tree_of, pattern_tree, signature_tree, type_tree}
+use Rattle.nesl_tree.specs.Views.{tree_of, pattern_tree, signature_tree, type_tree}
 use Rattle.nesl_builtins.specs.Table.{FunctionType, function_type}
 use Rattle.nesl_infer.specs.Answers.{IsContentBy, IsFunctionBy, typed}
 use Rattle.nesl_code.specs.Names.{Name}

@@ -1,6 +1,6 @@
 use Rattle.std.proofs.Common.{refl}
 use Rattle.nesl_types.specs.Term.{term}
-use Rattle.nesl_syntax.specs.Views.{tree_of}
+use Rattle.nesl_tree.specs.Views.{tree_of}
 use Rattle.nesl_infer.specs.Answers.{IsTypeBy, typed}
 use Rattle.nesl_bindings.specs.Known.{known}
 use Rattle.nesl_bindings.specs.Stored.{bindings_of}

@@ -1,6 +1,6 @@
 use Rattle.std.proofs.Common.{◌≡◌, ◌≤◌, ℕ, ap, sym, ◌∙◌, subst, true, leb, arith, refl, []}
 use Rattle.nesl_types.specs.Term.{term}
-use Rattle.nesl_syntax.specs.Views.{tree_of as tree_of_exp}
+use Rattle.nesl_tree.specs.Views.{tree_of as tree_of_exp}
 use Rattle.nesl_values.specs.View.{tree_of}
 use Rattle.nesl_code.specs.Names.{Value, outside}
 use Rattle.nesl_code.specs.Out.{told, value}

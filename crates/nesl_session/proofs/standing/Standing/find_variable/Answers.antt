@@ -1,6 +1,6 @@
 use Rattle.std.proofs.Common.{[]}
 use Rattle.nesl_types.specs.Term.{Term, term}
-use Rattle.nesl_syntax.specs.Views.{tree_of}
+use Rattle.nesl_tree.specs.Views.{tree_of}
 use Rattle.nesl_infer.specs.Answers.{IsTypeBy, typed}
 use Rattle.nesl_code.specs.Names.{outside}
 use Rattle.nesl_code.specs.Out.{within}

@@ -1,0 +1,5 @@
+//! The equations of an expression.
+#![tactic(auto)]
+
+pub mod constrain;
+mod leaf;

@@ -1,0 +1,5 @@
+pub mod Complete
+pub mod Stacks
+pub mod Turns
+mod PatternTrees
+pub mod PatternsRead

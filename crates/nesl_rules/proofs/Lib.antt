@@ -1,0 +1,14 @@
+pub mod Kept
+pub mod Agreement
+pub mod Steps
+pub mod Places
+pub mod Arms
+pub mod Found
+pub mod Patterns
+pub mod Instances
+pub mod Applied
+pub mod Lets
+pub mod Eaches
+pub mod Signatures
+pub mod Leaves
+pub mod Contexts

@@ -1,0 +1,9 @@
+pub mod Facts
+pub mod World
+pub mod Typing
+pub mod Principal
+pub mod Holds
+pub mod Instances
+pub mod Contexts
+pub mod Closed
+pub mod Signatures
