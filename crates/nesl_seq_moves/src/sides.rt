@@ -1,9 +1,9 @@
 // Sequences that are taken apart in two.
-ghost use Rattle.std.specs.Prelude.{◌≡◌, Bool, true, false, List, Some, None, map, is_some, unwrap_or, IfOk, IfSome, IsSome};
+ghost use Rattle.std.specs.Prelude.{◌≡◌, ◌++◌, ◌∷◌, Bool, true, false, List, [], Some, None, map, is_some, unwrap_or, IfOk, IfSome, IsSome, OnOk};
 ghost use Rattle.std.specs.List.{list_all};
 ghost use Rattle.nesl_values.specs.Tree.{Tree, pair, sequence};
 ghost use Rattle.nesl_values.specs.Parts.{as_bool, as_pair, as_sequence};
-ghost use Rattle.nesl_values.specs.View.{tree_of, item_trees};
+ghost use Rattle.nesl_values.specs.View.{tree_of, item_trees, elements_of};
 ghost use Rattle.nesl_seq_base.specs.Lent.{argument_tree};
 ghost use Rattle.nesl_seq_base.specs.Outcome.{IsGiven, gives};
 ghost use Rattle.nesl_seq_base.specs.Reductions.{all_of};
@@ -93,13 +93,26 @@ fn both_sides<A: Allocator + Copy>(alloc: A, values: &[Value<A>]) -> Result<Valu
     let mut rights = SequenceBuilder::with_room(alloc, values.len());
     for value in values {
         if let Some((left, right)) = value.as_pair() {
-            lefts.push_shared(Element::Node(left))?;
-            rights.push_shared(Element::Node(right))?;
+            push_part(&mut lefts, left)?;
+            push_part(&mut rights, right)?;
         }
     }
     let lefts = lefts.finish()?;
     let rights = rights.finish()?;
     Value::pair(alloc, lefts, rights)
+}
+
+// Adds an element at the end, which stays where it is too. A number needs no look at what is shared.
+fn push_part<A: Allocator + Copy>(
+    builder: &mut SequenceBuilder<A>,
+    part: &Value<A>,
+) -> Result<(), AllocError>
+    ensures { OnOk result (elements_of builder.new ≡ elements_of builder.old ++ tree_of part.now ∷ []) }
+{
+    match part.as_int() {
+        Some(n) => builder.push_int(n),
+        None => builder.push_shared(Element::Node(part)),
+    }
 }
 
 fn are_truths<A: Allocator>(flags: Items<'_, A>) -> bool

@@ -1,5 +1,5 @@
 //! Functions in heaps: their arguments and results lie there, and nothing of them stays.
-use crate::reading::value_of;
+use crate::reading::{function_of, value_of};
 use crate::told::call_of;
 use linked_list_allocator::LocalHeap;
 use nesl_seqs::{Argument, SeqFn, apply, price_within};
@@ -40,6 +40,12 @@ or_scan [5,6] = [0,5]
 and_scan [5,6] = [-1,5]
 or_scan {TF} = {FT}"#;
 
+/// Calls one after the other, each of what the one before it gave, and what the last one comes to.
+const CHAINS: &str = r#"bottop flatten reverse plus_scan of [4,5,6,7] = [0,7,13,18]
+zip reverse unzip append odd_elts of ( [1,2] [5,6] ) = [1,5]
+append bottop unzip of ( [4,6] [5,7] ) = none
+interleave bottop reverse flatten even_elts of ( [4,6] [5,7] ) = [6,4]"#;
+
 /// The parts of an argument that is a pair, and any other as it is.
 fn parts_of<A: Allocator>(argument: &Value<A>) -> Argument<'_, A> {
     let Some((first, second)) = argument.as_pair() else {
@@ -62,6 +68,47 @@ fn comes_to<A: Allocator + Copy>(
     match price_within(function, parts, 1_000_000) {
         Ok(Some(_)) => Ok(apply(home, function, parts)?.same(expected)),
         Ok(None) | Err(_) => Ok(false),
+    }
+}
+
+/// What the functions come to, each of what the one before it gave.
+fn chained<A: Allocator + Copy>(
+    home: A,
+    names: &str,
+    argument: Value<A>,
+) -> Result<Option<Value<A>>, AllocError> {
+    let mut value = argument;
+    for name in names.split(' ') {
+        let Some(function) = function_of(name) else {
+            return Ok(None);
+        };
+        let parts = parts_of(&value);
+        let Ok(Some(_)) = price_within(function, parts, 1_000_000) else {
+            return Ok(None);
+        };
+        let next = apply(home, function, parts)?;
+        value = next;
+    }
+    Ok(Some(value))
+}
+
+/// Whether a chain comes to what its row says.
+fn chain_holds<A: Allocator + Copy>(alloc: Global, home: A, row: &str) -> Result<bool, AllocError> {
+    let Some((calls, result)) = row.split_once(" = ") else {
+        return Ok(false);
+    };
+    let Some((names, argument)) = calls.split_once(" of ") else {
+        return Ok(false);
+    };
+    let Some(argument) = value_of(alloc, home, argument, 15)? else {
+        return Ok(false);
+    };
+    match (
+        chained(home, names, argument)?,
+        value_of(alloc, alloc, result, 15)?,
+    ) {
+        (Some(found), Some(expected)) => Ok(found.same(&expected)),
+        (found, expected) => Ok(found.is_none() && expected.is_none()),
     }
 }
 
@@ -111,6 +158,18 @@ fn all_hold_in(alloc: Global, size: usize, may_be_refused: bool) -> Result<(), F
 #[test]
 fn in_a_heap(rt: HostRuntime) -> Result<(), Fail> {
     all_hold_in(rt.alloc(), 65_536, false)
+}
+
+#[test]
+fn results_in_a_heap_are_arguments(rt: HostRuntime) -> Result<(), Fail> {
+    let heap = LocalHeap::new(rt.alloc(), 65_536)?;
+    for row in CHAINS.lines() {
+        if !chain_holds(rt.alloc(), &heap, row)? {
+            return Err(Fail::new(row));
+        }
+    }
+    assert!(rt; heap.used() == 0);
+    Ok(())
 }
 
 // Where each call is in heaps of every size, each of its allocations is refused in one.

@@ -7,7 +7,7 @@ use Rattle.nesl_seq_base.specs.Reductions.{all_of}
 use Rattle.nesl_seq_base.proofs.Shapes.{read_at, length_read, some_within}
 use Rattle.nesl_seq_moves.proofs.Unzipping.{side_turn, sides_made}
 use Rattle.nesl_seq_moves.proofs.sides.both_sides.Goals as goal
-use Rattle.nesl_seq_moves.proofs.sides.both_sides.Goals.{in-Some+in_ok-push_shared+in_ok-push_shared-2, in_default}
+use Rattle.nesl_seq_moves.proofs.sides.both_sides.Goals.{in-Some+in_ok-push_part+in_ok-push_part-2, in_default}
 
 pub loop-value-preserved : goal.loop-value-preserved
 loop-value-preserved g c ps h =
@@ -16,11 +16,11 @@ loop-value-preserved g c ps h =
     let here = read_at as_pair tree_of vs ps i c.value-item.result h c.loop-value-test.true c.value-item.is in
     let so_far = c.loop-value.invariant ps h in
     elim c.match-as_pair.branch [
-      | in-Some+in_ok-push_shared+in_ok-push_shared-2 w ↦ (
+      | in-Some+in_ok-push_part+in_ok-push_part-2 w ↦ (
           let p : Tree × Tree = (tree_of w.in-Some.left.now, tree_of w.in-Some.right.now) in
           let at : slice_get ps i ≡ Some p = sym here ∙ sym w.in-Some.ensures in (
-            ap elements_of w.lefts-is ∙ side_turn (λ q. q.0) ps i p (elements_of c.loop-value.lefts) _ _ at so_far.0 w.in_ok-push_shared.ensures.ok refl,
-            ap elements_of w.rights-is ∙ side_turn (λ q. q.1) ps i p (elements_of c.loop-value.rights) _ _ at so_far.1 w.in_ok-push_shared-2.ensures.ok refl,
+            ap elements_of w.lefts-is ∙ side_turn (λ q. q.0) ps i p (elements_of c.loop-value.lefts) _ _ at so_far.0 w.in_ok-push_part.ensures refl,
+            ap elements_of w.rights-is ∙ side_turn (λ q. q.1) ps i p (elements_of c.loop-value.rights) _ _ at so_far.1 w.in_ok-push_part-2.ensures refl,
           ))
       | in_default w ↦ absurd (some_within ps i (omega (arith, length_read as_pair tree_of vs ps h, c.loop-value-test.true)) (w.in_default.ensures ∙ here))
     ]
