@@ -1,12 +1,12 @@
 -- Elements that go to places of their own.
-use Rattle.std.proofs.Common.{◌≡◌, ◌≢◌, ℕ, ℤ, zero, suc, pos, ◌+◌, ◌-◌, ◌<◌, ◌≤◌, Bool, true, false, not, ◌||◌, ◌&&◌, cond, nat_eq, nat_lt, List, [], ◌∷◌, length, map, zip, set, refl, ap, sym, ◌∙◌, arith, Option, Some, None, is_some, option_map, option_and_then, slice_get, SomeIff, Ok, Err, subst}
+use Rattle.std.proofs.Common.{◌≡◌, ◌≢◌, ℕ, ℤ, zero, suc, pos, ◌+◌, ◌-◌, ◌<◌, ◌≤◌, Bool, true, false, not, ◌||◌, ◌&&◌, cond, nat_eq, nat_lt, List, [], ◌∷◌, length, map, zip, set, refl, ap, sym, ◌∙◌, arith, Option, Some, None, is_some, option_map, option_and_then, slice_get, SomeIff, Result, Ok, Err, IfOk, subst}
 use Rattle.std.specs.List.{list_any, list_all, filter_map, cons_option, find, range_with_len}
 use Rattle.std.proofs.lemmas.Bool.{false≢true}
 use Rattle.std.proofs.lemmas.Bool.Decides.{Decides-eqb, Decides-ltb}
 use Rattle.std.proofs.Math.Bool.{or-true}
 use Rattle.std.proofs.lemmas.List.{length-map}
 use Rattle.std.proofs.lemmas.List.FromFn.{length-range_with_len}
-use Rattle.std.proofs.lemmas.Option.{slice_get_within}
+use Rattle.std.proofs.lemmas.Option.{slice_get_within, slice_get-map}
 use Rattle.nesl_scalars.specs.declared.trap.Trap.{Trap}
 use Rattle.nesl_scalars.specs.declared.trap.Trap.TheVariants.{Length, Range, Permutation}
 use Rattle.nesl_values.specs.Tree.{Tree, int, size, sizes, sequence, trees_of}
@@ -17,6 +17,7 @@ use Rattle.nesl_seq_base.specs.Places.{place_in, place_of, places_of, elements_a
 use Rattle.nesl_seq_base.specs.Prices.{Prices}
 use Rattle.nesl_seq_base.specs.Reductions.{all_of}
 use Rattle.nesl_seq_base.specs.declared.price.Price.{Price}
+use Rattle.nesl_seq_reorders.specs.Arriving.{Arrive}
 use Rattle.nesl_seq_base.proofs.Equality.{left_true, right_true}
 use Rattle.nesl_seq_reorders.proofs.Marking.{are_equal, are_apart, test_apart, not_true}
 use Rattle.nesl_seq_reorders.proofs.Picking.{not_given, list_all_map, are_ints, given_all, refused, length_found, place_of_within}
@@ -346,3 +347,61 @@ inverse_same js zs j t at names before i k u h there place_is = by_test (nat_eq 
         let none : Some k ≡ None = sym place_is ∙ ap (place_of (length js)) same_tree ∙ names in
         absurd (cc none)
     by_test false e = before i k u (omega (arith, h, are_apart i j e)) there place_is
+
+-- the turns of the loop that puts each element at its place
+abbrev pub ArriveTo : {X : Type 0} → ℕ → List X → List X → List Tree → Type 0
+ArriveTo j xs vs js = (i k : ℕ) (t : Tree) → i < j → slice_get js i ≡ Some t → place_of (length js) t ≡ Some k → slice_get vs k ≡ slice_get xs i
+
+pub arrive_turn : {X : Type 0} (js : List Tree) (xs vs : List X) (j : ℕ) (t : Tree) (place : ℕ) (x : X) → all_differ (places_of (length js) js) ≡ true → length vs ≡ length js → slice_get js j ≡ Some t → place_of (length js) t ≡ Some place
+    → slice_get xs j ≡ Some x → ArriveTo j xs vs js → ArriveTo (j + 1) xs (set vs place x) js
+arrive_turn js xs vs j t place x differ same at names here before i k u h there place_is = by_test (nat_eq i j) refl
+  where
+    by_test : (b : Bool) → nat_eq i j ≡ b → slice_get (set vs place x) k ≡ slice_get xs i
+    by_test true e =
+        let now : i ≡ j = are_equal i j e in
+        let one : Some u ≡ Some t = sym there ∙ ap (slice_get js) now ∙ at in
+        let same_tree : u ≡ t = cc one in
+        let places : Some k ≡ Some place = sym place_is ∙ ap (place_of (length js)) same_tree ∙ names in
+        let same_place : k ≡ place = cc places in
+        ap (slice_get (set vs place x)) same_place ∙ set_same vs place x (omega (arith, same, place_of_within (length js) t place names)) ∙ sym here ∙ ap (slice_get xs) (sym now)
+    by_test false e =
+        let early : i < j = omega (arith, h, are_apart i j e) in
+        let apart : k ≢ place = λ same_place. differ_apart (length js) js i j u t k differ early there at place_is (names ∙ ap Some (sym same_place)) in
+        set_other vs place k x apart ∙ before i k u early there place_is
+
+pub arrive_same : {X : Type 0} (js : List Tree) (xs vs : List X) (j : ℕ) (t : Tree) → slice_get js j ≡ Some t → place_of (length js) t ≡ None → ArriveTo j xs vs js → ArriveTo (j + 1) xs vs js
+arrive_same js xs vs j t at names before i k u h there place_is = by_test (nat_eq i j) refl
+  where
+    by_test : (b : Bool) → nat_eq i j ≡ b → slice_get vs k ≡ slice_get xs i
+    by_test true e =
+        let one : Some u ≡ Some t = sym there ∙ ap (slice_get js) (are_equal i j e) ∙ at in
+        let same_tree : u ≡ t = cc one in
+        let none : Some k ≡ None = sym place_is ∙ ap (place_of (length js)) same_tree ∙ names in
+        absurd (cc none)
+    by_test false e = before i k u (omega (arith, h, are_apart i j e)) there place_is
+
+all_there : {X Y : Type 0} (f : X → Y) (xs : List X) → filter_map (λ x. Some (f x)) xs ≡ map f xs
+all_there f [] = refl
+all_there f (x ∷ xs) = ap (λ ys. f x ∷ ys) (all_there f xs)
+
+-- so they stand as the definition has them
+pub arrived : {X : Type 0} (f : X → Tree) (xs vs : List X) (js : List Tree) → length js ≡ length (map f xs) → AllName (length (map f xs)) js → all_differ (places_of (length (map f xs)) js) ≡ true → Arrive xs vs js
+    → map f vs ≡ rearranged (map f xs) (places_of (length (map f xs)) js)
+arrived {X = X} f xs vs js same named differ arrive =
+    sym (all_there f vs) ∙ found_alike (λ v. Some (f v)) (arrival (zip (places_of (length ts) js) ts)) vs (range_with_len 0 (length ts)) (arrive.0 ∙ same ∙ sym (length-range_with_len 0 (length ts))) (λ i v k p q. at_place i v k p q)
+  where
+    ts : List Tree
+    ts = map f xs
+
+    at_place : (i : ℕ) (v : X) (k : ℕ) → slice_get vs i ≡ Some v → slice_get (range_with_len 0 (length ts)) i ≡ Some k → Some (f v) ≡ arrival (zip (places_of (length ts) js) ts) k
+    at_place i v k p q =
+        let is : k ≡ i = omega (arith, range_at 0 (length ts) i k q) in
+        let found = all_found (arrival (zip (places_of (length ts) js) ts)) (range_with_len 0 (length ts)) (length_rearranged ts js same named differ ∙ sym (length-range_with_len 0 (length ts))) i k q in
+        let from = arrives_from (length ts) js ts k found.0 named same found.1 in
+        let whence : slice_get vs k ≡ slice_get xs from.0 = arrive.1 from.0 k from.1 from.2 (ap (λ m. place_of m from.1) same ∙ from.3) in
+        ap (option_map f) (sym p ∙ ap (slice_get vs) (sym is) ∙ whence) ∙ sym (slice_get-map f xs from.0) ∙ from.4 ∙ sym found.1
+
+-- what holds of a result, where it follows from what holds of it
+pub ok_told : {A E : Type 0} (P Q : A → Type 0) (r : Result A E) → IfOk r P → ((a : A) → P a → Q a) → IfOk r Q
+ok_told P Q (Ok a) h next = next a h
+ok_told P Q (Err e) h next = tt

@@ -1,8 +1,10 @@
 // Sequences of which each element goes to a place of its own.
 ghost use Rattle.std.specs.Prelude.{◌≡◌, ◌≢◌, ◌+◌, ◌/◌, ◌<◌, ◌^◌, ℕ, [], Some, length, map, IfOk, IsTrue};
+ghost use Rattle.nesl_values.specs.Tree.{sequence};
 ghost use Rattle.nesl_values.specs.Parts.{as_int};
 ghost use Rattle.nesl_values.specs.View.{tree_of, item_trees};
 ghost use Rattle.nesl_seq_base.specs.Lent.{argument_tree};
+ghost use Rattle.nesl_seq_reorders.specs.Arriving.{Arrive};
 ghost use Rattle.nesl_seq_reorders.specs.Marks.{are_new};
 ghost use Rattle.nesl_seq_base.specs.Outcome.{IsGiven, given, gives};
 ghost use Rattle.nesl_seq_base.specs.Meaning.{meaning};
@@ -135,8 +137,51 @@ fn permuted_copy<A: Allocator + Copy, I: Item>(
         given (all_of as_int (map I.tree indices.now)) (permuted (item_trees items.entry))
         ≡ gives (tree_of v)) }
 {
-    let inverse = inverse_of(alloc, indices)?;
-    picked_copy(alloc, items, &inverse)
+    match items {
+        Items::Ints(ints) => Value::ints(alloc, permuted_leaves(alloc, ints, indices)?),
+        Items::Bools(bools) => Value::bools(alloc, permuted_leaves(alloc, bools, indices)?),
+        Items::Chars(chars) => Value::chars(alloc, permuted_leaves(alloc, chars, indices)?),
+        Items::Values(_) => {
+            let inverse = inverse_of(alloc, indices)?;
+            picked_copy(alloc, items, &inverse)
+        }
+    }
+}
+
+// Leaves, each at the place that its index names.
+fn permuted_leaves<T: Item + Copy, A: Allocator, I: Item>(
+    alloc: A,
+    items: &[T],
+    indices: &[I],
+) -> Result<Vec<T, A>, AllocError>
+    requires { IsGiven
+        (given (all_of as_int (map I.tree indices.now)) (permuted (map T.tree items.now))) }
+    ensures { IfOk result (λ v.
+        given (all_of as_int (map I.tree indices.now)) (permuted (map T.tree items.now))
+        ≡ gives (sequence (map T.tree v.items))) }
+{
+    arranged(alloc, items, indices)
+}
+
+// Whatever it is, each at the place that its index names.
+fn arranged<T: Copy, A: Allocator, I: Item>(
+    alloc: A,
+    items: &[T],
+    indices: &[I],
+) -> Result<Vec<T, A>, AllocError>
+    requires same { length indices.now ≡ length items.now }
+    requires differ { IsTrue
+        (all_differ (places_of (length indices.now) (map I.tree indices.now))) }
+    ensures { IfOk result (λ v. Arrive items.now v.items (map I.tree indices.now)) }
+{
+    let len = indices.len();
+    let mut made = Vec::from_slice(alloc, items)?;
+    for number in 0..len {
+        if let Some(place) = place_of(&indices[number], len) {
+            made[place] = items[number];
+        }
+    }
+    Ok(made)
 }
 
 // For each place, which of the indices names it.

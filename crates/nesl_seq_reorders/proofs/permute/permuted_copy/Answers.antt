@@ -20,11 +20,11 @@ inverse_of-requires-clause-differ g c =
     let there = is_arranged g.I.Item.tree c.args.indices.now (item_trees c.args.items) c.requires.given in
     ap (λ n. all_differ (places_of n js)) (sym (length-map c.args.indices.now g.I.Item.tree) ∙ there.same) ∙ there.differ
 
-pub returns : goal.returns
-returns g c =
+pub returns-in_ok-inverse-in-Values : goal.returns-in_ok-inverse-in-Values
+returns-in_ok-inverse-in-Values g c =
     let ts = item_trees c.args.items in
     let js = map g.I.Item.tree c.args.indices.now in
     let there = is_arranged g.I.Item.tree c.args.indices.now ts c.requires.given in
-    let zs = c.in_ok-inverse.inverse.items in
-    let picks : elements_at ts (places_of (length ts) (map int zs)) ≡ _ = inverse_picks ts js zs there.same there.named there.differ c.in_ok-inverse.ensures in
+    let zs = c.in_ok-inverse-in-Values.inverse.items in
+    let picks : elements_at ts (places_of (length ts) (map int zs)) ≡ _ = inverse_picks ts js zs there.same there.named there.differ c.in_ok-inverse-in-Values.ensures in
     told c.picked_copy.result _ _ (there.is ∙ ap (λ us. gives (sequence us)) (sym picks)) (rw (sym c.deref.ensures.value) c.picked_copy.ensures)
