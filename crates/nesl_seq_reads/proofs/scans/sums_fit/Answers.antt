@@ -1,4 +1,4 @@
-use Rattle.std.proofs.Common.{◌≡◌, ◌∙◌, ap, map, option_map, true, to_z, w64}
+use Rattle.std.proofs.Common.{◌∙◌, ap, map, option_map, true, to_z, w64}
 use Rattle.nesl_values.specs.Parts.{as_int}
 use Rattle.nesl_seq_reads.proofs.Folds.{folded_stop, folded_end}
 use Rattle.nesl_seq_reads.proofs.Before.{fit_turn, folded_fit}

@@ -1,4 +1,4 @@
-use Rattle.std.proofs.Common.{◌≡◌, ◌∙◌, length, map, ap, sym, arith}
+use Rattle.std.proofs.Common.{◌≡◌, ◌∙◌, map, ap, sym}
 use Rattle.std.proofs.lemmas.List.{length-map}
 use Rattle.nesl_values.specs.Tree.{sequence}
 use Rattle.nesl_seq_base.specs.Outcome.{given, gives}
