@@ -98,24 +98,8 @@ fn sums_of_items_fit<A: Allocator>(items: Items<'_, A>) -> Option<bool>
     }
 }
 
-// Whether each sum of those before is a number of 64 bits. As long as they are, no more bits are needed.
+// Whether each sum of those before is a number of 64 bits.
 fn sums_fit<T: Item>(items: &[T]) -> Option<bool>
-    requires { length items.now < 2 ^ 63 }
-    ensures { result ≡ option_map (λ zs. list_all fits (before_each total zs)) (all_of as_int (map T.tree items.now)) }
-{
-    let mut total: i64 = 0;
-    for item in items {
-        let number = item.as_int()?;
-        match total.checked_add(number) {
-            Some(sum) => total = sum,
-            None => return wide_sums_fit(items),
-        }
-    }
-    Some(true)
-}
-
-// The same, where one of them is none.
-fn wide_sums_fit<T: Item>(items: &[T]) -> Option<bool>
     requires { length items.now < 2 ^ 63 }
     ensures { result ≡ option_map (λ zs. list_all fits (before_each total zs)) (all_of as_int (map T.tree items.now)) }
 {
@@ -150,7 +134,7 @@ pub fn apply_plus_scan<A: Allocator + Copy>(
     }
 }
 
-fn sums_of_items<A: Allocator + Copy>(
+fn sums_of_items<A: Allocator>(
     alloc: A,
     items: Items<'_, A>,
 ) -> Result<Option<Vec<i64, A>>, AllocError>
@@ -167,34 +151,7 @@ fn sums_of_items<A: Allocator + Copy>(
 }
 
 // The sums of those before each, where all are numbers of 64 bits.
-fn sums_of<T: Item, A: Allocator + Copy>(
-    alloc: A,
-    items: &[T],
-) -> Result<Option<Vec<i64, A>>, AllocError>
-    requires { length items.now < 2 ^ 63 }
-    ensures { IfOk result (λ o. option_map (λ v. v.items) o
-        ≡ option_and_then fitting_sums (all_of as_int (map T.tree items.now))) }
-{
-    let mut sums = Vec::with_capacity(alloc, items.len())?;
-    let mut total: i64 = 0;
-    for item in items {
-        let Some(number) = item.as_int() else {
-            return Ok(None);
-        };
-        sums.push(total)?;
-        match total.checked_add(number) {
-            Some(sum) => total = sum,
-            None => return wide_sums_of(alloc, items),
-        }
-    }
-    Ok(Some(sums))
-}
-
-// The same, where one of the sums needs more bits, which may be the one of all.
-fn wide_sums_of<T: Item, A: Allocator>(
-    alloc: A,
-    items: &[T],
-) -> Result<Option<Vec<i64, A>>, AllocError>
+fn sums_of<T: Item, A: Allocator>(alloc: A, items: &[T]) -> Result<Option<Vec<i64, A>>, AllocError>
     requires { length items.now < 2 ^ 63 }
     ensures { IfOk result (λ o. option_map (λ v. v.items) o
         ≡ option_and_then fitting_sums (all_of as_int (map T.tree items.now))) }
