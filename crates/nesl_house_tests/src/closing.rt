@@ -1,6 +1,7 @@
 // Leases, receipts, and what a table answers that is to be closed.
 use crate::sample::{LIMITS, opened, said};
 use nesl_helpers::{Free, NoHelpers};
+use nesl_house::house::House;
 use nesl_house::lease::Receipt;
 use nesl_house::roster::NewFault;
 use nesl_house::table::{CloseFault, Table, TakeFault};
@@ -9,6 +10,15 @@ use std::test::Fail;
 
 fn receipt_of(place: usize, recorded: u64) -> Receipt {
     Receipt { place, recorded }
+}
+
+fn is_as_opened(table: &Table) -> bool {
+    table.roster().len() == 2 && table.limits() == LIMITS
+}
+
+// How many lines the user's session stored.
+fn lines_of(house: &House, user: &[u8]) -> Option<usize> {
+    house.session(user).map(|session| session.lines().len())
 }
 
 // Why the user's session isn't given out.
@@ -29,8 +39,7 @@ fn a_table_needs_a_roster(rt: HostRuntime) -> Result<(), Fail> {
         Err(fault) => assert!(rt; fault == NewFault::Count),
     }
     let table = opened(rt.alloc())?;
-    assert!(rt; table.roster().len() == 2);
-    assert!(rt; table.limits() == LIMITS);
+    assert!(rt; is_as_opened(&table));
     Ok(())
 }
 
@@ -40,19 +49,19 @@ fn one_lease_at_a_time(rt: HostRuntime) -> Result<(), Fail> {
     let Ok(mut lease) = table.take(&rt, b"bob") else {
         panic!(rt; "bob's session is at home");
     };
-    assert!(rt; lease.place() == 1);
+    let place = lease.place();
     let busy = refusal(&rt, &table, "bob");
     let stranger = refusal(&rt, &table, "zed");
     let answer = lease.line_split(&rt, rt.alloc(), b"2 * 3 + 1;", &NoHelpers, &Free);
-    assert!(rt; answer.bytes() == b"it = 7 : int (work 5, depth 5)\n".as_slice());
-    assert!(rt; lease.session().lines().len() == 1);
+    let is_seven = answer.bytes() == b"it = 7 : int (work 5, depth 5)\n".as_slice();
+    let lines = lease.session().lines().len();
     let receipt = table.give(&rt, lease);
-    assert!(rt; receipt == receipt_of(1, 1));
-    assert!(rt; busy == Some(TakeFault::Busy));
-    assert!(rt; stranger == Some(TakeFault::NoUser));
-    assert!(rt; refusal(&rt, &table, "bob").is_none());
-    let again = said(&rt, rt.alloc(), &table, "bob", &["it;"]).ok_or("bob is at home")?;
-    assert!(rt; again == receipt_of(1, 1));
+    assert!(rt; is_seven && lines == 1);
+    assert!(rt; place == 1 && receipt == receipt_of(1, 1));
+    assert!(rt; busy == Some(TakeFault::Busy) && stranger == Some(TakeFault::NoUser));
+    let home = refusal(&rt, &table, "bob");
+    let again = said(&rt, rt.alloc(), &table, "bob", &["it;"]);
+    assert!(rt; home.is_none() && again == Some(receipt_of(1, 1)));
     Ok(())
 }
 
@@ -75,16 +84,13 @@ fn not_closed_while_a_lease_is_out(rt: HostRuntime) -> Result<(), Fail> {
         panic!(rt; "bob's session is out");
     };
     let receipt = table.give(&rt, lease);
-    assert!(rt; place == 1);
-    assert!(rt; table.roster().len() == 2);
-    assert!(rt; table.limits() == LIMITS);
-    assert!(rt; receipts.as_slice() == [receipt_of(0, 1)].as_slice());
+    let has_all = receipts.as_slice() == [receipt_of(0, 1)].as_slice();
+    assert!(rt; place == 1 && is_as_opened(&table) && has_all);
     receipts.push(receipt)?;
     let Ok(closed) = table.close(receipts) else {
         panic!(rt; "all sessions are at home");
     };
-    assert!(rt; closed.lines == 1);
-    assert!(rt; closed.house.users().len() == 2);
+    assert!(rt; closed.lines == 1 && closed.house.users().len() == 2);
     Ok(())
 }
 
@@ -103,18 +109,16 @@ fn not_closed_without_a_receipt(rt: HostRuntime) -> Result<(), Fail> {
     else {
         panic!(rt; "a receipt is missing");
     };
-    assert!(rt; counted == 0);
-    assert!(rt; held == 2);
-    assert!(rt; receipts.is_empty());
+    assert!(rt; counted == 0 && held == 2 && receipts.is_empty());
     receipts.push(receipt)?;
     let Ok(closed) = table.close(receipts) else {
         panic!(rt; "no receipt is missing");
     };
-    assert!(rt; closed.lines == 2);
-    let ann = closed.house.session(b"ann").ok_or("ann")?;
-    assert!(rt; ann.lines().len() == 2);
-    let bob = closed.house.session(b"bob").ok_or("bob")?;
-    assert!(rt; bob.lines().is_empty());
+    let lines = (
+        lines_of(&closed.house, b"ann"),
+        lines_of(&closed.house, b"bob"),
+    );
+    assert!(rt; closed.lines == 2 && lines == (Some(2), Some(0)));
     Ok(())
 }
 
@@ -122,15 +126,13 @@ fn not_closed_without_a_receipt(rt: HostRuntime) -> Result<(), Fail> {
 fn a_reset_is_a_line(rt: HostRuntime) -> Result<(), Fail> {
     let table = opened(rt.alloc())?;
     let first = said(&rt, rt.alloc(), &table, "ann", &["x = 3;", ":reset", "4;"]).ok_or("ann")?;
-    assert!(rt; first.recorded == 3);
     let second = said(&rt, rt.alloc(), &table, "ann", &["x;"]).ok_or("ann again")?;
-    assert!(rt; second.recorded == 1);
+    assert!(rt; first.recorded == 3 && second.recorded == 1);
     let Ok(closed) = table.close(vec![in rt.alloc(); first, second]?) else {
         panic!(rt; "no receipt is missing");
     };
-    assert!(rt; closed.lines == 4);
-    let ann = closed.house.session(b"ann").ok_or("ann")?;
-    assert!(rt; ann.lines().len() == 2);
-    assert!(rt; ann.cleared() == 2);
+    let cleared = closed.house.session(b"ann").map(|ann| ann.cleared());
+    assert!(rt; closed.lines == 4 && cleared == Some(2));
+    assert!(rt; lines_of(&closed.house, b"ann") == Some(2));
     Ok(())
 }

@@ -42,6 +42,14 @@ fn lines_of(house: &House, user: &[u8]) -> Option<usize> {
     house.session(user).map(|session| session.lines().len())
 }
 
+// Whether this is the name of the second user, whose session stored so many lines.
+fn is_second(house: &House, name: &[u8], lines: usize) -> bool {
+    match house.users().get(1) {
+        Some(user) => user.name() == name && user.session().lines().len() == lines,
+        None => false,
+    }
+}
+
 // Whether each session stored one line.
 fn all_have_one(house: &House) -> bool {
     house
@@ -112,12 +120,11 @@ fn users_have_sessions_of_their_own(rt: HostRuntime) -> Result<(), Fail> {
     let mut house = house(alloc, "ann bob")?;
     let seven = "it = 7 : int (work 1, depth 1)\n";
     assert!(rt; is_told(alloc, &mut house, b"bob", b"7;", seven));
-    assert!(rt; lines_of(&house, b"ann") == Some(0));
-    assert!(rt; lines_of(&house, b"bob") == Some(1));
-    assert!(rt; lines_of(&house, b"zed").is_none());
-    let second = house.users().get(1).ok_or("second")?;
-    assert!(rt; second.name() == b"bob".as_slice());
-    assert!(rt; second.session().lines().len() == 1);
+    let ann = lines_of(&house, b"ann");
+    let bob = lines_of(&house, b"bob");
+    let zed = lines_of(&house, b"zed");
+    assert!(rt; ann == Some(0) && bob == Some(1) && zed.is_none());
+    assert!(rt; is_second(&house, b"bob", 1));
     Ok(())
 }
 
@@ -125,12 +132,10 @@ fn users_have_sessions_of_their_own(rt: HostRuntime) -> Result<(), Fail> {
 fn strangers_have_none(rt: HostRuntime) -> Result<(), Fail> {
     let alloc = rt.alloc();
     let mut house = house(alloc, "ann bob")?;
-    let answer = house.say_in(alloc, b"zed", b"7;", alloc);
-    assert!(rt; answer.fault() == Some(Fault::User));
-    let answer = house.say(alloc, b"zed", b"7;");
-    assert!(rt; answer.bytes() == b"fault user\n".as_slice());
-    assert!(rt; answer.fault() == Some(Fault::User));
-    assert!(rt; !answer.recorded());
+    let first = house.say_in(alloc, b"zed", b"7;", alloc);
+    let second = house.say(alloc, b"zed", b"7;");
+    let told = second.bytes() == b"fault user\n".as_slice() && !second.recorded();
+    assert!(rt; told && first.fault() == Some(Fault::User) && second.fault() == Some(Fault::User));
     Ok(())
 }
 
@@ -138,15 +143,14 @@ fn strangers_have_none(rt: HostRuntime) -> Result<(), Fail> {
 fn lines_are_said_in_a_heap(rt: HostRuntime) -> Result<(), Fail> {
     let alloc = rt.alloc();
     let mut house = house(alloc, "ann bob")?;
-    let answer = house.say_in(alloc, b"ann", b"1;", alloc);
-    assert!(rt; answer.bytes() == ONE.as_bytes());
+    let one = house.say_in(alloc, b"ann", b"1;", alloc).bytes() == ONE.as_bytes();
     let mut script = Vec::new(alloc);
     script.push(said(alloc, "bob", "1;")?)?;
     script.push(said(alloc, "zed", "1;")?)?;
     let answers = house.run_by(alloc, &InHeap(alloc), script.as_slice())?;
-    assert!(rt; answers.first().map(|answer| answer.bytes()) == Some(ONE.as_bytes()));
-    assert!(rt; answers.get(1).map(|answer| answer.fault()) == Some(Some(Fault::User)));
-    assert!(rt; all_have_one(&house));
+    let first = answers.first().map(|answer| answer.bytes()) == Some(ONE.as_bytes());
+    let second = answers.get(1).map(|answer| answer.fault()) == Some(Some(Fault::User));
+    assert!(rt; one && first && second && all_have_one(&house));
     Ok(())
 }
 
@@ -157,10 +161,10 @@ fn a_line_may_be_too_long(rt: HostRuntime) -> Result<(), Fail> {
     let mut line = Vec::from_slice(alloc, b"1;")?;
     line.resize(65_537, b' ')?;
     let long = "fault long (work 0)\n";
-    assert!(rt; is_told(alloc, &mut house, b"ann", line.as_slice(), long));
+    let is_long = is_told(alloc, &mut house, b"ann", line.as_slice(), long);
     let _ = line.pop();
-    assert!(rt; is_told(alloc, &mut house, b"ann", line.as_slice(), ONE));
-    assert!(rt; lines_of(&house, b"ann") == Some(1));
+    let is_one = is_told(alloc, &mut house, b"ann", line.as_slice(), ONE);
+    assert!(rt; is_long && is_one && lines_of(&house, b"ann") == Some(1));
     Ok(())
 }
 

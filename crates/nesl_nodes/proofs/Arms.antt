@@ -1,5 +1,5 @@
 -- What nodes do with runs of their parts.
-use Rattle.std.proofs.Common.{◌≡◌, ℕ, zero, suc, ◌+◌, ◌-◌, ◌<◌, ◌≤◌, Result, Ok, Err, refl, ap, sym, ◌∙◌, arith, subst, add-one, List, [], ◌∷◌, ◌++◌, map, drop, drop-cons, length, get_or, Option, Some, None, Bool, true, false, Vec}
+use Rattle.std.proofs.Common.{◌≡◌, ℕ, zero, suc, ◌+◌, ◌-◌, ◌<◌, ◌≤◌, Result, Ok, Err, refl, ◌∙◌, arith, subst, add-one, List, [], ◌∷◌, map, drop, drop-cons, length, Option, Some, None, Bool, Vec}
 use Rattle.std.specs.Prelude.{slice_get}
 use Rattle.std.specs.List.{range_with_len}
 use Rattle.std.proofs.lemmas.Option.{slice_get_within, get_or_from_slice_get}
@@ -13,7 +13,7 @@ use Rattle.nesl_nodes.specs.declared.meter.Stop.{Stop}
 use Rattle.nesl_nodes.specs.declared.meter.Stop.TheVariants.{Stuck}
 use Rattle.nesl_code.specs.Names.{Value}
 use Rattle.nesl_code.specs.Frames.{Frames}
-use Rattle.nesl_code.specs.Out.{Out, value, then_out, given}
+use Rattle.nesl_code.specs.Out.{Out, then_out, given}
 use Rattle.nesl_code.specs.Outcome.{kept, lengths, places}
 use Rattle.nesl_nodes.specs.Sides.{Keeps}
 use Rattle.nesl_code.specs.Run.{Runs, run_all, run_over}

@@ -1,6 +1,6 @@
 -- What nodes make of runs of their parts.
-use Rattle.std.proofs.Common.{◌≡◌, ℕ, zero, suc, ◌+◌, ◌-◌, ◌<◌, Option, Some, None, Bool, true, false, Result, Ok, Err, refl, sym, ap, ◌∙◌, arith, add_assoc, subst, List, [], ◌∷◌}
-use Rattle.std.specs.Prelude.{MatchResult, unwrap_or, option_and_then}
+use Rattle.std.proofs.Common.{◌≡◌, ℕ, zero, suc, ◌+◌, ◌-◌, ◌<◌, Option, Some, None, Bool, true, false, Result, Ok, Err, refl, sym, ap, ◌∙◌, arith, add_assoc, subst}
+use Rattle.std.specs.Prelude.{MatchResult, unwrap_or}
 use Rattle.nesl_lex.specs.declared.token.Span.{Span}
 use Rattle.nesl_values.specs.Parts.{as_bool}
 use Rattle.nesl_values.specs.View.{tree_of}
@@ -13,10 +13,9 @@ use Rattle.nesl_code.specs.Outcome.{branch, kept}
 use Rattle.nesl_code.specs.Run.{Slot, variable_slot, function_slot, datatype_slot, nothing_slot, Runs, Table, run, run_node, run_two, run_called, slot_at}
 use Rattle.nesl_nodes.specs.declared.meter.Meter.{Meter}
 use Rattle.nesl_nodes.specs.declared.meter.Stop.{Stop}
-use Rattle.nesl_nodes.specs.declared.meter.Stop.TheVariants.{Fault, Over, Memory, Stuck}
-use Rattle.nesl_nodes.specs.declared.parts.Part.{Part}
-use Rattle.nesl_nodes.specs.declared.parts.Part.TheVariants.{Made, Name}
-use Rattle.nesl_nodes.specs.Standing.{variable_at, named_tree, settled, Stands, IsName}
+use Rattle.nesl_nodes.specs.declared.meter.Stop.TheVariants.{Memory, Stuck}
+use Rattle.nesl_nodes.specs.declared.parts.Part.TheVariants.{Made}
+use Rattle.nesl_nodes.specs.Standing.{named_tree, Stands, IsName}
 use Rattle.nesl_nodes.specs.Sides.{Keeps}
 use Rattle.nesl_nodes.specs.Meets.{Meets, Is}
 use Rattle.nesl_nodes.proofs.Runs.{meets_added, meets_then, meets_err}

@@ -1,21 +1,20 @@
 -- Names as parts of arguments.
 use Rattle.std.proofs.Common.{◌≡◌, ℕ, ◌<◌, Option, Some, None, Result, Ok, Err, refl, sym, ap, ◌∙◌, arith, subst, List, [], ◌∷◌, length, ◌==◌, false}
-use Rattle.std.specs.Prelude.{MatchResult, unwrap_or}
+use Rattle.std.specs.Prelude.{MatchResult}
 use Rattle.nesl_values.specs.Parts.{as_pair, as_tagged}
-use Rattle.nesl_values.specs.View.{tree_of, element_tree}
+use Rattle.nesl_values.specs.View.{element_tree}
 use Rattle.nesl_values.specs.declared.element.Element.{Element}
 use Rattle.nesl_code.specs.declared.code.Step.{Step}
 use Rattle.nesl_code.specs.declared.code.Step.TheVariants.{Left, Right, Inside}
-use Rattle.nesl_code.specs.declared.code.Code.{Code, Local, Top}
 use Rattle.nesl_code.specs.Names.{Value}
-use Rattle.nesl_code.specs.Frames.{Frames, followed}
+use Rattle.nesl_code.specs.Frames.{followed}
 use Rattle.nesl_code.specs.Out.{Out, value, fault, stuck, given}
-use Rattle.nesl_code.specs.Run.{Slot, variable_slot, function_slot, datatype_slot, nothing_slot, Runs, Table, run_node, run_top, slot_at}
+use Rattle.nesl_code.specs.Run.{Slot, variable_slot, function_slot, datatype_slot, nothing_slot, run_top}
 use Rattle.nesl_nodes.specs.declared.meter.Meter.{Meter}
 use Rattle.nesl_nodes.specs.declared.meter.Stop.{Stop}
 use Rattle.nesl_nodes.specs.declared.meter.Stop.TheVariants.{Fault, Over, Memory, Stuck}
 use Rattle.nesl_nodes.specs.declared.parts.Part.{Part}
-use Rattle.nesl_nodes.specs.Standing.{variable_at, named_tree, settled, Shows}
+use Rattle.nesl_nodes.specs.Standing.{variable_at, settled, Shows}
 use Rattle.nesl_nodes.specs.Meets.{Meets}
 
 -- the value that a name stands for, as an outcome

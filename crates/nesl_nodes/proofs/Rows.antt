@@ -1,10 +1,10 @@
 -- Nodes with lists of parts.
-use Rattle.std.proofs.Common.{◌≡◌, List, [], Vec, Box, Global, rules, refl}
+use Rattle.std.proofs.Common.{◌≡◌, [], Vec, Box, Global, rules}
 use Rattle.nesl_lex.specs.declared.token.Span.{Span}
 use Rattle.nesl_values.specs.Tree as values
 use Rattle.nesl_code.specs.declared.code.Code.{Code, Sequence, Let, Each, FilteredEach, the_lemmas}
 use Rattle.nesl_code.specs.Frames.{Frames}
-use Rattle.nesl_code.specs.Out.{Out, then_out}
+use Rattle.nesl_code.specs.Out.{then_out}
 use Rattle.nesl_code.specs.Outcome.{made}
 use Rattle.nesl_code.specs.Run.{Runs, Table, run_node, run_all, run_let, run_over, run_filters, run_bodies, as_result}
 

@@ -1,15 +1,12 @@
 -- Runs under a meter, one after the other.
-use Rattle.std.proofs.Common.{Bool, true, false, rules, ◌≡◌, ℕ, ◌+◌, ◌-◌, ◌<◌, ◌≤◌, Result, Ok, Err, refl, ap, sym, arith, zero, suc, subst, List, [], ◌∷◌, ◌++◌, map, max}
-use Rattle.nesl_values.specs.Tree.{size}
-use Rattle.nesl_values.specs.View.{tree_of}
-use Rattle.nesl_lex.specs.declared.token.Span.{Span}
+use Rattle.std.proofs.Common.{◌≡◌, ℕ, ◌+◌, ◌-◌, ◌<◌, Result, Ok, Err, sym, arith, zero, suc, subst}
 use Rattle.nesl_code.specs.declared.code.Code.{Code}
 use Rattle.nesl_nodes.specs.declared.meter.Meter.{Meter}
 use Rattle.nesl_nodes.specs.declared.meter.Stop.{Stop}
 use Rattle.nesl_nodes.specs.declared.meter.Stop.TheVariants.{Fault, Over, Memory, Stuck}
 use Rattle.nesl_code.specs.Names.{Value}
 use Rattle.nesl_code.specs.Frames.{Frames}
-use Rattle.nesl_code.specs.Out.{Out, value, fault, stuck, added, then_out, at_call, beside, all_beside}
+use Rattle.nesl_code.specs.Out.{Out, value, fault, stuck, added, then_out}
 use Rattle.nesl_code.specs.Run.{Table, run, run_node, code_span}
 use Rattle.nesl_nodes.specs.Meets.{Meets, Refuses}
 

@@ -1,10 +1,10 @@
 -- Places side by side.
-use Rattle.std.proofs.Common.{◌≡◌, ℕ, ◌+◌, ◌<◌, ◌≤◌, Result, Ok, Err, refl, ap, sym, ◌∙◌, arith, add_assoc, subst, List, [], ◌∷◌, ◌++◌, append_assoc, map, max}
+use Rattle.std.proofs.Common.{◌≡◌, ℕ, ◌+◌, ◌<◌, Result, Ok, Err, ap, sym, ◌∙◌, arith, subst, List, [], ◌∷◌, ◌++◌, append_assoc, max}
 use Rattle.std.proofs.lemmas.List.{append-nil}
 use Rattle.nesl_nodes.specs.declared.meter.Meter.{Meter}
 use Rattle.nesl_nodes.specs.declared.meter.Stop.{Stop}
 use Rattle.nesl_nodes.specs.declared.meter.Stop.TheVariants.{Fault, Over, Memory, Stuck}
-use Rattle.nesl_code.specs.Out.{Out, value, fault, stuck, added, then_out, beside, all_beside}
+use Rattle.nesl_code.specs.Out.{Out, value, fault, stuck, beside, all_beside}
 use Rattle.nesl_nodes.specs.Meets.{Meets}
 use Rattle.nesl_nodes.proofs.Runs.{LeadsTo, memory_any}
 

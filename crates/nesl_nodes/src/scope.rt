@@ -68,7 +68,50 @@ fn in_row<'a, A: Allocator>(
     }
 }
 
+// What stands at an index of the newest frame.
+#[inline(always)]
+fn newest<'a, A: Allocator>(scope: &Scope<'a, A>, index: usize) -> Option<Element<'a, A>>
+    ensures { option_map element_tree result ≡ place_in (frames_of scope.now) 0 index }
+{
+    match scope {
+        Scope::Empty => None,
+        Scope::Argument(value) => {
+            if index == 0 {
+                Some(Element::Node(*value))
+            } else {
+                None
+            }
+        }
+        Scope::Let(values, _) => value_at(*values, index),
+        Scope::Row(values, row, _) => in_row(*values, *row, index),
+    }
+}
+
+// What stands at an index of a frame further up.
+#[inline(never)]
+fn further<'a, A: Allocator>(
+    scope: &Scope<'a, A>,
+    up: usize,
+    index: usize,
+) -> Option<Element<'a, A>>
+    ensures { option_map element_tree result ≡ place_in (frames_of scope.now) up index }
+{
+    let mut frame = scope;
+    let mut left = up;
+    while left > 0 {
+        match frame {
+            Scope::Empty => return None,
+            Scope::Argument(_) => return None,
+            Scope::Let(_, rest) => frame = *rest,
+            Scope::Row(_, _, rest) => frame = *rest,
+        }
+        left -= 1;
+    }
+    newest(frame, index)
+}
+
 /// What stands at an index of a frame.
+#[inline]
 pub fn place_in<'a, A: Allocator>(
     scope: &Scope<'a, A>,
     up: usize,
@@ -76,29 +119,10 @@ pub fn place_in<'a, A: Allocator>(
 ) -> Option<Element<'a, A>>
     ensures { option_map element_tree result ≡ place_in (frames_of scope.now) up index }
 {
-    match scope {
-        Scope::Empty => None,
-        Scope::Argument(value) => {
-            if up == 0 && index == 0 {
-                Some(Element::Node(*value))
-            } else {
-                None
-            }
-        }
-        Scope::Let(values, rest) => {
-            if up == 0 {
-                value_at(*values, index)
-            } else {
-                place_in(*rest, up - 1, index)
-            }
-        }
-        Scope::Row(values, row, rest) => {
-            if up == 0 {
-                in_row(*values, *row, index)
-            } else {
-                place_in(*rest, up - 1, index)
-            }
-        }
+    if up == 0 {
+        newest(scope, index)
+    } else {
+        further(scope, up, index)
     }
 }
 
@@ -171,6 +195,7 @@ fn part_of<'a, A: Allocator>(value: &'a Value<A>, steps: &[Step]) -> Option<&'a 
 }
 
 /// What a local name stands for, which `steps` reach from what stands at an index of a frame.
+#[inline]
 pub fn lent_local<'a, A: Allocator>(
     scope: &Scope<'a, A>,
     up: usize,

@@ -1,6 +1,5 @@
 // Places that are named by numbers.
-ghost use Rattle.std.specs.Prelude.{◌≡◌, ◌<◌, is_some, IfSome};
-ghost use Rattle.std.specs.List.{list_all};
+ghost use Rattle.std.specs.Prelude.{◌≡◌, ◌<◌, IfSome};
 ghost use Rattle.nesl_seq_base.specs.Places.{place_of};
 
 use crate::item::Item;
@@ -15,11 +14,4 @@ pub fn place_of<I: Item>(index: &I, len: usize) -> Option<usize>
         return None;
     }
     Some(number as usize)
-}
-
-/// Whether each index names a place in a sequence of that length.
-pub fn all_name<I: Item>(indices: &[I], len: usize) -> bool
-    ensures { result ≡ list_all (λ i. is_some (place_of len (I.tree i))) indices.now }
-{
-    indices.iter().all(|index| place_of(index, len).is_some())
 }

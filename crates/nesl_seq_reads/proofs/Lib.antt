@@ -3,3 +3,4 @@ pub mod Best
 pub mod Digits
 pub mod Folds
 pub mod Leaves
+pub mod Sums

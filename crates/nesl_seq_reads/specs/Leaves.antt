@@ -1,5 +1,5 @@
 -- Sequences of leaves as results.
-use Rattle.std.specs.Prelude.{◌≡◌, ℕ, ◌+◌, ℤ, List, map, Option, Some, None, cond, Result}
+use Rattle.std.specs.Prelude.{◌≡◌, ℕ, ◌+◌, ◌^◌, ℤ, pos, negsuc, Bool, nat_lt, List, map, Option, Some, None, cond, Result}
 use Rattle.std.specs.List.{list_all}
 use Rattle.nesl_scalars.specs.declared.trap.Trap.{Trap}
 use Rattle.nesl_values.specs.Tree.{Tree, int, boolean, sequence, size}
@@ -12,6 +12,11 @@ use Rattle.nesl_seq_base.specs.declared.joint.Joint.{Joint}
 -- the outcome is a root over n leaves
 abbrev pub HasLeaves : Outcome → ℕ → Result (Unit {0}) Trap → Type 0
 HasLeaves o n r = Answers (λ t u. size t ≡ 1 + n) o r
+
+-- from -2^31 to 2^31 - 1
+abbrev pub is_short : ℤ → Bool
+is_short (pos n) = nat_lt n (2 ^ 31)
+is_short (negsuc n) = nat_lt n (2 ^ 31)
 
 -- the sums of those before each, where they fit
 abbrev pub fitting_sums : List ℤ → Option (List ℤ)

@@ -1,5 +1,5 @@
 // Scans: what is told of the elements before each.
-ghost use Rattle.std.specs.Prelude.{◌≡◌, ◌+◌, ◌-◌, ◌≤◌, ◌<◌, ◌^◌, length, map, option_map, option_and_then, IfOk, SomeIff};
+ghost use Rattle.std.specs.Prelude.{◌≡◌, ◌+◌, ◌-◌, ◌≤◌, ◌<◌, ◌^◌, length, map, option_map, option_and_then, IfOk, IsTrue, SomeIff};
 ghost use Rattle.std.specs.List.{list_all};
 ghost use Rattle.std.specs.Option.{is_some};
 ghost use Rattle.nesl_values.specs.Tree.{Tree, size};
@@ -11,7 +11,7 @@ ghost use Rattle.nesl_seq_base.specs.Reductions.{all_of, total};
 ghost use Rattle.nesl_seq_base.specs.Meaning.{meaning};
 ghost use Rattle.nesl_seq_base.specs.Prices.{Prices, length_of, digits, price};
 ghost use Rattle.nesl_seq_base.specs.Scans.{before_each, plus_scanned, logic_scanned, joined_truths, joined_bits};
-ghost use Rattle.nesl_seq_reads.specs.Leaves.{HasLeaves, fitting_sums, logic_of};
+ghost use Rattle.nesl_seq_reads.specs.Leaves.{HasLeaves, fitting_sums, is_short, logic_of};
 ghost use Rattle.nesl_seq_base.specs.declared.seq_fn.SeqFn.TheVariants.{PlusScan};
 
 use crate::reductions::digits;
@@ -91,11 +91,28 @@ fn sums_of_items_fit<A: Allocator>(items: Items<'_, A>) -> Option<bool>
     ensures { result ≡ option_map (λ zs. list_all fits (before_each total zs)) (all_of as_int (item_trees items.entry)) }
 {
     match items {
-        Items::Ints(ints) => sums_fit(ints),
+        Items::Ints(ints) => {
+            if are_few_and_short(ints) {
+                return Some(true);
+            }
+            sums_fit(ints)
+        }
         Items::Bools(bools) => sums_fit(bools),
         Items::Chars(chars) => sums_fit(chars),
         Items::Values(values) => sums_fit(values),
     }
+}
+
+// Whether these are fewer than 2^32 numbers of 32 bits: then all their sums are numbers of 64 bits.
+fn are_few_and_short(ints: &[i64]) -> bool
+    ensures few { IsTrue result → length ints.now < 2 ^ 32 }
+    ensures short { IsTrue result → IsTrue (list_all is_short ints.now) }
+{
+    let mut short = true;
+    for number in ints {
+        short &= i32::MIN as i64 <= *number && *number <= i32::MAX as i64;
+    }
+    short && ints.len() < 1 << 32
 }
 
 // Whether each sum of those before is a number of 64 bits.
@@ -138,16 +155,32 @@ fn sums_of_items<A: Allocator>(
     alloc: A,
     items: Items<'_, A>,
 ) -> Result<Option<Vec<i64, A>>, AllocError>
-    requires { length (item_trees items) < 2 ^ 63 }
+    requires few { length (item_trees items) < 2 ^ 63 }
+    requires given { IsGiven (given (all_of as_int (item_trees items)) plus_scanned) }
     ensures { IfOk result (λ o. option_map (λ v. v.items) o
         ≡ option_and_then fitting_sums (all_of as_int (item_trees items.entry))) }
 {
     match items {
-        Items::Ints(ints) => sums_of(alloc, ints),
+        Items::Ints(ints) => Ok(Some(sums_of_ints(alloc, ints)?)),
         Items::Bools(bools) => sums_of(alloc, bools),
         Items::Chars(chars) => sums_of(alloc, chars),
         Items::Values(values) => sums_of(alloc, values),
     }
+}
+
+// The sums of those before each, which are all numbers of 64 bits.
+fn sums_of_ints<A: Allocator>(alloc: A, ints: &[i64]) -> Result<Vec<i64, A>, AllocError>
+    requires few { length ints.now < 2 ^ 63 }
+    requires fit { IsTrue (list_all fits (before_each total ints.now)) }
+    ensures { IfOk result (λ v. v.items ≡ before_each total ints.now) }
+{
+    let mut sums = Vec::from_slice(alloc, ints)?;
+    let mut total: i128 = 0;
+    for place in 0..ints.len() {
+        sums[place] = total as i64;
+        total += ints[place] as i128;
+    }
+    Ok(sums)
 }
 
 // The sums of those before each, where all are numbers of 64 bits.

@@ -1,4 +1,5 @@
 pub mod Differing
+pub mod FewMarks
 pub mod Marking
 pub mod Permuting
 pub mod Picking

@@ -35,7 +35,7 @@ or_false false c h = h
 abbrev bit_of : List ℕ → ℕ → Bool
 bit_of ws q = nat_eq (bit_at (get_or ws (q / 64) 0) (q % 64)) 1
 
-abbrev with_bit : List ℕ → ℕ → List ℕ
+abbrev pub with_bit : List ℕ → ℕ → List ℕ
 with_bit ws p = set ws (p / 64) (bit_or (get_or ws (p / 64) 0) (1 * 2 ^ (p % 64) % 18446744073709551616))
 
 pub one_marked : (ws : List ℕ) (p q : ℕ) → p / 64 < length ws → bit_of (with_bit ws p) q ≡ (bit_of ws q || nat_eq p q)

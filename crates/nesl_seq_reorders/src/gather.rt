@@ -18,7 +18,7 @@ use nesl_seq_base::argument::Argument;
 use nesl_seq_base::arguments::{WRONG_SHAPE, two_sequences};
 use nesl_seq_base::item::Item;
 use nesl_seq_base::nodes::{leaves, value_nodes};
-use nesl_seq_base::places::{all_name, place_of};
+use nesl_seq_base::places::place_of;
 use nesl_seq_base::price::Price;
 use nesl_values::{Items, Value};
 use std::alloc::{AllocError, Allocator};
@@ -37,6 +37,17 @@ pub fn price_gather<A: Allocator>(
         Some((items, Items::Values(indices))) => price_of_gathered(items, indices, limit),
         None => Err(WRONG_SHAPE),
     }
+}
+
+/// Whether each index names a place in a sequence of that length.
+pub fn all_name<I: Item>(indices: &[I], len: usize) -> bool
+    ensures { result ≡ list_all (λ i. is_some (place_of len (I.tree i))) indices.now }
+{
+    let mut all = true;
+    for index in indices {
+        all &= place_of(index, len).is_some();
+    }
+    all
 }
 
 // The price of the elements at the indices, where each of them is a number and names a place.

@@ -1,5 +1,6 @@
 // Sequences of which each element goes to a place of its own.
-ghost use Rattle.std.specs.Prelude.{◌≡◌, ◌≢◌, ◌+◌, ◌/◌, ◌<◌, ◌^◌, ℕ, [], Some, length, map, IfOk, IsTrue};
+ghost use Rattle.std.specs.Prelude.{◌≡◌, ◌≢◌, ◌+◌, ◌/◌, ◌<◌, ◌≤◌, ◌^◌, ℕ, [], Some, length, map, nat_eq, IfOk, IsTrue};
+ghost use Rattle.std.specs.Int.{bit_at};
 ghost use Rattle.nesl_values.specs.Tree.{sequence};
 ghost use Rattle.nesl_values.specs.Parts.{as_int};
 ghost use Rattle.nesl_values.specs.View.{tree_of, item_trees};
@@ -14,7 +15,7 @@ ghost use Rattle.nesl_seq_base.specs.Prices.{Prices, reads};
 ghost use Rattle.nesl_seq_base.specs.Reductions.{all_of};
 ghost use Rattle.nesl_seq_base.specs.declared.seq_fn.SeqFn.TheVariants.{Permute};
 
-use crate::gather::picked_copy;
+use crate::gather::{all_name, picked_copy};
 use crate::marks::{Marks, WINDOW};
 use nesl_scalars::Trap;
 use nesl_seq_base::argument::Argument;
@@ -22,7 +23,7 @@ use nesl_seq_base::arguments::{WRONG_SHAPE, two_sequences};
 use nesl_seq_base::copies::repeated;
 use nesl_seq_base::item::Item;
 use nesl_seq_base::nodes::price_of_items;
-use nesl_seq_base::places::{all_name, place_of};
+use nesl_seq_base::places::place_of;
 use nesl_seq_base::price::Price;
 use nesl_values::{Items, Value};
 use std::alloc::{AllocError, Allocator};
@@ -70,6 +71,9 @@ fn price_of_permuted<A: Allocator, I: Item>(
 fn all_differ<I: Item>(indices: &[I], len: usize) -> bool
     ensures { result ≡ all_differ (places_of len (map I.tree indices.now)) }
 {
+    if len <= 64 {
+        return few_differ(indices, len);
+    }
     for window in 0..len / WINDOW + 1 {
         if !differ_in(indices, len, window) {
             return false;
@@ -78,7 +82,32 @@ fn all_differ<I: Item>(indices: &[I], len: usize) -> bool
     true
 }
 
-// Whether no place of the window is named twice.
+// Whether no place is named twice, of at most 64: the bits of a word mark them.
+fn few_differ<I: Item>(indices: &[I], len: usize) -> bool
+    requires { len ≤ 64 }
+    ensures { result ≡ all_differ (places_of len (map I.tree indices.now)) }
+{
+    let mut marks: u64 = 0;
+    for index in indices {
+        if let Some(place) = place_of(index, len) {
+            if has_bit(marks, place) {
+                return false;
+            }
+            marks |= 1 << place;
+        }
+    }
+    true
+}
+
+fn has_bit(word: u64, place: usize) -> bool
+    requires { place < 64 }
+    ensures { result ≡ nat_eq (bit_at word place) 1 }
+{
+    word >> place & 1 == 1
+}
+
+// Whether no place of the window is named twice. Written apart for its marks on the stack.
+#[inline(never)]
 fn differ_in<I: Item>(indices: &[I], len: usize, window: usize) -> bool
     ensures { result ≡ are_new window [] (places_of len (map I.tree indices.now)) }
 {
@@ -101,7 +130,7 @@ fn differ_in<I: Item>(indices: &[I], len: usize, window: usize) -> bool
 #[inline(always)]
 #[tactic(auto, using(crate::proofs::Differing::is_elsewhere))]
 fn is_elsewhere<I: Item>(index: &I, window: usize) -> bool
-    ensures { IsTrue result → (n k : ℕ) → Some k ≡ place_of n (I.tree index.now) → k / 262144 ≢ window }
+    ensures { IsTrue result → (n k : ℕ) → Some k ≡ place_of n (I.tree index.now) → k / 524288 ≢ window }
 {
     match index.as_int() {
         Some(number) => number.cast_unsigned() as usize / WINDOW != window,

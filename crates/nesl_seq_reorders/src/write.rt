@@ -203,7 +203,8 @@ fn nodes_of_windows<A: Allocator>(
     Some(used)
 }
 
-// The nodes of the elements of one window.
+// The nodes of the elements of one window. Written apart for its table on the stack.
+#[inline(never)]
 fn nodes_in<A: Allocator>(
     items: Items<'_, A>,
     pairs: &[Value<A>],

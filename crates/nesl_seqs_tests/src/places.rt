@@ -82,16 +82,16 @@ fn counted(alloc: Global, len: i64) -> Result<Vec<i64>, AllocError> {
     Ok(numbers)
 }
 
-// The numbers from 139,999 down to 0.
+// The numbers from 599,999 down to 0.
 fn counted_down(alloc: Global) -> Result<Value, AllocError> {
-    let mut numbers = counted(alloc, 140_000)?;
+    let mut numbers = counted(alloc, 600_000)?;
     numbers.reverse();
     Value::ints(alloc, numbers)
 }
 
-// The numbers from 0 to 139,999, with places for them.
+// The numbers from 0 to 599,999, with places for them.
 fn with_places(alloc: Global, places: Value) -> Result<Value, AllocError> {
-    let numbers = Value::ints(alloc, counted(alloc, 140_000)?)?;
+    let numbers = Value::ints(alloc, counted(alloc, 600_000)?)?;
     Value::pair(alloc, numbers, places)
 }
 
@@ -100,7 +100,7 @@ fn places_of_several_windows(rt: HostRuntime) -> Result<(), Fail> {
     let alloc = rt.alloc();
     let turned = with_places(alloc, counted_down(alloc)?)?;
     let expected = counted_down(alloc)?;
-    let whole = price_of(420_001, 1, 140_001);
+    let whole = price_of(1_800_001, 1, 600_001);
     assert!(rt; gives(alloc, SeqFn::Permute, &turned, &expected, whole)?);
     Ok(())
 }
@@ -108,8 +108,8 @@ fn places_of_several_windows(rt: HostRuntime) -> Result<(), Fail> {
 #[test]
 fn a_place_twice_in_several_windows(rt: HostRuntime) -> Result<(), Fail> {
     let alloc = rt.alloc();
-    let mut places = counted(alloc, 139_999)?;
-    places.push(139_998)?;
+    let mut places = counted(alloc, 599_999)?;
+    places.push(599_998)?;
     let twice = with_places(alloc, Value::ints(alloc, places)?)?;
     assert!(rt; traps(SeqFn::Permute, &twice, Trap::Permutation));
     Ok(())

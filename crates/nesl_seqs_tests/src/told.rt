@@ -42,7 +42,7 @@ fn gives_at(
     expected: &Value,
     price: Price,
 ) -> Result<bool, AllocError> {
-    match price_within(function, argument, 1_000_000) {
+    match price_within(function, argument, 2_000_000) {
         Ok(Some(told)) => Ok(told == price && apply(alloc, function, argument)?.same(expected)),
         Ok(None) | Err(_) => Ok(false),
     }
@@ -61,7 +61,7 @@ pub fn traps(function: SeqFn, argument: &Value, trap: Trap) -> bool {
 }
 
 fn traps_at(function: SeqFn, argument: Argument<'_>, trap: Trap) -> bool {
-    price_within(function, argument, 1_000_000) == Err(trap)
+    price_within(function, argument, 2_000_000) == Err(trap)
 }
 
 // Whether there is a price just within that work, and none below.

@@ -1,4 +1,4 @@
-use Rattle.std.proofs.Common.{◌≡◌, ◌∷◌, map, ap}
+use Rattle.std.proofs.Common.{map, ap}
 use Rattle.nesl_values.specs.View.{tree_of}
 use Rattle.nesl_nodes.proofs.Lengths.{tells_next}
 use Rattle.nesl_nodes.proofs.nodes.+have_length.Goals as goal

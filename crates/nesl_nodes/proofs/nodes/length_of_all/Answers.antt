@@ -1,4 +1,4 @@
-use Rattle.std.proofs.Common.{◌≡◌, ◌∷◌, map, ap, sym}
+use Rattle.std.proofs.Common.{map, ap}
 use Rattle.std.proofs.Common.{Some, None, true, false}
 use Rattle.nesl_values.specs.View.{tree_of}
 use Rattle.nesl_nodes.proofs.Lengths.{length_told}

@@ -1,6 +1,6 @@
 use Rattle.std.proofs.Common.{◌-◌, subst}
 use Rattle.std.proofs.lemmas.Result.{err_from_is_err_and}
-use Rattle.nesl_code.specs.Run.{run, run_node}
+use Rattle.nesl_code.specs.Run.{run}
 use Rattle.nesl_nodes.specs.Scopes.{frames_of}
 use Rattle.nesl_nodes.specs.Standing.{Stands}
 use Rattle.nesl_nodes.specs.Meets.{Meets}

@@ -1,8 +1,7 @@
-use Rattle.std.proofs.Common.{sym, ap, ◌∙◌, refl, arith, length, ◌<◌, Some}
+use Rattle.std.proofs.Common.{ap, arith, ◌<◌, Some}
 use Rattle.std.specs.List.{range_with_len}
 use Rattle.std.proofs.lemmas.List.FromFn.{length-range_with_len, get_or-range_with_len}
 use Rattle.std.proofs.lemmas.Option.{slice_get-get_or}
-use Rattle.nesl_nodes.specs.Sides.{places_of}
 use Rattle.nesl_nodes.proofs.places.Places.at.Goals as goal
 
 pub returns-in-All : goal.returns-in-All
