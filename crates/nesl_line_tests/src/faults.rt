@@ -1,11 +1,17 @@
 //! Reads, writes and flushes that fail.
 use crate::devices::{Paper, Tape, blank_paper, house, reader_of};
+use nesl_house::house::House;
 use nesl_line::batch::batch;
 use nesl_line::device::{Device, Failed, Sink, Source};
 use nesl_line::exchange::{End, Ran};
 use std::io;
 use std::io::Read;
 use std::test::Fail;
+
+// How many lines ann's session stored.
+fn lines_of_ann(house: &House) -> Option<usize> {
+    house.session(b"ann").map(|ann| ann.lines().len())
+}
 
 #[test]
 fn a_read_that_fails_ends_the_batch(rt: HostRuntime) -> Result<(), Fail> {
@@ -18,21 +24,14 @@ fn a_read_that_fails_ends_the_batch(rt: HostRuntime) -> Result<(), Fail> {
     });
     let mut writer = blank_paper(alloc);
     let ran = batch(alloc, &mut reader, &mut writer, &mut house);
-    assert_eq!(rt;
-        ran,
-        Ran {
-            lines: 2,
-            end: End::ReadFault
-        }
-    );
-    assert_eq!(rt; Source::failures(&reader), 1);
+    let wanted = Ran {
+        lines: 2,
+        end: End::ReadFault,
+    };
     let bytes = writer.into_inner().bytes;
-    assert_eq!(rt;
-        bytes.as_slice(),
-        b"user ann\nit = 9 : int (work 1, depth 1)\n".as_slice()
-    );
-    let ann = house.session(b"ann").ok_or("ann")?;
-    assert_eq!(rt; ann.lines().len(), 1);
+    let told = bytes.as_slice() == b"user ann\nit = 9 : int (work 1, depth 1)\n".as_slice();
+    assert!(rt; ran == wanted && Source::failures(&reader) == 1);
+    assert!(rt; told && lines_of_ann(&house) == Some(1));
     Ok(())
 }
 
@@ -53,19 +52,20 @@ fn a_write_that_fails_ends_the_batch(rt: HostRuntime) -> Result<(), Fail> {
             });
             let ran = batch(alloc, &mut reader, &mut writer, &mut house);
             let lines = if room < 9 { 1 } else { 2 };
-            assert_eq!(rt;
-                ran,
-                Ran {
-                    lines,
-                    end: End::WriteFault
-                }
-            );
-            assert_eq!(rt; Sink::failures(&writer), if stalls { 0 } else { 1 });
+            let wanted = Ran {
+                lines,
+                end: End::WriteFault,
+            };
+            let failures = Sink::failures(&writer);
             let text = b"user ann\nit = 9 : int (work 1, depth 1)\n";
-            assert_eq!(rt; writer.into_inner().bytes.as_slice(), &text[..room]);
+            let told = writer.into_inner().bytes.as_slice() == &text[..room];
+            assert!(rt;
+                ran == wanted && told && failures == if stalls { 0 } else { 1 },
+                "{room}"
+            );
             // The line whose answer could not be written stays stored.
-            let ann = house.session(b"ann").ok_or("ann")?;
-            assert_eq!(rt; ann.lines().len(), if room < 9 { 0 } else { 1 });
+            let stored = if room < 9 { 0 } else { 1 };
+            assert!(rt; lines_of_ann(&house) == Some(stored), "{room}");
         }
     }
     Ok(())
@@ -91,14 +91,12 @@ fn each_answer_is_flushed(rt: HostRuntime) -> Result<(), Fail> {
         } else {
             End::Input
         };
-        assert_eq!(rt;
-            ran,
-            Ran {
-                lines: u64::from(good_flushes.min(2)) + 1,
-                end
-            }
+        let lines = u64::from(good_flushes.min(2)) + 1;
+        let flushes = writer.into_inner().flushes;
+        assert!(rt;
+            ran == Ran { lines, end } && flushes == good_flushes,
+            "{good_flushes}"
         );
-        assert_eq!(rt; writer.into_inner().flushes, good_flushes);
     }
     Ok(())
 }
@@ -133,21 +131,20 @@ fn a_device_tells_each_read_that_failed(rt: HostRuntime) -> Result<(), Fail> {
         fails: true,
     });
     let mut writer = blank_paper(alloc);
-    assert_eq!(rt; Source::failures(&reader), 0);
+    let before = Source::failures(&reader);
     let ran = batch(alloc, &mut reader, &mut writer, &mut house);
-    assert_eq!(rt;
-        ran,
-        Ran {
-            lines: 0,
-            end: End::ReadFault
-        }
-    );
-    assert_eq!(rt; Source::failures(&reader), 1);
+    let after = Source::failures(&reader);
+    let wanted = Ran {
+        lines: 0,
+        end: End::ReadFault,
+    };
+    assert!(rt; ran == wanted && before == 0 && after == 1);
     let mut chunk = [0u8; 9];
-    assert_eq!(rt; reader.read(&mut chunk), Ok(9));
-    assert_eq!(rt; &chunk[..], b"user ann\n".as_slice());
-    assert_eq!(rt; Source::failures(&reader), 1);
-    assert_eq!(rt; writer.into_inner().bytes.len(), 0);
+    let read = reader.read(&mut chunk);
+    let later = Source::failures(&reader);
+    let written = writer.into_inner().bytes.len();
+    assert!(rt; read == Ok(9) && &chunk[..] == b"user ann\n".as_slice());
+    assert!(rt; later == 1 && written == 0);
     Ok(())
 }
 
@@ -161,16 +158,19 @@ fn a_device_hands_on_what_it_is_told(rt: HostRuntime) -> Result<(), Fail> {
         flushes: 0,
         good_flushes: 1,
     });
-    assert_eq!(rt; writer.write(b"abc"), Ok(2));
-    assert_eq!(rt; writer.flush(), Ok(()));
-    assert_eq!(rt; Sink::failures(&writer), 0);
-    assert_eq!(rt; writer.flush(), Err(Failed));
-    assert_eq!(rt; writer.write(b"cde"), Ok(2));
-    assert_eq!(rt; writer.write(b"ef"), Ok(1));
-    assert_eq!(rt; writer.write(b"f"), Err(Failed));
-    assert_eq!(rt; Sink::failures(&writer), 2);
+    let first = writer.write(b"abc");
+    let flushed = writer.flush();
+    let before = Sink::failures(&writer);
+    assert!(rt; first == Ok(2) && flushed == Ok(()) && before == 0);
+    let flushed = writer.flush();
+    let more = [
+        writer.write(b"cde"),
+        writer.write(b"ef"),
+        writer.write(b"f"),
+    ];
+    let failures = Sink::failures(&writer);
+    assert!(rt; flushed == Err(Failed) && more == [Ok(2), Ok(1), Err(Failed)] && failures == 2);
     let paper = writer.into_inner();
-    assert_eq!(rt; paper.flushes, 1);
-    assert_eq!(rt; paper.bytes.as_slice(), b"abcde".as_slice());
+    assert!(rt; paper.flushes == 1 && paper.bytes.as_slice() == b"abcde".as_slice());
     Ok(())
 }

@@ -1,14 +1,18 @@
--- The sums of few short numbers, and sums that are written one after the other.
-use Rattle.std.proofs.Common.{◌≡◌, ℕ, zero, suc, ◌+◌, ◌*◌, ◌^◌, ◌<◌, ℤ, pos, negsuc, neg_ℤ, ◌+ℤ◌, ◌≤ℤ◌, ◌<ℤ◌, Bool, true, false, cond, List, [], ◌∷◌, ◌++◌, length, map, take, refl, ap, sym, ◌∙◌, arith, Some, None, option_map, option_and_then, subst}
-use Rattle.std.specs.List.{list_all, range_with_len}
+-- The sums of few short numbers, and scans that are written one after the other.
+use Rattle.std.proofs.Common.{◌≡◌, ℕ, zero, suc, ◌+◌, ◌*◌, ◌^◌, ◌<◌, ℤ, pos, negsuc, neg_ℤ, ◌+ℤ◌, ◌≤ℤ◌, ◌<ℤ◌, Bool, true, false, ◌||◌, ◌&&◌, cond, List, [], ◌∷◌, ◌++◌, length, map, take, refl, ap, sym, ◌∙◌, arith, Some, None, option_map, option_and_then, subst}
+use Rattle.std.specs.List.{list_any, list_all, range_with_len}
 use Rattle.std.proofs.lemmas.Int.{ints}
+use Rattle.std.proofs.lemmas.List.Folds.{list_any-append, list_all-append}
 use Rattle.std.proofs.lemmas.Bool.Decides.{Decides-ltb}
 use Rattle.nesl_scalars.specs.declared.trap.Trap.TheVariants.{Overflow}
-use Rattle.nesl_values.specs.Tree.{int, sequence}
-use Rattle.nesl_values.specs.Parts.{as_int}
+use Rattle.nesl_values.specs.Tree.{Tree, int, boolean, sequence}
+use Rattle.nesl_values.specs.Parts.{as_int, as_bool, as_sequence}
 use Rattle.nesl_seq_base.specs.Outcome.{fits, gives, traps, given, IsGiven}
-use Rattle.nesl_seq_base.specs.Reductions.{all_of, total}
-use Rattle.nesl_seq_base.specs.Scans.{before_each, plus_scanned}
+use Rattle.nesl_seq_base.specs.Reductions.{all_of, total, summed}
+use Rattle.nesl_seq_base.specs.Arguments.{numbers}
+use Rattle.nesl_seq_base.specs.Scans.{before_each, plus_scanned, joined_truths, join_truths}
+use Rattle.nesl_seq_base.specs.declared.joint.Joint.{Joint}
+use Rattle.nesl_seq_base.specs.declared.joint.Joint.TheVariants.{Or, And}
 use Rattle.nesl_seq_base.proofs.Equality.{left_true, right_true, both_true}
 use Rattle.nesl_seq_reads.specs.Leaves.{is_short, fitting_sums}
 
@@ -84,3 +88,34 @@ pub fits_before : (zs : List ℤ) (k : ℕ) → k < length zs → list_all fits 
 fits_before zs k h all =
     let same : k ≡ 0 + k = omega arith in
     ap (λ j. fits (total (take j zs))) same ∙ fits_at (λ j. total (take j zs)) 0 (length zs) k h all
+
+pub all_bools : (bs : List Bool) → all_of as_bool (map boolean bs) ≡ Some bs
+all_bools [] = refl
+all_bools (b ∷ bs) = ap (option_map (λ cs. b ∷ cs)) (all_bools bs)
+
+pub joined_more : (j : Joint) (bs : List Bool) (b : Bool) → joined_truths j (bs ++ b ∷ []) ≡ join_truths j (joined_truths j bs) b
+joined_more Or bs b = list_any-append (λ c. c) bs (b ∷ []) ∙ ap (λ c. list_any (λ c. c) bs || c) (ends b)
+  where
+    ends : (c : Bool) → (c || false) ≡ c
+    ends true = refl
+    ends false = refl
+joined_more And bs b = list_all-append (λ c. c) bs (b ∷ []) ∙ ap (λ c. list_all (λ c. c) bs && c) (ends b)
+  where
+    ends : (c : Bool) → (c && true) ≡ c
+    ends true = refl
+    ends false = refl
+
+-- where `sum` has a result, it fits
+numbers_are : (t : Tree) (zs : List ℤ) → Some (map int zs) ≡ as_sequence t → numbers t ≡ Some zs
+numbers_are t zs e = ap (option_and_then (all_of as_int)) (sym e) ∙ all_ints zs
+
+pub sum_fits : (t : Tree) (zs : List ℤ) → Some (map int zs) ≡ as_sequence t → IsGiven (given (numbers t) summed) → fits (total zs) ≡ true
+sum_fits t zs e h = by (fits (total zs)) (subst (λ o. IsGiven (given o summed)) (numbers_are t zs e) h)
+  where
+    by : (b : Bool) → IsGiven (cond b (gives (int (total zs))) (traps Overflow)) → b ≡ true
+    by true k = refl
+    by false k = absurd k
+
+pub sum_given : (t : Tree) (zs : List ℤ) (z : ℤ) → Some (map int zs) ≡ as_sequence t → IsGiven (given (numbers t) summed) → z ≡ total zs → given (numbers t) summed ≡ gives (int z)
+sum_given t zs z e h same =
+    ap (λ o. given o summed) (numbers_are t zs e) ∙ ap (λ b. cond b (gives (int (total zs))) (traps Overflow)) (sum_fits t zs e h) ∙ ap (λ y. gives (int y)) (sym same)

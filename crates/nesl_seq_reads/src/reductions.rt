@@ -1,10 +1,10 @@
 // Reductions: one leaf from all elements.
-ghost use Rattle.std.specs.Prelude.{◌≡◌, ◌+◌, ◌≤◌, ◌<◌, ◌^◌, length, map, count_by, option_map, IfSome, IsOk};
+ghost use Rattle.std.specs.Prelude.{◌≡◌, ◌+◌, ◌≤◌, ◌<◌, ◌^◌, length, map, count_by, option_map, IfSome, IsOk, IsTrue};
 ghost use Rattle.std.specs.List.{list_any, list_all};
 ghost use Rattle.nesl_values.specs.Parts.{as_int, as_bool};
 ghost use Rattle.nesl_values.specs.View.{tree_of};
 ghost use Rattle.nesl_seq_base.specs.Lent.{argument_tree};
-ghost use Rattle.nesl_seq_base.specs.Outcome.{Outcome, gives, number};
+ghost use Rattle.nesl_seq_base.specs.Outcome.{Outcome, IsGiven, fits, gives, number};
 ghost use Rattle.nesl_seq_base.specs.Reductions.{all_of, total};
 ghost use Rattle.nesl_seq_base.specs.Meaning.{meaning};
 ghost use Rattle.nesl_seq_base.specs.Prices.{Prices, length_of, digits};
@@ -88,6 +88,29 @@ pub fn sum<A: Allocator>(argument: Argument<'_, A>) -> Result<Scalar, Trap>
         Some(total) => number(total),
         None => Err(WRONG_SHAPE),
     }
+}
+
+/// The value of a sum that has one.
+pub fn apply_sum<A: Allocator>(argument: Argument<'_, A>) -> Value<A>
+    requires { IsGiven (meaning Sum (argument_tree argument)) }
+    ensures { meaning Sum (argument_tree argument.entry) ≡ gives (tree_of result) }
+{
+    match sequence(argument) {
+        Some(Items::Ints(ints)) => Value::Int(known_sum(ints)),
+        _ => value_of(sum(argument)),
+    }
+}
+
+// The sum of numbers that is known to be one of 64 bits, whatever the sums on the way are.
+fn known_sum(ints: &[i64]) -> i64
+    requires { IsTrue (fits (total ints.now)) }
+    ensures { result ≡ total ints.now }
+{
+    let mut total: i64 = 0;
+    for number in ints {
+        total = total.wrapping_add(*number);
+    }
+    total
 }
 
 // A whole number, where it is one of 64 bits.

@@ -322,10 +322,27 @@ fn truths_before_items<A: Allocator>(
 {
     match items {
         Items::Ints(ints) => truths_before(alloc, ints, joint),
-        Items::Bools(bools) => truths_before(alloc, bools, joint),
+        Items::Bools(bools) => Ok(Some(truths_of_bools(alloc, bools, joint)?)),
         Items::Chars(chars) => truths_before(alloc, chars, joint),
         Items::Values(values) => truths_before(alloc, values, joint),
     }
+}
+
+// The packed truth values before each, joined.
+fn truths_of_bools<A: Allocator>(
+    alloc: A,
+    bools: &[bool],
+    joint: Joint,
+) -> Result<Vec<bool, A>, AllocError>
+    ensures { IfOk result (λ v. v.items ≡ before_each (joined_truths joint) bools.now) }
+{
+    let mut joined = Vec::from_slice(alloc, bools)?;
+    let mut so_far = joint.of_no_truths();
+    for place in 0..bools.len() {
+        joined[place] = so_far;
+        so_far = joint.of_truths(so_far, bools[place]);
+    }
+    Ok(joined)
 }
 
 // The truth values before each, joined.

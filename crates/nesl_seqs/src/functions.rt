@@ -145,7 +145,7 @@ pub fn apply<A: Allocator + Copy>(
         SeqFn::Range => ranges::apply_range(alloc, argument),
         SeqFn::RangeBy => ranges::apply_range_by(alloc, argument),
         SeqFn::Index => ranges::apply_index(alloc, argument),
-        SeqFn::Sum => Ok(value_of(reductions::sum(argument))),
+        SeqFn::Sum => Ok(reductions::apply_sum(argument)),
         SeqFn::Any => Ok(value_of(reductions::any(argument))),
         SeqFn::All => Ok(value_of(reductions::all(argument))),
         SeqFn::Count => Ok(value_of(reductions::count(argument))),

@@ -1,5 +1,5 @@
 // Lines of two users that are evaluated at once, each in halves.
-use crate::client::{ann_and_bob, answer, ask, connect, end, say};
+use crate::client::{ann_and_bob, answer, connect, end, hears, say};
 use nesl_helpers::{Gate, Place};
 use nesl_house::table::{Closed, Table};
 use nesl_service::journal::NoJournal;
@@ -88,11 +88,11 @@ fn two_lines<R: Net<Stream = TcpStream> + Abort>(
     address: SocketAddr,
 ) -> io::Result<()> {
     let ann = connect(rt, address)?;
-    assert_eq!(rt; ask(alloc, &ann, "user ann")?.as_str(), "user ann");
+    hears(rt, alloc, &ann, "user ann", "user ann")?;
     let bob = connect(rt, address)?;
-    assert_eq!(rt; ask(alloc, &bob, "user bob")?.as_str(), "user bob");
+    hears(rt, alloc, &bob, "user bob", "user bob")?;
     say(&ann, SQUARES)?;
-    assert_eq!(rt; ask(alloc, &bob, SQUARES)?.as_str(), SQUARED);
+    hears(rt, alloc, &bob, SQUARES, SQUARED)?;
     assert_eq!(rt; answer(alloc, &ann)?.as_str(), SQUARED);
     end(alloc, &ann)?;
     end(alloc, &bob)
@@ -138,8 +138,8 @@ fn lines_of_two_users_at_once(rt: HostRuntime) -> Result<(), Fail> {
     let clients = || two_lines(&rt, alloc, address);
     let (said, closed) = serve_beside(&rt, alloc, &listener, table, &gate, clients);
     said?;
-    assert_eq!(rt; closed?.lines, 2);
-    assert_eq!(rt; entered.late.load(Ordering::SeqCst), 0);
-    assert_eq!(rt; entered.halves.load(Ordering::SeqCst), 2);
+    let late = entered.late.load(Ordering::SeqCst);
+    let halves = entered.halves.load(Ordering::SeqCst);
+    assert!(rt; closed?.lines == 2 && late == 0 && halves == 2);
     Ok(())
 }

@@ -5,6 +5,7 @@ use std::alloc::Global;
 use std::io;
 use std::io::{Read, Write};
 use std::net::{Net, Shutdown, SocketAddr, TcpStream};
+use std::process::Abort;
 use std::test::Fail;
 use std::time::Duration;
 
@@ -54,9 +55,21 @@ pub fn answer(alloc: Global, stream: &TcpStream) -> io::Result<String> {
     Ok(answer)
 }
 
-pub fn ask(alloc: Global, stream: &TcpStream, line: &str) -> io::Result<String> {
+fn ask(alloc: Global, stream: &TcpStream, line: &str) -> io::Result<String> {
     say(stream, line)?;
     answer(alloc, stream)
+}
+
+// Asks, and holds the answer to the one that is wanted.
+pub fn hears<R: Abort>(
+    rt: &R,
+    alloc: Global,
+    stream: &TcpStream,
+    line: &str,
+    wanted: &str,
+) -> io::Result<()> {
+    assert_eq!(rt; ask(alloc, stream, line)?.as_str(), wanted);
+    Ok(())
 }
 
 // Says no more, and reads to the end.

@@ -1,5 +1,5 @@
 // Two users whose sessions outlast their connections.
-use crate::client::{ann_and_bob, answer, ask, connect, end};
+use crate::client::{ann_and_bob, answer, connect, end, hears};
 use nesl_helpers::Free;
 use nesl_service::journal::NoJournal;
 use nesl_service::service::{ServeFault, Terms, serve_on, serve_through};
@@ -16,29 +16,17 @@ fn two_users<R: Net<Stream = TcpStream> + Abort>(
     address: SocketAddr,
 ) -> io::Result<()> {
     let ann = connect(rt, address)?;
-    assert_eq!(rt; ask(alloc, &ann, "user ann")?.as_str(), "user ann");
-    assert_eq!(rt;
-        ask(alloc, &ann, "x = 3;")?.as_str(),
-        "x = 3 : int (work 1, depth 1)"
-    );
+    hears(rt, alloc, &ann, "user ann", "user ann")?;
+    hears(rt, alloc, &ann, "x = 3;", "x = 3 : int (work 1, depth 1)")?;
     let bob = connect(rt, address)?;
-    assert_eq!(rt; ask(alloc, &bob, "user bob")?.as_str(), "user bob");
-    assert_eq!(rt;
-        ask(alloc, &bob, "x = 5;")?.as_str(),
-        "x = 5 : int (work 1, depth 1)"
-    );
+    hears(rt, alloc, &bob, "user bob", "user bob")?;
+    hears(rt, alloc, &bob, "x = 5;", "x = 5 : int (work 1, depth 1)")?;
     end(alloc, &bob)?;
-    assert_eq!(rt;
-        ask(alloc, &ann, "x;")?.as_str(),
-        "it = 3 : int (work 1, depth 1)"
-    );
+    hears(rt, alloc, &ann, "x;", "it = 3 : int (work 1, depth 1)")?;
     end(alloc, &ann)?;
     let again = connect(rt, address)?;
-    assert_eq!(rt; ask(alloc, &again, "user bob")?.as_str(), "user bob");
-    assert_eq!(rt;
-        ask(alloc, &again, "x;")?.as_str(),
-        "it = 5 : int (work 1, depth 1)"
-    );
+    hears(rt, alloc, &again, "user bob", "user bob")?;
+    hears(rt, alloc, &again, "x;", "it = 5 : int (work 1, depth 1)")?;
     end(alloc, &again)
 }
 
@@ -64,17 +52,14 @@ fn turned_away<R: Net<Stream = TcpStream> + Abort>(
     address: SocketAddr,
 ) -> io::Result<()> {
     let ann = connect(rt, address)?;
-    assert_eq!(rt; ask(alloc, &ann, "user ann")?.as_str(), "user ann");
+    hears(rt, alloc, &ann, "user ann", "user ann")?;
     let second = connect(rt, address)?;
-    assert_eq!(rt; ask(alloc, &second, "user ann")?.as_str(), "fault busy");
+    hears(rt, alloc, &second, "user ann", "fault busy")?;
     end(alloc, &second)?;
     let stranger = connect(rt, address)?;
-    assert_eq!(rt; ask(alloc, &stranger, "user zed")?.as_str(), "fault user");
+    hears(rt, alloc, &stranger, "user zed", "fault user")?;
     end(alloc, &stranger)?;
-    assert_eq!(rt;
-        ask(alloc, &ann, "user bob")?.as_str(),
-        "fault syntax (work 0)"
-    );
+    hears(rt, alloc, &ann, "user bob", "fault syntax (work 0)")?;
     end(alloc, &ann)
 }
 
@@ -99,8 +84,7 @@ fn no_connection_is_served_where_none_is_wanted(rt: HostRuntime) -> Result<(), F
     let alloc = rt.alloc();
     let listener = TcpListener::bind(&rt, "127.0.0.1:0")?;
     let closed = serve_on(&rt, alloc, &listener, ann_and_bob(alloc)?, 2, 1, Some(0))?;
-    assert_eq!(rt; closed.lines, 0);
-    assert_eq!(rt; closed.house.users().len(), 2);
+    assert!(rt; closed.lines == 0 && closed.house.users().len() == 2);
     let closed = serve_on(&rt, alloc, &listener, ann_and_bob(alloc)?, 0, 1, None)?;
     assert_eq!(rt; closed.lines, 0);
     let told = format!(in alloc;
@@ -123,18 +107,12 @@ fn silent<R: Net<Stream = TcpStream> + Abort>(
     address: SocketAddr,
 ) -> io::Result<()> {
     let ann = connect(rt, address)?;
-    assert_eq!(rt; ask(alloc, &ann, "user ann")?.as_str(), "user ann");
-    assert_eq!(rt;
-        ask(alloc, &ann, "x = 3;")?.as_str(),
-        "x = 3 : int (work 1, depth 1)"
-    );
+    hears(rt, alloc, &ann, "user ann", "user ann")?;
+    hears(rt, alloc, &ann, "x = 3;", "x = 3 : int (work 1, depth 1)")?;
     assert_eq!(rt; answer(alloc, &ann)?.as_str(), "");
     let again = connect(rt, address)?;
-    assert_eq!(rt; ask(alloc, &again, "user ann")?.as_str(), "user ann");
-    assert_eq!(rt;
-        ask(alloc, &again, "x;")?.as_str(),
-        "it = 3 : int (work 1, depth 1)"
-    );
+    hears(rt, alloc, &again, "user ann", "user ann")?;
+    hears(rt, alloc, &again, "x;", "it = 3 : int (work 1, depth 1)")?;
     end(alloc, &again)
 }
 

@@ -1,10 +1,10 @@
 use Rattle.nesl_seqs.proofs.functions.apply.Goals as goal
 
 pub returns-in-Sum : goal.returns-in-Sum
-returns-in-Sum g c = rw c.in-Sum.is (c.value_of.ensures _ c.sum.ensures)
+returns-in-Sum g c = rw c.in-Sum.is c.apply_sum.ensures
 
 pub returns-in-Any : goal.returns-in-Any
-returns-in-Any g c = rw c.in-Any.is (c.value_of-in-Any.ensures _ c.any.ensures)
+returns-in-Any g c = rw c.in-Any.is (c.value_of.ensures _ c.any.ensures)
 
 pub returns-in-All : goal.returns-in-All
 returns-in-All g c = rw c.in-All.is (c.value_of-in-All.ensures _ c.all.ensures)
