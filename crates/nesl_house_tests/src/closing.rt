@@ -1,7 +1,6 @@
 // Leases, receipts, and what a table answers that is to be closed.
-use crate::sample::{LIMITS, opened, said};
+use crate::sample::{LIMITS, lines_of, opened, said};
 use nesl_helpers::{Free, NoHelpers};
-use nesl_house::house::House;
 use nesl_house::lease::Receipt;
 use nesl_house::roster::NewFault;
 use nesl_house::table::{CloseFault, Table, TakeFault};
@@ -14,11 +13,6 @@ fn receipt_of(place: usize, recorded: u64) -> Receipt {
 
 fn is_as_opened(table: &Table) -> bool {
     table.roster().len() == 2 && table.limits() == LIMITS
-}
-
-// How many lines the user's session stored.
-fn lines_of(house: &House, user: &[u8]) -> Option<usize> {
-    house.session(user).map(|session| session.lines().len())
 }
 
 // Why the user's session isn't given out.

@@ -1,4 +1,5 @@
 //! A house spoken to, in a few lines.
+use crate::sample::lines_of;
 use crate::turns::{ORDERS, Talk, are_heard, orders, said, script};
 use nesl_house::house::House;
 use nesl_house::manner::InHeap;
@@ -35,11 +36,6 @@ fn house(alloc: Global, names: &str) -> Result<House, Fail> {
 // Whether this is what is answered.
 fn is_told(alloc: Global, house: &mut House, user: &[u8], text: &[u8], wanted: &str) -> bool {
     house.say(alloc, user, text).bytes() == wanted.as_bytes()
-}
-
-// How many lines the user's session stored.
-fn lines_of(house: &House, user: &[u8]) -> Option<usize> {
-    house.session(user).map(|session| session.lines().len())
 }
 
 // Whether this is the name of the second user, whose session stored so many lines.

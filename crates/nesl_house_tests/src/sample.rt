@@ -1,6 +1,7 @@
 // Two users, and what they say.
 use crate::granting::Granting;
 use nesl_helpers::Free;
+use nesl_house::house::House;
 use nesl_house::lease::Receipt;
 use nesl_house::table::Table;
 use nesl_session::limits::Limits;
@@ -27,6 +28,11 @@ pub fn ann_and_bob(alloc: Global) -> Result<Vec<Vec<u8>>, AllocError> {
 pub fn opened(alloc: Global) -> Result<Table, Fail> {
     let roster = ann_and_bob(alloc)?;
     Ok(Table::new(alloc, roster.as_slice(), LIMITS)?)
+}
+
+// How many lines the user's session stored.
+pub fn lines_of(house: &House, user: &[u8]) -> Option<usize> {
+    house.session(user).map(|session| session.lines().len())
 }
 
 // Says lines under one lease; nothing where the session is away.

@@ -38,6 +38,3 @@ seen_let fs rest vs up i x e z h = rw (e, z) (h ∙ sym (in_frame vs rest i))
 
 pub seen_row : (fs rest : Frames) (vs : List Value) (k up i : ℕ) (x : Option Value) → fs ≡ row k vs ∷ rest → up ≡ 0 → x ≡ option_and_then (λ v. slice_get (elements v) k) (slice_get vs i) → x ≡ place_in fs up i
 seen_row fs rest vs k up i x e z h = rw (e, z) (h ∙ sym (in_row vs rest k i))
-
-pub seen_outside : (fs rest : Frames) (vs : List (Option Value)) (up i : ℕ) (x : Option Value) → fs ≡ vs ∷ rest → (up ≡ 0 → ⊥) → x ≡ place_in rest (up - 1) i → x ≡ place_in fs up i
-seen_outside fs rest vs up i x e z h = rw e (h ∙ sym (in_tail vs rest up i (omega arith)))

@@ -24,10 +24,6 @@ short_range (negsuc n) h =
     let below : n < 2 ^ 31 = (Decides-ltb n (2 ^ 31)).0 h in
     (omega (arith, ints), omega (arith, ints))
 
-pub short_from_range : (z : ℤ) → neg_ℤ (pos (2 ^ 31)) ≤ℤ z → z <ℤ pos (2 ^ 31) → is_short z ≡ true
-short_from_range (pos n) low high = (Decides-ltb n (2 ^ 31)).1 (omega (arith, ints, high))
-short_from_range (negsuc n) low high = (Decides-ltb n (2 ^ 31)).1 (omega (arith, ints, low))
-
 fits_from_range : (z : ℤ) → neg_ℤ (pos (2 ^ 63)) ≤ℤ z → z <ℤ pos (2 ^ 63) → fits z ≡ true
 fits_from_range (pos n) low high = (Decides-ltb n (2 ^ 63)).1 (omega (arith, ints, high))
 fits_from_range (negsuc n) low high = (Decides-ltb n (2 ^ 63)).1 (omega (arith, ints, low))
