@@ -21,8 +21,8 @@ use nesl_lex::token::Span;
 use nesl_nodes::held::{Held, Tops};
 use nesl_nodes::meter::{Meter, Stop};
 use nesl_nodes::nodes::{
-    add, empty, finished, keep, keep_if, length_of_all, named_top, of_two_made, paid, paired,
-    sequence_of, tagged, text, told_at, top, truth,
+    add, empty, finished, keep, keep_if, length_of_all, named_top, of_pair_made, of_two_made, paid,
+    paired, sequence_of, tagged, text, told_at, top, truth,
 };
 use nesl_nodes::parts::{
     Part, applied_to_one, applied_to_three, applied_to_two, entered_name, within_limit,
@@ -239,6 +239,32 @@ fn of_scalars<A: Allocator + Copy, T: Tops<A>>(
     of_two_made(function, one, other, *span)
 }
 
+// A function of two scalars that are written as a pair, which was entered.
+#[cycle(eval)]
+#[inline(never)]
+fn of_scalar_pair<A: Allocator + Copy, T: Tops<A>>(
+    tops: &T,
+    scope: &Scope<'_, A>,
+    function: Binary,
+    left: &Code,
+    right: &Code,
+    within: &Span,
+    span: &Span,
+    levels: u32,
+    meter: &mut Meter,
+    alloc: A,
+) -> Result<Value<A>, Stop>
+    requires { meter.old.fuel + meter.old.depth < 2 ^ 64 }
+    ensures meets { let f = run levels (T.table tops.now) in Meets Is meter.old result meter.new
+        (run_two f (frames_of scope.now) left.now right.now
+        (λ x y. then_out (made within.now (pair x y)) (applied span.now (Builtin.OfTwo function)))) }
+    ensures spent { meter.new.fuel + meter.new.depth ≤ meter.old.fuel + meter.old.depth }
+{
+    let one = value_in(tops, scope, left, levels, meter, alloc)?;
+    let other = value_in(tops, scope, right, levels, meter, alloc)?;
+    of_pair_made(function, one, other, *within, *span)
+}
+
 // A pair of two parts.
 #[cycle(eval)]
 #[inline(never)]
@@ -314,18 +340,15 @@ fn apply<A: Allocator + Copy, T: Tops<A>>(
             right,
         } => {
             meter.enter(levels, argument)?;
-            apply_pair(
-                tops,
-                scope,
-                function,
-                left,
-                right,
-                within,
-                span,
-                levels - 1,
-                meter,
-                alloc,
-            )
+            let below = levels - 1;
+            match function {
+                Builtin::OfTwo(function) => of_scalar_pair(
+                    tops, scope, function, left, right, within, span, below, meter, alloc,
+                ),
+                _ => apply_pair(
+                    tops, scope, function, left, right, within, span, below, meter, alloc,
+                ),
+            }
         }
         _ => apply_one(tops, scope, function, argument, span, levels, meter, alloc),
     }
@@ -633,8 +656,8 @@ fn eval_all<A: Allocator + Copy, T: Tops<A>>(
     ensures spent { meter.new.fuel + meter.new.depth ≤ meter.old.fuel + meter.old.depth }
 {
     let mut values = Vec::new(alloc);
-    for code in codes {
-        let value = eval_in(tops, scope, code, levels, meter, alloc)?;
+    for next in codes {
+        let value = eval_in(tops, scope, next, levels, meter, alloc)?;
         keep(&mut values, value)?;
     }
     Ok(values)

@@ -1,6 +1,6 @@
 //! What each node does with what its parts come to. No recursion here.
 ghost use Rattle.std.specs.Prelude.{◌≡◌, List, ◌==◌, ◌+◌, ◌<◌, ◌≤◌, ◌^◌, ◌∷◌, ◌++◌, [], ℕ, Some, IfOk};
-ghost use Rattle.std.specs.Prelude.{MatchResult, cond, map, length};
+ghost use Rattle.std.specs.Prelude.{MatchResult, cond, map, length, ◌↔◌, IsTrue};
 ghost use Rattle.std.specs.List.{range_with_len, list_all};
 ghost use Rattle.nesl_values.specs.Tree.{Tree, sequence, tagged, pair, character};
 ghost use Rattle.nesl_values.specs.Parts.{as_bool};
@@ -9,7 +9,7 @@ ghost use Rattle.nesl_scalars.specs.Scalars.{unary, binary};
 ghost use Rattle.nesl_seq_base.specs.Lent.{argument_tree};
 ghost use Rattle.nesl_seq_base.specs.Meaning.{meaning};
 ghost use Rattle.nesl_code.specs.Names.{named};
-ghost use Rattle.nesl_code.specs.Out.{Out, value, at_call, given};
+ghost use Rattle.nesl_code.specs.Out.{Out, value, at_call, given, then_out};
 ghost use Rattle.nesl_code.specs.Outcome.{made, applied, on_scalars, on_sequence, counted, lengths, places};
 ghost use Rattle.nesl_code.specs.Run.{run_top, slot_at, code_span};
 ghost use Rattle.nesl_nodes.specs.declared.meter.Meter.{Meter};
@@ -54,6 +54,31 @@ pub fn paired<A: Allocator>(
     match Value::pair(alloc, left, right) {
         Ok(value) => within_limit(value, span),
         Err(_) => Err(Stop::Memory),
+    }
+}
+
+// Whether a pair of values with so many nodes is within the limit.
+#[inline]
+pub(crate) fn fit(first: u64, second: u64) -> bool
+    ensures { IsTrue result ↔ (first + second + 1 ≤ 1048576) }
+{
+    first < LARGE && second < LARGE - first
+}
+
+// Two values stand for a pair, which is not built, only where it has at most 1,048,576 nodes.
+#[inline(always)]
+fn pair_within_limit<A: Allocator>(
+    left: &Value<A>,
+    right: &Value<A>,
+    span: Span,
+) -> Result<(), Stop>
+    ensures { let z = pair (tree_of left.now) (tree_of right.now) in
+        (m : Meter) → Meets (λ _ x. x ≡ z) m result m (made span z) }
+{
+    if fit(left.nodes(), right.nodes()) {
+        Ok(())
+    } else {
+        Err(Stop::Fault(Trap::Large, span))
     }
 }
 
@@ -170,6 +195,22 @@ pub fn of_two_made<A: Allocator>(
     let_go(left);
     let_go(right);
     found
+}
+
+/// A function of two scalars that are written as a pair, which is not built.
+#[inline(always)]
+pub fn of_pair_made<A: Allocator>(
+    function: Binary,
+    left: Value<A>,
+    right: Value<A>,
+    within: Span,
+    span: Span,
+) -> Result<Value<A>, Stop>
+    ensures { (m : Meter) → Meets Is m result m
+        (then_out (made within (pair (tree_of left) (tree_of right))) (applied span (Builtin.OfTwo function))) }
+{
+    pair_within_limit(&left, &right, within)?;
+    of_two_made(function, left, right, span)
 }
 
 // Drops a value. A leaf holds nothing.

@@ -1,5 +1,5 @@
 //! Arguments: parts that were made, and names that are looked up when they are needed.
-ghost use Rattle.std.specs.Prelude.{◌≡◌, Option, Some, ◌+◌, ◌<◌, ◌≤◌, ◌^◌, MatchResult, ◌↔◌, IsTrue};
+ghost use Rattle.std.specs.Prelude.{◌≡◌, Option, Some, ◌+◌, ◌<◌, ◌≤◌, ◌^◌, MatchResult};
 ghost use Rattle.nesl_values.specs.Tree.{Tree, pair, size};
 ghost use Rattle.nesl_values.specs.View.{tree_of, element_tree};
 ghost use Rattle.nesl_code.specs.Out.{value, given};
@@ -12,7 +12,7 @@ ghost use Rattle.nesl_nodes.specs.Meets.{Meets, Is};
 
 use crate::held::{Held, Tops};
 use crate::meter::{Meter, Stop};
-use crate::nodes::{LARGE, applied};
+use crate::nodes::{applied, fit};
 use crate::scope::{Scope, lent_local};
 use nesl_builtins::Builtin;
 use nesl_code::Code;
@@ -182,13 +182,6 @@ pub fn within_limit<'x, A: Allocator, T: Tops<A>>(
     } else {
         Err(Stop::Fault(Trap::Large, span))
     }
-}
-
-// Whether a pair of values with so many nodes is within the limit.
-fn fit(first: u64, second: u64) -> bool
-    ensures { IsTrue result ↔ (first + second + 1 ≤ 1048576) }
-{
-    first < LARGE && second < LARGE - first
 }
 
 /// A built-in function of one part.

@@ -16,7 +16,7 @@ use Rattle.nesl_seq_reorders.proofs.Marking.{are_equal, are_apart, test_apart, o
 use Rattle.nesl_seq_reorders.proofs.Picking.{places_more, rest_places, place_of_within}
 
 -- one more that was seen
-seen_more : (k : ℕ) (seen : List ℕ) (place : ℕ) → list_any (nat_eq k) (seen ++ place ∷ []) ≡ (list_any (nat_eq k) seen || nat_eq k place)
+pub seen_more : (k : ℕ) (seen : List ℕ) (place : ℕ) → list_any (nat_eq k) (seen ++ place ∷ []) ≡ (list_any (nat_eq k) seen || nat_eq k place)
 seen_more k seen place = list_any-append (nat_eq k) seen (place ∷ []) ∙ ap (λ b. list_any (nat_eq k) seen || b) (or_false (nat_eq k place) false refl)
 
 same_test : (a b c d : ℕ) → (a ≡ b → c ≡ d) → (c ≡ d → a ≡ b) → nat_eq a b ≡ nat_eq c d
@@ -101,7 +101,7 @@ or_right true c h = absurd (cc h)
 or_right false c h = h
 
 -- what comes later differs from what comes before
-differ_split : (xs : List ℕ) (k : ℕ) (ys : List ℕ) → all_differ (xs ++ k ∷ ys) ≡ true → list_any (nat_eq k) xs ≡ false
+pub differ_split : (xs : List ℕ) (k : ℕ) (ys : List ℕ) → all_differ (xs ++ k ∷ ys) ≡ true → list_any (nat_eq k) xs ≡ false
 differ_split [] k ys h = refl
 differ_split (x ∷ xs) k ys h =
     let none : list_any (nat_eq x) (xs ++ k ∷ ys) ≡ false = not_true (list_any (nat_eq x) (xs ++ k ∷ ys)) (left_true (not (list_any (nat_eq x) (xs ++ k ∷ ys))) _ h) in
@@ -109,7 +109,7 @@ differ_split (x ∷ xs) k ys h =
     let apart : nat_eq k x ≡ false = test_apart k x (λ e. are_apart x k (or_left (nat_eq x k) (list_any (nat_eq x) ys) later) (sym e)) in
     ap (λ b. b || list_any (nat_eq k) xs) apart ∙ differ_split xs k ys (right_true (not (list_any (nat_eq x) (xs ++ k ∷ ys))) _ h)
 
-differ_more : (xs : List ℕ) (k : ℕ) → all_differ xs ≡ true → list_any (nat_eq k) xs ≡ false → all_differ (xs ++ k ∷ []) ≡ true
+pub differ_more : (xs : List ℕ) (k : ℕ) → all_differ xs ≡ true → list_any (nat_eq k) xs ≡ false → all_differ (xs ++ k ∷ []) ≡ true
 differ_more [] k h p = refl
 differ_more (x ∷ xs) k h p =
     let apart : nat_eq x k ≡ false = test_apart x k (λ e. are_apart k x (or_left (nat_eq k x) (list_any (nat_eq k) xs) p) (sym e)) in

@@ -1,7 +1,7 @@
 pub mod Differing
-pub mod FewMarks
 pub mod Marking
 pub mod Permuting
 pub mod Picking
+pub mod Tables
 pub mod Writing
 pub mod WrittenLeaves

@@ -99,7 +99,7 @@ weights_arrive w m (k ∷ ks) (t ∷ ts) h below differ =
     ∙ ap (λ n. w t + n) (weights_arrive w m ks ts (omega (arith, h)) (right_true (nat_lt k m) _ below) (right_true (not (list_any (nat_eq k) ks)) _ differ))
 
 -- the places that are named
-below_len : (n : ℕ) (ts : List Tree) → list_all (λ k. nat_lt k n) (places_of n ts) ≡ true
+pub below_len : (n : ℕ) (ts : List Tree) → list_all (λ k. nat_lt k n) (places_of n ts) ≡ true
 below_len n [] = refl
 below_len n (t ∷ ts) = one_more (place_of n t) (places_of n ts) (λ k e. place_of_within n t k e) (below_len n ts) refl
   where
@@ -110,7 +110,7 @@ below_len n (t ∷ ts) = one_more (place_of n t) (places_of n ts) (λ k e. place
 abbrev pub AllName : ℕ → List Tree → Type 0
 AllName n js = list_all (λ j. is_some (place_of n j)) js ≡ true
 
-length_named : (n : ℕ) (js : List Tree) → AllName n js → length (places_of n js) ≡ length js
+pub length_named : (n : ℕ) (js : List Tree) → AllName n js → length (places_of n js) ≡ length js
 length_named n [] h = refl
 length_named n (j ∷ js) h = one_more (place_of n j) (places_of n js) (length js) (left_true (is_some (place_of n j)) _ h) (length_named n js (right_true (is_some (place_of n j)) _ h))
   where

@@ -1,12 +1,13 @@
 // Sequences of which each element goes to a place of its own.
-ghost use Rattle.std.specs.Prelude.{◌≡◌, ◌≢◌, ◌+◌, ◌/◌, ◌<◌, ◌≤◌, ◌^◌, ℕ, [], Some, length, map, nat_eq, IfOk, IsTrue};
-ghost use Rattle.std.specs.Int.{bit_at};
+ghost use Rattle.std.specs.Prelude.{◌≡◌, ◌≢◌, ◌+◌, ◌/◌, ◌<◌, ◌≤◌, ◌^◌, ℕ, [], Some, length, map, IfOk, IsTrue};
+ghost use Rattle.std.specs.Prelude.{false, replicate};
+ghost use Rattle.std.specs.List.{list_all};
 ghost use Rattle.nesl_values.specs.Tree.{sequence};
 ghost use Rattle.nesl_values.specs.Parts.{as_int};
 ghost use Rattle.nesl_values.specs.View.{tree_of, item_trees};
 ghost use Rattle.nesl_seq_base.specs.Lent.{argument_tree};
 ghost use Rattle.nesl_seq_reorders.specs.Arriving.{Arrive};
-ghost use Rattle.nesl_seq_reorders.specs.Marks.{are_new};
+ghost use Rattle.nesl_seq_reorders.specs.Marks.{are_new, own_places};
 ghost use Rattle.nesl_seq_base.specs.Outcome.{IsGiven, given, gives};
 ghost use Rattle.nesl_seq_base.specs.Meaning.{meaning};
 ghost use Rattle.nesl_seq_base.specs.Permute.{all_differ, permuted, Inverts};
@@ -58,52 +59,92 @@ fn price_of_permuted<A: Allocator, I: Item>(
     if len != indices.len() {
         return Err(Trap::Length);
     }
+    check_places(indices)?;
+    Ok(price_of_items(items, len as u128 + len as u128, limit))
+}
+
+// Whether each index names a place of its own, and why not, without memory. Up to 65,536 places have marks in
+// a table on the stack, and few have a small one, since it is cleared first.
+fn check_places<I: Item>(indices: &[I]) -> Result<(), Trap>
+    ensures { result ≡ own_places (length indices.now) (map I.tree indices.now) }
+{
+    let len = indices.len();
+    if len <= 64 {
+        return check_by_table::<64, I>(indices);
+    }
+    if len <= 4096 {
+        return check_by_table::<4096, I>(indices);
+    }
+    if len <= 65_536 {
+        return check_by_table::<65_536, I>(indices);
+    }
+    check_by_windows(indices)
+}
+
+// Written apart for its table on the stack.
+#[inline(never)]
+fn check_by_table<const PLACES: usize, I: Item>(indices: &[I]) -> Result<(), Trap>
+    requires enough { length indices.now ≤ PLACES }
+    requires few { PLACES < 2 ^ 63 }
+    ensures { result ≡ own_places (length indices.now) (map I.tree indices.now) }
+{
+    let mut marks = [false; PLACES];
+    check_by_marks(indices, &mut marks[..indices.len()])
+}
+
+// Marks the place of each index. There are as many places as indices, so where no mark is missing in the end,
+// none was named twice.
+fn check_by_marks<I: Item>(indices: &[I], marks: &mut [bool]) -> Result<(), Trap>
+    requires { marks.now ≡ replicate (length indices.now) false }
+    ensures { result ≡ own_places (length indices.now) (map I.tree indices.now) }
+{
+    for index in indices {
+        match place_of(index, marks.len()) {
+            Some(place) => marks[place] = true,
+            None => return Err(Trap::Range),
+        }
+    }
+    if !all_marked(marks) {
+        return Err(Trap::Permutation);
+    }
+    Ok(())
+}
+
+// Looks at every mark, many of them in one step, as a loop that stops early could not.
+fn all_marked(marks: &[bool]) -> bool
+    ensures { result ≡ list_all (λ mark. mark) marks.now }
+{
+    let mut all = true;
+    for mark in marks {
+        all &= *mark;
+    }
+    all
+}
+
+// Of places that are too many for a table, one window after the other.
+fn check_by_windows<I: Item>(indices: &[I]) -> Result<(), Trap>
+    ensures { result ≡ own_places (length indices.now) (map I.tree indices.now) }
+{
+    let len = indices.len();
     if !all_name(indices, len) {
         return Err(Trap::Range);
     }
     if !all_differ(indices, len) {
         return Err(Trap::Permutation);
     }
-    Ok(price_of_items(items, len as u128 + len as u128, limit))
+    Ok(())
 }
 
-// Whether no place is named twice, without memory: one window of places after the other.
+// Whether no place is named twice.
 fn all_differ<I: Item>(indices: &[I], len: usize) -> bool
     ensures { result ≡ all_differ (places_of len (map I.tree indices.now)) }
 {
-    if len <= 64 {
-        return few_differ(indices, len);
-    }
     for window in 0..len / WINDOW + 1 {
         if !differ_in(indices, len, window) {
             return false;
         }
     }
     true
-}
-
-// Whether no place is named twice, of at most 64: the bits of a word mark them.
-fn few_differ<I: Item>(indices: &[I], len: usize) -> bool
-    requires { len ≤ 64 }
-    ensures { result ≡ all_differ (places_of len (map I.tree indices.now)) }
-{
-    let mut marks: u64 = 0;
-    for index in indices {
-        if let Some(place) = place_of(index, len) {
-            if has_bit(marks, place) {
-                return false;
-            }
-            marks |= 1 << place;
-        }
-    }
-    true
-}
-
-fn has_bit(word: u64, place: usize) -> bool
-    requires { place < 64 }
-    ensures { result ≡ nat_eq (bit_at word place) 1 }
-{
-    word >> place & 1 == 1
 }
 
 // Whether no place of the window is named twice. Written apart for its marks on the stack.

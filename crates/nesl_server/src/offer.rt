@@ -1,14 +1,14 @@
 //! A service that is offered on a port.
 ghost use Rattle.std.specs.Prelude.{◌≡◌, IfOk, OnOk, map};
 ghost use Rattle.nesl_house.specs.Roster.{IsRoster};
-ghost use Rattle.nesl_server.specs.Program.{limits};
+ghost use Rattle.nesl_program.specs.Program.{limits};
 
-use crate::failure::Failure;
 use crate::log::Log;
-use crate::{LIMITS, roster};
 use nesl_helpers::Free;
 use nesl_house::roster::NewFault;
 use nesl_house::table::{Closed, Table};
+use nesl_program::failure::Failure;
+use nesl_program::run::{LIMITS, Offer, roster};
 use nesl_service::journal::NoJournal;
 use nesl_service::service::{ServeFault, Terms, serve_through};
 use std::alloc::Global;
@@ -18,18 +18,6 @@ use std::net::{Ipv4Addr, Net, SocketAddr, TcpListener, TcpStream};
 use std::sync::Wait;
 use std::thread::Threads;
 use std::time::{Clock, Duration};
-
-/// A service for these users, in order: on this port, with so many helpers, and for so many connections, if it ends; a
-/// connection that is silent for so many seconds has ended, if these are told; each is told of, if it is logged.
-#[derive(Drop)]
-pub struct Offer<'a> {
-    pub users: Vec<&'a str>,
-    pub port: Option<usize>,
-    pub workers: Option<usize>,
-    pub connections: Option<usize>,
-    pub idle: Option<usize>,
-    pub is_logged: bool,
-}
 
 /// Keeps an offer: says where it listens, serves, and says what it served, if it ends.
 pub fn keep<

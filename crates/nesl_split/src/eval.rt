@@ -28,8 +28,8 @@ use nesl_lex::token::Span;
 use nesl_nodes::held::{Held, Tops};
 use nesl_nodes::meter::{Meter, Stop};
 use nesl_nodes::nodes::{
-    add, empty, finished, keep, keep_if, length_of_all, named_top, of_two_made, paid, paired,
-    sequence_of, tagged, text, told_at, top, truth,
+    add, empty, finished, keep, keep_if, length_of_all, named_top, of_pair_made, of_two_made, paid,
+    paired, sequence_of, tagged, text, told_at, top, truth,
 };
 use nesl_nodes::parts::{
     Part, applied_to_one, applied_to_three, applied_to_two, entered_name, within_limit,
@@ -264,6 +264,32 @@ fn of_scalars<R: Threads + Sync, H: Helpers + Sync, G: Gate + Sync, T: Tops<Glob
     of_two_made(function, one, other, *span)
 }
 
+// A function of two scalars that are written as a pair, which was entered.
+#[cycle(eval)]
+#[inline(never)]
+fn of_scalar_pair<R: Threads + Sync, H: Helpers + Sync, G: Gate + Sync, T: Tops<Global> + Sync>(
+    tops: &T,
+    scope: &Scope<'_, Global>,
+    function: Binary,
+    left: &Code,
+    right: &Code,
+    within: &Span,
+    span: &Span,
+    levels: u32,
+    meter: &mut Meter,
+    crew: &Crew<'_, R, H, G>,
+) -> Result<Value<Global>, Stop>
+    requires { meter.old.fuel + meter.old.depth < 2 ^ 64 }
+    ensures meets { let f = run levels (T.table tops.now) in Meets Is meter.old result meter.new
+        (run_two f (frames_of scope.now) left.now right.now
+        (λ x y. then_out (made within.now (pair x y)) (applied span.now (Builtin.OfTwo function)))) }
+    ensures spent { meter.new.fuel + meter.new.depth ≤ meter.old.fuel + meter.old.depth }
+{
+    let one = value_in(tops, scope, left, levels, meter, crew)?;
+    let other = value_in(tops, scope, right, levels, meter, crew)?;
+    of_pair_made(function, one, other, *within, *span)
+}
+
 // A pair of two parts.
 #[cycle(eval)]
 #[inline(never)]
@@ -339,18 +365,15 @@ fn apply<R: Threads + Sync, H: Helpers + Sync, G: Gate + Sync, T: Tops<Global> +
             right,
         } => {
             meter.enter(levels, argument)?;
-            apply_pair(
-                tops,
-                scope,
-                function,
-                left,
-                right,
-                within,
-                span,
-                levels - 1,
-                meter,
-                crew,
-            )
+            let below = levels - 1;
+            match function {
+                Builtin::OfTwo(function) => of_scalar_pair(
+                    tops, scope, function, left, right, within, span, below, meter, crew,
+                ),
+                _ => apply_pair(
+                    tops, scope, function, left, right, within, span, below, meter, crew,
+                ),
+            }
         }
         _ => apply_one(tops, scope, function, argument, span, levels, meter, crew),
     }
@@ -663,8 +686,8 @@ fn eval_all<R: Threads + Sync, H: Helpers + Sync, G: Gate + Sync, T: Tops<Global
     ensures spent { meter.new.fuel + meter.new.depth ≤ meter.old.fuel + meter.old.depth }
 {
     let mut values = Vec::new(crew.alloc);
-    for code in codes {
-        let value = eval_in(tops, scope, code, levels, meter, crew)?;
+    for next in codes {
+        let value = eval_in(tops, scope, next, levels, meter, crew)?;
         keep(&mut values, value)?;
     }
     Ok(values)

@@ -66,6 +66,15 @@ of_scalars-returns-clause-meets g t c =
     meets_two (Is {A = g.row.A.Denot}) (Is {A = g.row.A.Denot}) c.args.meter.now c.value_in.new.meter m2 m2 c.in_ok-one.one c.in_ok-other.other c.of_two_made.result (f fs c.args.left.now) (f fs c.args.right.now) (λ x y. applied c.args.span.now (OfTwo c.args.function) (values.pair x y))
     c.in_ok-one.ensures.meets c.in_ok-other.ensures.meets (λ x y e e'. rw (← e, ← e') (c.of_two_made.ensures m2))
 
+pub of_scalar_pair-returns-clause-meets : goal.of_scalar_pair-returns-clause-meets
+of_scalar_pair-returns-clause-meets g t c =
+    let tb = g.T.Tops.table c.args.tops.now in
+    let f = run c.args.levels tb in
+    let fs = frames_of c.args.scope.now in
+    let m2 = c.value_in-2.new.meter in
+    meets_two (Is {A = g.row.A.Denot}) (Is {A = g.row.A.Denot}) c.args.meter.now c.value_in.new.meter m2 m2 c.in_ok-one.one c.in_ok-other.other c.of_pair_made.result (f fs c.args.left.now) (f fs c.args.right.now) (λ x y. then_out (made c.args.within.now (values.pair x y)) (applied c.args.span.now (OfTwo c.args.function)))
+    c.in_ok-one.ensures.meets c.in_ok-other.ensures.meets (λ x y e e'. rw (← e, ← e') (c.of_pair_made.ensures m2))
+
 pub in_pair-returns-clause-meets : goal.in_pair-returns-clause-meets
 in_pair-returns-clause-meets g t c =
     let tb = g.T.Tops.table c.args.tops.now in
@@ -75,15 +84,25 @@ in_pair-returns-clause-meets g t c =
     meets_two (Is {A = g.row.A.Denot}) (Is {A = g.row.A.Denot}) c.args.meter.now c.eval_in.new.meter m2 m2 c.in_ok-one.one c.in_ok-other.other c.paired.result (f fs c.args.left.now) (f fs c.args.right.now) (λ x y. made c.args.span.now (values.pair x y))
     c.in_ok-one.ensures.meets c.in_ok-other.ensures.meets (λ x y e e'. rw (← e, ← e') (c.paired.ensures m2))
 
-pub apply-returns-in_ok-enter-in-Pair-clause-meets : goal.apply-returns-in_ok-enter-in-Pair-clause-meets
-apply-returns-in_ok-enter-in-Pair-clause-meets g t c =
+pub apply-returns-in-OfTwo-clause-meets : goal.apply-returns-in-OfTwo-clause-meets
+apply-returns-in-OfTwo-clause-meets g t c =
+    let tb = g.T.Tops.table c.args.tops.now in
+    let f = run c.args.levels tb in
+    let fs = frames_of c.args.scope.now in
+    let k = applied c.args.span.now (OfTwo c.in-OfTwo.function) in
+    let f' = run (c.args.levels - 1) tb in
+    rw c.in-OfTwo.is (entered_then (Is {A = g.row.A.Denot}) c.args.meter.now c.enter.new.self c.of_scalar_pair.new.meter c.of_scalar_pair.result c.args.levels tb fs c.args.argument.now k c.in_ok-enter-in-Pair.ensures.0 c.in_ok-enter-in-Pair.ensures.1 c.in_ok-enter-in-Pair.ensures.2
+    (rw (c.in-Pair.is, ← c.deref.ensures, ← c.deref-in-OfTwo.ensures) (pair_then (Is {A = g.row.A.Denot}) c.enter.new.self c.of_scalar_pair.new.meter c.of_scalar_pair.result f' fs c.deref.result.now c.deref-in-OfTwo.result.now (λ x y. made c.in-Pair.within (values.pair x y)) k c.of_scalar_pair.ensures.meets)))
+
+pub apply-returns-in_default-function-clause-meets : goal.apply-returns-in_default-function-clause-meets
+apply-returns-in_default-function-clause-meets g t c =
     let tb = g.T.Tops.table c.args.tops.now in
     let f = run c.args.levels tb in
     let fs = frames_of c.args.scope.now in
     let k = applied c.args.span.now c.args.function in
     let f' = run (c.args.levels - 1) tb in
     entered_then (Is {A = g.row.A.Denot}) c.args.meter.now c.enter.new.self c.apply_pair.new.meter c.apply_pair.result c.args.levels tb fs c.args.argument.now k c.in_ok-enter-in-Pair.ensures.0 c.in_ok-enter-in-Pair.ensures.1 c.in_ok-enter-in-Pair.ensures.2
-    (rw (c.in-Pair.is, ← c.deref.ensures, ← c.deref-in-Pair.ensures) (pair_then (Is {A = g.row.A.Denot}) c.enter.new.self c.apply_pair.new.meter c.apply_pair.result f' fs c.deref.result.now c.deref-in-Pair.result.now (λ x y. made c.in-Pair.within (values.pair x y)) k c.apply_pair.ensures.meets))
+    (rw (c.in-Pair.is, ← c.deref-in_default-function.ensures, ← c.deref-in_default-function-2.ensures) (pair_then (Is {A = g.row.A.Denot}) c.enter.new.self c.apply_pair.new.meter c.apply_pair.result f' fs c.deref-in_default-function.result.now c.deref-in_default-function-2.result.now (λ x y. made c.in-Pair.within (values.pair x y)) k c.apply_pair.ensures.meets))
 
 pub apply-returns-in_err-enter-in-Pair-clause-meets : goal.apply-returns-in_err-enter-in-Pair-clause-meets
 apply-returns-in_err-enter-in-Pair-clause-meets g t c =
@@ -107,6 +126,22 @@ of_scalars-returns-in_err-other-clause-meets g t c =
     let fs = frames_of c.args.scope.now in
     let p = err_from_is_err_and c.from_residual-in_err-other.result c.from_residual-in_err-other.ensures.1 in
     rw (p.1, p.2) (pair_stops (Is {A = g.row.A.Denot}) (Is {A = g.row.A.Denot}) (Is {A = g.row.A.Denot}) c.args.meter.now c.value_in.new.meter c.value_in-2.new.meter c.in_ok-one.one c.in_err-other.field-0.0 (f fs c.args.left.now) (f fs c.args.right.now) (λ x y. applied c.args.span.now (OfTwo c.args.function) (values.pair x y)) c.in_ok-one.ensures.meets c.in_err-other.ensures.meets)
+
+pub of_scalar_pair-returns-in_err-one-clause-meets : goal.of_scalar_pair-returns-in_err-one-clause-meets
+of_scalar_pair-returns-in_err-one-clause-meets g t c =
+    let tb = g.T.Tops.table c.args.tops.now in
+    let f = run c.args.levels tb in
+    let fs = frames_of c.args.scope.now in
+    let p = err_from_is_err_and c.from_residual.result c.from_residual.ensures.1 in
+    rw (p.1, p.2) (meets_err (Is {A = g.row.A.Denot}) (Is {A = g.row.A.Denot}) c.args.meter.now c.value_in.new.meter c.in_err-one.field-0.0 (f fs c.args.left.now) (λ x. then_out (f fs c.args.right.now) (λ y. then_out (made c.args.within.now (values.pair x y)) (applied c.args.span.now (OfTwo c.args.function)))) c.in_err-one.ensures.meets)
+
+pub of_scalar_pair-returns-in_err-other-clause-meets : goal.of_scalar_pair-returns-in_err-other-clause-meets
+of_scalar_pair-returns-in_err-other-clause-meets g t c =
+    let tb = g.T.Tops.table c.args.tops.now in
+    let f = run c.args.levels tb in
+    let fs = frames_of c.args.scope.now in
+    let p = err_from_is_err_and c.from_residual-in_err-other.result c.from_residual-in_err-other.ensures.1 in
+    rw (p.1, p.2) (pair_stops (Is {A = g.row.A.Denot}) (Is {A = g.row.A.Denot}) (Is {A = g.row.A.Denot}) c.args.meter.now c.value_in.new.meter c.value_in-2.new.meter c.in_ok-one.one c.in_err-other.field-0.0 (f fs c.args.left.now) (f fs c.args.right.now) (λ x y. then_out (made c.args.within.now (values.pair x y)) (applied c.args.span.now (OfTwo c.args.function))) c.in_ok-one.ensures.meets c.in_err-other.ensures.meets)
 
 pub apply_two-returns-in_err-other-clause-meets : goal.apply_two-returns-in_err-other-clause-meets
 apply_two-returns-in_err-other-clause-meets g t c =
@@ -352,8 +387,8 @@ eval_all-returns-in_err-value-clause-meets g t c =
     let f = run c.args.levels tb in
     let fs = frames_of c.args.scope.now in
     let p = err_from_is_err_and c.from_residual.result c.from_residual.ensures.1 in
-    rw (p.1, p.2) (part_stops (Are {A = g.row.A.Denot}) (run_all f fs) (f fs c.code-item.result) c.args.codes.now c.code-item.result c.loop-code.code-index (map tree_of c.loop-code.values.items) c.args.meter.now c.loop-code.meter c.eval_in.new.meter (run_all f fs [] c.args.codes.now)
-    g.row.A.Denot c.in_err-value.field-0.0 c.loop-code-test.true c.code-item.is refl c.loop-code.invariant.leads c.in_err-value.ensures.meets)
+    rw (p.1, p.2) (part_stops (Are {A = g.row.A.Denot}) (run_all f fs) (f fs c.next-item.result) c.args.codes.now c.next-item.result c.loop-next.next-index (map tree_of c.loop-next.values.items) c.args.meter.now c.loop-next.meter c.eval_in.new.meter (run_all f fs [] c.args.codes.now)
+    g.row.A.Denot c.in_err-value.field-0.0 c.loop-next-test.true c.next-item.is refl c.loop-next.invariant.leads c.in_err-value.ensures.meets)
 
 pub eval_all-returns-in_err-keep-clause-meets : goal.eval_all-returns-in_err-keep-clause-meets
 eval_all-returns-in_err-keep-clause-meets g t c =
@@ -361,15 +396,15 @@ eval_all-returns-in_err-keep-clause-meets g t c =
     let p = err_from_is_err_and c.from_residual-in_err-keep.result c.from_residual-in_err-keep.ensures.1 in
     rw (p.1, p.2, c.in_err-keep.ensures) (memory_any (Are {A = g.row.A.Denot}) c.args.meter.now c.eval_in.new.meter (run_all (run c.args.levels tb) (frames_of c.args.scope.now) [] c.args.codes.now))
 
-pub eval_all-loop-code-preserved : goal.eval_all-loop-code-preserved
-eval_all-loop-code-preserved g t c =
+pub eval_all-loop-next-preserved : goal.eval_all-loop-next-preserved
+eval_all-loop-next-preserved g t c =
     let tb = g.T.Tops.table c.args.tops.now in
     let f = run c.args.levels tb in
     let fs = frames_of c.args.scope.now in
     record {
-      leads = next_part (Are {A = g.row.A.Denot}) (run_all f fs) (f fs c.code-item.result) c.args.codes.now c.code-item.result c.loop-code.code-index (map tree_of c.loop-code.values.items) c.args.meter.now c.loop-code.meter c.eval_in.new.meter (run_all f fs [] c.args.codes.now)
-          c.in_ok-value.value (map tree_of c.keep.new.values.items) c.loop-code-test.true c.code-item.is (kept c.loop-code.values.items c.keep.new.values.items c.in_ok-value.value c.in_ok-keep.ensures) refl c.loop-code.invariant.leads c.in_ok-value.ensures.meets;
-      spent = omega (arith, c.loop-code.invariant.spent, c.in_ok-value.ensures.spent);
+      leads = next_part (Are {A = g.row.A.Denot}) (run_all f fs) (f fs c.next-item.result) c.args.codes.now c.next-item.result c.loop-next.next-index (map tree_of c.loop-next.values.items) c.args.meter.now c.loop-next.meter c.eval_in.new.meter (run_all f fs [] c.args.codes.now)
+          c.in_ok-value.value (map tree_of c.keep.new.values.items) c.loop-next-test.true c.next-item.is (kept c.loop-next.values.items c.keep.new.values.items c.in_ok-value.value c.in_ok-keep.ensures) refl c.loop-next.invariant.leads c.in_ok-value.ensures.meets;
+      spent = omega (arith, c.loop-next.invariant.spent, c.in_ok-value.ensures.spent);
     }
 
 pub eval_all-returns-clause-meets : goal.eval_all-returns-clause-meets
@@ -377,8 +412,8 @@ eval_all-returns-clause-meets g t c =
     let tb = g.T.Tops.table c.args.tops.now in
     let f = run c.args.levels tb in
     let fs = frames_of c.args.scope.now in
-    all_done (Are {A = g.row.A.Denot}) (run_all f fs) c.args.codes.now c.loop-code.code-index (map tree_of c.loop-code.values.items) c.args.meter.now c.loop-code.meter c.loop-code.meter (Ok c.loop-code.values) (run_all f fs [] c.args.codes.now)
-    (omega arith) c.loop-code.invariant.leads (refl, omega arith, omega arith)
+    all_done (Are {A = g.row.A.Denot}) (run_all f fs) c.args.codes.now c.loop-next.next-index (map tree_of c.loop-next.values.items) c.args.meter.now c.loop-next.meter c.loop-next.meter (Ok c.loop-next.values) (run_all f fs [] c.args.codes.now)
+    (omega arith) c.loop-next.invariant.leads (refl, omega arith, omega arith)
 
 pub in_let-returns-in_err-value-clause-meets : goal.in_let-returns-in_err-value-clause-meets
 in_let-returns-in_err-value-clause-meets g t c =

@@ -1,9 +1,9 @@
-use Rattle.std.proofs.Common.{◌≡◌, ◌≢◌, ◌+◌, length, map, true, false, is_some, rules, sym}
-use Rattle.std.specs.List.{list_all}
+use Rattle.std.proofs.Common.{◌≡◌, ◌≢◌, ◌∙◌, ◌+◌, length, map, Ok, Err, ap, rules, sym}
 use Rattle.nesl_values.specs.View.{item_trees}
-use Rattle.nesl_seq_base.specs.Permute.{all_differ}
-use Rattle.nesl_seq_base.specs.Places.{place_of, places_of}
-use Rattle.nesl_seq_reorders.proofs.Permuting.{refused_uneven, refused_beyond, refused_twice, priced_as_items}
+use Rattle.nesl_seq_base.specs.Prices.{Prices}
+use Rattle.nesl_seq_reorders.specs.Marks.{own_places}
+use Rattle.nesl_seq_reorders.proofs.Permuting.{refused_uneven, priced_as_items}
+use Rattle.nesl_seq_reorders.proofs.Tables.{refused_places, are_named, are_apart_all}
 use Rattle.nesl_seq_reorders.proofs.permute.price_of_permuted.Goals as goal
 
 pub returns-then-len-indices : goal.returns-then-len-indices
@@ -13,28 +13,19 @@ returns-then-len-indices g c =
     let uneven : length ts ≢ length is = search rules in
     refused_uneven g.I.Item.tree is ts (length ts + length is) 1 c.args.limit uneven
 
-pub returns-then-not-all_name : goal.returns-then-not-all_name
-returns-then-not-all_name g c =
+pub returns-in_err-check_places : goal.returns-in_err-check_places
+returns-in_err-check_places g c =
     let ts = item_trees c.args.items in
     let is = c.args.indices.now in
     let same : length ts ≡ length is = search rules in
-    let none : list_all (λ i. is_some (place_of (length ts) (g.I.Item.tree i))) is ≡ false = search rules in
-    refused_beyond g.I.Item.tree is ts (length ts + length is) 1 c.args.limit same none
-
-pub returns-then-not-all_differ : goal.returns-then-not-all_differ
-returns-then-not-all_differ g c =
-    let ts = item_trees c.args.items in
-    let is = c.args.indices.now in
-    let same : length ts ≡ length is = search rules in
-    let named : list_all (λ i. is_some (place_of (length ts) (g.I.Item.tree i))) is ≡ true = search rules in
-    let twice : all_differ (places_of (length ts) (map g.I.Item.tree is)) ≡ false = search rules in
-    refused_twice g.I.Item.tree is ts (length ts + length is) 1 c.args.limit same named twice
+    let wrong : own_places (length ts) (map g.I.Item.tree is) ≡ Err c.in_err-check_places.field-0.0 = ap (λ n. own_places n (map g.I.Item.tree is)) same ∙ sym c.check_places.ensures ∙ c.in_err-check_places.was in
+    let refused : Prices _ (length ts + length is) 1 c.args.limit (Err c.in_err-check_places.field-0.0) = refused_places g.I.Item.tree is ts (length ts + length is) 1 c.args.limit c.in_err-check_places.field-0.0 same wrong in
+    search rules
 
 pub returns : goal.returns
 returns g c =
     let ts = item_trees c.args.items in
     let is = c.args.indices.now in
     let same : length ts ≡ length is = search rules in
-    let named : list_all (λ i. is_some (place_of (length ts) (g.I.Item.tree i))) is ≡ true = search rules in
-    let differ : all_differ (places_of (length ts) (map g.I.Item.tree is)) ≡ true = search rules in
-    priced_as_items g.I.Item.tree is ts (length ts + length is) 1 c.args.limit c.price_of_items.result same named differ (rw (sym same) (rw (sym c.len-len.ensures) c.price_of_items.ensures))
+    let own : own_places (length ts) (map g.I.Item.tree is) ≡ Ok tt = ap (λ n. own_places n (map g.I.Item.tree is)) same ∙ sym c.check_places.ensures ∙ c.in_ok-check_places.was in
+    priced_as_items g.I.Item.tree is ts (length ts + length is) 1 c.args.limit c.price_of_items.result same (are_named g.I.Item.tree (length ts) is own) (are_apart_all g.I.Item.tree (length ts) is own) (rw (sym same) (rw (sym c.len-len.ensures) c.price_of_items.ensures))

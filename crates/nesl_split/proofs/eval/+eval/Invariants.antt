@@ -27,6 +27,9 @@ decreases-larger g l = (l.levels * 2 ^ 68 + 2 ^ 67) + 30
 abbrev pub decreases-of_scalars : goal.decreases-of_scalars
 decreases-of_scalars g l = (l.levels * 2 ^ 68 + 2 ^ 67) + 28
 
+abbrev pub decreases-of_scalar_pair : goal.decreases-of_scalar_pair
+decreases-of_scalar_pair g l = (l.levels * 2 ^ 68 + 2 ^ 67) + 27
+
 abbrev pub decreases-in_pair : goal.decreases-in_pair
 decreases-in_pair g l = (l.levels * 2 ^ 68 + 2 ^ 67) + 28
 
@@ -111,12 +114,12 @@ decreases-half_of_bodies g l = (l.levels * 2 ^ 68 + 9) + (l.to - l.from) * 4
 abbrev pub decreases-bodies-half : goal.decreases-bodies-half
 decreases-bodies-half g l = (l.levels * 2 ^ 68 + 10) + (l.to - l.from) * 4
 
-abbrev pub invariant-eval_all-loop-code : goal.invariant-eval_all-loop-code
-invariant-eval_all-loop-code g l =
+abbrev pub invariant-eval_all-loop-next : goal.invariant-eval_all-loop-next
+invariant-eval_all-loop-next g l =
     let f = run l.levels (g.T.Tops.table l.tops) in
     let fs = frames_of l.scope in
     record {
-      leads : LeadsTo (Are {A = Global}) l.meter (run_all f fs (map tree_of l.values.items) (drop l.code-index l.codes)) l.fn.meter (run_all f fs [] l.codes);
+      leads : LeadsTo (Are {A = Global}) l.meter (run_all f fs (map tree_of l.values.items) (drop l.next-index l.codes)) l.fn.meter (run_all f fs [] l.codes);
       spent : l.meter.fuel + l.meter.depth ≤ l.fn.meter.fuel + l.fn.meter.depth;
     }
 

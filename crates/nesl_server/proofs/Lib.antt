@@ -1,3 +1,0 @@
-pub mod Failed
-pub mod Flags
-pub mod Numbers

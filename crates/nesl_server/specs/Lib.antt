@@ -1,4 +1,0 @@
-pub mod Failures
-pub mod Words
-pub mod Wanted
-pub mod Program

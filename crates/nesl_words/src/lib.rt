@@ -1,0 +1,4 @@
+//! The words of the command line, and what they ask for.
+#![tactic(auto)]
+
+pub mod words;
