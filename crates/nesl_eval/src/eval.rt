@@ -8,8 +8,7 @@ ghost use Rattle.nesl_code.specs.Names.{named};
 ghost use Rattle.nesl_code.specs.Out.{then_out};
 ghost use Rattle.nesl_code.specs.Outcome.{made, applied, branch, kept, counted};
 ghost use Rattle.nesl_code.specs.Run.{run, run_node, run_two, run_three, run_all, run_let, run_at};
-ghost use Rattle.nesl_code.specs.Run.{run_filters, run_bodies};
-ghost use Rattle.nesl_code.specs.Run.{run_over, run_called, as_result, slot_at};
+ghost use Rattle.nesl_code.specs.Run.{run_filters, run_bodies, run_over, run_called, as_result, slot_at};
 ghost use Rattle.nesl_nodes.specs.Scopes.{frames_of};
 ghost use Rattle.nesl_nodes.specs.Standing.{Stands};
 ghost use Rattle.nesl_nodes.specs.Sides.{places_of, Keeps, IsOne, Has};
@@ -308,10 +307,7 @@ fn part<A: Allocator + Copy, T: Tops<A>>(
     match code {
         Code::Local { .. } => entered_name(tops, scope, code, levels, meter),
         Code::Top { .. } => entered_name(tops, scope, code, levels, meter),
-        _ => {
-            let value = eval_in(tops, scope, code, levels, meter, alloc)?;
-            Ok(Part::Made(value))
-        }
+        _ => Ok(Part::Made(eval_in(tops, scope, code, levels, meter, alloc)?)),
     }
 }
 
@@ -350,32 +346,13 @@ fn apply<A: Allocator + Copy, T: Tops<A>>(
                 ),
             }
         }
-        _ => apply_one(tops, scope, function, argument, span, levels, meter, alloc),
+        _ => {
+            let one = part(tops, scope, argument, levels, meter, alloc)?;
+            applied_to_one(
+                &*tops, &*scope, function, argument, &one, *span, meter, alloc,
+            )
+        }
     }
-}
-
-// A built-in function of one part.
-#[cycle(eval)]
-#[inline(always)]
-fn apply_one<A: Allocator + Copy, T: Tops<A>>(
-    tops: &T,
-    scope: &Scope<'_, A>,
-    function: Builtin,
-    argument: &Code,
-    span: &Span,
-    levels: u32,
-    meter: &mut Meter,
-    alloc: A,
-) -> Result<Value<A>, Stop>
-    requires { meter.old.fuel + meter.old.depth < 2 ^ 64 }
-    ensures meets { let f = run levels (T.table tops.now) in Meets Is meter.old result meter.new
-        (then_out (f (frames_of scope.now) argument.now) (applied span.now function)) }
-    ensures spent { meter.new.fuel + meter.new.depth ≤ meter.old.fuel + meter.old.depth }
-{
-    let one = part(tops, scope, argument, levels, meter, alloc)?;
-    applied_to_one(
-        &*tops, &*scope, function, argument, &one, *span, meter, alloc,
-    )
 }
 
 // A built-in function of a pair that was entered.
@@ -739,7 +716,7 @@ fn filters<A: Allocator + Copy, T: Tops<A>>(
         meter.depth = 0;
         let holds = holds_at(tops, scope, values, filter, place, levels, meter, alloc)?;
         keep_if(&mut kept, place, holds)?;
-        most = meter.depth.max(most);
+        most = meter.deepest(most);
     }
     meter.depth = start + most;
     Ok(kept)
@@ -814,7 +791,7 @@ fn bodies<A: Allocator + Copy, T: Tops<A>>(
         meter.depth = 0;
         let value = body_at(tops, scope, values, body, place, levels, meter, alloc)?;
         add(&mut builder, value)?;
-        most = meter.depth.max(most);
+        most = meter.deepest(most);
     }
     meter.depth = start + most;
     Ok(builder)

@@ -1,5 +1,5 @@
 //! The fuel that is left and the depth so far.
-ghost use Rattle.std.specs.Prelude.{◌≡◌, ◌+◌, ◌<◌, ◌^◌, MatchResult};
+ghost use Rattle.std.specs.Prelude.{◌≡◌, ◌+◌, ◌<◌, ◌^◌, MatchResult, max};
 ghost use Rattle.nesl_code.specs.Run.{code_span};
 ghost use Rattle.nesl_nodes.specs.Meets.{Refuses};
 
@@ -55,5 +55,13 @@ impl Meter {
         self.charge(1)?;
         self.depth += 1;
         Ok(())
+    }
+
+    /// The greatest depth of runs beside each other, of which those before this one come to `most`.
+    #[inline(always)]
+    pub fn deepest(&self, most: u64) -> u64
+        ensures { result ≡ max most self.now.depth }
+    {
+        self.depth.max(most)
     }
 }

@@ -9,8 +9,7 @@ ghost use Rattle.nesl_code.specs.Names.{named};
 ghost use Rattle.nesl_code.specs.Out.{then_out};
 ghost use Rattle.nesl_code.specs.Outcome.{made, applied, branch, kept, counted};
 ghost use Rattle.nesl_code.specs.Run.{run, run_node, run_two, run_three, run_all, run_let, run_at};
-ghost use Rattle.nesl_code.specs.Run.{run_filters, run_bodies};
-ghost use Rattle.nesl_code.specs.Run.{run_over, run_called, as_result, slot_at};
+ghost use Rattle.nesl_code.specs.Run.{run_filters, run_bodies, run_over, run_called, as_result, slot_at};
 ghost use Rattle.nesl_nodes.specs.Scopes.{frames_of};
 ghost use Rattle.nesl_nodes.specs.Standing.{Stands};
 ghost use Rattle.nesl_nodes.specs.Sides.{places_of, Keeps, IsOne, Has};
@@ -333,10 +332,7 @@ fn part<R: Threads + Sync, H: Helpers + Sync, G: Gate + Sync, T: Tops<Global> + 
     match code {
         Code::Local { .. } => entered_name(tops, scope, code, levels, meter),
         Code::Top { .. } => entered_name(tops, scope, code, levels, meter),
-        _ => {
-            let value = eval_in(tops, scope, code, levels, meter, crew)?;
-            Ok(Part::Made(value))
-        }
+        _ => Ok(Part::Made(eval_in(tops, scope, code, levels, meter, crew)?)),
     }
 }
 
@@ -375,32 +371,13 @@ fn apply<R: Threads + Sync, H: Helpers + Sync, G: Gate + Sync, T: Tops<Global> +
                 ),
             }
         }
-        _ => apply_one(tops, scope, function, argument, span, levels, meter, crew),
+        _ => {
+            let one = part(tops, scope, argument, levels, meter, crew)?;
+            applied_to_one(
+                &*tops, &*scope, function, argument, &one, *span, meter, crew.alloc,
+            )
+        }
     }
-}
-
-// A built-in function of one part.
-#[cycle(eval)]
-#[inline(always)]
-fn apply_one<R: Threads + Sync, H: Helpers + Sync, G: Gate + Sync, T: Tops<Global> + Sync>(
-    tops: &T,
-    scope: &Scope<'_, Global>,
-    function: Builtin,
-    argument: &Code,
-    span: &Span,
-    levels: u32,
-    meter: &mut Meter,
-    crew: &Crew<'_, R, H, G>,
-) -> Result<Value<Global>, Stop>
-    requires { meter.old.fuel + meter.old.depth < 2 ^ 64 }
-    ensures meets { let f = run levels (T.table tops.now) in Meets Is meter.old result meter.new
-        (then_out (f (frames_of scope.now) argument.now) (applied span.now function)) }
-    ensures spent { meter.new.fuel + meter.new.depth ≤ meter.old.fuel + meter.old.depth }
-{
-    let one = part(tops, scope, argument, levels, meter, crew)?;
-    applied_to_one(
-        &*tops, &*scope, function, argument, &one, *span, meter, crew.alloc,
-    )
 }
 
 // A built-in function of a pair that was entered.
@@ -771,7 +748,7 @@ fn filters_in_order<R: Threads + Sync, H: Helpers + Sync, G: Gate + Sync, T: Top
         meter.depth = 0;
         let holds = holds_at(interval, place, levels, meter)?;
         keep_if(&mut kept, place, holds)?;
-        most = meter.depth.max(most);
+        most = meter.deepest(most);
     }
     meter.depth = start + most;
     Ok(kept)
@@ -942,7 +919,7 @@ fn bodies_in_order<R: Threads + Sync, H: Helpers + Sync, G: Gate + Sync, T: Tops
         meter.depth = 0;
         let value = body_at(interval, place, levels, meter)?;
         add(&mut builder, value)?;
-        most = meter.depth.max(most);
+        most = meter.deepest(most);
     }
     meter.depth = start + most;
     Ok(builder)

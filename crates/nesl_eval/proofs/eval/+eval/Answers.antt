@@ -112,12 +112,12 @@ apply-returns-in_err-enter-in-Pair-clause-meets g t c =
     let p = err_from_is_err_and c.from_residual.result c.from_residual.ensures.1 in
     rw (p.1, p.2, c.in_err-enter-in-Pair.ensures.0) (meets_err (Is {A = g.row.A.Denot}) (Is {A = g.row.A.Denot}) c.args.meter.now c.args.meter.now c.in_err-enter-in-Pair.field-0.0 (f fs c.args.argument.now) (applied c.args.span.now c.args.function) (not_entered (Is {A = g.row.A.Denot}) c.args.meter.now c.in_err-enter-in-Pair.field-0.0 c.args.levels tb fs c.args.argument.now c.in_err-enter-in-Pair.ensures.1))
 
-pub apply_one-returns-clause-meets : goal.apply_one-returns-clause-meets
-apply_one-returns-clause-meets g t c =
+pub apply-returns-in_ok-one-in_default-clause-meets : goal.apply-returns-in_ok-one-in_default-clause-meets
+apply-returns-in_ok-one-in_default-clause-meets g t c =
     let tb = g.T.Tops.table c.args.tops.now in
     let f = run c.args.levels tb in
     let fs = frames_of c.args.scope.now in
-    meets_then (Stands {A = g.row.A.Denot} tb fs c.args.argument.now) (Is {A = g.row.A.Denot}) c.args.meter.now c.part.new.meter c.applied_to_one.new.meter c.in_ok-one.one c.applied_to_one.result (f fs c.args.argument.now) (applied c.args.span.now c.args.function) c.in_ok-one.ensures.meets (λ x e. c.applied_to_one.ensures.meets x e)
+    meets_then (Stands {A = g.row.A.Denot} tb fs c.args.argument.now) (Is {A = g.row.A.Denot}) c.args.meter.now c.part.new.meter c.applied_to_one.new.meter c.in_ok-one-in_default.one c.applied_to_one.result (f fs c.args.argument.now) (applied c.args.span.now c.args.function) c.in_ok-one-in_default.ensures.meets (λ x e. c.applied_to_one.ensures.meets x e)
 
 pub of_scalars-returns-in_err-other-clause-meets : goal.of_scalars-returns-in_err-other-clause-meets
 of_scalars-returns-in_err-other-clause-meets g t c =
@@ -502,8 +502,8 @@ filters-loop-place-preserved g t c =
     let next : range_with_len i (n - i) ≡ i ∷ range_with_len (i + 1) (n - (i + 1)) = range_next i n c.loop-place-test.true in
     record {
       leads = turn_next T (Keeps i) q _ (range_with_len (i + 1) (n - (i + 1))) i c.loop-place.meter.fuel c.args.meter.now.depth c.loop-place.most _ c.loop-place.kept.items c.keep_if.new.kept.items (cond c.in_ok-holds.holds (i ∷ []) []) c.args.meter.now c.holds_at.new.meter c.in_ok-holds.holds (all_beside q (range_with_len 0 n))
-          next (λ zs e. sym e) c.in_ok-keep_if.ensures (omega arith) c.loop-place.invariant.leads c.in_ok-holds.ensures.meets;
-      spent = omega (arith, c.loop-place.invariant.spent, c.in_ok-holds.ensures.spent);
+          next (λ zs e. sym e) c.in_ok-keep_if.ensures c.deepest-most.ensures c.loop-place.invariant.leads c.in_ok-holds.ensures.meets;
+      spent = omega (arith, c.deepest-most.ensures, c.loop-place.invariant.spent, c.in_ok-holds.ensures.spent);
       begun = c.loop-place.invariant.begun;
     }
 
@@ -547,8 +547,8 @@ bodies-loop-turn-preserved g t c =
     let next = drop_next is k c.at-place.result c.at-place.ensures in
     record {
       leads = turn_next (Has {A = g.row.A.Denot}) (IsOne {A = g.row.A.Denot}) q (drop k is) (drop (k + 1) is) c.at-place.result c.loop-turn.meter.fuel c.args.meter.now.depth c.loop-turn.most _ (elements_of c.loop-turn.builder) (elements_of c.add.new.builder) (tree_of c.in_ok-value.value ∷ []) c.args.meter.now c.body_at.new.meter c.in_ok-value.value (all_beside q is)
-          next (λ zs e. sym e) c.in_ok-add.ensures (omega arith) c.loop-turn.invariant.leads c.in_ok-value.ensures.meets;
-      spent = omega (arith, c.loop-turn.invariant.spent, c.in_ok-value.ensures.spent);
+          next (λ zs e. sym e) c.in_ok-add.ensures c.deepest-most.ensures c.loop-turn.invariant.leads c.in_ok-value.ensures.meets;
+      spent = omega (arith, c.deepest-most.ensures, c.loop-turn.invariant.spent, c.in_ok-value.ensures.spent);
       begun = c.loop-turn.invariant.begun;
     }
 

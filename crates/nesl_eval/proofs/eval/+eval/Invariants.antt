@@ -38,9 +38,6 @@ decreases-part g l = l.levels * 32 + 4
 abbrev pub decreases-apply : goal.decreases-apply
 decreases-apply g l = l.levels * 32 + 28
 
-abbrev pub decreases-apply_one : goal.decreases-apply_one
-decreases-apply_one g l = l.levels * 32 + 27
-
 abbrev pub decreases-apply_pair : goal.decreases-apply_pair
 decreases-apply_pair g l = l.levels * 32 + 27
 

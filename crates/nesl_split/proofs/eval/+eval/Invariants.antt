@@ -39,9 +39,6 @@ decreases-part g l = l.levels * 2 ^ 68 + 4
 abbrev pub decreases-apply : goal.decreases-apply
 decreases-apply g l = (l.levels * 2 ^ 68 + 2 ^ 67) + 28
 
-abbrev pub decreases-apply_one : goal.decreases-apply_one
-decreases-apply_one g l = (l.levels * 2 ^ 68 + 2 ^ 67) + 27
-
 abbrev pub decreases-apply_pair : goal.decreases-apply_pair
 decreases-apply_pair g l = (l.levels * 2 ^ 68 + 2 ^ 67) + 27
 
