@@ -1,7 +1,7 @@
 // Lists of parts: the elements of a sequence, and binders with what they are bound to.
 
-ghost use Rattle.std.specs.Prelude.{◌≡◌, ◌≤◌, ◌<◌, IfOk, Option};
-ghost use Rattle.nesl_tree.specs.Trees.{Tree, Trees, Binders, PatternTree, node, span_of, and_then, and_bind};
+ghost use Rattle.std.specs.Prelude.{◌≡◌, ◌≤◌, ◌<◌, max, IfOk, IfSome, MatchOption, Option};
+ghost use Rattle.nesl_tree.specs.Trees.{Tree, Trees, Binders, PatternTree, height, greatest_bound, node, span_of, and_then, and_bind};
 ghost use Rattle.nesl_tree.specs.Trees as trees;
 ghost use Rattle.nesl_parts.specs.declared.lists.Bindings.TheVariants as many;
 ghost use Rattle.nesl_tree.specs.Views.{shape_of, trees_in, binders_in, tree_of};
@@ -9,7 +9,7 @@ ghost use Rattle.nesl_tree.specs.Grammar.{over, own_body};
 ghost use Rattle.nesl_parts.specs.Machine.{body_or};
 ghost use Rattle.nesl_parts.specs.Parts.{Sees, SeesAll, SeesBound, SeesBody, SeesPattern};
 
-use crate::part::{LIMIT, Part, over, too_high};
+use crate::part::{LIMIT, Part, boxed, boxes, built, low_enough, none, over, too_high};
 use crate::pattern::PatternPart;
 use nesl_lex::token::Span;
 use nesl_tree::tree::{Binding, Exp, Node};
@@ -133,14 +133,21 @@ pub fn sequence_of(elements: Elements, span: Span) -> Part
 {
     match elements {
         Elements::Built { items, height } if height < LIMIT => {
-            let node = sequence_node(items);
-            Part::Built {
-                exp: Exp { span, node },
-                height: height + 1,
-                pattern: false,
-            }
+            built(span, sequence_node(items), height, false)
         }
         other => too_high(other, false),
+    }
+}
+
+// Binders with their height, where a node may stand over them.
+fn low_bindings(bindings: Bindings) -> Option<(Vec<Binding>, usize)>
+    ensures low { IfSome result (λ r. r.1 < 100) }
+    ensures seen { (bs : Binders) → SeesBound bindings bs →
+        MatchOption result (100 ≤ greatest_bound bs) (λ r. (binders_in r.0.items ≡ bs) × (r.1 ≡ greatest_bound bs)) }
+{
+    match bindings {
+        Bindings::Built { items, height } if height < LIMIT => Some((items, height)),
+        other => none(other),
     }
 }
 
@@ -148,25 +155,15 @@ pub fn let_of(alloc: Global, word: Span, bindings: Bindings, body: Part) -> Resu
     ensures { IfOk result (λ r. (bs : Binders) (x : Tree) → SeesBound bindings bs → Sees body x →
         Sees r (node (over word (span_of x)) (trees.let_in bs x))) }
 {
-    match bindings {
-        Bindings::Built { items, height: m } => match body {
-            Part::Built {
-                exp: body,
-                height: n,
-                ..
-            } if m.max(n) < LIMIT => {
-                let span = over(word, body.span);
-                let node = let_node(items, Box::new(alloc, body)?);
-                Ok(Part::Built {
-                    exp: Exp { span, node },
-                    height: m.max(n) + 1,
-                    pattern: false,
-                })
-            }
-            other => Ok(too_high((other, items), false)),
-        },
-        Bindings::High => Ok(too_high(body, false)),
-    }
+    let Some((items, m)) = low_bindings(bindings) else {
+        return Ok(too_high(body, false));
+    };
+    let Some((body, n)) = low_enough(body) else {
+        return Ok(too_high(items, false));
+    };
+    let span = over(word, body.span);
+    let node = let_node(items, boxed(alloc, body)?);
+    Ok(built(span, node, m.max(n), false))
 }
 
 // The body of an apply-to-each that has none.
@@ -197,6 +194,21 @@ fn body_of(body: Option<Part>, items: &[Binding]) -> Part
     }
 }
 
+// The body and the binders of an apply-to-each with their greater height, where a node may stand over them.
+fn low_each(body: Option<Part>, bindings: Bindings) -> Option<(Exp, Vec<Binding>, usize)>
+    ensures low { IfSome result (λ r. r.2 < 100) }
+    ensures seen { (b : Option Tree) (bs : Binders) → SeesBody body b → SeesBound bindings bs → let greater = max (height (body_or b bs)) (greatest_bound bs) in
+        MatchOption result (100 ≤ greater) (λ r. (tree_of r.0 ≡ body_or b bs) × (binders_in r.1.items ≡ bs) × (r.2 ≡ greater)) }
+{
+    let Some((items, m)) = low_bindings(bindings) else {
+        return none(body);
+    };
+    let Some((body, n)) = low_enough(body_of(body, items.as_slice())) else {
+        return none(items);
+    };
+    Some((body, items, n.max(m)))
+}
+
 pub fn each_of(
     alloc: Global,
     body: Option<Part>,
@@ -206,24 +218,11 @@ pub fn each_of(
     ensures { IfOk result (λ r. (b : Option Tree) (bs : Binders) → SeesBody body b → SeesBound bindings bs →
         Sees r (node span (trees.each (body_or b bs) bs))) }
 {
-    match bindings {
-        Bindings::Built { items, height: m } => match body_of(body, items.as_slice()) {
-            Part::Built {
-                exp: body,
-                height: n,
-                ..
-            } if n.max(m) < LIMIT => {
-                let node = each_node(Box::new(alloc, body)?, items);
-                Ok(Part::Built {
-                    exp: Exp { span, node },
-                    height: n.max(m) + 1,
-                    pattern: false,
-                })
-            }
-            other => Ok(too_high((other, items), false)),
-        },
-        Bindings::High => Ok(too_high(body, false)),
-    }
+    let Some((body, items, height)) = low_each(body, bindings) else {
+        return Ok(Part::High(false));
+    };
+    let node = each_node(boxed(alloc, body)?, items);
+    Ok(built(span, node, height, false))
 }
 
 pub fn filtered_each_of(
@@ -236,30 +235,12 @@ pub fn filtered_each_of(
     ensures { IfOk result (λ r. (b : Option Tree) (bs : Binders) (x : Tree) → SeesBody body b → SeesBound bindings bs → Sees filter x →
         Sees r (node span (trees.filtered_each (body_or b bs) bs x))) }
 {
-    match bindings {
-        Bindings::Built { items, height: m } => match body_of(body, items.as_slice()) {
-            Part::Built {
-                exp: body,
-                height: n,
-                ..
-            } => match filter {
-                Part::Built {
-                    exp: filter,
-                    height: k,
-                    ..
-                } if n.max(m.max(k)) < LIMIT => {
-                    let body = Box::new(alloc, body)?;
-                    let node = filtered_node(body, items, Box::new(alloc, filter)?);
-                    Ok(Part::Built {
-                        exp: Exp { span, node },
-                        height: n.max(m.max(k)) + 1,
-                        pattern: false,
-                    })
-                }
-                other => Ok(too_high((body, other, items), false)),
-            },
-            Part::High(_) => Ok(too_high((filter, items), false)),
-        },
-        Bindings::High => Ok(too_high((body, filter), false)),
-    }
+    let Some((body, items, m)) = low_each(body, bindings) else {
+        return Ok(too_high(filter, false));
+    };
+    let Some((filter, n)) = low_enough(filter) else {
+        return Ok(too_high((body, items), false));
+    };
+    let (body, filter) = boxes(alloc, body, filter)?;
+    Ok(built(span, filtered_node(body, items, filter), m.max(n), false))
 }

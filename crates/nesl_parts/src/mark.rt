@@ -8,7 +8,7 @@ use nesl_lex::token::{Kind, Sign, Word};
 use nesl_tree::tree::Operator;
 
 /// A token that ends a part of what is open.
-#[derive(Clone, Copy, PartialEq, Eq)]
+#[derive(Clone, Copy)]
 pub enum Mark {
     CloseParenthesis,
     CloseBracket,
@@ -23,7 +23,7 @@ pub enum Mark {
 }
 
 /// What a token does behind an expression.
-#[derive(Clone, Copy, PartialEq, Eq)]
+#[derive(Clone, Copy)]
 pub enum Follow {
     /// A `(`.
     Call,

@@ -1,12 +1,12 @@
 // Patterns, which are read as expressions.
 
-ghost use Rattle.std.specs.Prelude.{◌≡◌, ◌≤◌, ◌<◌, IfOk, Option, option_map, Some, None};
+ghost use Rattle.std.specs.Prelude.{◌≡◌, ◌≤◌, ◌<◌, IfOk, Option, option_map, Some, Err};
 ghost use Rattle.nesl_tree.specs.Trees.{Tree, PatternTree};
 ghost use Rattle.nesl_tree.specs.Patterns.{pattern_in};
 ghost use Rattle.nesl_tree.specs.Views.{tree_of, pattern_tree};
 ghost use Rattle.nesl_parts.specs.Parts.{Sees, SeesPattern, PatternGiven};
 
-use crate::part::Part;
+use crate::part::{Part, boxed, boxes, none};
 use nesl_tree::tree::{Exp, Node, Pattern, PatternNode};
 use std::alloc::{AllocError, Global};
 
@@ -17,12 +17,12 @@ pub enum PatternPart {
     High,
 }
 
-// Drops what is no pattern.
-fn no_pattern<T: Drop>(value: T) -> Option<Pattern>
-    ensures { result ≡ None }
+// Drops what was read where memory ran out.
+fn run_out<T: Drop, U>(error: AllocError, value: T) -> Result<U, AllocError>
+    ensures { result ≡ Err error }
 {
     drop(value);
-    None
+    Err(error)
 }
 
 // The pattern with an expression's tokens. It recurs over a tree that is at most 100 high.
@@ -36,18 +36,22 @@ fn pattern_from(alloc: Global, exp: Exp) -> Result<Option<Pattern>, AllocError>
             Ok(Some(Pattern { span, node }))
         }
         Node::Pair { left, right } => {
-            let left = pattern_from(alloc, Box::into_inner(left))?;
-            let right = pattern_from(alloc, Box::into_inner(right))?;
+            let left = match pattern_from(alloc, Box::into_inner(left)) {
+                Ok(left) => left,
+                Err(error) => return run_out(error, right),
+            };
+            let right = match pattern_from(alloc, Box::into_inner(right)) {
+                Ok(right) => right,
+                Err(error) => return run_out(error, left),
+            };
             let Some(left) = left else {
-                return Ok(no_pattern(right));
+                return Ok(none(right));
             };
             let Some(right) = right else {
-                return Ok(no_pattern(left));
+                return Ok(none(left));
             };
-            let node = PatternNode::Pair {
-                left: Box::new(alloc, left)?,
-                right: Box::new(alloc, right)?,
-            };
+            let (left, right) = boxes(alloc, left, right)?;
+            let node = PatternNode::Pair { left, right };
             Ok(Some(Pattern { span, node }))
         }
         Node::Call {
@@ -57,13 +61,13 @@ fn pattern_from(alloc: Global, exp: Exp) -> Result<Option<Pattern>, AllocError>
             Some(part) => {
                 let node = PatternNode::Record {
                     name,
-                    part: Box::new(alloc, part)?,
+                    part: boxed(alloc, part)?,
                 };
                 Ok(Some(Pattern { span, node }))
             }
             None => Ok(None),
         },
-        other => Ok(no_pattern(other)),
+        other => Ok(none(other)),
     }
 }
 

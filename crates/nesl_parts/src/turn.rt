@@ -37,6 +37,14 @@ fn refuse<T: Drop>(value: T) -> Result<Turn, ParseFault>
     Err(ParseFault::Syntax)
 }
 
+// The same where memory ran out.
+fn run_out<T: Drop>(value: T) -> Result<Turn, ParseFault>
+    ensures { result ≡ Err ParseFault.Memory }
+{
+    drop(value);
+    Err(ParseFault::Memory)
+}
+
 fn becomes(opening: Opening) -> Result<Turn, ParseFault>
     ensures { result ≡ Ok (turn.Becomes (pending.Open opening)) }
 {
@@ -178,13 +186,14 @@ fn bind(alloc: Global, group: Group, bindings: Bindings, part: Part) -> Result<T
     ensures { (g : machine.Group) (bs : Binders) (x : Tree) → SeesGroup group g → SeesBound bindings bs → Sees part x →
         Turns result (machine.bound g bs (pattern_in x)) }
 {
-    match pattern_of(alloc, part)? {
-        Some(pattern) => becomes(Opening::Value {
+    match pattern_of(alloc, part) {
+        Ok(Some(pattern)) => becomes(Opening::Value {
             group,
             bindings,
             pattern,
         }),
-        None => refuse((group, bindings)),
+        Ok(None) => refuse((group, bindings)),
+        Err(_) => run_out((group, bindings)),
     }
 }
 
@@ -307,7 +316,9 @@ fn end_value(
     ensures { (g : machine.Group) (bs : Binders) (p : PatternTree) (x : Tree) → SeesGroup group g → SeesBound bindings bs → SeesPattern pattern p → Sees part x →
         Turns result (turned mark at (machine.value g bs p) x) }
 {
-    let bindings = push_binding(bindings, pattern, part)?;
+    let Ok(bindings) = push_binding(bindings, pattern, part) else {
+        return run_out(group);
+    };
     match group {
         Group::Let(word) => end_let_value(bindings, word, mark),
         Group::Each { from, body } => end_each_value(alloc, body, bindings, mark, from, at),
