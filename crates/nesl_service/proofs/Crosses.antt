@@ -8,7 +8,7 @@ use Rattle.nesl_helpers.specs.contracts.pool.Pool as pool_row
 use Rattle.nesl_helpers.proofs.pool.Kept.TheSendSync as kept_crosses
 use Rattle.nesl_house.proofs.Crosses.{table_sync}
 use Rattle.nesl_house.proofs.lease.Receipt.TheSendSync as receipt_crosses
-use Rattle.nesl_service.proofs.numbers.Numbers.TheSendSync as numbers_crosses
+use Rattle.nesl_quotas.proofs.numbers.Numbers.TheSendSync as numbers_crosses
 use Rattle.nesl_service.specs.contracts.service.Service as service_row
 
 pub pool_sync : (L : RattleType) (g : Ghosts L.Denot) → IsSync L → IsSync (pool_row.the_row L g)

@@ -3,6 +3,4 @@
 
 pub mod crowd;
 pub mod journal;
-pub mod numbers;
 pub mod service;
-pub mod sparing;

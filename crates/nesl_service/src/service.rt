@@ -4,8 +4,6 @@ ghost use Rattle.nesl_house.specs.Table.{IsClosed};
 
 use crate::crowd::run_crowd;
 use crate::journal::{Journal, NoJournal, Visit};
-use crate::numbers::{Fault, Numbers};
-use crate::sparing::Sparing;
 use crossbeam_channel::{Receiver, Sender, bounded};
 use nesl_helpers::{Free, Gate, Pool};
 use nesl_house::lease::Receipt;
@@ -13,6 +11,8 @@ use nesl_house::table::{CloseFault, Closed, Table};
 use nesl_line::device::Device;
 use nesl_line::exchange::End;
 use nesl_line::serve::{Served, serve};
+use nesl_quotas::numbers::{Fault, Numbers};
+use nesl_quotas::sparing::Sparing;
 use std::alloc::{AllocError, Global};
 use std::io::{BufWriter, ErrorKind};
 use std::marker::Brand;

@@ -1,6 +1,6 @@
 //! Helpers, asked for only where they do enough.
 ghost use Rattle.std.specs.Prelude.{◌≡◌};
-ghost use Rattle.nesl_service.specs.Sparing.{longer};
+ghost use Rattle.nesl_quotas.specs.Sparing.{longer};
 
 use nesl_helpers::{Gate, Helpers, Place};
 use std::sync::atomic::{AtomicU64, Ordering};
