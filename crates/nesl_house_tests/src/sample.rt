@@ -18,7 +18,7 @@ pub const LIMITS: Limits = Limits {
     transcript_bytes: 1_048_576,
 };
 
-pub fn ann_and_bob(alloc: Global) -> Result<Vec<Vec<u8>>, AllocError> {
+fn ann_and_bob(alloc: Global) -> Result<Vec<Vec<u8>>, AllocError> {
     let mut roster = Vec::new(alloc);
     roster.push(b"ann".to_vec(alloc)?)?;
     roster.push(b"bob".to_vec(alloc)?)?;
@@ -28,6 +28,11 @@ pub fn ann_and_bob(alloc: Global) -> Result<Vec<Vec<u8>>, AllocError> {
 pub fn opened(alloc: Global) -> Result<Table, Fail> {
     let roster = ann_and_bob(alloc)?;
     Ok(Table::new(alloc, roster.as_slice(), LIMITS)?)
+}
+
+pub fn opened_house(alloc: Global) -> Result<House, Fail> {
+    let roster = ann_and_bob(alloc)?;
+    Ok(House::new(alloc, roster.as_slice(), LIMITS)?)
 }
 
 // How many lines the user's session stored.

@@ -6,6 +6,8 @@ mod builtins;
 #[cfg(test)]
 mod equations;
 #[cfg(test)]
+mod made;
+#[cfg(test)]
 mod names;
 #[cfg(test)]
 mod types;
