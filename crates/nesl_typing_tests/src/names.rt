@@ -7,6 +7,7 @@ use nesl_syntax::parse_form;
 use nesl_tree::tree::Form;
 use nesl_types::{Context, Scheme, Top, Ty};
 use std::alloc::{AllocError, Global};
+use std::test::Fail;
 
 /// Lines, each behind the place of its first unknown name, or a `-` where it has none. A variable `x`, a function `g`
 /// and a datatype `p` are defined, and `it` is a variable.
@@ -136,24 +137,22 @@ fn is_told(
     }
 }
 
-/// The first row that doesn't hold.
-fn first_wrong(alloc: Global, context: &Context<u8>) -> Result<Option<&'static str>, AllocError> {
+/// Fails at the first row that doesn't hold.
+fn all_are_told(alloc: Global, context: &Context<u8>) -> Result<(), Fail> {
     for row in LINES.lines() {
         let (wanted, line) = row.split_once(' ').unwrap_or((row, ""));
         if !is_told(alloc, context, line, wanted)? {
-            return Ok(Some(row));
+            return Err(Fail::new(row));
         }
     }
-    Ok(None)
+    Ok(())
 }
 
 #[test]
-fn the_first_unknown_name_is_told(rt: HostRuntime) {
-    let alloc = rt.alloc();
-    let mut context = Context::new(alloc);
-    add_names(alloc, &mut context).expect(&rt, "memory");
-    let wrong = first_wrong(alloc, &context).expect(&rt, "memory");
-    assert!(rt; wrong.is_none(), "{wrong:?}");
+fn the_first_unknown_name_is_told(rt: HostRuntime) -> Result<(), Fail> {
+    let mut context = Context::new(rt.alloc());
+    add_names(rt.alloc(), &mut context).expect(&rt, "memory");
+    all_are_told(rt.alloc(), &context)
 }
 
 /// A line that binds `count` names, each to the one before it, and ends in the name `last`.
