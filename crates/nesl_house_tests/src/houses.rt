@@ -1,5 +1,5 @@
 //! A house spoken to, in a few lines.
-use crate::sample::lines_of;
+use crate::sample::{house_of, lines_of, roster};
 use crate::turns::{ORDERS, Talk, are_heard, is_order, said, script};
 use nesl_house::house::{House, Said};
 use nesl_house::manner::InHeap;
@@ -19,20 +19,6 @@ const LIMITS: Limits = Limits {
 };
 
 const ONE: &str = "it = 1 : int (work 1, depth 1)\n";
-
-// The names between the blanks.
-fn roster(alloc: Global, names: &str) -> Result<Vec<Vec<u8>>, AllocError> {
-    let mut roster = Vec::new(alloc);
-    for name in names.split(' ') {
-        roster.push(Vec::from_slice(alloc, name.as_bytes())?)?;
-    }
-    Ok(roster)
-}
-
-fn house(alloc: Global, names: &str) -> Result<House, Fail> {
-    let names = roster(alloc, names)?;
-    Ok(House::new(alloc, names.as_slice(), LIMITS)?)
-}
 
 // Whether this is what is answered.
 fn is_told(alloc: Global, house: &mut House, user: &[u8], text: &[u8], wanted: &str) -> bool {
@@ -118,7 +104,7 @@ fn a_65th_name_is_too_many(rt: HostRuntime) -> Result<(), Fail> {
 
 #[test]
 fn users_have_sessions_of_their_own(rt: HostRuntime) -> Result<(), Fail> {
-    let mut house = house(rt.alloc(), "ann bob")?;
+    let mut house = house_of(rt.alloc(), "ann bob", LIMITS)?;
     let seven = "it = 7 : int (work 1, depth 1)\n";
     let told = is_told(rt.alloc(), &mut house, b"bob", b"7;", seven);
     let ann = lines_of(&house, b"ann");
@@ -132,7 +118,7 @@ fn users_have_sessions_of_their_own(rt: HostRuntime) -> Result<(), Fail> {
 #[test]
 fn strangers_have_none(rt: HostRuntime) -> Result<(), Fail> {
     let alloc = rt.alloc();
-    let mut house = house(alloc, "ann bob")?;
+    let mut house = house_of(alloc, "ann bob", LIMITS)?;
     let first = house.say_in(alloc, b"zed", b"7;", alloc).fault();
     let second = house.say(alloc, b"zed", b"7;");
     let told = second.bytes() == b"fault user\n".as_slice() && !second.recorded();
@@ -160,7 +146,7 @@ fn are_answered(answers: &[Answer]) -> bool {
 fn lines_are_said_in_a_heap(rt: HostRuntime) -> Result<(), Fail> {
     let alloc = rt.alloc();
     let script = bob_and_a_stranger(alloc)?;
-    let mut house = house(alloc, "ann bob")?;
+    let mut house = house_of(alloc, "ann bob", LIMITS)?;
     let one = house.say_in(alloc, b"ann", b"1;", alloc).bytes() == ONE.as_bytes();
     let answers = house.run_by(alloc, &InHeap(alloc), script.as_slice())?;
     assert!(rt; one && are_answered(answers.as_slice()) && all_have_one(&house));
@@ -171,7 +157,7 @@ fn lines_are_said_in_a_heap(rt: HostRuntime) -> Result<(), Fail> {
 fn a_line_may_be_too_long(rt: HostRuntime) -> Result<(), Fail> {
     let mut line = Vec::from_slice(rt.alloc(), b"1;")?;
     line.resize(65_537, b' ')?;
-    let mut house = house(rt.alloc(), "ann")?;
+    let mut house = house_of(rt.alloc(), "ann", LIMITS)?;
     let long = "fault long (work 0)\n";
     let is_long = is_told(rt.alloc(), &mut house, b"ann", line.as_slice(), long);
     let _ = line.pop();
@@ -186,24 +172,23 @@ const MANY: Limits = Limits {
     ..LIMITS
 };
 
-// How many lines are answered in turn, up to the first that isn't.
-fn answered(alloc: Global, house: &mut House) -> u32 {
-    for place in 0..4000 {
+// Whether so many lines are answered.
+fn are_all_answered(alloc: Global, house: &mut House, lines: u32) -> bool {
+    for _ in 0..lines {
         if !is_told(alloc, house, b"ann", b"1;", ONE) {
-            return place;
+            return false;
         }
     }
-    4000
+    true
 }
 
 // No answer is want of memory while there is memory.
 #[test]
 fn a_session_takes_many_lines(rt: HostRuntime) -> Result<(), Fail> {
-    let names = roster(rt.alloc(), "ann")?;
-    let mut house = House::new(rt.alloc(), names.as_slice(), MANY)?;
-    let lines = answered(rt.alloc(), &mut house);
+    let mut house = house_of(rt.alloc(), "ann", MANY)?;
+    let are_answered = are_all_answered(rt.alloc(), &mut house, 3000);
     let full = "fault transcript (work 0)\n";
-    assert!(rt; lines == 3000 && is_told(rt.alloc(), &mut house, b"ann", b"1;", full));
+    assert!(rt; are_answered && is_told(rt.alloc(), &mut house, b"ann", b"1;", full));
     Ok(())
 }
 
@@ -222,7 +207,7 @@ const BOB: Talk = [
 // Whether each hears the replies to their own lines, in this order.
 fn hear_their_own(alloc: Global, order: u8) -> Result<bool, Fail> {
     let script = script(alloc, &ANN, &BOB, order)?;
-    let mut house = house(alloc, "ann bob")?;
+    let mut house = house_of(alloc, "ann bob", LIMITS)?;
     let answers = house.run(alloc, script.as_slice())?;
     Ok(are_heard(&ANN, &BOB, order, answers.as_slice()))
 }

@@ -1,6 +1,6 @@
 // No one hears who else speaks, though helpers are granted without end.
 use crate::granting::Granting;
-use crate::sample::opened_house;
+use crate::sample::{LIMITS, house_of};
 use crate::turns::{ORDERS, Talk, are_heard, is_order, script};
 use nesl_helpers::Free;
 use std::alloc::Global;
@@ -27,7 +27,7 @@ fn hear_their_own<R: Threads + Wait + Sync>(
     order: u8,
 ) -> Result<bool, Fail> {
     let script = script(alloc, &ANN, &BOB, order)?;
-    let mut house = opened_house(alloc)?;
+    let mut house = house_of(alloc, "ann bob", LIMITS)?;
     let answers = house.run_with(rt, alloc, script.as_slice(), &Granting, &Free)?;
     Ok(are_heard(&ANN, &BOB, order, answers.as_slice()))
 }
