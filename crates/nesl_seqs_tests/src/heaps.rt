@@ -89,26 +89,30 @@ fn chained<A: Allocator + Copy>(
     Ok(Some(value))
 }
 
-/// Whether a row holds in the heap.
-fn holds_in(alloc: Global, heap: &LocalHeap, row: &str) -> Result<bool, AllocError> {
+/// Whether a row holds in the heap. Where it may be refused for want of memory there, it then holds.
+fn holds_in(
+    alloc: Global,
+    heap: &LocalHeap,
+    row: &str,
+    may_be_refused: bool,
+) -> Result<bool, AllocError> {
     let (calls, result) = row.split_once(" = ").unwrap_or((row, ""));
     let (names, argument) = calls.split_once(" of ").unwrap_or((calls, ""));
     let Some(argument) = value_of(alloc, argument, 15)? else {
         return Ok(false);
     };
-    match chained(heap, names, &argument)? {
-        Some(found) => is_value(alloc, &found, result),
-        None => Ok(result == "none"),
+    match chained(heap, names, &argument) {
+        Ok(Some(found)) => is_value(alloc, &found, result),
+        Ok(None) => Ok(result == "none"),
+        Err(_) => Ok(may_be_refused),
     }
 }
 
-/// Fails at the first row that doesn't hold in a heap of so many bytes, or leaves something there. Where it may be
-/// refused for want of memory, it then holds.
+/// Fails at the first row that doesn't hold in a heap of so many bytes, or leaves something there.
 fn all_hold_in(alloc: Global, rows: &str, size: usize, may_be_refused: bool) -> Result<(), Fail> {
     let heap = LocalHeap::new(alloc, size)?;
     for row in rows.lines() {
-        let holds = holds_in(alloc, &heap, row).unwrap_or(may_be_refused);
-        if !holds || heap.used() != 0 {
+        if !holds_in(alloc, &heap, row, may_be_refused)? || heap.used() != 0 {
             return Err(Fail::new(row));
         }
     }

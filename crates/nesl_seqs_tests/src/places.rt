@@ -129,12 +129,12 @@ fn gives_numbers(
 }
 
 #[test]
-fn places_of_several_windows(rt: HostRuntime) {
-    let turned = with_places(rt.alloc(), Numbers::Down).expect(&rt, "memory");
+fn places_of_several_windows(rt: HostRuntime) -> Result<(), Fail> {
+    let turned = with_places(rt.alloc(), Numbers::Down)?;
     let down = (Numbers::Down, 600_000);
     let whole = price_of(1_800_001, 1, 600_001);
-    let is_right = gives_numbers(rt.alloc(), SeqFn::Permute, &turned, down, whole);
-    assert!(rt; is_right == Ok(true));
+    assert!(rt; gives_numbers(rt.alloc(), SeqFn::Permute, &turned, down, whole)?);
+    Ok(())
 }
 
 #[test]
@@ -147,8 +147,9 @@ fn a_place_twice_in_several_windows(rt: HostRuntime) -> Result<(), Fail> {
 // Numbers that are written, of which the last one to each place stays.
 const WRITES: &str = "< ( 9999 1 ) ( 5000 2 ) ( 3 30 ) ( 9999 4 ) >";
 
-// Whether these numbers are written among those from 0 to 9,999.
-fn are_written(alloc: Global, numbers: Value) -> Result<bool, AllocError> {
+// Whether they are written among the numbers from 0 to 9,999.
+fn are_written(alloc: Global, numbers: Result<Value, AllocError>) -> Result<bool, AllocError> {
+    let numbers = numbers?;
     let Some(writes) = value_of(alloc, WRITES, 0)? else {
         return Ok(false);
     };
@@ -159,10 +160,10 @@ fn are_written(alloc: Global, numbers: Value) -> Result<bool, AllocError> {
 }
 
 #[test]
-fn writes_in_several_windows(rt: HostRuntime) {
+fn writes_in_several_windows(rt: HostRuntime) -> Result<(), Fail> {
     let alloc = rt.alloc();
-    let packed = sequence(alloc, Numbers::Up, 10_000).expect(&rt, "memory");
-    let plain = unpacked(alloc, &packed).expect(&rt, "memory");
-    let (packed, plain) = (are_written(alloc, packed), are_written(alloc, plain));
-    assert!(rt; packed == Ok(true) && plain == Ok(true));
+    assert!(rt; are_written(alloc, sequence(alloc, Numbers::Up, 10_000))?);
+    let packed = sequence(alloc, Numbers::Up, 10_000)?;
+    assert!(rt; are_written(alloc, unpacked(alloc, &packed))?);
+    Ok(())
 }
