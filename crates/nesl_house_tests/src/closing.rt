@@ -4,6 +4,8 @@ use nesl_helpers::{Free, NoHelpers};
 use nesl_house::lease::Receipt;
 use nesl_house::roster::NewFault;
 use nesl_house::table::{CloseFault, Table, TakeFault};
+use std::alloc::Global;
+use std::process::Abort;
 use std::sync::Wait;
 use std::test::Fail;
 
@@ -28,12 +30,9 @@ fn refusal<R: Wait>(rt: &R, table: &Table, user: &str) -> Option<TakeFault> {
 
 #[test]
 fn a_table_needs_a_roster(rt: HostRuntime) -> Result<(), Fail> {
-    match Table::new(rt.alloc(), &[], LIMITS) {
-        Ok(_) => assert!(rt; false, "a roster has a name"),
-        Err(fault) => assert!(rt; fault == NewFault::Count),
-    }
+    let fault = Table::new(rt.alloc(), &[], LIMITS).err();
     let table = opened(rt.alloc())?;
-    assert!(rt; is_as_opened(&table));
+    assert!(rt; fault == Some(NewFault::Count) && is_as_opened(&table));
     Ok(())
 }
 
@@ -46,42 +45,48 @@ fn one_lease_at_a_time(rt: HostRuntime) -> Result<(), Fail> {
     let place = lease.place();
     let busy = refusal(&rt, &table, "bob");
     let stranger = refusal(&rt, &table, "zed");
-    let answer = lease.line_split(&rt, rt.alloc(), b"2 * 3 + 1;", &NoHelpers, &Free);
-    let is_seven = answer.bytes() == b"it = 7 : int (work 5, depth 5)\n".as_slice();
+    let is_seven = lease
+        .line_split(&rt, rt.alloc(), b"2 * 3 + 1;", &NoHelpers, &Free)
+        .bytes()
+        == b"it = 7 : int (work 5, depth 5)\n".as_slice();
     let lines = lease.session().lines().len();
     let receipt = table.give(&rt, lease);
-    assert!(rt; is_seven && lines == 1);
-    assert!(rt; place == 1 && receipt == receipt_of(1, 1));
-    assert!(rt; busy == Some(TakeFault::Busy) && stranger == Some(TakeFault::NoUser));
     let home = refusal(&rt, &table, "bob");
     let again = said(&rt, rt.alloc(), &table, "bob", &["it;"]);
+    assert!(rt; is_seven && lines == 1 && place == 1 && receipt == receipt_of(1, 1));
+    assert!(rt; busy == Some(TakeFault::Busy) && stranger == Some(TakeFault::NoUser));
     assert!(rt; home.is_none() && again == Some(receipt_of(1, 1)));
     Ok(())
+}
+
+// These receipts; memory is there.
+fn receipts_of<R: Abort>(rt: &R, alloc: Global, all: &[Receipt]) -> Vec<Receipt> {
+    Vec::from_slice(alloc, all).expect(rt, "memory")
 }
 
 #[test]
 fn not_closed_while_a_lease_is_out(rt: HostRuntime) -> Result<(), Fail> {
     let table = opened(rt.alloc())?;
-    let receipt = said(&rt, rt.alloc(), &table, "ann", &["1;"]).ok_or("ann")?;
-    let receipts = vec![in rt.alloc(); receipt]?;
+    let Some(first) = said(&rt, rt.alloc(), &table, "ann", &["1;"]) else {
+        panic!(rt; "ann's session is at home");
+    };
     let Ok(lease) = table.take(&rt, b"bob") else {
         panic!(rt; "bob's session is at home");
     };
     let Err(
         CloseFault::StillOut {
             table,
-            mut receipts,
+            receipts,
             place,
         },
-    ) = table.close(receipts)
+    ) = table.close(receipts_of(&rt, rt.alloc(), &[first]))
     else {
         panic!(rt; "bob's session is out");
     };
-    let receipt = table.give(&rt, lease);
+    let second = table.give(&rt, lease);
     let has_all = receipts.as_slice() == [receipt_of(0, 1)].as_slice();
     assert!(rt; place == 1 && is_as_opened(&table) && has_all);
-    receipts.push(receipt)?;
-    let Ok(closed) = table.close(receipts) else {
+    let Ok(closed) = table.close(receipts_of(&rt, rt.alloc(), &[first, second])) else {
         panic!(rt; "all sessions are at home");
     };
     assert!(rt; closed.lines == 1 && closed.house.users().len() == 2);
@@ -91,11 +96,13 @@ fn not_closed_while_a_lease_is_out(rt: HostRuntime) -> Result<(), Fail> {
 #[test]
 fn not_closed_without_a_receipt(rt: HostRuntime) -> Result<(), Fail> {
     let table = opened(rt.alloc())?;
-    let receipt = said(&rt, rt.alloc(), &table, "ann", &["x = 3;", "x;"]).ok_or("ann")?;
+    let Some(receipt) = said(&rt, rt.alloc(), &table, "ann", &["x = 3;", "x;"]) else {
+        panic!(rt; "ann's session is at home");
+    };
     let Err(
         CloseFault::Missing {
             table,
-            mut receipts,
+            receipts,
             counted,
             held,
         },
@@ -104,29 +111,29 @@ fn not_closed_without_a_receipt(rt: HostRuntime) -> Result<(), Fail> {
         panic!(rt; "a receipt is missing");
     };
     assert!(rt; counted == 0 && held == 2 && receipts.is_empty());
-    receipts.push(receipt)?;
-    let Ok(closed) = table.close(receipts) else {
+    let Ok(closed) = table.close(receipts_of(&rt, rt.alloc(), &[receipt])) else {
         panic!(rt; "no receipt is missing");
     };
-    let lines = (
-        lines_of(&closed.house, b"ann"),
-        lines_of(&closed.house, b"bob"),
-    );
-    assert!(rt; closed.lines == 2 && lines == (Some(2), Some(0)));
+    let ann = lines_of(&closed.house, b"ann");
+    let bob = lines_of(&closed.house, b"bob");
+    assert!(rt; closed.lines == 2 && ann == Some(2) && bob == Some(0));
     Ok(())
 }
 
 #[test]
 fn a_reset_is_a_line(rt: HostRuntime) -> Result<(), Fail> {
     let table = opened(rt.alloc())?;
-    let first = said(&rt, rt.alloc(), &table, "ann", &["x = 3;", ":reset", "4;"]).ok_or("ann")?;
-    let second = said(&rt, rt.alloc(), &table, "ann", &["x;"]).ok_or("ann again")?;
+    let first = said(&rt, rt.alloc(), &table, "ann", &["x = 3;", ":reset", "4;"]);
+    let second = said(&rt, rt.alloc(), &table, "ann", &["x;"]);
+    let (Some(first), Some(second)) = (first, second) else {
+        panic!(rt; "ann's session is at home");
+    };
     assert!(rt; first.recorded == 3 && second.recorded == 1);
-    let Ok(closed) = table.close(vec![in rt.alloc(); first, second]?) else {
+    let Ok(closed) = table.close(receipts_of(&rt, rt.alloc(), &[first, second])) else {
         panic!(rt; "no receipt is missing");
     };
     let cleared = closed.house.session(b"ann").map(|ann| ann.cleared());
-    assert!(rt; closed.lines == 4 && cleared == Some(2));
-    assert!(rt; lines_of(&closed.house, b"ann") == Some(2));
+    let lines = lines_of(&closed.house, b"ann");
+    assert!(rt; closed.lines == 4 && cleared == Some(2) && lines == Some(2));
     Ok(())
 }

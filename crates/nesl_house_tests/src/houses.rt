@@ -1,10 +1,11 @@
 //! A house spoken to, in a few lines.
-use crate::sample::lines_of;
-use crate::turns::{ORDERS, Talk, are_heard, orders, said, script};
-use nesl_house::house::House;
+use crate::sample::{house_of, lines_of, roster};
+use crate::turns::{ORDERS, Talk, are_heard, is_order, said, script};
+use nesl_house::house::{House, Said};
 use nesl_house::manner::InHeap;
 use nesl_house::roster::{NewFault, is_user_name};
 use nesl_session::Fault;
+use nesl_session::answer::Answer;
 use nesl_session::limits::Limits;
 use std::alloc::{AllocError, Global};
 use std::test::Fail;
@@ -19,30 +20,18 @@ const LIMITS: Limits = Limits {
 
 const ONE: &str = "it = 1 : int (work 1, depth 1)\n";
 
-// The names between the blanks.
-fn roster(alloc: Global, names: &str) -> Result<Vec<Vec<u8>>, AllocError> {
-    let mut roster = Vec::new(alloc);
-    for name in names.split(' ') {
-        roster.push(Vec::from_slice(alloc, name.as_bytes())?)?;
-    }
-    Ok(roster)
-}
-
-fn house(alloc: Global, names: &str) -> Result<House, Fail> {
-    let names = roster(alloc, names)?;
-    Ok(House::new(alloc, names.as_slice(), LIMITS)?)
-}
-
 // Whether this is what is answered.
 fn is_told(alloc: Global, house: &mut House, user: &[u8], text: &[u8], wanted: &str) -> bool {
     house.say(alloc, user, text).bytes() == wanted.as_bytes()
 }
 
-// Whether this is the name of the second user, whose session stored so many lines.
-fn is_second(house: &House, name: &[u8], lines: usize) -> bool {
-    match house.users().get(1) {
-        Some(user) => user.name() == name && user.session().lines().len() == lines,
-        None => false,
+// How many lines the session of the second user stored, where this is their name.
+fn lines_of_second(house: &House, name: &[u8]) -> Option<usize> {
+    let user = house.users().get(1)?;
+    if user.name() == name {
+        Some(user.session().lines().len())
+    } else {
+        None
     }
 }
 
@@ -59,24 +48,21 @@ fn refusal(alloc: Global, names: &[Vec<u8>]) -> Option<NewFault> {
     House::new(alloc, names, LIMITS).err()
 }
 
+fn is_refused(alloc: Global, names: &str, fault: NewFault) -> Result<bool, AllocError> {
+    let names = roster(alloc, names)?;
+    Ok(refusal(alloc, names.as_slice()) == Some(fault))
+}
+
 #[test]
 fn rosters_are_checked(rt: HostRuntime) -> Result<(), Fail> {
     let alloc = rt.alloc();
+    let first = NewFault::Name { place: 1 };
     assert!(rt; refusal(alloc, &[]) == Some(NewFault::Count));
-    for (names, fault) in [
-        ("ann Ann", NewFault::Name { place: 1 }),
-        ("ann bob ann", NewFault::Twice { place: 2 }),
-        ("ann ann Bob", NewFault::Twice { place: 1 }),
-        ("ann 1a", NewFault::Name { place: 1 }),
-        ("ann ", NewFault::Name { place: 1 }),
-        ("ann abcdefghijklmnopq", NewFault::Name { place: 1 }),
-    ] {
-        let names = roster(alloc, names)?;
-        assert!(rt;
-            refusal(alloc, names.as_slice()) == Some(fault),
-            "{fault:?} is wanted"
-        );
-    }
+    assert!(rt; is_refused(alloc, "ann Ann", first)?);
+    assert!(rt; is_refused(alloc, "ann bob ann", NewFault::Twice { place: 2 })?);
+    assert!(rt; is_refused(alloc, "ann ann Bob", NewFault::Twice { place: 1 })?);
+    assert!(rt; is_refused(alloc, "ann 1a", first)? && is_refused(alloc, "ann ", first)?);
+    assert!(rt; is_refused(alloc, "ann abcdefghijklmnopq", first)?);
     assert!(rt; is_user_name(b"abcdefghijklmnop"));
     Ok(())
 }
@@ -90,16 +76,22 @@ fn many_names(alloc: Global, count: u8) -> Result<Vec<Vec<u8>>, AllocError> {
     Ok(names)
 }
 
+// Whether each of these users is told of a first line.
+fn all_are_told(alloc: Global, house: &mut House, names: &[Vec<u8>]) -> bool {
+    let mut told = true;
+    for name in names {
+        told &= is_told(alloc, house, name.as_slice(), b"1;", ONE);
+    }
+    told
+}
+
 #[test]
 fn rosters_are_counted(rt: HostRuntime) -> Result<(), Fail> {
     let alloc = rt.alloc();
     let names = many_names(alloc, 64)?;
     let mut house = House::new(alloc, names.as_slice(), LIMITS)?;
-    assert!(rt; house.users().len() == 64);
-    for name in names.iter() {
-        assert!(rt; is_told(alloc, &mut house, name.as_slice(), b"1;", ONE));
-    }
-    assert!(rt; all_have_one(&house));
+    let told = all_are_told(alloc, &mut house, names.as_slice());
+    assert!(rt; told && house.users().len() == 64 && all_have_one(&house));
     Ok(())
 }
 
@@ -112,77 +104,91 @@ fn a_65th_name_is_too_many(rt: HostRuntime) -> Result<(), Fail> {
 
 #[test]
 fn users_have_sessions_of_their_own(rt: HostRuntime) -> Result<(), Fail> {
-    let alloc = rt.alloc();
-    let mut house = house(alloc, "ann bob")?;
+    let mut house = house_of(rt.alloc(), "ann bob", LIMITS)?;
     let seven = "it = 7 : int (work 1, depth 1)\n";
-    assert!(rt; is_told(alloc, &mut house, b"bob", b"7;", seven));
+    let told = is_told(rt.alloc(), &mut house, b"bob", b"7;", seven);
     let ann = lines_of(&house, b"ann");
     let bob = lines_of(&house, b"bob");
     let zed = lines_of(&house, b"zed");
-    assert!(rt; ann == Some(0) && bob == Some(1) && zed.is_none());
-    assert!(rt; is_second(&house, b"bob", 1));
+    assert!(rt; told && ann == Some(0) && bob == Some(1) && zed.is_none());
+    assert!(rt; lines_of_second(&house, b"bob") == Some(1));
     Ok(())
 }
 
 #[test]
 fn strangers_have_none(rt: HostRuntime) -> Result<(), Fail> {
     let alloc = rt.alloc();
-    let mut house = house(alloc, "ann bob")?;
-    let first = house.say_in(alloc, b"zed", b"7;", alloc);
+    let mut house = house_of(alloc, "ann bob", LIMITS)?;
+    let first = house.say_in(alloc, b"zed", b"7;", alloc).fault();
     let second = house.say(alloc, b"zed", b"7;");
     let told = second.bytes() == b"fault user\n".as_slice() && !second.recorded();
-    assert!(rt; told && first.fault() == Some(Fault::User) && second.fault() == Some(Fault::User));
+    assert!(rt; told && first == Some(Fault::User) && second.fault() == Some(Fault::User));
     Ok(())
+}
+
+// A line of bob, and one of a stranger.
+fn bob_and_a_stranger(alloc: Global) -> Result<Vec<Said>, AllocError> {
+    let mut script = Vec::new(alloc);
+    script.push(said(alloc, "bob", "1;")?)?;
+    script.push(said(alloc, "zed", "1;")?)?;
+    Ok(script)
+}
+
+// Whether they are answered.
+fn are_answered(answers: &[Answer]) -> bool {
+    match answers {
+        [bob, stranger] => bob.bytes() == ONE.as_bytes() && stranger.fault() == Some(Fault::User),
+        _ => false,
+    }
 }
 
 #[test]
 fn lines_are_said_in_a_heap(rt: HostRuntime) -> Result<(), Fail> {
     let alloc = rt.alloc();
-    let mut house = house(alloc, "ann bob")?;
+    let script = bob_and_a_stranger(alloc)?;
+    let mut house = house_of(alloc, "ann bob", LIMITS)?;
     let one = house.say_in(alloc, b"ann", b"1;", alloc).bytes() == ONE.as_bytes();
-    let mut script = Vec::new(alloc);
-    script.push(said(alloc, "bob", "1;")?)?;
-    script.push(said(alloc, "zed", "1;")?)?;
     let answers = house.run_by(alloc, &InHeap(alloc), script.as_slice())?;
-    let first = answers.first().map(|answer| answer.bytes()) == Some(ONE.as_bytes());
-    let second = answers.get(1).map(|answer| answer.fault()) == Some(Some(Fault::User));
-    assert!(rt; one && first && second && all_have_one(&house));
+    assert!(rt; one && are_answered(answers.as_slice()) && all_have_one(&house));
     Ok(())
 }
 
 #[test]
 fn a_line_may_be_too_long(rt: HostRuntime) -> Result<(), Fail> {
-    let alloc = rt.alloc();
-    let mut house = house(alloc, "ann")?;
-    let mut line = Vec::from_slice(alloc, b"1;")?;
+    let mut line = Vec::from_slice(rt.alloc(), b"1;")?;
     line.resize(65_537, b' ')?;
+    let mut house = house_of(rt.alloc(), "ann", LIMITS)?;
     let long = "fault long (work 0)\n";
-    let is_long = is_told(alloc, &mut house, b"ann", line.as_slice(), long);
+    let is_long = is_told(rt.alloc(), &mut house, b"ann", line.as_slice(), long);
     let _ = line.pop();
-    let is_one = is_told(alloc, &mut house, b"ann", line.as_slice(), ONE);
+    let is_one = is_told(rt.alloc(), &mut house, b"ann", line.as_slice(), ONE);
     assert!(rt; is_long && is_one && lines_of(&house, b"ann") == Some(1));
     Ok(())
+}
+
+const MANY: Limits = Limits {
+    session_work: 3000,
+    transcript_lines: 3000,
+    ..LIMITS
+};
+
+// Whether so many lines are answered.
+fn are_all_answered(alloc: Global, house: &mut House, lines: u32) -> bool {
+    for _ in 0..lines {
+        if !is_told(alloc, house, b"ann", b"1;", ONE) {
+            return false;
+        }
+    }
+    true
 }
 
 // No answer is want of memory while there is memory.
 #[test]
 fn a_session_takes_many_lines(rt: HostRuntime) -> Result<(), Fail> {
-    let alloc = rt.alloc();
-    let names = roster(alloc, "ann")?;
-    let limits = Limits {
-        session_work: 3000,
-        transcript_lines: 3000,
-        ..LIMITS
-    };
-    let mut house = House::new(alloc, names.as_slice(), limits)?;
-    for place in 0..3000 {
-        assert!(rt;
-            is_told(alloc, &mut house, b"ann", b"1;", ONE),
-            "line {place}"
-        );
-    }
+    let mut house = house_of(rt.alloc(), "ann", MANY)?;
+    let are_answered = are_all_answered(rt.alloc(), &mut house, 3000);
     let full = "fault transcript (work 0)\n";
-    assert!(rt; is_told(alloc, &mut house, b"ann", b"1;", full));
+    assert!(rt; are_answered && is_told(rt.alloc(), &mut house, b"ann", b"1;", full));
     Ok(())
 }
 
@@ -198,19 +204,23 @@ const BOB: Talk = [
     ("7;", "fault work (work 0)\n"),
 ];
 
+// Whether each hears the replies to their own lines, in this order.
+fn hear_their_own(alloc: Global, order: u8) -> Result<bool, Fail> {
+    let script = script(alloc, &ANN, &BOB, order)?;
+    let mut house = house_of(alloc, "ann bob", LIMITS)?;
+    let answers = house.run(alloc, script.as_slice())?;
+    Ok(are_heard(&ANN, &BOB, order, answers.as_slice()))
+}
+
 #[test]
 fn no_one_hears_who_else_speaks(rt: HostRuntime) -> Result<(), Fail> {
-    let alloc = rt.alloc();
-    let orders = orders(alloc)?;
-    assert!(rt; orders.len() == ORDERS);
-    for order in orders.iter() {
-        let script = script(alloc, &ANN, &BOB, *order)?;
-        let mut house = house(alloc, "ann bob")?;
-        let answers = house.run(alloc, script.as_slice())?;
-        assert!(rt;
-            are_heard(&ANN, &BOB, *order, answers.as_slice()),
-            "in {order}"
-        );
+    let mut orders = 0u32;
+    for order in 0u8..64 {
+        if is_order(order) {
+            assert!(rt; hear_their_own(rt.alloc(), order)?, "in {order}");
+            orders = orders.saturating_add(1);
+        }
     }
+    assert!(rt; orders == ORDERS);
     Ok(())
 }

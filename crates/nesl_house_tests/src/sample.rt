@@ -18,16 +18,25 @@ pub const LIMITS: Limits = Limits {
     transcript_bytes: 1_048_576,
 };
 
-pub fn ann_and_bob(alloc: Global) -> Result<Vec<Vec<u8>>, AllocError> {
+// The names between the blanks.
+pub fn roster(alloc: Global, names: &str) -> Result<Vec<Vec<u8>>, AllocError> {
     let mut roster = Vec::new(alloc);
-    roster.push(b"ann".to_vec(alloc)?)?;
-    roster.push(b"bob".to_vec(alloc)?)?;
+    for name in names.split(' ') {
+        roster.push(Vec::from_slice(alloc, name.as_bytes())?)?;
+    }
     Ok(roster)
 }
 
+// A table of ann and bob.
 pub fn opened(alloc: Global) -> Result<Table, Fail> {
-    let roster = ann_and_bob(alloc)?;
-    Ok(Table::new(alloc, roster.as_slice(), LIMITS)?)
+    let names = roster(alloc, "ann bob")?;
+    Ok(Table::new(alloc, names.as_slice(), LIMITS)?)
+}
+
+// A house of these users.
+pub fn house_of(alloc: Global, names: &str, limits: Limits) -> Result<House, Fail> {
+    let names = roster(alloc, names)?;
+    Ok(House::new(alloc, names.as_slice(), limits)?)
 }
 
 // How many lines the user's session stored.

@@ -7,37 +7,31 @@ use std::alloc::{AllocError, Global};
 pub type Talk = [(&'static str, &'static str); 3];
 
 /// The number of the orders.
-pub const ORDERS: usize = 20;
+pub const ORDERS: u32 = 20;
 
-/// The orders: ann's turns are the ones among the lowest six bits.
-pub fn orders(alloc: Global) -> Result<Vec<u8>, AllocError> {
-    let mut orders = Vec::new(alloc);
-    for order in 0u8..64 {
-        if order.count_ones() == 3 {
-            orders.push(order)?;
-        }
-    }
-    Ok(orders)
+/// Whether these are turns of an order: ann's are the ones among the lowest six bits.
+pub fn is_order(turns: u8) -> bool {
+    turns < 64 && turns.count_ones() == 3
 }
 
 pub fn said(alloc: Global, user: &str, text: &str) -> Result<Said, AllocError> {
-    Ok(Said {
-        user: Vec::from_slice(alloc, user.as_bytes())?,
-        text: Vec::from_slice(alloc, text.as_bytes())?,
-    })
+    let user = Vec::from_slice(alloc, user.as_bytes())?;
+    let text = Vec::from_slice(alloc, text.as_bytes())?;
+    Ok(Said { user, text })
 }
 
 /// What is said, in this order.
 pub fn script(alloc: Global, ann: &Talk, bob: &Talk, order: u8) -> Result<Vec<Said>, AllocError> {
     let mut script = Vec::new(alloc);
-    let (mut ann, mut bob, mut turns) = (ann.iter(), bob.iter(), order);
-    for _ in 0..6 {
-        let is_ann = turns & 1 == 1;
-        turns >>= 1;
-        let next = if is_ann { ann.next() } else { bob.next() };
-        if let Some((line, _)) = next {
-            script.push(said(alloc, if is_ann { "ann" } else { "bob" }, line)?)?;
-        }
+    let (mut ann, mut bob) = (ann.iter(), bob.iter());
+    for turn in 0..6u32 {
+        let (user, next) = if (order >> turn) & 1 == 1 {
+            ("ann", ann.next())
+        } else {
+            ("bob", bob.next())
+        };
+        let (line, _) = next.copied().unwrap_or(("", ""));
+        script.push(said(alloc, user, line)?)?;
     }
     Ok(script)
 }
@@ -52,9 +46,9 @@ pub fn are_heard(ann: &Talk, bob: &Talk, order: u8, answers: &[Answer]) -> bool 
             bob.next()
         };
         turns >>= 1;
-        match next {
-            Some((_, reply)) if answer.bytes() == reply.as_bytes() => {}
-            Some(_) | None => return false,
+        let (_, reply) = next.copied().unwrap_or(("", ""));
+        if answer.bytes() != reply.as_bytes() {
+            return false;
         }
     }
     answers.len() == 6

@@ -1,6 +1,5 @@
 //! Readers and writers that do as they are told, and houses for them.
 use nesl_house::house::House;
-use nesl_line::device::Device;
 use nesl_session::limits::Limits;
 use std::alloc::{AllocError, Global};
 use std::io;
@@ -16,16 +15,16 @@ pub const LIMITS: Limits = Limits {
     transcript_bytes: 1_048_576,
 };
 
-pub fn roster(alloc: Global, names: &[&str]) -> Result<Vec<Vec<u8>>, AllocError> {
+/// Ann and bob.
+pub fn roster(alloc: Global) -> Result<Vec<Vec<u8>>, AllocError> {
     let mut roster = Vec::new(alloc);
-    for name in names {
-        roster.push(Vec::from_slice(alloc, name.as_bytes())?)?;
-    }
+    roster.push(Vec::from_slice(alloc, b"ann")?)?;
+    roster.push(Vec::from_slice(alloc, b"bob")?)?;
     Ok(roster)
 }
 
-pub fn house(alloc: Global, names: &[&str]) -> Result<House, Fail> {
-    let roster = roster(alloc, names)?;
+pub fn house(alloc: Global) -> Result<House, Fail> {
+    let roster = roster(alloc)?;
     Ok(House::new(alloc, roster.as_slice(), LIMITS)?)
 }
 
@@ -51,12 +50,13 @@ impl Read for Tape<'_> {
     }
 }
 
-pub fn reader_of(text: &[u8], step: usize) -> Device<Tape<'_>> {
-    Device::new(Tape {
+/// So many bytes at each read.
+pub fn tape_of(text: &[u8], step: usize) -> Tape<'_> {
+    Tape {
         rest: text,
         step,
         good: u32::MAX,
-    })
+    }
 }
 
 /// Takes at most `step` bytes at each write and `room` bytes in all, and then fails or takes none.
@@ -90,13 +90,18 @@ impl Write for Paper {
     }
 }
 
-pub fn blank_paper(alloc: Global) -> Device<Paper> {
-    Device::new(Paper {
+/// Takes so many bytes at each write, and so many in all.
+pub fn paper_of(alloc: Global, step: usize, room: usize) -> Paper {
+    Paper {
         bytes: Vec::new(alloc),
-        step: 1000000,
-        room: 1000000,
+        step,
+        room,
         stalls: false,
         flushes: 0,
         good_flushes: 1000000,
-    })
+    }
+}
+
+pub fn blank_paper(alloc: Global) -> Paper {
+    paper_of(alloc, 1000000, 1000000)
 }

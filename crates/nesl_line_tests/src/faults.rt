@@ -1,102 +1,85 @@
 //! Reads, writes and flushes that fail.
-use crate::devices::{Paper, Tape, blank_paper, house, reader_of};
-use nesl_house::house::House;
+use crate::batches::outcome_of;
+use crate::devices::{Paper, Tape, blank_paper, house, paper_of, tape_of};
 use nesl_line::batch::batch;
 use nesl_line::device::{Device, Failed, Sink, Source};
 use nesl_line::exchange::{End, Ran};
+use std::alloc::Global;
 use std::io;
 use std::io::Read;
 use std::test::Fail;
 
-// How many lines ann's session stored.
-fn lines_of_ann(house: &House) -> Option<usize> {
-    house.session(b"ann").map(|ann| ann.lines().len())
-}
+const NINE: &[u8] = b"user ann\nit = 9 : int (work 1, depth 1)\n";
 
 #[test]
 fn a_read_that_fails_ends_the_batch(rt: HostRuntime) -> Result<(), Fail> {
-    let alloc = rt.alloc();
-    let mut house = house(alloc, &["ann"])?;
-    let mut reader = Device::new(Tape {
+    let tape = Tape {
         rest: b"user ann\n9;\n9",
         step: 13,
         good: 1,
-    });
-    let mut writer = blank_paper(alloc);
-    let ran = batch(alloc, &mut reader, &mut writer, &mut house);
+    };
+    let outcome = outcome_of(rt.alloc(), tape, blank_paper(rt.alloc()))?;
     let wanted = Ran {
         lines: 2,
         end: End::ReadFault,
     };
-    let bytes = writer.into_inner().bytes;
-    let told = bytes.as_slice() == b"user ann\nit = 9 : int (work 1, depth 1)\n".as_slice();
-    assert!(rt; ran == wanted && Source::failures(&reader) == 1);
-    assert!(rt; told && lines_of_ann(&house) == Some(1));
+    let (stored, _) = outcome.of_ann;
+    assert!(rt; outcome.ran == wanted && outcome.failures == (1, 0));
+    assert!(rt; outcome.paper.bytes.as_slice() == NINE && stored == 1);
     Ok(())
+}
+
+// Whether the batch ends where so many bytes are written. The line whose answer could not be written stays stored.
+fn ends_at(alloc: Global, room: usize, stalls: bool) -> Result<bool, Fail> {
+    let paper = Paper {
+        stalls,
+        ..paper_of(alloc, 4, room)
+    };
+    let outcome = outcome_of(alloc, tape_of(b"user ann\n9;\n9;\n", 1000000), paper)?;
+    let lines = if room < 9 { 1 } else { 2 };
+    let end = End::WriteFault;
+    let is_told = Some(outcome.paper.bytes.as_slice()) == NINE.get(..room);
+    let (_, failures) = outcome.failures;
+    let (stored, _) = outcome.of_ann;
+    Ok(
+        outcome.ran == Ran { lines, end }
+            && is_told
+            && failures == u64::from(!stalls)
+            && stored == usize::from(room >= 9),
+    )
 }
 
 #[test]
 fn a_write_that_fails_ends_the_batch(rt: HostRuntime) -> Result<(), Fail> {
-    let alloc = rt.alloc();
     for room in 0..20 {
-        for stalls in [false, true] {
-            let mut house = house(alloc, &["ann"])?;
-            let mut reader = reader_of(b"user ann\n9;\n9;\n", 1000000);
-            let mut writer = Device::new(Paper {
-                bytes: Vec::new(alloc),
-                step: 4,
-                room,
-                stalls,
-                flushes: 0,
-                good_flushes: 1000000,
-            });
-            let ran = batch(alloc, &mut reader, &mut writer, &mut house);
-            let lines = if room < 9 { 1 } else { 2 };
-            let wanted = Ran {
-                lines,
-                end: End::WriteFault,
-            };
-            let failures = Sink::failures(&writer);
-            let text = b"user ann\nit = 9 : int (work 1, depth 1)\n";
-            let told = writer.into_inner().bytes.as_slice() == &text[..room];
-            assert!(rt;
-                ran == wanted && told && failures == if stalls { 0 } else { 1 },
-                "{room}"
-            );
-            // The line whose answer could not be written stays stored.
-            let stored = if room < 9 { 0 } else { 1 };
-            assert!(rt; lines_of_ann(&house) == Some(stored), "{room}");
-        }
+        assert!(rt;
+            ends_at(rt.alloc(), room, false)? && ends_at(rt.alloc(), room, true)?,
+            "{room}"
+        );
     }
     Ok(())
 }
 
+// Whether the batch ends at the flush after so many.
+fn ends_at_flush(alloc: Global, good_flushes: u32) -> Result<bool, Fail> {
+    let paper = Paper {
+        good_flushes,
+        ..paper_of(alloc, 1000, 1000)
+    };
+    let outcome = outcome_of(alloc, tape_of(b"user ann\n9;\nuser zed\n", 1000000), paper)?;
+    let end = if good_flushes < 3 {
+        End::WriteFault
+    } else {
+        End::Input
+    };
+    let lines = u64::from(good_flushes.min(2)) + 1;
+    Ok(outcome.ran == Ran { lines, end } && outcome.paper.flushes == good_flushes)
+}
+
 #[test]
 fn each_answer_is_flushed(rt: HostRuntime) -> Result<(), Fail> {
-    let alloc = rt.alloc();
     for good_flushes in 0..4 {
-        let mut house = house(alloc, &["ann"])?;
-        let mut reader = reader_of(b"user ann\n9;\nuser zed\n", 1000000);
-        let mut writer = Device::new(Paper {
-            bytes: Vec::new(alloc),
-            step: 1000,
-            room: 1000,
-            stalls: false,
-            flushes: 0,
-            good_flushes,
-        });
-        let ran = batch(alloc, &mut reader, &mut writer, &mut house);
-        let end = if good_flushes < 3 {
-            End::WriteFault
-        } else {
-            End::Input
-        };
-        let lines = u64::from(good_flushes.min(2)) + 1;
-        let flushes = writer.into_inner().flushes;
-        assert!(rt;
-            ran == Ran { lines, end } && flushes == good_flushes,
-            "{good_flushes}"
-        );
+        assert!(rt; ends_at_flush(rt.alloc(), good_flushes)?, "{good_flushes}");
     }
     Ok(())
 }
@@ -125,12 +108,12 @@ impl Read for Hiccup<'_> {
 #[test]
 fn a_device_tells_each_read_that_failed(rt: HostRuntime) -> Result<(), Fail> {
     let alloc = rt.alloc();
-    let mut house = house(alloc, &["ann"])?;
+    let mut house = house(alloc)?;
     let mut reader = Device::new(Hiccup {
         rest: b"user ann\n9;\n",
         fails: true,
     });
-    let mut writer = blank_paper(alloc);
+    let mut writer = Device::new(blank_paper(alloc));
     let before = Source::failures(&reader);
     let ran = batch(alloc, &mut reader, &mut writer, &mut house);
     let after = Source::failures(&reader);
@@ -149,14 +132,10 @@ fn a_device_tells_each_read_that_failed(rt: HostRuntime) -> Result<(), Fail> {
 }
 
 #[test]
-fn a_device_hands_on_what_it_is_told(rt: HostRuntime) -> Result<(), Fail> {
+fn a_device_hands_on_what_it_is_told(rt: HostRuntime) {
     let mut writer = Device::new(Paper {
-        bytes: Vec::new(rt.alloc()),
-        step: 2,
-        room: 5,
-        stalls: false,
-        flushes: 0,
         good_flushes: 1,
+        ..paper_of(rt.alloc(), 2, 5)
     });
     let first = writer.write(b"abc");
     let flushed = writer.flush();
@@ -172,5 +151,4 @@ fn a_device_hands_on_what_it_is_told(rt: HostRuntime) -> Result<(), Fail> {
     assert!(rt; flushed == Err(Failed) && more == [Ok(2), Ok(1), Err(Failed)] && failures == 2);
     let paper = writer.into_inner();
     assert!(rt; paper.flushes == 1 && paper.bytes.as_slice() == b"abcde".as_slice());
-    Ok(())
 }

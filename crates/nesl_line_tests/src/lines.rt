@@ -1,34 +1,24 @@
 //! Which lines a text has, and what is answered to them.
-use crate::devices::{blank_paper, house, reader_of};
-use nesl_line::batch::{batch, batch_in};
+use crate::batches::is_answered;
+use crate::devices::{blank_paper, house, tape_of};
+use nesl_line::batch::batch_in;
+use nesl_line::device::Device;
 use nesl_line::exchange::{End, Ran};
-use std::alloc::Global;
+use std::alloc::{AllocError, Global};
 use std::test::Fail;
 
-const NINE: &str = "it = 9 : int (work 1, depth 1)\n";
-
 // Whether that is answered to the text, however much of it comes at a time.
-fn is_answered(alloc: Global, text: &str, wanted: &str, lines: u64) -> Result<bool, Fail> {
-    let whole = Ran {
-        lines,
-        end: End::Input,
-    };
-    for step in [1, 3, 1000000] {
-        let mut house = house(alloc, &["ann", "bob"])?;
-        let mut reader = reader_of(text.as_bytes(), step);
-        let mut writer = blank_paper(alloc);
-        let ran = batch(alloc, &mut reader, &mut writer, &mut house);
-        let written = writer.into_inner().bytes;
-        if ran != whole || written.as_slice() != wanted.as_bytes() {
-            return Ok(false);
-        }
-    }
-    Ok(true)
+fn is_answered_always(alloc: Global, text: &str, wanted: &str, lines: u64) -> Result<bool, Fail> {
+    let (text, wanted) = (text.as_bytes(), (wanted, lines));
+    Ok(
+        is_answered(alloc, text, 1, wanted)?
+            && is_answered(alloc, text, 3, wanted)?
+            && is_answered(alloc, text, 1000000, wanted)?,
+    )
 }
 
 #[test]
 fn lines_are_answered(rt: HostRuntime) -> Result<(), Fail> {
-    let alloc = rt.alloc();
     let rows = [
         ("", "", 0),
         (
@@ -45,7 +35,10 @@ fn lines_are_answered(rt: HostRuntime) -> Result<(), Fail> {
         ("user ann\n\n", "user ann\nok\n", 2),
     ];
     for (text, wanted, lines) in rows {
-        assert!(rt; is_answered(alloc, text, wanted, lines)?, "{text:?}");
+        assert!(rt;
+            is_answered_always(rt.alloc(), text, wanted, lines)?,
+            "{text:?}"
+        );
     }
     Ok(())
 }
@@ -53,97 +46,76 @@ fn lines_are_answered(rt: HostRuntime) -> Result<(), Fail> {
 #[test]
 fn lines_are_answered_in_a_heap(rt: HostRuntime) -> Result<(), Fail> {
     let alloc = rt.alloc();
-    let mut house = house(alloc, &["ann"])?;
-    let mut reader = reader_of(b"user ann\n9;\nuser zed", 5);
-    let mut writer = blank_paper(alloc);
+    let mut house = house(alloc)?;
+    let mut reader = Device::new(tape_of(b"user ann\n9;\nuser zed", 5));
+    let mut writer = Device::new(blank_paper(alloc));
     let ran = batch_in(alloc, &mut reader, &mut writer, &mut house, alloc);
-    assert_eq!(rt;
-        ran,
-        Ran {
-            lines: 3,
-            end: End::Input
-        }
-    );
-    let wanted = format!(in alloc; "user ann\n{NINE}fault user\n")?;
-    assert_eq!(rt; writer.into_inner().bytes.as_slice(), wanted.as_bytes());
+    let whole = Ran {
+        lines: 3,
+        end: End::Input,
+    };
+    let wanted = b"user ann\nit = 9 : int (work 1, depth 1)\nfault user\n".as_slice();
+    assert!(rt; ran == whole && writer.into_inner().bytes.as_slice() == wanted);
     Ok(())
 }
 
 #[test]
 fn line_ends_of_both_kinds(rt: HostRuntime) -> Result<(), Fail> {
-    let alloc = rt.alloc();
-    let rows = [
-        (
-            "user ann\r\n9;\r\n",
-            "user ann\nit = 9 : int (work 1, depth 1)\n",
-            2,
-        ),
-        (
-            "user ann\n9;\r",
-            "user ann\nit = 9 : int (work 1, depth 1)\n",
-            2,
-        ),
-        ("user ann\r", "fault user\n", 1),
-    ];
-    for (text, wanted, lines) in rows {
-        assert!(rt; is_answered(alloc, text, wanted, lines)?, "{text:?}");
-    }
+    let nine = "user ann\nit = 9 : int (work 1, depth 1)\n";
+    assert!(rt; is_answered_always(rt.alloc(), "user ann\r\n9;\r\n", nine, 2)?);
+    assert!(rt; is_answered_always(rt.alloc(), "user ann\n9;\r", nine, 2)?);
+    assert!(rt; is_answered_always(rt.alloc(), "user ann\r", "fault user\n", 1)?);
     Ok(())
 }
 
 #[test]
 fn user_lines_that_are_none(rt: HostRuntime) -> Result<(), Fail> {
-    let alloc = rt.alloc();
-    let rows = [
-        (
-            "user ann\nuser 1a\n9;\n",
-            "user ann\nfault user\nfault user\n",
-            3,
-        ),
-        (
-            "user ann\nuser abcdefghijklmnopq\n9;\n",
-            "user ann\nfault user\nfault user\n",
-            3,
-        ),
-        (
-            "user ann\nuser  ann\nuser\nUser ann\n",
-            "user ann\nfault syntax (work 0)\nfault syntax (work 0)\nfault syntax (work 0)\n",
-            4,
-        ),
-    ];
-    for (text, wanted, lines) in rows {
-        assert!(rt; is_answered(alloc, text, wanted, lines)?, "{text:?}");
-    }
+    let first = "user ann\nuser 1a\n9;\n";
+    let second = "user ann\nuser abcdefghijklmnopq\n9;\n";
+    let faults = "user ann\nfault user\nfault user\n";
+    assert!(rt; is_answered_always(rt.alloc(), first, faults, 3)?);
+    assert!(rt; is_answered_always(rt.alloc(), second, faults, 3)?);
+    let third = "user ann\nuser  ann\nuser\nUser ann\n";
+    let syntax = "user ann\nfault syntax (work 0)\nfault syntax (work 0)\nfault syntax (work 0)\n";
+    assert!(rt; is_answered_always(rt.alloc(), third, syntax, 4)?);
     Ok(())
+}
+
+// A line of ann with so many blanks, and one more line where it ends.
+fn long_line(alloc: Global, blanks: usize, end: &str) -> Result<Vec<u8>, AllocError> {
+    let mut text = Vec::from_slice(alloc, b"user ann\n9;")?;
+    text.resize(text.len().saturating_add(blanks), b' ')?;
+    text.extend_from_slice(end.as_bytes())?;
+    text.extend_from_slice(if end.is_empty() { b"" } else { b"9;" })?;
+    Ok(text)
+}
+
+const NINE: &str = "user ann
+it = 9 : int (work 1, depth 1)
+it = 9 : int (work 1, depth 1)
+";
+
+const LONG: &str = "user ann
+fault long (work 0)
+it = 9 : int (work 1, depth 1)
+";
+
+// Whether that is answered to such a line, with each end of it. What answers the second line has 31 bytes.
+fn is_cut(alloc: Global, blanks: usize, wanted: &str) -> Result<bool, Fail> {
+    let feed = long_line(alloc, blanks, "\n")?;
+    let both = long_line(alloc, blanks, "\r\n")?;
+    let last = long_line(alloc, blanks, "")?;
+    let first_two = wanted.get(..wanted.len().saturating_sub(31)).unwrap_or("");
+    Ok(
+        is_answered(alloc, feed.as_slice(), 1000000, (wanted, 3))?
+            && is_answered(alloc, both.as_slice(), 1000000, (wanted, 3))?
+            && is_answered(alloc, last.as_slice(), 1000000, (first_two, 2))?,
+    )
 }
 
 #[test]
 fn long_lines_are_cut(rt: HostRuntime) -> Result<(), Fail> {
-    let alloc = rt.alloc();
-    let rows = [
-        (65_534, NINE),
-        (65_535, "fault long (work 0)\n"),
-        (90_000, "fault long (work 0)\n"),
-    ];
-    for (blanks, answer) in rows {
-        for end in ["\n", "\r\n", ""] {
-            let mut text = String::from_str(alloc, "user ann\n9;")?;
-            for _ in 0..blanks {
-                text.push(' ')?;
-            }
-            text.push_str(end)?;
-            text.push_str(if end.is_empty() { "" } else { "9;" })?;
-            let mut house = house(alloc, &["ann"])?;
-            let mut reader = reader_of(text.as_bytes(), 1000000);
-            let mut writer = blank_paper(alloc);
-            let ran = batch(alloc, &mut reader, &mut writer, &mut house);
-            assert_eq!(rt; ran.end, End::Input);
-            let wanted = format!(in alloc;
-                "user ann\n{answer}{}",
-                if end.is_empty() { "" } else { NINE }
-            )?;
-            assert_eq!(rt; writer.into_inner().bytes.as_slice(), wanted.as_bytes());
-        }
-    }
+    assert!(rt; is_cut(rt.alloc(), 65_534, NINE)?);
+    assert!(rt; is_cut(rt.alloc(), 65_535, LONG)? && is_cut(rt.alloc(), 90_000, LONG)?);
     Ok(())
 }

@@ -1,8 +1,9 @@
 //! Connections under a lease, which goes back however they end.
-use crate::devices::{LIMITS, Paper, Tape, blank_paper, reader_of, roster};
+use crate::devices::{LIMITS, Paper, Tape, blank_paper, paper_of, roster, tape_of};
 use nesl_helpers::{Free, NoHelpers};
+use nesl_house::lease::Receipt;
 use nesl_house::table::Table;
-use nesl_line::device::{Device, Sink, Source};
+use nesl_line::device::Device;
 use nesl_line::exchange::End;
 use nesl_line::serve::{Served, serve};
 use std::alloc::Global;
@@ -17,29 +18,30 @@ const ANSWERS: &str = "user ann\nit = 7 : int (work 5, depth 5)\nfault syntax (w
     it = 9 : int (work 3, depth 3)\n";
 
 fn table(alloc: Global) -> Result<Table, Fail> {
-    let roster = roster(alloc, &["ann", "bob"])?;
+    let roster = roster(alloc)?;
     Ok(Table::new(alloc, roster.as_slice(), LIMITS)?)
 }
 
-fn served<R: Threads + Wait + Sync, S: Source, W: Sink>(
+// What is answered on a connection that reads the tape and writes on the paper, and how it ends.
+fn served<R: Threads + Wait + Sync>(
     rt: &R,
     alloc: Global,
     table: &Table,
-    reader: &mut S,
-    writer: &mut W,
-) -> Served {
-    serve(rt, alloc, reader, writer, table, &NoHelpers, &Free)
-}
-
-// Whether a user's session is in the table. If it is, it is back there then.
-fn is_home<R: Wait>(rt: &R, table: &Table, user: &[u8]) -> bool {
-    match table.take(rt, user) {
-        Ok(lease) => {
-            table.give(rt, lease);
-            true
-        }
-        Err(_) => false,
-    }
+    tape: Tape<'_>,
+    paper: Paper,
+) -> (Vec<u8>, Served) {
+    let mut reader = Device::new(tape);
+    let mut writer = Device::new(paper);
+    let ran = serve(
+        rt,
+        alloc,
+        &mut reader,
+        &mut writer,
+        table,
+        &NoHelpers,
+        &Free,
+    );
+    (writer.into_inner().bytes, ran)
 }
 
 // The lines that a user's session stored, or none where it is away.
@@ -54,132 +56,179 @@ fn stored<R: Wait>(rt: &R, table: &Table, user: &[u8]) -> Option<usize> {
     }
 }
 
+// What comes of the only connection of a table.
+#[derive(Drop)]
+struct Outcome {
+    answers: Vec<u8>,
+    lines: u64,
+    end: End,
+    // What the receipt tells.
+    recorded: Option<u64>,
+    // The lines that ann's session stored. It is back in the table then.
+    stored: Option<usize>,
+}
+
+fn outcome_of<R: Threads + Wait + Sync>(
+    rt: &R,
+    alloc: Global,
+    tape: Tape<'_>,
+    paper: Paper,
+) -> Result<Outcome, Fail> {
+    let table = table(alloc)?;
+    let (answers, ran) = served(rt, alloc, &table, tape, paper);
+    Ok(Outcome {
+        answers,
+        lines: ran.lines,
+        end: ran.end,
+        recorded: ran.receipt.map(|receipt| receipt.recorded),
+        stored: stored(rt, &table, b"ann"),
+    })
+}
+
+// What is answered to the first bytes.
+fn answered(len: usize) -> &'static str {
+    match len {
+        0 => "",
+        1..=7 => "fault user\n",
+        8 | 9 => "user ann\n",
+        10..=18 => "user ann\nfault syntax (work 0)\n",
+        19 | 20 => "user ann\nit = 7 : int (work 5, depth 5)\n",
+        21..=29 => "user ann\nit = 7 : int (work 5, depth 5)\nfault syntax (work 0)\n",
+        30..=34 => {
+            "user ann\nit = 7 : int (work 5, depth 5)\nfault syntax (work 0)\nfault syntax (work 0)\n"
+        }
+        _ => ANSWERS,
+    }
+}
+
 #[test]
 fn cut_off_at_every_byte(rt: HostRuntime) -> Result<(), Fail> {
-    let alloc = rt.alloc();
     for len in 0..=SAID.len() {
-        let table = table(alloc)?;
-        let mut reader = reader_of(&SAID[..len], 1);
-        let mut writer = blank_paper(alloc);
-        let ran = served(&rt, alloc, &table, &mut reader, &mut writer);
-        let is_ended = ran.end == End::Input && ran.receipt.is_some() == (len >= 8);
-        assert!(rt; is_ended && is_home(&rt, &table, b"ann"), "{len}");
-        let wanted = match len {
-            0 => "",
-            1..=7 => "fault user\n",
-            8 | 9 => &ANSWERS[..9],
-            10..=18 => "user ann\nfault syntax (work 0)\n",
-            19 | 20 => &ANSWERS[..40],
-            21..=29 => &ANSWERS[..62],
-            30..=34 => {
-                "user ann\nit = 7 : int (work 5, depth 5)\nfault syntax (work 0)\nfault syntax (work 0)\n"
-            }
-            _ => ANSWERS,
-        };
-        assert_eq!(rt;
-            writer.into_inner().bytes.as_slice(),
-            wanted.as_bytes(),
-            "{len}"
-        );
+        let tape = tape_of(&SAID[..len], 1);
+        let outcome = outcome_of(&rt, rt.alloc(), tape, blank_paper(rt.alloc()))?;
+        let is_ended = outcome.end == End::Input && outcome.recorded.is_some() == (len >= 8);
+        let is_told = outcome.answers.as_slice() == answered(len).as_bytes();
+        assert!(rt; is_ended && is_told && outcome.stored.is_some(), "{len}");
     }
     Ok(())
+}
+
+// How many lines are heard, how many bytes answered, and how many lines stored, where the read after so many fails.
+fn heard(good: u32) -> (u64, usize, u64) {
+    match good {
+        0..=8 => (0, 0, 0),
+        9..=19 => (1, 9, 0),
+        20..=28 => (2, 40, 1),
+        _ => (3, 62, 2),
+    }
 }
 
 #[test]
 fn a_read_that_fails_gives_the_lease_back(rt: HostRuntime) -> Result<(), Fail> {
-    let alloc = rt.alloc();
     for good in 0..36u32 {
-        let table = table(alloc)?;
-        let mut reader = Device::new(Tape {
+        let tape = Tape {
             rest: SAID,
             step: 1,
             good,
-        });
-        let mut writer = blank_paper(alloc);
-        let ran = served(&rt, alloc, &table, &mut reader, &mut writer);
-        let (lines, len) = match good {
-            0..=8 => (0, 0),
-            9..=19 => (1, 9),
-            20..=28 => (2, 40),
-            _ => (3, 62),
         };
-        let is_ended = ran.lines == lines && ran.end == End::ReadFault;
-        let is_told = writer.into_inner().bytes.as_slice() == &ANSWERS.as_bytes()[..len];
-        assert!(rt; is_ended && is_told, "{good}");
-        let told = usize::from(good >= 20).saturating_add(usize::from(good >= 29));
-        let recorded = ran.receipt.map(|receipt| receipt.recorded);
-        let is_counted = recorded == if good >= 9 { Some(told as u64) } else { None };
+        let outcome = outcome_of(&rt, rt.alloc(), tape, blank_paper(rt.alloc()))?;
+        let (lines, len, stored) = heard(good);
+        let is_ended = outcome.lines == lines && outcome.end == End::ReadFault;
+        let is_told = Some(outcome.answers.as_slice()) == ANSWERS.as_bytes().get(..len);
+        let is_counted = outcome.recorded == if good >= 9 { Some(stored) } else { None };
+        let is_stored = outcome.stored == Some(stored as usize);
+        assert!(rt; is_ended && is_told && is_counted && is_stored, "{good}");
+    }
+    Ok(())
+}
+
+// Whether the lease goes back where so many bytes are written. The line whose answer could not be written stays stored.
+fn is_given_back<R: Threads + Wait + Sync>(
+    rt: &R,
+    alloc: Global,
+    room: usize,
+    stalls: bool,
+) -> Result<bool, Fail> {
+    let paper = Paper {
+        stalls,
+        ..paper_of(alloc, 5, room)
+    };
+    let outcome = outcome_of(rt, alloc, tape_of(SAID, 1000), paper)?;
+    let (lines, stored) = match room {
+        0..=8 => (1, 0),
+        9..=39 => (2, 1),
+        40..=61 => (3, 2),
+        _ => (4, 3),
+    };
+    let is_ended = outcome.lines == lines && outcome.end == End::WriteFault;
+    let is_told = Some(outcome.answers.as_slice()) == ANSWERS.as_bytes().get(..room);
+    Ok(is_ended && is_told && outcome.stored == Some(stored))
+}
+
+#[test]
+fn a_write_that_fails_gives_the_lease_back(rt: HostRuntime) -> Result<(), Fail> {
+    for room in 0..ANSWERS.len() {
+        let fails = is_given_back(&rt, rt.alloc(), room, false)?;
         assert!(rt;
-            is_counted && stored(&rt, &table, b"ann") == Some(told),
-            "{good}"
+            fails && is_given_back(&rt, rt.alloc(), room, true)?,
+            "{room}"
         );
     }
     Ok(())
 }
 
-#[test]
-fn a_write_that_fails_gives_the_lease_back(rt: HostRuntime) -> Result<(), Fail> {
-    let alloc = rt.alloc();
-    for room in 0..ANSWERS.len() {
-        for stalls in [false, true] {
-            let table = table(alloc)?;
-            let mut reader = reader_of(SAID, 1000);
-            let mut writer = Device::new(Paper {
-                bytes: Vec::new(alloc),
-                step: 5,
-                room,
-                stalls,
-                flushes: 0,
-                good_flushes: 1000,
-            });
-            let ran = served(&rt, alloc, &table, &mut reader, &mut writer);
-            let lines = match room {
-                0..=8 => 1,
-                9..=39 => 2,
-                40..=61 => 3,
-                _ => 4,
-            };
-            let is_ended = ran.lines == lines && ran.end == End::WriteFault;
-            let is_told = writer.into_inner().bytes.as_slice() == &ANSWERS.as_bytes()[..room];
-            // The line whose answer could not be written stays stored.
-            let is_stored = stored(&rt, &table, b"ann") == Some(lines as usize - 1);
-            assert!(rt; is_ended && is_told && is_stored, "{room}");
-        }
-    }
-    Ok(())
-}
-
-// What is answered to a text on a connection of its own, and the lines that its session gained.
-fn told<R: Threads + Wait + Sync>(
+// The receipt of a connection on which this is answered to the text.
+fn receipt_of<R: Threads + Wait + Sync>(
     rt: &R,
     alloc: Global,
     table: &Table,
     text: &str,
-) -> (Vec<u8>, Served) {
-    let mut reader = reader_of(text.as_bytes(), 1000);
-    let mut writer = blank_paper(alloc);
-    let ran = served(rt, alloc, table, &mut reader, &mut writer);
-    (writer.into_inner().bytes, ran)
+    wanted: &str,
+) -> Option<Receipt> {
+    let tape = tape_of(text.as_bytes(), 1000);
+    let (answers, ran) = served(rt, alloc, table, tape, blank_paper(alloc));
+    if answers.as_slice() == wanted.as_bytes() {
+        ran.receipt
+    } else {
+        None
+    }
 }
 
 #[test]
 fn a_session_goes_on_with_the_next_connection(rt: HostRuntime) -> Result<(), Fail> {
     let alloc = rt.alloc();
     let table = table(alloc)?;
-    let (first, one) = told(&rt, alloc, &table, "user ann\nx = 3;\n");
-    let (second, two) = told(&rt, alloc, &table, "user ann\nx;\n");
-    let set = first.as_slice() == b"user ann\nx = 3 : int (work 1, depth 1)\n".as_slice();
-    let kept = second.as_slice() == b"user ann\nit = 3 : int (work 1, depth 1)\n".as_slice();
-    assert!(rt; set && kept);
-    let mut receipts = Vec::new(alloc);
-    for ran in [one, two] {
-        receipts.push(ran.receipt.ok_or("a receipt")?)?;
-    }
-    let Ok(closed) = table.close(receipts) else {
-        return Err(Fail::from("all is home and told"));
+    let three = "user ann\nx = 3 : int (work 1, depth 1)\n";
+    let first = receipt_of(&rt, alloc, &table, "user ann\nx = 3;\n", three);
+    let three = "user ann\nit = 3 : int (work 1, depth 1)\n";
+    let second = receipt_of(&rt, alloc, &table, "user ann\nx;\n", three);
+    let (Some(first), Some(second)) = (first, second) else {
+        panic!(rt; "the session is kept");
     };
-    assert_eq!(rt; closed.lines, 2);
+    let receipts = Vec::from_slice(alloc, &[first, second]).expect(&rt, "memory");
+    let Ok(closed) = table.close(receipts) else {
+        panic!(rt; "all is home and told");
+    };
+    assert!(rt; closed.lines == 2);
     Ok(())
+}
+
+// Whether this is answered to the first line, and there is no lease.
+fn is_refused<R: Threads + Wait + Sync>(
+    rt: &R,
+    alloc: Global,
+    table: &Table,
+    text: &str,
+    wanted: &str,
+) -> bool {
+    let tape = tape_of(text.as_bytes(), 1000);
+    let (answers, ran) = served(rt, alloc, table, tape, blank_paper(alloc));
+    let refused = Served {
+        lines: 1,
+        receipt: None,
+        end: End::Input,
+    };
+    answers.as_slice() == wanted.as_bytes() && ran == refused
 }
 
 #[test]
@@ -187,24 +236,14 @@ fn who_is_turned_away(rt: HostRuntime) -> Result<(), Fail> {
     let alloc = rt.alloc();
     let table = table(alloc)?;
     let Ok(lease) = table.take(&rt, b"ann") else {
-        return Err(Fail::from("ann is at home"));
+        panic!(rt; "ann is at home");
     };
-    let refused = Served {
-        lines: 1,
-        receipt: None,
-        end: End::Input,
-    };
-    let rows = [
-        ("user ann\n1;\n", "fault busy\n"),
-        ("user zed\n1;\n", "fault user\n"),
-        ("1;\nuser bob\n1;\n", "fault user\n"),
-        ("user bob \n", "fault user\n"),
-    ];
-    for (text, wanted) in rows {
-        let (answer, ran) = told(&rt, alloc, &table, text);
-        assert!(rt; answer.as_slice() == wanted.as_bytes() && ran == refused);
-    }
+    assert!(rt; is_refused(&rt, alloc, &table, "user ann\n1;\n", "fault busy\n"));
+    assert!(rt; is_refused(&rt, alloc, &table, "user zed\n1;\n", "fault user\n"));
+    assert!(rt; is_refused(&rt, alloc, &table, "1;\nuser bob\n1;\n", "fault user\n"));
+    assert!(rt; is_refused(&rt, alloc, &table, "user bob \n", "fault user\n"));
     table.give(&rt, lease);
-    assert!(rt; is_home(&rt, &table, b"ann") && is_home(&rt, &table, b"bob"));
+    let homes = (stored(&rt, &table, b"ann"), stored(&rt, &table, b"bob"));
+    assert!(rt; homes.0.is_some() && homes.1.is_some());
     Ok(())
 }

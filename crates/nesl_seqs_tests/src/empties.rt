@@ -1,8 +1,6 @@
 //! Sequences with no element, in each way that they are held.
-use crate::told::all_hold;
-use std::test::Fail;
 
-const ROWS: &str = r#"% Functions of one
+pub const ROWS: &str = r#"% Functions of one
 length [] = 0 : 1 1 1
 length {} = 0 : 1 1 1
 length "" = 0 : 1 1 1
@@ -158,8 +156,3 @@ element_at ( {} 0 ) ! Range
 rep ( {} ( T 0 ) ) ! Range
 element_at ( "" 0 ) ! Range
 rep ( "" ( T 0 ) ) ! Range"#;
-
-#[test]
-fn rows_hold(rt: HostRuntime) -> Result<(), Fail> {
-    all_hold(rt.alloc(), ROWS)
-}

@@ -1,8 +1,6 @@
 //! The greatest and the least.
-use crate::told::all_hold;
-use std::test::Fail;
 
-const ROWS: &str = r#"% The greatest
+pub const ROWS: &str = r#"% The greatest
 max_val [5] = 5 : 2 2 1
 max_val [3,-2,9,-2,9] = 9 : 6 4 1
 max_val [3,9,9] = 9 : 4 3 1
@@ -38,8 +36,3 @@ min_index "x" = 0 : 2 2 1
 min_index "neslab" = 4 : 7 4 1
 min_index [] ! Empty
 min_index "" ! Empty"#;
-
-#[test]
-fn rows_hold(rt: HostRuntime) -> Result<(), Fail> {
-    all_hold(rt.alloc(), ROWS)
-}

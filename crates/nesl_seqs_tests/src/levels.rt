@@ -1,8 +1,6 @@
 //! Sequences of sequences, and sequences that are woven.
-use crate::told::all_hold;
-use std::test::Fail;
 
-const ROWS: &str = r#"% One level removed
+pub const ROWS: &str = r#"% One level removed
 flatten < > = [] : 1 1 1
 flatten < [] > = [] : 2 1 1
 flatten < [5] > = [5] : 3 1 2
@@ -65,8 +63,3 @@ partition ( [7] [0] ) ! Count
 partition ( [7] [2] ) ! Count
 partition ( [7] [MAX,MAX,3] ) ! Count
 partition ( [] [1] ) ! Count"#;
-
-#[test]
-fn rows_hold(rt: HostRuntime) -> Result<(), Fail> {
-    all_hold(rt.alloc(), ROWS)
-}

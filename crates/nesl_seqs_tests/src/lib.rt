@@ -22,6 +22,8 @@ mod reading;
 #[cfg(test)]
 mod reductions;
 #[cfg(test)]
+mod rows;
+#[cfg(test)]
 mod scalars;
 #[cfg(test)]
 mod scans;

@@ -1,8 +1,6 @@
 //! Pairs of sequences, sequences of pairs, and equality.
-use crate::told::all_hold;
-use std::test::Fail;
 
-const ROWS: &str = r#"% Pairs of elements
+pub const ROWS: &str = r#"% Pairs of elements
 zip ( [] "" ) = < > : 1 1 1
 zip ( [1] "a" ) = < ( 1 'a ) > : 6 1 4
 zip ( [1,2] {TF} ) = < ( 1 T ) ( 2 F ) > : 11 1 7
@@ -38,8 +36,3 @@ eql ( ( 1 [2,3] ) ( 1 [2,3] ) ) = T : 11 1 1
 eql ( ( 1 [2,3] ) ( 1 [2,4] ) ) = F : 11 1 1
 eql ( < [1] [] > < [1] [] > ) = T : 9 1 1
 eql ( < [1] [2] > < [1] [3] > ) = F : 11 1 1"#;
-
-#[test]
-fn rows_hold(rt: HostRuntime) -> Result<(), Fail> {
-    all_hold(rt.alloc(), ROWS)
-}

@@ -1,8 +1,6 @@
 //! Parts of sequences.
-use crate::told::all_hold;
-use std::test::Fail;
 
-const ROWS: &str = r#"% Lengths
+pub const ROWS: &str = r#"% Lengths
 length [] = 0 : 1 1 1
 length [5] = 1 : 1 1 1
 length [1,2,3] = 3 : 1 1 1
@@ -104,8 +102,3 @@ rep ( "abc" ( 'z 1 ) ) = "azc" : 7 1 4
 rep ( {TF} ( F 0 ) ) = {FF} : 5 1 3
 rep ( < [1,2] [3] > ( [4,5,6] 1 ) ) = < [1,2] [4,5,6] > : 10 1 8
 rep ( < [1,2] [3] > ( [] 0 ) ) = < [] [3] > : 6 1 4"#;
-
-#[test]
-fn rows_hold(rt: HostRuntime) -> Result<(), Fail> {
-    all_hold(rt.alloc(), ROWS)
-}

@@ -1,13 +1,13 @@
 //! Elements at places that numbers tell.
-use crate::reading::plain;
-use crate::told::{all_hold, gives, price_of, traps};
+use crate::reading::{unpacked, value_of};
+use crate::told::{gives, price_of, traps};
 use nesl_scalars::Trap;
-use nesl_seqs::{Argument, SeqFn, price_within};
+use nesl_seqs::{Argument, Price, SeqFn, price_within};
 use nesl_values::Value;
 use std::alloc::{AllocError, Global};
 use std::test::Fail;
 
-const ROWS: &str = r#"% Elements at indices
+pub const ROWS: &str = r#"% Elements at indices
 gather ( [10,20,30] [2,0,0] ) = [30,10,10] : 10 1 4
 gather ( [7] [0] ) = [7] : 4 1 2
 gather ( [] [] ) = [] : 1 1 1
@@ -46,116 +46,124 @@ write ( [1,2] < ( 0 5 ) ( MIN 0 ) > ) ! Range
 write ( [1,2] < ( 0 5 ) ( MAX 0 ) > ) ! Range
 write ( < > < ( 0 0 ) > ) ! Range"#;
 
-#[test]
-fn rows_hold(rt: HostRuntime) -> Result<(), Fail> {
-    all_hold(rt.alloc(), ROWS)
+// Which numbers a long sequence has.
+#[derive(Clone, Copy)]
+enum Numbers {
+    Zeros,
+    // From 0 on.
+    Up,
+    // From 599,999 down.
+    Down,
+    // From 0 on, where 599,998 comes in the place of the next one too.
+    LastTwice,
+    // From 0 on, but for those that are written.
+    Written,
 }
 
-// A long text, and many indices of it.
-fn many_copies(alloc: Global) -> Result<Value, AllocError> {
+fn number_at(numbers: Numbers, place: i64) -> i64 {
+    match numbers {
+        Numbers::Zeros => 0,
+        Numbers::Up => place,
+        Numbers::Down => 599_999_i64.saturating_sub(place),
+        Numbers::LastTwice => place.min(599_998),
+        Numbers::Written => written_at(place),
+    }
+}
+
+// What is left of the writes: the last to each place.
+fn written_at(place: i64) -> i64 {
+    match place {
+        3 => 30,
+        5_000 => 2,
+        9_999 => 4,
+        other => other,
+    }
+}
+
+fn sequence(alloc: Global, numbers: Numbers, len: i64) -> Result<Value, AllocError> {
+    let mut items = Vec::new(alloc);
+    for place in 0..len {
+        items.push(number_at(numbers, place))?;
+    }
+    Value::ints(alloc, items)
+}
+
+fn long_text(alloc: Global) -> Result<Value, AllocError> {
     let mut letters = Vec::new(alloc);
     letters.resize(1_000_000, b'a')?;
-    let mut values = Vec::new(alloc);
-    values.push(Value::chars(alloc, letters)?)?;
-    let mut places = Vec::new(alloc);
-    places.resize(100_000, 0)?;
-    Value::pair(
-        alloc,
-        Value::sequence(alloc, values)?,
-        Value::ints(alloc, places)?,
-    )
+    Value::chars(alloc, letters)
+}
+
+// A sequence of one long text, and many indices of it.
+fn many_copies(alloc: Global) -> Result<Value, AllocError> {
+    let mut texts = Vec::new(alloc);
+    texts.push(long_text(alloc)?)?;
+    let texts = Value::sequence(alloc, texts)?;
+    Value::pair(alloc, texts, sequence(alloc, Numbers::Zeros, 100_000)?)
 }
 
 #[test]
 fn a_price_that_stops(rt: HostRuntime) -> Result<(), Fail> {
     let many = many_copies(rt.alloc())?;
-    assert!(rt; price_within(SeqFn::Gather, Argument::One(&many), 2_000_000) == Ok(None));
+    let price = price_within(SeqFn::Gather, Argument::One(&many), 2_000_000);
+    assert!(rt; matches!(price, Ok(None)));
     Ok(())
 }
 
-// The numbers from 0 on.
-fn counted(alloc: Global, len: i64) -> Result<Vec<i64>, AllocError> {
-    let mut numbers = Vec::new(alloc);
-    for number in 0..len {
-        numbers.push(number)?;
-    }
-    Ok(numbers)
-}
-
-// The numbers from 599,999 down to 0.
-fn counted_down(alloc: Global) -> Result<Value, AllocError> {
-    let mut numbers = counted(alloc, 600_000)?;
-    numbers.reverse();
-    Value::ints(alloc, numbers)
-}
-
 // The numbers from 0 to 599,999, with places for them.
-fn with_places(alloc: Global, places: Value) -> Result<Value, AllocError> {
-    let numbers = Value::ints(alloc, counted(alloc, 600_000)?)?;
-    Value::pair(alloc, numbers, places)
+fn with_places(alloc: Global, places: Numbers) -> Result<Value, AllocError> {
+    let numbers = sequence(alloc, Numbers::Up, 600_000)?;
+    Value::pair(alloc, numbers, sequence(alloc, places, 600_000)?)
+}
+
+// Whether the function comes to so many of these numbers, at that price.
+fn gives_numbers(
+    alloc: Global,
+    function: SeqFn,
+    argument: &Value,
+    (numbers, len): (Numbers, i64),
+    price: Price,
+) -> Result<bool, AllocError> {
+    let expected = sequence(alloc, numbers, len)?;
+    gives(alloc, function, argument, &expected, price)
 }
 
 #[test]
 fn places_of_several_windows(rt: HostRuntime) -> Result<(), Fail> {
-    let alloc = rt.alloc();
-    let turned = with_places(alloc, counted_down(alloc)?)?;
-    let expected = counted_down(alloc)?;
+    let turned = with_places(rt.alloc(), Numbers::Down)?;
+    let down = (Numbers::Down, 600_000);
     let whole = price_of(1_800_001, 1, 600_001);
-    assert!(rt; gives(alloc, SeqFn::Permute, &turned, &expected, whole)?);
+    assert!(rt; gives_numbers(rt.alloc(), SeqFn::Permute, &turned, down, whole)?);
     Ok(())
 }
 
 #[test]
 fn a_place_twice_in_several_windows(rt: HostRuntime) -> Result<(), Fail> {
-    let alloc = rt.alloc();
-    let mut places = counted(alloc, 599_999)?;
-    places.push(599_998)?;
-    let twice = with_places(alloc, Value::ints(alloc, places)?)?;
+    let twice = with_places(rt.alloc(), Numbers::LastTwice)?;
     assert!(rt; traps(SeqFn::Permute, &twice, Trap::Permutation));
     Ok(())
 }
 
-// The pairs of these numbers.
-fn number_pairs(alloc: Global, items: &[(i64, i64)]) -> Result<Value, AllocError> {
-    let mut values = Vec::new(alloc);
-    for (index, number) in items {
-        values.push(Value::pair(alloc, Value::Int(*index), Value::Int(*number))?)?;
-    }
-    Value::sequence(alloc, values)
-}
+// Numbers that are written, of which the last one to each place stays.
+const WRITES: &str = "< ( 9999 1 ) ( 5000 2 ) ( 3 30 ) ( 9999 4 ) >";
 
-// The numbers from 0 to 9,999, packed or not, and four of them to be written.
-fn with_writes(alloc: Global, packed: bool) -> Result<Value, AllocError> {
-    let numbers = counted(alloc, 10_000)?;
-    let held = if packed {
-        Value::ints(alloc, numbers)?
-    } else {
-        plain(alloc, numbers.as_slice())?
+// Whether they are written among the numbers from 0 to 9,999.
+fn are_written(alloc: Global, numbers: Result<Value, AllocError>) -> Result<bool, AllocError> {
+    let numbers = numbers?;
+    let Some(writes) = value_of(alloc, WRITES, 0)? else {
+        return Ok(false);
     };
-    let writes = number_pairs(alloc, &[(9_999, 1), (5_000, 2), (3, 30), (9_999, 4)])?;
-    Value::pair(alloc, held, writes)
-}
-
-// What is left of the writes: the last to each place.
-fn written(alloc: Global) -> Result<Value, AllocError> {
-    let mut numbers = counted(alloc, 3)?;
-    numbers.push(30)?;
-    for number in 4..10_000 {
-        numbers.push(if number == 5_000 { 2 } else { number })?;
-    }
-    let _ = numbers.pop();
-    numbers.push(4)?;
-    Value::ints(alloc, numbers)
+    let argument = Value::pair(alloc, numbers, writes)?;
+    let written = (Numbers::Written, 10_000);
+    let whole = price_of(20_005, 1, 10_001);
+    gives_numbers(alloc, SeqFn::Write, &argument, written, whole)
 }
 
 #[test]
 fn writes_in_several_windows(rt: HostRuntime) -> Result<(), Fail> {
     let alloc = rt.alloc();
-    let whole = price_of(20_005, 1, 10_001);
-    let expected = written(alloc)?;
-    let packed = with_writes(alloc, true)?;
-    assert!(rt; gives(alloc, SeqFn::Write, &packed, &expected, whole)?);
-    let unpacked = with_writes(alloc, false)?;
-    assert!(rt; gives(alloc, SeqFn::Write, &unpacked, &expected, whole)?);
+    assert!(rt; are_written(alloc, sequence(alloc, Numbers::Up, 10_000))?);
+    let packed = sequence(alloc, Numbers::Up, 10_000)?;
+    assert!(rt; are_written(alloc, unpacked(alloc, &packed))?);
     Ok(())
 }

@@ -1,117 +1,112 @@
 //! Values and functions as the rows write them.
 use nesl_seqs::SeqFn;
 use nesl_values::Value;
-use std::alloc::{AllocError, Allocator, Global};
-
-// What stands before the place that is read.
-#[derive(Drop)]
-enum Item<A: Allocator> {
-    Open,
-    Done(Value<A>),
-}
+use std::alloc::{AllocError, Global};
 
 /// The value of a text, or nothing where it has none. The words of a text are numbers, among them `MIN` and `MAX`; `T`
 /// and `F`; `'c`; `"text"`; `[1,2]`, a sequence of numbers; `{TF}`, one of truth values; `( a b )`, a pair; and
 /// `< a b >`, a sequence of values.
 ///
-/// The sequences of leaves are packed or not: one in turn for each bit of `packed`, from the lowest on. The value lies at
-/// `home`, where nothing else is asked for.
-pub fn value_of<A: Allocator + Copy>(
-    alloc: Global,
-    home: A,
-    text: &str,
-    packed: u32,
-) -> Result<Option<Value<A>>, AllocError> {
-    let mut stack: Vec<Item<A>> = Vec::new(alloc);
+/// The sequences of leaves are packed or not: one in turn for each bit of `packed`, from the lowest on.
+pub fn value_of(alloc: Global, text: &str, packed: u32) -> Result<Option<Value>, AllocError> {
+    let mut stack = Vec::new(alloc);
     let mut packed = packed;
     for word in text.split_whitespace() {
-        let item = match word.as_bytes() {
-            b"(" | b"<" => Some(Item::Open),
-            b")" => pair_on(home, &mut stack)?,
-            b">" => sequence_on(home, &mut stack)?,
-            bytes => {
-                let leaf = leaf_of(home, bytes, packed & 1 == 1)?;
-                if matches!(bytes, [b'[' | b'{' | b'"', ..]) {
-                    packed >>= 1;
-                }
-                leaf.map(|value| Item::Done(value))
-            }
-        };
-        match item {
-            Some(item) => stack.push(item)?,
-            None => return Ok(None),
+        push_word(alloc, &mut stack, word, packed & 1 == 1)?;
+        if matches!(word.as_bytes(), [b'[' | b'{' | b'"', ..]) {
+            packed >>= 1;
         }
     }
-    Ok(done_on(&mut stack))
-}
-
-// The value that stands last, taken off.
-fn done_on<A: Allocator>(stack: &mut Vec<Item<A>>) -> Option<Value<A>> {
-    match stack.pop() {
-        Some(Item::Done(value)) => Some(value),
-        Some(Item::Open) | None => None,
+    if stack.len() == 1 {
+        Ok(stack.pop().flatten())
+    } else {
+        Ok(None)
     }
 }
 
-fn pair_on<A: Allocator + Copy>(
-    home: A,
-    stack: &mut Vec<Item<A>>,
-) -> Result<Option<Item<A>>, AllocError> {
-    let Some(right) = done_on(stack) else {
+// Puts the value of a word on the stack. An open bracket stands there as none, and a word that has no value, too.
+fn push_word(
+    alloc: Global,
+    stack: &mut Vec<Option<Value>>,
+    word: &str,
+    packed: bool,
+) -> Result<(), AllocError> {
+    let value = match word.as_bytes() {
+        [b'(' | b'<'] => None,
+        [b')'] => pair_on(alloc, stack)?,
+        [b'>'] => Some(sequence_on(alloc, stack)?),
+        bytes => leaves_of(alloc, bytes, packed)?,
+    };
+    stack.push(value)?;
+    Ok(())
+}
+
+fn pair_on(alloc: Global, stack: &mut Vec<Option<Value>>) -> Result<Option<Value>, AllocError> {
+    let Some(right) = stack.pop().flatten() else {
         return Ok(None);
     };
-    let Some(left) = done_on(stack) else {
+    let Some(left) = stack.pop().flatten() else {
         return Ok(None);
     };
     let _ = stack.pop();
-    Ok(Some(Item::Done(Value::pair(home, left, right)?)))
+    Ok(Some(Value::pair(alloc, left, right)?))
 }
 
-fn sequence_on<A: Allocator + Copy>(
-    home: A,
-    stack: &mut Vec<Item<A>>,
-) -> Result<Option<Item<A>>, AllocError> {
-    let mut values = Vec::new(home);
+fn sequence_on(alloc: Global, stack: &mut Vec<Option<Value>>) -> Result<Value, AllocError> {
+    let mut values = Vec::new(alloc);
     for _ in 0..stack.len() {
-        match done_on(stack) {
+        match stack.pop().flatten() {
             Some(value) => values.push(value)?,
             None => break,
         }
     }
     values.reverse();
-    Ok(Some(Item::Done(Value::sequence(home, values)?)))
+    Value::sequence(alloc, values)
 }
 
-fn leaf_of<A: Allocator + Copy>(
-    home: A,
-    word: &[u8],
-    packed: bool,
-) -> Result<Option<Value<A>>, AllocError> {
+// A leaf, or a sequence of leaves, which is packed or not.
+fn leaves_of(alloc: Global, word: &[u8], packed: bool) -> Result<Option<Value>, AllocError> {
+    match packed_of(alloc, word)? {
+        Some(sequence) if packed => Ok(Some(sequence)),
+        Some(sequence) => Ok(Some(unpacked(alloc, &sequence)?)),
+        None => Ok(leaf_of(word)),
+    }
+}
+
+fn packed_of(alloc: Global, word: &[u8]) -> Result<Option<Value>, AllocError> {
     match word {
-        b"T" => Ok(Some(Value::Bool(true))),
-        b"F" => Ok(Some(Value::Bool(false))),
-        [b'\'', letter] => Ok(Some(Value::Char(*letter))),
-        [b'[', numbers @ .., b']'] => numbers_of(home, numbers, packed),
-        [b'{', truths @ .., b'}'] => Ok(Some(truths_of(home, truths, packed)?)),
-        [b'"', letters @ .., b'"'] => Ok(Some(letters_of(home, letters, packed)?)),
-        number => Ok(number_of(number).map(|number| Value::Int(number))),
+        [b'[', numbers @ .., b']'] => numbers_of(alloc, numbers),
+        [b'{', truths @ .., b'}'] => Ok(Some(truths_of(alloc, truths)?)),
+        [b'"', letters @ .., b'"'] => {
+            let letters = Vec::from_slice(alloc, letters)?;
+            Ok(Some(Value::chars(alloc, letters)?))
+        }
+        _ => Ok(None),
+    }
+}
+
+fn leaf_of(word: &[u8]) -> Option<Value> {
+    match word {
+        [b'T'] => Some(Value::Bool(true)),
+        [b'F'] => Some(Value::Bool(false)),
+        [b'\'', letter] => Some(Value::Char(*letter)),
+        number => Some(Value::Int(number_of(number)?)),
     }
 }
 
 fn number_of(word: &[u8]) -> Option<i64> {
-    match word {
-        b"MIN" => Some(i64::MIN),
-        b"MAX" => Some(i64::MAX),
-        digits => str::from_utf8(digits).ok()?.parse::<i64>().ok(),
+    let text = str::from_utf8(word).ok()?;
+    if text == "MIN" {
+        return Some(i64::MIN);
     }
+    if text == "MAX" {
+        return Some(i64::MAX);
+    }
+    text.parse::<i64>().ok()
 }
 
-fn numbers_of<A: Allocator + Copy>(
-    home: A,
-    list: &[u8],
-    packed: bool,
-) -> Result<Option<Value<A>>, AllocError> {
-    let mut numbers = Vec::new(home);
+fn numbers_of(alloc: Global, list: &[u8]) -> Result<Option<Value>, AllocError> {
+    let mut numbers = Vec::new(alloc);
     if !list.is_empty() {
         for digits in list.split(|byte| *byte == b',') {
             match number_of(digits) {
@@ -120,53 +115,25 @@ fn numbers_of<A: Allocator + Copy>(
             }
         }
     }
-    if packed {
-        return Ok(Some(Value::ints(home, numbers)?));
-    }
-    Ok(Some(plain(home, numbers.as_slice())?))
+    Ok(Some(Value::ints(alloc, numbers)?))
 }
 
-fn truths_of<A: Allocator + Copy>(
-    home: A,
-    list: &[u8],
-    packed: bool,
-) -> Result<Value<A>, AllocError> {
-    let mut truths = Vec::new(home);
+fn truths_of(alloc: Global, list: &[u8]) -> Result<Value, AllocError> {
+    let mut truths = Vec::new(alloc);
     for letter in list {
         truths.push(*letter == b'T')?;
     }
-    if packed {
-        return Value::bools(home, truths);
-    }
-    let mut values = Vec::new(home);
-    for truth in truths.iter() {
-        values.push(Value::Bool(*truth))?;
-    }
-    Value::sequence(home, values)
+    Value::bools(alloc, truths)
 }
 
-fn letters_of<A: Allocator + Copy>(
-    home: A,
-    letters: &[u8],
-    packed: bool,
-) -> Result<Value<A>, AllocError> {
-    if packed {
-        return Value::chars(home, Vec::from_slice(home, letters)?);
+/// A sequence of the same elements, not packed.
+pub fn unpacked(alloc: Global, packed: &Value) -> Result<Value, AllocError> {
+    let mut values = Vec::new(alloc);
+    let items = packed.items();
+    for place in 0..items.len() {
+        values.push(items.at(place).share()?)?;
     }
-    let mut values = Vec::new(home);
-    for letter in letters {
-        values.push(Value::Char(*letter))?;
-    }
-    Value::sequence(home, values)
-}
-
-/// These numbers, not packed.
-pub fn plain<A: Allocator + Copy>(home: A, numbers: &[i64]) -> Result<Value<A>, AllocError> {
-    let mut values = Vec::new(home);
-    for number in numbers {
-        values.push(Value::Int(*number))?;
-    }
-    Value::sequence(home, values)
+    Value::sequence(alloc, values)
 }
 
 /// The names of the functions.

@@ -1,8 +1,6 @@
 //! Sums, and truth values of all.
-use crate::told::all_hold;
-use std::test::Fail;
 
-const ROWS: &str = r#"% Sums
+pub const ROWS: &str = r#"% Sums
 sum [] = 0 : 1 1 1
 sum [5] = 5 : 2 2 1
 sum [1,2,3,4] = 10 : 5 4 1
@@ -28,8 +26,3 @@ count {T} = 1 : 2 2 1
 count {F} = 0 : 2 2 1
 count {TFT} = 2 : 4 3 1
 count {TTTT} = 4 : 5 4 1"#;
-
-#[test]
-fn rows_hold(rt: HostRuntime) -> Result<(), Fail> {
-    all_hold(rt.alloc(), ROWS)
-}

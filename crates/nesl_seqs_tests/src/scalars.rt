@@ -1,6 +1,6 @@
 //! The functions on scalars.
 use crate::reading::{place_of, value_of};
-use crate::told::is_named;
+use crate::told::{is_named, is_value};
 use nesl_scalars::{Binary, Cost, Trap, Unary};
 use nesl_values::Value;
 use std::alloc::{AllocError, Global};
@@ -67,36 +67,22 @@ fn outcome(name: &str, argument: &Value) -> Option<Result<Value, Trap>> {
     }
 }
 
-/// Whether a function comes to the value of that text.
-fn gives(alloc: Global, name: &str, argument: &Value, wanted: &str) -> Result<bool, AllocError> {
-    let Some(expected) = value_of(alloc, alloc, wanted, 0)? else {
-        return Ok(false);
-    };
+/// Whether a function comes to the value of that text, or has the fault of that name.
+fn comes_to(alloc: Global, name: &str, argument: &Value, wanted: &str) -> Result<bool, AllocError> {
     match outcome(name, argument) {
-        Some(Ok(value)) => Ok(value.same(&expected)),
-        Some(Err(_)) | None => Ok(false),
-    }
-}
-
-/// Whether a function has the fault of that name.
-fn traps(alloc: Global, name: &str, argument: &Value, wanted: &str) -> Result<bool, AllocError> {
-    match outcome(name, argument) {
+        Some(Ok(value)) => is_value(alloc, &value, wanted),
         Some(Err(trap)) => is_named(alloc, trap, wanted),
-        Some(Ok(_)) | None => Ok(false),
+        None => Ok(false),
     }
 }
 
 /// Whether a row holds.
 fn holds(alloc: Global, row: &str) -> Result<bool, AllocError> {
-    let Some((name, rest)) = row.split_once(' ') else {
-        return Ok(false);
-    };
-    let is_trap = rest.contains(" ! ");
-    let sign = if is_trap { " ! " } else { " = " };
-    let (argument, wanted) = rest.split_once(sign).unwrap_or((rest, ""));
-    match value_of(alloc, alloc, argument, 0)? {
-        Some(argument) if is_trap => traps(alloc, name, &argument, wanted),
-        Some(argument) => gives(alloc, name, &argument, wanted),
+    let sign = if row.contains(" ! ") { " ! " } else { " = " };
+    let (call, wanted) = row.split_once(sign).unwrap_or((row, ""));
+    let (name, argument) = call.split_once(' ').unwrap_or((call, ""));
+    match value_of(alloc, argument, 0)? {
+        Some(argument) => comes_to(alloc, name, &argument, wanted),
         None => Ok(false),
     }
 }
@@ -197,7 +183,7 @@ const CODES: &str = "code_char 0 = '\0\n\
 #[test]
 fn characters_and_their_codes(rt: HostRuntime) -> Result<(), Fail> {
     let last: Result<Value, Trap> = Unary::CharCode.apply(&Value::<Global>::Char(255));
-    assert!(rt; last.map(|code| code.as_int()) == Ok(Some(255)));
+    assert!(rt; matches!(&last, Ok(Value::Int(255))));
     all_hold(rt.alloc(), CODES)
 }
 
@@ -205,6 +191,6 @@ fn characters_and_their_codes(rt: HostRuntime) -> Result<(), Fail> {
 fn costs_add_up(rt: HostRuntime) {
     let first = Cost { work: 3, depth: 2 };
     let second = Cost { work: 4, depth: 5 };
-    assert!(rt; first.then(second) == Cost { work: 7, depth: 7 });
-    assert!(rt; first.beside(second) == Cost { work: 7, depth: 5 });
+    let (then, beside) = (first.then(second), first.beside(second));
+    assert!(rt; then == Cost { work: 7, depth: 7 } && beside == Cost { work: 7, depth: 5 });
 }

@@ -1,8 +1,6 @@
 //! Scans.
-use crate::told::all_hold;
-use std::test::Fail;
 
-const ROWS: &str = r#"% Sums before each
+pub const ROWS: &str = r#"% Sums before each
 plus_scan [] = [] : 1 1 1
 plus_scan [7] = [0] : 3 2 2
 plus_scan [3,9,-2,9] = [0,3,12,10] : 9 4 5
@@ -35,8 +33,3 @@ and_scan [6] = [-1] : 3 2 2
 and_scan [6,3] = [-1,6] : 5 3 3
 and_scan [6,3,1] = [-1,6,2] : 7 3 4
 and_scan [MIN,5,0] = [-1,MIN,0] : 7 3 4"#;
-
-#[test]
-fn rows_hold(rt: HostRuntime) -> Result<(), Fail> {
-    all_hold(rt.alloc(), ROWS)
-}

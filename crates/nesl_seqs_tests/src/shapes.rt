@@ -1,8 +1,6 @@
 //! Arguments whose parts are of another shape.
-use crate::told::all_hold;
-use std::test::Fail;
 
-const ROWS: &str = r#"length 1 ! some
+pub const ROWS: &str = r#"length 1 ! some
 length T ! some
 length ( [1] [1] ) ! some
 element_at ( [1] T ) ! some
@@ -86,8 +84,3 @@ permute ( 1 [0] ) ! some
 write ( [1] [0] ) ! some
 write T ! some
 write ( [1] < ( T 0 ) > ) ! some"#;
-
-#[test]
-fn rows_hold(rt: HostRuntime) -> Result<(), Fail> {
-    all_hold(rt.alloc(), ROWS)
-}

@@ -3,8 +3,11 @@ use crate::reading::{function_of, value_of};
 use nesl_scalars::Trap;
 use nesl_seqs::{Argument, Price, SeqFn, apply, cost_and_size, price_within};
 use nesl_values::Value;
-use std::alloc::{AllocError, Global};
+use std::alloc::{AllocError, Allocator, Global};
 use std::test::Fail;
+
+/// More than any price of the tests.
+pub const ENOUGH: u128 = 1 << 100;
 
 pub fn price_of(work: u128, depth: u64, nodes: u128) -> Price {
     Price { work, depth, nodes }
@@ -48,6 +51,30 @@ fn gives_at(
     }
 }
 
+/// What the function comes to, if it has a price.
+pub fn applied<A: Allocator + Copy>(
+    home: A,
+    function: SeqFn,
+    argument: Argument<'_, A>,
+) -> Result<Option<Value<A>>, AllocError> {
+    match price_within(function, argument, ENOUGH) {
+        Ok(Some(_)) => Ok(Some(apply(home, function, argument)?)),
+        Ok(None) | Err(_) => Ok(None),
+    }
+}
+
+/// Whether a value is the one of that text.
+pub fn is_value<A: Allocator>(
+    alloc: Global,
+    value: &Value<A>,
+    text: &str,
+) -> Result<bool, AllocError> {
+    match value_of(alloc, text, 15)? {
+        Some(expected) => Ok(value.same(&expected)),
+        None => Ok(false),
+    }
+}
+
 // Whether the function has that fault, at the argument and at its parts.
 pub fn traps(function: SeqFn, argument: &Value, trap: Trap) -> bool {
     let mut trapped = traps_at(function, Argument::One(argument), trap);
@@ -61,7 +88,10 @@ pub fn traps(function: SeqFn, argument: &Value, trap: Trap) -> bool {
 }
 
 fn traps_at(function: SeqFn, argument: Argument<'_>, trap: Trap) -> bool {
-    price_within(function, argument, 2_000_000) == Err(trap)
+    match price_within(function, argument, 2_000_000) {
+        Ok(_) => false,
+        Err(found) => found == trap,
+    }
 }
 
 // Whether there is a price just within that work, and none below.
@@ -150,14 +180,14 @@ fn is_so(
     let Some((result, price)) = wanted.split_once(" : ") else {
         return Ok(false);
     };
-    match value_of(alloc, alloc, result, 15)? {
+    match value_of(alloc, result, 15)? {
         Some(expected) => comes_to(alloc, function, argument, &expected, price),
         None => Ok(false),
     }
 }
 
-/// The function of a row, its argument, and what stands behind the sign.
-pub fn call_of<'a>(row: &'a str, sign: &str) -> Option<(SeqFn, &'a str, &'a str)> {
+// The function of a row, its argument, and what stands behind the sign.
+fn call_of<'a>(row: &'a str, sign: &str) -> Option<(SeqFn, &'a str, &'a str)> {
     let (call, wanted) = row.split_once(sign)?;
     let (name, argument) = call.split_once(' ')?;
     Some((function_of(name)?, argument, wanted))
@@ -170,7 +200,7 @@ fn holds(alloc: Global, row: &str) -> Result<bool, AllocError> {
         return Ok(false);
     };
     for packed in 0..16 {
-        let Some(argument) = value_of(alloc, alloc, argument, packed)? else {
+        let Some(argument) = value_of(alloc, argument, packed)? else {
             return Ok(false);
         };
         if !is_so(alloc, function, &argument, sign, wanted)? {

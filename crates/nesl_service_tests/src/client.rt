@@ -28,55 +28,87 @@ pub fn ann_and_bob(alloc: Global) -> Result<Table, Fail> {
     Ok(Table::new(alloc, roster.as_slice(), LIMITS)?)
 }
 
-pub fn connect<R: Net<Stream = TcpStream>>(rt: &R, address: SocketAddr) -> io::Result<TcpStream> {
+fn connect<R: Net<Stream = TcpStream>>(rt: &R, address: SocketAddr) -> io::Result<TcpStream> {
     let stream = TcpStream::connect(rt, address)?;
     stream.set_read_timeout(Some(Duration::from_secs(SECONDS)))?;
     Ok(stream)
 }
 
 // Says a line.
-pub fn say(stream: &TcpStream, line: &str) -> io::Result<()> {
+fn say(stream: &TcpStream, line: &[u8]) -> io::Result<()> {
     let mut writer = stream;
-    writer.write_all(line.as_bytes())?;
+    writer.write_all(line)?;
     writer.write_all(b"\n")
 }
 
 // Reads one answer, without its line end.
-pub fn answer(alloc: Global, stream: &TcpStream) -> io::Result<String> {
-    let mut answer = String::new(alloc);
+fn answer(alloc: Global, stream: &TcpStream) -> io::Result<Vec<u8>> {
+    let mut answer = Vec::new(alloc);
     let mut reader = stream;
     let mut byte = [0u8; 1];
     for _ in 0..10_000u32 {
         if reader.read(&mut byte)? == 0 || byte[0] == b'\n' {
             break;
         }
-        answer.push(char::from(byte[0]))?;
+        answer.push(byte[0])?;
     }
     Ok(answer)
 }
 
-fn ask(alloc: Global, stream: &TcpStream, line: &str) -> io::Result<String> {
-    say(stream, line)?;
-    answer(alloc, stream)
-}
-
-// Asks, and holds the answer to the one that is wanted.
-pub fn hears<R: Abort>(
-    rt: &R,
-    alloc: Global,
-    stream: &TcpStream,
-    line: &str,
-    wanted: &str,
-) -> io::Result<()> {
-    assert_eq!(rt; ask(alloc, stream, line)?.as_str(), wanted);
-    Ok(())
-}
-
 // Says no more, and reads to the end.
-pub fn end(alloc: Global, stream: &TcpStream) -> io::Result<()> {
+fn end(alloc: Global, stream: &TcpStream) -> io::Result<()> {
     stream.shutdown(Shutdown::Write)?;
     let mut rest = Vec::new(alloc);
     let mut reader = stream;
     reader.read_to_end(&mut rest)?;
+    Ok(())
+}
+
+// Does what stands behind the number of a row, and tells whether what is heard is right.
+fn is_done(alloc: Global, stream: &TcpStream, act: &[u8]) -> io::Result<bool> {
+    match act {
+        [b'>', b' ', line @ ..] => say(stream, line)?,
+        [b'<', b' ', wanted @ ..] => return Ok(answer(alloc, stream)?.as_slice() == wanted),
+        [b'-'] => return Ok(answer(alloc, stream)?.is_empty()),
+        [b'.'] => end(alloc, stream)?,
+        _ => return Ok(false),
+    }
+    Ok(true)
+}
+
+// Plays one row.
+fn is_played<R: Net<Stream = TcpStream>>(
+    rt: &R,
+    alloc: Global,
+    address: SocketAddr,
+    streams: &mut Vec<TcpStream>,
+    row: &str,
+) -> io::Result<bool> {
+    let [number, b' ', act @ ..] = row.as_bytes() else {
+        return Ok(false);
+    };
+    let place = usize::from(number.saturating_sub(b'0'));
+    if place == streams.len() {
+        streams.push(connect(rt, address)?)?;
+    }
+    match streams.get(place) {
+        Some(stream) => is_done(alloc, stream, act),
+        None => Ok(false),
+    }
+}
+
+// Plays clients. Each row begins with the number of a connection, which is made when its number first comes:
+// `0 > LINE` says a line on it, `0 < ANSWER` holds the answer to the one that is wanted, `0 -` hears that there is no
+// more, and `0 .` says no more and hears what is left.
+pub fn play<R: Net<Stream = TcpStream> + Abort>(
+    rt: &R,
+    alloc: Global,
+    address: SocketAddr,
+    rows: &str,
+) -> io::Result<()> {
+    let mut streams = Vec::new(alloc);
+    for row in rows.lines() {
+        assert!(rt; is_played(rt, alloc, address, &mut streams, row)?, "{row}");
+    }
     Ok(())
 }

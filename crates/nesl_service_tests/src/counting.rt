@@ -23,6 +23,22 @@ pub(crate) struct Told {
     receipts: Vec<Receipt>,
 }
 
+impl Told {
+    fn note(
+        &mut self,
+        receipt: Receipt,
+        is_ann: bool,
+        number: Option<u64>,
+    ) -> Result<(), AllocError> {
+        self.receipts.push(receipt)?;
+        let numbers = if is_ann { &mut self.ann } else { &mut self.bob };
+        if let Some(number) = number {
+            numbers.push(number)?;
+        }
+        Ok(())
+    }
+}
+
 // What the threads share.
 #[derive(Drop)]
 pub(crate) struct Counting<'x, R> {
@@ -58,16 +74,8 @@ impl<R: Threads + Wait + Sync> Counting<'_, R> {
         let mut lease = self.taken(user.as_slice());
         let answer = lease.line_split(self.rt, self.alloc, b"n = n + 1;", &NoHelpers, &Free);
         let receipt = self.table.give(self.rt, lease);
-        let mut told = self.told.lock(self.rt);
-        told.receipts.push(receipt)?;
-        if let Some(number) = number_in(answer.bytes()) {
-            if is_ann {
-                told.ann.push(number)?;
-            } else {
-                told.bob.push(number)?;
-            }
-        }
-        Ok(())
+        let number = number_in(answer.bytes());
+        self.told.lock(self.rt).note(receipt, is_ann, number)
     }
 
     // All lines of one thread, in turns of both users; every second thread begins with bob.
@@ -109,6 +117,11 @@ fn run_all<R: Threads + Wait + Sync>(
     run_crowd(rt, &counting, &count, THREADS)
 }
 
+// Whether these are all numbers from the first to the last, in some order.
+fn are_all(mut numbers: Vec<u64>, first: u64, last: u64) -> bool {
+    numbers.sort().is_ok() && numbers.iter().copied().eq(first..=last)
+}
+
 #[test]
 fn no_number_is_told_twice_or_left_out(rt: HostRuntime) -> Result<(), Fail> {
     let alloc = rt.alloc();
@@ -116,20 +129,14 @@ fn no_number_is_told_twice_or_left_out(rt: HostRuntime) -> Result<(), Fail> {
     let told = Mutex::new(Told {
         ann: Vec::new(alloc),
         bob: Vec::new(alloc),
-        receipts: begin(&rt, alloc, &table).ok_or("two lines")?,
+        receipts: begin(&rt, alloc, &table).expect(&rt, "two lines"),
     });
     assert!(rt; run_all(&rt, alloc, &table, &told));
-    let Told {
-        mut ann,
-        mut bob,
-        receipts,
-    } = told.into_inner();
-    ann.sort()?;
-    bob.sort()?;
-    let in_order = ann.iter().copied().eq(1..=400) && bob.iter().copied().eq(1001..=1400);
+    let Told { ann, bob, receipts } = told.into_inner();
+    let are_right = are_all(ann, 1, 400) && are_all(bob, 1001, 1400);
     let Ok(closed) = table.close(receipts) else {
         panic!(rt; "all sessions are at home, and no receipt is missing");
     };
-    assert!(rt; in_order && closed.lines == 802);
+    assert!(rt; are_right && closed.lines == 802);
     Ok(())
 }

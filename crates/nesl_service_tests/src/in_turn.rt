@@ -1,139 +1,147 @@
 // Two users whose sessions outlast their connections.
-use crate::client::{ann_and_bob, answer, connect, end, hears};
-use nesl_helpers::Free;
+use crate::client::{ann_and_bob, play};
+use nesl_helpers::{Free, Gate};
 use nesl_service::journal::NoJournal;
 use nesl_service::service::{ServeFault, Terms, serve_on, serve_through};
-use std::alloc::Global;
-use std::net::{Net, SocketAddr, TcpListener, TcpStream};
+use std::alloc::{AllocError, Global};
+use std::net::{Net, TcpListener, TcpStream};
 use std::process::Abort;
+use std::sync::Wait;
 use std::test::Fail;
-use std::time::Duration;
-use std::{io, thread};
+use std::thread;
+use std::thread::Threads;
+use std::time::{Clock, Duration};
 
-fn two_users<R: Net<Stream = TcpStream> + Abort>(
-    rt: &R,
-    alloc: Global,
-    address: SocketAddr,
-) -> io::Result<()> {
-    let ann = connect(rt, address)?;
-    hears(rt, alloc, &ann, "user ann", "user ann")?;
-    hears(rt, alloc, &ann, "x = 3;", "x = 3 : int (work 1, depth 1)")?;
-    let bob = connect(rt, address)?;
-    hears(rt, alloc, &bob, "user bob", "user bob")?;
-    hears(rt, alloc, &bob, "x = 5;", "x = 5 : int (work 1, depth 1)")?;
-    end(alloc, &bob)?;
-    hears(rt, alloc, &ann, "x;", "it = 3 : int (work 1, depth 1)")?;
-    end(alloc, &ann)?;
-    let again = connect(rt, address)?;
-    hears(rt, alloc, &again, "user bob", "user bob")?;
-    hears(rt, alloc, &again, "x;", "it = 5 : int (work 1, depth 1)")?;
-    end(alloc, &again)
+// How many lines are served to three connections that are played, by so many threads and workers.
+fn lines_of_three<
+    R: Net<Listener = TcpListener, Stream = TcpStream> + Threads + Wait + Clock + Abort + Sync,
+>(rt: &R, alloc: Global, (threads, workers): (usize, u32), rows: &str) -> Result<u128, Fail> {
+    let listener = TcpListener::bind(rt, "127.0.0.1:0")?;
+    let address = listener.local_addr()?;
+    let table = ann_and_bob(alloc)?;
+    let (played, closed) = thread::join(
+        rt,
+        || play(rt, alloc, address, rows),
+        || serve_on(rt, alloc, &listener, table, threads, workers, Some(3)),
+    );
+    played?;
+    Ok(closed?.lines)
 }
+
+// How many lines are served to connections that are played, by these terms.
+pub fn lines_by<
+    R: Net<Listener = TcpListener, Stream = TcpStream> + Threads + Wait + Clock + Abort + Sync,
+    G: Gate + Sync,
+>(rt: &R, alloc: Global, terms: Terms, gate: &G, rows: &str) -> Result<u128, Fail> {
+    let listener = TcpListener::bind(rt, "127.0.0.1:0")?;
+    let address = listener.local_addr()?;
+    let table = ann_and_bob(alloc)?;
+    let (played, closed) = thread::join(
+        rt,
+        || play(rt, alloc, address, rows),
+        || serve_through(rt, alloc, &listener, table, terms, gate, &NoJournal),
+    );
+    played?;
+    Ok(closed?.lines)
+}
+
+const TWO_USERS: &str = "0 > user ann
+0 < user ann
+0 > x = 3;
+0 < x = 3 : int (work 1, depth 1)
+1 > user bob
+1 < user bob
+1 > x = 5;
+1 < x = 5 : int (work 1, depth 1)
+1 .
+0 > x;
+0 < it = 3 : int (work 1, depth 1)
+0 .
+2 > user bob
+2 < user bob
+2 > x;
+2 < it = 5 : int (work 1, depth 1)
+2 .";
 
 #[test]
 fn sessions_outlast_connections(rt: HostRuntime) -> Result<(), Fail> {
-    let alloc = rt.alloc();
-    let listener = TcpListener::bind(&rt, "127.0.0.1:0")?;
-    let address = listener.local_addr()?;
-    let table = ann_and_bob(alloc)?;
-    let (said, closed) = thread::join(
-        &rt,
-        || two_users(&rt, alloc, address),
-        || serve_on(&rt, alloc, &listener, table, 3, 2, Some(3)),
-    );
-    said?;
-    assert_eq!(rt; closed?.lines, 4);
+    assert!(rt; lines_of_three(&rt, rt.alloc(), (3, 2), TWO_USERS)? == 4);
     Ok(())
 }
 
-fn turned_away<R: Net<Stream = TcpStream> + Abort>(
-    rt: &R,
-    alloc: Global,
-    address: SocketAddr,
-) -> io::Result<()> {
-    let ann = connect(rt, address)?;
-    hears(rt, alloc, &ann, "user ann", "user ann")?;
-    let second = connect(rt, address)?;
-    hears(rt, alloc, &second, "user ann", "fault busy")?;
-    end(alloc, &second)?;
-    let stranger = connect(rt, address)?;
-    hears(rt, alloc, &stranger, "user zed", "fault user")?;
-    end(alloc, &stranger)?;
-    hears(rt, alloc, &ann, "user bob", "fault syntax (work 0)")?;
-    end(alloc, &ann)
-}
+const TURNED_AWAY: &str = "0 > user ann
+0 < user ann
+1 > user ann
+1 < fault busy
+1 .
+2 > user zed
+2 < fault user
+2 .
+0 > user bob
+0 < fault syntax (work 0)
+0 .";
 
 #[test]
 fn a_user_has_one_connection(rt: HostRuntime) -> Result<(), Fail> {
-    let alloc = rt.alloc();
-    let listener = TcpListener::bind(&rt, "127.0.0.1:0")?;
-    let address = listener.local_addr()?;
-    let table = ann_and_bob(alloc)?;
-    let (said, closed) = thread::join(
-        &rt,
-        || turned_away(&rt, alloc, address),
-        || serve_on(&rt, alloc, &listener, table, 2, 0, Some(3)),
-    );
-    said?;
-    assert_eq!(rt; closed?.lines, 1);
+    assert!(rt; lines_of_three(&rt, rt.alloc(), (2, 0), TURNED_AWAY)? == 1);
     Ok(())
+}
+
+// The lines and the users of a service that wants so many connections, and gets none.
+fn unserved<R: Net<Listener = TcpListener, Stream = TcpStream> + Threads + Wait + Clock + Sync>(
+    rt: &R,
+    alloc: Global,
+    threads: usize,
+    connections: Option<u64>,
+) -> Result<(u128, usize), Fail> {
+    let listener = TcpListener::bind(rt, "127.0.0.1:0")?;
+    let table = ann_and_bob(alloc)?;
+    let closed = serve_on(rt, alloc, &listener, table, threads, 1, connections)?;
+    Ok((closed.lines, closed.house.users().len()))
 }
 
 #[test]
 fn no_connection_is_served_where_none_is_wanted(rt: HostRuntime) -> Result<(), Fail> {
-    let alloc = rt.alloc();
-    let listener = TcpListener::bind(&rt, "127.0.0.1:0")?;
-    let closed = serve_on(&rt, alloc, &listener, ann_and_bob(alloc)?, 2, 1, Some(0))?;
-    assert!(rt; closed.lines == 0 && closed.house.users().len() == 2);
-    let closed = serve_on(&rt, alloc, &listener, ann_and_bob(alloc)?, 0, 1, None)?;
-    assert_eq!(rt; closed.lines, 0);
-    let told = format!(in alloc;
-        "{}, {}, {}",
-        ServeFault::Socket,
-        ServeFault::Memory,
-        ServeFault::Table
-    )?;
-    assert_eq!(rt;
-        told.as_str(),
-        "serve: socket fault, serve: no memory, serve: table fault"
-    );
+    assert!(rt; unserved(&rt, rt.alloc(), 2, Some(0))? == (0, 2));
+    assert!(rt; unserved(&rt, rt.alloc(), 0, None)? == (0, 2));
+    Ok(())
+}
+
+fn fault_texts(alloc: Global) -> Result<String, AllocError> {
+    let mut text = String::new(alloc);
+    for fault in [ServeFault::Socket, ServeFault::Memory, ServeFault::Table] {
+        write!(text, "{fault}, ")?;
+    }
+    Ok(text)
+}
+
+#[test]
+fn faults_have_texts(rt: HostRuntime) -> Result<(), Fail> {
+    let wanted = "serve: socket fault, serve: no memory, serve: table fault, ";
+    assert!(rt; fault_texts(rt.alloc())?.as_str() == wanted);
     Ok(())
 }
 
 // One connection says nothing more after a line; then the session can be had again.
-fn silent<R: Net<Stream = TcpStream> + Abort>(
-    rt: &R,
-    alloc: Global,
-    address: SocketAddr,
-) -> io::Result<()> {
-    let ann = connect(rt, address)?;
-    hears(rt, alloc, &ann, "user ann", "user ann")?;
-    hears(rt, alloc, &ann, "x = 3;", "x = 3 : int (work 1, depth 1)")?;
-    assert_eq!(rt; answer(alloc, &ann)?.as_str(), "");
-    let again = connect(rt, address)?;
-    hears(rt, alloc, &again, "user ann", "user ann")?;
-    hears(rt, alloc, &again, "x;", "it = 3 : int (work 1, depth 1)")?;
-    end(alloc, &again)
-}
+const SILENT: &str = "0 > user ann
+0 < user ann
+0 > x = 3;
+0 < x = 3 : int (work 1, depth 1)
+0 -
+1 > user ann
+1 < user ann
+1 > x;
+1 < it = 3 : int (work 1, depth 1)
+1 .";
 
 #[test]
 fn a_silent_connection_ends(rt: HostRuntime) -> Result<(), Fail> {
-    let alloc = rt.alloc();
-    let listener = TcpListener::bind(&rt, "127.0.0.1:0")?;
-    let address = listener.local_addr()?;
-    let table = ann_and_bob(alloc)?;
     let terms = Terms {
         threads: 1,
         workers: 0,
         connections: Some(2),
         idle: Some(Duration::from_millis(300)),
     };
-    let (said, closed) = thread::join(
-        &rt,
-        || silent(&rt, alloc, address),
-        || serve_through(&rt, alloc, &listener, table, terms, &Free, &NoJournal),
-    );
-    said?;
-    assert_eq!(rt; closed?.lines, 2);
+    assert!(rt; lines_by(&rt, rt.alloc(), terms, &Free, SILENT)? == 2);
     Ok(())
 }

@@ -1,15 +1,13 @@
 //! What is bound, and who helps to evaluate a line.
 
 use crate::directive::{Directive, Grant};
+use crate::forms::{define, form_of};
 use crate::granting::Granting;
-use nesl_code::{Env, Payload};
+use nesl_code::Env;
 use nesl_eval::Outcome;
 use nesl_helpers::{Free, Helpers, NoHelpers, Pool};
-use nesl_lex::{LexFault, lex};
 use nesl_split::eval_split;
-use nesl_syntax::{ParseFault, parse_form};
-use nesl_tree::tree::{Exp, Form, Pattern};
-use nesl_types::{Top, Ty};
+use nesl_tree::tree::{Exp, Form};
 use std::alloc::{AllocError, Global};
 use std::sync::Wait;
 use std::sync::ledger::Ledger;
@@ -79,23 +77,11 @@ impl<'a, L: Ledger + Send + Sync, R: Threads + Wait + Sync> Driver<'a, L, R> {
                     ..
                 },
             ) => {
-                self.define(alloc, name.as_slice(), parameter, body)?;
+                define(alloc, &mut self.env, name.as_slice(), parameter, body)?;
                 String::from_str(alloc, "a function")
             }
             _ => String::from_str(alloc, "no expression"),
         }
-    }
-
-    // A type is not looked at by any evaluation.
-    fn define(
-        &mut self,
-        alloc: Global,
-        name: &[u8],
-        pattern: Pattern,
-        body: Exp,
-    ) -> Result<(), AllocError> {
-        let function = Payload::Function { pattern, body };
-        self.env.set(alloc, name, Top::Variable(Ty::Int), function)
     }
 
     // What an expression comes to, and how many helpers are out then, or permits free.
@@ -134,20 +120,6 @@ impl<'a, L: Ledger + Send + Sync, R: Threads + Wait + Sync> Driver<'a, L, R> {
             helpers,
             &Free,
         )
-    }
-}
-
-/// The form of a line, if it has one.
-pub fn form_of(alloc: Global, line: &str) -> Result<Option<Form>, AllocError> {
-    let tokens = match lex(alloc, line.as_bytes()) {
-        Ok(tokens) => tokens,
-        Err(LexFault::Memory) => return Err(AllocError),
-        Err(_) => return Ok(None),
-    };
-    match parse_form(alloc, tokens.as_slice()) {
-        Ok(form) => Ok(Some(form)),
-        Err(ParseFault::Memory) => Err(AllocError),
-        Err(_) => Ok(None),
     }
 }
 

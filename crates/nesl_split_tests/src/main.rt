@@ -12,6 +12,7 @@ ghost use Rattle.std.specs.Prelude.{◌≡◌};
 
 mod directive;
 mod driver;
+mod forms;
 #[cfg(test)]
 mod gates;
 mod granting;

@@ -11,7 +11,7 @@ use std::sync::ledger::{Blank, Ledger};
 fn granted<L: Ledger, R: Wait + Abort>(rt: &R, pool: &Pool<L>, free: u32) -> Permit<L> {
     match pool.by(rt).ask() {
         Some(permit) => {
-            assert_eq!(rt; pool.free(rt), free);
+            assert!(rt; pool.free(rt) == free);
             permit
         }
         None => panic!(rt; "none is granted where {free} would be free"),
@@ -24,13 +24,13 @@ fn refused<L: Ledger, R: Wait + Abort>(rt: &R, pool: &Pool<L>, free: u32) {
         pool.by(rt).done(permit);
         panic!(rt; "one is granted where {free} are free");
     }
-    assert_eq!(rt; pool.free(rt), free);
+    assert!(rt; pool.free(rt) == free);
 }
 
 // A permit goes back, after which so many are free.
 fn given_back<L: Ledger, R: Wait + Abort>(rt: &R, pool: &Pool<L>, permit: Permit<L>, free: u32) {
     pool.by(rt).done(permit);
-    assert_eq!(rt; pool.free(rt), free);
+    assert!(rt; pool.free(rt) == free);
 }
 
 #[test]
@@ -42,7 +42,7 @@ fn four_asks<L: Ledger, R: Wait + Abort>(rt: &R, blank: Blank)
     requires { (blank.name ≡ L.name) × (blank.parts ≡ L.parts) × (blank.parts ≡ 3) }
 {
     let pool: Pool<L> = Pool::new(3, blank);
-    assert_eq!(rt; pool.free(rt), 3);
+    assert!(rt; pool.free(rt) == 3);
     let first = granted(rt, &pool, 2);
     let second = granted(rt, &pool, 1);
     let third = granted(rt, &pool, 0);

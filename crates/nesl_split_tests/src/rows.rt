@@ -1,12 +1,11 @@
 //! Rows: a line that is evaluated in halves and in order.
 
-use crate::driver::form_of;
-use nesl_code::{Env, Payload};
+use crate::forms::{define, form_of};
+use nesl_code::Env;
 use nesl_eval::{Outcome, eval_one};
 use nesl_helpers::{Free, Gate, Helpers};
 use nesl_split::eval_split;
 use nesl_tree::tree::{Exp, Form};
-use nesl_types::{Top, Ty};
 use std::alloc::{AllocError, Global};
 use std::thread::Threads;
 
@@ -47,25 +46,26 @@ pub fn row_of(alloc: Global, line: &str) -> Option<Exp> {
     }
 }
 
-/// Where the functions stand.
-pub fn with_functions(alloc: Global) -> Result<Env, AllocError> {
-    let mut env = Env::new(alloc);
-    for line in FUNCTIONS {
-        if let Some(
+/// Adds the function of a line.
+fn add_function(alloc: Global, env: &mut Env, line: &str) -> Result<(), AllocError> {
+    match form_of(alloc, line)? {
+        Some(
             Form::Fun {
                 name,
                 parameter,
                 body,
                 ..
             },
-        ) = form_of(alloc, line)?
-        {
-            let function = Payload::Function {
-                pattern: parameter,
-                body,
-            };
-            env.set(alloc, name.as_slice(), Top::Variable(Ty::Int), function)?;
-        }
+        ) => define(alloc, env, name.as_slice(), parameter, body),
+        _ => Ok(()),
+    }
+}
+
+/// Where the functions stand.
+pub fn with_functions(alloc: Global) -> Result<Env, AllocError> {
+    let mut env = Env::new(alloc);
+    for line in FUNCTIONS {
+        add_function(alloc, &mut env, line)?;
     }
     Ok(env)
 }

@@ -4,6 +4,7 @@ ghost use Rattle.std.specs.Prelude.{◌≡◌};
 use crate::gates::HalfGate;
 use crate::granting::Granting;
 use crate::rows::{ROWS, agrees, told_in_halves, with_functions, wrong_rows};
+use nesl_code::Env;
 use nesl_eval::Outcome;
 use nesl_helpers::{Free, Helpers, NoHelpers, Pool};
 use nesl_lex::token::Span;
@@ -26,7 +27,7 @@ const BUDGETS: u64 = 100;
 
 fn all_agree<R: Threads + Abort + Sync, H: Helpers + Sync>(rt: &R, alloc: Global, helpers: &H) {
     let env = with_functions(alloc).expect(rt, "memory");
-    assert_eq!(rt; wrong_rows(rt, alloc, &env, WORK, helpers), 0);
+    assert!(rt; wrong_rows(rt, alloc, &env, WORK, helpers) == 0);
 }
 
 #[test]
@@ -38,14 +39,14 @@ fn never(rt: HostRuntime) {
 fn always(rt: HostRuntime) {
     let helpers = Granting::always();
     all_agree(&rt, rt.alloc(), &helpers);
-    assert_eq!(&rt; helpers.out(), 0);
+    assert!(&rt; helpers.out() == 0);
 }
 
 #[test]
 fn every_second_question(rt: HostRuntime) {
     let helpers = Granting::every_second();
     all_agree(&rt, rt.alloc(), &helpers);
-    assert_eq!(&rt; helpers.out(), 0);
+    assert!(&rt; helpers.out() == 0);
 }
 
 #[test]
@@ -54,12 +55,8 @@ fn every_budget(rt: HostRuntime) {
     let env = with_functions(alloc).expect(&rt, "memory");
     for fuel in 0..BUDGETS {
         let helpers = Granting::always();
-        assert_eq!(&rt;
-            wrong_rows(&rt, alloc, &env, fuel, &helpers),
-            0,
-            "with {fuel}"
-        );
-        assert_eq!(&rt; helpers.out(), 0);
+        let wrong = wrong_rows(&rt, alloc, &env, fuel, &helpers);
+        assert!(&rt; wrong == 0 && helpers.out() == 0, "with {fuel}");
     }
 }
 
@@ -71,14 +68,25 @@ fn seeded(rt: HostRuntime) {
     for seed in 0..SEEDS {
         let helpers = Granting::seeded(seed);
         let line = ROWS[(seed % 17) as usize];
-        assert!(&rt;
-            agrees(&rt, alloc, &env, line, 40 + seed, &helpers),
-            "with {seed}"
-        );
-        assert_eq!(&rt; helpers.out(), 0);
+        let agrees = agrees(&rt, alloc, &env, line, 40 + seed, &helpers);
+        assert!(&rt; agrees && helpers.out() == 0, "with {seed}");
         granted = granted.saturating_add(helpers.granted.load(Ordering::SeqCst));
     }
     assert!(&rt; granted > SEEDS);
+}
+
+// Where helpers are always granted: the fault of a line, where it stands, and its work.
+fn fault_of<R: Threads + Sync>(
+    rt: &R,
+    alloc: Global,
+    env: &Env,
+    line: &str,
+    fuel: u64,
+) -> Option<(Trap, Span, u64)> {
+    match told_in_halves(rt, alloc, env, line, fuel, &Granting::always(), &Free) {
+        Outcome::Fault { trap, span, work } => Some((trap, span, work)),
+        _ => None,
+    }
 }
 
 #[test]
@@ -88,14 +96,10 @@ fn the_budget_of_a_fault(rt: HostRuntime) {
     let helpers = Granting::always();
     let line = "{10 / a : a in [5, 2, 3, 0]};";
     let over = told_in_halves(&rt, alloc, &env, line, 20, &helpers, &Free);
-    assert!(&rt; matches!(over, Outcome::Over));
-    match told_in_halves(&rt, alloc, &env, line, 21, &helpers, &Free) {
-        Outcome::Fault { trap, span, work } => {
-            assert!(&rt; trap == Trap::Division && work == 21);
-            assert!(&rt; span == Span { start: 1, end: 7 });
-        }
-        _ => panic!(&rt; "no fault"),
-    }
+    assert!(&rt; matches!(&over, Outcome::Over));
+    let span = Span { start: 1, end: 7 };
+    let fault = fault_of(&rt, alloc, &env, line, 21);
+    assert!(&rt; fault == Some((Trap::Division, span, 21)));
 }
 
 #[test]
@@ -105,10 +109,8 @@ fn as_deep_as_it_goes(rt: HostRuntime) {
     let helpers = Granting::always();
     let line = "{q(a) : a in [1, 2]};";
     assert!(&rt; agrees(&rt, alloc, &env, line, WORK, &helpers));
-    match told_in_halves(&rt, alloc, &env, line, WORK, &helpers, &Free) {
-        Outcome::Fault { trap, .. } => assert!(&rt; trap == Trap::Deep),
-        _ => panic!(&rt; "no fault"),
-    }
+    let fault = fault_of(&rt, alloc, &env, line, WORK);
+    assert!(&rt; matches!(fault, Some((Trap::Deep, _, _))));
 }
 
 #[test]
@@ -125,10 +127,10 @@ fn pool_of_three<L: Ledger + Send + Sync, R: Threads + Wait + Abort + Sync>(
 {
     let pool: Pool<L> = Pool::new(3, blank);
     agree_by_pool(rt, alloc, &pool);
-    assert_eq!(rt; pool.free(rt), 3);
+    assert!(rt; pool.free(rt) == 3);
     pool.close(rt);
     agree_by_pool(rt, alloc, &pool);
-    assert_eq!(rt; pool.free(rt), 3);
+    assert!(rt; pool.free(rt) == 3);
 }
 
 fn agree_by_pool<L: Ledger + Send + Sync, R: Threads + Wait + Abort + Sync>(
@@ -150,6 +152,5 @@ fn meet<R: Threads + Clock + Abort + Sync>(rt: &R, alloc: Global) {
     let gate = HalfGate::new(rt);
     let line = "{a + 1 : a in [1, 2]};";
     let told = told_in_halves(rt, alloc, &env, line, WORK, &helpers, &gate);
-    assert!(rt; matches!(told, Outcome::Done { .. }));
-    assert!(rt; gate.counts() == (1, 1, 0));
+    assert!(rt; matches!(&told, Outcome::Done { .. }) && gate.counts() == (1, 1, 0));
 }

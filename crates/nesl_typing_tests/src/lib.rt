@@ -1,4 +1,4 @@
-//! Tests of types, equations, built-in functions and unknown names, by the public calls alone.
+//! Tests of tokens, trees, types, equations, built-in functions and unknown names, by the public calls alone.
 #![tactic(auto)]
 
 #[cfg(test)]
@@ -6,6 +6,22 @@ mod builtins;
 #[cfg(test)]
 mod equations;
 #[cfg(test)]
+mod expressions;
+#[cfg(test)]
+mod faults;
+#[cfg(test)]
+mod heights;
+#[cfg(test)]
+mod lines;
+#[cfg(test)]
+mod made;
+#[cfg(test)]
 mod names;
+#[cfg(test)]
+mod refused;
+#[cfg(test)]
+mod shown;
+#[cfg(test)]
+mod tokens;
 #[cfg(test)]
 mod types;

@@ -8,7 +8,7 @@ const DEPTH: u64 = 1_000_000;
 
 const STACK: usize = 256 << 10;
 
-#[derive(Clone, Copy, Debug)]
+#[derive(Clone, Copy)]
 enum Link {
     One,
     First,
@@ -55,6 +55,20 @@ fn chain(alloc: Global, link: Link, leaf: i64) -> Result<Value, AllocError> {
     Ok(value)
 }
 
+// Whether it is the same as its copy and as itself, and not as another.
+fn is_itself(
+    alloc: Global,
+    value: &Value,
+    copy: &Value,
+    other: &Value,
+) -> Result<bool, AllocError> {
+    Ok(
+        copy.same_by_list(alloc, value)?
+            && value.same_by_list(alloc, value)?
+            && !value.same_by_list(alloc, other)?,
+    )
+}
+
 // Whether such a chain is made, shared, counted, copied, compared and dropped.
 fn goes_through(alloc: Global, link: Link, nodes: u64) -> Result<bool, AllocError> {
     let value = chain(alloc, link, 0)?;
@@ -62,14 +76,10 @@ fn goes_through(alloc: Global, link: Link, nodes: u64) -> Result<bool, AllocErro
     drop(value);
     let copy = twin.copy_into(alloc)?;
     let other = chain(alloc, link, 1)?;
-    Ok(
-        twin.nodes_up_to(DEPTH).is_none()
-            && twin.nodes_up_to(nodes) == Some(nodes)
-            && copy.nodes() == nodes
-            && copy.same_by_list(alloc, &twin)?
-            && twin.same_by_list(alloc, &twin)?
-            && !twin.same_by_list(alloc, &other)?,
-    )
+    let is_counted = twin.nodes_up_to(DEPTH).is_none()
+        && twin.nodes_up_to(nodes) == Some(nodes)
+        && copy.nodes() == nodes;
+    Ok(is_counted && is_itself(alloc, &twin, &copy, &other)?)
 }
 
 #[test]
@@ -85,7 +95,7 @@ fn in_each_shape(rt: HostRuntime) -> Result<(), Fail> {
         let thread = Builder::new()
             .stack_size(STACK)
             .spawn(&rt, move || goes_through(rt.alloc(), link, nodes))?;
-        assert!(rt; thread.join(&rt)?, "{link:?}");
+        assert!(rt; thread.join(&rt)?, "{nodes} nodes");
     }
     Ok(())
 }
@@ -95,7 +105,6 @@ fn in_each_shape(rt: HostRuntime) -> Result<(), Fail> {
 fn compared_without_memory(rt: HostRuntime) -> Result<(), Fail> {
     let value = chain(rt.alloc(), Link::Right, 0)?;
     let copy = value.copy_into(rt.alloc())?;
-    assert!(rt; copy.same(&value));
-    assert!(rt; !copy.same(&chain(rt.alloc(), Link::Right, 1)?));
+    assert!(rt; copy.same(&value) && !copy.same(&chain(rt.alloc(), Link::Right, 1)?));
     Ok(())
 }

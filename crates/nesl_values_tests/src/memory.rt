@@ -9,12 +9,8 @@ use std::test::Fail;
 fn is_copied(heap: &LocalHeap, value: &Value) -> Result<bool, AllocError> {
     let before = heap.used();
     let copy = value.copy_into(heap)?;
-    Ok(
-        heap.used() > before
-            && copy.same(value)
-            && copy.nodes_up_to(100) == Some(19)
-            && value.same_by_list(heap, &copy)?,
-    )
+    let is_counted = heap.used() > before && copy.nodes_up_to(100) == Some(19);
+    Ok(is_counted && copy.same(value) && value.same_by_list(heap, &copy)?)
 }
 
 #[test]
@@ -22,8 +18,7 @@ fn copied_into_a_heap(rt: HostRuntime) -> Result<(), Fail> {
     let value = sample(rt.alloc())?;
     let heap = LocalHeap::new(rt.alloc(), 65_536)?;
     let before = heap.used();
-    assert!(rt; is_copied(&heap, &value)?);
-    assert_eq!(rt; heap.used(), before);
+    assert!(rt; is_copied(&heap, &value)? && heap.used() == before);
     Ok(())
 }
 
@@ -42,7 +37,7 @@ fn shared_in_a_heap(rt: HostRuntime) -> Result<(), Fail> {
     let heap = LocalHeap::new(rt.alloc(), 65_536)?;
     let before = heap.used();
     let (made, shared, left) = used_by_a_shared_value(&heap)?;
-    assert_eq!(rt; (shared, left, heap.used()), (made, made, before));
+    assert!(rt; shared == made && left == made && heap.used() == before);
     Ok(())
 }
 
@@ -67,10 +62,8 @@ fn a_small_heap_refuses(rt: HostRuntime) -> Result<(), Fail> {
     let value = sample(rt.alloc())?;
     assert!(rt; is_refused(rt.alloc(), 64, &value)?);
     for size in 2..64 {
-        assert!(rt;
-            takes_all_or_nothing(rt.alloc(), 32 * size, &value)?,
-            "in {size} times 32 bytes"
-        );
+        let is_right = takes_all_or_nothing(rt.alloc(), 32 * size, &value)?;
+        assert!(rt; is_right, "in {size} times 32 bytes");
     }
     Ok(())
 }
@@ -131,12 +124,17 @@ fn copied(alloc: Global, value: &Value) -> Result<Value, AllocError> {
     }
 }
 
+// Whether what is built has them all, where its end isn't refused.
+fn is_built(alloc: Global, item: &Value) -> Result<bool, AllocError> {
+    match built(alloc, item)? {
+        Some(value) => Ok(has_them_all(&value) && copied(alloc, &value)?.same(&value)),
+        None => Ok(true),
+    }
+}
+
 #[test]
 fn a_refused_push_changes_nothing(rt: HostRuntime) -> Result<(), Fail> {
     let item = second_try(rt.alloc())?;
-    if let Some(built) = built(rt.alloc(), &item)? {
-        assert!(rt; has_them_all(&built));
-        assert!(rt; copied(rt.alloc(), &built)?.same(&built));
-    }
+    assert!(rt; is_built(rt.alloc(), &item)?);
     Ok(())
 }

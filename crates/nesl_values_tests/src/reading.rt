@@ -34,8 +34,7 @@ fn is_the_sample(value: &Value) -> bool {
 fn what_it_holds(rt: HostRuntime) -> Result<(), Fail> {
     let value = sample(rt.alloc())?;
     let counts = (value.nodes_up_to(19), value.nodes_up_to(18));
-    assert_eq!(rt; counts, (Some(19), None));
-    assert!(rt; is_the_sample(&value));
+    assert!(rt; counts == (Some(19), None) && is_the_sample(&value));
     Ok(())
 }
 
@@ -56,6 +55,5 @@ fn leaves(rt: HostRuntime) -> Result<(), Fail> {
 #[test]
 fn leaves_are_one_node(rt: HostRuntime) {
     let letter = Value::<Global>::Char(b'q');
-    assert!(rt; letter.nodes() == 1);
-    assert!(rt; !Value::<Global>::Int(-3).same(&letter));
+    assert!(rt; letter.nodes() == 1 && !Value::<Global>::Int(-3).same(&letter));
 }

@@ -1,40 +1,47 @@
 // Values that the tests are made on.
 use nesl_values::Value;
-use std::alloc::{AllocError, Allocator};
+use std::alloc::{AllocError, Allocator, Global};
 
 // (-1, "ab").
-fn named<A: Allocator + Copy>(alloc: A) -> Result<Value<A>, AllocError> {
-    let letters = Value::chars(alloc, vec![in alloc; b'a', b'b']?)?;
+fn named(alloc: Global) -> Result<Value, AllocError> {
+    let letters = Value::chars(alloc, Vec::from_slice(alloc, b"ab")?)?;
     Value::pair(alloc, Value::Int(-1), letters)
 }
 
 // ((T, `z), [T, F]).
-fn truths<A: Allocator + Copy>(alloc: A) -> Result<Value<A>, AllocError> {
-    let truths = Value::bools(alloc, vec![in alloc; true, false]?)?;
+fn truths(alloc: Global) -> Result<Value, AllocError> {
+    let truths = Value::bools(alloc, Vec::from_slice(alloc, &[true, false])?)?;
     let leaves = Value::pair(alloc, Value::Bool(true), Value::Char(b'z'))?;
     Value::pair(alloc, leaves, truths)
 }
 
-// 7([(-1, "ab"), ((T, `z), [T, F])]).
-fn tagged<A: Allocator + Copy>(alloc: A) -> Result<Value<A>, AllocError> {
+// The sequence of these two, which are values of their own.
+fn two(
+    alloc: Global,
+    first: Result<Value, AllocError>,
+    second: Result<Value, AllocError>,
+) -> Result<Value, AllocError> {
     let mut items = Vec::new(alloc);
-    items.push(named(alloc)?)?;
-    items.push(truths(alloc)?)?;
-    Value::tagged(alloc, 7, Value::sequence(alloc, items)?)
+    items.push(first?)?;
+    items.push(second?)?;
+    Value::sequence(alloc, items)
 }
 
 // A value with every kind of node: ([3, -4, 5], 7([(-1, "ab"), ((T, `z), [T, F])])), of 19 nodes.
-pub fn sample<A: Allocator + Copy>(alloc: A) -> Result<Value<A>, AllocError> {
-    let numbers = Value::ints(alloc, vec![in alloc; 3, -4, 5]?)?;
-    Value::pair(alloc, numbers, tagged(alloc)?)
+pub fn sample(alloc: Global) -> Result<Value, AllocError> {
+    let rows = two(alloc, named(alloc), truths(alloc))?;
+    let tagged = Value::tagged(alloc, 7, rows)?;
+    Value::pair(alloc, numbers(alloc, &[3, -4, 5])?, tagged)
 }
 
 // The sequence of 1 and 2, which are values of their own.
-pub fn one_and_two<A: Allocator + Copy>(alloc: A) -> Result<Value<A>, AllocError> {
-    let mut items = Vec::new(alloc);
-    items.push(Value::Int(1))?;
-    items.push(Value::Int(2))?;
-    Value::sequence(alloc, items)
+pub fn one_and_two(alloc: Global) -> Result<Value, AllocError> {
+    two(alloc, Ok(Value::Int(1)), Ok(Value::Int(2)))
+}
+
+// These numbers, packed.
+pub fn numbers(alloc: Global, items: &[i64]) -> Result<Value, AllocError> {
+    Value::ints(alloc, Vec::from_slice(alloc, items)?)
 }
 
 // A pair of a value with itself, that many times over.

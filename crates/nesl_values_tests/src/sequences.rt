@@ -1,32 +1,48 @@
 // Sequences, packed and not.
-use crate::sample::{one_and_two, sample};
+use crate::sample::{numbers, one_and_two, sample};
 use nesl_values::{Element, Items, SequenceBuilder, Value};
 use std::alloc::{AllocError, Global};
 use std::test::Fail;
 
-fn is_empty(alloc: Global, value: Value) -> Result<bool, AllocError> {
+// Whether the value is the same as the first, and not as the second, in each way to compare them.
+fn is_only_like(
+    alloc: Global,
+    value: &Value,
+    like: &Value,
+    other: &Value,
+) -> Result<bool, AllocError> {
+    Ok(
+        value.same(like)
+            && value.same_by_list(alloc, like)?
+            && !value.same(other)
+            && !value.same_by_list(alloc, other)?,
+    )
+}
+
+fn is_empty(alloc: Global, value: Result<Value, AllocError>) -> Result<bool, AllocError> {
+    let value = value?;
+    let copy = value.copy_into(alloc)?;
     let none = Value::empty(alloc)?;
     let two = one_and_two(alloc)?;
+    let has_none = value.nodes() == 1 && value.sequence_len() == Some(0);
     Ok(
-        value.nodes() == 1
-            && value.sequence_len() == Some(0)
+        has_none
             && value.items().len() == 0
-            && value.same(&none)
-            && value.same_by_list(alloc, &none)?
-            && !value.same(&two)
-            && !value.same_by_list(alloc, &two)?
-            && value.copy_into(alloc)?.same(&value),
+            && copy.same(&value)
+            && is_only_like(alloc, &value, &none, &two)?,
     )
 }
 
 #[test]
 fn with_no_element(rt: HostRuntime) -> Result<(), Fail> {
     let alloc = rt.alloc();
-    assert!(rt; is_empty(alloc, Value::empty(alloc)?)?);
-    assert!(rt; is_empty(alloc, Value::ints(alloc, Vec::new(alloc))?)?);
-    assert!(rt; is_empty(alloc, Value::bools(alloc, Vec::new(alloc))?)?);
-    assert!(rt; is_empty(alloc, Value::chars(alloc, Vec::new(alloc))?)?);
-    assert!(rt; is_empty(alloc, SequenceBuilder::new(alloc).finish()?)?);
+    assert!(rt;
+        is_empty(alloc, Value::empty(alloc))?
+            && is_empty(alloc, Value::ints(alloc, Vec::new(alloc)))?
+            && is_empty(alloc, Value::bools(alloc, Vec::new(alloc)))?
+            && is_empty(alloc, Value::chars(alloc, Vec::new(alloc)))?
+            && is_empty(alloc, SequenceBuilder::new(alloc).finish())?
+    );
     Ok(())
 }
 
@@ -58,8 +74,12 @@ fn built_in_order(rt: HostRuntime) -> Result<(), Fail> {
     Ok(())
 }
 
-fn numbers(alloc: Global, items: &[i64]) -> Result<Value, AllocError> {
-    Value::ints(alloc, Vec::from_slice(alloc, items)?)
+// Pushes the elements from the second to the third of four.
+fn push_middle(builder: &mut SequenceBuilder, four: &Value) -> Result<(), AllocError> {
+    if four.items().len() == 4 {
+        builder.extend_shared(four.items().part(1, 3))?;
+    }
+    Ok(())
 }
 
 // 0, 2 and 3, of which two come from a sequence.
@@ -67,9 +87,7 @@ fn zero_two_three(alloc: Global) -> Result<Value, AllocError> {
     let more = numbers(alloc, &[1, 2, 3, 4])?;
     let mut builder = SequenceBuilder::new(alloc);
     builder.push_int(0)?;
-    if more.items().len() == 4 {
-        builder.extend_shared(more.items().part(1, 3))?;
-    }
+    push_middle(&mut builder, &more)?;
     builder.finish()
 }
 
@@ -81,13 +99,11 @@ fn packed_while_all_are_alike(rt: HostRuntime) -> Result<(), Fail> {
     Ok(())
 }
 
-// Characters, a truth value and a number.
-fn mixed(alloc: Global) -> Result<Value, AllocError> {
-    let mut builder = SequenceBuilder::new(alloc);
+// Pushes characters, a truth value and a number.
+fn push_mixed(builder: &mut SequenceBuilder) -> Result<(), AllocError> {
     builder.extend_from_chars(b"ab")?;
     builder.extend_from_bools(&[true])?;
-    builder.extend_from_ints(&[7])?;
-    builder.finish()
+    builder.extend_from_ints(&[7])
 }
 
 fn is_mixed(value: &Value) -> bool {
@@ -97,47 +113,64 @@ fn is_mixed(value: &Value) -> bool {
         && value.element(3).as_int() == Some(7)
 }
 
-// The first three of them copied, and the number.
-fn mixed_again(alloc: Global, mixed: &Value) -> Result<Value, AllocError> {
-    let mut builder = SequenceBuilder::new(alloc);
+// Pushes the first three of them, copied, and the number.
+fn push_mixed_again(builder: &mut SequenceBuilder, mixed: &Value) -> Result<(), AllocError> {
     if mixed.items().len() == 4 {
         builder.extend_copies(mixed.items().part(0, 3))?;
     }
-    builder.extend_from_ints(&[7])?;
+    builder.extend_from_ints(&[7])
+}
+
+fn mixed(alloc: Global) -> Result<Value, AllocError> {
+    let mut builder = SequenceBuilder::new(alloc);
+    push_mixed(&mut builder)?;
+    builder.finish()
+}
+
+fn mixed_again(alloc: Global, mixed: &Value) -> Result<Value, AllocError> {
+    let mut builder = SequenceBuilder::new(alloc);
+    push_mixed_again(&mut builder, mixed)?;
     builder.finish()
 }
 
 #[test]
 fn not_packed_where_they_are_not_alike(rt: HostRuntime) -> Result<(), Fail> {
     let mixed = mixed(rt.alloc())?;
-    assert!(rt; is_mixed(&mixed));
-    assert!(rt; mixed_again(rt.alloc(), &mixed)?.same(&mixed));
+    assert!(rt; is_mixed(&mixed) && mixed_again(rt.alloc(), &mixed)?.same(&mixed));
     Ok(())
 }
 
-// The sample shared, and a copy.
-fn two_rows(alloc: Global) -> Result<Value, AllocError> {
-    let row = sample(alloc)?;
+// Pushes the row shared, and a copy.
+fn push_twice(builder: &mut SequenceBuilder, row: &Value) -> Result<(), AllocError> {
+    builder.push_shared(Element::Node(row))?;
+    builder.push_copy(Element::Node(row))
+}
+
+// Pushes the rows shared, and copies.
+fn push_rows(builder: &mut SequenceBuilder, rows: &Value) -> Result<(), AllocError> {
+    builder.extend_shared(rows.items())?;
+    builder.extend_copies(rows.items())
+}
+
+fn two_rows(alloc: Global, row: &Value) -> Result<Value, AllocError> {
     let mut builder = SequenceBuilder::new(alloc);
-    builder.push_shared(Element::Node(&row))?;
-    builder.push_copy(Element::Node(&row))?;
+    push_twice(&mut builder, row)?;
     builder.finish()
 }
 
-// The rows shared, and copies.
-fn four_rows(alloc: Global) -> Result<Value, AllocError> {
-    let rows = two_rows(alloc)?;
+fn four_rows(alloc: Global, row: &Value) -> Result<Value, AllocError> {
+    let rows = two_rows(alloc, row)?;
     let mut builder = SequenceBuilder::new(alloc);
-    builder.extend_shared(rows.items())?;
-    builder.extend_copies(rows.items())?;
+    push_rows(&mut builder, &rows)?;
     builder.finish()
 }
 
 #[test]
 fn rows_that_are_shared(rt: HostRuntime) -> Result<(), Fail> {
-    let four = four_rows(rt.alloc())?;
+    let row = sample(rt.alloc())?;
+    let four = four_rows(rt.alloc(), &row)?;
     assert!(rt; four.nodes() == 77 && four.sequence_len() == Some(4));
     assert!(rt; matches!(four.items().at(0), Element::Node(_)));
-    assert!(rt; four.element(3).share()?.same(&sample(rt.alloc())?));
+    assert!(rt; four.element(3).share()?.same(&row));
     Ok(())
 }

@@ -1,5 +1,5 @@
 // Values with more than one owner.
-use crate::sample::{doubled, one_and_two, sample};
+use crate::sample::{doubled, numbers, one_and_two, sample};
 use nesl_values::{Element, Value};
 use std::alloc::{AllocError, Global};
 use std::marker::{Send, Sync};
@@ -8,12 +8,14 @@ use std::thread;
 
 fn is_sent_and_shared<T: Send + Sync>(_: &T) {}
 
+// How many nodes 41 values have of which each is twice the one before.
+const NODES: u64 = 2_199_023_255_551;
+
 #[test]
 fn forty_doublings(rt: HostRuntime) -> Result<(), Fail> {
     let value = doubled(rt.alloc(), 40)?;
-    assert_eq!(rt; value.nodes(), (1 << 41) - 1);
-    assert_eq!(rt; value.nodes_up_to(1 << 50), Some((1 << 41) - 1));
-    assert_eq!(rt; value.nodes_up_to(1 << 40), None);
+    let counts = (value.nodes_up_to(1 << 50), value.nodes_up_to(1 << 40));
+    assert!(rt; value.nodes() == NODES && counts == (Some(NODES), None));
     Ok(())
 }
 
@@ -21,34 +23,40 @@ fn forty_doublings(rt: HostRuntime) -> Result<(), Fail> {
 #[test]
 fn the_greatest_value(rt: HostRuntime) -> Result<(), Fail> {
     let greatest = doubled(rt.alloc(), 63)?;
-    assert_eq!(rt; greatest.nodes(), u64::MAX);
-    assert_eq!(rt; greatest.nodes_up_to(u64::MAX), Some(u64::MAX));
-    assert_eq!(rt; greatest.nodes_up_to(u64::MAX - 1), None);
-    assert!(rt; Value::tagged(rt.alloc(), 0, greatest.share()?).is_err());
-    assert!(rt; doubled(rt.alloc(), 64).is_err());
-    assert_eq!(rt; greatest.nodes(), u64::MAX);
+    let before = greatest.nodes();
+    let counts = (
+        greatest.nodes_up_to(u64::MAX),
+        greatest.nodes_up_to(u64::MAX - 1),
+    );
+    let twin = greatest.share()?;
+    let is_refused = Value::tagged(rt.alloc(), 0, twin).is_err();
+    assert!(rt; is_refused && doubled(rt.alloc(), 64).is_err() && counts == (Some(u64::MAX), None));
+    assert!(rt; before == u64::MAX && greatest.nodes() == u64::MAX);
     Ok(())
 }
 
-// The nodes of the first part of a pair, and its second.
-fn second_of(pair: Value) -> Result<Option<(u64, Value)>, AllocError> {
-    match pair.into_pair()? {
-        Some((first, second)) => Ok(Some((first.nodes(), second))),
-        None => Ok(None),
-    }
+fn is_the_sample(alloc: Global, value: &Value) -> Result<bool, AllocError> {
+    Ok(value.same(&sample(alloc)?))
+}
+
+// Whether the value has the tag 7 before one of 13 nodes that is no pair, and stays when its other owner goes.
+fn is_tagged(tagged: Value, twin: Value) -> Result<bool, AllocError> {
+    let Some((tag, held)) = tagged.into_tagged()? else {
+        return Ok(false);
+    };
+    drop(twin);
+    Ok(tag == 7 && held.nodes() == 13 && held.into_pair()?.is_none())
 }
 
 #[test]
 fn parts_of_a_shared_pair(rt: HostRuntime) -> Result<(), Fail> {
     let pair = sample(rt.alloc())?;
     let twin = pair.share()?;
-    let (nodes, tagged) = second_of(pair)?.ok_or("no pair")?;
-    assert_eq!(rt; (nodes, tagged.nodes()), (4, 14));
-    assert!(rt; twin.same(&sample(rt.alloc())?));
-    let (tag, held) = tagged.into_tagged()?.ok_or("no tag")?;
-    drop(twin);
-    assert_eq!(rt; (tag, held.nodes()), (7, 13));
-    assert!(rt; held.into_pair()?.is_none());
+    let Some((numbers, tagged)) = pair.into_pair()? else {
+        panic!(rt; "no pair");
+    };
+    assert!(rt; numbers.nodes() == 4 && tagged.nodes() == 14);
+    assert!(rt; is_the_sample(rt.alloc(), &twin)? && is_tagged(tagged, twin)?);
     Ok(())
 }
 
@@ -57,8 +65,8 @@ fn elements_that_stay(rt: HostRuntime) -> Result<(), Fail> {
     let row = sample(rt.alloc())?;
     let shared = Element::Node(&row).share()?;
     drop(row);
-    assert!(rt; shared.same(&sample(rt.alloc())?));
-    assert_eq!(rt; Element::<Global>::Int(4).share()?.as_int(), Some(4));
+    assert!(rt; is_the_sample(rt.alloc(), &shared)?);
+    assert!(rt; Element::<Global>::Int(4).share()?.as_int() == Some(4));
     Ok(())
 }
 
@@ -82,36 +90,39 @@ fn dropped_in_a_thread_and_here(rt: HostRuntime) -> Result<(), Fail> {
 }
 
 // Whether the two are equal, in each way to compare them.
-fn are_equal(alloc: Global, first: &Value, second: &Value) -> Result<bool, AllocError> {
-    Ok(
-        first.same(second)
-            && second.same(first)
-            && first.same_by_list(alloc, second)?
-            && second.same_by_list(alloc, first)?,
-    )
+fn are_equal(
+    alloc: Global,
+    first: &Value,
+    second: Result<Value, AllocError>,
+) -> Result<bool, AllocError> {
+    let second = second?;
+    let are_same = first.same(&second) && second.same(first);
+    Ok(are_same && first.same_by_list(alloc, &second)? && second.same_by_list(alloc, first)?)
 }
 
 // Whether they are not, in either.
-fn are_other(alloc: Global, first: &Value, second: &Value) -> Result<bool, AllocError> {
-    Ok(!first.same(second) && !first.same_by_list(alloc, second)?)
-}
-
-fn numbers(alloc: Global, items: &[i64]) -> Result<Value, AllocError> {
-    Value::ints(alloc, Vec::from_slice(alloc, items)?)
+fn are_other(
+    alloc: Global,
+    first: &Value,
+    second: Result<Value, AllocError>,
+) -> Result<bool, AllocError> {
+    let second = second?;
+    Ok(!first.same(&second) && !first.same_by_list(alloc, &second)?)
 }
 
 #[test]
 fn packed_or_not(rt: HostRuntime) -> Result<(), Fail> {
-    let packed = numbers(rt.alloc(), &[1, 2])?;
-    assert!(rt; are_equal(rt.alloc(), &packed, &one_and_two(rt.alloc())?)?);
-    assert!(rt; are_other(rt.alloc(), &packed, &numbers(rt.alloc(), &[1, 2, 3])?)?);
+    let alloc = rt.alloc();
+    let packed = numbers(alloc, &[1, 2])?;
+    assert!(rt; are_equal(alloc, &packed, one_and_two(alloc))?);
+    assert!(rt; are_other(alloc, &packed, numbers(alloc, &[1, 2, 3]))?);
     Ok(())
 }
 
 #[test]
 fn tags_are_compared(rt: HostRuntime) -> Result<(), Fail> {
-    let seventh = Value::tagged(rt.alloc(), 7, Value::Int(1))?;
-    let eighth = Value::tagged(rt.alloc(), 8, Value::Int(1))?;
-    assert!(rt; are_other(rt.alloc(), &seventh, &eighth)?);
+    let alloc = rt.alloc();
+    let seventh = Value::tagged(alloc, 7, Value::Int(1))?;
+    assert!(rt; are_other(alloc, &seventh, Value::tagged(alloc, 8, Value::Int(1)))?);
     Ok(())
 }

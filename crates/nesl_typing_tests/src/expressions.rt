@@ -1,7 +1,7 @@
 //! Expressions and their trees. The trees come from an independent reader of the same grammar, the spans of written types
 //! from hand.
 
-use crate::shown::first_wrong;
+use crate::shown::all_hold;
 use std::test::Fail;
 
 const ATOMS_PAIRS_AND_CALLS: &str = r#"17; => Eval(0..2 Number(17))
@@ -70,7 +70,7 @@ fn expressions_have_these_trees(rt: HostRuntime) -> Result<(), Fail> {
         APPLY_TO_EACH,
         CHOICES_AND_BINDINGS,
     ] {
-        assert_eq!(rt; first_wrong(rt.alloc(), rows)?, None);
+        all_hold(rt.alloc(), rows)?;
     }
     Ok(())
 }

@@ -4,6 +4,7 @@ use nesl_lex::lex;
 use nesl_syntax::parse_form;
 use nesl_tree::tree::Form;
 use std::alloc::{AllocError, Global};
+use std::test::Fail;
 
 /// What a form's text has too much of, and behind a `~` what stands for it.
 const SHORTER: &str =
@@ -31,15 +32,18 @@ pub fn shown(alloc: Global, line: &[u8]) -> Result<String, AllocError> {
     }
 }
 
-/// The first row that doesn't hold. A row is `LINE => TREE`, or `LINE => FAULT`.
-pub fn first_wrong(alloc: Global, rows: &'static str) -> Result<Option<&'static str>, AllocError> {
+/// Whether a line is read as this.
+fn is_shown(alloc: Global, line: &str, wanted: &str) -> Result<bool, AllocError> {
+    Ok(shown(alloc, line.as_bytes())?.as_str() == wanted)
+}
+
+/// Fails at the first row that doesn't hold. A row is `LINE => TREE`, or `LINE => FAULT`.
+pub fn all_hold(alloc: Global, rows: &str) -> Result<(), Fail> {
     for row in rows.lines() {
-        let Some((line, wanted)) = row.split_once(" => ") else {
-            return Ok(Some(row));
-        };
-        if shown(alloc, line.as_bytes())?.as_str() != wanted {
-            return Ok(Some(row));
+        let (line, wanted) = row.split_once(" => ").unwrap_or((row, ""));
+        if !is_shown(alloc, line, wanted)? {
+            return Err(Fail::new(row));
         }
     }
-    Ok(None)
+    Ok(())
 }

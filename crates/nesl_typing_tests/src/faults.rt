@@ -22,6 +22,6 @@ fn texts(alloc: Global) -> Result<String, AllocError> {
 
 #[test]
 fn each_refusal_has_a_text(rt: HostRuntime) -> Result<(), Fail> {
-    assert_eq!(rt; texts(rt.alloc())?.as_str(), TEXTS);
+    assert!(rt; texts(rt.alloc())?.as_str() == TEXTS);
     Ok(())
 }

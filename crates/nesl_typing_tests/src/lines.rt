@@ -1,6 +1,6 @@
 //! Lines of each form and their trees, from the same reader.
 
-use crate::shown::first_wrong;
+use crate::shown::all_hold;
 use std::test::Fail;
 
 const BINDINGS_AND_COMMANDS: &str = r#"x = 1; => Bind name: [120], value: 4..5 Number(1)
@@ -30,7 +30,7 @@ fn lines_have_these_trees(rt: HostRuntime) -> Result<(), Fail> {
         DATATYPES_AND_FUNCTIONS,
         ONLY_A_COMMENT,
     ] {
-        assert_eq!(rt; first_wrong(rt.alloc(), rows)?, None);
+        all_hold(rt.alloc(), rows)?;
     }
     Ok(())
 }

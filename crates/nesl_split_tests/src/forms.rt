@@ -1,0 +1,34 @@
+//! Lines and their forms.
+
+use nesl_code::{Env, Payload};
+use nesl_lex::{LexFault, lex};
+use nesl_syntax::{ParseFault, parse_form};
+use nesl_tree::tree::{Exp, Form, Pattern};
+use nesl_types::{Top, Ty};
+use std::alloc::{AllocError, Global};
+
+/// The form of a line, if it has one.
+pub fn form_of(alloc: Global, line: &str) -> Result<Option<Form>, AllocError> {
+    let tokens = match lex(alloc, line.as_bytes()) {
+        Ok(tokens) => tokens,
+        Err(LexFault::Memory) => return Err(AllocError),
+        Err(_) => return Ok(None),
+    };
+    match parse_form(alloc, tokens.as_slice()) {
+        Ok(form) => Ok(Some(form)),
+        Err(ParseFault::Memory) => Err(AllocError),
+        Err(_) => Ok(None),
+    }
+}
+
+/// Sets a function. A type is not looked at by any evaluation.
+pub fn define(
+    alloc: Global,
+    env: &mut Env,
+    name: &[u8],
+    pattern: Pattern,
+    body: Exp,
+) -> Result<(), AllocError> {
+    let function = Payload::Function { pattern, body };
+    env.set(alloc, name, Top::Variable(Ty::Int), function)
+}
