@@ -70,20 +70,15 @@ fn limits_of(words: &str) -> Option<Limits> {
     let mut limits = LIMITS;
     for word in words.split_whitespace() {
         let (name, number) = word.split_once('=')?;
-        limits = with_limit(limits, name, number.parse::<u64>().ok()?)?;
-    }
-    Some(limits)
-}
-
-fn with_limit(limits: Limits, name: &str, number: u64) -> Option<Limits> {
-    let mut limits = limits;
-    match name.as_bytes() {
-        b"line_work" => limits.line_work = number,
-        b"session_work" => limits.session_work = number,
-        b"elements" => limits.elements = number,
-        b"transcript_lines" => limits.transcript_lines = number,
-        b"transcript_bytes" => limits.transcript_bytes = number,
-        _ => return None,
+        let number = number.parse::<u64>().ok()?;
+        match name.as_bytes() {
+            b"line_work" => limits.line_work = number,
+            b"session_work" => limits.session_work = number,
+            b"elements" => limits.elements = number,
+            b"transcript_lines" => limits.transcript_lines = number,
+            b"transcript_bytes" => limits.transcript_bytes = number,
+            _ => return None,
+        }
     }
     Some(limits)
 }

@@ -18,25 +18,17 @@ mod driver;
 
 use crate::directive::directive_of;
 use crate::driver::Driver;
-use std::alloc::{AllocError, Global};
-use std::io::{self, Write};
+use std::io::{self, BufRead, BufReader, BufWriter, Write};
 
 fn main(rt: HostRuntime) -> io::Result<()> {
-    let text = io::read_to_string(rt.alloc(), rt.reader())?;
-    let told = answers(rt.alloc(), text.as_str())?;
-    let mut writer = io::writer(&rt);
-    writer.write_all(told.as_slice())?;
-    writer.flush()
-}
-
-// What is told of the lines.
-fn answers(alloc: Global, text: &str) -> Result<Vec<u8>, AllocError> {
+    let alloc = rt.alloc();
+    let mut writer = BufWriter::new(alloc, io::writer(&rt))?;
     let mut driver = Driver::new(alloc)?;
-    let mut told = Vec::new(alloc);
-    for line in text.lines() {
-        let directive = directive_of(alloc, line)?;
-        let answer = driver.follow(alloc, line, directive)?;
-        told.extend_from_slice(answer.as_slice())?;
+    for line in BufReader::new(alloc, rt.reader())?.lines(alloc) {
+        let line = line?;
+        let directive = directive_of(alloc, line.as_str())?;
+        let told = driver.follow(alloc, line.as_str(), directive)?;
+        writer.write_all(told.as_slice())?;
     }
-    Ok(told)
+    writer.flush()
 }
