@@ -1,5 +1,5 @@
 //! What evaluation sees of the top level.
-ghost use Rattle.std.specs.Prelude.{◌≡◌, IfOk, option_and_then};
+ghost use Rattle.std.specs.Prelude.{◌≡◌, ⊤, IfOk, option_and_then};
 ghost use Rattle.nesl_code.specs.Names.{named};
 ghost use Rattle.nesl_code.specs.Run.{slot_at};
 
@@ -8,7 +8,7 @@ use nesl_values::Value;
 use std::alloc::{AllocError, Allocator};
 
 /// What stands at a place of the top level.
-#[derive_where(Clone, Copy)]
+#[derive_where(Copy)]
 pub enum Held<'a, A: Allocator> {
     Variable(&'a Value<A>),
     /// A function's body.
@@ -16,6 +16,16 @@ pub enum Held<'a, A: Allocator> {
     /// A datatype's tag.
     Datatype(u64),
     Nothing,
+}
+
+impl<A: Allocator> Clone for Held<'_, A> {
+    ghost is_clone = { λ one other. other ≡ one };
+
+    ghost is_infallible = { λ _. ⊤ };
+
+    fn clone(&self) -> Result<Self, AllocError> {
+        Ok(*self)
+    }
 }
 
 /// Where an evaluation finds the top level.

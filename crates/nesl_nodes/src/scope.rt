@@ -1,5 +1,5 @@
 //! The local names.
-ghost use Rattle.std.specs.Prelude.{◌≡◌, MatchResult, option_map, option_and_then, slice_get, map};
+ghost use Rattle.std.specs.Prelude.{◌≡◌, ⊤, MatchResult, option_map, option_and_then, slice_get, map};
 ghost use Rattle.nesl_values.specs.View.{tree_of, element_tree, item_trees};
 ghost use Rattle.nesl_values.specs.Parts.{elements};
 ghost use Rattle.nesl_code.specs.Frames.{followed, place_in, local_at};
@@ -11,10 +11,10 @@ ghost use Rattle.nesl_nodes.specs.Meets.{Meets, Is};
 use crate::meter::Stop;
 use nesl_code::Step;
 use nesl_values::{Element, Items, Value};
-use std::alloc::Allocator;
+use std::alloc::{AllocError, Allocator};
 
 /// What local names stand for, the newest frame first.
-#[derive_where(Clone, Copy)]
+#[derive_where(Copy)]
 pub enum Scope<'a, A: Allocator> {
     Empty,
     /// The argument of a function.
@@ -23,6 +23,16 @@ pub enum Scope<'a, A: Allocator> {
     Let(&'a [Value<A>], &'a Scope<'a, A>),
     /// The sequences of an apply-to-each, at a place.
     Row(&'a [Value<A>], usize, &'a Scope<'a, A>),
+}
+
+impl<A: Allocator> Clone for Scope<'_, A> {
+    ghost is_clone = { λ one other. other ≡ one };
+
+    ghost is_infallible = { λ _. ⊤ };
+
+    fn clone(&self) -> Result<Self, AllocError> {
+        Ok(*self)
+    }
 }
 
 fn value_at<'a, A: Allocator>(values: &'a [Value<A>], index: usize) -> Option<Element<'a, A>>

@@ -17,7 +17,7 @@ pub struct Stop {
 
 /// Why a line is refused, with what is told of it. Of these, `Long`, `Transcript` and `Memory` leave the line
 /// unrecorded, and `User` and `Busy` belong to no session.
-#[derive(Clone, Copy, PartialEq, Eq, Debug)]
+#[derive(Clone, Copy, PartialEq, Eq)]
 pub enum Fault {
     Long,
     /// The first byte at which no token, blank or whole comment stands.

@@ -1,5 +1,5 @@
 //! What a function is applied to.
-ghost use Rattle.std.specs.Prelude.{◌≡◌, ◌+◌, ◌≤◌, SomeIff, length, option_map};
+ghost use Rattle.std.specs.Prelude.{◌≡◌, ⊤, ◌+◌, ◌≤◌, SomeIff, length, option_map};
 ghost use Rattle.nesl_values.specs.Tree.{size};
 ghost use Rattle.nesl_values.specs.Parts.{as_int, as_pair, as_sequence};
 ghost use Rattle.nesl_values.specs.View.{tree_of};
@@ -7,14 +7,24 @@ ghost use Rattle.nesl_seq_base.specs.Lent.{argument_tree};
 
 use crate::nodes::value_nodes;
 use nesl_values::Value;
-use std::alloc::{Allocator, Global};
+use std::alloc::{AllocError, Allocator, Global};
 
 /// A lent argument: a value, or two or three that stand for `(a, b)` and `(a, (b, c))`.
-#[derive_where(Clone, Copy)]
+#[derive_where(Copy)]
 pub enum Argument<'a, A: Allocator = Global> {
     One(&'a Value<A>),
     Two(&'a Value<A>, &'a Value<A>),
     Three(&'a Value<A>, &'a Value<A>, &'a Value<A>),
+}
+
+impl<A: Allocator> Clone for Argument<'_, A> {
+    ghost is_clone = { λ one other. other ≡ one };
+
+    ghost is_infallible = { λ _. ⊤ };
+
+    fn clone(&self) -> Result<Self, AllocError> {
+        Ok(*self)
+    }
 }
 
 impl<'a, A: Allocator> Argument<'a, A> {

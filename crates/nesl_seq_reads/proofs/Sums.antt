@@ -2,6 +2,7 @@
 use Rattle.std.proofs.Common.{◌≡◌, ℕ, zero, suc, ◌+◌, ◌*◌, ◌^◌, ◌<◌, ℤ, pos, negsuc, neg_ℤ, ◌+ℤ◌, ◌≤ℤ◌, ◌<ℤ◌, Bool, true, false, ◌||◌, ◌&&◌, cond, List, [], ◌∷◌, ◌++◌, length, map, take, refl, ap, sym, ◌∙◌, arith, Some, None, option_map, option_and_then, subst}
 use Rattle.std.specs.List.{list_any, list_all, range_with_len}
 use Rattle.std.proofs.lemmas.Int.{ints}
+use Rattle.std.proofs.lemmas.List.{take_all}
 use Rattle.std.proofs.lemmas.List.Folds.{list_any-append, list_all-append}
 use Rattle.std.proofs.lemmas.Bool.Decides.{Decides-ltb}
 use Rattle.nesl_scalars.specs.declared.trap.Trap.TheVariants.{Overflow}
@@ -48,6 +49,13 @@ short_sums_fit zs few short = all_fit (λ k. total (take k zs)) one (range_with_
     one k =
         let within = short_total k zs short in
         fits_from_range (total (take k zs)) (omega (arith, ints, few, within.0, within.1)) (omega (arith, ints, few, within.0, within.1))
+
+pub short_sum_fits : (zs : List ℤ) → length zs < 2 ^ 32 → list_all is_short zs ≡ true → fits (total zs) ≡ true
+short_sum_fits zs few short =
+    let within = short_total (length zs) zs short in
+    let whole : take (length zs) zs ≡ zs = take_all (length zs) zs (omega arith) in
+    ap (λ ys. fits (total ys)) (sym whole)
+    ∙ fits_from_range (total (take (length zs) zs)) (omega (arith, ints, few, within.0, within.1)) (omega (arith, ints, few, within.0, within.1))
 
 pub all_ints : (zs : List ℤ) → all_of as_int (map int zs) ≡ Some zs
 all_ints [] = refl

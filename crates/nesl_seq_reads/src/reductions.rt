@@ -1,6 +1,7 @@
 // Reductions: one leaf from all elements.
 ghost use Rattle.std.specs.Prelude.{◌≡◌, ◌+◌, ◌≤◌, ◌<◌, ◌^◌, length, map, count_by, option_map, IfSome, IsOk, IsTrue};
 ghost use Rattle.std.specs.List.{list_any, list_all};
+ghost use Rattle.nesl_values.specs.Tree.{int};
 ghost use Rattle.nesl_values.specs.Parts.{as_int, as_bool};
 ghost use Rattle.nesl_values.specs.View.{tree_of};
 ghost use Rattle.nesl_seq_base.specs.Lent.{argument_tree};
@@ -8,6 +9,7 @@ ghost use Rattle.nesl_seq_base.specs.Outcome.{Outcome, IsGiven, fits, gives, num
 ghost use Rattle.nesl_seq_base.specs.Reductions.{all_of, total};
 ghost use Rattle.nesl_seq_base.specs.Meaning.{meaning};
 ghost use Rattle.nesl_seq_base.specs.Prices.{Prices, length_of, digits};
+ghost use Rattle.nesl_seq_reads.specs.Leaves.{is_short};
 ghost use Rattle.nesl_seq_reads.specs.Scalar.{Tells, scalar_tree};
 ghost use Rattle.nesl_seq_base.specs.declared.seq_fn.SeqFn.TheVariants.{Sum, Any, All, Count};
 
@@ -78,7 +80,7 @@ pub fn sum<A: Allocator>(argument: Argument<'_, A>) -> Result<Scalar, Trap>
     ensures { Tells (meaning Sum (argument_tree argument.entry)) result }
 {
     let total = match sequence(argument) {
-        Some(Items::Ints(ints)) => sum_of(ints),
+        Some(Items::Ints(ints)) => sum_of_ints(ints),
         Some(Items::Bools(bools)) => sum_of(bools),
         Some(Items::Chars(chars)) => sum_of(chars),
         Some(Items::Values(values)) => sum_of(values),
@@ -121,6 +123,27 @@ fn number(total: i128) -> Result<Scalar, Trap>
         return Err(Trap::Overflow);
     }
     Ok(Scalar::Int(total as i64))
+}
+
+fn sum_of_ints(ints: &[i64]) -> Option<i128>
+    ensures { result ≡ option_map total (all_of as_int (map int ints.now)) }
+{
+    if are_few_and_short(ints) {
+        return Some(known_sum(ints) as i128);
+    }
+    sum_of(ints)
+}
+
+/// Whether these are fewer than 2^32 numbers of 32 bits: then all their sums are numbers of 64 bits.
+pub fn are_few_and_short(ints: &[i64]) -> bool
+    ensures few { IsTrue result → length ints.now < 2 ^ 32 }
+    ensures short { IsTrue result → IsTrue (list_all is_short ints.now) }
+{
+    let mut short = true;
+    for number in ints {
+        short &= i32::MIN as i64 <= *number && *number <= i32::MAX as i64;
+    }
+    short && ints.len() < 1 << 32
 }
 
 fn sum_of<T: Item>(items: &[T]) -> Option<i128>

@@ -11,10 +11,10 @@ ghost use Rattle.nesl_seq_base.specs.Reductions.{all_of, total};
 ghost use Rattle.nesl_seq_base.specs.Meaning.{meaning};
 ghost use Rattle.nesl_seq_base.specs.Prices.{Prices, length_of, digits, price};
 ghost use Rattle.nesl_seq_base.specs.Scans.{before_each, plus_scanned, logic_scanned, joined_truths, joined_bits};
-ghost use Rattle.nesl_seq_reads.specs.Leaves.{HasLeaves, fitting_sums, is_short, logic_of};
+ghost use Rattle.nesl_seq_reads.specs.Leaves.{HasLeaves, fitting_sums, logic_of};
 ghost use Rattle.nesl_seq_base.specs.declared.seq_fn.SeqFn.TheVariants.{PlusScan};
 
-use crate::reductions::digits;
+use crate::reductions::{are_few_and_short, digits};
 use nesl_scalars::Trap;
 use nesl_seq_base::argument::Argument;
 use nesl_seq_base::arguments::{WRONG_SHAPE, sequence};
@@ -101,18 +101,6 @@ fn sums_of_items_fit<A: Allocator>(items: Items<'_, A>) -> Option<bool>
         Items::Chars(chars) => sums_fit(chars),
         Items::Values(values) => sums_fit(values),
     }
-}
-
-// Whether these are fewer than 2^32 numbers of 32 bits: then all their sums are numbers of 64 bits.
-fn are_few_and_short(ints: &[i64]) -> bool
-    ensures few { IsTrue result → length ints.now < 2 ^ 32 }
-    ensures short { IsTrue result → IsTrue (list_all is_short ints.now) }
-{
-    let mut short = true;
-    for number in ints {
-        short &= i32::MIN as i64 <= *number && *number <= i32::MAX as i64;
-    }
-    short && ints.len() < 1 << 32
 }
 
 // Whether each sum of those before is a number of 64 bits.

@@ -1,20 +1,30 @@
 // The elements of sequences, packed or not, as slices.
-ghost use Rattle.std.specs.Prelude.{◌≡◌, ◌≤◌, ◌<◌, ◌^◌, Some, length, slice_get, slice_range};
+ghost use Rattle.std.specs.Prelude.{◌≡◌, ◌≤◌, ◌<◌, ◌^◌, ⊤, Some, length, slice_get, slice_range};
 ghost use Rattle.nesl_values.specs.Parts.{elements};
 ghost use Rattle.nesl_values.specs.View.{tree_of, parts_tree, element_tree, item_trees};
 
 use crate::element::Element;
 use crate::node::{Node, Parts};
 use crate::value::Value;
-use std::alloc::{Allocator, Global};
+use std::alloc::{AllocError, Allocator, Global};
 
 /// The elements of a sequence, as they are held.
-#[derive_where(Clone, Copy)]
+#[derive_where(Copy)]
 pub enum Items<'a, A: Allocator = Global> {
     Ints(&'a [i64]),
     Bools(&'a [bool]),
     Chars(&'a [u8]),
     Values(&'a [Value<A>]),
+}
+
+impl<A: Allocator> Clone for Items<'_, A> {
+    ghost is_clone = { λ one other. other ≡ one };
+
+    ghost is_infallible = { λ _. ⊤ };
+
+    fn clone(&self) -> Result<Self, AllocError> {
+        Ok(*self)
+    }
 }
 
 impl<A: Allocator> Value<A> {

@@ -1,6 +1,7 @@
 // Equality of trees, where what is still to be compared stands in a list.
-ghost use Rattle.std.specs.Prelude.{◌≡◌, ◌↔◌, ◌+◌, ◌*◌, ◌-◌, [], IsTrue, IfOk, OnOk, MatchOption, length};
-ghost use Rattle.nesl_values.specs.Tree.{trees_of, size, sizes};
+ghost use Rattle.std.specs.Prelude.{◌≡◌, ◌↔◌, ◌+◌, ◌*◌, ◌-◌, ⊤, [], IsTrue, IfOk, OnOk, MatchOption, length};
+ghost use Rattle.nesl_values.specs.Tree.{pair, tagged, sequence, trees_of, size, sizes};
+ghost use Rattle.nesl_values.specs.Parts.{elements};
 ghost use Rattle.nesl_values.specs.View.{tree_of, item_trees};
 ghost use Rattle.nesl_values.specs.Comparing.{Meets, work_of, Asks, IsNext, Reduces};
 
@@ -11,10 +12,20 @@ use crate::value::Value;
 use std::alloc::{AllocError, Allocator};
 
 /// What is still to be compared.
-#[derive_where(Clone, Copy)]
+#[derive_where(Copy)]
 pub enum Question<'a, 'b, A: Allocator, B: Allocator> {
     Values(&'a Value<A>, &'b Value<B>),
     Elements(Items<'a, A>, Items<'b, B>),
+}
+
+impl<A: Allocator, B: Allocator> Clone for Question<'_, '_, A, B> {
+    ghost is_clone = { λ one other. other ≡ one };
+
+    ghost is_infallible = { λ _. ⊤ };
+
+    fn clone(&self) -> Result<Self, AllocError> {
+        Ok(*self)
+    }
 }
 
 impl<A: Allocator> Value<A> {
@@ -89,28 +100,67 @@ fn answer_values<'a, 'b, A: Allocator, B: Allocator, C: Allocator>(
         Shape::Int(n) => Ok(other.as_int() == Some(n)),
         Shape::Bool(b) => Ok(other.as_bool() == Some(b)),
         Shape::Char(c) => Ok(other.as_char() == Some(c)),
-        Shape::Pair(left, right) => match other.as_pair() {
-            Some((l, r)) => {
-                ask(questions, Question::Values(right, r))?;
-                ask(questions, Question::Values(left, l))?;
-                Ok(true)
-            }
-            None => Ok(false),
-        },
-        Shape::Tagged(tag, inner) => match other.as_tagged() {
-            Some((t, i)) if tag == t => {
-                ask(questions, Question::Values(inner, i))?;
-                Ok(true)
-            }
-            _ => Ok(false),
-        },
-        Shape::Sequence(m) => match other.sequence_len() {
-            Some(n) if m == n => {
-                ask(questions, Question::Elements(one.items(), other.items()))?;
-                Ok(true)
-            }
-            _ => Ok(false),
-        },
+        Shape::Pair(left, right) => answer_pair(questions, left, right, other),
+        Shape::Tagged(tag, inner) => answer_tagged(questions, tag, inner, other),
+        Shape::Sequence(len) => answer_sequence(questions, one, len, other),
+    }
+}
+
+// Whether another value may be the pair of these two.
+fn answer_pair<'a, 'b, A: Allocator, B: Allocator, C: Allocator>(
+    questions: &mut Vec<Question<'a, 'b, A, B>, C>,
+    left: &'a Value<A>,
+    right: &'a Value<A>,
+    other: &'b Value<B>,
+) -> Result<bool, AllocError>
+    ensures { IfOk result (λ yes. Reduces yes (pair (tree_of left.now) (tree_of right.now) ≡ tree_of other.now)
+        (3 * size (pair (tree_of left.now) (tree_of right.now)) - 1) questions.old.items questions.new.items) }
+{
+    let Some((other_left, other_right)) = other.as_pair() else {
+        return Ok(false);
+    };
+    ask(questions, Question::Values(right, other_right))?;
+    ask(questions, Question::Values(left, other_left))?;
+    Ok(true)
+}
+
+// Whether another value may be this one under that tag.
+fn answer_tagged<'a, 'b, A: Allocator, B: Allocator, C: Allocator>(
+    questions: &mut Vec<Question<'a, 'b, A, B>, C>,
+    tag: u64,
+    inner: &'a Value<A>,
+    other: &'b Value<B>,
+) -> Result<bool, AllocError>
+    ensures { IfOk result (λ yes. Reduces yes (tagged tag (tree_of inner.now) ≡ tree_of other.now)
+        (3 * size (tagged tag (tree_of inner.now)) - 1) questions.old.items questions.new.items) }
+{
+    match other.as_tagged() {
+        Some((other_tag, other_inner)) if tag == other_tag => {
+            ask(questions, Question::Values(inner, other_inner))?;
+            Ok(true)
+        }
+        _ => Ok(false),
+    }
+}
+
+// Whether another value may be this sequence of so many elements.
+fn answer_sequence<'a, 'b, A: Allocator, B: Allocator, C: Allocator>(
+    questions: &mut Vec<Question<'a, 'b, A, B>, C>,
+    one: &'a Value<A>,
+    len: usize,
+    other: &'b Value<B>,
+) -> Result<bool, AllocError>
+    requires elements { tree_of one.now ≡ sequence (elements (tree_of one.now)) }
+    requires len { len ≡ length (elements (tree_of one.now)) }
+    ensures { IfOk result (λ yes. Reduces yes (tree_of one.now ≡ tree_of other.now) (3 * size (tree_of one.now) - 1)
+        questions.old.items questions.new.items) }
+{
+    match other.sequence_len() {
+        Some(other_len) if len == other_len => {
+            ask(questions, Question::Elements(one.items(), other.items()))?;
+            Ok(true)
+        }
+        _ => Ok(false),
     }
 }
 

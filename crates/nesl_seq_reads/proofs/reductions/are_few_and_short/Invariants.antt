@@ -1,7 +1,7 @@
 use Rattle.std.proofs.Common.{◌≡◌, take}
 use Rattle.std.specs.List.{list_all}
 use Rattle.nesl_seq_reads.specs.Leaves.{is_short}
-use Rattle.nesl_seq_reads.proofs.scans.are_few_and_short.Given as goal
+use Rattle.nesl_seq_reads.proofs.reductions.are_few_and_short.Given as goal
 
 abbrev pub invariant-loop-number : goal.invariant-loop-number
 invariant-loop-number l =
