@@ -1,5 +1,5 @@
 -- The sums of few short numbers, and scans that are written one after the other.
-use Rattle.std.proofs.Common.{◌≡◌, ℕ, zero, suc, ◌+◌, ◌*◌, ◌^◌, ◌<◌, ℤ, pos, negsuc, neg_ℤ, ◌+ℤ◌, ◌≤ℤ◌, ◌<ℤ◌, Bool, true, false, ◌||◌, ◌&&◌, cond, List, [], ◌∷◌, ◌++◌, length, map, take, refl, ap, sym, ◌∙◌, arith, Some, None, option_map, option_and_then, subst}
+use Rattle.std.proofs.Common.{◌≡◌, ℕ, zero, suc, ◌+◌, ◌*◌, ◌^◌, ◌<◌, ℤ, pos, negsuc, neg_ℤ, ◌+ℤ◌, ◌≤ℤ◌, ◌<ℤ◌, Bool, true, false, ◌||◌, ◌&&◌, cond, List, [], ◌∷◌, ◌++◌, length, map, take, refl, ap, sym, ◌∙◌, arith, Some, None, option_map, option_and_then, subst, ◌%◌, of_z, w64, FitsSigned}
 use Rattle.std.specs.List.{list_any, list_all, range_with_len}
 use Rattle.std.proofs.lemmas.Int.{ints}
 use Rattle.std.proofs.lemmas.List.{take_all}
@@ -24,6 +24,11 @@ short_range (pos n) h =
 short_range (negsuc n) h =
     let below : n < 2 ^ 31 = (Decides-ltb n (2 ^ 31)).0 h in
     (omega (arith, ints), omega (arith, ints))
+
+-- a number of 64 bits is one of 32 where 2^31 more than it has no higher bits
+pub short_bits : (z : ℤ) → FitsSigned w64 z → (of_z w64 z + 2147483648) % 18446744073709551616 < 2 ^ 32 → is_short z ≡ true
+short_bits (pos n) word h = (Decides-ltb n (2 ^ 31)).1 (omega (arith, ints, word, h))
+short_bits (negsuc n) word h = (Decides-ltb n (2 ^ 31)).1 (omega (arith, ints, word, h))
 
 fits_from_range : (z : ℤ) → neg_ℤ (pos (2 ^ 63)) ≤ℤ z → z <ℤ pos (2 ^ 63) → fits z ≡ true
 fits_from_range (pos n) low high = (Decides-ltb n (2 ^ 63)).1 (omega (arith, ints, high))
@@ -123,3 +128,7 @@ sum_fits t zs e h = by (fits (total zs)) (subst (λ o. IsGiven (given o summed))
 pub sum_given : (t : Tree) (zs : List ℤ) (z : ℤ) → Some (map int zs) ≡ as_sequence t → IsGiven (given (numbers t) summed) → z ≡ total zs → given (numbers t) summed ≡ gives (int z)
 sum_given t zs z e h same =
     ap (λ o. given o summed) (numbers_are t zs e) ∙ ap (λ b. cond b (gives (int (total zs))) (traps Overflow)) (sum_fits t zs e h) ∙ ap (λ y. gives (int y)) (sym same)
+
+-- the outcome of `sum` where it fits
+pub sum_is : (t : Tree) (zs : List ℤ) → Some (map int zs) ≡ as_sequence t → fits (total zs) ≡ true → given (numbers t) summed ≡ gives (int (total zs))
+sum_is t zs e fit = ap (λ o. given o summed) (numbers_are t zs e) ∙ ap (λ b. cond b (gives (int (total zs))) (traps Overflow)) fit

@@ -1,7 +1,6 @@
 // Reductions: one leaf from all elements.
 ghost use Rattle.std.specs.Prelude.{◌≡◌, ◌+◌, ◌≤◌, ◌<◌, ◌^◌, length, map, count_by, option_map, IfSome, IsOk, IsTrue};
 ghost use Rattle.std.specs.List.{list_any, list_all};
-ghost use Rattle.nesl_values.specs.Tree.{int};
 ghost use Rattle.nesl_values.specs.Parts.{as_int, as_bool};
 ghost use Rattle.nesl_values.specs.View.{tree_of};
 ghost use Rattle.nesl_seq_base.specs.Lent.{argument_tree};
@@ -80,7 +79,7 @@ pub fn sum<A: Allocator>(argument: Argument<'_, A>) -> Result<Scalar, Trap>
     ensures { Tells (meaning Sum (argument_tree argument.entry)) result }
 {
     let total = match sequence(argument) {
-        Some(Items::Ints(ints)) => sum_of_ints(ints),
+        Some(Items::Ints(ints)) => sum_of(ints),
         Some(Items::Bools(bools)) => sum_of(bools),
         Some(Items::Chars(chars)) => sum_of(chars),
         Some(Items::Values(values)) => sum_of(values),
@@ -90,6 +89,23 @@ pub fn sum<A: Allocator>(argument: Argument<'_, A>) -> Result<Scalar, Trap>
         Some(total) => number(total),
         None => Err(WRONG_SHAPE),
     }
+}
+
+/// The price of a sum. Of fewer than 2^32 numbers of 32 bits it is told without adding them.
+pub fn price_sum<A: Allocator>(
+    argument: Argument<'_, A>,
+    limit: u128,
+) -> Result<Option<Price>, Trap>
+    ensures { Prices (meaning Sum (argument_tree argument.entry)) (length_of (argument_tree argument.entry))
+        (1 + digits (length_of (argument_tree argument.entry))) limit result }
+{
+    if let Some(Items::Ints(ints)) = sequence(argument) {
+        if are_few_and_short(ints) {
+            let len = ints.len();
+            return Ok(price_of_leaf(len, 1 + digits(len), limit));
+        }
+    }
+    price_of_reduction(argument, sum(argument), limit)
 }
 
 /// The value of a sum that has one.
@@ -125,25 +141,16 @@ fn number(total: i128) -> Result<Scalar, Trap>
     Ok(Scalar::Int(total as i64))
 }
 
-fn sum_of_ints(ints: &[i64]) -> Option<i128>
-    ensures { result ≡ option_map total (all_of as_int (map int ints.now)) }
-{
-    if are_few_and_short(ints) {
-        return Some(known_sum(ints) as i128);
-    }
-    sum_of(ints)
-}
-
-/// Whether these are fewer than 2^32 numbers of 32 bits: then all their sums are numbers of 64 bits.
-pub fn are_few_and_short(ints: &[i64]) -> bool
+// Whether these are fewer than 2^32 numbers of 32 bits: then all their sums are numbers of 64 bits.
+pub(crate) fn are_few_and_short(ints: &[i64]) -> bool
     ensures few { IsTrue result → length ints.now < 2 ^ 32 }
     ensures short { IsTrue result → IsTrue (list_all is_short ints.now) }
 {
-    let mut short = true;
+    let mut bits: u64 = 0;
     for number in ints {
-        short &= i32::MIN as i64 <= *number && *number <= i32::MAX as i64;
+        bits |= number.cast_unsigned().wrapping_add(1 << 31);
     }
-    short && ints.len() < 1 << 32
+    bits < 1 << 32 && ints.len() < 1 << 32
 }
 
 fn sum_of<T: Item>(items: &[T]) -> Option<i128>

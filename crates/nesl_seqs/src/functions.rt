@@ -96,7 +96,7 @@ fn price<A: Allocator>(
         SeqFn::Range => ranges::price_range(argument, limit),
         SeqFn::RangeBy => ranges::price_range_by(argument, limit),
         SeqFn::Index => ranges::price_index(argument, limit),
-        SeqFn::Sum => price_of_reduction(argument, reductions::sum(argument), limit),
+        SeqFn::Sum => reductions::price_sum(argument, limit),
         SeqFn::Any => price_of_reduction(argument, reductions::any(argument), limit),
         SeqFn::All => price_of_reduction(argument, reductions::all(argument), limit),
         SeqFn::Count => price_of_reduction(argument, reductions::count(argument), limit),

@@ -62,12 +62,12 @@ returns-in-Eql-clause-always g c h is =
 pub returns-in-Sum-clause-always : goal.returns-in-Sum-clause-always
 returns-in-Sum-clause-always g c h is =
     let t = argument_tree c.args.argument in
-    always (meaning Sum t) (reads Sum t) (depth_of Sum (reads Sum t)) c.args.limit c.price_of_reduction.result (bounded_sum t (few c.args.argument h)) is (c.price_of_reduction.ensures (meaning Sum t) c.sum.ensures)
+    always (meaning Sum t) (reads Sum t) (depth_of Sum (reads Sum t)) c.args.limit c.price_sum.result (bounded_sum t (few c.args.argument h)) is c.price_sum.ensures
 
 pub returns-in-Any-clause-always : goal.returns-in-Any-clause-always
 returns-in-Any-clause-always g c h is =
     let t = argument_tree c.args.argument in
-    always (meaning Any t) (reads Any t) (depth_of Any (reads Any t)) c.args.limit c.price_of_reduction-in-Any.result (bounded_any t (few c.args.argument h)) is (c.price_of_reduction-in-Any.ensures (meaning Any t) c.any.ensures)
+    always (meaning Any t) (reads Any t) (depth_of Any (reads Any t)) c.args.limit c.price_of_reduction.result (bounded_any t (few c.args.argument h)) is (c.price_of_reduction.ensures (meaning Any t) c.any.ensures)
 
 pub returns-in-All-clause-always : goal.returns-in-All-clause-always
 returns-in-All-clause-always g c h is =
@@ -175,10 +175,10 @@ returns-in-Write-clause-always g c h is =
     always (meaning Write t) (reads Write t) 1 c.args.limit c.price_write.result (bounded_write t (few c.args.argument h)) is c.price_write.ensures
 
 pub returns-in-Sum-clause-price : goal.returns-in-Sum-clause-price
-returns-in-Sum-clause-price g c = rw c.in-Sum.is (c.price_of_reduction.ensures (meaning Sum (argument_tree c.args.argument)) c.sum.ensures)
+returns-in-Sum-clause-price g c = rw c.in-Sum.is c.price_sum.ensures
 
 pub returns-in-Any-clause-price : goal.returns-in-Any-clause-price
-returns-in-Any-clause-price g c = rw c.in-Any.is (c.price_of_reduction-in-Any.ensures (meaning Any (argument_tree c.args.argument)) c.any.ensures)
+returns-in-Any-clause-price g c = rw c.in-Any.is (c.price_of_reduction.ensures (meaning Any (argument_tree c.args.argument)) c.any.ensures)
 
 pub returns-in-All-clause-price : goal.returns-in-All-clause-price
 returns-in-All-clause-price g c = rw c.in-All.is (c.price_of_reduction-in-All.ensures (meaning All (argument_tree c.args.argument)) c.all.ensures)
