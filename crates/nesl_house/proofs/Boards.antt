@@ -8,8 +8,8 @@ use Rattle.std.proofs.lemmas.Iterator.Adapters.{position_from-zero}
 use Rattle.std.proofs.lemmas.List.{append_assoc, append-nil, length-map}
 use Rattle.std.proofs.lemmas.List.Elements.{All-set}
 use Rattle.std.proofs.lemmas.List.Sums.{sum_by-le, sum_by-cons, sum_by-set, get_or-le-sum_by}
-use Rattle.nesl_session.specs.State.{State, Log, told_lines}
-use Rattle.nesl_session.specs.Solo.{Replays}
+use Rattle.nesl_step.specs.State.{State, Log, told_lines}
+use Rattle.nesl_step.specs.Solo.{Replays}
 use Rattle.nesl_house.specs.declared.slots.Slot.{Slot}
 use Rattle.nesl_house.specs.declared.slots.Slot.TheVariants.{Home, Away}
 use Rattle.nesl_house.specs.Slots.{counted, is_away, at_home, AreHome}

@@ -1,6 +1,6 @@
 -- Places for sessions, each of which is at home or away.
 use Rattle.std.specs.Prelude.{◌≡◌, ℕ, List, [], ◌∷◌, Bool, true, false, map, slice_index_or}
-use Rattle.nesl_session.specs.State.{Log, told_lines}
+use Rattle.nesl_step.specs.State.{Log, told_lines}
 use Rattle.nesl_house.specs.declared.slots.Slot.{Slot}
 use Rattle.nesl_house.specs.declared.slots.Slot.TheVariants.{Home, Away}
 

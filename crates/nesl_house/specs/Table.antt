@@ -1,8 +1,8 @@
 -- Sessions that are taken out of a table and given back.
 use Rattle.std.specs.Prelude.{◌≡◌, ◌≢◌, ℕ, List, [], ◌∷◌, length, sum_by}
 use Rattle.std.specs.List.{AllByRecursion}
-use Rattle.nesl_session.specs.State.{State, Log, told_lines}
-use Rattle.nesl_session.specs.Solo.{Replays}
+use Rattle.nesl_step.specs.State.{State, Log, told_lines}
+use Rattle.nesl_step.specs.Solo.{Replays}
 use Rattle.nesl_house.specs.Runs.{Seat, roster_of}
 use Rattle.nesl_house.specs.Register.{Register}
 use Rattle.nesl_house.specs.declared.lease.Receipt.{Receipt}

@@ -1,7 +1,7 @@
 //! Users and their sessions.
 ghost use Rattle.std.specs.Prelude.{◌≡◌, ℕ, [], ◌∷◌, IfOk, IfErr, OnErr, map, length, option_map, position, OnOk};
 ghost use Rattle.std.specs.Str.{bytes_eq};
-ghost use Rattle.nesl_session.specs.Solo.{Responds};
+ghost use Rattle.nesl_step.specs.Solo.{Responds};
 ghost use Rattle.nesl_house.specs.Runs.{session_of, Runs, AllReplay};
 ghost use Rattle.nesl_house.specs.Roster.{IsRoster, IsRefused, opened};
 

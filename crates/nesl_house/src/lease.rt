@@ -1,7 +1,7 @@
 //! A session that is out of the table.
 ghost use Rattle.std.specs.Prelude.{◌≡◌, ◌+◌, ◌<◌};
-ghost use Rattle.nesl_session.specs.State.{told_lines};
-ghost use Rattle.nesl_session.specs.Solo.{Responds};
+ghost use Rattle.nesl_step.specs.State.{told_lines};
+ghost use Rattle.nesl_step.specs.Solo.{Responds};
 
 use nesl_helpers::{Gate, Helpers};
 use nesl_session::answer::Answer;
@@ -21,7 +21,7 @@ pub struct Lease {
 
 impl Model for Lease {
     ghost use Rattle.std.specs.Prelude.{◌<◌, ◌≤◌};
-    ghost use Rattle.nesl_session.specs.State.{told_lines};
+    ghost use Rattle.nesl_step.specs.State.{told_lines};
     ghost use Rattle.nesl_house.specs.Register.{Leased};
 
     ghost Value = { Leased };

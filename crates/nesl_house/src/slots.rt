@@ -1,8 +1,8 @@
 //! Places for sessions, each of which is at home or away.
 ghost use Rattle.std.specs.Prelude.{◌≡◌, ℕ, ◌+◌, ◌<◌, ◌^◌, IfOk, IfSome, Some, All, length, position, replicate, slice_get, slice_set, sum_by, false};
 ghost use Rattle.std.specs.Option.{IfNone};
-ghost use Rattle.nesl_session.specs.State.{State, told_lines, unsaid};
-ghost use Rattle.nesl_session.specs.Solo.{Replays};
+ghost use Rattle.nesl_step.specs.State.{State, told_lines, unsaid};
+ghost use Rattle.nesl_step.specs.Solo.{Replays};
 ghost use Rattle.nesl_house.specs.Slots.{counted, counted_at, is_away};
 
 use crate::roster::MOST_USERS;

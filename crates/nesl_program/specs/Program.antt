@@ -1,7 +1,7 @@
 -- What the program does.
 use Rattle.std.specs.Prelude.{◌≡◌, ℕ, List, [], Option, Some, None, slice_get}
 use Rattle.std.specs.Io.KnownBytes.{Consumes, Appends}
-use Rattle.nesl_session.specs.declared.limits.Limits.{Limits}
+use Rattle.nesl_step.specs.declared.limits.Limits.{Limits}
 use Rattle.nesl_house.specs.declared.roster.NewFault.TheVariants as refusal
 use Rattle.nesl_house.specs.Roster.{IsRoster, IsRefused, opened}
 use Rattle.nesl_house.specs.Runs.{Seat}

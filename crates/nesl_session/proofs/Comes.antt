@@ -1,5 +1,5 @@
 -- What the answer of an evaluation says of the outcome under the budget.
-use Rattle.std.proofs.Common.{◌≡◌, ℕ, ◌≤◌, List, [], Bool, true, false, cond, leb, refl, sym, ap, ◌∙◌, subst, arith}
+use Rattle.std.proofs.Common.{◌≡◌, ℕ, ◌≤◌, [], Bool, true, false, cond, leb, refl, sym, ap, ◌∙◌, subst, arith}
 use Rattle.std.proofs.lemmas.Bool.{leb-true}
 use Rattle.nesl_values.specs.View.{tree_of}
 use Rattle.nesl_lex.specs.declared.token.Span.{Span}
@@ -12,9 +12,9 @@ use Rattle.nesl_reply.specs.declared.fault.Fault.TheVariants as faults
 use Rattle.nesl_reply.specs.Faults.{fault_of}
 use Rattle.nesl_reply.specs.Replies as replies
 use Rattle.nesl_bindings.specs.Meanings.{variable}
-use Rattle.nesl_session.specs.declared.limits.Limits.{Limits}
-use Rattle.nesl_session.specs.State.{State}
-use Rattle.nesl_session.specs.Finding.{Finding, refused, budget, bound_or_refused, Comes}
+use Rattle.nesl_step.specs.declared.limits.Limits.{Limits}
+use Rattle.nesl_step.specs.State.{State}
+use Rattle.nesl_step.specs.Finding.{Finding, refused, budget, bound_or_refused, Comes}
 use Rattle.nesl_code.specs.Out.{Out, Budgeted, told, over, value, fault, stuck, within, work_of}
 use Rattle.nesl_eval.specs.declared.outcome.Outcome.{Outcome}
 use Rattle.nesl_eval.specs.declared.outcome.Outcome.TheVariants.{Done, Fault, Over, Memory}

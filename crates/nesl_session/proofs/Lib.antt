@@ -1,13 +1,8 @@
-pub mod Replayed
 pub mod Finds
 pub mod Comes
-pub mod Verdicts
+pub mod Rooms
 pub mod Parts
 pub mod Told
 pub mod Lines
-pub mod Runs
-pub mod Typed
-pub mod Worked
 pub mod Naming
 pub mod Opened
-pub mod Grows

@@ -1,5 +1,5 @@
 -- The names of a session, one after another.
-use Rattle.std.proofs.Common.{◌≡◌, ℕ, ◌+◌, ◌<◌, ◌≤◌, suc, List, [], ◌∷◌, Option, Some, None, length, map, drop, get_or, refl, sym, ap, ◌∙◌, arith, option_map, Bor}
+use Rattle.std.proofs.Common.{◌≡◌, ℕ, ◌+◌, ◌<◌, ◌≤◌, suc, List, [], ◌∷◌, Option, Some, None, length, map, drop, get_or, sym, ◌∙◌, arith, option_map, Bor}
 use Rattle.std.specs.Prelude.{slice_get, MatchOption}
 use Rattle.std.proofs.Math.Seq.{drop-cons}
 use Rattle.std.proofs.lemmas.List.{length-map, drop_all}

@@ -1,11 +1,11 @@
 -- The state that a session's fields hold.
-use Rattle.std.specs.Prelude.{◌≡◌, ◌≤◌, ℕ, map, sum_by, length}
+use Rattle.std.specs.Prelude.{◌≡◌, ◌≤◌, map, sum_by, length}
 use Rattle.nesl_bindings.specs.Stored.{bindings_of}
-use Rattle.nesl_session.specs.declared.limits.Limits.{Limits}
+use Rattle.nesl_step.specs.declared.limits.Limits.{Limits}
 use Rattle.nesl_session.specs.declared.standing.Standing.{Standing}
-use Rattle.nesl_session.specs.State.{State, Log}
-use Rattle.nesl_session.specs.Step.{most_told}
-use Rattle.nesl_session.specs.Solo.{Replays}
+use Rattle.nesl_step.specs.State.{State, Log}
+use Rattle.nesl_step.specs.Step.{most_told}
+use Rattle.nesl_step.specs.Solo.{Replays}
 
 abbrev pub state_of : Standing → State
 state_of a = record {

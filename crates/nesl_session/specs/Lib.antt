@@ -1,12 +1,4 @@
-pub mod Sense
-pub mod State
-pub mod Response
-pub mod Finding
-pub mod Step
-pub mod Solo
-pub mod Found
+pub mod Settling
 pub mod Inside
 pub mod Names
 pub mod Text
-pub mod Laws
-pub mod Worked

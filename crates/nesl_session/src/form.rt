@@ -1,26 +1,25 @@
 //! What is found of a line by its form.
-ghost use Rattle.std.specs.Prelude.{◌≡◌, [], None, IfOk, option_map};
-ghost use Rattle.nesl_tree.specs.Trees as trees;
-ghost use Rattle.nesl_tree.specs.Views.{line_of, tree_of, pattern_tree, signature_tree, type_tree};
+ghost use Rattle.std.specs.Prelude.{◌≡◌, [], None, IfOk};
+ghost use Rattle.nesl_tree.specs.Views.{line_of, tree_of};
 ghost use Rattle.nesl_types.specs.Term.{term};
 ghost use Rattle.nesl_infer.specs.Answers.{IsTypeBy, typed};
 ghost use Rattle.nesl_code.specs.Names.{outside};
 ghost use Rattle.nesl_code.specs.Out.{within};
 ghost use Rattle.nesl_code.specs.Outcome.{out};
 ghost use Rattle.nesl_bindings.specs.Known.{known, environment};
-ghost use Rattle.nesl_bindings.specs.Redefinition.{Refuses, a_variable};
-ghost use Rattle.nesl_session.specs.Finding.{budget, budget_told, FindsLine, FindsVariable, Comes};
-ghost use Rattle.nesl_session.specs.Found.{finding_of, told_of, fault_against, IsUntyped, CanCharge};
+ghost use Rattle.nesl_bindings.specs.Redefinition.{Refuses, a_variable, it};
+ghost use Rattle.nesl_step.specs.Finding.{budget, budget_told, FindsLine, FindsVariable, Comes};
+ghost use Rattle.nesl_forms.specs.Found.{finding_of, told_of, CanCharge};
 
 use crate::evaluator::Evaluator;
-use crate::finding::{Definition, Finding, Meaning, Shown};
 use crate::standing::Standing;
-use nesl_bindings::{Kind, Refusal};
 use nesl_eval::Outcome;
-use nesl_infer::InferFault;
+use nesl_forms::drops::{let_go_exp, let_go_typed, let_go_value};
+use nesl_forms::finding::{Definition, Finding, Meaning, Shown};
+use nesl_forms::{find_datatype, find_function, find_type, variable_type};
 use nesl_reply::{Fault, Stop, Used};
 use nesl_scalars::Cost;
-use nesl_tree::tree::{Exp, Form, Pattern, Signature, TypeExp};
+use nesl_tree::tree::{Exp, Form};
 use nesl_types::Ty;
 use std::alloc::{AllocError, Allocator, Global};
 
@@ -49,16 +48,23 @@ impl Standing {
                 parameter,
                 signature,
                 body,
-            } => self.find_function(alloc, name, parameter, &signature, body),
-            Form::Datatype { name, content } => self.find_datatype(alloc, name, &content),
-            Form::Bind { name, value } => self.find_variable(alloc, name, &value, by),
-            Form::Eval(exp) => {
-                let name = Vec::from_slice(alloc, b"it")?;
-                self.find_variable(alloc, name, &exp, by)
+            } => find_function(
+                &self.bindings,
+                self.limits,
+                alloc,
+                name,
+                parameter,
+                signature,
+                body,
+            ),
+            Form::Datatype { name, content } => {
+                find_datatype(&self.bindings, self.limits, alloc, name, content)
             }
+            Form::Bind { name, value } => self.find_variable(alloc, name, value, by),
+            Form::Eval(exp) => self.find_it(alloc, exp, by),
             Form::ShowNames => Ok(Finding::Told(Shown::Names)),
             Form::ShowBudget => Ok(Finding::Told(self.budget_shown())),
-            Form::ShowType(exp) => self.find_type(alloc, &exp),
+            Form::ShowType(exp) => find_type(&self.bindings, alloc, exp),
         }
     }
 
@@ -82,85 +88,45 @@ impl Standing {
         Shown::Budget(self.work_left, elements, lines, bytes)
     }
 
-    // The type of an expression.
-    fn find_type(&self, alloc: Global, exp: &Exp) -> Result<Finding, AllocError>
-        ensures found { IfOk result (λ f. FindsLine self.now.limits (state_of self.now) (trees.show_type (tree_of exp.now)) (finding_of f)) }
-        ensures charges { IfOk result (CanCharge (state_of self.now)) }
-    {
-        match self.bindings.infer_exp(alloc, exp) {
-            Ok(ty) => Ok(Finding::Told(Shown::Type(ty))),
-            Err(fault) => untyped(fault),
-        }
-    }
-
-    // A function is defined.
-    fn find_function(
+    // An expression alone is bound to `it`.
+    fn find_it<A: Allocator, E: Evaluator<A>>(
         &self,
         alloc: Global,
-        name: Vec<u8>,
-        parameter: Pattern,
-        signature: &Option<Signature>,
-        body: Exp,
+        exp: Exp,
+        by: &E,
     ) -> Result<Finding, AllocError>
-        ensures found { IfOk result (λ f. FindsLine self.now.limits (state_of self.now)
-            (trees.function name.items (pattern_tree parameter) (option_map signature_tree signature.now) (tree_of body)) (finding_of f)) }
+        requires { E.sound by.now }
+        ensures found { IfOk result (λ f. FindsVariable self.now.limits (state_of self.now) it (tree_of exp) (finding_of f)) }
         ensures charges { IfOk result (CanCharge (state_of self.now)) }
     {
-        let known = self
-            .bindings
-            .infer_function(alloc, name.as_slice(), &parameter, signature, &body);
-        let scheme = match known {
-            Ok(scheme) => scheme,
-            Err(fault) => return untyped(fault),
-        };
-        match self
-            .bindings
-            .refusal(name.as_slice(), Kind::Function(&scheme))
-        {
-            Some(refusal) => return Ok(refused(refusal)),
-            None => {}
+        match Vec::from_slice(alloc, b"it") {
+            Ok(name) => self.find_variable(alloc, name, exp, by),
+            Err(error) => {
+                let_go_exp(exp);
+                Err(error)
+            }
         }
-        if !self
-            .bindings
-            .fits_function(name.as_slice(), &body, self.limits.elements)
-        {
-            return Ok(Finding::Refused(Fault::Elements(0), 0));
-        }
-        let meaning = Meaning::Function(scheme, parameter, body);
-        Ok(Finding::Defined(Definition { name, meaning }))
-    }
-
-    // A datatype is defined.
-    fn find_datatype(
-        &self,
-        alloc: Global,
-        name: Vec<u8>,
-        written: &TypeExp,
-    ) -> Result<Finding, AllocError>
-        ensures found { IfOk result (λ f. FindsLine self.now.limits (state_of self.now)
-            (trees.datatype name.items (type_tree written.now)) (finding_of f)) }
-        ensures charges { IfOk result (CanCharge (state_of self.now)) }
-    {
-        let content = match self.bindings.infer_datatype(alloc, written) {
-            Ok(content) => content,
-            Err(fault) => return untyped(fault),
-        };
-        match self.bindings.refusal(name.as_slice(), Kind::Datatype) {
-            Some(refusal) => return Ok(refused(refusal)),
-            None => {}
-        }
-        if !self
-            .bindings
-            .fits_datatype(name.as_slice(), &content, self.limits.elements)
-        {
-            return Ok(Finding::Refused(Fault::Elements(0), 0));
-        }
-        let meaning = Meaning::Datatype(self.bindings.next_tag(), content);
-        Ok(Finding::Defined(Definition { name, meaning }))
     }
 
     // A variable is bound.
     fn find_variable<A: Allocator, E: Evaluator<A>>(
+        &self,
+        alloc: Global,
+        name: Vec<u8>,
+        exp: Exp,
+        by: &E,
+    ) -> Result<Finding, AllocError>
+        requires { E.sound by.now }
+        ensures found { IfOk result (λ f. FindsVariable self.now.limits (state_of self.now) name.items (tree_of exp) (finding_of f)) }
+        ensures charges { IfOk result (CanCharge (state_of self.now)) }
+    {
+        let found = self.find_bound(alloc, name, &exp, by);
+        let_go_exp(exp);
+        found
+    }
+
+    // What an expression that a name is bound to comes to.
+    fn find_bound<A: Allocator, E: Evaluator<A>>(
         &self,
         alloc: Global,
         name: Vec<u8>,
@@ -171,15 +137,10 @@ impl Standing {
         ensures found { IfOk result (λ f. FindsVariable self.now.limits (state_of self.now) name.items (tree_of exp.now) (finding_of f)) }
         ensures charges { IfOk result (CanCharge (state_of self.now)) }
     {
-        let ty = match self.bindings.infer_exp(alloc, exp) {
-            Ok(ty) => ty,
-            Err(fault) => return untyped(fault),
-        };
-        match self.bindings.refusal(name.as_slice(), Kind::Variable(&ty)) {
-            Some(refusal) => return Ok(refused(refusal)),
-            None => {}
+        match variable_type(&self.bindings, alloc, name.as_slice(), exp) {
+            Ok(ty) => self.find_value(alloc, name, ty, exp, by),
+            Err(stopped) => stopped.found(),
         }
-        self.find_value(alloc, name, ty, exp, by)
     }
 
     // What an expression of this type comes to.
@@ -206,40 +167,36 @@ impl Standing {
                     .bindings
                     .fits_variable(name.as_slice(), &value, self.limits.elements)
                 {
+                    let_go_value(value);
+                    let_go_typed(name, ty);
                     return Ok(Finding::Refused(Fault::Elements(work), work));
                 }
-                let kept = by.keep(alloc, &value)?;
-                let meaning = Meaning::Variable(ty, kept, Cost { work, depth });
-                Ok(Finding::Defined(Definition { name, meaning }))
+                let kept = by.keep(alloc, &value);
+                let_go_value(value);
+                match kept {
+                    Ok(kept) => {
+                        let meaning = Meaning::Variable(ty, kept, Cost { work, depth });
+                        Ok(Finding::Defined(Definition { name, meaning }))
+                    }
+                    Err(error) => {
+                        let_go_typed(name, ty);
+                        Err(error)
+                    }
+                }
             }
             Outcome::Fault { trap, span, work } => {
+                let_go_typed(name, ty);
                 let fault = Fault::of_trap(trap, Stop { span, work });
                 Ok(Finding::Refused(fault, work))
             }
-            Outcome::Over => Ok(Finding::Refused(Fault::Work(budget), budget)),
-            Outcome::Memory => Err(AllocError),
+            Outcome::Over => {
+                let_go_typed(name, ty);
+                Ok(Finding::Refused(Fault::Work(budget), budget))
+            }
+            Outcome::Memory => {
+                let_go_typed(name, ty);
+                Err(AllocError)
+            }
         }
-    }
-}
-
-// What is found where no type was.
-fn untyped(fault: InferFault) -> Result<Finding, AllocError>
-    ensures { IfOk result (IsUntyped fault) }
-{
-    match fault {
-        InferFault::Unknown { span } => Ok(Finding::Refused(Fault::Unknown(span), 0)),
-        InferFault::IllTyped => Ok(Finding::Refused(Fault::IllTyped, 0)),
-        InferFault::Ambiguous => Ok(Finding::Refused(Fault::Ambiguous, 0)),
-        InferFault::Memory => Err(AllocError),
-    }
-}
-
-// What is found of a definition that is refused.
-fn refused(refusal: Refusal) -> Finding
-    ensures { result ≡ Finding.Refused (fault_against refusal) 0 }
-{
-    match refusal {
-        Refusal::Retype => Finding::Refused(Fault::Retype, 0),
-        Refusal::Taken => Finding::Refused(Fault::Taken, 0),
     }
 }

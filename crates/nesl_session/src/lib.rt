@@ -3,14 +3,11 @@
 
 pub mod answer;
 mod evaluator;
-mod finding;
 mod form;
-pub mod laws;
-pub mod limits;
 mod line;
-mod sense;
 pub mod session;
 mod standing;
 
 pub use line::LONGEST;
 pub use nesl_reply::{Fault, Stop};
+pub use nesl_step::{laws, limits};

@@ -1,16 +1,17 @@
 //! One line: what is found of it before its form is looked at, and what is answered.
 ghost use Rattle.std.specs.Prelude.{◌≡◌, ◌+◌, ◌++◌, List, ℕ, IfOk, OnErr, IsFalse, nat_lt, if◌then◌else◌, length};
 ghost use Rattle.nesl_reply.specs.declared.fault.Fault.TheVariants as faults;
-ghost use Rattle.nesl_session.specs.Finding.{unread, reset};
-ghost use Rattle.nesl_session.specs.Step.{Finds, Step, is_reset, is_part, is_full, longest, most_told, told_by_reset, response_of};
-ghost use Rattle.nesl_session.specs.Sense.{HasSense};
-ghost use Rattle.nesl_session.specs.Found.{finding_of, seen_sense, FindsRead, CanCharge, CanSettle, Fits};
+ghost use Rattle.nesl_step.specs.Finding.{unread, reset};
+ghost use Rattle.nesl_step.specs.Step.{Finds, Step, is_reset, is_part, is_full, longest, most_told, told_by_reset, response_of};
+ghost use Rattle.nesl_step.specs.Sense.{HasSense};
+ghost use Rattle.nesl_forms.specs.Found.{finding_of, seen_sense, CanCharge};
+ghost use Rattle.nesl_session.specs.Settling.{FindsRead, CanSettle, Fits};
 
 use crate::answer::Answer;
 use crate::evaluator::Evaluator;
-use crate::finding::Finding;
-use crate::sense::{Sense, sense_of};
 use crate::standing::Standing;
+use nesl_forms::finding::Finding;
+use nesl_forms::{Sense, sense_of};
 use nesl_reply::Fault;
 use std::alloc::{AllocError, Allocator, Global};
 
@@ -38,7 +39,13 @@ impl Standing {
         ensures limits { self.new.limits ≡ self.old.limits }
     {
         let finding = self.find(alloc, text, by)?;
-        let answer = self.answer(alloc, &finding)?;
+        let answer = match self.answer(alloc, &finding) {
+            Ok(answer) => answer,
+            Err(error) => {
+                finding.let_go();
+                return Err(error);
+            }
+        };
         self.settle(alloc, text, finding)?;
         Ok(answer)
     }

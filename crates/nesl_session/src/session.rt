@@ -6,19 +6,19 @@ ghost use Rattle.nesl_code.specs.Out.{within};
 ghost use Rattle.nesl_code.specs.Outcome.{out};
 ghost use Rattle.nesl_code.specs.Stored.{environment};
 ghost use Rattle.nesl_eval.specs.Tells.{Tells};
-ghost use Rattle.nesl_session.specs.State.{State, names_of, remaining_of, told_lines, unsaid};
-ghost use Rattle.nesl_session.specs.Solo.{Replays, Responds};
+ghost use Rattle.nesl_step.specs.State.{State, names_of, remaining_of, told_lines, unsaid};
+ghost use Rattle.nesl_step.specs.Solo.{Replays, Responds};
 ghost use Rattle.std.specs.Iterator.{item_count, YieldsFirstRef};
 
 use crate::answer::Answer;
 use crate::evaluator::{ByCall, Evaluator, InHeap, InPlace};
-use crate::limits::{Limits, Remaining};
 use crate::standing::Standing;
 use nesl_bindings::Bindings;
 use nesl_code::Env;
 use nesl_eval::Outcome;
 use nesl_helpers::{Gate, Helpers};
 use nesl_split::eval_split;
+use nesl_step::limits::{Limits, Remaining};
 use nesl_tree::tree::Exp;
 use std::alloc::{AllocError, Allocator, Global};
 use std::marker::Model;
@@ -32,7 +32,7 @@ pub struct Session {
 }
 
 impl Model for Session {
-    ghost use Rattle.nesl_session.specs.State.{Log};
+    ghost use Rattle.nesl_step.specs.State.{Log};
 
     ghost Value = { Log };
 

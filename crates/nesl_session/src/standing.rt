@@ -2,13 +2,15 @@
 ghost use Rattle.std.specs.Prelude.{◌≡◌, ◌+◌, ◌-◌, ◌<◌, ◌≤◌, ◌^◌, ◌++◌, ℕ, [], true, IfOk, OnOk, OnErr, codes, length, take, sum_by, vec_len, vec_capacity};
 ghost use Rattle.nesl_bindings.specs.Known.{put};
 ghost use Rattle.nesl_bindings.specs.Stored.{bindings_of};
-ghost use Rattle.nesl_session.specs.State.{opening};
-ghost use Rattle.nesl_session.specs.Step.{after, stored, read, is_part, told_by_reset, most_told};
-ghost use Rattle.nesl_session.specs.Found.{finding_of, meaning_of, work_of, binding_of, CanBe, CanSettle, Fits};
+ghost use Rattle.nesl_step.specs.State.{opening};
+ghost use Rattle.nesl_step.specs.Step.{after, stored, read, is_part, told_by_reset, most_told};
+ghost use Rattle.nesl_forms.specs.Found.{finding_of, meaning_of, work_of, binding_of, CanBe};
+ghost use Rattle.nesl_session.specs.Settling.{CanSettle, Fits};
 
-use crate::finding::{Definition, Finding, Meaning};
-use crate::limits::Limits;
 use nesl_bindings::Bindings;
+use nesl_forms::drops::forget;
+use nesl_forms::finding::{Definition, Finding, Meaning};
+use nesl_step::limits::Limits;
 use std::alloc::{AllocError, Global};
 
 /// How a session stands.
@@ -69,7 +71,10 @@ impl Standing {
             }
             Finding::Part => self.take_part(alloc, text),
             Finding::Refused(_, work) => self.take_read(alloc, text, work),
-            Finding::Told(_) => self.take_read(alloc, text, 0),
+            Finding::Told(shown) => {
+                shown.let_go();
+                self.take_read(alloc, text, 0)
+            }
             Finding::Defined(definition) => self.take_definition(alloc, text, definition),
         }
     }
@@ -82,7 +87,12 @@ impl Standing {
         ensures limits { self.new.limits ≡ self.old.limits }
     {
         let told = self.cleared + self.transcript.len() as u64 + 1;
-        *self = Standing::opened(alloc, self.limits, self.work_left, told);
+        forget(&mut self.bindings, alloc);
+        self.transcript = Vec::new(alloc);
+        self.bytes = 0;
+        self.pending = Vec::new(alloc);
+        self.base = self.work_left;
+        self.cleared = told;
     }
 
     // A line that is part of a form is stored, and joined to the parts before it.
@@ -132,7 +142,13 @@ impl Standing {
         ensures limits { self.new.limits ≡ self.old.limits }
     {
         let work = definition.meaning.work();
-        let line = room_for(&mut self.transcript, alloc, text)?;
+        let line = match room_for(&mut self.transcript, alloc, text) {
+            Ok(line) => line,
+            Err(error) => {
+                definition.let_go();
+                return Err(error);
+            }
+        };
         define(&mut self.bindings, alloc, definition)?;
         self.store(line);
         self.charge(work);

@@ -1,6 +1,6 @@
 use Rattle.std.proofs.Common.{◌≡◌, ◌≤◌, replicate}
 use Rattle.std.specs.Vec.{vec_capacity}
-use Rattle.nesl_session.specs.State.{unsaid}
+use Rattle.nesl_step.specs.State.{unsaid}
 use Rattle.nesl_house.specs.declared.slots.Slot.TheVariants.{Home}
 use Rattle.nesl_house.proofs.slots.Slots.new.Given as goal
 

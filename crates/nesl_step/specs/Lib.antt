@@ -1,0 +1,8 @@
+pub mod Sense
+pub mod State
+pub mod Response
+pub mod Finding
+pub mod Step
+pub mod Solo
+pub mod Laws
+pub mod Worked
