@@ -1,4 +1,7 @@
 // Values of a million levels, on a thread whose stack has 256 KiB.
+use crate::made::session;
+use nesl_reply::value_text;
+use nesl_types::Ty;
 use nesl_values::Value;
 use std::alloc::{AllocError, Global};
 use std::test::Fail;
@@ -106,5 +109,23 @@ fn compared_without_memory(rt: HostRuntime) -> Result<(), Fail> {
     let value = chain(rt.alloc(), Link::Right, 0)?;
     let copy = value.copy_into(rt.alloc())?;
     assert!(rt; copy.same(&value) && !copy.same(&chain(rt.alloc(), Link::Right, 1)?));
+    Ok(())
+}
+
+fn of_records(alloc: Global) -> Result<Value, AllocError> {
+    let mut value = Value::Int(7);
+    for _ in 0..DEPTH {
+        value = Value::tagged(alloc, 9, value)?;
+    }
+    Ok(value)
+}
+
+// A record without a name at each level.
+#[test]
+fn its_text(rt: HostRuntime) -> Result<(), Fail> {
+    let value = of_records(rt.alloc())?;
+    let context = session(rt.alloc())?;
+    let text = value_text(rt.alloc(), &value, &Ty::Int, &context)?;
+    assert!(rt; text.len() == 2_000_001);
     Ok(())
 }

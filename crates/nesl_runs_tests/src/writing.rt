@@ -1,0 +1,43 @@
+//! What is written.
+
+use std::alloc::AllocError;
+
+/// Writes a line.
+pub fn put_line(out: &mut Vec<u8>, line: &[u8]) -> Result<(), AllocError> {
+    out.extend_from_slice(line)?;
+    out.extend_from_slice(b"\n")
+}
+
+/// Writes a text, if there was memory for it.
+pub fn put(out: &mut Vec<u8>, text: Result<String, AllocError>) -> Result<(), AllocError> {
+    out.extend_from_slice(text?.as_bytes())
+}
+
+/// Writes a text behind what was to be done first, if that was done.
+pub fn put_done(
+    done: Result<(), AllocError>,
+    text: &[u8],
+    out: &mut Vec<u8>,
+) -> Result<(), AllocError> {
+    done?;
+    out.extend_from_slice(text)
+}
+
+/// Writes a line of these bytes, if there was memory for them.
+pub fn put_bytes(out: &mut Vec<u8>, text: Result<Vec<u8>, AllocError>) -> Result<(), AllocError> {
+    put_line(out, text?.as_slice())
+}
+
+/// Writes a directive as it is, if it could be read.
+pub fn put_directive(out: &mut Vec<u8>, line: &str, is_read: bool) -> Result<(), AllocError> {
+    if is_read {
+        put_line(out, line.as_bytes())
+    } else {
+        put_wrong(out)
+    }
+}
+
+/// Writes that a directive can't be read.
+pub fn put_wrong(out: &mut Vec<u8>) -> Result<(), AllocError> {
+    put_line(out, b"no such directive")
+}
