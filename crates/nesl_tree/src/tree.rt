@@ -43,7 +43,7 @@ pub enum Class {
 
 /// A type as it is written, with the bytes that it stands in.
 #[cycle(written)]
-#[derive(Drop)]
+#[derive(Debug, Drop)]
 pub struct TypeExp {
     pub span: Span,
     pub node: TypeNode,
@@ -51,7 +51,7 @@ pub struct TypeExp {
 
 /// What a type is.
 #[cycle(written)]
-#[derive(Drop)]
+#[derive(Debug, Drop)]
 pub enum TypeNode {
     Int,
     Bool,
@@ -70,7 +70,7 @@ pub enum TypeNode {
 
 /// A pattern, with the bytes that it stands in.
 #[cycle(pattern)]
-#[derive(Drop)]
+#[derive(Debug, Drop)]
 pub struct Pattern {
     pub span: Span,
     pub node: PatternNode,
@@ -78,7 +78,7 @@ pub struct Pattern {
 
 /// What a pattern is.
 #[cycle(pattern)]
-#[derive(Drop)]
+#[derive(Debug, Drop)]
 pub enum PatternNode {
     Name(Vec<u8>),
     Pair {
@@ -94,7 +94,7 @@ pub enum PatternNode {
 
 /// An expression, with the bytes that it stands in.
 #[cycle(tree)]
-#[derive(Drop)]
+#[derive(Debug, Drop)]
 pub struct Exp {
     pub span: Span,
     pub node: Node,
@@ -102,7 +102,7 @@ pub struct Exp {
 
 /// A pattern and the expression that it is bound to.
 #[cycle(tree)]
-#[derive(Drop)]
+#[derive(Debug, Drop)]
 pub struct Binding {
     pub pattern: Pattern,
     pub value: Exp,
@@ -110,7 +110,7 @@ pub struct Binding {
 
 /// What an expression is.
 #[cycle(tree)]
-#[derive(Drop)]
+#[derive(Debug, Drop)]
 pub enum Node {
     Number(u64),
     Truth(bool),
@@ -176,7 +176,7 @@ pub enum Node {
 }
 
 /// The types of a function, and the classes of names in them.
-#[derive(Drop)]
+#[derive(Debug, Drop)]
 pub struct Signature {
     pub from: TypeExp,
     pub to: TypeExp,
@@ -184,14 +184,14 @@ pub struct Signature {
 }
 
 /// A name and the class that it is put in.
-#[derive(Drop)]
+#[derive(Debug, Drop)]
 pub struct Member {
     pub name: Vec<u8>,
     pub class: Class,
 }
 
 /// A line.
-#[derive(Drop)]
+#[derive(Debug, Drop)]
 pub enum Form {
     Nothing,
     Fun {
