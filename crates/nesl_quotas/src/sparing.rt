@@ -4,10 +4,15 @@ ghost use Rattle.nesl_quotas.specs.Sparing.{longer};
 
 use nesl_helpers::{Gate, Helpers, Place};
 use std::sync::atomic::{AtomicU64, Ordering};
+use std::thread;
 use std::time::{Clock, Duration, Instant};
 
 /// How many microseconds a helper has to take to be worth its thread, which takes some tens of them to make.
 const WORTH: u64 = 500;
+
+/// How many microseconds each half of an interval sleeps before it begins. A scheduler that puts a new thread on its
+/// maker's processor, where it waits for the other half, places a thread anew when it wakes.
+const NAP: u64 = 1;
 
 /// The most asks that are passed over at once.
 const MOST_PASSED: u64 = 4096;
@@ -25,8 +30,8 @@ const MOST_LINES: u64 = 63;
 ///
 /// No ask is put for a half that is one thread's share of the interval, where all helpers and the asking thread take part:
 /// else the thread that cuts first would take the helper that the other half is about to ask for.
-/// This is also the connection's gate, by which it sees that a line begins and how long halves are; it tells another gate
-/// of each place.
+/// This is also the connection's gate, by which it sees that a line begins and how long halves are; it lets each half
+/// sleep for a microsecond, so that the scheduler places its thread, and tells another gate of each place.
 #[derive(Drop)]
 pub struct Sparing<'a, C, H, G> {
     clock: &'a C,
@@ -179,7 +184,10 @@ impl<C: Clock, H: Helpers, G: Gate> Gate for Sparing<'_, C, H, G> {
                 self.entered.store(0, Ordering::SeqCst);
                 self.longest.store(0, Ordering::SeqCst);
             }
-            Place::Half(from, to) => self.enter_half(to.saturating_sub(from) as u64),
+            Place::Half(from, to) => {
+                thread::sleep(self.clock, Duration::from_micros(NAP));
+                self.enter_half(to.saturating_sub(from) as u64);
+            }
         }
         self.gate.enter(place);
     }

@@ -10,7 +10,8 @@ use Rattle.nesl_step.specs.State.{State}
 use Rattle.nesl_step.specs.Finding.{Finding, unread, reset, part}
 use Rattle.nesl_step.specs.Step.{Finds, is_reset, is_full, is_part, longest, most_told, told_by_reset}
 use Rattle.nesl_forms.specs.Found.{CanCharge}
-use Rattle.nesl_session.specs.Settling.{FindsRead, CanSettle, Fits}
+use Rattle.nesl_session.specs.Reading.{FindsRead}
+use Rattle.nesl_standing.specs.Settling.{CanSettle, Fits}
 
 at_true : {P : Type 0} (Q : Type 0) (b : Bool) → b ≡ true → P → MatchBool b P Q
 at_true Q true e p = p

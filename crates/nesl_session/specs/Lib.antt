@@ -1,4 +1,3 @@
-pub mod Settling
-pub mod Inside
+pub mod Reading
 pub mod Names
 pub mod Text

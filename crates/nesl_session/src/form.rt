@@ -10,15 +10,16 @@ ghost use Rattle.nesl_bindings.specs.Known.{known, environment};
 ghost use Rattle.nesl_bindings.specs.Redefinition.{Refuses, a_variable, it};
 ghost use Rattle.nesl_step.specs.Finding.{budget, budget_told, FindsLine, FindsVariable, Comes};
 ghost use Rattle.nesl_forms.specs.Found.{finding_of, told_of, CanCharge};
+ghost use Rattle.nesl_standing.specs.Inside.{state_of, Counts};
 
 use crate::evaluator::Evaluator;
-use crate::standing::Standing;
 use nesl_eval::Outcome;
 use nesl_forms::drops::{let_go_exp, let_go_typed, let_go_value};
 use nesl_forms::finding::{Definition, Finding, Meaning, Shown};
 use nesl_forms::{find_datatype, find_function, find_type, variable_type};
 use nesl_reply::{Fault, Stop, Used};
 use nesl_scalars::Cost;
+use nesl_standing::Standing;
 use nesl_tree::tree::{Exp, Form};
 use nesl_types::Ty;
 use std::alloc::{AllocError, Allocator, Global};
@@ -26,177 +27,173 @@ use std::alloc::{AllocError, Allocator, Global};
 /// The levels of an evaluation.
 const LEVELS: u32 = 1000;
 
-impl Standing {
-    ghost use Rattle.nesl_session.specs.Inside.{state_of, Counts};
+/// What is found of a line with this tree.
+pub fn find_form<A: Allocator, E: Evaluator<A>>(
+    standing: &Standing,
+    alloc: Global,
+    form: Form,
+    by: &E,
+) -> Result<Finding, AllocError>
+    requires counts { Counts standing.now }
+    requires sound { E.sound by.now }
+    ensures found { IfOk result (λ f. FindsLine standing.now.limits (state_of standing.now) (line_of form) (finding_of f)) }
+    ensures charges { IfOk result (CanCharge (state_of standing.now)) }
+{
+    match form {
+        Form::Nothing => Ok(Finding::Told(Shown::Blank)),
+        Form::Fun {
+            name,
+            parameter,
+            signature,
+            body,
+        } => find_function(
+            &standing.bindings,
+            standing.limits,
+            alloc,
+            name,
+            parameter,
+            signature,
+            body,
+        ),
+        Form::Datatype { name, content } => {
+            find_datatype(&standing.bindings, standing.limits, alloc, name, content)
+        }
+        Form::Bind { name, value } => find_variable(standing, alloc, name, value, by),
+        Form::Eval(exp) => find_it(standing, alloc, exp, by),
+        Form::ShowNames => Ok(Finding::Told(Shown::Names)),
+        Form::ShowBudget => Ok(Finding::Told(budget_shown(standing))),
+        Form::ShowType(exp) => find_type(&standing.bindings, alloc, exp),
+    }
+}
 
-    /// What is found of a line with this tree.
-    pub fn find_form<A: Allocator, E: Evaluator<A>>(
-        &self,
-        alloc: Global,
-        form: Form,
-        by: &E,
-    ) -> Result<Finding, AllocError>
-        requires counts { Counts self.now }
-        requires sound { E.sound by.now }
-        ensures found { IfOk result (λ f. FindsLine self.now.limits (state_of self.now) (line_of form) (finding_of f)) }
-        ensures charges { IfOk result (CanCharge (state_of self.now)) }
-    {
-        match form {
-            Form::Nothing => Ok(Finding::Told(Shown::Blank)),
-            Form::Fun {
-                name,
-                parameter,
-                signature,
-                body,
-            } => find_function(
-                &self.bindings,
-                self.limits,
-                alloc,
-                name,
-                parameter,
-                signature,
-                body,
-            ),
-            Form::Datatype { name, content } => {
-                find_datatype(&self.bindings, self.limits, alloc, name, content)
-            }
-            Form::Bind { name, value } => self.find_variable(alloc, name, value, by),
-            Form::Eval(exp) => self.find_it(alloc, exp, by),
-            Form::ShowNames => Ok(Finding::Told(Shown::Names)),
-            Form::ShowBudget => Ok(Finding::Told(self.budget_shown())),
-            Form::ShowType(exp) => find_type(&self.bindings, alloc, exp),
+// What is left and what there may be.
+fn budget_shown(standing: &Standing) -> Shown
+    requires { Counts standing.now }
+    ensures { told_of result ≡ budget_told standing.now.limits (state_of standing.now) }
+{
+    let elements = Used {
+        used: standing.bindings.elements(),
+        limit: standing.limits.elements,
+    };
+    let lines = Used {
+        used: standing.transcript.len() as u64,
+        limit: standing.limits.transcript_lines,
+    };
+    let bytes = Used {
+        used: standing.bytes,
+        limit: standing.limits.transcript_bytes,
+    };
+    Shown::Budget(standing.work_left, elements, lines, bytes)
+}
+
+// An expression alone is bound to `it`.
+fn find_it<A: Allocator, E: Evaluator<A>>(
+    standing: &Standing,
+    alloc: Global,
+    exp: Exp,
+    by: &E,
+) -> Result<Finding, AllocError>
+    requires { E.sound by.now }
+    ensures found { IfOk result (λ f. FindsVariable standing.now.limits (state_of standing.now) it (tree_of exp) (finding_of f)) }
+    ensures charges { IfOk result (CanCharge (state_of standing.now)) }
+{
+    match Vec::from_slice(alloc, b"it") {
+        Ok(name) => find_variable(standing, alloc, name, exp, by),
+        Err(error) => {
+            let_go_exp(exp);
+            Err(error)
         }
     }
+}
 
-    // What is left and what there may be.
-    fn budget_shown(&self) -> Shown
-        requires { Counts self.now }
-        ensures { told_of result ≡ budget_told self.now.limits (state_of self.now) }
-    {
-        let elements = Used {
-            used: self.bindings.elements(),
-            limit: self.limits.elements,
-        };
-        let lines = Used {
-            used: self.transcript.len() as u64,
-            limit: self.limits.transcript_lines,
-        };
-        let bytes = Used {
-            used: self.bytes,
-            limit: self.limits.transcript_bytes,
-        };
-        Shown::Budget(self.work_left, elements, lines, bytes)
+// A variable is bound.
+fn find_variable<A: Allocator, E: Evaluator<A>>(
+    standing: &Standing,
+    alloc: Global,
+    name: Vec<u8>,
+    exp: Exp,
+    by: &E,
+) -> Result<Finding, AllocError>
+    requires { E.sound by.now }
+    ensures found { IfOk result (λ f. FindsVariable standing.now.limits (state_of standing.now) name.items (tree_of exp) (finding_of f)) }
+    ensures charges { IfOk result (CanCharge (state_of standing.now)) }
+{
+    let found = find_bound(standing, alloc, name, &exp, by);
+    let_go_exp(exp);
+    found
+}
+
+// What an expression that a name is bound to comes to.
+fn find_bound<A: Allocator, E: Evaluator<A>>(
+    standing: &Standing,
+    alloc: Global,
+    name: Vec<u8>,
+    exp: &Exp,
+    by: &E,
+) -> Result<Finding, AllocError>
+    requires { E.sound by.now }
+    ensures found { IfOk result (λ f. FindsVariable standing.now.limits (state_of standing.now) name.items (tree_of exp.now) (finding_of f)) }
+    ensures charges { IfOk result (CanCharge (state_of standing.now)) }
+{
+    match variable_type(&standing.bindings, alloc, name.as_slice(), exp) {
+        Ok(ty) => find_value(standing, alloc, name, ty, exp, by),
+        Err(stopped) => stopped.found(),
     }
+}
 
-    // An expression alone is bound to `it`.
-    fn find_it<A: Allocator, E: Evaluator<A>>(
-        &self,
-        alloc: Global,
-        exp: Exp,
-        by: &E,
-    ) -> Result<Finding, AllocError>
-        requires { E.sound by.now }
-        ensures found { IfOk result (λ f. FindsVariable self.now.limits (state_of self.now) it (tree_of exp) (finding_of f)) }
-        ensures charges { IfOk result (CanCharge (state_of self.now)) }
-    {
-        match Vec::from_slice(alloc, b"it") {
-            Ok(name) => self.find_variable(alloc, name, exp, by),
-            Err(error) => {
-                let_go_exp(exp);
-                Err(error)
-            }
-        }
-    }
-
-    // A variable is bound.
-    fn find_variable<A: Allocator, E: Evaluator<A>>(
-        &self,
-        alloc: Global,
-        name: Vec<u8>,
-        exp: Exp,
-        by: &E,
-    ) -> Result<Finding, AllocError>
-        requires { E.sound by.now }
-        ensures found { IfOk result (λ f. FindsVariable self.now.limits (state_of self.now) name.items (tree_of exp) (finding_of f)) }
-        ensures charges { IfOk result (CanCharge (state_of self.now)) }
-    {
-        let found = self.find_bound(alloc, name, &exp, by);
-        let_go_exp(exp);
-        found
-    }
-
-    // What an expression that a name is bound to comes to.
-    fn find_bound<A: Allocator, E: Evaluator<A>>(
-        &self,
-        alloc: Global,
-        name: Vec<u8>,
-        exp: &Exp,
-        by: &E,
-    ) -> Result<Finding, AllocError>
-        requires { E.sound by.now }
-        ensures found { IfOk result (λ f. FindsVariable self.now.limits (state_of self.now) name.items (tree_of exp.now) (finding_of f)) }
-        ensures charges { IfOk result (CanCharge (state_of self.now)) }
-    {
-        match variable_type(&self.bindings, alloc, name.as_slice(), exp) {
-            Ok(ty) => self.find_value(alloc, name, ty, exp, by),
-            Err(stopped) => stopped.found(),
-        }
-    }
-
-    // What an expression of this type comes to.
-    fn find_value<A: Allocator, E: Evaluator<A>>(
-        &self,
-        alloc: Global,
-        name: Vec<u8>,
-        ty: Ty,
-        exp: &Exp,
-        by: &E,
-    ) -> Result<Finding, AllocError>
-        requires sound { E.sound by.now }
-        requires typed { IsTypeBy (known (state_of self.now).bindings) (tree_of exp.now) (typed (term ty)) }
-        requires free { Refuses (state_of self.now).bindings name.items (a_variable (term ty)) None }
-        ensures found { IfOk result (λ f. Comes self.now.limits (state_of self.now) name.items (term ty)
-            (within (budget self.now.limits (state_of self.now)) (out 1000 (environment (state_of self.now).bindings) (outside []) (tree_of exp.now))) (finding_of f)) }
-        ensures charges { IfOk result (CanCharge (state_of self.now)) }
-    {
-        self.bindings.typed_never_stuck();
-        let budget = self.limits.line_work.min(self.work_left);
-        match by.evaluate(alloc, self.bindings.environment(), exp, LEVELS, budget) {
-            Outcome::Done { value, work, depth } => {
-                if !self
-                    .bindings
-                    .fits_variable(name.as_slice(), &value, self.limits.elements)
-                {
-                    let_go_value(value);
-                    let_go_typed(name, ty);
-                    return Ok(Finding::Refused(Fault::Elements(work), work));
-                }
-                let kept = by.keep(alloc, &value);
+// What an expression of this type comes to.
+fn find_value<A: Allocator, E: Evaluator<A>>(
+    standing: &Standing,
+    alloc: Global,
+    name: Vec<u8>,
+    ty: Ty,
+    exp: &Exp,
+    by: &E,
+) -> Result<Finding, AllocError>
+    requires sound { E.sound by.now }
+    requires typed { IsTypeBy (known (state_of standing.now).bindings) (tree_of exp.now) (typed (term ty)) }
+    requires free { Refuses (state_of standing.now).bindings name.items (a_variable (term ty)) None }
+    ensures found { IfOk result (λ f. Comes standing.now.limits (state_of standing.now) name.items (term ty)
+        (within (budget standing.now.limits (state_of standing.now)) (out 1000 (environment (state_of standing.now).bindings) (outside []) (tree_of exp.now))) (finding_of f)) }
+    ensures charges { IfOk result (CanCharge (state_of standing.now)) }
+{
+    standing.bindings.typed_never_stuck();
+    let budget = standing.limits.line_work.min(standing.work_left);
+    match by.evaluate(alloc, standing.bindings.environment(), exp, LEVELS, budget) {
+        Outcome::Done { value, work, depth } => {
+            if !standing
+                .bindings
+                .fits_variable(name.as_slice(), &value, standing.limits.elements)
+            {
                 let_go_value(value);
-                match kept {
-                    Ok(kept) => {
-                        let meaning = Meaning::Variable(ty, kept, Cost { work, depth });
-                        Ok(Finding::Defined(Definition { name, meaning }))
-                    }
-                    Err(error) => {
-                        let_go_typed(name, ty);
-                        Err(error)
-                    }
+                let_go_typed(name, ty);
+                return Ok(Finding::Refused(Fault::Elements(work), work));
+            }
+            let kept = by.keep(alloc, &value);
+            let_go_value(value);
+            match kept {
+                Ok(kept) => {
+                    let meaning = Meaning::Variable(ty, kept, Cost { work, depth });
+                    Ok(Finding::Defined(Definition { name, meaning }))
+                }
+                Err(error) => {
+                    let_go_typed(name, ty);
+                    Err(error)
                 }
             }
-            Outcome::Fault { trap, span, work } => {
-                let_go_typed(name, ty);
-                let fault = Fault::of_trap(trap, Stop { span, work });
-                Ok(Finding::Refused(fault, work))
-            }
-            Outcome::Over => {
-                let_go_typed(name, ty);
-                Ok(Finding::Refused(Fault::Work(budget), budget))
-            }
-            Outcome::Memory => {
-                let_go_typed(name, ty);
-                Err(AllocError)
-            }
+        }
+        Outcome::Fault { trap, span, work } => {
+            let_go_typed(name, ty);
+            let fault = Fault::of_trap(trap, Stop { span, work });
+            Ok(Finding::Refused(fault, work))
+        }
+        Outcome::Over => {
+            let_go_typed(name, ty);
+            Ok(Finding::Refused(Fault::Work(budget), budget))
+        }
+        Outcome::Memory => {
+            let_go_typed(name, ty);
+            Err(AllocError)
         }
     }
 }

@@ -6,7 +6,6 @@ mod evaluator;
 mod form;
 mod line;
 pub mod session;
-mod standing;
 
 pub use line::LONGEST;
 pub use nesl_reply::{Fault, Stop};

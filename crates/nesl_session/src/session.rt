@@ -12,12 +12,13 @@ ghost use Rattle.std.specs.Iterator.{item_count, YieldsFirstRef};
 
 use crate::answer::Answer;
 use crate::evaluator::{ByCall, Evaluator, InHeap, InPlace};
-use crate::standing::Standing;
+use crate::line::step;
 use nesl_bindings::Bindings;
 use nesl_code::Env;
 use nesl_eval::Outcome;
 use nesl_helpers::{Gate, Helpers};
 use nesl_split::eval_split;
+use nesl_standing::Standing;
 use nesl_step::limits::{Limits, Remaining};
 use nesl_tree::tree::Exp;
 use std::alloc::{AllocError, Allocator, Global};
@@ -36,7 +37,7 @@ impl Model for Session {
 
     ghost Value = { Log };
 
-    ghost use Rattle.nesl_session.specs.Inside.{log_of, Keeps};
+    ghost use Rattle.nesl_standing.specs.Inside.{log_of, Keeps};
 
     ghost view = { λ s. log_of s.standing };
 
@@ -71,7 +72,7 @@ impl<'a> Iterator for Names<'a> {
 }
 
 impl Session {
-    ghost use Rattle.nesl_session.specs.Inside.{state_of, log_of, Keeps};
+    ghost use Rattle.nesl_standing.specs.Inside.{state_of, log_of, Keeps};
     ghost use Rattle.nesl_session.specs.Names.{names_left};
 
     /// The empty session: nothing bound, nothing recorded, all of its work left.
@@ -211,7 +212,7 @@ impl Session {
         ensures told { IfOk result (λ a. Responds self.old text.now a self.new) }
         ensures err { OnErr result (self.new ≡ self.old) }
     {
-        let answer = self.standing.line(alloc, text, by)?;
+        let answer = step(&mut self.standing, alloc, text, by)?;
         Ok(answer)
     }
 }

@@ -1,17 +1,10 @@
 -- What a line has to be for what was found of it to change the state.
-use Rattle.std.specs.Prelude.{◌≡◌, ◌≤◌, ◌<◌, ◌+◌, ◌^◌, ◌++◌, ℕ, true, List, length, sum_by}
-use Rattle.nesl_step.specs.declared.limits.Limits.{Limits}
-use Rattle.nesl_step.specs.Sense.{Sense, HasSense}
+use Rattle.std.specs.Prelude.{◌≡◌, ◌≤◌, ◌<◌, ◌+◌, ◌^◌, ℕ, true, List, length, sum_by}
 use Rattle.nesl_step.specs.State.{State}
-use Rattle.nesl_step.specs.Finding.{Finding, FindsSense}
 use Rattle.nesl_step.specs.Step.{told_by_reset, most_told, is_part}
 use Rattle.nesl_forms.specs.declared.finding.Finding.{Finding as Found}
 use Rattle.nesl_forms.specs.declared.finding.Finding.TheVariants as found
 use Rattle.nesl_forms.specs.Found.{work_of, CanBe}
-
--- what is found of a line that is read
-abbrev pub FindsRead : Limits → State → List ℕ → Finding → Type 0
-FindsRead limits s line f = (sense : Sense) × HasSense (s.pending ++ line) sense × FindsSense limits s sense f
 
 -- the line fits the transcript
 abbrev pub Fits : State → List ℕ → Type 0

@@ -5,7 +5,7 @@ ghost use Rattle.nesl_bindings.specs.Stored.{bindings_of};
 ghost use Rattle.nesl_step.specs.State.{opening};
 ghost use Rattle.nesl_step.specs.Step.{after, stored, read, is_part, told_by_reset, most_told};
 ghost use Rattle.nesl_forms.specs.Found.{finding_of, meaning_of, work_of, binding_of, CanBe};
-ghost use Rattle.nesl_session.specs.Settling.{CanSettle, Fits};
+ghost use Rattle.nesl_standing.specs.Settling.{CanSettle, Fits};
 
 use nesl_bindings::Bindings;
 use nesl_forms::drops::forget;
@@ -32,7 +32,7 @@ pub struct Standing {
 }
 
 impl Standing {
-    ghost use Rattle.nesl_session.specs.Inside.{state_of, Counts};
+    ghost use Rattle.nesl_standing.specs.Inside.{state_of, Counts};
 
     /// As a reset leaves it: so much work left, so many lines told.
     pub fn opened(alloc: Global, limits: Limits, base: u64, cleared: u64) -> Standing

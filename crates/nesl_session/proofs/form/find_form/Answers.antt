@@ -9,13 +9,13 @@ use Rattle.nesl_step.specs.Finding.{FindsLine}
 use Rattle.nesl_forms.specs.Found.{finding_of, CanCharge}
 use Rattle.nesl_forms.specs.Forms.{with_names}
 use Rattle.nesl_forms.proofs.Verdicts.{found_answers}
-use Rattle.nesl_session.specs.Inside.{state_of}
-use Rattle.nesl_session.proofs.standing.Standing.find_form.Goals as goal
+use Rattle.nesl_standing.specs.Inside.{state_of}
+use Rattle.nesl_session.proofs.form.find_form.Goals as goal
 
 pub returns-in-Fun-clause-found : goal.returns-in-Fun-clause-found
 returns-in-Fun-clause-found g c =
-    let s = state_of c.args.self.now in
-    let l = c.args.self.now.limits in
+    let s = state_of c.args.standing.now in
+    let l = c.args.standing.now.limits in
     let form = forms.Fun c.in-Fun.name c.in-Fun.parameter c.in-Fun.signature c.in-Fun.body in
     let P : Form → Type 0 = λ y. IfOk c.find_function.result (λ f. FindsLine l s (line_of y) (finding_of f)) in
     subst P (sym c.in-Fun.is)
@@ -23,13 +23,13 @@ returns-in-Fun-clause-found g c =
 
 pub returns-in-Fun-clause-charges : goal.returns-in-Fun-clause-charges
 returns-in-Fun-clause-charges g c =
-    let s = state_of c.args.self.now in
+    let s = state_of c.args.standing.now in
     found_answers (λ f. (t : State) → CanCharge (with_names s.bindings t) f) (CanCharge s) c.find_function.result (λ f h. h s) c.find_function.ensures.charges
 
 pub returns-in-Datatype-clause-found : goal.returns-in-Datatype-clause-found
 returns-in-Datatype-clause-found g c =
-    let s = state_of c.args.self.now in
-    let l = c.args.self.now.limits in
+    let s = state_of c.args.standing.now in
+    let l = c.args.standing.now.limits in
     let form = forms.Datatype c.in-Datatype.name c.in-Datatype.content in
     let P : Form → Type 0 = λ y. IfOk c.find_datatype.result (λ f. FindsLine l s (line_of y) (finding_of f)) in
     subst P (sym c.in-Datatype.is)
@@ -37,13 +37,13 @@ returns-in-Datatype-clause-found g c =
 
 pub returns-in-Datatype-clause-charges : goal.returns-in-Datatype-clause-charges
 returns-in-Datatype-clause-charges g c =
-    let s = state_of c.args.self.now in
+    let s = state_of c.args.standing.now in
     found_answers (λ f. (t : State) → CanCharge (with_names s.bindings t) f) (CanCharge s) c.find_datatype.result (λ f h. h s) c.find_datatype.ensures.charges
 
 pub returns-in-ShowType-clause-found : goal.returns-in-ShowType-clause-found
 returns-in-ShowType-clause-found g c =
-    let s = state_of c.args.self.now in
-    let l = c.args.self.now.limits in
+    let s = state_of c.args.standing.now in
+    let l = c.args.standing.now.limits in
     let form = forms.ShowType c.in-ShowType.exp in
     let P : Form → Type 0 = λ y. IfOk c.find_type.result (λ f. FindsLine l s (line_of y) (finding_of f)) in
     subst P (sym c.in-ShowType.is)
@@ -51,5 +51,5 @@ returns-in-ShowType-clause-found g c =
 
 pub returns-in-ShowType-clause-charges : goal.returns-in-ShowType-clause-charges
 returns-in-ShowType-clause-charges g c =
-    let s = state_of c.args.self.now in
+    let s = state_of c.args.standing.now in
     found_answers (λ f. (t : State) → CanCharge (with_names s.bindings t) f) (CanCharge s) c.find_type.result (λ f h. h s) c.find_type.ensures.charges

@@ -2,7 +2,7 @@
 use Rattle.std.specs.Prelude.{◌≡◌, ◌≤◌, map, sum_by, length}
 use Rattle.nesl_bindings.specs.Stored.{bindings_of}
 use Rattle.nesl_step.specs.declared.limits.Limits.{Limits}
-use Rattle.nesl_session.specs.declared.standing.Standing.{Standing}
+use Rattle.nesl_standing.specs.declared.standing.Standing.{Standing}
 use Rattle.nesl_step.specs.State.{State, Log}
 use Rattle.nesl_step.specs.Step.{most_told}
 use Rattle.nesl_step.specs.Solo.{Replays}

@@ -10,13 +10,13 @@ use Rattle.nesl_step.specs.Finding.{Finding, budget, Comes, FindsVariable}
 use Rattle.nesl_forms.specs.Found.{finding_of}
 use Rattle.nesl_forms.specs.Forms.{IsVariable}
 use Rattle.nesl_forms.proofs.Verdicts.{stopped_finds, stopped_charges, found_answers}
-use Rattle.nesl_session.specs.Inside.{state_of}
-use Rattle.nesl_session.proofs.standing.Standing.find_bound.Goals as goal
+use Rattle.nesl_standing.specs.Inside.{state_of}
+use Rattle.nesl_session.proofs.form.find_bound.Goals as goal
 
 pub returns-in-Ok-clause-found : goal.returns-in-Ok-clause-found
 returns-in-Ok-clause-found g c =
-    let s = state_of c.args.self.now in
-    let l = c.args.self.now.limits in
+    let s = state_of c.args.standing.now in
+    let l = c.args.standing.now.limits in
     let x = c.args.name.items in
     let t = term c.in-Ok.ty in
     let e = tree_of c.args.exp.now in
@@ -28,8 +28,8 @@ returns-in-Ok-clause-found g c =
 
 pub returns-in-Err-clause-found : goal.returns-in-Err-clause-found
 returns-in-Err-clause-found g c =
-    let s = state_of c.args.self.now in
-    let l = c.args.self.now.limits in
+    let s = state_of c.args.standing.now in
+    let l = c.args.standing.now.limits in
     let x = c.args.name.items in
     let e = tree_of c.args.exp.now in
     let P : Name → Type 0 = λ y. IsVariable s.bindings y e (Err c.in-Err.stopped) in
@@ -38,5 +38,5 @@ returns-in-Err-clause-found g c =
 
 pub returns-in-Err-clause-charges : goal.returns-in-Err-clause-charges
 returns-in-Err-clause-charges g c =
-    let s = state_of c.args.self.now in
+    let s = state_of c.args.standing.now in
     found_answers _ _ c.found.result (λ f h. h s) (stopped_charges s.bindings c.in-Err.stopped c.found.result c.found.ensures)
