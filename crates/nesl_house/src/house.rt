@@ -18,9 +18,16 @@ use std::marker::Model;
 use std::thread::Threads;
 
 /// The users of a house, in the order of its roster. Contracts see the list of their seats.
-#[derive(Drop)]
 pub struct House {
     users: Vec<User>,
+}
+
+// By hand, so that no crate above has to prove how the parts are dropped.
+impl Drop for House {
+    fn drop(self) {
+        let House { users } = self;
+        drop(users);
+    }
 }
 
 impl Model for House {
