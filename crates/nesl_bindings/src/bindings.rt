@@ -33,10 +33,17 @@ use std::alloc::{AllocError, Allocator, Global};
 use std::marker::Model;
 
 /// The top-level names of a session in order of first definition: what each stands for, well typed.
-#[derive(Drop)]
 pub struct Bindings {
     env: Env,
     elements: u64,
+}
+
+// By hand, so that no crate above has to prove how the parts are dropped.
+impl Drop for Bindings {
+    fn drop(self) {
+        let Bindings { env, elements: _ } = self;
+        drop(env);
+    }
 }
 
 impl Model for Bindings {

@@ -33,11 +33,18 @@ pub enum Payload {
 }
 
 /// What each top-level name is, in order of first definition.
-#[derive(Drop)]
 pub struct Env {
     context: Context<Payload>,
     /// The same names in the same order, each with the code of its body, if it is a function.
     bodies: IndexMap<Vec<u8>, Option<Code>>,
+}
+
+// By hand, so that no crate above has to prove how the parts are dropped.
+impl Drop for Env {
+    fn drop(self) {
+        let Env { context, bodies } = self;
+        drop((context, bodies));
+    }
 }
 
 impl Model for Env {

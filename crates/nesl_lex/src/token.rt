@@ -101,8 +101,16 @@ pub enum Kind {
 }
 
 /// A token, and where it stands in its line.
-#[derive(PartialEq, Eq, Debug, Drop)]
+#[derive(PartialEq, Eq, Debug)]
 pub struct Token {
     pub kind: Kind,
     pub span: Span,
+}
+
+// By hand, so that no crate above has to prove how the parts are dropped.
+impl Drop for Token {
+    fn drop(self) {
+        let Token { kind, span: _ } = self;
+        drop(kind);
+    }
 }

@@ -128,17 +128,17 @@ pub fn widen(part: Part, span: Span) -> Part
 {
     match part {
         Part::Built {
-            exp,
+            mut exp,
             height,
             pattern,
-        } => Part::Built {
-            exp: Exp {
-                span,
-                node: exp.node,
-            },
-            height,
-            pattern,
-        },
+        } => {
+            exp.span = span;
+            Part::Built {
+                exp,
+                height,
+                pattern,
+            }
+        }
         Part::High(pattern) => Part::High(pattern),
     }
 }

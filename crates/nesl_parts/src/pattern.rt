@@ -29,7 +29,7 @@ fn run_out<T: Drop, U>(error: AllocError, value: T) -> Result<U, AllocError>
 fn pattern_from(alloc: Global, exp: Exp) -> Result<Option<Pattern>, AllocError>
     ensures { IfOk result (λ r. option_map pattern_tree r ≡ pattern_in (tree_of exp)) }
 {
-    let Exp { span, node } = exp;
+    let (span, node) = exp.into_parts();
     match node {
         Node::Variable(name) => {
             let node = PatternNode::Name(name);

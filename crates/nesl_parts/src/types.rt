@@ -51,13 +51,11 @@ pub fn widen(part: TypePart, span: Span) -> TypePart
 {
     match part {
         TypePart::Built {
-            written: TypeExp { node, .. },
+            mut written,
             height,
         } => {
-            TypePart::Built {
-                written: TypeExp { span, node },
-                height,
-            }
+            written.span = span;
+            TypePart::Built { written, height }
         }
         TypePart::High => TypePart::High,
     }

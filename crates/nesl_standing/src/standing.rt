@@ -14,7 +14,6 @@ use nesl_step::limits::Limits;
 use std::alloc::{AllocError, Global};
 
 /// How a session stands.
-#[derive(Drop)]
 pub struct Standing {
     pub limits: Limits,
     pub bindings: Bindings,
@@ -29,6 +28,23 @@ pub struct Standing {
     pub base: u64,
     /// The lines that were told until the last reset, itself included.
     pub cleared: u64,
+}
+
+// By hand, so that no crate above has to prove how the parts are dropped.
+impl Drop for Standing {
+    fn drop(self) {
+        let Standing {
+            limits: _,
+            bindings,
+            work_left: _,
+            transcript,
+            bytes: _,
+            pending,
+            base: _,
+            cleared: _,
+        } = self;
+        drop((bindings, transcript, pending));
+    }
 }
 
 impl Standing {

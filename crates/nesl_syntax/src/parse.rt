@@ -136,7 +136,7 @@ fn call(stack: &mut Vec<Pending>, fresh: bool, part: Part) -> Result<Mode, Parse
     }
     match part {
         Part::Built { exp, .. } => {
-            let Exp { span, node } = exp;
+            let (span, node) = exp.into_parts();
             match node {
                 Node::Variable(name) => open(
                     stack,

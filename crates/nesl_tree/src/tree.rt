@@ -43,10 +43,19 @@ pub enum Class {
 
 /// A type as it is written, with the bytes that it stands in.
 #[cycle(written)]
-#[derive(Debug, Drop)]
+#[derive(Debug)]
 pub struct TypeExp {
     pub span: Span,
     pub node: TypeNode,
+}
+
+// By hand, so that no crate above has to prove how the parts are dropped.
+impl Drop for TypeExp {
+    #[cycle(written)]
+    fn drop(self) {
+        let TypeExp { span: _, node } = self;
+        drop(node);
+    }
 }
 
 /// What a type is.
@@ -70,10 +79,19 @@ pub enum TypeNode {
 
 /// A pattern, with the bytes that it stands in.
 #[cycle(pattern)]
-#[derive(Debug, Drop)]
+#[derive(Debug)]
 pub struct Pattern {
     pub span: Span,
     pub node: PatternNode,
+}
+
+// By hand, so that no crate above has to prove how the parts are dropped.
+impl Drop for Pattern {
+    #[cycle(pattern)]
+    fn drop(self) {
+        let Pattern { span: _, node } = self;
+        drop(node);
+    }
 }
 
 /// What a pattern is.
@@ -94,10 +112,30 @@ pub enum PatternNode {
 
 /// An expression, with the bytes that it stands in.
 #[cycle(tree)]
-#[derive(Debug, Drop)]
+#[derive(Debug)]
 pub struct Exp {
     pub span: Span,
     pub node: Node,
+}
+
+// By hand, so that no crate above has to prove how the parts are dropped.
+impl Drop for Exp {
+    #[cycle(tree)]
+    fn drop(self) {
+        let Exp { span: _, node } = self;
+        drop(node);
+    }
+}
+
+impl Exp {
+    /// The bytes that it stands in, and what it is.
+    pub fn into_parts(self) -> (Span, Node)
+        ensures span { result.0 ≡ self.span }
+        ensures node { result.1 ≡ self.node }
+    {
+        let Exp { span, node } = self;
+        (span, node)
+    }
 }
 
 /// A pattern and the expression that it is bound to.

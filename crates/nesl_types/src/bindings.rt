@@ -24,11 +24,18 @@ struct Entry<P> {
 }
 
 /// What each top-level name is, each with a payload, in order of first definition.
-#[derive(Drop)]
 pub struct Context<P> {
     bindings: IndexMap<Vec<u8>, Entry<P>>,
     /// The place of each datatype, by its tag. After a name was made something else, a place may be too small.
     places: Vec<usize>,
+}
+
+// By hand, so that no crate above has to prove how the parts are dropped.
+impl<P: Drop> Drop for Context<P> {
+    fn drop(self) {
+        let Context { bindings, places } = self;
+        drop((bindings, places));
+    }
 }
 
 impl<P> Model for Context<P> {

@@ -13,12 +13,23 @@ use std::alloc::{AllocError, Global};
 
 /// The type of a function: what it takes, what it gives, and the class of each variable of these types.
 /// The variables are numbered from 0 in the order in which they first occur, so that a principal type makes one scheme.
-#[derive(Drop)]
 pub struct Scheme {
     pub argument: Ty,
     pub result: Ty,
     pub classes: Vec<Class>,
     pub ghost numbered: { first_occurrences (variables (term argument) ++ variables (term result)) ≡ numbers_below (length classes.items) },
+}
+
+// By hand, so that no crate above has to prove how the parts are dropped.
+impl Drop for Scheme {
+    fn drop(self) {
+        let Scheme {
+            argument,
+            result,
+            classes,
+        } = self;
+        drop((argument, result, classes));
+    }
 }
 
 /// Notes the variables of a type that aren't noted yet.

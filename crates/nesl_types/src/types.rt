@@ -6,7 +6,6 @@ ghost use Rattle.nesl_types.specs.Term.{term, nodes};
 use std::alloc::{AllocError, Global};
 
 /// A type.
-#[derive(Drop)]
 pub enum Ty {
     Int,
     Bool,
@@ -19,6 +18,17 @@ pub enum Ty {
     Both(Box<Ty>, Box<Ty>),
     /// A datatype, by its tag: its number in order of definition from 0.
     Named(u64),
+}
+
+// By hand, so that no crate above has to prove how the parts are dropped.
+impl Drop for Ty {
+    fn drop(self) {
+        match self {
+            Ty::Int | Ty::Bool | Ty::Char | Ty::Var(_) | Ty::Named(_) => {}
+            Ty::SeqOf(item) => drop(item),
+            Ty::Both(first, second) => drop((first, second)),
+        }
+    }
 }
 
 impl Ty {

@@ -15,11 +15,22 @@ use std::mem;
 ///
 /// As long as all of them are numbers, all truth values or all characters, they lie packed. The
 /// first element of another kind turns them into values of their own.
-#[derive(Drop)]
 pub struct SequenceBuilder<A: Allocator = Global> {
     run: Run<A>,
     room: usize,
     alloc: A,
+}
+
+// By hand, so that no crate above has to prove how the parts are dropped.
+impl<A: Allocator> Drop for SequenceBuilder<A> {
+    fn drop(self) {
+        let SequenceBuilder {
+            run,
+            room: _,
+            alloc,
+        } = self;
+        drop((run, alloc));
+    }
 }
 
 impl<A: Allocator + Copy> SequenceBuilder<A> {
