@@ -4,6 +4,7 @@ pub mod StepLemmas
 pub mod Cuts
 pub mod Texts
 pub mod Members
+pub mod Listings
 pub mod Signatures
 pub mod Targets
 pub mod Lines

@@ -1,7 +1,9 @@
 -- What a step of the code stands for.
-use Rattle.std.specs.Prelude.{◌≡◌, List, [], ◌∷◌, Option, Some, None, Result, Ok, Err}
+use Rattle.std.specs.Prelude.{◌≡◌, List, ◌∷◌, Option, Some, None, Result, Ok, Err}
 use Rattle.nesl_parts.specs.declared.part.Part.{Part}
+use Rattle.nesl_parts.specs.declared.pending.Opening.{Opening}
 use Rattle.nesl_parts.specs.declared.pending.Pending.{Pending}
+use Rattle.nesl_parts.specs.declared.pending.TypeOpening.{TypeOpening}
 use Rattle.nesl_parts.specs.declared.types.TypePart.{TypePart}
 use Rattle.nesl_syntax.specs.declared.parse.Mode.{Mode}
 use Rattle.nesl_syntax.specs.declared.parse.Mode.TheVariants.{Before, Behind, Typing, Typed}
@@ -10,11 +12,11 @@ use Rattle.nesl_parts.specs.declared.fault.ParseFault.TheVariants.{Syntax, Neste
 use Rattle.nesl_tree.specs.Trees.{Tree, TypeTree}
 use Rattle.nesl_lex.specs.Tokens.{Placed}
 use Rattle.nesl_lex.specs.declared.token.Span.{Span}
-use Rattle.nesl_parts.specs.Machine.{Waiting, State, before, behind, typing, typed, run, with_newest, open_at, listed}
+use Rattle.nesl_parts.specs.Machine.{Waiting, State, before, behind, typing, typed, run, with_newest, open_at, type_at, listed}
 use Rattle.nesl_parts.specs.Machine.{type_closed}
 use Rattle.nesl_parts.specs.Machine as machine
 use Rattle.nesl_parts.specs.Parts.{Sees, SeesType}
-use Rattle.nesl_parts.specs.Stack.{SeesPending, SeesStack}
+use Rattle.nesl_parts.specs.Stack.{SeesOpening, SeesTypeOpening, SeesPending, SeesStack}
 
 abbrev pub SeesMode : Mode → machine.Mode → Type 0
 SeesMode Before m = m ≡ before
@@ -29,6 +31,27 @@ Follows (Ok m) ps None = ⊥
 Follows (Err Syntax) ps q = q ≡ None
 Follows (Err Nested) ps q = ⊥
 Follows (Err Memory) ps q = Unit {0}
+
+-- the newest, where it is an opening, and those that wait under it
+abbrev pub newest_opening : List Waiting → Option (machine.Opening × List Waiting)
+newest_opening (open_at o ∷ ws) = Some (o, ws)
+newest_opening _ = None
+
+-- what a call popped and left is this, or there is none and nothing was given
+abbrev pub OpeningPopped : Option Opening → List Pending → Option (machine.Opening × List Waiting) → Type 0
+OpeningPopped (Some p) ps (Some q) = SeesOpening p q.0 × SeesStack ps q.1
+OpeningPopped (Some p) ps None = ⊥
+OpeningPopped None ps q = q ≡ None
+
+-- the same of a type's
+abbrev pub newest_type : List Waiting → Option (machine.TypeOpening × List Waiting)
+newest_type (type_at o ∷ ws) = Some (o, ws)
+newest_type _ = None
+
+abbrev pub TypePopped : Option TypeOpening → List Pending → Option (machine.TypeOpening × List Waiting) → Type 0
+TypePopped (Some p) ps (Some q) = SeesTypeOpening p q.0 × SeesStack ps q.1
+TypePopped (Some p) ps None = ⊥
+TypePopped None ps q = q ≡ None
 
 -- what a call answered is this, or there is none and the answer says so, or memory ran out
 abbrev pub PendingGiven : Result Pending ParseFault → Option Waiting → Type 0
@@ -57,13 +80,13 @@ Gives (Err Syntax) x = x ≡ None
 Gives (Err Nested) x = ⊥
 Gives (Err Memory) x = Unit {0}
 
--- with these tokens to come, the code is where all the tokens lead from this mode
-pub record Runs (ps : List Pending) (mode : Mode) (rest all : List Placed) (start : machine.Mode) : Type 0 where
+-- with these tokens to come, the code is where all the tokens lead from this state
+pub record Runs (ps : List Pending) (mode : Mode) (rest all : List Placed) (start : State) : Type 0 where
   pub waiting : List Waiting
   pub now : machine.Mode
   pub stack : SeesStack ps waiting
   pub sees : SeesMode mode now
-  pub same : run (waiting, now) rest ≡ run ([], start) all
+  pub same : run (waiting, now) rest ≡ run start all
 
 -- a list and a type that close as these do
 pub record Closes (t : Span) (ws : List Waiting) (a : TypeTree) (ps : List Pending) (part : TypePart) : Type 0 where

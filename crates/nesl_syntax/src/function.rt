@@ -118,9 +118,10 @@ fn function_named(alloc: Global, name: &Vec<u8>, tokens: &[Token]) -> Result<For
     let Some((front, behind)) = cut(Divider::Equal, tokens) else {
         return Err(ParseFault::Syntax);
     };
+    let name = name.clone()?;
     let head = read_head(alloc, front)?;
     let body = expression(alloc, behind)?;
-    function_of(name.clone()?, head, body)
+    function_of(name, head, body)
 }
 
 /// A function's line behind its first word.

@@ -1,13 +1,13 @@
 // Reading tokens with a list of what is open.
 
-ghost use Rattle.std.specs.Prelude.{◌≡◌, ◌≤◌, ◌<◌, Err, IfOk, if◌then◌else◌, None, Some, List};
+ghost use Rattle.std.specs.Prelude.{◌≡◌, ◌≤◌, ◌<◌, ◌∷◌, [], ◌++◌, Err, IfOk, IfErr, IfSome, if◌then◌else◌, None, Some, List, vec_len};
 ghost use Rattle.nesl_tree.specs.Trees.{Tree, TypeTree};
-ghost use Rattle.nesl_parts.specs.Machine.{Waiting, opened, called, taken_up, before, with_newest, marked, separated, listed, mark_level, followed, let_closed, let_body, emptied, empty_opening, type_done, type_separated, type_bracketed, bracket_type, type_closed, begun_with, typed_with, typed_on};
+ghost use Rattle.nesl_parts.specs.Machine.{Waiting, type_at, typing, opened, called, taken_up, before, with_newest, marked, separated, listed, mark_level, followed, let_closed, let_body, emptied, empty_opening, type_done, type_separated, type_bracketed, bracket_type, type_closed, begun_with, typed_with, typed_on};
 ghost use Rattle.nesl_parts.specs.Machine as machine;
 ghost use Rattle.nesl_parts.specs.Parts.{Sees, SeesType};
 ghost use Rattle.nesl_parts.specs.Stack.{SeesOpening, SeesTypeOpening, SeesPending, SeesStack};
 ghost use Rattle.nesl_parts.specs.Turns.{SeesTurn};
-ghost use Rattle.nesl_syntax.specs.Steps.{SeesMode, Follows, Gives, PendingGiven, TypeGiven};
+ghost use Rattle.nesl_syntax.specs.Steps.{SeesMode, Follows, Gives, PendingGiven, TypeGiven, OpeningPopped, newest_opening, TypePopped, newest_type};
 ghost use Rattle.nesl_syntax.specs.declared.parse.Mode.TheVariants as mode;
 ghost use Rattle.nesl_parts.specs.declared.part.Part.TheVariants as part;
 ghost use Rattle.nesl_lex.specs.Tokens.{lexeme_of, placed_of, placed, symbol, reserved};
@@ -46,6 +46,60 @@ fn refuse<T: Drop>(value: T) -> Result<Mode, ParseFault>
     Err(ParseFault::Syntax)
 }
 
+// One more that waits.
+fn push(stack: &mut Vec<Pending>, pending: Pending) -> Result<(), ParseFault>
+    ensures pushed { IfOk result (λ u. stack.new.items ≡ stack.old.items ++ pending ∷ []) }
+    ensures fails { IfErr result (λ e. e ≡ ParseFault.Memory) }
+{
+    stack.push(pending)?;
+    Ok(())
+}
+
+// One more that waits for an expression.
+fn wait(stack: &mut Vec<Pending>, pending: Pending) -> Result<Mode, ParseFault>
+    ensures { (ws : List Waiting) (w : Waiting) → SeesStack stack.old.items ws → SeesPending pending w →
+        Follows result stack.new.items (Some (w ∷ ws, before)) }
+{
+    push(stack, pending)?;
+    Ok(Mode::Before)
+}
+
+// One more that waits for a type.
+fn wait_for_type(stack: &mut Vec<Pending>, opening: TypeOpening) -> Result<Mode, ParseFault>
+    ensures { (ws : List Waiting) (o : machine.TypeOpening) → SeesStack stack.old.items ws → SeesTypeOpening opening o →
+        Follows result stack.new.items (Some (type_at o ∷ ws, typing)) }
+{
+    push(stack, Pending::Type(opening))?;
+    Ok(Mode::Typing)
+}
+
+// The newest, where it is an opening.
+fn pop_opening(stack: &mut Vec<Pending>) -> Option<Opening>
+    ensures { (ws : List Waiting) → SeesStack stack.old.items ws → OpeningPopped result stack.new.items (newest_opening ws) }
+{
+    match stack.pop() {
+        Some(Pending::Open(opening)) => Some(opening),
+        other => {
+            drop(other);
+            None
+        }
+    }
+}
+
+// The newest, where it is a type's.
+fn pop_type(stack: &mut Vec<Pending>) -> Option<TypeOpening>
+    ensures popped { (ws : List Waiting) → SeesStack stack.old.items ws → TypePopped result stack.new.items (newest_type ws) }
+    ensures shorter { IfSome result (λ o. vec_len stack.new < vec_len stack.old) }
+{
+    match stack.pop() {
+        Some(Pending::Type(opening)) => Some(opening),
+        other => {
+            drop(other);
+            None
+        }
+    }
+}
+
 // One more that is open, where it may stand.
 fn open(stack: &mut Vec<Pending>, pending: Pending) -> Result<Mode, ParseFault>
     ensures { (ws : List Waiting) (w : Waiting) → SeesStack stack.old.items ws → SeesPending pending w →
@@ -54,8 +108,7 @@ fn open(stack: &mut Vec<Pending>, pending: Pending) -> Result<Mode, ParseFault>
     if wanted(stack) > level_begun(&pending) {
         return refuse(pending);
     }
-    stack.push(pending)?;
-    Ok(Mode::Before)
+    wait(stack, pending)
 }
 
 // What comes of the newest opening.
@@ -64,10 +117,7 @@ fn take(stack: &mut Vec<Pending>, turn: Turn) -> Result<Mode, ParseFault>
         Follows result stack.new.items (taken_up ws (Some t)) }
 {
     match turn {
-        Turn::Becomes(pending) => {
-            stack.push(pending)?;
-            Ok(Mode::Before)
-        }
+        Turn::Becomes(pending) => wait(stack, pending),
         Turn::Ends(part) => Ok(Mode::Behind { fresh: false, part }),
     }
 }
@@ -83,13 +133,11 @@ fn end_part(
     ensures { (ws : List Waiting) (x : Tree) → SeesStack stack.old.items ws → Sees part x →
         Follows result stack.new.items (marked mark at ws x) }
 {
-    match stack.pop() {
-        Some(Pending::Open(opening)) => {
-            let turn = turn_of(alloc, opening, part, mark, at)?;
-            take(stack, turn)
-        }
-        other => refuse((other, part)),
-    }
+    let Some(opening) = pop_opening(stack) else {
+        return refuse(part);
+    };
+    let turn = turn_of(alloc, opening, part, mark, at)?;
+    take(stack, turn)
 }
 
 // One more element, where a list is open.
@@ -100,12 +148,12 @@ fn list(stack: &mut Vec<Pending>, opening: Opening, part: Part) -> Result<Mode, 
     match opening {
         Opening::List { from, elements, .. } => {
             let elements = push_part(elements, part)?;
-            stack.push(Pending::Open(Opening::List {
+            let opening = Opening::List {
                 from,
                 some: true,
                 elements,
-            }))?;
-            Ok(Mode::Before)
+            };
+            wait(stack, Pending::Open(opening))
         }
         other => refuse((other, part)),
     }
@@ -120,10 +168,10 @@ fn separate(stack: &mut Vec<Pending>, part: Part) -> Result<Mode, ParseFault>
     if wanted(stack) <= 1 {
         return open(stack, Pending::Comma(part));
     }
-    match stack.pop() {
-        Some(Pending::Open(opening)) => list(stack, opening, part),
-        other => refuse((other, part)),
-    }
+    let Some(opening) = pop_opening(stack) else {
+        return refuse(part);
+    };
+    list(stack, opening, part)
 }
 
 // Behind a `(` that follows an expression.
@@ -223,13 +271,10 @@ fn close_let(opening: Opening) -> Result<Pending, ParseFault>
 fn begin_body(stack: &mut Vec<Pending>) -> Result<Mode, ParseFault>
     ensures { (ws : List Waiting) → SeesStack stack.old.items ws → Follows result stack.new.items (let_closed ws) }
 {
-    match stack.pop() {
-        Some(Pending::Open(opening)) => {
-            stack.push(close_let(opening)?)?;
-            Ok(Mode::Before)
-        }
-        other => refuse(other),
-    }
+    let Some(opening) = pop_opening(stack) else {
+        return Err(ParseFault::Syntax);
+    };
+    wait(stack, close_let(opening)?)
 }
 
 // A list with no elements.
@@ -259,13 +304,11 @@ fn empty_list(opening: Opening) -> Result<Pending, ParseFault>
 fn begin_type(stack: &mut Vec<Pending>) -> Result<Mode, ParseFault>
     ensures { (ws : List Waiting) → SeesStack stack.old.items ws → Follows result stack.new.items (emptied ws) }
 {
-    match stack.pop() {
-        Some(Pending::Open(opening)) => {
-            stack.push(empty_list(opening)?)?;
-            Ok(Mode::Typing)
-        }
-        other => refuse(other),
-    }
+    let Some(opening) = pop_opening(stack) else {
+        return Err(ParseFault::Syntax);
+    };
+    push(stack, empty_list(opening)?)?;
+    Ok(Mode::Typing)
 }
 
 // A leaf of a tree.
@@ -432,14 +475,8 @@ fn begin_written(stack: &mut Vec<Pending>, token: &Token) -> Result<Mode, ParseF
             Ok(end_type(stack, types::leaf(span, name)))
         }
         Kind::Symbol(sign) => match sign {
-            Sign::OpenBracket => {
-                stack.push(Pending::Type(TypeOpening::List(span)))?;
-                Ok(Mode::Typing)
-            }
-            Sign::OpenParenthesis => {
-                stack.push(Pending::Type(TypeOpening::Round(span)))?;
-                Ok(Mode::Typing)
-            }
+            Sign::OpenBracket => wait_for_type(stack, TypeOpening::List(span)),
+            Sign::OpenParenthesis => wait_for_type(stack, TypeOpening::Round(span)),
             _ => Err(ParseFault::Syntax),
         },
         _ => Err(ParseFault::Syntax),
@@ -476,8 +513,7 @@ fn separate_types(stack: &mut Vec<Pending>, part: TypePart) -> Result<Mode, Pars
     if !newest_has_commas(stack.as_slice()) {
         return refuse(part);
     }
-    stack.push(Pending::Type(TypeOpening::Comma(part)))?;
-    Ok(Mode::Typing)
+    wait_for_type(stack, TypeOpening::Comma(part))
 }
 
 // A type in brackets.
@@ -508,13 +544,11 @@ fn bracket(
     ensures { (ws : List Waiting) (a : TypeTree) → SeesStack stack.old.items ws → SeesType part a →
         Follows result stack.new.items (type_bracketed ws at a) }
 {
-    match stack.pop() {
-        Some(Pending::Type(opening)) => {
-            let part = bracketed(alloc, opening, part, at)?;
-            Ok(end_type(stack, part))
-        }
-        other => refuse((other, part)),
-    }
+    let Some(opening) = pop_type(stack) else {
+        return refuse(part);
+    };
+    let part = bracketed(alloc, opening, part, at)?;
+    Ok(end_type(stack, part))
 }
 
 // A `)` behind a type.
@@ -529,18 +563,15 @@ fn close_types(
 {
     let mut part = part;
     'types: loop {
-        let Some(pending) = stack.pop() else {
+        let Some(opening) = pop_type(stack) else {
             return refuse(part);
         };
-        match pending {
-            Pending::Type(opening) => match opening {
-                TypeOpening::Comma(left) => part = pair_of(alloc, left, part)?,
-                TypeOpening::Round(from) => {
-                    let part = types::widen(part, over(from, at));
-                    return Ok(end_type(stack, part));
-                }
-                other => return refuse((other, part)),
-            },
+        match opening {
+            TypeOpening::Comma(left) => part = pair_of(alloc, left, part)?,
+            TypeOpening::Round(from) => {
+                let part = types::widen(part, over(from, at));
+                return Ok(end_type(stack, part));
+            }
             other => return refuse((other, part)),
         }
     }
@@ -594,6 +625,23 @@ fn step(
     }
 }
 
+// All the tokens.
+fn run(
+    alloc: Global,
+    stack: &mut Vec<Pending>,
+    mode: Mode,
+    tokens: &[Token],
+) -> Result<Mode, ParseFault>
+    ensures { (ws : List Waiting) (m : machine.Mode) → SeesStack stack.old.items ws → SeesMode mode m →
+        Follows result stack.new.items (machine.run (ws, m) (placed tokens.now)) }
+{
+    let mut mode = mode;
+    for token in tokens {
+        mode = step(alloc, stack, mode, token)?;
+    }
+    Ok(mode)
+}
+
 // The expression that stands behind the last token, where nothing is open any more.
 fn finish(alloc: Global, stack: &mut Vec<Pending>, mode: Mode) -> Result<Part, ParseFault>
     ensures { (ws : List Waiting) (m : machine.Mode) → SeesStack stack.old.items ws → SeesMode mode m →
@@ -620,10 +668,7 @@ pub fn expression(alloc: Global, tokens: &[Token]) -> Result<Part, ParseFault>
     ensures { Gives result (machine.expression (placed tokens.now)) }
 {
     let mut stack = Vec::new(alloc);
-    let mut mode = Mode::Before;
-    for token in tokens {
-        mode = step(alloc, &mut stack, mode, token)?;
-    }
+    let mode = run(alloc, &mut stack, Mode::Before, tokens)?;
     finish(alloc, &mut stack, mode)
 }
 
@@ -652,9 +697,6 @@ pub fn written_type(alloc: Global, tokens: &[Token]) -> Result<TypePart, ParseFa
     ensures { TypeGiven result (machine.written_type (placed tokens.now)) }
 {
     let mut stack = Vec::new(alloc);
-    let mut mode = Mode::Typing;
-    for token in tokens {
-        mode = step(alloc, &mut stack, mode, token)?;
-    }
+    let mode = run(alloc, &mut stack, Mode::Typing, tokens)?;
     finish_type(stack.as_slice(), mode)
 }

@@ -1,5 +1,5 @@
 use Rattle.nesl_syntax.proofs.StepLemmas.{part_ends}
 use Rattle.nesl_syntax.proofs.parse.end_part.Goals as goal
 
-pub returns-in_ok-turn-in-Some-Open : goal.returns-in_ok-turn-in-Some-Open
-returns-in_ok-turn-in-Some-Open c = part_ends _ _ _ _ _ _ _ _ _ (rw c.in-Some-Open.field-0-is at c.in-Some-Open.ensures.items) c.in_ok-turn-in-Some-Open.ensures c.take.ensures
+pub returns : goal.returns
+returns c = λ ws x s p. part_ends _ _ _ _ _ _ _ _ ws x (c.in-Some.ensures ws s) c.in_ok-turn.ensures c.take.ensures p

@@ -3,8 +3,8 @@ use Rattle.nesl_parts.specs.Machine.{wanted}
 use Rattle.nesl_syntax.proofs.StepLemmas.{list_follows}
 use Rattle.nesl_syntax.proofs.parse.separate.Goals as goal
 
-pub returns-in-Some-Open : goal.returns-in-Some-Open
-returns-in-Some-Open c = λ ws x s p.
+pub returns : goal.returns
+returns c = λ ws x s p.
     let wants = rw c.deref.ensures.value at c.wanted.ensures in
     let far : 1 < wanted ws = omega (arith, wants ws s) in
-    list_follows _ _ _ _ _ _ (rw c.in-Some-Open.field-0-is at c.in-Some-Open.ensures.items) c.list.ensures ws x s p far
+    list_follows _ _ _ _ _ ws x (c.in-Some.ensures ws s) c.list.ensures p far
