@@ -1,5 +1,7 @@
 // The trees of expressions, patterns, types and forms.
 
+ghost use Rattle.std.specs.Prelude.{◌≡◌};
+
 use nesl_lex::token::Span;
 
 /// An operator between two expressions.
