@@ -112,6 +112,10 @@ pub data Means : List Waiting → Mode → List Placed → Type 0 where
   means_typing : {ws : List Waiting} {ts : List Placed} → Line_so_far ws ts → Means ws typing ts
   means_typed : {ws : List Waiting} {us vs : List Placed} {a : TypeTree} → Line_so_far ws us → IsType vs a → Means ws (typed a) (us ++ vs)
 
+-- what is nothing is not a value
+none_is : {A B : Type 0} (x : A) → None ≡ Some x → B
+none_is x h = cc
+
 -- a phrase is one of each looser level
 loosened_by : (k m : ℕ) (ts : List Placed) (e : Tree) → Parses (m + k) ts e → Parses m ts e
 loosened_by zero m ts e p = let h : m + zero ≡ m = omega arith in subst (λ (n : ℕ). Parses n ts e) h p
@@ -204,7 +208,7 @@ means_from q {ts = ts} m e = subst (λ (x : State). Means x.0 x.1 ts) e m
 -- in behind a ;
 let_closed_means : {ws : List Waiting} {us : List Placed} → Line_so_far ws us → (s : Span) (q : State) → let_closed ws ≡ Some q → Means q.0 q.1 (us ++ (word_at word.In s ∷ []))
 let_closed_means (waits {ws = ws} l (binders_stand {bs = bs} (let_opens i) (some_so_far c b)) k) s q h = means_from q (simp append_assoc (means_before (waits l (closed_body_stands i c s b) k))) (let_closed_is i ws bs q h)
-let_closed_means _ s q h = cc
+let_closed_means _ s q h = none_is q h
 
 -- ] directly behind [
 emptied_means : {ws : List Waiting} {us : List Placed} → Line_so_far ws us → (s : Span) (q : State) → emptied ws ≡ Some q → Means q.0 q.1 (us ++ (sign_at sign.CloseBracket s ∷ []))
@@ -218,7 +222,7 @@ emptied_means (waits {ws = ws} l (lists_stand {xs = xs} i c e) k) s q h = absurd
     no_elements : {us : List Placed} (i : Span) (ws : List Waiting) (xs : Trees) → Lists us xs → (q : State) → emptied (open_at (list i xs) ∷ ws) ≡ Some q → ⊥
     no_elements i ws xs (grammar.one_element p) q h = cc
     no_elements i ws xs (grammar.more_elements {xs = ys} {a = a} d p r) q h = no_more i ws ys a q h
-emptied_means _ s q h = cc
+emptied_means _ s q h = none_is q h
 
 begun_means : (ws : List Waiting) (s : Span) (x : Lexeme) (q : State) (ts : List Placed) → Line_so_far ws ts → begun_with ws s x ≡ Some q → Means q.0 q.1 (ts ++ (token_at x s ∷ []))
 begun_means ws s (tokens.number n) q ts l h = means_at q (means_behind false l (atom (grammar.numbers n s)) (λ k. cc)) h
@@ -235,7 +239,7 @@ begun_means ws s (symbol sign.OpenBrace) q ts l h = opened_means (open_at (brace
 begun_means ws s (symbol sign.CloseBracket) q ts l h = emptied_means l s q h
 begun_means ws s (symbol sign.Hash) q ts l h = opened_means (prefix_at prefix.Length s) q l (prefix_stands prefix.Length s) h
 begun_means ws s (symbol sign.Minus) q ts l h = opened_means (prefix_at prefix.Negate s) q l (prefix_stands prefix.Negate s) h
-begun_means ws s _ q ts l h = cc
+begun_means ws s _ q ts l h = none_is q h
 
 -- one more binder
 grown : {x : Lexeme} {us ps vs : List Placed} {bs : Binders} {p : PatternTree} {e : Tree} (s : Span) → SoFar x us bs → IsPattern ps p → Parses 2 vs e → Binds x (us ++ (ps ++ (token_at x s ∷ vs))) (and_bind bs p e)
@@ -291,7 +295,7 @@ turned_means (value_stands s (bare_opens j) f i) mark.CloseBrace t vs e q p h = 
 turned_means (value_stands s (body_opens j c r) f i) mark.CloseBrace t vs e q p h = turned_at q (ends_so (simp append_assoc (simp append_assoc at (grammar.eaches j t (grammar.body c r) (grown s f i p)))) (omega arith)) h
 turned_means (filter_stands c (bare_opens j) b) mark.CloseBrace t vs e q p h = turned_at q (ends_so (simp append_assoc (grammar.filters j c t grammar.bodiless b p)) (omega arith)) h
 turned_means (filter_stands c (body_opens j d r) b) mark.CloseBrace t vs e q p h = turned_at q (ends_so (simp append_assoc (simp append_assoc at (grammar.filters j c t (grammar.body d r) b p))) (omega arith)) h
-turned_means _ _ t vs e q p h = cc
+turned_means _ _ t vs e q p h = none_is q h
 
 took_means : {ws : List Waiting} {o : Opening} {us ts : List Placed} (r : Option Turn) (q : State) → Line_so_far ws us → wanted ws ≤ opening_begins o → ((t : Turn) → r ≡ Some t → Turned o ts t) → taken_up ws r ≡ Some q → Means q.0 q.1 (us ++ ts)
 took_means None q l k f h = cc
@@ -304,7 +308,7 @@ took_means {o = o} (Some t) q l k f h = turn_means t q (f t refl) l k h
 marked_means : {ws : List Waiting} {us : List Placed} → Line_so_far ws us → (m : Mark) (t : Span) (vs : List Placed) (e : Tree) (q : State) → Parses (mark_level m) vs e → marked m t ws e ≡ Some q → Means q.0 q.1 ((us ++ vs) ++ (token_at (mark_token m) t ∷ []))
 marked_means (waits {w = open_at o} {us = us} {vs = own} l s k) m t vs e q p h =
     moved q _ _ (sym (append_assoc us own (vs ++ (token_at (mark_token m) t ∷ []))) ∙ sym (append_assoc (us ++ own) vs (token_at (mark_token m) t ∷ []))) (took_means (turned m t o e) q l k (λ x y. turned_means s m t vs e x p y) h)
-marked_means _ m t vs e q p h = cc
+marked_means _ m t vs e q p h = none_is q h
 
 -- behind a comma
 separated_means : {ws : List Waiting} {us : List Placed} → Line_so_far ws us → (t : Span) (vs : List Placed) (e : Tree) (q : State) → Parses 2 vs e → separated ws e ≡ Some q → Means q.0 q.1 ((us ++ vs) ++ (sign_at sign.Comma t ∷ []))
@@ -421,27 +425,27 @@ typed_with_means ws s (reserved word.Char) q ts l h = type_done_means l q (gramm
 typed_with_means ws s (tokens.name x) q ts l h = type_done_means l q (grammar.type_name x s) cc
 typed_with_means ws s (symbol sign.OpenBracket) q ts l h = means_at q (means_typing (waits l (type_list_stands s) (wanted_small ws))) h
 typed_with_means ws s (symbol sign.OpenParenthesis) q ts l h = means_at q (means_typing (waits l (type_round_stands s) (wanted_small ws))) h
-typed_with_means ws s _ q ts l h = cc
+typed_with_means ws s _ q ts l h = none_is q h
 
 type_separated_means : {ws : List Waiting} {us vs : List Placed} {a : TypeTree} → Line_so_far ws us → (s : Span) (q : State) → IsType vs a → type_separated ws a ≡ Some q → Means q.0 q.1 ((us ++ vs) ++ (sign_at sign.Comma s ∷ []))
 type_separated_means (waits {ws = ws} l (type_round_stands r) k) s q i h = means_at q (simp append_assoc (simp append_assoc at (means_typing (waits (waits l (type_round_stands r) k) (type_comma_stands s i) (omega arith))))) h
 type_separated_means (waits {ws = ws} l (type_comma_stands r j) k) s q i h = means_at q (simp append_assoc (simp append_assoc at (means_typing (waits (waits l (type_comma_stands r j) k) (type_comma_stands s i) (omega arith))))) h
-type_separated_means _ s q i h = cc
+type_separated_means _ s q i h = none_is q h
 
 type_bracketed_means : {ws : List Waiting} {us vs : List Placed} {a : TypeTree} → Line_so_far ws us → (s : Span) (q : State) → IsType vs a → type_bracketed ws s a ≡ Some q → Means q.0 q.1 ((us ++ vs) ++ (sign_at sign.CloseBracket s ∷ []))
 type_bracketed_means (waits {ws = ws} l (type_list_stands r) k) s q i h = simp append_assoc (type_done_means l q (grammar.type_sequence r s i) cc)
-type_bracketed_means _ s q i h = cc
+type_bracketed_means _ s q i h = none_is q h
 
 type_closed_means : {ws : List Waiting} {us : List Placed} → Line_so_far ws us → (vs : List Placed) (a : TypeTree) (s : Span) (q : State) → AreTypes vs a → type_closed ws s a ≡ Some q → Means q.0 q.1 ((us ++ vs) ++ (sign_at sign.CloseParenthesis s ∷ []))
 type_closed_means (waits l (type_comma_stands {us = own} {a = b} r j) k) vs a s q i h = simp append_assoc (simp append_assoc at (type_closed_means l (own ++ (sign_at sign.Comma r ∷ vs)) (type_pair b a) s q (grammar.type_pairs r j i) h))
 type_closed_means (waits l (type_round_stands r) k) vs a s q i h = simp append_assoc (type_done_means l q (grammar.type_rounds r s i) cc)
-type_closed_means _ vs a s q i h = cc
+type_closed_means _ vs a s q i h = none_is q h
 
 typed_on_means : (ws : List Waiting) (us vs : List Placed) (a : TypeTree) (s : Span) (x : Lexeme) (q : State) → Line_so_far ws us → IsType vs a → typed_on ws a s x ≡ Some q → Means q.0 q.1 ((us ++ vs) ++ (token_at x s ∷ []))
 typed_on_means ws us vs a s (symbol sign.Comma) q l i h = type_separated_means l s q i h
 typed_on_means ws us vs a s (symbol sign.CloseBracket) q l i h = type_bracketed_means l s q i h
 typed_on_means ws us vs a s (symbol sign.CloseParenthesis) q l i h = type_closed_means l vs a s q (grammar.one_type i) h
-typed_on_means ws us vs a s _ q l i h = cc
+typed_on_means ws us vs a s _ q l i h = none_is q h
 
 pub step_means : (ws : List Waiting) (m : Mode) (t : Placed) (q : State) (ts : List Placed) → Means ws m ts → step ws m t ≡ Some q → Means q.0 q.1 (ts ++ (t ∷ []))
 step_means ws m t q ts (means_before l) h = begun_means ws t.span t.lexeme q ts l h

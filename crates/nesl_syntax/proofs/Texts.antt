@@ -9,7 +9,7 @@ use Rattle.nesl_tree.specs.Trees.{Line, show_names, show_budget}
 use Rattle.nesl_tree.specs.Views.{line_of}
 use Rattle.nesl_syntax.specs.Given.{IsCommand}
 use Rattle.nesl_tree.specs.declared.tree.Form.{Form}
-use Rattle.std.specs.Prelude.{IfSome, IfNone, ◌≢◌, option_map}
+use Rattle.std.specs.Prelude.{IfSome, IfNone, IsTrue, ◌↔◌, ◌≢◌, option_map}
 use Rattle.nesl_syntax.specs.Reading.{is_text, class_of, command_of, typed_named}
 use Rattle.nesl_lex.specs.Tokens.{Placed}
 use Rattle.nesl_lex.specs.Tokens as tokens
@@ -38,6 +38,12 @@ text_pointwise [] [] = refl
 text_pointwise [] (y ∷ ys) = refl
 text_pointwise (x ∷ xs) [] = refl
 text_pointwise (x ∷ xs) (y ∷ ys) = ap (λ (b : Bool). nat_eq x y && b) (text_pointwise xs ys)
+
+-- whether two texts are the same
+pub text_decides : (b : Bool) (x y : List ℕ) → b ≡ pointwise nat_eq x y → IsTrue b ↔ (x ≡ y)
+text_decides b x y h =
+    let e : b ≡ is_text x y = h ∙ text_pointwise x y in
+    (λ t. text_same x y (sym e ∙ t), λ k. e ∙ ap (is_text x) (sym k) ∙ text_itself x)
 
 pub text_other : (x y : List ℕ) → (x ≡ y → ⊥) → is_text x y ≡ false
 text_other x y n = by_test (is_text x y) refl

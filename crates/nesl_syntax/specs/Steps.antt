@@ -3,6 +3,7 @@ use Rattle.std.specs.Prelude.{◌≡◌, List, ◌∷◌, Option, Some, None, Re
 use Rattle.nesl_parts.specs.declared.part.Part.{Part}
 use Rattle.nesl_parts.specs.declared.pending.Opening.{Opening}
 use Rattle.nesl_parts.specs.declared.pending.Pending.{Pending}
+use Rattle.nesl_parts.specs.declared.pending.Pending.TheVariants as pendings
 use Rattle.nesl_parts.specs.declared.pending.TypeOpening.{TypeOpening}
 use Rattle.nesl_parts.specs.declared.types.TypePart.{TypePart}
 use Rattle.nesl_syntax.specs.declared.parse.Mode.{Mode}
@@ -60,6 +61,11 @@ PendingGiven (Ok p) None = ⊥
 PendingGiven (Err Syntax) w = w ≡ None
 PendingGiven (Err Nested) w = ⊥
 PendingGiven (Err Memory) w = Unit {0}
+
+-- the same of a type's
+abbrev pub TypeOpeningGiven : Result TypeOpening ParseFault → Option Waiting → Type 0
+TypeOpeningGiven (Ok p) w = PendingGiven (Ok (pendings.Type p)) w
+TypeOpeningGiven (Err e) w = PendingGiven (Err e) w
 
 abbrev pub TypeGiven : Result TypePart ParseFault → Option TypeTree → Type 0
 TypeGiven (Ok p) (Some a) = SeesType p a

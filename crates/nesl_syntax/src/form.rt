@@ -13,6 +13,7 @@ ghost use Rattle.nesl_lex.specs.Tokens as lexemes;
 
 use crate::function::function;
 use crate::parse::{expression, written_type};
+use crate::text::is_text;
 use nesl_lex::token::{Kind, Sign, Token, Word};
 use nesl_parts::ParseFault;
 use nesl_parts::part::Part;
@@ -150,10 +151,12 @@ fn command_named(name: &[u8]) -> Option<Form>
     ensures some { IfSome result (λ form. IsCommand name.now (line_of form)) }
     ensures none { IfNone result ((line : Line) → IsCommand name.now line → ⊥) }
 {
-    match name {
-        b"names" => Some(Form::ShowNames),
-        b"budget" => Some(Form::ShowBudget),
-        _ => None,
+    if is_text(name, b"names") {
+        Some(Form::ShowNames)
+    } else if is_text(name, b"budget") {
+        Some(Form::ShowBudget)
+    } else {
+        None
     }
 }
 

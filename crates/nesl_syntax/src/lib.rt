@@ -7,6 +7,7 @@ mod function;
 mod laws;
 mod parse;
 mod signature;
+mod text;
 
 pub use form::{one_form, parse_form};
 pub use laws::{form_computes, one_phrase};

@@ -7,7 +7,7 @@ ghost use Rattle.nesl_parts.specs.Machine as machine;
 ghost use Rattle.nesl_parts.specs.Parts.{Sees, SeesType};
 ghost use Rattle.nesl_parts.specs.Stack.{SeesOpening, SeesTypeOpening, SeesPending, SeesStack};
 ghost use Rattle.nesl_parts.specs.Turns.{SeesTurn};
-ghost use Rattle.nesl_syntax.specs.Steps.{SeesMode, Follows, Gives, PendingGiven, TypeGiven, OpeningPopped, newest_opening, TypePopped, newest_type};
+ghost use Rattle.nesl_syntax.specs.Steps.{SeesMode, Follows, Gives, PendingGiven, TypeOpeningGiven, TypeGiven, OpeningPopped, newest_opening, TypePopped, newest_type};
 ghost use Rattle.nesl_syntax.specs.declared.parse.Mode.TheVariants as mode;
 ghost use Rattle.nesl_parts.specs.declared.part.Part.TheVariants as part;
 ghost use Rattle.nesl_lex.specs.Tokens.{lexeme_of, placed_of, placed, symbol, reserved};
@@ -278,8 +278,8 @@ fn begin_body(stack: &mut Vec<Pending>) -> Result<Mode, ParseFault>
 }
 
 // A list with no elements.
-fn empty_list(opening: Opening) -> Result<Pending, ParseFault>
-    ensures { (o : machine.Opening) → SeesOpening opening o → PendingGiven result (empty_opening o) }
+fn empty_list(opening: Opening) -> Result<TypeOpening, ParseFault>
+    ensures { (o : machine.Opening) → SeesOpening opening o → TypeOpeningGiven result (empty_opening o) }
 {
     match opening {
         Opening::List {
@@ -291,7 +291,7 @@ fn empty_list(opening: Opening) -> Result<Pending, ParseFault>
             if some {
                 return Err(ParseFault::Syntax);
             }
-            Ok(Pending::Type(TypeOpening::Empty(from)))
+            Ok(TypeOpening::Empty(from))
         }
         other => {
             drop(other);
@@ -307,8 +307,7 @@ fn begin_type(stack: &mut Vec<Pending>) -> Result<Mode, ParseFault>
     let Some(opening) = pop_opening(stack) else {
         return Err(ParseFault::Syntax);
     };
-    push(stack, empty_list(opening)?)?;
-    Ok(Mode::Typing)
+    wait_for_type(stack, empty_list(opening)?)
 }
 
 // A leaf of a tree.
@@ -444,7 +443,7 @@ fn end_type(stack: &mut Vec<Pending>, part: TypePart) -> Mode
 {
     match empty_from(stack.as_slice()) {
         Some(from) => {
-            drop(stack.pop());
+            drop(pop_type(stack));
             Mode::Behind {
                 fresh: false,
                 part: empty_of(part, from),

@@ -13,6 +13,7 @@ ghost use Rattle.nesl_lex.specs.Tokens.{lexeme_of, placed};
 
 use crate::cut::{Divider, cut};
 use crate::parse::written_type;
+use crate::text::is_text;
 use nesl_lex::token::{Kind, Sign, Token, Word};
 use nesl_parts::ParseFault;
 use nesl_parts::types::TypePart;
@@ -38,12 +39,16 @@ fn class_named(name: &[u8]) -> Option<Class>
     ensures some { IfSome result (λ k. name.now ≡ class_text k) }
     ensures none { IfNone result ((k : class.Class) → name.now ≢ class_text k) }
 {
-    match name {
-        b"any" => Some(Class::Any),
-        b"ordinal" => Some(Class::Ordinal),
-        b"number" => Some(Class::Number),
-        b"logical" => Some(Class::Logical),
-        _ => None,
+    if is_text(name, b"any") {
+        Some(Class::Any)
+    } else if is_text(name, b"ordinal") {
+        Some(Class::Ordinal)
+    } else if is_text(name, b"number") {
+        Some(Class::Number)
+    } else if is_text(name, b"logical") {
+        Some(Class::Logical)
+    } else {
+        None
     }
 }
 
