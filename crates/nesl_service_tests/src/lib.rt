@@ -9,3 +9,5 @@ mod client;
 mod counting;
 #[cfg(test)]
 mod in_turn;
+#[cfg(test)]
+mod sparing;
