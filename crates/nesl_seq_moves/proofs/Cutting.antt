@@ -4,13 +4,13 @@ use Rattle.nesl_values.specs.Parts.{as_int}
 use Rattle.nesl_seq_base.specs.Reductions.{all_of}
 use Rattle.nesl_seq_base.specs.Prices.{Prices, price}
 use Rattle.nesl_seq_base.specs.declared.price.Price.{Price}
-use Rattle.std.proofs.Common.{◌≡◌, SomeIff, Option, Some, None, option_map, option_and_then, get_or, Err, Ok, ◌<ℤ◌, ◌⊎◌, inl, inr, ℕ, ℤ, pos, negsuc, ◌+◌, ◌-◌, ◌<◌, ◌≤◌, ◌+ℤ◌, ◌≤ℤ◌, Bool, true, false, ◌&&◌, List, [], ◌∷◌, ◌++◌, length, map, take, drop, refl, ap, sym, ◌∙◌, subst, arith}
+use Rattle.std.proofs.Common.{◌≡◌, SomeIff, Option, Some, None, option_map, option_and_then, get_or, Err, Ok, ◌<ℤ◌, ◌⊎◌, inl, inr, ℕ, ℤ, pos, negsuc, ◌+◌, ◌-◌, ◌<◌, ◌≤◌, ◌+ℤ◌, ◌≤ℤ◌, Bool, true, false, ◌&&◌, List, [], ◌∷◌, ◌++◌, length, map, take, drop, unsigned_abs, refl, ap, sym, ◌∙◌, subst, arith}
 use Rattle.std.specs.List.{flat_map, list_all}
 use Rattle.std.specs.Ordering.{int_eq}
 use Rattle.std.proofs.lemmas.Bool.{cases_lt}
 use Rattle.std.proofs.lemmas.Bool.Decides.{Decides-int_eq, Decides-like, same_from_decides}
 use Rattle.std.proofs.lemmas.Int.{ints}
-use Rattle.std.proofs.lemmas.List.{drop_more, append-nil, drop_all, length-drop, length-take-le, take-append-drop, nil_from_length}
+use Rattle.std.proofs.lemmas.List.{drop_more, append_assoc, append-nil, drop_all, length-drop, length-take-le, take-append-drop, nil_from_length}
 use Rattle.nesl_values.specs.Tree.{Tree, sequence, size, sizes, trees_of}
 use Rattle.nesl_seq_base.specs.Reductions.{total}
 use Rattle.nesl_seq_base.specs.Levels.{is_natural, are_lengths, pieces, partitioned, Checks}
@@ -119,6 +119,15 @@ none_counted f is k n h = ap (λ js. option_map (are_lengths n) (all_of as_int (
 pub pieces_end : (made whole : List Tree) (ts : List Tree) (zs : List ℤ) (i : ℕ) → length zs ≤ i → made ++ map sequence (pieces ts (drop i zs)) ≡ whole → made ≡ whole
 pieces_end made whole ts zs i h so_far =
     sym (append-nil made) ∙ ap (λ ys. made ++ map sequence (pieces ts ys)) (sym (drop_all i zs h)) ∙ so_far
+
+-- one more turn of a loop that adds the next piece
+pub piece_pushed : (made now whole ts : List Tree) (zs : List ℤ) (i start end : ℕ) (z d : ℤ) (part : List Tree) → i < length zs → z ≡ get_or zs i d → part ≡ take (unsigned_abs z) (drop start ts) → drop end ts ≡ drop (unsigned_abs z) (drop start ts) → now ≡ made ++ sequence part ∷ []
+    → made ++ map sequence (pieces (drop start ts) (drop i zs)) ≡ whole → now ++ map sequence (pieces (drop end ts) (drop (i + 1) zs)) ≡ whole
+piece_pushed made now whole ts zs i start end z d part h at is rest push so_far =
+    let us = drop start ts in
+    let others = map sequence (pieces (drop (unsigned_abs z) us) (drop (i + 1) zs)) in
+    let first : drop i zs ≡ z ∷ drop (i + 1) zs = drop_more zs i d h ∙ ap (λ y. y ∷ drop (i + 1) zs) (sym at) in
+    ap (λ vs. now ++ map sequence (pieces vs (drop (i + 1) zs))) rest ∙ ap (λ vs. vs ++ others) push ∙ append_assoc made (sequence part ∷ []) others ∙ ap (λ vs. made ++ sequence vs ∷ others) is ∙ ap (λ ys. made ++ map sequence (pieces us ys)) (sym first) ∙ so_far
 
 passed : (b : Bool) (u : Unit {0}) → Checks (Some b) (Ok u) → b ≡ true
 passed true u h = refl

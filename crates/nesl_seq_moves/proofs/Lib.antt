@@ -1,5 +1,6 @@
 pub mod Cutting
 pub mod Flattening
+pub mod Moved
 pub mod Numbers
 pub mod Pairing
 pub mod Splitting

@@ -1,8 +1,9 @@
 -- Sequences that are taken apart in two.
 use Rattle.std.proofs.Common.{◌≡◌, ℕ, ◌+◌, Option, Result, Ok, Err, IfOk, get_or, slice_get, take, ◌++◌, List, [], ◌∷◌, length, map, Some, ap, sym, ◌∙◌, arith}
 use Rattle.nesl_values.specs.Tree.{Tree, int, boolean, character, pair, seq, tagged, size, sizes, trees_of, sequence}
-use Rattle.std.proofs.lemmas.List.{take_more, map-append}
+use Rattle.std.proofs.lemmas.List.{take_more, map-append, append_assoc}
 use Rattle.std.proofs.lemmas.Option.{slice_get_within, get_or_from_slice_get}
+use Rattle.std.proofs.lemmas.Result.{IfOk-at_ok, IfOk-weaker}
 use Rattle.nesl_values.specs.Parts.{as_pair}
 use Rattle.nesl_values.specs.View.{tree_of}
 use Rattle.nesl_values.specs.declared.value.Value.{Value}
@@ -34,14 +35,22 @@ pub size_unzipped : (ts : List Tree) (ps : List (Tree × Tree)) → all_of as_pa
 size_unzipped ts ps h = omega (arith, sizes_sides ts ps h)
 
 -- one more turn of a loop that adds a side of each pair
-pub side_turn : (side : Tree × Tree → Tree) (ps : List (Tree × Tree)) (i : ℕ) (p : Tree × Tree) (so_far now : List Tree) (x : Tree) → slice_get ps i ≡ Some p → so_far ≡ map side (take i ps) → now ≡ so_far ++ x ∷ [] → x ≡ side p → now ≡ map side (take (i + 1) ps)
-side_turn side ps i p so_far now x at before push is =
+pub side_turn : (side : Tree × Tree → Tree) (ps : List (Tree × Tree)) (i : ℕ) (p : Tree × Tree) (old so_far now : List Tree) (x : Tree) → slice_get ps i ≡ Some p → so_far ≡ old ++ map side (take i ps) → now ≡ so_far ++ x ∷ [] → x ≡ side p → now ≡ old ++ map side (take (i + 1) ps)
+side_turn side ps i p old so_far now x at before push is =
     let split : map side (take (i + 1) ps) ≡ map side (take i ps) ++ side p ∷ [] =
     ap (map side) (take_more ps i p (slice_get_within ps i p at)) ∙ map-append side (take i ps) (get_or ps i p ∷ []) ∙ ap (λ q. map side (take i ps) ++ side q ∷ []) (get_or_from_slice_get ps i p p at) in
-    push ∙ ap (λ ts. ts ++ x ∷ []) before ∙ ap (λ y. map side (take i ps) ++ y ∷ []) is ∙ sym split
+    push ∙ ap (λ ts. ts ++ x ∷ []) before ∙ append_assoc old (map side (take i ps)) (x ∷ []) ∙ ap (λ y. old ++ (map side (take i ps) ++ y ∷ [])) is ∙ ap (λ ts. old ++ ts) (sym split)
 
-pub sides_made : {A E : Type 0} (r : Result (Value A) E) (a b : Tree) (ls rs : List Tree) (o : Option (List (Tree × Tree))) → a ≡ sequence ls → b ≡ sequence rs → IfOk r (λ v. tree_of v ≡ pair a b)
-    → ((ps : List (Tree × Tree)) → o ≡ Some ps → (ls ≡ map (λ p. p.0) ps) × (rs ≡ map (λ p. p.1) ps)) → IfOk r (λ v. (ps : List (Tree × Tree)) → o ≡ Some ps → tree_of v ≡ pair (sequence (map (λ p. p.0) ps)) (sequence (map (λ p. p.1) ps)))
-sides_made (Ok v) a b ls rs o left right made all =
-    λ ps h. made ∙ ap (λ t. pair t b) (left ∙ ap sequence (all ps h).0) ∙ ap (pair (sequence (map (λ (p : Tree × Tree). p.0) ps))) (right ∙ ap sequence (all ps h).1)
-sides_made (Err e) a b ls rs o left right made all = made
+-- what holds of every list of pairs holds of the one that there is
+pub sides_made : {A E : Type 0} (r : Result (Value A) E) (o : Option (List (Tree × Tree))) → ((ps : List (Tree × Tree)) → o ≡ Some ps → IfOk r (λ v. tree_of v ≡ pair (sequence (map (λ p. p.0) ps)) (sequence (map (λ p. p.1) ps))))
+    → IfOk r (λ v. (ps : List (Tree × Tree)) → o ≡ Some ps → tree_of v ≡ pair (sequence (map (λ p. p.0) ps)) (sequence (map (λ p. p.1) ps)))
+sides_made (Ok v) o all = all
+sides_made (Err e) o all = tt
+
+-- the pair of what was made on both sides
+pub pair_alike : {A E : Type 0} (r lefts rights : Result (Value A) E) (left right : Value A) (a b : Tree) → lefts ≡ Ok left → rights ≡ Ok right → IfOk r (λ v. tree_of v ≡ pair (tree_of left) (tree_of right)) → IfOk lefts (λ v. tree_of v ≡ a) → IfOk rights (λ v. tree_of v ≡ b)
+    → IfOk r (λ v. tree_of v ≡ pair a b)
+pair_alike r lefts rights left right a b p q made first second =
+    let one : tree_of left ≡ a = IfOk-at_ok (λ v. tree_of v ≡ a) p first in
+    let other : tree_of right ≡ b = IfOk-at_ok (λ v. tree_of v ≡ b) q second in
+    IfOk-weaker r (λ v. tree_of v ≡ pair (tree_of left) (tree_of right)) (λ v. tree_of v ≡ pair a b) (λ v h. h ∙ ap (λ t. pair t (tree_of right)) one ∙ ap (pair a) other) made

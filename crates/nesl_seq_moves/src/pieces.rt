@@ -1,23 +1,24 @@
 // Sequences that are parts of others, or that are put together from them.
-ghost use Rattle.std.specs.Prelude.{◌≡◌, ◌+◌, ◌<◌, ◌≤◌, ◌^◌, MatchResult, IfOk};
+ghost use Rattle.std.specs.Prelude.{◌≡◌, ◌+◌, ◌/◌, ◌<◌, ◌≤◌, ◌^◌, length, MatchResult, IfOk};
 ghost use Rattle.nesl_values.specs.Tree.{sequence};
 ghost use Rattle.nesl_values.specs.View.{tree_of, element_tree, item_trees};
 ghost use Rattle.nesl_seq_base.specs.Lent.{argument_tree};
 ghost use Rattle.nesl_seq_base.specs.Outcome.{IsGiven, gives, traps};
-ghost use Rattle.nesl_seq_base.specs.Pieces.{element_at, taken, dropped, places_on};
+ghost use Rattle.nesl_seq_base.specs.Pieces.{element_at, halves, taken, dropped, places_on, rotated};
 ghost use Rattle.nesl_seq_base.specs.Meaning.{meaning};
 ghost use Rattle.nesl_seq_base.specs.Prices.{Prices, reads};
 ghost use Rattle.nesl_seq_base.specs.declared.seq_fn.SeqFn.TheVariants.{Length, ElementAt, Append, Bottop, Take, Drop, Reverse, Rotate};
 
+use crate::building::{joined_copy, sequence_of_two};
 use nesl_scalars::Trap;
 use nesl_seq_base::argument::Argument;
 use nesl_seq_base::arguments::{WRONG_SHAPE, sequence, sequence_and_int, two_sequences};
-use nesl_seq_base::copies::{copy_of, extend, reversed_copy};
+use nesl_seq_base::copies::{copy_of, reversed_copy};
 use nesl_seq_base::nodes::{
     price_of_element, price_of_items, price_of_joined, price_of_leaf, price_of_two,
 };
 use nesl_seq_base::price::Price;
-use nesl_values::{Element, Items, SequenceBuilder, Value};
+use nesl_values::{Element, Items, Value};
 use std::alloc::{AllocError, Allocator};
 
 pub fn price_length<A: Allocator>(
@@ -106,13 +107,18 @@ pub fn apply_append<A: Allocator + Copy>(
     requires { IsGiven (meaning Append (argument_tree argument)) }
     ensures { IfOk result (λ v. meaning Append (argument_tree argument.entry) ≡ gives (tree_of v)) }
 {
-    let Some((one, other)) = two_sequences(argument) else {
-        unreachable!()
-    };
-    let mut builder = SequenceBuilder::with_room(alloc, one.len().saturating_add(other.len()));
-    extend(&mut builder, one)?;
-    extend(&mut builder, other)?;
-    builder.finish()
+    match two_sequences(argument) {
+        Some((one, other)) => joined_copy(alloc, one, other),
+        None => unreachable!(),
+    }
+}
+
+// How many items the first half has.
+fn half_of(len: usize) -> usize
+    ensures half { result ≡ (len + 1) / 2 }
+    ensures within { result ≤ len }
+{
+    len / 2 + len % 2
 }
 
 pub fn price_bottop<A: Allocator>(
@@ -126,7 +132,7 @@ pub fn price_bottop<A: Allocator>(
         return Err(WRONG_SHAPE);
     };
     let len = items.len();
-    let half = len / 2 + len % 2;
+    let half = half_of(len);
     Ok(price_of_two(
         items.part(0, half),
         items.part(half, len),
@@ -142,15 +148,25 @@ pub fn apply_bottop<A: Allocator + Copy>(
     requires { IsGiven (meaning Bottop (argument_tree argument)) }
     ensures { IfOk result (λ v. meaning Bottop (argument_tree argument.entry) ≡ gives (tree_of v)) }
 {
-    let Some(items) = sequence(argument) else {
-        unreachable!()
-    };
+    match sequence(argument) {
+        Some(items) => copy_of_halves(alloc, items),
+        None => unreachable!(),
+    }
+}
+
+// The sequence of both halves.
+fn copy_of_halves<A: Allocator + Copy>(
+    alloc: A,
+    items: Items<'_, A>,
+) -> Result<Value<A>, AllocError>
+    requires { length (item_trees items) < 2 ^ 63 }
+    ensures { IfOk result (λ v. halves (item_trees items.entry) ≡ gives (tree_of v)) }
+{
     let len = items.len();
-    let half = len / 2 + len % 2;
-    let mut builder = SequenceBuilder::with_room(alloc, 2);
-    builder.push(copy_of(alloc, items.part(0, half))?)?;
-    builder.push(copy_of(alloc, items.part(half, len))?)?;
-    builder.finish()
+    let half = half_of(len);
+    let first = copy_of(alloc, items.part(0, half))?;
+    let second = copy_of(alloc, items.part(half, len))?;
+    sequence_of_two(alloc, first, second)
 }
 
 /// `take`: the first items, or the last ones where the count is below 0.
@@ -313,13 +329,21 @@ pub fn apply_rotate<A: Allocator + Copy>(
     requires { IsGiven (meaning Rotate (argument_tree argument)) }
     ensures { IfOk result (λ v. meaning Rotate (argument_tree argument.entry) ≡ gives (tree_of v)) }
 {
-    let Some((items, count)) = sequence_and_int(argument) else {
-        unreachable!()
-    };
+    match sequence_and_int(argument) {
+        Some((items, count)) => rotated_copy(alloc, items, count),
+        None => unreachable!(),
+    }
+}
+
+fn rotated_copy<A: Allocator + Copy>(
+    alloc: A,
+    items: Items<'_, A>,
+    count: i64,
+) -> Result<Value<A>, AllocError>
+    requires { length (item_trees items) < 2 ^ 63 }
+    ensures { IfOk result (λ v. rotated (item_trees items.entry) count ≡ gives (tree_of v)) }
+{
     let len = items.len();
     let start = len - turn(len, count);
-    let mut builder = SequenceBuilder::with_room(alloc, len);
-    extend(&mut builder, items.part(start, len))?;
-    extend(&mut builder, items.part(0, start))?;
-    builder.finish()
+    joined_copy(alloc, items.part(start, len), items.part(0, start))
 }

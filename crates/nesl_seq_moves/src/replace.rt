@@ -1,7 +1,7 @@
 // A sequence with another element at a place.
-ghost use Rattle.std.specs.Prelude.{◌≡◌, ◌+◌, ◌-◌, ◌<◌, ◌≤◌, List, pos, length, take, drop, slice_set, IfOk, MatchResult, SomeIff};
+ghost use Rattle.std.specs.Prelude.{◌≡◌, ◌+◌, ◌-◌, ◌<◌, ◌≤◌, ◌++◌, List, pos, length, take, drop, slice_set, IfOk, MatchResult, OnOk, SomeIff};
 ghost use Rattle.nesl_values.specs.Tree.{Tree, size, sizes, trees_of, sequence};
-ghost use Rattle.nesl_values.specs.View.{tree_of, item_trees};
+ghost use Rattle.nesl_values.specs.View.{tree_of, item_trees, elements_of};
 ghost use Rattle.nesl_seq_base.specs.Lent.{argument_tree};
 ghost use Rattle.nesl_seq_base.specs.Outcome.{IsGiven, gives, traps};
 ghost use Rattle.nesl_seq_base.specs.Pieces.{replaced};
@@ -9,6 +9,7 @@ ghost use Rattle.nesl_seq_base.specs.Meaning.{meaning};
 ghost use Rattle.nesl_seq_base.specs.Prices.{Prices, reads, price};
 ghost use Rattle.nesl_seq_base.specs.declared.seq_fn.SeqFn.TheVariants.{Rep};
 
+use crate::building::finished;
 use nesl_scalars::Trap;
 use nesl_seq_base::argument::Argument;
 use nesl_seq_base::arguments::{WRONG_SHAPE, sequence_item_place};
@@ -126,7 +127,6 @@ pub fn apply_rep<A: Allocator + Copy>(
     }
 }
 
-#[tactic(auto, using(nesl_seq_base::proofs::Totals::replaced_parts))]
 fn replaced_copy<A: Allocator + Copy>(
     alloc: A,
     items: Items<'_, A>,
@@ -138,8 +138,21 @@ fn replaced_copy<A: Allocator + Copy>(
         ≡ sequence (slice_set (item_trees items.entry) place (tree_of item.now))) }
 {
     let mut builder = SequenceBuilder::with_room(alloc, items.len());
-    extend(&mut builder, items.part(0, place))?;
+    let outcome = extend_by_replaced(&mut builder, items, item, place);
+    finished(builder, outcome)
+}
+
+fn extend_by_replaced<A: Allocator + Copy>(
+    builder: &mut SequenceBuilder<A>,
+    items: Items<'_, A>,
+    item: &Value<A>,
+    place: usize,
+) -> Result<(), AllocError>
+    requires { place < length (item_trees items) }
+    ensures { OnOk result (elements_of builder.new
+        ≡ elements_of builder.old ++ slice_set (item_trees items.entry) place (tree_of item.now)) }
+{
+    extend(builder, items.part(0, place))?;
     builder.push(item.share()?)?;
-    extend(&mut builder, from_place(items, place + 1))?;
-    builder.finish()
+    extend(builder, from_place(items, place + 1))
 }

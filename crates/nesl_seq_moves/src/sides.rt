@@ -13,6 +13,7 @@ ghost use Rattle.nesl_seq_base.specs.Meaning.{meaning};
 ghost use Rattle.nesl_seq_base.specs.Prices.{Prices, reads};
 ghost use Rattle.nesl_seq_base.specs.declared.seq_fn.SeqFn.TheVariants.{Unzip, Split};
 
+use crate::building::{finished, sequence_of_two};
 use nesl_scalars::Trap;
 use nesl_seq_base::argument::Argument;
 use nesl_seq_base::arguments::{WRONG_SHAPE, sequence, two_sequences};
@@ -91,15 +92,44 @@ fn both_sides<A: Allocator + Copy>(alloc: A, values: &[Value<A>]) -> Result<Valu
 {
     let mut lefts = SequenceBuilder::with_room(alloc, values.len());
     let mut rights = SequenceBuilder::with_room(alloc, values.len());
+    let outcome = push_sides(&mut lefts, &mut rights, values);
+    let lefts = finished(lefts, outcome);
+    let rights = finished(rights, outcome);
+    pair_of_made(alloc, lefts, rights)
+}
+
+// The pair of the two, where both were made.
+fn pair_of_made<A: Allocator + Copy>(
+    alloc: A,
+    lefts: Result<Value<A>, AllocError>,
+    rights: Result<Value<A>, AllocError>,
+) -> Result<Value<A>, AllocError>
+    ensures { (a : Tree) (b : Tree) → IfOk lefts (λ v. tree_of v ≡ a)
+        → IfOk rights (λ v. tree_of v ≡ b) → IfOk result (λ v. tree_of v ≡ pair a b) }
+{
+    match (lefts, rights) {
+        (Ok(lefts), Ok(rights)) => Value::pair(alloc, lefts, rights),
+        _ => Err(AllocError),
+    }
+}
+
+fn push_sides<A: Allocator + Copy>(
+    lefts: &mut SequenceBuilder<A>,
+    rights: &mut SequenceBuilder<A>,
+    values: &[Value<A>],
+) -> Result<(), AllocError>
+    ensures lefts { (ps : List (Tree × Tree)) → all_of as_pair (map tree_of values.now) ≡ Some ps
+        → OnOk result (elements_of lefts.new ≡ elements_of lefts.old ++ map (λ p. p.0) ps) }
+    ensures rights { (ps : List (Tree × Tree)) → all_of as_pair (map tree_of values.now) ≡ Some ps
+        → OnOk result (elements_of rights.new ≡ elements_of rights.old ++ map (λ p. p.1) ps) }
+{
     for value in values {
         if let Some((left, right)) = value.as_pair() {
-            push_part(&mut lefts, left)?;
-            push_part(&mut rights, right)?;
+            push_part(lefts, left)?;
+            push_part(rights, right)?;
         }
     }
-    let lefts = lefts.finish()?;
-    let rights = rights.finish()?;
-    Value::pair(alloc, lefts, rights)
+    Ok(())
 }
 
 // Adds an element at the end, which stays where it is too. A number needs no look at what is shared.
@@ -203,10 +233,9 @@ fn both_pieces<A: Allocator + Copy>(
     ensures { IfOk result (λ v. tree_of v
         ≡ two (beside false (item_trees items.entry) flags.now) (beside true (item_trees items.entry) flags.now)) }
 {
-    let mut builder = SequenceBuilder::with_room(alloc, 2);
-    builder.push(items_beside(alloc, items, flags, false)?)?;
-    builder.push(items_beside(alloc, items, flags, true)?)?;
-    builder.finish()
+    let apart = items_beside(alloc, items, flags, false)?;
+    let chosen = items_beside(alloc, items, flags, true)?;
+    sequence_of_two(alloc, apart, chosen)
 }
 
 // The items beside which that flag stands.

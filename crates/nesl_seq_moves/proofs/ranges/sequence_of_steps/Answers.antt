@@ -1,5 +1,7 @@
-use Rattle.std.proofs.Common.{◌∙◌, ◌++◌, ◌∷◌, [], ap, rules, w64, FitsSigned}
+use Rattle.std.proofs.Common.{arith, ◌∙◌, ◌++◌, ◌∷◌, [], ap, rules, w64, FitsSigned}
 use Rattle.std.proofs.lemmas.Int.{to_z-of_z}
+use Rattle.nesl_seq_base.specs.Ranges.{progression}
+use Rattle.nesl_seq_base.proofs.Made.{made}
 use Rattle.nesl_seq_moves.proofs.Numbers.{number_pushed}
 use Rattle.nesl_seq_moves.proofs.ranges.sequence_of_steps.Goals as goal
 
@@ -7,3 +9,7 @@ pub loop-place-preserved : goal.loop-place-preserved
 loop-place-preserved g c =
     let fits : FitsSigned w64 c.number_at.result = search rules in
     number_pushed c.args.numbers.first c.args.numbers.step c.loop-place.place c.loop-place.made.items _ c.number_at.result c.loop-place.invariant (c.in_ok-push.ensures.items ∙ ap (λ z. c.loop-place.made.items ++ z ∷ []) (to_z-of_z w64 c.number_at.result fits)) c.number_at.ensures
+
+pub returns : goal.returns
+returns g c =
+    made _ _ _ c.ints.ensures (c.loop-place.invariant ∙ ap (progression c.args.numbers.first c.args.numbers.step) (omega arith))
