@@ -1,7 +1,8 @@
 //! Expressions and their trees. The trees come from an independent reader of the same grammar, the spans of written types
 //! from hand.
 
-use crate::shown::all_hold;
+use crate::rows::all_hold;
+use crate::shown::shown;
 use std::test::Fail;
 
 const ATOMS_PAIRS_AND_CALLS: &str = r#"17; => Eval(0..2 Number(17))
@@ -62,15 +63,13 @@ v[if a then b else c]; => Eval(0..21 Index sequence: 0..1 Variable([118]), index
 
 #[test]
 fn expressions_have_these_trees(rt: HostRuntime) -> Result<(), Fail> {
-    for rows in [
+    let tables = [
         ATOMS_PAIRS_AND_CALLS,
         ARITHMETIC_BY_LEVEL,
         LOGIC_AND_COMPARISONS_BY_LEVEL,
         INDICES_SEQUENCES_AND_RANGES,
         APPLY_TO_EACH,
         CHOICES_AND_BINDINGS,
-    ] {
-        all_hold(rt.alloc(), rows)?;
-    }
-    Ok(())
+    ];
+    all_hold(rt.alloc(), &tables, &shown)
 }

@@ -1,6 +1,7 @@
 //! Lines of each form and their trees, from the same reader.
 
-use crate::shown::all_hold;
+use crate::rows::all_hold;
+use crate::shown::shown;
 use std::test::Fail;
 
 const BINDINGS_AND_COMMANDS: &str = r#"x = 1; => Bind name: [120], value: 4..5 Number(1)
@@ -25,12 +26,10 @@ const ONLY_A_COMMENT: &str = " % a comment %  => Nothing";
 
 #[test]
 fn lines_have_these_trees(rt: HostRuntime) -> Result<(), Fail> {
-    for rows in [
+    let tables = [
         BINDINGS_AND_COMMANDS,
         DATATYPES_AND_FUNCTIONS,
         ONLY_A_COMMENT,
-    ] {
-        all_hold(rt.alloc(), rows)?;
-    }
-    Ok(())
+    ];
+    all_hold(rt.alloc(), &tables, &shown)
 }

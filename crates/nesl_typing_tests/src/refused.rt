@@ -1,6 +1,7 @@
 //! Lines that have no tree.
 
-use crate::shown::all_hold;
+use crate::rows::all_hold;
+use crate::shown::shown;
 use std::test::Fail;
 
 const EXPRESSIONS_AND_BINDINGS: &str = r#"; => Syntax
@@ -76,8 +77,6 @@ function (x) = x; => Syntax
 
 #[test]
 fn lines_with_no_tree(rt: HostRuntime) -> Result<(), Fail> {
-    for rows in [EXPRESSIONS_AND_BINDINGS, DEFINITIONS_AND_COMMANDS] {
-        all_hold(rt.alloc(), rows)?;
-    }
-    Ok(())
+    let tables = [EXPRESSIONS_AND_BINDINGS, DEFINITIONS_AND_COMMANDS];
+    all_hold(rt.alloc(), &tables, &shown)
 }
