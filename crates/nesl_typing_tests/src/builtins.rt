@@ -1,14 +1,13 @@
 //! The built-in functions and their types.
 
-use crate::rows::all_hold;
+use crate::rows::{Subject, all_hold};
 use crate::shown::form_of;
-use crate::texts::text_of_scheme;
+use crate::texts::push_scheme;
 use nesl_builtins::{Builtin, named, of_infix, of_prefix, scheme};
 use nesl_seq_base::seq_fn::SeqFn;
 use nesl_tree::tree::{Form, Node};
 use nesl_types::Context;
 use std::alloc::{AllocError, Global};
-use std::test::Fail;
 
 /// The built-in functions that are called by a name, with their types as the language's tables have them.
 const NAMED: &str = r#"not => a -> a :: (a in logical)
@@ -85,32 +84,39 @@ a[b]; => ([a], int) -> a
 [a : b]; => (int, int) -> [int]
 [a : b : c]; => (int, int, int) -> [int]"#;
 
-/// The type of the built-in function.
-fn type_of(alloc: Global, builtin: Option<Builtin>) -> Result<String, AllocError> {
+/// Writes the type of the built-in function.
+fn push_type_of(
+    alloc: Global,
+    builtin: Option<Builtin>,
+    text: &mut String,
+) -> Result<(), AllocError> {
     match builtin {
-        Some(builtin) => text_of_scheme(alloc, scheme(alloc, builtin), &Context::new(alloc)),
-        None => String::from_str(alloc, "none"),
+        Some(builtin) => push_scheme(alloc, scheme(alloc, builtin), &Context::new(alloc), text),
+        None => text.push_str("none"),
     }
 }
 
-/// The type of the built-in function that has the name.
-fn type_of_name(alloc: Global, name: &str) -> Result<String, AllocError> {
-    type_of(alloc, named(name.as_bytes()))
+/// The types of the built-in functions that have names.
+struct Names;
+
+impl Subject for Names {
+    fn tell(&self, alloc: Global, name: &str, text: &mut String) -> Result<(), AllocError> {
+        push_type_of(alloc, named(name.as_bytes()), text)
+    }
 }
 
 #[test]
-fn names_have_the_types_of_the_table(rt: HostRuntime) -> Result<(), Fail> {
-    all_hold(rt.alloc(), &[NAMED], &type_of_name)
+fn names_have_the_types_of_the_table(rt: HostRuntime) {
+    all_hold(&rt, rt.alloc(), &Names, &[NAMED]);
 }
 
-/// Names of no built-in function, of which the first is empty.
-const OTHERS: &str = "|no|nott|and|it|length|elt|Sum|sum ";
+/// Names of no built-in function, of which the first is empty and the last ends in a space.
+const OTHERS: &str = " => none\nno => none\nnott => none\nand => none\nit => none\nlength => none\n\
+    elt => none\nSum => none\nsum  => none";
 
 #[test]
 fn other_names_are_no_builtins(rt: HostRuntime) {
-    for name in OTHERS.split('|') {
-        assert!(rt; named(name.as_bytes()).is_none());
-    }
+    all_hold(&rt, rt.alloc(), &Names, &[OTHERS]);
 }
 
 /// The built-in function of a sign.
@@ -128,24 +134,28 @@ fn of_sign(form: &Form) -> Option<Builtin> {
     }
 }
 
-/// The type of the built-in function that the line's sign is.
-fn type_of_sign(alloc: Global, line: &str) -> Result<String, AllocError> {
-    match form_of(alloc, line) {
-        Some(form) => {
-            let builtin = of_sign(&form);
-            drop(form);
-            type_of(alloc, builtin)
+/// The types of the built-in functions that the signs of lines are.
+struct Signs;
+
+impl Subject for Signs {
+    fn tell(&self, alloc: Global, line: &str, text: &mut String) -> Result<(), AllocError> {
+        match form_of(alloc, line) {
+            Some(form) => {
+                let builtin = of_sign(&form);
+                drop(form);
+                push_type_of(alloc, builtin, text)
+            }
+            None => Ok(()),
         }
-        None => Ok(String::new(alloc)),
     }
 }
 
 #[test]
-fn operators_have_the_types_of_the_table(rt: HostRuntime) -> Result<(), Fail> {
-    all_hold(rt.alloc(), &[OPERATORS], &type_of_sign)
+fn operators_have_the_types_of_the_table(rt: HostRuntime) {
+    all_hold(&rt, rt.alloc(), &Signs, &[OPERATORS]);
 }
 
 #[test]
-fn other_signs_have_types_too(rt: HostRuntime) -> Result<(), Fail> {
-    all_hold(rt.alloc(), &[OTHER_SIGNS], &type_of_sign)
+fn other_signs_have_types_too(rt: HostRuntime) {
+    all_hold(&rt, rt.alloc(), &Signs, &[OTHER_SIGNS]);
 }

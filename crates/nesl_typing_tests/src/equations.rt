@@ -4,13 +4,12 @@ ghost use Rattle.std.specs.Prelude.{OnOk};
 ghost use Rattle.nesl_unify.specs.Systems.{IsSystem};
 
 use crate::made::{class_named, seq_of, type_of, variable};
-use crate::rows::all_hold;
+use crate::rows::{Subject, all_hold};
 use nesl_types::{Class, Ty};
 use nesl_unify::narrow::{Member, members_are_below};
 use nesl_unify::solve::{Equation, Solution, are_below, is_below, solve};
 use nesl_unify::system::System;
 use std::alloc::{AllocError, Global};
-use std::test::Fail;
 
 /// Adds an equation, `VARIABLE = TYPE`.
 fn push_equation(
@@ -62,8 +61,8 @@ fn first_class(solution: &Solution) -> &'static str {
     }
 }
 
-/// Adds a type where it is a variable, and else the number of its nodes.
-fn push_type(text: &mut String, ty: Result<Ty, AllocError>) -> Result<(), AllocError> {
+/// Writes a type where it is a variable, and else the number of its nodes.
+fn push_variable_or_size(text: &mut String, ty: Result<Ty, AllocError>) -> Result<(), AllocError> {
     match ty? {
         Ty::Var(variable) => write!(text, " v{variable}"),
         other => {
@@ -73,79 +72,111 @@ fn push_type(text: &mut String, ty: Result<Ty, AllocError>) -> Result<(), AllocE
     }
 }
 
-/// Adds what stands for each variable that is asked for.
-fn push_types(
+/// Writes the class of the first variable, and what stands for those that are asked for.
+fn push_solution(
     alloc: Global,
-    text: &mut String,
     solution: &Solution,
     asked: &str,
+    text: &mut String,
 ) -> Result<(), AllocError> {
+    text.push_str(first_class(solution))?;
     for word in asked.split_whitespace() {
-        push_type(text, solution.apply(alloc, &Ty::Var(variable(word))))?;
+        let ty = solution.apply(alloc, &Ty::Var(variable(word)));
+        push_variable_or_size(text, ty)?;
     }
     Ok(())
 }
 
-/// The class of the first variable, and what stands for those that are asked for.
-fn told_of(alloc: Global, solution: &Solution, asked: &str) -> Result<String, AllocError> {
-    let mut text = String::from_str(alloc, first_class(solution))?;
-    push_types(alloc, &mut text, solution, asked)?;
-    Ok(text)
-}
-
-fn solved(
+fn solve_and_tell(
     alloc: Global,
     count: u64,
     equations: &[Equation],
     members: &[Member],
     asked: &str,
-) -> Result<String, AllocError> {
+    text: &mut String,
+) -> Result<(), AllocError> {
     if !are_below(count, equations) || !members_are_below(count, members) {
-        return String::from_str(alloc, "too few variables");
+        return text.push_str("too few variables");
     }
     match solve(alloc, count, equations, members) {
-        Ok(solution) => told_of(alloc, &solution, asked),
-        Err(fault) => format!(in alloc; "{fault}"),
+        Ok(solution) => push_solution(alloc, &solution, asked, text),
+        Err(fault) => write!(text, "{fault}"),
     }
 }
 
-/// What solves equations. A row is `COUNT|EQUATIONS|MEMBERS|ASKED`, where the count is that of the variables.
-fn told(alloc: Global, row: &str) -> Result<String, AllocError> {
-    let mut parts = row.split('|');
-    let count = variable(parts.next().unwrap_or(""));
-    let equations = equations_of(alloc, parts.next().unwrap_or(""))?;
-    let members = members_of(alloc, parts.next().unwrap_or(""))?;
-    let asked = parts.next().unwrap_or("");
-    solved(alloc, count, &equations, &members, asked)
+/// Solves the equations with `MEMBERS|ASKED`.
+fn tell_of(
+    alloc: Global,
+    count: u64,
+    equations: &[Equation],
+    words: &str,
+    text: &mut String,
+) -> Result<(), AllocError> {
+    let (members, asked) = words.split_once('|').unwrap_or((words, ""));
+    let members = members_of(alloc, members)?;
+    solve_and_tell(alloc, count, equations, &members, asked, text)
 }
 
-fn all_are_solved(alloc: Global, rows: &str) -> Result<(), Fail> {
-    all_hold(alloc, &[rows], &told)
-}
+/// What solves equations. A row asks `COUNT|EQUATIONS|MEMBERS|ASKED`, where the count is that of the variables.
+struct Solutions;
 
-#[test]
-fn two_classes_meet(rt: HostRuntime) -> Result<(), Fail> {
-    all_are_solved(rt.alloc(), "1||v0 ordinal, v0 logical| => number")
-}
-
-#[test]
-fn a_type_has_no_sequence_of_itself(rt: HostRuntime) -> Result<(), Fail> {
-    all_are_solved(rt.alloc(), "1|v0 = seq v0|| => no solution")
-}
-
-#[test]
-fn no_sequence_is_ordinal(rt: HostRuntime) -> Result<(), Fail> {
-    all_are_solved(rt.alloc(), "1|v0 = seq int|v0 ordinal| => no solution")
+impl Subject for Solutions {
+    fn tell(&self, alloc: Global, row: &str, text: &mut String) -> Result<(), AllocError> {
+        let (count, rest) = row.split_once('|').unwrap_or((row, ""));
+        let (equations, rest) = rest.split_once('|').unwrap_or((rest, ""));
+        let equations = equations_of(alloc, equations)?;
+        tell_of(alloc, variable(count), &equations, rest, text)
+    }
 }
 
 #[test]
-fn the_largest_type(rt: HostRuntime) -> Result<(), Fail> {
-    all_are_solved(rt.alloc(), "12|@11~v& = both v$ v$, @||v11 => any 4095")
+fn two_classes_meet(rt: HostRuntime) {
+    all_hold(
+        &rt,
+        rt.alloc(),
+        &Solutions,
+        &["1||v0 ordinal, v0 logical| => number"],
+    );
 }
 
 #[test]
-fn too_large_a_type(rt: HostRuntime) -> Result<(), Fail> {
-    all_are_solved(rt.alloc(), "13|@12~v& = both v$ v$, @|| => no solution")
+fn a_type_has_no_sequence_of_itself(rt: HostRuntime) {
+    all_hold(
+        &rt,
+        rt.alloc(),
+        &Solutions,
+        &["1|v0 = seq v0|| => no solution"],
+    );
+}
+
+#[test]
+fn no_sequence_is_ordinal(rt: HostRuntime) {
+    all_hold(
+        &rt,
+        rt.alloc(),
+        &Solutions,
+        &["1|v0 = seq int|v0 ordinal| => no solution"],
+    );
+}
+
+#[test]
+fn the_largest_type(rt: HostRuntime) {
+    all_hold(
+        &rt,
+        rt.alloc(),
+        &Solutions,
+        &["12|@11~v& = both v$ v$, @||v11 => any 4095"],
+    );
+}
+
+#[test]
+fn too_large_a_type(rt: HostRuntime) {
+    all_hold(
+        &rt,
+        rt.alloc(),
+        &Solutions,
+        &["13|@12~v& = both v$ v$, @|| => no solution"],
+    );
 }
 
 /// In both orders.
@@ -153,16 +184,16 @@ const FAR_TOO_LARGE: &str = "5001|@5000~v& = both v$ v$, @|| => no solution
 5001|@5000~v? = both v! v!, @|| => no solution";
 
 #[test]
-fn far_too_large_a_type(rt: HostRuntime) -> Result<(), Fail> {
-    all_are_solved(rt.alloc(), FAR_TOO_LARGE)
+fn far_too_large_a_type(rt: HostRuntime) {
+    all_hold(&rt, rt.alloc(), &Solutions, &[FAR_TOO_LARGE]);
 }
 
 const CHAIN: &str =
     "100000|@99999~v$ = v&, @|v0 number, v99999 logical|v0 v54321 v99999 => number v0 v0 v0";
 
 #[test]
-fn a_chain_of_equal_variables(rt: HostRuntime) -> Result<(), Fail> {
-    all_are_solved(rt.alloc(), CHAIN)
+fn a_chain_of_equal_variables(rt: HostRuntime) {
+    all_hold(&rt, rt.alloc(), &Solutions, &[CHAIN]);
 }
 
 /// A thousand variables, each the first of a dozen in which each but the last is the pairs of the next one with itself, stand
@@ -174,8 +205,8 @@ const LARGE_AND_EQUAL: &str = "12000|\
     @999~v&.0 = v$.0, @||v11999 v11988 => any v11 4095";
 
 #[test]
-fn many_large_types_are_made_equal(rt: HostRuntime) -> Result<(), Fail> {
-    all_are_solved(rt.alloc(), LARGE_AND_EQUAL)
+fn many_large_types_are_made_equal(rt: HostRuntime) {
+    all_hold(&rt, rt.alloc(), &Solutions, &[LARGE_AND_EQUAL]);
 }
 
 /// Sequences of different types, for two variables, which are then the same.
@@ -183,8 +214,8 @@ const SEQUENCES: &str = "2|v0 = seq d3, v1 = seq d4||v0 v1 => any 2 2
 2|v0 = seq d3, v1 = seq d4, v0 = v1|| => no solution";
 
 #[test]
-fn other_types_are_not_equal(rt: HostRuntime) -> Result<(), Fail> {
-    all_are_solved(rt.alloc(), SEQUENCES)
+fn other_types_are_not_equal(rt: HostRuntime) {
+    all_hold(&rt, rt.alloc(), &Solutions, &[SEQUENCES]);
 }
 
 /// Whether this type stands for the variable.

@@ -2,8 +2,7 @@
 //! from hand.
 
 use crate::rows::all_hold;
-use crate::shown::shown;
-use std::test::Fail;
+use crate::shown::Forms;
 
 const ATOMS_PAIRS_AND_CALLS: &str = r#"17; => Eval(0..2 Number(17))
 T; => Eval(0..1 Truth(true))
@@ -62,7 +61,7 @@ let (y, z) = p; q(w) = r in let x = 2 in x; => Eval(0..42 Let bindings: [Binding
 v[if a then b else c]; => Eval(0..21 Index sequence: 0..1 Variable([118]), index: 2..20 Choice test: 5..6 Variable([97]), yes: 12..13 Variable([98]), no: 19..20 Variable([99]))"#;
 
 #[test]
-fn expressions_have_these_trees(rt: HostRuntime) -> Result<(), Fail> {
+fn expressions_have_these_trees(rt: HostRuntime) {
     let tables = [
         ATOMS_PAIRS_AND_CALLS,
         ARITHMETIC_BY_LEVEL,
@@ -71,5 +70,5 @@ fn expressions_have_these_trees(rt: HostRuntime) -> Result<(), Fail> {
         APPLY_TO_EACH,
         CHOICES_AND_BINDINGS,
     ];
-    all_hold(rt.alloc(), &tables, &shown)
+    all_hold(&rt, rt.alloc(), &Forms, &tables);
 }

@@ -1,8 +1,7 @@
 //! Lines that are deep, up to and beyond the height that a tree may have.
 
 use crate::rows::all_hold;
-use crate::shown::shown;
-use std::test::Fail;
+use crate::shown::Forms;
 
 /// Lines that are deep.
 const DEEP: &str = r#"@2047~(@1@2047~)@; => Eval(0..4095 Number(1))
@@ -25,8 +24,8 @@ const AS_HIGH_AS_CAN_BE: &str =
 @99~(a, @b@99~)@; => Eval(0..496 Pair left: 1..2 Variable([97]), right: .."#;
 
 #[test]
-fn deep_lines_are_read_or_refused(rt: HostRuntime) -> Result<(), Fail> {
-    all_hold(rt.alloc(), &[DEEP, AS_HIGH_AS_CAN_BE], &shown)
+fn deep_lines_are_read_or_refused(rt: HostRuntime) {
+    all_hold(&rt, rt.alloc(), &Forms, &[DEEP, AS_HIGH_AS_CAN_BE]);
 }
 
 /// Lines with types of a height of 100 and of one more.
@@ -40,6 +39,6 @@ function g(x) : int -> @100~[@int@100~]@ :: (n in any) = x; => Nested
 function g(x) : @100~[@int@100~]@ -> int = ; => Syntax"#;
 
 #[test]
-fn each_type_of_a_line_is_measured_alone(rt: HostRuntime) -> Result<(), Fail> {
-    all_hold(rt.alloc(), &[WITH_TYPES], &shown)
+fn each_type_of_a_line_is_measured_alone(rt: HostRuntime) {
+    all_hold(&rt, rt.alloc(), &Forms, &[WITH_TYPES]);
 }

@@ -7,7 +7,7 @@ fn count(digits: &str) -> u64 {
     digits.parse::<u64>().unwrap_or(0)
 }
 
-/// The number of a variable: `v7` is 7, and `v3.4` is the fourth behind 3 dozens.
+/// The number of a variable: `v7` is 7, and `v3.4` is 3 dozens and 4.
 pub fn variable(word: &str) -> u64 {
     let digits = word.strip_prefix('v').unwrap_or(word);
     let (dozens, rest) = digits.split_once('.').unwrap_or(("0", digits));
@@ -94,8 +94,8 @@ fn classes_of(alloc: Global, words: &str) -> Result<Vec<Class>, AllocError> {
 /// A scheme from words, `TAKES -> GIVES :: CLASSES`, where the classes are those of the variables from 0 on.
 pub fn scheme_of(alloc: Global, words: &str) -> Result<Scheme, AllocError> {
     let (words, classes) = words.split_once(" :: ").unwrap_or((words, ""));
-    let types = types_of(alloc, words)?;
     let classes = classes_of(alloc, classes)?;
+    let types = types_of(alloc, words)?;
     match types.as_slice() {
         [gives, takes] => Scheme::new(alloc, takes, gives, &classes),
         _ => Err(AllocError),

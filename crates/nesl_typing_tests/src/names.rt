@@ -1,13 +1,12 @@
 //! The first unknown names of lines, with the places that an unverified program written apart from this one gives.
 
-use crate::rows::all_hold;
+use crate::rows::{Subject, all_hold};
 use crate::shown::form_of;
 use nesl_lex::token::Span;
 use nesl_names::{unknown_in_exp, unknown_in_function, unknown_in_type};
 use nesl_tree::tree::Form;
 use nesl_types::{Context, Scheme, Top, Ty};
 use std::alloc::{AllocError, Global};
-use std::test::Fail;
 
 /// Lines, each with the place of its first unknown name, or a `-` where it has none. A variable `x`, a function `g` and a
 /// datatype `p` are defined, and `it` is a variable.
@@ -82,8 +81,8 @@ let a = 1; a = a in a; => -
 {a : (a, b) in [(1, c)]}; => 20..21"#;
 
 fn add_names(alloc: Global, context: &mut Context<u8>) -> Result<(), AllocError> {
-    let scheme = Scheme::new(alloc, &Ty::Int, &Ty::Int, &[])?;
     context.set(alloc, b"x", Top::Variable(Ty::Int), 0)?;
+    let scheme = Scheme::new(alloc, &Ty::Int, &Ty::Int, &[])?;
     context.set(alloc, b"g", Top::Function(scheme), 0)?;
     context.set(alloc, b"p", Top::Datatype(2, Ty::Int), 0)?;
     context.set(alloc, b"it", Top::Variable(Ty::Int), 0)
@@ -110,34 +109,43 @@ fn first_unknown(
     }
 }
 
-/// A place, printed.
-fn place(alloc: Global, span: Result<Option<Span>, AllocError>) -> Result<String, AllocError> {
+fn push_place(text: &mut String, span: Result<Option<Span>, AllocError>) -> Result<(), AllocError> {
     match span? {
-        Some(Span { start, end }) => format!(in alloc; "{start}..{end}"),
-        None => String::from_str(alloc, "-"),
+        Some(Span { start, end }) => write!(text, "{start}..{end}"),
+        None => text.push('-'),
     }
 }
 
-/// Where the first unknown name of a line stands; nothing where the line has no form.
-fn told_in(alloc: Global, line: &str, context: &mut Context<u8>) -> Result<String, AllocError> {
+/// Writes where the first unknown name of a line stands; nothing where the line has no form.
+fn tell_in(
+    alloc: Global,
+    line: &str,
+    context: &mut Context<u8>,
+    text: &mut String,
+) -> Result<(), AllocError> {
     add_names(alloc, context)?;
     match form_of(alloc, line) {
         Some(form) => {
             let span = first_unknown(alloc, context, &form);
             drop(form);
-            place(alloc, span)
+            push_place(text, span)
         }
-        None => Ok(String::new(alloc)),
+        None => Ok(()),
     }
 }
 
-fn told(alloc: Global, line: &str) -> Result<String, AllocError> {
-    told_in(alloc, line, &mut Context::new(alloc))
+/// The first unknown names of lines.
+struct UnknownNames;
+
+impl Subject for UnknownNames {
+    fn tell(&self, alloc: Global, line: &str, text: &mut String) -> Result<(), AllocError> {
+        tell_in(alloc, line, &mut Context::new(alloc), text)
+    }
 }
 
 #[test]
-fn the_first_unknown_name_is_told(rt: HostRuntime) -> Result<(), Fail> {
-    all_hold(rt.alloc(), &[LINES], &told)
+fn the_first_unknown_name_is_told(rt: HostRuntime) {
+    all_hold(&rt, rt.alloc(), &UnknownNames, &[LINES]);
 }
 
 /// Lines that bind 4,000 names, each to the one before it.
@@ -145,6 +153,6 @@ const CHAINS: &str = "let n0 = 1@3999~; n& = n$@ in n17; => -\n\
     let n0 = 1@3999~; n& = n$@ in n4000; => 57782..57787";
 
 #[test]
-fn thousands_of_local_names_are_found(rt: HostRuntime) -> Result<(), Fail> {
-    all_hold(rt.alloc(), &[CHAINS], &told)
+fn thousands_of_local_names_are_found(rt: HostRuntime) {
+    all_hold(&rt, rt.alloc(), &UnknownNames, &[CHAINS]);
 }

@@ -1,8 +1,7 @@
 //! Lines that have no tree.
 
 use crate::rows::all_hold;
-use crate::shown::shown;
-use std::test::Fail;
+use crate::shown::Forms;
 
 const EXPRESSIONS_AND_BINDINGS: &str = r#"; => Syntax
 1 => Syntax
@@ -76,7 +75,7 @@ function (x) = x; => Syntax
 1 % a comment % ;; => Syntax"#;
 
 #[test]
-fn lines_with_no_tree(rt: HostRuntime) -> Result<(), Fail> {
+fn lines_with_no_tree(rt: HostRuntime) {
     let tables = [EXPRESSIONS_AND_BINDINGS, DEFINITIONS_AND_COMMANDS];
-    all_hold(rt.alloc(), &tables, &shown)
+    all_hold(&rt, rt.alloc(), &Forms, &tables);
 }

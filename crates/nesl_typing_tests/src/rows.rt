@@ -1,7 +1,8 @@
-//! Rows of what is asked and what is wanted.
+//! Rows of what is asked and what is wanted, `ASKED => WANTED`. What is asked may have parts that are written many times:
+//! `a@3~b$@c` is `ab0b1b2c`.
 
 use std::alloc::{AllocError, Global};
-use std::test::Fail;
+use std::process::Abort;
 
 /// The number that a letter stands for in one of so many rounds, numbered from 0: `$` for that of the round and `&` for the
 /// next one, `!` and `?` for the same of the round that is as far from the end.
@@ -56,34 +57,36 @@ fn is_wanted(told: &str, wanted: &str) -> bool {
     }
 }
 
-/// Whether what is told of what a row asks is what it wants.
-fn holds<T: Fn(Global, &str) -> Result<String, AllocError>>(
-    alloc: Global,
-    row: &str,
-    told: &T,
-) -> Result<bool, AllocError>
-    requires { T.IsAlwaysCallable told.now }
-{
-    let (asked, wanted) = row.split_once(" => ").unwrap_or((row, ""));
-    let text = written_out(alloc, asked)?;
-    let answer = told(alloc, text.as_str())?;
-    Ok(is_wanted(answer.as_str(), wanted))
+/// What rows are about.
+pub trait Subject {
+    /// Writes what is told of what a row asks. The text is empty before.
+    fn tell(&self, alloc: Global, asked: &str, text: &mut String) -> Result<(), AllocError>;
 }
 
-/// Fails at the first row that doesn't hold. A row is `ASKED => WANTED`.
-pub fn all_hold<T: Fn(Global, &str) -> Result<String, AllocError>>(
+/// Whether what is told of what is asked is what is wanted.
+fn is_told<S: Subject>(
     alloc: Global,
-    tables: &[&str],
-    told: &T,
-) -> Result<(), Fail>
-    requires { T.IsAlwaysCallable told.now }
-{
+    subject: &S,
+    asked: &str,
+    wanted: &str,
+) -> Result<bool, AllocError> {
+    let mut text = String::new(alloc);
+    subject.tell(alloc, asked, &mut text)?;
+    Ok(is_wanted(text.as_str(), wanted))
+}
+
+/// Whether a row holds.
+fn holds<S: Subject>(alloc: Global, subject: &S, row: &str) -> Result<bool, AllocError> {
+    let (asked, wanted) = row.split_once(" => ").unwrap_or((row, ""));
+    let text = written_out(alloc, asked)?;
+    is_told(alloc, subject, text.as_str(), wanted)
+}
+
+/// Fails at the first row that doesn't hold.
+pub fn all_hold<S: Subject, R: Abort>(rt: &R, alloc: Global, subject: &S, tables: &[&str]) {
     for rows in tables {
         for row in rows.lines() {
-            if !matches!(holds(alloc, row, told), Ok(true)) {
-                return Err(Fail::new(row));
-            }
+            assert!(rt; matches!(holds(alloc, subject, row), Ok(true)), "{row}");
         }
     }
-    Ok(())
 }

@@ -1,5 +1,6 @@
 //! Lines, and what they are read as, printed.
 
+use crate::rows::Subject;
 use nesl_lex::lex;
 use nesl_syntax::{ParseFault, parse_form};
 use nesl_tree::tree::Form;
@@ -16,31 +17,39 @@ const SHORTER: &str =
     "TypeExp { span: Span { start: ~\nExp { span: Span { start: ~\nPattern { span: Span { start: ~\n\
     Span { start: ~\n, end: ~..\n }, node: ~ \n { ~ \n }~";
 
-/// A form, printed.
-fn form_text(alloc: Global, form: &Form) -> Result<String, AllocError> {
-    let mut text = format!(in alloc; "{form:?}")?;
+/// Writes a form into an empty text.
+fn write_form(alloc: Global, form: &Form, text: &mut String) -> Result<(), AllocError> {
+    write!(text, "{form:?}")?;
     for row in SHORTER.lines() {
         let (long, short) = row.split_once('~').unwrap_or((row, ""));
-        text = text.replace(alloc, long, short)?;
+        *text = text.replace(alloc, long, short)?;
     }
-    Ok(text)
+    Ok(())
 }
 
-fn text_of(alloc: Global, form: Result<Form, ParseFault>) -> Result<String, AllocError> {
+fn write_form_or_fault(
+    alloc: Global,
+    form: Result<Form, ParseFault>,
+    text: &mut String,
+) -> Result<(), AllocError> {
     match form {
         Ok(form) => {
-            let text = form_text(alloc, &form);
+            let written = write_form(alloc, &form, text);
             drop(form);
-            text
+            written
         }
-        Err(fault) => format!(in alloc; "{fault:?}"),
+        Err(fault) => write!(text, "{fault:?}"),
     }
 }
 
-/// A line's form, or its fault, printed.
-pub fn shown(alloc: Global, line: &str) -> Result<String, AllocError> {
-    match lex(alloc, line.as_bytes()) {
-        Ok(tokens) => text_of(alloc, parse_form(alloc, tokens.as_slice())),
-        Err(_) => Ok(String::new(alloc)),
+/// The forms of lines, or their faults.
+pub struct Forms;
+
+impl Subject for Forms {
+    fn tell(&self, alloc: Global, line: &str, text: &mut String) -> Result<(), AllocError> {
+        match lex(alloc, line.as_bytes()) {
+            Ok(tokens) => write_form_or_fault(alloc, parse_form(alloc, tokens.as_slice()), text),
+            Err(_) => Ok(()),
+        }
     }
 }

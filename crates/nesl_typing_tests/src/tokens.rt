@@ -1,10 +1,9 @@
 //! Lines and their tokens, by hand from the rules.
 
-use crate::rows::all_hold;
+use crate::rows::{Subject, all_hold};
 use nesl_lex::token::Token;
 use nesl_lex::{LexFault, lex};
 use std::alloc::{AllocError, Global};
-use std::test::Fail;
 
 const SIGNS_ARE_AS_LONG_AS_THEY_CAN_BE: &str = r#" => no tokens
 1<-2 => 0..1 Number(1); 1..3 Symbol(LeftArrow); 3..4 Number(2)
@@ -91,28 +90,31 @@ fn push_token(text: &mut String, token: &Token) -> Result<(), AllocError> {
     write!(text, "{before}{start}..{end} {:?}", token.kind)
 }
 
-fn text_of(alloc: Global, tokens: &[Token]) -> Result<String, AllocError> {
+fn push_tokens(text: &mut String, tokens: &[Token]) -> Result<(), AllocError> {
     if tokens.is_empty() {
-        return String::from_str(alloc, "no tokens");
+        return text.push_str("no tokens");
     }
-    let mut text = String::new(alloc);
     for token in tokens {
-        push_token(&mut text, token)?;
+        push_token(text, token)?;
     }
-    Ok(text)
+    Ok(())
 }
 
-/// The tokens of a line or the place of its fault, printed.
-fn told(alloc: Global, line: &str) -> Result<String, AllocError> {
-    match lex(alloc, line.as_bytes()) {
-        Ok(tokens) => text_of(alloc, tokens.as_slice()),
-        Err(LexFault::Lexical { at }) => format!(in alloc; "lexical at {at}"),
-        Err(LexFault::Memory) => Err(AllocError),
+/// The tokens of lines or the places of their faults.
+struct Tokens;
+
+impl Subject for Tokens {
+    fn tell(&self, alloc: Global, line: &str, text: &mut String) -> Result<(), AllocError> {
+        match lex(alloc, line.as_bytes()) {
+            Ok(tokens) => push_tokens(text, tokens.as_slice()),
+            Err(LexFault::Lexical { at }) => write!(text, "lexical at {at}"),
+            Err(LexFault::Memory) => Err(AllocError),
+        }
     }
 }
 
 #[test]
-fn lines_have_these_tokens(rt: HostRuntime) -> Result<(), Fail> {
+fn lines_have_these_tokens(rt: HostRuntime) {
     let tables = [
         SIGNS_ARE_AS_LONG_AS_THEY_CAN_BE,
         TEXTS_CHARACTERS_AND_COMMENTS,
@@ -121,7 +123,7 @@ fn lines_have_these_tokens(rt: HostRuntime) -> Result<(), Fail> {
         SIGNS,
         UNPRINTED_BYTES,
     ];
-    all_hold(rt.alloc(), &tables, &told)
+    all_hold(&rt, rt.alloc(), &Tokens, &tables);
 }
 
 /// The bytes that begin a token, or stand between tokens.
@@ -139,6 +141,6 @@ fn bytes_that_begin_nothing_are_faults(rt: HostRuntime) {
 const MANY_DIGITS: &str = "@65000~0@ => 0..65000 Number(0)\n1@64999~0@ => lexical at 0";
 
 #[test]
-fn a_number_may_have_many_digits(rt: HostRuntime) -> Result<(), Fail> {
-    all_hold(rt.alloc(), &[MANY_DIGITS], &told)
+fn a_number_may_have_many_digits(rt: HostRuntime) {
+    all_hold(&rt, rt.alloc(), &Tokens, &[MANY_DIGITS]);
 }

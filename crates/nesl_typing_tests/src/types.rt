@@ -1,11 +1,10 @@
 //! Types, schemes and contexts.
 
 use crate::made::{scheme_of, type_of};
-use crate::rows::all_hold;
-use crate::texts::{text_of_scheme, text_of_type};
+use crate::rows::{Subject, all_hold};
+use crate::texts::{push_scheme, push_type};
 use nesl_types::{Class, Context, Scheme, Top, Ty, meet};
 use std::alloc::{AllocError, Global};
-use std::test::Fail;
 
 #[test]
 fn classes_meet(rt: HostRuntime) {
@@ -17,10 +16,15 @@ fn classes_meet(rt: HostRuntime) {
     );
 }
 
+/// What is left of the room after the nodes of `(int, [char])`.
+fn room_left(alloc: Global, room: u64) -> Result<Option<u64>, AllocError> {
+    Ok(type_of(alloc, "both int seq char")?.room_left(room))
+}
+
 #[test]
 fn nodes_are_counted(rt: HostRuntime) {
-    let ty = type_of(rt.alloc(), "both int seq char").expect(&rt, "memory");
-    assert!(rt; ty.room_left(4) == Some(0) && ty.room_left(3).is_none());
+    let alloc = rt.alloc();
+    assert!(rt; room_left(alloc, 4) == Ok(Some(0)) && room_left(alloc, 3) == Ok(None));
 }
 
 /// Adds a datatype `point` whose tag is 0.
@@ -28,18 +32,28 @@ fn add_point(alloc: Global, context: &mut Context<u8>) -> Result<(), AllocError>
     context.set(alloc, b"point", Top::Datatype(0, Ty::Int), 3)
 }
 
-/// The text of a type, or of the type of functions where the words have an arrow. The datatype `d0` is `point`.
-fn told_in(alloc: Global, words: &str, context: &mut Context<u8>) -> Result<String, AllocError> {
+/// Writes a type, or the type of functions where the words have an arrow. The datatype `d0` is `point`.
+fn tell_in(
+    alloc: Global,
+    words: &str,
+    context: &mut Context<u8>,
+    text: &mut String,
+) -> Result<(), AllocError> {
     add_point(alloc, context)?;
     if words.contains(" -> ") {
-        text_of_scheme(alloc, scheme_of(alloc, words), context)
+        push_scheme(alloc, scheme_of(alloc, words), context, text)
     } else {
-        text_of_type(alloc, type_of(alloc, words), context)
+        push_type(alloc, type_of(alloc, words), context, text)
     }
 }
 
-fn told(alloc: Global, words: &str) -> Result<String, AllocError> {
-    told_in(alloc, words, &mut Context::new(alloc))
+/// The texts of types and schemes.
+struct Texts;
+
+impl Subject for Texts {
+    fn tell(&self, alloc: Global, words: &str, text: &mut String) -> Result<(), AllocError> {
+        tell_in(alloc, words, &mut Context::new(alloc), text)
+    }
 }
 
 /// Left pairs have brackets, and right pairs are joined.
@@ -49,8 +63,8 @@ seq seq char => [[char]]
 both bool d0 => (bool, point)";
 
 #[test]
-fn types_are_written(rt: HostRuntime) -> Result<(), Fail> {
-    all_hold(rt.alloc(), &[TYPES], &told)
+fn types_are_written(rt: HostRuntime) {
+    all_hold(&rt, rt.alloc(), &Texts, &[TYPES]);
 }
 
 const SCHEMES: &str = "both v3 v3 -> v3 :: any logical any number => (a, a) -> a :: (a in number)
@@ -63,8 +77,8 @@ const THIRTY: &str =
     "both v32 both v31 both v30 both v29 both v28 both v27 both v26 both v25 both v24 both v23 both v22 both v21 both v20 both v19 both v18 both v17 both v16 both v15 both v14 both v13 both v12 both v11 both v10 both v9 both v8 both v7 both v6 both v5 both v4 v3 -> v3 :: any logical any number => (a, b, c, d, e, f, g, h, i, j, k, l, m, n, o, p, q, r, s, t, u, v, w, x, y, z, a1, b1, c1, d1) -> d1 :: (d1 in number)";
 
 #[test]
-fn schemes_are_written(rt: HostRuntime) -> Result<(), Fail> {
-    all_hold(rt.alloc(), &[SCHEMES, THIRTY], &told)
+fn schemes_are_written(rt: HostRuntime) {
+    all_hold(&rt, rt.alloc(), &Texts, &[SCHEMES, THIRTY]);
 }
 
 /// Adds a variable, a datatype, and the variable again, which is a datatype now.
@@ -89,7 +103,8 @@ fn are_tagged(context: &Context<u8>, first: u8, second: u8) -> bool {
 
 /// Whether the datatypes with the tags 0 and 1 have their names.
 fn are_named(alloc: Global, context: &Context<u8>) -> Result<bool, AllocError> {
-    let text = text_of_type(alloc, type_of(alloc, "both d0 d1"), context)?;
+    let mut text = String::new(alloc);
+    push_type(alloc, type_of(alloc, "both d0 d1"), context, &mut text)?;
     Ok(text.as_str() == "(point, x)")
 }
 
@@ -103,8 +118,7 @@ fn are_found(alloc: Global, context: &mut Context<u8>) -> Result<bool, AllocErro
 
 #[test]
 fn datatypes_are_found_by_their_tags(rt: HostRuntime) {
-    let mut context = Context::new(rt.alloc());
-    let are_found = are_found(rt.alloc(), &mut context);
+    let are_found = are_found(rt.alloc(), &mut Context::new(rt.alloc()));
     assert!(rt; are_found == Ok(true));
 }
 
@@ -131,27 +145,42 @@ fn are_held(context: &Context<u8>) -> bool {
     context.len() == 2 && *first == 9 && named(context, b"x") == 1 && named(context, b"y") == 0
 }
 
+fn is_kept(alloc: Global, context: &mut Context<u8>) -> Result<bool, AllocError> {
+    add_two_variables(alloc, context)?;
+    Ok(are_held(context))
+}
+
 #[test]
 fn a_name_keeps_its_place(rt: HostRuntime) {
-    let mut context = Context::new(rt.alloc());
-    let added = add_two_variables(rt.alloc(), &mut context);
-    assert!(rt; added.is_ok() && are_held(&context));
+    let is_kept = is_kept(rt.alloc(), &mut Context::new(rt.alloc()));
+    assert!(rt; is_kept == Ok(true));
 }
 
-/// Whether the scheme is the one of the words.
-fn is_same(alloc: Global, scheme: &Scheme, words: &str) -> Result<String, AllocError> {
+/// Writes whether the scheme is the one of the words.
+fn tell_sameness(
+    alloc: Global,
+    scheme: &Scheme,
+    words: &str,
+    text: &mut String,
+) -> Result<(), AllocError> {
     let other = scheme_of(alloc, words)?;
-    format!(in alloc; "{}", scheme.same(&other))
+    let is_same = scheme.same(&other);
+    drop(other);
+    write!(text, "{is_same}")
 }
 
-/// Whether the schemes of two rows of words are the same.
-fn are_same(alloc: Global, asked: &str) -> Result<String, AllocError> {
-    let (words, other) = asked.split_once(" = ").unwrap_or((asked, ""));
-    let scheme = scheme_of(alloc, words)?;
-    scheme.variables_have_classes();
-    let told = is_same(alloc, &scheme, other);
-    drop(scheme);
-    told
+/// Whether the two schemes of words are the same.
+struct Sameness;
+
+impl Subject for Sameness {
+    fn tell(&self, alloc: Global, words: &str, text: &mut String) -> Result<(), AllocError> {
+        let (words, other) = words.split_once(" = ").unwrap_or((words, ""));
+        let scheme = scheme_of(alloc, words)?;
+        scheme.variables_have_classes();
+        let told = tell_sameness(alloc, &scheme, other, text);
+        drop(scheme);
+        told
+    }
 }
 
 const COMPARED: &str = "both v0 v1 -> v1 :: number = both v0 v1 -> v1 :: number => true
@@ -159,6 +188,6 @@ both v0 v1 -> v1 :: number = both v0 v1 -> v1 :: ordinal => false
 both v0 v1 -> v1 :: number = both v7 v3 -> v7 => false";
 
 #[test]
-fn schemes_are_compared(rt: HostRuntime) -> Result<(), Fail> {
-    all_hold(rt.alloc(), &[COMPARED], &are_same)
+fn schemes_are_compared(rt: HostRuntime) {
+    all_hold(&rt, rt.alloc(), &Sameness, &[COMPARED]);
 }
