@@ -1,218 +1,221 @@
 //! Equations, and what solves them.
-use crate::made::{both, seq_of};
+
+ghost use Rattle.std.specs.Prelude.{OnOk};
+ghost use Rattle.nesl_unify.specs.Systems.{IsSystem};
+
+use crate::made::{class_named, seq_of, type_of, variable};
+use crate::rows::{Subject, all_hold};
 use nesl_types::{Class, Ty};
-use nesl_unify::fault::SolveFault;
 use nesl_unify::narrow::{Member, members_are_below};
 use nesl_unify::solve::{Equation, Solution, are_below, is_below, solve};
 use nesl_unify::system::System;
 use std::alloc::{AllocError, Global};
-use std::test::Fail;
 
-/// What solves the equations.
-fn solved(
+/// Adds an equation, `VARIABLE = TYPE`.
+fn push_equation(
+    alloc: Global,
+    equations: &mut Vec<Equation>,
+    words: &str,
+) -> Result<(), AllocError> {
+    if let Some((left, right)) = words.split_once(" = ") {
+        let right = type_of(alloc, right)?;
+        let left = Ty::Var(variable(left));
+        equations.push(Equation { left, right })?;
+    }
+    Ok(())
+}
+
+fn equations_of(alloc: Global, words: &str) -> Result<Vec<Equation>, AllocError> {
+    let mut equations = Vec::new(alloc);
+    for equation in words.split(", ") {
+        push_equation(alloc, &mut equations, equation)?;
+    }
+    Ok(equations)
+}
+
+/// Adds a member, `VARIABLE CLASS`.
+fn push_member(members: &mut Vec<Member>, words: &str) -> Result<(), AllocError> {
+    if let Some((word, class)) = words.split_once(' ') {
+        let variable = variable(word);
+        let class = class_named(class);
+        members.push(Member { variable, class })?;
+    }
+    Ok(())
+}
+
+fn members_of(alloc: Global, words: &str) -> Result<Vec<Member>, AllocError> {
+    let mut members = Vec::new(alloc);
+    for member in words.split(", ") {
+        push_member(&mut members, member)?;
+    }
+    Ok(members)
+}
+
+/// The class of the first variable.
+fn first_class(solution: &Solution) -> &'static str {
+    match solution.classes.first() {
+        Some(Class::Ordinal) => "ordinal",
+        Some(Class::Number) => "number",
+        Some(Class::Logical) => "logical",
+        Some(Class::Any) | None => "any",
+    }
+}
+
+/// Writes a type where it is a variable, and else the number of its nodes.
+fn push_variable_or_size(text: &mut String, ty: Result<Ty, AllocError>) -> Result<(), AllocError> {
+    match ty? {
+        Ty::Var(variable) => write!(text, " v{variable}"),
+        other => {
+            let left = other.room_left(5000).unwrap_or(0);
+            write!(text, " {}", 5000u64.saturating_sub(left))
+        }
+    }
+}
+
+/// Writes the class of the first variable, and what stands for those that are asked for.
+fn push_solution(
+    alloc: Global,
+    solution: &Solution,
+    asked: &str,
+    text: &mut String,
+) -> Result<(), AllocError> {
+    text.push_str(first_class(solution))?;
+    for word in asked.split_whitespace() {
+        let ty = solution.apply(alloc, &Ty::Var(variable(word)));
+        push_variable_or_size(text, ty)?;
+    }
+    Ok(())
+}
+
+fn solve_and_tell(
     alloc: Global,
     count: u64,
     equations: &[Equation],
     members: &[Member],
-) -> Option<Solution> {
-    if are_below(count, equations) && members_are_below(count, members) {
-        solve(alloc, count, equations, members).ok()
-    } else {
-        None
-    }
-}
-
-/// Whether nothing solves the equations.
-fn have_no_solution(alloc: Global, count: u64, equations: &[Equation], members: &[Member]) -> bool {
-    if are_below(count, equations) && members_are_below(count, members) {
-        solve(alloc, count, equations, members).err() == Some(SolveFault::NoSolution)
-    } else {
-        false
-    }
-}
-
-fn member(variable: u64, class: Class) -> Member {
-    Member { variable, class }
-}
-
-/// Adds that the variable is the type.
-fn add(
-    equations: &mut Vec<Equation>,
-    variable: u64,
-    ty: Result<Ty, AllocError>,
+    asked: &str,
+    text: &mut String,
 ) -> Result<(), AllocError> {
-    let right = ty?;
-    let left = Ty::Var(variable);
-    equations.push(Equation { left, right })?;
-    Ok(())
+    if !are_below(count, equations) || !members_are_below(count, members) {
+        return text.push_str("too few variables");
+    }
+    match solve(alloc, count, equations, members) {
+        Ok(solution) => push_solution(alloc, &solution, asked, text),
+        Err(fault) => write!(text, "{fault}"),
+    }
 }
 
-/// Adds that the variable is the pairs of another with itself.
-fn add_double(
+/// Solves the equations with `MEMBERS|ASKED`.
+fn tell_of(
     alloc: Global,
-    equations: &mut Vec<Equation>,
-    variable: u64,
-    half: u64,
+    count: u64,
+    equations: &[Equation],
+    words: &str,
+    text: &mut String,
 ) -> Result<(), AllocError> {
-    let pairs = both(alloc, Ok(Ty::Var(half)), Ok(Ty::Var(half)));
-    add(equations, variable, pairs)
+    let (members, asked) = words.split_once('|').unwrap_or((words, ""));
+    let members = members_of(alloc, members)?;
+    solve_and_tell(alloc, count, equations, &members, asked, text)
 }
 
-/// That the first variable is the sequences of the type.
-fn sequences(alloc: Global, item: Ty) -> Result<Vec<Equation>, AllocError> {
-    let mut equations = Vec::new(alloc);
-    add(&mut equations, 0, seq_of(alloc, Ok(item)))?;
-    Ok(equations)
-}
+/// What solves equations. A row asks `COUNT|EQUATIONS|MEMBERS|ASKED`, where the count is that of the variables.
+struct Solutions;
 
-/// v1 = (v0, v0), .. vN = (vM, vM) with M one less than N.
-fn doubled(alloc: Global, count: u64) -> Result<Vec<Equation>, AllocError> {
-    let mut equations = Vec::new(alloc);
-    for half in 0..count {
-        add_double(alloc, &mut equations, half.saturating_add(1), half)?;
+impl Subject for Solutions {
+    fn tell(&self, alloc: Global, row: &str, text: &mut String) -> Result<(), AllocError> {
+        let (count, rest) = row.split_once('|').unwrap_or((row, ""));
+        let (equations, rest) = rest.split_once('|').unwrap_or((rest, ""));
+        let equations = equations_of(alloc, equations)?;
+        tell_of(alloc, variable(count), &equations, rest, text)
     }
-    Ok(equations)
-}
-
-/// v0 = v1, v1 = v2, .. up to vN.
-fn chained(alloc: Global, count: u64) -> Result<Vec<Equation>, AllocError> {
-    let mut equations = Vec::new(alloc);
-    for variable in 0..count {
-        let next = Ty::Var(variable.saturating_add(1));
-        add(&mut equations, variable, Ok(next))?;
-    }
-    Ok(equations)
-}
-
-/// The number of nodes of what stands for the variable.
-fn nodes_of(alloc: Global, solution: &Solution, variable: u64) -> Option<u64> {
-    let ty = solution.apply(alloc, &Ty::Var(variable)).ok()?;
-    5000u64.checked_sub(ty.room_left(5000)?)
-}
-
-/// The type of the variable, where it is a variable.
-fn variable_for(alloc: Global, solution: &Solution, variable: u64) -> Option<u64> {
-    match solution.apply(alloc, &Ty::Var(variable)) {
-        Ok(Ty::Var(found)) => Some(found),
-        Ok(_) | Err(_) => None,
-    }
-}
-
-/// The class of the first variable.
-fn first_class(solution: &Solution) -> Option<Class> {
-    solution.classes.first().copied()
 }
 
 #[test]
 fn two_classes_meet(rt: HostRuntime) {
-    let members = [member(0, Class::Ordinal), member(0, Class::Logical)];
-    let solution = solved(rt.alloc(), 1, &[], &members).expect(&rt, "a solution");
-    assert!(rt; first_class(&solution) == Some(Class::Number));
+    all_hold(
+        &rt,
+        rt.alloc(),
+        &Solutions,
+        &["1||v0 ordinal, v0 logical| => number"],
+    );
 }
 
 #[test]
-fn a_type_has_no_sequence_of_itself(rt: HostRuntime) -> Result<(), Fail> {
-    let equations = sequences(rt.alloc(), Ty::Var(0))?;
-    assert!(rt; have_no_solution(rt.alloc(), 1, &equations, &[]));
-    Ok(())
+fn a_type_has_no_sequence_of_itself(rt: HostRuntime) {
+    all_hold(
+        &rt,
+        rt.alloc(),
+        &Solutions,
+        &["1|v0 = seq v0|| => no solution"],
+    );
 }
 
 #[test]
-fn no_sequence_is_ordinal(rt: HostRuntime) -> Result<(), Fail> {
-    let equations = sequences(rt.alloc(), Ty::Int)?;
-    let members = [member(0, Class::Ordinal)];
-    assert!(rt; have_no_solution(rt.alloc(), 1, &equations, &members));
-    Ok(())
+fn no_sequence_is_ordinal(rt: HostRuntime) {
+    all_hold(
+        &rt,
+        rt.alloc(),
+        &Solutions,
+        &["1|v0 = seq int|v0 ordinal| => no solution"],
+    );
 }
 
 #[test]
-fn the_largest_type(rt: HostRuntime) -> Result<(), Fail> {
-    let equations = doubled(rt.alloc(), 11)?;
-    let solution = solved(rt.alloc(), 12, &equations, &[]).expect(&rt, "a solution");
-    assert!(rt; nodes_of(rt.alloc(), &solution, 11) == Some(4095));
-    Ok(())
+fn the_largest_type(rt: HostRuntime) {
+    all_hold(
+        &rt,
+        rt.alloc(),
+        &Solutions,
+        &["12|@11~v& = both v$ v$, @||v11 => any 4095"],
+    );
 }
 
 #[test]
-fn too_large_a_type(rt: HostRuntime) -> Result<(), Fail> {
-    let equations = doubled(rt.alloc(), 12)?;
-    assert!(rt; have_no_solution(rt.alloc(), 13, &equations, &[]));
-    Ok(())
+fn too_large_a_type(rt: HostRuntime) {
+    all_hold(
+        &rt,
+        rt.alloc(),
+        &Solutions,
+        &["13|@12~v& = both v$ v$, @|| => no solution"],
+    );
 }
 
 /// In both orders.
-#[test]
-fn far_too_large_a_type(rt: HostRuntime) -> Result<(), Fail> {
-    let mut equations = doubled(rt.alloc(), 5000)?;
-    let from_the_beginning = have_no_solution(rt.alloc(), 5001, &equations, &[]);
-    equations.reverse();
-    assert!(rt; from_the_beginning && have_no_solution(rt.alloc(), 5001, &equations, &[]));
-    Ok(())
-}
+const FAR_TOO_LARGE: &str = "5001|@5000~v& = both v$ v$, @|| => no solution
+5001|@5000~v? = both v! v!, @|| => no solution";
 
 #[test]
-fn a_chain_of_equal_variables(rt: HostRuntime) -> Result<(), Fail> {
-    let alloc = rt.alloc();
-    let equations = chained(alloc, 99999)?;
-    let members = [member(0, Class::Number), member(99999, Class::Logical)];
-    let solution = solved(alloc, 100000, &equations, &members).expect(&rt, "a solution");
-    assert!(rt;
-        variable_for(alloc, &solution, 0) == Some(0)
-            && variable_for(alloc, &solution, 54321) == Some(0)
-            && variable_for(alloc, &solution, 99999) == Some(0)
-            && first_class(&solution) == Some(Class::Number)
-    );
-    Ok(())
+fn far_too_large_a_type(rt: HostRuntime) {
+    all_hold(&rt, rt.alloc(), &Solutions, &[FAR_TOO_LARGE]);
 }
 
-/// Adds that each of 12 variables but the last is the pairs of the next one with itself.
-fn add_large(alloc: Global, equations: &mut Vec<Equation>, first: u64) -> Result<(), AllocError> {
-    for half in first..first.saturating_add(11) {
-        add_double(alloc, equations, half, half.saturating_add(1))?;
-    }
-    Ok(())
-}
-
-/// As many variables, each the first of 12 numbers, that stand for types of 4,095 nodes, and are then all made equal.
-fn large_and_equal(alloc: Global, count: u64) -> Result<Vec<Equation>, AllocError> {
-    let mut equations = Vec::new(alloc);
-    for large in 0..count {
-        add_large(alloc, &mut equations, large.saturating_mul(12))?;
-    }
-    for large in 1..count {
-        let before = Ty::Var(large.saturating_sub(1).saturating_mul(12));
-        add(&mut equations, large.saturating_mul(12), Ok(before))?;
-    }
-    Ok(equations)
-}
+const CHAIN: &str =
+    "100000|@99999~v$ = v&, @|v0 number, v99999 logical|v0 v54321 v99999 => number v0 v0 v0";
 
 #[test]
-fn many_large_types_are_made_equal(rt: HostRuntime) -> Result<(), Fail> {
-    let alloc = rt.alloc();
-    let equations = large_and_equal(alloc, 1000)?;
-    let solution = solved(alloc, 12000, &equations, &[]).expect(&rt, "a solution");
-    let last = variable_for(alloc, &solution, 11999);
-    assert!(rt; last == Some(11) && nodes_of(alloc, &solution, 11988) == Some(4095));
-    Ok(())
+fn a_chain_of_equal_variables(rt: HostRuntime) {
+    all_hold(&rt, rt.alloc(), &Solutions, &[CHAIN]);
 }
 
-/// Two variables are the sequences of different types, and maybe they are the same.
-fn two_sequences(alloc: Global, are_same: bool) -> Result<Vec<Equation>, AllocError> {
-    let mut equations = sequences(alloc, Ty::Named(3))?;
-    add(&mut equations, 1, seq_of(alloc, Ok(Ty::Named(4))))?;
-    if are_same {
-        add(&mut equations, 0, Ok(Ty::Var(1)))?;
-    }
-    Ok(equations)
-}
+/// A thousand variables, each the first of a dozen in which each but the last is the pairs of the next one with itself, stand
+/// for types of 4,095 nodes, and are then all made equal.
+const LARGE_AND_EQUAL: &str = "12000|\
+    @1000~v$.0 = both v$.1 v$.1, v$.1 = both v$.2 v$.2, v$.2 = both v$.3 v$.3, v$.3 = both v$.4 v$.4, \
+    v$.4 = both v$.5 v$.5, v$.5 = both v$.6 v$.6, v$.6 = both v$.7 v$.7, v$.7 = both v$.8 v$.8, \
+    v$.8 = both v$.9 v$.9, v$.9 = both v$.10 v$.10, v$.10 = both v$.11 v$.11, @\
+    @999~v&.0 = v$.0, @||v11999 v11988 => any v11 4095";
 
 #[test]
-fn other_types_are_not_equal(rt: HostRuntime) -> Result<(), Fail> {
-    let two = two_sequences(rt.alloc(), false)?;
-    assert!(rt; solved(rt.alloc(), 2, &two, &[]).is_some());
-    let same = two_sequences(rt.alloc(), true)?;
-    assert!(rt; have_no_solution(rt.alloc(), 2, &same, &[]));
-    Ok(())
+fn many_large_types_are_made_equal(rt: HostRuntime) {
+    all_hold(&rt, rt.alloc(), &Solutions, &[LARGE_AND_EQUAL]);
+}
+
+/// Sequences of different types, for two variables, which are then the same.
+const SEQUENCES: &str = "2|v0 = seq d3, v1 = seq d4||v0 v1 => any 2 2
+2|v0 = seq d3, v1 = seq d4, v0 = v1|| => no solution";
+
+#[test]
+fn other_types_are_not_equal(rt: HostRuntime) {
+    all_hold(&rt, rt.alloc(), &Solutions, &[SEQUENCES]);
 }
 
 /// Whether this type stands for the variable.
@@ -223,25 +226,57 @@ fn stands_for(alloc: Global, solution: &Solution, variable: u64, wanted: &Ty) ->
     }
 }
 
+/// Adds the equation, where its variables are the system's.
+fn equate(system: &mut System, equation: &Equation) -> Result<(), AllocError>
+    requires { IsSystem system.old }
+    ensures { OnOk result (IsSystem system.new) }
+{
+    let count = system.len();
+    if is_below(count, &equation.left) && is_below(count, &equation.right) {
+        system.equate(equation)
+    } else {
+        Err(AllocError)
+    }
+}
+
+/// Adds that the variable is the shared type.
+fn equate_shared(
+    alloc: Global,
+    system: &mut System,
+    variable: u64,
+    ty: &Ty,
+) -> Result<(), AllocError>
+    requires { IsSystem system.old }
+    ensures { OnOk result (IsSystem system.new) }
+{
+    let shared = system.share(alloc, ty)?;
+    if variable < system.len() {
+        system.equate_shared(variable, shared, &[])
+    } else {
+        Err(AllocError)
+    }
+}
+
+/// Adds a variable for the sequences of another, and that it is the type.
+fn add_sequences(alloc: Global, system: &mut System, ty: &Ty) -> Result<u64, AllocError>
+    requires { IsSystem system.old }
+    ensures { OnOk result (IsSystem system.new) }
+{
+    let list = system.fresh(Class::Any)?;
+    let item = system.fresh(Class::Number)?;
+    let left = Ty::Var(list);
+    let right = seq_of(alloc, Ty::Var(item))?;
+    equate(system, &Equation { left, right })?;
+    equate_shared(alloc, system, list, ty)?;
+    Ok(list)
+}
+
 #[test]
 fn systems_are_solved(rt: HostRuntime) {
-    let alloc = rt.alloc();
-    let mut system = System::new(alloc);
-    let list = system.fresh(Class::Any).expect(&rt, "memory");
-    let item = system.fresh(Class::Number).expect(&rt, "memory");
-    let left = Ty::Var(list);
-    let right = seq_of(alloc, Ok(Ty::Var(item))).expect(&rt, "memory");
-    let equation = Equation { left, right };
-    let count = system.len();
-    let are_below = is_below(count, &equation.left) && is_below(count, &equation.right);
-    assert!(rt; count == 2 && are_below);
-    system.equate(&equation).expect(&rt, "memory");
-    let numbers = seq_of(alloc, Ok(Ty::Int)).expect(&rt, "memory");
-    let shared = system.share(alloc, &numbers).expect(&rt, "memory");
-    assert!(rt; list < system.len());
-    system
-        .equate_shared(list, shared, &[])
-        .expect(&rt, "memory");
-    let solution = system.solve(alloc).expect(&rt, "a solution");
-    assert!(rt; stands_for(alloc, &solution, list, &numbers));
+    let mut system = System::new(rt.alloc());
+    let numbers = seq_of(rt.alloc(), Ty::Int).expect(&rt, "memory");
+    let list = add_sequences(rt.alloc(), &mut system, &numbers).expect(&rt, "memory");
+    assert!(rt; system.len() == 2);
+    let solution = system.solve(rt.alloc()).expect(&rt, "a solution");
+    assert!(rt; stands_for(rt.alloc(), &solution, list, &numbers));
 }

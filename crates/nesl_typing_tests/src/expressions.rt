@@ -1,8 +1,8 @@
 //! Expressions and their trees. The trees come from an independent reader of the same grammar, the spans of written types
 //! from hand.
 
-use crate::shown::all_hold;
-use std::test::Fail;
+use crate::rows::all_hold;
+use crate::shown::Forms;
 
 const ATOMS_PAIRS_AND_CALLS: &str = r#"17; => Eval(0..2 Number(17))
 T; => Eval(0..1 Truth(true))
@@ -61,16 +61,14 @@ let (y, z) = p; q(w) = r in let x = 2 in x; => Eval(0..42 Let bindings: [Binding
 v[if a then b else c]; => Eval(0..21 Index sequence: 0..1 Variable([118]), index: 2..20 Choice test: 5..6 Variable([97]), yes: 12..13 Variable([98]), no: 19..20 Variable([99]))"#;
 
 #[test]
-fn expressions_have_these_trees(rt: HostRuntime) -> Result<(), Fail> {
-    for rows in [
+fn expressions_have_these_trees(rt: HostRuntime) {
+    let tables = [
         ATOMS_PAIRS_AND_CALLS,
         ARITHMETIC_BY_LEVEL,
         LOGIC_AND_COMPARISONS_BY_LEVEL,
         INDICES_SEQUENCES_AND_RANGES,
         APPLY_TO_EACH,
         CHOICES_AND_BINDINGS,
-    ] {
-        all_hold(rt.alloc(), rows)?;
-    }
-    Ok(())
+    ];
+    all_hold(&rt, rt.alloc(), &Forms, &tables);
 }

@@ -1,7 +1,7 @@
 //! Lines of each form and their trees, from the same reader.
 
-use crate::shown::all_hold;
-use std::test::Fail;
+use crate::rows::all_hold;
+use crate::shown::Forms;
 
 const BINDINGS_AND_COMMANDS: &str = r#"x = 1; => Bind name: [120], value: 4..5 Number(1)
 X = (1, 2); => Bind name: [120], value: 4..10 Pair left: 5..6 Number(1), right: 8..9 Number(2)
@@ -24,13 +24,11 @@ function g(a) : n -> m :: (n in Any; m IN ordinal; k in logical) = a; => Fun nam
 const ONLY_A_COMMENT: &str = " % a comment %  => Nothing";
 
 #[test]
-fn lines_have_these_trees(rt: HostRuntime) -> Result<(), Fail> {
-    for rows in [
+fn lines_have_these_trees(rt: HostRuntime) {
+    let tables = [
         BINDINGS_AND_COMMANDS,
         DATATYPES_AND_FUNCTIONS,
         ONLY_A_COMMENT,
-    ] {
-        all_hold(rt.alloc(), rows)?;
-    }
-    Ok(())
+    ];
+    all_hold(&rt, rt.alloc(), &Forms, &tables);
 }

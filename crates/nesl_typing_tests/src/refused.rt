@@ -1,7 +1,7 @@
 //! Lines that have no tree.
 
-use crate::shown::all_hold;
-use std::test::Fail;
+use crate::rows::all_hold;
+use crate::shown::Forms;
 
 const EXPRESSIONS_AND_BINDINGS: &str = r#"; => Syntax
 1 => Syntax
@@ -75,9 +75,7 @@ function (x) = x; => Syntax
 1 % a comment % ;; => Syntax"#;
 
 #[test]
-fn lines_with_no_tree(rt: HostRuntime) -> Result<(), Fail> {
-    for rows in [EXPRESSIONS_AND_BINDINGS, DEFINITIONS_AND_COMMANDS] {
-        all_hold(rt.alloc(), rows)?;
-    }
-    Ok(())
+fn lines_with_no_tree(rt: HostRuntime) {
+    let tables = [EXPRESSIONS_AND_BINDINGS, DEFINITIONS_AND_COMMANDS];
+    all_hold(&rt, rt.alloc(), &Forms, &tables);
 }

@@ -1,9 +1,9 @@
 //! Lines and their tokens, by hand from the rules.
 
-use nesl_lex::token::{Kind, Token};
+use crate::rows::{Subject, all_hold};
+use nesl_lex::token::Token;
 use nesl_lex::{LexFault, lex};
 use std::alloc::{AllocError, Global};
-use std::test::Fail;
 
 const SIGNS_ARE_AS_LONG_AS_THEY_CAN_BE: &str = r#" => no tokens
 1<-2 => 0..1 Number(1); 1..3 Symbol(LeftArrow); 3..4 Number(2)
@@ -90,66 +90,40 @@ fn push_token(text: &mut String, token: &Token) -> Result<(), AllocError> {
     write!(text, "{before}{start}..{end} {:?}", token.kind)
 }
 
-fn text_of(alloc: Global, tokens: &[Token]) -> Result<String, AllocError> {
+fn push_tokens(text: &mut String, tokens: &[Token]) -> Result<(), AllocError> {
     if tokens.is_empty() {
-        return String::from_str(alloc, "no tokens");
+        return text.push_str("no tokens");
     }
-    let mut text = String::new(alloc);
     for token in tokens {
-        push_token(&mut text, token)?;
-    }
-    Ok(text)
-}
-
-/// The tokens of a line or the place of its fault, printed.
-fn shown(alloc: Global, line: &[u8]) -> Result<String, AllocError> {
-    match lex(alloc, line) {
-        Ok(tokens) => text_of(alloc, tokens.as_slice()),
-        Err(LexFault::Lexical { at }) => format!(in alloc; "lexical at {at}"),
-        Err(LexFault::Memory) => Err(AllocError),
-    }
-}
-
-/// Whether a line has these tokens.
-fn is_shown(alloc: Global, line: &str, wanted: &str) -> Result<bool, AllocError> {
-    Ok(shown(alloc, line.as_bytes())?.as_str() == wanted)
-}
-
-/// Fails at the first row that doesn't hold. A row is `LINE => TOKENS`.
-fn all_hold(alloc: Global, rows: &str) -> Result<(), Fail> {
-    for row in rows.lines() {
-        let (line, wanted) = row.split_once(" => ").unwrap_or((row, ""));
-        if !is_shown(alloc, line, wanted)? {
-            return Err(Fail::new(row));
-        }
+        push_token(text, token)?;
     }
     Ok(())
 }
 
+/// The tokens of lines or the places of their faults.
+struct Tokens;
+
+impl Subject for Tokens {
+    fn tell(&self, alloc: Global, line: &str, text: &mut String) -> Result<(), AllocError> {
+        match lex(alloc, line.as_bytes()) {
+            Ok(tokens) => push_tokens(text, tokens.as_slice()),
+            Err(LexFault::Lexical { at }) => write!(text, "lexical at {at}"),
+            Err(LexFault::Memory) => Err(AllocError),
+        }
+    }
+}
+
 #[test]
-fn lines_have_these_tokens(rt: HostRuntime) -> Result<(), Fail> {
-    for rows in [
+fn lines_have_these_tokens(rt: HostRuntime) {
+    let tables = [
         SIGNS_ARE_AS_LONG_AS_THEY_CAN_BE,
         TEXTS_CHARACTERS_AND_COMMENTS,
         NUMBERS_NAMES_AND_TRUTH_VALUES,
         RESERVED_WORDS,
         SIGNS,
         UNPRINTED_BYTES,
-    ] {
-        all_hold(rt.alloc(), rows)?;
-    }
-    Ok(())
-}
-
-/// The one token of a line.
-fn only_kind(alloc: Global, line: &[u8]) -> Option<Kind> {
-    let mut tokens = lex(alloc, line).ok()?;
-    let token = tokens.pop()?;
-    if tokens.is_empty() {
-        Some(token.kind)
-    } else {
-        None
-    }
+    ];
+    all_hold(&rt, rt.alloc(), &Tokens, &tables);
 }
 
 /// The bytes that begin a token, or stand between tokens.
@@ -164,11 +138,9 @@ fn bytes_that_begin_nothing_are_faults(rt: HostRuntime) {
     }
 }
 
+const MANY_DIGITS: &str = "@65000~0@ => 0..65000 Number(0)\n1@64999~0@ => lexical at 0";
+
 #[test]
-fn a_number_may_have_many_digits(rt: HostRuntime) -> Result<(), Fail> {
-    let mut line = vec![in rt.alloc(); b'0'; 65000]?;
-    assert!(rt; only_kind(rt.alloc(), line.as_slice()) == Some(Kind::Number(0)));
-    line[0] = b'1';
-    assert!(rt; lex(rt.alloc(), line.as_slice()).err() == Some(LexFault::Lexical { at: 0 }));
-    Ok(())
+fn a_number_may_have_many_digits(rt: HostRuntime) {
+    all_hold(&rt, rt.alloc(), &Tokens, &[MANY_DIGITS]);
 }

@@ -1,8 +1,10 @@
 //! Types, schemes and contexts.
-use crate::made::{both, seq_of};
-use nesl_types::{Class, Context, Scheme, Top, Ty, meet, scheme_text, type_text};
+
+use crate::made::{scheme_of, type_of};
+use crate::rows::{Subject, all_hold};
+use crate::texts::{push_scheme, push_type};
+use nesl_types::{Class, Context, Scheme, Top, Ty, meet};
 use std::alloc::{AllocError, Global};
-use std::test::Fail;
 
 #[test]
 fn classes_meet(rt: HostRuntime) {
@@ -14,12 +16,15 @@ fn classes_meet(rt: HostRuntime) {
     );
 }
 
+/// What is left of the room after the nodes of `(int, [char])`.
+fn room_left(alloc: Global, room: u64) -> Result<Option<u64>, AllocError> {
+    Ok(type_of(alloc, "both int seq char")?.room_left(room))
+}
+
 #[test]
-fn nodes_are_counted(rt: HostRuntime) -> Result<(), Fail> {
+fn nodes_are_counted(rt: HostRuntime) {
     let alloc = rt.alloc();
-    let ty = both(alloc, Ok(Ty::Int), seq_of(alloc, Ok(Ty::Char)))?;
-    assert!(rt; ty.room_left(4) == Some(0) && ty.room_left(3).is_none());
-    Ok(())
+    assert!(rt; room_left(alloc, 4) == Ok(Some(0)) && room_left(alloc, 3) == Ok(None));
 }
 
 /// Adds a datatype `point` whose tag is 0.
@@ -27,105 +32,53 @@ fn add_point(alloc: Global, context: &mut Context<u8>) -> Result<(), AllocError>
     context.set(alloc, b"point", Top::Datatype(0, Ty::Int), 3)
 }
 
-/// Whether the type has this text.
-fn reads(
+/// Writes a type, or the type of functions where the words have an arrow. The datatype `d0` is `point`.
+fn tell_in(
     alloc: Global,
-    context: &Context<u8>,
-    ty: Result<Ty, AllocError>,
-    wanted: &str,
-) -> Result<bool, AllocError> {
-    let ty = ty?;
-    let text = type_text(alloc, &ty, context)?;
-    Ok(text.as_slice() == wanted.as_bytes())
+    words: &str,
+    context: &mut Context<u8>,
+    text: &mut String,
+) -> Result<(), AllocError> {
+    add_point(alloc, context)?;
+    if words.contains(" -> ") {
+        push_scheme(alloc, scheme_of(alloc, words), context, text)
+    } else {
+        push_type(alloc, type_of(alloc, words), context, text)
+    }
 }
 
-fn two_numbers(alloc: Global) -> Result<Ty, AllocError> {
-    both(alloc, Ok(Ty::Int), Ok(Ty::Int))
+/// The texts of types and schemes.
+struct Texts;
+
+impl Subject for Texts {
+    fn tell(&self, alloc: Global, words: &str, text: &mut String) -> Result<(), AllocError> {
+        tell_in(alloc, words, &mut Context::new(alloc), text)
+    }
 }
 
 /// Left pairs have brackets, and right pairs are joined.
-fn pairs_are_written(alloc: Global, context: &Context<u8>) -> Result<bool, AllocError> {
-    let left = both(alloc, two_numbers(alloc), Ok(Ty::Int));
-    let is_left = reads(alloc, context, left, "((int, int), int)")?;
-    let right = both(alloc, Ok(Ty::Int), two_numbers(alloc));
-    Ok(is_left && reads(alloc, context, right, "(int, int, int)")?)
-}
-
-fn sequences_and_names_are_written(
-    alloc: Global,
-    context: &Context<u8>,
-) -> Result<bool, AllocError> {
-    let letters = seq_of(alloc, seq_of(alloc, Ok(Ty::Char)));
-    let are_letters = reads(alloc, context, letters, "[[char]]")?;
-    let points = both(alloc, Ok(Ty::Bool), Ok(Ty::Named(0)));
-    Ok(are_letters && reads(alloc, context, points, "(bool, point)")?)
-}
+const TYPES: &str = "both both int int int => ((int, int), int)
+both int both int int => (int, int, int)
+seq seq char => [[char]]
+both bool d0 => (bool, point)";
 
 #[test]
 fn types_are_written(rt: HostRuntime) {
-    let alloc = rt.alloc();
-    let mut context = Context::new(alloc);
-    add_point(alloc, &mut context).expect(&rt, "memory");
-    let pairs = pairs_are_written(alloc, &context);
-    let others = sequences_and_names_are_written(alloc, &context);
-    assert!(rt; pairs == Ok(true) && others == Ok(true));
+    all_hold(&rt, rt.alloc(), &Texts, &[TYPES]);
 }
 
-/// Whether the scheme of a function that takes and gives these types has this text. Variable 1 is in `Logical` and 3 in `Number`.
-fn function_reads(
-    alloc: Global,
-    context: &Context<u8>,
-    takes: Result<Ty, AllocError>,
-    gives: &Ty,
-    wanted: &str,
-) -> Result<bool, AllocError> {
-    let takes = takes?;
-    let classes = [Class::Any, Class::Logical, Class::Any, Class::Number];
-    let scheme = Scheme::new(alloc, &takes, gives, &classes)?;
-    let text = scheme_text(alloc, &scheme, context)?;
-    Ok(text.as_slice() == wanted.as_bytes())
-}
+const SCHEMES: &str = "both v3 v3 -> v3 :: any logical any number => (a, a) -> a :: (a in number)
+both v9 v1 -> v9 :: any logical any number => (a, b) -> a :: (b in logical)
+both v3 v1 -> bool :: any logical any number => (a, b) -> bool :: (a in number; b in logical)
+int -> d0 :: any logical any number => int -> point";
 
-/// The pairs of 30 variables, of which the last is 3.
-fn thirty(alloc: Global) -> Result<Ty, AllocError> {
-    let mut ty = Ok(Ty::Var(3));
-    for variable in 4..33 {
-        ty = both(alloc, Ok(Ty::Var(variable)), ty);
-    }
-    ty
-}
-
-fn classes_are_written(alloc: Global, context: &Context<u8>) -> Result<bool, AllocError> {
-    let same = both(alloc, Ok(Ty::Var(3)), Ok(Ty::Var(3)));
-    let wanted = "(a, a) -> a :: (a in number)";
-    let is_same = function_reads(alloc, context, same, &Ty::Var(3), wanted)?;
-    let second = both(alloc, Ok(Ty::Var(9)), Ok(Ty::Var(1)));
-    let wanted = "(a, b) -> a :: (b in logical)";
-    Ok(is_same && function_reads(alloc, context, second, &Ty::Var(9), wanted)?)
-}
-
-fn several_classes_are_written(alloc: Global, context: &Context<u8>) -> Result<bool, AllocError> {
-    let two = both(alloc, Ok(Ty::Var(3)), Ok(Ty::Var(1)));
-    let wanted = "(a, b) -> bool :: (a in number; b in logical)";
-    let are_two = function_reads(alloc, context, two, &Ty::Bool, wanted)?;
-    Ok(are_two && function_reads(alloc, context, Ok(Ty::Int), &Ty::Named(0), "int -> point")?)
-}
-
-fn thirty_variables_have_names(alloc: Global, context: &Context<u8>) -> Result<bool, AllocError> {
-    let wanted =
-        "(a, b, c, d, e, f, g, h, i, j, k, l, m, n, o, p, q, r, s, t, u, v, w, x, y, z, a1, b1, c1, d1) -> d1 :: (d1 in number)";
-    function_reads(alloc, context, thirty(alloc), &Ty::Var(3), wanted)
-}
+/// One of thirty variables.
+const THIRTY: &str =
+    "both v32 both v31 both v30 both v29 both v28 both v27 both v26 both v25 both v24 both v23 both v22 both v21 both v20 both v19 both v18 both v17 both v16 both v15 both v14 both v13 both v12 both v11 both v10 both v9 both v8 both v7 both v6 both v5 both v4 v3 -> v3 :: any logical any number => (a, b, c, d, e, f, g, h, i, j, k, l, m, n, o, p, q, r, s, t, u, v, w, x, y, z, a1, b1, c1, d1) -> d1 :: (d1 in number)";
 
 #[test]
 fn schemes_are_written(rt: HostRuntime) {
-    let alloc = rt.alloc();
-    let mut context = Context::new(alloc);
-    add_point(alloc, &mut context).expect(&rt, "memory");
-    let one = classes_are_written(alloc, &context);
-    let several = several_classes_are_written(alloc, &context);
-    let thirty = thirty_variables_have_names(alloc, &context);
-    assert!(rt; one == Ok(true) && several == Ok(true) && thirty == Ok(true));
+    all_hold(&rt, rt.alloc(), &Texts, &[SCHEMES, THIRTY]);
 }
 
 /// Adds a variable, a datatype, and the variable again, which is a datatype now.
@@ -135,75 +88,106 @@ fn add_two_datatypes(alloc: Global, context: &mut Context<u8>) -> Result<(), All
     context.set(alloc, b"x", Top::Datatype(1, Ty::Bool), 7)
 }
 
-/// Whether the datatypes with the tags from 0 on have these payloads, as far as there are such.
-fn are_tagged(context: &Context<u8>, payloads: &[Option<u8>]) -> bool {
-    let mut tag = 0u64;
-    for payload in payloads {
-        if context.datatype(tag).map(|b| *b.2) != *payload {
-            return false;
-        }
-        tag = tag.saturating_add(1);
+/// The payload of the datatype with the tag; 0 where there is none.
+fn tagged(context: &Context<u8>, tag: u64) -> u8 {
+    match context.datatype(tag) {
+        Some((_, _, payload)) => *payload,
+        None => 0,
     }
-    true
+}
+
+/// Whether these are the payloads of the datatypes with the tags 0 and 1, and there is no third one.
+fn are_tagged(context: &Context<u8>, first: u8, second: u8) -> bool {
+    tagged(context, 0) == first && tagged(context, 1) == second && tagged(context, 2) == 0
+}
+
+/// Whether the datatypes with the tags 0 and 1 have their names.
+fn are_named(alloc: Global, context: &Context<u8>) -> Result<bool, AllocError> {
+    let mut text = String::new(alloc);
+    push_type(alloc, type_of(alloc, "both d0 d1"), context, &mut text)?;
+    Ok(text.as_str() == "(point, x)")
+}
+
+/// Whether two datatypes are found, and then the one that is left.
+fn are_found(alloc: Global, context: &mut Context<u8>) -> Result<bool, AllocError> {
+    add_two_datatypes(alloc, context)?;
+    let are_both = are_tagged(context, 6, 7) && are_named(alloc, context)?;
+    context.set(alloc, b"point", Top::Variable(Ty::Int), 8)?;
+    Ok(are_both && are_tagged(context, 0, 7))
 }
 
 #[test]
 fn datatypes_are_found_by_their_tags(rt: HostRuntime) {
-    let alloc = rt.alloc();
-    let mut context = Context::new(alloc);
-    add_two_datatypes(alloc, &mut context).expect(&rt, "memory");
-    let names = both(alloc, Ok(Ty::Named(0)), Ok(Ty::Named(1)));
-    assert!(rt;
-        are_tagged(&context, &[Some(6), Some(7), None])
-            && reads(alloc, &context, names, "(point, x)") == Ok(true)
-    );
-    context
-        .set(alloc, b"point", Top::Variable(Ty::Int), 8)
-        .expect(&rt, "memory");
-    assert!(rt; are_tagged(&context, &[None, Some(7)]));
+    let are_found = are_found(rt.alloc(), &mut Context::new(rt.alloc()));
+    assert!(rt; are_found == Ok(true));
+}
+
+/// Adds a datatype and a variable, and makes the datatype a variable.
+fn add_two_variables(alloc: Global, context: &mut Context<u8>) -> Result<(), AllocError> {
+    add_point(alloc, context)?;
+    context.set(alloc, b"x", Top::Variable(Ty::Int), 1)?;
+    context.set(alloc, b"point", Top::Variable(Ty::Bool), 9)
+}
+
+/// The payload of the name; 0 where it is none.
+fn named(context: &Context<u8>, name: &[u8]) -> u8 {
+    match context.get(name) {
+        Some((_, payload)) => *payload,
+        None => 0,
+    }
 }
 
 /// Whether `point` and `x` are held, with the payloads that they have last.
 fn are_held(context: &Context<u8>) -> bool {
-    context.len() == 2
-        && context.at(0).map(|b| *b.2) == Some(9)
-        && context.get(b"x").map(|b| *b.1) == Some(1)
-        && context.get(b"y").is_none()
+    let Some((_, _, first)) = context.at(0) else {
+        return false;
+    };
+    context.len() == 2 && *first == 9 && named(context, b"x") == 1 && named(context, b"y") == 0
+}
+
+fn is_kept(alloc: Global, context: &mut Context<u8>) -> Result<bool, AllocError> {
+    add_two_variables(alloc, context)?;
+    Ok(are_held(context))
 }
 
 #[test]
 fn a_name_keeps_its_place(rt: HostRuntime) {
-    let alloc = rt.alloc();
-    let mut context = Context::new(alloc);
-    add_point(alloc, &mut context).expect(&rt, "memory");
-    context
-        .set(alloc, b"x", Top::Variable(Ty::Int), 1)
-        .expect(&rt, "memory");
-    context
-        .set(alloc, b"point", Top::Variable(Ty::Bool), 9)
-        .expect(&rt, "memory");
-    assert!(rt; are_held(&context));
+    let is_kept = is_kept(rt.alloc(), &mut Context::new(rt.alloc()));
+    assert!(rt; is_kept == Ok(true));
 }
 
-/// The scheme of a function from pairs of variables 0 and 1 to variable 1, where 0 is in the class and 1 in `Any`.
-fn second_of(alloc: Global, class: Class) -> Result<Scheme, AllocError> {
-    let takes = both(alloc, Ok(Ty::Var(0)), Ok(Ty::Var(1)))?;
-    Scheme::new(alloc, &takes, &Ty::Var(1), &[class])
+/// Writes whether the scheme is the one of the words.
+fn tell_sameness(
+    alloc: Global,
+    scheme: &Scheme,
+    words: &str,
+    text: &mut String,
+) -> Result<(), AllocError> {
+    let other = scheme_of(alloc, words)?;
+    let is_same = scheme.same(&other);
+    drop(other);
+    write!(text, "{is_same}")
 }
 
-/// The scheme of a function from pairs of variables 7 and 3 to variable 7.
-fn first_of(alloc: Global) -> Result<Scheme, AllocError> {
-    let takes = both(alloc, Ok(Ty::Var(7)), Ok(Ty::Var(3)))?;
-    Scheme::new(alloc, &takes, &Ty::Var(7), &[])
+/// Whether the two schemes of words are the same.
+struct Sameness;
+
+impl Subject for Sameness {
+    fn tell(&self, alloc: Global, words: &str, text: &mut String) -> Result<(), AllocError> {
+        let (words, other) = words.split_once(" = ").unwrap_or((words, ""));
+        let scheme = scheme_of(alloc, words)?;
+        scheme.variables_have_classes();
+        let told = tell_sameness(alloc, &scheme, other, text);
+        drop(scheme);
+        told
+    }
 }
+
+const COMPARED: &str = "both v0 v1 -> v1 :: number = both v0 v1 -> v1 :: number => true
+both v0 v1 -> v1 :: number = both v0 v1 -> v1 :: ordinal => false
+both v0 v1 -> v1 :: number = both v7 v3 -> v7 => false";
 
 #[test]
 fn schemes_are_compared(rt: HostRuntime) {
-    let alloc = rt.alloc();
-    let number = second_of(alloc, Class::Number).expect(&rt, "memory");
-    number.variables_have_classes();
-    let again = second_of(alloc, Class::Number).expect(&rt, "memory");
-    let ordinal = second_of(alloc, Class::Ordinal).expect(&rt, "memory");
-    let first = first_of(alloc).expect(&rt, "memory");
-    assert!(rt; number.same(&again) && !number.same(&ordinal) && !number.same(&first));
+    all_hold(&rt, rt.alloc(), &Sameness, &[COMPARED]);
 }
