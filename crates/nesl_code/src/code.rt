@@ -19,6 +19,7 @@ pub enum Step {
 /// Local names stand in frames. The body of a called function has one frame with one value, its argument; a `let` has
 /// a frame with the values of its bindings so far; an apply-to-each has one with the elements of its sequences at a
 /// place.
+#[derive(Drop)]
 pub enum Code {
     Number {
         span: Span,
@@ -120,81 +121,4 @@ pub enum Code {
         body: Box<Code>,
         filter: Box<Code>,
     },
-}
-
-// By hand, so that no crate above has to prove how the parts are dropped.
-impl Drop for Code {
-    fn drop(self) {
-        match self {
-            Code::Number { span: _, value: _ }
-            | Code::Truth { span: _, value: _ }
-            | Code::Character { span: _, value: _ }
-            | Code::Top { span: _, place: _ }
-            | Code::Empty { span: _ } => {}
-            Code::Text { span: _, bytes } => drop(bytes),
-            Code::Local {
-                span: _,
-                up: _,
-                index: _,
-                steps,
-            } => drop(steps),
-            Code::Named { span: _, name } => drop(name),
-            Code::Pair {
-                span: _,
-                left,
-                right,
-            } => drop((left, right)),
-            Code::Apply {
-                span: _,
-                function: _,
-                argument,
-            } => drop(argument),
-            Code::ApplyTwo {
-                span: _,
-                function: _,
-                left,
-                right,
-            } => drop((left, right)),
-            Code::ApplyThree {
-                span: _,
-                function: _,
-                first,
-                second,
-                third,
-            } => drop((first, second, third)),
-            Code::Call {
-                span: _,
-                place: _,
-                argument,
-            } => drop(argument),
-            Code::CallNamed {
-                span: _,
-                name,
-                argument,
-            } => drop((name, argument)),
-            Code::Choice {
-                span: _,
-                test,
-                yes,
-                no,
-            } => drop((test, yes, no)),
-            Code::Sequence { span: _, parts } => drop(parts),
-            Code::Let {
-                span: _,
-                bindings,
-                body,
-            } => drop((bindings, body)),
-            Code::Each {
-                span: _,
-                sources,
-                body,
-            } => drop((sources, body)),
-            Code::FilteredEach {
-                span: _,
-                sources,
-                body,
-                filter,
-            } => drop((sources, body, filter)),
-        }
-    }
 }

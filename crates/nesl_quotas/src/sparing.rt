@@ -10,8 +10,8 @@ use std::time::{Clock, Duration, Instant};
 /// How many microseconds a helper has to take to be worth its thread, which takes some tens of them to make.
 const WORTH: u64 = 500;
 
-/// How many microseconds each half of an interval sleeps before it begins. A scheduler that puts a new thread on its
-/// maker's processor, where it waits for the other half, places a thread anew when it wakes.
+/// How many microseconds a half of an interval sleeps before it begins. A scheduler that puts a new thread on its maker's
+/// processor, where it waits for the other half, places a thread anew when it wakes.
 const NAP: u64 = 1;
 
 /// The most asks that are passed over at once.
@@ -30,8 +30,9 @@ const MOST_LINES: u64 = 63;
 ///
 /// No ask is put for a half that is one thread's share of the interval, where all helpers and the asking thread take part:
 /// else the thread that cuts first would take the helper that the other half is about to ask for.
-/// This is also the connection's gate, by which it sees that a line begins and how long halves are; it lets each half
-/// sleep for a microsecond, so that the scheduler places its thread, and tells another gate of each place.
+/// This is also the connection's gate, by which it sees that a line begins and how long halves are; it tells another gate
+/// of each place. Where no asks of a kind are to be passed over, so that long halves are likely, those of a granted one
+/// sleep for a microsecond, so that the scheduler places their threads.
 #[derive(Drop)]
 pub struct Sparing<'a, C, H, G> {
     clock: &'a C,
@@ -45,6 +46,8 @@ pub struct Sparing<'a, C, H, G> {
     entered: AtomicU64,
     // The places of the longest half of the interval that was cut last.
     longest: AtomicU64,
+    // 1 where the halves sleep whose helper was granted last.
+    sleeps: AtomicU64,
     // How many first asks are still passed over.
     firsts_left: AtomicU64,
     // How many were to be passed over after the last short helper, halved for each long one since.
@@ -72,6 +75,7 @@ impl<'a, C: Clock, H: Helpers, G: Gate> Sparing<'a, C, H, G> {
             begun: AtomicU64::new(0),
             entered: AtomicU64::new(0),
             longest: AtomicU64::new(0),
+            sleeps: AtomicU64::new(0),
             firsts_left: AtomicU64::new(0),
             firsts_passed: AtomicU64::new(0),
             left: AtomicU64::new(0),
@@ -81,6 +85,9 @@ impl<'a, C: Clock, H: Helpers, G: Gate> Sparing<'a, C, H, G> {
 
     // A half of so many places is entered, which asks next unless it has one place alone.
     fn enter_half(&self, places: u64) {
+        if self.sleeps.load(Ordering::SeqCst) != 0 {
+            thread::sleep(self.clock, Duration::from_micros(NAP));
+        }
         let longest = self.longest.load(Ordering::SeqCst);
         self.longest.store(longest.max(places), Ordering::SeqCst);
         self.entered
@@ -132,15 +139,17 @@ impl<C: Clock, H: Helpers, G: Gate> Helpers for Sparing<'_, C, H, G> {
         if self.is_share(places) {
             return None;
         }
-        let left = if is_first {
-            &self.firsts_left
+        let (left, passed) = if is_first {
+            (&self.firsts_left, &self.firsts_passed)
         } else {
-            &self.left
+            (&self.left, &self.passed)
         };
         if pass_over(left) {
             return None;
         }
         let permit = self.helpers.ask()?;
+        let sleeps = passed.load(Ordering::SeqCst) == 0;
+        self.sleeps.store(u64::from(sleeps), Ordering::SeqCst);
         if is_first {
             self.left.store(0, Ordering::SeqCst);
         }
@@ -184,10 +193,7 @@ impl<C: Clock, H: Helpers, G: Gate> Gate for Sparing<'_, C, H, G> {
                 self.entered.store(0, Ordering::SeqCst);
                 self.longest.store(0, Ordering::SeqCst);
             }
-            Place::Half(from, to) => {
-                thread::sleep(self.clock, Duration::from_micros(NAP));
-                self.enter_half(to.saturating_sub(from) as u64);
-            }
+            Place::Half(from, to) => self.enter_half(to.saturating_sub(from) as u64),
         }
         self.gate.enter(place);
     }

@@ -3,7 +3,6 @@ use nesl_helpers::{Free, Gate, Helpers, Place};
 use nesl_quotas::sparing::Sparing;
 use std::io;
 use std::sync::atomic::{AtomicU64, Ordering};
-use std::test::Fail;
 use std::time::{Clock, Duration};
 
 // Counts how often something sleeps.
@@ -46,43 +45,25 @@ impl Helpers for Granting {
     }
 }
 
-// Whether a line's first ask is granted, of which the helper is back at once.
-fn is_granted<H: Helpers + Gate>(sparing: &H) -> bool {
+// How often halves sleep in a line whose first ask is granted; none where it is passed over.
+fn sleeps_in_line<H: Helpers + Gate>(clock: &Still, sparing: &H) -> Option<u64> {
+    let before = clock.sleeps.load(Ordering::SeqCst);
     sparing.enter(Place::Line(0));
-    match sparing.ask() {
-        Some(permit) => {
-            sparing.done(permit);
-            true
-        }
-        None => false,
-    }
-}
-
-#[test]
-fn lines_are_passed_over_after_a_short_helper(rt: HostRuntime) -> Result<(), Fail> {
-    let clock = Still {
-        sleeps: AtomicU64::new(0),
-    };
-    let sparing = Sparing::new(&clock, Granting, 1, &Free);
-    for (line, wanted) in [true, false, true, false, false, false, true]
-        .into_iter()
-        .enumerate()
-    {
-        assert!(rt; is_granted(&sparing) == wanted, "line {line}");
-    }
-    assert!(rt; clock.sleeps.load(Ordering::SeqCst) == 0);
-    Ok(())
-}
-
-#[test]
-fn each_half_sleeps_before_it_begins(rt: HostRuntime) -> Result<(), Fail> {
-    let clock = Still {
-        sleeps: AtomicU64::new(0),
-    };
-    let sparing = Sparing::new(&clock, Granting, 1, &Free);
-    sparing.enter(Place::Line(0));
+    let permit = sparing.ask()?;
     sparing.enter(Place::Half(0, 5));
     sparing.enter(Place::Half(5, 10));
-    assert!(rt; clock.sleeps.load(Ordering::SeqCst) == 2);
-    Ok(())
+    sparing.done(permit);
+    Some(clock.sleeps.load(Ordering::SeqCst).saturating_sub(before))
+}
+
+#[test]
+fn after_a_short_helper_lines_are_passed_over_and_no_half_sleeps(rt: HostRuntime) {
+    let clock = Still {
+        sleeps: AtomicU64::new(0),
+    };
+    let sparing = Sparing::new(&clock, Granting, 1, &Free);
+    let wanted = [Some(2), None, Some(0), None, None, None, Some(0), None];
+    for (line, sleeps) in wanted.into_iter().enumerate() {
+        assert!(rt; sleeps_in_line(&clock, &sparing) == sleeps, "line {line}");
+    }
 }
