@@ -5,6 +5,8 @@ pub mod Cuts
 pub mod Texts
 pub mod Members
 pub mod Listings
+pub mod Functions
+pub mod Begun
 pub mod Signatures
 pub mod Targets
 pub mod Lines
