@@ -1,5 +1,7 @@
-use Rattle.std.proofs.Common.{◌≡◌, ◌≢◌, ◌∙◌, ◌+◌, ◌/◌, ◌%◌, rules}
-use Rattle.std.proofs.lemmas.List.{length-set}
+use Rattle.std.proofs.Common.{◌≡◌, ◌≢◌, ◌∙◌, ◌+◌, ◌*◌, ◌/◌, ◌%◌, ap, map, reverse, rules}
+use Rattle.std.proofs.lemmas.List.{length-set, take_all}
+use Rattle.nesl_seq_base.specs.Places.{arrival}
+use Rattle.nesl_seq_base.specs.Write.{writes_of}
 use Rattle.nesl_values.specs.View.{tree_of}
 use Rattle.nesl_seq_reorders.proofs.Writing.{last_inside, last_outside, last_same}
 use Rattle.nesl_seq_reorders.proofs.write.last_writers.Goals as goal
@@ -22,3 +24,7 @@ loop-number-preserved g c =
       | in_default w ↦
           rw w.last-is (c.loop-number.invariant.0, last_same tree_of n ps j p c.args.window last c.loop-number-test.true c.index-pairs-number.is w.in_default.ensures c.loop-number.invariant.1)
     ]
+
+pub returns : goal.returns
+returns g c q h =
+    c.loop-number.invariant.1 q h ∙ ap (λ ps. arrival (reverse (writes_of c.args.len (map tree_of ps))) (c.args.window * 4096 + q)) (take_all c.loop-number.number c.args.pairs.now c.loop-number-test.false)

@@ -1,7 +1,7 @@
 use Rattle.std.proofs.Common.{◌≡◌, ◌∙◌, length, map, set, ap, sym, rules}
-use Rattle.std.proofs.lemmas.List.{map-set, length-set}
+use Rattle.std.proofs.lemmas.List.{map-set, length-set, take_all}
 use Rattle.nesl_values.specs.View.{tree_of}
-use Rattle.nesl_seq_base.specs.Write.{overwritten}
+use Rattle.nesl_seq_base.specs.Write.{overwritten, writes_of}
 use Rattle.nesl_seq_reorders.proofs.Writing.{overwritten_none, overwritten_turn, writes_same}
 use Rattle.nesl_seq_reorders.proofs.write.overwritten_leaves.Goals as goal
 use Rattle.nesl_seq_reorders.proofs.write.overwritten_leaves.Goals.{in-Some+in-Some-of, in_default}
@@ -27,3 +27,8 @@ loop-pair-preserved g c =
       | in_default w ↦
           rw w.made-is (c.loop-pair.invariant.0 ∙ ap (overwritten (map leaf xs)) (sym (writes_same tree_of (length xs) ps j p c.loop-pair-test.true c.pair-item.is w.in_default.ensures.write)), c.loop-pair.invariant.1)
     ]
+
+pub returns : goal.returns
+returns g c =
+    let xs = c.args.items.now in
+    c.loop-pair.invariant.0 ∙ ap (λ ps. overwritten (map g.T.Leaf.leaf xs) (writes_of (length xs) (map tree_of ps))) (take_all c.loop-pair.pair-index c.args.pairs.now c.loop-pair-test.false)

@@ -1,7 +1,7 @@
 use Rattle.std.proofs.Common.{◌≡◌, ◌∙◌, length, map, set, ap, sym, rules}
-use Rattle.std.proofs.lemmas.List.{map-set, length-set, length-map}
+use Rattle.std.proofs.lemmas.List.{map-set, length-set, length-map, take_all}
 use Rattle.nesl_values.specs.View.{tree_of, item_trees}
-use Rattle.nesl_seq_base.specs.Write.{overwritten, write_of}
+use Rattle.nesl_seq_base.specs.Write.{overwritten, write_of, writes_of}
 use Rattle.nesl_seq_reorders.proofs.Writing.{overwritten_none, overwritten_turn, writes_same}
 use Rattle.nesl_seq_reorders.proofs.write.overwritten_values.Goals as goal
 use Rattle.nesl_seq_reorders.proofs.write.overwritten_values.Goals.{in-Some+in_ok-made-2, in_default}
@@ -27,3 +27,8 @@ loop-pair-preserved g c =
       | in_default w ↦
           rw w.made-is (c.loop-pair.invariant.0 ∙ ap (overwritten ts) (sym (writes_same tree_of (length ts) ps j p c.loop-pair-test.true c.pair-item.is (w.in_default.ensures.write ∙ ap (λ n. write_of n (tree_of p)) c.len.ensures))), c.loop-pair.invariant.1)
     ]
+
+pub returns : goal.returns
+returns g c =
+    let ts = item_trees c.args.items in
+    c.loop-pair.invariant.0 ∙ ap (λ ps. overwritten ts (writes_of (length ts) (map tree_of ps))) (take_all c.loop-pair.pair-index c.args.pairs.now c.loop-pair-test.false)
