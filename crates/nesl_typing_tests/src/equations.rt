@@ -63,7 +63,8 @@ fn first_class(solution: &Solution) -> &'static str {
 
 /// Writes a type where it is a variable, and else the number of its nodes.
 fn push_variable_or_size(text: &mut String, ty: Result<Ty, AllocError>) -> Result<(), AllocError> {
-    match ty? {
+    let ty = ty?;
+    match &ty {
         Ty::Var(variable) => write!(text, " v{variable}"),
         other => {
             let left = other.room_left(5000).unwrap_or(0);
