@@ -193,7 +193,7 @@ fn picked<T: Copy, A: Allocator, I: Item>(
     let mut made = Vec::with_capacity(alloc, indices.len())?;
     for index in indices {
         if let Some(place) = place_of(index, items.len()) {
-            made.push(items[place])?;
+            made.push_reserved(items[place]);
         }
     }
     Ok(made)
