@@ -12,15 +12,15 @@ loop-index-preserved g c =
     let i = c.loop-index.invariant in
     elim c.match-place_of.branch [
       | in-Some w ↦ rw w.made-is (record {
-          picked = held_more g.I.Item.tree xs is c.loop-index.index-index c.index-item.result w.in-Some.place w.index-items-place.result c.loop-index.made.items _ (omega arith) c.index-item.is w.in-Some.ensures.place w.in-Some.ensures.within w.index-items-place.is i.picked w.push_reserved.ensures.items;
-          within = omega (arith, i.within, w.push_reserved.ensures.len);
-          room = omega (arith, i.room, w.push_reserved.ensures.capacity);
-        })
+        picked = held_more g.I.Item.tree xs is c.loop-index.index-index c.index-item.result w.in-Some.place w.index-items-place.result c.loop-index.made.items _ (omega arith) c.index-item.is w.in-Some.ensures.place w.in-Some.ensures.within w.index-items-place.is i.picked w.push_reserved.ensures.items;
+        within = omega (arith, i.within, w.push_reserved.ensures.len);
+        room = omega (arith, i.room, w.push_reserved.ensures.capacity);
+      })
       | in_default w ↦ rw w.made-is (record {
-          picked = i.picked ∙ sym (picked_same g.I.Item.tree xs is c.loop-index.index-index c.index-item.result (omega arith) c.index-item.is w.in_default.ensures.place);
-          within = omega (arith, i.within);
-          room = i.room;
-        })
+        picked = i.picked ∙ sym (picked_same g.I.Item.tree xs is c.loop-index.index-index c.index-item.result (omega arith) c.index-item.is w.in_default.ensures.place);
+        within = omega (arith, i.within);
+        room = i.room;
+      })
     ]
 
 pub returns : goal.returns
