@@ -14,7 +14,6 @@ ghost use Rattle.nesl_standing.specs.Inside.{state_of, Counts};
 
 use crate::evaluator::Evaluator;
 use nesl_eval::Outcome;
-use nesl_forms::drops::{let_go_exp, let_go_typed, let_go_value};
 use nesl_forms::finding::{Definition, Finding, Meaning, Shown};
 use nesl_forms::{find_datatype, find_function, find_type, variable_type};
 use nesl_reply::{Fault, Stop, Used};
@@ -58,8 +57,8 @@ pub fn find_form<A: Allocator, E: Evaluator<A>>(
         Form::Datatype { name, content } => {
             find_datatype(&standing.bindings, standing.limits, alloc, name, content)
         }
-        Form::Bind { name, value } => find_variable(standing, alloc, name, value, by),
-        Form::Eval(exp) => find_it(standing, alloc, exp, by),
+        Form::Bind { name, value } => find_variable(standing, alloc, name, &value, by),
+        Form::Eval(exp) => find_it(standing, alloc, &exp, by),
         Form::ShowNames => Ok(Finding::Told(Shown::Names)),
         Form::ShowBudget => Ok(Finding::Told(budget_shown(standing))),
         Form::ShowType(exp) => find_type(&standing.bindings, alloc, exp),
@@ -90,41 +89,19 @@ fn budget_shown(standing: &Standing) -> Shown
 fn find_it<A: Allocator, E: Evaluator<A>>(
     standing: &Standing,
     alloc: Global,
-    exp: Exp,
+    exp: &Exp,
     by: &E,
 ) -> Result<Finding, AllocError>
     requires { E.sound by.now }
-    ensures found { IfOk result (λ f. FindsVariable standing.now.limits (state_of standing.now) it (tree_of exp) (finding_of f)) }
+    ensures found { IfOk result (λ f. FindsVariable standing.now.limits (state_of standing.now) it (tree_of exp.now) (finding_of f)) }
     ensures charges { IfOk result (CanCharge (state_of standing.now)) }
 {
-    match Vec::from_slice(alloc, b"it") {
-        Ok(name) => find_variable(standing, alloc, name, exp, by),
-        Err(error) => {
-            let_go_exp(exp);
-            Err(error)
-        }
-    }
-}
-
-// A variable is bound.
-fn find_variable<A: Allocator, E: Evaluator<A>>(
-    standing: &Standing,
-    alloc: Global,
-    name: Vec<u8>,
-    exp: Exp,
-    by: &E,
-) -> Result<Finding, AllocError>
-    requires { E.sound by.now }
-    ensures found { IfOk result (λ f. FindsVariable standing.now.limits (state_of standing.now) name.items (tree_of exp) (finding_of f)) }
-    ensures charges { IfOk result (CanCharge (state_of standing.now)) }
-{
-    let found = find_bound(standing, alloc, name, &exp, by);
-    let_go_exp(exp);
-    found
+    let name = Vec::from_slice(alloc, b"it")?;
+    find_variable(standing, alloc, name, exp, by)
 }
 
 // What an expression that a name is bound to comes to.
-fn find_bound<A: Allocator, E: Evaluator<A>>(
+fn find_variable<A: Allocator, E: Evaluator<A>>(
     standing: &Standing,
     alloc: Global,
     name: Vec<u8>,
@@ -165,35 +142,17 @@ fn find_value<A: Allocator, E: Evaluator<A>>(
                 .bindings
                 .fits_variable(name.as_slice(), &value, standing.limits.elements)
             {
-                let_go_value(value);
-                let_go_typed(name, ty);
                 return Ok(Finding::Refused(Fault::Elements(work), work));
             }
-            let kept = by.keep(alloc, &value);
-            let_go_value(value);
-            match kept {
-                Ok(kept) => {
-                    let meaning = Meaning::Variable(ty, kept, Cost { work, depth });
-                    Ok(Finding::Defined(Definition { name, meaning }))
-                }
-                Err(error) => {
-                    let_go_typed(name, ty);
-                    Err(error)
-                }
-            }
+            let kept = by.keep(alloc, &value)?;
+            let meaning = Meaning::Variable(ty, kept, Cost { work, depth });
+            Ok(Finding::Defined(Definition { name, meaning }))
         }
         Outcome::Fault { trap, span, work } => {
-            let_go_typed(name, ty);
             let fault = Fault::of_trap(trap, Stop { span, work });
             Ok(Finding::Refused(fault, work))
         }
-        Outcome::Over => {
-            let_go_typed(name, ty);
-            Ok(Finding::Refused(Fault::Work(budget), budget))
-        }
-        Outcome::Memory => {
-            let_go_typed(name, ty);
-            Err(AllocError)
-        }
+        Outcome::Over => Ok(Finding::Refused(Fault::Work(budget), budget)),
+        Outcome::Memory => Err(AllocError),
     }
 }

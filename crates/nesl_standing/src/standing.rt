@@ -8,7 +8,6 @@ ghost use Rattle.nesl_forms.specs.Found.{finding_of, meaning_of, work_of, bindin
 ghost use Rattle.nesl_standing.specs.Settling.{CanSettle, Fits};
 
 use nesl_bindings::Bindings;
-use nesl_forms::drops::forget;
 use nesl_forms::finding::{Definition, Finding, Meaning};
 use nesl_step::limits::Limits;
 use std::alloc::{AllocError, Global};
@@ -103,7 +102,7 @@ impl Standing {
         ensures limits { self.new.limits ≡ self.old.limits }
     {
         let told = self.cleared + self.transcript.len() as u64 + 1;
-        forget(&mut self.bindings, alloc);
+        self.bindings = Bindings::new(alloc);
         self.transcript = Vec::new(alloc);
         self.bytes = 0;
         self.pending = Vec::new(alloc);

@@ -38,34 +38,34 @@ returns-then-not-fits_variable-clause-charges g c =
     let h = outcome_told (Done c.in-Done.value c.in-Done.work c.in-Done.depth) c.min-budget.result (budget c.args.standing.now.limits (state_of c.args.standing.now)) 1000 (code.environment c.environment.result.now) (environment (state_of c.args.standing.now).bindings) (tree_of_exp c.args.exp.now) c.min-budget.ensures c.environment.ensures c.in-Done.ensures (c.typed_never_stuck.ensures (tree_of_exp c.args.exp.now) (term c.args.ty) c.requires.typed 1000) in
     omega (arith, h.2, budget_left l s)
 
-pub returns-in-Ok-clause-found : goal.returns-in-Ok-clause-found
-returns-in-Ok-clause-found g c =
+pub returns-in_ok-kept-in-Done-clause-found : goal.returns-in_ok-kept-in-Done-clause-found
+returns-in_ok-kept-in-Done-clause-found g c =
     let s = state_of c.args.standing.now in
     let l = c.args.standing.now.limits in
     let x = c.args.name.items in
     let t = term c.args.ty in
     let o = out 1000 (environment s.bindings) (outside []) (tree_of_exp c.args.exp.now) in
     let h = outcome_told (Done c.in-Done.value c.in-Done.work c.in-Done.depth) c.min-budget.result (budget c.args.standing.now.limits (state_of c.args.standing.now)) 1000 (code.environment c.environment.result.now) (environment (state_of c.args.standing.now).bindings) (tree_of_exp c.args.exp.now) c.min-budget.ensures c.environment.ensures c.in-Done.ensures (c.typed_never_stuck.ensures (tree_of_exp c.args.exp.now) (term c.args.ty) c.requires.typed 1000) in
-    let kept = c.in-Ok.ensures in
+    let kept = c.in_ok-kept-in-Done.ensures in
     let P : Value → Type 0 = λ u. true ≡ leb (elements_of (put c.as_slice.result.now (variable t u) s.bindings)) l.elements in
-    comes_value l s x t o (tree_of c.in-Ok.kept) c.in-Done.work c.in-Done.depth _ (h.0 ∙ ap (λ u. told (value u c.in-Done.work c.in-Done.depth)) (sym kept))
-    (few_named l s (replies.bound x (tree_of c.in-Ok.kept) t (record { work = c.in-Done.work; depth = c.in-Done.depth })) c.in-Done.work c.as_slice.result.now x (variable t (tree_of c.in-Ok.kept)) c.as_slice.ensures.value (subst P (sym kept) (c.if-not-fits_variable.ensures t)))
+    comes_value l s x t o (tree_of c.in_ok-kept-in-Done.kept) c.in-Done.work c.in-Done.depth _ (h.0 ∙ ap (λ u. told (value u c.in-Done.work c.in-Done.depth)) (sym kept))
+    (few_named l s (replies.bound x (tree_of c.in_ok-kept-in-Done.kept) t (record { work = c.in-Done.work; depth = c.in-Done.depth })) c.in-Done.work c.as_slice.result.now x (variable t (tree_of c.in_ok-kept-in-Done.kept)) c.as_slice.ensures.value (subst P (sym kept) (c.if-not-fits_variable.ensures t)))
 
-pub returns-in-Ok-clause-charges : goal.returns-in-Ok-clause-charges
-returns-in-Ok-clause-charges g c =
+pub returns-in_ok-kept-in-Done-clause-charges : goal.returns-in_ok-kept-in-Done-clause-charges
+returns-in_ok-kept-in-Done-clause-charges g c =
     let s = state_of c.args.standing.now in
     let l = c.args.standing.now.limits in
     let x = c.args.name.items in
     let t = term c.args.ty in
     let o = out 1000 (environment s.bindings) (outside []) (tree_of_exp c.args.exp.now) in
     let h = outcome_told (Done c.in-Done.value c.in-Done.work c.in-Done.depth) c.min-budget.result (budget c.args.standing.now.limits (state_of c.args.standing.now)) 1000 (code.environment c.environment.result.now) (environment (state_of c.args.standing.now).bindings) (tree_of_exp c.args.exp.now) c.min-budget.ensures c.environment.ensures c.in-Done.ensures (c.typed_never_stuck.ensures (tree_of_exp c.args.exp.now) (term c.args.ty) c.requires.typed 1000) in
-    let kept = c.in-Ok.ensures in
+    let kept = c.in_ok-kept-in-Done.ensures in
     let P : Value → Type 0 = λ u. true ≡ leb (elements_of (put c.as_slice.result.now (variable t u) s.bindings)) l.elements in (
       omega (arith, h.2, budget_left l s),
       (
         (tree_of_exp c.args.exp.now, 1000, c.in-Done.work, c.in-Done.depth, c.requires.typed, h.1 ∙ ap (λ u. value u c.in-Done.work c.in-Done.depth) (sym kept)),
         c.requires.free,
-        room_named s l.elements c.as_slice.result.now x (variable t (tree_of c.in-Ok.kept)) (omega arith) c.as_slice.ensures.value (subst P (sym kept) (c.if-not-fits_variable.ensures t)),
+        room_named s l.elements c.as_slice.result.now x (variable t (tree_of c.in_ok-kept-in-Done.kept)) (omega arith) c.as_slice.ensures.value (subst P (sym kept) (c.if-not-fits_variable.ensures t)),
       ),
     )
 

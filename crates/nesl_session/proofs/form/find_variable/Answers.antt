@@ -11,7 +11,7 @@ use Rattle.nesl_forms.specs.Found.{finding_of}
 use Rattle.nesl_forms.specs.Forms.{IsVariable}
 use Rattle.nesl_forms.proofs.Verdicts.{stopped_finds, stopped_charges, found_answers}
 use Rattle.nesl_standing.specs.Inside.{state_of}
-use Rattle.nesl_session.proofs.form.find_bound.Goals as goal
+use Rattle.nesl_session.proofs.form.find_variable.Goals as goal
 
 pub returns-in-Ok-clause-found : goal.returns-in-Ok-clause-found
 returns-in-Ok-clause-found g c =
