@@ -12,6 +12,14 @@ use Rattle.clap.specs.declared.error.kind.ErrorKind.TheVariants as kind
 use Rattle.clap.specs.declared.builder.action.ArgAction.TheVariants.{Set, SetTrue, Append}
 use Rattle.clap.specs.declared.builder.value_parser.ValueParser.TheVariants as vp
 
+-- a number between these two, at most once
+abbrev pub number_rule : (name long : List ℕ) (least most : ℕ) → Rule
+number_rule name long least most = record (new_rule name) {
+  long = Some long;
+  action = Some Set;
+  parser = Some (vp.Unsigned least most);
+}
+
 -- `--heap BYTES`: a number from 16 to 1073741824, at most once
 abbrev pub heap_rule : Rule
 heap_rule = record (new_rule (codes "BYTES")) {
@@ -82,11 +90,14 @@ serve_numbers = record (new_shape (codes "serve")) {
 abbrev pub serve : Shape
 serve = record serve_numbers { rules = serve_numbers.rules ++ log_rule ∷ users_rule ∷ [] }
 
--- the program: a subcommand is required, and help is told where there are no words
+-- the program before its subcommands: one is required, and help is told where there are no words
+abbrev pub without_subcommands : App
+without_subcommands =
+    on_top (λ s. record s { subcommand_required = true; arg_required_else_help = true }) (new_app (codes "pazkindu"))
+
+-- the program
 abbrev pub program : App
-program = with_subcommand (with_subcommand
-    (on_top (λ s. record s { subcommand_required = true; arg_required_else_help = true }) (new_app (codes "pazkindu")))
-    batch) serve
+program = with_subcommand (with_subcommand without_subcommands batch) serve
 
 -- the users among what was found, and those behind the subcommand
 abbrev pub users_among : List Row → List (List ℕ)

@@ -4,8 +4,9 @@ ghost use Rattle.std.specs.Prelude.{◌≡◌, IfOk, codes, false, map};
 ghost use Rattle.clap.specs.Walk.{rule_of, rows_of};
 ghost use Rattle.clap.specs.Matches.{found_of};
 ghost use Rattle.clap.specs.declared.builder.command.Command.TheViews.{out-Command as fields_of};
+ghost use Rattle.clap.specs.Simple.{with_subcommand};
 ghost use Rattle.clap.specs.Words.{app_of, fault_of, FailsBy, shape_of, subcommand_rows_of};
-ghost use Rattle.nesl_words.specs.Words.{batch, connections_rule, heap_rule, idle_rule, is_among, log_rule, number_among, port_rule, program, serve, serve_numbers, task_among, task_in, task_of, users_among, users_in, users_of, users_rule, workers_rule};
+ghost use Rattle.nesl_words.specs.Words.{batch, connections_rule, heap_rule, idle_rule, is_among, log_rule, number_among, number_rule, port_rule, program, serve, serve_numbers, task_among, task_in, task_of, users_among, users_in, users_of, users_rule, without_subcommands, workers_rule};
 ghost use Rattle.nesl_words.specs.Wanted.{task_wanted, users_wanted};
 
 use clap::builder::ValueParser;
@@ -135,13 +136,27 @@ pub fn read<'a>(alloc: Global, words: &'a [&'a str]) -> Result<Wanted<'a>, Error
 fn command<'a>(alloc: Global) -> Result<Command<'a>, AllocError>
     ensures { IfOk result (λ command. app_of command ≡ program) }
 {
+    let serve = serve(alloc)?;
+    with_batch(alloc)?.subcommand(serve)
+}
+
+// The program as far as the first of its subcommands goes.
+fn with_batch<'a>(alloc: Global) -> Result<Command<'a>, AllocError>
+    ensures { IfOk result (λ command. app_of command ≡ with_subcommand without_subcommands batch) }
+{
+    let batch = batch(alloc)?;
+    without_subcommands(alloc).subcommand(batch)
+}
+
+// The program without its subcommands.
+fn without_subcommands<'a>(alloc: Global) -> Command<'a>
+    ensures { app_of result ≡ without_subcommands }
+{
     Command::new(alloc, "pazkindu")
         .about(ABOUT)
         .after_help(PROGRAM_AFTER)
         .subcommand_required(true)
         .arg_required_else_help(true)
-        .subcommand(batch(alloc)?)?
-        .subcommand(serve(alloc)?)
 }
 
 fn batch<'a>(alloc: Global) -> Result<Command<'a>, AllocError>
@@ -182,46 +197,35 @@ fn port<'a>(alloc: Global) -> Arg<'a>
     ensures rule { rule_of result ≡ port_rule }
     ensures local { result.global ≡ false }
 {
-    Arg::new(alloc, "PORT")
-        .long("port")
-        .help(PORT)
-        .required(true)
-        .value_parser(ValueParser::unsigned(0, MOST_PORT))
-        .action(ArgAction::Set)
+    number(alloc, "PORT", "port", PORT, 0, MOST_PORT).required(true)
 }
 
 fn workers<'a>(alloc: Global) -> Arg<'a>
     ensures rule { rule_of result ≡ workers_rule }
     ensures local { result.global ≡ false }
 {
-    Arg::new(alloc, "WORKERS")
-        .long("workers")
-        .help(WORKERS)
-        .required(true)
-        .value_parser(ValueParser::unsigned(0, MOST_WORKERS))
-        .action(ArgAction::Set)
+    number(alloc, "WORKERS", "workers", WORKERS, 0, MOST_WORKERS).required(true)
 }
 
 fn connections<'a>(alloc: Global) -> Arg<'a>
     ensures rule { rule_of result ≡ connections_rule }
     ensures local { result.global ≡ false }
 {
-    Arg::new(alloc, "CONNECTIONS")
-        .long("connections")
-        .help(CONNECTIONS)
-        .value_parser(ValueParser::unsigned(1, MOST_CONNECTIONS))
-        .action(ArgAction::Set)
+    number(
+        alloc,
+        "CONNECTIONS",
+        "connections",
+        CONNECTIONS,
+        1,
+        MOST_CONNECTIONS,
+    )
 }
 
 fn idle<'a>(alloc: Global) -> Arg<'a>
     ensures rule { rule_of result ≡ idle_rule }
     ensures local { result.global ≡ false }
 {
-    Arg::new(alloc, "SECONDS")
-        .long("idle")
-        .help(IDLE)
-        .value_parser(ValueParser::unsigned(1, MOST_IDLE))
-        .action(ArgAction::Set)
+    number(alloc, "SECONDS", "idle", IDLE, 1, MOST_IDLE)
 }
 
 fn log<'a>(alloc: Global) -> Arg<'a>
@@ -238,11 +242,7 @@ fn heap<'a>(alloc: Global) -> Arg<'a>
     ensures rule { rule_of result ≡ heap_rule }
     ensures local { result.global ≡ false }
 {
-    Arg::new(alloc, "BYTES")
-        .long("heap")
-        .help(HEAP)
-        .value_parser(ValueParser::unsigned(LEAST_HEAP, MOST_HEAP))
-        .action(ArgAction::Set)
+    number(alloc, "BYTES", "heap", HEAP, LEAST_HEAP, MOST_HEAP)
 }
 
 fn user<'a>(alloc: Global) -> Arg<'a>
@@ -254,6 +254,25 @@ fn user<'a>(alloc: Global) -> Arg<'a>
         .required(true)
         .num_args(1..)
         .action(ArgAction::Append)
+}
+
+// An option that takes a number from `least` to `most`, at most once.
+fn number<'a>(
+    alloc: Global,
+    name: &'a str,
+    long: &'a str,
+    help: &'a str,
+    least: u64,
+    most: u64,
+) -> Arg<'a>
+    ensures rule { rule_of result ≡ number_rule name.now long.now least most }
+    ensures local { result.global ≡ false }
+{
+    Arg::new(alloc, name)
+        .long(long)
+        .help(help)
+        .value_parser(ValueParser::unsigned(least, most))
+        .action(ArgAction::Set)
 }
 
 // What stands behind the subcommand.
