@@ -12,7 +12,7 @@ use Rattle.clap.specs.declared.error.kind.ErrorKind.TheVariants as kind
 use Rattle.clap.specs.declared.builder.action.ArgAction.TheVariants.{Set, SetTrue, Append}
 use Rattle.clap.specs.declared.builder.value_parser.ValueParser.TheVariants as vp
 
--- a number between these two, at most once
+-- an option `--long NAME`: a number from `least` to `most`, at most once
 abbrev pub number_rule : (name long : List ℕ) (least most : ℕ) → Rule
 number_rule name long least most = record (new_rule name) {
   long = Some long;
@@ -22,11 +22,7 @@ number_rule name long least most = record (new_rule name) {
 
 -- `--heap BYTES`: a number from 16 to 1073741824, at most once
 abbrev pub heap_rule : Rule
-heap_rule = record (new_rule (codes "BYTES")) {
-  long = Some (codes "heap");
-  action = Some Set;
-  parser = Some (vp.Unsigned 16 1073741824);
-}
+heap_rule = number_rule (codes "BYTES") (codes "heap") 16 1073741824
 
 -- one or more users
 abbrev pub users_rule : Rule
@@ -42,37 +38,19 @@ batch = record (new_shape (codes "batch")) { rules = heap_rule ∷ users_rule �
 
 -- `--port P`: a number from 0 to 65535, once
 abbrev pub port_rule : Rule
-port_rule = record (new_rule (codes "PORT")) {
-  long = Some (codes "port");
-  action = Some Set;
-  parser = Some (vp.Unsigned 0 65535);
-  required = true;
-}
+port_rule = record (number_rule (codes "PORT") (codes "port") 0 65535) { required = true }
 
 -- `--workers W`: a number from 0 to 64, once
 abbrev pub workers_rule : Rule
-workers_rule = record (new_rule (codes "WORKERS")) {
-  long = Some (codes "workers");
-  action = Some Set;
-  parser = Some (vp.Unsigned 0 64);
-  required = true;
-}
+workers_rule = record (number_rule (codes "WORKERS") (codes "workers") 0 64) { required = true }
 
 -- `--connections N`: a number from 1 to 1000000, at most once
 abbrev pub connections_rule : Rule
-connections_rule = record (new_rule (codes "CONNECTIONS")) {
-  long = Some (codes "connections");
-  action = Some Set;
-  parser = Some (vp.Unsigned 1 1000000);
-}
+connections_rule = number_rule (codes "CONNECTIONS") (codes "connections") 1 1000000
 
 -- `--idle SECONDS`: a number from 1 to 86400, at most once
 abbrev pub idle_rule : Rule
-idle_rule = record (new_rule (codes "SECONDS")) {
-  long = Some (codes "idle");
-  action = Some Set;
-  parser = Some (vp.Unsigned 1 86400);
-}
+idle_rule = number_rule (codes "SECONDS") (codes "idle") 1 86400
 
 -- `--log`, at most once
 abbrev pub log_rule : Rule
