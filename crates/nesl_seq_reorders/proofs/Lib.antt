@@ -1,5 +1,6 @@
 pub mod Differing
 pub mod Marking
+pub mod Naming
 pub mod Permuting
 pub mod Picking
 pub mod Tables
