@@ -110,7 +110,7 @@ fn sequence_of_steps<A: Allocator + Copy>(
 {
     let mut made = Vec::with_capacity(alloc, numbers.count as usize)?;
     for place in 0..numbers.count {
-        made.push(number_at(numbers, place))?;
+        made.push_reserved(number_at(numbers, place));
     }
     Value::ints(alloc, made)
 }
