@@ -11,7 +11,7 @@ ghost use Rattle.nesl_rules.specs.Typing.{HasType, HasShapeType, HaveType, HaveE
 
 use crate::leaf::is_text;
 use nesl_builtins::{of_infix, of_prefix};
-use nesl_rules::apply::{applied, built_in, built_in_of_two};
+use nesl_instances::apply::{applied, built_in, built_in_of_two};
 use nesl_rules::each::bind_items;
 use nesl_rules::leaf::{is_element, is_empty_of, is_variable};
 use nesl_rules::pattern::constrain_pattern;

@@ -11,8 +11,8 @@ use nesl_code::Code;
 use nesl_lex::token::Span;
 use nesl_nodes::held::Tops;
 use nesl_nodes::meter::{Meter, Stop};
-use nesl_nodes::scope::Scope;
 use nesl_scalars::Trap;
+use nesl_scopes::scope::Scope;
 use nesl_values::Value;
 use std::alloc::Allocator;
 

@@ -1,10 +1,6 @@
-pub mod Lookups
 pub mod Runs
 pub mod Loops
 pub mod Sides
 pub mod Arms
 pub mod Lengths
-pub mod Names
-pub mod Making
-pub mod Rows
 pub mod Lent

@@ -1,5 +1,3 @@
 pub mod Sides
-pub mod Scopes
 pub mod Holds
-pub mod Standing
 pub mod Meets

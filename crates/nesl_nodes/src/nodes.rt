@@ -18,7 +18,6 @@ ghost use Rattle.nesl_nodes.specs.Meets.{Meets, Is};
 
 use crate::held::{Held, Tops};
 use crate::meter::{Meter, Stop};
-use crate::scope::share;
 use nesl_builtins::Builtin;
 use nesl_code::Code;
 use nesl_lex::token::Span;
@@ -57,9 +56,9 @@ pub fn paired<A: Allocator>(
     }
 }
 
-// Whether a pair of values with so many nodes is within the limit.
+/// Whether a pair of values with so many nodes is within the limit.
 #[inline]
-pub(crate) fn fit(first: u64, second: u64) -> bool
+pub fn fit(first: u64, second: u64) -> bool
     ensures { IsTrue result ↔ (first + second + 1 ≤ 1048576) }
 {
     first < LARGE && second < LARGE - first
@@ -115,6 +114,22 @@ pub fn text<A: Allocator + Copy>(
             Err(_) => Err(Stop::Memory),
         },
         Err(_) => Err(Stop::Memory),
+    }
+}
+
+/// Another owner of the same value.
+#[inline]
+pub fn share<A: Allocator>(value: &Value<A>) -> Result<Value<A>, Stop>
+    ensures { MatchResult result (λ v. tree_of v ≡ tree_of value.now) (λ e. e ≡ Stop.Memory) }
+{
+    match value {
+        Value::Int(n) => Ok(Value::Int(*n)),
+        Value::Bool(b) => Ok(Value::Bool(*b)),
+        Value::Char(c) => Ok(Value::Char(*c)),
+        Value::Shared(_) => match value.share() {
+            Ok(owner) => Ok(owner),
+            Err(_) => Err(Stop::Memory),
+        },
     }
 }
 

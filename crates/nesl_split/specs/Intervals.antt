@@ -5,7 +5,7 @@ use Rattle.nesl_values.specs.View.{tree_of}
 use Rattle.nesl_values.specs.Tree.{Tree}
 use Rattle.nesl_code.specs.Out.{Out}
 use Rattle.nesl_code.specs.Run.{Table, run, run_filters, run_bodies}
-use Rattle.nesl_nodes.specs.Scopes.{frames_of}
+use Rattle.nesl_scopes.specs.Scopes.{frames_of}
 use Rattle.nesl_nodes.specs.Sides.{places_of}
 use Rattle.nesl_split.specs.declared.eval.Interval.{Interval}
 

@@ -10,8 +10,8 @@ ghost use Rattle.nesl_code.specs.Out.{then_out};
 ghost use Rattle.nesl_code.specs.Outcome.{made, applied, branch, kept, counted};
 ghost use Rattle.nesl_code.specs.Run.{run, run_node, run_two, run_three, run_all, run_let, run_at};
 ghost use Rattle.nesl_code.specs.Run.{run_filters, run_bodies, run_over, run_called, as_result, slot_at};
-ghost use Rattle.nesl_nodes.specs.Scopes.{frames_of};
-ghost use Rattle.nesl_nodes.specs.Standing.{Stands};
+ghost use Rattle.nesl_scopes.specs.Scopes.{frames_of};
+ghost use Rattle.nesl_scopes.specs.Standing.{Stands};
 ghost use Rattle.nesl_nodes.specs.Sides.{places_of, Keeps, IsOne, Has};
 ghost use Rattle.nesl_nodes.specs.Meets.{Meets, Is, Are};
 ghost use Rattle.nesl_split.specs.Intervals.{ArePlaces, filters_in, bodies_in};
@@ -30,12 +30,12 @@ use nesl_nodes::nodes::{
     add, empty, finished, keep, keep_if, length_of_all, named_top, of_pair_made, of_two_made, paid,
     paired, sequence_of, tagged, text, told_at, top, truth,
 };
-use nesl_nodes::parts::{
+use nesl_nodes::places::Places;
+use nesl_scalars::Binary;
+use nesl_scopes::parts::{
     Part, applied_to_one, applied_to_three, applied_to_two, entered_name, within_limit,
 };
-use nesl_nodes::places::Places;
-use nesl_nodes::scope::{Scope, local};
-use nesl_scalars::Binary;
+use nesl_scopes::scope::{Scope, local};
 use nesl_values::{SequenceBuilder, Value};
 use std::alloc::Global;
 use std::thread::Threads;

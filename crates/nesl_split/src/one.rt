@@ -15,7 +15,7 @@ use nesl_eval::{Outcome, outcome_of};
 use nesl_helpers::{Gate, Helpers};
 use nesl_nodes::held::Tops;
 use nesl_nodes::meter::Meter;
-use nesl_nodes::scope::Scope;
+use nesl_scopes::scope::Scope;
 use nesl_tree::tree::Exp;
 use std::alloc::Global;
 use std::thread::Threads;

@@ -4,7 +4,7 @@ use Rattle.nesl_values.specs.View.{tree_of, elements_of}
 use Rattle.nesl_code.specs.Run.{run, run_all, run_let, run_at}
 use Rattle.nesl_code.specs.Out.{then_out, all_beside}
 use Rattle.nesl_code.specs.Outcome.{kept, counted}
-use Rattle.nesl_nodes.specs.Scopes.{frames_of}
+use Rattle.nesl_scopes.specs.Scopes.{frames_of}
 use Rattle.nesl_nodes.specs.Sides.{places_of, Has}
 use Rattle.nesl_nodes.specs.Meets.{Is, Are}
 use Rattle.nesl_nodes.proofs.Sides.{after, meter}
