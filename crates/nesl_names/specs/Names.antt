@@ -11,7 +11,8 @@ use Rattle.nesl_types.specs.Term.{Term, term}
 use Rattle.nesl_builtins.specs.declared.builtin.Builtin.{Builtin}
 use Rattle.nesl_builtins.specs.Table.{FunctionType, function_type}
 use Rattle.nesl_builtins.specs.Named.{named_builtin}
-use Rattle.nesl_tree.specs.Trees.{TypeTree, TypeShape, PatternTree, PatternShape, Tree, Shape, Trees, Binders, written, pattern, node, none, more, no_binders, binder}
+use Rattle.nesl_tree.specs.Trees.{TypeTree, TypeShape, PatternTree, PatternShape, Tree, Shape, Trees, Binders}
+use Rattle.nesl_tree.specs.Trees.{written, pattern, node, none, more, no_binders, binder}
 use Rattle.nesl_tree.specs.Trees as trees
 
 -- what a name before `(` refers to: the function in whose body it stands, a built-in function, a function of the top

@@ -8,12 +8,12 @@ use Rattle.nesl_seq_base.specs.Outcome.{Outcome, Answers}
 use Rattle.nesl_seq_base.specs.Arguments.{sequence_and_int, two_sequences, sequence_item_place}
 use Rattle.nesl_seq_base.specs.declared.price.Price.{Price}
 use Rattle.nesl_seq_base.specs.declared.seq_fn.SeqFn.{SeqFn}
-use Rattle.nesl_seq_base.specs.declared.seq_fn.SeqFn.TheVariants.{Length, ElementAt, Append, Dist, Range, RangeBy, Index}
-use Rattle.nesl_seq_base.specs.declared.seq_fn.SeqFn.TheVariants.{Sum, Any, All, Count, Bottop, Take, Drop, Reverse}
-use Rattle.nesl_seq_base.specs.declared.seq_fn.SeqFn.TheVariants.{Rotate, Zip, Rep, Eql, MaxVal, MinVal, MaxIndex}
-use Rattle.nesl_seq_base.specs.declared.seq_fn.SeqFn.TheVariants.{MinIndex, PlusScan, OrScan, AndScan, Flatten, Unzip}
-use Rattle.nesl_seq_base.specs.declared.seq_fn.SeqFn.TheVariants.{OddElts, EvenElts, Interleave, Gather, Permute, Split}
-use Rattle.nesl_seq_base.specs.declared.seq_fn.SeqFn.TheVariants.{Partition, Write}
+use Rattle.nesl_seq_base.specs.declared.seq_fn.SeqFn.TheVariants.{Length, ElementAt, Append, Dist, Range, RangeBy}
+use Rattle.nesl_seq_base.specs.declared.seq_fn.SeqFn.TheVariants.{Index, Sum, Any, All, Count, Bottop, Take, Drop}
+use Rattle.nesl_seq_base.specs.declared.seq_fn.SeqFn.TheVariants.{Reverse, Rotate, Zip, Rep, Eql, MaxVal, MinVal}
+use Rattle.nesl_seq_base.specs.declared.seq_fn.SeqFn.TheVariants.{MaxIndex, MinIndex, PlusScan, OrScan, AndScan}
+use Rattle.nesl_seq_base.specs.declared.seq_fn.SeqFn.TheVariants.{Flatten, Unzip, OddElts, EvenElts, Interleave}
+use Rattle.nesl_seq_base.specs.declared.seq_fn.SeqFn.TheVariants.{Gather, Permute, Split, Partition, Write}
 
 -- the length of a sequence
 abbrev pub length_of : Tree → ℕ

@@ -13,8 +13,8 @@ use Rattle.nesl_parts.specs.declared.fault.ParseFault.TheVariants.{Syntax, Neste
 use Rattle.nesl_tree.specs.Trees.{Tree, TypeTree}
 use Rattle.nesl_lex.specs.Tokens.{Placed}
 use Rattle.nesl_lex.specs.declared.token.Span.{Span}
-use Rattle.nesl_parts.specs.Machine.{Waiting, State, before, behind, typing, typed, run, with_newest, open_at, type_at, listed}
-use Rattle.nesl_parts.specs.Machine.{type_closed}
+use Rattle.nesl_parts.specs.Machine.{Waiting, State, before, behind, typing, typed, run, with_newest, open_at}
+use Rattle.nesl_parts.specs.Machine.{type_at, listed, type_closed}
 use Rattle.nesl_parts.specs.Machine as machine
 use Rattle.nesl_parts.specs.Parts.{Sees, SeesType}
 use Rattle.nesl_parts.specs.Stack.{SeesOpening, SeesTypeOpening, SeesPending, SeesStack}
