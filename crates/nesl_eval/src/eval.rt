@@ -14,6 +14,7 @@ ghost use Rattle.nesl_scopes.specs.Standing.{Stands};
 ghost use Rattle.nesl_nodes.specs.Sides.{places_of, Keeps, IsOne, Has};
 ghost use Rattle.nesl_nodes.specs.Meets.{Meets, Is, Are};
 
+use nesl_builder::SequenceBuilder;
 use nesl_builtins::Builtin;
 use nesl_code::Code;
 use nesl_lex::token::Span;
@@ -29,7 +30,7 @@ use nesl_scopes::parts::{
     Part, applied_to_one, applied_to_three, applied_to_two, entered_name, within_limit,
 };
 use nesl_scopes::scope::{Scope, local};
-use nesl_values::{SequenceBuilder, Value};
+use nesl_values::Value;
 use std::alloc::Allocator;
 
 /// What code comes to in a scope.

@@ -1,15 +1,15 @@
 //! What the halves of an interval come to, and the interval with them.
 ghost use Rattle.std.specs.Prelude.{◌≡◌, ℕ, ◌+◌, ◌-◌, ◌<◌, ◌≤◌, ◌^◌, List, ◌++◌, OnOk, max};
 ghost use Rattle.nesl_values.specs.Tree.{Tree};
-ghost use Rattle.nesl_values.specs.View.{elements_of};
+ghost use Rattle.nesl_builder.specs.Elements.{elements_of};
 ghost use Rattle.nesl_code.specs.Out.{Out, beside};
 ghost use Rattle.nesl_nodes.specs.Meets.{Meets};
 ghost use Rattle.nesl_nodes.specs.Sides.{Has};
 ghost use Rattle.nesl_helpers.specs.Halves.{after_cost, IsWithin, Judges};
 
+use nesl_builder::SequenceBuilder;
 use nesl_nodes::meter::{Meter, Stop};
 use nesl_scalars::Cost;
-use nesl_values::SequenceBuilder;
 use std::alloc::AllocError;
 
 /// What a half came to, which had the whole fuel, and what it took of that.

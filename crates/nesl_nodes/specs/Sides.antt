@@ -1,9 +1,10 @@
 -- The places of an apply-to-each, and what is made at them.
 use Rattle.std.specs.Prelude.{◌≡◌, ℕ, Bool, cond, List, [], ◌∷◌}
 use Rattle.std.specs.List.{range_with_len}
-use Rattle.nesl_values.specs.View.{tree_of, elements_of}
+use Rattle.nesl_values.specs.View.{tree_of}
+use Rattle.nesl_builder.specs.Elements.{elements_of}
 use Rattle.nesl_values.specs.declared.value.Value as code
-use Rattle.nesl_values.specs.declared.builder.SequenceBuilder.{SequenceBuilder}
+use Rattle.nesl_builder.specs.declared.builder.SequenceBuilder.{SequenceBuilder}
 use Rattle.nesl_code.specs.Names.{Value}
 use Rattle.nesl_nodes.specs.declared.places.Places.{Places}
 

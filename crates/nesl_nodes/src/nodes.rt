@@ -4,7 +4,8 @@ ghost use Rattle.std.specs.Prelude.{MatchResult, cond, map, length, ◌↔◌, I
 ghost use Rattle.std.specs.List.{range_with_len, list_all};
 ghost use Rattle.nesl_values.specs.Tree.{Tree, sequence, tagged, pair, character};
 ghost use Rattle.nesl_values.specs.Parts.{as_bool};
-ghost use Rattle.nesl_values.specs.View.{tree_of, elements_of};
+ghost use Rattle.nesl_values.specs.View.{tree_of};
+ghost use Rattle.nesl_builder.specs.Elements.{elements_of};
 ghost use Rattle.nesl_scalars.specs.Scalars.{unary, binary};
 ghost use Rattle.nesl_seq_base.specs.Lent.{argument_tree};
 ghost use Rattle.nesl_seq_base.specs.Meaning.{meaning};
@@ -18,12 +19,13 @@ ghost use Rattle.nesl_nodes.specs.Meets.{Meets, Is};
 
 use crate::held::{Held, Tops};
 use crate::meter::{Meter, Stop};
+use nesl_builder::SequenceBuilder;
 use nesl_builtins::Builtin;
 use nesl_code::Code;
 use nesl_lex::token::Span;
 use nesl_scalars::{Binary, Trap, Unary};
 use nesl_seqs::{Argument, SeqFn, apply, price_within};
-use nesl_values::{SequenceBuilder, Value};
+use nesl_values::Value;
 use std::alloc::{AllocError, Allocator};
 use std::mem;
 

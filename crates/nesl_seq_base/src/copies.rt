@@ -1,9 +1,11 @@
 // Sequences that are made of copies of items.
 ghost use Rattle.std.specs.Prelude.{◌≡◌, ◌+◌, ◌++◌, map, replicate, reverse, IfOk, OnOk};
 ghost use Rattle.nesl_values.specs.Tree.{sequence};
-ghost use Rattle.nesl_values.specs.View.{tree_of, elements_of, item_trees};
+ghost use Rattle.nesl_values.specs.View.{tree_of, item_trees};
+ghost use Rattle.nesl_builder.specs.Elements.{elements_of};
 
-use nesl_values::{Items, SequenceBuilder, Value};
+use nesl_builder::SequenceBuilder;
+use nesl_values::{Items, Value};
 use std::alloc::{AllocError, Allocator};
 
 /// The sequence of these items.

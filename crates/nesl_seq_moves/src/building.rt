@@ -2,10 +2,12 @@
 // place alone where memory is short.
 ghost use Rattle.std.specs.Prelude.{◌≡◌, ◌++◌, ◌∷◌, List, [], IfOk, OnOk};
 ghost use Rattle.nesl_values.specs.Tree.{Tree, sequence};
-ghost use Rattle.nesl_values.specs.View.{tree_of, elements_of, item_trees};
+ghost use Rattle.nesl_values.specs.View.{tree_of, item_trees};
+ghost use Rattle.nesl_builder.specs.Elements.{elements_of};
 
+use nesl_builder::SequenceBuilder;
 use nesl_seq_base::copies::extend;
-use nesl_values::{Items, SequenceBuilder, Value};
+use nesl_values::{Items, Value};
 use std::alloc::{AllocError, Allocator};
 
 /// The sequence of the elements that came in, where all of them did.

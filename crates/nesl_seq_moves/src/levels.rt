@@ -12,6 +12,7 @@ ghost use Rattle.nesl_seq_base.specs.Meaning.{meaning};
 ghost use Rattle.nesl_seq_base.specs.Prices.{Prices, reads, price};
 ghost use Rattle.nesl_seq_base.specs.declared.seq_fn.SeqFn.TheVariants.{Flatten, Partition};
 
+use nesl_builder::SequenceBuilder;
 use nesl_scalars::Trap;
 use nesl_seq_base::argument::Argument;
 use nesl_seq_base::arguments::{WRONG_SHAPE, sequence, two_sequences};
@@ -19,7 +20,7 @@ use nesl_seq_base::copies::{copy_of, extend};
 use nesl_seq_base::item::{Item, unpacked};
 use nesl_seq_base::nodes::{price_of_more, price_without_roots};
 use nesl_seq_base::price::Price;
-use nesl_values::{Items, SequenceBuilder, Value};
+use nesl_values::{Items, Value};
 use std::alloc::{AllocError, Allocator};
 
 fn are_sequences<A: Allocator>(values: &[Value<A>]) -> bool

@@ -1,7 +1,8 @@
 // A sequence with another element at a place.
 ghost use Rattle.std.specs.Prelude.{◌≡◌, ◌+◌, ◌-◌, ◌<◌, ◌≤◌, ◌++◌, List, pos, length, take, drop, slice_set, IfOk, MatchResult, OnOk, SomeIff};
 ghost use Rattle.nesl_values.specs.Tree.{Tree, size, sizes, trees_of, sequence};
-ghost use Rattle.nesl_values.specs.View.{tree_of, item_trees, elements_of};
+ghost use Rattle.nesl_values.specs.View.{tree_of, item_trees};
+ghost use Rattle.nesl_builder.specs.Elements.{elements_of};
 ghost use Rattle.nesl_seq_base.specs.Lent.{argument_tree};
 ghost use Rattle.nesl_seq_base.specs.Outcome.{IsGiven, gives, traps};
 ghost use Rattle.nesl_seq_base.specs.Pieces.{replaced};
@@ -10,13 +11,14 @@ ghost use Rattle.nesl_seq_base.specs.Prices.{Prices, reads, price};
 ghost use Rattle.nesl_seq_base.specs.declared.seq_fn.SeqFn.TheVariants.{Rep};
 
 use crate::building::finished;
+use nesl_builder::SequenceBuilder;
 use nesl_scalars::Trap;
 use nesl_seq_base::argument::Argument;
 use nesl_seq_base::arguments::{WRONG_SHAPE, sequence_item_place};
 use nesl_seq_base::copies::extend;
 use nesl_seq_base::nodes::{nodes_of_both, value_nodes};
 use nesl_seq_base::price::Price;
-use nesl_values::{Items, SequenceBuilder, Value};
+use nesl_values::{Items, Value};
 use std::alloc::{AllocError, Allocator};
 
 // The place, where there is one.

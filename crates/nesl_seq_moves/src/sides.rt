@@ -3,7 +3,8 @@ ghost use Rattle.std.specs.Prelude.{◌≡◌, ◌++◌, ◌∷◌, Bool, true, 
 ghost use Rattle.std.specs.List.{list_all};
 ghost use Rattle.nesl_values.specs.Tree.{Tree, pair, sequence};
 ghost use Rattle.nesl_values.specs.Parts.{as_bool, as_pair, as_sequence};
-ghost use Rattle.nesl_values.specs.View.{tree_of, item_trees, elements_of};
+ghost use Rattle.nesl_values.specs.View.{tree_of, item_trees};
+ghost use Rattle.nesl_builder.specs.Elements.{elements_of};
 ghost use Rattle.nesl_seq_base.specs.Lent.{argument_tree};
 ghost use Rattle.nesl_seq_base.specs.Outcome.{IsGiven, gives};
 ghost use Rattle.nesl_seq_base.specs.Reductions.{all_of};
@@ -14,13 +15,14 @@ ghost use Rattle.nesl_seq_base.specs.Prices.{Prices, reads};
 ghost use Rattle.nesl_seq_base.specs.declared.seq_fn.SeqFn.TheVariants.{Unzip, Split};
 
 use crate::building::{finished, sequence_of_two};
+use nesl_builder::SequenceBuilder;
 use nesl_scalars::Trap;
 use nesl_seq_base::argument::Argument;
 use nesl_seq_base::arguments::{WRONG_SHAPE, sequence, two_sequences};
 use nesl_seq_base::item::unpacked;
 use nesl_seq_base::nodes::{price_of_more, price_without_roots};
 use nesl_seq_base::price::Price;
-use nesl_values::{Element, Items, SequenceBuilder, Value};
+use nesl_values::{Element, Items, Value};
 use std::alloc::{AllocError, Allocator};
 
 fn is_pair<A: Allocator>(value: &Value<A>) -> bool

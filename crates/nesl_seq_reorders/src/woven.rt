@@ -9,13 +9,14 @@ ghost use Rattle.nesl_seq_base.specs.Meaning.{meaning};
 ghost use Rattle.nesl_seq_base.specs.Prices.{Prices, reads, price};
 ghost use Rattle.nesl_seq_base.specs.declared.seq_fn.SeqFn.TheVariants.{OddElts, EvenElts, Interleave};
 
+use nesl_builder::SequenceBuilder;
 use nesl_scalars::Trap;
 use nesl_seq_base::argument::Argument;
 use nesl_seq_base::arguments::{WRONG_SHAPE, sequence, two_sequences};
 use nesl_seq_base::copies::extend;
 use nesl_seq_base::nodes::{leaves, price_of_joined, value_nodes};
 use nesl_seq_base::price::Price;
-use nesl_values::{Items, SequenceBuilder, Value};
+use nesl_values::{Items, Value};
 use std::alloc::{AllocError, Allocator};
 
 pub fn price_even_elts<A: Allocator>(

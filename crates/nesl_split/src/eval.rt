@@ -18,6 +18,7 @@ ghost use Rattle.nesl_split.specs.Intervals.{ArePlaces, filters_in, bodies_in};
 ghost use Rattle.nesl_split.specs.Finds.{Finds};
 
 use crate::crew::{Crew, fork};
+use nesl_builder::SequenceBuilder;
 use nesl_builtins::Builtin;
 use nesl_code::Code;
 use nesl_helpers::{
@@ -36,7 +37,7 @@ use nesl_scopes::parts::{
     Part, applied_to_one, applied_to_three, applied_to_two, entered_name, within_limit,
 };
 use nesl_scopes::scope::{Scope, local};
-use nesl_values::{SequenceBuilder, Value};
+use nesl_values::Value;
 use std::alloc::Global;
 use std::thread::Threads;
 

@@ -1,5 +1,5 @@
 -- Sizes of trees, and lists of what is seen in other lists.
-use Rattle.std.proofs.Common.{◌≡◌, ℕ, zero, suc, ℤ, Bool, ◌+◌, ◌<◌, ◌≤◌, List, [], ◌∷◌, ◌++◌, length, map, take, drop, ◌-◌, refl, ap, ◌∙◌, sym, arith, append_assoc, get_or, slice_range}
+use Rattle.std.proofs.Common.{◌≡◌, ℕ, zero, suc, ℤ, Bool, ◌+◌, ◌<◌, ◌≤◌, List, [], ◌∷◌, ◌++◌, length, map, take, drop, ◌-◌, refl, ap, ◌∙◌, sym, arith, get_or, slice_range}
 use Rattle.std.proofs.lemmas.List.{map-append, take-map, drop-map, take_more}
 use Rattle.nesl_values.specs.Tree.{Tree, int, boolean, character, pair, seq, tagged, trees_of, size, sizes}
 
@@ -44,13 +44,6 @@ pub map_turn : {X Y T : Type 0} (f : X → T) (g : Y → T) (xs ys : List X) (x 
     → map f ys ≡ map g (take (i + 1) zs)
 map_turn f g xs ys x zs i y h at push so_far here =
     ap (map f) push ∙ map-append f xs (x ∷ []) ∙ ap (λ ts. ts ++ f x ∷ []) so_far ∙ ap (λ t. map g (take i zs) ++ t ∷ []) (here ∙ ap g at) ∙ sym (ap (map g) (take_more zs i y h) ∙ map-append g (take i zs) (get_or zs i y ∷ []))
-
--- one more turn of a loop that adds to a list what `g` sees in `zs`
-pub added_turn : {X Y T : Type 0} (f : X → T) (g : Y → T) (old xs ys : List X) (x : X) (zs : List Y) (i : ℕ) (y : Y) → i < length zs → y ≡ get_or zs i y → ys ≡ xs ++ x ∷ [] → map f xs ≡ map f old ++ map g (take i zs) → f x ≡ g y
-    → map f ys ≡ map f old ++ map g (take (i + 1) zs)
-added_turn f g old xs ys x zs i y h at push so_far here =
-    let more : map g (take (i + 1) zs) ≡ map g (take i zs) ++ f x ∷ [] = ap (map g) (take_more zs i y h) ∙ map-append g (take i zs) (get_or zs i y ∷ []) ∙ ap (λ t. map g (take i zs) ++ t ∷ []) (sym (here ∙ ap g at)) in
-    ap (map f) push ∙ map-append f xs (x ∷ []) ∙ ap (λ ts. ts ++ f x ∷ []) so_far ∙ append_assoc (map f old) (map g (take i zs)) (f x ∷ []) ∙ ap (λ ts. map f old ++ ts) (sym more)
 
 -- a part of what is seen in a list
 pub slice_range-map : {X T : Type 0} (f : X → T) (xs : List X) (start end : ℕ) → map f (slice_range xs start end) ≡ slice_range (map f xs) start end

@@ -1,5 +1,5 @@
 -- The tree that a `Value` stands for.
-use Rattle.std.specs.Prelude.{ℕ, List, [], map}
+use Rattle.std.specs.Prelude.{ℕ, List, map}
 use Rattle.nesl_values.specs.Tree.{Tree, Trees, trees_of, int, boolean, character, pair, tagged, sequence, size}
 use Rattle.nesl_values.specs.declared.value.Value.{Value}
 use Rattle.nesl_values.specs.declared.value.Value.TheVariants.{Int, Bool, Char, Shared}
@@ -7,8 +7,6 @@ use Rattle.nesl_values.specs.declared.node.Parts.{Parts}
 use Rattle.nesl_values.specs.declared.node.Parts.TheVariants.{Pair, Tagged, Seq, Ints, Bools, Chars}
 use Rattle.nesl_values.specs.declared.element.Element.{Element}
 use Rattle.nesl_values.specs.declared.items.Items.{Items}
-use Rattle.nesl_values.specs.declared.builder.SequenceBuilder.{SequenceBuilder}
-use Rattle.nesl_values.specs.declared.run.Run.{Run}
 
 abbrev pub tree_of : {A : Type 0} → Value A → Tree
 tree_of (Int n) = int n
@@ -42,14 +40,3 @@ item_trees (Items.Ints ns) = map int ns.now
 item_trees (Items.Bools bs) = map boolean bs.now
 item_trees (Items.Chars cs) = map character cs.now
 item_trees (Items.Values vs) = map tree_of vs.now
-
-abbrev pub run_trees : {A : Type 0} → Run A → List Tree
-run_trees Run.Empty = []
-run_trees (Run.Ints v) = map int v.items
-run_trees (Run.Bools v) = map boolean v.items
-run_trees (Run.Chars v) = map character v.items
-run_trees (Run.Values v) = map tree_of v.items
-
--- the elements that a builder has so far
-abbrev pub elements_of : {A : Type 0} → SequenceBuilder A → List Tree
-elements_of b = run_trees b.run

@@ -2,26 +2,22 @@
 // and knows how many nodes it has; sequences of leaves are packed.
 //
 // Outside this crate a value is looked at by `shape`, `items`, `element` and the `as_` calls. Sequences
-// are made by a `SequenceBuilder`, or from a vector of their elements.
+// are made from a vector of their elements, or by the `SequenceBuilder` of nesl_builder.
 #![tactic(auto)]
 
-mod builder;
 mod copy;
 mod count;
 mod dropping;
 mod element;
 mod items;
-mod leaf;
 mod listed;
 mod making;
 mod node;
 mod parts;
-mod run;
 mod same;
 mod shape;
 mod value;
 
-pub use builder::SequenceBuilder;
 pub use element::Element;
 pub use items::Items;
 pub use shape::Shape;

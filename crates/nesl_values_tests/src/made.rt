@@ -1,7 +1,8 @@
 //! Types, values and a session that the tests are made on.
+use nesl_builder::SequenceBuilder;
 use nesl_reply::{Reply, reply_text, value_text};
 use nesl_types::{Context, Top, Ty};
-use nesl_values::{SequenceBuilder, Value};
+use nesl_values::Value;
 use std::alloc::{AllocError, Global};
 
 pub fn seq_of(alloc: Global, item: Result<Ty, AllocError>) -> Result<Ty, AllocError> {

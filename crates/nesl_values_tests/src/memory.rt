@@ -1,7 +1,8 @@
 // Memory that is taken, given back and refused.
 use crate::sample::{doubled, sample};
 use linked_list_allocator::LocalHeap;
-use nesl_values::{Element, SequenceBuilder, Value};
+use nesl_builder::SequenceBuilder;
+use nesl_values::{Element, Value};
 use std::alloc::{AllocError, Global};
 use std::test::Fail;
 

@@ -1,6 +1,7 @@
 // Sequences, packed and not.
 use crate::sample::{numbers, one_and_two, sample};
-use nesl_values::{Element, Items, SequenceBuilder, Value};
+use nesl_builder::SequenceBuilder;
+use nesl_values::{Element, Items, Value};
 use std::alloc::{AllocError, Global};
 use std::test::Fail;
 

@@ -5,7 +5,8 @@ use Rattle.std.proofs.lemmas.Result.{err_from_is_err_and}
 use Rattle.nesl_values.specs.Parts.{as_bool}
 use Rattle.nesl_values.specs.Tree as values
 use Rattle.nesl_values.specs.Tree.{Tree}
-use Rattle.nesl_values.specs.View.{tree_of, elements_of}
+use Rattle.nesl_values.specs.View.{tree_of}
+use Rattle.nesl_builder.specs.Elements.{elements_of}
 use Rattle.nesl_builtins.specs.declared.builtin.Builtin.TheVariants.{OfTwo}
 use Rattle.nesl_code.specs.Frames.{frame, row}
 use Rattle.nesl_code.specs.Names.{named}

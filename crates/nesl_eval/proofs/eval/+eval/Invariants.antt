@@ -1,6 +1,7 @@
 use Rattle.std.proofs.Common.{◌≡◌, ℕ, ◌+◌, ◌-◌, ◌*◌, ◌≤◌, map, drop, [], Vec}
 use Rattle.std.specs.List.{range_with_len}
-use Rattle.nesl_values.specs.View.{tree_of, elements_of}
+use Rattle.nesl_values.specs.View.{tree_of}
+use Rattle.nesl_builder.specs.Elements.{elements_of}
 use Rattle.nesl_code.specs.Run.{run, run_all, run_let, run_at}
 use Rattle.nesl_code.specs.Out.{then_out, all_beside}
 use Rattle.nesl_code.specs.Outcome.{kept, counted}

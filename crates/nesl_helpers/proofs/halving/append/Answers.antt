@@ -1,6 +1,7 @@
 use Rattle.std.proofs.Common.{◌≡◌, ap, ◌∙◌}
 use Rattle.nesl_values.specs.Parts.{elements}
-use Rattle.nesl_values.specs.View.{elements_of, item_trees}
+use Rattle.nesl_values.specs.View.{item_trees}
+use Rattle.nesl_builder.specs.Elements.{elements_of}
 use Rattle.nesl_values.proofs.Elements.{elements-sequence}
 use Rattle.nesl_helpers.proofs.halving.append.Goals as goal
 

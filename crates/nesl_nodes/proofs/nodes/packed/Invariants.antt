@@ -1,5 +1,6 @@
 use Rattle.std.proofs.Common.{◌≡◌, map}
-use Rattle.nesl_values.specs.View.{tree_of, elements_of}
+use Rattle.nesl_values.specs.View.{tree_of}
+use Rattle.nesl_builder.specs.Elements.{elements_of}
 use Rattle.nesl_nodes.proofs.nodes.packed.Given as goal
 
 abbrev pub invariant-loop-value : goal.invariant-loop-value

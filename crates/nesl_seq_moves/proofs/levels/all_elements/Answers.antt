@@ -1,5 +1,6 @@
 use Rattle.nesl_values.specs.Parts.{elements}
-use Rattle.nesl_values.specs.View.{tree_of, elements_of}
+use Rattle.nesl_values.specs.View.{tree_of}
+use Rattle.nesl_builder.specs.Elements.{elements_of}
 use Rattle.nesl_seq_moves.proofs.Flattening.{flat_turn}
 use Rattle.nesl_seq_moves.proofs.levels.all_elements.Goals as goal
 

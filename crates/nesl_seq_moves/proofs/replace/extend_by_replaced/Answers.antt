@@ -2,7 +2,8 @@ use Rattle.std.proofs.Common.{◌≡◌, ◌∙◌, ◌++◌, ◌∷◌, [], Lis
 use Rattle.std.proofs.lemmas.List.{append_assoc}
 use Rattle.std.proofs.lemmas.Result.{IfOk-equal}
 use Rattle.nesl_values.specs.Tree.{Tree}
-use Rattle.nesl_values.specs.View.{tree_of, elements_of, item_trees}
+use Rattle.nesl_values.specs.View.{tree_of, item_trees}
+use Rattle.nesl_builder.specs.Elements.{elements_of}
 use Rattle.nesl_seq_base.proofs.Totals.{replaced_parts, front_range}
 use Rattle.nesl_seq_moves.proofs.replace.extend_by_replaced.Goals as goal
 

@@ -2,7 +2,8 @@ use Rattle.std.proofs.Common.{◌≡◌, ◌++◌, ◌∙◌, List, Some, map, s
 use Rattle.std.proofs.lemmas.List.{take_all}
 use Rattle.nesl_values.specs.Tree.{Tree}
 use Rattle.nesl_values.specs.Parts.{as_pair}
-use Rattle.nesl_values.specs.View.{tree_of, elements_of}
+use Rattle.nesl_values.specs.View.{tree_of}
+use Rattle.nesl_builder.specs.Elements.{elements_of}
 use Rattle.nesl_seq_base.specs.Reductions.{all_of}
 use Rattle.nesl_seq_base.proofs.Shapes.{read_at, length_read, some_within}
 use Rattle.nesl_seq_moves.proofs.Unzipping.{side_turn}

@@ -1,7 +1,8 @@
 use Rattle.std.proofs.Common.{◌≡◌, ◌++◌, List, Some, map, take}
 use Rattle.nesl_values.specs.Tree.{Tree}
 use Rattle.nesl_values.specs.Parts.{as_pair}
-use Rattle.nesl_values.specs.View.{tree_of, elements_of}
+use Rattle.nesl_values.specs.View.{tree_of}
+use Rattle.nesl_builder.specs.Elements.{elements_of}
 use Rattle.nesl_seq_base.specs.Reductions.{all_of}
 use Rattle.nesl_seq_moves.proofs.sides.push_sides.Given as goal
 

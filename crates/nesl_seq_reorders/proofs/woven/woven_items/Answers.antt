@@ -1,5 +1,6 @@
 use Rattle.std.proofs.Common.{arith}
-use Rattle.nesl_values.specs.View.{elements_of, element_tree, item_trees}
+use Rattle.nesl_values.specs.View.{element_tree, item_trees}
+use Rattle.nesl_builder.specs.Elements.{elements_of}
 use Rattle.nesl_seq_base.proofs.Made.{made}
 use Rattle.nesl_seq_base.proofs.Weaving.{woven_turn_of, woven_rest}
 use Rattle.nesl_seq_reorders.proofs.woven.woven_items.Goals as goal

@@ -1,5 +1,6 @@
 use Rattle.std.proofs.Common.{◌≡◌, ◌++◌, drop}
-use Rattle.nesl_values.specs.View.{elements_of, item_trees}
+use Rattle.nesl_values.specs.View.{item_trees}
+use Rattle.nesl_builder.specs.Elements.{elements_of}
 use Rattle.nesl_seq_base.specs.Woven.{woven}
 use Rattle.nesl_seq_reorders.proofs.woven.woven_items.Given as goal
 

@@ -1,13 +1,12 @@
 // Sequences that are built from their front to their end.
 ghost use Rattle.std.specs.Prelude.{◌≡◌, List, [], ◌∷◌, ◌++◌, take, map, is_ok, if◌then◌else◌, IfOk, OnOk, OnErr, vec_len};
 ghost use Rattle.nesl_values.specs.Tree.{int, boolean, character, sequence};
-ghost use Rattle.nesl_values.specs.View.{tree_of, element_tree, item_trees, elements_of};
+ghost use Rattle.nesl_values.specs.View.{tree_of, element_tree, item_trees};
+ghost use Rattle.nesl_builder.specs.Elements.{elements_of};
 
-use crate::element::Element;
-use crate::items::Items;
 use crate::leaf::Leaf;
 use crate::run::Run;
-use crate::value::Value;
+use nesl_values::{Element, Items, Value};
 use std::alloc::{AllocError, Allocator, Global};
 use std::mem;
 

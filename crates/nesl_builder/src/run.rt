@@ -1,10 +1,11 @@
 // What a builder has collected so far.
 ghost use Rattle.std.specs.Prelude.{◌≡◌, IfOk, IfErr, map};
 ghost use Rattle.nesl_values.specs.Tree.{int, boolean, character, sequence};
-ghost use Rattle.nesl_values.specs.View.{tree_of, run_trees};
+ghost use Rattle.nesl_values.specs.View.{tree_of};
+ghost use Rattle.nesl_builder.specs.Elements.{run_trees};
 
 use crate::leaf::Leaf;
-use crate::value::Value;
+use nesl_values::Value;
 use std::alloc::{AllocError, Allocator};
 
 /// Elements in order, packed as long as they are leaves of one kind.

@@ -1,8 +1,8 @@
 use Rattle.std.proofs.Common.{arith}
 use Rattle.std.proofs.lemmas.Grind.{common_steps}
 use Rattle.nesl_values.specs.View.{tree_of}
-use Rattle.nesl_values.proofs.Trees.{added_turn}
-use Rattle.nesl_values.proofs.builder.push_copies.Goals as goal
+use Rattle.nesl_builder.proofs.Turns.{added_turn}
+use Rattle.nesl_builder.proofs.builder.push_copies.Goals as goal
 
 pub loop-value-preserved : goal.loop-value-preserved
 loop-value-preserved g c =

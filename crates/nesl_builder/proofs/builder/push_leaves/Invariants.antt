@@ -1,6 +1,6 @@
 use Rattle.std.proofs.Common.{◌≡◌, ◌++◌, ◌≤◌, take, map, vec_len}
 use Rattle.nesl_values.specs.View.{tree_of}
-use Rattle.nesl_values.proofs.builder.push_leaves.Given as goal
+use Rattle.nesl_builder.proofs.builder.push_leaves.Given as goal
 
 abbrev pub invariant-loop-leaf : goal.invariant-loop-leaf
 invariant-loop-leaf g l =
