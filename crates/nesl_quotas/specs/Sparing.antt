@@ -7,4 +7,4 @@ most_passed = 4096
 
 -- how many asks are passed over after a helper that did little, where so many were before it
 abbrev pub longer : ℕ → ℕ
-longer passed = min (2 * passed + 1) most_passed
+longer passed = min (8 * passed + 1) most_passed

@@ -17,22 +17,24 @@ const NAP: u64 = 1;
 /// The most asks that are passed over at once.
 const MOST_PASSED: u64 = 4096;
 
-/// The most lines at once whose first ask is passed over.
-const MOST_LINES: u64 = 63;
+/// How many microseconds pass between the begins of two lines where a helper in vain is not noticed.
+const LONG: u64 = 20_000;
 
 /// Asks others for helpers, for one connection, and stops asking where that doesn't pay.
 ///
 /// The first ask of a line is most often for its longest interval, so it is judged apart from the others. After a helper
-/// that came back within 500 microseconds of its grant, asks of its kind are passed over: 1 after the first, and 2 n + 1
-/// where n were at last, up to 63 first asks and 4096 others. After one that took longer the next ask of its kind is put,
-/// and the n of the next short one is halved. Where a first ask is granted the next of the others is put too, since it
-/// may be for a half of the same interval. A helper counts as one that took longer where the clock can't be read.
+/// that came back within 500 microseconds of its grant, asks of its kind are passed over: 1 after the first, and 8 n + 1
+/// where n were at last, up to 4096. After one that took longer the next ask of its kind is put, and the n of the next
+/// short one is an eighth. A helper counts as one that took longer where the clock can't be read. The first ask of a line
+/// is always put where the line before began 20 milliseconds ago or earlier, since it was long or its user is slow.
 ///
-/// No ask is put for a half that is one thread's share of the interval, where all helpers and the asking thread take part:
-/// else the thread that cuts first would take the helper that the other half is about to ask for.
-/// This is also the connection's gate, by which it sees that a line begins and how long halves are; it tells another gate
-/// of each place. Where no asks of a kind are to be passed over, so that long halves are likely, those of a granted one
-/// sleep for a microsecond, so that the scheduler places their threads.
+/// A half of an interval asks as it is entered. Its ask is put whatever came of others, and its helper isn't judged: the
+/// interval was worth one or wasn't. But no ask is put for a half that is one thread's share of the interval, where all
+/// helpers and the asking thread take part: else the thread that cuts first would take the helper that the other half is
+/// about to ask for.
+/// This is also the connection's gate, by which it sees that a line begins and that halves are entered, and how long they
+/// are; it tells another gate of each place. Where no asks of a kind are to be passed over, so that long halves are
+/// likely, those of a granted one sleep for a microsecond, and theirs too, so that the scheduler places their threads.
 #[derive(Drop)]
 pub struct Sparing<'a, C, H, G> {
     clock: &'a C,
@@ -40,28 +42,38 @@ pub struct Sparing<'a, C, H, G> {
     gate: &'a G,
     // How many helpers there are, and the asking thread.
     threads: u64,
-    // 1 where a line has begun that has put or passed over no ask.
+    // The microsecond at which the last line began, and 1 where it has put or passed over no ask.
+    since: AtomicU64,
     begun: AtomicU64,
-    // How many places the half has that was entered last and has not asked; 0 where there is none.
+    // How many halves were entered that are about to ask, and how many places the last of them has.
+    waiting: AtomicU64,
     entered: AtomicU64,
     // The places of the longest half of the interval that was cut last.
     longest: AtomicU64,
-    // 1 where the halves sleep whose helper was granted last.
+    // 1 where the halves of that interval sleep.
     sleeps: AtomicU64,
     // How many first asks are still passed over.
     firsts_left: AtomicU64,
-    // How many were to be passed over after the last short helper, halved for each long one since.
+    // How many were to be passed over after the last short helper, an eighth for each long one since.
     firsts_passed: AtomicU64,
     // The same of the other asks.
     left: AtomicU64,
     passed: AtomicU64,
 }
 
-/// A helper that others granted, and when.
+/// What an ask is for: the first interval of a line, a half of an interval, or another one.
+#[derive(Clone, Copy, PartialEq, Eq)]
+enum Kind {
+    First,
+    Half,
+    Other,
+}
+
+/// A helper that others granted, when, and for what.
 pub struct Timed<P> {
     permit: P,
     since: Option<Instant>,
-    is_first: bool,
+    kind: Kind,
 }
 
 impl<'a, C: Clock, H: Helpers, G: Gate> Sparing<'a, C, H, G> {
@@ -72,7 +84,9 @@ impl<'a, C: Clock, H: Helpers, G: Gate> Sparing<'a, C, H, G> {
             helpers,
             gate,
             threads: u64::from(workers).saturating_add(1),
+            since: AtomicU64::new(0),
             begun: AtomicU64::new(0),
+            waiting: AtomicU64::new(0),
             entered: AtomicU64::new(0),
             longest: AtomicU64::new(0),
             sleeps: AtomicU64::new(0),
@@ -83,6 +97,22 @@ impl<'a, C: Clock, H: Helpers, G: Gate> Sparing<'a, C, H, G> {
         }
     }
 
+    // A line begins.
+    fn begin_line(&self) {
+        self.begun.store(1, Ordering::SeqCst);
+        self.waiting.store(0, Ordering::SeqCst);
+        self.longest.store(0, Ordering::SeqCst);
+        let now = match self.clock.monotonic() {
+            Ok(time) => u64::try_from(time.as_micros()).unwrap_or(0),
+            Err(_) => 0,
+        };
+        let before = self.since.load(Ordering::SeqCst);
+        self.since.store(now, Ordering::SeqCst);
+        if now.saturating_sub(before) >= LONG {
+            self.firsts_left.store(0, Ordering::SeqCst);
+        }
+    }
+
     // A half of so many places is entered, which asks next unless it has one place alone.
     fn enter_half(&self, places: u64) {
         if self.sleeps.load(Ordering::SeqCst) != 0 {
@@ -90,32 +120,37 @@ impl<'a, C: Clock, H: Helpers, G: Gate> Sparing<'a, C, H, G> {
         }
         let longest = self.longest.load(Ordering::SeqCst);
         self.longest.store(longest.max(places), Ordering::SeqCst);
-        self.entered
-            .store(if places < 2 { 0 } else { places }, Ordering::SeqCst);
+        if places > 1 {
+            self.entered.store(places, Ordering::SeqCst);
+            self.waiting.fetch_add(1, Ordering::SeqCst);
+        }
     }
 
-    // How many places the half has that asks; 0 where it is no half that asks. The next ask is another's.
-    fn take_entered(&self) -> u64 {
+    // Whether the half that was entered last is one thread's share of the interval. Halves of an odd interval differ by one.
+    fn is_share(&self) -> bool {
         let places = self.entered.load(Ordering::SeqCst);
-        if places != 0 {
-            self.entered.store(0, Ordering::SeqCst);
-        }
-        places
-    }
-
-    // Whether a half of so many places is one thread's share of the interval. Halves of an odd interval differ by one.
-    fn is_share(&self, places: u64) -> bool {
         let whole = self.longest.load(Ordering::SeqCst).saturating_mul(2);
-        places != 0 && places.saturating_mul(self.threads) <= whole.saturating_add(self.threads)
+        places.saturating_mul(self.threads) <= whole.saturating_add(self.threads)
     }
 
-    // Whether an ask is the first of its line; the next one isn't.
-    fn take_begun(&self) -> bool {
-        if self.begun.load(Ordering::SeqCst) == 0 {
-            return false;
+    // What an ask is for that is put now. The next one is for something else.
+    fn take_kind(&self) -> Kind {
+        if take_one(&self.begun) {
+            Kind::First
+        } else if take_one(&self.waiting) {
+            Kind::Half
+        } else {
+            Kind::Other
         }
-        self.begun.store(0, Ordering::SeqCst);
-        true
+    }
+
+    // How many asks of the kind are passed over, and how many at last; none where such asks are always put.
+    fn counts_of(&self, kind: Kind) -> Option<(&AtomicU64, &AtomicU64)> {
+        match kind {
+            Kind::First => Some((&self.firsts_left, &self.firsts_passed)),
+            Kind::Half => None,
+            Kind::Other => Some((&self.left, &self.passed)),
+        }
     }
 
     // Whether what was granted then was worth its thread.
@@ -134,33 +169,26 @@ impl<C: Clock, H: Helpers, G: Gate> Helpers for Sparing<'_, C, H, G> {
     type Permit = Timed<H::Permit>;
 
     fn ask(&self) -> Option<Timed<H::Permit>> {
-        let is_first = self.take_begun();
-        let places = self.take_entered();
-        if self.is_share(places) {
+        let kind = self.take_kind();
+        if kind == Kind::Half && self.is_share() {
             return None;
         }
-        let (left, passed) = if is_first {
-            (&self.firsts_left, &self.firsts_passed)
-        } else {
-            (&self.left, &self.passed)
-        };
-        if pass_over(left) {
-            return None;
+        if let Some((left, _)) = self.counts_of(kind) {
+            if take_one(left) {
+                return None;
+            }
         }
         let permit = self.helpers.ask()?;
-        let sleeps = passed.load(Ordering::SeqCst) == 0;
-        self.sleeps.store(u64::from(sleeps), Ordering::SeqCst);
-        if is_first {
-            self.left.store(0, Ordering::SeqCst);
-        }
-        if places == 0 {
+        if let Some((_, passed)) = self.counts_of(kind) {
+            let sleeps = passed.load(Ordering::SeqCst) == 0;
+            self.sleeps.store(u64::from(sleeps), Ordering::SeqCst);
             self.longest.store(0, Ordering::SeqCst);
         }
         let since = Instant::now(self.clock).ok();
         Some(Timed {
             permit,
             since,
-            is_first,
+            kind,
         })
     }
 
@@ -168,19 +196,11 @@ impl<C: Clock, H: Helpers, G: Gate> Helpers for Sparing<'_, C, H, G> {
         let Timed {
             permit,
             since,
-            is_first,
+            kind,
         } = permit;
         self.helpers.done(permit);
-        let was_worth = self.was_worth(since);
-        if is_first {
-            judge(
-                &self.firsts_left,
-                &self.firsts_passed,
-                was_worth,
-                MOST_LINES,
-            );
-        } else {
-            judge(&self.left, &self.passed, was_worth, MOST_PASSED);
+        if let Some((left, passed)) = self.counts_of(kind) {
+            judge(left, passed, self.was_worth(since));
         }
     }
 }
@@ -188,35 +208,29 @@ impl<C: Clock, H: Helpers, G: Gate> Helpers for Sparing<'_, C, H, G> {
 impl<C: Clock, H: Helpers, G: Gate> Gate for Sparing<'_, C, H, G> {
     fn enter(&self, place: Place) {
         match place {
-            Place::Line(_) => {
-                self.begun.store(1, Ordering::SeqCst);
-                self.entered.store(0, Ordering::SeqCst);
-                self.longest.store(0, Ordering::SeqCst);
-            }
+            Place::Line(_) => self.begin_line(),
             Place::Half(from, to) => self.enter_half(to.saturating_sub(from) as u64),
         }
         self.gate.enter(place);
     }
 }
 
-// Whether an ask is passed over; then one fewer is from now on.
-fn pass_over(left: &AtomicU64) -> bool {
-    let asks = left.load(Ordering::SeqCst);
-    if asks == 0 {
-        return false;
-    }
-    left.store(asks - 1, Ordering::SeqCst);
-    true
+// Whether there is one left to take; then there is one fewer from now on.
+fn take_one(left: &AtomicU64) -> bool {
+    left.fetch_update(Ordering::SeqCst, Ordering::SeqCst, |count| {
+        count.checked_sub(1)
+    })
+    .is_ok()
 }
 
 // A helper came back that was worth its thread, or one that wasn't: how many asks are passed over next.
-fn judge(left: &AtomicU64, passed: &AtomicU64, was_worth: bool, most: u64) {
+fn judge(left: &AtomicU64, passed: &AtomicU64, was_worth: bool) {
     let before = passed.load(Ordering::SeqCst);
     if was_worth {
-        passed.store(before / 2, Ordering::SeqCst);
+        passed.store(before / 8, Ordering::SeqCst);
         left.store(0, Ordering::SeqCst);
     } else {
-        let next = longer(before).min(most);
+        let next = longer(before);
         passed.store(next, Ordering::SeqCst);
         left.store(next, Ordering::SeqCst);
     }
@@ -226,9 +240,9 @@ fn judge(left: &AtomicU64, passed: &AtomicU64, was_worth: bool, most: u64) {
 fn longer(passed: u64) -> u64
     ensures { result ≡ longer passed }
 {
-    if passed >= MOST_PASSED / 2 {
+    if passed >= MOST_PASSED / 8 {
         MOST_PASSED
     } else {
-        2 * passed + 1
+        8 * passed + 1
     }
 }
