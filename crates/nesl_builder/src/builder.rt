@@ -194,6 +194,25 @@ impl<A: Allocator + Copy> SequenceBuilder<A> {
         }
     }
 
+    /// Adds what another builder has at the end. Values of their own are moved, and none of them is looked at.
+    pub fn append(&mut self, more: SequenceBuilder<A>) -> Result<(), AllocError>
+        ensures ok { OnOk result (elements_of self.new ≡ elements_of self.old ++ elements_of more) }
+        ensures err { OnErr result (elements_of self.new ≡ elements_of self.old) }
+    {
+        let SequenceBuilder {
+            run,
+            room: _,
+            alloc: _,
+        } = more;
+        match run {
+            Run::Empty => Ok(()),
+            Run::Ints(ints) => self.extend_from_ints(&ints),
+            Run::Bools(bools) => self.extend_from_bools(&bools),
+            Run::Chars(chars) => self.extend_from_chars(&chars),
+            Run::Values(values) => self.append_values(values),
+        }
+    }
+
     /// Adds numbers at the end.
     pub fn extend_from_ints(&mut self, more: &[i64]) -> Result<(), AllocError>
         ensures ok { OnOk result (elements_of self.new ≡ elements_of self.old ++ map int more.now) }
@@ -300,6 +319,23 @@ impl<A: Allocator + Copy> SequenceBuilder<A> {
         }
     }
 
+    fn append_values(&mut self, mut more: Vec<Value<A>, A>) -> Result<(), AllocError>
+        ensures ok { OnOk result (elements_of self.new ≡ elements_of self.old ++ map tree_of more.items) }
+        ensures err { OnErr result (elements_of self.new ≡ elements_of self.old) }
+    {
+        match mem::replace(&mut self.run, Run::Empty).into_values(self.alloc, self.room) {
+            Ok(mut values) => {
+                let outcome = append_with_room(&mut values, &mut more, self.room);
+                self.run = Run::Values(values);
+                outcome
+            }
+            Err(other) => {
+                self.run = other;
+                Err(AllocError)
+            }
+        }
+    }
+
     fn push_value(&mut self, item: Value<A>) -> Result<(), AllocError>
         ensures ok { OnOk result (elements_of self.new ≡ elements_of self.old ++ tree_of item ∷ []) }
         ensures err { OnErr result (elements_of self.new ≡ elements_of self.old) }
@@ -351,6 +387,21 @@ fn extend_with_room<T: Copy, A: Allocator>(
         items.reserve(room)?;
     }
     items.extend_from_slice(more)
+}
+
+// Moves items to the end; the first take room for that many.
+fn append_with_room<T: Drop, A: Allocator>(
+    items: &mut Vec<T, A>,
+    more: &mut Vec<T, A>,
+    room: usize,
+) -> Result<(), AllocError>
+    ensures { items.new.items
+        ≡ (if is_ok result then items.old.items ++ more.old.items else items.old.items) }
+{
+    if items.is_empty() {
+        items.reserve(room)?;
+    }
+    items.append(more)
 }
 
 // Adds leaves as values of their own, all of them or none.

@@ -1,7 +1,6 @@
 //! What the halves of an interval come to, and the interval with them.
-ghost use Rattle.std.specs.Prelude.{◌≡◌, ℕ, ◌+◌, ◌-◌, ◌<◌, ◌≤◌, ◌^◌, List, ◌++◌, OnOk, max};
+ghost use Rattle.std.specs.Prelude.{◌≡◌, ℕ, ◌+◌, ◌-◌, ◌<◌, ◌≤◌, ◌^◌, List, max};
 ghost use Rattle.nesl_values.specs.Tree.{Tree};
-ghost use Rattle.nesl_builder.specs.Elements.{elements_of};
 ghost use Rattle.nesl_code.specs.Out.{Out, beside};
 ghost use Rattle.nesl_nodes.specs.Meets.{Meets};
 ghost use Rattle.nesl_nodes.specs.Sides.{Has};
@@ -10,7 +9,6 @@ ghost use Rattle.nesl_helpers.specs.Halves.{after_cost, IsWithin, Judges};
 use nesl_builder::SequenceBuilder;
 use nesl_nodes::meter::{Meter, Stop};
 use nesl_scalars::Cost;
-use std::alloc::AllocError;
 
 /// What a half came to, which had the whole fuel, and what it took of that.
 #[derive(Drop)]
@@ -85,7 +83,7 @@ pub fn joined_values(
     meter.charge(left.cost.work)?;
     let mut values = left.found?;
     let more = judged(right, meter)?;
-    match append(&mut values, more) {
+    match values.append(more) {
         Ok(()) => {
             meter.depth += depth;
             Ok(values)
@@ -121,12 +119,4 @@ fn judged<V: Drop>(right: Half<V>, meter: &mut Meter) -> Result<V, Stop>
         Err(Stop::Memory) => Err(Stop::Memory),
         Err(Stop::Stuck) => Err(Stop::Stuck),
     }
-}
-
-// Adds what the one has behind what the other has.
-fn append(values: &mut SequenceBuilder, more: SequenceBuilder) -> Result<(), AllocError>
-    ensures { OnOk result (elements_of values.new ≡ elements_of values.old ++ elements_of more) }
-{
-    let more = more.finish()?;
-    values.extend_shared(more.items())
 }

@@ -1,10 +1,10 @@
 -- When helpers are asked for.
 use Rattle.std.specs.Prelude.{ℕ, ◌*◌, ◌+◌, min}
 
--- the most asks that are passed over at once
-abbrev pub most_passed : ℕ
-most_passed = 4096
+-- the longest pause in which no helper is asked for, in milliseconds
+abbrev pub longest_pause : ℕ
+longest_pause = 127
 
--- how many asks are passed over after a helper that did little, where so many were before it
+-- the milliseconds of the pause after a helper that did little, where so many were the last
 abbrev pub longer : ℕ → ℕ
-longer passed = min (8 * passed + 1) most_passed
+longer last = min (2 * last + 1) longest_pause

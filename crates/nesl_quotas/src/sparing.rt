@@ -5,60 +5,96 @@ ghost use Rattle.nesl_quotas.specs.Sparing.{longer};
 use nesl_helpers::{Gate, Helpers, Place};
 use std::sync::atomic::{AtomicU64, Ordering};
 use std::thread;
-use std::time::{Clock, Duration, Instant};
+use std::time::{Clock, Duration};
 
 /// How many microseconds a helper has to take to be worth its thread, which takes some tens of them to make.
 const WORTH: u64 = 500;
 
-/// How many microseconds a half of an interval sleeps before it begins. A scheduler that puts a new thread on its maker's
-/// processor, where it waits for the other half, places a thread anew when it wakes.
+/// In how many lines helpers are asked for after one that lasted as long as that.
+const HOPE: u64 = 8;
+
+/// After how many helpers in a row that weren't worth their threads there is a pause.
+const PATIENCE: u64 = 4;
+
+/// What the last pause counts as where there was none, in milliseconds: the first one is about twice as long.
+const FIRST_PAUSE: u64 = 15;
+
+/// The longest pause, in milliseconds.
+const LONGEST_PAUSE: u64 = 127;
+
+/// How many asks are passed over in a pause before the clock is read again.
+const UNTIMED: u64 = 64;
+
+/// How many microseconds after the grant a half is late. Then most likely its thread was put on its maker's processor,
+/// where it waits for the other half.
+const LATE: u64 = 200;
+
+/// How many microseconds halves sleep before they begin, where such as didn't were late: a scheduler that puts a new thread
+/// on its maker's processor places it anew when it wakes, if its maker sleeps too.
 const NAP: u64 = 1;
 
-/// The most asks that are passed over at once.
-const MOST_PASSED: u64 = 4096;
-
-/// How many microseconds pass between the begins of two lines where a helper in vain is not noticed.
-const LONG: u64 = 20_000;
+/// The halves of how many intervals sleep after one was late.
+const NAPS: u64 = 64;
 
 /// Asks others for helpers, for one connection, and stops asking where that doesn't pay.
 ///
-/// The first ask of a line is most often for its longest interval, so it is judged apart from the others. After a helper
-/// that came back within 500 microseconds of its grant, asks of its kind are passed over: 1 after the first, and 8 n + 1
-/// where n were at last, up to 4096. After one that took longer the next ask of its kind is put, and the n of the next
-/// short one is an eighth. A helper counts as one that took longer where the clock can't be read. The first ask of a line
-/// is always put where the line before began 20 milliseconds ago or earlier, since it was long or its user is slow.
+/// Helpers are asked for in a connection's first line, and in the 8 lines after one that lasted 500 microseconds or longer,
+/// until the next one began. So short lines pay nothing for trials, and all lines of a slow user count as long.
+///
+/// The first ask of a line is most often for its longest interval, so it is judged apart from the others. After four helpers
+/// in a row that came back within 500 microseconds of their grants, no ask of their kind is put for a pause: 31 milliseconds
+/// the first time, and then twice as long and one more than the pause before, up to 127. A helper in vain takes some 150
+/// microseconds, so four of them take two hundredths of the time before the first pause ends, and half a hundredth later,
+/// however many asks there are. After a helper that took longer the next ask of its kind is put, and the last pause counts as
+/// a sixteenth.
 ///
 /// A half of an interval asks as it is entered. Its ask is put whatever came of others, and its helper isn't judged: the
 /// interval was worth one or wasn't. But no ask is put for a half that is one thread's share of the interval, where all
 /// helpers and the asking thread take part: else the thread that cuts first would take the helper that the other half is
-/// about to ask for.
+/// about to ask for. While all helpers are out for this connection no ask is put at all, which is told without a write to
+/// memory, since all its threads ask at every interval inside.
+///
 /// This is also the connection's gate, by which it sees that a line begins and that halves are entered, and how long they
-/// are; it tells another gate of each place. Where no asks of a kind are to be passed over, so that long halves are
-/// likely, those of a granted one sleep for a microsecond, and theirs too, so that the scheduler places their threads.
+/// are; it tells another gate of each place. Where a half was entered 200 microseconds after its grant or later, the halves
+/// of the next 64 intervals sleep for a microsecond, and theirs too, so that the scheduler places their threads. Where the
+/// clock can't be read it stands at 0, and no line is long.
 #[derive(Drop)]
 pub struct Sparing<'a, C, H, G> {
     clock: &'a C,
     helpers: H,
     gate: &'a G,
-    // How many helpers there are, and the asking thread.
-    threads: u64,
+    // How many helpers there are, and how many of them are out for this connection.
+    workers: u64,
+    out: AtomicU64,
     // The microsecond at which the last line began, and 1 where it has put or passed over no ask.
     since: AtomicU64,
     begun: AtomicU64,
+    // In how many lines helpers are asked for, this one included; before the first line it is one more.
+    hopeful: AtomicU64,
     // How many halves were entered that are about to ask, and how many places the last of them has.
     waiting: AtomicU64,
     entered: AtomicU64,
     // The places of the longest half of the interval that was cut last.
     longest: AtomicU64,
-    // 1 where the halves of that interval sleep.
+    // The microsecond of the last grant, 1 where the halves of the interval sleep, and of how many further ones they do.
+    granted: AtomicU64,
     sleeps: AtomicU64,
-    // How many first asks are still passed over.
-    firsts_left: AtomicU64,
-    // How many were to be passed over after the last short helper, an eighth for each long one since.
-    firsts_passed: AtomicU64,
-    // The same of the other asks.
-    left: AtomicU64,
-    passed: AtomicU64,
+    naps: AtomicU64,
+    firsts: Pauses,
+    others: Pauses,
+    // How many of the other asks are passed over before the clock is read again.
+    untimed: AtomicU64,
+}
+
+/// When asks of a kind are put.
+#[derive(Drop)]
+struct Pauses {
+    // How many helpers in a row weren't worth their threads, since the last pause.
+    vain: AtomicU64,
+    // The milliseconds of the last pause, a sixteenth for each helper since that was worth its thread.
+    last: AtomicU64,
+    // The microsecond until which no ask is put.
+    until: AtomicU64,
 }
 
 /// What an ask is for: the first interval of a line, a half of an interval, or another one.
@@ -69,11 +105,41 @@ enum Kind {
     Other,
 }
 
-/// A helper that others granted, when, and for what.
+/// A helper that others granted, at which microsecond, and for what.
 pub struct Timed<P> {
     permit: P,
-    since: Option<Instant>,
+    granted: u64,
     kind: Kind,
+}
+
+impl Pauses {
+    fn new() -> Pauses {
+        Pauses {
+            vain: AtomicU64::new(0),
+            last: AtomicU64::new(FIRST_PAUSE),
+            until: AtomicU64::new(0),
+        }
+    }
+
+    // A helper came back that was worth its thread.
+    fn hail(&self) {
+        let last = self.last.load(Ordering::SeqCst);
+        self.last.store(last / 16, Ordering::SeqCst);
+        self.vain.store(0, Ordering::SeqCst);
+        self.until.store(0, Ordering::SeqCst);
+    }
+
+    // One came back at this microsecond that wasn't.
+    fn blame(&self, now: u64) {
+        let before = self.vain.fetch_add(1, Ordering::SeqCst);
+        if before.saturating_add(1) >= PATIENCE {
+            let next = longer(self.last.load(Ordering::SeqCst));
+            let until = now.saturating_add(next.saturating_mul(1000));
+            self.last.store(next, Ordering::SeqCst);
+            self.vain.store(0, Ordering::SeqCst);
+            self.until.store(until, Ordering::SeqCst);
+        }
+    }
 }
 
 impl<'a, C: Clock, H: Helpers, G: Gate> Sparing<'a, C, H, G> {
@@ -83,40 +149,58 @@ impl<'a, C: Clock, H: Helpers, G: Gate> Sparing<'a, C, H, G> {
             clock,
             helpers,
             gate,
-            threads: u64::from(workers).saturating_add(1),
-            since: AtomicU64::new(0),
+            workers: u64::from(workers),
+            out: AtomicU64::new(0),
+            since: AtomicU64::new(u64::MAX),
             begun: AtomicU64::new(0),
+            hopeful: AtomicU64::new(2),
             waiting: AtomicU64::new(0),
             entered: AtomicU64::new(0),
             longest: AtomicU64::new(0),
+            granted: AtomicU64::new(0),
             sleeps: AtomicU64::new(0),
-            firsts_left: AtomicU64::new(0),
-            firsts_passed: AtomicU64::new(0),
-            left: AtomicU64::new(0),
-            passed: AtomicU64::new(0),
+            naps: AtomicU64::new(0),
+            firsts: Pauses::new(),
+            others: Pauses::new(),
+            untimed: AtomicU64::new(0),
         }
     }
 
-    // A line begins.
+    // The microsecond that it is.
+    fn now(&self) -> u64 {
+        match self.clock.monotonic() {
+            Ok(time) => u64::try_from(time.as_micros()).unwrap_or(0),
+            Err(_) => 0,
+        }
+    }
+
+    // A line begins, and the one before is over.
     fn begin_line(&self) {
+        let now = self.now();
+        let lasted = now.saturating_sub(self.since.load(Ordering::SeqCst));
+        let left = self.hopeful.load(Ordering::SeqCst).saturating_sub(1);
+        let hopeful = if lasted >= WORTH { HOPE } else { left };
+        self.hopeful.store(hopeful, Ordering::SeqCst);
+        self.since.store(now, Ordering::SeqCst);
         self.begun.store(1, Ordering::SeqCst);
         self.waiting.store(0, Ordering::SeqCst);
         self.longest.store(0, Ordering::SeqCst);
-        let now = match self.clock.monotonic() {
-            Ok(time) => u64::try_from(time.as_micros()).unwrap_or(0),
-            Err(_) => 0,
-        };
-        let before = self.since.load(Ordering::SeqCst);
-        self.since.store(now, Ordering::SeqCst);
-        if now.saturating_sub(before) >= LONG {
-            self.firsts_left.store(0, Ordering::SeqCst);
-        }
+        self.untimed.store(0, Ordering::SeqCst);
+    }
+
+    // An interval is cut that is no half of another.
+    fn begin_interval(&self) {
+        let sleeps = take_one(&self.naps);
+        self.sleeps.store(u64::from(sleeps), Ordering::SeqCst);
+        self.longest.store(0, Ordering::SeqCst);
     }
 
     // A half of so many places is entered, which asks next unless it has one place alone.
     fn enter_half(&self, places: u64) {
         if self.sleeps.load(Ordering::SeqCst) != 0 {
             thread::sleep(self.clock, Duration::from_micros(NAP));
+        } else if self.is_late() {
+            self.naps.store(NAPS, Ordering::SeqCst);
         }
         let longest = self.longest.load(Ordering::SeqCst);
         self.longest.store(longest.max(places), Ordering::SeqCst);
@@ -126,11 +210,18 @@ impl<'a, C: Clock, H: Helpers, G: Gate> Sparing<'a, C, H, G> {
         }
     }
 
+    // Whether a half that is entered now is late.
+    fn is_late(&self) -> bool {
+        let granted = self.granted.load(Ordering::SeqCst);
+        self.now().saturating_sub(granted) >= LATE
+    }
+
     // Whether the half that was entered last is one thread's share of the interval. Halves of an odd interval differ by one.
     fn is_share(&self) -> bool {
+        let threads = self.workers.saturating_add(1);
         let places = self.entered.load(Ordering::SeqCst);
         let whole = self.longest.load(Ordering::SeqCst).saturating_mul(2);
-        places.saturating_mul(self.threads) <= whole.saturating_add(self.threads)
+        places.saturating_mul(threads) <= whole.saturating_add(threads)
     }
 
     // What an ask is for that is put now. The next one is for something else.
@@ -144,23 +235,50 @@ impl<'a, C: Clock, H: Helpers, G: Gate> Sparing<'a, C, H, G> {
         }
     }
 
-    // How many asks of the kind are passed over, and how many at last; none where such asks are always put.
-    fn counts_of(&self, kind: Kind) -> Option<(&AtomicU64, &AtomicU64)> {
+    // Whether an ask of the kind is put.
+    fn is_put(&self, kind: Kind) -> bool {
         match kind {
-            Kind::First => Some((&self.firsts_left, &self.firsts_passed)),
-            Kind::Half => None,
-            Kind::Other => Some((&self.left, &self.passed)),
+            Kind::First => {
+                self.is_hopeful()
+                    && self.since.load(Ordering::SeqCst) >= self.firsts.until.load(Ordering::SeqCst)
+            }
+            Kind::Half => !self.is_share(),
+            Kind::Other => self.is_hopeful() && !take_one(&self.untimed) && self.is_pause_over(),
         }
     }
 
-    // Whether what was granted then was worth its thread.
-    fn was_worth(&self, since: Option<Instant>) -> bool {
-        let Some(since) = since else {
+    fn is_hopeful(&self) -> bool {
+        self.hopeful.load(Ordering::SeqCst) > 0
+    }
+
+    // Whether the pause of the other asks is over. If it isn't, so many of them are passed over with no look at the clock.
+    fn is_pause_over(&self) -> bool {
+        let until = self.others.until.load(Ordering::SeqCst);
+        if until == 0 || self.now() >= until {
             return true;
-        };
-        match since.elapsed(self.clock) {
-            Ok(took) => took >= Duration::from_micros(WORTH),
-            Err(_) => true,
+        }
+        self.untimed.store(UNTIMED, Ordering::SeqCst);
+        false
+    }
+
+    // The pauses of a kind; none where its helpers aren't judged.
+    fn pauses_of(&self, kind: Kind) -> Option<&Pauses> {
+        match kind {
+            Kind::First => Some(&self.firsts),
+            Kind::Half => None,
+            Kind::Other => Some(&self.others),
+        }
+    }
+
+    // A helper came back that was granted at this microsecond, for that.
+    fn judge(&self, granted: u64, kind: Kind) {
+        if let Some(pauses) = self.pauses_of(kind) {
+            let now = self.now();
+            if now.saturating_sub(granted) >= WORTH {
+                pauses.hail();
+            } else {
+                pauses.blame(now);
+            }
         }
     }
 }
@@ -170,24 +288,22 @@ impl<C: Clock, H: Helpers, G: Gate> Helpers for Sparing<'_, C, H, G> {
 
     fn ask(&self) -> Option<Timed<H::Permit>> {
         let kind = self.take_kind();
-        if kind == Kind::Half && self.is_share() {
+        if self.out.load(Ordering::SeqCst) >= self.workers || !self.is_put(kind) {
             return None;
         }
-        if let Some((left, _)) = self.counts_of(kind) {
-            if take_one(left) {
-                return None;
-            }
+        let Some(permit) = self.helpers.ask() else {
+            self.untimed.store(UNTIMED, Ordering::SeqCst);
+            return None;
+        };
+        self.out.fetch_add(1, Ordering::SeqCst);
+        if kind != Kind::Half {
+            self.begin_interval();
         }
-        let permit = self.helpers.ask()?;
-        if let Some((_, passed)) = self.counts_of(kind) {
-            let sleeps = passed.load(Ordering::SeqCst) == 0;
-            self.sleeps.store(u64::from(sleeps), Ordering::SeqCst);
-            self.longest.store(0, Ordering::SeqCst);
-        }
-        let since = Instant::now(self.clock).ok();
+        let granted = self.now();
+        self.granted.store(granted, Ordering::SeqCst);
         Some(Timed {
             permit,
-            since,
+            granted,
             kind,
         })
     }
@@ -195,13 +311,12 @@ impl<C: Clock, H: Helpers, G: Gate> Helpers for Sparing<'_, C, H, G> {
     fn done(&self, permit: Timed<H::Permit>) {
         let Timed {
             permit,
-            since,
+            granted,
             kind,
         } = permit;
         self.helpers.done(permit);
-        if let Some((left, passed)) = self.counts_of(kind) {
-            judge(left, passed, self.was_worth(since));
-        }
+        self.out.fetch_sub(1, Ordering::SeqCst);
+        self.judge(granted, kind);
     }
 }
 
@@ -223,26 +338,13 @@ fn take_one(left: &AtomicU64) -> bool {
     .is_ok()
 }
 
-// A helper came back that was worth its thread, or one that wasn't: how many asks are passed over next.
-fn judge(left: &AtomicU64, passed: &AtomicU64, was_worth: bool) {
-    let before = passed.load(Ordering::SeqCst);
-    if was_worth {
-        passed.store(before / 8, Ordering::SeqCst);
-        left.store(0, Ordering::SeqCst);
-    } else {
-        let next = longer(before);
-        passed.store(next, Ordering::SeqCst);
-        left.store(next, Ordering::SeqCst);
-    }
-}
-
-// How many asks are passed over after a helper that did little, where so many were before it.
-fn longer(passed: u64) -> u64
-    ensures { result ≡ longer passed }
+// The milliseconds of the pause after a helper that did little, where so many were the last.
+fn longer(last: u64) -> u64
+    ensures { result ≡ longer last }
 {
-    if passed >= MOST_PASSED / 8 {
-        MOST_PASSED
+    if last >= LONGEST_PAUSE / 2 {
+        LONGEST_PAUSE
     } else {
-        8 * passed + 1
+        2 * last + 1
     }
 }

@@ -914,7 +914,13 @@ fn bodies_in_order<R: Threads + Sync, H: Helpers + Sync, G: Gate + Sync, T: Tops
 {
     let start = meter.depth;
     let mut most = 0;
-    let mut builder = SequenceBuilder::with_room(interval.crew.alloc, to - from);
+    // The values of all places behind are added to the first ones.
+    let room = if from == 0 {
+        interval.places.len()
+    } else {
+        to - from
+    };
+    let mut builder = SequenceBuilder::with_room(interval.crew.alloc, room);
     for turn in from..to {
         let place = interval.places.at(turn);
         meter.depth = 0;

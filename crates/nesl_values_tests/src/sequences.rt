@@ -141,6 +141,50 @@ fn not_packed_where_they_are_not_alike(rt: HostRuntime) -> Result<(), Fail> {
     Ok(())
 }
 
+// A builder that has a number.
+fn of_number(alloc: Global, n: i64) -> Result<SequenceBuilder, AllocError> {
+    let mut builder = SequenceBuilder::new(alloc);
+    builder.push_int(n)?;
+    Ok(builder)
+}
+
+// One that has this row, shared.
+fn of_row(alloc: Global, row: &Value) -> Result<SequenceBuilder, AllocError> {
+    let mut builder = SequenceBuilder::new(alloc);
+    builder.push_shared(Element::Node(row))?;
+    Ok(builder)
+}
+
+// What the one has, and the other behind it.
+fn joined(
+    mut left: SequenceBuilder,
+    right: SequenceBuilder,
+) -> Result<SequenceBuilder, AllocError> {
+    left.append(right)?;
+    Ok(left)
+}
+
+// Two numbers.
+fn two_numbers(alloc: Global) -> Result<SequenceBuilder, AllocError> {
+    joined(of_number(alloc, 1)?, of_number(alloc, 2)?)
+}
+
+// Two numbers, the row, and a number.
+fn numbers_round_a_row(alloc: Global, row: &Value) -> Result<Value, AllocError> {
+    let front = joined(two_numbers(alloc)?, of_row(alloc, row)?)?;
+    joined(front, of_number(alloc, 3)?)?.finish()
+}
+
+#[test]
+fn one_behind_another(rt: HostRuntime) -> Result<(), Fail> {
+    let packed = two_numbers(rt.alloc())?.finish()?;
+    assert!(rt; matches!(packed.items(), Items::Ints([1, 2])));
+    let mixed = numbers_round_a_row(rt.alloc(), &packed)?;
+    assert!(rt; mixed.sequence_len() == Some(4) && mixed.nodes() == 7);
+    assert!(rt; mixed.element(1).as_int() == Some(2) && mixed.element(3).as_int() == Some(3));
+    Ok(())
+}
+
 // Pushes the row shared, and a copy.
 fn push_twice(builder: &mut SequenceBuilder, row: &Value) -> Result<(), AllocError> {
     builder.push_shared(Element::Node(row))?;
