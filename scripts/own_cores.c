@@ -4,9 +4,9 @@
  *     LD_PRELOAD=./own_cores.so LINE_TIMES=FILE [OWN_CORES=1] PROGRAM serve ..
  *
  * FILE gets a line for each answer that is written: the milliseconds from what was read last, or from the answer before it, the
- * milliseconds of processor time that the process took in between, and how many threads it made. With OWN_CORES the threads that the main
- * thread makes stay on processor 0, and each other thread, which helps with a half, has one of processors 1 to 3 to itself,
- * as long as one is free.
+ * milliseconds of processor time that the process took in between, and how many threads it made. With OWN_CORES the threads
+ * that the main thread makes stay on processor 0, and each other thread, which helps with a half, has one of processors 1 to
+ * 3 to itself, as long as one is free.
  */
 #define _GNU_SOURCE
 #include <dlfcn.h>
