@@ -4,6 +4,7 @@ ghost use Rattle.std.specs.Io.KnownBytes.{ReadConsumes, WriteAppends, Keeps};
 ghost use Rattle.std.specs.Io.{ReadsAtMost, WritesAtMost};
 ghost use Rattle.nesl_line.specs.Tally.{ReadTally, WriteTally, after_read, after_write, after_flush};
 
+use crate::again::{flush_again, read_again, write_again};
 use std::io::{Read, Write};
 use thiserror::Error;
 
@@ -17,7 +18,8 @@ pub trait Source {
     /// The bytes that are left to read, where they are known.
     ghost left: { Self → Option (List ℕ) };
 
-    /// How many reads were made, and how many of them failed.
+    /// How many reads were made, and how many of them failed. One that a signal interrupted may be made again, and counts
+    /// once then.
     ghost tally: { Self → ReadTally };
 
     /// Reads some bytes into the front of `buf`. None come only at the end, or where `buf` is empty.
@@ -56,8 +58,9 @@ pub trait Sink {
         ensures { result ≡ (tally self.now).failed };
 }
 
-/// A reader or a writer of the system, with counts of what was asked of it. It adds no buffer: give it a `BufWriter` to
-/// gather the writes of one answer, which are flushed together.
+/// A reader or a writer of the system, with counts of what was asked of it. A call that a signal interrupted is made
+/// again, and counts once. It adds no buffer: give it a `BufWriter` to gather the writes of one answer, which are flushed
+/// together.
 #[derive(Drop)]
 pub struct Device<T> {
     inner: T,
@@ -104,7 +107,7 @@ impl<T: Read> Source for Device<T> {
 
     fn read(&mut self, buf: &mut [u8]) -> Result<usize, Failed> {
         self.reads = self.reads.saturating_add(1);
-        match self.inner.read(buf) {
+        match read_again(&mut self.inner, buf) {
             Ok(n) => Ok(n),
             Err(_) => {
                 self.failed = self.failed.saturating_add(1);
@@ -126,7 +129,7 @@ impl<T: Write> Sink for Device<T> {
     ghost tally = { device_writes };
 
     fn write(&mut self, buf: &[u8]) -> Result<usize, Failed> {
-        match self.inner.write(buf) {
+        match write_again(&mut self.inner, buf) {
             Ok(n) => {
                 if n == 0 && !buf.is_empty() {
                     self.stalled = self.stalled.saturating_add(1);
@@ -143,7 +146,7 @@ impl<T: Write> Sink for Device<T> {
     }
 
     fn flush(&mut self) -> Result<(), Failed> {
-        match self.inner.flush() {
+        match flush_again(&mut self.inner) {
             Ok(()) => {
                 self.flushed = self.flushed.saturating_add(1);
                 self.behind = 0;

@@ -1,6 +1,7 @@
 //! A house that is spoken to over a reader and a writer.
 #![tactic(auto)]
 
+mod again;
 pub mod batch;
 pub mod device;
 pub mod exchange;

@@ -10,6 +10,8 @@ mod devices;
 #[cfg(test)]
 mod faults;
 #[cfg(test)]
+mod interrupted;
+#[cfg(test)]
 mod lines;
 #[cfg(test)]
 mod served;
