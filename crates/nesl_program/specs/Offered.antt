@@ -10,6 +10,7 @@ service_offered offer = record {
   workers = offer.workers;
   connections = offer.connections;
   idle = offer.idle;
+  first_line = offer.first_line;
   is_logged = offer.is_logged;
 }
 

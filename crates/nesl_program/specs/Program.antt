@@ -12,7 +12,8 @@ use Rattle.nesl_words.specs.Words.{Task, a_batch, a_service, Batch, Service, use
 use Rattle.nesl_program.specs.Offered.{service_offered, users_offered}
 use Rattle.nesl_program.specs.declared.run.Offer.{Offer}
 use Rattle.nesl_program.specs.declared.failure.Failure.{Failure}
-use Rattle.nesl_program.specs.declared.failure.Failure.TheVariants.{Read, Write, Memory, Serve, Count, Name, Twice}
+use Rattle.nesl_program.specs.declared.failure.Failure.TheVariants.{Read, Write, Memory, Serve}
+use Rattle.nesl_program.specs.declared.failure.Failure.TheVariants.{Count, Name, Twice, Encoding}
 
 -- the limits of each session
 abbrev pub limits : Limits
@@ -39,13 +40,14 @@ Untouched left left' held held' = Consumes left left' [] × Appends held held' [
 abbrev pub IsBlamed : (ℕ → Type 0) → List (List ℕ) → List ℕ → Type 0
 IsBlamed RefusedAt users name = (place : ℕ) × RefusedAt place × (slice_get users place ≡ Some name)
 
--- why a batch for these users failed, and what it had read and written
+-- why a batch for these users failed, and what it had read and written; words that are not UTF-8 never come to a batch
 abbrev pub Fails
     : Failure → List (List ℕ) → Option (List ℕ) → Option (List ℕ) → Option (List ℕ) → Option (List ℕ) → Type 0
 Fails Read users left left' held held' = Served ReadFault users left left' held held'
 Fails Write users left left' held held' = Served WriteFault users left left' held held'
 Fails Memory users left left' held held' = Untouched left left' held held'
 Fails (Serve fault) users left left' held held' = ⊥
+Fails Encoding users left left' held held' = ⊥
 Fails Count users left left' held held' = IsRefused users refusal.Count × Untouched left left' held held'
 Fails (Name name) users left left' held held' =
     IsBlamed (λ place. IsRefused users (refusal.Name place)) users name.now × Untouched left left' held held'

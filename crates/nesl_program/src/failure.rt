@@ -1,7 +1,7 @@
 //! How a run of the program fails.
 ghost use Rattle.std.specs.Prelude.{◌≡◌, ℕ, List, Option, IfSome, map, slice_get};
 ghost use Rattle.nesl_house.specs.Roster.{IsRefused};
-ghost use Rattle.nesl_program.specs.Failures.{failure_of, status_of};
+ghost use Rattle.nesl_program.specs.Failures.{failure_of, memory_failure_of, status_of};
 ghost use Rattle.nesl_program.specs.Program.{Fails};
 
 use nesl_house::roster::NewFault;
@@ -26,6 +26,8 @@ pub enum Failure<'a> {
     Name(&'a str),
     #[error("roster: {0} stands twice")]
     Twice(&'a str),
+    #[error("words: not UTF-8")]
+    Encoding,
 }
 
 /// Why the words came to no whole run.
@@ -53,6 +55,16 @@ impl<'a> Failure<'a> {
         }
     }
 
+    /// What want of memory is told as before a run has begun, by the words, of which the first is the program's name.
+    pub fn of_memory(words: &[&str]) -> Failure<'a>
+        ensures { result ≡ memory_failure_of (map (λ word. word.now) words.now) }
+    {
+        match words.get(1) {
+            Some(word) if *word == "serve" => Failure::Serve(ServeFault::Memory),
+            _ => Failure::Memory,
+        }
+    }
+
     /// What an end of a batch is told as; the end of input is no failure.
     pub fn of_end(end: End) -> Option<Failure<'a>>
         ensures { result ≡ failure_of end }
@@ -71,7 +83,7 @@ impl<'a> Failure<'a> {
     {
         match self {
             Failure::Read | Failure::Write | Failure::Memory | Failure::Serve(_) => 1,
-            Failure::Count | Failure::Name(_) | Failure::Twice(_) => 2,
+            Failure::Encoding | Failure::Count | Failure::Name(_) | Failure::Twice(_) => 2,
         }
     }
 }

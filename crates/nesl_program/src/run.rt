@@ -28,8 +28,10 @@ pub const LIMITS: Limits = Limits {
     transcript_bytes: 1_048_576,
 };
 
-/// A service for these users, in order: on this port, with so many helpers, and for so many connections, if it ends; a
-/// connection that is silent for so many seconds has ended, if these are told; each is told of, if it is logged.
+/// A service for these users, in order: on this port, with so many helpers, and for so many connections, if it ends.
+/// Where they are told, a line has so many `idle` seconds to come whole, and as many may pass while nothing of an
+/// answer is taken; the first line of a connection has so many `first_line` seconds. Each connection is told of, if it
+/// is logged.
 #[derive(Drop)]
 pub struct Offer<'a> {
     pub users: Vec<&'a str>,
@@ -37,6 +39,7 @@ pub struct Offer<'a> {
     pub workers: Option<usize>,
     pub connections: Option<usize>,
     pub idle: Option<usize>,
+    pub first_line: Option<usize>,
     pub is_logged: bool,
 }
 
@@ -71,6 +74,7 @@ pub fn answered<'a, S: Source, W: Sink>(
             workers,
             connections,
             idle,
+            first_line,
             is_logged,
         } => Ok(Some(Offer {
             users,
@@ -78,6 +82,7 @@ pub fn answered<'a, S: Source, W: Sink>(
             workers,
             connections,
             idle,
+            first_line,
             is_logged,
         })),
     }

@@ -8,11 +8,12 @@ use Rattle.nesl_words.specs.Words.{Task, a_batch, a_service}
 -- what is to be done
 abbrev pub task_wanted : Code → Task
 task_wanted (code.Batch heap) = a_batch (record { heap = heap })
-task_wanted (code.Service port workers connections idle is_logged) = a_service (record {
+task_wanted (code.Service port workers connections idle first_line is_logged) = a_service (record {
   port = port;
   workers = workers;
   connections = connections;
   idle = idle;
+  first_line = first_line;
   is_logged = is_logged;
 })
 

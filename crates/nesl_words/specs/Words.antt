@@ -52,6 +52,10 @@ connections_rule = number_rule (codes "CONNECTIONS") (codes "connections") 1 100
 abbrev pub idle_rule : Rule
 idle_rule = number_rule (codes "SECONDS") (codes "idle") 1 86400
 
+-- `--first-line SECONDS`: a number from 1 to 86400, at most once; help has a name for its value, which isn't its id
+abbrev pub first_line_rule : Rule
+first_line_rule = record (number_rule (codes "FIRST") (codes "first-line") 1 86400) { value_names = 1 }
+
 -- `--log`, at most once
 abbrev pub log_rule : Rule
 log_rule = record (new_rule (codes "LOG")) {
@@ -59,14 +63,16 @@ log_rule = record (new_rule (codes "LOG")) {
   action = Some SetTrue;
 }
 
--- the subcommand `serve --port P --workers W [--connections N] [--idle SECONDS] [--log] USER..`: first its numbers
-abbrev pub serve_numbers : Shape
-serve_numbers = record (new_shape (codes "serve")) {
-  rules = port_rule ∷ workers_rule ∷ connections_rule ∷ idle_rule ∷ [];
-}
+-- the subcommand `serve --port P --workers W [--connections N] [--idle SECONDS] [--first-line SECONDS] [--log] USER..`:
+-- first its port and its counts, then its seconds
+abbrev pub serve_counts : Shape
+serve_counts = record (new_shape (codes "serve")) { rules = port_rule ∷ workers_rule ∷ connections_rule ∷ [] }
+
+abbrev pub serve_seconds : Shape
+serve_seconds = record serve_counts { rules = serve_counts.rules ++ idle_rule ∷ first_line_rule ∷ [] }
 
 abbrev pub serve : Shape
-serve = record serve_numbers { rules = serve_numbers.rules ++ log_rule ∷ users_rule ∷ [] }
+serve = record serve_seconds { rules = serve_seconds.rules ++ log_rule ∷ users_rule ∷ [] }
 
 -- the program before its subcommands: one is required, and help is told where there are no words
 abbrev pub without_subcommands : App
@@ -109,13 +115,15 @@ is_among name rows = is_true (slice_get (unwrap_or (all_of name rows) []) 0)
 pub record Batch : Type 0 where
   pub heap : Option ℕ
 
--- a service: its port, how many helpers its threads may have in all, how many connections it serves, if it ends, after
--- how many seconds a silent connection has ended, if it does, and whether each connection is told of
+-- a service: its port, how many helpers its threads may have in all, how many connections it serves, if it ends, how
+-- many seconds a line has to come whole and an answer to be taken, how many the first line has, if these are told, and
+-- whether each connection is told of
 pub record Service : Type 0 where
   pub port : Option ℕ
   pub workers : Option ℕ
   pub connections : Option ℕ
   pub idle : Option ℕ
+  pub first_line : Option ℕ
   pub is_logged : Bool
 
 -- what is to be done
@@ -131,6 +139,7 @@ task_among name rows =
       workers = number_among (codes "WORKERS") rows;
       connections = number_among (codes "CONNECTIONS") rows;
       idle = number_among (codes "SECONDS") rows;
+      first_line = number_among (codes "FIRST") rows;
       is_logged = is_among (codes "LOG") rows;
     })
     else a_batch (record { heap = number_among (codes "BYTES") rows })
@@ -147,7 +156,8 @@ pub program_is_simple : is_simple_and_free program ≡ true
 program_is_simple = refl
 
 -- worked: two users; no heap, a heap, and one that is too small; users behind `--`; a service that ends and one that
--- doesn't, without a port, and with too many workers; no word, no user, an unknown subcommand, and a call for help
+-- doesn't, without a port, with too many workers, and with no second for the first line; no word, no user, an unknown
+-- subcommand, and a call for help
 abbrev pub asked : List (List ℕ) → List (List ℕ)
 asked words = codes "pazkindu" ∷ words
 
@@ -194,15 +204,29 @@ no_user = refl
 served_twice :
     task_of (asked (codes "serve" ∷ codes "--port" ∷ codes "0" ∷ codes "--workers" ∷ codes "4" ∷ codes "--connections"
     ∷ codes "2" ∷ codes "ann" ∷ []))
-    ≡ a_service (record { port = Some 0; workers = Some 4; connections = Some 2; idle = None; is_logged = false })
+    ≡ a_service (record {
+      port = Some 0;
+      workers = Some 4;
+      connections = Some 2;
+      idle = None;
+      first_line = None;
+      is_logged = false;
+    })
 unfolding walked
 served_twice = refl
 
 served_on :
     task_of
     (asked (codes "serve" ∷ codes "--workers=0" ∷ codes "--idle=60" ∷ codes "ann" ∷ codes "--log" ∷ codes "--port=4000"
-    ∷ []))
-    ≡ a_service (record { port = Some 4000; workers = Some 0; connections = None; idle = Some 60; is_logged = true })
+    ∷ codes "--first-line=5" ∷ []))
+    ≡ a_service (record {
+      port = Some 4000;
+      workers = Some 0;
+      connections = None;
+      idle = Some 60;
+      first_line = Some 5;
+      is_logged = true;
+    })
 unfolding walked
 served_on = refl
 
@@ -218,6 +242,13 @@ many_workers :
     ≡ kind.ValueValidation ∷ []
 unfolding walked walk_fault defaults_fault
 many_workers = refl
+
+no_second :
+    fault_of program
+    (asked (codes "serve" ∷ codes "--port=0" ∷ codes "--workers=4" ∷ codes "--first-line=0" ∷ codes "ann" ∷ []))
+    ≡ kind.ValueValidation ∷ []
+unfolding walked walk_fault defaults_fault
+no_second = refl
 
 unknown : fault_of program (asked (codes "listen" ∷ [])) ≡ kind.UnknownArgument ∷ kind.InvalidSubcommand ∷ []
 unfolding walked walk_fault defaults_fault

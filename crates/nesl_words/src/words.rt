@@ -6,7 +6,7 @@ ghost use Rattle.clap.specs.Matches.{found_of};
 ghost use Rattle.clap.specs.declared.builder.command.Command.TheViews.{out-Command as fields_of};
 ghost use Rattle.clap.specs.Simple.{with_subcommand};
 ghost use Rattle.clap.specs.Words.{app_of, fault_of, FailsBy, shape_of, subcommand_rows_of};
-ghost use Rattle.nesl_words.specs.Words.{batch, connections_rule, heap_rule, idle_rule, is_among, log_rule, number_among, number_rule, port_rule, program, serve, serve_numbers, task_among, task_in, task_of, users_among, users_in, users_of, users_rule, without_subcommands, workers_rule};
+ghost use Rattle.nesl_words.specs.Words.{batch, connections_rule, first_line_rule, heap_rule, idle_rule, is_among, log_rule, number_among, number_rule, port_rule, program, serve, serve_counts, serve_seconds, task_among, task_in, task_of, users_among, users_in, users_of, users_rule, without_subcommands, workers_rule};
 ghost use Rattle.nesl_words.specs.Wanted.{task_wanted, users_wanted};
 
 use clap::builder::ValueParser;
@@ -31,13 +31,16 @@ const WORKERS: &str = "How many threads may help those that serve, all together:
 
 const CONNECTIONS: &str = "Ends after so many connections: 1 to 1000000";
 
-const IDLE: &str =
-    "Ends a connection that says nothing for so many seconds, or takes no answer: 1 to 86400";
+const IDLE: &str = "Ends a connection whose line has not come whole after so many seconds, \
+    or that takes nothing of an answer for so long: 1 to 86400";
+
+const FIRST_LINE: &str = "Ends a connection whose first line has not come whole \
+    after so many seconds: 1 to 86400, 10 without it";
 
 const LOG: &str = "Tells of each connection's begin and end on standard error";
 
-/// The most seconds of silence.
-const MOST_IDLE: u64 = 86_400;
+/// The most seconds for a line to come or for an answer to be taken.
+const MOST_SECONDS: u64 = 86_400;
 
 /// The most that a port may be.
 const MOST_PORT: u64 = 65_535;
@@ -104,13 +107,16 @@ pub enum Task {
     Batch {
         heap: Option<usize>,
     },
-    /// A service on this port, with so many helpers, which ends after so many connections, if it is to end, and ends
-    /// each that is silent for so many seconds, if it is to; where it is logged, each connection is told of.
+    /// A service on this port, with so many helpers, which ends after so many connections, if it is to end. Where they
+    /// are told, a line has so many `idle` seconds to come whole, and as many may pass while nothing of an answer is
+    /// taken; the first line of a connection has so many `first_line` seconds. A connection that takes longer is ended.
+    /// Where the service is logged, each connection is told of.
     Service {
         port: Option<usize>,
         workers: Option<usize>,
         connections: Option<usize>,
         idle: Option<usize>,
+        first_line: Option<usize>,
         is_logged: bool,
     },
 }
@@ -174,23 +180,32 @@ fn serve<'a>(alloc: Global) -> Result<Command<'a>, AllocError>
     ensures shape { IfOk result (λ command. shape_of command ≡ serve) }
     ensures local { IfOk result (λ command. (fields_of command).has_globals ≡ false) }
 {
-    serve_numbers(alloc)?
+    serve_seconds(alloc)?
         .after_help(SERVE_AFTER)
         .arg(log(alloc))?
         .arg(user(alloc))
 }
 
-// The subcommand as far as its numbers go.
-fn serve_numbers<'a>(alloc: Global) -> Result<Command<'a>, AllocError>
-    ensures shape { IfOk result (λ command. shape_of command ≡ serve_numbers) }
+// The subcommand as far as its numbers of seconds go.
+fn serve_seconds<'a>(alloc: Global) -> Result<Command<'a>, AllocError>
+    ensures shape { IfOk result (λ command. shape_of command ≡ serve_seconds) }
+    ensures local { IfOk result (λ command. (fields_of command).has_globals ≡ false) }
+{
+    serve_counts(alloc)?
+        .arg(idle(alloc))?
+        .arg(first_line(alloc))
+}
+
+// The subcommand as far as its port and its counts go.
+fn serve_counts<'a>(alloc: Global) -> Result<Command<'a>, AllocError>
+    ensures shape { IfOk result (λ command. shape_of command ≡ serve_counts) }
     ensures local { IfOk result (λ command. (fields_of command).has_globals ≡ false) }
 {
     Command::new(alloc, "serve")
         .about(SERVE)
         .arg(port(alloc))?
         .arg(workers(alloc))?
-        .arg(connections(alloc))?
-        .arg(idle(alloc))
+        .arg(connections(alloc))
 }
 
 fn port<'a>(alloc: Global) -> Arg<'a>
@@ -225,7 +240,14 @@ fn idle<'a>(alloc: Global) -> Arg<'a>
     ensures rule { rule_of result ≡ idle_rule }
     ensures local { result.global ≡ false }
 {
-    number(alloc, "SECONDS", "idle", IDLE, 1, MOST_IDLE)
+    number(alloc, "SECONDS", "idle", IDLE, 1, MOST_SECONDS)
+}
+
+fn first_line<'a>(alloc: Global) -> Arg<'a>
+    ensures rule { rule_of result ≡ first_line_rule }
+    ensures local { result.global ≡ false }
+{
+    number(alloc, "FIRST", "first-line", FIRST_LINE, 1, MOST_SECONDS).value_name("SECONDS")
 }
 
 fn log<'a>(alloc: Global) -> Arg<'a>
@@ -302,6 +324,7 @@ fn task_behind(name: &str, matches: &ArgMatches<'_>) -> Task
             workers: number_behind(matches, "WORKERS"),
             connections: number_behind(matches, "CONNECTIONS"),
             idle: number_behind(matches, "SECONDS"),
+            first_line: number_behind(matches, "FIRST"),
             is_logged: is_behind(matches, "LOG"),
         }
     } else {
