@@ -1,0 +1,6 @@
+pub mod Types
+pub mod Placed
+pub mod Once
+pub mod Begun
+pub mod Visited
+pub mod Reached

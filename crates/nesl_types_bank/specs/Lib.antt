@@ -1,0 +1,6 @@
+pub mod Shapes
+pub mod Codes
+pub mod Types
+pub mod Renames
+pub mod Pieces
+pub mod Visits

@@ -1,0 +1,29 @@
+-- Types with types in place of their variables.
+use Rattle.std.specs.Prelude.{◌≡◌, ◌<◌, ℕ, List, All, length, slice_get, slice_index}
+use Rattle.std.specs.Option.{option_map_or}
+use Rattle.nesl_types.specs.Term.{Term, variable}
+use Rattle.nesl_types.specs.Substitution.{substitute}
+use Rattle.nesl_types_bank.specs.declared.shape.Shape.{Shape}
+use Rattle.nesl_types_bank.specs.declared.shape.Shape.TheVariants.{Int, Bool, Char, Var, Named, SeqOf, Both}
+use Rattle.nesl_types_bank.specs.Shapes.{shape_type}
+use Rattle.nesl_types_bank.specs.Types.{type_at}
+
+-- the type of a shape, where `s` gives the types for variables and `f` those at the places
+abbrev pub renamed : (ℕ → Term) → (ℕ → Term) → Shape → Term
+renamed s f Int = shape_type f Int
+renamed s f Bool = shape_type f Bool
+renamed s f Char = shape_type f Char
+renamed s f (Var v) = s v
+renamed s f (Named n) = shape_type f (Named n)
+renamed s f (SeqOf p) = shape_type f (SeqOf p)
+renamed s f (Both p q) = shape_type f (Both p q)
+
+-- what stands for variable v: the type at the place that is given for it, or the variable where none is given
+abbrev pub replacement : List Term → List ℕ → ℕ → Term
+replacement ts of v = option_map_or (type_at ts) (slice_get of v) (variable v)
+
+-- the places in `to` of the types of `from`, each with `s v` in place of each variable v
+pub record AreRenamed (s : ℕ → Term) (from to : List Term) (places : List ℕ) : Type 0 where
+  pub len : length places ≡ length from
+  pub within : All (λ p. p < length to) places
+  pub types : (p : ℕ) → p < length from → type_at to (slice_index places p) ≡ substitute s (type_at from p)

@@ -1,0 +1,16 @@
+//! Types in a bank, each made of earlier ones, so that equal parts stand once and nothing recurs over a type.
+#![tactic(auto)]
+
+pub mod bank;
+pub mod renaming;
+pub mod shape;
+#[cfg(test)]
+mod tests;
+pub mod texts;
+pub mod visiting;
+
+pub use bank::Bank;
+pub use renaming::{rename, rename_type};
+pub use shape::Shape;
+pub use texts::{type_text, write_type};
+pub use visiting::{note_variables, variables};

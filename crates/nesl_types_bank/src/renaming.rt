@@ -1,0 +1,116 @@
+//! Types with types in place of their variables.
+
+ghost use Rattle.std.specs.Prelude.{◌≡◌, ◌<◌, All, length, slice_index, IfOk};
+ghost use Rattle.nesl_types.specs.Substitution.{substitute};
+ghost use Rattle.nesl_types_bank.specs.Shapes.{IsShapeBelow};
+ghost use Rattle.nesl_types_bank.specs.Visits.{parts, with_marks, AreReached};
+ghost use Rattle.nesl_types_bank.specs.Types.{type_at, Extends};
+ghost use Rattle.nesl_types_bank.specs.Renames.{renamed, replacement, AreRenamed};
+
+use crate::bank::Bank;
+use crate::shape::Shape;
+use std::alloc::{AllocError, Global};
+
+/// The place in `to` of a type with others in place of its variables. Its shape is given, and for each of its parts
+/// the place in `to`.
+fn put_renamed(
+    to: &mut Bank,
+    shape: Shape,
+    places: &[usize],
+    of: &[usize],
+) -> Result<usize, AllocError>
+    requires below { IsShapeBelow (length places.now) shape }
+    requires parts { All (λ q. slice_index places.now q < length to.old) (parts shape) }
+    requires of { All (λ p. p < length to.old) of.now }
+    ensures extends { Extends to.old to.new }
+    ensures within { IfOk result (λ p. p < length to.new) }
+    ensures here { IfOk result (λ p. type_at to.new p ≡ renamed (replacement to.old of.now) (λ q. type_at to.old (slice_index places.now q)) shape) }
+{
+    match shape {
+        Shape::Var(variable) => match of.get(variable as usize) {
+            Some(place) => Ok(*place),
+            None => Ok(to.put(shape)?),
+        },
+        Shape::SeqOf(item) => Ok(to.put(Shape::SeqOf(places[item]))?),
+        Shape::Both(first, second) => Ok(to.put(Shape::Both(places[first], places[second]))?),
+        _ => Ok(to.put(shape)?),
+    }
+}
+
+/// Marks the parts of a shape.
+fn mark_parts(marks: &mut Vec<bool>, shape: Shape)
+    requires { IsShapeBelow (length marks.old.items) shape }
+    ensures { marks.new.items ≡ with_marks marks.old.items (parts shape) }
+{
+    match shape {
+        Shape::SeqOf(item) => marks[item] = true,
+        Shape::Both(first, second) => {
+            marks[second] = true;
+            marks[first] = true;
+        }
+        _ => {}
+    }
+}
+
+/// The marks of the places of a type and of all that it is made of.
+fn reached(alloc: Global, bank: &Bank, place: usize) -> Result<Vec<bool>, AllocError>
+    requires { place < length bank.now }
+    ensures { IfOk result (λ marks. AreReached bank.now place marks.items) }
+{
+    let mut marks = vec![in alloc; false; bank.len()]?;
+    marks[place] = true;
+    let mut next = place + 1;
+    while next > 0 {
+        next -= 1;
+        if marks[next] {
+            mark_parts(&mut marks, bank.shape(next));
+        }
+    }
+    Ok(marks)
+}
+
+/// Puts the type at a place of `from` into `to`, with the type at place `of[v]` of `to` in place of each variable v, and
+/// gives its place there. A variable past the end of `of` stays. Only what the type is made of is put into `to`.
+pub fn rename_type(
+    alloc: Global,
+    from: &Bank,
+    place: usize,
+    to: &mut Bank,
+    of: &[usize],
+) -> Result<usize, AllocError>
+    requires place { place < length from.now }
+    requires places { All (λ p. p < length to.old) of.now }
+    ensures extends { Extends to.old to.new }
+    ensures within { IfOk result (λ p. p < length to.new) }
+    ensures here { IfOk result (λ p. type_at to.new p ≡ substitute (replacement to.old of.now) (type_at from.now place)) }
+{
+    let marks = reached(alloc, from, place)?;
+    let mut places = vec![in alloc; 0usize; from.len()]?;
+    for next in 0..from.len() {
+        if !marks[next] {
+            continue;
+        }
+        places[next] = put_renamed(to, from.shape(next), &places, of)?;
+    }
+    Ok(places[place])
+}
+
+/// Puts each type of `from` into `to`, with the type at place `of[v]` of `to` in place of each variable v, and gives the
+/// place in `to` for each place of `from`. A variable past the end of `of` stays.
+pub fn rename(
+    alloc: Global,
+    from: &Bank,
+    to: &mut Bank,
+    of: &[usize],
+) -> Result<Vec<usize>, AllocError>
+    requires places { All (λ p. p < length to.old) of.now }
+    ensures extends { Extends to.old to.new }
+    ensures renamed { IfOk result (λ places. AreRenamed (replacement to.old of.now) from.now to.new places.items) }
+{
+    let mut places = Vec::with_capacity(alloc, from.len())?;
+    for place in 0..from.len() {
+        let renamed = put_renamed(to, from.shape(place), &places, of)?;
+        places.push(renamed)?;
+    }
+    Ok(places)
+}
