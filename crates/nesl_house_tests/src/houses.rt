@@ -102,6 +102,26 @@ fn a_65th_name_is_too_many(rt: HostRuntime) -> Result<(), Fail> {
     Ok(())
 }
 
+fn refusal_texts(alloc: Global) -> Result<String, AllocError> {
+    let mut text = String::new(alloc);
+    for fault in [
+        NewFault::Count,
+        NewFault::Name { place: 1 },
+        NewFault::Twice { place: 2 },
+        NewFault::Memory,
+    ] {
+        write!(text, "{fault}, ")?;
+    }
+    Ok(text)
+}
+
+#[test]
+fn refusals_have_texts(rt: HostRuntime) -> Result<(), Fail> {
+    let wanted = "bad count, bad name at place 1, the name at place 2 stands twice, no memory, ";
+    assert!(rt; refusal_texts(rt.alloc())?.as_str() == wanted);
+    Ok(())
+}
+
 #[test]
 fn users_have_sessions_of_their_own(rt: HostRuntime) -> Result<(), Fail> {
     let mut house = house_of(rt.alloc(), "ann bob", LIMITS)?;

@@ -7,7 +7,7 @@ ghost use Rattle.std.specs.Option.{IfNone};
 pub enum Fault {
     /// A socket failed that takes connections up.
     Socket,
-    /// A thread, or room for a receipt, could not be had.
+    /// A thread, or the room that it needs, could not be had.
     Memory,
 }
 
@@ -49,6 +49,9 @@ impl Numbers {
     /// Gives out no more. A fault of a socket stands before one of memory.
     pub fn end(&mut self, fault: Fault)
         ensures none { self.new.left ≡ 0 }
+        ensures all { self.new.all ≡ self.old.all }
+        ensures fault { IsSome self.new.fault }
+        ensures again { self.old.fault ≡ Some fault → self.new.fault ≡ Some fault }
         ensures socket { fault ≡ Fault.Socket → self.new.fault ≡ Some Fault.Socket }
         ensures first { self.old.fault ≡ Some Fault.Socket → self.new.fault ≡ Some Fault.Socket }
         ensures only { self.old.fault ≡ None → self.new.fault ≡ Some fault }

@@ -7,62 +7,117 @@ ghost use Rattle.clap.specs.Values.{kind_of};
 ghost use Rattle.clap.specs.declared.error.kind.ErrorKind.TheVariants.{OutOfMemory};
 ghost use Rattle.nesl_program.specs.Failures.{status_of};
 
+mod host;
 mod log;
 mod offer;
+mod standard;
 
 use crate::offer::keep;
+use crate::standard::fill_standard;
 use clap::error::ErrorKind;
-use nesl_line::device::Device;
+use nesl_line::device::{Device, Sink, Source};
 use nesl_program::failure::{Failure, Refusal};
 use nesl_program::run::answered;
-use std::alloc::Global;
-use std::env;
-use std::io::{self, BufWriter};
+use std::alloc::{AllocError, Global};
+use std::io::{self, BufWriter, Eprint, Print};
+use std::net::{Net, TcpListener, TcpStream};
 use std::process::ExitCode;
+use std::sync::Wait;
+use std::thread::{Builder, Threads};
+use std::time::Clock;
+use std::{env, thread};
 
 /// The bytes of an answer that are gathered before they are written.
 const ANSWER_BYTES: usize = 8192;
 
+/// The bytes of the stack that a batch is evaluated on: an evaluation of 1,000 levels takes 1.2 MiB at most, and what goes
+/// over a type 2.4 MiB.
+const STACK_BYTES: usize = 8_388_608;
+
 fn main(rt: HostRuntime) -> ExitCode {
-    let alloc = rt.alloc();
-    let Ok(args) = arguments(&rt, alloc) else {
-        return told(&rt, Failure::Memory);
-    };
-    let Ok(words) = args
-        .iter()
-        .map(|arg| arg.as_str())
-        .collect::<Vec<&str>>(alloc)
-    else {
-        return told(&rt, Failure::Memory);
-    };
-    let Ok(writer) = BufWriter::with_capacity(alloc, ANSWER_BYTES, rt.stdout()) else {
-        return told(&rt, Failure::Memory);
-    };
-    let mut reader = Device::new(rt.stdin());
-    let mut writer = Device::new(writer);
-    match answered(alloc, words.as_slice(), &mut reader, &mut writer) {
-        Ok(None) => ExitCode::SUCCESS,
-        Ok(Some(offer)) => match keep(&rt, alloc, &offer) {
-            Ok(()) => ExitCode::SUCCESS,
-            Err(failure) => told(&rt, failure),
-        },
-        Err(Refusal::Words(error)) => refused(&rt, &error),
-        Err(Refusal::Run(failure)) => told(&rt, failure),
+    if fill_standard(&rt).is_err() {
+        return ExitCode::FAILURE;
+    }
+    thread::scope(thread::scope_env(), &rt, |scope| {
+        let work = || {
+            let alloc = rt.alloc();
+            let args = match arguments(&rt, alloc) {
+                Ok(args) => args,
+                Err(failure) => return told(&rt, failure),
+            };
+            let Ok(words) = words_of(alloc, args.as_slice()) else {
+                return told(&rt, Failure::Memory);
+            };
+            let words = words.as_slice();
+            let Ok(writer) = BufWriter::with_capacity(alloc, ANSWER_BYTES, rt.stdout()) else {
+                return told(&rt, Failure::of_memory(words));
+            };
+            let mut reader = Device::new(rt.stdin());
+            let mut writer = Device::new(writer);
+            run(&rt, alloc, words, &mut reader, &mut writer)
+        };
+        let builder = Builder::new().stack_size(STACK_BYTES);
+        match builder.spawn_scoped(scope, work) {
+            Ok(running) => running.join(&rt),
+            Err(_) => told(&rt, Failure::Memory),
+        }
+    })
+}
+
+// The words of the command line, the program's name first.
+fn arguments(rt: &HostRuntime, alloc: Global) -> Result<Vec<String>, Failure<'static>> {
+    match collected(rt, alloc) {
+        Ok(args) => Ok(args),
+        Err(error) if error.kind() == io::ErrorKind::InvalidData => Err(Failure::Encoding),
+        Err(_) => Err(Failure::Memory),
     }
 }
 
-fn arguments(rt: &HostRuntime, alloc: Global) -> io::Result<Vec<String>> {
+fn collected(rt: &HostRuntime, alloc: Global) -> io::Result<Vec<String>> {
     let args = env::args(rt)?;
     Ok(args.collect::<Vec<String>>(alloc)?)
 }
 
+fn words_of(alloc: Global, args: &[String]) -> Result<Vec<&str>, AllocError> {
+    args.iter()
+        .map(|arg| arg.as_str())
+        .collect::<Vec<&str>>(alloc)
+}
+
+// Does what the words ask for.
+fn run<
+    R: Net<Stream = TcpStream, Listener = TcpListener>
+        + Threads
+        + Wait
+        + Clock
+        + Print
+        + Eprint
+        + Clone
+        + Drop
+        + Send
+        + Sync
+        + 'static,
+    S: Source,
+    W: Sink,
+>(rt: &R, alloc: Global, words: &[&str], reader: &mut S, writer: &mut W) -> ExitCode {
+    match answered(alloc, words, reader, writer) {
+        Ok(None) => ExitCode::SUCCESS,
+        Ok(Some(offer)) => match keep(rt, alloc, &offer) {
+            Ok(()) => ExitCode::SUCCESS,
+            Err(failure) => told(rt, failure),
+        },
+        Err(Refusal::Words(error)) => refused(rt, words, &error),
+        Err(Refusal::Run(failure)) => told(rt, failure),
+    }
+}
+
 // A refusal of the words, or a request for help, told by its own text; want of memory is told as such.
-fn refused<R: Print + Eprint>(rt: &R, error: &clap::Error) -> ExitCode
+fn refused<R: Print + Eprint>(rt: &R, words: &[&str], error: &clap::Error) -> ExitCode
     ensures memory { kind_of error.now ≡ OutOfMemory → exit_status result ≡ 1 }
     ensures few { exit_status result ≤ 2 }
 {
     if error.kind() == ErrorKind::OutOfMemory {
-        return told(rt, Failure::Memory);
+        return told(rt, Failure::of_memory(words));
     }
     match error.print(rt) {
         Ok(()) if error.use_stderr() => ExitCode::from(2),

@@ -1,4 +1,4 @@
-//! Who is told of connections.
+//! Who is told of a service and of its connections.
 
 use nesl_line::exchange::End;
 use std::time::Duration;
@@ -15,8 +15,11 @@ pub struct Visit<'a> {
     pub took: Option<Duration>,
 }
 
-/// Is told of each connection by the thread that serves it. Numbers begin at 1.
+/// Is told of a service, and of each connection by the thread that serves it. Numbers begin at 1.
 pub trait Journal {
+    /// All threads are there, and connections are taken up from now on. Where the answer is false none is.
+    fn opened(&self) -> bool;
+
     fn begun(&self, number: u64);
 
     fn ended(&self, number: u64, visit: &Visit<'_>);
@@ -27,6 +30,10 @@ pub trait Journal {
 pub struct NoJournal;
 
 impl Journal for NoJournal {
+    fn opened(&self) -> bool {
+        true
+    }
+
     fn begun(&self, _number: u64) {}
 
     fn ended(&self, _number: u64, _visit: &Visit<'_>) {}

@@ -1,6 +1,10 @@
 //! The service: connections over sockets, each the lines of one user, served by a few threads.
 #![tactic(auto)]
 
+mod accept;
 pub mod crowd;
 pub mod journal;
+mod opening;
+pub mod receipts;
 pub mod service;
+pub mod wire;

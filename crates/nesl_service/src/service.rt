@@ -2,11 +2,12 @@
 ghost use Rattle.std.specs.Prelude.{◌≡◌, IfOk};
 ghost use Rattle.nesl_house.specs.Table.{IsClosed};
 
-use crate::crowd::run_crowd;
+use crate::accept::Door;
+use crate::crowd::{Start, run_crowd};
 use crate::journal::{Journal, NoJournal, Visit};
-use crossbeam_channel::{Receiver, Sender, bounded};
+use crate::receipts::Receipts;
+use crate::wire::{Patience, Reader, Writer, hear_out};
 use nesl_helpers::{Free, Gate, Pool};
-use nesl_house::lease::Receipt;
 use nesl_house::table::{CloseFault, Closed, Table};
 use nesl_line::device::Device;
 use nesl_line::exchange::End;
@@ -14,7 +15,7 @@ use nesl_line::serve::{Served, serve};
 use nesl_quotas::numbers::{Fault, Numbers};
 use nesl_quotas::sparing::Sparing;
 use std::alloc::{AllocError, Global};
-use std::io::{BufWriter, ErrorKind};
+use std::io::BufWriter;
 use std::marker::Brand;
 use std::net::{TcpListener, TcpStream};
 use std::sync::ledger::{Blank, Ledger};
@@ -26,7 +27,7 @@ use thiserror::Error;
 /// Why a service has no sessions to answer with.
 #[derive(Clone, Copy, PartialEq, Eq, Debug, Error)]
 pub enum ServeFault {
-    /// The socket that takes connections up failed.
+    /// The socket that takes connections up failed, or nobody could be told that it does.
     #[error("serve: socket fault")]
     Socket,
     /// Memory ran out, or a thread could not be made.
@@ -49,14 +50,27 @@ impl ServeFault {
 /// The bytes of an answer that are gathered before they are written.
 const ANSWER_BYTES: usize = 8192;
 
+/// The bytes of a line that are kept at most: one more than a form may have.
+const LINE_BYTES: usize = 65_537;
+
+/// How many seconds a first line may take where nothing is said of it.
+pub const FIRST_LINE_SECONDS: u64 = 10;
+
 /// How many threads serve, how many helpers they may have in all, after how many connections the service ends, if it is
-/// to end, and after how long a silent connection does, if it is to.
+/// to end, and how long a connection is waited for.
 #[derive(Clone, Copy, PartialEq, Eq, Debug)]
 pub struct Terms {
     pub threads: usize,
     pub workers: u32,
     pub connections: Option<u64>,
-    pub idle: Option<Duration>,
+    pub patience: Patience,
+}
+
+/// Who is told of what happens: a gate of each place that is entered, and a journal of each connection.
+#[derive(Clone, Copy)]
+pub struct Observers<'x, G, J> {
+    pub gate: &'x G,
+    pub journal: &'x J,
 }
 
 /// What the threads of a service share.
@@ -64,15 +78,15 @@ pub struct Terms {
 pub(crate) struct Service<'x, R, L: Ledger, G, J> {
     rt: &'x R,
     alloc: Global,
-    listener: &'x TcpListener,
+    door: &'x Door<'x>,
     table: &'x Table,
     numbers: &'x Mutex<Numbers>,
+    receipts: &'x Mutex<Receipts>,
     pool: &'x Pool<L>,
-    workers: u32,
-    idle: Option<Duration>,
+    start: &'x Start,
+    terms: Terms,
     gate: &'x G,
     journal: &'x J,
-    to: &'x Sender<Vec<Receipt>>,
 }
 
 impl<
@@ -82,64 +96,82 @@ impl<
     G: Gate + Sync,
     J: Journal + Sync,
 > Service<'x, R, L, G, J> {
-    // No further number is given out.
+    // No further number is given out, and who waits for a connection waits no longer.
     fn end(&self, fault: Fault) {
         self.numbers.lock(self.rt).end(fault);
+        self.door.close();
     }
 
-    // Where a connection's answers are gathered; none where memory is refused, or the time of a wait can't be bounded.
-    fn writer<'s>(&self, stream: &'s TcpStream) -> Option<BufWriter<&'s TcpStream>> {
-        stream.set_read_timeout(self.idle).ok()?;
-        stream.set_write_timeout(self.idle).ok()?;
-        BufWriter::with_capacity(self.alloc, ANSWER_BYTES, stream).ok()
+    // Whether a fault ended the numbers.
+    fn has_ended(&self) -> bool {
+        self.numbers.lock(self.rt).fault.is_some()
     }
 
-    // One connection, served whole. Where there is no writer, nothing is read.
+    // One connection, served whole. Where there is no memory for its answers, nothing is read.
     fn attend(&self, stream: &TcpStream) -> Served {
-        let Some(writer) = self.writer(stream) else {
+        let patience = self.terms.patience;
+        let writer = Writer::new(self.rt, stream, patience);
+        let Ok(writer) = BufWriter::with_capacity(self.alloc, ANSWER_BYTES, writer) else {
             return Served {
                 lines: 0,
                 receipt: None,
                 end: End::NoMemory,
             };
         };
-        let sparing = Sparing::new(self.rt, self.pool.by(self.rt), self.workers, self.gate);
+        let mut reader = Device::new(Reader::new(self.rt, stream, patience));
+        let mut writer = Device::new(writer);
+        let served = self.serve(&mut reader, &mut writer);
+        // What could not be written is not tried again.
+        drop(writer.into_inner().into_parts());
+        served
+    }
+
+    fn serve(
+        &self,
+        reader: &mut Device<Reader<'_, R>>,
+        writer: &mut Device<BufWriter<Writer<'_, R>>>,
+    ) -> Served {
+        let helpers = self.pool.by(self.rt);
+        let sparing = Sparing::new(self.rt, helpers, self.terms.workers, self.gate);
         serve(
-            self.rt,
-            self.alloc,
-            &mut Device::new(stream),
-            &mut Device::new(writer),
-            self.table,
-            &sparing,
-            &sparing,
+            self.rt, self.alloc, reader, writer, self.table, &sparing, &sparing,
         )
     }
 
-    // The same, told to the journal. The answer is the receipt for its lines.
-    fn attend_told(&self, number: u64, stream: &TcpStream) -> Option<Receipt> {
+    // The same, told to the journal. What the user's session was told is taken in.
+    fn attend_told(&self, number: u64, stream: &TcpStream) {
         self.journal.begun(number);
         let since = Instant::now(self.rt).ok();
-        let Served {
-            lines,
-            receipt,
-            end,
-        } = self.attend(stream);
+        // An answer is sent at once, where the system can.
+        let _ = stream.set_nodelay(true).is_ok();
+        let served = self.attend(stream);
+        if was_turned_away(&served) {
+            let _ = hear_out(self.rt, stream).is_ok();
+        }
         let took = match since {
             Some(since) => since.elapsed(self.rt).ok(),
             None => None,
         };
-        let user = match receipt {
+        self.journal.ended(number, &self.visit(&served, took));
+        if let Some(receipt) = served.receipt {
+            if !self.receipts.lock(self.rt).take_in(receipt) {
+                self.end(Fault::Memory);
+            }
+        }
+    }
+
+    // What is told of a connection that has ended.
+    fn visit(&self, served: &Served, took: Option<Duration>) -> Visit<'x> {
+        let user = match served.receipt {
             Some(receipt) => self.name_of(receipt.place),
             None => None,
         };
-        let visit = Visit {
+        Visit {
             user,
-            lines,
-            end,
+            lines: served.lines,
+            end: served.end,
             took,
-        };
-        self.journal.ended(number, &visit);
-        receipt
+        }
     }
 
     // The user of a place.
@@ -148,55 +180,64 @@ impl<
         Some(name.as_slice())
     }
 
-    // Serves connections until no number is left, and hands in the receipts.
-    fn work(&self) {
-        let mut receipts = Vec::new(self.alloc);
-        for _ in self.rt.forever() {
-            if receipts.reserve(1).is_err() {
-                self.end(Fault::Memory);
-                break;
+    // The next connection; none where the service has ended.
+    fn next_stream(&self) -> Option<TcpStream> {
+        match self.door.next(self.rt) {
+            Ok(stream) => Some(stream),
+            Err(_) => {
+                if !self.has_ended() {
+                    self.end(Fault::Socket);
+                }
+                None
             }
+        }
+    }
+
+    // Serves connections, once all threads are there, until no number is left.
+    fn work(&self) {
+        let room = room_of_one(self.alloc);
+        self.start.wait(self.rt, room.is_ok());
+        drop(room);
+        for _ in self.rt.forever() {
             let Some(number) = self.numbers.lock(self.rt).next() else {
                 break;
             };
-            let stream = match self.listener.accept() {
-                Ok((stream, _)) => stream,
-                // One that was gone before it was taken up.
-                Err(error) if error.kind() == ErrorKind::ConnectionAborted => continue,
-                Err(_) => {
-                    self.end(Fault::Socket);
-                    break;
-                }
+            let Some(stream) = self.next_stream() else {
+                break;
             };
-            if let Some(receipt) = self.attend_told(number, &stream) {
-                receipts.push_reserved(receipt);
-            }
-        }
-        if self.to.send(self.rt, receipts).is_err() {
-            self.end(Fault::Memory);
+            self.attend_told(number, &stream);
         }
     }
 
-    // Runs so many threads that serve, and joins them.
-    fn run_all(&self, threads: usize) {
-        let work = |it: &Service<R, L, G, J>| it.work();
-        if !run_crowd(self.rt, self, &work, threads) {
+    // Has so many threads begin, if they are all that were wanted and all are ready; else the service has ended.
+    fn open(&self, made: usize) {
+        let are_ready = self.start.are_ready(self.rt, made);
+        if made < self.terms.threads || !are_ready {
             self.end(Fault::Memory);
+        } else if !self.journal.opened() {
+            self.end(Fault::Socket);
         }
+        self.start.begin(made);
+    }
+
+    // Runs the threads that serve, and joins them.
+    fn run_all(&self) {
+        let work = |it: &Service<R, L, G, J>| it.work();
+        let lead = |it: &Service<R, L, G, J>, made: usize| it.open(made);
+        run_crowd(self.rt, self, self.terms.threads, &work, &lead);
     }
 }
 
-// All receipts that were handed in.
-fn collected<R: Wait>(
-    rt: &R,
-    alloc: Global,
-    from: Receiver<Vec<Receipt>>,
-) -> Result<Vec<Receipt>, AllocError> {
-    let mut all = Vec::new(alloc);
-    for receipts in from.iter(rt) {
-        all.extend_from_slice(receipts.as_slice())?;
-    }
-    Ok(all)
+// Whether a peer was told that it can't be served.
+fn was_turned_away(served: &Served) -> bool {
+    served.receipt.is_none() && served.lines > 0 && served.end == End::Input
+}
+
+// What a connection takes: room for a line, and for the front of an answer.
+fn room_of_one(alloc: Global) -> Result<(Vec<u8>, Vec<u8>), AllocError> {
+    let line = Vec::with_capacity(alloc, LINE_BYTES)?;
+    let answer = Vec::with_capacity(alloc, ANSWER_BYTES)?;
+    Ok((line, answer))
 }
 
 // The service over a pool of its own.
@@ -211,41 +252,41 @@ fn serve_in<
     listener: &TcpListener,
     table: Table,
     terms: Terms,
-    gate: &G,
-    journal: &J,
+    observers: Observers<'_, G, J>,
     blank: Blank,
 ) -> Result<Closed, ServeFault>
     requires { (blank.name ≡ L.name) × (blank.parts ≡ L.parts) × (blank.parts ≡ terms.workers) }
     ensures { IfOk result (λ c. IsClosed table.roster c.house c.lines) }
 {
-    let pool: Pool<L> = Pool::new(terms.workers, blank);
-    let numbers = Mutex::new(Numbers::new(terms.connections.unwrap_or(u64::MAX)));
-    let Ok((to, from)) = bounded(alloc, terms.threads.max(1)) else {
+    let Ok(door) = Door::new(listener) else {
+        return Err(ServeFault::Socket);
+    };
+    let start = Start::new();
+    let Ok(receipts) = Receipts::new(alloc) else {
         return Err(ServeFault::Memory);
     };
+    let receipts = Mutex::new(receipts);
+    let pool: Pool<L> = Pool::new(terms.workers, blank);
+    let numbers = Mutex::new(Numbers::new(terms.connections.unwrap_or(u64::MAX)));
     let service = Service {
         rt,
         alloc,
-        listener,
+        door: &door,
         table: &table,
         numbers: &numbers,
+        receipts: &receipts,
         pool: &pool,
-        workers: terms.workers,
-        idle: terms.idle,
-        gate,
-        journal,
-        to: &to,
+        start: &start,
+        terms,
+        gate: observers.gate,
+        journal: observers.journal,
     };
-    service.run_all(terms.threads);
-    drop(to);
+    service.run_all();
     if let Some(fault) = numbers.into_inner().fault {
         return Err(ServeFault::of(fault));
     }
-    let Ok(receipts) = collected(rt, alloc, from) else {
-        return Err(ServeFault::Memory);
-    };
     pool.close(rt);
-    match table.close(receipts) {
+    match table.close(receipts.into_inner().into_vec()) {
         Ok(closed) => Ok(closed),
         Err(CloseFault::StillOut { .. }) => Err(ServeFault::Table),
         Err(CloseFault::Missing { .. }) => Err(ServeFault::Table),
@@ -253,11 +294,12 @@ fn serve_in<
 }
 
 /// Serves so many connections, or as many as come, by so many threads and with so many helpers in all; the answer is the
-/// house that the sessions are in the end.
+/// house that the sessions are in the end. A first line may take 10 seconds.
 ///
-/// Each thread takes the next number and then the next connection. After a fault no further number is given out, and the
-/// answer comes once the threads have ended; a fault of a socket is told before one of memory. However a connection
-/// ends, the service goes on.
+/// Each thread takes the next number and then the next connection. After a fault no further number is given out and no
+/// connection is waited for, and the answer comes once the threads have ended; a fault of a socket is told before one of
+/// memory. Where a thread, or the room that its connections need, can't be had, no connection is served. However a
+/// connection ends, the service goes on.
 pub fn serve_on<R: Threads + Wait + Clock + Sync>(
     rt: &R,
     alloc: Global,
@@ -273,23 +315,29 @@ pub fn serve_on<R: Threads + Wait + Clock + Sync>(
         threads,
         workers,
         connections,
-        idle: None,
+        patience: Patience {
+            first_line: Duration::from_secs(FIRST_LINE_SECONDS),
+            idle: None,
+        },
     };
-    serve_through(rt, alloc, listener, table, terms, &Free, &NoJournal)
+    let observers = Observers {
+        gate: &Free,
+        journal: &NoJournal,
+    };
+    serve_through(rt, alloc, listener, table, terms, observers)
 }
 
-/// The same by these terms, where a gate is told of each place that is entered, and a journal of each connection.
+/// The same by these terms, where observers are told of what happens.
 pub fn serve_through<R: Threads + Wait + Clock + Sync, G: Gate + Sync, J: Journal + Sync>(
     rt: &R,
     alloc: Global,
     listener: &TcpListener,
     table: Table,
     terms: Terms,
-    gate: &G,
-    journal: &J,
+    observers: Observers<'_, G, J>,
 ) -> Result<Closed, ServeFault>
     ensures { IfOk result (λ c. IsClosed table.roster c.house c.lines) }
 {
     let blank = Blank::new(u64::from(terms.workers));
-    serve_in::<Brand, R, G, J>(rt, alloc, listener, table, terms, gate, journal, blank)
+    serve_in::<Brand, R, G, J>(rt, alloc, listener, table, terms, observers, blank)
 }

@@ -1,5 +1,5 @@
 // Lines of two users that are evaluated at once, each in halves.
-use crate::in_turn::lines_by;
+use crate::in_turn::{lines_by, patient};
 use nesl_helpers::{Gate, Place};
 use nesl_service::service::Terms;
 use std::sync::atomic::{AtomicU64, Ordering};
@@ -93,7 +93,7 @@ fn lines_of_two_users_at_once(rt: HostRuntime) -> Result<(), Fail> {
         threads: 2,
         workers: 2,
         connections: Some(2),
-        idle: None,
+        patience: patient(),
     };
     let lines = lines_by(&rt, rt.alloc(), terms, &gate, SQUARES)?;
     let late = entered.late.load(Ordering::SeqCst);

@@ -47,6 +47,7 @@ pub(crate) struct Counting<'x, R> {
     table: &'x Table,
     told: &'x Mutex<Told>,
     begun: AtomicU64,
+    made: AtomicU64,
 }
 
 // The number of an answer `n = NUMBER : ..`.
@@ -112,9 +113,12 @@ fn run_all<R: Threads + Wait + Sync>(
         table,
         told,
         begun: AtomicU64::new(0),
+        made: AtomicU64::new(0),
     };
     let count = |it: &Counting<R>| it.count_all();
-    run_crowd(rt, &counting, &count, THREADS)
+    let lead = |it: &Counting<R>, made: usize| it.made.store(made as u64, Ordering::SeqCst);
+    run_crowd(rt, &counting, THREADS, &count, &lead);
+    counting.made.load(Ordering::SeqCst) == THREADS as u64
 }
 
 // Whether these are all numbers from the first to the last, in some order.

@@ -2,7 +2,8 @@
 use crate::client::{ann_and_bob, play};
 use nesl_helpers::{Free, Gate};
 use nesl_service::journal::NoJournal;
-use nesl_service::service::{ServeFault, Terms, serve_on, serve_through};
+use nesl_service::service::{Observers, ServeFault, Terms, serve_on, serve_through};
+use nesl_service::wire::Patience;
 use std::alloc::{AllocError, Global};
 use std::net::{Net, TcpListener, TcpStream};
 use std::process::Abort;
@@ -28,6 +29,14 @@ fn lines_of_three<
     Ok(closed?.lines)
 }
 
+// Ten seconds for a first line, and no bound after that.
+pub fn patient() -> Patience {
+    Patience {
+        first_line: Duration::from_secs(10),
+        idle: None,
+    }
+}
+
 // How many lines are served to connections that are played, by these terms.
 pub fn lines_by<
     R: Net<Listener = TcpListener, Stream = TcpStream> + Threads + Wait + Clock + Abort + Sync,
@@ -39,7 +48,13 @@ pub fn lines_by<
     let (played, closed) = thread::join(
         rt,
         || play(rt, alloc, address, rows),
-        || serve_through(rt, alloc, &listener, table, terms, gate, &NoJournal),
+        || {
+            let observers = Observers {
+                gate,
+                journal: &NoJournal,
+            };
+            serve_through(rt, alloc, &listener, table, terms, observers)
+        },
     );
     played?;
     Ok(closed?.lines)
@@ -140,7 +155,10 @@ fn a_silent_connection_ends(rt: HostRuntime) -> Result<(), Fail> {
         threads: 1,
         workers: 0,
         connections: Some(2),
-        idle: Some(Duration::from_millis(300)),
+        patience: Patience {
+            idle: Some(Duration::from_millis(300)),
+            ..patient()
+        },
     };
     assert!(rt; lines_by(&rt, rt.alloc(), terms, &Free, SILENT)? == 2);
     Ok(())

@@ -10,4 +10,8 @@ mod counting;
 #[cfg(test)]
 mod in_turn;
 #[cfg(test)]
+mod receipts;
+#[cfg(test)]
 mod sparing;
+#[cfg(test)]
+mod waiting;

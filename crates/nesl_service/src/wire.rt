@@ -1,0 +1,181 @@
+//! The bytes of a connection, each wait for which is bounded in time.
+ghost use Rattle.std.specs.Prelude.{◌≡◌};
+
+use crate::opening::Opening;
+use std::io;
+use std::io::{ErrorKind, Read, Write};
+use std::net::{Shutdown, TcpStream};
+use std::time::{Clock, Duration, Instant};
+
+/// How long a connection is waited for.
+#[derive(Clone, Copy, PartialEq, Eq, Debug)]
+pub struct Patience {
+    /// Until its first line has come whole.
+    pub first_line: Duration,
+    /// Until each line after that has come whole, and until each write is taken; without bound where there is none.
+    pub idle: Option<Duration>,
+}
+
+/// What is heard of a peer that was turned away: so many milliseconds, and so many reads at most.
+const MOMENT_MILLIS: u64 = 500;
+
+const MOST_READS: u32 = 256;
+
+/// Reads the lines of a connection. It fails where a line hasn't come in time, and ends where the first line can't name a
+/// user any more, whatever comes behind it.
+#[derive(Drop)]
+pub(crate) struct Reader<'s, R> {
+    rt: &'s R,
+    stream: &'s TcpStream,
+    patience: Patience,
+    opening: Opening,
+    /// Whether no byte of the line that is waited for was read yet.
+    is_between: bool,
+    until: Option<Instant>,
+    /// Whether the socket's reads are bounded in time.
+    is_timed: bool,
+}
+
+impl<'s, R: Clock> Reader<'s, R> {
+    pub(crate) fn new(rt: &'s R, stream: &'s TcpStream, patience: Patience) -> Reader<'s, R> {
+        Reader {
+            rt,
+            stream,
+            patience,
+            opening: Opening::new(),
+            is_between: true,
+            until: None,
+            is_timed: false,
+        }
+    }
+
+    // How long the line may take that is waited for.
+    fn allowed(&self) -> Option<Duration> {
+        match self.opening {
+            Opening::Whole => self.patience.idle,
+            _ => Some(self.patience.first_line),
+        }
+    }
+
+    // A line is waited for: its time begins where no byte of it was read yet.
+    fn begin(&mut self) -> io::Result<()> {
+        if self.is_between {
+            self.until = end_of(self.rt, self.allowed())?;
+            self.is_between = false;
+        }
+        let left = left_until(self.rt, self.until)?;
+        if self.is_timed || left.is_some() {
+            self.stream.set_read_timeout(left)?;
+            self.is_timed = left.is_some();
+        }
+        Ok(())
+    }
+
+    // These bytes came.
+    fn note(&mut self, bytes: &[u8]) {
+        self.opening = self.opening.after(bytes);
+        if bytes.contains(&b'\n') {
+            self.is_between = true;
+        }
+    }
+}
+
+impl<R: Clock> Read for Reader<'_, R> {
+    fn read(&mut self, buf: &mut [u8]) -> io::Result<usize> {
+        if self.opening == Opening::Refused {
+            return Ok(0);
+        }
+        self.begin()?;
+        let mut stream = self.stream;
+        let count = stream.read(buf)?;
+        self.note(&buf[..count]);
+        Ok(count)
+    }
+}
+
+/// Writes the answers of a connection. It fails where a write isn't taken in time.
+#[derive(Drop)]
+pub(crate) struct Writer<'s, R> {
+    rt: &'s R,
+    stream: &'s TcpStream,
+    idle: Option<Duration>,
+    /// Until when the write may take that a signal interrupted.
+    until: Option<Instant>,
+}
+
+impl<'s, R: Clock> Writer<'s, R> {
+    pub(crate) fn new(rt: &'s R, stream: &'s TcpStream, patience: Patience) -> Writer<'s, R> {
+        Writer {
+            rt,
+            stream,
+            idle: patience.idle,
+            until: None,
+        }
+    }
+
+    // A write begins, or goes on after a signal.
+    fn begin(&mut self) -> io::Result<()> {
+        if self.idle.is_none() {
+            return Ok(());
+        }
+        if self.until.is_none() {
+            self.until = end_of(self.rt, self.idle)?;
+        }
+        self.stream
+            .set_write_timeout(left_until(self.rt, self.until)?)
+    }
+}
+
+impl<R: Clock> Write for Writer<'_, R> {
+    fn write(&mut self, buf: &[u8]) -> io::Result<usize> {
+        self.begin()?;
+        let mut stream = self.stream;
+        match stream.write(buf) {
+            Err(error) if error.kind() == ErrorKind::Interrupted => Err(error),
+            ended => {
+                self.until = None;
+                ended
+            }
+        }
+    }
+
+    fn flush(&mut self) -> io::Result<()> {
+        Ok(())
+    }
+}
+
+// When so much time will have passed.
+fn end_of<R: Clock>(rt: &R, time: Option<Duration>) -> io::Result<Option<Instant>> {
+    match time {
+        Some(time) => Ok(Instant::now(rt)?.checked_add(time)),
+        None => Ok(None),
+    }
+}
+
+// What is left of a time; an error where nothing is.
+fn left_until<R: Clock>(rt: &R, until: Option<Instant>) -> io::Result<Option<Duration>> {
+    let Some(until) = until else {
+        return Ok(None);
+    };
+    let left = until.saturating_duration_since(Instant::now(rt)?);
+    if left.is_zero() {
+        return Err(io::Error::from(ErrorKind::TimedOut));
+    }
+    Ok(Some(left))
+}
+
+/// Hears for a moment what a peer still says that was turned away. A connection that is closed with bytes unread is reset,
+/// and then the peer might not read why.
+pub(crate) fn hear_out<R: Clock>(rt: &R, stream: &TcpStream) -> io::Result<()> {
+    stream.shutdown(Shutdown::Write)?;
+    let until = end_of(rt, Some(Duration::from_millis(MOMENT_MILLIS)))?;
+    let mut chunk = [0u8; 4096];
+    let mut stream = stream;
+    for _ in 0..MOST_READS {
+        stream.set_read_timeout(left_until(rt, until)?)?;
+        if stream.read(&mut chunk)? == 0 {
+            break;
+        }
+    }
+    Ok(())
+}
