@@ -63,7 +63,7 @@ fn after_name(length: usize, byte: u8) -> Opening {
     if byte == b'\r' {
         return Opening::Return;
     }
-    let is_part = byte.is_ascii_lowercase() || byte.is_ascii_digit();
+    let is_part = byte.is_ascii_lowercase() || length > 0 && byte.is_ascii_digit();
     if is_part && length < MOST_NAME_BYTES {
         Opening::Name(length + 1)
     } else {

@@ -12,9 +12,13 @@ use std::time::{Clock, Duration, Instant};
 pub struct Patience {
     /// Until its first line has come whole.
     pub first_line: Duration,
-    /// Until each line after that has come whole, and until each write is taken; without bound where there is none.
+    /// Until each line after that has come whole, and until each piece of an answer is taken; without bound where there
+    /// is none.
     pub idle: Option<Duration>,
 }
+
+/// The bytes of a piece of an answer, which has a time of its own.
+const PIECE_BYTES: usize = 16_384;
 
 /// What is heard of a peer that was turned away: so many milliseconds, and so many reads at most.
 const MOMENT_MILLIS: u64 = 500;
@@ -93,13 +97,13 @@ impl<R: Clock> Read for Reader<'_, R> {
     }
 }
 
-/// Writes the answers of a connection. It fails where a write isn't taken in time.
+/// Writes the answers of a connection. It fails where a piece of one isn't taken in time.
 #[derive(Drop)]
 pub(crate) struct Writer<'s, R> {
     rt: &'s R,
     stream: &'s TcpStream,
     idle: Option<Duration>,
-    /// Until when the write may take that a signal interrupted.
+    /// Until when the rest of a piece may take of which not all was taken yet.
     until: Option<Instant>,
 }
 
@@ -113,11 +117,8 @@ impl<'s, R: Clock> Writer<'s, R> {
         }
     }
 
-    // A write begins, or goes on after a signal.
+    // A piece begins, or what is left of one goes on.
     fn begin(&mut self) -> io::Result<()> {
-        if self.idle.is_none() {
-            return Ok(());
-        }
         if self.until.is_none() {
             self.until = end_of(self.rt, self.idle)?;
         }
@@ -128,15 +129,17 @@ impl<'s, R: Clock> Writer<'s, R> {
 
 impl<R: Clock> Write for Writer<'_, R> {
     fn write(&mut self, buf: &[u8]) -> io::Result<usize> {
-        self.begin()?;
         let mut stream = self.stream;
-        match stream.write(buf) {
-            Err(error) if error.kind() == ErrorKind::Interrupted => Err(error),
-            ended => {
-                self.until = None;
-                ended
-            }
+        if self.idle.is_none() {
+            return stream.write(buf);
         }
+        self.begin()?;
+        let piece = &buf[..buf.len().min(PIECE_BYTES)];
+        let taken = stream.write(piece)?;
+        if taken == piece.len() {
+            self.until = None;
+        }
+        Ok(taken)
     }
 
     fn flush(&mut self) -> io::Result<()> {
