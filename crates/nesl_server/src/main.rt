@@ -38,17 +38,17 @@ fn main(rt: HostRuntime) -> ExitCode {
     if fill_standard(&rt).is_err() {
         return ExitCode::FAILURE;
     }
-    let alloc = rt.alloc();
-    let args = match arguments(&rt, alloc) {
-        Ok(args) => args,
-        Err(failure) => return told(&rt, failure),
-    };
-    let Ok(words) = words_of(alloc, args.as_slice()) else {
-        return told(&rt, Failure::Memory);
-    };
-    let words = words.as_slice();
     thread::scope(thread::scope_env(), &rt, |scope| {
         let work = || {
+            let alloc = rt.alloc();
+            let args = match arguments(&rt, alloc) {
+                Ok(args) => args,
+                Err(failure) => return told(&rt, failure),
+            };
+            let Ok(words) = words_of(alloc, args.as_slice()) else {
+                return told(&rt, Failure::Memory);
+            };
+            let words = words.as_slice();
             let Ok(writer) = BufWriter::with_capacity(alloc, ANSWER_BYTES, rt.stdout()) else {
                 return told(&rt, Failure::of_memory(words));
             };
@@ -59,9 +59,21 @@ fn main(rt: HostRuntime) -> ExitCode {
         let builder = Builder::new().stack_size(STACK_BYTES);
         match builder.spawn_scoped(scope, work) {
             Ok(running) => running.join(&rt),
-            Err(_) => told(&rt, Failure::of_memory(words)),
+            Err(_) => without_thread(&rt),
         }
     })
+}
+
+// The thread of a run can't be made, which is told as want of memory.
+fn without_thread(rt: &HostRuntime) -> ExitCode {
+    let alloc = rt.alloc();
+    let Ok(args) = arguments(rt, alloc) else {
+        return told(rt, Failure::Memory);
+    };
+    match words_of(alloc, args.as_slice()) {
+        Ok(words) => told(rt, Failure::of_memory(words.as_slice())),
+        Err(_) => told(rt, Failure::Memory),
+    }
 }
 
 // The words of the command line, the program's name first.
