@@ -4,3 +4,5 @@ pub mod Once
 pub mod Begun
 pub mod Visited
 pub mod Reached
+pub mod Readings
+pub mod MostGeneral

@@ -4,3 +4,5 @@ pub mod Types
 pub mod Renames
 pub mod Pieces
 pub mod Visits
+pub mod Graph
+pub mod Readings

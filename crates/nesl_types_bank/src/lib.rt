@@ -2,6 +2,7 @@
 #![tactic(auto)]
 
 pub mod bank;
+pub mod graph;
 pub mod renaming;
 pub mod shape;
 #[cfg(test)]
@@ -10,6 +11,7 @@ pub mod texts;
 pub mod visiting;
 
 pub use bank::Bank;
+pub use graph::{Node, Read, read_types};
 pub use renaming::{rename, rename_type};
 pub use shape::Shape;
 pub use texts::{type_text, write_type};
