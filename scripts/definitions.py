@@ -27,8 +27,8 @@ SECTIONS = (
     ("Names that refer to nothing", "Names.unknown Firsts"),
     ("Typing", "World Typing Principal Answers"),
     ("Functions on scalars", "Outcomes Integers Scalars"),
-    ("Functions on sequences", "Outcome.given Arguments Reductions Pieces Ranges Pairs Equal Extremes Scans Levels Sides "
-     "Woven Places Gather Permute Write Meaning Prices"),
+    ("Functions on sequences", "Outcome.given Arguments Reductions Pieces Ranges Pairs Equal Extremes Scans Levels "
+     "Sides Woven Places Gather Permute Write Meaning Prices"),
     ("Outcomes of expressions", "Names.Environment Out Outcome.out"),
     ("The names of a session", "Meanings Nodes Known Refers Redefinition"),
     ("Replies", "Texts Faults Values Replies"),
@@ -44,8 +44,8 @@ OPENING = r"(?:(?:abbrev|unfoldable|pub|record|data) +)+"
 OPENS = re.compile(OPENING + r"(?P<name>[A-Za-z_][\w'-]*)")
 BLOCK = re.compile(r"((abbrev +)?mutual|module .*where)$")
 
-# A function, or a ghost member of a type or a trait: its crate, its file, the type or trait that it belongs to, its name,
-# its lines up to its body, and its clauses, each with its keyword and label.
+# A function, or a ghost member of a type or a trait: its crate, its file, the type or trait that it belongs to, its
+# name, its lines up to its body, and its clauses, each with its keyword and label.
 Call = namedtuple("Call", "crate file owner name lines clauses")
 
 
@@ -82,7 +82,8 @@ def declared(text):
     for path, listed, alias in USE.findall(text):
         parts = path.split(".")
         if "declared" in parts and parts[0] != KIT:
-            types = [part for part in parts[parts.index("declared") + 1:] if part[0].isupper() and part != "TheVariants"]
+            inner = parts[parts.index("declared") + 1:]
+            types = [part for part in inner if part[0].isupper() and part != "TheVariants"]
             for name in re.split(r",\s*", listed or "") + [alias]:
                 if name and types:
                     names[name.split(" as ")[-1].strip()] = (parts[0], types[0])
@@ -90,7 +91,7 @@ def declared(text):
 
 
 def renamed(text):
-    """What a file of specs/ calls otherwise than where it is defined: each name, or name before a dot, and what it means."""
+    """What a file of specs/ calls otherwise than where it is defined: each name, or name before a dot, with that."""
     meant = {}
     for path, listed, alias in USE.findall(text):
         crate, *_, last = path.split(".")
@@ -196,7 +197,7 @@ class Definitions:
         return {known[name] for name in WORD.findall(self.text.get(place, "")) if name in known}
 
     def names_within(self, places):
-        """What these definitions of one file call otherwise than where it is defined: each name with what it means."""
+        """Of the names that their file calls otherwise, those that these definitions mention."""
         text = "\n".join(self.text[place] for place in places)
         known = self.renamed[places[0][:2]]
         return {name: home for name, home in known.items() if re.search(r"(?<![\w.])" + re.escape(name), text)}
@@ -312,7 +313,7 @@ def calls_in(crate, file, only, types):
 
 
 class Types:
-    """The public types of the code: (crate, type) to its lines without private fields, and to the types of the others."""
+    """The public types of the code: (crate, type) to its lines without private fields, and to the names it may use."""
 
     def __init__(self):
         self.lines, self.parts, self.homes = {}, {}, defaultdict(list)
@@ -393,7 +394,7 @@ def title(call):
 
 
 class Claim:
-    """The claim's calls, in the order of CLAIM; what they mention; and what the other public clauses mention besides."""
+    """The claim's calls, in the order of CLAIM; what they mention; and what other public clauses mention besides."""
 
     def __init__(self):
         self.definitions = Definitions()
@@ -401,7 +402,7 @@ class Claim:
         self.code = Types()
         self.calls = [call for name in CLAIM for call in self.named(name)]
         self.types = self.types_of_calls()
-        self.calls += [call for crate, name in self.types for call in self.models(name) if call not in self.calls]
+        self.calls += [call for place in self.types for call in self.models(place)]
         self.needed = closure(self.definitions, asked_by(self.definitions, self.calls))
         everything = closure(self.definitions, asked_by(self.definitions, self.all_calls))
         self.between = {place: why for place, why in everything.items() if place not in self.needed}
@@ -410,17 +411,17 @@ class Claim:
     def named(self, name):
         """The calls that a name of CLAIM means."""
         found = [call for call in self.all_calls
-                 if call.clauses and (title(call) == name or call.owner == name and call.name not in ("view", "Value"))]
+                 if call.clauses and call.name not in ("view", "Value") and name in (title(call), call.owner)]
         if len({call.crate for call in found}) != 1:
-            raise SystemExit(f"scripts/definitions.py: not one crate, but {len(found)} have public calls named {name}")
+            raise SystemExit(f"scripts/definitions.py: {name}, of CLAIM, is no public call, or one of several crates")
         return found
 
-    def models(self, name):
+    def models(self, place):
         """What a type is to its callers."""
-        return [call for call in self.all_calls if (call.owner, call.name) == (name, "Value")]
+        return [call for call in self.all_calls if (call.crate, call.owner, call.name) == (*place, "Value")]
 
     def types_of_calls(self):
-        """The types that the claim's calls name, and those of their public fields, in the order of their names' first use."""
+        """The types that the claim's calls name, and those of their public fields, in the order of the calls."""
         pending, found = [], {}
         for call in self.calls:
             known = names_in(call.file.read_text(), call.crate)
@@ -445,7 +446,7 @@ class Claim:
                 file, _, name = entry.partition(".")
                 fits = [key for key in left if key[1] == file and (not name or (*key, name) in self.needed)]
                 if len(fits) != 1:
-                    raise SystemExit(f"scripts/definitions.py: {len(fits)} files with definitions of the claim are {entry}")
+                    raise SystemExit(f"scripts/definitions.py: {len(fits)} files of the claim are {entry}, of SECTIONS")
                 files.append((fits[0], left.pop(fits[0])))
             sections.append((heading, files))
         if left:
