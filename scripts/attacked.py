@@ -166,7 +166,11 @@ class Process:
 
 
 class Service(Process):
-    """The program as a service that listens, and that still has to live at the end."""
+    """The program as a service that listens, and that still has to live at the end, unless it may end by itself."""
+
+    def __init__(self, *words, may_end=False, **how):
+        super().__init__(*words, **how)
+        self.may_end = may_end
 
     def __enter__(self):
         if not self.listens():
@@ -176,7 +180,7 @@ class Service(Process):
 
     def __exit__(self, kind, *rest):
         try:
-            if kind is None or issubclass(kind, (Failed, OSError)):
+            if not self.may_end and (kind is None or issubclass(kind, (Failed, OSError))):
                 self.must_live()
         finally:
             super().__exit__(kind, *rest)
