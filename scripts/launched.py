@@ -396,6 +396,41 @@ def makes_release(program):
         demand(status == 1 and "is not what the gate built" in said, said)
 
 
+@check("the gate, part by part")
+def gate(program):
+    """Its verdict is the sum of its parts; where one fails it fails, and what stands on that one isn't tried."""
+    with Checkout(program, released=False) as it:
+        (it.top / ".ci").mkdir()
+        shutil.copy(TOP / ".ci" / "run", it.top / ".ci" / "run")
+        for name, says in (("check_definitions", "exit 0"), ("check_examples", "exit 0"), ("test", "echo 5 passed, 0 failed")):
+            it.write(f"scripts/{name}", f"#!/bin/sh\n{says}\n")
+            (it.top / "scripts" / name).chmod(0o755)
+
+        def ends(verdict, *texts, without=()):
+            said, status = it.runs("../.ci/run")
+            demand(said.splitlines()[-1] == verdict and (status == 0) == verdict.endswith(" 0 failed"),
+                   f"expected {verdict}, and there came status {status} and {said}")
+            wrong = [text for text in texts if text not in said] + [text for text in without if text in said]
+            demand(not wrong, f"what it says of {wrong} isn't as it should be: {said}")
+
+        ends("7 passed, 0 failed", "release: there is none", f"kit {VERSION}")
+        it.release()
+        ends("9 passed, 0 failed", "byte for byte")
+        it.must(TOLD, "--built", "batch", "ann")
+        it.put("release", "pazkindu", b"other")
+        ends("8 passed, 1 failed", "NOT SO: release/pazkindu is", "5 passed")
+        it.release()
+        it.write("scripts/test", "#!/bin/sh\necho 4 passed, 1 failed\nexit 1\n")
+        ends("8 passed, 1 failed")
+        it.write("scripts/test", "#!/bin/sh\nexit 3\n")
+        ends("4 passed, 1 failed")
+        (it.kit / "rt").write_text(KIT + "echo new >>crates/nesl_words/src/lib.rt\n")
+        ends("2 passed, 1 failed", "the sources have changed while the gate ran", without=["byte for byte"])
+        (it.kit / "rt").write_text(KIT)
+        (it.kit / "refuses").touch()
+        ends("0 passed, 1 failed", "the release is not held to anything", without=["byte for byte"])
+
+
 @check("the verdict of the gate")
 def verdict(_):
     """It is the sum of its parts, and stands alone at the end."""
