@@ -3,6 +3,7 @@
 A case fails by `Failed`, or by an error of a socket; it can't run here by `Skipped`. What a case starts is killed when
 the case is over, by whoever runs it, so nothing here waits for a program that doesn't end.
 """
+import contextlib
 import os
 import resource
 import select
@@ -76,7 +77,7 @@ def available_megabytes():
 def prepared(limits, closed):
     """What a process does to itself before it becomes the program: its limits, and descriptors that it closes."""
     def prepare():
-        with open("/proc/self/oom_score_adj", "w", encoding="ascii") as file:
+        with contextlib.suppress(OSError), open("/proc/self/oom_score_adj", "w", encoding="ascii") as file:
             file.write("1000")
         for number in closed:
             os.close(number)
@@ -166,7 +167,11 @@ class Process:
 
 
 class Service(Process):
-    """The program as a service that listens, and that still has to live at the end."""
+    """The program as a service that listens, and that still has to live at the end, unless it may end by itself."""
+
+    def __init__(self, *words, may_end=False, **how):
+        super().__init__(*words, **how)
+        self.may_end = may_end
 
     def __enter__(self):
         if not self.listens():
@@ -176,7 +181,7 @@ class Service(Process):
 
     def __exit__(self, kind, *rest):
         try:
-            if kind is None or issubclass(kind, (Failed, OSError)):
+            if not self.may_end and (kind is None or issubclass(kind, (Failed, OSError))):
                 self.must_live()
         finally:
             super().__exit__(kind, *rest)
