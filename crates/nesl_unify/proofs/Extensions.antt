@@ -116,7 +116,7 @@ continued s ns count t =
 -- a table of variables that has grown
 made_placed : (count m p : ℕ) (n : Node) → IsMade p n → p < m → IsPlaced count m p n
 made_placed count m p Free h l = absurd h
-made_placed count m p (Same q) h l = absurd h
+made_placed count m p (Same q) h l = h
 made_placed count m p Int h l = tt
 made_placed count m p Bool h l = tt
 made_placed count m p Char h l = tt

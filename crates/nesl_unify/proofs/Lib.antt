@@ -7,8 +7,6 @@ pub mod Readings
 pub mod Extensions
 pub mod Solved
 pub mod Narrowing
-pub mod Shaped
-pub mod Sharing
-pub mod Instances
+pub mod Placed
+pub mod Known
 pub mod Starts
-pub mod Asked

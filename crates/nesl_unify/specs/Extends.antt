@@ -7,7 +7,7 @@ use Rattle.nesl_unify.specs.Table.{node_at}
 -- a node at place p that is made of what comes before
 abbrev pub IsMade : ℕ → Node → Type 0
 IsMade p Free = ⊥
-IsMade p (Same q) = ⊥
+IsMade p (Same q) = q < p
 IsMade p Int = Unit {0}
 IsMade p Bool = Unit {0}
 IsMade p Char = Unit {0}
