@@ -5,14 +5,14 @@ use Rattle.std.proofs.lemmas.List.{get_or_past, get_or_default, get_or_append_le
 use Rattle.std.proofs.lemmas.List.Elements.{All-nil, All-push}
 use Rattle.nesl_types.specs.Term.{Term, int, bool, char, variable, seq_of, both, named, term}
 use Rattle.nesl_types.specs.Substitution.{substitute}
-use Rattle.nesl_unify.specs.declared.table.Node.{Node}
-use Rattle.nesl_unify.specs.declared.table.Node.TheVariants.{Free, SeqOf, Both}
+use Rattle.nesl_types_bank.specs.declared.graph.Node.{Node}
+use Rattle.nesl_types_bank.specs.declared.graph.Node.TheVariants.{Free, SeqOf, Both}
 use Rattle.nesl_unify.specs.declared.unify.Pair.{Pair}
 use Rattle.nesl_unify.specs.declared.solve.Equation.{Equation}
 use Rattle.nesl_unify.specs.Pairs.{AreEqual, IsPairBelow}
 use Rattle.nesl_unify.specs.Solves.{SolvesAll}
 use Rattle.nesl_types.specs.Numbering.{IsBelow}
-use Rattle.nesl_unify.specs.Table.{node_at, Describes, Fits}
+use Rattle.nesl_types_bank.specs.Graph.{node_at, Describes, Fits}
 use Rattle.nesl_unify.specs.Extends.{Extends, IsMade}
 
 pub extends_none : (ns : List Node) → Extends ns ns

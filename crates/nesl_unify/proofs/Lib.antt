@@ -2,8 +2,6 @@ pub mod Tables
 pub mod Joins
 pub mod Steps
 pub mod Grown
-pub mod Measured
-pub mod Readings
 pub mod Extensions
 pub mod Solved
 pub mod Narrowing

@@ -11,15 +11,15 @@ use Rattle.nesl_types_bank.specs.Shapes.{IsShapeBelow, shape_type}
 use Rattle.nesl_types_bank.specs.Types.{type_at}
 use Rattle.nesl_unify.specs.declared.equations.Sides.{Sides}
 use Rattle.nesl_unify.specs.declared.equations.Equations.{Equations}
-use Rattle.nesl_unify.specs.declared.table.Node.{Node}
-use Rattle.nesl_unify.specs.declared.table.Node.TheVariants.{Free}
+use Rattle.nesl_types_bank.specs.declared.graph.Node.{Node}
+use Rattle.nesl_types_bank.specs.declared.graph.Node.TheVariants.{Free}
 use Rattle.nesl_unify.specs.declared.unify.Pair.{Pair}
 use Rattle.nesl_unify.specs.Extends.{Extends, IsMade}
 use Rattle.nesl_unify.specs.Met.{AreMet}
 use Rattle.nesl_unify.specs.Pairs.{IsPairBelow}
 use Rattle.nesl_unify.specs.Starts.{node_of, end_of_shape, IsNodeOf, IsStart, ArePairs}
 use Rattle.nesl_unify.specs.Systems.{HoldIn, AreEquationsIn}
-use Rattle.nesl_unify.specs.Table.{node_at, Describes, Fits}
+use Rattle.nesl_types_bank.specs.Graph.{node_at, Describes, Fits}
 use Rattle.nesl_unify.proofs.Known.{AreSidesBelow}
 
 -- the greatest places

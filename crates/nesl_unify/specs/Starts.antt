@@ -6,10 +6,10 @@ use Rattle.nesl_types_bank.specs.declared.shape.Shape.TheVariants as shape
 use Rattle.nesl_types_bank.specs.Shapes.{IsShapeBelow, shape_type}
 use Rattle.nesl_types_bank.specs.Types.{type_at}
 use Rattle.nesl_unify.specs.declared.equations.Sides.{Sides}
-use Rattle.nesl_unify.specs.declared.table.Node.{Node}
-use Rattle.nesl_unify.specs.declared.table.Node.TheVariants.{Free, Same, Int, Bool, Char, Named, SeqOf, Both}
+use Rattle.nesl_types_bank.specs.declared.graph.Node.{Node}
+use Rattle.nesl_types_bank.specs.declared.graph.Node.TheVariants.{Free, Same, Int, Bool, Char, Named, SeqOf, Both}
 use Rattle.nesl_unify.specs.declared.unify.Pair.{Pair}
-use Rattle.nesl_unify.specs.Table.{node_at}
+use Rattle.nesl_types_bank.specs.Graph.{node_at}
 
 -- the node of a shape, where the types stand behind `count` variables
 abbrev pub node_of : ℕ → Shape → Node

@@ -4,10 +4,9 @@
 mod equations;
 pub mod fault;
 mod instance;
-mod measure;
 pub mod narrow;
-mod read;
 mod room;
+mod solution;
 pub mod solve;
 mod start;
 pub mod system;

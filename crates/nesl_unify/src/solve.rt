@@ -10,15 +10,17 @@ ghost use Rattle.nesl_unify.specs.Bounds.{IsBounded};
 
 use crate::equations::Equations;
 use crate::fault::SolveFault;
-use crate::measure::measure_variables;
 use crate::narrow::{Member, narrow};
-use crate::read::apply;
+pub use crate::solution::Solution;
 use crate::start::{start_nodes, start_pairs};
-use crate::table::Node;
 pub use crate::types::is_below;
 use crate::unify::{Pair, unify};
-use nesl_types::{Class, Ty};
+use nesl_types::Ty;
+use nesl_types_bank::{Node, Read, read_types};
 use std::alloc::{AllocError, Global};
+
+/// The greatest number of nodes of a type.
+const MOST_NODES: u64 = 4096;
 
 /// Two types that have to be one.
 #[derive(Drop)]
@@ -27,30 +29,8 @@ pub struct Equation {
     pub right: Ty,
 }
 
-/// A most general solution: a type for each variable, and the class of each variable that is left in these types.
-#[derive(Drop)]
-pub struct Solution {
-    /// A table of the nodes of the types: the place of a variable is its number.
-    nodes: Vec<Node>,
-    /// How many nodes the type of each variable has.
-    sizes: Vec<u64>,
-    /// The class of each variable at the variable's place; a variable past the end is in `Any`.
-    pub classes: Vec<Class>,
-}
-
-impl Solution {
-    ghost use Rattle.nesl_unify.specs.Solves.{type_of};
-
-    /// The type with what stands for its variables in their place.
-    pub fn apply(&self, alloc: Global, ty: &Ty) -> Result<Ty, AllocError>
-        ensures { IfOk result (λ t. term t ≡ substitute (type_of self.now) (term ty.now)) }
-    {
-        apply(alloc, self.nodes.as_slice(), self.sizes.as_slice(), ty)
-    }
-}
-
 ghost use Rattle.std.specs.Prelude.{◌↔◌, IsTrue};
-ghost use Rattle.nesl_unify.specs.Solves.{AreBelow, IsSolution, IsInstance, type_of, class_of};
+ghost use Rattle.nesl_unify.specs.Solves.{AreBelow, SolvesAll, IsSolution, IsInstance, type_of, class_of};
 
 /// Whether each variable of the equations is below the count.
 pub fn are_below(count: u64, equations: &[Equation]) -> bool
@@ -69,7 +49,6 @@ ghost use Rattle.nesl_unify.specs.Extends.{Extends};
 ghost use Rattle.nesl_unify.specs.Members.{IsInAll};
 ghost use Rattle.nesl_unify.specs.Met.{AreMet};
 ghost use Rattle.nesl_unify.specs.Pairs.{IsPairBelow};
-ghost use Rattle.nesl_unify.specs.Solves.{SolvesAll};
 ghost use Rattle.nesl_unify.specs.Systems.{AreEquations, Hold};
 
 /// A most general solution of a table in which the places of each pair are one, and each member's variable has a type of its
@@ -91,11 +70,17 @@ pub(crate) fn solve_table(
     ensures none { IsErrOf result SolveFault.NoSolution → (s : ℕ → Term) → (of : ℕ → Class) → IsBounded s → AreMet count nodes.items pending.items s → IsInAll s of members.now → ⊥ }
 {
     unify(nodes.as_mut_slice(), pending)?;
-    let sizes = measure_variables(alloc, nodes.as_slice(), count)?;
+    let Read {
+        bank: types,
+        places,
+    } = match read_types(alloc, nodes.as_slice(), count, MOST_NODES)? {
+        Some(read) => read,
+        None => return Err(SolveFault::NoSolution),
+    };
     let classes = narrow(alloc, nodes.as_slice(), members)?;
     Ok(Solution {
-        nodes,
-        sizes,
+        types,
+        places,
         classes,
     })
 }

@@ -4,9 +4,8 @@ ghost use Rattle.std.specs.Prelude.{◌≡◌, ◌<◌, ◌+◌, ◌^◌, ℕ, A
 ghost use Rattle.nesl_unify.specs.Starts.{node_of, end_of_shape, IsStart, ArePairs};
 
 use crate::equations::Sides;
-use crate::table::Node;
 use crate::unify::Pair;
-use nesl_types_bank::{Bank, Shape};
+use nesl_types_bank::{Bank, Node, Shape};
 use std::alloc::{AllocError, Global};
 
 /// The node of a shape.

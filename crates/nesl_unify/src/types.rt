@@ -4,6 +4,7 @@ ghost use Rattle.std.specs.Prelude.{◌≡◌, ◌<◌, ◌≤◌, ◌↔◌, �
 ghost use Rattle.nesl_types.specs.Term.{Term, term};
 ghost use Rattle.nesl_types.specs.Substitution.{substitute};
 ghost use Rattle.nesl_types.specs.Numbering.{IsBelow};
+ghost use Rattle.nesl_types_bank.specs.Renames.{replacement};
 ghost use Rattle.nesl_types_bank.specs.Types.{type_at};
 ghost use Rattle.nesl_unify.specs.Places.{place_for, placed, ArePlaces, IsAdded};
 ghost use Rattle.nesl_unify.specs.Systems.{AreEquations, Follows};
@@ -11,7 +12,7 @@ ghost use Rattle.nesl_unify.specs.Systems.{AreEquations, Follows};
 use crate::equations::Equations;
 use nesl_types::Ty;
 use nesl_types_bank::{Bank, Shape};
-use std::alloc::AllocError;
+use std::alloc::{AllocError, Global};
 
 /// The place that is given for a variable, if one is.
 pub fn place_for(places: &[Option<usize>], variable: u64) -> Option<usize>
@@ -81,6 +82,55 @@ pub fn is_below(count: u64, ty: &Ty) -> bool
         Ty::SeqOf(item) => is_below(count, item),
         Ty::Both(first, second) => is_below(count, first) && is_below(count, second),
         _ => true,
+    }
+}
+
+/// The type at a place.
+fn build(alloc: Global, types: &Bank, place: usize) -> Result<Ty, AllocError>
+    requires { place < length types.now }
+    ensures { IfOk result (λ t. term t ≡ type_at types.now place) }
+{
+    match types.shape(place) {
+        Shape::Int => Ok(Ty::Int),
+        Shape::Bool => Ok(Ty::Bool),
+        Shape::Char => Ok(Ty::Char),
+        Shape::Var(variable) => Ok(Ty::Var(variable)),
+        Shape::SeqOf(item) => {
+            let item = build(alloc, types, item)?;
+            Ok(Ty::SeqOf(Box::new(alloc, item)?))
+        }
+        Shape::Both(first, second) => {
+            let first = build(alloc, types, first)?;
+            let second = build(alloc, types, second)?;
+            Ok(Ty::Both(Box::new(alloc, first)?, Box::new(alloc, second)?))
+        }
+        Shape::Named(tag) => Ok(Ty::Named(tag)),
+    }
+}
+
+/// The type with the types at the places of its variables in their place. A variable past the end stays.
+pub fn apply(alloc: Global, types: &Bank, places: &[usize], ty: &Ty) -> Result<Ty, AllocError>
+    requires { All (λ p. p < length types.now) places.now }
+    ensures { IfOk result (λ t. term t ≡ substitute (replacement types.now places.now) (term ty.now)) }
+{
+    match ty {
+        Ty::Int => Ok(Ty::Int),
+        Ty::Bool => Ok(Ty::Bool),
+        Ty::Char => Ok(Ty::Char),
+        Ty::Var(variable) => match places.get(*variable as usize) {
+            Some(place) => Ok(build(alloc, types, *place)?),
+            None => Ok(Ty::Var(*variable)),
+        },
+        Ty::SeqOf(item) => {
+            let item = apply(alloc, types, places, item)?;
+            Ok(Ty::SeqOf(Box::new(alloc, item)?))
+        }
+        Ty::Both(first, second) => {
+            let first = apply(alloc, types, places, first)?;
+            let second = apply(alloc, types, places, second)?;
+            Ok(Ty::Both(Box::new(alloc, first)?, Box::new(alloc, second)?))
+        }
+        Ty::Named(tag) => Ok(Ty::Named(*tag)),
     }
 }
 
