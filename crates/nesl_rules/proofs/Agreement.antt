@@ -9,7 +9,6 @@ use Rattle.nesl_types.specs.Substitution.{substitute}
 use Rattle.nesl_types.specs.Numbering.{IsBelow}
 use Rattle.nesl_types.specs.Class.{IsIn}
 use Rattle.nesl_unify.specs.Bounds.{IsBounded}
-use Rattle.nesl_unify.specs.Systems as system
 use Rattle.nesl_unify.proofs.Known.{holds_below}
 use Rattle.nesl_rules.specs.declared.state.State.{State}
 use Rattle.nesl_rules.specs.declared.table.Table.{Table}

@@ -1,18 +1,14 @@
 -- Tables that grow.
-use Rattle.std.proofs.Common.{◌≡◌, ℕ, ◌+◌, ◌<◌, ◌≤◌, ◌++◌, ◌↔◌, inl, inr, List, [], ◌∷◌, All, length, get_or, sym, ap, ◌∙◌, subst, refl, arith}
+use Rattle.std.proofs.Common.{◌≡◌, ℕ, ◌+◌, ◌<◌, ◌≤◌, ◌↔◌, inl, inr, List, length, get_or, sym, ap, ◌∙◌, subst, refl, arith}
 use Rattle.std.proofs.lemmas.Bool.{cases_lt}
-use Rattle.std.proofs.lemmas.List.{get_or_past, get_or_default, get_or_append_left, get_or_push, length_push}
-use Rattle.std.proofs.lemmas.List.Elements.{All-nil, All-push}
+use Rattle.std.proofs.lemmas.List.{get_or_past, get_or_default}
 use Rattle.nesl_types.specs.Term.{Term, int, bool, char, variable, seq_of, both, named, term}
 use Rattle.nesl_types.specs.Substitution.{substitute}
 use Rattle.nesl_types_bank.specs.declared.graph.Node.{Node}
-use Rattle.nesl_types_bank.specs.declared.graph.Node.TheVariants.{Free, SeqOf, Both}
-use Rattle.nesl_unify.specs.declared.unify.Pair.{Pair}
+use Rattle.nesl_types_bank.specs.declared.graph.Node.TheVariants.{Free}
 use Rattle.nesl_unify.specs.declared.solve.Equation.{Equation}
-use Rattle.nesl_unify.specs.Pairs.{AreEqual, IsPairBelow}
-use Rattle.nesl_unify.specs.Solves.{SolvesAll}
 use Rattle.nesl_types.specs.Numbering.{IsBelow}
-use Rattle.nesl_types_bank.specs.Graph.{node_at, Describes, Fits}
+use Rattle.nesl_types_bank.specs.Graph.{Describes, Fits}
 use Rattle.nesl_unify.specs.Extends.{Extends, IsMade}
 
 pub extends_none : (ns : List Node) → Extends ns ns

@@ -1,7 +1,9 @@
 -- Equations as tables.
-use Rattle.std.proofs.Common.{◌≡◌, ℕ, zero, suc, ◌+◌, ◌-◌, ◌<◌, ◌≤◌, ◌^◌, ◌++◌, ◌⊎◌, inl, inr, List, [], ◌∷◌, All, length, replicate, get_or, refl, sym, ap, ◌∙◌, subst, arith}
+use Rattle.std.proofs.Common.{◌≡◌, ℕ, zero, suc, ◌+◌, ◌-◌, ◌<◌, ◌≤◌, ◌^◌, ◌++◌, ◌⊎◌, ◌↔◌, inl, inr, List, [], ◌∷◌, All, length, replicate, get_or, refl, sym, ap, ◌∙◌, subst, arith}
+use Rattle.std.specs.Prelude.{Option, Some, None}
 use Rattle.std.proofs.lemmas.Bool.{cases_lt}
 use Rattle.std.proofs.lemmas.List.{get_or_past, get_or_push, get_or_append_left, get_or-replicate, get_or_default, length-replicate, length_push}
+use Rattle.std.proofs.lemmas.List.Elements.{All-nil, All-push, All-pop}
 use Rattle.nesl_types.specs.Term.{Term, int, seq_of}
 use Rattle.nesl_types.specs.Numbering.{IsBelow}
 use Rattle.nesl_types.specs.Substitution.{substitute}
@@ -10,17 +12,17 @@ use Rattle.nesl_types_bank.specs.declared.shape.Shape.TheVariants.{Int, Bool, Ch
 use Rattle.nesl_types_bank.specs.Shapes.{IsShapeBelow, shape_type}
 use Rattle.nesl_types_bank.specs.Types.{type_at}
 use Rattle.nesl_unify.specs.declared.equations.Sides.{Sides}
-use Rattle.nesl_unify.specs.declared.equations.Equations.{Equations}
 use Rattle.nesl_types_bank.specs.declared.graph.Node.{Node}
 use Rattle.nesl_types_bank.specs.declared.graph.Node.TheVariants.{Free}
 use Rattle.nesl_unify.specs.declared.unify.Pair.{Pair}
 use Rattle.nesl_unify.specs.Extends.{Extends, IsMade}
 use Rattle.nesl_unify.specs.Met.{AreMet}
-use Rattle.nesl_unify.specs.Pairs.{IsPairBelow}
-use Rattle.nesl_unify.specs.Starts.{node_of, end_of_shape, IsNodeOf, IsStart, ArePairs}
+use Rattle.nesl_unify.specs.Pairs.{IsPairBelow, AreEqual}
+use Rattle.nesl_unify.specs.Places.{place_for, ArePlaces}
+use Rattle.nesl_unify.specs.Starts.{node_of, end_of_shape, IsNodeOf, IsStart, AreSidesEqual, AreKnownEqual}
 use Rattle.nesl_unify.specs.Systems.{HoldIn, AreEquationsIn}
 use Rattle.nesl_types_bank.specs.Graph.{node_at, Describes, Fits}
-use Rattle.nesl_unify.proofs.Known.{AreSidesBelow}
+use Rattle.nesl_unify.proofs.Known.{AreSidesBelow, place_below}
 
 -- the greatest places
 pub shape_end : (count n : ℕ) (a : Shape) → IsShapeBelow n a → end_of_shape count a ≤ count + n
@@ -109,13 +111,16 @@ module _ (count : ℕ) (types : List Term) (nodes : List Node) (below : All (IsB
   types_there : (s w : ℕ → Term) → Fits w nodes → ((v : ℕ) → v < count → w v ≡ s v) → (p : ℕ) → p < length types → w (count + p) ≡ substitute s (type_at types p)
   types_there s w f g p i = types_below s w f g (suc p) p (omega arith) i
 
-  pub met_holds : (sides : List Sides) (pending : List Pair) (s : ℕ → Term) → AreSidesBelow (length types) sides → ArePairs count sides pending → AreMet count nodes pending s → HoldIn types sides s
-  met_holds sides pending s b p m k e l =
+  pub met_holds : (ks : List (Option ℕ)) (sides : List Sides) (pending : List Pair) (s : ℕ → Term) → length ks ≡ count → AreEquationsIn types ks sides →
+      ((w : ℕ → Term) → AreEqual w pending ↔ (AreSidesEqual count sides w × AreKnownEqual count ks w)) → AreMet count nodes pending s → HoldIn types ks sides s
+  met_holds ks sides pending s n a p m =
       let w = m.0 in
-      let d : Pair = record { first = 0; second = 0 } in
-      let i = b k e l in
       let there = types_there s w m.1.fits m.1.below in
-      sym (there (get_or sides k e).left i.0) ∙ sym (ap w (p.first k e d l)) ∙ m.1.equal k d (omega (arith, p.len)) ∙ ap w (p.second k e d l) ∙ there (get_or sides k e).right i.1
+      let i = (p w).0 m.1.equal in
+      record {
+        known = λ v q e. sym (m.1.below v (subst (λ k. v < k) n (place_below ks v q e))) ∙ i.1 v q e ∙ there q (a.places v q e);
+        one = λ k e l. let b = a.sides k e l in sym (there (get_or sides k e).left b.0) ∙ i.0 k e l ∙ there (get_or sides k e).right b.1;
+      }
 
   -- s for the variables, and f for the places behind them
   abbrev choose : {A B : Type 0} → A ⊎ B → Term → Term → Term
@@ -160,57 +165,109 @@ module _ (count : ℕ) (types : List Term) (nodes : List Node) (below : All (IsB
         ]
       ]
 
-  pub holds_met : (sides : List Sides) (pending : List Pair) (s : ℕ → Term) → AreSidesBelow (length types) sides → ArePairs count sides pending → HoldIn types sides s → AreMet count nodes pending s
-  holds_met sides pending s b p m = (
+  pub holds_met : (ks : List (Option ℕ)) (sides : List Sides) (pending : List Pair) (s : ℕ → Term) → length ks ≡ count → AreEquationsIn types ks sides →
+      ((w : ℕ → Term) → AreEqual w pending ↔ (AreSidesEqual count sides w × AreKnownEqual count ks w)) → HoldIn types ks sides s → AreMet count nodes pending s
+  holds_met ks sides pending s n a p m = (
     whole s,
     record {
       fits = whole_fits s;
-      equal = λ k d l.
-          let e : Sides = record { left = 0; right = 0 } in
-          let inside : k < length sides = omega (arith, p.len) in
-          ap (whole s) (p.first k e d inside) ∙ whole_place s (get_or sides k e).left ∙ m k e inside ∙ sym (whole_place s (get_or sides k e).right) ∙ sym (ap (whole s) (p.second k e d inside));
+      equal = (p (whole s)).1 (
+        (λ k e l. whole_place s (get_or sides k e).left ∙ m.one k e l ∙ sym (whole_place s (get_or sides k e).right)),
+        (λ v q e. whole_variable s v (subst (λ k. v < k) n (place_below ks v q e)) ∙ m.known v q e ∙ sym (whole_place s q)),
+      );
       below = λ v l. whole_variable s v l;
     },
   )
 
-  pub pairs_below : (sides : List Sides) (pending : List Pair) → AreSidesBelow (length types) sides → ArePairs count sides pending → All (IsPairBelow (length nodes)) pending
-  pairs_below sides pending b p = λ k d l.
-      let e : Sides = record { left = 0; right = 0 } in
-      let inside : k < length sides = omega (arith, p.len) in
-      let i = b k e inside in
-      (omega (arith, p.first k e d inside, start.len), omega (arith, p.second k e d inside, start.len))
-
 -- the pairs of the first k sides
 pub record ArePaired (count : ℕ) (sides : List Sides) (i : ℕ) (pending : List Pair) : Type 0 where
-  pub len : length pending ≡ i
-  pub first : (k : ℕ) (e : Sides) (d : Pair) → k < i → (get_or pending k d).first ≡ count + (get_or sides k e).left
-  pub second : (k : ℕ) (e : Sides) (d : Pair) → k < i → (get_or pending k d).second ≡ count + (get_or sides k e).right
+  pub below : (n : ℕ) → AreSidesBelow n sides → All (IsPairBelow (count + n)) pending
+  pub equal : (w : ℕ → Term) → AreEqual w pending ↔ ((k : ℕ) (e : Sides) → k < i → w (count + (get_or sides k e).left) ≡ w (count + (get_or sides k e).right))
 
 pub paired_none : (count : ℕ) (sides : List Sides) → ArePaired count sides 0 []
-paired_none count sides = record { len = refl; first = λ k e d l. absurd (omega arith); second = λ k e d l. absurd (omega arith) }
+paired_none count sides = record { below = λ n b. All-nil (IsPairBelow (count + n)); equal = λ w. ((λ h k e l. absurd (omega arith)), λ h. All-nil (λ (p : Pair). w p.first ≡ w p.second)) }
 
 pub paired_more : (count : ℕ) (sides : List Sides) (i : ℕ) (pending more : List Pair) (p : Pair) (x : Sides) → ArePaired count sides i pending → i < length sides → x ≡ get_or sides i x → more ≡ pending ++ p ∷ [] →
     p.first ≡ count + x.left → p.second ≡ count + x.right → ArePaired count sides (i + 1) more
-paired_more count sides i pending more p x a inside is e first second = rw e (record {
-  len = omega (arith, length_push pending p, a.len);
-  first = λ k y d l. elim (cases_lt k i) [
-    | inl j ↦ ap (λ (q : Pair). q.first) (get_or_append_left pending (p ∷ []) d k (omega (arith, a.len))) ∙ a.first k y d j
-    | inr o ↦
-        let here : k ≡ i = omega arith in
-        let at : get_or sides k y ≡ x = ap (λ (j : ℕ). get_or sides j y) here ∙ get_or_default sides i y x inside ∙ sym is in
-        ap (λ (q : Pair). q.first) (get_or_push pending p d k (omega (arith, a.len))) ∙ first ∙ ap (λ (z : Sides). count + z.left) (sym at)
-  ];
-  second = λ k y d l. elim (cases_lt k i) [
-    | inl j ↦ ap (λ (q : Pair). q.second) (get_or_append_left pending (p ∷ []) d k (omega (arith, a.len))) ∙ a.second k y d j
-    | inr o ↦
-        let here : k ≡ i = omega arith in
-        let at : get_or sides k y ≡ x = ap (λ (j : ℕ). get_or sides j y) here ∙ get_or_default sides i y x inside ∙ sym is in
-        ap (λ (q : Pair). q.second) (get_or_push pending p d k (omega (arith, a.len))) ∙ second ∙ ap (λ (z : Sides). count + z.right) (sym at)
-  ];
-})
+paired_more count sides i pending more p x a inside is e first second =
+    let at : (k : ℕ) (y : Sides) → k ≡ i → get_or sides k y ≡ x = λ k y h. ap (λ (j : ℕ). get_or sides j y) h ∙ get_or_default sides i y x inside ∙ sym is in
+    record {
+      below = λ n b.
+          let h = b i x inside in
+          let l : (x.left < n) × (x.right < n) = subst (λ (y : Sides). (y.left < n) × (y.right < n)) (sym is) h in
+          subst (All (IsPairBelow (count + n))) (sym e) (All-push (IsPairBelow (count + n)) pending p (a.below n b) (omega arith, omega arith));
+      equal = λ w.
+          let P : Pair → Type 0 = λ q. w q.first ≡ w q.second in
+          let same : (w p.first ≡ w p.second) ↔ (w (count + x.left) ≡ w (count + x.right)) =
+          (λ h. sym (ap w first) ∙ h ∙ ap w second, λ h. ap w first ∙ h ∙ sym (ap w second)) in (
+            λ h k y l.
+                let o = All-pop P more pending (Some p) e h in
+                elim (cases_lt k i) [
+                  | inl j ↦ ((a.equal w).0 o.0) k y j
+                  | inr g ↦
+                      let here : k ≡ i = omega arith in
+                      subst (λ (z : Sides). w (count + z.left) ≡ w (count + z.right)) (sym (at k y here)) (same.0 o.1)
+                ],
+            λ h.
+                let last = subst (λ (z : Sides). w (count + z.left) ≡ w (count + z.right)) (at i x refl) (h i x (omega arith)) in
+                subst (All P) (sym e) (All-push P pending p ((a.equal w).1 (λ k y l. h k y (omega arith))) (same.1 last)),
+          );
+    }
 
-pub paired_whole : (count : ℕ) (sides : List Sides) (pending : List Pair) → ArePaired count sides (length sides) pending → ArePairs count sides pending
-paired_whole count sides pending a = record { len = a.len; first = a.first; second = a.second }
+-- and those of the first k variables
+pub record AreKnownPaired (count : ℕ) (known : List (Option ℕ)) (i : ℕ) (old pending : List Pair) : Type 0 where
+  pub below : (n : ℕ) → ArePlaces n known → All (IsPairBelow (count + n)) old → All (IsPairBelow (count + n)) pending
+  pub equal : (w : ℕ → Term) → AreEqual w pending ↔ (AreEqual w old × ((v p : ℕ) → v < i → place_for known v ≡ Some p → w v ≡ w (count + p)))
+
+pub known_none : (count : ℕ) (known : List (Option ℕ)) (old : List Pair) → AreKnownPaired count known 0 old old
+known_none count known old = record { below = λ n b h. h; equal = λ w. (λ h. (h, λ v p l e. absurd (omega arith)), λ h. h.0) }
+
+pub known_skip : (count : ℕ) (known : List (Option ℕ)) (i : ℕ) (old pending : List Pair) → AreKnownPaired count known i old pending → place_for known i ≡ None → AreKnownPaired count known (i + 1) old pending
+known_skip count known i old pending a e = record {
+  below = a.below;
+  equal = λ w. (
+    λ h.
+        let o = (a.equal w).0 h in (
+          o.0,
+          λ v p l d. elim (cases_lt v i) [
+            | inl j ↦ o.1 v p j d
+            | inr g ↦
+                let here : i ≡ v = omega arith in
+                let f : None ≡ Some p = sym e ∙ ap (place_for known) here ∙ d in absurd cc
+          ],
+        ),
+    λ h. (a.equal w).1 (h.0, λ v p l d. h.1 v p (omega arith) d),
+  );
+}
+
+pub known_more : (count : ℕ) (known : List (Option ℕ)) (i : ℕ) (old pending more : List Pair) (q : Pair) (p : ℕ) → AreKnownPaired count known i old pending → i < count → place_for known i ≡ Some p → more ≡ pending ++ q ∷ [] →
+    q.first ≡ i → q.second ≡ count + p → AreKnownPaired count known (i + 1) old more
+known_more count known i old pending more q p a l e is first second = record {
+  below = λ n b h.
+      let c = b i p e in
+      subst (All (IsPairBelow (count + n))) (sym is) (All-push (IsPairBelow (count + n)) pending q (a.below n b h) (omega arith, omega arith));
+  equal = λ w.
+      let P : Pair → Type 0 = λ z. w z.first ≡ w z.second in (
+        λ h.
+            let o = All-pop P more pending (Some q) is h in
+            let k = (a.equal w).0 o.0 in (
+              k.0,
+              λ v r j d. elim (cases_lt v i) [
+                | inl m ↦ k.1 v r m d
+                | inr g ↦
+                    let here : v ≡ i = omega arith in
+                    let f : Some r ≡ Some p = sym d ∙ ap (place_for known) here ∙ e in
+                    let m : p ≡ r = cc in
+                    ap w here ∙ sym (ap w first) ∙ o.1 ∙ ap w second ∙ ap (λ z. w (count + z)) m
+              ],
+            ),
+        λ h. subst (All P) (sym is) (All-push P pending q ((a.equal w).1 (h.0, λ v r j d. h.1 v r (omega arith) d)) (ap w first ∙ h.1 i p (omega arith) e ∙ sym (ap w second))),
+      );
+}
+
+pub known_whole : (count : ℕ) (known : List (Option ℕ)) (old pending : List Pair) → length known ≡ count → AreKnownPaired count known count old pending → (w : ℕ → Term) → AreEqual w pending ↔ (AreEqual w old × AreKnownEqual count known w)
+known_whole count known old pending n a w =
+    (λ h. let o = (a.equal w).0 h in (o.0, λ v p e. o.1 v p (subst (λ k. v < k) n (place_below known v p e)) e), λ h. (a.equal w).1 (h.0, λ v p l e. h.1 v p e))
 
 pub ends_fit : (count n : ℕ) (sides : List Sides) → AreSidesBelow n sides → count + n < 2 ^ 64 → All (λ e. (count + e.left < 2 ^ 64) × (count + e.right < 2 ^ 64)) sides
 ends_fit count n sides b l = λ k d i. let h = b k d i in (omega arith, omega arith)

@@ -1,5 +1,5 @@
 -- The table of equations: their variables, and behind them their types.
-use Rattle.std.specs.Prelude.{◌≡◌, ◌<◌, ◌+◌, ℕ, List, length, max, slice_index_or}
+use Rattle.std.specs.Prelude.{◌≡◌, ◌<◌, ◌+◌, ℕ, List, Option, Some, All, length, max}
 use Rattle.nesl_types.specs.Term.{Term}
 use Rattle.nesl_types_bank.specs.declared.shape.Shape.{Shape}
 use Rattle.nesl_types_bank.specs.declared.shape.Shape.TheVariants as shape
@@ -8,7 +8,7 @@ use Rattle.nesl_types_bank.specs.Types.{type_at}
 use Rattle.nesl_unify.specs.declared.equations.Sides.{Sides}
 use Rattle.nesl_types_bank.specs.declared.graph.Node.{Node}
 use Rattle.nesl_types_bank.specs.declared.graph.Node.TheVariants.{Free, Same, Int, Bool, Char, Named, SeqOf, Both}
-use Rattle.nesl_unify.specs.declared.unify.Pair.{Pair}
+use Rattle.nesl_unify.specs.Places.{place_for}
 use Rattle.nesl_types_bank.specs.Graph.{node_at}
 
 -- the node of a shape, where the types stand behind `count` variables
@@ -43,10 +43,10 @@ pub record IsStart (count : ℕ) (types : List Term) (nodes : List Node) : Type 
   pub free : (v : ℕ) → v < count → node_at nodes v ≡ Free
   pub at : (p : ℕ) → p < length types → IsNodeOf count types p (node_at nodes (count + p))
 
--- a pair of places for each pair of sides
-pub record ArePairs (count : ℕ) (sides : List Sides) (pending : List Pair) : Type 0 where
-  pub len : length pending ≡ length sides
-  pub first : (k : ℕ) (e : Sides) (d : Pair) → k < length sides →
-      (slice_index_or pending k d).first ≡ count + (slice_index_or sides k e).left
-  pub second : (k : ℕ) (e : Sides) (d : Pair) → k < length sides →
-      (slice_index_or pending k d).second ≡ count + (slice_index_or sides k e).right
+-- the types at both sides are equal, where w gives those at the places of the table
+abbrev pub AreSidesEqual : ℕ → List Sides → (ℕ → Term) → Type 0
+AreSidesEqual count sides w = All (λ e. w (count + e.left) ≡ w (count + e.right)) sides
+
+-- and the variables are what is known of them
+abbrev pub AreKnownEqual : ℕ → List (Option ℕ) → (ℕ → Term) → Type 0
+AreKnownEqual count known w = (v p : ℕ) → place_for known v ≡ Some p → w v ≡ w (count + p)

@@ -101,7 +101,12 @@ pub(crate) fn solve_equations(
 {
     let count = equations.known.len();
     let nodes = start_nodes(alloc, count, &equations.types)?;
-    let pending = start_pairs(alloc, count, equations.sides.as_slice())?;
+    let pending = start_pairs(
+        alloc,
+        count,
+        equations.sides.as_slice(),
+        equations.known.as_slice(),
+    )?;
     let solution = solve_table(alloc, count, nodes, pending, members)?;
     Ok(solution)
 }

@@ -120,8 +120,7 @@ impl System {
             Instance { number, of },
             ty,
         )?;
-        let left = self.equations.put(&Ty::Var(variable))?;
-        self.equations.join(left, right)?;
+        self.equations.equate_variable(variable, right)?;
         Ok(())
     }
 

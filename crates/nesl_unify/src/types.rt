@@ -7,7 +7,8 @@ ghost use Rattle.nesl_types.specs.Numbering.{IsBelow};
 ghost use Rattle.nesl_types_bank.specs.Renames.{replacement};
 ghost use Rattle.nesl_types_bank.specs.Types.{type_at};
 ghost use Rattle.nesl_unify.specs.Places.{place_for, placed, ArePlaces, IsAdded};
-ghost use Rattle.nesl_unify.specs.Systems.{AreEquations, Follows};
+ghost use Rattle.nesl_unify.specs.Systems.{AreEquations};
+ghost use Rattle.nesl_unify.specs.Growth.{Follows};
 
 use crate::equations::Equations;
 use nesl_types::Ty;

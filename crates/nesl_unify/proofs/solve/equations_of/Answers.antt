@@ -23,3 +23,8 @@ pub returns-clause-holds : goal.returns-clause-holds
 returns-clause-holds c = λ s.
     let n : c.loop-equation.equation-index ≡ length c.args.equations.now = omega arith in
     subst (λ (k : ℕ). Hold c.loop-equation.all s ↔ SolvesFirst s k c.args.equations.now) n (c.loop-equation.invariant.holds s)
+
+pub loop-equation-init : goal.loop-equation-init
+loop-equation-init c =
+    let q = c.in_ok-all.ensures in
+    record { made = q.made; count = q.count; holds = λ s. (λ h k d l. absurd (omega arith), λ h. q.holds s) }

@@ -10,7 +10,7 @@ use Rattle.nesl_types_bank.specs.Graph.{Fits, IsFlat, IsGraph, AreRead}
 use Rattle.nesl_types_bank.specs.Types.{type_at, size_of}
 use Rattle.nesl_unify.specs.Members.{IsInAll}
 use Rattle.nesl_unify.specs.Pairs.{AreEqual}
-use Rattle.nesl_unify.specs.Table.{IsTable, outside_at}
+use Rattle.nesl_unify.specs.Table.{outside_at}
 use Rattle.nesl_unify.proofs.Solved.{unified, is_graph, same_start, table_start, longer, none_read, types_met, types_bounded, types_general, members_outside, members_read}
 use Rattle.nesl_unify.proofs.solve.solve_table.Goals as goal
 

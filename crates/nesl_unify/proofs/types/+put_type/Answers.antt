@@ -1,8 +1,8 @@
-use Rattle.std.proofs.Common.{◌≡◌, ap, subst, sym, length, rules}
+use Rattle.std.proofs.Common.{◌≡◌, subst, rules}
 use Rattle.nesl_types.specs.Term.{Term, term, seq_of, both, named}
 use Rattle.nesl_types.specs.Substitution.{substitute}
 use Rattle.nesl_unify.specs.Places.{placed, IsAdded}
-use Rattle.nesl_unify.proofs.Placed.{added_put, added_seq, added_both, type_kept, places_wider}
+use Rattle.nesl_unify.proofs.Placed.{added_put, added_seq, added_both, type_kept}
 use Rattle.nesl_unify.proofs.types.+put_type.Goals as goal
 
 pub returns-in_ok-put-in-SeqOf : goal.returns-in_ok-put-in-SeqOf

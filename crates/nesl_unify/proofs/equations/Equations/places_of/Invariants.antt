@@ -1,4 +1,4 @@
-use Rattle.nesl_unify.specs.Systems.{Grows}
+use Rattle.nesl_unify.specs.Growth.{Grows}
 use Rattle.nesl_unify.proofs.Known.{AreFirst}
 use Rattle.nesl_unify.proofs.equations.Equations.places_of.Given as goal
 

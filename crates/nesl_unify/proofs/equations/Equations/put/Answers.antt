@@ -1,6 +1,7 @@
-use Rattle.std.proofs.Common.{◌≡◌, List, refl, sym, subst}
+use Rattle.std.proofs.Common.{List, refl, subst}
 use Rattle.std.specs.Prelude.{Option, ℕ}
 use Rattle.nesl_types.specs.Term.{term}
+use Rattle.nesl_unify.specs.declared.equations.Sides.{Sides}
 use Rattle.nesl_types.specs.Substitution.{substitute}
 use Rattle.nesl_unify.specs.Places.{placed, IsAdded}
 use Rattle.nesl_unify.proofs.Known.{added_equations, below_known, means_known}
@@ -15,7 +16,7 @@ returns-clause-grows c =
     record {
       made = added_equations a.types c.put_type.new.types ks a.sides.items (substitute (placed a.types ks) t) c.in_ok-put_type.field-0 c.requires.made i (below_known a.types ks a.sides.items t c.requires.made c.requires.ty);
       known = refl {A = List (Option ℕ)};
-      sides = refl;
+      sides = refl {A = List Sides};
       extends = i.extends;
     }
 

@@ -1,13 +1,13 @@
-use Rattle.std.proofs.Common.{◌≡◌, ℕ, length, slice_index, sym, subst, ap, ◌∙◌}
-use Rattle.nesl_types.specs.Term.{Term, term}
+use Rattle.std.proofs.Common.{length, slice_index}
+use Rattle.nesl_types.specs.Term.{term}
 use Rattle.nesl_types.specs.Substitution.{substitute}
 use Rattle.nesl_unify.specs.declared.equations.Equations.{Equations}
 use Rattle.nesl_unify.specs.Places.{placed}
 use Rattle.nesl_unify.proofs.Known.{added_equations, added_grows, grows_more, instance_below, instance_means, instance_holds}
 use Rattle.nesl_unify.proofs.system.System.equate_instance.Goals as goal
 
-pub put-requires-clause-made : goal.put-requires-clause-made
-put-requires-clause-made c =
+pub equate_variable-requires-clause-made : goal.equate_variable-requires-clause-made
+equate_variable-requires-clause-made c =
     let b = c.learn_instance.new.self in
     let d = c.places_of.new.self in
     let m = c.in_ok-of.ensures.grows.made in
@@ -31,6 +31,5 @@ returns-clause-holds c =
     let right = c.in_ok-right.right in
     let e : Equations = record d { types = new } in
     let grown = added_grows d new (substitute (placed d.types of) t) right m i (instance_below (length d.known.items) b.types d.types b.known.items of fresh t m.below places c.requires.ty) in
-    instance_holds a b e c.put.new.self c.join.new.self c.in_ok-left.left right c.args.variable (λ s. substitute (λ v. s (slice_index fresh v)) t) c.in_ok-learn_instance.ensures
-    (grows_more b d e c.in_ok-of.ensures.grows grown) c.in_ok-left.ensures.grows i.within c.in_ok-left.ensures.here
-    (λ s k. instance_means s b.types d.types new b.known.items of fresh t right i places k c.requires.ty) c.in_ok-join.ensures.holds
+    instance_holds a b e c.equate_variable.new.self right c.args.variable (λ s. substitute (λ v. s (slice_index fresh v)) t) c.in_ok-learn_instance.ensures
+    (grows_more b d e c.in_ok-of.ensures.grows grown) (λ s k. instance_means s b.types d.types new b.known.items of fresh t right i places k c.requires.ty) c.in_ok-equate_variable.ensures
