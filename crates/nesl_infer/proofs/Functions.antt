@@ -17,13 +17,7 @@ use Rattle.nesl_types.proofs.Members.{IsIn-substitute}
 use Rattle.nesl_tree.specs.Trees.{PatternTree, Tree, SignatureTree}
 use Rattle.nesl_unify.specs.Bounds.{IsBounded}
 use Rattle.nesl_unify.specs.Solves.{IsInstance}
-use Rattle.nesl_unify.specs.Shapes.{part_type, shape_type, shape_at}
-use Rattle.nesl_unify.specs.Systems.{HoldIn}
-use Rattle.nesl_unify.specs.declared.shapes.Part.{Part}
-use Rattle.nesl_unify.specs.declared.shapes.Part.TheVariants as part
-use Rattle.nesl_unify.specs.declared.shapes.Shape.{Shape}
-use Rattle.nesl_unify.specs.declared.shapes.Shape.TheVariants as shape
-use Rattle.nesl_unify.specs.declared.shapes.Sides.{Sides}
+use Rattle.nesl_unify.proofs.Known.{holds_with}
 use Rattle.nesl_rules.specs.declared.table.Table.{Table}
 use Rattle.nesl_unify.specs.declared.narrow.Member.{Member}
 use Rattle.nesl_rules.specs.declared.state.State.{State}
@@ -128,30 +122,10 @@ put-in of k vs put h n =
       | inr g ↦ subst (λ (c : Class). IsIn k c (put (get_or vs n 0))) (sym (class-past of vs n g)) (in_any k (put (get_or vs n 0)))
     ]
 
-part_with : (r s f : ℕ → Term) (a : Part) → substitute r (part_type s f a) ≡ part_type (λ v. substitute r (s v)) (λ p. substitute r (f p)) a
-part_with r s f (part.Variable v) = refl
-part_with r s f (part.Built p) = refl
-
-shape_with : (r s f : ℕ → Term) (a : Shape) → substitute r (shape_type s f a) ≡ shape_type (λ v. substitute r (s v)) (λ p. substitute r (f p)) a
-shape_with r s f shape.Int = refl
-shape_with r s f shape.Bool = refl
-shape_with r s f shape.Char = refl
-shape_with r s f (shape.Named n) = refl
-shape_with r s f (shape.SeqOf a) = ap seq_of (part_with r s f a)
-shape_with r s f (shape.Both a b) = let e = part_with r s f a in let d = part_with r s f b in cc
-
--- types put for the variables of a solution
-hold_with : (r : ℕ → Term) (ns : List Shape) (es : List Sides) (s : ℕ → Term) → HoldIn ns es s → HoldIn ns es (λ v. substitute r (s v))
-hold_with r ns es s h = (
-  λ p. substitute r (h.0 p),
-  λ p l. ap (substitute r) (h.1 p l) ∙ shape_with r s h.0 (shape_at ns p),
-  λ k d l. let e = get_or es k d in sym (part_with r s h.0 e.left) ∙ ap (substitute r) (h.2 k d l) ∙ part_with r s h.0 e.right,
-)
-
 numbered_in : (o : Option Table) (s : ℕ → Term) (of : ℕ → Class) (vs : List ℕ) → HoldsIn s of o → HoldsIn (λ v. substitute (numbered vs) (s v)) (class_at (map of vs)) o
 numbered_in None s of vs h = h
 numbered_in (Some t) s of vs h = record {
-  equal = hold_with (numbered vs) t.system.shapes.items t.system.sides.items s h.equal;
+  equal = holds_with (numbered vs) t.system s h.equal;
   within = All-weaker (λ (m : Member). IsIn of m.class (s m.variable)) (λ (m : Member). IsIn (class_at (map of vs)) m.class (substitute (numbered vs) (s m.variable)))
       (λ m k. IsIn-substitute of (class_at (map of vs)) (numbered vs) m.class (s m.variable) k (numbered-in of vs)) t.system.members.items h.within;
 }

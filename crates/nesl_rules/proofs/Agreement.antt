@@ -9,8 +9,7 @@ use Rattle.nesl_types.specs.Substitution.{substitute}
 use Rattle.nesl_types.specs.Numbering.{IsBelow}
 use Rattle.nesl_types.specs.Class.{IsIn}
 use Rattle.nesl_unify.specs.Bounds.{IsBounded}
-use Rattle.nesl_unify.specs.Systems as system
-use Rattle.nesl_unify.proofs.Asked.{hold_below}
+use Rattle.nesl_unify.proofs.Known.{holds_below}
 use Rattle.nesl_rules.specs.declared.state.State.{State}
 use Rattle.nesl_rules.specs.declared.table.Table.{Table}
 use Rattle.nesl_rules.specs.Holds.{Agrees, count, count_of, Holds, HoldsIn}
@@ -40,7 +39,7 @@ below-weaker m n (named k) l b = tt
 agrees_in : (o : Option Table) (s z : ℕ → Term) (of : ℕ → Class) → Agrees (count_of o) s z → HoldsIn s of o → HoldsIn z of o
 agrees_in None s z of a h = h
 agrees_in (Some t) s z of a h = record {
-  equal = hold_below (system.count t.system) s z t.system.shapes.items t.system.sides.items t.made.shapes t.made.sides a h.equal;
+  equal = holds_below t.system s z t.made a h.equal;
   within = λ k d l.
       let e = get_or t.system.members.items k d in
       subst (λ (u : Term). IsIn of e.class u) (a e.variable (t.made.members k d l)) (h.within k d l);

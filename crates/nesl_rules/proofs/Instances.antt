@@ -11,7 +11,6 @@ use Rattle.nesl_types.specs.Numbering.{IsBelow}
 use Rattle.nesl_types.specs.Substitution.{substitute, occurs}
 use Rattle.nesl_types.proofs.Substitutions.{substitute-substitute, nodes_of_part}
 use Rattle.nesl_unify.proofs.Solved.{substitute_below}
-use Rattle.nesl_unify.specs.Instances.{fresh_at}
 use Rattle.nesl_builtins.specs.Table.{FunctionType}
 use Rattle.nesl_rules.specs.declared.state.State.{State}
 use Rattle.nesl_rules.specs.Typing.{IsInstanceOf}
@@ -37,13 +36,8 @@ pub renamed_is : (s : ℕ → Term) (vs : List ℕ) (t : Term) → IsBelow (leng
 renamed_is s vs t b =
     substitute-substitute s (λ v. variable (slice_index vs v)) t ∙ substitute_below (length vs) (λ v. s (slice_index vs v)) (type_in (map s vs)) t b (type_in-map s vs)
 
-fresh-in : (s : ℕ → Term) (other : ℕ) (vs : List ℕ) (v : ℕ) → v < length vs → s (fresh_at other vs v) ≡ type_in (map s vs) v
-fresh-in s other [] v b = absurd (omega arith)
-fresh-in s other (w ∷ vs) zero b = refl
-fresh-in s other (w ∷ vs) (suc v) b = fresh-in s other vs v (omega arith)
-
-pub shared_is : (s : ℕ → Term) (other : ℕ) (vs : List ℕ) (t : Term) → IsBelow (length vs) t → substitute (λ v. s (fresh_at other vs v)) t ≡ substitute (type_in (map s vs)) t
-shared_is s other vs t b = substitute_below (length vs) (λ v. s (fresh_at other vs v)) (type_in (map s vs)) t b (fresh-in s other vs)
+pub shared_is : (s : ℕ → Term) (vs : List ℕ) (t : Term) → IsBelow (length vs) t → substitute (λ v. s (slice_index vs v)) t ≡ substitute (type_in (map s vs)) t
+shared_is s vs t b = substitute_below (length vs) (λ v. s (slice_index vs v)) (type_in (map s vs)) t b (type_in-map s vs)
 
 -- one class more
 are-push : (of : ℕ → Class) (cs : List Class) (us : List Term) (c : Class) (u : Term) → AreOf of cs us → IsIn of c u → nodes u ≤ 4096 → AreOf of (cs ++ c ∷ []) (us ++ u ∷ [])

@@ -1,4 +1,3 @@
-pub mod Kept
 pub mod Agreement
 pub mod Steps
 pub mod Places

@@ -1,8 +1,8 @@
-//! The equations of a line. The types of top-level names are shared: each is put in once.
+//! The equations of a line, with numbers for the types of top-level names.
 
-ghost use Rattle.std.specs.Prelude.{All};
+ghost use Rattle.std.specs.Prelude.{All, length, slice_index};
 ghost use Rattle.nesl_types.specs.Term.{term};
-ghost use Rattle.nesl_unify.specs.Systems.{IsShared, IsSystem};
+ghost use Rattle.nesl_unify.specs.Systems.{IsSystem};
 ghost use Rattle.nesl_rules.specs.Facts.{facts};
 
 use nesl_types::{Class, Ty};
@@ -11,21 +11,30 @@ use nesl_unify::{SolveFault, System};
 use std::alloc::{AllocError, Global};
 use std::collections::BTreeMap;
 
-/// A type that the system shares, with its number there.
-#[derive(Drop)]
-pub struct SharedType {
-    pub ty: Ty,
-    pub number: usize,
-}
-
-/// Equations and variables, the types that are shared, and for a name the place of the first of its types among these.
+/// Equations and variables, and a number for each name whose types were used.
 #[derive(Drop)]
 pub struct Table {
     pub system: System,
-    shared: Vec<SharedType>,
-    places: BTreeMap<Vec<u8>, usize>,
+    numbers: BTreeMap<Vec<u8>, usize>,
     pub ghost made: { IsSystem system } by { Prim.hlevel facts },
-    ghost kept: { All (λ e. IsShared system e.number (term e.ty)) shared.items } by { Prim.hlevel facts },
+}
+
+/// A number for a type of a name, which has two at most: `part` tells them apart.
+fn number_of(
+    alloc: Global,
+    numbers: &mut BTreeMap<Vec<u8>, usize>,
+    name: &[u8],
+    part: usize,
+) -> Result<usize, AllocError> {
+    let number = match numbers.get(name) {
+        Some(number) => *number,
+        None => {
+            let number = numbers.len();
+            numbers.insert(Vec::from_slice(alloc, name)?, number)?;
+            number
+        }
+    };
+    Ok(number.saturating_mul(2).saturating_add(part))
 }
 
 impl Table {
@@ -35,7 +44,6 @@ impl Table {
     ghost use Rattle.nesl_types.specs.Substitution.{substitute};
     ghost use Rattle.nesl_types.specs.Numbering.{IsBelow};
     ghost use Rattle.nesl_unify.specs.Bounds.{IsBounded};
-    ghost use Rattle.nesl_unify.specs.Instances.{fresh_at};
     ghost use Rattle.nesl_unify.specs.Solves.{IsInstance, type_of, class_of};
     ghost use Rattle.nesl_unify.specs.Systems.{count, Holds, SolvesSystem};
 
@@ -46,8 +54,7 @@ impl Table {
     {
         Table {
             system: System::new(alloc),
-            shared: Vec::new(alloc),
-            places: BTreeMap::new(alloc),
+            numbers: BTreeMap::new(alloc),
         }
     }
 
@@ -59,15 +66,10 @@ impl Table {
     {
         let Table {
             mut system,
-            shared,
-            places,
+            numbers,
         } = self;
         let variable = system.fresh(class)?;
-        let table = Table {
-            system,
-            shared,
-            places,
-        };
+        let table = Table { system, numbers };
         Ok((table, variable))
     }
 
@@ -80,62 +82,10 @@ impl Table {
     {
         let Table {
             mut system,
-            shared,
-            places,
+            numbers,
         } = self;
         system.equate(equation)?;
-        Ok(Table {
-            system,
-            shared,
-            places,
-        })
-    }
-
-    /// The number of a type that is shared already.
-    fn find(&self, name: &[u8], part: usize, ty: &Ty) -> Option<usize>
-        ensures { IfSome result (λ number. IsShared self.now.system number (term ty.now)) }
-    {
-        let place = self.places.get(name)?;
-        let known = self.shared.get(place.checked_add(part)?)?;
-        if known.ty.same(ty) {
-            Some(known.number)
-        } else {
-            None
-        }
-    }
-
-    /// Shares the type of a name: the first of its types where `part` is 0, else the one that comes after it.
-    fn share(
-        self,
-        alloc: Global,
-        name: &[u8],
-        part: usize,
-        ty: &Ty,
-    ) -> Result<(Table, usize), AllocError>
-        ensures members { IfOk result (λ r. r.0.system.members.items ≡ self.system.members.items) }
-        ensures holds { IfOk result (λ r. (s : ℕ → Term) → Holds r.0.system s ↔ Holds self.system s) }
-        ensures number { IfOk result (λ r. IsShared r.0.system r.1 (term ty.now)) }
-    {
-        if let Some(number) = self.find(name, part, ty) {
-            return Ok((self, number));
-        }
-        let Table {
-            mut system,
-            mut shared,
-            mut places,
-        } = self;
-        let number = system.share(alloc, ty)?;
-        let ty = ty.duplicate(alloc)?;
-        if part == 0 {
-            places.insert(Vec::from_slice(alloc, name)?, shared.len())?;
-        }
-        shared.push(SharedType { ty, number })?;
-        let table = Table {
-            system,
-            shared,
-            places,
-        };
-        Ok((table, number))
+        Ok(Table { system, numbers })
     }
 
     /// An equation more: the variable stands for the type of a name, in which `fresh` gives each variable the one that stands
@@ -151,21 +101,17 @@ impl Table {
     ) -> Result<Table, AllocError>
         requires variable { variable < count self.system }
         requires fresh { All (λ v. v < count self.system) fresh.now }
+        requires ty { IsBelow (length fresh.now) (term ty.now) }
         ensures members { IfOk result (λ r. r.system.members.items ≡ self.system.members.items) }
-        ensures holds { IfOk result (λ r. (s : ℕ → Term) → Holds r.system s ↔ (Holds self.system s × (s variable ≡ substitute (λ v. s (fresh_at variable fresh.now v)) (term ty.now)))) }
+        ensures holds { IfOk result (λ r. (s : ℕ → Term) → Holds r.system s ↔ (Holds self.system s × (s variable ≡ substitute (λ v. s (slice_index fresh.now v)) (term ty.now)))) }
     {
-        let (table, number) = self.share(alloc, name, part, ty)?;
         let Table {
             mut system,
-            shared,
-            places,
-        } = table;
-        system.equate_shared(variable, number, fresh)?;
-        Ok(Table {
-            system,
-            shared,
-            places,
-        })
+            mut numbers,
+        } = self;
+        let number = number_of(alloc, &mut numbers, name, part)?;
+        system.equate_instance(alloc, variable, fresh, ty, number)?;
+        Ok(Table { system, numbers })
     }
 
     /// A most general solution of the equations in which each variable has a type of its class.

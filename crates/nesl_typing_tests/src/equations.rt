@@ -240,8 +240,8 @@ fn equate(system: &mut System, equation: &Equation) -> Result<(), AllocError>
     }
 }
 
-/// Adds that the variable is the shared type.
-fn equate_shared(
+/// Adds that the variable is an instance of the type, which has no variables.
+fn equate_instance(
     alloc: Global,
     system: &mut System,
     variable: u64,
@@ -250,9 +250,8 @@ fn equate_shared(
     requires { IsSystem system.old }
     ensures { OnOk result (IsSystem system.new) }
 {
-    let shared = system.share(alloc, ty)?;
-    if variable < system.len() {
-        system.equate_shared(variable, shared, &[])
+    if variable < system.len() && is_below(0, ty) {
+        system.equate_instance(alloc, variable, &[], ty, 0)
     } else {
         Err(AllocError)
     }
@@ -268,7 +267,7 @@ fn add_sequences(alloc: Global, system: &mut System, ty: &Ty) -> Result<u64, All
     let left = Ty::Var(list);
     let right = seq_of(alloc, Ty::Var(item))?;
     equate(system, &Equation { left, right })?;
-    equate_shared(alloc, system, list, ty)?;
+    equate_instance(alloc, system, list, ty)?;
     Ok(list)
 }
 

@@ -5,12 +5,13 @@ use Rattle.std.proofs.lemmas.List.{get_or-set_other, length-set, get_or_append_l
 use Rattle.std.proofs.lemmas.List.Sums.{sum_by-set}
 use Rattle.std.proofs.lemmas.List.Elements.{All-nil, All-cons, All-append}
 use Rattle.nesl_types.specs.Term.{Term, seq_of}
-use Rattle.nesl_unify.specs.declared.table.Node.{Node}
-use Rattle.nesl_unify.specs.declared.table.Node.TheVariants.{Free, Same, Int, Bool, Char, Named, SeqOf, Both}
+use Rattle.nesl_types_bank.specs.declared.graph.Node.{Node}
+use Rattle.nesl_types_bank.specs.declared.graph.Node.TheVariants.{Free, Same, Int, Bool, Char, Named, SeqOf, Both}
 use Rattle.nesl_unify.specs.declared.unify.Pair.{Pair}
 use Rattle.nesl_unify.specs.declared.unify.Rest.{Rest}
 use Rattle.nesl_unify.specs.declared.unify.Rest.TheVariants.{Nothing, One, Two}
-use Rattle.nesl_unify.specs.Table.{node_at, Describes, Fits, IsPlaced, IsTable, IsRoot, standing}
+use Rattle.nesl_types_bank.specs.Graph.{node_at, Describes, Fits, IsRoot}
+use Rattle.nesl_unify.specs.Table.{IsPlaced, IsTable, standing}
 use Rattle.nesl_unify.specs.Pairs.{IsPairBelow, AreEqual, merged, pairs_of}
 use Rattle.nesl_unify.proofs.Tables.{each_set, here_set, other_set}
 

@@ -2,13 +2,9 @@ pub mod Tables
 pub mod Joins
 pub mod Steps
 pub mod Grown
-pub mod Measured
-pub mod Readings
 pub mod Extensions
 pub mod Solved
 pub mod Narrowing
-pub mod Shaped
-pub mod Sharing
-pub mod Instances
+pub mod Placed
+pub mod Known
 pub mod Starts
-pub mod Asked

@@ -5,13 +5,14 @@ use Rattle.std.proofs.lemmas.List.{get_or_default}
 use Rattle.nesl_types.specs.declared.classes.Class.{Class}
 use Rattle.nesl_types.specs.declared.classes.Class.TheVariants.{Any, Ordinal, Number, Logical}
 use Rattle.nesl_types.specs.Substitution.{substitute}
-use Rattle.nesl_types.specs.Term.{Term, int, seq_of, both}
+use Rattle.nesl_types.specs.Term.{Term, int, bool, char, variable, seq_of, both, named}
 use Rattle.nesl_types.specs.Class.{IsMember, IsIn}
 use Rattle.nesl_types.proofs.Members.{IsIn-narrowed, IsWithin-from_types}
 use Rattle.nesl_unify.specs.declared.narrow.Member.{Member}
-use Rattle.nesl_unify.specs.declared.table.Node.{Node}
-use Rattle.nesl_unify.specs.declared.table.Node.TheVariants.{Free, Same, Int, Bool, Char, Named, SeqOf, Both}
-use Rattle.nesl_unify.specs.Table.{node_at, target, IsRoot, built, outside, outside_at}
+use Rattle.nesl_types_bank.specs.declared.graph.Node.{Node}
+use Rattle.nesl_types_bank.specs.declared.graph.Node.TheVariants.{Free, Same, Int, Bool, Char, Named, SeqOf, Both}
+use Rattle.nesl_types_bank.specs.Graph.{node_at, target, IsRoot, Describes}
+use Rattle.nesl_unify.specs.Table.{outside, outside_at}
 
 -- one member more
 pub more_within : (old new : ℕ → Class) (s : ℕ → Term) (members : List Member) (i : ℕ) (e : Member) → i < length members →
@@ -45,6 +46,27 @@ both_member Logical t u x y h = elim h [ inl e ↦ cc | inr e ↦ cc ]
 
 pub outside_found : (ns : List Node) (v root : ℕ) (n : Node) → root ≡ target ns v → n ≡ node_at ns root → outside root n ≡ outside_at ns v
 outside_found ns v root n e d = rw d (rw e refl)
+
+-- the type of a node at place p, where `f q` is the type at each place q
+abbrev pub built : (ℕ → Term) → ℕ → Node → Term
+built f p Free = variable p
+built f p (Same q) = f q
+built f p Int = int
+built f p Bool = bool
+built f p Char = char
+built f p (Named m) = named m
+built f p (SeqOf q) = seq_of (f q)
+built f p (Both q r) = both (f q) (f r)
+
+pub root_built : (f : ℕ → Term) (p : ℕ) (t : Term) (n : Node) → IsRoot n → (n ≡ Free → t ≡ variable p) → Describes f t n → t ≡ built f p n
+root_built f p t Free r h d = h refl
+root_built f p t (Same q) r h d = absurd r
+root_built f p t Int r h d = d
+root_built f p t Bool r h d = d
+root_built f p t Char r h d = d
+root_built f p t (Named m) r h d = d
+root_built f p t (SeqOf q) r h d = d
+root_built f p t (Both q i) r h d = d
 
 -- a class has a type of a node without links exactly where it has what is seen from outside
 pub in_outside : (of : ℕ → Class) (c : Class) (w f : ℕ → Term) (p : ℕ) (n : Node) → IsRoot n → IsIn of c (substitute w (built f p n)) → IsIn of c (substitute w (outside p n))

@@ -4,9 +4,10 @@ use Rattle.std.proofs.lemmas.Bool.{cases_eq, cases_lt}
 use Rattle.std.proofs.lemmas.List.{get_or-set_same, get_or-set_other, get_or_past, length-set}
 use Rattle.std.proofs.lemmas.List.Sums.{sum_by-set}
 use Rattle.nesl_types.specs.Term.{Term}
-use Rattle.nesl_unify.specs.declared.table.Node.{Node}
-use Rattle.nesl_unify.specs.declared.table.Node.TheVariants.{Free, Same, Int, Bool, Char, Named, SeqOf, Both}
-use Rattle.nesl_unify.specs.Table.{node_at, Describes, Fits, IsPlaced, IsTable, IsRoot, IsFlat, standing, link_or, target, shortened}
+use Rattle.nesl_types_bank.specs.declared.graph.Node.{Node}
+use Rattle.nesl_types_bank.specs.declared.graph.Node.TheVariants.{Free, Same, Int, Bool, Char, Named, SeqOf, Both}
+use Rattle.nesl_types_bank.specs.Graph.{node_at, Describes, Fits, IsRoot, IsFlat, link_or, target}
+use Rattle.nesl_unify.specs.Table.{IsPlaced, IsTable, standing, shortened}
 
 -- a fact of each place after a write
 pub each_set : (P : ℕ → Node → Type 0) (ns : List Node) (p : ℕ) (n : Node) → p < length ns → P p n → ((q : ℕ) → q ≢ p → P q (node_at ns q)) → (q : ℕ) → P q (node_at (set ns p n) q)

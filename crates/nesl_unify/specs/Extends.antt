@@ -1,13 +1,13 @@
 -- Tables that grow.
 use Rattle.std.specs.Prelude.{◌≡◌, ◌<◌, ◌≤◌, ℕ, List, length}
-use Rattle.nesl_unify.specs.declared.table.Node.{Node}
-use Rattle.nesl_unify.specs.declared.table.Node.TheVariants.{Free, Same, Int, Bool, Char, Named, SeqOf, Both}
-use Rattle.nesl_unify.specs.Table.{node_at}
+use Rattle.nesl_types_bank.specs.declared.graph.Node.{Node}
+use Rattle.nesl_types_bank.specs.declared.graph.Node.TheVariants.{Free, Same, Int, Bool, Char, Named, SeqOf, Both}
+use Rattle.nesl_types_bank.specs.Graph.{node_at}
 
 -- a node at place p that is made of what comes before
 abbrev pub IsMade : ℕ → Node → Type 0
 IsMade p Free = ⊥
-IsMade p (Same q) = ⊥
+IsMade p (Same q) = q < p
 IsMade p Int = Unit {0}
 IsMade p Bool = Unit {0}
 IsMade p Char = Unit {0}

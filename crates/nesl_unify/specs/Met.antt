@@ -1,9 +1,9 @@
 -- Tables of which some places have to be one, and what solves them.
 use Rattle.std.specs.Prelude.{◌≡◌, ◌<◌, ℕ, List}
 use Rattle.nesl_types.specs.Term.{Term}
-use Rattle.nesl_unify.specs.declared.table.Node.{Node}
+use Rattle.nesl_types_bank.specs.declared.graph.Node.{Node}
 use Rattle.nesl_unify.specs.declared.unify.Pair.{Pair}
-use Rattle.nesl_unify.specs.Table.{Fits}
+use Rattle.nesl_types_bank.specs.Graph.{Fits}
 use Rattle.nesl_unify.specs.Pairs.{AreEqual}
 
 -- w gives each place a type, as the table says, so that these pairs are equal; the first `count` places have those of s

@@ -1,14 +1,14 @@
 -- What solves equations and classes.
-use Rattle.std.specs.Prelude.{◌≡◌, ℕ, List, All, slice_index}
+use Rattle.std.specs.Prelude.{◌≡◌, ℕ, List, All}
 use Rattle.nesl_types.specs.declared.classes.Class.{Class}
 use Rattle.nesl_types.specs.Term.{Term, term}
 use Rattle.nesl_types.specs.Substitution.{substitute}
 use Rattle.nesl_types.specs.Class.{IsIn}
 use Rattle.nesl_unify.specs.declared.narrow.Member.{Member}
 use Rattle.nesl_unify.specs.declared.solve.Equation.{Equation}
-use Rattle.nesl_unify.specs.declared.solve.Solution.{Solution}
+use Rattle.nesl_unify.specs.declared.solution.Solution.{Solution}
 use Rattle.nesl_types.specs.Numbering.{IsBelow}
-use Rattle.nesl_unify.specs.Table.{written}
+use Rattle.nesl_types_bank.specs.Renames.{replacement}
 use Rattle.nesl_types.specs.Class.{class_at}
 use Rattle.nesl_unify.specs.Members.{IsInAll}
 
@@ -31,9 +31,9 @@ pub record IsInstance (general : ℕ → Term) (classes : ℕ → Class) (s : �
   pub same : (v : ℕ) → s v ≡ substitute put (general v)
   pub within : (v : ℕ) → IsIn of (classes v) (put v)
 
--- the type of a variable: what the table says of its place, read as many nodes deep as the type has nodes
+-- the type of a variable: the one at its place, or the variable itself where it has none
 abbrev pub type_of : Solution → ℕ → Term
-type_of a v = written (slice_index a.sizes.items v) a.nodes.items v
+type_of a = replacement a.types a.places.items
 
 -- the class of a variable that is left
 abbrev pub class_of : Solution → ℕ → Class

@@ -1,51 +1,52 @@
--- The table of a system: its variables, and behind them its shapes.
-use Rattle.std.specs.Prelude.{◌≡◌, ◌<◌, ◌+◌, ℕ, List, length, max, slice_index_or}
-use Rattle.nesl_unify.specs.declared.shapes.Part.{Part}
-use Rattle.nesl_unify.specs.declared.shapes.Part.TheVariants.{Variable, Built}
-use Rattle.nesl_unify.specs.declared.shapes.Shape.{Shape}
-use Rattle.nesl_unify.specs.declared.shapes.Shape.TheVariants as shape
-use Rattle.nesl_unify.specs.declared.shapes.Sides.{Sides}
-use Rattle.nesl_unify.specs.declared.table.Node.{Node}
-use Rattle.nesl_unify.specs.declared.table.Node.TheVariants.{Free, Int, Bool, Char, Named, SeqOf, Both}
-use Rattle.nesl_unify.specs.declared.unify.Pair.{Pair}
-use Rattle.nesl_unify.specs.Shapes.{shape_at}
-use Rattle.nesl_unify.specs.Table.{node_at}
+-- The table of equations: their variables, and behind them their types.
+use Rattle.std.specs.Prelude.{◌≡◌, ◌<◌, ◌+◌, ℕ, List, Option, Some, All, length, max}
+use Rattle.nesl_types.specs.Term.{Term}
+use Rattle.nesl_types_bank.specs.declared.shape.Shape.{Shape}
+use Rattle.nesl_types_bank.specs.declared.shape.Shape.TheVariants as shape
+use Rattle.nesl_types_bank.specs.Shapes.{IsShapeBelow, shape_type}
+use Rattle.nesl_types_bank.specs.Types.{type_at}
+use Rattle.nesl_unify.specs.declared.equations.Sides.{Sides}
+use Rattle.nesl_types_bank.specs.declared.graph.Node.{Node}
+use Rattle.nesl_types_bank.specs.declared.graph.Node.TheVariants.{Free, Same, Int, Bool, Char, Named, SeqOf, Both}
+use Rattle.nesl_unify.specs.Places.{place_for}
+use Rattle.nesl_types_bank.specs.Graph.{node_at}
 
--- the place of a part, where the shapes stand behind `count` variables
-abbrev pub place_of : ℕ → Part → ℕ
-place_of count (Variable v) = v
-place_of count (Built p) = count + p
-
+-- the node of a shape, where the types stand behind `count` variables
 abbrev pub node_of : ℕ → Shape → Node
 node_of count shape.Int = Int
 node_of count shape.Bool = Bool
 node_of count shape.Char = Char
+node_of count (shape.Var v) = Same v
 node_of count (shape.Named n) = Named n
-node_of count (shape.SeqOf a) = SeqOf (place_of count a)
-node_of count (shape.Both a b) = Both (place_of count a) (place_of count b)
+node_of count (shape.SeqOf p) = SeqOf (count + p)
+node_of count (shape.Both p q) = Both (count + p) (count + q)
 
--- the greatest place of a part that is a shape
-abbrev pub end_of_part : ℕ → Part → ℕ
-end_of_part count (Variable v) = 0
-end_of_part count (Built p) = count + p
-
+-- the greatest place that the node of a shape leads to among the types
 abbrev pub end_of_shape : ℕ → Shape → ℕ
 end_of_shape count shape.Int = 0
 end_of_shape count shape.Bool = 0
 end_of_shape count shape.Char = 0
+end_of_shape count (shape.Var v) = 0
 end_of_shape count (shape.Named n) = 0
-end_of_shape count (shape.SeqOf a) = end_of_part count a
-end_of_shape count (shape.Both a b) = max (end_of_part count a) (end_of_part count b)
+end_of_shape count (shape.SeqOf p) = count + p
+end_of_shape count (shape.Both p q) = max (count + p) (count + q)
 
-pub record IsStart (count : ℕ) (shapes : List Shape) (nodes : List Node) : Type 0 where
-  pub len : length nodes ≡ count + length shapes
+-- a node says what the type at place p is made of
+pub record IsNodeOf (count : ℕ) (types : List Term) (p : ℕ) (n : Node) : Type 0 where
+  pub shape : Shape
+  pub below : IsShapeBelow p shape
+  pub here : type_at types p ≡ shape_type (type_at types) shape
+  pub node : n ≡ node_of count shape
+
+pub record IsStart (count : ℕ) (types : List Term) (nodes : List Node) : Type 0 where
+  pub len : length nodes ≡ count + length types
   pub free : (v : ℕ) → v < count → node_at nodes v ≡ Free
-  pub at : (p : ℕ) → p < length shapes → node_at nodes (count + p) ≡ node_of count (shape_at shapes p)
+  pub at : (p : ℕ) → p < length types → IsNodeOf count types p (node_at nodes (count + p))
 
--- a pair of places for each pair of sides
-pub record ArePairs (count : ℕ) (sides : List Sides) (pending : List Pair) : Type 0 where
-  pub len : length pending ≡ length sides
-  pub first : (k : ℕ) (e : Sides) (d : Pair) → k < length sides →
-      (slice_index_or pending k d).first ≡ place_of count (slice_index_or sides k e).left
-  pub second : (k : ℕ) (e : Sides) (d : Pair) → k < length sides →
-      (slice_index_or pending k d).second ≡ place_of count (slice_index_or sides k e).right
+-- the types at both sides are equal, where w gives those at the places of the table
+abbrev pub AreSidesEqual : ℕ → List Sides → (ℕ → Term) → Type 0
+AreSidesEqual count sides w = All (λ e. w (count + e.left) ≡ w (count + e.right)) sides
+
+-- and the variables are what is known of them
+abbrev pub AreKnownEqual : ℕ → List (Option ℕ) → (ℕ → Term) → Type 0
+AreKnownEqual count known w = (v p : ℕ) → place_for known v ≡ Some p → w v ≡ w (count + p)

@@ -1,47 +1,56 @@
 -- Systems: equations between types, and classes of variables.
-use Rattle.std.specs.Prelude.{◌≡◌, ◌<◌, ℕ, List, [], All, length, slice_index_or}
+use Rattle.std.specs.Prelude.{◌≡◌, ◌<◌, ℕ, List, Option, Some, All, length}
 use Rattle.nesl_types.specs.declared.classes.Class.{Class}
 use Rattle.nesl_types.specs.Term.{Term}
-use Rattle.nesl_unify.specs.declared.shapes.Shape.{Shape}
-use Rattle.nesl_unify.specs.declared.shapes.Sides.{Sides}
-use Rattle.nesl_unify.specs.declared.share.Shared.{Shared}
+use Rattle.nesl_types.specs.Numbering.{IsBelow}
+use Rattle.nesl_types.specs.Substitution.{substitute}
+use Rattle.nesl_types_bank.specs.Types.{type_at}
+use Rattle.nesl_unify.specs.declared.equations.Sides.{Sides}
+use Rattle.nesl_unify.specs.declared.equations.Equations.{Equations}
 use Rattle.nesl_unify.specs.declared.system.System.{System}
 use Rattle.nesl_unify.specs.Members.{IsInAll}
-use Rattle.nesl_unify.specs.Shapes.{part_type, Builds, IsPartBelow, AreShapes}
-use Rattle.nesl_unify.specs.Shares.{IsPieceBelow, AreOpenMade, Stands}
+use Rattle.nesl_unify.specs.Places.{place_for, ArePlaces}
+
+-- `s v` is the type at the place that is given for v, where one is given
+abbrev pub IsAsKnown : List Term → List (Option ℕ) → (ℕ → Term) → Type 0
+IsAsKnown types known s = (v p : ℕ) → place_for known v ≡ Some p → s v ≡ substitute s (type_at types p)
+
+-- both sides are the same types, where `s` stands for the variables
+abbrev pub AreOne : List Term → List Sides → (ℕ → Term) → Type 0
+AreOne types sides s = All (λ e. substitute s (type_at types e.left) ≡ substitute s (type_at types e.right)) sides
+
+-- s solves the equations
+pub record HoldIn (ts : List Term) (ks : List (Option ℕ)) (es : List Sides) (s : ℕ → Term) : Type 0 where
+  pub known : IsAsKnown ts ks s
+  pub one : AreOne ts es s
+
+abbrev pub Hold : Equations → (ℕ → Term) → Type 0
+Hold a s = HoldIn a.types a.known.items a.sides.items s
+
+-- all is made of variables for which there is a place in `known`, and of types that are there
+pub record AreEquationsIn (ts : List Term) (ks : List (Option ℕ)) (es : List Sides) : Type 0 where
+  pub below : All (IsBelow (length ks)) ts
+  pub places : ArePlaces (length ts) ks
+  pub sides : All (λ e. (e.left < length ts) × (e.right < length ts)) es
+
+abbrev pub AreEquations : Equations → Type 0
+AreEquations a = AreEquationsIn a.types a.known.items a.sides.items
 
 -- the variables are the numbers below this
 abbrev pub count : System → ℕ
 count a = length a.members.items
 
--- both sides are the same types, where `s` stands for the variables
-abbrev pub HoldIn : List Shape → List Sides → (ℕ → Term) → Type 0
-HoldIn shapes sides s =
-    (f : ℕ → Term) × Builds s f shapes × All (λ e. part_type s f e.left ≡ part_type s f e.right) sides
-
 -- s solves the equations of a system
 abbrev pub Holds : System → (ℕ → Term) → Type 0
-Holds a s = HoldIn a.shapes.items a.sides.items s
+Holds a s = Hold a.equations s
 
 -- s and `of` solve a system
 pub record SolvesSystem (a : System) (s : ℕ → Term) (of : ℕ → Class) : Type 0 where
   pub equal : Holds a s
   pub within : IsInAll s of a.members.items
 
--- the type that was shared with this number
-pub record IsSharedIn (shapes : List Shape) (shared : List Shared) (number : ℕ) (t : Term) : Type 0 where
-  pub inside : number < length shared
-  pub stands : (d : Shared) →
-      Stands shapes (slice_index_or shared number d).opened.items (slice_index_or shared number d).root t
-
-abbrev pub IsShared : System → ℕ → Term → Type 0
-IsShared a number t = IsSharedIn a.shapes.items a.shared.items number t
-
 -- all is made of variables of the system and of what it has
 pub record IsSystem (a : System) : Type 0 where
-  pub shapes : AreShapes (count a) a.shapes.items
-  pub sides : All (λ e. IsPartBelow (count a) (length a.shapes.items) e.left
-      × IsPartBelow (count a) (length a.shapes.items) e.right) a.sides.items
-  pub members : All (λ m. m.variable < count a) a.members.items
-  pub shared : All (λ h. AreOpenMade (length a.shapes.items) [] h.opened.items
-      × IsPieceBelow (length a.shapes.items) (length h.opened.items) h.root) a.shared.items
+  pub equations : AreEquations a.equations
+  pub count : length a.equations.known.items ≡ length a.members.items
+  pub members : All (λ m. m.variable < length a.members.items) a.members.items

@@ -1,19 +1,17 @@
 //! Equations between types and classes of their variables, solved.
 #![tactic(auto)]
 
-mod build;
+mod equations;
 pub mod fault;
 mod instance;
-mod measure;
 pub mod narrow;
-mod read;
 mod room;
-mod shapes;
-mod share;
+mod solution;
 pub mod solve;
 mod start;
 pub mod system;
 mod table;
+mod types;
 mod unify;
 
 pub use fault::SolveFault;

@@ -10,8 +10,9 @@ ghost use Rattle.nesl_types.specs.Class.{class_at};
 ghost use Rattle.nesl_unify.specs.Members.{IsInAll};
 
 use crate::fault::SolveFault;
-use crate::table::{Node, node_at, target};
+use crate::table::{node_at, target};
 use nesl_types::{Class, meet};
+use nesl_types_bank::Node;
 use std::alloc::{AllocError, Global};
 
 /// What a variable stands for has to be in a class.

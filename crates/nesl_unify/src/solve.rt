@@ -8,15 +8,19 @@ ghost use Rattle.nesl_types.specs.Term.{Term, term};
 ghost use Rattle.nesl_types.specs.Numbering.{IsBelow};
 ghost use Rattle.nesl_unify.specs.Bounds.{IsBounded};
 
-use crate::build::{add_equations, free_nodes};
+use crate::equations::Equations;
 use crate::fault::SolveFault;
-use crate::measure::measure_variables;
 use crate::narrow::{Member, narrow};
-use crate::read::apply;
-use crate::table::Node;
+pub use crate::solution::Solution;
+use crate::start::{start_nodes, start_pairs};
+pub use crate::types::is_below;
 use crate::unify::{Pair, unify};
-use nesl_types::{Class, Ty};
+use nesl_types::Ty;
+use nesl_types_bank::{Node, Read, read_types};
 use std::alloc::{AllocError, Global};
+
+/// The greatest number of nodes of a type.
+const MOST_NODES: u64 = 4096;
 
 /// Two types that have to be one.
 #[derive(Drop)]
@@ -25,42 +29,8 @@ pub struct Equation {
     pub right: Ty,
 }
 
-/// A most general solution: a type for each variable, and the class of each variable that is left in these types.
-#[derive(Drop)]
-pub struct Solution {
-    /// A table of the nodes of the types: the place of a variable is its number.
-    nodes: Vec<Node>,
-    /// How many nodes the type of each variable has.
-    sizes: Vec<u64>,
-    /// The class of each variable at the variable's place; a variable past the end is in `Any`.
-    pub classes: Vec<Class>,
-}
-
-impl Solution {
-    ghost use Rattle.nesl_unify.specs.Solves.{type_of};
-
-    /// The type with what stands for its variables in their place.
-    pub fn apply(&self, alloc: Global, ty: &Ty) -> Result<Ty, AllocError>
-        ensures { IfOk result (λ t. term t ≡ substitute (type_of self.now) (term ty.now)) }
-    {
-        apply(alloc, self.nodes.as_slice(), self.sizes.as_slice(), ty)
-    }
-}
-
 ghost use Rattle.std.specs.Prelude.{◌↔◌, IsTrue};
-ghost use Rattle.nesl_unify.specs.Solves.{AreBelow, IsSolution, IsInstance, type_of, class_of};
-
-/// Whether each variable of the type is below the count.
-pub fn is_below(count: u64, ty: &Ty) -> bool
-    ensures { IsTrue result ↔ IsBelow count (term ty.now) }
-{
-    match ty {
-        Ty::Var(variable) => *variable < count,
-        Ty::SeqOf(item) => is_below(count, item),
-        Ty::Both(first, second) => is_below(count, first) && is_below(count, second),
-        _ => true,
-    }
-}
+ghost use Rattle.nesl_unify.specs.Solves.{AreBelow, SolvesAll, IsSolution, IsInstance, type_of, class_of};
 
 /// Whether each variable of the equations is below the count.
 pub fn are_below(count: u64, equations: &[Equation]) -> bool
@@ -79,6 +49,7 @@ ghost use Rattle.nesl_unify.specs.Extends.{Extends};
 ghost use Rattle.nesl_unify.specs.Members.{IsInAll};
 ghost use Rattle.nesl_unify.specs.Met.{AreMet};
 ghost use Rattle.nesl_unify.specs.Pairs.{IsPairBelow};
+ghost use Rattle.nesl_unify.specs.Systems.{AreEquations, Hold};
 
 /// A most general solution of a table in which the places of each pair are one, and each member's variable has a type of its
 /// class. The first `count` places are those of the variables.
@@ -99,13 +70,72 @@ pub(crate) fn solve_table(
     ensures none { IsErrOf result SolveFault.NoSolution → (s : ℕ → Term) → (of : ℕ → Class) → IsBounded s → AreMet count nodes.items pending.items s → IsInAll s of members.now → ⊥ }
 {
     unify(nodes.as_mut_slice(), pending)?;
-    let sizes = measure_variables(alloc, nodes.as_slice(), count)?;
+    let Read {
+        bank: types,
+        places,
+    } = match read_types(alloc, nodes.as_slice(), count, MOST_NODES)? {
+        Some(read) => read,
+        None => return Err(SolveFault::NoSolution),
+    };
     let classes = narrow(alloc, nodes.as_slice(), members)?;
     Ok(Solution {
-        nodes,
-        sizes,
+        types,
+        places,
         classes,
     })
+}
+
+/// A most general solution of the equations in which each member's variable has a type of its class.
+pub(crate) fn solve_equations(
+    alloc: Global,
+    equations: &Equations,
+    members: &[Member],
+) -> Result<Solution, SolveFault>
+    requires made { AreEquations equations.now }
+    requires members { All (λ m. m.variable < length equations.now.known.items) members.now }
+    ensures holds { IfOk result (λ a. Hold equations.now (type_of a)) }
+    ensures within { IfOk result (λ a. IsInAll (type_of a) (class_of a) members.now) }
+    ensures general { IfOk result (λ a. (s : ℕ → Term) → (of : ℕ → Class) → Hold equations.now s → IsInAll s of members.now → IsInstance (type_of a) (class_of a) s of) }
+    ensures bounded { IfOk result (λ a. IsBounded (type_of a)) }
+    ensures none { IsErrOf result SolveFault.NoSolution → (s : ℕ → Term) → (of : ℕ → Class) → IsBounded s → Hold equations.now s → IsInAll s of members.now → ⊥ }
+{
+    let count = equations.known.len();
+    let nodes = start_nodes(alloc, count, &equations.types)?;
+    let pending = start_pairs(
+        alloc,
+        count,
+        equations.sides.as_slice(),
+        equations.known.as_slice(),
+    )?;
+    let solution = solve_table(alloc, count, nodes, pending, members)?;
+    Ok(solution)
+}
+
+/// Equations in as many variables, of which there are none.
+fn no_equations(alloc: Global, count: u64) -> Result<Equations, AllocError>
+    ensures made { IfOk result AreEquations }
+    ensures count { IfOk result (λ a. length a.known.items ≡ count) }
+    ensures holds { IfOk result (λ a. (s : ℕ → Term) → Hold a s) }
+{
+    let mut none = Equations::new(alloc);
+    for _ in 0..count {
+        none.fresh()?;
+    }
+    Ok(none)
+}
+
+/// The equations in as many variables.
+fn equations_of(alloc: Global, count: u64, equations: &[Equation]) -> Result<Equations, AllocError>
+    requires { AreBelow count equations.now }
+    ensures made { IfOk result AreEquations }
+    ensures count { IfOk result (λ a. length a.known.items ≡ count) }
+    ensures holds { IfOk result (λ a. (s : ℕ → Term) → Hold a s ↔ SolvesAll s equations.now) }
+{
+    let mut all = no_equations(alloc, count)?;
+    for equation in equations {
+        all.equate(&equation.left, &equation.right)?;
+    }
+    Ok(all)
 }
 
 /// A most general solution of the equations in which each member's variable has a type of its class. The variables are numbers
@@ -123,8 +153,7 @@ pub fn solve(
     ensures bounded { IfOk result (λ a. IsBounded (type_of a)) }
     ensures none { IsErrOf result SolveFault.NoSolution → (s : ℕ → Term) → (of : ℕ → Class) → IsBounded s → IsSolution equations.now members.now s of → ⊥ }
 {
-    let mut nodes = free_nodes(alloc, count as usize, 0)?;
-    let pending = add_equations(alloc, &mut nodes, equations)?;
-    let solution = solve_table(alloc, count as usize, nodes, pending, members)?;
+    let equations = equations_of(alloc, count, equations)?;
+    let solution = solve_equations(alloc, &equations, members)?;
     Ok(solution)
 }

@@ -1,34 +1,43 @@
 //! Systems: equations between types and classes of variables, which are added one by one.
 
-ghost use Rattle.std.specs.Prelude.{◌≡◌, ◌<◌, ◌++◌, ◌∷◌, [], ◌↔◌, ℕ, All, length, IfOk, OnOk, IsErrOf};
+ghost use Rattle.std.specs.Prelude.{◌≡◌, ◌<◌, ◌++◌, ◌∷◌, [], ◌↔◌, ℕ, All, length, slice_index, IfOk, OnOk, IsErrOf};
 ghost use Rattle.nesl_types.specs.declared.classes.Class.{Class};
 ghost use Rattle.nesl_types.specs.Term.{Term, term};
 ghost use Rattle.nesl_types.specs.Substitution.{substitute};
 ghost use Rattle.nesl_types.specs.Numbering.{IsBelow};
 ghost use Rattle.nesl_unify.specs.Bounds.{IsBounded};
-ghost use Rattle.nesl_unify.specs.Instances.{fresh_at};
 ghost use Rattle.nesl_unify.specs.Solves.{IsInstance, type_of, class_of};
-ghost use Rattle.nesl_unify.specs.Systems.{count, Holds, SolvesSystem, IsShared, IsSystem};
+ghost use Rattle.nesl_unify.specs.Systems.{count, Holds, SolvesSystem, IsSystem};
 
+use crate::equations::Equations;
 use crate::fault::SolveFault;
-use crate::instance::put_instance;
+use crate::instance::{Instance, put_instance};
 use crate::narrow::Member;
 use crate::room::push_with_room;
-use crate::shapes::{Part, Shape, Sides, put_type};
-use crate::share::{Seen, Shared, put_piece};
-use crate::solve::{Equation, Solution, solve_table};
-use crate::start::{start_nodes, start_pairs};
+use crate::solve::{Equation, Solution, solve_equations};
+use indexmap::IndexMap;
 use nesl_types::{Class, Ty};
 use std::alloc::{AllocError, Global};
 
-/// Equations between types, and the class of each variable. A type that is used many times is shared: it is put in once, and
-/// an equation with it adds only what its variables are in. After want of memory a system is of no more use.
-#[derive(Drop)]
+/// Equations between types, and the class of each variable. Equal types stand once. After want of memory a system is of no
+/// more use.
 pub struct System {
-    shapes: Vec<Shape>,
-    sides: Vec<Sides>,
+    equations: Equations,
     members: Vec<Member>,
-    shared: Vec<Shared>,
+    /// Where instances of types were put, so that the same isn't put again.
+    instances: IndexMap<Instance, usize>,
+}
+
+// By hand, so that no crate above has to prove how the parts are dropped.
+impl Drop for System {
+    fn drop(self) {
+        let System {
+            equations,
+            members,
+            instances,
+        } = self;
+        drop((equations, members, instances));
+    }
 }
 
 impl System {
@@ -39,10 +48,9 @@ impl System {
         ensures holds { (s : ℕ → Term) → Holds result s }
     {
         System {
-            shapes: Vec::new(alloc),
-            sides: Vec::new(alloc),
+            equations: Equations::new(alloc),
             members: Vec::new(alloc),
-            shared: Vec::new(alloc),
+            instances: IndexMap::new(alloc),
         }
     }
 
@@ -66,9 +74,9 @@ impl System {
         ensures variable { IfOk result (λ v. v ≡ count self.old) }
         ensures members { IfOk result (λ v. self.new.members.items ≡ self.old.members.items ++ record { variable = v; class = class } ∷ []) }
         ensures holds { OnOk result ((s : ℕ → Term) → Holds self.new s ↔ Holds self.old s) }
-        ensures shared { OnOk result ((number : ℕ) → (t : Term) → IsShared self.old number t → IsShared self.new number t) }
     {
         let variable = self.members.len() as u64;
+        self.equations.fresh()?;
         push_with_room(&mut self.members, Member { variable, class })?;
         Ok(variable)
     }
@@ -81,58 +89,38 @@ impl System {
         ensures system { OnOk result (IsSystem self.new) }
         ensures members { OnOk result (self.new.members.items ≡ self.old.members.items) }
         ensures holds { OnOk result ((s : ℕ → Term) → Holds self.new s ↔ (Holds self.old s × (substitute s (term equation.now.left) ≡ substitute s (term equation.now.right)))) }
-        ensures shared { OnOk result ((number : ℕ) → (t : Term) → IsShared self.old number t → IsShared self.new number t) }
     {
-        let left = put_type(&mut self.shapes, &equation.left)?;
-        let right = put_type(&mut self.shapes, &equation.right)?;
-        push_with_room(&mut self.sides, Sides { left, right })?;
+        self.equations.equate(&equation.left, &equation.right)?;
         Ok(())
     }
 
-    /// Puts in a type that stands for many, and gives it a number. Its parts without variables are put in here, equal parts once.
-    pub fn share(&mut self, alloc: Global, ty: &Ty) -> Result<usize, AllocError>
-        requires { IsSystem self.old }
-        ensures system { OnOk result (IsSystem self.new) }
-        ensures members { OnOk result (self.new.members.items ≡ self.old.members.items) }
-        ensures holds { OnOk result ((s : ℕ → Term) → Holds self.new s ↔ Holds self.old s) }
-        ensures number { IfOk result (λ number. IsShared self.new number (term ty.now)) }
-        ensures shared { OnOk result ((number : ℕ) → (t : Term) → IsShared self.old number t → IsShared self.new number t) }
-    {
-        let mut opened = Vec::new(alloc);
-        let mut seen = Seen::new(alloc);
-        let root = put_piece(&mut self.shapes, &mut opened, &mut seen, ty)?;
-        let number = self.shared.len();
-        self.shared.push(Shared { opened, root })?;
-        Ok(number)
-    }
-
-    /// An equation more: the variable stands for the shared type, in which `fresh` gives each variable the one that stands for
-    /// it; one past the end of `fresh` is `variable` itself.
-    pub fn equate_shared(
+    /// An equation more: the variable stands for an instance of the type, in which `fresh` gives each variable the one that
+    /// stands for it. `number` tells types apart, so that an instance that was put in before is found.
+    pub fn equate_instance(
         &mut self,
+        alloc: Global,
         variable: u64,
-        number: usize,
         fresh: &[u64],
+        ty: &Ty,
+        number: usize,
     ) -> Result<(), AllocError>
         requires system { IsSystem self.old }
         requires variable { variable < count self.old }
         requires fresh { All (λ v. v < count self.old) fresh.now }
-        requires number { number < length self.old.shared.items }
+        requires ty { IsBelow (length fresh.now) (term ty.now) }
         ensures system { OnOk result (IsSystem self.new) }
         ensures members { OnOk result (self.new.members.items ≡ self.old.members.items) }
-        ensures holds { OnOk result ((t : Term) → IsShared self.old number t → (s : ℕ → Term) → Holds self.new s ↔ (Holds self.old s × (s variable ≡ substitute (λ v. s (fresh_at variable fresh.now v)) t))) }
-        ensures shared { OnOk result ((number : ℕ) → (t : Term) → IsShared self.old number t → IsShared self.new number t) }
+        ensures holds { OnOk result ((s : ℕ → Term) → Holds self.new s ↔ (Holds self.old s × (s variable ≡ substitute (λ v. s (slice_index fresh.now v)) (term ty.now)))) }
     {
-        let pattern = &self.shared[number];
+        self.equations.learn_instance(variable, fresh, ty)?;
+        let of = self.equations.places_of(alloc, fresh)?;
         let right = put_instance(
-            &mut self.shapes,
-            pattern.opened.as_slice(),
-            pattern.root,
-            variable,
-            fresh,
+            &mut self.equations.types,
+            &mut self.instances,
+            Instance { number, of },
+            ty,
         )?;
-        let left = Part::Variable(variable);
-        push_with_room(&mut self.sides, Sides { left, right })?;
+        self.equations.equate_variable(variable, right)?;
         Ok(())
     }
 
@@ -144,10 +132,7 @@ impl System {
         ensures bounded { IfOk result (λ a. IsBounded (type_of a)) }
         ensures none { IsErrOf result SolveFault.NoSolution → (s : ℕ → Term) → (of : ℕ → Class) → IsBounded s → SolvesSystem self s of → ⊥ }
     {
-        let count = self.members.len();
-        let nodes = start_nodes(alloc, count, self.shapes.as_slice())?;
-        let pending = start_pairs(alloc, count, self.sides.as_slice())?;
-        let solution = solve_table(alloc, count, nodes, pending, self.members.as_slice())?;
+        let solution = solve_equations(alloc, &self.equations, self.members.as_slice())?;
         Ok(solution)
     }
 }

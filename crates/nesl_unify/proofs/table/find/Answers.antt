@@ -1,5 +1,5 @@
 use Rattle.std.proofs.Common.{◌≡◌, ◌<◌, length, sym, ap, ◌∙◌, arith}
-use Rattle.nesl_unify.specs.Table.{target}
+use Rattle.nesl_types_bank.specs.Graph.{target}
 use Rattle.nesl_unify.proofs.Tables.{relinks_step, fits-target, target_le}
 use Rattle.nesl_unify.proofs.table.find.Goals as goal
 

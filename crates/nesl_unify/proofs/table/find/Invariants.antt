@@ -1,6 +1,7 @@
 use Rattle.std.proofs.Common.{◌≡◌, ◌<◌, ℕ, length}
 use Rattle.nesl_types.specs.Term.{Term}
-use Rattle.nesl_unify.specs.Table.{Fits, IsTable}
+use Rattle.nesl_types_bank.specs.Graph.{Fits}
+use Rattle.nesl_unify.specs.Table.{IsTable}
 use Rattle.nesl_unify.proofs.Tables.{Relinks}
 use Rattle.nesl_unify.proofs.table.find.Given as goal
 

@@ -1,6 +1,6 @@
 use Rattle.std.proofs.Common.{◌+◌, ◌<◌, ℕ, List, length, sym, subst, arith}
-use Rattle.nesl_unify.specs.declared.table.Node.{Node}
-use Rattle.nesl_unify.specs.Table.{IsRoot, node_at, target}
+use Rattle.nesl_types_bank.specs.declared.graph.Node.{Node}
+use Rattle.nesl_types_bank.specs.Graph.{IsRoot, node_at, target}
 use Rattle.nesl_unify.proofs.Tables.{relinks_step, flat_more}
 use Rattle.nesl_unify.proofs.table.flatten.Goals as goal
 

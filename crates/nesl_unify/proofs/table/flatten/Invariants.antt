@@ -1,5 +1,6 @@
 use Rattle.std.proofs.Common.{◌<◌, ℕ, length}
-use Rattle.nesl_unify.specs.Table.{IsTable, IsRoot, node_at, target}
+use Rattle.nesl_types_bank.specs.Graph.{IsRoot, node_at, target}
+use Rattle.nesl_unify.specs.Table.{IsTable}
 use Rattle.nesl_unify.proofs.Tables.{Relinks}
 use Rattle.nesl_unify.proofs.table.flatten.Given as goal
 

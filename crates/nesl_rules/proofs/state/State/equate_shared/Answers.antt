@@ -1,7 +1,6 @@
-use Rattle.std.proofs.Common.{◌≡◌, map, sym, ◌∙◌}
+use Rattle.std.proofs.Common.{◌≡◌, map, slice_index, sym, ◌∙◌}
 use Rattle.nesl_types.specs.Term.{term}
 use Rattle.nesl_types.specs.Substitution.{substitute}
-use Rattle.nesl_unify.specs.Instances.{fresh_at}
 use Rattle.nesl_rules.specs.Instances.{type_in}
 use Rattle.nesl_rules.proofs.Steps.{adds_equation, adds_is}
 use Rattle.nesl_rules.proofs.Instances.{shared_is}
@@ -13,6 +12,6 @@ returns-in_ok-table-in-Some c =
     let v = c.args.variable in
     let vs = c.args.fresh.now in
     let t = term c.args.ty.now in
-    adds_is v (λ s. substitute (λ w. s (fresh_at v vs w)) t) (λ s. substitute (type_in (map s vs)) t) (λ s. shared_is s v vs t c.requires.ty)
-    (adds_equation c.args.self.now c.put.new.self c.in-Some.table c.in_ok-table-in-Some.table (sym c.take.ensures.value ∙ c.in-Some.is) c.put.ensures (λ s. s v ≡ substitute (λ w. s (fresh_at v vs w)) t)
+    adds_is v (λ s. substitute (λ w. s (slice_index vs w)) t) (λ s. substitute (type_in (map s vs)) t) (λ s. shared_is s vs t c.requires.ty)
+    (adds_equation c.args.self.now c.put.new.self c.in-Some.table c.in_ok-table-in-Some.table (sym c.take.ensures.value ∙ c.in-Some.is) c.put.ensures (λ s. s v ≡ substitute (λ w. s (slice_index vs w)) t)
     q.members q.holds)

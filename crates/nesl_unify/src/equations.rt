@@ -1,0 +1,311 @@
+//! Equations between types of a bank, with what is known of each variable.
+
+ghost use Rattle.std.specs.Prelude.{◌≡◌, ◌<◌, ◌≤◌, ◌++◌, ◌∷◌, [], ◌↔◌, ℕ, None, All, length, slice_index, IfOk, IfSome, OnOk};
+ghost use Rattle.nesl_types.specs.Term.{Term, term};
+ghost use Rattle.nesl_types.specs.Substitution.{substitute};
+ghost use Rattle.nesl_types.specs.Numbering.{IsBelow};
+ghost use Rattle.nesl_types_bank.specs.Types.{type_at};
+ghost use Rattle.nesl_unify.specs.Places.{place_for};
+ghost use Rattle.nesl_unify.specs.Systems.{AreEquations, Hold, IsAsKnown};
+ghost use Rattle.nesl_unify.specs.Growth.{IsFreeAt, Grows, Says, Follows, ArePlacesOf};
+
+use crate::room::push_with_room;
+use crate::types::{learn, place_for, put_type};
+use nesl_types::Ty;
+use nesl_types_bank::{Bank, Shape};
+use std::alloc::{AllocError, Global};
+
+/// How many nodes of two types that are one are compared, to see what their variables are.
+const MOST_COMPARED: u64 = 64;
+
+/// How many nodes of a type are looked at, to see what its fresh variables are.
+const MOST_LEARNED: u64 = 4096;
+
+/// How many steps lead from one variable to the next where each is known to be the other.
+const MOST_STEPS: u64 = 16;
+
+/// Two places whose types have to be one.
+#[derive(Clone, Copy)]
+pub struct Sides {
+    pub left: usize,
+    pub right: usize,
+}
+
+/// Equations between types. Where one says of a variable what it is, the variable is replaced by that in the types of later
+/// equations.
+#[derive(Drop)]
+pub struct Equations {
+    /// The types of the equations and their parts.
+    pub types: Bank,
+    /// For each variable the place of the type that an equation says it is, if one does.
+    pub known: Vec<Option<usize>>,
+    /// The other equations.
+    pub sides: Vec<Sides>,
+}
+
+impl Equations {
+    /// No variables and no equations.
+    pub fn new(alloc: Global) -> Equations
+        ensures made { AreEquations result }
+        ensures count { length result.known.items ≡ 0 }
+        ensures holds { (s : ℕ → Term) → Hold result s }
+    {
+        Equations {
+            types: Bank::new(alloc),
+            known: Vec::new(alloc),
+            sides: Vec::new(alloc),
+        }
+    }
+
+    /// A variable more.
+    pub fn fresh(&mut self) -> Result<(), AllocError>
+        requires { AreEquations self.old }
+        ensures made { OnOk result (AreEquations self.new) }
+        ensures known { OnOk result (self.new.known.items ≡ self.old.known.items ++ None ∷ []) }
+        ensures holds { OnOk result ((s : ℕ → Term) → Hold self.new s ↔ Hold self.old s) }
+    {
+        push_with_room(&mut self.known, None)?;
+        Ok(())
+    }
+
+    /// Puts a type in, with what is known in place of its variables, and gives its place.
+    pub fn put(&mut self, ty: &Ty) -> Result<usize, AllocError>
+        requires made { AreEquations self.old }
+        requires ty { IsBelow (length self.old.known.items) (term ty.now) }
+        ensures grows { OnOk result (Grows self.old self.new) }
+        ensures within { IfOk result (λ p. p < length self.new.types) }
+        ensures here { IfOk result (λ p. (s : ℕ → Term) → IsAsKnown self.old.types self.old.known.items s → substitute s (type_at self.new.types p) ≡ substitute s (term ty.now)) }
+    {
+        Ok(put_type(&mut self.types, self.known.as_slice(), ty)?)
+    }
+
+    /// What is known of the variable at a place, if one is there.
+    fn known_at(&self, place: usize) -> Option<usize>
+        requires made { AreEquations self.now }
+        requires place { place < length self.now.types }
+        ensures within { IfSome result (λ p. p < length self.now.types) }
+        ensures same { IfSome result (λ p. (s : ℕ → Term) → IsAsKnown self.now.types self.now.known.items s → substitute s (type_at self.now.types p) ≡ substitute s (type_at self.now.types place)) }
+    {
+        match self.types.shape(place) {
+            Shape::Var(variable) => place_for(self.known.as_slice(), variable),
+            _ => None,
+        }
+    }
+
+    /// The place of what the type at a place is, where that is a variable of which something is known: a bounded number of
+    /// steps from one variable to the next.
+    fn resolve(&self, place: usize) -> usize
+        requires made { AreEquations self.now }
+        requires place { place < length self.now.types }
+        ensures within { result < length self.now.types }
+        ensures same { (s : ℕ → Term) → IsAsKnown self.now.types self.now.known.items s → substitute s (type_at self.now.types result) ≡ substitute s (type_at self.now.types place) }
+    {
+        let mut found = place;
+        for _ in 0..MOST_STEPS {
+            match self.known_at(found) {
+                Some(next) => found = next,
+                None => return found,
+            }
+        }
+        found
+    }
+
+    /// The variable at a place, if nothing is known of it.
+    fn free_at(&self, place: usize) -> Option<u64>
+        requires made { AreEquations self.now }
+        requires place { place < length self.now.types }
+        ensures { IfSome result (IsFreeAt self.now.types self.now.known.items place) }
+    {
+        match self.types.shape(place) {
+            Shape::Var(variable) => match place_for(self.known.as_slice(), variable) {
+                Some(_) => None,
+                None => Some(variable),
+            },
+            _ => None,
+        }
+    }
+
+    /// A variable of which nothing is known is the type at a place.
+    fn define(&mut self, variable: u64, place: usize)
+        requires made { AreEquations self.old }
+        requires variable { variable < length self.old.known.items }
+        requires free { place_for self.old.known.items variable ≡ None }
+        requires place { place < length self.old.types }
+        ensures { Says self.old self.new (λ s. s variable ≡ substitute s (type_at self.old.types place)) }
+    {
+        self.known[variable as usize] = Some(place);
+    }
+
+    /// The types at two places are one, where they aren't the same.
+    fn push(&mut self, left: usize, right: usize) -> Result<(), AllocError>
+        requires made { AreEquations self.old }
+        requires left { left < length self.old.types }
+        requires right { right < length self.old.types }
+        ensures { OnOk result (Says self.old self.new (λ s. substitute s (type_at self.old.types left) ≡ substitute s (type_at self.old.types right))) }
+    {
+        if left == right {
+            return Ok(());
+        }
+        if let Some(variable) = self.free_at(left) {
+            self.define(variable, right);
+            return Ok(());
+        }
+        if let Some(variable) = self.free_at(right) {
+            self.define(variable, left);
+            return Ok(());
+        }
+        push_with_room(&mut self.sides, Sides { left, right })?;
+        Ok(())
+    }
+
+    /// The same, with what is known in place of a variable.
+    fn add(&mut self, left: usize, right: usize) -> Result<(), AllocError>
+        requires made { AreEquations self.old }
+        requires left { left < length self.old.types }
+        requires right { right < length self.old.types }
+        ensures { OnOk result (Says self.old self.new (λ s. substitute s (type_at self.old.types left) ≡ substitute s (type_at self.old.types right))) }
+    {
+        let resolved = self.resolve(left);
+        let other = self.resolve(right);
+        self.push(resolved, other)?;
+        Ok(())
+    }
+
+    /// The types at two places are one, and so are their parts: of so many nodes these are compared, and so many are left.
+    fn join(&mut self, left: usize, right: usize, room: u64) -> Result<u64, AllocError>
+        requires made { AreEquations self.old }
+        requires left { left < length self.old.types }
+        requires right { right < length self.old.types }
+        ensures says { OnOk result (Says self.old self.new (λ s. substitute s (type_at self.old.types left) ≡ substitute s (type_at self.old.types right))) }
+        ensures room { IfOk result (λ rest. rest ≤ room) }
+    {
+        let less = match room.checked_sub(1) {
+            Some(less) => less,
+            None => {
+                self.add(left, right)?;
+                return Ok(0);
+            }
+        };
+        match (self.types.shape(left), self.types.shape(right)) {
+            (Shape::SeqOf(item), Shape::SeqOf(other)) => Ok(self.join(item, other, less)?),
+            (Shape::Both(first, second), Shape::Both(third, fourth)) => {
+                let less = self.join(first, third, less)?;
+                Ok(self.join(second, fourth, less)?)
+            }
+            _ => {
+                self.add(left, right)?;
+                Ok(less)
+            }
+        }
+    }
+
+    /// The variable is the type at a place.
+    pub fn equate_variable(&mut self, variable: u64, place: usize) -> Result<(), AllocError>
+        requires made { AreEquations self.old }
+        requires variable { variable < length self.old.known.items }
+        requires place { place < length self.old.types }
+        ensures { OnOk result (Says self.old self.new (λ s. s variable ≡ substitute s (type_at self.old.types place))) }
+    {
+        if let Some(own) = place_for(self.known.as_slice(), variable) {
+            self.join(own, place, MOST_COMPARED)?;
+            return Ok(());
+        }
+        let other = self.resolve(place);
+        if self.free_at(other) != Some(variable) {
+            self.define(variable, other);
+        }
+        Ok(())
+    }
+
+    /// The variable is the type at a place, which is added where nothing is known of the variable.
+    pub fn learn(&mut self, variable: u64, place: usize) -> Result<(), AllocError>
+        requires made { AreEquations self.old }
+        requires variable { variable < length self.old.known.items }
+        requires place { place < length self.old.types }
+        ensures { OnOk result (Follows self.old self.new (λ s. s variable ≡ substitute s (type_at self.old.types place))) }
+    {
+        match place_for(self.known.as_slice(), variable) {
+            Some(own) => {
+                let other = self.resolve(own);
+                if let Some(free) = self.free_at(other) {
+                    self.equate_variable(free, place)?;
+                }
+            }
+            None => self.equate_variable(variable, place)?,
+        }
+        Ok(())
+    }
+
+    /// The places of these variables: what is known of each, or where it stands itself.
+    pub fn places_of(
+        &mut self,
+        alloc: Global,
+        fresh: &[u64],
+    ) -> Result<Vec<Option<usize>>, AllocError>
+        requires made { AreEquations self.old }
+        requires fresh { All (λ v. v < length self.old.known.items) fresh.now }
+        ensures grows { OnOk result (Grows self.old self.new) }
+        ensures places { IfOk result (λ ps. ArePlacesOf self.old.types self.old.known.items self.new.types fresh.now ps.items) }
+    {
+        let mut places = Vec::with_capacity(alloc, fresh.len())?;
+        for variable in fresh {
+            let place = self.put(&Ty::Var(*variable))?;
+            let place = self.resolve(place);
+            places.push(Some(place))?;
+        }
+        Ok(places)
+    }
+
+    /// Whether of one of the variables nothing is known.
+    fn is_one_free(&self, variables: &[u64]) -> bool {
+        for variable in variables {
+            match place_for(self.known.as_slice(), *variable) {
+                Some(_) => {}
+                None => return true,
+            }
+        }
+        false
+    }
+
+    /// Where something is known of the variable, which stands for an instance of the type, adds what the fresh variables are
+    /// then.
+    pub fn learn_instance(
+        &mut self,
+        variable: u64,
+        fresh: &[u64],
+        ty: &Ty,
+    ) -> Result<(), AllocError>
+        requires made { AreEquations self.old }
+        requires fresh { All (λ v. v < length self.old.known.items) fresh.now }
+        requires ty { IsBelow (length fresh.now) (term ty.now) }
+        ensures { OnOk result (Follows self.old self.new (λ s. s variable ≡ substitute (λ v. s (slice_index fresh.now v)) (term ty.now))) }
+    {
+        if self.is_one_free(fresh) {
+            if let Some(own) = place_for(self.known.as_slice(), variable) {
+                let place = self.resolve(own);
+                learn(self, fresh, ty, place, MOST_LEARNED)?;
+            }
+        }
+        Ok(())
+    }
+
+    /// Both types are one.
+    pub fn equate(&mut self, left: &Ty, right: &Ty) -> Result<(), AllocError>
+        requires made { AreEquations self.old }
+        requires left { IsBelow (length self.old.known.items) (term left.now) }
+        requires right { IsBelow (length self.old.known.items) (term right.now) }
+        ensures made { OnOk result (AreEquations self.new) }
+        ensures count { OnOk result (length self.new.known.items ≡ length self.old.known.items) }
+        ensures holds { OnOk result ((s : ℕ → Term) → Hold self.new s ↔ (Hold self.old s × (substitute s (term left.now) ≡ substitute s (term right.now)))) }
+    {
+        if let Ty::Var(variable) = left {
+            let place = self.put(right)?;
+            self.equate_variable(*variable, place)?;
+            return Ok(());
+        }
+        let left = self.put(left)?;
+        let right = self.put(right)?;
+        self.join(left, right, MOST_COMPARED)?;
+        Ok(())
+    }
+}
