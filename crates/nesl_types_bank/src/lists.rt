@@ -1,0 +1,99 @@
+//! The parts of types, in lists.
+
+ghost use Rattle.std.specs.Prelude.{◌≡◌, ◌<◌, ◌↔◌, IsTrue, length, IfOk};
+ghost use Rattle.nesl_types_bank.specs.Shapes.{IsShapeBelow};
+ghost use Rattle.nesl_types_bank.specs.Types.{type_at};
+ghost use Rattle.nesl_types_bank.specs.Lists.{AreParts, IsCount, IsStep, moved_to};
+
+use crate::bank::Bank;
+use crate::parts::Parts;
+use crate::shape::Shape;
+use std::alloc::{AllocError, Global};
+
+/// What comes next for a type whose parts are put into a list.
+#[derive(Clone, Copy)]
+enum Step {
+    /// All but the type itself are there, and this is its shape.
+    Push(Shape),
+    /// The part at this place is to be put there before.
+    Part(usize),
+}
+
+/// The place in the list to which a type was moved.
+pub(crate) fn moved_to(places: &[Option<usize>], place: usize) -> Option<usize>
+    ensures { result ≡ moved_to places.now place }
+{
+    match places.get(place) {
+        Some(at) => *at,
+        None => None,
+    }
+}
+
+/// What comes next for a type of a shape.
+fn next_step(places: &[Option<usize>], shape: Shape) -> Step
+    ensures { IsStep places.now shape result }
+{
+    match shape {
+        Shape::SeqOf(item) => match moved_to(places, item) {
+            Some(at) => Step::Push(Shape::SeqOf(at)),
+            None => Step::Part(item),
+        },
+        Shape::Both(first, second) => match (moved_to(places, first), moved_to(places, second)) {
+            (Some(first), Some(second)) => Step::Push(Shape::Both(first, second)),
+            (None, _) => Step::Part(first),
+            (_, None) => Step::Part(second),
+        },
+        _ => Step::Push(shape),
+    }
+}
+
+/// The shapes of the parts of the type at a place, each behind those that it is made of, and its own last. Equal types
+/// have equal lists.
+pub(crate) fn list_parts(
+    alloc: Global,
+    from: &Parts<'_>,
+    place: usize,
+) -> Result<Vec<Shape>, AllocError>
+    requires { place < length from.now }
+    ensures { IfOk result (λ shapes. AreParts shapes.items (type_at from.now place)) }
+{
+    let mut shapes = Vec::new(alloc);
+    let mut places: Vec<Option<usize>> = vec![in alloc; None; from.len()]?;
+    let mut stack = Vec::new(alloc);
+    stack.push(place)?;
+    while let Some(next) = stack.pop() {
+        match next_step(&places, from.shape(next)) {
+            Step::Push(shape) => {
+                places[next] = Some(shapes.len());
+                shapes.push(shape)?;
+            }
+            Step::Part(part) => {
+                stack.push(next)?;
+                stack.push(part)?;
+            }
+        }
+    }
+    Ok(shapes)
+}
+
+/// How many nodes the type at a place has, or `None` where they are more than `u64::MAX`.
+pub(crate) fn count(bank: &Bank, place: usize) -> Option<u64>
+    requires { place < length bank.now }
+    ensures { IsCount result (type_at bank.now place) }
+{
+    match bank.shape(place) {
+        Shape::SeqOf(item) => bank.nodes(item).checked_add(1),
+        Shape::Both(first, second) => {
+            let parts = bank.nodes(first).checked_add(bank.nodes(second))?;
+            parts.checked_add(1)
+        }
+        _ => Some(1),
+    }
+}
+
+/// Whether both lists are the same.
+pub(crate) fn are_same(first: &[Shape], second: &[Shape]) -> bool
+    ensures { IsTrue result ↔ (first.now ≡ second.now) }
+{
+    first == second
+}
