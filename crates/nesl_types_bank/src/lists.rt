@@ -97,3 +97,31 @@ pub(crate) fn are_same(first: &[Shape], second: &[Shape]) -> bool
 {
     first == second
 }
+
+/// A number with another one mixed into it.
+fn mixed(number: u64, word: u64) -> u64 {
+    let next = (number ^ word).wrapping_mul(0x9e37_79b9_7f4a_7c15);
+    next ^ (next >> 29)
+}
+
+/// A number with a shape mixed into it.
+fn mixed_shape(number: u64, shape: Shape) -> u64 {
+    match shape {
+        Shape::Int => mixed(number, 1),
+        Shape::Bool => mixed(number, 2),
+        Shape::Char => mixed(number, 3),
+        Shape::Var(variable) => mixed(mixed(number, 4), variable),
+        Shape::Named(tag) => mixed(mixed(number, 5), tag),
+        Shape::SeqOf(item) => mixed(mixed(number, 6), item as u64),
+        Shape::Both(first, second) => mixed(mixed(mixed(number, 7), first as u64), second as u64),
+    }
+}
+
+/// A number made of shapes.
+pub(crate) fn number_of(shapes: &[Shape]) -> u64 {
+    let mut number = 0;
+    for shape in shapes {
+        number = mixed_shape(number, *shape);
+    }
+    number
+}

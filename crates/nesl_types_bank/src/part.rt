@@ -27,6 +27,7 @@ impl<'a> Model for Part<'a> {
 
 ghost use Rattle.std.specs.Prelude.{◌≡◌, ◌<◌, All, length, IsTrue, IfOk, OnOk, fold};
 ghost use Rattle.nesl_types.specs.Substitution.{substitute};
+ghost use Rattle.nesl_types.specs.Numbering.{variables, with_number};
 ghost use Rattle.nesl_types_bank.specs.Types.{type_at, Extends};
 ghost use Rattle.nesl_types_bank.specs.Renames.{replacement};
 ghost use Rattle.nesl_types_bank.specs.Kinds.{kind_type};
@@ -34,6 +35,8 @@ ghost use Rattle.nesl_types_bank.specs.Kinds.{kind_type};
 use crate::bank::Bank;
 use crate::renaming::{is_renamed_part, rename_part};
 use crate::shape::Shape;
+use crate::visiting::note_part_variables;
+use indexmap::IndexSet;
 use std::alloc::{AllocError, Global};
 
 /// What a type is, and its parts.
@@ -84,6 +87,13 @@ impl<'a> Part<'a> {
                 Kind::Both(left, Part::of(self.parts.again(), second))
             }
         }
+    }
+
+    /// Notes its variables that aren't noted yet, in the order in which they first occur.
+    pub fn note_variables(&self, alloc: Global, seen: &mut IndexSet<u64>) -> Result<(), AllocError>
+        ensures { OnOk result (seen.new.keys ≡ fold with_number seen.old.keys (variables self.now)) }
+    {
+        note_part_variables(alloc, &self.parts, self.place, seen)
     }
 
     /// Puts it into a bank, with the type at place `of[v]` in place of each variable v, and gives its place there. A

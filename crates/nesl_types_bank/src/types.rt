@@ -35,9 +35,10 @@ impl Model for Ty {
     ghost invariant = { λ t. IsType t.shapes.value.items t.count };
 }
 
-ghost use Rattle.std.specs.Prelude.{◌≡◌, ◌+◌, ◌<◌, ◌↔◌, All, length, IsTrue, IfOk, MatchOption};
+ghost use Rattle.std.specs.Prelude.{◌≡◌, ◌+◌, ◌<◌, ◌↔◌, All, length, IsTrue, IfOk, OnOk, MatchOption, fold};
 ghost use Rattle.nesl_types.specs.Term.{nodes, int, bool as boolean, char as character, variable, named, seq_of, both};
 ghost use Rattle.nesl_types.specs.Substitution.{substitute};
+ghost use Rattle.nesl_types.specs.Numbering.{variables, with_number};
 ghost use Rattle.nesl_types_bank.specs.Shapes.{IsShapeBelow, shape_type};
 ghost use Rattle.nesl_types_bank.specs.Types.{type_at, types, size_of, Extends};
 ghost use Rattle.nesl_types_bank.specs.Lists.{last_type, IsType};
@@ -45,9 +46,10 @@ ghost use Rattle.nesl_types_bank.specs.Kinds.{kind_type};
 ghost use Rattle.nesl_types_bank.specs.Renames.{replacement};
 
 use crate::bank::Bank;
-use crate::lists::{are_same, count, list_parts};
+use crate::lists::{are_same, count, list_parts, number_of};
 use crate::part::{Kind, Part};
 use crate::parts::Parts;
+use indexmap::IndexSet;
 use std::alloc::{AllocError, Global};
 
 impl Ty {
@@ -196,6 +198,18 @@ impl Ty {
             Some(count) => room.checked_sub(count),
             None => None,
         }
+    }
+
+    /// Notes its variables that aren't noted yet, in the order in which they first occur.
+    pub fn note_variables(&self, alloc: Global, seen: &mut IndexSet<u64>) -> Result<(), AllocError>
+        ensures { OnOk result (seen.new.keys ≡ fold with_number seen.old.keys (variables self.now)) }
+    {
+        self.whole().note_variables(alloc, seen)
+    }
+
+    /// A number made of its parts: equal types have the same one, and others seldom. Nothing rests on it.
+    pub fn number(&self) -> u64 {
+        number_of(self.shapes.as_slice())
     }
 
     /// Puts it into a bank, with the type at place `of[v]` in place of each variable v, and gives its place there. A

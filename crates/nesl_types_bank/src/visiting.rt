@@ -49,7 +49,7 @@ pub fn note_variables(
 }
 
 /// The same for types that are borrowed.
-pub fn note_part_variables(
+pub(crate) fn note_part_variables(
     alloc: Global,
     parts: &Parts<'_>,
     place: usize,
