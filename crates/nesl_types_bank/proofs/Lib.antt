@@ -5,6 +5,7 @@ pub mod Begun
 pub mod Visited
 pub mod Listed
 pub mod Moved
+pub mod Pushed
 pub mod Found
 pub mod Same
 pub mod Reached

@@ -12,6 +12,8 @@ pub mod shape;
 mod tests;
 pub mod texts;
 pub mod types;
+#[cfg(test)]
+mod types_tests;
 pub mod visiting;
 
 pub use bank::Bank;

@@ -2,8 +2,9 @@
 
 ghost use Rattle.std.specs.Prelude.{◌≡◌, ◌<◌, ◌↔◌, IsTrue, length, IfOk};
 ghost use Rattle.nesl_types_bank.specs.Shapes.{IsShapeBelow};
-ghost use Rattle.nesl_types_bank.specs.Types.{type_at};
-ghost use Rattle.nesl_types_bank.specs.Lists.{AreParts, IsCount, IsStep, moved_to};
+ghost use Rattle.nesl_types.specs.Term.{Term, seq_of};
+ghost use Rattle.nesl_types_bank.specs.Types.{type_at, types};
+ghost use Rattle.nesl_types_bank.specs.Lists.{AreParts, IsCount, IsStep, moved_to, last_type};
 
 use crate::bank::Bank;
 use crate::parts::Parts;
@@ -74,6 +75,27 @@ pub(crate) fn list_parts(
         }
     }
     Ok(shapes)
+}
+
+/// The shapes of the parts of the sequences of a type, whose own are given.
+pub(crate) fn list_of_seq(alloc: Global, item: &[Shape]) -> Result<Vec<Shape>, AllocError>
+    requires { AreParts item.now (last_type (types item.now)) }
+    ensures { IfOk result (λ shapes. AreParts shapes.items (seq_of (last_type (types item.now)))) }
+{
+    let mut shapes = Vec::with_capacity(alloc, item.len() + 1)?;
+    shapes.extend_from_slice(item)?;
+    shapes.push(Shape::SeqOf(item.len() - 1))?;
+    Ok(shapes)
+}
+
+/// How many nodes the sequences of a type have, where the type has so many.
+pub(crate) fn one_more(count: Option<u64>) -> Option<u64>
+    ensures { (t : Term) → IsCount count t → IsCount result (seq_of t) }
+{
+    match count {
+        Some(count) => count.checked_add(1),
+        None => None,
+    }
 }
 
 /// How many nodes the type at a place has, or `None` where they are more than `u64::MAX`.

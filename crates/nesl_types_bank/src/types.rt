@@ -46,7 +46,7 @@ ghost use Rattle.nesl_types_bank.specs.Kinds.{kind_type};
 ghost use Rattle.nesl_types_bank.specs.Renames.{replacement};
 
 use crate::bank::Bank;
-use crate::lists::{are_same, count, list_parts, number_of};
+use crate::lists::{are_same, count, list_of_seq, list_parts, number_of, one_more};
 use crate::part::{Kind, Part};
 use crate::parts::Parts;
 use indexmap::IndexSet;
@@ -108,14 +108,13 @@ impl Ty {
         Ty::leaf(alloc, Shape::Named(tag))
     }
 
-    /// The sequences of a type. To nest many, put them into a bank, and read the last.
+    /// The sequences of a type. It costs as much as the type has parts: to nest many, put them into a bank, and read the
+    /// last.
     pub fn seq_of(alloc: Global, item: &Ty) -> Result<Ty, AllocError>
         ensures { IfOk result (λ t. t ≡ seq_of item.now) }
     {
-        let mut bank = Bank::new(alloc);
-        let item = item.copy_to(alloc, &mut bank)?;
-        let place = bank.put(Shape::SeqOf(item))?;
-        Ty::read(alloc, &bank, place)
+        let shapes = list_of_seq(alloc, item.shapes.as_slice())?;
+        Ty::of(alloc, shapes, one_more(item.count))
     }
 
     /// The pairs of two types.

@@ -231,4 +231,10 @@ impl<P: Drop> Context<P> {
     {
         self.bindings.len()
     }
+
+    /// How many types are kept.
+    #[cfg(test)]
+    pub(crate) fn kept(&self) -> usize {
+        self.kept.len()
+    }
 }

@@ -46,6 +46,7 @@ impl Kept {
     }
 
     /// How many types are kept.
+    #[cfg(test)]
     pub fn len(&self) -> usize {
         self.types.len()
     }
