@@ -8,7 +8,7 @@ use Rattle.nesl_types_bank.specs.declared.shape.Shape.TheVariants.{SeqOf, Both}
 use Rattle.nesl_types_bank.specs.declared.texts.Piece.{Piece}
 use Rattle.nesl_types_bank.specs.declared.texts.Piece.TheVariants.{Byte, TypeAt}
 use Rattle.nesl_types_bank.specs.Shapes.{shape_type, IsShapeBelow}
-use Rattle.nesl_types_bank.proofs.Types.{below_wider}
+use Rattle.nesl_types_bank.proofs.Made.{below_wider}
 use Rattle.nesl_types_bank.specs.Pieces.{piece_text, rest_text, piece_size, rest_size, IsPieceBelow, IsBegun, IsWritten}
 
 pub rest_text-push : (names : ℕ → List ℕ) (f : ℕ → Term) (ps : List Piece) (p : Piece) → rest_text names f (ps ++ p ∷ []) ≡ piece_text names f p ++ rest_text names f ps

@@ -1,8 +1,13 @@
-pub mod Types
+pub mod Made
 pub mod Placed
 pub mod Once
 pub mod Begun
 pub mod Visited
+pub mod Listed
+pub mod Moved
+pub mod Pushed
+pub mod Found
+pub mod Same
 pub mod Reached
 pub mod Readings
 pub mod MostGeneral

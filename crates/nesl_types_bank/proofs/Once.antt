@@ -5,7 +5,7 @@ use Rattle.nesl_types_bank.specs.declared.shape.Shape.{Shape}
 use Rattle.nesl_types_bank.specs.declared.shape.Shape.TheVariants.{Int, Bool, Char, Var, Named, SeqOf, Both}
 use Rattle.nesl_types_bank.specs.Shapes.{shape_type, shape_at, IsShapeBelow}
 use Rattle.nesl_types_bank.specs.Types.{type_at, types, AreMade, StandOnce}
-use Rattle.nesl_types_bank.proofs.Types.{length-types, type_made}
+use Rattle.nesl_types_bank.proofs.Made.{length-types, type_made}
 
 -- where parts of one type have one place, shapes of one type are equal
 pub one_shape : (f : ℕ → Term) (n m : ℕ) (x y : Shape) → IsShapeBelow n x → IsShapeBelow m y → ((p q : ℕ) → p < n → q < m → f p ≡ f q → p ≡ q) → shape_type f x ≡ shape_type f y → x ≡ y

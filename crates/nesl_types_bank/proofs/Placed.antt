@@ -1,16 +1,17 @@
 -- A shape more in a bank.
-use Rattle.std.proofs.Common.{◌≡◌, ◌⊎◌, inl, inr, ℕ, ◌<◌, Bool, true, false, not, cond, List, [], ◌∷◌, ◌++◌, length, map, get_or, slice_get, Some, sym, ap, subst, ◌∙◌, true≢false, arith}
+use Rattle.std.proofs.Common.{◌≡◌, ◌⊎◌, inl, inr, ℕ, ◌<◌, Bool, true, false, not, cond, List, [], ◌∷◌, ◌++◌, length, map, get_or, slice_get, Option, None, Some, IfSome, sym, ap, subst, ◌∙◌, true≢false, arith}
 use Rattle.std.proofs.lemmas.Bool.{cases_lt}
 use Rattle.std.proofs.lemmas.List.{get_or_append_left, get_or_push, length_push, get_or-map, map-append}
 use Rattle.std.proofs.lemmas.Option.{get_or_from_slice_get}
 use Rattle.std.proofs.lemmas.Map.Keys.{apart_from_distinct}
-use Rattle.std.specs.List.{IsDistinct, list_any}
+use Rattle.std.proofs.lemmas.List.Quantifiers.{position-Some}
+use Rattle.std.specs.List.{IsDistinct, list_any, position}
 use Rattle.nesl_types.specs.Term.{Term, int}
 use Rattle.nesl_types_bank.specs.declared.shape.Shape.{Shape}
 use Rattle.nesl_types_bank.specs.declared.shape.Shape.TheVariants.{Int, Bool as Bool', Char, Var, Named, SeqOf, Both}
 use Rattle.nesl_types_bank.specs.Shapes.{shape_type, shape_size, shape_at, IsShapeBelow}
 use Rattle.nesl_types_bank.specs.Types.{type_at, size_of, types, AreMade, StandOnce, IsBank, IsPlaced, IsPut}
-use Rattle.nesl_types_bank.proofs.Types.{type_same, length-types, type_made, types-push}
+use Rattle.nesl_types_bank.proofs.Made.{type_same, length-types, type_made, types-push}
 
 module _ (eq : Shape → Shape → Bool) (same : (x y : Shape) → eq x y ≡ true → x ≡ y) (itself : (x : Shape) → eq x x ≡ true) where
   apart : (ns : List Shape) (p q : ℕ) → IsDistinct eq ns → p < q → q < length ns → shape_at ns p ≡ shape_at ns q → ⊥
@@ -45,7 +46,7 @@ shapes_after : (old new : List Shape) (s : Shape) (p : ℕ) (added : Bool) → I
 shapes_after old new s p true i = inr i.rest
 shapes_after old new s p false i = inl i.rest
 
-made_push : (old : List Shape) (s : Shape) → AreMade old → IsShapeBelow (length old) s → AreMade (old ++ s ∷ [])
+pub made_push : (old : List Shape) (s : Shape) → AreMade old → IsShapeBelow (length old) s → AreMade (old ++ s ∷ [])
 made_push old s m b p w = elim (cases_lt p (length old)) [
   | inl l ↦ rw (get_or_append_left old (s ∷ []) Int p l) (m p l)
   | inr g ↦
@@ -108,3 +109,14 @@ type_placed old new s p added m i l =
             rest = inr r;
           }
     ]
+
+-- the place at which a set has a shape
+pub found_place : (is : Shape → Bool) (ns : List Shape) (ts : List Term) (s : Shape) (o : Option ℕ) → o ≡ position is ns → ((x : Shape) → is x ≡ true → s ≡ x) → types ns ≡ ts → AreMade ns →
+    IfSome o (λ p. (p < length ts) × (type_at ts p ≡ shape_type (type_at ts) s))
+found_place is ns ts s None h same e m = tt
+found_place is ns ts s (Some p) h same e m =
+    let at = position-Some is ns p Int (sym h) in
+    let k = ap length e in
+    let here : shape_at ns p ≡ s = sym (same (shape_at ns p) at.1) in
+    let made = type_made ns p at.0 (m p at.0) ∙ ap (shape_type (type_at (types ns))) here in
+    (omega (arith, at.0, length-types ns), subst (λ us. type_at us p ≡ shape_type (type_at us) s) e made)

@@ -13,7 +13,7 @@ use Rattle.nesl_types_bank.specs.Shapes.{shape_type, IsShapeBelow}
 use Rattle.nesl_types_bank.specs.Types.{type_at, AreDistinct, Extends}
 use Rattle.nesl_types_bank.specs.Visits.{parts, with_marks, AreReached}
 use Rattle.nesl_types_bank.specs.Renames.{renamed, replacement}
-use Rattle.nesl_types_bank.proofs.Types.{below_wider}
+use Rattle.nesl_types_bank.proofs.Made.{below_wider}
 use Rattle.nesl_types_bank.proofs.Once.{one_shape}
 use Rattle.nesl_types_bank.proofs.Visited.{cases_eq, parts_below}
 

@@ -13,7 +13,7 @@ use Rattle.nesl_types_bank.specs.Shapes.{shape_type, IsShapeBelow}
 use Rattle.nesl_types_bank.specs.Types.{type_at, Extends, IsPut}
 use Rattle.nesl_types_bank.specs.Graph.{node_at, Describes, Fits, IsNodeBelow, IsGraph, IsRoot, IsFlat, link_or, target}
 use Rattle.nesl_types_bank.specs.Readings.{state_at, read_place, found, IsShapeOf, IsPart, IsBegun, IsRead, IsReading, Keeps}
-use Rattle.nesl_types_bank.proofs.Types.{below_wider, type_same}
+use Rattle.nesl_types_bank.proofs.Made.{below_wider, type_same}
 
 -- 1 for a place that wasn't looked at
 abbrev pub waiting : State → ℕ

@@ -6,3 +6,5 @@ pub mod Pieces
 pub mod Visits
 pub mod Graph
 pub mod Readings
+pub mod Lists
+pub mod Kinds

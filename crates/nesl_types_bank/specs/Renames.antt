@@ -1,5 +1,5 @@
 -- Types with types in place of their variables.
-use Rattle.std.specs.Prelude.{◌≡◌, ◌<◌, ℕ, List, All, length, slice_get, slice_index}
+use Rattle.std.specs.Prelude.{◌≡◌, ◌<◌, ℕ, List, All, length, Option, Some, slice_get, slice_index}
 use Rattle.std.specs.Option.{option_map_or}
 use Rattle.nesl_types.specs.Term.{Term, variable}
 use Rattle.nesl_types.specs.Substitution.{substitute}
@@ -7,6 +7,7 @@ use Rattle.nesl_types_bank.specs.declared.shape.Shape.{Shape}
 use Rattle.nesl_types_bank.specs.declared.shape.Shape.TheVariants.{Int, Bool, Char, Var, Named, SeqOf, Both}
 use Rattle.nesl_types_bank.specs.Shapes.{shape_type}
 use Rattle.nesl_types_bank.specs.Types.{type_at}
+use Rattle.nesl_types_bank.specs.Lists.{moved_to}
 
 -- the type of a shape, where `s` gives the types for variables and `f` those at the places
 abbrev pub renamed : (ℕ → Term) → (ℕ → Term) → Shape → Term
@@ -27,3 +28,17 @@ pub record AreRenamed (s : ℕ → Term) (from to : List Term) (places : List �
   pub len : length places ≡ length from
   pub within : All (λ p. p < length to) places
   pub types : (p : ℕ) → p < length from → type_at to (slice_index places p) ≡ substitute s (type_at from p)
+
+-- each place that was found is below n
+abbrev pub AreBelow : ℕ → List (Option ℕ) → Type 0
+AreBelow n places = (q a : ℕ) → moved_to places q ≡ Some a → a < n
+
+-- the types of ts at the places that were found are those that `f` gives, with `s v` in place of each variable v
+abbrev pub AreInstances : (ℕ → Term) → List Term → List (Option ℕ) → (ℕ → Term) → Type 0
+AreInstances s ts places f = (q a : ℕ) → moved_to places q ≡ Some a → type_at ts a ≡ substitute s (f q)
+
+-- the type of a shape is at place p, with `s v` in place of each variable v, where those of its parts are at the places
+-- that were found
+pub record IsFound (s : ℕ → Term) (ts : List Term) (places : List (Option ℕ)) (shape : Shape) (p : ℕ) : Type 0 where
+  pub within : p < length ts
+  pub here : (f : ℕ → Term) → AreInstances s ts places f → type_at ts p ≡ substitute s (shape_type f shape)

@@ -30,6 +30,11 @@ abbrev pub StandOnce : List Shape → Type 0
 StandOnce shapes =
     (p q : ℕ) → p < length shapes → q < length shapes → shape_at shapes p ≡ shape_at shapes q → p ≡ q
 
+-- shapes of types: each is made of earlier ones, and none stands twice
+pub record AreTypes (shapes : List Shape) : Type 0 where
+  pub made : AreMade shapes
+  pub once : StandOnce shapes
+
 -- the shapes of a bank, and the sizes of their types
 pub record IsBank (shapes : List Shape) (sizes : List ℕ) : Type 0 where
   pub made : AreMade shapes

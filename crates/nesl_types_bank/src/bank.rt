@@ -1,5 +1,6 @@
 //! Types that are each made of earlier ones.
 
+use crate::parts::Parts;
 use crate::shape::Shape;
 use indexmap::IndexSet;
 use std::alloc::{AllocError, Global};
@@ -37,7 +38,7 @@ impl Model for Bank {
     ghost invariant = { λ b. IsBank b.shapes.keys b.sizes.items };
 }
 
-ghost use Rattle.std.specs.Prelude.{◌≡◌, ◌<◌, ◌↔◌, ℕ, IsTrue, length, slice_index, IfOk, OnErr};
+ghost use Rattle.std.specs.Prelude.{◌≡◌, ◌<◌, ◌↔◌, ℕ, IsTrue, length, slice_index, IfSome, IfOk, OnErr};
 ghost use Rattle.nesl_types_bank.specs.Shapes.{IsShapeBelow, shape_type, shape_size};
 ghost use Rattle.nesl_types_bank.specs.Types.{type_at, size_of, AreDistinct, IsPlaced, Extends, IsPut};
 
@@ -74,6 +75,13 @@ impl Bank {
         }
     }
 
+    /// Its types, borrowed.
+    pub fn parts(&self) -> Parts<'_>
+        ensures { result ≡ self.now }
+    {
+        Parts::of(self.shapes.as_slice())
+    }
+
     /// How many types there are.
     pub fn len(&self) -> usize
         ensures len { result ≡ length self.now }
@@ -107,6 +115,14 @@ impl Bank {
     {
         let _ = &self.shapes;
         first == second
+    }
+
+    /// The place of the type of a shape, where it is there.
+    pub fn find(&self, shape: Shape) -> Option<usize>
+        requires { IsShapeBelow (length self.now) shape }
+        ensures { IfSome result (λ place. (place < length self.now) × (type_at self.now place ≡ shape_type (type_at self.now) shape)) }
+    {
+        self.shapes.get_index_of(&shape)
     }
 
     /// The place of the type of a shape, which is added where it isn't there.

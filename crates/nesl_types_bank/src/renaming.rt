@@ -1,13 +1,15 @@
 //! Types with types in place of their variables.
 
-ghost use Rattle.std.specs.Prelude.{◌≡◌, ◌<◌, All, length, slice_index, IfOk};
+ghost use Rattle.std.specs.Prelude.{◌≡◌, ◌<◌, All, length, slice_index, IsTrue, IfSome, IfOk};
 ghost use Rattle.nesl_types.specs.Substitution.{substitute};
 ghost use Rattle.nesl_types_bank.specs.Shapes.{IsShapeBelow};
 ghost use Rattle.nesl_types_bank.specs.Visits.{parts, with_marks, AreReached};
 ghost use Rattle.nesl_types_bank.specs.Types.{type_at, Extends};
-ghost use Rattle.nesl_types_bank.specs.Renames.{renamed, replacement, AreRenamed};
+ghost use Rattle.nesl_types_bank.specs.Renames.{renamed, replacement, AreRenamed, AreBelow, IsFound};
 
 use crate::bank::Bank;
+use crate::lists::moved_to;
+use crate::parts::Parts;
 use crate::shape::Shape;
 use std::alloc::{AllocError, Global};
 
@@ -53,17 +55,17 @@ fn mark_parts(marks: &mut Vec<bool>, shape: Shape)
 }
 
 /// The marks of the places of a type and of all that it is made of.
-fn reached(alloc: Global, bank: &Bank, place: usize) -> Result<Vec<bool>, AllocError>
-    requires { place < length bank.now }
-    ensures { IfOk result (λ marks. AreReached bank.now place marks.items) }
+fn reached(alloc: Global, from: &Parts<'_>, place: usize) -> Result<Vec<bool>, AllocError>
+    requires { place < length from.now }
+    ensures { IfOk result (λ marks. AreReached from.now place marks.items) }
 {
-    let mut marks = vec![in alloc; false; bank.len()]?;
+    let mut marks = vec![in alloc; false; from.len()]?;
     marks[place] = true;
     let mut next = place + 1;
     while next > 0 {
         next -= 1;
         if marks[next] {
-            mark_parts(&mut marks, bank.shape(next));
+            mark_parts(&mut marks, from.shape(next));
         }
     }
     Ok(marks)
@@ -74,6 +76,23 @@ fn reached(alloc: Global, bank: &Bank, place: usize) -> Result<Vec<bool>, AllocE
 pub fn rename_type(
     alloc: Global,
     from: &Bank,
+    place: usize,
+    to: &mut Bank,
+    of: &[usize],
+) -> Result<usize, AllocError>
+    requires place { place < length from.now }
+    requires places { All (λ p. p < length to.old) of.now }
+    ensures extends { Extends to.old to.new }
+    ensures within { IfOk result (λ p. p < length to.new) }
+    ensures here { IfOk result (λ p. type_at to.new p ≡ substitute (replacement to.old of.now) (type_at from.now place)) }
+{
+    rename_part(alloc, &from.parts(), place, to, of)
+}
+
+/// The same for types that are borrowed.
+pub(crate) fn rename_part(
+    alloc: Global,
+    from: &Parts<'_>,
     place: usize,
     to: &mut Bank,
     of: &[usize],
@@ -113,4 +132,50 @@ pub fn rename(
         places.push(renamed)?;
     }
     Ok(places)
+}
+
+/// The place in a bank of a type with others in place of its variables, where it is there. Its shape is given, and for
+/// each of its parts the place in the bank, where it is there.
+fn find_renamed(bank: &Bank, shape: Shape, places: &[Option<usize>], of: &[usize]) -> Option<usize>
+    requires places { AreBelow (length bank.now) places.now }
+    requires of { All (λ p. p < length bank.now) of.now }
+    ensures { IfSome result (IsFound (replacement bank.now of.now) bank.now places.now shape) }
+{
+    match shape {
+        Shape::Var(variable) => {
+            let given = of.get(variable as usize);
+            match given {
+                Some(place) => Some(*place),
+                None => bank.find(shape),
+            }
+        }
+        Shape::SeqOf(item) => bank.find(Shape::SeqOf(moved_to(places, item)?)),
+        Shape::Both(first, second) => {
+            let first = moved_to(places, first)?;
+            bank.find(Shape::Both(first, moved_to(places, second)?))
+        }
+        _ => bank.find(shape),
+    }
+}
+
+/// Whether the type at a place of the bank is the one at place `part` of `from`, with the type at place `of[v]` of the bank
+/// in place of each variable v.
+pub(crate) fn is_renamed_part(
+    alloc: Global,
+    from: &Parts<'_>,
+    part: usize,
+    bank: &Bank,
+    place: usize,
+    of: &[usize],
+) -> Result<bool, AllocError>
+    requires part { part < length from.now }
+    requires of { All (λ p. p < length bank.now) of.now }
+    ensures { IfOk result (λ holds. IsTrue holds → type_at bank.now place ≡ substitute (replacement bank.now of.now) (type_at from.now part)) }
+{
+    let mut places: Vec<Option<usize>> = Vec::with_capacity(alloc, from.len())?;
+    for next in 0..from.len() {
+        let found = find_renamed(bank, from.shape(next), &places, of);
+        places.push(found)?;
+    }
+    Ok(moved_to(&places, part) == Some(place))
 }

@@ -13,7 +13,7 @@ use std::alloc::{AllocError, Global};
 use std::test::Fail;
 
 // Pairs of equal parts, `depth` deep, over the type at a place.
-fn doubled(bank: &mut Bank, place: usize, depth: usize) -> Result<usize, AllocError>
+pub(crate) fn doubled(bank: &mut Bank, place: usize, depth: usize) -> Result<usize, AllocError>
     requires { place < length bank.old }
     ensures { IfOk result (λ p. p < length bank.new) }
 {
@@ -25,7 +25,7 @@ fn doubled(bank: &mut Bank, place: usize, depth: usize) -> Result<usize, AllocEr
 }
 
 // Sequences, `depth` deep, over variable 0.
-fn nested(bank: &mut Bank, depth: usize) -> Result<usize, AllocError>
+pub(crate) fn nested(bank: &mut Bank, depth: usize) -> Result<usize, AllocError>
     ensures { IfOk result (λ p. p < length bank.new) }
 {
     let mut place = bank.put(Shape::Var(0))?;

@@ -6,6 +6,7 @@ ghost use Rattle.nesl_types_bank.specs.Types.{type_at};
 ghost use Rattle.nesl_types_bank.specs.Visits.{parts, own_variables};
 
 use crate::bank::Bank;
+use crate::parts::Parts;
 use crate::shape::Shape;
 use indexmap::IndexSet;
 use std::alloc::{AllocError, Global};
@@ -44,7 +45,20 @@ pub fn note_variables(
     requires { place < length bank.now }
     ensures { OnOk result (seen.new.keys ≡ fold with_number seen.old.keys (variables_of (type_at bank.now place))) }
 {
-    let mut visited = vec![in alloc; false; bank.len()]?;
+    note_part_variables(alloc, &bank.parts(), place, seen)
+}
+
+/// The same for types that are borrowed.
+pub(crate) fn note_part_variables(
+    alloc: Global,
+    parts: &Parts<'_>,
+    place: usize,
+    seen: &mut IndexSet<u64>,
+) -> Result<(), AllocError>
+    requires { place < length parts.now }
+    ensures { OnOk result (seen.new.keys ≡ fold with_number seen.old.keys (variables_of (type_at parts.now place))) }
+{
+    let mut visited = vec![in alloc; false; parts.len()]?;
     let mut stack = Vec::new(alloc);
     stack.push(place)?;
     while let Some(next) = stack.pop() {
@@ -52,7 +66,7 @@ pub fn note_variables(
             continue;
         }
         visited[next] = true;
-        push_parts(&mut stack, seen, bank.shape(next))?;
+        push_parts(&mut stack, seen, parts.shape(next))?;
     }
     Ok(())
 }

@@ -10,4 +10,4 @@ loop-next-preserved-then-index c =
     let i = c.loop-next.invariant in
     let marks = c.loop-next.marks.items in
     let l : k < length marks = omega (arith, i.inside, i.len) in
-    reaching_enter c.args.bank.now c.args.place n k marks c.mark_parts.new.marks.items c.shape.result e (mark_read marks k c.index.result.now l c.index.ensures c.if-index.true) c.len.ensures.distinct c.shape.ensures.parts c.shape.ensures.shape c.mark_parts.ensures i
+    reaching_enter c.args.from.now c.args.place n k marks c.mark_parts.new.marks.items c.shape.result e (mark_read marks k c.index.result.now l c.index.ensures c.if-index.true) c.len.ensures.distinct c.shape.ensures.parts c.shape.ensures.shape c.mark_parts.ensures i

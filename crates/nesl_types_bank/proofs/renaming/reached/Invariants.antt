@@ -2,7 +2,7 @@ use Rattle.nesl_types_bank.proofs.Reached.{IsReaching}
 use Rattle.nesl_types_bank.proofs.renaming.reached.Given as goal
 
 abbrev pub invariant-loop-next : goal.invariant-loop-next
-invariant-loop-next l = IsReaching l.bank l.place l.next l.marks.items
+invariant-loop-next l = IsReaching l.from l.place l.next l.marks.items
 
 abbrev pub decreases-loop-next : goal.decreases-loop-next
 decreases-loop-next l = l.next

@@ -3,7 +3,7 @@ use Rattle.nesl_types.specs.Term.{Term}
 use Rattle.nesl_types_bank.specs.declared.shape.Shape.{Shape}
 use Rattle.nesl_types_bank.specs.Shapes.{IsShapeBelow, shape_type, shape_size}
 use Rattle.nesl_types_bank.specs.Types.{type_at, types, AreMade, IsPlaced, IsPut}
-use Rattle.nesl_types_bank.proofs.Types.{length-types}
+use Rattle.nesl_types_bank.proofs.Made.{length-types}
 use Rattle.nesl_types_bank.proofs.Placed.{bank_push, type_placed}
 use Rattle.nesl_types_bank.proofs.bank.Bank.put.Goals as goal
 

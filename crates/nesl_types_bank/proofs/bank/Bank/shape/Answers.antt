@@ -2,7 +2,7 @@ use Rattle.std.proofs.Common.{◌≡◌, ◌<◌, List, length, sym, ap, subst, 
 use Rattle.nesl_types.specs.Term.{Term}
 use Rattle.nesl_types_bank.specs.Shapes.{shape_type, shape_at}
 use Rattle.nesl_types_bank.specs.Types.{type_at, types}
-use Rattle.nesl_types_bank.proofs.Types.{length-types, type_made}
+use Rattle.nesl_types_bank.proofs.Made.{length-types, type_made}
 use Rattle.nesl_types_bank.proofs.bank.Bank.shape.Goals as goal
 
 within : (c : goal.After-as_slice) → c.args.place < length c.as_slice.result.now

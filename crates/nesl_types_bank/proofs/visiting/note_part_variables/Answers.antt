@@ -3,11 +3,11 @@ use Rattle.std.proofs.lemmas.List.{length-set}
 use Rattle.nesl_types.specs.Numbering.{variables, with_number}
 use Rattle.nesl_types_bank.specs.Types.{type_at}
 use Rattle.nesl_types_bank.proofs.Visited.{skip, enter, less_left, top_inside, top_mark}
-use Rattle.nesl_types_bank.proofs.visiting.note_variables.Goals as goal
+use Rattle.nesl_types_bank.proofs.visiting.note_part_variables.Goals as goal
 
 pub loop-next-preserved-then-index : goal.loop-next-preserved-then-index
 loop-next-preserved-then-index c =
-    let f = type_at c.args.bank.now in
+    let f = type_at c.args.parts.now in
     let marks = c.loop-next.visited.items in
     let seen = c.loop-next.seen.keys in
     let ps = c.pop.new.self.items in
@@ -23,7 +23,7 @@ loop-next-preserved-then-index c =
 
 pub loop-next-smaller : goal.loop-next-smaller
 loop-next-smaller c =
-    let f = type_at c.args.bank.now in
+    let f = type_at c.args.parts.now in
     let marks = c.loop-next.visited.items in
     let seen = c.loop-next.seen.keys in
     let ps = c.pop.new.self.items in
@@ -36,7 +36,7 @@ loop-next-smaller c =
 
 pub loop-next-preserved : goal.loop-next-preserved
 loop-next-preserved c =
-    let f = type_at c.args.bank.now in
+    let f = type_at c.args.parts.now in
     let marks = c.loop-next.visited.items in
     let p = c.in-Some.next in
     let all = fold with_number c.args.seen.now.keys (variables (f c.args.place)) in

@@ -2,7 +2,7 @@ use Rattle.std.proofs.Common.{◌≡◌, ◌<◌, ℕ, List, length, get_or, sub
 use Rattle.nesl_types_bank.specs.Renames.{renamed, replacement}
 use Rattle.nesl_types_bank.specs.Types.{type_at}
 use Rattle.nesl_types_bank.proofs.Reached.{mark_read, renaming_more}
-use Rattle.nesl_types_bank.proofs.renaming.rename_type.Goals as goal
+use Rattle.nesl_types_bank.proofs.renaming.rename_part.Goals as goal
 
 pub loop-next-preserved : goal.loop-next-preserved
 loop-next-preserved c =

@@ -1,0 +1,149 @@
+//! The parts of types, in lists.
+
+ghost use Rattle.std.specs.Prelude.{◌≡◌, ◌<◌, ◌↔◌, IsTrue, length, IfOk};
+ghost use Rattle.nesl_types_bank.specs.Shapes.{IsShapeBelow};
+ghost use Rattle.nesl_types.specs.Term.{Term, seq_of};
+ghost use Rattle.nesl_types_bank.specs.Types.{type_at, types};
+ghost use Rattle.nesl_types_bank.specs.Lists.{AreParts, IsCount, IsStep, moved_to, last_type};
+
+use crate::bank::Bank;
+use crate::parts::Parts;
+use crate::shape::Shape;
+use std::alloc::{AllocError, Global};
+
+/// What comes next for a type whose parts are put into a list.
+#[derive(Clone, Copy)]
+enum Step {
+    /// All but the type itself are there, and this is its shape.
+    Push(Shape),
+    /// The part at this place is to be put there before.
+    Part(usize),
+}
+
+/// The place in the list to which a type was moved.
+pub(crate) fn moved_to(places: &[Option<usize>], place: usize) -> Option<usize>
+    ensures { result ≡ moved_to places.now place }
+{
+    match places.get(place) {
+        Some(at) => *at,
+        None => None,
+    }
+}
+
+/// What comes next for a type of a shape.
+fn next_step(places: &[Option<usize>], shape: Shape) -> Step
+    ensures { IsStep places.now shape result }
+{
+    match shape {
+        Shape::SeqOf(item) => match moved_to(places, item) {
+            Some(at) => Step::Push(Shape::SeqOf(at)),
+            None => Step::Part(item),
+        },
+        Shape::Both(first, second) => match (moved_to(places, first), moved_to(places, second)) {
+            (Some(first), Some(second)) => Step::Push(Shape::Both(first, second)),
+            (None, _) => Step::Part(first),
+            (_, None) => Step::Part(second),
+        },
+        _ => Step::Push(shape),
+    }
+}
+
+/// The shapes of the parts of the type at a place, each behind those that it is made of, and its own last. Equal types
+/// have equal lists.
+pub(crate) fn list_parts(
+    alloc: Global,
+    from: &Parts<'_>,
+    place: usize,
+) -> Result<Vec<Shape>, AllocError>
+    requires { place < length from.now }
+    ensures { IfOk result (λ shapes. AreParts shapes.items (type_at from.now place)) }
+{
+    let mut shapes = Vec::new(alloc);
+    let mut places: Vec<Option<usize>> = vec![in alloc; None; from.len()]?;
+    let mut stack = Vec::new(alloc);
+    stack.push(place)?;
+    while let Some(next) = stack.pop() {
+        match next_step(&places, from.shape(next)) {
+            Step::Push(shape) => {
+                places[next] = Some(shapes.len());
+                shapes.push(shape)?;
+            }
+            Step::Part(part) => {
+                stack.push(next)?;
+                stack.push(part)?;
+            }
+        }
+    }
+    Ok(shapes)
+}
+
+/// The shapes of the parts of the sequences of a type, whose own are given.
+pub(crate) fn list_of_seq(alloc: Global, item: &[Shape]) -> Result<Vec<Shape>, AllocError>
+    requires { AreParts item.now (last_type (types item.now)) }
+    ensures { IfOk result (λ shapes. AreParts shapes.items (seq_of (last_type (types item.now)))) }
+{
+    let mut shapes = Vec::with_capacity(alloc, item.len() + 1)?;
+    shapes.extend_from_slice(item)?;
+    shapes.push(Shape::SeqOf(item.len() - 1))?;
+    Ok(shapes)
+}
+
+/// How many nodes the sequences of a type have, where the type has so many.
+pub(crate) fn one_more(count: Option<u64>) -> Option<u64>
+    ensures { (t : Term) → IsCount count t → IsCount result (seq_of t) }
+{
+    match count {
+        Some(count) => count.checked_add(1),
+        None => None,
+    }
+}
+
+/// How many nodes the type at a place has, or `None` where they are more than `u64::MAX`.
+pub(crate) fn count(bank: &Bank, place: usize) -> Option<u64>
+    requires { place < length bank.now }
+    ensures { IsCount result (type_at bank.now place) }
+{
+    match bank.shape(place) {
+        Shape::SeqOf(item) => bank.nodes(item).checked_add(1),
+        Shape::Both(first, second) => {
+            let parts = bank.nodes(first).checked_add(bank.nodes(second))?;
+            parts.checked_add(1)
+        }
+        _ => Some(1),
+    }
+}
+
+/// Whether both lists are the same.
+pub(crate) fn are_same(first: &[Shape], second: &[Shape]) -> bool
+    ensures { IsTrue result ↔ (first.now ≡ second.now) }
+{
+    first == second
+}
+
+/// A number with another one mixed into it.
+fn mixed(number: u64, word: u64) -> u64 {
+    let next = (number ^ word).wrapping_mul(0x9e37_79b9_7f4a_7c15);
+    next ^ (next >> 29)
+}
+
+/// A number with a shape mixed into it.
+fn mixed_shape(number: u64, shape: Shape) -> u64 {
+    match shape {
+        Shape::Int => mixed(number, 1),
+        Shape::Bool => mixed(number, 2),
+        Shape::Char => mixed(number, 3),
+        Shape::Var(variable) => mixed(mixed(number, 4), variable),
+        Shape::Named(tag) => mixed(mixed(number, 5), tag),
+        Shape::SeqOf(item) => mixed(mixed(number, 6), item as u64),
+        Shape::Both(first, second) => mixed(mixed(mixed(number, 7), first as u64), second as u64),
+    }
+}
+
+/// A number made of shapes.
+pub(crate) fn number_of(shapes: &[Shape]) -> u64 {
+    let mut number = 0;
+    for shape in shapes {
+        number = mixed_shape(number, *shape);
+    }
+    number
+}

@@ -1,0 +1,4 @@
+pub mod Bound
+pub mod Places
+pub mod Begun
+pub mod Numbered

@@ -1,0 +1,5 @@
+pub mod Names
+pub mod Scheme
+pub mod Texts
+pub mod Pieces
+pub mod Numbered

@@ -1,0 +1,240 @@
+//! What each top-level name is.
+
+use crate::kept::{Kept, Marks};
+use crate::schemes::Scheme;
+use indexmap::IndexMap;
+use nesl_types_bank::Ty;
+use std::alloc::{AllocError, Global};
+use std::marker::Model;
+
+/// What a top-level name is.
+#[derive(Drop)]
+pub enum Top {
+    /// A variable of a type.
+    Variable(Ty),
+    /// A function.
+    Function(Scheme),
+    /// A datatype: its tag, which is its number in order of definition from 0, and the type that its records hold.
+    Datatype(u64, Ty),
+}
+
+#[derive(Drop)]
+struct Entry<P> {
+    top: Top,
+    payload: P,
+    /// The numbers under which its types are kept.
+    marks: Marks,
+}
+
+/// What each top-level name is, each with a payload, in order of first definition.
+pub struct Context<P> {
+    bindings: IndexMap<Vec<u8>, Entry<P>>,
+    /// The place of each datatype, by its tag. After a name was made something else, a place may be too small.
+    places: Vec<usize>,
+    /// The types of the names, each once.
+    kept: Kept,
+}
+
+// By hand, so that no crate above has to prove how the parts are dropped.
+impl<P: Drop> Drop for Context<P> {
+    fn drop(self) {
+        let Context {
+            bindings,
+            places,
+            kept,
+        } = self;
+        drop((bindings, places, kept));
+    }
+}
+
+impl<P> Model for Context<P> {
+    ghost use Rattle.std.specs.Prelude.{ℕ, List, map};
+    ghost use Rattle.nesl_types_lists.specs.declared.bindings.Top.{Top};
+    ghost use Rattle.std.specs.Coded.{codes};
+    ghost use Rattle.nesl_types_bank.specs.contracts.types.Ty as ty;
+
+    ghost Value = { List (List ℕ × Top × P) };
+
+    ghost coded = { Prim.hlevel (codes, ty.the_row.coded, P.code) };
+
+    ghost use Rattle.nesl_types_lists.specs.Names.{AreReached};
+
+    ghost view = { λ c. map (λ e. (e.0.items, e.1.top, e.1.payload)) c.bindings.entries };
+
+    ghost invariant = { λ c. AreReached (map (λ e. (e.0.items, e.1.top, e.1.payload)) c.bindings.entries) c.places.items };
+}
+
+ghost use Rattle.std.specs.Prelude.{◌≡◌, ◌≢◌, ◌≤◌, ◌<◌, ℕ, Some, false, map, slice_index, vec_len, vec_capacity, IfOk};
+ghost use Rattle.nesl_types_lists.specs.Names.{AreReached, is_datatype, is_datatype_at, datatype_place};
+
+// Whether the entry at a place is the datatype with the tag.
+fn is_datatype_at<P: Drop>(bindings: &IndexMap<Vec<u8>, Entry<P>>, place: usize, tag: u64) -> bool
+    ensures { result ≡ is_datatype_at (map (λ e. (e.0.items, e.1.top, e.1.payload)) bindings.now.entries) place tag }
+{
+    match bindings.get_index(place) {
+        Some((_, entry)) => match entry.top {
+            Top::Datatype(number, _) => number == tag,
+            _ => false,
+        },
+        None => false,
+    }
+}
+
+// How many entries come before the datatype with the tag. There are at least as many as `from`.
+fn datatype_place<P: Drop>(bindings: &IndexMap<Vec<u8>, Entry<P>>, tag: u64, from: usize) -> usize
+    requires { from ≤ datatype_place (map (λ e. (e.0.items, e.1.top, e.1.payload)) bindings.now.entries) tag }
+    ensures { result ≡ datatype_place (map (λ e. (e.0.items, e.1.top, e.1.payload)) bindings.now.entries) tag }
+{
+    for place in from..bindings.len() {
+        if is_datatype_at(bindings, place, tag) {
+            return place;
+        }
+    }
+    bindings.len()
+}
+
+// The tag of a datatype.
+fn tag_of(top: &Top) -> Option<u64>
+    ensures { (tag : ℕ) → result ≢ Some tag → is_datatype tag top.now ≡ false }
+{
+    match top {
+        Top::Datatype(tag, _) => Some(*tag),
+        _ => None,
+    }
+}
+
+// Notes the place of the datatype with the tag, where one was set. A tag that skips some is not noted.
+fn note_place<P: Drop>(
+    places: &mut Vec<usize>,
+    bindings: &IndexMap<Vec<u8>, Entry<P>>,
+    tag: Option<u64>,
+)
+    requires room { vec_len places.old < vec_capacity places.old }
+    requires others { (other : ℕ) → tag ≢ Some other → slice_index places.old.items other ≤ datatype_place (map (λ e. (e.0.items, e.1.top, e.1.payload)) bindings.now.entries) other }
+    ensures { AreReached (map (λ e. (e.0.items, e.1.top, e.1.payload)) bindings.now.entries) places.new.items }
+{
+    if let Some(tag) = tag {
+        let place = datatype_place(bindings, tag, 0);
+        let number = tag as usize;
+        if number < places.len() {
+            places[number] = place;
+        } else if number == places.len() {
+            places.push_reserved(place);
+        }
+    }
+}
+
+// What shares the parts of types that are kept, and the numbers under which its own types are.
+fn shared_top(alloc: Global, kept: &mut Kept, top: Top) -> Result<(Top, Marks), AllocError>
+    ensures { IfOk result (λ r. r.0 ≡ top) }
+{
+    match top {
+        Top::Variable(ty) => {
+            let (ty, mark) = kept.share(alloc, ty)?;
+            Ok((Top::Variable(ty), Marks::one(mark)))
+        }
+        Top::Function(scheme) => {
+            let (scheme, marks) = scheme.shared(alloc, kept)?;
+            Ok((Top::Function(scheme), marks))
+        }
+        Top::Datatype(tag, ty) => {
+            let (ty, mark) = kept.share(alloc, ty)?;
+            Ok((Top::Datatype(tag, ty), Marks::one(mark)))
+        }
+    }
+}
+
+// The numbers under which the types of an entry are kept.
+fn marks_of<P: Drop>(entry: Option<Entry<P>>) -> Marks {
+    match entry {
+        Some(entry) => entry.marks,
+        None => Marks::one(None),
+    }
+}
+
+impl<P: Drop> Context<P> {
+    ghost use Rattle.std.specs.Prelude.{◌≡◌, [], length, OnOk, OnErr, slice_get};
+    ghost use Rattle.std.specs.Option.{option_map};
+    ghost use Rattle.nesl_types_lists.specs.Names.{found, with_name, datatype_at};
+
+    /// A context with no names.
+    pub fn new(alloc: Global) -> Self
+        ensures { result ≡ [] }
+    {
+        Context {
+            bindings: IndexMap::new(alloc),
+            places: Vec::new(alloc),
+            kept: Kept::new(alloc),
+        }
+    }
+
+    /// What the name is, and its payload.
+    pub fn get(&self, name: &[u8]) -> Option<(&Top, &P)>
+        ensures { option_map (λ b. (b.0.now, b.1.now)) result ≡ found name.now self.now }
+    {
+        let entry = self.bindings.get(name)?;
+        Some((&entry.top, &entry.payload))
+    }
+
+    /// The name at a place in the order of first definition, what it is, and its payload.
+    pub fn at(&self, place: usize) -> Option<(&[u8], &Top, &P)>
+        ensures { option_map (λ b. (b.0.now, b.1.now, b.2.now)) result ≡ slice_get self.now place }
+    {
+        let (name, entry) = self.bindings.get_index(place)?;
+        Some((name.as_slice(), &entry.top, &entry.payload))
+    }
+
+    /// The name of the datatype with the tag, what it is, and its payload.
+    pub fn datatype(&self, tag: u64) -> Option<(&[u8], &Top, &P)>
+        ensures { option_map (λ b. (b.0.now, b.1.now, b.2.now)) result ≡ datatype_at self.now tag }
+    {
+        let from = match self.places.get(tag as usize) {
+            Some(place) => *place,
+            None => 0,
+        };
+        let place = datatype_place(&self.bindings, tag, from);
+        self.at(place)
+    }
+
+    /// Makes the name what is given: in its place where it has one, else after all others. A type that is equal to one of
+    /// another name shares its parts.
+    pub fn set(
+        &mut self,
+        alloc: Global,
+        name: &[u8],
+        top: Top,
+        payload: P,
+    ) -> Result<(), AllocError>
+        ensures ok { OnOk result (self.new ≡ with_name name.now top payload self.old) }
+        ensures err { OnErr result (self.new ≡ self.old) }
+    {
+        self.places.reserve(1)?;
+        self.bindings.reserve(1)?;
+        self.kept.reserve()?;
+        let name = Vec::from_slice(alloc, name)?;
+        let tag = tag_of(&top);
+        let (top, marks) = shared_top(alloc, &mut self.kept, top)?;
+        let entry = Entry {
+            top,
+            payload,
+            marks,
+        };
+        let before = self.bindings.insert(name, entry)?;
+        self.kept.release(marks_of(before));
+        note_place(&mut self.places, &self.bindings, tag);
+        Ok(())
+    }
+
+    /// How many names there are.
+    pub fn len(&self) -> usize
+        ensures { result ≡ length self.now }
+    {
+        self.bindings.len()
+    }
+
+    /// How many types are kept.
+    #[cfg(test)]
+    pub(crate) fn kept(&self) -> usize {
+        self.kept.len()
+    }
+}

@@ -1,0 +1,124 @@
+//! Tests.
+
+use crate::{Context, Scheme, Top, scheme_text, type_text};
+use nesl_types::Class;
+use nesl_types_bank::{Bank, Shape, Ty};
+use std::alloc::{AllocError, Global};
+use std::test::Fail;
+
+// The pairs of a type with itself, `depth` deep.
+fn doubled(alloc: Global, leaf: Ty, depth: usize) -> Result<Ty, AllocError> {
+    let mut ty = leaf;
+    for _ in 0..depth {
+        ty = Ty::both(alloc, &ty, &ty)?;
+    }
+    Ok(ty)
+}
+
+// The scheme of a function that takes a type, and gives pairs of pairs of 4,095 nodes of it.
+fn large(alloc: Global) -> Result<Scheme, AllocError> {
+    let takes = Ty::variable(alloc, 3)?;
+    let gives = doubled(alloc, Ty::variable(alloc, 3)?, 11)?;
+    Scheme::new(alloc, &takes, &gives, &[])
+}
+
+#[test]
+fn schemes_are_numbered(rt: HostRuntime) -> Result<(), Fail> {
+    let alloc = rt.alloc();
+    let takes = Ty::both(alloc, &Ty::variable(alloc, 2)?, &Ty::variable(alloc, 7)?)?;
+    let gives = Ty::seq_of(alloc, &Ty::variable(alloc, 2)?)?;
+    let classes = [Class::Any, Class::Any, Class::Number];
+    let scheme = Scheme::new(alloc, &takes, &gives, &classes)?;
+    scheme.variables_have_classes();
+    let first = Ty::both(alloc, &Ty::variable(alloc, 0)?, &Ty::variable(alloc, 1)?)?;
+    let item = Ty::seq_of(alloc, &Ty::variable(alloc, 0)?)?;
+    assert!(rt; scheme.argument.same(&first) && scheme.result.same(&item));
+    assert!(rt; scheme.classes.len() == 2 && scheme.classes[0] == Class::Number);
+    assert!(rt; scheme.classes[1] == Class::Any);
+    let again = Scheme::new(alloc, &first, &item, &[Class::Number])?;
+    let other = Scheme::new(alloc, &first, &item, &[])?;
+    assert!(rt; scheme.same(&again) && !scheme.same(&other) && !scheme.same(&large(alloc)?));
+    Ok(())
+}
+
+#[test]
+fn texts(rt: HostRuntime) -> Result<(), Fail> {
+    let alloc = rt.alloc();
+    let mut context: Context<u8> = Context::new(alloc);
+    context.set(alloc, b"pt", Top::Datatype(0, Ty::int(alloc)?), 1)?;
+    let pair = Ty::both(alloc, &Ty::variable(alloc, 0)?, &Ty::named(alloc, 0)?)?;
+    let gives = Ty::both(alloc, &pair, &Ty::seq_of(alloc, &Ty::boolean(alloc)?)?)?;
+    let text = type_text(alloc, &gives, &context)?;
+    assert!(rt; text.as_slice() == b"((a, pt), [bool])".as_slice());
+    let scheme = Scheme::new(alloc, &pair, &Ty::character(alloc)?, &[Class::Ordinal])?;
+    let text = scheme_text(alloc, &scheme, &context)?;
+    assert!(rt; text.as_slice() == b"(a, pt) -> char :: (a in ordinal)".as_slice());
+    Ok(())
+}
+
+#[test]
+fn names_keep_their_places(rt: HostRuntime) -> Result<(), Fail> {
+    let alloc = rt.alloc();
+    let mut context: Context<u8> = Context::new(alloc);
+    context.set(alloc, b"x", Top::Variable(Ty::int(alloc)?), 1)?;
+    context.set(alloc, b"p", Top::Datatype(0, Ty::int(alloc)?), 2)?;
+    context.set(alloc, b"x", Top::Variable(Ty::boolean(alloc)?), 3)?;
+    assert!(rt; context.len() == 2);
+    match context.get(b"x") {
+        Some((Top::Variable(ty), payload)) => {
+            assert!(rt; ty.same(&Ty::boolean(alloc)?) && *payload == 3);
+        }
+        _ => assert!(rt; false),
+    }
+    match context.datatype(0) {
+        Some((name, _, payload)) => assert!(rt; name == b"p".as_slice() && *payload == 2),
+        None => assert!(rt; false),
+    }
+    match context.at(0) {
+        Some((name, _, _)) => assert!(rt; name == b"x".as_slice()),
+        None => assert!(rt; false),
+    }
+    assert!(rt; context.get(b"y").is_none() && context.datatype(1).is_none());
+    Ok(())
+}
+
+#[test]
+fn equal_types_are_kept_once(rt: HostRuntime) -> Result<(), Fail> {
+    let alloc = rt.alloc();
+    let mut context: Context<u64> = Context::new(alloc);
+    for number in 0..9_900u64 {
+        let name = format!(in alloc; "h{number}")?;
+        context.set(alloc, name.as_bytes(), Top::Function(large(alloc)?), number)?;
+    }
+    assert!(rt; context.len() == 9_900 && context.kept() == 2);
+    match context.get(b"h9899") {
+        Some((Top::Function(scheme), _)) => assert!(rt; scheme.same(&large(alloc)?)),
+        _ => assert!(rt; false),
+    }
+    for number in 0..9_900u64 {
+        let name = format!(in alloc; "h{number}")?;
+        context.set(
+            alloc,
+            name.as_bytes(),
+            Top::Variable(Ty::int(alloc)?),
+            number,
+        )?;
+    }
+    assert!(rt; context.len() == 9_900 && context.kept() == 1);
+    Ok(())
+}
+
+#[test]
+fn types_of_names_that_change_go(rt: HostRuntime) -> Result<(), Fail> {
+    let alloc = rt.alloc();
+    let mut context: Context<u64> = Context::new(alloc);
+    let mut bank = Bank::new(alloc);
+    let mut place = bank.put(Shape::Int)?;
+    for number in 0..100u64 {
+        place = bank.put(Shape::SeqOf(place))?;
+        let ty = Ty::read(alloc, &bank, place)?;
+        context.set(alloc, b"it", Top::Variable(ty), number)?;
+    }
+    assert!(rt; context.len() == 1 && context.kept() == 1);
+    Ok(())
+}
