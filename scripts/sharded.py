@@ -1,4 +1,4 @@
-"""What scripts/shards has written, at work: its processes, started as their unit says, and a HAProxy in front of them."""
+"""What scripts/shards has written, at work: its processes, started as their unit says, and HAProxy in front of them."""
 import re
 import select
 import shlex
@@ -28,7 +28,7 @@ def found_haproxy():
 
 def shards(*words):
     """Runs scripts/shards: its status, and the lines of what it printed and of what it complained about."""
-    ran = subprocess.run([HERE / "shards", *map(str, words)], stdout=subprocess.PIPE, stderr=subprocess.PIPE, check=False)
+    ran = subprocess.run([HERE / "shards", *map(str, words)], capture_output=True, check=False)
     return ran.returncode, ran.stdout.decode().splitlines(), ran.stderr.decode().splitlines()
 
 
@@ -74,15 +74,14 @@ class Shard(Process):
 
 
 class Front(Process):
-    """HAProxy with the configuration of a folder. `more` is put into its first part."""
+    """HAProxy with the configuration of a folder, in place of another where there is one, whose connections go on."""
 
-    def __init__(self, path, folder, more=""):
+    def __init__(self, path, folder, old=None):
         text = (folder / "haproxy.cfg").read_text(encoding="ascii")
-        own = folder / "tried.cfg"
-        own.write_text(text.replace("global\n", f"global\n{more}", 1), encoding="ascii")
         self.port = int(re.search(r"bind 127\.0\.0\.1:([0-9]+)", text)[1])
         self.errors = tempfile.TemporaryFile()
-        self.run = started([path, "-db", "-f", own], stderr=self.errors)
+        more = ["-sf", str(old.run.pid)] if old else []
+        self.run = started([path, "-db", "-f", folder / "haproxy.cfg", *more], stderr=self.errors)
         until = time.monotonic() + PATIENCE
         while time.monotonic() < until:
             self.must_live()
@@ -97,9 +96,9 @@ class Front(Process):
 class Cluster:
     """All processes of a folder, and HAProxy."""
 
-    def __init__(self, path, folder, more=""):
-        self.path, self.folder, self.more = path, Path(folder), more
-        self.shards, self.front = {}, None
+    def __init__(self, path, folder):
+        self.path, self.folder = path, Path(folder)
+        self.shards, self.front, self.old = {}, None, []
 
     def __enter__(self):
         try:
@@ -107,20 +106,25 @@ class Cluster:
             self.shards = {number: Shard(self.folder, number) for number in numbers}
             for shard in self.shards.values():
                 shard.must_listen()
-            self.front = Front(self.path, self.folder, self.more)
+            self.front = Front(self.path, self.folder)
         except BaseException:
             self.__exit__()
             raise
         return self
 
     def __exit__(self, *_):
-        for one in [self.front, *self.shards.values()]:
+        for one in [self.front, *self.old, *self.shards.values()]:
             if one:
                 one.run.kill()
                 one.run.wait()
 
+    def reload(self):
+        """Has HAProxy read its files again."""
+        self.old.append(self.front)
+        self.front = Front(self.path, self.folder, self.front)
+
     def again(self, number):
-        """Starts a process anew that has ended."""
+        """Starts a process that has ended, or is new."""
         self.shards[number] = Shard(self.folder, number)
         self.shards[number].must_listen()
 
