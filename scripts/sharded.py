@@ -1,4 +1,5 @@
 """What scripts/shards has written, at work: its processes, started as their unit says, and HAProxy in front of them."""
+import os
 import re
 import select
 import shlex
@@ -21,7 +22,7 @@ def found_haproxy():
     path = shutil.which("haproxy", path="/usr/sbin:/usr/local/sbin:/usr/bin:/usr/local/bin")
     path = shutil.which("haproxy") or path
     if not path:
-        sys.exit("this needs haproxy, which isn't here (on Debian: apt-get install haproxy)")
+        sys.exit(f"{Path(sys.argv[0]).name} needs haproxy, which isn't here (on Debian: apt-get install haproxy)")
     said = subprocess.run([path, "-v"], stdout=subprocess.PIPE, check=True).stdout.decode()
     return path, re.search(r"version (\S+)", said)[1]
 
@@ -77,11 +78,12 @@ class Front(Process):
     """HAProxy with the configuration of a folder, in place of another where there is one, whose connections go on."""
 
     def __init__(self, path, folder, old=None):
-        text = (folder / "haproxy.cfg").read_text(encoding="ascii")
+        text, config = (folder / "haproxy.cfg").read_text(encoding="ascii"), folder / "tried.cfg"
+        config.write_text(text if os.geteuid() == 0 else re.sub("    (user|group) haproxy\n", "", text), encoding="ascii")
         self.port = int(re.search(r"bind 127\.0\.0\.1:([0-9]+)", text)[1])
         self.errors = tempfile.TemporaryFile()
         more = ["-sf", str(old.run.pid)] if old else []
-        self.run = started([path, "-db", "-f", folder / "haproxy.cfg", *more], stderr=self.errors)
+        self.run = started([path, "-db", "-f", config, *more], stderr=self.errors)
         until = time.monotonic() + PATIENCE
         while time.monotonic() < until:
             self.must_live()
