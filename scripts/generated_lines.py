@@ -3,6 +3,7 @@
 `Session` makes lines that have types, and keeps what they defined; a part of each is replaced by another at random, so that
 some have none. `any_line` makes lines of any text: broken and whole forms, tokens at random, stray bytes and deep nests.
 """
+import functools
 import importlib.machinery
 import importlib.util
 import os
@@ -12,6 +13,7 @@ import sys
 INT, BOOL, CHAR = "int", "bool", "char"
 
 
+@functools.cache
 def loaded(name):
     """The script of this folder with that name, as a module."""
     path = os.path.join(os.path.dirname(os.path.abspath(__file__)), name)
