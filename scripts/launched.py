@@ -278,6 +278,7 @@ def read_only(program):
             demand(not (it.top / "crates/nesl_server/out").exists(), "something was written into the checkout")
             it.starts("and the program is built", "--built", "batch", "ann", front=front, kit=True)
             it.must(TOLD, "--built", "batch", "ann", front=front)
+            it.starts("so there is no place for the program", "--prove", wanted=("", 1), front=front, kit=True, HOME="")
         finally:
             subprocess.run(["chmod", "-R", "u+w", it.top], check=True)
 
