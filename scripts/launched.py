@@ -289,6 +289,7 @@ def without_kit(program):
         it.must(1, "--built", "batch", "ann", lines=["no program is built from these very sources", NO_KIT])
         it.must(1, PAZKINDU="built", lines=["no program is built from these very sources", NO_KIT])
         it.must(1, "--prove", lines=["nothing can be proved: that takes the Rattle kit"])
+        it.must(2, "--prove", "batch", "ann", lines=["no word stands behind --prove"])
         it.must(2, PAZKINDU="old", lines=["PAZKINDU is built or release, and not old"])
         it.must(TOLD, PAZKINDU="release")
         it.built()
