@@ -278,6 +278,7 @@ def read_only(program):
             demand(not (it.top / "crates/nesl_server/out").exists(), "something was written into the checkout")
             it.starts("and the program is built", "--built", "batch", "ann", front=front, kit=True)
             it.must(TOLD, "--built", "batch", "ann", front=front)
+            it.starts("so there is no place for the program", "--prove", wanted=("", 1), front=front, kit=True, HOME="")
         finally:
             subprocess.run(["chmod", "-R", "u+w", it.top], check=True)
 
@@ -288,6 +289,7 @@ def without_kit(program):
         it.must(1, "--built", "batch", "ann", lines=["no program is built from these very sources", NO_KIT])
         it.must(1, PAZKINDU="built", lines=["no program is built from these very sources", NO_KIT])
         it.must(1, "--prove", lines=["nothing can be proved: that takes the Rattle kit"])
+        it.must(2, "--prove", "batch", "ann", lines=["no word stands behind --prove"])
         it.must(2, PAZKINDU="old", lines=["PAZKINDU is built or release, and not old"])
         it.must(TOLD, PAZKINDU="release")
         it.built()
