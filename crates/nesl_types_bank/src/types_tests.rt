@@ -73,12 +73,12 @@ fn nodes_are_counted(rt: HostRuntime) -> Result<(), Fail> {
     assert!(rt; int.nodes() == 1 && int.room_left(0).is_none() && int.room_left(1) == Some(0));
     let mut bank = Bank::new(alloc);
     let leaf = bank.put(Shape::Int)?;
-    let small = doubled(&mut bank, leaf, 11)?;
-    let small = Ty::read(alloc, &bank, small)?;
+    let place = doubled(&mut bank, leaf, 11)?;
+    let small = Ty::read(alloc, &bank, place)?;
     assert!(rt; small.nodes() == 4095 && small.parts().len() == 12);
     assert!(rt; small.room_left(4094).is_none() && small.room_left(4096) == Some(1));
-    let large = doubled(&mut bank, leaf, 63)?;
-    let large = Ty::read(alloc, &bank, large)?;
+    let place = doubled(&mut bank, place, 52)?;
+    let large = Ty::read(alloc, &bank, place)?;
     assert!(rt; large.nodes() == u64::MAX && large.room_left(u64::MAX) == Some(0));
     let sequence = Ty::seq_of(alloc, &large)?;
     assert!(rt; sequence.nodes() == u64::MAX && sequence.room_left(u64::MAX).is_none());

@@ -2,7 +2,7 @@
 
 use crate::{Context, Scheme, Top, scheme_text, type_text};
 use nesl_types::Class;
-use nesl_types_bank::{Bank, Shape, Ty};
+use nesl_types_bank::Ty;
 use std::alloc::{AllocError, Global};
 use std::test::Fail;
 
@@ -13,13 +13,6 @@ fn doubled(alloc: Global, leaf: Ty, depth: usize) -> Result<Ty, AllocError> {
         ty = Ty::both(alloc, &ty, &ty)?;
     }
     Ok(ty)
-}
-
-// The scheme of a function that takes a type, and gives pairs of pairs of 4,095 nodes of it.
-fn large(alloc: Global) -> Result<Scheme, AllocError> {
-    let takes = Ty::variable(alloc, 3)?;
-    let gives = doubled(alloc, Ty::variable(alloc, 3)?, 11)?;
-    Scheme::new(alloc, &takes, &gives, &[])
 }
 
 #[test]
@@ -37,7 +30,7 @@ fn schemes_are_numbered(rt: HostRuntime) -> Result<(), Fail> {
     assert!(rt; scheme.classes[1] == Class::Any);
     let again = Scheme::new(alloc, &first, &item, &[Class::Number])?;
     let other = Scheme::new(alloc, &first, &item, &[])?;
-    assert!(rt; scheme.same(&again) && !scheme.same(&other) && !scheme.same(&large(alloc)?));
+    assert!(rt; scheme.same(&again) && !scheme.same(&other));
     Ok(())
 }
 
@@ -82,28 +75,37 @@ fn names_keep_their_places(rt: HostRuntime) -> Result<(), Fail> {
     Ok(())
 }
 
+// Makes each of so many names a function that takes a type and gives the other.
+fn set_functions(
+    alloc: Global,
+    context: &mut Context<u64>,
+    names: u64,
+    takes: &Ty,
+    gives: &Ty,
+) -> Result<(), AllocError> {
+    for number in 0..names {
+        let name = format!(in alloc; "h{number}")?;
+        let scheme = Scheme::new(alloc, takes, gives, &[])?;
+        context.set(alloc, name.as_bytes(), Top::Function(scheme), number)?;
+    }
+    Ok(())
+}
+
 #[test]
 fn equal_types_are_kept_once(rt: HostRuntime) -> Result<(), Fail> {
     let alloc = rt.alloc();
     let mut context: Context<u64> = Context::new(alloc);
-    for number in 0..9_900u64 {
-        let name = format!(in alloc; "h{number}")?;
-        context.set(alloc, name.as_bytes(), Top::Function(large(alloc)?), number)?;
-    }
+    let takes = Ty::variable(alloc, 3)?;
+    let gives = doubled(alloc, Ty::variable(alloc, 3)?, 11)?;
+    set_functions(alloc, &mut context, 9_900, &takes, &gives)?;
     assert!(rt; context.len() == 9_900 && context.kept() == 2);
     match context.get(b"h9899") {
-        Some((Top::Function(scheme), _)) => assert!(rt; scheme.same(&large(alloc)?)),
+        Some((Top::Function(scheme), _)) => {
+            assert!(rt; scheme.result.nodes() == 4095 && scheme.result.parts().len() == 12);
+        }
         _ => assert!(rt; false),
     }
-    for number in 0..9_900u64 {
-        let name = format!(in alloc; "h{number}")?;
-        context.set(
-            alloc,
-            name.as_bytes(),
-            Top::Variable(Ty::int(alloc)?),
-            number,
-        )?;
-    }
+    set_functions(alloc, &mut context, 9_900, &takes, &takes)?;
     assert!(rt; context.len() == 9_900 && context.kept() == 1);
     Ok(())
 }
@@ -112,12 +114,10 @@ fn equal_types_are_kept_once(rt: HostRuntime) -> Result<(), Fail> {
 fn types_of_names_that_change_go(rt: HostRuntime) -> Result<(), Fail> {
     let alloc = rt.alloc();
     let mut context: Context<u64> = Context::new(alloc);
-    let mut bank = Bank::new(alloc);
-    let mut place = bank.put(Shape::Int)?;
+    let mut ty = Ty::int(alloc)?;
     for number in 0..100u64 {
-        place = bank.put(Shape::SeqOf(place))?;
-        let ty = Ty::read(alloc, &bank, place)?;
-        context.set(alloc, b"it", Top::Variable(ty), number)?;
+        ty = Ty::seq_of(alloc, &ty)?;
+        context.set(alloc, b"it", Top::Variable(ty.duplicate(alloc)?), number)?;
     }
     assert!(rt; context.len() == 1 && context.kept() == 1);
     Ok(())
