@@ -84,7 +84,8 @@ IsFirstLeft places (Var v) q = ⊥
 IsFirstLeft places (Named n) q = ⊥
 IsFirstLeft places (SeqOf p) q = (q ≡ p) × (moved_to places p ≡ None)
 IsFirstLeft places (Both p r) q =
-    ((q ≡ p) × (moved_to places p ≡ None)) ⊎ ((q ≡ r) × ((moved_to places r ≡ None) × ((a : ℕ) × (moved_to places p ≡ Some a))))
+    ((q ≡ p) × (moved_to places p ≡ None))
+    ⊎ ((q ≡ r) × ((moved_to places r ≡ None) × ((a : ℕ) × (moved_to places p ≡ Some a))))
 
 -- what comes next for a shape: it, where its parts were moved, or the first of them that wasn't
 abbrev pub IsStep : List (Option ℕ) → Shape → Step → Type 0
