@@ -1,8 +1,8 @@
 -- What is marked of the places that code reaches.
-use Rattle.std.proofs.Common.{◌≡◌, ℕ, zero, suc, ◌+◌, ◌<◌, ◌≤◌, ◌==◌, ◌||◌, List, [], ◌∷◌, ◌++◌, length, Bool, true, false, cond, Option, Some, None, refl, sym, ap, ◌∙◌, subst, get_or, set, arith, map, slice_get, append_assoc, append-nil, length-append, length-set, take, ◌⊎◌, inl, inr, ◌*◌, Vec, Box, Global, rules, replicate}
+use Rattle.std.proofs.Common.{◌≡◌, ℕ, zero, suc, ◌+◌, ◌<◌, ◌≤◌, ◌==◌, ◌||◌, List, [], ◌∷◌, ◌++◌, length, Bool, true, false, cond, Option, Some, None, refl, sym, ap, ◌∙◌, subst, get_or, set, arith, slice_get, append_assoc, append-nil, length-append, length-set, take, ◌⊎◌, inl, inr, ◌*◌, Vec, Box, Global, rules, replicate}
 use Rattle.std.specs.Prelude.{All, Contains, sum_by}
 use Rattle.std.specs.List.{AllByRecursion, list_any}
-use Rattle.std.proofs.lemmas.List.{length-map, take_more}
+use Rattle.std.proofs.lemmas.List.{take_more}
 use Rattle.std.proofs.lemmas.List.Elements.{All-from_recursion}
 use Rattle.std.proofs.lemmas.List.Folds.{list_any-append}
 use Rattle.std.proofs.lemmas.List.Sums.{sum_by-set, sum_by-le, sum_by-cons}
@@ -95,9 +95,9 @@ pub queued_more : (marks : List Bool) (queue : List ℕ) (place : ℕ) → AreQu
 queued_more marks queue place q k m =
     let both = list_any-append (λ (p : ℕ). p == k) queue (place ∷ []) in
     elim (set_read marks place k true true m) [
-        inl e ↦ both ∙ or_second (list_any (λ (p : ℕ). p == k) queue) (list_any (λ (p : ℕ). p == k) (place ∷ [])) (or_first (place == k) false (ap (λ (x : ℕ). x == k) (sym e) ∙ same_place k))
-        | inr h ↦ both ∙ or_first (list_any (λ (p : ℕ). p == k) queue) (list_any (λ (p : ℕ). p == k) (place ∷ [])) (q k h)
-        ]
+      | inl e ↦ both ∙ or_second (list_any (λ (p : ℕ). p == k) queue) (list_any (λ (p : ℕ). p == k) (place ∷ [])) (or_first (place == k) false (ap (λ (x : ℕ). x == k) (sym e) ∙ same_place k))
+      | inr h ↦ both ∙ or_first (list_any (λ (p : ℕ). p == k) queue) (list_any (λ (p : ℕ). p == k) (place ∷ [])) (q k h)
+    ]
 
 abbrev one : Bool → ℕ
 one m = cond m 1 0
@@ -219,13 +219,13 @@ module _ (t : Table) (old new : List Bool) (q r : List ℕ) (next place : ℕ) w
   bodies_more inside here g into before i j body h there stands =
       let front : slice_get r i ≡ slice_get q i = ap (λ x. slice_get x i) g.added.1 ∙ front_read q g.added.0 i (omega (arith, h, inside)) in
       elim (cases_lt i next) [
-          inl less ↦ marks_kept t old new q r body g (before i j body less (sym front ∙ there) stands)
-          | inr most ↦
-          let same : i ≡ next = omega (arith, h, most) in
-          let read : Some place ≡ Some j = ap (λ x. Some x) here ∙ sym (slice_get-get_or q next place inside) ∙ ap (slice_get q) (sym same) ∙ sym front ∙ there in
-          let at : place ≡ j = cc in
-          into body (ap (slot_at t) at ∙ stands)
-          ]
+        | inl less ↦ marks_kept t old new q r body g (before i j body less (sym front ∙ there) stands)
+        | inr most ↦
+            let same : i ≡ next = omega (arith, h, most) in
+            let read : Some place ≡ Some j = ap (λ x. Some x) here ∙ sym (slice_get-get_or q next place inside) ∙ ap (slice_get q) (sym same) ∙ sym front ∙ there in
+            let at : place ≡ j = cc in
+            into body (ap (slot_at t) at ∙ stands)
+      ]
 
 -- once all that stand in the queue were gone into
 pub all_reached : (t : Table) (c : Code) (marks : List Bool) (queue : List ℕ) (next places : ℕ) → places ≡ length t → length marks ≡ length t → length queue ≤ next → AreQueued marks queue → Marks t marks c
@@ -233,7 +233,3 @@ pub all_reached : (t : Table) (c : Code) (marks : List Bool) (queue : List ℕ) 
     → (k : ℕ) → Reaches t c k → k < places → IsMarked marks k
 all_reached t c marks queue next places p n past queued own bodies k r h =
     reached_marked t c marks (sym n) own (λ j body m stands. let i = place_in queue j (queued j m) in bodies i.0 j body (omega (arith, past, i.1)) i.2 stands) k r (omega (arith, h, p, n))
-
--- a table has as many places as there are names
-pub as_many : {X Y Z : Type 0} (ts : List (X × Y)) (bs : List Z) (names : List X) (name : Z → X) (n : ℕ) → n ≡ length bs → map (λ t. t.0) ts ≡ names → names ≡ map name bs → n ≡ length ts
-as_many ts bs names name n e f g = e ∙ sym (length-map bs name) ∙ ap length (sym g) ∙ ap length (sym f) ∙ length-map ts (λ t. t.0)

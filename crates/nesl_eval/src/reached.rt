@@ -18,8 +18,8 @@ struct Reached {
     ghost once: { length queue.items ≡ count_of marks.items },
 }
 
-/// Whether code reaches each place, of which there are so many: it refers to it, or a function that it reaches does. Other
-/// places may be marked too.
+/// Whether code reaches each place, of which there are so many: it refers to it, or a function that it reaches does.
+/// Other places may be marked too.
 pub(crate) fn places_reached(
     alloc: Global,
     tops: &TopLevel<'_>,
@@ -27,7 +27,8 @@ pub(crate) fn places_reached(
     code: &Code,
 ) -> Result<Vec<bool>, AllocError>
     requires { places ≡ length (table_in tops.now) }
-    ensures { IfOk result (λ marks. (k : ℕ) → Reaches (table_in tops.now) code.now k → k < places → IsMarked marks.items k) }
+    ensures { IfOk result (λ marks. (k : ℕ)
+        → Reaches (table_in tops.now) code.now k → k < places → IsMarked marks.items k) }
 {
     let mut reached = Reached::new(alloc, places)?;
     reached.go_through(tops, code)?;
@@ -54,8 +55,10 @@ impl Reached {
 
     // Marks the places to which the body of the function at a place refers.
     fn go_into(&mut self, tops: &TopLevel<'_>, place: usize) -> Result<(), AllocError>
-        ensures grows { OnOk result (Grows self.old.marks.items self.new.marks.items self.old.queue.items self.new.queue.items) }
-        ensures marked { OnOk result ((body : Code) → slot_at (table_in tops.now) place ≡ Some (function_slot body) → Marks (table_in tops.now) self.new.marks.items body) }
+        ensures grows { OnOk result
+            (Grows self.old.marks.items self.new.marks.items self.old.queue.items self.new.queue.items) }
+        ensures marked { OnOk result ((body : Code) → slot_at (table_in tops.now) place ≡ Some (function_slot body)
+            → Marks (table_in tops.now) self.new.marks.items body) }
     {
         match tops.held(place) {
             Held::Function(body) => self.go_through(tops, body),
@@ -65,7 +68,8 @@ impl Reached {
 
     // Marks a place, the first time that it is met.
     fn note(&mut self, place: usize) -> Result<(), AllocError>
-        ensures grows { OnOk result (Grows self.old.marks.items self.new.marks.items self.old.queue.items self.new.queue.items) }
+        ensures grows { OnOk result
+            (Grows self.old.marks.items self.new.marks.items self.old.queue.items self.new.queue.items) }
         ensures marked { OnOk result (place < length self.new.marks.items → IsMarked self.new.marks.items place) }
     {
         if place < self.marks.len() && !self.marks[place] {
@@ -77,8 +81,10 @@ impl Reached {
 
     // The same of a name's place.
     fn note_name(&mut self, tops: &TopLevel<'_>, name: &[u8]) -> Result<(), AllocError>
-        ensures grows { OnOk result (Grows self.old.marks.items self.new.marks.items self.old.queue.items self.new.queue.items) }
-        ensures marked { OnOk result ((k : ℕ) → place_of (names_of (table_in tops.now)) name.now ≡ Some k → k < length self.new.marks.items → IsMarked self.new.marks.items k) }
+        ensures grows { OnOk result
+            (Grows self.old.marks.items self.new.marks.items self.old.queue.items self.new.queue.items) }
+        ensures marked { OnOk result ((k : ℕ) → place_of (names_of (table_in tops.now)) name.now ≡ Some k
+            → k < length self.new.marks.items → IsMarked self.new.marks.items k) }
     {
         match tops.place_of(name) {
             Some(place) => self.note(place),
@@ -89,7 +95,8 @@ impl Reached {
     // Marks the places that code refers to. It recurs as deep as the code is high.
     #[cycle(marking)]
     fn go_through(&mut self, tops: &TopLevel<'_>, code: &Code) -> Result<(), AllocError>
-        ensures grows { OnOk result (Grows self.old.marks.items self.new.marks.items self.old.queue.items self.new.queue.items) }
+        ensures grows { OnOk result
+            (Grows self.old.marks.items self.new.marks.items self.old.queue.items self.new.queue.items) }
         ensures marked { OnOk result (Marks (table_in tops.now) self.new.marks.items code.now) }
     {
         match code {
@@ -156,7 +163,8 @@ impl Reached {
 
     #[cycle(marking)]
     fn go_through_all(&mut self, tops: &TopLevel<'_>, codes: &[Code]) -> Result<(), AllocError>
-        ensures grows { OnOk result (Grows self.old.marks.items self.new.marks.items self.old.queue.items self.new.queue.items) }
+        ensures grows { OnOk result
+            (Grows self.old.marks.items self.new.marks.items self.old.queue.items self.new.queue.items) }
         ensures marked { OnOk result (AllByRecursion (Marks (table_in tops.now) self.new.marks.items) codes.now) }
     {
         for code in codes {

@@ -19,6 +19,6 @@ returns-in_ok-push-clause-marked c h = set_there c.args.self.now.marks.items c.a
 
 pub returns-else-place-len-clause-marked : goal.returns-else-place-len-clause-marked
 returns-else-place-len-clause-marked c h = elim c.else-place-len.branch [
-    else-place-len-via-then-place-len+else-not-index w ↦ slice_get-get_or c.args.self.now.marks.items c.args.place w.index.result.now h ∙ ap (λ x. Some x) (sym w.index.ensures ∙ w.if-not-index.false)
-    | else-place-len-via-else-place-len w ↦ absurd (omega (arith, h, w.if-place-len.false, c.len.ensures))
-    ]
+  | else-place-len-via-then-place-len+else-not-index w ↦ slice_get-get_or c.args.self.now.marks.items c.args.place w.index.result.now h ∙ ap (λ x. Some x) (sym w.index.ensures ∙ w.if-not-index.false)
+  | else-place-len-via-else-place-len w ↦ absurd (omega (arith, h, w.if-place-len.false, c.len.ensures))
+]
