@@ -1,2 +1,3 @@
 pub mod Meant
 pub mod Copying
+pub mod Reaching

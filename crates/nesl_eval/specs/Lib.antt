@@ -1,2 +1,3 @@
 pub mod Tells
 pub mod Copied
+pub mod Reached

@@ -12,6 +12,7 @@ ghost use Rattle.nesl_eval.specs.Tells.{Tells};
 ghost use Rattle.nesl_eval.specs.Copied.{AreCopies, copies-prop, tree_at};
 
 use crate::outcome::{Outcome, evaluate};
+use crate::reached::places_reached;
 use nesl_code::{Code, Env, TopLevel, prepare, runs_as_meant};
 use nesl_nodes::held::{Held, Tops};
 use nesl_tree::tree::Exp;
@@ -72,8 +73,8 @@ fn copies_for<'e, A: Allocator + Copy>(
     ensures stands { IfOk result (λ c. (n : ℕ) → IsTableOf n (environment env.now) (table_in c.tops)) }
 {
     let tops = env.top_level();
-    let seen = places_reached(alloc, &tops, env.len(), code)?;
-    let values = copied(alloc, &tops, seen.as_slice(), heap)?;
+    let reached = places_reached(alloc, &tops, env.len(), code)?;
+    let values = copied(alloc, &tops, reached.as_slice(), heap)?;
     Ok(Copies { tops, values })
 }
 
@@ -149,126 +150,5 @@ pub fn eval_one_in<A: Allocator + Copy>(
     match copies_for(alloc, env, &code, heap) {
         Ok(copies) => evaluate(&copies, &code, levels, fuel, heap),
         Err(_) => Outcome::Memory,
-    }
-}
-
-/// The places that were met, and the functions whose bodies are still to be gone through.
-#[derive(Drop)]
-struct Reached {
-    seen: Vec<bool>,
-    pending: Vec<usize>,
-}
-
-// Whether code can reach each place: it refers to it, or a function that it can reach does.
-fn places_reached(
-    alloc: Global,
-    tops: &TopLevel<'_>,
-    places: usize,
-    code: &Code,
-) -> Result<Vec<bool>, AllocError> {
-    let mut reached = Reached {
-        seen: Vec::from_elem(alloc, false, places)?,
-        pending: Vec::new(alloc),
-    };
-    reached.go_through(tops, code)?;
-    for _ in 0..places {
-        let Some(place) = reached.pending.pop() else {
-            break;
-        };
-        if let nesl_code::Held::Function(body) = tops.held(place) {
-            reached.go_through(tops, body)?;
-        }
-    }
-    Ok(reached.seen)
-}
-
-impl Reached {
-    // Notes a place, the first time that it is met.
-    fn note(&mut self, place: usize) -> Result<(), AllocError> {
-        if place < self.seen.len() && !self.seen[place] {
-            self.seen[place] = true;
-            self.pending.push(place)?;
-        }
-        Ok(())
-    }
-
-    fn note_name(&mut self, tops: &TopLevel<'_>, name: &[u8]) -> Result<(), AllocError> {
-        match tops.place_of(name) {
-            Some(place) => self.note(place),
-            None => Ok(()),
-        }
-    }
-
-    // Notes the places that code refers to. It recurs as deep as the code is high.
-    #[cycle(marking)]
-    fn go_through(&mut self, tops: &TopLevel<'_>, code: &Code) -> Result<(), AllocError> {
-        match code {
-            Code::Top { place, .. } => self.note(*place),
-            Code::Named { name, .. } => self.note_name(tops, name),
-            Code::Call {
-                place,
-                argument,
-                ..
-            } => {
-                self.note(*place)?;
-                self.go_through(tops, argument)
-            }
-            Code::CallNamed { name, argument, .. } => {
-                self.note_name(tops, name)?;
-                self.go_through(tops, argument)
-            }
-            Code::Apply { argument, .. } => self.go_through(tops, argument),
-            Code::Pair { left, right, .. } => {
-                self.go_through(tops, left)?;
-                self.go_through(tops, right)
-            },
-            Code::ApplyTwo { left, right, .. } => {
-                self.go_through(tops, left)?;
-                self.go_through(tops, right)
-            },
-            Code::ApplyThree {
-                first,
-                second,
-                third,
-                ..
-            } => {
-                self.go_through(tops, first)?;
-                self.go_through(tops, second)?;
-                self.go_through(tops, third)
-            }
-            Code::Choice { test, yes, no, .. } => {
-                self.go_through(tops, test)?;
-                self.go_through(tops, yes)?;
-                self.go_through(tops, no)
-            }
-            Code::Sequence { parts, .. } => self.go_through_all(tops, parts),
-            Code::Let { bindings, body, .. } => {
-                self.go_through_all(tops, bindings)?;
-                self.go_through(tops, body)
-            }
-            Code::Each { sources, body, .. } => {
-                self.go_through_all(tops, sources)?;
-                self.go_through(tops, body)
-            }
-            Code::FilteredEach {
-                sources,
-                body,
-                filter,
-                ..
-            } => {
-                self.go_through_all(tops, sources)?;
-                self.go_through(tops, body)?;
-                self.go_through(tops, filter)
-            }
-            _ => Ok(()),
-        }
-    }
-
-    #[cycle(marking)]
-    fn go_through_all(&mut self, tops: &TopLevel<'_>, codes: &[Code]) -> Result<(), AllocError> {
-        for code in codes {
-            self.go_through(tops, code)?;
-        }
-        Ok(())
     }
 }

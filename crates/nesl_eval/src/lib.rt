@@ -5,7 +5,9 @@ mod copies;
 mod eval;
 mod one;
 mod outcome;
+mod reached;
 
 pub use copies::eval_one_in;
+pub use nesl_code::Env;
 pub use one::eval_one;
 pub use outcome::{Outcome, outcome_of};

@@ -13,16 +13,16 @@ use Rattle.nesl_step.specs.Solo.{Replays, Alone, Responds}
 use Rattle.nesl_step.specs.Laws.{GoesOn, OneRun, OneState}
 use Rattle.nesl_house.specs.Script.{Event, lines_of, replies_of, own, kept}
 use Rattle.nesl_house.specs.Laws.{ScriptsFollow, SameBindings, OwnLinesDecide}
-use Rattle.nesl_house.specs.Runs.{Seat, roster_of, session_of, AllReplay, RunsAlone, IsTold, Runs}
+use Rattle.nesl_house.specs.Runs.{Account, roster_of, session_of, AllReplay, RunsAlone, IsTold, Runs}
 
 -- a session that is found is a replay
-found_here : (b : Bool) (seat : Seat) (rest : Option Log) (log : Log) → (s : State) × Replays seat.session s → (rest ≡ Some log → (s : State) × Replays log s) → cond b (Some seat.session) rest ≡ Some log → (s : State) × Replays log s
-found_here true seat rest log here there e = let same : seat.session ≡ log = cc in let P : Log → Type 0 = λ x. (s : State) × Replays x s in subst P same here
-found_here false seat rest log here there e = there e
+found_here : (b : Bool) (account : Account) (rest : Option Log) (log : Log) → (s : State) × Replays account.session s → (rest ≡ Some log → (s : State) × Replays log s) → cond b (Some account.session) rest ≡ Some log → (s : State) × Replays log s
+found_here true account rest log here there e = let same : account.session ≡ log = cc in let P : Log → Type 0 = λ x. (s : State) × Replays x s in subst P same here
+found_here false account rest log here there e = there e
 
-pub session_replays : (seats : List Seat) (user : List ℕ) (log : Log) → AllReplay seats → session_of seats user ≡ Some log → (s : State) × Replays log s
+pub session_replays : (accounts : List Account) (user : List ℕ) (log : Log) → AllReplay accounts → session_of accounts user ≡ Some log → (s : State) × Replays log s
 session_replays [] user log all e = absurd (cc)
-session_replays (seat ∷ seats) user log all e = found_here (bytes_eq seat.name user) seat (session_of seats user) log all.0 (session_replays seats user log all.1) e
+session_replays (account ∷ accounts) user log all e = found_here (bytes_eq account.name user) account (session_of accounts user) log all.0 (session_replays accounts user log all.1) e
 
 -- a session that is told nothing stays as it is
 alone_none : (log : Log) (s : State) → Replays log s → Alone log [] [] log
@@ -33,7 +33,7 @@ pub alone_silent : (o : Option Log) → ((log : Log) → o ≡ Some log → (s :
 alone_silent None h = refl
 alone_silent (Some log) h = let r = h log refl in (log, refl, alone_none log r.0 r.1)
 
-pub runs_none : (house : List Seat) → AllReplay house → Runs house [] house
+pub runs_none : (house : List Account) → AllReplay house → Runs house [] house
 runs_none house all = record { roster = refl; each = tt; users = λ user. alone_silent (session_of house user) (λ log. session_replays house user log all) }
 
 all_append : {X : Type 0} (P Q : X → Type 0) → ((x : X) → Q x → P x) → (xs ys : List X) → AllByRecursion P xs → AllByRecursion Q ys → AllByRecursion P (xs ++ ys)
@@ -81,7 +81,7 @@ alone_decided one_run one two session es fs after_one after_two p q e f same =
     (u.0, a.1 ∙ ap (λ (x : Log). Some x) u.1 ∙ sym b.1)
 
 -- one session has one list of bindings
-pub same_bindings : OneState → (house other : List Seat) (user : List ℕ) → session_of house user ≡ session_of other user → SameBindings house other user
+pub same_bindings : OneState → (house other : List Account) (user : List ℕ) → session_of house user ≡ session_of other user → SameBindings house other user
 same_bindings one_state house other user e bindings others a b =
     let both : Some a.session ≡ Some b.session = sym a.has ∙ e ∙ b.has in
     let same : a.session ≡ b.session = cc in
@@ -109,7 +109,7 @@ one_user true e old new o p h k = h refl
 one_user false e old new o p h k = let P : Option Log → Type 0 = λ x. RunsAlone o [] x in subst P (k refl).0 (k refl).1
 
 -- a line of a user who is in the house
-pub runs_one : (house house' : List Seat) (e : Event) (old new : Log) → AllReplay house → roster_of house' ≡ roster_of house → session_of house e.user ≡ Some old → session_of house' e.user ≡ Some new
+pub runs_one : (house house' : List Account) (e : Event) (old new : Log) → AllReplay house → roster_of house' ≡ roster_of house → session_of house e.user ≡ Some old → session_of house' e.user ≡ Some new
     → ((v : List ℕ) → bytes_eq e.user v ≡ false → session_of house' v ≡ session_of house v) → Responds old e.line e.reply new → Runs house (e ∷ []) house'
 runs_one house house' e old new all names had has others a = record {
   roster = names;
@@ -126,7 +126,7 @@ runs_one house house' e old new all names had has others a = record {
 }
 
 -- a line of a stranger
-pub runs_stranger : (house : List Seat) (e : Event) → AllReplay house → session_of house e.user ≡ None → e.reply ≡ no_user → Runs house (e ∷ []) house
+pub runs_stranger : (house : List Account) (e : Event) → AllReplay house → session_of house e.user ≡ None → e.reply ≡ no_user → Runs house (e ∷ []) house
 runs_stranger house e all none a = record {
   roster = refl;
   each = (record { stranger = λ h. a; memory = λ h. let m : is_memory no_user ≡ true = ap is_memory (sym a) ∙ h in absurd (cc) }, tt);

@@ -3,16 +3,16 @@ use Rattle.std.specs.Prelude.{◌≡◌, ◌++◌, ℕ, List, Some}
 use Rattle.nesl_bindings.specs.Meanings.{Binding}
 use Rattle.nesl_step.specs.State.{Log}
 use Rattle.nesl_house.specs.Script.{Event, kept, lines_of, replies_of}
-use Rattle.nesl_house.specs.Runs.{Seat, session_of, Binds, Runs}
+use Rattle.nesl_house.specs.Runs.{Account, session_of, Binds, Runs}
 
 -- of one script after another, what comes of the second goes on from the house that the first leaves
 abbrev pub ScriptsFollow : Type 0
 ScriptsFollow =
-    (old mid new : List Seat) (first second : List Event)
+    (old mid new : List Account) (first second : List Event)
     → Runs old first mid → Runs mid second new → Runs old (first ++ second) new
 
 -- whatever a user's names stand for in the one house, they stand for in the other
-abbrev pub SameBindings : List Seat → List Seat → List ℕ → Type 0
+abbrev pub SameBindings : List Account → List Account → List ℕ → Type 0
 SameBindings house other user =
     (bindings others : List Binding) → Binds house user bindings → Binds other user others → bindings ≡ others
 
@@ -20,7 +20,7 @@ SameBindings house other user =
 -- same replies, and leave the same session and the same bindings.
 abbrev pub OwnLinesDecide : Type 0
 OwnLinesDecide =
-    (one two after_one after_two : List Seat) (said_one said_two : List Event) (user : List ℕ) (session : Log)
+    (one two after_one after_two : List Account) (said_one said_two : List Event) (user : List ℕ) (session : Log)
     → Runs one said_one after_one → Runs two said_two after_two
     → session_of one user ≡ Some session → session_of two user ≡ Some session
     → lines_of (kept user said_one) ≡ lines_of (kept user said_two)

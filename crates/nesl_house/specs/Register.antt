@@ -1,4 +1,4 @@
--- What tables and leases are to their callers.
+-- What tables, seats and leases are to their callers.
 use Rattle.std.specs.Prelude.{ℕ, List}
 use Rattle.nesl_step.specs.declared.limits.Limits.{Limits}
 use Rattle.nesl_step.specs.State.{Log}
@@ -8,9 +8,13 @@ pub record Register : Type 0 where
   pub roster : List (List ℕ)
   pub limits : Limits
 
--- a session that is out: the place that it came from, the lines that it had been told when it was taken out, and what
--- it is now
-pub record Leased : Type 0 where
+-- a place of a table, and the session that is told lines there
+pub record Seat : Type 0 where
   pub place : ℕ
-  pub counted : ℕ
   pub session : Log
+
+-- a seat that is out, with its session as that is now, and the lines that the session had been told when it was taken
+-- out
+pub record Leased : Type 0 where
+  pub seat : Seat
+  pub counted : ℕ

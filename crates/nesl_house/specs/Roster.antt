@@ -7,7 +7,7 @@ use Rattle.nesl_step.specs.declared.limits.Limits.{Limits}
 use Rattle.nesl_step.specs.State.{unsaid}
 use Rattle.nesl_house.specs.declared.roster.NewFault.{NewFault}
 use Rattle.nesl_house.specs.declared.roster.NewFault.TheVariants.{Count, Name, Twice, Memory}
-use Rattle.nesl_house.specs.Runs.{Seat}
+use Rattle.nesl_house.specs.Runs.{Account}
 
 -- a to z
 abbrev pub is_letter : ℕ → Bool
@@ -58,10 +58,10 @@ pub data IsRefused (names : List (List ℕ)) : NewFault → Type 0 where
       → is_user_name it ≡ true → Contains before it → IsRefused names (Twice (length before))
   no_memory_left : IsRoster names → IsRefused names Memory
 
--- a seat with an empty session
-abbrev pub fresh : Limits → List ℕ → Seat
+-- an account with an empty session
+abbrev pub fresh : Limits → List ℕ → Account
 fresh limits name = record { name = name; session = unsaid limits }
 
 -- the house in which each of these users has an empty session
-abbrev pub opened : Limits → List (List ℕ) → List Seat
+abbrev pub opened : Limits → List (List ℕ) → List Account
 opened limits names = map (fresh limits) names

@@ -8,26 +8,27 @@ use Rattle.nesl_step.specs.Response.{no_memory, no_user, is_memory}
 use Rattle.nesl_step.specs.Solo.{Replays, Alone}
 use Rattle.nesl_house.specs.Script.{Event, lines_of, replies_of, kept}
 
--- A house is a list of seats: a user's name, and that user's session.
-pub record Seat : Type 0 where
+-- A house is a list of accounts: a user's name, and that user's session.
+pub record Account : Type 0 where
   pub name : List ℕ
   pub session : Log
 
 -- the names of the users, in order
-abbrev pub roster_of : List Seat → List (List ℕ)
-roster_of house = map (λ seat. seat.name) house
+abbrev pub roster_of : List Account → List (List ℕ)
+roster_of house = map (λ account. account.name) house
 
 -- the session of this user, if this is one
-abbrev pub session_of : List Seat → List ℕ → Option Log
+abbrev pub session_of : List Account → List ℕ → Option Log
 session_of [] user = None
-session_of (seat ∷ seats) user = if bytes_eq seat.name user then Some seat.session else session_of seats user
+session_of (account ∷ accounts) user =
+    if bytes_eq account.name user then Some account.session else session_of accounts user
 
 -- each session is the replay of the lines that it stored
-abbrev pub AllReplay : List Seat → Type 0
-AllReplay house = AllByRecursion (λ seat. (s : State) × Replays seat.session s) house
+abbrev pub AllReplay : List Account → Type 0
+AllReplay house = AllByRecursion (λ account. (s : State) × Replays account.session s) house
 
 -- the names of this user's session and what they stand for: the bindings of the state that it is the replay to
-pub record Binds (house : List Seat) (user : List ℕ) (bindings : List Binding) : Type 0 where
+pub record Binds (house : List Account) (user : List ℕ) (bindings : List Binding) : Type 0 where
   pub session : Log
   pub state : State
   pub has : session_of house user ≡ Some session
@@ -42,13 +43,13 @@ RunsAlone (Some old) events after =
     (new : Log) × (after ≡ Some new) × Alone old (lines_of events) (replies_of events) new
 
 -- A stranger is told `fault user`. Who is told of want of memory is told nothing else.
-pub record IsTold (house : List Seat) (e : Event) : Type 0 where
+pub record IsTold (house : List Account) (e : Event) : Type 0 where
   pub stranger : session_of house e.user ≡ None → e.reply ≡ no_user
   pub memory : is_memory e.reply ≡ true → e.reply ≡ no_memory
 
 -- The house `old` answers a script so, one line after another, and is the house `new` then: the same users, each of
 -- whom was told what a session alone tells of that user's kept lines.
-pub record Runs (old : List Seat) (events : List Event) (new : List Seat) : Type 0 where
+pub record Runs (old : List Account) (events : List Event) (new : List Account) : Type 0 where
   pub roster : roster_of new ≡ roster_of old
   pub each : AllByRecursion (IsTold old) events
   pub users : (user : List ℕ) → RunsAlone (session_of old user) (kept user events) (session_of new user)

@@ -17,7 +17,7 @@ use std::alloc::{AllocError, Allocator, Global};
 use std::marker::Model;
 use std::thread::Threads;
 
-/// The users of a house, in the order of its roster. Contracts see the list of their seats.
+/// The users of a house, in the order of its roster. Contracts see the list of their accounts.
 pub struct House {
     users: Vec<User>,
 }
@@ -32,9 +32,9 @@ impl Drop for House {
 
 impl Model for House {
     ghost use Rattle.std.specs.Prelude.{List};
-    ghost use Rattle.nesl_house.specs.Runs.{Seat, AllReplay};
+    ghost use Rattle.nesl_house.specs.Runs.{Account, AllReplay};
 
-    ghost Value = { List Seat };
+    ghost Value = { List Account };
 
     ghost view = { λ h. h.users.items };
 
@@ -232,7 +232,7 @@ impl House {
 
 // The place of a user.
 fn place_of(users: &[User], user: &[u8]) -> Option<usize>
-    ensures { result ≡ position (λ seat. bytes_eq seat.name user.now) users.now }
+    ensures { result ≡ position (λ account. bytes_eq account.name user.now) users.now }
 {
     users.iter().position(|u| u.name() == user)
 }

@@ -1,8 +1,9 @@
-//! A session that is out of the table.
-ghost use Rattle.std.specs.Prelude.{◌≡◌, ◌+◌, ◌<◌};
+//! A seat that is out of the table.
+ghost use Rattle.std.specs.Prelude.{◌≡◌, ◌+◌};
 ghost use Rattle.nesl_step.specs.State.{told_lines};
 ghost use Rattle.nesl_step.specs.Solo.{Responds};
 
+use crate::seat::Seat;
 use nesl_helpers::{Gate, Helpers};
 use nesl_session::answer::Answer;
 use nesl_session::laws::told_lines_grow;
@@ -11,24 +12,23 @@ use std::alloc::Global;
 use std::marker::Model;
 use std::thread::Threads;
 
-/// A session that was taken out of a table. It goes back by `give`. Contracts see where it was taken from, how many
-/// lines it had been told, and the session.
+/// A seat that was taken out of a table. It goes back by `give`. Contracts see the seat, and how many lines its session
+/// had been told.
 pub struct Lease {
-    place: usize,
+    seat: Seat,
     counted: u64,
-    session: Session,
 }
 
 impl Model for Lease {
-    ghost use Rattle.std.specs.Prelude.{◌<◌, ◌≤◌};
+    ghost use Rattle.std.specs.Prelude.{◌≤◌};
     ghost use Rattle.nesl_step.specs.State.{told_lines};
     ghost use Rattle.nesl_house.specs.Register.{Leased};
 
     ghost Value = { Leased };
 
-    ghost view = { λ l. record { place = l.place; counted = l.counted; session = l.session } };
+    ghost view = { λ l. record { seat = l.seat; counted = l.counted } };
 
-    ghost invariant = { λ l. (l.place < 64) × (l.counted ≤ told_lines l.session) };
+    ghost invariant = { λ l. l.counted ≤ told_lines l.seat.session };
 }
 
 /// The lines that were told to the session of a place under a lease.
@@ -39,30 +39,26 @@ pub struct Receipt {
 }
 
 impl Lease {
-    /// A lease of a session that was taken out of this place.
-    pub(crate) fn new(place: usize, session: Session) -> Lease
-        requires { place < 64 }
-        ensures { result ≡ record { place = place; counted = told_lines session; session = session } }
+    /// A lease of a seat that was taken out.
+    pub(crate) fn new(seat: Seat) -> Lease
+        ensures { result ≡ record { seat = seat; counted = told_lines seat.session } }
     {
-        Lease {
-            place,
-            counted: session.told_lines(),
-            session,
-        }
+        let counted = seat.session().told_lines();
+        Lease { seat, counted }
     }
 
-    /// The place that the session was taken from.
+    /// The place that the seat was taken from.
     pub fn place(&self) -> usize
-        ensures { result ≡ self.now.place }
+        ensures { result ≡ self.now.seat.place }
     {
-        self.place
+        self.seat.place()
     }
 
     /// The session.
     pub fn session(&self) -> &Session
-        ensures { result.now ≡ self.now.session }
+        ensures { result.now ≡ self.now.seat.session }
     {
-        &self.session
+        self.seat.session()
     }
 
     /// One line of the session, evaluated in halves that threads share where `helpers` are granted. Nothing else changes
@@ -75,25 +71,22 @@ impl Lease {
         helpers: &H,
         gate: &G,
     ) -> Answer
-        ensures answers { Responds self.old.session text.now result self.new.session }
-        ensures kept { (self.new.place ≡ self.old.place) × (self.new.counted ≡ self.old.counted) }
+        ensures answers { Responds self.old.seat.session text.now result self.new.seat.session }
+        ensures kept { (self.new.seat.place ≡ self.old.seat.place) × (self.new.counted ≡ self.old.counted) }
     {
         told_lines_grow();
-        self.session.line_split(rt, alloc, text, helpers, gate)
+        self.seat.line_split(rt, alloc, text, helpers, gate)
     }
 
-    /// The session, and the receipt for what it was told since it was taken out.
-    pub(crate) fn end(self) -> (Session, Receipt)
-        ensures session { result.0 ≡ self.session }
-        ensures place { (result.1.place ≡ self.place) × (self.place < 64) }
-        ensures recorded { result.1.recorded + self.counted ≡ told_lines self.session }
+    /// The seat, and the receipt for what its session was told since it was taken out.
+    pub(crate) fn end(self) -> (Seat, Receipt)
+        ensures seat { result.0 ≡ self.seat }
+        ensures place { result.1.place ≡ self.seat.place }
+        ensures recorded { result.1.recorded + self.counted ≡ told_lines self.seat.session }
     {
-        let Lease {
-            place,
-            counted,
-            session,
-        } = self;
-        let recorded = session.told_lines() - counted;
-        (session, Receipt { place, recorded })
+        let Lease { seat, counted } = self;
+        let place = seat.place();
+        let recorded = seat.session().told_lines() - counted;
+        (seat, Receipt { place, recorded })
     }
 }

@@ -6,6 +6,7 @@ pub mod laws;
 pub mod lease;
 pub mod manner;
 pub mod roster;
+pub mod seat;
 pub mod slots;
 pub mod table;
 pub mod user;

@@ -1,20 +1,21 @@
-//! Places for sessions, each of which is at home or away.
-ghost use Rattle.std.specs.Prelude.{◌≡◌, ℕ, ◌+◌, ◌<◌, ◌^◌, IfOk, IfSome, Some, All, length, position, replicate, slice_get, slice_set, sum_by, false};
+//! Places for seats, each of which is at home or away.
+ghost use Rattle.std.specs.Prelude.{◌≡◌, ℕ, ◌+◌, ◌<◌, ◌^◌, IfOk, IfSome, Some, All, length, map, position, slice_get, slice_set, sum_by, false};
+ghost use Rattle.std.specs.List.{range_with_len};
 ghost use Rattle.std.specs.Option.{IfNone};
-ghost use Rattle.nesl_step.specs.State.{State, told_lines, unsaid};
+ghost use Rattle.nesl_step.specs.State.{State, told_lines};
 ghost use Rattle.nesl_step.specs.Solo.{Replays};
-ghost use Rattle.nesl_house.specs.Slots.{counted, counted_at, is_away};
+ghost use Rattle.nesl_house.specs.Slots.{counted, counted_at, is_away, opened_at, AreInPlace};
 
 use crate::roster::MOST_USERS;
+use crate::seat::Seat;
 use nesl_session::limits::Limits;
-use nesl_session::session::Session;
 use std::alloc::{AllocError, Global};
 use std::mem;
 
-/// A session at home, or the number of lines that one had been told when it was taken out.
+/// A seat at home, or the number of lines that the session of one had been told when it was taken out.
 #[derive(Drop)]
 pub enum Slot {
-    Home(Session),
+    Home(Seat),
     Away(u64),
 }
 
@@ -24,20 +25,21 @@ pub struct Slots {
     pub booked: u128,
     pub slots: Vec<Slot>,
     pub ghost places: { length slots.items ≡ 64 },
+    pub ghost in_place: { AreInPlace slots.items },
     pub ghost counted_all: { booked ≡ sum_by counted slots.items },
     pub ghost small: { All (λ slot. counted slot < 2 ^ 64) slots.items },
 }
 
 impl Slots {
-    /// Empty sessions with these limits at all places.
+    /// The seats of all places, with empty sessions of these limits.
     pub fn new(alloc: Global, limits: Limits) -> Result<Slots, AllocError>
-        ensures slots { IfOk result (λ s. s.slots.items ≡ replicate 64 (Slot.Home (unsaid limits))) }
+        ensures slots { IfOk result (λ s. s.slots.items ≡ map (opened_at limits) (range_with_len 0 64)) }
         ensures booked { IfOk result (λ s. s.booked ≡ 0) }
     {
         let mut slots = Vec::with_capacity(alloc, MOST_USERS)?;
-        for _ in 0..MOST_USERS {
-            let session = Session::new(alloc, limits)?;
-            slots.push_reserved(Slot::Home(session));
+        for place in 0..MOST_USERS {
+            let seat = Seat::new(alloc, place, limits)?;
+            slots.push_reserved(Slot::Home(seat));
         }
         Ok(Slots { booked: 0, slots })
     }
@@ -49,39 +51,38 @@ impl Slots {
         self.slots.iter().position(Slot::is_away)
     }
 
-    /// Takes out the session of a place, which counts its lines from then on.
-    pub fn take_out(&mut self, place: usize) -> Option<Session>
+    /// Takes out the seat of a place, which counts its session's lines from then on.
+    pub fn take_out(&mut self, place: usize) -> Option<Seat>
         requires { place < 64 }
         ensures away { IfNone result ((count : ℕ) × (slice_get self.old.slots.items place ≡ Some (Slot.Away count))) }
         ensures none { IfNone result (self.new ≡ self.old) }
-        ensures home { IfSome result (λ s. slice_get self.old.slots.items place ≡ Some (Slot.Home s)) }
-        ensures some { IfSome result (λ s. self.new.slots.items ≡ slice_set self.old.slots.items place (Slot.Away (told_lines s))) }
+        ensures home { IfSome result (λ seat. slice_get self.old.slots.items place ≡ Some (Slot.Home seat)) }
+        ensures some { IfSome result (λ seat. self.new.slots.items ≡ slice_set self.old.slots.items place (Slot.Away (told_lines seat.session))) }
         ensures booked { self.new.booked ≡ self.old.booked }
     {
         let slot = &mut self.slots[place];
         match slot {
             Slot::Away(_) => None,
-            Slot::Home(session) => {
-                let away = Slot::Away(session.told_lines());
+            Slot::Home(seat) => {
+                let away = Slot::Away(seat.session().told_lines());
                 match mem::replace(slot, away) {
-                    Slot::Home(session) => Some(session),
+                    Slot::Home(seat) => Some(seat),
                     Slot::Away(_) => unreachable!(),
                 }
             }
         }
     }
 
-    /// Puts a session to a place. What the place had counted is counted no longer.
-    pub fn put_back(&mut self, place: usize, session: Session)
-        requires { place < 64 }
-        ensures slots { self.new.slots.items ≡ slice_set self.old.slots.items place (Slot.Home session) }
-        ensures booked { self.new.booked + counted_at self.old.slots.items place ≡ self.old.booked + told_lines session }
+    /// Puts a seat to its place. What the place had counted is counted no longer.
+    pub fn put_back(&mut self, seat: Seat)
+        ensures slots { self.new.slots.items ≡ slice_set self.old.slots.items seat.place (Slot.Home seat) }
+        ensures booked { self.new.booked + counted_at self.old.slots.items seat.place ≡ self.old.booked + told_lines seat.session }
     {
         let Slots { booked, slots } = self;
-        let slot = &mut slots[place];
+        let slot = &mut slots[seat.place()];
         let had = slot.counted();
-        let has = session.told_lines();
-        *slot = Slot::Home(session);
+        let has = seat.session().told_lines();
+        *slot = Slot::Home(seat);
         *booked = *booked - u128::from(had) + u128::from(has);
     }
 }
@@ -92,27 +93,27 @@ impl Slot {
         ensures { result ≡ counted self.now }
     {
         match self {
-            Slot::Home(session) => session.told_lines(),
+            Slot::Home(seat) => seat.session().told_lines(),
             Slot::Away(count) => *count,
         }
     }
 
-    /// Its session, where that is at home. It is the replay of the lines that it stored.
-    pub(crate) fn into_session(self) -> Session
+    /// Its seat, where that is at home. The session there is the replay of the lines that it stored.
+    pub(crate) fn into_seat(self) -> Seat
         requires { is_away self ≡ false }
         ensures home { self ≡ Slot.Home result }
-        ensures replayed { (state : State) × Replays result state }
+        ensures replayed { (state : State) × Replays result.session state }
     {
         match self {
-            Slot::Home(session) => {
-                let _ = session.lines();
-                session
+            Slot::Home(seat) => {
+                let _ = seat.session().lines();
+                seat
             }
             Slot::Away(_) => unreachable!(),
         }
     }
 
-    /// Whether its session is away.
+    /// Whether its seat is away.
     pub fn is_away(&self) -> bool
         ensures { result ≡ is_away self.now }
     {

@@ -1,4 +1,4 @@
-//! The sessions of many users, taken out and given back by many threads.
+//! The seats of many users, taken out and given back by many threads.
 ghost use Rattle.std.specs.Prelude.{◌≡◌, ◌+◌, ◌≤◌, ◌<◌, ◌↔◌, [], IfErr, IfOk, IfSome, IsErrOf, None, OnOk, Some, length, map, position};
 ghost use Rattle.std.specs.Str.{bytes_eq};
 ghost use Rattle.std.specs.Vec.{vec_capacity};
@@ -18,7 +18,7 @@ use std::alloc::{AllocError, Global};
 use std::marker::Model;
 use std::sync::{Mutex, Wait};
 
-/// Users, and their sessions under a lock, which no evaluation holds. Contracts see the roster and the limits.
+/// Users, and their seats under a lock, which no evaluation holds. Contracts see the roster and the limits.
 pub struct Table {
     roster: Vec<Vec<u8>>,
     limits: Limits,
@@ -57,7 +57,7 @@ impl Model for Table {
 pub enum TakeFault {
     /// The roster has no such name.
     NoUser,
-    /// The session is away, or another table's session with other limits stands there.
+    /// The seat is away, or that of another table, whose session has other limits, stands there.
     Busy,
 }
 
@@ -73,7 +73,7 @@ pub struct Closed {
 /// Why a table isn't closed. It is handed back, and the receipts with it.
 #[derive(Drop)]
 pub enum CloseFault {
-    /// The session of this place, the first such, is away.
+    /// The seat of this place, the first such, is away.
     StillOut {
         table: Table,
         receipts: Vec<Receipt>,
@@ -143,12 +143,13 @@ impl Table {
         place_in(self.roster.as_slice(), user)
     }
 
-    /// Takes out a user's session. It waits for the lock alone: while the session is away, it is answered `Busy`.
+    /// Takes out the seat of a user, with the session there. It waits for the lock alone: while the seat is away, it is
+    /// answered `Busy`.
     pub fn take<R: Wait>(&self, rt: &R, user: &[u8]) -> Result<Lease, TakeFault>
         ensures no_user { IsErrOf result TakeFault.NoUser ↔ (place_of self.now.roster user.now ≡ None) }
-        ensures place { IfOk result (λ l. place_of self.now.roster user.now ≡ Some l.place) }
-        ensures limits { IfOk result (λ l. l.session.limits ≡ self.now.limits) }
-        ensures counted { IfOk result (λ l. l.counted ≡ told_lines l.session) }
+        ensures place { IfOk result (λ l. place_of self.now.roster user.now ≡ Some l.seat.place) }
+        ensures limits { IfOk result (λ l. l.seat.session.limits ≡ self.now.limits) }
+        ensures counted { IfOk result (λ l. l.counted ≡ told_lines l.seat.session) }
     {
         let Some(place) = self.place_of(user) else {
             return Err(TakeFault::NoUser);
@@ -156,26 +157,27 @@ impl Table {
         let mut slots = self.slots.lock(rt);
         match slots.take_out(place) {
             None => Err(TakeFault::Busy),
-            Some(session) if session.limits() != self.limits => {
-                slots.put_back(place, session);
+            Some(seat) if seat.session().limits() != self.limits => {
+                slots.put_back(seat);
                 Err(TakeFault::Busy)
             }
-            Some(session) => Ok(Lease::new(place, session)),
+            Some(seat) => Ok(Lease::new(seat)),
         }
     }
 
-    /// Puts a session back, and tells how many lines it was told under the lease.
+    /// Puts a seat back to its place, and tells how many lines its session was told under the lease.
     pub fn give<R: Wait>(&self, rt: &R, lease: Lease) -> Receipt
-        ensures place { result.place ≡ lease.place }
-        ensures recorded { result.recorded + lease.counted ≡ told_lines lease.session }
+        ensures place { result.place ≡ lease.seat.place }
+        ensures recorded { result.recorded + lease.counted ≡ told_lines lease.seat.session }
     {
-        let (session, receipt) = lease.end();
-        self.slots.lock(rt).put_back(receipt.place, session);
+        let (seat, receipt) = lease.end();
+        self.slots.lock(rt).put_back(seat);
         receipt
     }
 
-    /// The house of the table's users, once all sessions are at home and the receipts are for all lines. Sessions past the roster are dropped, though
-    /// their lines are counted: they are empty unless another table's lease was given back.
+    /// The house of the table's users, each with the session of the seat at their place, once all seats are at home and
+    /// the receipts are for all lines. Sessions past the roster are dropped, though their lines are counted: they are
+    /// empty unless another table's lease was given back.
     pub fn close(self, receipts: Vec<Receipt>) -> Result<Closed, CloseFault>
         ensures receipts { IfOk result (λ c. c.lines ≡ recorded_in receipts.items) }
         ensures closed { IfOk result (λ c. IsClosed self.roster c.house c.lines) }
@@ -242,7 +244,7 @@ fn recorded_in(receipts: &[Receipt]) -> u128
     sum
 }
 
-// The users of a roster, each with the session at their place. There is room for them.
+// The users of a roster, each with the session of the seat at their place. There is room for them.
 fn seated(roster: Vec<Vec<u8>>, slots: Vec<Slot>, room: Vec<User>) -> Vec<User>
     requires home { AreHome slots.items }
     requires count { length roster.items ≤ 64 }
@@ -254,9 +256,9 @@ fn seated(roster: Vec<Vec<u8>>, slots: Vec<Slot>, room: Vec<User>) -> Vec<User>
     let mut users = room;
     let mut names = roster.into_iter();
     for slot in slots {
-        let session = slot.into_session();
+        let seat = slot.into_seat();
         if let Some(name) = names.next() {
-            users.push_reserved(User::of(name, session));
+            users.push_reserved(User::of(name, seat.into_session()));
         }
     }
     users

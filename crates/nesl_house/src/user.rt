@@ -19,9 +19,9 @@ pub struct User {
 }
 
 impl Model for User {
-    ghost use Rattle.nesl_house.specs.Runs.{Seat};
+    ghost use Rattle.nesl_house.specs.Runs.{Account};
 
-    ghost Value = { Seat };
+    ghost Value = { Account };
 
     ghost view = { λ u. record { name = u.name.items; session = u.session } };
 }

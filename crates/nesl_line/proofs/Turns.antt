@@ -9,7 +9,7 @@ use Rattle.nesl_step.specs.State.{Log}
 use Rattle.nesl_step.specs.Response.{Response, no_user}
 use Rattle.nesl_house.specs.Script.{Event, kept}
 use Rattle.nesl_house.specs.Laws.{ScriptsFollow}
-use Rattle.nesl_house.specs.Runs.{Seat, roster_of, session_of, AllReplay, Runs}
+use Rattle.nesl_house.specs.Runs.{Account, roster_of, session_of, AllReplay, Runs}
 use Rattle.nesl_house.proofs.Alones.{stays_none, was_none, runs_none}
 use Rattle.nesl_line.specs.Lines.{with_feed}
 use Rattle.nesl_line.specs.Conversation.{IsUserLine, NamesNobody, Turn, selects, stranger, nobody, says, Conversation, silence, goes_on, Talked}
@@ -30,15 +30,15 @@ chosen_some [] h = absurd (omega (arith, h))
 chosen_some (b ∷ bs) h = refl
 
 -- nothing was said to a session
-silent : (house start : List Seat) (before : List Event) → Runs start before house → Runs start (before ++ []) house
+silent : (house start : List Account) (before : List Event) → Runs start before house → Runs start (before ++ []) house
 silent house start before r = let P : List Event → Type 0 = λ x. Runs start x house in subst P (sym (append-nil before)) r
 
 -- a stranger is told `fault user`
-pub told_no_user : (house house' : List Seat) (who who' : Option (List ℕ)) (line : List ℕ) (reply : Response) → reply ≡ no_user → Turns house house' who who' line no_user.bytes → Turns house house' who who' line reply.bytes
+pub told_no_user : (house house' : List Account) (who who' : Option (List ℕ)) (line : List ℕ) (reply : Response) → reply ≡ no_user → Turns house house' who who' line no_user.bytes → Turns house house' who who' line reply.bytes
 told_no_user house house' who who' line reply e t = let P : Response → Type 0 = λ x. Turns house house' who who' line x.bytes in subst P (sym e) t
 
 -- a user line of a stranger
-pub turns_stranger : (house : List Seat) (who : Option (List ℕ)) (items line name : List ℕ) → IsUserLine line name → session_of house name ≡ None → items ≡ [] → Turns house house who (chosen items) line no_user.bytes
+pub turns_stranger : (house : List Account) (who : Option (List ℕ)) (items line name : List ℕ) → IsUserLine line name → session_of house name ≡ None → items ≡ [] → Turns house house who (chosen items) line no_user.bytes
 turns_stranger house who items line name u n e = record {
   events = [];
   turn = let P : Option (List ℕ) → Type 0 = λ x. Turn house who line no_user.bytes [] x in subst P (sym (ap chosen e)) (stranger name u n);
@@ -46,7 +46,7 @@ turns_stranger house who items line name u n e = record {
 }
 
 -- a line while nobody is selected
-pub turns_nobody : (house : List Seat) (items line : List ℕ) → NamesNobody line → items ≡ [] → Turns house house (chosen items) (chosen items) line no_user.bytes
+pub turns_nobody : (house : List Account) (items line : List ℕ) → NamesNobody line → items ≡ [] → Turns house house (chosen items) (chosen items) line no_user.bytes
 turns_nobody house items line u e = record {
   events = [];
   turn = let P : Option (List ℕ) → Type 0 = λ x. Turn house (chosen items) line no_user.bytes [] x in subst P (sym (ap chosen e)) (nobody u (ap chosen e));
@@ -54,7 +54,7 @@ turns_nobody house items line u e = record {
 }
 
 -- a user line of a user of the house
-pub turns_user : (house : List Seat) (who : Option (List ℕ)) (items line name : List ℕ) → IsUserLine line name → session_of house name ≢ None → items ≡ name → Turns house house who (chosen items) line (with_feed line)
+pub turns_user : (house : List Account) (who : Option (List ℕ)) (items line name : List ℕ) → IsUserLine line name → session_of house name ≢ None → items ≡ name → Turns house house who (chosen items) line (with_feed line)
 turns_user house who items line name u n e = record {
   events = [];
   turn = let P : Option (List ℕ) → Type 0 = λ x. Turn house who line (with_feed line) [] x in subst P (sym (ap chosen e ∙ chosen_some name u.some)) (selects name u n);
@@ -62,7 +62,7 @@ turns_user house who items line name u n e = record {
 }
 
 -- a line while a user is selected
-pub turns_says : ScriptsFollow → (house house' : List Seat) (items user line : List ℕ) (reply : Response) → NamesNobody line → 0 < length items → user ≡ items → Runs house (record { user = user; line = line; reply = reply } ∷ []) house'
+pub turns_says : ScriptsFollow → (house house' : List Account) (items user line : List ℕ) (reply : Response) → NamesNobody line → 0 < length items → user ≡ items → Runs house (record { user = user; line = line; reply = reply } ∷ []) house'
     → Turns house house' (chosen items) (chosen items) line reply.bytes
 turns_says follow house house' items user line reply u h e r = record {
   events = record { user = items; line = line; reply = reply } ∷ [];
@@ -75,14 +75,14 @@ turns_says follow house house' items user line reply u h e r = record {
 }
 
 -- a house has the same users after a run, so a turn there is one at the start
-turn_first : (start house : List Seat) (before : List Event) (who who' : Option (List ℕ)) (line text : List ℕ) (events : List Event) → Runs start before house → Turn house who line text events who' → Turn start who line text events who'
+turn_first : (start house : List Account) (before : List Event) (who who' : Option (List ℕ)) (line text : List ℕ) (events : List Event) → Runs start before house → Turn house who line text events who' → Turn start who line text events who'
 turn_first start house before who who' line text events r (selects name u n) = selects name u (λ e. n (stays_none (session_of start name) (session_of house name) (kept name before) (r.users name) e))
 turn_first start house before who who' line text events r (stranger name u n) = stranger name u (was_none (session_of start name) (session_of house name) (kept name before) (r.users name) n)
 turn_first start house before who who' line text events r (nobody u e) = nobody u e
 turn_first start house before who who' line text events r (says user reply u e) = says user reply u e
 
 -- one line more, at the end
-conversation_more : (house : List Seat) (who mid next : Option (List ℕ)) (lines texts : List (List ℕ)) (events more : List Event) (line text : List ℕ) → Conversation house who lines texts events mid → Turn house mid line text more next
+conversation_more : (house : List Account) (who mid next : Option (List ℕ)) (lines texts : List (List ℕ)) (events more : List Event) (line text : List ℕ) → Conversation house who lines texts events mid → Turn house mid line text more next
     → Conversation house who (lines ++ line ∷ []) (texts ++ text ∷ []) (events ++ more) next
 conversation_more house who mid next lines texts events more line text (silence one) t =
     let P : List Event → Type 0 = λ x. Conversation house one (line ∷ []) (text ∷ []) x next in
@@ -92,7 +92,7 @@ conversation_more house who mid next lines texts events more line text (goes_on 
     subst P (sym (append_assoc said rest more)) (goes_on one two next first told (others ++ line ∷ []) (answers ++ text ∷ []) said (rest ++ more) s (conversation_more house two last next others answers rest more line text c t))
 
 -- one line more was heard
-pub talked_more : (start house house' : List Seat) (who who' : Option (List ℕ)) (lines texts : List (List ℕ)) (line text : List ℕ) → Turns house house' who who' line text → Talked start lines texts who house
+pub talked_more : (start house house' : List Account) (who who' : Option (List ℕ)) (lines texts : List (List ℕ)) (line text : List ℕ) → Turns house house' who who' line text → Talked start lines texts who house
     → Talked start (lines ++ line ∷ []) (texts ++ text ∷ []) who' house'
 talked_more start house house' who who' lines texts line text a t = record {
   events = t.events ++ a.events;
@@ -101,7 +101,7 @@ talked_more start house house' who who' lines texts line text a t = record {
 }
 
 -- nothing was heard yet
-pub talked_none : (house : List Seat) (items : List ℕ) → AllReplay house → items ≡ [] → Talked house [] [] (chosen items) house
+pub talked_none : (house : List Account) (items : List ℕ) → AllReplay house → items ≡ [] → Talked house [] [] (chosen items) house
 talked_none house items all e =
     let P : Option (List ℕ) → Type 0 = λ x. Talked house [] [] x house in
     subst P (sym (ap chosen e)) (record { events = []; said = silence None; runs = runs_none house all })
@@ -119,27 +119,27 @@ fits_here : (b : Bool) (room : ℕ) (name user : List ℕ) (log : Log) (rest : O
 fits_here true room name user log rest e f there n = let same : name ≡ user = (bytes_eq-Decides name user).0 e in let P : List ℕ → Type 0 = λ x. length x ≤ room in subst P same f
 fits_here false room name user log rest e f there n = there n
 
-pub fits_found : (room : ℕ) (house : List Seat) (name : List ℕ) → NamesFit room house → session_of house name ≢ None → length name ≤ room
+pub fits_found : (room : ℕ) (house : List Account) (name : List ℕ) → NamesFit room house → session_of house name ≢ None → length name ≤ room
 fits_found room [] name f n = absurd (n refl)
-fits_found room (seat ∷ seats) name f n = fits_here (bytes_eq seat.name name) room seat.name name seat.session (session_of seats name) refl f.0 (fits_found room seats name f.1) n
+fits_found room (account ∷ accounts) name f n = fits_here (bytes_eq account.name name) room account.name name account.session (session_of accounts name) refl f.0 (fits_found room accounts name f.1) n
 
-pub fits_more : (room more : ℕ) (house : List Seat) → room ≤ more → NamesFit room house → NamesFit more house
+pub fits_more : (room more : ℕ) (house : List Account) → room ≤ more → NamesFit room house → NamesFit more house
 fits_more room more [] h f = tt
-fits_more room more (seat ∷ seats) h f = (omega (arith, h, f.0), fits_more room more seats h f.1)
+fits_more room more (account ∷ accounts) h f = (omega (arith, h, f.0), fits_more room more accounts h f.1)
 
 NamesFitAll : ℕ → List (List ℕ) → Type 0
 NamesFitAll room names = AllByRecursion (λ name. length name ≤ room) names
 
-fits_names : (room : ℕ) (house : List Seat) → NamesFit room house → NamesFitAll room (roster_of house)
+fits_names : (room : ℕ) (house : List Account) → NamesFit room house → NamesFitAll room (roster_of house)
 unfolding NamesFitAll
 fits_names room [] f = tt
-fits_names room (seat ∷ seats) f = (f.0, fits_names room seats f.1)
+fits_names room (account ∷ accounts) f = (f.0, fits_names room accounts f.1)
 
-names_fit : (room : ℕ) (house : List Seat) → NamesFitAll room (roster_of house) → NamesFit room house
+names_fit : (room : ℕ) (house : List Account) → NamesFitAll room (roster_of house) → NamesFit room house
 unfolding NamesFitAll
 names_fit room [] f = tt
-names_fit room (seat ∷ seats) f = (f.0, names_fit room seats f.1)
+names_fit room (account ∷ accounts) f = (f.0, names_fit room accounts f.1)
 
 -- a house has the same users after a run
-pub fits_run : (room : ℕ) (house house' : List Seat) (events : List Event) → Runs house events house' → NamesFit room house → NamesFit room house'
+pub fits_run : (room : ℕ) (house house' : List Account) (events : List Event) → Runs house events house' → NamesFit room house → NamesFit room house'
 fits_run room house house' events r f = names_fit room house' (subst (NamesFitAll room) (sym r.roster) (fits_names room house f))

@@ -7,7 +7,7 @@ use Rattle.std.proofs.lemmas.List.{map-append}
 use Rattle.nesl_step.specs.State.{Log}
 use Rattle.nesl_step.specs.Response.{Response}
 use Rattle.nesl_house.specs.Script.{Event, replies_of}
-use Rattle.nesl_house.specs.Runs.{Seat, roster_of, session_of}
+use Rattle.nesl_house.specs.Runs.{Account, roster_of, session_of}
 use Rattle.nesl_line.specs.Lines.{HasNoFeed, with_feed, Splits, handed, last_line, AllLines, WholeLines}
 use Rattle.nesl_line.specs.Conversation.{IsUserLine, Turn, selects, stranger, nobody, says, Conversation, silence, goes_on}
 
@@ -55,7 +55,7 @@ stranger_here : (b : Bool) (log other : Log) (rest more : Option Log) → (rest 
 stranger_here true log other rest more f e = absurd (cc)
 stranger_here false log other rest more f e = f e
 
-stranger_both : (house other : List Seat) (name : List ℕ) → roster_of house ≡ roster_of other → session_of house name ≡ None → session_of other name ≡ None
+stranger_both : (house other : List Account) (name : List ℕ) → roster_of house ≡ roster_of other → session_of house name ≡ None → session_of other name ≡ None
 stranger_both [] [] name r e = refl
 stranger_both [] (t ∷ ts) name r e = absurd (cc)
 stranger_both (s ∷ ss) [] name r e = absurd (cc)
@@ -72,7 +72,7 @@ one_name line n m a b = let e = sym a.spelled ∙ b.spelled in cc
 abbrev Same : List ℕ → List ℕ → List Event → List Event → Option (List ℕ) → Option (List ℕ) → List Response → List Response → Type 0
 Same text told events said next then rest more = (text ≡ told) × (events ≡ said) × (next ≡ then) × (rest ≡ more)
 
-turn_one : (house other : List Seat) (who : Option (List ℕ)) (line text told : List ℕ) (events said : List Event) (next then : Option (List ℕ)) (rest more : List Response) → roster_of house ≡ roster_of other → Turn house who line text events next → Turn other who line told said then
+turn_one : (house other : List Account) (who : Option (List ℕ)) (line text told : List ℕ) (events said : List Event) (next then : Option (List ℕ)) (rest more : List Response) → roster_of house ≡ roster_of other → Turn house who line text events next → Turn other who line told said then
     → replies_of events ++ rest ≡ replies_of said ++ more → Same text told events said next then rest more
 turn_one house other who line text told events said next then rest more r (selects n u f) (selects m v g) e = let same = one_name line n m u v in (refl, refl, ap (λ x. Some x) same, e)
 turn_one house other who line text told events said next then rest more r (selects n u f) (stranger m v g) e =
@@ -102,7 +102,7 @@ turn_one house other who line text told events said next then rest more r (says 
     let others : rest ≡ more = cc in
     (ap (λ (x : Response). x.bytes) same, λ i. record { user = user i; line = line; reply = same i } ∷ [], ap (λ x. Some x) user, others)
 
-pub conversation_one : (house other : List Seat) (who last final : Option (List ℕ)) (lines texts others : List (List ℕ)) (events said : List Event) → roster_of house ≡ roster_of other → Conversation house who lines texts events last → Conversation other who lines others said final
+pub conversation_one : (house other : List Account) (who last final : Option (List ℕ)) (lines texts others : List (List ℕ)) (events said : List Event) → roster_of house ≡ roster_of other → Conversation house who lines texts events last → Conversation other who lines others said final
     → replies_of events ≡ replies_of said → (texts ≡ others) × (events ≡ said) × (last ≡ final)
 conversation_one house other who last final lines texts others events said r (silence w) (silence v) e = (refl, refl, refl)
 conversation_one house other who last final lines texts others events said r (goes_on w next l line text ls ts es more t c) (goes_on v then m line' told ls' us fs less s d) e =

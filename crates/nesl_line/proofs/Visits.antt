@@ -28,10 +28,10 @@ use Rattle.nesl_line.specs.Serve.{IsServed}
 use Rattle.nesl_line.specs.Visiting.{IsSeated, HeardAt, is_over, Says, Gives}
 
 -- a user is seated
-pub seated_first : (roster : List (List ℕ)) (limits : Limits) (lease : Leased) (line user : List ℕ) → IsUserLine line user → place_of roster user ≡ Some lease.place → lease.session.limits ≡ limits → lease.counted ≡ told_lines lease.session → (s : State) × Replays lease.session s
+pub seated_first : (roster : List (List ℕ)) (limits : Limits) (lease : Leased) (line user : List ℕ) → IsUserLine line user → place_of roster user ≡ Some lease.seat.place → lease.seat.session.limits ≡ limits → lease.counted ≡ told_lines lease.seat.session → (s : State) × Replays lease.seat.session s
     → IsSeated roster limits lease (line ∷ []) (with_feed line ∷ [])
 seated_first roster limits lease line user u p l c r = (
-  lease.session,
+  lease.seat.session,
   0,
   c,
   record {
@@ -80,8 +80,8 @@ module _ (roster : List (List ℕ)) (limits : Limits) (lease : Leased) (after : 
   -- the user says a line more
   pub seated_more : GoesOn → ToldLinesGrow → IsSeated roster limits lease lines texts → Says lease line after → IsSeated roster limits after.0 (lines ++ line ∷ []) (texts ++ after.1.bytes ∷ [])
   seated_more goes_on grow s a =
-      let log = lease.session in
-      let log' = after.0.session in
+      let log = lease.seat.session in
+      let log' = after.0.seat.session in
       let reply = after.1 in
       let r = a.answers in
       let had = s.0 in
@@ -143,9 +143,9 @@ served_by roster limits (Seated lease) (Some receipt) end count left left' held 
     let recorded = x.heard.1 in
     let Heard : Hearing = HeardAt roster limits (Seated lease) in
     let same : recorded ≡ receipt.recorded = omega (arith, x.heard.2, x.heard.3.grown, g.1) in
-    let P : ℕ → Type 0 = λ n. Visits roster limits lease.place n had lease.session x.lines x.texts in
-    let Q : ℕ → Type 0 = λ n. Visits roster limits n receipt.recorded had lease.session x.lines x.texts in
-    (had, lease.session, heard_as Heard (Visits roster limits receipt.place receipt.recorded had lease.session) false end count left left' held held' x (subst Q (sym g.0) (subst P same x.heard.3)))
+    let P : ℕ → Type 0 = λ n. Visits roster limits lease.seat.place n had lease.seat.session x.lines x.texts in
+    let Q : ℕ → Type 0 = λ n. Visits roster limits n receipt.recorded had lease.seat.session x.lines x.texts in
+    (had, lease.seat.session, heard_as Heard (Visits roster limits receipt.place receipt.recorded had lease.seat.session) false end count left left' held held' x (subst Q (sym g.0) (subst P same x.heard.3)))
 
 -- the same of a guest, whose table is that of the beginning
 pub served_at : (table first now : Register) (stage : Stage) (receipt : Option Receipt) (end : End) (count : ℕ) (left left' held held' : Option (List ℕ)) → first ≡ table → Gives stage receipt

@@ -4,7 +4,7 @@ use Rattle.std.specs.Prelude.{length, codes, nat_le}
 use Rattle.std.specs.List.{AllByRecursion}
 use Rattle.nesl_step.specs.Response.{Response, no_user}
 use Rattle.nesl_house.specs.Script.{Event}
-use Rattle.nesl_house.specs.Runs.{Seat, session_of, Runs}
+use Rattle.nesl_house.specs.Runs.{Account, session_of, Runs}
 use Rattle.nesl_line.specs.Lines.{with_feed}
 
 -- a to z, or 0 to 9
@@ -25,7 +25,7 @@ NamesNobody line = (name : List ℕ) → ¬ IsUserLine line name
 -- selected then. A user line selects its user, where that is one of the house, and is told back. Another user line is
 -- told `fault user`, and then nobody is selected. So is any other line while nobody is selected. While a user is
 -- selected, any other line is said to that user's session, and its reply is told.
-pub data Turn (house : List Seat) (who : Option (List ℕ)) (line : List ℕ)
+pub data Turn (house : List Account) (who : Option (List ℕ)) (line : List ℕ)
     : List ℕ → List Event → Option (List ℕ) → Type 0 where
   selects :
       (name : List ℕ) → IsUserLine line name → session_of house name ≢ None
@@ -39,7 +39,7 @@ pub data Turn (house : List Seat) (who : Option (List ℕ)) (line : List ℕ)
 
 -- Lines that come one after another while `who` is selected: what is told of each, what was said to sessions for them,
 -- and who is selected then.
-pub data Conversation (house : List Seat)
+pub data Conversation (house : List Account)
     : Option (List ℕ) → List (List ℕ) → List (List ℕ) → List Event → Option (List ℕ) → Type 0 where
   silence : (who : Option (List ℕ)) → Conversation house who [] [] [] who
   goes_on :
@@ -49,7 +49,7 @@ pub data Conversation (house : List Seat)
 
 -- At first nobody is selected. These lines were told of so, `who` is selected then, and the house answered what was
 -- said to it so, and has become `house'`.
-pub record Talked (house : List Seat) (lines texts : List (List ℕ)) (who : Option (List ℕ)) (house' : List Seat)
+pub record Talked (house : List Account) (lines texts : List (List ℕ)) (who : Option (List ℕ)) (house' : List Account)
     : Type 0 where
   pub events : List Event
   pub said : Conversation house None lines texts events who

@@ -5,7 +5,7 @@ use Rattle.std.specs.Bool.{MatchBool}
 use Rattle.std.specs.List.{AllByRecursion}
 use Rattle.std.specs.Io.KnownBytes.{Consumes, Appends}
 use Rattle.nesl_house.specs.Script.{Event}
-use Rattle.nesl_house.specs.Runs.{Seat, Runs}
+use Rattle.nesl_house.specs.Runs.{Account, Runs}
 use Rattle.nesl_line.specs.declared.line.Line.{Line}
 use Rattle.nesl_line.specs.declared.talk.Flow.{Flow}
 use Rattle.nesl_line.specs.declared.talk.Flow.TheVariants.{On, Over, Broken}
@@ -49,14 +49,14 @@ chosen [] = None
 chosen (b ∷ bs) = Some (b ∷ bs)
 
 -- no name of these is longer
-abbrev pub NamesFit : ℕ → List Seat → Type 0
-NamesFit room house = AllByRecursion (λ seat. length seat.name ≤ room) house
+abbrev pub NamesFit : ℕ → List Account → Type 0
+NamesFit room house = AllByRecursion (λ account. length account.name ≤ room) house
 
 -- a house heard one line while `who` was selected, and this is told of it
-pub record Turns (house house' : List Seat) (who who' : Option (List ℕ)) (line text : List ℕ) : Type 0 where
+pub record Turns (house house' : List Account) (who who' : Option (List ℕ)) (line text : List ℕ) : Type 0 where
   pub events : List Event
   pub turn : Turn house who line text events who'
-  pub runs : (start : List Seat) (before : List Event) → Runs start before house → Runs start (before ++ events) house'
+  pub runs : (start : List Account) (before : List Event) → Runs start before house → Runs start (before ++ events) house'
 
 -- one line was heard, and what is told of it was sent
 pub record Answered

@@ -17,7 +17,7 @@ use Rattle.nesl_line.specs.Guest.{NothingCame, TurnedAway, Visits}
 abbrev pub IsSeated : (roster : List (List ℕ)) → Limits → Leased → Hearing
 IsSeated roster limits lease lines texts =
     (had : Log) × (recorded : ℕ) × (lease.counted ≡ told_lines had)
-    × Visits roster limits lease.place recorded had lease.session lines texts
+    × Visits roster limits lease.seat.place recorded had lease.seat.session lines texts
 
 -- by where a guest is: what was heard
 abbrev pub HeardAt : (roster : List (List ℕ)) → Limits → Stage → Hearing
@@ -33,8 +33,8 @@ is_over Over = true
 
 -- a line was said to a session that is out: what that session is then, and what it answered
 pub record Says (lease : Leased) (line : List ℕ) (after : Leased × Response) : Type 0 where
-  pub answers : Responds lease.session line after.1 after.0.session
-  pub place : after.0.place ≡ lease.place
+  pub answers : Responds lease.seat.session line after.1 after.0.seat.session
+  pub place : after.0.seat.place ≡ lease.seat.place
   pub counted : after.0.counted ≡ lease.counted
 
 -- by calls of `f` lines are said to sessions that are out
@@ -48,7 +48,7 @@ pub record Speaks
 -- who was seated has the receipt
 abbrev pub Gives : Stage → Option Receipt → Type 0
 Gives (Seated lease) (Some receipt) =
-    (receipt.place ≡ lease.place) × (receipt.recorded + lease.counted ≡ told_lines lease.session)
+    (receipt.place ≡ lease.seat.place) × (receipt.recorded + lease.counted ≡ told_lines lease.seat.session)
 Gives (Seated lease) None = ⊥
 Gives Waiting receipt = receipt ≡ None
 Gives Over receipt = receipt ≡ None

@@ -1,7 +1,7 @@
 //! What holds of texts and conversations, whoever reads and tells them.
 ghost use Rattle.std.specs.Prelude.{◌≡◌, ℕ, List, Option};
 ghost use Rattle.nesl_house.specs.Script.{Event, replies_of};
-ghost use Rattle.nesl_house.specs.Runs.{Seat, roster_of};
+ghost use Rattle.nesl_house.specs.Runs.{Account, roster_of};
 ghost use Rattle.nesl_line.specs.Lines.{AllLines, WholeLines};
 ghost use Rattle.nesl_line.specs.Conversation.{Conversation};
 
@@ -13,7 +13,7 @@ pub fn one_list_of_lines()
 
 /// What is told in a conversation is determined by the lines, the roster, who is selected at first, and the sessions' replies; so is what was said to sessions, and who is selected in the end.
 pub fn one_conversation()
-    ensures { (house other : List Seat) (who last final : Option (List ℕ)) (lines texts others : List (List ℕ)) (events said : List Event)
+    ensures { (house other : List Account) (who last final : Option (List ℕ)) (lines texts others : List (List ℕ)) (events said : List Event)
         → roster_of house ≡ roster_of other → Conversation house who lines texts events last → Conversation other who lines others said final
         → replies_of events ≡ replies_of said → (texts ≡ others) × (events ≡ said) × (last ≡ final) }
 {}

@@ -1,6 +1,9 @@
 -- How a run of the program fails, and with which exit status.
-use Rattle.std.specs.Prelude.{ℕ, List, Bool, false, Option, Some, None, slice_get, codes, if◌then◌else◌}
+use Rattle.std.specs.Prelude.{ℕ, List, Bool, false, Option, Some, None, Result, Ok, Err, slice_get, codes}
+use Rattle.std.specs.Prelude.{if◌then◌else◌}
 use Rattle.std.specs.Str.{bytes_eq}
+use Rattle.clap.specs.declared.error.kind.ErrorKind.{ErrorKind}
+use Rattle.clap.specs.declared.error.kind.ErrorKind.TheVariants as kinds
 use Rattle.nesl_line.specs.declared.exchange.End.{End}
 use Rattle.nesl_line.specs.declared.exchange.End.TheVariants.{Input, ReadFault, WriteFault, NoMemory}
 use Rattle.nesl_service.specs.declared.service.ServeFault.TheVariants as serve_fault
@@ -18,6 +21,18 @@ status_of Count = 2
 status_of (Name name) = 2
 status_of (Twice name) = 2
 status_of Encoding = 2
+
+-- 0 where a service that was offered ended well
+abbrev pub status_after : Result (Unit {0}) Failure → ℕ
+status_after (Ok nothing) = 0
+status_after (Err failure) = status_of failure
+
+-- 0 for help, 1 for want of memory, 2 for each mistake in the words
+abbrev pub words_status_of : ErrorKind → ℕ
+words_status_of kinds.DisplayHelp = 0
+words_status_of kinds.DisplayVersion = 0
+words_status_of kinds.OutOfMemory = 1
+words_status_of _ = 2
 
 -- the end of input is no failure
 abbrev pub failure_of : End → Option Failure

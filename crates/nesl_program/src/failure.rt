@@ -1,9 +1,11 @@
 //! How a run of the program fails.
 ghost use Rattle.std.specs.Prelude.{◌≡◌, ℕ, List, Option, IfSome, map, slice_get};
 ghost use Rattle.nesl_house.specs.Roster.{IsRefused};
-ghost use Rattle.nesl_program.specs.Failures.{failure_of, memory_failure_of, status_of};
+ghost use Rattle.clap.specs.Values.{kind_of};
+ghost use Rattle.nesl_program.specs.Failures.{failure_of, memory_failure_of, status_after, status_of, words_status_of};
 ghost use Rattle.nesl_program.specs.Program.{Fails};
 
+use clap::error::ErrorKind;
 use nesl_house::roster::NewFault;
 use nesl_line::exchange::End;
 use nesl_service::service::ServeFault;
@@ -85,6 +87,28 @@ impl<'a> Failure<'a> {
             Failure::Read | Failure::Write | Failure::Memory | Failure::Serve(_) => 1,
             Failure::Encoding | Failure::Count | Failure::Name(_) | Failure::Twice(_) => 2,
         }
+    }
+}
+
+/// The exit status where the words were refused, or asked for help, and that was told: 0 for help, 1 for want of
+/// memory, and else 2.
+pub fn words_status(error: &clap::Error) -> u8
+    ensures { result ≡ words_status_of (kind_of error.now) }
+{
+    match error.kind() {
+        ErrorKind::DisplayHelp | ErrorKind::DisplayVersion => 0,
+        ErrorKind::OutOfMemory => 1,
+        _ => 2,
+    }
+}
+
+/// The exit status where a service was offered, and came to this.
+pub fn status_after(kept: &Result<(), Failure<'_>>) -> u8
+    ensures { result ≡ status_after kept.now }
+{
+    match kept {
+        Ok(()) => 0,
+        Err(failure) => (*failure).status(),
     }
 }
 

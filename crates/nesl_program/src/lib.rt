@@ -3,3 +3,4 @@
 
 pub mod failure;
 pub mod run;
+pub mod terms;

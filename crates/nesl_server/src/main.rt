@@ -1,11 +1,10 @@
 //! The program: NESL sessions over standard input and output, or over sockets.
 #![tactic(auto)]
 
-ghost use Rattle.std.specs.Prelude.{◌≡◌, ◌≤◌};
+ghost use Rattle.std.specs.Prelude.{◌≡◌, ◌⊎◌};
 ghost use Rattle.std.specs.Process.{exit_status};
 ghost use Rattle.clap.specs.Values.{kind_of};
-ghost use Rattle.clap.specs.declared.error.kind.ErrorKind.TheVariants.{OutOfMemory};
-ghost use Rattle.nesl_program.specs.Failures.{status_of};
+ghost use Rattle.nesl_program.specs.Failures.{status_after, status_of, words_status_of};
 
 mod host;
 mod log;
@@ -16,7 +15,7 @@ use crate::offer::keep;
 use crate::standard::fill_standard;
 use clap::error::ErrorKind;
 use nesl_line::device::{Device, Sink, Source};
-use nesl_program::failure::{Failure, Refusal};
+use nesl_program::failure::{Failure, Refusal, status_after, words_status};
 use nesl_program::run::answered;
 use std::alloc::{AllocError, Global};
 use std::io::{self, BufWriter, Eprint, Print};
@@ -114,27 +113,34 @@ fn run<
 >(rt: &R, alloc: Global, words: &[&str], reader: &mut S, writer: &mut W) -> ExitCode {
     match answered(alloc, words, reader, writer) {
         Ok(None) => ExitCode::SUCCESS,
-        Ok(Some(offer)) => match keep(rt, alloc, &offer) {
-            Ok(()) => ExitCode::SUCCESS,
-            Err(failure) => told(rt, failure),
-        },
+        Ok(Some(offer)) => ended(rt, keep(rt, alloc, &offer)),
         Err(Refusal::Words(error)) => refused(rt, words, &error),
         Err(Refusal::Run(failure)) => told(rt, failure),
     }
 }
 
-// A refusal of the words, or a request for help, told by its own text; want of memory is told as such.
+// A refusal of the words, or a request for help, told by its own text; want of memory is told as such. Where the text
+// can't be written, the status is 1.
 fn refused<R: Print + Eprint>(rt: &R, words: &[&str], error: &clap::Error) -> ExitCode
-    ensures memory { kind_of error.now ≡ OutOfMemory → exit_status result ≡ 1 }
-    ensures few { exit_status result ≤ 2 }
+    ensures { (exit_status result ≡ words_status_of (kind_of error.now)) ⊎ (exit_status result ≡ 1) }
 {
     if error.kind() == ErrorKind::OutOfMemory {
         return told(rt, Failure::of_memory(words));
     }
     match error.print(rt) {
-        Ok(()) if error.use_stderr() => ExitCode::from(2),
-        Ok(()) => ExitCode::SUCCESS,
+        Ok(()) => ExitCode::from(words_status(error)),
         Err(_) => ExitCode::FAILURE,
+    }
+}
+
+// What came of an offer: a failure is told.
+fn ended(rt: &impl Eprint, kept: Result<(), Failure<'_>>) -> ExitCode
+    ensures { exit_status result ≡ status_after kept.entry }
+{
+    let status = status_after(&kept);
+    match kept {
+        Ok(()) => ExitCode::from(status),
+        Err(failure) => told(rt, failure),
     }
 }
 

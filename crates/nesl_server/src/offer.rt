@@ -1,7 +1,8 @@
 //! A service that is offered on a port.
-ghost use Rattle.std.specs.Prelude.{◌≡◌, IfOk, OnOk, map};
+ghost use Rattle.std.specs.Prelude.{◌≡◌, Err, IfErr, IfOk, OnOk, map};
 ghost use Rattle.nesl_house.specs.Roster.{IsRoster};
 ghost use Rattle.nesl_program.specs.Program.{limits};
+ghost use Rattle.nesl_program.specs.declared.failure.Failure.TheVariants.{Serve};
 
 use crate::host::Host;
 use crate::log::Log;
@@ -10,15 +11,14 @@ use nesl_house::roster::NewFault;
 use nesl_house::table::{Closed, Table};
 use nesl_program::failure::Failure;
 use nesl_program::run::{LIMITS, Offer, roster};
-use nesl_service::service::{FIRST_LINE_SECONDS, Observers, ServeFault, Terms, serve_through};
-use nesl_service::wire::Patience;
+use nesl_service::service::{Observers, ServeFault, serve_through};
 use std::alloc::{AllocError, Global};
 use std::io;
 use std::io::{Eprint, Print};
-use std::net::{Ipv4Addr, Net, SocketAddr, TcpListener, TcpStream};
+use std::net::{Net, TcpListener, TcpStream};
 use std::sync::Wait;
 use std::thread::Threads;
-use std::time::{Clock, Duration};
+use std::time::Clock;
 
 /// Keeps an offer: says where it listens, once it can serve, serves, and says what it served, if it ends.
 pub fn keep<
@@ -36,7 +36,7 @@ pub fn keep<
         + 'static,
 >(rt: &R, alloc: Global, offer: &Offer<'a>) -> Result<(), Failure<'a>> {
     let table = table(alloc, offer.users.as_slice())?;
-    let Ok((listener, port)) = listener(rt, offer.port.unwrap_or(0)) else {
+    let Ok((listener, port)) = listener(rt, offer) else {
         return Err(Failure::Serve(ServeFault::Socket));
     };
     let Ok(log) = log(rt, alloc, offer) else {
@@ -47,8 +47,19 @@ pub fn keep<
         gate: &Free,
         journal: &host,
     };
-    let served = serve_through(rt, alloc, &listener, table, terms(offer), observers);
+    let served = serve_through(rt, alloc, &listener, table, offer.terms(), observers);
     host.close();
+    ending(rt, offer, served)
+}
+
+// What came of a service, which says what it served where it ended well.
+fn ending<'a, R: Print>(
+    rt: &R,
+    offer: &Offer<'_>,
+    served: Result<Closed, ServeFault>,
+) -> Result<(), Failure<'a>>
+    ensures { IfErr served (λ fault. result ≡ Err (Serve fault)) }
+{
     match served {
         Ok(closed) => match told(rt, offer, &closed) {
             Ok(()) => Ok(()),
@@ -73,16 +84,15 @@ fn table<'a>(alloc: Global, users: &[&'a str]) -> Result<Table, Failure<'a>>
     }
 }
 
-// Listens on the port, and answers on which.
+// Listens where the service is offered, and answers on which port.
 fn listener<R: Net<Stream = TcpStream, Listener = TcpListener>>(
     rt: &R,
-    port: usize,
+    offer: &Offer<'_>,
 ) -> io::Result<(TcpListener, u16)> {
-    let port = match u16::try_from(port) {
-        Ok(port) => port,
-        Err(_) => return Err(io::Error::from(io::ErrorKind::InvalidInput)),
+    let Some(address) = offer.address() else {
+        return Err(io::Error::from(io::ErrorKind::InvalidInput));
     };
-    let listener = TcpListener::bind(rt, SocketAddr::from((Ipv4Addr::LOCALHOST, port)))?;
+    let listener = TcpListener::bind(rt, address)?;
     let port = listener.local_addr()?.port();
     Ok((listener, port))
 }
@@ -97,29 +107,6 @@ fn log<'x, R: Threads + Wait + Clock + Eprint + Clone + Send + Drop + 'static>(
         return Ok(None);
     }
     Ok(Some(Log::new(rt, alloc)?))
-}
-
-// By what terms an offer is kept: as many threads as there are users, and one more, serve.
-fn terms(offer: &Offer<'_>) -> Terms {
-    Terms {
-        threads: offer.users.len().saturating_add(1),
-        workers: u32::try_from(offer.workers.unwrap_or(0)).unwrap_or(0),
-        connections: match offer.connections {
-            Some(connections) => Some(connections as u64),
-            None => None,
-        },
-        patience: Patience {
-            first_line: match seconds(offer.first_line) {
-                Some(time) => time,
-                None => Duration::from_secs(FIRST_LINE_SECONDS),
-            },
-            idle: seconds(offer.idle),
-        },
-    }
-}
-
-fn seconds(count: Option<usize>) -> Option<Duration> {
-    Some(Duration::from_secs(count? as u64))
 }
 
 // Says how many connections were served, and the lines in all.

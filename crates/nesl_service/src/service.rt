@@ -39,7 +39,10 @@ pub enum ServeFault {
 }
 
 impl ServeFault {
-    fn of(fault: Fault) -> ServeFault {
+    fn of(fault: Fault) -> ServeFault
+        ensures socket { fault ≡ Fault.Socket → result ≡ ServeFault.Socket }
+        ensures memory { fault ≡ Fault.Memory → result ≡ ServeFault.Memory }
+    {
         match fault {
             Fault::Socket => ServeFault::Socket,
             Fault::Memory => ServeFault::Memory,

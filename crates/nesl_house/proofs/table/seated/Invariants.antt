@@ -11,7 +11,7 @@ invariant-loop-slot l = record {
   can : (goal.iterator-loop-slot).can_next l.slot-iterator;
   finite : (goal.iterator-loop-slot).is_finite l.slot-iterator;
   home : AreHome (into_iter_items l.slot-iterator);
-  seats : l.users.items ++ seated (map (λ v. v.items) (into_iter_items l.names)) (at_home (into_iter_items l.slot-iterator)) ≡ seated (map (λ v. v.items) l.fn.roster.items) (at_home l.fn.slots.items);
+  accounts : l.users.items ++ seated (map (λ v. v.items) (into_iter_items l.names)) (at_home (into_iter_items l.slot-iterator)) ≡ seated (map (λ v. v.items) l.fn.roster.items) (at_home l.fn.slots.items);
   replayed : AllReplay l.users.items;
   held : AreReplays (at_home (into_iter_items l.slot-iterator)) → AreReplays (at_home l.fn.slots.items);
   room : length l.users.items + length (into_iter_items l.names) ≤ 64;

@@ -1,5 +1,5 @@
 use Rattle.std.proofs.Common.{ℕ, List, [], None, false, refl, subst, sym}
-use Rattle.nesl_house.specs.Runs.{Seat}
+use Rattle.nesl_house.specs.Runs.{Account}
 use Rattle.nesl_line.specs.Conversation.{Talked}
 use Rattle.nesl_line.specs.Steps.{NamesFit, chosen}
 use Rattle.nesl_line.proofs.Exchanges.{no_memory_exchange}
@@ -11,7 +11,7 @@ returns-in_default-clause-batch g c = (None, no_memory_exchange _ _ (λ lines te
 
 pub exchange-requires-clause-ready : goal.exchange-requires-clause-ready
 exchange-requires-clause-ready g c =
-    let P : List Seat → Type 0 = NamesFit c.longest_name-room.result in
+    let P : List Account → Type 0 = NamesFit c.longest_name-room.result in
     let Q : ℕ → Type 0 = λ n. NamesFit n c.args.house.now in
     subst Q (sym c.in-Ok.ensures.room) (subst P c.users.ensures.users c.longest_name-room.ensures)
 

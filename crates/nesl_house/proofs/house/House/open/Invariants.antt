@@ -6,7 +6,7 @@ use Rattle.nesl_house.proofs.house.House.open.Given as goal
 
 abbrev pub invariant-loop-name : goal.invariant-loop-name
 invariant-loop-name l = record {
-  seats : l.users.items ≡ opened l.limits (map (λ v. v.items) (take l.name-index l.roster));
+  accounts : l.users.items ≡ opened l.limits (map (λ v. v.items) (take l.name-index l.roster));
   replayed : AllReplay l.users.items;
   room : length l.roster ≤ vec_capacity l.users;
 }

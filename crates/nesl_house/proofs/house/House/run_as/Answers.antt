@@ -1,5 +1,5 @@
 use Rattle.std.proofs.Common.{subst, arith, List, ap, length, ◌∷◌, [], length-append}
-use Rattle.nesl_house.specs.Runs.{Seat, Runs}
+use Rattle.nesl_house.specs.Runs.{Account, Runs}
 use Rattle.nesl_house.proofs.Alones.{runs_none}
 use Rattle.nesl_house.proofs.Places.{run_more}
 use Rattle.nesl_house.proofs.house.House.run_as.Goals as goal
@@ -8,7 +8,7 @@ pub loop-said-init : goal.loop-said-init
 loop-said-init g c = record {
   answered = ap length c.in_ok-answers.ensures.items;
   room = omega (arith, c.in_ok-answers.ensures.exact);
-  runs = let P : List Seat → Type 0 = λ x. Runs x [] x in subst P c.self.view_is (runs_none c.self.inside.users.items c.self.invariant);
+  runs = let P : List Account → Type 0 = λ x. Runs x [] x in subst P c.self.view_is (runs_none c.self.inside.users.items c.self.invariant);
 }
 
 pub loop-said-preserved : goal.loop-said-preserved

@@ -15,4 +15,4 @@ returns-clause-closed c =
     let same : c.recorded_in-counted.result ≡ c.into_inner-slots.result.booked = search rules in
     let few : length (map (λ v. v.items) c.self.inside.roster.items) ≤ 64 = let same_length = length-map c.self.inside.roster.items (λ v. v.items) in omega (arith, same_length, c.self.invariant.0) in
     closed c.args.self.roster (map (λ v. v.items) c.self.inside.roster.items) c.of.result c.into_inner-slots.result.slots.items c.recorded_in-counted.result c.into_inner-slots.result.booked
-    (ap (λ r. r.roster) c.self.view_is) (c.of.ensures ∙ c.seated.ensures.users) home c.into_inner-slots.result.places c.into_inner-slots.result.counted_all same c.seated.ensures.held few
+    (ap (λ r. r.roster) c.self.view_is) (c.of.ensures ∙ c.seated.ensures.users) home c.into_inner-slots.result.places c.into_inner-slots.result.in_place c.into_inner-slots.result.counted_all same c.seated.ensures.held few

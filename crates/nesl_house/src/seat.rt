@@ -1,0 +1,88 @@
+//! What is at a place of a table.
+ghost use Rattle.std.specs.Prelude.{◌≡◌, ◌<◌, IfOk};
+ghost use Rattle.nesl_step.specs.State.{unsaid};
+ghost use Rattle.nesl_step.specs.Solo.{Responds};
+
+use nesl_helpers::{Gate, Helpers};
+use nesl_session::answer::Answer;
+use nesl_session::limits::Limits;
+use nesl_session::session::Session;
+use std::alloc::{AllocError, Global};
+use std::marker::Model;
+use std::thread::Threads;
+
+/// A place of a table, and the session that is told lines there. A session doesn't leave its seat for another: a seat
+/// is made with an empty session, and lends its session for one line at a time.
+pub struct Seat {
+    place: usize,
+    session: Session,
+}
+
+// By hand, as that of the session.
+impl Drop for Seat {
+    fn drop(self) {
+        let Seat { place: _, session } = self;
+        drop(session);
+    }
+}
+
+impl Model for Seat {
+    ghost use Rattle.std.specs.Prelude.{◌<◌};
+    ghost use Rattle.nesl_house.specs.Register.{Seat};
+
+    ghost Value = { Seat };
+
+    ghost view = { λ s. record { place = s.place; session = s.session } };
+
+    ghost invariant = { λ s. s.place < 64 };
+}
+
+impl Seat {
+    /// The seat of a place, with an empty session.
+    pub(crate) fn new(alloc: Global, place: usize, limits: Limits) -> Result<Seat, AllocError>
+        requires { place < 64 }
+        ensures { IfOk result (λ seat. seat ≡ record { place = place; session = unsaid limits }) }
+    {
+        let session = Session::new(alloc, limits)?;
+        Ok(Seat { place, session })
+    }
+
+    /// Its place.
+    pub(crate) fn place(&self) -> usize
+        ensures place { result ≡ self.now.place }
+        ensures in_range { result < 64 }
+    {
+        self.place
+    }
+
+    /// Its session.
+    pub(crate) fn session(&self) -> &Session
+        ensures { result.now ≡ self.now.session }
+    {
+        &self.session
+    }
+
+    /// One line of its session, evaluated in halves that threads share where `helpers` are granted. It waits for these
+    /// threads.
+    pub(crate) fn line_split<R: Threads + Sync, H: Helpers + Sync, G: Gate + Sync>(
+        &mut self,
+        rt: &R,
+        alloc: Global,
+        text: &[u8],
+        helpers: &H,
+        gate: &G,
+    ) -> Answer
+        ensures answers { Responds self.old.session text.now result self.new.session }
+        ensures place { self.new.place ≡ self.old.place }
+    {
+        self.session.line_split(rt, alloc, text, helpers, gate)
+    }
+
+    /// Its session, once no line is told there any more.
+    pub(crate) fn into_session(self) -> Session
+        ensures { result ≡ self.session }
+    {
+        let Seat { place: _, session } = self;
+        session
+    }
+}
