@@ -1,13 +1,17 @@
 // Leases, receipts, and what a table answers that is to be closed.
-use crate::sample::{LIMITS, lines_of, opened, said};
+use crate::sample::{LIMITS, lines_of, opened, roster, said};
 use nesl_helpers::{Free, NoHelpers};
 use nesl_house::lease::Receipt;
 use nesl_house::roster::NewFault;
 use nesl_house::table::{CloseFault, Table, TakeFault};
+use nesl_session::limits::Limits;
 use std::alloc::Global;
 use std::process::Abort;
 use std::sync::Wait;
 use std::test::Fail;
+
+// A line that binds a name, and its reply.
+const THREE: (&str, &str) = ("x = 3;", "x = 3 : int (work 1, depth 1)\n");
 
 fn receipt_of(place: usize, recorded: u64) -> Receipt {
     Receipt { place, recorded }
@@ -52,7 +56,13 @@ fn one_lease_at_a_time(rt: HostRuntime) -> Result<(), Fail> {
     let lines = lease.session().lines().len();
     let receipt = table.give(&rt, lease);
     let home = refusal(&rt, &table, "bob");
-    let again = said(&rt, rt.alloc(), &table, "bob", &["it;"]);
+    let again = said(
+        &rt,
+        rt.alloc(),
+        &table,
+        "bob",
+        &[("it;", "it = 7 : int (work 1, depth 1)\n")],
+    );
     assert!(rt; is_seven && lines == 1 && place == 1 && receipt == receipt_of(1, 1));
     assert!(rt; busy == Some(TakeFault::Busy) && stranger == Some(TakeFault::NoUser));
     assert!(rt; home.is_none() && again == Some(receipt_of(1, 1)));
@@ -67,7 +77,13 @@ fn receipts_of<R: Abort>(rt: &R, alloc: Global, all: &[Receipt]) -> Vec<Receipt>
 #[test]
 fn not_closed_while_a_lease_is_out(rt: HostRuntime) -> Result<(), Fail> {
     let table = opened(rt.alloc())?;
-    let Some(first) = said(&rt, rt.alloc(), &table, "ann", &["1;"]) else {
+    let Some(first) = said(
+        &rt,
+        rt.alloc(),
+        &table,
+        "ann",
+        &[("1;", "it = 1 : int (work 1, depth 1)\n")],
+    ) else {
         panic!(rt; "ann's session is at home");
     };
     let Ok(lease) = table.take(&rt, b"bob") else {
@@ -96,7 +112,13 @@ fn not_closed_while_a_lease_is_out(rt: HostRuntime) -> Result<(), Fail> {
 #[test]
 fn not_closed_without_a_receipt(rt: HostRuntime) -> Result<(), Fail> {
     let table = opened(rt.alloc())?;
-    let Some(receipt) = said(&rt, rt.alloc(), &table, "ann", &["x = 3;", "x;"]) else {
+    let Some(receipt) = said(
+        &rt,
+        rt.alloc(),
+        &table,
+        "ann",
+        &[THREE, ("x;", "it = 3 : int (work 1, depth 1)\n")],
+    ) else {
         panic!(rt; "ann's session is at home");
     };
     let Err(
@@ -123,8 +145,24 @@ fn not_closed_without_a_receipt(rt: HostRuntime) -> Result<(), Fail> {
 #[test]
 fn a_reset_is_a_line(rt: HostRuntime) -> Result<(), Fail> {
     let table = opened(rt.alloc())?;
-    let first = said(&rt, rt.alloc(), &table, "ann", &["x = 3;", ":reset", "4;"]);
-    let second = said(&rt, rt.alloc(), &table, "ann", &["x;"]);
+    let first = said(
+        &rt,
+        rt.alloc(),
+        &table,
+        "ann",
+        &[
+            THREE,
+            (":reset", "reset: lines 1\n"),
+            ("4;", "it = 4 : int (work 1, depth 1)\n"),
+        ],
+    );
+    let second = said(
+        &rt,
+        rt.alloc(),
+        &table,
+        "ann",
+        &[("x;", "fault unknown at 0..1 (work 0)\n")],
+    );
     let (Some(first), Some(second)) = (first, second) else {
         panic!(rt; "ann's session is at home");
     };
@@ -135,5 +173,46 @@ fn a_reset_is_a_line(rt: HostRuntime) -> Result<(), Fail> {
     let cleared = closed.house.session(b"ann").map(|ann| ann.cleared());
     let lines = lines_of(&closed.house, b"ann");
     assert!(rt; closed.lines == 4 && cleared == Some(2) && lines == Some(2));
+    Ok(())
+}
+
+// A table of ann and bob whose sessions have other limits.
+fn opened_otherwise(alloc: Global) -> Result<Table, Fail> {
+    let names = roster(alloc, "ann bob")?;
+    let limits = Limits {
+        line_work: 7,
+        ..LIMITS
+    };
+    Ok(Table::new(alloc, names.as_slice(), limits)?)
+}
+
+// What is told of ann's session, which is taken out of one table and put into another.
+fn moved<R: Wait>(rt: &R, from: &Table, to: &Table) -> Option<Receipt> {
+    let lease = from.take(rt, b"ann").ok()?;
+    Some(to.give(rt, lease))
+}
+
+#[test]
+fn another_table_has_the_session(rt: HostRuntime) -> Result<(), Fail> {
+    let (here, there) = (opened(rt.alloc())?, opened(rt.alloc())?);
+    let three = said(&rt, rt.alloc(), &there, "ann", &[THREE]);
+    let receipt = moved(&rt, &there, &here);
+    assert!(rt; three == Some(receipt_of(0, 1)) && receipt == Some(receipt_of(0, 0)));
+    let is_away = refusal(&rt, &there, "ann");
+    let it = ("x;", "it = 3 : int (work 1, depth 1)\n");
+    let told = said(&rt, rt.alloc(), &here, "ann", &[it]);
+    assert!(rt; is_away == Some(TakeFault::Busy) && told == Some(receipt_of(0, 1)));
+    Ok(())
+}
+
+#[test]
+fn a_session_with_other_limits_is_not_given_out(rt: HostRuntime) -> Result<(), Fail> {
+    let (here, there) = (opened(rt.alloc())?, opened_otherwise(rt.alloc())?);
+    let receipt = moved(&rt, &there, &here);
+    let is_away = refusal(&rt, &there, "ann");
+    let is_other = refusal(&rt, &here, "ann");
+    let is_home = refusal(&rt, &here, "bob");
+    assert!(rt; receipt == Some(receipt_of(0, 0)) && is_away == Some(TakeFault::Busy));
+    assert!(rt; is_other == Some(TakeFault::Busy) && is_home.is_none());
     Ok(())
 }

@@ -1,6 +1,9 @@
 //! A house spoken to, in a few lines.
-use crate::sample::{house_of, lines_of, roster};
+use crate::granting::Granting;
+use crate::sample::{self, house_of, lines_of, roster};
 use crate::turns::{ORDERS, Talk, are_heard, is_order, said, script};
+use linked_list_allocator::LocalHeap;
+use nesl_helpers::Free;
 use nesl_house::house::{House, Said};
 use nesl_house::manner::InHeap;
 use nesl_house::roster::{NewFault, is_user_name};
@@ -170,6 +173,40 @@ fn lines_are_said_in_a_heap(rt: HostRuntime) -> Result<(), Fail> {
     let one = house.say_in(alloc, b"ann", b"1;", alloc).bytes() == ONE.as_bytes();
     let answers = house.run_by(alloc, &InHeap(alloc), script.as_slice())?;
     assert!(rt; one && are_answered(answers.as_slice()) && all_have_one(&house));
+    Ok(())
+}
+
+const TOO_SMALL: [(&str, &str); 3] = [
+    ("index(50000);", "fault memory (work 0)\n"),
+    ("1 + 1;", "it = 2 : int (work 3, depth 3)\n"),
+    (
+        ":budget",
+        "budget: work 99999997, elements 1 of 100000, lines 1 of 10000, bytes 6 of 1048576\n",
+    ),
+];
+
+#[test]
+fn a_line_may_be_too_large_for_the_heap(rt: HostRuntime) -> Result<(), Fail> {
+    let heap = LocalHeap::new(rt.alloc(), 65_536)?;
+    let mut house = house_of(rt.alloc(), "ann bob", sample::LIMITS)?;
+    for (line, reply) in TOO_SMALL {
+        let answer = house.say_in(rt.alloc(), b"ann", line.as_bytes(), &heap);
+        assert!(rt; answer.bytes() == reply.as_bytes(), "{line}");
+    }
+    assert!(rt; lines_of(&house, b"ann") == Some(2) && lines_of(&house, b"bob") == Some(0));
+    Ok(())
+}
+
+#[test]
+fn a_line_is_said_in_halves(rt: HostRuntime) -> Result<(), Fail> {
+    let helpers = Granting::always();
+    let mut house = house_of(rt.alloc(), "ann bob", sample::LIMITS)?;
+    let squares = b"{a * a : a in [1, 2]};";
+    let answer = house.say_with(&rt, rt.alloc(), b"bob", squares, &helpers, &Free);
+    let told = b"it = [1, 4] : [int] (work 12, depth 7)\n".as_slice();
+    assert!(rt; answer.bytes() == told && answer.recorded() && helpers.are_back());
+    let answer = house.say_with(&rt, rt.alloc(), b"zed", squares, &helpers, &Free);
+    assert!(rt; answer.fault() == Some(Fault::User) && lines_of(&house, b"bob") == Some(1));
     Ok(())
 }
 

@@ -44,19 +44,24 @@ pub fn lines_of(house: &House, user: &[u8]) -> Option<usize> {
     house.session(user).map(|session| session.lines().len())
 }
 
-// Says lines under one lease; nothing where the session is away.
+// Says lines under one lease, each with the reply that is wanted. There is no receipt where the session is away, or a reply
+// is another.
 pub fn said<R: Threads + Wait + Sync>(
     rt: &R,
     alloc: Global,
     table: &Table,
     user: &str,
-    lines: &[&str],
+    lines: &[(&str, &str)],
 ) -> Option<Receipt> {
     let Ok(mut lease) = table.take(rt, user.as_bytes()) else {
         return None;
     };
-    for line in lines {
-        let _ = lease.line_split(rt, alloc, line.as_bytes(), &Granting, &Free);
+    let helpers = Granting::always();
+    let mut are_answered = true;
+    for (line, reply) in lines {
+        let answer = lease.line_split(rt, alloc, line.as_bytes(), &helpers, &Free);
+        are_answered &= answer.bytes() == reply.as_bytes();
     }
-    Some(table.give(rt, lease))
+    let receipt = table.give(rt, lease);
+    if are_answered { Some(receipt) } else { None }
 }

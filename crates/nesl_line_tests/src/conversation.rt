@@ -83,31 +83,41 @@ fn a_read_of_one_byte_that_fails(rt: HostRuntime) -> Result<(), Fail> {
     Ok(())
 }
 
-/// Whether the writer ends the batch after so many lines.
-fn ends_by_writer(alloc: Global, room: usize, stalls: bool, lines: u64) -> Result<bool, Fail> {
+/// Whether the writer ends the batch where it has room for so many bytes: they are written and no more, and a line
+/// whose answer could not be written whole stays recorded.
+fn ends_by_writer(alloc: Global, step: usize, room: usize, stalls: bool) -> Result<bool, Fail> {
     let paper = Paper {
         stalls,
-        ..paper_of(alloc, 1000, room)
+        ..paper_of(alloc, step, room)
     };
     let outcome = outcome_of(alloc, tape_of(SAID, 1000), paper)?;
-    let end = End::WriteFault;
-    let stored = if room == 9 {
-        (1, 99_999_995)
-    } else {
-        (0, 100_000_000)
+    let (lines, of_ann) = match room {
+        0..=8 => (1, (0, 100_000_000)),
+        9..=39 => (2, (1, 99_999_995)),
+        40..=48 => (3, (1, 99_999_995)),
+        _ => (4, (1, 99_999_995)),
     };
+    let end = End::WriteFault;
     let (_, failures) = outcome.failures;
+    let is_told = Some(outcome.paper.bytes.as_slice()) == ANSWERS.get(..room);
     Ok(
         outcome.ran == Ran { lines, end }
+            && is_told
             && failures == u64::from(!stalls)
-            && outcome.of_ann == stored,
+            && outcome.of_ann == of_ann,
     )
 }
 
 #[test]
-fn a_writer_with_room_for_the_first_answer(rt: HostRuntime) -> Result<(), Fail> {
-    let alloc = rt.alloc();
-    assert!(rt; ends_by_writer(alloc, 9, false, 2)? && ends_by_writer(alloc, 0, true, 1)?);
-    assert!(rt; ends_by_writer(alloc, 9, true, 2)? && ends_by_writer(alloc, 0, false, 1)?);
+fn a_writer_with_room_for_so_many_bytes(rt: HostRuntime) -> Result<(), Fail> {
+    for room in 0..ANSWERS.len() {
+        for step in [1, 1000] {
+            let fails = ends_by_writer(rt.alloc(), step, room, false)?;
+            assert!(rt;
+                fails && ends_by_writer(rt.alloc(), step, room, true)?,
+                "{room}"
+            );
+        }
+    }
     Ok(())
 }

@@ -1,5 +1,6 @@
 //! Readers and writers that do as they are told, and houses for them.
 use nesl_house::house::House;
+use nesl_house::table::Table;
 use nesl_session::limits::Limits;
 use std::alloc::{AllocError, Global};
 use std::io;
@@ -26,6 +27,12 @@ pub fn roster(alloc: Global) -> Result<Vec<Vec<u8>>, AllocError> {
 pub fn house(alloc: Global) -> Result<House, Fail> {
     let roster = roster(alloc)?;
     Ok(House::new(alloc, roster.as_slice(), LIMITS)?)
+}
+
+/// A table of ann and bob.
+pub fn table(alloc: Global) -> Result<Table, Fail> {
+    let roster = roster(alloc)?;
+    Ok(Table::new(alloc, roster.as_slice(), LIMITS)?)
 }
 
 /// Gives at most `step` bytes at each read, and fails when `good` reads were made.

@@ -10,10 +10,16 @@ mod devices;
 #[cfg(test)]
 mod faults;
 #[cfg(test)]
+mod heaps;
+#[cfg(test)]
 mod interrupted;
 #[cfg(test)]
 mod lines;
 #[cfg(test)]
+mod resumed;
+#[cfg(test)]
 mod served;
+#[cfg(test)]
+mod told_first;
 #[cfg(test)]
 mod turns;

@@ -33,6 +33,11 @@ fn lines_are_answered(rt: HostRuntime) -> Result<(), Fail> {
         ),
         ("user ann\n2 *", "user ann\nfault syntax (work 0)\n", 2),
         ("user ann\n\n", "user ann\nok\n", 2),
+        (
+            "user ann\n1 + \\\nuser bob\n5;\nuser ann\n2;\n",
+            "user ann\nmore\nuser bob\nit = 5 : int (work 1, depth 1)\nuser ann\nit = 3 : int (work 3, depth 3)\n",
+            6,
+        ),
     ];
     for (text, wanted, lines) in rows {
         assert!(rt;

@@ -1,7 +1,6 @@
 //! Connections under a lease, which goes back however they end.
-use crate::devices::{LIMITS, Paper, Tape, blank_paper, paper_of, roster, tape_of};
+use crate::devices::{Paper, Tape, blank_paper, paper_of, table, tape_of};
 use nesl_helpers::{Free, NoHelpers};
-use nesl_house::lease::Receipt;
 use nesl_house::table::Table;
 use nesl_line::device::Device;
 use nesl_line::exchange::End;
@@ -17,13 +16,8 @@ const SAID: &[u8] = b"user ann\n2 * 3 + 1;\nuser bob\n4 + 5;\n";
 const ANSWERS: &str = "user ann\nit = 7 : int (work 5, depth 5)\nfault syntax (work 0)\n\
     it = 9 : int (work 3, depth 3)\n";
 
-fn table(alloc: Global) -> Result<Table, Fail> {
-    let roster = roster(alloc)?;
-    Ok(Table::new(alloc, roster.as_slice(), LIMITS)?)
-}
-
-// What is answered on a connection that reads the tape and writes on the paper, and how it ends.
-fn served<R: Threads + Wait + Sync>(
+/// What is answered on a connection that reads the tape and writes on the paper, and how it ends.
+pub fn served<R: Threads + Wait + Sync>(
     rt: &R,
     alloc: Global,
     table: &Table,
@@ -174,42 +168,6 @@ fn a_write_that_fails_gives_the_lease_back(rt: HostRuntime) -> Result<(), Fail> 
             "{room}"
         );
     }
-    Ok(())
-}
-
-// The receipt of a connection on which this is answered to the text.
-fn receipt_of<R: Threads + Wait + Sync>(
-    rt: &R,
-    alloc: Global,
-    table: &Table,
-    text: &str,
-    wanted: &str,
-) -> Option<Receipt> {
-    let tape = tape_of(text.as_bytes(), 1000);
-    let (answers, ran) = served(rt, alloc, table, tape, blank_paper(alloc));
-    if answers.as_slice() == wanted.as_bytes() {
-        ran.receipt
-    } else {
-        None
-    }
-}
-
-#[test]
-fn a_session_goes_on_with_the_next_connection(rt: HostRuntime) -> Result<(), Fail> {
-    let alloc = rt.alloc();
-    let table = table(alloc)?;
-    let three = "user ann\nx = 3 : int (work 1, depth 1)\n";
-    let first = receipt_of(&rt, alloc, &table, "user ann\nx = 3;\n", three);
-    let three = "user ann\nit = 3 : int (work 1, depth 1)\n";
-    let second = receipt_of(&rt, alloc, &table, "user ann\nx;\n", three);
-    let (Some(first), Some(second)) = (first, second) else {
-        panic!(rt; "the session is kept");
-    };
-    let receipts = Vec::from_slice(alloc, &[first, second]).expect(&rt, "memory");
-    let Ok(closed) = table.close(receipts) else {
-        panic!(rt; "all is home and told");
-    };
-    assert!(rt; closed.lines == 2);
     Ok(())
 }
 

@@ -14,6 +14,7 @@ pub struct HalfGate<'r, R: Clock> {
     rt: &'r R,
     left: AtomicU64,
     right: AtomicU64,
+    other: AtomicU64,
     late: AtomicU64,
 }
 
@@ -23,15 +24,17 @@ impl<'r, R: Clock> HalfGate<'r, R> {
             rt,
             left: AtomicU64::new(0),
             right: AtomicU64::new(0),
+            other: AtomicU64::new(0),
             late: AtomicU64::new(0),
         }
     }
 
-    /// How often the left half and the right half entered, and how often one waited in vain.
-    pub fn counts(&self) -> (u64, u64, u64) {
+    /// How often the left half was entered, the right one and any other place, and how often one waited in vain.
+    pub fn counts(&self) -> (u64, u64, u64, u64) {
         (
             self.left.load(Ordering::SeqCst),
             self.right.load(Ordering::SeqCst),
+            self.other.load(Ordering::SeqCst),
             self.late.load(Ordering::SeqCst),
         )
     }
@@ -52,9 +55,11 @@ impl<R: Clock> Gate for HalfGate<'_, R> {
         if place == Place::Half(0, 1) {
             self.left.fetch_add(1, Ordering::SeqCst);
             self.wait_for(&self.right);
-        } else {
+        } else if place == Place::Half(1, 2) {
             self.right.fetch_add(1, Ordering::SeqCst);
             self.wait_for(&self.left);
+        } else {
+            self.other.fetch_add(1, Ordering::SeqCst);
         }
     }
 }

@@ -12,8 +12,8 @@
 //!   helpers are out then.
 //! - `@seeds COUNT`: the same of a row for each seed, where helpers are granted as the seed tells, and whether more helpers
 //!   were granted than there are seeds.
-//! - `@meet LINE`: evaluates it where each half of two places waits for the other, and writes how often the left half entered,
-//!   the right one, and how often one waited in vain.
+//! - `@meet LINE`: evaluates it where each half of two places waits for the other, and writes how often the left half was
+//!   entered, the right one and any other place, and how often one waited in vain.
 //! - `@asks`: writes how many permits of pools are free behind questions.
 //! - `@close`: closes the pool.
 
@@ -331,10 +331,10 @@ impl<'a, L: Ledger + Send + Sync, R: Threads + Wait + Clock + Sync> Halves<'a, L
     fn put_meeting(&self, alloc: Global, exp: &Exp, out: &mut Vec<u8>) -> Result<(), AllocError> {
         let gate = HalfGate::new(self.rt);
         self.put_outcome(alloc, exp, &Granting::always(), &gate, out)?;
-        let (left, right, late) = gate.counts();
+        let (left, right, other, late) = gate.counts();
         put(
             out,
-            format!(in alloc; "; {left} left, {right} right, {late} late\n"),
+            format!(in alloc; "; {left} left, {right} right, {other} other, {late} late\n"),
         )
     }
 

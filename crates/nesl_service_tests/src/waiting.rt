@@ -3,8 +3,9 @@ use crate::client::ann_and_bob;
 use crate::in_turn::{lines_by, patient};
 use nesl_helpers::Free;
 use nesl_service::journal::{Journal, Visit};
-use nesl_service::service::{Observers, ServeFault, Terms, serve_through};
+use nesl_service::service::{Observers, ServeFault, Terms, serve_on, serve_through};
 use nesl_service::wire::Patience;
+use std::alloc::{AllocError, Global};
 use std::net::TcpListener;
 use std::sync::atomic::{AtomicU64, Ordering};
 use std::test::Fail;
@@ -68,6 +69,33 @@ fn a_first_line_that_names_nobody_is_answered_at_once(rt: HostRuntime) -> Result
     Ok(())
 }
 
+// A connection that asks for some eighty million bytes, which no socket holds, and reads none; then one that is served.
+fn unread(alloc: Global) -> Result<String, AllocError> {
+    let mut rows = String::new(alloc);
+    rows.push_str("0 > user ann\n0 > x = index(30000);\n")?;
+    for _ in 0..400u32 {
+        rows.push_str("0 > x;\n")?;
+    }
+    rows.push_str("1 > user ann\n1 < user ann\n")?;
+    rows.push_str("1 > #x;\n1 < it = 30000 : int (work 2, depth 2)\n1 .")?;
+    Ok(rows)
+}
+
+#[test]
+fn a_connection_that_reads_nothing_ends(rt: HostRuntime) -> Result<(), Fail> {
+    let terms = Terms {
+        patience: Patience {
+            idle: Some(Duration::from_millis(300)),
+            ..patient()
+        },
+        ..hasty(2)
+    };
+    let rows = unread(rt.alloc())?;
+    let lines = lines_by(&rt, rt.alloc(), terms, &Free, rows.as_str())?;
+    assert!(rt; (3..402).contains(&lines), "{lines}");
+    Ok(())
+}
+
 // One that was turned away reads why, whatever it said besides.
 const MORE: &str = "0 > user zed
 0 > 1;
@@ -126,5 +154,18 @@ fn a_service_that_nobody_can_be_told_of_serves_nobody(rt: HostRuntime) -> Result
     };
     assert!(rt; fault == Some(ServeFault::Socket));
     assert!(rt; journal.told.load(Ordering::SeqCst) == 0);
+    Ok(())
+}
+
+#[test]
+fn a_table_with_a_session_away_is_not_closed(rt: HostRuntime) -> Result<(), Fail> {
+    let listener = TcpListener::bind(&rt, "127.0.0.1:0")?;
+    let (table, other) = (ann_and_bob(rt.alloc())?, ann_and_bob(rt.alloc())?);
+    let Ok(lease) = table.take(&rt, b"bob") else {
+        panic!(rt; "bob's session is at home");
+    };
+    let served = serve_on(&rt, rt.alloc(), &listener, table, 1, 0, Some(0));
+    other.give(&rt, lease);
+    assert!(rt; served.err() == Some(ServeFault::Table));
     Ok(())
 }

@@ -42,9 +42,9 @@ fn deeper(alloc: Global, link: Link, level: u64, value: Value) -> Result<Value, 
     }
 }
 
-fn chain(alloc: Global, link: Link, leaf: i64) -> Result<Value, AllocError> {
+fn chain(alloc: Global, link: Link, depth: u64, leaf: i64) -> Result<Value, AllocError> {
     let mut value = Value::Int(leaf);
-    for level in 0..DEPTH {
+    for level in 0..depth {
         let link = match (link, level % 5) {
             (Link::Mixed, 0) => Link::One,
             (Link::Mixed, 1) => Link::First,
@@ -74,11 +74,11 @@ fn is_itself(
 
 // Whether such a chain is made, shared, counted, copied, compared and dropped.
 fn goes_through(alloc: Global, link: Link, nodes: u64) -> Result<bool, AllocError> {
-    let value = chain(alloc, link, 0)?;
+    let value = chain(alloc, link, DEPTH, 0)?;
     let twin = value.share()?;
     drop(value);
     let copy = twin.copy_into(alloc)?;
-    let other = chain(alloc, link, 1)?;
+    let other = chain(alloc, link, DEPTH, 1)?;
     let is_counted = twin.nodes_up_to(DEPTH).is_none()
         && twin.nodes_up_to(nodes) == Some(nodes)
         && copy.nodes() == nodes;
@@ -103,12 +103,26 @@ fn in_each_shape(rt: HostRuntime) -> Result<(), Fail> {
     Ok(())
 }
 
-// Goes down to the last child of each node by a loop.
+// Whether a chain of so many levels is the same as its copy, and not as one with another leaf.
+fn is_same_as_its_copy(alloc: Global, link: Link, depth: u64) -> Result<bool, AllocError> {
+    let value = chain(alloc, link, depth, 0)?;
+    let copy = value.copy_into(alloc)?;
+    let other = chain(alloc, link, depth, 1)?;
+    Ok(copy.same(&value) && !copy.same(&other) && !other.same(&copy))
+}
+
+// Goes down to the last child of each node by a loop, so these take no stack; the others take some for each level.
 #[test]
 fn compared_without_memory(rt: HostRuntime) -> Result<(), Fail> {
-    let value = chain(rt.alloc(), Link::Right, 0)?;
-    let copy = value.copy_into(rt.alloc())?;
-    assert!(rt; copy.same(&value) && !copy.same(&chain(rt.alloc(), Link::Right, 1)?));
+    for link in [Link::One, Link::Right, Link::Tagged] {
+        let thread = Builder::new()
+            .stack_size(STACK)
+            .spawn(&rt, move || is_same_as_its_copy(rt.alloc(), link, DEPTH))?;
+        assert!(rt; thread.join(&rt)?);
+    }
+    for link in [Link::First, Link::Left, Link::Mixed] {
+        assert!(rt; is_same_as_its_copy(rt.alloc(), link, 10_000)?);
+    }
     Ok(())
 }
 

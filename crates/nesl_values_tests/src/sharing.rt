@@ -110,10 +110,16 @@ fn are_other(
     Ok(!first.same(&second) && !first.same_by_list(alloc, &second)?)
 }
 
+// Whether the value has three nodes, one more than a limit of two.
+fn has_three_nodes(value: &Value) -> bool {
+    value.nodes_up_to(2).is_none() && value.nodes_up_to(3) == Some(3)
+}
+
 #[test]
 fn packed_or_not(rt: HostRuntime) -> Result<(), Fail> {
     let alloc = rt.alloc();
     let packed = numbers(alloc, &[1, 2])?;
+    assert!(rt; has_three_nodes(&packed) && has_three_nodes(&one_and_two(alloc)?));
     assert!(rt; are_equal(alloc, &packed, one_and_two(alloc))?);
     assert!(rt; are_other(alloc, &packed, numbers(alloc, &[1, 2, 3]))?);
     Ok(())

@@ -1,0 +1,101 @@
+//! What a session keeps from one connection to the next.
+use crate::devices::{blank_paper, table, tape_of};
+use crate::served::served;
+use nesl_house::lease::Receipt;
+use nesl_house::table::{Closed, Table};
+use std::alloc::Global;
+use std::sync::Wait;
+use std::test::Fail;
+use std::thread::Threads;
+
+// A connection: what is said on it, what is answered, and how many lines are recorded.
+type Visit = (&'static str, &'static str, u64);
+
+// The receipt of a connection on which all is answered that should be, and recorded.
+fn receipt_of<R: Threads + Wait + Sync>(
+    rt: &R,
+    alloc: Global,
+    table: &Table,
+    (said, wanted, recorded): Visit,
+) -> Option<Receipt> {
+    let tape = tape_of(said.as_bytes(), 1000);
+    let (answers, ran) = served(rt, alloc, table, tape, blank_paper(alloc));
+    if answers.as_slice() != wanted.as_bytes() {
+        return None;
+    }
+    match ran.receipt {
+        Some(receipt) if receipt.recorded == recorded && receipt.place == 0 => Some(receipt),
+        _ => None,
+    }
+}
+
+// What a table becomes after two connections of ann, one after the other, on which all is as it should be.
+fn closed_after<R: Threads + Wait + Sync>(
+    rt: &R,
+    alloc: Global,
+    first: Visit,
+    second: Visit,
+) -> Result<Option<Closed>, Fail> {
+    let table = table(alloc)?;
+    let mut receipts = Vec::new(alloc);
+    for visit in [first, second] {
+        match receipt_of(rt, alloc, &table, visit) {
+            Some(receipt) => receipts.push(receipt)?,
+            None => return Ok(None),
+        }
+    }
+    Ok(table.close(receipts).ok())
+}
+
+// How many lines ann's session stored, and how many resets cleared.
+fn lines_of_ann(closed: &Closed) -> Option<(usize, u64)> {
+    let ann = closed.house.session(b"ann")?;
+    Some((ann.lines().len(), ann.cleared()))
+}
+
+#[test]
+fn a_name_is_bound_on_the_next_connection(rt: HostRuntime) -> Result<(), Fail> {
+    let first = (
+        "user ann\nx = 3;\n",
+        "user ann\nx = 3 : int (work 1, depth 1)\n",
+        1,
+    );
+    let second = (
+        "user ann\nx;\n",
+        "user ann\nit = 3 : int (work 1, depth 1)\n",
+        1,
+    );
+    let closed = closed_after(&rt, rt.alloc(), first, second)?.expect(&rt, "all is answered");
+    assert!(rt; closed.lines == 2 && lines_of_ann(&closed) == Some((2, 0)));
+    Ok(())
+}
+
+#[test]
+fn a_form_goes_on_on_the_next_connection(rt: HostRuntime) -> Result<(), Fail> {
+    let first = ("user ann\n1 +\\\n", "user ann\nmore\n", 1);
+    let second = (
+        "user ann\n2;\n",
+        "user ann\nit = 3 : int (work 3, depth 3)\n",
+        1,
+    );
+    let closed = closed_after(&rt, rt.alloc(), first, second)?.expect(&rt, "all is answered");
+    assert!(rt; closed.lines == 2 && lines_of_ann(&closed) == Some((2, 0)));
+    Ok(())
+}
+
+#[test]
+fn what_a_reset_cleared_is_gone_on_the_next_connection(rt: HostRuntime) -> Result<(), Fail> {
+    let first = (
+        "user ann\nx = 3;\n:reset\n4;\n",
+        "user ann\nx = 3 : int (work 1, depth 1)\nreset: lines 1\nit = 4 : int (work 1, depth 1)\n",
+        3,
+    );
+    let second = (
+        "user ann\nx;\n",
+        "user ann\nfault unknown at 0..1 (work 0)\n",
+        1,
+    );
+    let closed = closed_after(&rt, rt.alloc(), first, second)?.expect(&rt, "all is answered");
+    assert!(rt; closed.lines == 4 && lines_of_ann(&closed) == Some((2, 2)));
+    Ok(())
+}

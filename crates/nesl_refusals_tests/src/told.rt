@@ -1,0 +1,41 @@
+//! What is told.
+use std::alloc::AllocError;
+
+/// What comes of a text.
+#[derive(Drop)]
+pub struct Told {
+    /// The answers, a line for each line of the text.
+    pub answers: Vec<u8>,
+    /// What the sessions are in the end.
+    pub standing: Vec<u8>,
+    /// How many calls wanted memory in their own form, and were made once more.
+    pub repeated: u64,
+    /// Whether a call that was refused memory left all as it was.
+    pub is_unchanged: bool,
+}
+
+/// Why nothing is told.
+#[derive(Clone, Copy, PartialEq, Eq, Debug)]
+pub enum Refusal {
+    /// The call wanted memory in its own form.
+    Call,
+    /// This program wanted memory.
+    Own,
+}
+
+impl From<AllocError> for Refusal {
+    fn from(_refused: AllocError) -> Refusal {
+        Refusal::Own
+    }
+}
+
+/// Writes a text, if there was memory for it.
+pub fn put(out: &mut Vec<u8>, text: Result<String, AllocError>) -> Result<(), AllocError> {
+    out.extend_from_slice(text?.as_bytes())
+}
+
+/// Writes a line.
+pub fn put_line(out: &mut Vec<u8>, line: &str) -> Result<(), AllocError> {
+    out.extend_from_slice(line.as_bytes())?;
+    out.extend_from_slice(b"\n")
+}
