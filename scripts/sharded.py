@@ -84,7 +84,7 @@ class Front(Process):
         self.errors = tempfile.TemporaryFile()
         more = ["-sf", str(old.run.pid)] if old else []
         self.run = started([path, "-db", "-f", config, *more], stderr=self.errors)
-        until = time.monotonic() + PATIENCE
+        until = time.monotonic() + 6 * PATIENCE
         while time.monotonic() < until:
             self.must_live()
             try:
