@@ -1,8 +1,8 @@
 //! Where and by what terms an offered service is kept.
 ghost use Rattle.std.specs.Prelude.{◌≡◌, ◌+◌, ◌*◌, ◌^◌, ◌≤◌, ◌∷◌, [], IfNone, IfSome, length, option_map, unwrap_or};
+ghost use Rattle.std.specs.Duration.{as_nanos};
 ghost use Rattle.std.specs.Net.Addr.{ipv4_octets, IsV4And};
 ghost use Rattle.std.specs.Net.Socket.{socket_ip, socket_port};
-ghost use Rattle.std.specs.Time.{as_nanos};
 ghost use Rattle.nesl_program.specs.Offered.{nanos_in, workers_in};
 
 use crate::run::Offer;
