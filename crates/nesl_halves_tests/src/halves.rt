@@ -81,8 +81,8 @@ fn with_a_pool(rt: HostRuntime) -> Result<(), Fail> {
 
 const SQUARES: &[u8] = b"{a * a : a in [1, 2]};";
 
-// What the gate counts where both halves of a line wait for each other, by a pool of one; nothing where the answer is another,
-// or the permit isn't back.
+// What the gate counts where both halves of a line wait for each other, by a pool of one; nothing where the answer is
+// another, or the permit isn't back.
 fn met<L: Ledger + Send + Sync, R: Threads + Wait + Clock + Sync>(
     rt: &R,
     alloc: Global,

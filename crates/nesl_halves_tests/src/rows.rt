@@ -15,7 +15,8 @@ pub const LIMITS: Limits = Limits {
     transcript_bytes: 1_048_576,
 };
 
-/// Sessions: each begins with a line `work NUMBER`, which is what a line may take; behind it stand lines, each with its answer.
+/// Sessions: each begins with a line `work NUMBER`, which is what a line may take; behind it stand lines, each with its
+/// answer.
 const SESSIONS: &str = "work 1000000
 {negate(a) : a in [3, -4, -9, 5]}; => it = [-3, 4, 9, -5] : [int] (work 20, depth 10)
 work 1000000

@@ -44,8 +44,8 @@ pub fn lines_of(house: &House, user: &[u8]) -> Option<usize> {
     house.session(user).map(|session| session.lines().len())
 }
 
-// Says lines under one lease, each with the reply that is wanted. There is no receipt where the session is away, or a reply
-// is another.
+// Says lines under one lease, each with the reply that is wanted. There is no receipt where the session is away, or a
+// reply is another.
 pub fn said<R: Threads + Wait + Sync>(
     rt: &R,
     alloc: Global,
