@@ -18,7 +18,7 @@ TOP = Path(__file__).resolve().parent.parent
 BASE = "/usr/local/sbin:/usr/sbin:/sbin:/usr/bin:/bin"
 SAID = b"user ann\n2 * 3 + 1;\n"
 TOLD = "user ann\nit = 7 : int (work 5, depth 5)\n"
-CRATES = "# two crates\nnesl_words: clap\nnesl_server may_wait=3: nesl_words clap\nnesl_other: nesl_words\n"
+CRATES = "# two crates\nnesl_words: clap\nnesl_server may_wait=3: nesl_cli clap\nnesl_other: nesl_cli\n"
 SCRIPTS = ["sources", "build", "release", "check_release", "timed"]
 VERSION = "rattle-kit-0 logic 0"
 # A kit: `rt ci` says what there is to say, and gives out what stands beside it as the program.
@@ -28,10 +28,10 @@ case $1 in
 version) cat "$here/version" ;;
 ci)
     if [ -e "$here/refuses" ]; then
-        printf '== nesl_words\\nsrc/lib.rt:1:1: error: not proved\\nrt: nesl_words NOT PROVED\\n0 passed, 1 failed\\n'
+        printf '== nesl_cli\\nsrc/lib.rt:1:1: error: not proved\\nrt: nesl_cli NOT PROVED\\n0 passed, 1 failed\\n'
         exit 1
     fi
-    printf '== nesl_words\\nrt: nesl_words proved\\nrt: nesl_server is kept: an earlier run\\n2 passed, 0 failed\\n'
+    printf '== nesl_cli\\nrt: nesl_cli proved\\nrt: nesl_server is kept: an earlier run\\n2 passed, 0 failed\\n'
     mkdir -p crates/nesl_server/out
     cp "$here/program" crates/nesl_server/out/nesl_server ;;
 esac
@@ -58,7 +58,7 @@ class Checkout:
         for name in ["pazkindu", "HANDLES", "docs/GATE.md", *[f"scripts/{name}" for name in SCRIPTS]]:
             shutil.copy(TOP / name, self.top / name)
         self.write("crates.txt", CRATES)
-        for crate, file in (("nesl_words", "lib.rt"), ("nesl_server", "main.rt"), ("nesl_other", "lib.rt")):
+        for crate, file in (("nesl_cli", "lib.rt"), ("nesl_server", "main.rt"), ("nesl_other", "lib.rt")):
             self.write(f"crates/{crate}/src/{file}", "// A source.\n")
             self.write(f"crates/{crate}/specs/Lib.antt", "")
         shutil.copy(program, self.kit / "program")
@@ -147,10 +147,10 @@ def starts(program):
 def changed_sources(program):
     """They are told of in one line, and the release starts; what the build doesn't read changes nothing."""
     with Checkout(program) as it:
-        for name in ("docs/NEW.md", "crates/nesl_words/must-fail/new.edit", "crates/nesl_other/src/lib.rt"):
+        for name in ("docs/NEW.md", "crates/nesl_cli/must-fail/new.edit", "crates/nesl_other/src/lib.rt"):
             it.write(name, "new\n")
             it.must(TOLD)
-        for name in ("crates/nesl_words/src/lib.rt", "crates/nesl_server/specs/New.antt", "crates.txt", "HANDLES"):
+        for name in ("crates/nesl_cli/src/lib.rt", "crates/nesl_server/specs/New.antt", "crates.txt", "HANDLES"):
             was = (it.top / name).read_text() if (it.top / name).exists() else None
             it.write(name, CRATES + "# more\n" if name == "crates.txt" else "new\n")
             it.must(TOLD, lines=CHANGED)
@@ -159,7 +159,7 @@ def changed_sources(program):
             else:
                 it.write(name, was)
             it.must(TOLD)
-        (it.top / "crates/nesl_words/src/lib.rt").rename(it.top / "crates/nesl_words/src/other.rt")
+        (it.top / "crates/nesl_cli/src/lib.rt").rename(it.top / "crates/nesl_cli/src/other.rt")
         it.must(TOLD, lines=CHANGED)
 
 
@@ -182,7 +182,7 @@ def noted(program):
         before = read()
         it.must(TOLD, **settings)
         demand(read() == before, "the second start reads the sources again")
-        source = it.top / "crates/nesl_words/src/lib.rt"
+        source = it.top / "crates/nesl_cli/src/lib.rt"
         source.write_text("// Another.\n")
         os.utime(source, (1, 1))
         it.must(TOLD, lines=CHANGED, **settings)
@@ -235,7 +235,7 @@ def no_release(program):
         it.must(1, lines=["there is no release/pazkindu", NO_KIT])
         it.built()
         it.must(TOLD)
-        it.write("crates/nesl_words/src/lib.rt", "new\n")
+        it.write("crates/nesl_cli/src/lib.rt", "new\n")
         it.must(1, lines=["there is no release/pazkindu", NO_KIT])
 
 
@@ -304,7 +304,7 @@ def built(program):
         told = it.starts("all 2 crates are proved, 1 of them by earlier runs", "--built", "batch", "ann", kit=True)
         demand(any("1 of 2 proved" in line and "left" in line for line in told), f"how far it is isn't told: {told}")
         it.must(TOLD, "--built", "batch", "ann", kit=True)
-        it.write("crates/nesl_words/src/lib.rt", "new\n")
+        it.write("crates/nesl_cli/src/lib.rt", "new\n")
         (it.kit / "refuses").touch()
         told = it.starts("not proved, so nothing was built", "--built", "batch", "ann", wanted=("", 1), kit=True)
         demand(any("error: not proved" in line for line in told), f"it doesn't tell what was refused: {told}")
@@ -345,7 +345,7 @@ def progress(_):
               "4 of 5 proved, d now, about 2 minutes left", "5 of 5 proved, less than a minute left"]
     demand(said == wanted, f"expected {wanted}, and there came {said}")
     table = build.seconds()
-    demand(table.get("nesl_values", 0) > 0 and "nesl_values_tests" not in table, "docs/GATE.md has no table of seconds")
+    demand(table.get("nesl_values", 0) > 0 and "nesl_tests_values" not in table, "docs/GATE.md has no table of seconds")
 
 
 def holds(it, verdict, *texts):
@@ -371,7 +371,7 @@ def gate_holds(program):
         holds(it, "1 passed, 1 failed", "NOT SO: release/SHA256SUMS", mend)
         it.put("release", "pazkindu", data + b"\n", kit="rattle-kit-1 logic 1")
         holds(it, "1 passed, 0 failed", "built with kit rattle-kit-1 logic 1", "this is kit rattle-kit-0 logic 0")
-        it.write("crates/nesl_words/src/lib.rt", "new\n")
+        it.write("crates/nesl_cli/src/lib.rt", "new\n")
         it.built()
         holds(it, "1 passed, 0 failed", "it is of older sources")
         (it.top / "release/SOURCES").unlink()
@@ -390,7 +390,7 @@ def makes_release(program):
         demand(names == ["SHA256SUMS", "SOURCES", "pazkindu"], f"it has {names}")
         holds(it, "2 passed, 0 failed")
         it.must(TOLD)
-        it.write("crates/nesl_words/src/lib.rt", "new\n")
+        it.write("crates/nesl_cli/src/lib.rt", "new\n")
         said, status = it.runs("release")
         demand(status == 1 and "the sources have changed" in said, said)
         it.built()
@@ -427,7 +427,7 @@ def gate(program):
         ends("8 passed, 1 failed")
         it.write("scripts/test", "#!/bin/sh\nexit 3\n")
         ends("4 passed, 1 failed")
-        (it.kit / "rt").write_text(KIT + "echo new >>crates/nesl_words/src/lib.rt\n")
+        (it.kit / "rt").write_text(KIT + "echo new >>crates/nesl_cli/src/lib.rt\n")
         ends("2 passed, 1 failed", "the sources have changed while the gate ran", without=["byte for byte"])
         (it.kit / "rt").write_text(KIT)
         (it.kit / "refuses").touch()

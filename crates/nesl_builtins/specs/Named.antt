@@ -1,13 +1,13 @@
 -- Which built-in a name before `(` is, and which one an operator is.
 use Rattle.std.specs.Prelude.{ℕ, List, [], ◌∷◌, Option, Some, None, codes, if◌then◌else◌}
 use Rattle.std.specs.Str.{bytes_eq}
-use Rattle.nesl_tree.specs.declared.tree.Operator.{Operator}
-use Rattle.nesl_tree.specs.declared.tree.Operator.TheVariants as ops
-use Rattle.nesl_tree.specs.declared.tree.Prefix.{Prefix}
-use Rattle.nesl_tree.specs.declared.tree.Prefix.TheVariants as pre
+use Rattle.nesl_syntax_tree.specs.declared.tree.Operator.{Operator}
+use Rattle.nesl_syntax_tree.specs.declared.tree.Operator.TheVariants as ops
+use Rattle.nesl_syntax_tree.specs.declared.tree.Prefix.{Prefix}
+use Rattle.nesl_syntax_tree.specs.declared.tree.Prefix.TheVariants as pre
 use Rattle.nesl_scalars.specs.declared.unary.Unary.TheVariants as unary
 use Rattle.nesl_scalars.specs.declared.binary.Binary.TheVariants as binary
-use Rattle.nesl_seq_base.specs.declared.seq_fn.SeqFn.TheVariants as seq
+use Rattle.nesl_seqs_base.specs.declared.seq_fn.SeqFn.TheVariants as seq
 use Rattle.nesl_builtins.specs.declared.builtin.Builtin.{Builtin}
 use Rattle.nesl_builtins.specs.declared.builtin.Builtin.TheVariants.{OfOne, OfTwo, OfSequences}
 

@@ -8,8 +8,8 @@ use Rattle.nesl_scalars.specs.declared.unary.Unary.{Unary}
 use Rattle.nesl_scalars.specs.declared.unary.Unary.TheVariants as unary
 use Rattle.nesl_scalars.specs.declared.binary.Binary.{Binary}
 use Rattle.nesl_scalars.specs.declared.binary.Binary.TheVariants as binary
-use Rattle.nesl_seq_base.specs.declared.seq_fn.SeqFn.{SeqFn}
-use Rattle.nesl_seq_base.specs.declared.seq_fn.SeqFn.TheVariants as seq
+use Rattle.nesl_seqs_base.specs.declared.seq_fn.SeqFn.{SeqFn}
+use Rattle.nesl_seqs_base.specs.declared.seq_fn.SeqFn.TheVariants as seq
 use Rattle.nesl_builtins.specs.declared.builtin.Builtin.{Builtin}
 use Rattle.nesl_builtins.specs.declared.builtin.Builtin.TheVariants.{OfOne, OfTwo, OfSequences}
 

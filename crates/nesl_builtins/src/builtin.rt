@@ -4,8 +4,8 @@ ghost use Rattle.std.specs.Prelude.{◌≡◌, map};
 ghost use Rattle.nesl_builtins.specs.Named.{entry, named_builtin, infix_builtin, prefix_builtin};
 
 use nesl_scalars::{Binary, Unary};
-use nesl_seq_base::seq_fn::SeqFn;
-use nesl_tree::tree::{Operator, Prefix};
+use nesl_seqs_base::seq_fn::SeqFn;
+use nesl_syntax_tree::tree::{Operator, Prefix};
 
 /// A built-in function. It takes one value: two arguments are a pair, three are `(a, (b, c))`.
 #[derive(Clone, Copy, PartialEq, Eq, Debug)]

@@ -7,7 +7,7 @@ ghost use Rattle.nesl_builtins.specs.Table.{a, b, function_type, unary_type, bin
 use crate::builtin::Builtin;
 use crate::shapes::{any_two, both, in_class, plain, seq_of};
 use nesl_scalars::{Binary, Unary};
-use nesl_seq_base::seq_fn::SeqFn;
+use nesl_seqs_base::seq_fn::SeqFn;
 use nesl_types::{Class, Scheme, Ty};
 use std::alloc::{AllocError, Global};
 

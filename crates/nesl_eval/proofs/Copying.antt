@@ -3,8 +3,8 @@ use Rattle.std.proofs.Common.{◌≡◌, ℕ, List, Option, Some, sym, ap, ◌�
 use Rattle.std.specs.Prelude.{slice_get, unwrap_or}
 use Rattle.nesl_values.specs.View.{tree_of}
 use Rattle.nesl_values.specs.declared.value.Value as code
-use Rattle.nesl_code.specs.Names.{Value}
-use Rattle.nesl_code.specs.Run.{Table, variable_slot, nothing_slot, slot_at}
+use Rattle.nesl_eval_meaning.specs.Names.{Value}
+use Rattle.nesl_eval_code.specs.Run.{Table, variable_slot, nothing_slot, slot_at}
 use Rattle.nesl_eval.specs.Copied.{AreCopies, slot_value}
 
 -- where a variable stands, its copy stands for it

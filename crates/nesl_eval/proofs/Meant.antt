@@ -2,14 +2,14 @@
 use Rattle.std.proofs.Common.{◌≡◌, ℕ, List, [], true, nat_le, sym, subst, arith}
 use Rattle.std.specs.Prelude.{if◌then◌else◌}
 use Rattle.std.proofs.lemmas.Bool.Decides.{nat_tests}
-use Rattle.nesl_tree.specs.Trees.{Tree}
-use Rattle.nesl_code.specs.declared.code.Code.{Code}
-use Rattle.nesl_code.specs.Names.{Name, Value, Environment, outside}
-use Rattle.nesl_code.specs.Out.{Out, value, fault, stuck, within}
-use Rattle.nesl_code.specs.Outcome.{out}
-use Rattle.nesl_code.specs.Run.{Table, run}
-use Rattle.nesl_code.specs.Means.{Means, IsTableOf, names_of}
-use Rattle.nesl_code.specs.Laws.{RunsAsMeant}
+use Rattle.nesl_syntax_tree.specs.Trees.{Tree}
+use Rattle.nesl_eval_code.specs.declared.code.Code.{Code}
+use Rattle.nesl_eval_meaning.specs.Names.{Name, Value, Environment, outside}
+use Rattle.nesl_eval_meaning.specs.Out.{Out, value, fault, stuck, within}
+use Rattle.nesl_eval_meaning.specs.Outcome.{out}
+use Rattle.nesl_eval_code.specs.Run.{Table, run}
+use Rattle.nesl_eval_code.specs.Means.{Means, IsTableOf, names_of}
+use Rattle.nesl_eval_code.specs.Laws.{RunsAsMeant}
 use Rattle.nesl_eval.specs.declared.outcome.Outcome.{Outcome}
 use Rattle.nesl_eval.specs.declared.outcome.Outcome.TheVariants.{Done, Fault, Over, Memory}
 use Rattle.nesl_eval.specs.Tells.{Tells}

@@ -9,10 +9,10 @@ use Rattle.std.proofs.lemmas.List.Sums.{sum_by-set, sum_by-le, sum_by-cons}
 use Rattle.std.proofs.lemmas.Option.{slice_get_within, slice_get-get_or}
 use Rattle.std.proofs.lemmas.Bool.{eq-eqb, eqb-true, cases_lt}
 use Rattle.std.specs.Prelude.{Result, Ok, Err, OnOk}
-use Rattle.nesl_code.specs.declared.code.Code.{Code}
-use Rattle.nesl_code.specs.declared.code.Code as nodes
+use Rattle.nesl_eval_code.specs.declared.code.Code.{Code}
+use Rattle.nesl_eval_code.specs.declared.code.Code as nodes
 use Rattle.nesl_lex.specs.declared.token.Span.{Span}
-use Rattle.nesl_code.specs.Run.{Table, Slot, function_slot, nothing_slot, slot_at}
+use Rattle.nesl_eval_code.specs.Run.{Table, Slot, function_slot, nothing_slot, slot_at}
 use Rattle.nesl_eval.specs.Reached.{own_place, parts_of, Refers, Reaches, IsMarked, Marks, count_of, AreQueued, Grows, by_itself, in_part, directly, in_body}
 
 -- marks that are kept

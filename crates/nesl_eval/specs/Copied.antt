@@ -5,8 +5,8 @@ use Rattle.nesl_values.specs.Codes.{tree_code}
 use Rattle.nesl_values.specs.Tree as values
 use Rattle.nesl_values.specs.View.{tree_of}
 use Rattle.nesl_values.specs.declared.value.Value as code
-use Rattle.nesl_code.specs.Names.{Value}
-use Rattle.nesl_code.specs.Run.{Table, Slot, variable_slot, nothing_slot, slot_at}
+use Rattle.nesl_eval_meaning.specs.Names.{Value}
+use Rattle.nesl_eval_code.specs.Run.{Table, Slot, variable_slot, nothing_slot, slot_at}
 
 -- the value of the variable at a place, or 0 where none stands
 abbrev pub slot_value : Slot → Value

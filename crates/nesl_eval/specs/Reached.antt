@@ -2,11 +2,11 @@
 use Rattle.std.specs.Prelude.{◌≡◌, ◌<◌, ℕ, List, [], ◌∷◌, ◌++◌, Bool, true, cond, ◌==◌, Option, Some, None}
 use Rattle.std.specs.Prelude.{Contains, length, slice_get, sum_by}
 use Rattle.std.specs.List.{list_any}
-use Rattle.nesl_code.specs.declared.code.Code.{Code, Top, Named, Pair', Apply', ApplyTwo', ApplyThree', Call'}
-use Rattle.nesl_code.specs.declared.code.Code.{CallNamed', Choice'}
-use Rattle.nesl_code.specs.declared.code.Code.{Sequence', Let', Each', FilteredEach', items-the_row-Code}
-use Rattle.nesl_code.specs.Run.{Table, function_slot, slot_at}
-use Rattle.nesl_code.specs.Means.{names_of, place_of}
+use Rattle.nesl_eval_code.specs.declared.code.Code.{Code, Top, Named, Pair', Apply', ApplyTwo', ApplyThree', Call'}
+use Rattle.nesl_eval_code.specs.declared.code.Code.{CallNamed', Choice'}
+use Rattle.nesl_eval_code.specs.declared.code.Code.{Sequence', Let', Each', FilteredEach', items-the_row-Code}
+use Rattle.nesl_eval_code.specs.Run.{Table, function_slot, slot_at}
+use Rattle.nesl_eval_code.specs.Means.{names_of, place_of}
 
 -- the place that a node names itself, besides its parts
 abbrev pub own_place : Table → Code → Option ℕ

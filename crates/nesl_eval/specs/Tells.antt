@@ -1,8 +1,8 @@
 -- What the answer of an evaluation tells.
 use Rattle.std.specs.Prelude.{◌≡◌}
 use Rattle.nesl_values.specs.View.{tree_of}
-use Rattle.nesl_code.specs.Names.{Value}
-use Rattle.nesl_code.specs.Out.{Out, value, fault, stuck, Budgeted, told, over}
+use Rattle.nesl_eval_meaning.specs.Names.{Value}
+use Rattle.nesl_eval_meaning.specs.Out.{Out, value, fault, stuck, Budgeted, told, over}
 use Rattle.nesl_eval.specs.declared.outcome.Outcome.{Outcome}
 use Rattle.nesl_eval.specs.declared.outcome.Outcome.TheVariants.{Done, Fault, Over, Memory}
 

@@ -1,21 +1,21 @@
 //! The top level in another heap than that of its bindings.
 ghost use Rattle.std.specs.Prelude.{◌≡◌, [], ℕ, IfOk, IfSome, OnOk, Some, slice_get};
-ghost use Rattle.nesl_tree.specs.Views.{tree_of as tree_of_exp};
+ghost use Rattle.nesl_syntax_tree.specs.Views.{tree_of as tree_of_exp};
 ghost use Rattle.nesl_values.specs.View.{tree_of};
-ghost use Rattle.nesl_code.specs.Means.{IsTableOf, names_of};
-ghost use Rattle.nesl_code.specs.Names.{outside};
-ghost use Rattle.nesl_code.specs.Out.{within};
-ghost use Rattle.nesl_code.specs.Outcome.{out};
-ghost use Rattle.nesl_code.specs.Stored.{environment, names_in};
-ghost use Rattle.nesl_code.specs.TopLevels.{table_in};
+ghost use Rattle.nesl_eval_code.specs.Means.{IsTableOf, names_of};
+ghost use Rattle.nesl_eval_meaning.specs.Names.{outside};
+ghost use Rattle.nesl_eval_meaning.specs.Out.{within};
+ghost use Rattle.nesl_eval_meaning.specs.Outcome.{out};
+ghost use Rattle.nesl_eval_code.specs.Stored.{environment, names_in};
+ghost use Rattle.nesl_eval_code.specs.TopLevels.{table_in};
 ghost use Rattle.nesl_eval.specs.Tells.{Tells};
 ghost use Rattle.nesl_eval.specs.Copied.{AreCopies, copies-prop, tree_at};
 
 use crate::outcome::{Outcome, evaluate};
 use crate::reached::places_reached;
-use nesl_code::{Code, Env, TopLevel, prepare, runs_as_meant};
-use nesl_nodes::held::{Held, Tops};
-use nesl_tree::tree::Exp;
+use nesl_eval_code::{Code, Env, TopLevel, prepare, runs_as_meant};
+use nesl_eval_nodes::held::{Held, Tops};
+use nesl_syntax_tree::tree::Exp;
 use nesl_values::Value;
 use std::alloc::{AllocError, Allocator, Global};
 
@@ -29,24 +29,24 @@ struct Copies<'e, A: Allocator> {
 }
 
 impl<'e, A: Allocator> Tops<A> for Copies<'e, A> {
-    ghost use Rattle.nesl_code.specs.TopLevels.{table_in};
+    ghost use Rattle.nesl_eval_code.specs.TopLevels.{table_in};
 
     ghost table = { λ c. table_in c.tops };
 
     #[tactic(auto, using(crate::proofs::Copying::copy_stands))]
     fn held(&self, place: usize) -> Result<Held<'_, A>, AllocError> {
         match self.tops.held(place) {
-            nesl_code::Held::Variable(_) => match lent_copy(&self.values, place) {
+            nesl_eval_code::Held::Variable(_) => match lent_copy(&self.values, place) {
                 Some(copy) => Ok(Held::Variable(copy)),
                 None => Err(AllocError),
             },
-            nesl_code::Held::Function(code) => Ok(Held::Function(code)),
-            nesl_code::Held::Datatype(tag) => Ok(Held::Datatype(tag)),
-            nesl_code::Held::Nothing => Ok(Held::Nothing),
+            nesl_eval_code::Held::Function(code) => Ok(Held::Function(code)),
+            nesl_eval_code::Held::Datatype(tag) => Ok(Held::Datatype(tag)),
+            nesl_eval_code::Held::Nothing => Ok(Held::Nothing),
         }
     }
 
-    #[tactic(auto, using(nesl_nodes::proofs::Lent::place_named))]
+    #[tactic(auto, using(nesl_eval_nodes::proofs::Lent::place_named))]
     fn place_of(&self, name: &[u8]) -> Option<usize> {
         self.tops.place_of(name)
     }
@@ -122,7 +122,7 @@ fn copy_at<A: Allocator + Copy>(
         return None;
     }
     match tops.held(place) {
-        nesl_code::Held::Variable(value) => match value.copy_into(heap) {
+        nesl_eval_code::Held::Variable(value) => match value.copy_into(heap) {
             Ok(copy) => Some(copy),
             Err(_) => None,
         },

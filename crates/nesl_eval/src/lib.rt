@@ -8,6 +8,6 @@ mod outcome;
 mod reached;
 
 pub use copies::eval_one_in;
-pub use nesl_code::Env;
+pub use nesl_eval_code::Env;
 pub use one::eval_one;
 pub use outcome::{Outcome, outcome_of};

@@ -1,15 +1,15 @@
 //! Expressions of the top level, in the allocator of its bindings.
 ghost use Rattle.std.specs.Prelude.{[]};
-ghost use Rattle.nesl_tree.specs.Views.{tree_of};
-ghost use Rattle.nesl_code.specs.Names.{outside};
-ghost use Rattle.nesl_code.specs.Out.{within};
-ghost use Rattle.nesl_code.specs.Outcome.{out};
-ghost use Rattle.nesl_code.specs.Stored.{environment};
+ghost use Rattle.nesl_syntax_tree.specs.Views.{tree_of};
+ghost use Rattle.nesl_eval_meaning.specs.Names.{outside};
+ghost use Rattle.nesl_eval_meaning.specs.Out.{within};
+ghost use Rattle.nesl_eval_meaning.specs.Outcome.{out};
+ghost use Rattle.nesl_eval_code.specs.Stored.{environment};
 ghost use Rattle.nesl_eval.specs.Tells.{Tells};
 
 use crate::outcome::{Outcome, evaluate};
-use nesl_code::{Env, prepare, runs_as_meant};
-use nesl_tree::tree::Exp;
+use nesl_eval_code::{Env, prepare, runs_as_meant};
+use nesl_syntax_tree::tree::Exp;
 use std::alloc::Global;
 
 /// What an expression comes to where these bindings stand, with so many levels and so much work.

@@ -1,18 +1,18 @@
 //! What an evaluation under a budget tells.
 ghost use Rattle.std.specs.Prelude.{◌≤◌, []};
 ghost use Rattle.nesl_values.specs.Tree.{Tree};
-ghost use Rattle.nesl_code.specs.Out.{Out, within};
-ghost use Rattle.nesl_code.specs.Run.{run};
-ghost use Rattle.nesl_nodes.specs.Meets.{Meets, Is};
+ghost use Rattle.nesl_eval_meaning.specs.Out.{Out, within};
+ghost use Rattle.nesl_eval_code.specs.Run.{run};
+ghost use Rattle.nesl_eval_nodes.specs.Meets.{Meets, Is};
 ghost use Rattle.nesl_eval.specs.Tells.{Tells};
 
 use crate::eval::eval_in;
-use nesl_code::Code;
+use nesl_eval_code::Code;
+use nesl_eval_nodes::held::Tops;
+use nesl_eval_nodes::meter::{Meter, Stop};
+use nesl_eval_nodes::scope::Scope;
 use nesl_lex::token::Span;
-use nesl_nodes::held::Tops;
-use nesl_nodes::meter::{Meter, Stop};
 use nesl_scalars::Trap;
-use nesl_scopes::scope::Scope;
 use nesl_values::Value;
 use std::alloc::Allocator;
 

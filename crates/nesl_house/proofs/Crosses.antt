@@ -3,13 +3,13 @@ use denote.Param.Send.{IsSend, IsSync, sendable}
 use Rattle.std.proofs.Crossing as standard
 use Rattle.std.proofs.MapsCrossing as maps
 use Rattle.nesl_lex.proofs.token.Span.TheSendSync as span_crosses
-use Rattle.nesl_tree.specs.contracts.tree.Exp as exp_row
-use Rattle.nesl_tree.specs.contracts.tree.Pattern as pattern_row
-use Rattle.nesl_tree.proofs.tree.Node.TheLaws.TheKnot as exp_knot
-use Rattle.nesl_tree.proofs.tree.PatternNode.TheLaws.TheKnot as pattern_knot
-use Rattle.nesl_tree.proofs.tree.TypeNode.TheLaws.TheKnot as type_knot
-use Rattle.nesl_tree.proofs.tree.Operator.TheSendSync as operator_crosses
-use Rattle.nesl_tree.proofs.tree.Prefix.TheSendSync as prefix_crosses
+use Rattle.nesl_syntax_tree.specs.contracts.tree.Exp as exp_row
+use Rattle.nesl_syntax_tree.specs.contracts.tree.Pattern as pattern_row
+use Rattle.nesl_syntax_tree.proofs.tree.Node.TheLaws.TheKnot as exp_knot
+use Rattle.nesl_syntax_tree.proofs.tree.PatternNode.TheLaws.TheKnot as pattern_knot
+use Rattle.nesl_syntax_tree.proofs.tree.TypeNode.TheLaws.TheKnot as type_knot
+use Rattle.nesl_syntax_tree.proofs.tree.Operator.TheSendSync as operator_crosses
+use Rattle.nesl_syntax_tree.proofs.tree.Prefix.TheSendSync as prefix_crosses
 use Rattle.nesl_types.specs.contracts.types.Ty as ty_row
 use Rattle.nesl_types.proofs.types.Ty.TheLaws.TheKnot as ty_knot
 use Rattle.nesl_types.proofs.classes.Class.TheSendSync as kind_crosses
@@ -18,11 +18,11 @@ use Rattle.nesl_types.specs.contracts.bindings.Entry as entry_row
 use Rattle.nesl_types.specs.contracts.bindings.Context as context_row
 use Rattle.nesl_values.proofs.node.Node.TheLaws.TheKnot as value_knot
 use Rattle.nesl_builtins.proofs.builtin.Builtin.TheSendSync as builtin_crosses
-use Rattle.nesl_code.specs.contracts.code.Code as code_row
-use Rattle.nesl_code.proofs.code.Code.TheLaws.TheKnot as code_knot
-use Rattle.nesl_code.proofs.code.Step.TheSendSync as step_crosses
-use Rattle.nesl_code.specs.contracts.env.Payload as payload_row
-use Rattle.nesl_code.specs.contracts.env.Env as env_row
+use Rattle.nesl_eval_code.specs.contracts.code.Code as code_row
+use Rattle.nesl_eval_code.proofs.code.Code.TheLaws.TheKnot as code_knot
+use Rattle.nesl_eval_code.proofs.code.Step.TheSendSync as step_crosses
+use Rattle.nesl_eval_code.specs.contracts.env.Payload as payload_row
+use Rattle.nesl_eval_code.specs.contracts.env.Env as env_row
 use Rattle.nesl_session.specs.contracts.session.Session as session_row
 use Rattle.nesl_house.specs.contracts.table.Table as table_row
 

@@ -2,10 +2,10 @@
 use Rattle.std.specs.Prelude.{◌≡◌, ℕ, List, [], ◌∷◌, Option, Some, None, true, map, if◌then◌else◌}
 use Rattle.std.specs.List.{AllByRecursion}
 use Rattle.std.specs.Str.{bytes_eq}
-use Rattle.nesl_bindings.specs.Meanings.{Binding}
-use Rattle.nesl_step.specs.State.{State, Log}
-use Rattle.nesl_step.specs.Response.{no_memory, no_user, is_memory}
-use Rattle.nesl_step.specs.Solo.{Replays, Alone}
+use Rattle.nesl_session_bindings.specs.Meanings.{Binding}
+use Rattle.nesl_session_step.specs.State.{State, Log}
+use Rattle.nesl_session_step.specs.Response.{no_memory, no_user, is_memory}
+use Rattle.nesl_session_step.specs.Solo.{Replays, Alone}
 use Rattle.nesl_house.specs.Script.{Event, lines_of, replies_of, kept}
 
 -- A house is a list of accounts: a user's name, and that user's session.

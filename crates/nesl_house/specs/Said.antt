@@ -1,6 +1,6 @@
 -- What users say to a house in the code.
 use Rattle.std.specs.Prelude.{List, [], ◌∷◌}
-use Rattle.nesl_step.specs.Response.{Response}
+use Rattle.nesl_session_step.specs.Response.{Response}
 use Rattle.nesl_house.specs.declared.house.Said.{Said}
 use Rattle.nesl_house.specs.Script.{Event}
 

@@ -2,7 +2,7 @@
 ghost use Rattle.std.specs.Prelude.{◌≡◌, ◌+◌, ◌≤◌, ◌<◌, ◌↔◌, [], IfErr, IfOk, IfSome, IsErrOf, None, OnOk, Some, length, map, position};
 ghost use Rattle.std.specs.Str.{bytes_eq};
 ghost use Rattle.std.specs.Vec.{vec_capacity};
-ghost use Rattle.nesl_step.specs.State.{told_lines};
+ghost use Rattle.nesl_session_step.specs.State.{told_lines};
 ghost use Rattle.nesl_house.specs.Roster.{IsRefused, IsRoster, place_of};
 ghost use Rattle.nesl_house.specs.Slots.{at_home, AreHome};
 ghost use Rattle.nesl_house.specs.Runs.{AllReplay};

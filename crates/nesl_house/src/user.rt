@@ -1,7 +1,7 @@
 //! One user of a house.
 ghost use Rattle.std.specs.Prelude.{◌≡◌, IfOk};
-ghost use Rattle.nesl_step.specs.State.{State};
-ghost use Rattle.nesl_step.specs.Solo.{Replays, Responds};
+ghost use Rattle.nesl_session_step.specs.State.{State};
+ghost use Rattle.nesl_session_step.specs.Solo.{Replays, Responds};
 ghost use Rattle.nesl_house.specs.Roster.{fresh};
 
 use crate::manner::Saying;

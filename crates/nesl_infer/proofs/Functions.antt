@@ -14,24 +14,24 @@ use Rattle.nesl_types.specs.Scheme.{IsSchemeOf}
 use Rattle.nesl_types.specs.Substitution.{substitute}
 use Rattle.nesl_types.specs.Class.{IsIn, IsWithin, class_at}
 use Rattle.nesl_types.proofs.Members.{IsIn-substitute}
-use Rattle.nesl_tree.specs.Trees.{PatternTree, Tree, SignatureTree}
+use Rattle.nesl_syntax_tree.specs.Trees.{PatternTree, Tree, SignatureTree}
 use Rattle.nesl_unify.specs.Bounds.{IsBounded}
 use Rattle.nesl_unify.specs.Solves.{IsInstance}
 use Rattle.nesl_unify.proofs.Known.{holds_with}
-use Rattle.nesl_rules.specs.declared.table.Table.{Table}
+use Rattle.nesl_infer_rules.specs.declared.table.Table.{Table}
 use Rattle.nesl_unify.specs.declared.narrow.Member.{Member}
-use Rattle.nesl_rules.specs.declared.state.State.{State}
-use Rattle.nesl_rules.specs.declared.state.Local.{Local}
-use Rattle.nesl_names.specs.Names.{datatype_in}
-use Rattle.nesl_rules.specs.World.{Meanings, meanings_in}
-use Rattle.nesl_rules.specs.Typing.{HasType, Parts, IsSigned}
-use Rattle.nesl_rules.specs.Principal.{bounded, TypedFunction, IsPrincipalScheme}
-use Rattle.nesl_rules.specs.Holds.{Holds, HoldsIn, Gives, Adds, AddsNames, scope_at}
-use Rattle.nesl_rules.proofs.Places.{small}
-use Rattle.nesl_rules.proofs.Steps.{gives_then, gives_and, gives_as, adds_as, in_any}
-use Rattle.nesl_rules.proofs.Arms.{AnyTerm}
-use Rattle.nesl_rules.proofs.Instances.{int-in}
-use Rattle.nesl_rules.proofs.Patterns.{parts-small}
+use Rattle.nesl_infer_rules.specs.declared.state.State.{State}
+use Rattle.nesl_infer_rules.specs.declared.state.Local.{Local}
+use Rattle.nesl_infer_names.specs.Names.{datatype_in}
+use Rattle.nesl_infer_rules.specs.World.{Meanings, meanings_in}
+use Rattle.nesl_infer_rules.specs.Typing.{HasType, Parts, IsSigned}
+use Rattle.nesl_infer_rules.specs.Principal.{bounded, TypedFunction, IsPrincipalScheme}
+use Rattle.nesl_infer_rules.specs.Holds.{Holds, HoldsIn, Gives, Adds, AddsNames, scope_at}
+use Rattle.nesl_infer_rules.proofs.Places.{small}
+use Rattle.nesl_infer_rules.proofs.Steps.{gives_then, gives_and, gives_as, adds_as, in_any}
+use Rattle.nesl_infer_rules.proofs.Arms.{AnyTerm}
+use Rattle.nesl_infer_rules.proofs.Instances.{int-in}
+use Rattle.nesl_infer_rules.proofs.Patterns.{parts-small}
 use Rattle.nesl_infer.proofs.Wholes.{IsEmpty}
 
 -- the variables of a type by their numbers, and `int` for one that has none

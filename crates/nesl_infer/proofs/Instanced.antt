@@ -7,12 +7,12 @@ use Rattle.nesl_types.specs.Substitution.{substitute}
 use Rattle.nesl_types.specs.Class.{IsIn, class_at}
 use Rattle.nesl_types.proofs.Substitutions.{substitute-substitute}
 use Rattle.nesl_types.proofs.Members.{IsIn-substitute}
-use Rattle.nesl_tree.specs.Trees.{TypeTree, TypeShape, PatternTree, PatternShape, Tree, Shape, Trees, Binders, written, pattern, node, none, more, no_binders, binder}
-use Rattle.nesl_tree.specs.Trees as trees
+use Rattle.nesl_syntax_tree.specs.Trees.{TypeTree, TypeShape, PatternTree, PatternShape, Tree, Shape, Trees, Binders, written, pattern, node, none, more, no_binders, binder}
+use Rattle.nesl_syntax_tree.specs.Trees as trees
 use Rattle.nesl_builtins.specs.Table.{FunctionType}
-use Rattle.nesl_rules.specs.World.{Meanings, Meaning, Datatypes, general, single}
-use Rattle.nesl_rules.specs.Typing.{Key, Scope, newest, is_name, is_element, element, local, IsInstanceOf, Takes, IsVariable, IsWritten, IsWrittenShape, Parts, ShapeParts, AllParts, Draws, HasType, HasShapeType, HaveType, Binds, HaveElements}
-use Rattle.nesl_rules.specs.Principal.{unbounded}
+use Rattle.nesl_infer_rules.specs.World.{Meanings, Meaning, Datatypes, general, single}
+use Rattle.nesl_infer_rules.specs.Typing.{Key, Scope, newest, is_name, is_element, element, local, IsInstanceOf, Takes, IsVariable, IsWritten, IsWrittenShape, Parts, ShapeParts, AllParts, Draws, HasType, HasShapeType, HaveType, Binds, HaveElements}
+use Rattle.nesl_infer_rules.specs.Principal.{unbounded}
 use Rattle.nesl_infer.specs.Laws.{scope_with, meaning_with, IsWith}
 
 scope_with-append : (put : ℕ → Term) (ns ms : Scope) → scope_with put (ns ++ ms) ≡ scope_with put ns ++ scope_with put ms

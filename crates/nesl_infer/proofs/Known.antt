@@ -4,12 +4,12 @@ use Rattle.std.specs.Prelude.{Option, Some, None}
 use Rattle.std.specs.Option.{is_some}
 use Rattle.nesl_lex.specs.declared.token.Span.{Span}
 use Rattle.nesl_types.specs.Term.{Term, int, bool, char, named, seq_of, both}
-use Rattle.nesl_tree.specs.Trees.{TypeTree, TypeShape, written}
-use Rattle.nesl_tree.specs.Trees as trees
-use Rattle.nesl_names.specs.Names.{unless, unknown_types, unknown_types_in}
-use Rattle.nesl_names.specs.Firsts.{first}
-use Rattle.nesl_rules.specs.World.{Datatypes}
-use Rattle.nesl_rules.specs.Typing.{IsWritten, IsWrittenShape}
+use Rattle.nesl_syntax_tree.specs.Trees.{TypeTree, TypeShape, written}
+use Rattle.nesl_syntax_tree.specs.Trees as trees
+use Rattle.nesl_infer_names.specs.Names.{unless, unknown_types, unknown_types_in}
+use Rattle.nesl_infer_names.specs.Firsts.{first}
+use Rattle.nesl_infer_rules.specs.World.{Datatypes}
+use Rattle.nesl_infer_rules.specs.Typing.{IsWritten, IsWrittenShape}
 
 pub none_first : (ss : List Span) → None ≡ first ss → ss ≡ []
 none_first [] e = refl

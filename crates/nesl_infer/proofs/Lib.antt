@@ -6,3 +6,5 @@ pub mod Meant
 pub mod Referred
 pub mod Unique
 pub mod Verdicts
+pub mod Shapes
+pub mod Parts

@@ -9,11 +9,11 @@ use Rattle.nesl_types.specs.Substitution.{substitute}
 use Rattle.nesl_types.specs.Term.{Term, named, term}
 use Rattle.nesl_builtins.specs.declared.builtin.Builtin.{Builtin}
 use Rattle.nesl_builtins.specs.Named.{named_builtin}
-use Rattle.nesl_names.specs.Names.{Referent, itself, built_in, function, record_of, as_variable, as_function, as_datatype, built_in_or, is_own, hides, top_in, variable_in, function_in}
-use Rattle.nesl_rules.specs.World.{single, Own, own_name, meaning_of, meanings_in}
-use Rattle.nesl_rules.specs.Contexts.{IsClosed, AreClosed}
+use Rattle.nesl_infer_names.specs.Names.{Referent, itself, built_in, function, record_of, as_variable, as_function, as_datatype, built_in_or, is_own, hides, top_in, variable_in, function_in}
+use Rattle.nesl_infer_rules.specs.World.{single, Own, own_name, meaning_of, meanings_in}
+use Rattle.nesl_infer_rules.specs.Contexts.{IsClosed, AreClosed}
 use Rattle.nesl_infer.specs.Laws.{meaning_with, own_with, IsWith}
-use Rattle.nesl_rules.proofs.Applied.{closed-kept}
+use Rattle.nesl_infer_rules.proofs.Applied.{closed-kept}
 
 abbrev AllClosed : {P : Type 0} → Option (Top × P) → Type 0
 AllClosed {P = P} o = (t : Top) (p : P) → o ≡ Some (t, p) → IsClosed t

@@ -6,11 +6,11 @@ use Rattle.std.specs.Str.{bytes_eq}
 use Rattle.nesl_lex.specs.declared.token.Span.{Span}
 use Rattle.nesl_types.specs.declared.classes.Class.{Class}
 use Rattle.nesl_types.specs.Term.{Term, int, bool, seq_of}
-use Rattle.nesl_tree.specs.Trees.{TypeTree, TypeShape, PatternTree, PatternShape, Tree, Shape, Trees, Binders, written, pattern, node, none, more, no_binders, binder}
-use Rattle.nesl_tree.specs.Trees as trees
-use Rattle.nesl_names.specs.Names.{bound, all_bound}
-use Rattle.nesl_rules.specs.World.{World, Meanings, Datatypes}
-use Rattle.nesl_rules.specs.Typing.{Key, Scope, is_name, element, name, local, IsVariable, IsWritten, IsWrittenShape, Parts, ShapeParts, AllParts, Draws, HasType, HasShapeType, HaveType, Binds, HaveElements}
+use Rattle.nesl_syntax_tree.specs.Trees.{TypeTree, TypeShape, PatternTree, PatternShape, Tree, Shape, Trees, Binders, written, pattern, node, none, more, no_binders, binder}
+use Rattle.nesl_syntax_tree.specs.Trees as trees
+use Rattle.nesl_infer_names.specs.Names.{bound, all_bound}
+use Rattle.nesl_infer_rules.specs.World.{World, Meanings, Datatypes}
+use Rattle.nesl_infer_rules.specs.Typing.{Key, Scope, is_name, element, name, local, IsVariable, IsWritten, IsWrittenShape, Parts, ShapeParts, AllParts, Draws, HasType, HasShapeType, HaveType, Binds, HaveElements}
 use Rattle.nesl_infer.specs.References.{SameTypes, SameTypesIn, SameRecords, SameRecordsIn, Same, SameIn, AllSame, SameBound, SameDrawn, with_key, names_of}
 
 with_key-append : (k : Key) (ls ms : List (List ℕ)) → with_key k (ls ++ ms) ≡ with_key k ls ++ ms

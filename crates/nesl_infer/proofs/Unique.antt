@@ -13,7 +13,7 @@ use Rattle.nesl_types.specs.Class.{IsIn, IsWithin, class_at}
 use Rattle.nesl_types.specs.Substitution.{substitute}
 use Rattle.nesl_types.specs.Numbering.{variables, with_number, first_occurrences, numbers_below, number_of}
 use Rattle.nesl_builtins.specs.Table.{FunctionType}
-use Rattle.nesl_rules.specs.Principal.{IsPrincipalFunction, IsNumbered}
+use Rattle.nesl_infer_rules.specs.Principal.{IsPrincipalFunction, IsNumbered}
 
 -- each number of a list has a property
 abbrev Each : (ℕ → Type 0) → List ℕ → Type 0

@@ -6,14 +6,14 @@ use Rattle.nesl_types.specs.declared.classes.Class.{Class}
 use Rattle.nesl_types.specs.Class.{class_at}
 use Rattle.nesl_types.specs.Numbering.{IsBelow}
 use Rattle.nesl_types.specs.Term.{Term, nodes}
-use Rattle.nesl_tree.specs.Trees.{TypeTree, PatternTree, Tree, SignatureTree}
+use Rattle.nesl_syntax_tree.specs.Trees.{TypeTree, PatternTree, Tree, SignatureTree}
 use Rattle.nesl_builtins.specs.Table.{FunctionType}
-use Rattle.nesl_names.specs.Firsts.{first}
-use Rattle.nesl_names.specs.Names.{Names, unknown, unknown_of_function, unknown_types}
+use Rattle.nesl_infer_names.specs.Firsts.{first}
+use Rattle.nesl_infer_names.specs.Names.{Names, unknown, unknown_of_function, unknown_types}
 use Rattle.nesl_infer.specs.Answers.{Verdict, typed, unknown_at, ill_typed, ambiguous, IsTypeBy, IsFunctionBy, IsContentBy}
-use Rattle.nesl_rules.specs.Principal.{TypedBy, TypedFunctionBy, IsPrincipalType}
-use Rattle.nesl_rules.proofs.Applied.{closed-kept}
-use Rattle.nesl_rules.proofs.Leaves.{written-unique}
+use Rattle.nesl_infer_rules.specs.Principal.{TypedBy, TypedFunctionBy, IsPrincipalType}
+use Rattle.nesl_infer_rules.proofs.Applied.{closed-kept}
+use Rattle.nesl_infer_rules.proofs.Leaves.{written-unique}
 use Rattle.nesl_infer.proofs.Unique.{one_function}
 
 -- where nothing is unknown, nothing is the first unknown

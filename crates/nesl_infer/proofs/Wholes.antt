@@ -2,15 +2,15 @@
 use Rattle.std.proofs.Common.{◌≡◌, ◌<◌, ℕ, [], sym, ◌∙◌, subst, arith}
 use Rattle.nesl_types.specs.declared.classes.Class.{Class}
 use Rattle.nesl_types.specs.Term.{Term, int}
-use Rattle.nesl_tree.specs.Trees.{Tree}
+use Rattle.nesl_syntax_tree.specs.Trees.{Tree}
 use Rattle.nesl_unify.specs.Bounds.{IsBounded}
-use Rattle.nesl_rules.specs.declared.state.State.{State}
-use Rattle.nesl_rules.specs.World.{Meanings}
-use Rattle.nesl_rules.specs.Typing.{HasType}
-use Rattle.nesl_rules.specs.Principal.{bounded}
-use Rattle.nesl_rules.specs.Holds.{count, Holds, Adds}
-use Rattle.nesl_rules.proofs.Arms.{AnyTerm}
-use Rattle.nesl_rules.proofs.Places.{small}
+use Rattle.nesl_infer_rules.specs.declared.state.State.{State}
+use Rattle.nesl_infer_rules.specs.World.{Meanings}
+use Rattle.nesl_infer_rules.specs.Typing.{HasType}
+use Rattle.nesl_infer_rules.specs.Principal.{bounded}
+use Rattle.nesl_infer_rules.specs.Holds.{count, Holds, Adds}
+use Rattle.nesl_infer_rules.proofs.Arms.{AnyTerm}
+use Rattle.nesl_infer_rules.proofs.Places.{small}
 
 -- nothing is asked
 abbrev pub IsEmpty : State → Type 0

@@ -7,15 +7,15 @@ use Rattle.nesl_types.specs.declared.schemes.Scheme.{Scheme}
 use Rattle.nesl_types.specs.declared.types.Ty.{Ty}
 use Rattle.nesl_types.specs.Numbering.{IsBelow}
 use Rattle.nesl_types.specs.Term.{Term, term, nodes}
-use Rattle.nesl_tree.specs.Trees.{TypeTree, PatternTree, Tree, SignatureTree}
+use Rattle.nesl_syntax_tree.specs.Trees.{TypeTree, PatternTree, Tree, SignatureTree}
 use Rattle.nesl_builtins.specs.Table.{FunctionType, function_type}
-use Rattle.nesl_names.specs.Firsts.{first}
-use Rattle.nesl_names.specs.Names.{Names, names_in, unknown, unknown_of_function, unknown_types}
+use Rattle.nesl_infer_names.specs.Firsts.{first}
+use Rattle.nesl_infer_names.specs.Names.{Names, names_in, unknown, unknown_of_function, unknown_types}
 use Rattle.nesl_infer.specs.declared.fault.InferFault.{InferFault}
 use Rattle.nesl_infer.specs.declared.fault.InferFault.TheVariants.{Unknown, IllTyped, Ambiguous, Memory}
-use Rattle.nesl_rules.specs.Typing.{IsWritten}
-use Rattle.nesl_rules.specs.Principal.{TypedBy, TypedFunctionBy, IsPrincipalType, IsPrincipalFunction, IsNumbered}
-use Rattle.nesl_rules.specs.Principal.{IsAmbiguous, HasNone, HasNoScheme}
+use Rattle.nesl_infer_rules.specs.Typing.{IsWritten}
+use Rattle.nesl_infer_rules.specs.Principal.{TypedBy, TypedFunctionBy, IsPrincipalType, IsPrincipalFunction, IsNumbered}
+use Rattle.nesl_infer_rules.specs.Principal.{IsAmbiguous, HasNone, HasNoScheme}
 
 -- the type that there is, or why there is none
 pub data Verdict (T : Type 0) : Type 0 where

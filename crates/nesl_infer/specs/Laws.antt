@@ -4,13 +4,13 @@ use Rattle.nesl_types.specs.declared.classes.Class.{Class}
 use Rattle.nesl_types.specs.Term.{Term}
 use Rattle.nesl_types.specs.Class.{IsIn}
 use Rattle.nesl_types.specs.Substitution.{substitute}
-use Rattle.nesl_tree.specs.Trees.{TypeTree, PatternTree, SignatureTree, Tree}
+use Rattle.nesl_syntax_tree.specs.Trees.{TypeTree, PatternTree, SignatureTree, Tree}
 use Rattle.nesl_types.specs.declared.bindings.Top.{Top}
 use Rattle.nesl_builtins.specs.Table.{FunctionType}
-use Rattle.nesl_names.specs.Names.{Names}
-use Rattle.nesl_rules.specs.World.{Meanings, Meaning, general, single, Own, meanings_in}
-use Rattle.nesl_rules.specs.Typing.{Scope, HasType}
-use Rattle.nesl_rules.specs.Principal.{unbounded}
+use Rattle.nesl_infer_names.specs.Names.{Names}
+use Rattle.nesl_infer_rules.specs.World.{Meanings, Meaning, general, single, Own, meanings_in}
+use Rattle.nesl_infer_rules.specs.Typing.{Scope, HasType}
+use Rattle.nesl_infer_rules.specs.Principal.{unbounded}
 use Rattle.nesl_infer.specs.Answers.{Verdict, IsTypeBy, IsFunctionBy, IsContentBy}
 
 -- with types in place of variables: local names, what a name before `(` means, and what all names mean

@@ -4,12 +4,12 @@ use Rattle.std.specs.List.{list_any}
 use Rattle.std.specs.Str.{bytes_eq}
 use Rattle.nesl_types.specs.declared.classes.Class.{Class}
 use Rattle.nesl_types.specs.Term.{Term}
-use Rattle.nesl_tree.specs.Trees.{TypeTree, TypeShape, PatternTree, PatternShape, Tree, Shape, Trees, Binders}
-use Rattle.nesl_tree.specs.Trees.{written, pattern, node, none, more, no_binders, binder}
-use Rattle.nesl_tree.specs.Trees as trees
-use Rattle.nesl_names.specs.Names.{bound, all_bound}
-use Rattle.nesl_rules.specs.World.{Meanings, Datatypes}
-use Rattle.nesl_rules.specs.Typing.{Key, Scope, name, element, HasType}
+use Rattle.nesl_syntax_tree.specs.Trees.{TypeTree, TypeShape, PatternTree, PatternShape, Tree, Shape, Trees, Binders}
+use Rattle.nesl_syntax_tree.specs.Trees.{written, pattern, node, none, more, no_binders, binder}
+use Rattle.nesl_syntax_tree.specs.Trees as trees
+use Rattle.nesl_infer_names.specs.Names.{bound, all_bound}
+use Rattle.nesl_infer_rules.specs.World.{Meanings, Datatypes}
+use Rattle.nesl_infer_rules.specs.Typing.{Key, Scope, name, element, HasType}
 
 -- the names of a written type
 abbrev mutual

@@ -1,23 +1,23 @@
 //! Principal types.
 
 ghost use Rattle.std.specs.Prelude.{◌≡◌, ℕ, option_map, IfOk, IsErrOf};
-ghost use Rattle.nesl_rules.specs.Holds.{Gives};
-ghost use Rattle.nesl_tree.specs.Views.{tree_of, pattern_tree, signature_tree, type_tree};
+ghost use Rattle.nesl_infer_rules.specs.Holds.{Gives};
+ghost use Rattle.nesl_syntax_tree.specs.Views.{tree_of, pattern_tree, signature_tree, type_tree};
 ghost use Rattle.nesl_infer.specs.Answers.{IsTypeOf, IsSchemeFor, IsDatatypeFor};
 ghost use Rattle.nesl_types.specs.declared.classes.Class.{Class};
 ghost use Rattle.nesl_types.specs.Class.{class_at};
 ghost use Rattle.nesl_types.specs.Term.{Term, term};
-ghost use Rattle.nesl_rules.specs.Contexts.{AreClosed};
-ghost use Rattle.nesl_rules.specs.Principal.{HasNone, HasNoScheme, IsPrincipal, IsPrincipalScheme, Typed, TypedFunction};
+ghost use Rattle.nesl_infer_rules.specs.Contexts.{AreClosed};
+ghost use Rattle.nesl_infer_rules.specs.Principal.{HasNone, HasNoScheme, IsPrincipal, IsPrincipalScheme, Typed, TypedFunction};
 
+use crate::constrain::constrain;
 use crate::fault::InferFault;
-use nesl_constrain::constrain::constrain;
-use nesl_names::{unknown_in_exp, unknown_in_function, unknown_in_type};
-use nesl_rules::pattern::constrain_pattern;
-use nesl_rules::signature::constrain_signature;
-use nesl_rules::state::{OwnName, State};
-use nesl_rules::written::written_type;
-use nesl_tree::tree::{Exp, Pattern, Signature, TypeExp};
+use nesl_infer_names::{unknown_in_exp, unknown_in_function, unknown_in_type};
+use nesl_infer_rules::pattern::constrain_pattern;
+use nesl_infer_rules::signature::constrain_signature;
+use nesl_infer_rules::state::{OwnName, State};
+use nesl_infer_rules::written::written_type;
+use nesl_syntax_tree::tree::{Exp, Pattern, Signature, TypeExp};
 use nesl_types::{Class, Context, Scheme, Ty};
 use nesl_unify::SolveFault;
 use nesl_unify::solve::is_below;

@@ -1,6 +1,6 @@
 //! Laws of typing.
 
-ghost use Rattle.nesl_rules.specs.Contexts.{AreClosed};
+ghost use Rattle.nesl_infer_rules.specs.Contexts.{AreClosed};
 ghost use Rattle.nesl_infer.specs.Laws.{ContentsHaveOneVerdict, ExpressionsHaveOneVerdict, FunctionsHaveOneVerdict, MeaningsHaveInstances, TypingsHaveInstances};
 ghost use Rattle.nesl_infer.specs.References.{TypingsDependOnReferences};
 

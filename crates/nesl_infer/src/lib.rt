@@ -1,9 +1,11 @@
 //! The principal type of an expression, the scheme of a function and the content of a datatype.
 #![tactic(auto)]
 
+mod constrain;
 mod fault;
 mod infer;
 pub mod laws;
+mod leaf;
 
 pub use fault::InferFault;
 pub use infer::{infer_datatype, infer_exp, infer_function};

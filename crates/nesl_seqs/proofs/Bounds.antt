@@ -3,18 +3,18 @@ use Rattle.std.proofs.Common.{◌≡◌, ℕ, ℤ, zero, suc, pos, negsuc, ◌+�
 use Rattle.nesl_scalars.specs.declared.trap.Trap.{Trap}
 use Rattle.nesl_values.specs.Tree.{Tree, int, boolean, character, pair, seq, tagged, trees_of, sequence, size, sizes}
 use Rattle.nesl_values.specs.Parts.{list_of, as_sequence}
-use Rattle.nesl_seq_base.specs.Outcome.{Outcome, gives, traps, undefined, given, number, fits, IsGiven}
-use Rattle.nesl_seq_base.specs.Arguments.{sequence_and_int, two_sequences, numbers, truths}
-use Rattle.nesl_seq_base.specs.Pieces.{element_at, joined, halves, taken, dropped, reversed, rotated, places_on, replaced}
-use Rattle.nesl_seq_base.specs.Pairs.{pairs, zipped}
-use Rattle.nesl_seq_base.specs.Reductions.{summed, some_true, all_true, counted, total}
-use Rattle.nesl_seq_base.specs.Prices.{Prices, reads, length_of}
-use Rattle.nesl_seq_base.specs.Meaning.{meaning}
-use Rattle.nesl_seq_base.specs.declared.price.Price.{Price}
-use Rattle.nesl_seq_base.specs.declared.seq_fn.SeqFn.{SeqFn}
-use Rattle.nesl_seq_base.specs.declared.seq_fn.SeqFn.TheVariants.{Length, ElementAt, Append, Sum, Any, All, Count, Bottop, Take, Drop, Reverse, Rotate, Zip, Rep, Eql}
-use Rattle.nesl_seq_base.proofs.Sizes.{sizes_list, length_le, sizes_take, sizes_drop, sizes_set}
-use Rattle.nesl_seq_base.proofs.Totals.{sizes_append, sizes_reverse}
+use Rattle.nesl_seqs_base.specs.Outcome.{Outcome, gives, traps, undefined, given, number, fits, IsGiven}
+use Rattle.nesl_seqs_base.specs.Arguments.{sequence_and_int, two_sequences, numbers, truths}
+use Rattle.nesl_seqs_base.specs.Pieces.{element_at, joined, halves, taken, dropped, reversed, rotated, places_on, replaced}
+use Rattle.nesl_seqs_base.specs.Pairs.{pairs, zipped}
+use Rattle.nesl_seqs_base.specs.Reductions.{summed, some_true, all_true, counted, total}
+use Rattle.nesl_seqs_base.specs.Prices.{Prices, reads, length_of}
+use Rattle.nesl_seqs_base.specs.Meaning.{meaning}
+use Rattle.nesl_seqs_base.specs.declared.price.Price.{Price}
+use Rattle.nesl_seqs_base.specs.declared.seq_fn.SeqFn.{SeqFn}
+use Rattle.nesl_seqs_base.specs.declared.seq_fn.SeqFn.TheVariants.{Length, ElementAt, Append, Sum, Any, All, Count, Bottop, Take, Drop, Reverse, Rotate, Zip, Rep, Eql}
+use Rattle.nesl_seqs_base.proofs.Sizes.{sizes_list, length_le, sizes_take, sizes_drop, sizes_set}
+use Rattle.nesl_seqs_base.proofs.Totals.{sizes_append, sizes_reverse}
 
 -- the work of an outcome fits
 abbrev pub Fits : Outcome → ℕ → Type 0

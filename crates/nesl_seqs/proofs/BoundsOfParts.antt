@@ -1,26 +1,26 @@
 -- No price of these functions is above what its numbers hold, where the argument has fewer than 2^66 nodes.
 use Rattle.nesl_scalars.specs.declared.trap.Trap.{Trap}
-use Rattle.nesl_seq_base.specs.Arguments.{both, two_sequences}
-use Rattle.nesl_seq_base.specs.Pieces.{two}
-use Rattle.nesl_seq_base.proofs.Shapes.{length_all}
-use Rattle.nesl_seq_base.proofs.Priced.{second_read}
-use Rattle.nesl_seq_moves.proofs.Splitting.{sizes_beside_le}
-use Rattle.nesl_seq_moves.proofs.Cutting.{size_pieces}
+use Rattle.nesl_seqs_base.specs.Arguments.{both, two_sequences}
+use Rattle.nesl_seqs_base.specs.Pieces.{two}
+use Rattle.nesl_seqs_base.proofs.Shapes.{length_all}
+use Rattle.nesl_seqs_base.proofs.Priced.{second_read}
+use Rattle.nesl_seqs_build.proofs.Splitting.{sizes_beside_le}
+use Rattle.nesl_seqs_build.proofs.Cutting.{size_pieces}
 use Rattle.std.proofs.Common.{◌≡◌, Bool, true, false, cond, option_map, option_and_then, unwrap_or, subst, sym, ℕ, ◌+◌, ◌-◌, ◌^◌, ◌<◌, ◌≤◌, List, [], ◌∷◌, ◌||◌, drop, length, map, nat_eq, refl, arith, Option, Some, None}
 use Rattle.nesl_values.specs.Tree.{Tree, pair, seq, sequence, size, sizes, trees_of}
 use Rattle.nesl_values.specs.Parts.{list_of, as_int, as_bool, as_pair, as_sequence}
-use Rattle.nesl_seq_base.specs.Outcome.{Outcome, given, gives, traps}
-use Rattle.nesl_seq_base.specs.Reductions.{all_of}
-use Rattle.nesl_seq_base.specs.Levels.{flattened, are_lengths, pieces, partitioned}
-use Rattle.nesl_seq_base.specs.Sides.{unzipped, beside, split_apart}
-use Rattle.nesl_seq_base.specs.Woven.{evens, woven, even_elements, odd_elements, interleaved}
-use Rattle.nesl_seq_base.specs.declared.seq_fn.SeqFn.TheVariants.{Flatten, Unzip, OddElts, EvenElts, Interleave, Split, Partition}
+use Rattle.nesl_seqs_base.specs.Outcome.{Outcome, given, gives, traps}
+use Rattle.nesl_seqs_base.specs.Reductions.{all_of}
+use Rattle.nesl_seqs_base.specs.Levels.{flattened, are_lengths, pieces, partitioned}
+use Rattle.nesl_seqs_base.specs.Sides.{unzipped, beside, split_apart}
+use Rattle.nesl_seqs_base.specs.Woven.{evens, woven, even_elements, odd_elements, interleaved}
+use Rattle.nesl_seqs_base.specs.declared.seq_fn.SeqFn.TheVariants.{Flatten, Unzip, OddElts, EvenElts, Interleave, Split, Partition}
 use Rattle.nesl_seqs.proofs.Bounds.{Fits, IsBounded, fits_if, by_sequence, by_two_sequences}
-use Rattle.nesl_seq_base.proofs.Sizes.{sizes_list, length_le, sizes_drop}
-use Rattle.nesl_seq_base.proofs.Totals.{sizes_append}
-use Rattle.nesl_seq_base.proofs.Weaving.{size_woven}
-use Rattle.nesl_seq_moves.proofs.Flattening.{size_flattened}
-use Rattle.nesl_seq_moves.proofs.Unzipping.{size_unzipped}
+use Rattle.nesl_seqs_base.proofs.Sizes.{sizes_list, length_le, sizes_drop}
+use Rattle.nesl_seqs_base.proofs.Totals.{sizes_append}
+use Rattle.nesl_seqs_base.proofs.Weaving.{size_woven}
+use Rattle.nesl_seqs_build.proofs.Flattening.{size_flattened}
+use Rattle.nesl_seqs_build.proofs.Unzipping.{size_unzipped}
 
 fits_given : {X : Type 0} (o : Option X) (g : X → Outcome) (n : ℕ) → ((x : X) → o ≡ Some x → Fits (g x) n) → Fits (given o g) n
 fits_given None g n k = tt

@@ -3,7 +3,7 @@ use Rattle.std.proofs.Common.{◌≡◌, ℕ, zero, suc, ◌+◌, ◌-◌, ◌^�
 use Rattle.std.proofs.Math.Nat.{pow-suc}
 use Rattle.std.proofs.Math.Pow.{pow_mono}
 use Rattle.std.proofs.lemmas.Bool.Decides.{nat_tests}
-use Rattle.nesl_seq_base.specs.Prices.{powers_within, digits}
+use Rattle.nesl_seqs_base.specs.Prices.{powers_within, digits}
 use Rattle.nesl_seqs.specs.Laws.{NumberOfDigits}
 
 below_power : (n : ℕ) → n < 2 ^ n

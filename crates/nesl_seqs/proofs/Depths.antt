@@ -2,11 +2,11 @@
 use Rattle.std.proofs.Common.{ℕ, zero, suc, ◌+◌, ◌^◌, ◌≤◌, Bool, true, false, cond, nat_le, sym, subst, arith}
 use Rattle.std.proofs.Common.{Option, Some, None, Result, Ok, Err, IfOk, IfSome}
 use Rattle.nesl_scalars.specs.declared.trap.Trap.{Trap}
-use Rattle.nesl_seq_base.specs.Outcome.{Outcome, gives, traps, undefined}
-use Rattle.nesl_seq_base.specs.Prices.{Prices, powers_within, digits, depth_of}
-use Rattle.nesl_seq_base.specs.declared.price.Price.{Price}
-use Rattle.nesl_seq_base.specs.declared.seq_fn.SeqFn.{SeqFn}
-use Rattle.nesl_seq_base.specs.declared.seq_fn.SeqFn.TheVariants.{Length, ElementAt, Append, Dist, Range, RangeBy, Index, Sum, Any, All, Count, Bottop, Take, Drop, Reverse, Rotate, Zip, Rep, Eql, MaxVal, MinVal, MaxIndex, MinIndex, PlusScan, OrScan, AndScan, Flatten, Unzip, OddElts, EvenElts, Interleave, Gather, Permute, Split, Partition, Write}
+use Rattle.nesl_seqs_base.specs.Outcome.{Outcome, gives, traps, undefined}
+use Rattle.nesl_seqs_base.specs.Prices.{Prices, powers_within, digits, depth_of}
+use Rattle.nesl_seqs_base.specs.declared.price.Price.{Price}
+use Rattle.nesl_seqs_base.specs.declared.seq_fn.SeqFn.{SeqFn}
+use Rattle.nesl_seqs_base.specs.declared.seq_fn.SeqFn.TheVariants.{Length, ElementAt, Append, Dist, Range, RangeBy, Index, Sum, Any, All, Count, Bottop, Take, Drop, Reverse, Rotate, Zip, Rep, Eql, MaxVal, MinVal, MaxIndex, MinIndex, PlusScan, OrScan, AndScan, Flatten, Unzip, OddElts, EvenElts, Interleave, Gather, Permute, Split, Partition, Write}
 
 at_most_one : (b : Bool) → cond b 1 0 ≤ 1
 at_most_one true = omega arith

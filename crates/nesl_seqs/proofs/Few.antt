@@ -2,12 +2,12 @@
 use Rattle.std.proofs.Common.{◌≡◌, ℕ, ◌-◌, ◌^◌, ◌<◌, Option, Result, IfOk, IsSome, arith}
 use Rattle.nesl_scalars.specs.declared.trap.Trap.{Trap}
 use Rattle.nesl_values.specs.Tree.{size}
-use Rattle.nesl_seq_base.specs.Lent.{argument_tree}
-use Rattle.nesl_seq_base.specs.Meaning.{meaning}
-use Rattle.nesl_seq_base.specs.Prices.{Prices}
-use Rattle.nesl_seq_base.specs.declared.argument.Argument.{Argument}
-use Rattle.nesl_seq_base.specs.declared.price.Price.{Price}
-use Rattle.nesl_seq_base.specs.declared.seq_fn.SeqFn.TheVariants.{Dist}
+use Rattle.nesl_seqs_base.specs.Lent.{argument_tree}
+use Rattle.nesl_seqs_base.specs.Meaning.{meaning}
+use Rattle.nesl_seqs_base.specs.Prices.{Prices}
+use Rattle.nesl_seqs_base.specs.declared.argument.Argument.{Argument}
+use Rattle.nesl_seqs_base.specs.declared.price.Price.{Price}
+use Rattle.nesl_seqs_base.specs.declared.seq_fn.SeqFn.TheVariants.{Dist}
 use Rattle.nesl_seqs.specs.Few.{HasFewNodes}
 use Rattle.nesl_seqs.proofs.Bounds.{always}
 

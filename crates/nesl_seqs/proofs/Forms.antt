@@ -8,23 +8,23 @@ use Rattle.nesl_scalars.specs.declared.trap.Trap.{Trap}
 use Rattle.nesl_scalars.specs.declared.trap.Trap.TheVariants.{Range, Length, Count}
 use Rattle.nesl_values.specs.Tree.{Tree, int, boolean, pair, sequence, trees_of}
 use Rattle.nesl_values.specs.Parts.{list_of, as_int, as_pair, as_sequence, elements}
-use Rattle.nesl_seq_base.specs.Arguments.{both}
-use Rattle.nesl_seq_base.specs.Outcome.{gives, given, traps}
-use Rattle.nesl_seq_base.specs.Levels.{sequence_and_numbers, are_lengths, pieces, partitioned, flattened}
-use Rattle.nesl_seq_base.specs.Meaning.{meaning}
-use Rattle.nesl_seq_base.specs.Pairs.{pairs, zipped}
-use Rattle.nesl_seq_base.specs.Permute.{permuted}
-use Rattle.nesl_seq_base.specs.Pieces.{taken, dropped}
-use Rattle.nesl_seq_base.specs.Reductions.{all_of}
-use Rattle.nesl_seq_base.specs.Sides.{unzipped}
-use Rattle.nesl_seq_base.specs.Woven.{evens, odds, woven, even_elements, odd_elements, interleaved}
-use Rattle.nesl_seq_base.specs.declared.seq_fn.SeqFn.TheVariants as function
+use Rattle.nesl_seqs_base.specs.Arguments.{both}
+use Rattle.nesl_seqs_base.specs.Outcome.{gives, given, traps}
+use Rattle.nesl_seqs_base.specs.Levels.{sequence_and_numbers, are_lengths, pieces, partitioned, flattened}
+use Rattle.nesl_seqs_base.specs.Meaning.{meaning}
+use Rattle.nesl_seqs_base.specs.Pairs.{pairs, zipped}
+use Rattle.nesl_seqs_base.specs.Permute.{permuted}
+use Rattle.nesl_seqs_base.specs.Pieces.{taken, dropped}
+use Rattle.nesl_seqs_base.specs.Reductions.{all_of}
+use Rattle.nesl_seqs_base.specs.Sides.{unzipped}
+use Rattle.nesl_seqs_base.specs.Woven.{evens, odds, woven, even_elements, odd_elements, interleaved}
+use Rattle.nesl_seqs_base.specs.declared.seq_fn.SeqFn.TheVariants as function
 use Rattle.nesl_seqs.specs.Laws.{TakenAndDropped, EveryOther, Woven, Zipped, Cut, PlacesOfPermute, ToldEqual}
-use Rattle.nesl_seq_base.proofs.Equality.{tree_eq_is}
-use Rattle.nesl_seq_base.proofs.Shapes.{leaves_read}
-use Rattle.nesl_seq_base.proofs.Weaving.{even_places, odd_places, woven_apart}
-use Rattle.nesl_seq_moves.proofs.Cutting.{pieces_joined, pieces_lengths}
-use Rattle.nesl_seq_reorders.proofs.Marking.{are_equal}
+use Rattle.nesl_seqs_base.proofs.Equality.{tree_eq_is}
+use Rattle.nesl_seqs_base.proofs.Shapes.{leaves_read}
+use Rattle.nesl_seqs_base.proofs.Weaving.{even_places, odd_places, woven_apart}
+use Rattle.nesl_seqs_build.proofs.Cutting.{pieces_joined, pieces_lengths}
+use Rattle.nesl_seqs_index.proofs.Marking.{are_equal}
 use Rattle.nesl_seqs.proofs.Moves.{list_back, same_elements}
 use Rattle.nesl_seqs.proofs.Standing.{stands_where_told}
 

@@ -9,24 +9,24 @@ use Rattle.nesl_scalars.specs.declared.trap.Trap.{Trap}
 use Rattle.nesl_scalars.specs.declared.trap.Trap.TheVariants.{Range}
 use Rattle.nesl_values.specs.Tree.{Tree, int, pair, seq, sequence, size, sizes, trees_of}
 use Rattle.nesl_values.specs.Parts.{as_int, list_of}
-use Rattle.nesl_seq_base.specs.Outcome.{Outcome, gives, traps, undefined, given}
-use Rattle.nesl_seq_base.specs.Reductions.{all_of}
-use Rattle.nesl_seq_base.specs.Places.{place_in, all_name, places, elements_at}
-use Rattle.nesl_seq_base.specs.Gather.{gathered}
-use Rattle.nesl_seq_base.specs.Permute.{permuted}
-use Rattle.nesl_seq_base.specs.Prices.{Prices, reads}
-use Rattle.nesl_seq_base.specs.Meaning.{meaning}
-use Rattle.nesl_seq_base.specs.Lent.{argument_tree}
-use Rattle.nesl_seq_base.specs.declared.argument.Argument.{Argument}
+use Rattle.nesl_seqs_base.specs.Outcome.{Outcome, gives, traps, undefined, given}
+use Rattle.nesl_seqs_base.specs.Reductions.{all_of}
+use Rattle.nesl_seqs_base.specs.Places.{place_in, all_name, places, elements_at}
+use Rattle.nesl_seqs_base.specs.Gather.{gathered}
+use Rattle.nesl_seqs_base.specs.Permute.{permuted}
+use Rattle.nesl_seqs_base.specs.Prices.{Prices, reads}
+use Rattle.nesl_seqs_base.specs.Meaning.{meaning}
+use Rattle.nesl_seqs_base.specs.Lent.{argument_tree}
+use Rattle.nesl_seqs_base.specs.declared.argument.Argument.{Argument}
 use Rattle.nesl_values.specs.View.{tree_of}
 use Rattle.nesl_seqs.specs.Few.{HasFewNodes}
-use Rattle.nesl_seq_base.specs.Write.{int_and_tree, written, write_of}
-use Rattle.nesl_seq_base.specs.declared.seq_fn.SeqFn.TheVariants.{Gather, Permute, Write}
+use Rattle.nesl_seqs_base.specs.Write.{int_and_tree, written, write_of}
+use Rattle.nesl_seqs_base.specs.declared.seq_fn.SeqFn.TheVariants.{Gather, Permute, Write}
 use Rattle.nesl_seqs.proofs.Bounds.{Fits, IsBounded, fits_if}
-use Rattle.nesl_seq_base.proofs.Sizes.{sizes_list, length_le}
-use Rattle.nesl_seq_reorders.proofs.Permuting.{by_outcome, size_rearranged}
-use Rattle.nesl_seq_reorders.proofs.Writing.{given_written, refused_write, sizes_overwritten}
-use Rattle.nesl_seq_reorders.proofs.Picking.{are_ints, length_found}
+use Rattle.nesl_seqs_base.proofs.Sizes.{sizes_list, length_le}
+use Rattle.nesl_seqs_index.proofs.Permuting.{by_outcome, size_rearranged}
+use Rattle.nesl_seqs_index.proofs.Writing.{given_written, refused_write, sizes_overwritten}
+use Rattle.nesl_seqs_index.proofs.Picking.{are_ints, length_found}
 
 -- the product of two numbers is at most the square of their mean
 product_le : (m s d k : ℕ) → k ≡ m + d → s ≤ k + d → m * s ≤ k * k

@@ -4,21 +4,21 @@ use Rattle.std.specs.List.{list_all}
 use Rattle.nesl_scalars.specs.declared.trap.Trap.TheVariants.{Overflow}
 use Rattle.nesl_values.specs.Tree.{Tree, int, boolean, seq, sequence, size}
 use Rattle.nesl_values.specs.Parts.{list_of, as_int, as_bool, as_sequence}
-use Rattle.nesl_seq_base.specs.Outcome.{Outcome, gives, given, given_first, fits}
-use Rattle.nesl_seq_base.specs.Reductions.{all_of, total}
-use Rattle.nesl_seq_base.specs.Prices.{length_of}
-use Rattle.nesl_seq_base.specs.Extremes.{key, element_of, best, chosen, from_best}
-use Rattle.nesl_seq_base.specs.Scans.{before_each, plus_scanned, joined_truths, joined_bits, logic_scanned}
-use Rattle.nesl_seq_reads.specs.Leaves.{logic_of}
-use Rattle.nesl_seq_base.specs.declared.order.Order.{Order}
-use Rattle.nesl_seq_base.specs.declared.order.Order.TheVariants.{Greatest, Least}
-use Rattle.nesl_seq_base.specs.declared.order.Kind.{Kind}
-use Rattle.nesl_seq_base.specs.declared.order.Kind.TheVariants.{Numbers, Codes}
-use Rattle.nesl_seq_base.specs.declared.joint.Joint.{Joint}
-use Rattle.nesl_seq_base.specs.declared.joint.Joint.TheVariants.{Or, And}
-use Rattle.nesl_seq_base.specs.declared.seq_fn.SeqFn.TheVariants.{MaxVal, MinVal, MaxIndex, MinIndex, PlusScan, OrScan, AndScan}
+use Rattle.nesl_seqs_base.specs.Outcome.{Outcome, gives, given, given_first, fits}
+use Rattle.nesl_seqs_base.specs.Reductions.{all_of, total}
+use Rattle.nesl_seqs_base.specs.Prices.{length_of}
+use Rattle.nesl_seqs_base.specs.Extremes.{key, element_of, best, chosen, from_best}
+use Rattle.nesl_seqs_base.specs.Scans.{before_each, plus_scanned, joined_truths, joined_bits, logic_scanned}
+use Rattle.nesl_seqs_fold.specs.Leaves.{logic_of}
+use Rattle.nesl_seqs_base.specs.declared.order.Order.{Order}
+use Rattle.nesl_seqs_base.specs.declared.order.Order.TheVariants.{Greatest, Least}
+use Rattle.nesl_seqs_base.specs.declared.order.Kind.{Kind}
+use Rattle.nesl_seqs_base.specs.declared.order.Kind.TheVariants.{Numbers, Codes}
+use Rattle.nesl_seqs_base.specs.declared.joint.Joint.{Joint}
+use Rattle.nesl_seqs_base.specs.declared.joint.Joint.TheVariants.{Or, And}
+use Rattle.nesl_seqs_base.specs.declared.seq_fn.SeqFn.TheVariants.{MaxVal, MinVal, MaxIndex, MinIndex, PlusScan, OrScan, AndScan}
 use Rattle.nesl_seqs.proofs.Bounds.{Fits, IsBounded, fits_if, length_below}
-use Rattle.nesl_seq_reads.proofs.Leaves.{size_before, length_all}
+use Rattle.nesl_seqs_fold.proofs.Leaves.{size_before, length_all}
 
 fits_given : {X : Type 0} (o : Option X) (g : X → Outcome) (n : ℕ) → ((x : X) → Fits (g x) n) → Fits (given o g) n
 fits_given None g n h = tt

@@ -9,14 +9,14 @@ use Rattle.std.proofs.lemmas.List.FromFn.{length-range_with_len, get_or-range_wi
 use Rattle.std.proofs.lemmas.Option.{slice_get-get_or}
 use Rattle.nesl_values.specs.Tree.{Tree, int, sequence}
 use Rattle.nesl_values.specs.Parts.{as_int}
-use Rattle.nesl_seq_base.specs.Outcome.{gives, given, IsGiven}
-use Rattle.nesl_seq_base.specs.Reductions.{all_of}
-use Rattle.nesl_seq_base.specs.Permute.{all_differ, rearranged, permuted}
-use Rattle.nesl_seq_base.specs.Places.{arrival, place_in, place_of, places_of}
-use Rattle.nesl_seq_base.proofs.Equality.{left_true, right_true}
-use Rattle.nesl_seq_reorders.proofs.Marking.{are_equal, not_true}
-use Rattle.nesl_seq_reorders.proofs.Picking.{length_found}
-use Rattle.nesl_seq_reorders.proofs.Permuting.{IsArranged, is_arranged, first_arrival, weights_arrive, weights_one}
+use Rattle.nesl_seqs_base.specs.Outcome.{gives, given, IsGiven}
+use Rattle.nesl_seqs_base.specs.Reductions.{all_of}
+use Rattle.nesl_seqs_base.specs.Permute.{all_differ, rearranged, permuted}
+use Rattle.nesl_seqs_base.specs.Places.{arrival, place_in, place_of, places_of}
+use Rattle.nesl_seqs_base.proofs.Equality.{left_true, right_true}
+use Rattle.nesl_seqs_index.proofs.Marking.{are_equal, not_true}
+use Rattle.nesl_seqs_index.proofs.Picking.{length_found}
+use Rattle.nesl_seqs_index.proofs.Permuting.{IsArranged, is_arranged, first_arrival, weights_arrive, weights_one}
 use Rattle.nesl_seqs.proofs.Moves.{same_elements}
 
 all_at : {X : Type 0} (p : X → Bool) (xs : List X) (j : ℕ) (x : X) → list_all p xs ≡ true → slice_get xs j ≡ Some x → p x ≡ true

@@ -2,7 +2,7 @@
 use Rattle.std.specs.Prelude.{◌<◌, ◌^◌}
 use Rattle.nesl_values.specs.Tree.{size}
 use Rattle.nesl_values.specs.View.{tree_of}
-use Rattle.nesl_seq_base.specs.declared.argument.Argument.{Argument}
+use Rattle.nesl_seqs_base.specs.declared.argument.Argument.{Argument}
 
 -- each lent value has fewer than 2^64 nodes, as any value has
 abbrev pub HasFewNodes : {A : Type 0} → Argument A → Type 0

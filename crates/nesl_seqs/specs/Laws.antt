@@ -3,10 +3,10 @@ use Rattle.std.specs.Prelude.{◌≡◌, ◌↔◌, ℕ, ◌+◌, ◌-◌, ◌*�
 use Rattle.std.specs.Prelude.{Some, None, List, ◌++◌, length, map, slice_get, unsigned_abs}
 use Rattle.std.specs.Int.{int_rem_euclid}
 use Rattle.nesl_values.specs.Tree.{Tree, int, boolean, pair, sequence}
-use Rattle.nesl_seq_base.specs.Outcome.{gives}
-use Rattle.nesl_seq_base.specs.Meaning.{meaning}
-use Rattle.nesl_seq_base.specs.Prices.{digits}
-use Rattle.nesl_seq_base.specs.declared.seq_fn.SeqFn.TheVariants as function
+use Rattle.nesl_seqs_base.specs.Outcome.{gives}
+use Rattle.nesl_seqs_base.specs.Meaning.{meaning}
+use Rattle.nesl_seqs_base.specs.Prices.{digits}
+use Rattle.nesl_seqs_base.specs.declared.seq_fn.SeqFn.TheVariants as function
 
 -- z modulo n, in 0 to n - 1
 abbrev pub modulo : ℤ → ℕ → ℕ

@@ -1,12 +1,12 @@
 -- Calls that are worked by hand.
 use Rattle.std.specs.Prelude.{◌≡◌, ℕ, ℤ, pos, negsuc, true, List, [], ◌∷◌, map}
 use Rattle.nesl_values.specs.Tree.{Tree, int, boolean, pair, sequence, size}
-use Rattle.nesl_seq_base.specs.Outcome.{gives, traps}
-use Rattle.nesl_seq_base.specs.Meaning.{meaning}
-use Rattle.nesl_seq_base.specs.Prices.{reads, depth_of, price}
-use Rattle.nesl_seq_base.specs.declared.price.Price.{Price}
-use Rattle.nesl_seq_base.specs.declared.seq_fn.SeqFn.{SeqFn}
-use Rattle.nesl_seq_base.specs.declared.seq_fn.SeqFn.TheVariants as function
+use Rattle.nesl_seqs_base.specs.Outcome.{gives, traps}
+use Rattle.nesl_seqs_base.specs.Meaning.{meaning}
+use Rattle.nesl_seqs_base.specs.Prices.{reads, depth_of, price}
+use Rattle.nesl_seqs_base.specs.declared.price.Price.{Price}
+use Rattle.nesl_seqs_base.specs.declared.seq_fn.SeqFn.{SeqFn}
+use Rattle.nesl_seqs_base.specs.declared.seq_fn.SeqFn.TheVariants as function
 use Rattle.nesl_scalars.specs.declared.trap.Trap.TheVariants as trap
 
 -- the sequence of these numbers

@@ -1,22 +1,22 @@
 // All functions: their prices, and their results.
 ghost use Rattle.std.specs.Prelude.{◌≡◌, ◌-◌, ◌≤◌, ◌^◌, IfOk, IfSome, IsSome, OnOk};
 ghost use Rattle.nesl_values.specs.View.{tree_of};
-ghost use Rattle.nesl_seq_base.specs.Lent.{argument_tree};
-ghost use Rattle.nesl_seq_base.specs.Outcome.{IsGiven, gives};
-ghost use Rattle.nesl_seq_base.specs.Meaning.{meaning};
-ghost use Rattle.nesl_seq_base.specs.Prices.{Prices, reads, depth_of};
-ghost use Rattle.nesl_seq_base.specs.Prices.{PricesAll};
+ghost use Rattle.nesl_seqs_base.specs.Lent.{argument_tree};
+ghost use Rattle.nesl_seqs_base.specs.Outcome.{IsGiven, gives};
+ghost use Rattle.nesl_seqs_base.specs.Meaning.{meaning};
+ghost use Rattle.nesl_seqs_base.specs.Prices.{Prices, reads, depth_of};
+ghost use Rattle.nesl_seqs_base.specs.Prices.{PricesAll};
 ghost use Rattle.nesl_seqs.specs.Few.{HasFewNodes};
 
 use nesl_scalars::Trap;
-use nesl_seq_base::argument::Argument;
-use nesl_seq_base::joint::Joint;
-use nesl_seq_base::price::Price;
-use nesl_seq_base::seq_fn::SeqFn;
-use nesl_seq_moves::{levels, pairs, pieces, ranges, replace, sides};
-use nesl_seq_reads::reductions::{self, price_of_reduction, value_of};
-use nesl_seq_reads::{equal, extremes, scans};
-use nesl_seq_reorders::{gather, permute, woven, write};
+use nesl_seqs_base::argument::Argument;
+use nesl_seqs_base::joint::Joint;
+use nesl_seqs_base::price::Price;
+use nesl_seqs_base::seq_fn::SeqFn;
+use nesl_seqs_build::{levels, pairs, pieces, ranges, replace, sides};
+use nesl_seqs_fold::reductions::{self, price_of_reduction, value_of};
+use nesl_seqs_fold::{equal, extremes, scans};
+use nesl_seqs_index::{gather, permute, woven, write};
 use nesl_values::Value;
 use std::alloc::{AllocError, Allocator};
 

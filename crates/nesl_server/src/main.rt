@@ -4,7 +4,7 @@
 ghost use Rattle.std.specs.Prelude.{◌≡◌, ◌⊎◌};
 ghost use Rattle.std.specs.Process.{exit_status};
 ghost use Rattle.clap.specs.Values.{kind_of};
-ghost use Rattle.nesl_program.specs.Failures.{status_after, status_of, words_status_of};
+ghost use Rattle.nesl_cli.specs.Failures.{status_after, status_of, words_status_of};
 
 mod host;
 mod log;
@@ -14,9 +14,9 @@ mod standard;
 use crate::offer::keep;
 use crate::standard::fill_standard;
 use clap::error::ErrorKind;
+use nesl_cli::failure::{Failure, Refusal, status_after, words_status};
+use nesl_cli::run::answered;
 use nesl_line::device::{Device, Sink, Source};
-use nesl_program::failure::{Failure, Refusal, status_after, words_status};
-use nesl_program::run::answered;
 use std::alloc::{AllocError, Global};
 use std::io::{self, BufWriter, Eprint, Print};
 use std::net::{Net, TcpListener, TcpStream};

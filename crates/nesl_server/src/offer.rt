@@ -1,17 +1,17 @@
 //! A service that is offered on a port.
 ghost use Rattle.std.specs.Prelude.{◌≡◌, Err, IfErr, IfOk, OnOk, map};
 ghost use Rattle.nesl_house.specs.Roster.{IsRoster};
-ghost use Rattle.nesl_program.specs.Program.{limits};
-ghost use Rattle.nesl_program.specs.declared.failure.Failure.TheVariants.{Serve};
+ghost use Rattle.nesl_cli.specs.Program.{limits};
+ghost use Rattle.nesl_cli.specs.declared.failure.Failure.TheVariants.{Serve};
 
 use crate::host::Host;
 use crate::log::Log;
-use nesl_helpers::Free;
+use nesl_cli::failure::Failure;
+use nesl_cli::run::{LIMITS, Offer, roster};
 use nesl_house::roster::NewFault;
 use nesl_house::table::{Closed, Table};
-use nesl_program::failure::Failure;
-use nesl_program::run::{LIMITS, Offer, roster};
 use nesl_service::service::{Observers, ServeFault, serve_through};
+use nesl_split_helpers::Free;
 use std::alloc::{AllocError, Global};
 use std::io;
 use std::io::{Eprint, Print};

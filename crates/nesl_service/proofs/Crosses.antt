@@ -4,11 +4,11 @@ use denote.Ref.{NamedLft}
 use denote.Param.Send.{IsSend, IsSync, sendable}
 use Rattle.std.proofs.Crossing as standard
 use Rattle.std.specs.declared.sync.ledger.Ledger.{Ghosts}
-use Rattle.nesl_helpers.specs.contracts.pool.Pool as pool_row
-use Rattle.nesl_helpers.proofs.pool.Kept.TheSendSync as kept_crosses
+use Rattle.nesl_split_helpers.specs.contracts.pool.Pool as pool_row
+use Rattle.nesl_split_helpers.proofs.pool.Kept.TheSendSync as kept_crosses
 use Rattle.nesl_house.proofs.Crosses.{table_sync}
 use Rattle.nesl_house.proofs.lease.Receipt.TheSendSync as receipt_crosses
-use Rattle.nesl_quotas.proofs.numbers.Numbers.TheSendSync as numbers_crosses
+use Rattle.nesl_service.proofs.numbers.Numbers.TheSendSync as numbers_crosses
 use Rattle.nesl_service.specs.contracts.accept.Door as door_row
 use Rattle.nesl_service.specs.contracts.crowd.Start as start_row
 use Rattle.nesl_service.specs.contracts.receipts.Receipts as receipts_row

@@ -4,6 +4,7 @@
 mod accept;
 pub mod crowd;
 pub mod journal;
+pub mod numbers;
 mod opening;
 pub mod receipts;
 pub mod service;

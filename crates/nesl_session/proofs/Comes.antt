@@ -5,17 +5,17 @@ use Rattle.nesl_values.specs.View.{tree_of}
 use Rattle.nesl_lex.specs.declared.token.Span.{Span}
 use Rattle.nesl_scalars.specs.declared.trap.Trap.{Trap}
 use Rattle.nesl_types.specs.Term.{Term}
-use Rattle.nesl_tree.specs.Trees.{Tree}
-use Rattle.nesl_code.specs.Names.{Value, Name, Environment, outside}
-use Rattle.nesl_code.specs.Outcome.{out}
+use Rattle.nesl_syntax_tree.specs.Trees.{Tree}
+use Rattle.nesl_eval_meaning.specs.Names.{Value, Name, Environment, outside}
+use Rattle.nesl_eval_meaning.specs.Outcome.{out}
 use Rattle.nesl_reply.specs.declared.fault.Fault.TheVariants as faults
 use Rattle.nesl_reply.specs.Faults.{fault_of}
 use Rattle.nesl_reply.specs.Replies as replies
-use Rattle.nesl_bindings.specs.Meanings.{variable}
-use Rattle.nesl_step.specs.declared.limits.Limits.{Limits}
-use Rattle.nesl_step.specs.State.{State}
-use Rattle.nesl_step.specs.Finding.{Finding, refused, budget, bound_or_refused, Comes}
-use Rattle.nesl_code.specs.Out.{Out, Budgeted, told, over, value, fault, stuck, within, work_of}
+use Rattle.nesl_session_bindings.specs.Meanings.{variable}
+use Rattle.nesl_session_step.specs.declared.limits.Limits.{Limits}
+use Rattle.nesl_session_step.specs.State.{State}
+use Rattle.nesl_session_step.specs.Finding.{Finding, refused, budget, bound_or_refused, Comes}
+use Rattle.nesl_eval_meaning.specs.Out.{Out, Budgeted, told, over, value, fault, stuck, within, work_of}
 use Rattle.nesl_eval.specs.declared.outcome.Outcome.{Outcome}
 use Rattle.nesl_eval.specs.declared.outcome.Outcome.TheVariants.{Done, Fault, Over, Memory}
 use Rattle.nesl_eval.specs.Tells.{Tells}

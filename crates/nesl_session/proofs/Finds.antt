@@ -3,15 +3,15 @@ use Rattle.std.proofs.Common.{◌≡◌, ℕ, ◌+◌, List, Bool, true, false, 
 use Rattle.std.specs.Prelude.{if◌then◌else◌}
 use Rattle.std.specs.Bool.{MatchBool}
 use Rattle.nesl_reply.specs.declared.fault.Fault.TheVariants as faults
-use Rattle.nesl_step.specs.declared.limits.Limits.{Limits}
-use Rattle.nesl_forms.specs.declared.finding.Finding.{Finding as Found}
-use Rattle.nesl_forms.specs.declared.finding.Finding.TheVariants as found
-use Rattle.nesl_step.specs.State.{State}
-use Rattle.nesl_step.specs.Finding.{Finding, unread, reset, part}
-use Rattle.nesl_step.specs.Step.{Finds, is_reset, is_full, is_part, longest, most_told, told_by_reset}
-use Rattle.nesl_forms.specs.Found.{CanCharge}
+use Rattle.nesl_session_step.specs.declared.limits.Limits.{Limits}
+use Rattle.nesl_session_forms.specs.declared.finding.Finding.{Finding as Found}
+use Rattle.nesl_session_forms.specs.declared.finding.Finding.TheVariants as found
+use Rattle.nesl_session_step.specs.State.{State}
+use Rattle.nesl_session_step.specs.Finding.{Finding, unread, reset, part}
+use Rattle.nesl_session_step.specs.Step.{Finds, is_reset, is_full, is_part, longest, most_told, told_by_reset}
+use Rattle.nesl_session_forms.specs.Found.{CanCharge}
 use Rattle.nesl_session.specs.Reading.{FindsRead}
-use Rattle.nesl_standing.specs.Settling.{CanSettle, Fits}
+use Rattle.nesl_session_standing.specs.Settling.{CanSettle, Fits}
 
 at_true : {P : Type 0} (Q : Type 0) (b : Bool) → b ≡ true → P → MatchBool b P Q
 at_true Q true e p = p

@@ -1,14 +1,14 @@
 -- A line of a session: its step, its answer, and what the session keeps.
 use Rattle.std.proofs.Common.{◌≡◌, ℕ, List, refl, sym, ◌∙◌, subst}
-use Rattle.nesl_step.specs.declared.limits.Limits.{Limits}
-use Rattle.nesl_standing.specs.declared.standing.Standing.{Standing}
-use Rattle.nesl_step.specs.State.{State, Log}
-use Rattle.nesl_step.specs.Response.{Response, no_memory}
-use Rattle.nesl_step.specs.Finding.{Finding}
-use Rattle.nesl_step.specs.Step.{Step, Finds, after, response_of}
-use Rattle.nesl_step.specs.Solo.{Replays, Responds}
-use Rattle.nesl_standing.specs.Inside.{state_of, log_of, log_of_state, Counts, Keeps}
-use Rattle.nesl_step.proofs.Replayed.{replays_after, responds_after}
+use Rattle.nesl_session_step.specs.declared.limits.Limits.{Limits}
+use Rattle.nesl_session_standing.specs.declared.standing.Standing.{Standing}
+use Rattle.nesl_session_step.specs.State.{State, Log}
+use Rattle.nesl_session_step.specs.Response.{Response, no_memory}
+use Rattle.nesl_session_step.specs.Finding.{Finding}
+use Rattle.nesl_session_step.specs.Step.{Step, Finds, after, response_of}
+use Rattle.nesl_session_step.specs.Solo.{Replays, Responds}
+use Rattle.nesl_session_standing.specs.Inside.{state_of, log_of, log_of_state, Counts, Keeps}
+use Rattle.nesl_session_step.proofs.Replayed.{replays_after, responds_after}
 
 pub step_from : (limits : Limits) (s t : State) (line : List ℕ) (reply : Response) (f : Finding) → Finds limits s line f → reply ≡ response_of s f → t ≡ after line s f → Step limits s line reply t
 unfolding Step

@@ -1,11 +1,11 @@
 -- A session to which nothing was said.
 use Rattle.std.proofs.Common.{◌≡◌, ℕ, sym, subst}
-use Rattle.nesl_step.specs.declared.limits.Limits.{Limits}
-use Rattle.nesl_standing.specs.declared.standing.Standing.{Standing}
-use Rattle.nesl_step.specs.State.{State, Log, opening, unsaid}
-use Rattle.nesl_step.specs.Solo.{Replays}
-use Rattle.nesl_standing.specs.Inside.{state_of, log_of, log_of_state, Counts, Keeps}
-use Rattle.nesl_step.proofs.Replayed.{replays_none}
+use Rattle.nesl_session_step.specs.declared.limits.Limits.{Limits}
+use Rattle.nesl_session_standing.specs.declared.standing.Standing.{Standing}
+use Rattle.nesl_session_step.specs.State.{State, Log, opening, unsaid}
+use Rattle.nesl_session_step.specs.Solo.{Replays}
+use Rattle.nesl_session_standing.specs.Inside.{state_of, log_of, log_of_state, Counts, Keeps}
+use Rattle.nesl_session_step.proofs.Replayed.{replays_none}
 
 pub opened_keeps : (a : Standing) (base cleared : ℕ) → state_of a ≡ opening base cleared → Counts a → Keeps a
 opened_keeps a base cleared e counts = record {

@@ -1,15 +1,15 @@
 -- Whether there is room for a name, whatever it is called.
 use Rattle.std.proofs.Common.{◌≡◌, ℕ, ◌<◌, ◌^◌, true, false, leb, Some, subst}
-use Rattle.nesl_code.specs.Names.{Name}
+use Rattle.nesl_eval_meaning.specs.Names.{Name}
 use Rattle.nesl_reply.specs.declared.fault.Fault.TheVariants as faults
 use Rattle.nesl_reply.specs.Replies.{Told}
-use Rattle.nesl_bindings.specs.Meanings.{Meaning, elements_of}
-use Rattle.nesl_bindings.specs.Known.{put}
-use Rattle.nesl_step.specs.declared.limits.Limits.{Limits}
-use Rattle.nesl_step.specs.State.{State}
-use Rattle.nesl_step.specs.Finding.{refused, answered, bound_or_refused}
-use Rattle.nesl_forms.specs.Found.{HasRoom}
-use Rattle.nesl_forms.proofs.Verdicts.{many, few, room}
+use Rattle.nesl_session_bindings.specs.Meanings.{Meaning, elements_of}
+use Rattle.nesl_session_bindings.specs.Known.{put}
+use Rattle.nesl_session_step.specs.declared.limits.Limits.{Limits}
+use Rattle.nesl_session_step.specs.State.{State}
+use Rattle.nesl_session_step.specs.Finding.{refused, answered, bound_or_refused}
+use Rattle.nesl_session_forms.specs.Found.{HasRoom}
+use Rattle.nesl_session_forms.proofs.Verdicts.{many, few, room}
 
 pub many_named : (limits : Limits) (s : State) (t : Told) (w : ℕ) (n x : Name) (m : Meaning) → n ≡ x → false ≡ leb (elements_of (put n m s.bindings)) limits.elements
     → refused (faults.Elements w) w ≡ bound_or_refused limits s t w (record { name = x; meaning = m })

@@ -2,13 +2,13 @@
 use Rattle.std.proofs.Common.{◌≡◌, ℕ, ◌++◌, List, Bool, Option, codes, length, refl, ap, ◌∙◌, subst}
 use Rattle.nesl_reply.specs.declared.fault.Fault.{Fault}
 use Rattle.nesl_reply.specs.Replies.{Told, told_text}
-use Rattle.nesl_bindings.specs.Known.{datatypes_of}
-use Rattle.nesl_forms.specs.declared.finding.Finding.{Finding as Found}
-use Rattle.nesl_forms.specs.declared.finding.Finding.TheVariants as found
-use Rattle.nesl_step.specs.State.{State, names_of}
-use Rattle.nesl_step.specs.Response.{Response}
-use Rattle.nesl_step.specs.Step.{response_of}
-use Rattle.nesl_forms.specs.Found.{finding_of, told_after, fault_in, is_recorded}
+use Rattle.nesl_session_bindings.specs.Known.{datatypes_of}
+use Rattle.nesl_session_forms.specs.declared.finding.Finding.{Finding as Found}
+use Rattle.nesl_session_forms.specs.declared.finding.Finding.TheVariants as found
+use Rattle.nesl_session_step.specs.State.{State, names_of}
+use Rattle.nesl_session_step.specs.Response.{Response}
+use Rattle.nesl_session_step.specs.Step.{response_of}
+use Rattle.nesl_session_forms.specs.Found.{finding_of, told_after, fault_in, is_recorded}
 
 plain : (s : State) (f : Found) → record { bytes = told_text (datatypes_of s.bindings) (names_of s) (told_after (length s.transcript) f) ++ codes "\n"; fault = fault_in f; recorded = is_recorded f } ≡ response_of s (finding_of f)
 plain s (found.Unread fault) = refl

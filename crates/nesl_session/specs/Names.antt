@@ -1,6 +1,6 @@
 -- The names that an iterator still gives.
 use Rattle.std.specs.Prelude.{ℕ, List, map, drop}
-use Rattle.nesl_bindings.specs.Stored.{bindings_of}
+use Rattle.nesl_session_bindings.specs.Stored.{bindings_of}
 use Rattle.nesl_session.specs.declared.session.Names.{Names}
 
 abbrev pub names_left : Names → List (List ℕ)

@@ -1,16 +1,16 @@
 //! How the expression of a line is evaluated.
 ghost use Rattle.std.specs.Prelude.{◌≡◌, [], ⊤, IfOk};
-ghost use Rattle.nesl_tree.specs.Views.{tree_of as tree_of_exp};
+ghost use Rattle.nesl_syntax_tree.specs.Views.{tree_of as tree_of_exp};
 ghost use Rattle.nesl_values.specs.View.{tree_of};
-ghost use Rattle.nesl_code.specs.Names.{outside};
-ghost use Rattle.nesl_code.specs.Out.{within};
-ghost use Rattle.nesl_code.specs.Outcome.{out};
-ghost use Rattle.nesl_code.specs.Stored.{environment};
+ghost use Rattle.nesl_eval_meaning.specs.Names.{outside};
+ghost use Rattle.nesl_eval_meaning.specs.Out.{within};
+ghost use Rattle.nesl_eval_meaning.specs.Outcome.{out};
+ghost use Rattle.nesl_eval_code.specs.Stored.{environment};
 ghost use Rattle.nesl_eval.specs.Tells.{Tells};
 
-use nesl_code::Env;
 use nesl_eval::{Outcome, eval_one, eval_one_in};
-use nesl_tree::tree::Exp;
+use nesl_eval_code::Env;
+use nesl_syntax_tree::tree::Exp;
 use nesl_values::Value;
 use std::alloc::{AllocError, Allocator, Global};
 

@@ -1,25 +1,25 @@
 //! What is found of a line by its form.
 ghost use Rattle.std.specs.Prelude.{◌≡◌, [], None, IfOk};
-ghost use Rattle.nesl_tree.specs.Views.{line_of, tree_of};
+ghost use Rattle.nesl_syntax_tree.specs.Views.{line_of, tree_of};
 ghost use Rattle.nesl_types.specs.Term.{term};
 ghost use Rattle.nesl_infer.specs.Answers.{IsTypeBy, typed};
-ghost use Rattle.nesl_code.specs.Names.{outside};
-ghost use Rattle.nesl_code.specs.Out.{within};
-ghost use Rattle.nesl_code.specs.Outcome.{out};
-ghost use Rattle.nesl_bindings.specs.Known.{known, environment};
-ghost use Rattle.nesl_bindings.specs.Redefinition.{Refuses, a_variable, it};
-ghost use Rattle.nesl_step.specs.Finding.{budget, budget_told, FindsLine, FindsVariable, Comes};
-ghost use Rattle.nesl_forms.specs.Found.{finding_of, told_of, CanCharge};
-ghost use Rattle.nesl_standing.specs.Inside.{state_of, Counts};
+ghost use Rattle.nesl_eval_meaning.specs.Names.{outside};
+ghost use Rattle.nesl_eval_meaning.specs.Out.{within};
+ghost use Rattle.nesl_eval_meaning.specs.Outcome.{out};
+ghost use Rattle.nesl_session_bindings.specs.Known.{known, environment};
+ghost use Rattle.nesl_session_bindings.specs.Redefinition.{Refuses, a_variable, it};
+ghost use Rattle.nesl_session_step.specs.Finding.{budget, budget_told, FindsLine, FindsVariable, Comes};
+ghost use Rattle.nesl_session_forms.specs.Found.{finding_of, told_of, CanCharge};
+ghost use Rattle.nesl_session_standing.specs.Inside.{state_of, Counts};
 
 use crate::evaluator::Evaluator;
 use nesl_eval::Outcome;
-use nesl_forms::finding::{Definition, Finding, Meaning, Shown};
-use nesl_forms::{find_datatype, find_function, find_type, variable_type};
 use nesl_reply::{Fault, Stop, Used};
 use nesl_scalars::Cost;
-use nesl_standing::Standing;
-use nesl_tree::tree::{Exp, Form};
+use nesl_session_forms::finding::{Definition, Finding, Meaning, Shown};
+use nesl_session_forms::{find_datatype, find_function, find_type, variable_type};
+use nesl_session_standing::Standing;
+use nesl_syntax_tree::tree::{Exp, Form};
 use nesl_types::Ty;
 use std::alloc::{AllocError, Allocator, Global};
 

@@ -1,21 +1,21 @@
 //! One line: what is found of it before its form is looked at, and what is answered.
 ghost use Rattle.std.specs.Prelude.{◌≡◌, ◌+◌, ◌++◌, List, ℕ, IfOk, OnErr, IsFalse, nat_lt, if◌then◌else◌, length};
 ghost use Rattle.nesl_reply.specs.declared.fault.Fault.TheVariants as faults;
-ghost use Rattle.nesl_step.specs.Finding.{unread, reset};
-ghost use Rattle.nesl_step.specs.Step.{Finds, Step, is_reset, is_part, is_full, longest, most_told, told_by_reset, response_of};
-ghost use Rattle.nesl_step.specs.Sense.{HasSense};
-ghost use Rattle.nesl_forms.specs.Found.{finding_of, seen_sense, CanCharge};
+ghost use Rattle.nesl_session_step.specs.Finding.{unread, reset};
+ghost use Rattle.nesl_session_step.specs.Step.{Finds, Step, is_reset, is_part, is_full, longest, most_told, told_by_reset, response_of};
+ghost use Rattle.nesl_session_step.specs.Sense.{HasSense};
+ghost use Rattle.nesl_session_forms.specs.Found.{finding_of, seen_sense, CanCharge};
 ghost use Rattle.nesl_session.specs.Reading.{FindsRead};
-ghost use Rattle.nesl_standing.specs.Settling.{CanSettle, Fits};
-ghost use Rattle.nesl_standing.specs.Inside.{state_of, Counts};
+ghost use Rattle.nesl_session_standing.specs.Settling.{CanSettle, Fits};
+ghost use Rattle.nesl_session_standing.specs.Inside.{state_of, Counts};
 
 use crate::answer::Answer;
 use crate::evaluator::Evaluator;
 use crate::form::find_form;
-use nesl_forms::finding::Finding;
-use nesl_forms::{Sense, sense_of};
 use nesl_reply::Fault;
-use nesl_standing::Standing;
+use nesl_session_forms::finding::Finding;
+use nesl_session_forms::{Sense, sense_of};
+use nesl_session_standing::Standing;
 use std::alloc::{AllocError, Allocator, Global};
 
 /// The most bytes of a form, the parts that came before included.

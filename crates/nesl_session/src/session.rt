@@ -1,26 +1,26 @@
 //! One user's session.
 ghost use Rattle.std.specs.Prelude.{◌≡◌, [], IfOk, OnErr, map};
-ghost use Rattle.nesl_tree.specs.Views.{tree_of};
-ghost use Rattle.nesl_code.specs.Names.{outside};
-ghost use Rattle.nesl_code.specs.Out.{within};
-ghost use Rattle.nesl_code.specs.Outcome.{out};
-ghost use Rattle.nesl_code.specs.Stored.{environment};
+ghost use Rattle.nesl_syntax_tree.specs.Views.{tree_of};
+ghost use Rattle.nesl_eval_meaning.specs.Names.{outside};
+ghost use Rattle.nesl_eval_meaning.specs.Out.{within};
+ghost use Rattle.nesl_eval_meaning.specs.Outcome.{out};
+ghost use Rattle.nesl_eval_code.specs.Stored.{environment};
 ghost use Rattle.nesl_eval.specs.Tells.{Tells};
-ghost use Rattle.nesl_step.specs.State.{State, names_of, remaining_of, told_lines, unsaid};
-ghost use Rattle.nesl_step.specs.Solo.{Replays, Responds};
+ghost use Rattle.nesl_session_step.specs.State.{State, names_of, remaining_of, told_lines, unsaid};
+ghost use Rattle.nesl_session_step.specs.Solo.{Replays, Responds};
 ghost use Rattle.std.specs.Iterator.{item_count, YieldsFirstRef};
 
 use crate::answer::Answer;
 use crate::evaluator::{ByCall, Evaluator, InHeap, InPlace};
 use crate::line::step;
-use nesl_bindings::Bindings;
-use nesl_code::Env;
 use nesl_eval::Outcome;
-use nesl_helpers::{Gate, Helpers};
+use nesl_eval_code::Env;
+use nesl_session_bindings::Bindings;
+use nesl_session_standing::Standing;
+use nesl_session_step::limits::{Limits, Remaining};
 use nesl_split::eval_split;
-use nesl_standing::Standing;
-use nesl_step::limits::{Limits, Remaining};
-use nesl_tree::tree::Exp;
+use nesl_split_helpers::{Gate, Helpers};
+use nesl_syntax_tree::tree::Exp;
 use std::alloc::{AllocError, Allocator, Global};
 use std::marker::Model;
 use std::thread::Threads;
@@ -40,11 +40,11 @@ impl Drop for Session {
 }
 
 impl Model for Session {
-    ghost use Rattle.nesl_step.specs.State.{Log};
+    ghost use Rattle.nesl_session_step.specs.State.{Log};
 
     ghost Value = { Log };
 
-    ghost use Rattle.nesl_standing.specs.Inside.{log_of, Keeps};
+    ghost use Rattle.nesl_session_standing.specs.Inside.{log_of, Keeps};
 
     ghost view = { λ s. log_of s.standing };
 
@@ -79,7 +79,7 @@ impl<'a> Iterator for Names<'a> {
 }
 
 impl Session {
-    ghost use Rattle.nesl_standing.specs.Inside.{state_of, log_of, Keeps};
+    ghost use Rattle.nesl_session_standing.specs.Inside.{state_of, log_of, Keeps};
     ghost use Rattle.nesl_session.specs.Names.{names_left};
 
     /// The empty session: nothing bound, nothing recorded, all of its work left.

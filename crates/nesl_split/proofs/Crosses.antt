@@ -9,11 +9,11 @@ use Rattle.nesl_values.specs.contracts.value.Value as value_row
 use Rattle.nesl_values.proofs.node.Node.TheLaws.TheKnot as value_knot
 use Rattle.nesl_lex.proofs.token.Span.TheSendSync as span_crosses
 use Rattle.nesl_builtins.proofs.builtin.Builtin.TheSendSync as builtin_crosses
-use Rattle.nesl_code.specs.contracts.code.Code as code_row
-use Rattle.nesl_code.proofs.code.Code.TheLaws.TheKnot as code_knot
-use Rattle.nesl_code.proofs.code.Step.TheSendSync as step_crosses
-use Rattle.nesl_scopes.specs.contracts.scope.Scope as scope_row
-use Rattle.nesl_scopes.proofs.scope.Scope.TheLaws.TheKnot as scope_knot
+use Rattle.nesl_eval_code.specs.contracts.code.Code as code_row
+use Rattle.nesl_eval_code.proofs.code.Code.TheLaws.TheKnot as code_knot
+use Rattle.nesl_eval_code.proofs.code.Step.TheSendSync as step_crosses
+use Rattle.nesl_eval_nodes.specs.contracts.scope.Scope as scope_row
+use Rattle.nesl_eval_nodes.proofs.scope.Scope.TheLaws.TheKnot as scope_knot
 use Rattle.nesl_split.specs.contracts.eval.Interval as interval_row
 use Rattle.nesl_split.proofs.crew.Crew.TheSendSync as crew_crosses
 

@@ -1,12 +1,12 @@
 -- What a half finds.
 use Rattle.std.proofs.Common.{◌≡◌, ◌+◌, ◌-◌, ◌≤◌, Result, Ok, Err, arith}
 use Rattle.nesl_scalars.specs.declared.cost.Cost.{Cost}
-use Rattle.nesl_code.specs.Out.{Out, value, fault, stuck}
-use Rattle.nesl_nodes.specs.declared.meter.Meter.{Meter}
-use Rattle.nesl_nodes.specs.declared.meter.Stop.{Stop}
-use Rattle.nesl_nodes.specs.declared.meter.Stop.TheVariants.{Fault, Over, Memory, Stuck}
-use Rattle.nesl_nodes.specs.Meets.{Meets}
-use Rattle.nesl_helpers.specs.Halves.{after_cost}
+use Rattle.nesl_eval_meaning.specs.Out.{Out, value, fault, stuck}
+use Rattle.nesl_eval_nodes.specs.declared.meter.Meter.{Meter}
+use Rattle.nesl_eval_nodes.specs.declared.meter.Stop.{Stop}
+use Rattle.nesl_eval_nodes.specs.declared.meter.Stop.TheVariants.{Fault, Over, Memory, Stuck}
+use Rattle.nesl_eval_nodes.specs.Meets.{Meets}
+use Rattle.nesl_split_helpers.specs.Halves.{after_cost}
 use Rattle.nesl_split.specs.Finds.{Finds}
 
 -- the same run from another depth

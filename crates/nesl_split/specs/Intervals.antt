@@ -3,10 +3,10 @@ use Rattle.std.specs.Prelude.{◌≡◌, ℕ, List, map, slice_range}
 use Rattle.std.specs.declared.vec.Vec.{Vec}
 use Rattle.nesl_values.specs.View.{tree_of}
 use Rattle.nesl_values.specs.Tree.{Tree}
-use Rattle.nesl_code.specs.Out.{Out}
-use Rattle.nesl_code.specs.Run.{Table, run, run_filters, run_bodies}
-use Rattle.nesl_scopes.specs.Scopes.{frames_of}
-use Rattle.nesl_nodes.specs.Sides.{places_of}
+use Rattle.nesl_eval_meaning.specs.Out.{Out}
+use Rattle.nesl_eval_code.specs.Run.{Table, run, run_filters, run_bodies}
+use Rattle.nesl_eval_nodes.specs.Scopes.{frames_of}
+use Rattle.nesl_eval_nodes.specs.Sides.{places_of}
 use Rattle.nesl_split.specs.declared.eval.Interval.{Interval}
 
 -- the places at which a filter holds, and the values of a body, in the turns from one to another

@@ -5,39 +5,39 @@ ghost use Rattle.std.specs.Thread.{IsSync};
 ghost use Rattle.nesl_values.specs.Tree.{pair, sequence};
 ghost use Rattle.nesl_values.specs.Parts.{as_bool};
 ghost use Rattle.nesl_values.specs.View.{tree_of};
-ghost use Rattle.nesl_code.specs.Names.{named};
-ghost use Rattle.nesl_code.specs.Out.{then_out};
-ghost use Rattle.nesl_code.specs.Outcome.{made, applied, branch, kept, counted};
-ghost use Rattle.nesl_code.specs.Run.{run, run_node, run_two, run_three, run_all, run_let, run_at};
-ghost use Rattle.nesl_code.specs.Run.{run_filters, run_bodies, run_over, run_called, as_result, slot_at};
-ghost use Rattle.nesl_scopes.specs.Scopes.{frames_of};
-ghost use Rattle.nesl_scopes.specs.Standing.{Stands};
-ghost use Rattle.nesl_nodes.specs.Sides.{places_of, Keeps, IsOne, Has};
-ghost use Rattle.nesl_nodes.specs.Meets.{Meets, Is, Are};
+ghost use Rattle.nesl_eval_meaning.specs.Names.{named};
+ghost use Rattle.nesl_eval_meaning.specs.Out.{then_out};
+ghost use Rattle.nesl_eval_meaning.specs.Outcome.{made, applied, branch, kept, counted};
+ghost use Rattle.nesl_eval_code.specs.Run.{run, run_node, run_two, run_three, run_all, run_let, run_at};
+ghost use Rattle.nesl_eval_code.specs.Run.{run_filters, run_bodies, run_over, run_called, as_result, slot_at};
+ghost use Rattle.nesl_eval_nodes.specs.Scopes.{frames_of};
+ghost use Rattle.nesl_eval_nodes.specs.Standing.{Stands};
+ghost use Rattle.nesl_eval_nodes.specs.Sides.{places_of, Keeps, IsOne, Has};
+ghost use Rattle.nesl_eval_nodes.specs.Meets.{Meets, Is, Are};
 ghost use Rattle.nesl_split.specs.Intervals.{ArePlaces, filters_in, bodies_in};
 ghost use Rattle.nesl_split.specs.Finds.{Finds};
 
 use crate::crew::{Crew, fork};
-use nesl_builder::SequenceBuilder;
 use nesl_builtins::Builtin;
-use nesl_code::Code;
-use nesl_helpers::{
-    Gate, Half, Helpers, Place, begun_with, cost_since, joined_places, joined_values,
-};
-use nesl_lex::token::Span;
-use nesl_nodes::held::{Held, Tops};
-use nesl_nodes::meter::{Meter, Stop};
-use nesl_nodes::nodes::{
+use nesl_eval_code::Code;
+use nesl_eval_nodes::held::{Held, Tops};
+use nesl_eval_nodes::meter::{Meter, Stop};
+use nesl_eval_nodes::nodes::{
     add, empty, finished, keep, keep_if, length_of_all, named_top, of_pair_made, of_two_made, paid,
     paired, sequence_of, tagged, text, told_at, top, truth,
 };
-use nesl_nodes::places::Places;
-use nesl_scalars::Binary;
-use nesl_scopes::parts::{
+use nesl_eval_nodes::parts::{
     Part, applied_to_one, applied_to_three, applied_to_two, entered_name, within_limit,
 };
-use nesl_scopes::scope::{Scope, local};
+use nesl_eval_nodes::places::Places;
+use nesl_eval_nodes::scope::{Scope, local};
+use nesl_lex::token::Span;
+use nesl_scalars::Binary;
+use nesl_split_helpers::{
+    Gate, Half, Helpers, Place, begun_with, cost_since, joined_places, joined_values,
+};
 use nesl_values::Value;
+use nesl_values_builder::SequenceBuilder;
 use std::alloc::Global;
 use std::thread::Threads;
 

@@ -5,5 +5,5 @@ mod crew;
 mod eval;
 mod one;
 
-pub use nesl_helpers::{Free, Gate, Helpers, NoHelpers, Permits, Place, Pool};
+pub use nesl_split_helpers::{Free, Gate, Helpers, NoHelpers, Permits, Place, Pool};
 pub use one::eval_split;

@@ -1,22 +1,22 @@
 //! Expressions of the top level, with helpers.
 ghost use Rattle.std.specs.Prelude.{[]};
-ghost use Rattle.nesl_tree.specs.Views.{tree_of};
-ghost use Rattle.nesl_code.specs.Names.{outside};
-ghost use Rattle.nesl_code.specs.Out.{within};
-ghost use Rattle.nesl_code.specs.Outcome.{out};
-ghost use Rattle.nesl_code.specs.Run.{run};
-ghost use Rattle.nesl_code.specs.Stored.{environment};
+ghost use Rattle.nesl_syntax_tree.specs.Views.{tree_of};
+ghost use Rattle.nesl_eval_meaning.specs.Names.{outside};
+ghost use Rattle.nesl_eval_meaning.specs.Out.{within};
+ghost use Rattle.nesl_eval_meaning.specs.Outcome.{out};
+ghost use Rattle.nesl_eval_code.specs.Run.{run};
+ghost use Rattle.nesl_eval_code.specs.Stored.{environment};
 ghost use Rattle.nesl_eval.specs.Tells.{Tells};
 
 use crate::crew::Crew;
 use crate::eval::eval_in;
-use nesl_code::{Code, Env, prepare, runs_as_meant};
 use nesl_eval::{Outcome, outcome_of};
-use nesl_helpers::{Gate, Helpers};
-use nesl_nodes::held::Tops;
-use nesl_nodes::meter::Meter;
-use nesl_scopes::scope::Scope;
-use nesl_tree::tree::Exp;
+use nesl_eval_code::{Code, Env, prepare, runs_as_meant};
+use nesl_eval_nodes::held::Tops;
+use nesl_eval_nodes::meter::Meter;
+use nesl_eval_nodes::scope::Scope;
+use nesl_split_helpers::{Gate, Helpers};
+use nesl_syntax_tree::tree::Exp;
 use std::alloc::Global;
 use std::thread::Threads;
 

@@ -10,10 +10,10 @@ use Rattle.nesl_lex.specs.declared.token.Sign.TheVariants as sign
 use Rattle.nesl_lex.specs.declared.token.Token.{Token}
 use Rattle.nesl_lex.specs.declared.token.Word.{Word}
 use Rattle.nesl_lex.specs.declared.token.Word.TheVariants as word
-use Rattle.nesl_tree.specs.declared.tree.Form.{Form}
-use Rattle.nesl_tree.specs.Trees.{eval}
-use Rattle.nesl_parts.specs.declared.fault.ParseFault.{ParseFault}
-use Rattle.nesl_parts.specs.Machine.{expression}
+use Rattle.nesl_syntax_tree.specs.declared.tree.Form.{Form}
+use Rattle.nesl_syntax_tree.specs.Trees.{eval}
+use Rattle.nesl_syntax_open.specs.declared.fault.ParseFault.{ParseFault}
+use Rattle.nesl_syntax_open.specs.Machine.{expression}
 use Rattle.nesl_syntax.specs.Reading.{begun_line, line_in}
 use Rattle.nesl_syntax.specs.Given.{GivesLine}
 

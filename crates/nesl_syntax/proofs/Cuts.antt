@@ -12,9 +12,9 @@ use Rattle.nesl_lex.specs.declared.token.Sign.{Sign}
 use Rattle.nesl_lex.specs.declared.token.Sign.TheVariants as sign
 use Rattle.nesl_syntax.specs.declared.cut.Divider.{Divider}
 use Rattle.nesl_syntax.specs.declared.cut.Divider.TheVariants as divider
-use Rattle.nesl_tree.specs.Trees.{PatternTree, TypeTree}
-use Rattle.nesl_tree.specs.Grammar.{sign_at, word_at, name_at, IsType, AreTypes, IsPattern, ArePatterns}
-use Rattle.nesl_tree.specs.Grammar as grammar
+use Rattle.nesl_syntax_tree.specs.Trees.{PatternTree, TypeTree}
+use Rattle.nesl_syntax_tree.specs.Grammar.{sign_at, word_at, name_at, IsType, AreTypes, IsPattern, ArePatterns}
+use Rattle.nesl_syntax_tree.specs.Grammar as grammar
 use Rattle.nesl_syntax.specs.Reading.{divides, Halves, and_front, cut}
 
 -- where the rest isn't cut either

@@ -1,10 +1,10 @@
 -- A function's line that lacks a part.
 use Rattle.std.proofs.Common.{◌≡◌, ℕ, List, Option, Some, None, Ok, Err, ap}
 use Rattle.nesl_lex.specs.Tokens.{Placed}
-use Rattle.nesl_parts.specs.declared.fault.ParseFault.{ParseFault}
-use Rattle.nesl_parts.specs.declared.fault.ParseFault.TheVariants.{Syntax, Nested, Memory}
-use Rattle.nesl_parts.specs.Machine.{expression}
-use Rattle.nesl_tree.specs.Trees.{Tree}
+use Rattle.nesl_syntax_open.specs.declared.fault.ParseFault.{ParseFault}
+use Rattle.nesl_syntax_open.specs.declared.fault.ParseFault.TheVariants.{Syntax, Nested, Memory}
+use Rattle.nesl_syntax_open.specs.Machine.{expression}
+use Rattle.nesl_syntax_tree.specs.Trees.{Tree}
 use Rattle.nesl_syntax.specs.declared.function.Head.{Head}
 use Rattle.nesl_syntax.specs.Reading.{Halves, Heads, with_both, head_in, function_of, function_with}
 use Rattle.nesl_syntax.specs.Given.{Given, SeesHead, GivesLine}

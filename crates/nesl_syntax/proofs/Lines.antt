@@ -10,18 +10,18 @@ use Rattle.nesl_lex.specs.declared.token.Span.{Span}
 use Rattle.nesl_lex.specs.declared.token.Word.TheVariants as word
 use Rattle.nesl_lex.specs.declared.token.Sign.TheVariants as sign
 use Rattle.std.specs.Prelude.{Result, Ok, Err, IfOk, IsErrOf}
-use Rattle.nesl_tree.specs.declared.tree.Form.{Form}
+use Rattle.nesl_syntax_tree.specs.declared.tree.Form.{Form}
 use Rattle.nesl_syntax.specs.declared.cut.Divider.TheVariants as divider
-use Rattle.nesl_parts.specs.declared.fault.ParseFault.{ParseFault}
-use Rattle.nesl_parts.specs.declared.fault.ParseFault.TheVariants.{Syntax, Nested, Memory}
-use Rattle.nesl_tree.specs.Views.{line_of}
+use Rattle.nesl_syntax_open.specs.declared.fault.ParseFault.{ParseFault}
+use Rattle.nesl_syntax_open.specs.declared.fault.ParseFault.TheVariants.{Syntax, Nested, Memory}
+use Rattle.nesl_syntax_tree.specs.Views.{line_of}
 use Rattle.nesl_syntax.specs.Given.{GivesLine}
 use Rattle.nesl_syntax.specs.Reading.{form_with, form_in, closed_in, is_semicolon, behind_token, Halves, cut, head_in, function_of, function_with, function_named, datatype_named, typed_named, bound_with, bound_in, begun_line, line_in, command_with, command_in, is_text}
-use Rattle.nesl_tree.specs.Trees.{Tree, Line, nothing, function, datatype, bind, eval, show_names, show_budget, show_type, line_height}
-use Rattle.nesl_tree.specs.Grammar.{token_at, sign_at, word_at, name_at}
-use Rattle.nesl_tree.specs.Lines.{IsLine, no_tokens, functions, datatypes, binds, evaluates, names_shown, budget_shown, type_shown}
-use Rattle.nesl_parts.specs.Machine.{expression, written_type}
-use Rattle.nesl_parts.proofs.Complete.{reads_it, reads_type}
+use Rattle.nesl_syntax_tree.specs.Trees.{Tree, Line, nothing, function, datatype, bind, eval, show_names, show_budget, show_type, line_height}
+use Rattle.nesl_syntax_tree.specs.Grammar.{token_at, sign_at, word_at, name_at}
+use Rattle.nesl_syntax_tree.specs.Lines.{IsLine, no_tokens, functions, datatypes, binds, evaluates, names_shown, budget_shown, type_shown}
+use Rattle.nesl_syntax_open.specs.Machine.{expression, written_type}
+use Rattle.nesl_syntax_open.proofs.Complete.{reads_it, reads_type}
 use Rattle.nesl_syntax.proofs.Sound.{is_read, is_type_read}
 use Rattle.nesl_syntax.proofs.Cuts.{cut_here, cut_whole}
 use Rattle.nesl_syntax.proofs.Texts.{text_same}

@@ -4,13 +4,13 @@ use Rattle.std.specs.Option.{option_map}
 use Rattle.std.proofs.lemmas.List.{map-append, append_assoc, take_rest}
 use Rattle.nesl_lex.specs.Tokens.{Placed, placed, placed_of}
 use Rattle.nesl_lex.specs.declared.token.Token.{Token}
-use Rattle.nesl_parts.specs.declared.fault.ParseFault.{ParseFault}
-use Rattle.nesl_parts.specs.declared.fault.ParseFault.TheVariants.{Syntax, Nested, Memory}
+use Rattle.nesl_syntax_open.specs.declared.fault.ParseFault.{ParseFault}
+use Rattle.nesl_syntax_open.specs.declared.fault.ParseFault.TheVariants.{Syntax, Nested, Memory}
 use Rattle.nesl_syntax.specs.declared.signature.MemberEnd.{MemberEnd}
 use Rattle.nesl_syntax.specs.declared.signature.MemberEnd.TheVariants as end
-use Rattle.nesl_tree.specs.declared.tree.Member.{Member}
-use Rattle.nesl_tree.specs.Trees.{MemberTree}
-use Rattle.nesl_tree.specs.Views.{member_tree}
+use Rattle.nesl_syntax_tree.specs.declared.tree.Member.{Member}
+use Rattle.nesl_syntax_tree.specs.Trees.{MemberTree}
+use Rattle.nesl_syntax_tree.specs.Views.{member_tree}
 use Rattle.nesl_syntax.specs.Reading.{with_both, more_of, member_of, behind_of, members_with, members_in}
 use Rattle.nesl_syntax.specs.Given.{Given, SeesMember, SeesMembers, behind_members, Listing}
 

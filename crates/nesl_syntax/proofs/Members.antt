@@ -9,9 +9,9 @@ use Rattle.nesl_lex.specs.declared.token.Word.TheVariants as word
 use Rattle.nesl_lex.specs.declared.token.Sign.TheVariants as sign
 use Rattle.nesl_syntax.specs.declared.signature.MemberEnd.{MemberEnd}
 use Rattle.nesl_syntax.specs.declared.signature.MemberEnd.TheVariants as end
-use Rattle.nesl_tree.specs.Trees.{MemberTree}
-use Rattle.nesl_tree.specs.Grammar.{sign_at}
-use Rattle.nesl_tree.specs.Lines.{class_text, member_tokens, AreMembers, one_member, more_members}
+use Rattle.nesl_syntax_tree.specs.Trees.{MemberTree}
+use Rattle.nesl_syntax_tree.specs.Grammar.{sign_at}
+use Rattle.nesl_syntax_tree.specs.Lines.{class_text, member_tokens, AreMembers, one_member, more_members}
 use Rattle.nesl_syntax.specs.Reading.{with_both, class_of, member_with, member_named, member_of, behind_of, members_with, members_in}
 use Rattle.nesl_syntax.proofs.Texts.{class_text_read, class_is}
 

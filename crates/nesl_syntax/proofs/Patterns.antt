@@ -2,11 +2,11 @@
 use Rattle.std.proofs.Common.{◌≡◌, ℕ, ◌≤◌, List, [], ◌∷◌, Option, Some, None, refl, ap, sym, subst, ◌∙◌, arith}
 use Rattle.nesl_lex.specs.Tokens.{Placed}
 use Rattle.nesl_lex.specs.declared.token.Span.{Span}
-use Rattle.nesl_tree.specs.Trees.{Tree, Shape, PatternTree, PatternShape, node, pattern, span_of, pattern_span, widened, widened_pattern}
-use Rattle.nesl_tree.specs.Trees as trees
-use Rattle.nesl_tree.specs.Grammar as grammar
-use Rattle.nesl_tree.specs.Grammar.{over, IsPattern, ArePatterns, Parses}
-use Rattle.nesl_tree.specs.Patterns.{pattern_in, pattern_shape_in, shape_pair, shape_record, with_span}
+use Rattle.nesl_syntax_tree.specs.Trees.{Tree, Shape, PatternTree, PatternShape, node, pattern, span_of, pattern_span, widened, widened_pattern}
+use Rattle.nesl_syntax_tree.specs.Trees as trees
+use Rattle.nesl_syntax_tree.specs.Grammar as grammar
+use Rattle.nesl_syntax_tree.specs.Grammar.{over, IsPattern, ArePatterns, Parses}
+use Rattle.nesl_syntax_tree.specs.Patterns.{pattern_in, pattern_shape_in, shape_pair, shape_record, with_span}
 
 -- a phrase that is read as a pattern
 pub record PatternOf (n : ℕ) (ts : List Placed) (p : PatternTree) : Type 0 where

@@ -5,12 +5,12 @@ use Rattle.nesl_lex.specs.declared.token.Span.{Span}
 use Rattle.nesl_lex.specs.declared.token.Word.TheVariants as word
 use Rattle.nesl_lex.specs.declared.token.Sign.TheVariants as sign
 use Rattle.nesl_syntax.specs.declared.cut.Divider.TheVariants as divider
-use Rattle.nesl_tree.specs.Trees.{PatternTree, TypeTree, MemberTree, SignatureTree}
-use Rattle.nesl_tree.specs.Grammar.{sign_at, word_at, name_at, IsType}
-use Rattle.nesl_parts.specs.Machine.{written_type}
-use Rattle.nesl_tree.specs.Lines.{class_text, AreMembers, one_member, more_members, IsSignature, plain_signature, signature_of_members, IsHead, plain_head, signed_head}
+use Rattle.nesl_syntax_tree.specs.Trees.{PatternTree, TypeTree, MemberTree, SignatureTree}
+use Rattle.nesl_syntax_tree.specs.Grammar.{sign_at, word_at, name_at, IsType}
+use Rattle.nesl_syntax_open.specs.Machine.{written_type}
+use Rattle.nesl_syntax_tree.specs.Lines.{class_text, AreMembers, one_member, more_members, IsSignature, plain_signature, signature_of_members, IsHead, plain_head, signed_head}
 use Rattle.nesl_syntax.specs.Reading.{Halves, cut, pattern_read, bracketed_with, bracketed_in, Targets, target, bare_target, target_with, target_in, signature_of, signature_with, signature_in, Heads, head, bare_head, head_with, head_in}
-use Rattle.nesl_parts.proofs.Complete.{reads_type, reads_pattern}
+use Rattle.nesl_syntax_open.proofs.Complete.{reads_type, reads_pattern}
 use Rattle.nesl_syntax.proofs.Sound.{is_type_read, is_pattern_read}
 use Rattle.nesl_syntax.proofs.Cuts.{cut_here, uncut_both, uncut_next, cut_whole, pattern_uncut, type_uncut}
 use Rattle.nesl_syntax.proofs.Members.{both_parts, mapped, members_read, members_are}

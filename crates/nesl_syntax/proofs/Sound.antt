@@ -8,22 +8,22 @@ use Rattle.nesl_lex.specs.Tokens as tokens
 use Rattle.nesl_lex.specs.declared.token.Span.{Span}
 use Rattle.nesl_lex.specs.declared.token.Word.TheVariants as word
 use Rattle.nesl_lex.specs.declared.token.Sign.TheVariants as sign
-use Rattle.nesl_tree.specs.declared.tree.Operator.{Operator}
-use Rattle.nesl_tree.specs.declared.tree.Prefix.{Prefix}
-use Rattle.nesl_tree.specs.declared.tree.Prefix.TheVariants as prefix
-use Rattle.nesl_parts.specs.declared.mark.Mark.{Mark}
-use Rattle.nesl_parts.specs.declared.mark.Mark.TheVariants as mark
-use Rattle.nesl_parts.specs.declared.mark.Follow.{Follow}
-use Rattle.nesl_parts.specs.declared.mark.Follow.TheVariants as follow
-use Rattle.nesl_tree.specs.Trees.{Tree, Shape, Trees, Binders, PatternTree, TypeTree, node, span_of, widened, and_then, and_bind, none, no_binders, binder}
-use Rattle.nesl_tree.specs.Trees as trees
-use Rattle.nesl_parts.specs.Marks.{follow_of}
-use Rattle.nesl_tree.specs.Grammar as grammar
-use Rattle.nesl_tree.specs.Grammar.{operator_token, level_of, prefix_sign, over, token_at, sign_at, word_at, name_at, IsType, AreTypes, IsPattern, Parses, looser, Lists, Binds, Bodies, own_body}
-use Rattle.nesl_parts.specs.Machine.{Group, let_group, each_group, Opening, round, call, index_of, test, branch, list, range_from, range_to, brace, binders, value, filter, empty_at, type_list, type_round, type_comma, Waiting, open_at, comma_behind, else_behind, body_of, prefix_at, sign_behind, type_at, opening_begins, wanted_by, begun_by, rank, completed, wanted, folded, Mode, before, behind, typing, typed, State, opened, called, Turn, becomes, ends, bound, turned, taken_up, marked, separated, mark_level, followed, let_closed, emptied, begun_with, type_done, typed_with, type_separated, type_bracketed, type_pair, type_closed, typed_on, step, run, alone, tree_left_in, tree_left, expression, type_alone, type_left_in, type_left, written_type}
-use Rattle.nesl_parts.proofs.Complete.{wanted_small, level_low, level_high, separator}
+use Rattle.nesl_syntax_tree.specs.declared.tree.Operator.{Operator}
+use Rattle.nesl_syntax_tree.specs.declared.tree.Prefix.{Prefix}
+use Rattle.nesl_syntax_tree.specs.declared.tree.Prefix.TheVariants as prefix
+use Rattle.nesl_syntax_open.specs.declared.mark.Mark.{Mark}
+use Rattle.nesl_syntax_open.specs.declared.mark.Mark.TheVariants as mark
+use Rattle.nesl_syntax_open.specs.declared.mark.Follow.{Follow}
+use Rattle.nesl_syntax_open.specs.declared.mark.Follow.TheVariants as follow
+use Rattle.nesl_syntax_tree.specs.Trees.{Tree, Shape, Trees, Binders, PatternTree, TypeTree, node, span_of, widened, and_then, and_bind, none, no_binders, binder}
+use Rattle.nesl_syntax_tree.specs.Trees as trees
+use Rattle.nesl_syntax_open.specs.Marks.{follow_of}
+use Rattle.nesl_syntax_tree.specs.Grammar as grammar
+use Rattle.nesl_syntax_tree.specs.Grammar.{operator_token, level_of, prefix_sign, over, token_at, sign_at, word_at, name_at, IsType, AreTypes, IsPattern, Parses, looser, Lists, Binds, Bodies, own_body}
+use Rattle.nesl_syntax_open.specs.Machine.{Group, let_group, each_group, Opening, round, call, index_of, test, branch, list, range_from, range_to, brace, binders, value, filter, empty_at, type_list, type_round, type_comma, Waiting, open_at, comma_behind, else_behind, body_of, prefix_at, sign_behind, type_at, opening_begins, wanted_by, begun_by, rank, completed, wanted, folded, Mode, before, behind, typing, typed, State, opened, called, Turn, becomes, ends, bound, turned, taken_up, marked, separated, mark_level, followed, let_closed, emptied, begun_with, type_done, typed_with, type_separated, type_bracketed, type_pair, type_closed, typed_on, step, run, alone, tree_left_in, tree_left, expression, type_alone, type_left_in, type_left, written_type}
+use Rattle.nesl_syntax_open.proofs.Complete.{wanted_small, level_low, level_high, separator}
 use Rattle.nesl_syntax.proofs.Patterns.{pattern_of_phrase}
-use Rattle.nesl_tree.specs.Patterns.{pattern_in}
+use Rattle.nesl_syntax_tree.specs.Patterns.{pattern_in}
 
 -- the token that ends a part so
 abbrev mark_token : Mark → Lexeme

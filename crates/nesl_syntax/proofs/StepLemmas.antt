@@ -6,26 +6,26 @@ use Rattle.std.proofs.lemmas.List.{reverse-reverse}
 use Rattle.nesl_lex.specs.Tokens.{Placed}
 use Rattle.nesl_lex.specs.declared.token.Span.{Span}
 use Rattle.nesl_syntax.specs.declared.parse.Mode.{Mode}
-use Rattle.nesl_parts.specs.declared.pending.Pending.{Pending}
-use Rattle.nesl_parts.specs.declared.pending.Opening.{Opening}
-use Rattle.nesl_parts.specs.declared.pending.TypeOpening.{TypeOpening}
-use Rattle.nesl_parts.specs.declared.pending.TypeOpening.TheVariants as types
-use Rattle.nesl_parts.specs.declared.part.Part.{Part}
-use Rattle.nesl_parts.specs.declared.turn.Turn.{Turn}
-use Rattle.nesl_parts.specs.declared.mark.Mark.{Mark}
-use Rattle.nesl_parts.specs.declared.fault.ParseFault.{ParseFault}
-use Rattle.nesl_parts.specs.declared.fault.ParseFault.TheVariants.{Syntax, Nested, Memory}
-use Rattle.nesl_parts.specs.Turns.{SeesTurn, Turns}
-use Rattle.nesl_parts.specs.declared.types.TypePart.{TypePart}
-use Rattle.nesl_tree.specs.Trees.{Tree, TypeTree, widened_type}
-use Rattle.nesl_tree.specs.Grammar.{over}
-use Rattle.nesl_parts.specs.Machine as machine
-use Rattle.nesl_parts.specs.Parts.{Sees, SeesType}
-use Rattle.nesl_parts.specs.Stack.{SeesOpening, SeesEach, SeesStack}
-use Rattle.nesl_tree.specs.Grammar.{level_of}
-use Rattle.nesl_parts.specs.Machine.{round, call, binders, list, Waiting, open_at, comma_behind, else_behind, body_of, prefix_at, sign_behind, type_at, opening_wants, wanted, before, State, opened, separated, run, step, on_both, alone, type_alone, type_closed, type_pair, type_comma, type_done, taken_up, turned, marked, listed, with_newest}
+use Rattle.nesl_syntax_open.specs.declared.pending.Pending.{Pending}
+use Rattle.nesl_syntax_open.specs.declared.pending.Opening.{Opening}
+use Rattle.nesl_syntax_open.specs.declared.pending.TypeOpening.{TypeOpening}
+use Rattle.nesl_syntax_open.specs.declared.pending.TypeOpening.TheVariants as types
+use Rattle.nesl_syntax_open.specs.declared.part.Part.{Part}
+use Rattle.nesl_syntax_open.specs.declared.turn.Turn.{Turn}
+use Rattle.nesl_syntax_open.specs.declared.mark.Mark.{Mark}
+use Rattle.nesl_syntax_open.specs.declared.fault.ParseFault.{ParseFault}
+use Rattle.nesl_syntax_open.specs.declared.fault.ParseFault.TheVariants.{Syntax, Nested, Memory}
+use Rattle.nesl_syntax_open.specs.Turns.{SeesTurn, Turns}
+use Rattle.nesl_syntax_open.specs.declared.types.TypePart.{TypePart}
+use Rattle.nesl_syntax_tree.specs.Trees.{Tree, TypeTree, widened_type}
+use Rattle.nesl_syntax_tree.specs.Grammar.{over}
+use Rattle.nesl_syntax_open.specs.Machine as machine
+use Rattle.nesl_syntax_open.specs.Parts.{Sees, SeesType}
+use Rattle.nesl_syntax_open.specs.Stack.{SeesOpening, SeesEach, SeesStack}
+use Rattle.nesl_syntax_tree.specs.Grammar.{level_of}
+use Rattle.nesl_syntax_open.specs.Machine.{round, call, binders, list, Waiting, open_at, comma_behind, else_behind, body_of, prefix_at, sign_behind, type_at, opening_wants, wanted, before, State, opened, separated, run, step, on_both, alone, type_alone, type_closed, type_pair, type_comma, type_done, taken_up, turned, marked, listed, with_newest}
 use Rattle.nesl_syntax.specs.Steps.{list_newest, SeesMode, Follows, Runs, Closes, OpeningPopped, newest_opening, TypePopped, newest_type}
-use Rattle.nesl_parts.proofs.Complete.{level_low}
+use Rattle.nesl_syntax_open.proofs.Complete.{level_low}
 
 pub near_comma : (ws : List Waiting) (e : Tree) → wanted ws ≤ 1 → separated ws e ≡ opened (comma_behind e) ws
 near_comma [] e h = absurd (omega arith)

@@ -3,10 +3,10 @@ use Rattle.std.proofs.Common.{◌≡◌, List, Option, Some, None, Vec, Global}
 use Rattle.std.specs.Prelude.{Ok}
 use Rattle.nesl_lex.specs.Tokens.{Placed}
 use Rattle.nesl_syntax.specs.declared.cut.Divider.TheVariants as divider
-use Rattle.nesl_tree.specs.declared.tree.Member.{Member}
-use Rattle.nesl_parts.specs.declared.types.TypePart.{TypePart}
-use Rattle.nesl_tree.specs.Trees.{TypeTree, MemberTree}
-use Rattle.nesl_parts.specs.Machine.{written_type}
+use Rattle.nesl_syntax_tree.specs.declared.tree.Member.{Member}
+use Rattle.nesl_syntax_open.specs.declared.types.TypePart.{TypePart}
+use Rattle.nesl_syntax_tree.specs.Trees.{TypeTree, MemberTree}
+use Rattle.nesl_syntax_open.specs.Machine.{written_type}
 use Rattle.nesl_syntax.specs.Steps.{TypeGiven}
 use Rattle.nesl_syntax.specs.Reading.{cut, with_both, target, target_in, bracketed_in}
 use Rattle.nesl_syntax.specs.Given.{Given, SeesMembers, SeesTarget}

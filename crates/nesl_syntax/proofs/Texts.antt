@@ -2,13 +2,13 @@
 use Rattle.std.proofs.Common.{◌≡◌, ℕ, Bool, true, false, ◌&&◌, nat_eq, cond, List, [], ◌∷◌, codes, Option, Some, None, refl, ap, sym, ◌∙◌}
 use lib.Pointwise.{pointwise}
 use Rattle.std.proofs.lemmas.Bool.{eqb-true, eq-eqb}
-use Rattle.nesl_tree.specs.declared.tree.Class.{Class}
-use Rattle.nesl_tree.specs.declared.tree.Class.TheVariants as class
-use Rattle.nesl_tree.specs.Lines.{class_text}
-use Rattle.nesl_tree.specs.Trees.{Line, show_names, show_budget}
-use Rattle.nesl_tree.specs.Views.{line_of}
+use Rattle.nesl_syntax_tree.specs.declared.tree.Class.{Class}
+use Rattle.nesl_syntax_tree.specs.declared.tree.Class.TheVariants as class
+use Rattle.nesl_syntax_tree.specs.Lines.{class_text}
+use Rattle.nesl_syntax_tree.specs.Trees.{Line, show_names, show_budget}
+use Rattle.nesl_syntax_tree.specs.Views.{line_of}
 use Rattle.nesl_syntax.specs.Given.{IsCommand}
-use Rattle.nesl_tree.specs.declared.tree.Form.{Form}
+use Rattle.nesl_syntax_tree.specs.declared.tree.Form.{Form}
 use Rattle.std.specs.Prelude.{IfSome, IfNone, IsTrue, ◌↔◌, ◌≢◌, option_map}
 use Rattle.nesl_syntax.specs.Reading.{is_text, class_of, command_of, typed_named}
 use Rattle.nesl_lex.specs.Tokens.{Placed}

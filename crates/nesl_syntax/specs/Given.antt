@@ -1,18 +1,18 @@
 -- What a part of a line answered stands for.
 use Rattle.std.specs.Prelude.{◌≡◌, ◌≤◌, ◌<◌, ℕ, List, ◌++◌, codes, map, option_map, Option, Some, None, Result, Ok, Err}
-use Rattle.nesl_parts.specs.declared.fault.ParseFault.{ParseFault}
-use Rattle.nesl_parts.specs.declared.fault.ParseFault.TheVariants.{Syntax, Nested, Memory}
-use Rattle.nesl_tree.specs.declared.tree.Exp.{Exp}
-use Rattle.nesl_tree.specs.declared.tree.Form.{Form}
-use Rattle.nesl_tree.specs.declared.tree.Member.{Member}
+use Rattle.nesl_syntax_open.specs.declared.fault.ParseFault.{ParseFault}
+use Rattle.nesl_syntax_open.specs.declared.fault.ParseFault.TheVariants.{Syntax, Nested, Memory}
+use Rattle.nesl_syntax_tree.specs.declared.tree.Exp.{Exp}
+use Rattle.nesl_syntax_tree.specs.declared.tree.Form.{Form}
+use Rattle.nesl_syntax_tree.specs.declared.tree.Member.{Member}
 use Rattle.nesl_syntax.specs.declared.signature.SignaturePart.{SignaturePart}
 use Rattle.nesl_syntax.specs.declared.signature.SignaturePart.TheVariants as signatures
 use Rattle.nesl_syntax.specs.declared.signature.Target.{Target}
 use Rattle.nesl_syntax.specs.declared.function.Head.{Head}
-use Rattle.nesl_tree.specs.Trees.{Tree, MemberTree, SignatureTree, Line, show_names, show_budget, height}
-use Rattle.nesl_tree.specs.Trees.{signature_height, line_height}
-use Rattle.nesl_tree.specs.Views.{tree_of, member_tree, signature_tree, line_of}
-use Rattle.nesl_parts.specs.Parts.{SeesType, SeesPattern}
+use Rattle.nesl_syntax_tree.specs.Trees.{Tree, MemberTree, SignatureTree, Line, show_names, show_budget, height}
+use Rattle.nesl_syntax_tree.specs.Trees.{signature_height, line_height}
+use Rattle.nesl_syntax_tree.specs.Views.{tree_of, member_tree, signature_tree, line_of}
+use Rattle.nesl_syntax_open.specs.Parts.{SeesType, SeesPattern}
 use Rattle.nesl_syntax.specs.Reading.{Targets, Heads, members_in}
 use Rattle.nesl_lex.specs.Tokens.{Placed}
 

@@ -1,9 +1,9 @@
 -- Laws of the grammar.
 use Rattle.std.specs.Prelude.{◌≡◌, ◌↔◌, List, Some}
 use Rattle.nesl_lex.specs.Tokens.{Placed}
-use Rattle.nesl_tree.specs.Trees.{Tree, PatternTree, TypeTree, Line}
-use Rattle.nesl_tree.specs.Grammar.{Parses, IsPattern, IsType}
-use Rattle.nesl_tree.specs.Lines.{IsLine}
+use Rattle.nesl_syntax_tree.specs.Trees.{Tree, PatternTree, TypeTree, Line}
+use Rattle.nesl_syntax_tree.specs.Grammar.{Parses, IsPattern, IsType}
+use Rattle.nesl_syntax_tree.specs.Lines.{IsLine}
 use Rattle.nesl_syntax.specs.Reading.{form_in}
 
 -- tokens are at most one expression

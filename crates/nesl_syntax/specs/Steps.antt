@@ -1,23 +1,23 @@
 -- What a step of the code stands for.
 use Rattle.std.specs.Prelude.{◌≡◌, List, ◌∷◌, Option, Some, None, Result, Ok, Err}
-use Rattle.nesl_parts.specs.declared.part.Part.{Part}
-use Rattle.nesl_parts.specs.declared.pending.Opening.{Opening}
-use Rattle.nesl_parts.specs.declared.pending.Pending.{Pending}
-use Rattle.nesl_parts.specs.declared.pending.Pending.TheVariants as pendings
-use Rattle.nesl_parts.specs.declared.pending.TypeOpening.{TypeOpening}
-use Rattle.nesl_parts.specs.declared.types.TypePart.{TypePart}
+use Rattle.nesl_syntax_open.specs.declared.part.Part.{Part}
+use Rattle.nesl_syntax_open.specs.declared.pending.Opening.{Opening}
+use Rattle.nesl_syntax_open.specs.declared.pending.Pending.{Pending}
+use Rattle.nesl_syntax_open.specs.declared.pending.Pending.TheVariants as pendings
+use Rattle.nesl_syntax_open.specs.declared.pending.TypeOpening.{TypeOpening}
+use Rattle.nesl_syntax_open.specs.declared.types.TypePart.{TypePart}
 use Rattle.nesl_syntax.specs.declared.parse.Mode.{Mode}
 use Rattle.nesl_syntax.specs.declared.parse.Mode.TheVariants.{Before, Behind, Typing, Typed}
-use Rattle.nesl_parts.specs.declared.fault.ParseFault.{ParseFault}
-use Rattle.nesl_parts.specs.declared.fault.ParseFault.TheVariants.{Syntax, Nested, Memory}
-use Rattle.nesl_tree.specs.Trees.{Tree, TypeTree}
+use Rattle.nesl_syntax_open.specs.declared.fault.ParseFault.{ParseFault}
+use Rattle.nesl_syntax_open.specs.declared.fault.ParseFault.TheVariants.{Syntax, Nested, Memory}
+use Rattle.nesl_syntax_tree.specs.Trees.{Tree, TypeTree}
 use Rattle.nesl_lex.specs.Tokens.{Placed}
 use Rattle.nesl_lex.specs.declared.token.Span.{Span}
-use Rattle.nesl_parts.specs.Machine.{Waiting, State, before, behind, typing, typed, run, with_newest, open_at}
-use Rattle.nesl_parts.specs.Machine.{type_at, listed, type_closed}
-use Rattle.nesl_parts.specs.Machine as machine
-use Rattle.nesl_parts.specs.Parts.{Sees, SeesType}
-use Rattle.nesl_parts.specs.Stack.{SeesOpening, SeesTypeOpening, SeesPending, SeesStack}
+use Rattle.nesl_syntax_open.specs.Machine.{Waiting, State, before, behind, typing, typed, run, with_newest, open_at}
+use Rattle.nesl_syntax_open.specs.Machine.{type_at, listed, type_closed}
+use Rattle.nesl_syntax_open.specs.Machine as machine
+use Rattle.nesl_syntax_open.specs.Parts.{Sees, SeesType}
+use Rattle.nesl_syntax_open.specs.Stack.{SeesOpening, SeesTypeOpening, SeesPending, SeesStack}
 
 abbrev pub SeesMode : Mode → machine.Mode → Type 0
 SeesMode Before m = m ≡ before

@@ -1,13 +1,13 @@
 // The form of a line's tokens.
 
 ghost use Rattle.std.specs.Prelude.{◌≡◌, ◌≤◌, ◌<◌, IfOk, IfSome, IfNone, IsErrOf, IsTrue, ◌↔◌, List, codes, option_map};
-ghost use Rattle.nesl_tree.specs.Trees.{Line, line_height};
-ghost use Rattle.nesl_tree.specs.Trees as trees;
-ghost use Rattle.nesl_tree.specs.Views.{line_of};
-ghost use Rattle.nesl_tree.specs.Lines.{IsLine};
+ghost use Rattle.nesl_syntax_tree.specs.Trees.{Line, line_height};
+ghost use Rattle.nesl_syntax_tree.specs.Trees as trees;
+ghost use Rattle.nesl_syntax_tree.specs.Views.{line_of};
+ghost use Rattle.nesl_syntax_tree.specs.Lines.{IsLine};
 ghost use Rattle.nesl_syntax.specs.Reading as reading;
 ghost use Rattle.nesl_syntax.specs.Given.{IsCommand, GivesExp, GivesLine};
-ghost use Rattle.nesl_parts.specs.Machine as machine;
+ghost use Rattle.nesl_syntax_open.specs.Machine as machine;
 ghost use Rattle.nesl_lex.specs.Tokens.{Placed, placed, lexeme_of, symbol};
 ghost use Rattle.nesl_lex.specs.Tokens as lexemes;
 
@@ -15,10 +15,10 @@ use crate::function::function;
 use crate::parse::{expression, written_type};
 use crate::text::is_text;
 use nesl_lex::token::{Kind, Sign, Token, Word};
-use nesl_parts::ParseFault;
-use nesl_parts::part::Part;
-use nesl_parts::types::TypePart;
-use nesl_tree::tree::{Exp, Form};
+use nesl_syntax_open::ParseFault;
+use nesl_syntax_open::part::Part;
+use nesl_syntax_open::types::TypePart;
+use nesl_syntax_tree::tree::{Exp, Form};
 use std::alloc::Global;
 
 // The expression that the tokens are, where it isn't too high.

@@ -1,10 +1,10 @@
 // A function's line, from its head and its body.
 
 ghost use Rattle.std.specs.Prelude.{◌≡◌, ◌≤◌, ◌<◌, Some, Err, Option};
-ghost use Rattle.nesl_tree.specs.Trees.{Tree, SignatureTree, height, pattern_height};
-ghost use Rattle.nesl_tree.specs.Trees as trees;
-ghost use Rattle.nesl_tree.specs.Views.{tree_of, pattern_tree};
-ghost use Rattle.nesl_parts.specs.Parts.{Sees, SeesPattern};
+ghost use Rattle.nesl_syntax_tree.specs.Trees.{Tree, SignatureTree, height, pattern_height};
+ghost use Rattle.nesl_syntax_tree.specs.Trees as trees;
+ghost use Rattle.nesl_syntax_tree.specs.Views.{tree_of, pattern_tree};
+ghost use Rattle.nesl_syntax_open.specs.Parts.{Sees, SeesPattern};
 ghost use Rattle.nesl_syntax.specs.Reading as reading;
 ghost use Rattle.nesl_syntax.specs.declared.cut.Divider.TheVariants as divider;
 ghost use Rattle.nesl_syntax.specs.Given.{Given, SeesOptional, SeesHead, GivesLine};
@@ -14,10 +14,10 @@ use crate::cut::{Divider, cut};
 use crate::parse::expression;
 use crate::signature::{SignaturePart, signature};
 use nesl_lex::token::{Kind, Token};
-use nesl_parts::ParseFault;
-use nesl_parts::part::Part;
-use nesl_parts::pattern::{PatternPart, pattern_of};
-use nesl_tree::tree::{Exp, Form, Pattern};
+use nesl_syntax_open::ParseFault;
+use nesl_syntax_open::part::Part;
+use nesl_syntax_open::pattern::{PatternPart, pattern_of};
+use nesl_syntax_tree::tree::{Exp, Form, Pattern};
 use std::alloc::Global;
 
 /// A function's parameter and its signature.

@@ -11,5 +11,5 @@ mod text;
 
 pub use form::{one_form, parse_form};
 pub use laws::{form_computes, one_phrase};
-pub use nesl_parts::ParseFault;
-pub use nesl_tree::{spans_in_order, tree};
+pub use nesl_syntax_open::ParseFault;
+pub use nesl_syntax_tree::{spans_in_order, tree};

@@ -1,28 +1,28 @@
 // Reading tokens with a list of what is open.
 
 ghost use Rattle.std.specs.Prelude.{◌≡◌, ◌≤◌, ◌<◌, ◌∷◌, [], ◌++◌, Err, IfOk, IfErr, IfSome, if◌then◌else◌, None, Some, List, vec_len};
-ghost use Rattle.nesl_tree.specs.Trees.{Tree, TypeTree};
-ghost use Rattle.nesl_parts.specs.Machine.{Waiting, type_at, typing, opened, called, taken_up, before, with_newest, marked, separated, listed, mark_level, followed, let_closed, let_body, emptied, empty_opening, type_done, type_separated, type_bracketed, bracket_type, type_closed, begun_with, typed_with, typed_on};
-ghost use Rattle.nesl_parts.specs.Machine as machine;
-ghost use Rattle.nesl_parts.specs.Parts.{Sees, SeesType};
-ghost use Rattle.nesl_parts.specs.Stack.{SeesOpening, SeesTypeOpening, SeesPending, SeesStack};
-ghost use Rattle.nesl_parts.specs.Turns.{SeesTurn};
+ghost use Rattle.nesl_syntax_tree.specs.Trees.{Tree, TypeTree};
+ghost use Rattle.nesl_syntax_open.specs.Machine.{Waiting, type_at, typing, opened, called, taken_up, before, with_newest, marked, separated, listed, mark_level, followed, let_closed, let_body, emptied, empty_opening, type_done, type_separated, type_bracketed, bracket_type, type_closed, begun_with, typed_with, typed_on};
+ghost use Rattle.nesl_syntax_open.specs.Machine as machine;
+ghost use Rattle.nesl_syntax_open.specs.Parts.{Sees, SeesType};
+ghost use Rattle.nesl_syntax_open.specs.Stack.{SeesOpening, SeesTypeOpening, SeesPending, SeesStack};
+ghost use Rattle.nesl_syntax_open.specs.Turns.{SeesTurn};
 ghost use Rattle.nesl_syntax.specs.Steps.{SeesMode, Follows, Gives, PendingGiven, TypeOpeningGiven, TypeGiven, OpeningPopped, newest_opening, TypePopped, newest_type};
 ghost use Rattle.nesl_syntax.specs.declared.parse.Mode.TheVariants as mode;
-ghost use Rattle.nesl_parts.specs.declared.part.Part.TheVariants as part;
+ghost use Rattle.nesl_syntax_open.specs.declared.part.Part.TheVariants as part;
 ghost use Rattle.nesl_lex.specs.Tokens.{lexeme_of, placed_of, placed, symbol, reserved};
 
 use nesl_lex::token::{Kind, Sign, Span, Token, Word};
-use nesl_parts::ParseFault;
-use nesl_parts::lists::{Elements, push_part};
-use nesl_parts::mark::{Follow, Mark, follow_of};
-use nesl_parts::part::{Part, empty_of, over};
-use nesl_parts::pending::{
+use nesl_syntax_open::ParseFault;
+use nesl_syntax_open::lists::{Elements, push_part};
+use nesl_syntax_open::mark::{Follow, Mark, follow_of};
+use nesl_syntax_open::part::{Part, empty_of, over};
+use nesl_syntax_open::pending::{
     Group, Opening, Pending, TypeOpening, fold, level_begun, level_of, newest, wanted,
 };
-use nesl_parts::turn::{Turn, no_bindings, turn_of};
-use nesl_parts::types::{self, TypePart, pair_of, sequence_of};
-use nesl_tree::tree::{Exp, Node, Prefix, TypeNode};
+use nesl_syntax_open::turn::{Turn, no_bindings, turn_of};
+use nesl_syntax_open::types::{self, TypePart, pair_of, sequence_of};
+use nesl_syntax_tree::tree::{Exp, Node, Prefix, TypeNode};
 use std::alloc::Global;
 
 /// What the tokens so far leave.

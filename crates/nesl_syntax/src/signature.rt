@@ -1,12 +1,12 @@
 // A function's signature: its types, and the classes of names in them.
 
 ghost use Rattle.std.specs.Prelude.{◌≡◌, ◌≢◌, ◌≤◌, ◌<◌, IfSome, IfNone};
-ghost use Rattle.nesl_tree.specs.declared.tree.Class as class;
-ghost use Rattle.nesl_tree.specs.Lines.{class_text};
+ghost use Rattle.nesl_syntax_tree.specs.declared.tree.Class as class;
+ghost use Rattle.nesl_syntax_tree.specs.Lines.{class_text};
 ghost use Rattle.nesl_syntax.specs.declared.signature.SignaturePart.TheVariants as signatures;
-ghost use Rattle.nesl_tree.specs.Trees.{TypeTree};
-ghost use Rattle.nesl_tree.specs.Views.{member_tree};
-ghost use Rattle.nesl_parts.specs.Parts.{SeesType};
+ghost use Rattle.nesl_syntax_tree.specs.Trees.{TypeTree};
+ghost use Rattle.nesl_syntax_tree.specs.Views.{member_tree};
+ghost use Rattle.nesl_syntax_open.specs.Parts.{SeesType};
 ghost use Rattle.nesl_syntax.specs.Reading as reading;
 ghost use Rattle.nesl_syntax.specs.Given.{Given, SeesMember, SeesMembers, SeesTarget, SeesSignature};
 ghost use Rattle.nesl_lex.specs.Tokens.{lexeme_of, placed};
@@ -15,9 +15,9 @@ use crate::cut::{Divider, cut};
 use crate::parse::written_type;
 use crate::text::is_text;
 use nesl_lex::token::{Kind, Sign, Token, Word};
-use nesl_parts::ParseFault;
-use nesl_parts::types::TypePart;
-use nesl_tree::tree::{Class, Member, Signature};
+use nesl_syntax_open::ParseFault;
+use nesl_syntax_open::types::TypePart;
+use nesl_syntax_tree::tree::{Class, Member, Signature};
 use std::alloc::Global;
 
 /// A signature, or one with a type that is too high.

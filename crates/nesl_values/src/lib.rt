@@ -2,7 +2,7 @@
 // and knows how many nodes it has; sequences of leaves are packed.
 //
 // Outside this crate a value is looked at by `shape`, `items`, `element` and the `as_` calls. Sequences
-// are made from a vector of their elements, or by the `SequenceBuilder` of nesl_builder.
+// are made from a vector of their elements, or by the `SequenceBuilder` of nesl_values_builder.
 #![tactic(auto)]
 
 mod copy;

@@ -6,27 +6,27 @@ use Rattle.nesl_values.specs.Parts.{as_bool}
 use Rattle.nesl_values.specs.Tree as values
 use Rattle.nesl_values.specs.Tree.{Tree}
 use Rattle.nesl_values.specs.View.{tree_of}
-use Rattle.nesl_builder.specs.Elements.{elements_of}
+use Rattle.nesl_values_builder.specs.Elements.{elements_of}
 use Rattle.nesl_builtins.specs.declared.builtin.Builtin.TheVariants.{OfTwo}
-use Rattle.nesl_code.specs.Frames.{frame, row}
-use Rattle.nesl_code.specs.Names.{named}
-use Rattle.nesl_code.specs.Out.{Out, value, then_out, given, all_beside}
-use Rattle.nesl_code.specs.Outcome as outcome
-use Rattle.nesl_code.specs.Outcome.{made, applied, counted, lengths, places}
-use Rattle.nesl_code.specs.Run.{run, run_node, run_two, run_all, run_let, run_called, run_at, run_filters, run_bodies, run_over, as_result, slot_at, function_slot, datatype_slot}
-use Rattle.nesl_nodes.specs.declared.meter.Stop.TheVariants.{Stuck}
-use Rattle.nesl_scopes.specs.Scopes.{frames_of}
-use Rattle.nesl_scopes.specs.Standing.{Stands}
-use Rattle.nesl_nodes.specs.Sides.{Keeps, IsOne, Has, places_of}
-use Rattle.nesl_nodes.specs.Meets.{Meets, Is, Are}
-use Rattle.nesl_scopes.proofs.Lookups.{frames-Let, frames-Row, frames-Argument}
-use Rattle.nesl_nodes.proofs.Runs.{has_entered, not_entered, memory_any, meets_then, meets_err, meets_two}
-use Rattle.nesl_nodes.proofs.Loops.{kept, next_part, part_stops, all_done}
-use Rattle.nesl_scopes.proofs.Names.{same_stop}
-use Rattle.nesl_scopes.proofs.Making.{keeps_truth, branch_yes, branch_no, branch_none, entered_then, pair_then, meets_pair, pair_stops, made_stands, held_called, made_value}
-use Rattle.nesl_scopes.proofs.Rows.{node-Sequence, node-Let, node-Each, node-FilteredEach}
-use Rattle.nesl_nodes.proofs.Sides.{turn_stops, turn_next, turns_done}
-use Rattle.nesl_nodes.proofs.Arms.{drop_next, drop_past, range_next, range_past, over_runs, over_stops, LenIs}
+use Rattle.nesl_eval_code.specs.Frames.{frame, row}
+use Rattle.nesl_eval_meaning.specs.Names.{named}
+use Rattle.nesl_eval_meaning.specs.Out.{Out, value, then_out, given, all_beside}
+use Rattle.nesl_eval_meaning.specs.Outcome as outcome
+use Rattle.nesl_eval_meaning.specs.Outcome.{made, applied, counted, lengths, places}
+use Rattle.nesl_eval_code.specs.Run.{run, run_node, run_two, run_all, run_let, run_called, run_at, run_filters, run_bodies, run_over, as_result, slot_at, function_slot, datatype_slot}
+use Rattle.nesl_eval_nodes.specs.declared.meter.Stop.TheVariants.{Stuck}
+use Rattle.nesl_eval_nodes.specs.Scopes.{frames_of}
+use Rattle.nesl_eval_nodes.specs.Standing.{Stands}
+use Rattle.nesl_eval_nodes.specs.Sides.{Keeps, IsOne, Has, places_of}
+use Rattle.nesl_eval_nodes.specs.Meets.{Meets, Is, Are}
+use Rattle.nesl_eval_nodes.proofs.Lookups.{frames-Let, frames-Row, frames-Argument}
+use Rattle.nesl_eval_nodes.proofs.Runs.{has_entered, not_entered, memory_any, meets_then, meets_err, meets_two}
+use Rattle.nesl_eval_nodes.proofs.Loops.{kept, next_part, part_stops, all_done}
+use Rattle.nesl_eval_nodes.proofs.Names.{same_stop}
+use Rattle.nesl_eval_nodes.proofs.Making.{keeps_truth, branch_yes, branch_no, branch_none, entered_then, pair_then, meets_pair, pair_stops, made_stands, held_called, made_value}
+use Rattle.nesl_eval_nodes.proofs.Rows.{node-Sequence, node-Let, node-Each, node-FilteredEach}
+use Rattle.nesl_eval_nodes.proofs.Sides.{turn_stops, turn_next, turns_done}
+use Rattle.nesl_eval_nodes.proofs.Arms.{drop_next, drop_past, range_next, range_past, over_runs, over_stops, LenIs}
 use Rattle.nesl_eval.proofs.eval.+eval.Goals as goal
 
 pub value_in-returns-clause-meets : goal.value_in-returns-clause-meets

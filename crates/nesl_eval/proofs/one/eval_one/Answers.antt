@@ -1,6 +1,6 @@
-use Rattle.nesl_tree.specs.Views.{tree_of}
-use Rattle.nesl_code.specs.Stored.{environment, names_in}
-use Rattle.nesl_code.specs.TopLevels.{table_in}
+use Rattle.nesl_syntax_tree.specs.Views.{tree_of}
+use Rattle.nesl_eval_code.specs.Stored.{environment, names_in}
+use Rattle.nesl_eval_code.specs.TopLevels.{table_in}
 use Rattle.nesl_eval.proofs.Meant.{tells_meant}
 use Rattle.nesl_eval.proofs.one.eval_one.Goals as goal
 

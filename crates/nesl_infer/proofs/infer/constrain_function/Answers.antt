@@ -1,13 +1,13 @@
 use Rattle.std.proofs.Common.{ℕ, List, subst}
 use Rattle.std.specs.Prelude.{option_map}
 use Rattle.nesl_types.specs.Term.{Term}
-use Rattle.nesl_tree.specs.Views.{tree_of, pattern_tree, signature_tree}
-use Rattle.nesl_rules.specs.declared.state.Local.{Local}
-use Rattle.nesl_rules.specs.World.{meanings_in}
+use Rattle.nesl_syntax_tree.specs.Views.{tree_of, pattern_tree, signature_tree}
+use Rattle.nesl_infer_rules.specs.declared.state.Local.{Local}
+use Rattle.nesl_infer_rules.specs.World.{meanings_in}
 use Rattle.std.specs.Prelude.{Some}
-use Rattle.nesl_rules.specs.Typing.{Parts}
-use Rattle.nesl_rules.specs.Principal.{bounded, TypedFunction}
-use Rattle.nesl_rules.specs.Holds.{Gives, AddsNames}
+use Rattle.nesl_infer_rules.specs.Typing.{Parts}
+use Rattle.nesl_infer_rules.specs.Principal.{bounded, TypedFunction}
+use Rattle.nesl_infer_rules.specs.Holds.{Gives, AddsNames}
 use Rattle.nesl_infer.proofs.Functions.{arm_function}
 use Rattle.nesl_infer.proofs.infer.constrain_function.Goals as goal
 

@@ -1,6 +1,6 @@
 use Rattle.std.proofs.Common.{◌≡◌, ◌∙◌, [], sym}
-use Rattle.nesl_names.specs.Names.{datatype_in, unknown_types}
-use Rattle.nesl_tree.specs.Views.{type_tree}
+use Rattle.nesl_infer_names.specs.Names.{datatype_in, unknown_types}
+use Rattle.nesl_syntax_tree.specs.Views.{type_tree}
 use Rattle.nesl_infer.proofs.Known.{none_first, known-written}
 use Rattle.nesl_infer.proofs.infer.infer_datatype.Goals as goal
 

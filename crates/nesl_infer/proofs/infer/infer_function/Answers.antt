@@ -1,6 +1,6 @@
 use Rattle.std.proofs.Common.{◌∙◌, Some, arith, rules, sym}
-use Rattle.nesl_names.specs.Names.{names_in, unknown_of_function}
-use Rattle.nesl_tree.specs.Views.{pattern_tree, tree_of}
+use Rattle.nesl_infer_names.specs.Names.{names_in, unknown_of_function}
+use Rattle.nesl_syntax_tree.specs.Views.{pattern_tree, tree_of}
 use Rattle.nesl_infer.proofs.Known.{none_first}
 use Rattle.nesl_infer.proofs.infer.infer_function.Goals as goal
 

@@ -4,10 +4,10 @@ use Rattle.nesl_types.specs.declared.classes.Class.{Class}
 use Rattle.nesl_types.specs.Class.{class_at}
 use Rattle.nesl_types.specs.Scheme.{IsSchemeOf}
 use Rattle.nesl_types.specs.Term.{Term, term}
-use Rattle.nesl_tree.specs.Views.{tree_of, pattern_tree, signature_tree}
+use Rattle.nesl_syntax_tree.specs.Views.{tree_of, pattern_tree, signature_tree}
 use Rattle.nesl_unify.specs.Solves.{type_of, class_of}
-use Rattle.nesl_rules.specs.declared.state.State.{State}
-use Rattle.nesl_rules.specs.Principal.{TypedFunction}
+use Rattle.nesl_infer_rules.specs.declared.state.State.{State}
+use Rattle.nesl_infer_rules.specs.Principal.{TypedFunction}
 use Rattle.nesl_infer.proofs.Wholes.{IsEmpty}
 use Rattle.nesl_infer.proofs.Functions.{whole, scheme_principal}
 use Rattle.nesl_infer.proofs.infer.principal_scheme.Goals as goal

@@ -1,14 +1,14 @@
 use Rattle.std.proofs.Common.{◌∙◌, List, [], None, ap, sym, subst, rules}
 use Rattle.nesl_types.specs.Term.{Term}
 use Rattle.nesl_types.specs.Substitution.{substitute}
-use Rattle.nesl_tree.specs.Views.{tree_of}
+use Rattle.nesl_syntax_tree.specs.Views.{tree_of}
 use Rattle.nesl_unify.specs.Solves.{type_of, class_of}
-use Rattle.nesl_rules.specs.declared.state.Local.{Local}
-use Rattle.nesl_rules.specs.World.{Meanings, meanings_in}
-use Rattle.nesl_rules.specs.declared.state.State.{State}
-use Rattle.nesl_rules.specs.Typing.{HasType}
-use Rattle.nesl_rules.specs.Principal.{bounded}
-use Rattle.nesl_rules.specs.Holds.{Adds, scope_at}
+use Rattle.nesl_infer_rules.specs.declared.state.Local.{Local}
+use Rattle.nesl_infer_rules.specs.World.{Meanings, meanings_in}
+use Rattle.nesl_infer_rules.specs.declared.state.State.{State}
+use Rattle.nesl_infer_rules.specs.Typing.{HasType}
+use Rattle.nesl_infer_rules.specs.Principal.{bounded}
+use Rattle.nesl_infer_rules.specs.Holds.{Adds, scope_at}
 use Rattle.nesl_infer.proofs.Wholes.{IsEmpty, solution_of_typing}
 use Rattle.nesl_infer.proofs.infer.principal_type.Goals as goal
 

@@ -1,7 +1,7 @@
 use Rattle.std.proofs.Common.{◌-◌, ◌^◌, Some, Ok}
-use Rattle.nesl_seq_base.specs.Lent.{argument_tree}
-use Rattle.nesl_seq_base.specs.Meaning.{meaning}
-use Rattle.nesl_seq_base.specs.Prices.{reads, depth_of}
+use Rattle.nesl_seqs_base.specs.Lent.{argument_tree}
+use Rattle.nesl_seqs_base.specs.Meaning.{meaning}
+use Rattle.nesl_seqs_base.specs.Prices.{reads, depth_of}
 use Rattle.nesl_seqs.proofs.Depths.{depth_fits, deep_price}
 use Rattle.nesl_seqs.proofs.functions.cost_and_size.Goals as goal
 

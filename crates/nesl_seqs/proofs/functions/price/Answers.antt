@@ -1,10 +1,10 @@
-use Rattle.nesl_seq_base.specs.Lent.{argument_tree}
-use Rattle.nesl_seq_base.specs.Meaning.{meaning}
-use Rattle.nesl_seq_base.specs.Prices.{reads, depth_of}
-use Rattle.nesl_seq_base.specs.declared.seq_fn.SeqFn.TheVariants.{Length, ElementAt, Append, Sum, Any, All, Count, Bottop, Take, Drop, Reverse, Rotate, Zip, Rep, Eql, MaxVal, MinVal, MaxIndex, MinIndex, PlusScan, OrScan, AndScan, Gather, Permute, Write}
+use Rattle.nesl_seqs_base.specs.Lent.{argument_tree}
+use Rattle.nesl_seqs_base.specs.Meaning.{meaning}
+use Rattle.nesl_seqs_base.specs.Prices.{reads, depth_of}
+use Rattle.nesl_seqs_base.specs.declared.seq_fn.SeqFn.TheVariants.{Length, ElementAt, Append, Sum, Any, All, Count, Bottop, Take, Drop, Reverse, Rotate, Zip, Rep, Eql, MaxVal, MinVal, MaxIndex, MinIndex, PlusScan, OrScan, AndScan, Gather, Permute, Write}
 use Rattle.nesl_seqs.proofs.Bounds.{always, bounded_length, bounded_element_at, bounded_append, bounded_bottop, bounded_take, bounded_drop, bounded_reverse, bounded_rotate, bounded_zip, bounded_rep, bounded_eql, bounded_sum, bounded_any, bounded_all, bounded_count}
 use Rattle.nesl_seqs.proofs.ScanBounds.{bounded_max_val, bounded_min_val, bounded_max_index, bounded_min_index, bounded_plus_scan, bounded_or_scan, bounded_and_scan}
-use Rattle.nesl_seq_base.specs.declared.seq_fn.SeqFn.TheVariants.{Flatten, Unzip, OddElts, EvenElts, Interleave, Split, Partition}
+use Rattle.nesl_seqs_base.specs.declared.seq_fn.SeqFn.TheVariants.{Flatten, Unzip, OddElts, EvenElts, Interleave, Split, Partition}
 use Rattle.nesl_seqs.proofs.BoundsOfParts.{bounded_flatten, bounded_unzip, bounded_odd_elts, bounded_even_elts, bounded_interleave, bounded_split, bounded_partition}
 use Rattle.nesl_seqs.proofs.Few.{few, dist_always}
 use Rattle.nesl_seqs.proofs.PlaceBounds.{bounded_gather, bounded_permute, bounded_write}

@@ -1,5 +1,5 @@
 use Rattle.std.proofs.Common.{refl}
-use Rattle.nesl_seq_base.specs.Prices.{digits}
+use Rattle.nesl_seqs_base.specs.Prices.{digits}
 use Rattle.nesl_seqs.proofs.laws.worked_calls.Goals as goal
 
 pub returns-clause-sums : goal.returns-clause-sums

@@ -1,15 +1,15 @@
 use Rattle.std.proofs.Common.{subst, sym}
 use Rattle.std.specs.Prelude.{IfOk}
-use Rattle.nesl_tree.specs.declared.tree.Form.{Form}
-use Rattle.nesl_tree.specs.declared.tree.Form.TheVariants as forms
-use Rattle.nesl_tree.specs.Views.{line_of}
-use Rattle.nesl_step.specs.declared.limits.Limits.{Limits}
-use Rattle.nesl_step.specs.State.{State}
-use Rattle.nesl_step.specs.Finding.{FindsLine}
-use Rattle.nesl_forms.specs.Found.{finding_of, CanCharge}
-use Rattle.nesl_forms.specs.Forms.{with_names}
-use Rattle.nesl_forms.proofs.Verdicts.{found_answers}
-use Rattle.nesl_standing.specs.Inside.{state_of}
+use Rattle.nesl_syntax_tree.specs.declared.tree.Form.{Form}
+use Rattle.nesl_syntax_tree.specs.declared.tree.Form.TheVariants as forms
+use Rattle.nesl_syntax_tree.specs.Views.{line_of}
+use Rattle.nesl_session_step.specs.declared.limits.Limits.{Limits}
+use Rattle.nesl_session_step.specs.State.{State}
+use Rattle.nesl_session_step.specs.Finding.{FindsLine}
+use Rattle.nesl_session_forms.specs.Found.{finding_of, CanCharge}
+use Rattle.nesl_session_forms.specs.Forms.{with_names}
+use Rattle.nesl_session_forms.proofs.Verdicts.{found_answers}
+use Rattle.nesl_session_standing.specs.Inside.{state_of}
 use Rattle.nesl_session.proofs.form.find_form.Goals as goal
 
 pub returns-in-Fun-clause-found : goal.returns-in-Fun-clause-found

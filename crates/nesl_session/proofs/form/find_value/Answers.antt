@@ -1,15 +1,15 @@
 use Rattle.std.proofs.Common.{◌≡◌, ap, sym, ◌∙◌, subst, true, leb, arith, []}
 use Rattle.nesl_types.specs.Term.{term}
-use Rattle.nesl_tree.specs.Views.{tree_of as tree_of_exp}
+use Rattle.nesl_syntax_tree.specs.Views.{tree_of as tree_of_exp}
 use Rattle.nesl_values.specs.View.{tree_of}
-use Rattle.nesl_code.specs.Names.{Value, outside}
-use Rattle.nesl_code.specs.Out.{told, value}
-use Rattle.nesl_code.specs.Outcome.{out}
-use Rattle.nesl_code.specs.Stored as code
-use Rattle.nesl_bindings.specs.Known.{environment, put}
-use Rattle.nesl_bindings.specs.Meanings.{variable, elements_of}
-use Rattle.nesl_standing.specs.Inside.{state_of}
-use Rattle.nesl_step.specs.Finding.{budget, refused}
+use Rattle.nesl_eval_meaning.specs.Names.{Value, outside}
+use Rattle.nesl_eval_meaning.specs.Out.{told, value}
+use Rattle.nesl_eval_meaning.specs.Outcome.{out}
+use Rattle.nesl_eval_code.specs.Stored as code
+use Rattle.nesl_session_bindings.specs.Known.{environment, put}
+use Rattle.nesl_session_bindings.specs.Meanings.{variable, elements_of}
+use Rattle.nesl_session_standing.specs.Inside.{state_of}
+use Rattle.nesl_session_step.specs.Finding.{budget, refused}
 use Rattle.nesl_eval.specs.declared.outcome.Outcome.TheVariants.{Done}
 use Rattle.nesl_reply.specs.Replies as replies
 use Rattle.nesl_reply.specs.declared.fault.Fault.TheVariants as faults

@@ -1,16 +1,16 @@
 use Rattle.std.proofs.Common.{[], None, Ok, Err, subst}
 use Rattle.nesl_types.specs.Term.{term}
-use Rattle.nesl_tree.specs.Views.{tree_of}
+use Rattle.nesl_syntax_tree.specs.Views.{tree_of}
 use Rattle.nesl_infer.specs.Answers.{typed}
-use Rattle.nesl_code.specs.Names.{Name, outside}
-use Rattle.nesl_code.specs.Out.{within}
-use Rattle.nesl_code.specs.Outcome.{out}
-use Rattle.nesl_bindings.specs.Known.{environment}
-use Rattle.nesl_step.specs.Finding.{Finding, budget, Comes, FindsVariable}
-use Rattle.nesl_forms.specs.Found.{finding_of}
-use Rattle.nesl_forms.specs.Forms.{IsVariable}
-use Rattle.nesl_forms.proofs.Verdicts.{stopped_finds, stopped_charges, found_answers}
-use Rattle.nesl_standing.specs.Inside.{state_of}
+use Rattle.nesl_eval_meaning.specs.Names.{Name, outside}
+use Rattle.nesl_eval_meaning.specs.Out.{within}
+use Rattle.nesl_eval_meaning.specs.Outcome.{out}
+use Rattle.nesl_session_bindings.specs.Known.{environment}
+use Rattle.nesl_session_step.specs.Finding.{Finding, budget, Comes, FindsVariable}
+use Rattle.nesl_session_forms.specs.Found.{finding_of}
+use Rattle.nesl_session_forms.specs.Forms.{IsVariable}
+use Rattle.nesl_session_forms.proofs.Verdicts.{stopped_finds, stopped_charges, found_answers}
+use Rattle.nesl_session_standing.specs.Inside.{state_of}
 use Rattle.nesl_session.proofs.form.find_variable.Goals as goal
 
 pub returns-in-Ok-clause-found : goal.returns-in-Ok-clause-found

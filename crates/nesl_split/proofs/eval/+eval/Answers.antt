@@ -6,25 +6,25 @@ use Rattle.std.proofs.lemmas.Result.{err_from_is_err_and}
 use Rattle.nesl_values.specs.Tree as values
 use Rattle.nesl_values.specs.Tree.{Tree}
 use Rattle.nesl_values.specs.View.{tree_of}
-use Rattle.nesl_builder.specs.Elements.{elements_of}
+use Rattle.nesl_values_builder.specs.Elements.{elements_of}
 use Rattle.nesl_builtins.specs.declared.builtin.Builtin.TheVariants.{OfTwo}
-use Rattle.nesl_code.specs.Frames.{frame, row}
-use Rattle.nesl_code.specs.Out.{value, then_out, all_beside}
-use Rattle.nesl_code.specs.Outcome as outcome
-use Rattle.nesl_code.specs.Outcome.{made, applied, counted, lengths, places}
-use Rattle.nesl_code.specs.Run.{run, run_two, run_all, run_let, run_called, run_at, run_filters, run_bodies, as_result, slot_at, function_slot, datatype_slot}
-use Rattle.nesl_code.proofs.Joins.{all_halved}
-use Rattle.nesl_nodes.specs.declared.meter.Stop.TheVariants.{Stuck}
-use Rattle.nesl_scopes.specs.Scopes.{frames_of}
-use Rattle.nesl_scopes.specs.Standing.{Stands}
-use Rattle.nesl_nodes.specs.Sides.{Keeps, IsOne, Has, places_of}
-use Rattle.nesl_nodes.specs.Meets.{Meets, Is, Are}
-use Rattle.nesl_scopes.proofs.Lookups.{frames-Let, frames-Row, frames-Argument}
-use Rattle.nesl_nodes.proofs.Runs.{has_entered, not_entered, memory_any, meets_then, meets_err, meets_two}
-use Rattle.nesl_nodes.proofs.Loops.{kept, next_part, part_stops, all_done}
-use Rattle.nesl_scopes.proofs.Making.{keeps_truth, branch_yes, branch_no, branch_none, entered_then, pair_then, meets_pair, pair_stops, held_called, made_value}
-use Rattle.nesl_nodes.proofs.Sides.{turn_stops, turn_next, turns_done}
-use Rattle.nesl_nodes.proofs.Arms.{over_runs, over_stops}
+use Rattle.nesl_eval_code.specs.Frames.{frame, row}
+use Rattle.nesl_eval_meaning.specs.Out.{value, then_out, all_beside}
+use Rattle.nesl_eval_meaning.specs.Outcome as outcome
+use Rattle.nesl_eval_meaning.specs.Outcome.{made, applied, counted, lengths, places}
+use Rattle.nesl_eval_code.specs.Run.{run, run_two, run_all, run_let, run_called, run_at, run_filters, run_bodies, as_result, slot_at, function_slot, datatype_slot}
+use Rattle.nesl_eval_meaning.proofs.Joins.{all_halved}
+use Rattle.nesl_eval_nodes.specs.declared.meter.Stop.TheVariants.{Stuck}
+use Rattle.nesl_eval_nodes.specs.Scopes.{frames_of}
+use Rattle.nesl_eval_nodes.specs.Standing.{Stands}
+use Rattle.nesl_eval_nodes.specs.Sides.{Keeps, IsOne, Has, places_of}
+use Rattle.nesl_eval_nodes.specs.Meets.{Meets, Is, Are}
+use Rattle.nesl_eval_nodes.proofs.Lookups.{frames-Let, frames-Row, frames-Argument}
+use Rattle.nesl_eval_nodes.proofs.Runs.{has_entered, not_entered, memory_any, meets_then, meets_err, meets_two}
+use Rattle.nesl_eval_nodes.proofs.Loops.{kept, next_part, part_stops, all_done}
+use Rattle.nesl_eval_nodes.proofs.Making.{keeps_truth, branch_yes, branch_no, branch_none, entered_then, pair_then, meets_pair, pair_stops, held_called, made_value}
+use Rattle.nesl_eval_nodes.proofs.Sides.{turn_stops, turn_next, turns_done}
+use Rattle.nesl_eval_nodes.proofs.Arms.{over_runs, over_stops}
 use denote.Param.Send.{sendable}
 use Rattle.std.proofs.Crossing as standard
 use Rattle.nesl_split.specs.Intervals.{ArePlaces}

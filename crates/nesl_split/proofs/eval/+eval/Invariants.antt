@@ -1,15 +1,15 @@
 use Rattle.std.proofs.Common.{◌≡◌, ℕ, ◌+◌, ◌-◌, ◌*◌, ◌^◌, ◌≤◌, map, drop, [], Global}
 use Rattle.std.specs.Prelude.{slice_range}
 use Rattle.nesl_values.specs.View.{tree_of}
-use Rattle.nesl_builder.specs.Elements.{elements_of}
-use Rattle.nesl_code.specs.Run.{run, run_all, run_let, run_at}
-use Rattle.nesl_code.specs.Out.{then_out, all_beside}
-use Rattle.nesl_code.specs.Outcome.{kept, counted}
-use Rattle.nesl_scopes.specs.Scopes.{frames_of}
-use Rattle.nesl_nodes.specs.Sides.{places_of, Has}
-use Rattle.nesl_nodes.specs.Meets.{Is, Are}
-use Rattle.nesl_nodes.proofs.Sides.{after, meter}
-use Rattle.nesl_nodes.proofs.Runs.{LeadsTo}
+use Rattle.nesl_values_builder.specs.Elements.{elements_of}
+use Rattle.nesl_eval_code.specs.Run.{run, run_all, run_let, run_at}
+use Rattle.nesl_eval_meaning.specs.Out.{then_out, all_beside}
+use Rattle.nesl_eval_meaning.specs.Outcome.{kept, counted}
+use Rattle.nesl_eval_nodes.specs.Scopes.{frames_of}
+use Rattle.nesl_eval_nodes.specs.Sides.{places_of, Has}
+use Rattle.nesl_eval_nodes.specs.Meets.{Is, Are}
+use Rattle.nesl_eval_nodes.proofs.Sides.{after, meter}
+use Rattle.nesl_eval_nodes.proofs.Runs.{LeadsTo}
 use Rattle.nesl_split.specs.Intervals.{ArePlaces}
 use Rattle.nesl_split.proofs.eval.+eval.Given as goal
 

@@ -1,10 +1,10 @@
 use denote.Param.Send.{sendable}
 use Rattle.std.proofs.Crossing as standard
 use Rattle.std.proofs.MapsCrossing as maps
-use Rattle.nesl_code.proofs.code.Code.TheLaws.TheKnot as code_knot
-use Rattle.nesl_tree.specs.Views.{tree_of}
-use Rattle.nesl_code.specs.Stored.{environment, names_in}
-use Rattle.nesl_code.specs.TopLevels.{table_in}
+use Rattle.nesl_eval_code.proofs.code.Code.TheLaws.TheKnot as code_knot
+use Rattle.nesl_syntax_tree.specs.Views.{tree_of}
+use Rattle.nesl_eval_code.specs.Stored.{environment, names_in}
+use Rattle.nesl_eval_code.specs.TopLevels.{table_in}
 use Rattle.nesl_eval.proofs.Meant.{tells_meant}
 use Rattle.nesl_split.proofs.Crosses.{code_sync}
 use Rattle.nesl_split.proofs.Lent.{context_sync}

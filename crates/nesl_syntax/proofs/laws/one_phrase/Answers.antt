@@ -1,4 +1,4 @@
-use Rattle.nesl_parts.proofs.Complete.{one_tree, one_pattern, one_type}
+use Rattle.nesl_syntax_open.proofs.Complete.{one_tree, one_pattern, one_type}
 use Rattle.nesl_syntax.proofs.laws.one_phrase.Goals as goal
 
 pub returns : goal.returns

@@ -1,8 +1,8 @@
 use Rattle.std.proofs.Common.{List, drop}
 use Rattle.nesl_lex.specs.Tokens.{placed}
-use Rattle.nesl_parts.specs.Machine as machine
-use Rattle.nesl_parts.specs.Machine.{Waiting}
-use Rattle.nesl_parts.specs.Stack.{SeesStack}
+use Rattle.nesl_syntax_open.specs.Machine as machine
+use Rattle.nesl_syntax_open.specs.Machine.{Waiting}
+use Rattle.nesl_syntax_open.specs.Stack.{SeesStack}
 use Rattle.nesl_syntax.specs.Steps.{Runs, SeesMode}
 use Rattle.nesl_syntax.proofs.parse.run.Given as goal
 

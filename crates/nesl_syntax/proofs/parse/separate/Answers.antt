@@ -1,5 +1,5 @@
 use Rattle.std.proofs.Common.{◌<◌, arith}
-use Rattle.nesl_parts.specs.Machine.{wanted}
+use Rattle.nesl_syntax_open.specs.Machine.{wanted}
 use Rattle.nesl_syntax.proofs.StepLemmas.{list_follows}
 use Rattle.nesl_syntax.proofs.parse.separate.Goals as goal
 

@@ -1,5 +1,5 @@
 use Rattle.std.proofs.Common.{arith}
-use Rattle.nesl_bindings.specs.Stored.{bindings_of}
+use Rattle.nesl_session_bindings.specs.Stored.{bindings_of}
 use Rattle.nesl_session.proofs.Naming.{next_name}
 use Rattle.nesl_session.proofs.session.NamesIterator.next.Goals as goal
 

@@ -1,0 +1,51 @@
+-- How a run of the program fails, and with which exit status.
+use Rattle.std.specs.Prelude.{ℕ, List, Bool, false, Option, Some, None, Result, Ok, Err, slice_get, codes}
+use Rattle.std.specs.Prelude.{if◌then◌else◌}
+use Rattle.std.specs.Str.{bytes_eq}
+use Rattle.clap.specs.declared.error.kind.ErrorKind.{ErrorKind}
+use Rattle.clap.specs.declared.error.kind.ErrorKind.TheVariants as kinds
+use Rattle.nesl_line.specs.declared.exchange.End.{End}
+use Rattle.nesl_line.specs.declared.exchange.End.TheVariants.{Input, ReadFault, WriteFault, NoMemory}
+use Rattle.nesl_service.specs.declared.service.ServeFault.TheVariants as serve_fault
+use Rattle.nesl_cli.specs.declared.failure.Failure.{Failure}
+use Rattle.nesl_cli.specs.declared.failure.Failure.TheVariants.{Read, Write, Memory, Serve}
+use Rattle.nesl_cli.specs.declared.failure.Failure.TheVariants.{Count, Name, Twice, Encoding}
+
+-- 1 for a device or memory, 2 for the words
+abbrev pub status_of : Failure → ℕ
+status_of Read = 1
+status_of Write = 1
+status_of Memory = 1
+status_of (Serve fault) = 1
+status_of Count = 2
+status_of (Name name) = 2
+status_of (Twice name) = 2
+status_of Encoding = 2
+
+-- 0 where a service that was offered ended well
+abbrev pub status_after : Result (Unit {0}) Failure → ℕ
+status_after (Ok nothing) = 0
+status_after (Err failure) = status_of failure
+
+-- 0 for help, 1 for want of memory, 2 for each mistake in the words
+abbrev pub words_status_of : ErrorKind → ℕ
+words_status_of kinds.DisplayHelp = 0
+words_status_of kinds.DisplayVersion = 0
+words_status_of kinds.OutOfMemory = 1
+words_status_of _ = 2
+
+-- the end of input is no failure
+abbrev pub failure_of : End → Option Failure
+failure_of Input = None
+failure_of ReadFault = Some Read
+failure_of WriteFault = Some Write
+failure_of NoMemory = Some Memory
+
+-- whether a word is there, and is `serve`
+abbrev pub is_serve : Option (List ℕ) → Bool
+is_serve None = false
+is_serve (Some word) = bytes_eq word (codes "serve")
+
+-- how want of memory is told before a run has begun: the service's, where the word behind the program's name is `serve`
+abbrev pub memory_failure_of : List (List ℕ) → Failure
+memory_failure_of words = if is_serve (slice_get words 1) then Serve serve_fault.Memory else Memory

@@ -1,0 +1,5 @@
+pub mod Words
+pub mod Wanted
+pub mod Failures
+pub mod Offered
+pub mod Program

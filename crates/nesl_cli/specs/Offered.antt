@@ -1,0 +1,26 @@
+-- The service that is offered.
+use Rattle.std.specs.Prelude.{ℕ, ◌*◌, ◌^◌, List, Option, map, nat_lt, unwrap_or, if◌then◌else◌}
+use Rattle.nesl_cli.specs.Words.{Service}
+use Rattle.nesl_cli.specs.declared.run.Offer.{Offer}
+
+-- the service that is offered, and to which users, in order
+abbrev pub service_offered : Offer → Service
+service_offered offer = record {
+  port = offer.port;
+  workers = offer.workers;
+  connections = offer.connections;
+  idle = offer.idle;
+  first_line = offer.first_line;
+  is_logged = offer.is_logged;
+}
+
+abbrev pub users_offered : Offer → List (List ℕ)
+users_offered offer = map (λ user. user.now) offer.users.items
+
+-- the helpers that are asked for: none where nothing is told, or more than 32 bits can hold
+abbrev pub workers_in : Option ℕ → ℕ
+workers_in workers = if nat_lt (unwrap_or workers 0) (2 ^ 32) then unwrap_or workers 0 else 0
+
+-- so many seconds, in nanoseconds
+abbrev pub nanos_in : ℕ → ℕ
+nanos_in seconds = seconds * 1000000000

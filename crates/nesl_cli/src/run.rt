@@ -1,0 +1,150 @@
+//! What the words come to.
+ghost use Rattle.std.specs.Prelude.{◌≡◌, IfOk, OnOk, OnErr, IfErr, Err, map};
+ghost use Rattle.clap.specs.Words.{fault_of, HasKind};
+ghost use Rattle.clap.specs.declared.error.Error as clap;
+ghost use Rattle.nesl_line.specs.declared.exchange.End.TheVariants as end;
+ghost use Rattle.nesl_line.specs.Batch.{IsBatch};
+ghost use Rattle.nesl_cli.specs.Words.{program, users_of};
+ghost use Rattle.nesl_cli.specs.Program.{Comes, Fails, Served, Untouched};
+ghost use Rattle.nesl_cli.specs.declared.failure.Failure.{Failure};
+ghost use Rattle.nesl_cli.specs.declared.failure.Refusal.TheVariants as refusal;
+
+use crate::failure::{Failure, Refusal};
+use crate::words::{self, Task};
+use linked_list_allocator::LocalHeap;
+use nesl_house::house::House;
+use nesl_line::batch::{batch, batch_in};
+use nesl_line::device::{Sink, Source};
+use nesl_line::exchange::Ran;
+use nesl_session::limits::Limits;
+use std::alloc::{AllocError, Global};
+
+/// The limits of each session of the program.
+pub const LIMITS: Limits = Limits {
+    line_work: 1_000_000,
+    session_work: 100_000_000,
+    elements: 100_000,
+    transcript_lines: 10_000,
+    transcript_bytes: 1_048_576,
+};
+
+/// A service for these users, in order: on this port, with so many helpers, and for so many connections, if it ends.
+/// Where they are told, a line has so many `idle` seconds to come whole, and as many may pass while nothing of an
+/// answer is taken; the first line of a connection has so many `first_line` seconds. Each connection is told of, if it
+/// is logged.
+#[derive(Drop)]
+pub struct Offer<'a> {
+    pub users: Vec<&'a str>,
+    pub port: Option<usize>,
+    pub workers: Option<usize>,
+    pub connections: Option<usize>,
+    pub idle: Option<usize>,
+    pub first_line: Option<usize>,
+    pub is_logged: bool,
+}
+
+/// What the words ask for: a batch for the users that they name, which is run, or a service that is to be offered to them.
+pub fn answered<'a, S: Source, W: Sink>(
+    alloc: Global,
+    words: &'a [&'a str],
+    reader: &mut S,
+    writer: &mut W,
+) -> Result<Option<Offer<'a>>, Refusal<'a>>
+    ensures comes { IfOk result (λ offer. Comes offer (map (λ word. word.now) words.entry.now)
+        (S.left reader.old) (S.left reader.new) (W.held writer.old) (W.held writer.new)) }
+    ensures failed { (failure : Failure) → result ≡ Err (refusal.Run failure)
+        → Fails failure (users_of (map (λ word. word.now) words.entry.now))
+        (S.left reader.old) (S.left reader.new) (W.held writer.old) (W.held writer.new) }
+    ensures words { (error : clap.Error) → result ≡ Err (refusal.Words error)
+        → HasKind (fault_of program (map (λ word. word.now) words.entry.now)) error
+        × Untouched (S.left reader.old) (S.left reader.new) (W.held writer.old) (W.held writer.new) }
+{
+    let wanted = match words::read(alloc, words) {
+        Ok(wanted) => wanted,
+        Err(error) => return Err(Refusal::Words(error)),
+    };
+    let users = wanted.users;
+    match wanted.task {
+        Task::Batch { heap } => match run(alloc, users.as_slice(), heap, reader, writer) {
+            Ok(()) => Ok(None),
+            Err(failure) => Err(Refusal::Run(failure)),
+        },
+        Task::Service {
+            port,
+            workers,
+            connections,
+            idle,
+            first_line,
+            is_logged,
+        } => Ok(Some(Offer {
+            users,
+            port,
+            workers,
+            connections,
+            idle,
+            first_line,
+            is_logged,
+        })),
+    }
+}
+
+// A house for these users, and a batch of its lines, evaluated in a heap where one is wanted.
+fn run<'a, S: Source, W: Sink>(
+    alloc: Global,
+    users: &[&'a str],
+    heap: Option<usize>,
+    reader: &mut S,
+    writer: &mut W,
+) -> Result<(), Failure<'a>>
+    ensures served { OnOk result (Served end.Input (map (λ user. user.now) users.now)
+        (S.left reader.old) (S.left reader.new) (W.held writer.old) (W.held writer.new)) }
+    ensures failed { IfErr result (λ failure. Fails failure (map (λ user. user.now) users.now)
+        (S.left reader.old) (S.left reader.new) (W.held writer.old) (W.held writer.new)) }
+{
+    let Ok(roster) = roster(alloc, users) else {
+        return Err(Failure::Memory);
+    };
+    let mut house = match House::new(alloc, roster.as_slice(), LIMITS) {
+        Ok(house) => house,
+        Err(fault) => return Err(Failure::of_roster(fault, users)),
+    };
+    let Ok(ran) = ran(alloc, reader, writer, &mut house, heap) else {
+        return Err(Failure::Memory);
+    };
+    match Failure::of_end(ran.end) {
+        None => Ok(()),
+        Some(failure) => Err(failure),
+    }
+}
+
+// A batch of a house, evaluated in one heap of this size where there is to be one.
+fn ran<S: Source, W: Sink>(
+    alloc: Global,
+    reader: &mut S,
+    writer: &mut W,
+    house: &mut House,
+    heap: Option<usize>,
+) -> Result<Ran, AllocError>
+    ensures batch { IfOk result (λ ran. IsBatch ran.end ran.lines
+        (S.left reader.old) (S.left reader.new) (W.held writer.old) (W.held writer.new) house.old house.new) }
+    ensures err { OnErr result (Untouched (S.left reader.old) (S.left reader.new) (W.held writer.old) (W.held writer.new)) }
+{
+    match heap {
+        None => Ok(batch(alloc, reader, writer, house)),
+        Some(size) => {
+            let heap = LocalHeap::new(alloc, size)?;
+            Ok(batch_in(alloc, reader, writer, house, &heap))
+        }
+    }
+}
+
+/// The users' names as bytes.
+pub fn roster(alloc: Global, users: &[&str]) -> Result<Vec<Vec<u8>>, AllocError>
+    ensures { IfOk result (λ names. map (λ name. name.items) names.items ≡ map (λ user. user.now) users.now) }
+{
+    let mut roster = Vec::new(alloc);
+    for user in users {
+        roster.push(Vec::from_slice(alloc, user.as_bytes())?)?;
+    }
+    Ok(roster)
+}

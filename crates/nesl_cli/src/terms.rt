@@ -1,0 +1,56 @@
+//! Where and by what terms an offered service is kept.
+ghost use Rattle.std.specs.Prelude.{◌≡◌, ◌+◌, ◌*◌, ◌^◌, ◌≤◌, ◌∷◌, [], IfNone, IfSome, length, option_map, unwrap_or};
+ghost use Rattle.std.specs.Duration.{as_nanos};
+ghost use Rattle.std.specs.Net.Addr.{ipv4_octets, IsV4And};
+ghost use Rattle.std.specs.Net.Socket.{socket_ip, socket_port};
+ghost use Rattle.nesl_cli.specs.Offered.{nanos_in, workers_in};
+
+use crate::run::Offer;
+use nesl_service::service::{FIRST_LINE_SECONDS, Terms};
+use nesl_service::wire::Patience;
+use std::net::{IpAddr, Ipv4Addr, SocketAddr};
+use std::time::Duration;
+
+impl Offer<'_> {
+    /// Where the service listens: at the port that was told, or at one that is free, and for this machine alone. There
+    /// is no port above 65,535.
+    pub fn address(&self) -> Option<SocketAddr>
+        ensures loopback { IfSome result
+            (λ address. IsV4And (socket_ip address) (λ ip. ipv4_octets ip ≡ 127 ∷ 0 ∷ 0 ∷ 1 ∷ [])) }
+        ensures port { IfSome result (λ address. socket_port address ≡ unwrap_or self.now.port 0) }
+        ensures none { IfNone result (2 ^ 16 ≤ unwrap_or self.now.port 0) }
+    {
+        match u16::try_from(self.port.unwrap_or(0)) {
+            Ok(port) => Some(SocketAddr::new(IpAddr::V4(Ipv4Addr::LOCALHOST), port)),
+            Err(_) => None,
+        }
+    }
+
+    /// By what terms the service is kept: as many threads as there are users, and one more, serve.
+    pub fn terms(&self) -> Terms
+        ensures threads { result.threads ≡ length self.now.users.items + 1 }
+        ensures workers { result.workers ≡ workers_in self.now.workers }
+        ensures connections { result.connections ≡ self.now.connections }
+        ensures first_line { as_nanos result.patience.first_line ≡ nanos_in (unwrap_or self.now.first_line 10) }
+        ensures idle { option_map as_nanos result.patience.idle ≡ option_map nanos_in self.now.idle }
+    {
+        Terms {
+            threads: self.users.len() + 1,
+            workers: u32::try_from(self.workers.unwrap_or(0)).unwrap_or(0),
+            connections: match self.connections {
+                Some(connections) => Some(connections as u64),
+                None => None,
+            },
+            patience: Patience {
+                first_line: match self.first_line {
+                    Some(seconds) => Duration::from_secs(seconds as u64),
+                    None => Duration::from_secs(FIRST_LINE_SECONDS),
+                },
+                idle: match self.idle {
+                    Some(seconds) => Some(Duration::from_secs(seconds as u64)),
+                    None => None,
+                },
+            },
+        }
+    }
+}

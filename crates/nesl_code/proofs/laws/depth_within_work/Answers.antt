@@ -1,5 +1,0 @@
-use Rattle.nesl_code.proofs.Shallow.{depth_within_work}
-use Rattle.nesl_code.proofs.laws.depth_within_work.Goals as goal
-
-pub returns : goal.returns
-returns c = depth_within_work

@@ -1,5 +1,0 @@
-//! The equations of an expression.
-#![tactic(auto)]
-
-pub mod constrain;
-mod leaf;

@@ -1,0 +1,10 @@
+pub mod Agreement
+pub mod Tables
+pub mod Locals
+pub mod Nodes
+pub mod Lists
+pub mod Bodies
+pub mod Resolved
+pub mod Prepared
+pub mod Placed
+pub mod Storing

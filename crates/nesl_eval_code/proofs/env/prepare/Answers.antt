@@ -1,0 +1,17 @@
+use Rattle.std.proofs.Common.{◌∙◌, ap, subst, List, []}
+use Rattle.nesl_syntax_tree.specs.Views.{tree_of}
+use Rattle.nesl_eval_meaning.specs.Names.{Name}
+use Rattle.nesl_eval_code.specs.Means.{Means, Layer}
+use Rattle.nesl_eval_code.specs.Stored.{names_in}
+use Rattle.nesl_eval_code.specs.Resolving.{keys_of}
+use Rattle.nesl_eval_code.proofs.Storing.{same_names}
+use Rattle.nesl_eval_code.proofs.Resolved.{if_ok, layers-Top}
+use Rattle.nesl_eval_code.proofs.env.prepare.Goals as goal
+
+pub returns : goal.returns
+returns c =
+    let bs = c.env.inside.context in
+    let cs = c.env.inside.bodies.entries in
+    if_ok c.code_of.result c.code_of.ensures (λ k h.
+    subst (λ (ns : List Name). Means ns [] k (tree_of c.args.exp.now)) (same_names (names_in bs) bs cs c.env.invariant ∙ ap names_in c.env.view_is)
+    (subst (λ (ls : List Layer). Means (keys_of cs) ls k (tree_of c.args.exp.now)) layers-Top h))

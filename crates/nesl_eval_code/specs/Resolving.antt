@@ -1,0 +1,47 @@
+-- What resolving a name gives.
+use Rattle.std.specs.Prelude.{◌≡◌, ℕ, List, [], ◌∷◌, ◌++◌, map, Option, Some, None, slice_get, option_map}
+use Rattle.std.proofs.Common.{Vec, Global}
+use Rattle.nesl_syntax_tree.specs.Trees.{PatternTree}
+use Rattle.nesl_syntax_tree.specs.Views.{pattern_tree, binders_in}
+use Rattle.nesl_eval_code.specs.declared.layers.Layers.{Layers, fold-Layers}
+use Rattle.nesl_eval_code.specs.declared.layers.Layers.TheOpen.{Layers-F}
+use Rattle.nesl_eval_code.specs.declared.layers.LocalPlace.{LocalPlace}
+use Rattle.nesl_eval_code.specs.declared.code.Code.{Code}
+use Rattle.nesl_eval_code.specs.declared.places.Places.{Places}
+use Rattle.nesl_eval_meaning.specs.Names.{Name}
+use Rattle.nesl_eval_code.specs.Means.{Layer, bindings, binders, patterns, last_binding, steps_to, spot, IsSpotOf, IsNoLocal}
+
+-- the layers that a value of the program stands for
+abbrev pub layers_step : Layers-F (List Layer) → List Layer
+layers_step Layers-F.Top = []
+layers_step (Layers-F.Parameter p) = bindings (pattern_tree p.now ∷ []) ∷ []
+layers_step (Layers-F.Let bs outer) = bindings (patterns (binders_in bs.now)) ∷ outer.now
+layers_step (Layers-F.Row bs outer) = binders (patterns (binders_in bs.now)) ∷ outer.now
+
+abbrev pub layers_of : Layers → List Layer
+layers_of = fold-Layers (List Layer) layers_step
+
+-- the last of these patterns that binds the name, and the steps in it
+abbrev pub FindsIn : List PatternTree → Name → Option LocalPlace → Type 0
+FindsIn ps x None = last_binding x ps ≡ None
+FindsIn ps x (Some p) =
+    (q : PatternTree) × (last_binding x ps ≡ Some p.index) × (slice_get ps p.index ≡ Some q) ×
+    (p.steps.items ≡ steps_to x q) × (p.up ≡ 0)
+
+-- where the value of a name is, or that it is no local one
+abbrev pub Finds : List Layer → Name → Option LocalPlace → Type 0
+Finds ls x None = IsNoLocal ls x
+Finds ls x (Some p) = IsSpotOf ls x (spot p.up p.index p.steps.items)
+
+-- the names of a map in order
+abbrev pub keys_of : List (Vec ℕ Global × Option Code) → List Name
+keys_of es = map (λ e. e.0.items) es
+
+-- the names that have a place
+abbrev pub with_own : Option Name → List Name → List Name
+with_own None names = names
+with_own (Some x) names = names ++ x ∷ []
+
+-- the same of a value of the program
+abbrev pub known : Places → List Name
+known p = with_own (option_map (λ x. x.now) p.own) (keys_of p.bodies.now.entries)

@@ -1,0 +1,198 @@
+//! Where the values of local names are.
+
+ghost use Rattle.std.specs.Prelude.{◌≡◌, ◌++◌, ◌∷◌, ◌<◌, [], IfOk, IfSome, suc, length};
+ghost use Rattle.nesl_syntax_tree.specs.Views.{pattern_tree, binders_in};
+ghost use Rattle.nesl_eval_code.specs.Means.{bindings, binders, binds, steps_to, last_binding, patterns, spot, IsElementSpot};
+ghost use Rattle.nesl_eval_code.specs.Resolving.{layers_of, FindsIn, Finds};
+
+use crate::code::Step;
+use nesl_syntax_tree::tree::{Binding, Pattern, PatternNode};
+use std::alloc::{AllocError, Global};
+
+/// The patterns whose names stand in the frames round an expression, those of the newest frame first.
+#[derive(Clone, Copy)]
+pub(crate) enum Layers<'a> {
+    /// No frame.
+    Top,
+    /// The parameter of a function.
+    Parameter(&'a Pattern),
+    /// The bindings of a `let` so far.
+    Let(&'a [Binding], &'a Layers<'a>),
+    /// The binders of an apply-to-each.
+    Row(&'a [Binding], &'a Layers<'a>),
+}
+
+/// So many frames up, at that index of the frame, and from there by these steps.
+#[derive(Drop)]
+pub(crate) struct LocalPlace {
+    pub up: usize,
+    pub index: usize,
+    pub steps: Vec<Step>,
+}
+
+/// In the body of a function.
+pub(crate) fn of_body<'a>(parameter: &'a Pattern) -> Layers<'a>
+    ensures { layers_of result ≡ bindings (pattern_tree parameter.now ∷ []) ∷ [] }
+{
+    Layers::Parameter(parameter)
+}
+
+/// Inside a `let`, behind these bindings.
+pub(crate) fn behind<'a>(bound: &'a [Binding], outer: &'a Layers<'a>) -> Layers<'a>
+    ensures { layers_of result ≡ bindings (patterns (binders_in bound.now)) ∷ layers_of outer.now }
+{
+    Layers::Let(bound, outer)
+}
+
+/// Inside an apply-to-each with these binders.
+pub(crate) fn inside<'a>(drawn: &'a [Binding], outer: &'a Layers<'a>) -> Layers<'a>
+    ensures { layers_of result ≡ binders (patterns (binders_in drawn.now)) ∷ layers_of outer.now }
+{
+    Layers::Row(drawn, outer)
+}
+
+/// Whether the pattern binds the name.
+fn binds(pattern: &Pattern, name: &[u8]) -> bool
+    ensures { result ≡ binds name.now (pattern_tree pattern.now) }
+{
+    match &pattern.node {
+        PatternNode::Name(own) => name == own.as_slice(),
+        PatternNode::Pair { left, right } => binds(right, name) || binds(left, name),
+        PatternNode::Record { part, .. } => binds(part, name),
+    }
+}
+
+/// Adds the steps to what the name stands for. A name on the right hides one on the left.
+fn add_steps(pattern: &Pattern, name: &[u8], mut steps: Vec<Step>) -> Result<Vec<Step>, AllocError>
+    ensures { IfOk result (λ r. r.items ≡ steps.items ++ steps_to name.now (pattern_tree pattern.now)) }
+{
+    match &pattern.node {
+        PatternNode::Name(_) => Ok(steps),
+        PatternNode::Pair { left, right } => {
+            if binds(right, name) {
+                steps.push(Step::Right)?;
+                add_steps(right, name, steps)
+            } else {
+                steps.push(Step::Left)?;
+                add_steps(left, name, steps)
+            }
+        }
+        PatternNode::Record { part, .. } => {
+            steps.push(Step::Inside)?;
+            add_steps(part, name, steps)
+        }
+    }
+}
+
+/// The last of the bindings that binds the name.
+fn last_binding(bindings: &[Binding], name: &[u8]) -> Option<usize>
+    ensures last { result ≡ last_binding name.now (patterns (binders_in bindings.now)) }
+    ensures within { IfSome result (λ i. i < length bindings.now) }
+{
+    let mut last = None;
+    for (index, binding) in bindings.iter().enumerate() {
+        if binds(&binding.pattern, name) {
+            last = Some(index);
+        }
+    }
+    last
+}
+
+/// Where the value is in a frame of one value.
+fn place_in_pattern(
+    alloc: Global,
+    pattern: &Pattern,
+    name: &[u8],
+) -> Result<Option<LocalPlace>, AllocError>
+    ensures { IfOk result (FindsIn (pattern_tree pattern.now ∷ []) name.now) }
+{
+    if !binds(pattern, name) {
+        return Ok(None);
+    }
+    let steps = add_steps(pattern, name, Vec::new(alloc))?;
+    Ok(Some(LocalPlace {
+        up: 0,
+        index: 0,
+        steps,
+    }))
+}
+
+/// Where the value is in a frame of bindings.
+fn place_in_bindings(
+    alloc: Global,
+    bindings: &[Binding],
+    name: &[u8],
+) -> Result<Option<LocalPlace>, AllocError>
+    ensures { IfOk result (FindsIn (patterns (binders_in bindings.now)) name.now) }
+{
+    let Some(index) = last_binding(bindings, name) else {
+        return Ok(None);
+    };
+    let steps = add_steps(&bindings[index].pattern, name, Vec::new(alloc))?;
+    Ok(Some(LocalPlace {
+        up: 0,
+        index,
+        steps,
+    }))
+}
+
+/// Where the value of the name is, if it is a local one. It recurs over the frames.
+pub(crate) fn place_of_local(
+    alloc: Global,
+    layers: &Layers<'_>,
+    name: &[u8],
+) -> Result<Option<LocalPlace>, AllocError>
+    ensures { IfOk result (Finds (layers_of layers.now) name.now) }
+{
+    match layers {
+        Layers::Top => Ok(None),
+        Layers::Parameter(pattern) => place_in_pattern(alloc, *pattern, name),
+        Layers::Let(bindings, outer) => match place_in_bindings(alloc, *bindings, name)? {
+            Some(place) => Ok(Some(place)),
+            None => match place_of_local(alloc, *outer, name)? {
+                Some(place) => Ok(Some(one_up(place)?)),
+                None => Ok(None),
+            },
+        },
+        Layers::Row(bindings, outer) => match place_in_bindings(alloc, *bindings, name)? {
+            Some(place) => Ok(Some(place)),
+            None => match place_of_local(alloc, *outer, name)? {
+                Some(place) => Ok(Some(one_up(place)?)),
+                None => Ok(None),
+            },
+        },
+    }
+}
+
+/// The place as it is seen from a frame further in. There are fewer frames than memory has bytes.
+fn one_up(place: LocalPlace) -> Result<LocalPlace, AllocError>
+    ensures { IfOk result (λ r. spot r.up r.index r.steps.items ≡ spot (suc place.up) place.index place.steps.items) }
+{
+    let up = next(place.up)?;
+    Ok(LocalPlace {
+        up,
+        index: place.index,
+        steps: place.steps,
+    })
+}
+
+fn next(up: usize) -> Result<usize, AllocError>
+    ensures { IfOk result (λ r. r ≡ suc up) }
+{
+    match up.checked_add(1) {
+        Some(next) => Ok(next),
+        None => Err(AllocError),
+    }
+}
+
+/// How many frames up the row of the innermost apply-to-each is, or where no frame is, where there is none.
+pub(crate) fn element_up(layers: &Layers<'_>) -> Result<usize, AllocError>
+    ensures { IfOk result (λ up. IsElementSpot (layers_of layers.now) (spot up 0 [])) }
+{
+    match layers {
+        Layers::Top => Ok(0),
+        Layers::Parameter(_) => Ok(1),
+        Layers::Let(_, outer) => next(element_up(*outer)?),
+        Layers::Row(_, _) => Ok(0),
+    }
+}

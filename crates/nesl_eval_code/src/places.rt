@@ -1,0 +1,43 @@
+//! The places of top-level names.
+
+ghost use Rattle.std.specs.Prelude.{◌≡◌, if◌then◌else◌};
+ghost use Rattle.std.specs.Str.{bytes_eq};
+ghost use Rattle.nesl_eval_code.specs.Means.{place_of};
+ghost use Rattle.nesl_eval_code.specs.Resolving.{keys_of, with_own, known};
+
+use crate::code::Code;
+use indexmap::IndexMap;
+
+/// The top-level names. A function whose body is prepared before it stands there has its place already, the last.
+#[derive(Clone, Copy)]
+pub(crate) struct Places<'a> {
+    pub bodies: &'a IndexMap<Vec<u8>, Option<Code>>,
+    pub own: Option<&'a [u8]>,
+}
+
+/// The name's place among those that are there.
+pub(crate) fn place_in(bodies: &IndexMap<Vec<u8>, Option<Code>>, name: &[u8]) -> Option<usize>
+    ensures { result ≡ place_of (keys_of bodies.now.entries) name.now }
+{
+    bodies.get_index_of(name)
+}
+
+/// The name's place.
+pub(crate) fn place_of(places: &Places<'_>, name: &[u8]) -> Option<usize>
+    ensures { result ≡ place_of (known places.now) name.now }
+{
+    match place_in(places.bodies, name) {
+        Some(place) => Some(place),
+        None => match places.own {
+            Some(own) => last_place(own, name, places.bodies.len()),
+            None => None,
+        },
+    }
+}
+
+/// The place after so many others, if it is the name's.
+fn last_place(own: &[u8], name: &[u8], others: usize) -> Option<usize>
+    ensures { result ≡ (if bytes_eq name.now own.now then Some others else None) }
+{
+    if name == own { Some(others) } else { None }
+}

@@ -1,0 +1,10 @@
+pub mod Runs
+pub mod Loops
+pub mod Sides
+pub mod Arms
+pub mod Lengths
+pub mod Lent
+pub mod Lookups
+pub mod Names
+pub mod Making
+pub mod Rows

@@ -1,0 +1,5 @@
+pub mod Sides
+pub mod Holds
+pub mod Meets
+pub mod Scopes
+pub mod Standing

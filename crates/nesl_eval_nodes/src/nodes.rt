@@ -1,0 +1,475 @@
+//! What each node does with what its parts come to. No recursion here.
+ghost use Rattle.std.specs.Prelude.{◌≡◌, List, ◌==◌, ◌+◌, ◌<◌, ◌≤◌, ◌^◌, ◌∷◌, ◌++◌, [], ℕ, Some, IfOk};
+ghost use Rattle.std.specs.Prelude.{MatchResult, cond, map, length, ◌↔◌, IsTrue};
+ghost use Rattle.std.specs.List.{range_with_len, list_all};
+ghost use Rattle.nesl_values.specs.Tree.{Tree, sequence, tagged, pair, character};
+ghost use Rattle.nesl_values.specs.Parts.{as_bool};
+ghost use Rattle.nesl_values.specs.View.{tree_of};
+ghost use Rattle.nesl_values_builder.specs.Elements.{elements_of};
+ghost use Rattle.nesl_scalars.specs.Scalars.{unary, binary};
+ghost use Rattle.nesl_seqs_base.specs.Lent.{argument_tree};
+ghost use Rattle.nesl_seqs_base.specs.Meaning.{meaning};
+ghost use Rattle.nesl_eval_meaning.specs.Names.{named};
+ghost use Rattle.nesl_eval_meaning.specs.Out.{Out, value, at_call, given, then_out};
+ghost use Rattle.nesl_eval_meaning.specs.Outcome.{made, applied, on_scalars, on_sequence, counted, lengths, places};
+ghost use Rattle.nesl_eval_code.specs.Run.{run_top, slot_at, code_span};
+ghost use Rattle.nesl_eval_nodes.specs.declared.meter.Meter.{Meter};
+ghost use Rattle.nesl_eval_nodes.specs.Sides.{IsOne, Has};
+ghost use Rattle.nesl_eval_nodes.specs.Meets.{Meets, Is};
+
+use crate::held::{Held, Tops};
+use crate::meter::{Meter, Stop};
+use nesl_builtins::Builtin;
+use nesl_eval_code::Code;
+use nesl_lex::token::Span;
+use nesl_scalars::{Binary, Trap, Unary};
+use nesl_seqs::{Argument, SeqFn, apply, price_within};
+use nesl_values::Value;
+use nesl_values_builder::SequenceBuilder;
+use std::alloc::{AllocError, Allocator};
+use std::mem;
+
+/// How many nodes a value may have that is made of parts.
+pub const LARGE: u64 = 1_048_576;
+
+/// The value that was made of parts.
+fn within_limit<A: Allocator>(value: Value<A>, span: Span) -> Result<Value<A>, Stop>
+    ensures { (m : Meter) → Meets Is m result m (made span (tree_of value)) }
+{
+    if value.nodes() <= LARGE {
+        Ok(value)
+    } else {
+        Err(Stop::Fault(Trap::Large, span))
+    }
+}
+
+/// The pair of two values.
+pub fn paired<A: Allocator>(
+    left: Value<A>,
+    right: Value<A>,
+    span: Span,
+    alloc: A,
+) -> Result<Value<A>, Stop>
+    ensures { (m : Meter) → Meets Is m result m (made span (pair (tree_of left) (tree_of right))) }
+{
+    match Value::pair(alloc, left, right) {
+        Ok(value) => within_limit(value, span),
+        Err(_) => Err(Stop::Memory),
+    }
+}
+
+/// Whether a pair of values with so many nodes is within the limit.
+#[inline]
+pub fn fit(first: u64, second: u64) -> bool
+    ensures { IsTrue result ↔ (first + second + 1 ≤ 1048576) }
+{
+    first < LARGE && second < LARGE - first
+}
+
+// Two values stand for a pair, which is not built, only where it has at most 1,048,576 nodes.
+#[inline(always)]
+fn pair_within_limit<A: Allocator>(
+    left: &Value<A>,
+    right: &Value<A>,
+    span: Span,
+) -> Result<(), Stop>
+    ensures { let z = pair (tree_of left.now) (tree_of right.now) in
+        (m : Meter) → Meets (λ _ x. x ≡ z) m result m (made span z) }
+{
+    if fit(left.nodes(), right.nodes()) {
+        Ok(())
+    } else {
+        Err(Stop::Fault(Trap::Large, span))
+    }
+}
+
+/// The value with that tag.
+pub fn tagged<A: Allocator>(
+    tag: u64,
+    inner: Value<A>,
+    span: Span,
+    alloc: A,
+) -> Result<Value<A>, Stop>
+    ensures { (m : Meter) → Meets Is m result m (made span (tagged tag (tree_of inner))) }
+{
+    match Value::tagged(alloc, tag, inner) {
+        Ok(value) => within_limit(value, span),
+        Err(_) => Err(Stop::Memory),
+    }
+}
+
+/// The value of a text, whose characters cost.
+pub fn text<A: Allocator + Copy>(
+    bytes: &[u8],
+    meter: &mut Meter,
+    alloc: A,
+) -> Result<Value<A>, Stop>
+    ensures meets { Meets Is meter.old result meter.new
+        (value (sequence (map character bytes.now)) (length bytes.now) 0) }
+    ensures spent { meter.new.fuel ≤ meter.old.fuel }
+    ensures depth { meter.new.depth ≡ meter.old.depth }
+{
+    meter.charge(bytes.len() as u64)?;
+    match Vec::from_slice(alloc, bytes) {
+        Ok(chars) => match Value::chars(alloc, chars) {
+            Ok(value) => Ok(value),
+            Err(_) => Err(Stop::Memory),
+        },
+        Err(_) => Err(Stop::Memory),
+    }
+}
+
+/// Another owner of the same value.
+#[inline]
+pub fn share<A: Allocator>(value: &Value<A>) -> Result<Value<A>, Stop>
+    ensures { MatchResult result (λ v. tree_of v ≡ tree_of value.now) (λ e. e ≡ Stop.Memory) }
+{
+    match value {
+        Value::Int(n) => Ok(Value::Int(*n)),
+        Value::Bool(b) => Ok(Value::Bool(*b)),
+        Value::Char(c) => Ok(Value::Char(*c)),
+        Value::Shared(_) => match value.share() {
+            Ok(owner) => Ok(owner),
+            Err(_) => Err(Stop::Memory),
+        },
+    }
+}
+
+/// The value of a top-level variable.
+pub fn top<A: Allocator, T: Tops<A>>(tops: &T, place: usize) -> Result<Value<A>, Stop>
+    ensures { (m : Meter) → Meets Is m result m (run_top (slot_at (T.table tops.now) place)) }
+{
+    match tops.held(place) {
+        Ok(Held::Variable(value)) => share(value),
+        Ok(_) => Err(Stop::Stuck),
+        Err(_) => Err(Stop::Memory),
+    }
+}
+
+/// The value of a top-level variable that had no place when the code was prepared.
+pub fn named_top<A: Allocator, T: Tops<A>>(tops: &T, name: &[u8]) -> Result<Value<A>, Stop>
+    ensures { (m : Meter) → Meets Is m result m (run_top (named (T.table tops.now) name.now)) }
+{
+    match tops.place_of(name) {
+        Some(place) => top(tops, place),
+        None => Err(Stop::Stuck),
+    }
+}
+
+/// The sequence of no elements.
+pub fn empty<A: Allocator + Copy>(alloc: A) -> Result<Value<A>, Stop>
+    ensures { (m : Meter) → Meets Is m result m (value (sequence []) 0 0) }
+{
+    match Value::empty(alloc) {
+        Ok(value) => Ok(value),
+        Err(_) => Err(Stop::Memory),
+    }
+}
+
+/// A truth value.
+#[inline]
+pub fn truth<A: Allocator>(value: Value<A>) -> Result<bool, Stop>
+    ensures { MatchResult result (λ b. as_bool (tree_of value) ≡ Some b) (λ e. (e ≡ Stop.Stuck) × (as_bool (tree_of value) ≡ None)) }
+{
+    match value.as_bool() {
+        Some(b) => {
+            mem::forget(value);
+            Ok(b)
+        }
+        None => Err(Stop::Stuck),
+    }
+}
+
+/// A function of two scalars.
+#[inline(always)]
+pub fn of_two<A: Allocator>(
+    function: Binary,
+    left: &Value<A>,
+    right: &Value<A>,
+    span: Span,
+) -> Result<Value<A>, Stop>
+    ensures { (m : Meter) → Meets Is m result m
+        (on_scalars span (binary function (tree_of left.now) (tree_of right.now))) }
+{
+    match function.apply(left, right) {
+        Ok(value) => Ok(value),
+        Err(trap) => Err(Stop::Fault(trap, span)),
+    }
+}
+
+/// A function of two scalars, which are leaves and hold nothing.
+#[inline(always)]
+pub fn of_two_made<A: Allocator>(
+    function: Binary,
+    left: Value<A>,
+    right: Value<A>,
+    span: Span,
+) -> Result<Value<A>, Stop>
+    ensures { (m : Meter) → Meets Is m result m
+        (on_scalars span (binary function (tree_of left) (tree_of right))) }
+{
+    let found = of_two(function, &left, &right, span);
+    let_go(left);
+    let_go(right);
+    found
+}
+
+/// A function of two scalars that are written as a pair, which is not built.
+#[inline(always)]
+pub fn of_pair_made<A: Allocator>(
+    function: Binary,
+    left: Value<A>,
+    right: Value<A>,
+    within: Span,
+    span: Span,
+) -> Result<Value<A>, Stop>
+    ensures { (m : Meter) → Meets Is m result m
+        (then_out (made within (pair (tree_of left) (tree_of right))) (applied span (Builtin.OfTwo function))) }
+{
+    pair_within_limit(&left, &right, within)?;
+    of_two_made(function, left, right, span)
+}
+
+// Drops a value. A leaf holds nothing.
+#[inline]
+fn let_go<A: Allocator>(value: Value<A>) {
+    match &value {
+        Value::Shared(_) => {}
+        _ => mem::forget(value),
+    }
+}
+
+/// A function of one scalar.
+pub fn of_one<A: Allocator>(
+    function: Unary,
+    argument: &Value<A>,
+    span: Span,
+) -> Result<Value<A>, Stop>
+    ensures { (m : Meter) → Meets Is m result m
+        (on_scalars span (unary function (tree_of argument.now))) }
+{
+    match function.apply(argument) {
+        Ok(value) => Ok(value),
+        Err(trap) => Err(Stop::Fault(trap, span)),
+    }
+}
+
+/// A function on sequences, priced before it is built.
+#[inline(never)]
+fn on_sequences<A: Allocator + Copy>(
+    function: SeqFn,
+    argument: Argument<'_, A>,
+    span: Span,
+    meter: &mut Meter,
+    alloc: A,
+) -> Result<Value<A>, Stop>
+    requires { meter.old.fuel + meter.old.depth < 2 ^ 64 }
+    ensures meets { Meets Is meter.old result meter.new (on_sequence span function
+        (argument_tree argument.entry) (meaning function (argument_tree argument.entry))) }
+    ensures spent { meter.new.fuel + meter.new.depth ≤ meter.old.fuel + meter.old.depth }
+{
+    match price_within(function, argument, meter.fuel as u128 + 1) {
+        Err(trap) => Err(Stop::Fault(trap, span)),
+        Ok(None) => Err(Stop::Over),
+        Ok(Some(price)) => {
+            let work = (price.work - 1) as u64;
+            meter.charge(work)?;
+            meter.depth += price.depth - 1;
+            match apply(alloc, function, argument) {
+                Ok(value) => Ok(value),
+                Err(_) => Err(Stop::Memory),
+            }
+        }
+    }
+}
+
+/// A built-in function.
+pub fn applied<A: Allocator + Copy>(
+    function: Builtin,
+    argument: Argument<'_, A>,
+    span: Span,
+    meter: &mut Meter,
+    alloc: A,
+) -> Result<Value<A>, Stop>
+    requires { meter.old.fuel + meter.old.depth < 2 ^ 64 }
+    ensures meets { Meets Is meter.old result meter.new (applied span function (argument_tree argument.entry)) }
+    ensures spent { meter.new.fuel + meter.new.depth ≤ meter.old.fuel + meter.old.depth }
+{
+    match function {
+        Builtin::OfOne(function) => match argument {
+            Argument::One(value) => of_one(function, value, span),
+            Argument::Two(_, _) | Argument::Three(_, _, _) => Err(Stop::Stuck),
+        },
+        Builtin::OfTwo(function) => match argument {
+            Argument::Two(left, right) => of_two(function, left, right, span),
+            Argument::One(value) => match value.as_pair() {
+                Some((left, right)) => of_two(function, left, right, span),
+                None => Err(Stop::Stuck),
+            },
+            Argument::Three(_, _, _) => Err(Stop::Stuck),
+        },
+        Builtin::OfSequences(function) => on_sequences(function, argument, span, meter, alloc),
+    }
+}
+
+/// The length of sequences of one length.
+pub fn length_of_all<A: Allocator>(values: &[Value<A>], span: Span) -> Result<usize, Stop>
+    ensures { (m : Meter) → Meets (λ n is. range_with_len 0 n ≡ is) m result m
+        (given (lengths (map tree_of values.now)) (places span)) }
+{
+    let Some((first, others)) = values.split_first() else {
+        return Err(Stop::Stuck);
+    };
+    let Some(len) = first.sequence_len() else {
+        return Err(Stop::Stuck);
+    };
+    match have_length(others, len) {
+        Some(true) => Ok(len),
+        Some(false) => Err(Stop::Fault(Trap::Length, span)),
+        None => Err(Stop::Stuck),
+    }
+}
+
+// Whether all sequences have that length.
+fn have_length<A: Allocator>(values: &[Value<A>], len: usize) -> Option<bool>
+    ensures { (ns : List ℕ) → lengths (map tree_of values.now) ≡ Some ns
+        → result ≡ Some (list_all (λ n. n == len) ns) }
+{
+    let Some((first, others)) = values.split_first() else {
+        return Some(true);
+    };
+    if first.sequence_len()? == len {
+        have_length(others, len)
+    } else {
+        Some(false)
+    }
+}
+
+/// The sequence of values.
+pub fn sequence_of<A: Allocator + Copy>(
+    values: Vec<Value<A>, A>,
+    span: Span,
+    alloc: A,
+) -> Result<Value<A>, Stop>
+    ensures { (m : Meter) → Meets Is m result m (made span (sequence (map tree_of values.items))) }
+{
+    match packed(values, alloc) {
+        Ok(value) => within_limit(value, span),
+        Err(_) => Err(Stop::Memory),
+    }
+}
+
+fn packed<A: Allocator + Copy>(values: Vec<Value<A>, A>, alloc: A) -> Result<Value<A>, AllocError>
+    ensures { IfOk result (λ v. tree_of v ≡ sequence (map tree_of values.items)) }
+{
+    let mut made = SequenceBuilder::with_room(alloc, values.len());
+    for value in values {
+        made.push(value)?;
+    }
+    made.finish()
+}
+
+/// A fault inside a called body is told with the span of the call.
+#[inline]
+pub fn told_at<A: Allocator>(found: Result<Value<A>, Stop>, span: Span) -> Result<Value<A>, Stop>
+    ensures { (o : Out Tree) (m n : Meter) → Meets Is m found n o
+        → Meets Is m result n (at_call span o) }
+{
+    match found {
+        Err(Stop::Fault(trap, _)) => Err(Stop::Fault(trap, span)),
+        _ => found,
+    }
+}
+
+/// The bytes of an expression.
+#[inline(never)]
+pub fn span_of(code: &Code) -> Span
+    ensures { result ≡ code_span code.now }
+{
+    match code {
+        Code::Number { span, .. } => *span,
+        Code::Truth { span, .. } => *span,
+        Code::Character { span, .. } => *span,
+        Code::Text { span, .. } => *span,
+        Code::Local { span, .. } => *span,
+        Code::Top { span, .. } => *span,
+        Code::Named { span, .. } => *span,
+        Code::Pair { span, .. } => *span,
+        Code::Apply { span, .. } => *span,
+        Code::ApplyTwo { span, .. } => *span,
+        Code::ApplyThree { span, .. } => *span,
+        Code::Call { span, .. } => *span,
+        Code::CallNamed { span, .. } => *span,
+        Code::Choice { span, .. } => *span,
+        Code::Sequence { span, .. } => *span,
+        Code::Empty { span } => *span,
+        Code::Let { span, .. } => *span,
+        Code::Each { span, .. } => *span,
+        Code::FilteredEach { span, .. } => *span,
+    }
+}
+
+/// The value of a body, which costs its nodes.
+#[inline(always)]
+pub fn paid<A: Allocator>(value: Value<A>, meter: &mut Meter) -> Result<Value<A>, Stop>
+    ensures meets { Meets IsOne meter.old result meter.new (counted (tree_of value)) }
+    ensures spent { meter.new.fuel ≤ meter.old.fuel }
+    ensures depth { meter.new.depth ≡ meter.old.depth }
+{
+    meter.charge(value.nodes())?;
+    Ok(value)
+}
+
+/// The sequence that was made.
+pub fn finished<A: Allocator + Copy>(builder: SequenceBuilder<A>) -> Result<Value<A>, Stop>
+    ensures { MatchResult result (λ v. tree_of v ≡ sequence (elements_of builder)) (λ e. e ≡ Stop.Memory) }
+{
+    match builder.finish() {
+        Ok(value) => Ok(value),
+        Err(_) => Err(Stop::Memory),
+    }
+}
+
+/// One more value of a body.
+#[inline(always)]
+pub fn add<A: Allocator + Copy>(
+    builder: &mut SequenceBuilder<A>,
+    value: Value<A>,
+) -> Result<(), Stop>
+    ensures { MatchResult result
+        (λ _. elements_of builder.new ≡ elements_of builder.old ++ tree_of value ∷ []) (λ e. e ≡ Stop.Memory) }
+{
+    match builder.push(value) {
+        Ok(()) => Ok(()),
+        Err(_) => Err(Stop::Memory),
+    }
+}
+
+/// The place, if the filter holds there.
+pub fn keep_if<A: Allocator>(
+    kept: &mut Vec<usize, A>,
+    place: usize,
+    holds: bool,
+) -> Result<(), Stop>
+    ensures { MatchResult result
+        (λ _. kept.new.items ≡ kept.old.items ++ cond holds (place ∷ []) []) (λ e. e ≡ Stop.Memory) }
+{
+    if !holds {
+        return Ok(());
+    }
+    match kept.push(place) {
+        Ok(()) => Ok(()),
+        Err(_) => Err(Stop::Memory),
+    }
+}
+
+/// One more value.
+pub fn keep<A: Allocator>(values: &mut Vec<Value<A>, A>, value: Value<A>) -> Result<(), Stop>
+    ensures { MatchResult result
+        (λ _. values.new.items ≡ values.old.items ++ value ∷ []) (λ e. e ≡ Stop.Memory) }
+{
+    match values.push(value) {
+        Ok(()) => Ok(()),
+        Err(_) => Err(Stop::Memory),
+    }
+}

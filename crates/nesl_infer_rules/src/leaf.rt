@@ -1,0 +1,87 @@
+//! The equations of variables, elements and empty sequences.
+
+ghost use Rattle.std.specs.Prelude.{◌≡◌, ◌<◌, ℕ, Option, Some, OnOk};
+ghost use Rattle.nesl_types.specs.Term.{Term, seq_of};
+ghost use Rattle.nesl_syntax_tree.specs.Views.{type_tree};
+ghost use Rattle.nesl_infer_rules.specs.Holds.{count, Adds, scope_at, world_at, AreLocalsBelow};
+ghost use Rattle.nesl_infer_rules.specs.Contexts.{AreClosed};
+ghost use Rattle.nesl_infer_rules.specs.Typing.{IsVariable, IsWritten, local, newest, is_element};
+ghost use Rattle.nesl_infer_names.specs.Names.{datatype_in};
+
+use crate::names::{look_up, look_up_element};
+use crate::record::is_top_variable;
+use crate::state::{Local, OwnName, State};
+use crate::written::written_type;
+use nesl_syntax_tree::tree::TypeExp;
+use nesl_types::{Context, Ty};
+use std::alloc::{AllocError, Global};
+
+/// Adds what makes `target` the type of a variable.
+pub fn is_variable<P: Drop>(
+    alloc: Global,
+    state: &mut State,
+    context: &Context<P>,
+    own: &Option<OwnName>,
+    locals: &[Local],
+    name: &[u8],
+    target: u64,
+) -> Result<(), AllocError>
+    requires target { target < count state.old }
+    requires locals { AreLocalsBelow (count state.old) locals.now }
+    requires closed { AreClosed context.now }
+    ensures { OnOk result (Adds state.old state.new (λ s of. IsVariable (world_at context.now own.now s of) name.now (local name.now (scope_at s locals.now)) (s target))) }
+{
+    match look_up(locals, name) {
+        Some(variable) => {
+            state.equate(target, Ty::Var(variable))?;
+            Ok(())
+        }
+        None => {
+            is_top_variable(alloc, state, context, own, name, target)?;
+            Ok(())
+        }
+    }
+}
+
+/// Adds what makes `target` the type of the innermost apply-to-each's element.
+pub fn is_element(state: &mut State, locals: &[Local], target: u64) -> Result<(), AllocError>
+    requires target { target < count state.old }
+    requires locals { AreLocalsBelow (count state.old) locals.now }
+    ensures { OnOk result (Adds state.old state.new (λ s of. newest is_element (scope_at s locals.now) ≡ Some (s target))) }
+{
+    match look_up_element(locals) {
+        Some(variable) => {
+            state.equate(target, Ty::Var(variable))?;
+            Ok(())
+        }
+        None => {
+            state.never()?;
+            Ok(())
+        }
+    }
+}
+
+/// Adds what makes `target` the sequences of the type that is written.
+pub fn is_empty_of<P: Drop>(
+    alloc: Global,
+    state: &mut State,
+    context: &Context<P>,
+    written: &TypeExp,
+    target: u64,
+) -> Result<(), AllocError>
+    requires target { target < count state.old }
+    ensures { OnOk result (Adds state.old state.new (λ s of. (u : Term) × IsWritten (datatype_in context.now) (type_tree written.now) u × (s target ≡ seq_of u))) }
+{
+    match written_type(alloc, context, written)? {
+        Some(item) => {
+            let variable = state.anything()?;
+            state.equate(variable, item)?;
+            state.is_sequence(alloc, target, variable)?;
+            Ok(())
+        }
+        None => {
+            state.never()?;
+            Ok(())
+        }
+    }
+}

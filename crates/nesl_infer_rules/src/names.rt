@@ -1,0 +1,57 @@
+//! Local names.
+
+ghost use Rattle.std.specs.Prelude.{◌≡◌, ◌<◌, ℕ, MatchOption, option_map};
+ghost use Rattle.nesl_types.specs.Term.{Term};
+ghost use Rattle.nesl_infer_rules.specs.Holds.{key_of, scope_at, AreLocalsBelow};
+ghost use Rattle.nesl_infer_rules.specs.Typing.{is_name, is_element, local, newest};
+
+use crate::state::{Key, Local};
+
+impl Key {
+    /// Whether it is this name.
+    fn is_name(&self, name: &[u8]) -> bool
+        ensures { result ≡ is_name name.now (key_of self.now) }
+    {
+        match self {
+            Key::Name(own) => name == own.as_slice(),
+            Key::Element => false,
+        }
+    }
+
+    fn is_element(&self) -> bool
+        ensures { result ≡ is_element (key_of self.now) }
+    {
+        match self {
+            Key::Name(_) => false,
+            Key::Element => true,
+        }
+    }
+}
+
+/// The variable of a local name's type: the newest of that name.
+pub fn look_up(locals: &[Local], name: &[u8]) -> Option<u64>
+    ensures found { (s : ℕ → Term) → option_map s result ≡ local name.now (scope_at s locals.now) }
+    ensures below { MatchOption result (Unit {0}) (λ v. (n : ℕ) → AreLocalsBelow n locals.now → v < n) }
+{
+    let mut found = None;
+    for local in locals {
+        if local.key.is_name(name) {
+            found = Some(local.variable);
+        }
+    }
+    found
+}
+
+/// The variable of the element's type in the innermost apply-to-each.
+pub fn look_up_element(locals: &[Local]) -> Option<u64>
+    ensures found { (s : ℕ → Term) → option_map s result ≡ newest is_element (scope_at s locals.now) }
+    ensures below { MatchOption result (Unit {0}) (λ v. (n : ℕ) → AreLocalsBelow n locals.now → v < n) }
+{
+    let mut found = None;
+    for local in locals {
+        if local.key.is_element() {
+            found = Some(local.variable);
+        }
+    }
+    found
+}

@@ -1,0 +1,95 @@
+//! The equations of names of the top level.
+
+ghost use Rattle.std.specs.Prelude.{◌≡◌, ◌<◌, ℕ, Option, Some, OnOk};
+ghost use Rattle.nesl_types.specs.Term.{Term};
+ghost use Rattle.nesl_infer_rules.specs.Holds.{count, Adds, own_at};
+ghost use Rattle.nesl_infer_rules.specs.Contexts.{AreClosed};
+ghost use Rattle.nesl_infer_rules.specs.Typing.{IsRecord};
+ghost use Rattle.nesl_infer_names.specs.Names.{datatype_in, hides};
+ghost use Rattle.nesl_infer_rules.specs.World.{own_name, meanings_in};
+
+use crate::state::{OwnName, State};
+use nesl_types::{Context, Top, Ty};
+use std::alloc::{AllocError, Global};
+
+/// Adds what makes `target` the type of the name's records, and `held` the type that they hold.
+pub fn is_record<P: Drop>(
+    alloc: Global,
+    state: &mut State,
+    context: &Context<P>,
+    name: &[u8],
+    target: u64,
+    held: u64,
+) -> Result<(), AllocError>
+    requires target { target < count state.old }
+    requires held { held < count state.old }
+    requires closed { AreClosed context.now }
+    ensures { OnOk result (Adds state.old state.new (λ s of. IsRecord (datatype_in context.now) name.now (s target) (s held))) }
+{
+    match context.get(name) {
+        Some((Top::Datatype(tag, ty), _)) => {
+            state.equate(target, Ty::Named(*tag))?;
+            state.equate_closed(alloc, name, held, ty)?;
+            Ok(())
+        }
+        Some((Top::Variable(_), _)) => {
+            state.never()?;
+            Ok(())
+        }
+        Some((Top::Function(_), _)) => {
+            state.never()?;
+            Ok(())
+        }
+        None => {
+            state.never()?;
+            Ok(())
+        }
+    }
+}
+
+/// Whether the name is no variable since a function is being defined.
+fn is_hidden(own: &Option<OwnName>, name: &[u8]) -> bool
+    ensures { (s : ℕ → Term) → result ≡ hides (own_name (own_at s own.now)) name.now }
+{
+    match own {
+        Some(own) => name == own.name.as_slice() || name == b"it".as_slice(),
+        None => false,
+    }
+}
+
+/// Adds what makes `target` the type of the top-level variable of the name.
+pub fn is_top_variable<P: Drop>(
+    alloc: Global,
+    state: &mut State,
+    context: &Context<P>,
+    own: &Option<OwnName>,
+    name: &[u8],
+    target: u64,
+) -> Result<(), AllocError>
+    requires target { target < count state.old }
+    requires closed { AreClosed context.now }
+    ensures { OnOk result (Adds state.old state.new (λ s of. (meanings_in context.now (own_at s own.now)).variables name.now ≡ Some (s target))) }
+{
+    if is_hidden(own, name) {
+        state.never()?;
+        return Ok(());
+    }
+    match context.get(name) {
+        Some((Top::Variable(ty), _)) => {
+            state.equate_closed(alloc, name, target, ty)?;
+            Ok(())
+        }
+        Some((Top::Function(_), _)) => {
+            state.never()?;
+            Ok(())
+        }
+        Some((Top::Datatype(_, _), _)) => {
+            state.never()?;
+            Ok(())
+        }
+        None => {
+            state.never()?;
+            Ok(())
+        }
+    }
+}

@@ -1,0 +1,207 @@
+//! The equations of a signature.
+
+ghost use Rattle.std.specs.Prelude.{◌≡◌, ◌<◌, ◌≤◌, ℕ, List, All, map, option_map, IfOk, OnOk};
+ghost use Rattle.nesl_types.specs.Term.{Term, nodes, term};
+ghost use Rattle.nesl_types.specs.Numbering.{IsBelow};
+ghost use Rattle.nesl_types.specs.Substitution.{substitute};
+ghost use Rattle.nesl_unify.specs.Bounds.{IsBounded};
+ghost use Rattle.nesl_syntax_tree.specs.Views.{type_tree, member_tree, signature_tree};
+ghost use Rattle.nesl_infer_rules.specs.Holds.{count, Adds, AddsNames, AreLocalsBelow, scope_at};
+ghost use Rattle.nesl_infer_rules.specs.Signatures.{FreeNames, put_in};
+ghost use Rattle.nesl_infer_rules.specs.Typing.{IsMeant, IsSigned, Says, class_of, meaning, signed};
+ghost use Rattle.nesl_infer_names.specs.Names.{datatype_in};
+
+use crate::names::look_up;
+use crate::state::{Key, Local, State};
+use nesl_syntax_tree::tree as syntax;
+use nesl_syntax_tree::tree::{Member, Signature, TypeExp, TypeNode};
+use nesl_types::{Class, Context, Top, Ty};
+use std::alloc::{AllocError, Global};
+
+/// Adds a variable for each name of a written type.
+fn name_types(
+    alloc: Global,
+    state: &mut State,
+    names: &mut Vec<Local>,
+    written: &TypeExp,
+) -> Result<(), AllocError>
+    ensures { OnOk result (AddsNames state.old state.new names.old.items names.new.items (λ s of ns. FreeNames (type_tree written.now) ns)) }
+{
+    match &written.node {
+        TypeNode::Int => Ok(()),
+        TypeNode::Bool => Ok(()),
+        TypeNode::Char => Ok(()),
+        TypeNode::Name { name, .. } => {
+            let variable = state.anything()?;
+            let name = Vec::from_slice(alloc, name.as_slice())?;
+            names.push(Local {
+                key: Key::Name(name),
+                variable,
+            })?;
+            Ok(())
+        }
+        TypeNode::Sequence(item) => {
+            name_types(alloc, state, names, item)?;
+            Ok(())
+        }
+        TypeNode::Pair {
+            left: first,
+            right: second,
+        } => {
+            name_types(alloc, state, names, first)?;
+            name_types(alloc, state, names, second)?;
+            Ok(())
+        }
+    }
+}
+
+/// The tag of a datatype.
+fn tag_of<P: Drop>(context: &Context<P>, name: &[u8]) -> Option<u64>
+    ensures { result ≡ option_map (λ d. d.0) (datatype_in context.now name.now) }
+{
+    match context.get(name) {
+        Some((Top::Datatype(tag, _), _)) => Some(*tag),
+        Some((Top::Variable(_), _)) => None,
+        Some((Top::Function(_), _)) => None,
+        None => None,
+    }
+}
+
+/// What a name stands for: its datatype, else its variable; `int` where it has none.
+fn name_type<P: Drop>(context: &Context<P>, names: &[Local], name: &[u8]) -> Ty
+    ensures is { (s : ℕ → Term) → substitute s (term result) ≡ meaning (datatype_in context.now name.now) (put_in (scope_at s names.now) name.now) }
+    ensures below { (n : ℕ) → AreLocalsBelow n names.now → IsBelow n (term result) }
+    ensures small { (s : ℕ → Term) → IsBounded s → nodes (substitute s (term result)) ≤ 4096 }
+{
+    match tag_of(context, name) {
+        Some(tag) => Ty::Named(tag),
+        None => match look_up(names, name) {
+            Some(variable) => Ty::Var(variable),
+            None => Ty::Int,
+        },
+    }
+}
+
+/// The type that is written, with the variable of each name that is no datatype.
+fn signed_type<P: Drop>(
+    alloc: Global,
+    context: &Context<P>,
+    names: &[Local],
+    written: &TypeExp,
+) -> Result<Ty, AllocError>
+    ensures is { IfOk result (λ t. (s : ℕ → Term) → substitute s (term t) ≡ signed (datatype_in context.now) (put_in (scope_at s names.now)) (type_tree written.now)) }
+    ensures below { IfOk result (λ t. (n : ℕ) → AreLocalsBelow n names.now → IsBelow n (term t)) }
+{
+    match &written.node {
+        TypeNode::Int => Ok(Ty::Int),
+        TypeNode::Bool => Ok(Ty::Bool),
+        TypeNode::Char => Ok(Ty::Char),
+        TypeNode::Name { name, .. } => Ok(name_type(context, names, name.as_slice())),
+        TypeNode::Sequence(item) => {
+            let item = signed_type(alloc, context, names, item)?;
+            Ok(Ty::SeqOf(Box::new(alloc, item)?))
+        }
+        TypeNode::Pair {
+            left: first,
+            right: second,
+        } => {
+            let first = signed_type(alloc, context, names, first)?;
+            let second = signed_type(alloc, context, names, second)?;
+            Ok(Ty::Both(Box::new(alloc, first)?, Box::new(alloc, second)?))
+        }
+    }
+}
+
+/// The class of types that a written class is.
+fn class_of(class: syntax::Class) -> Class
+    ensures { result ≡ class_of class }
+{
+    match class {
+        syntax::Class::Any => Class::Any,
+        syntax::Class::Ordinal => Class::Ordinal,
+        syntax::Class::Number => Class::Number,
+        syntax::Class::Logical => Class::Logical,
+    }
+}
+
+/// Adds that what a name stands for is in a class.
+fn constrain_member<P: Drop>(
+    state: &mut State,
+    context: &Context<P>,
+    names: &[Local],
+    member: &Member,
+) -> Result<(), AllocError>
+    requires names { AreLocalsBelow (count state.old) names.now }
+    ensures { OnOk result (Adds state.old state.new (λ s of. IsMeant (datatype_in context.now) of (put_in (scope_at s names.now)) (member_tree member.now))) }
+{
+    let inside = state.fresh(class_of(member.class))?;
+    state.equate(inside, name_type(context, names, member.name.as_slice()))?;
+    Ok(())
+}
+
+/// Adds that what each name stands for is in its class.
+fn constrain_members<P: Drop>(
+    state: &mut State,
+    context: &Context<P>,
+    names: &[Local],
+    members: &[Member],
+) -> Result<(), AllocError>
+    requires names { AreLocalsBelow (count state.old) names.now }
+    ensures { OnOk result (Adds state.old state.new (λ s of. All (IsMeant (datatype_in context.now) of (put_in (scope_at s names.now))) (map member_tree members.now))) }
+{
+    for member in members {
+        constrain_member(state, context, names, member)?;
+    }
+    Ok(())
+}
+
+/// Adds what a signature says of what a function takes and gives.
+fn constrain_signed<P: Drop>(
+    alloc: Global,
+    state: &mut State,
+    context: &Context<P>,
+    signature: &Signature,
+    takes: u64,
+    gives: u64,
+) -> Result<(), AllocError>
+    requires takes { takes < count state.old }
+    requires gives { gives < count state.old }
+    ensures { OnOk result (Adds state.old state.new (λ s of. (put : List ℕ → Term) × Says (datatype_in context.now) of (signature_tree signature.now) put (s takes) (s gives))) }
+{
+    let mut names = Vec::new(alloc);
+    name_types(alloc, state, &mut names, &signature.from)?;
+    name_types(alloc, state, &mut names, &signature.to)?;
+    let from = signed_type(alloc, context, names.as_slice(), &signature.from)?;
+    let to = signed_type(alloc, context, names.as_slice(), &signature.to)?;
+    state.equate(takes, from)?;
+    state.equate(gives, to)?;
+    constrain_members(
+        state,
+        context,
+        names.as_slice(),
+        signature.members.as_slice(),
+    )?;
+    Ok(())
+}
+
+/// Adds what a signature says, where there is one.
+pub fn constrain_signature<P: Drop>(
+    alloc: Global,
+    state: &mut State,
+    context: &Context<P>,
+    signature: &Option<Signature>,
+    takes: u64,
+    gives: u64,
+) -> Result<(), AllocError>
+    requires takes { takes < count state.old }
+    requires gives { gives < count state.old }
+    ensures { OnOk result (Adds state.old state.new (λ s of. IsSigned (datatype_in context.now) of (option_map signature_tree signature.now) (s takes) (s gives))) }
+{
+    match signature {
+        Some(signature) => {
+            constrain_signed(alloc, state, context, signature, takes, gives)?;
+            Ok(())
+        }
+        None => Ok(()),
+    }
+}

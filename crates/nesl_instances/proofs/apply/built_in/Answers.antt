@@ -1,9 +1,0 @@
-use Rattle.std.proofs.Common.{subst}
-use Rattle.nesl_builtins.specs.Table.{FunctionType}
-use Rattle.nesl_rules.specs.Typing.{IsInstanceOf}
-use Rattle.nesl_rules.specs.Holds.{Adds}
-use Rattle.nesl_instances.proofs.apply.built_in.Goals as goal
-
-pub returns : goal.returns
-returns c =
-    subst (λ (f : FunctionType). Adds c.args.state.now c.instance.new.state (λ s of. IsInstanceOf f of (s c.args.given) (s c.args.target))) c.in_ok-scheme.ensures c.in_ok-instance.ensures

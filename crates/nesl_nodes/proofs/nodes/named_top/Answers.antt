@@ -1,4 +1,0 @@
-use Rattle.nesl_nodes.proofs.nodes.named_top.Goals as goal
-
-pub returns-in-Some : goal.returns-in-Some
-returns-in-Some g c = λ m. rw (← c.in-Some.ensures) (c.top.ensures m)

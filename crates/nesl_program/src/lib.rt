@@ -1,6 +1,0 @@
-//! What the program's words come to: a batch that is run, a service that is to be offered, or why there is neither.
-#![tactic(auto)]
-
-pub mod failure;
-pub mod run;
-pub mod terms;

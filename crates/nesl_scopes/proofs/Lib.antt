@@ -1,4 +1,0 @@
-pub mod Lookups
-pub mod Names
-pub mod Making
-pub mod Rows

@@ -1,8 +1,0 @@
-use Rattle.std.proofs.Common.{◌/◌, ◌<◌, length, rules}
-use Rattle.nesl_seq_reorders.proofs.Marking.{one_marked}
-use Rattle.nesl_seq_reorders.proofs.marks.Marks.mark.Goals as goal
-
-pub returns : goal.returns
-returns c q =
-    let within : c.args.place / 64 < length c.args.self.now.words = search rules in
-    one_marked c.args.self.now.words c.args.place q within

@@ -1,9 +1,0 @@
-use Rattle.std.proofs.Common.{◌≡◌, [], map, take, drop}
-use Rattle.nesl_seq_reorders.specs.Marks.{are_new, Holds}
-use Rattle.nesl_seq_base.specs.Places.{places_of}
-use Rattle.nesl_seq_reorders.proofs.permute.differ_in.Given as goal
-
-abbrev pub invariant-loop-index : goal.invariant-loop-index
-invariant-loop-index g l =
-    Holds l.marks.words l.window (places_of l.len (map g.I.Item.tree (take l.index-index l.indices)))
-    × (are_new l.window (places_of l.len (map g.I.Item.tree (take l.index-index l.indices))) (places_of l.len (map g.I.Item.tree (drop l.index-index l.indices))) ≡ are_new l.window [] (places_of l.len (map g.I.Item.tree l.indices)))

@@ -1,5 +1,0 @@
-use Rattle.nesl_seq_base.proofs.Made.{made}
-use Rattle.nesl_seq_reorders.proofs.write.overwritten_copy.Goals as goal
-
-pub returns-in_ok-overwritten_values-in-None : goal.returns-in_ok-overwritten_values-in-None
-returns-in_ok-overwritten_values-in-None g c = made _ _ _ c.sequence.ensures c.in_ok-overwritten_values-in-None.ensures

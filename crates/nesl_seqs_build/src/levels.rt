@@ -1,0 +1,213 @@
+// Sequences of sequences.
+ghost use Rattle.std.specs.Prelude.{◌≡◌, ◌+◌, ◌-◌, ◌≤◌, ℤ, pos, List, Some, None, length, map, take, drop, slice_range, is_some, option_map, unwrap_or, unsigned_abs, IfOk, IfSome, IsSome};
+ghost use Rattle.std.specs.List.{flat_map, list_all};
+ghost use Rattle.nesl_values.specs.Tree.{sequence};
+ghost use Rattle.nesl_values.specs.Parts.{as_int, as_sequence, elements};
+ghost use Rattle.nesl_values.specs.View.{tree_of, item_trees};
+ghost use Rattle.nesl_seqs_base.specs.Lent.{argument_tree};
+ghost use Rattle.nesl_seqs_base.specs.Levels.{sequences, are_lengths, pieces, Checks};
+ghost use Rattle.nesl_seqs_base.specs.Outcome.{IsGiven, gives};
+ghost use Rattle.nesl_seqs_base.specs.Reductions.{all_of};
+ghost use Rattle.nesl_seqs_base.specs.Meaning.{meaning};
+ghost use Rattle.nesl_seqs_base.specs.Prices.{Prices, reads, price};
+ghost use Rattle.nesl_seqs_base.specs.declared.seq_fn.SeqFn.TheVariants.{Flatten, Partition};
+
+use nesl_scalars::Trap;
+use nesl_seqs_base::argument::Argument;
+use nesl_seqs_base::arguments::{WRONG_SHAPE, sequence, two_sequences};
+use nesl_seqs_base::copies::{copy_of, extend};
+use nesl_seqs_base::item::{Item, unpacked};
+use nesl_seqs_base::nodes::{price_of_more, price_without_roots};
+use nesl_seqs_base::price::Price;
+use nesl_values::{Items, Value};
+use nesl_values_builder::SequenceBuilder;
+use std::alloc::{AllocError, Allocator};
+
+fn are_sequences<A: Allocator>(values: &[Value<A>]) -> bool
+    ensures { result ≡ list_all (λ v. is_some (as_sequence (tree_of v))) values.now }
+{
+    values.iter().all(|value| value.sequence_len().is_some())
+}
+
+/// The sequences of which it is a sequence.
+fn sequences<A: Allocator>(argument: Argument<'_, A>) -> Option<&[Value<A>]>
+    ensures some { IfSome result (λ values.
+        (as_sequence (argument_tree argument.entry) ≡ Some (map tree_of values.now))
+        × IsSome (all_of as_sequence (map tree_of values.now))) }
+    ensures none { result ≡ None → sequences (argument_tree argument.entry) ≡ None }
+{
+    let values = unpacked(sequence(argument)?)?;
+    if are_sequences(values) {
+        Some(values)
+    } else {
+        None
+    }
+}
+
+pub fn price_flatten<A: Allocator>(
+    argument: Argument<'_, A>,
+    limit: u128,
+) -> Result<Option<Price>, Trap>
+    ensures { Prices (meaning Flatten (argument_tree argument.entry))
+        (reads Flatten (argument_tree argument.entry)) 1 limit result }
+{
+    match sequences(argument) {
+        Some(values) => Ok(price_without_roots(values, 1, limit)),
+        None => Err(WRONG_SHAPE),
+    }
+}
+
+pub fn apply_flatten<A: Allocator + Copy>(
+    alloc: A,
+    argument: Argument<'_, A>,
+) -> Result<Value<A>, AllocError>
+    requires { IsGiven (meaning Flatten (argument_tree argument)) }
+    ensures { IfOk result (λ v. meaning Flatten (argument_tree argument.entry) ≡ gives (tree_of v)) }
+{
+    match sequences(argument) {
+        Some(values) => all_elements(alloc, values),
+        None => unreachable!(),
+    }
+}
+
+// How many elements all of them have.
+fn length_of_all<A: Allocator>(values: &[Value<A>]) -> usize {
+    let mut room: usize = 0;
+    for value in values {
+        room = room.saturating_add(value.items().len());
+    }
+    room
+}
+
+// The elements of all of them.
+fn all_elements<A: Allocator + Copy>(alloc: A, values: &[Value<A>]) -> Result<Value<A>, AllocError>
+    ensures { IfOk result (λ v. tree_of v
+        ≡ sequence (flat_map (λ v. elements (tree_of v)) values.now)) }
+{
+    let mut builder = SequenceBuilder::with_room(alloc, length_of_all(values));
+    for value in values {
+        extend(&mut builder, value.items())?;
+    }
+    builder.finish()
+}
+
+// Whether the counts are lengths of pieces of so many items.
+fn check_counts<A: Allocator>(counts: Items<'_, A>, len: usize) -> Result<(), Trap>
+    ensures { Checks (option_map (are_lengths len) (all_of as_int (item_trees counts.entry))) result }
+{
+    match counts {
+        Items::Ints(ints) => check(ints, len),
+        Items::Bools(bools) => check(bools, len),
+        Items::Chars(chars) => check(chars, len),
+        Items::Values(values) => check(values, len),
+    }
+}
+
+fn check<T: Item>(counts: &[T], len: usize) -> Result<(), Trap>
+    ensures { Checks (option_map (are_lengths len) (all_of as_int (map T.tree counts.now))) result }
+{
+    let mut left = len;
+    for count in counts {
+        let Some(count) = count.as_int() else {
+            return Err(WRONG_SHAPE);
+        };
+        if count < 0 || count as usize > left {
+            return Err(Trap::Count);
+        }
+        left -= count as usize;
+    }
+    if left > 0 {
+        return Err(Trap::Count);
+    }
+    Ok(())
+}
+
+pub fn price_partition<A: Allocator>(
+    argument: Argument<'_, A>,
+    limit: u128,
+) -> Result<Option<Price>, Trap>
+    ensures { Prices (meaning Partition (argument_tree argument.entry))
+        (reads Partition (argument_tree argument.entry)) 1 limit result }
+{
+    let Some((items, counts)) = two_sequences(argument) else {
+        return Err(WRONG_SHAPE);
+    };
+    check_counts(counts, items.len())?;
+    let pieces = counts.len() as u128;
+    let read = items.len() as u128 + pieces;
+    Ok(price_of_more(items, 1 + pieces, read, limit))
+}
+
+pub fn apply_partition<A: Allocator + Copy>(
+    alloc: A,
+    argument: Argument<'_, A>,
+) -> Result<Value<A>, AllocError>
+    requires { IsGiven (meaning Partition (argument_tree argument)) }
+    ensures { IfOk result (λ v. meaning Partition (argument_tree argument.entry) ≡ gives (tree_of v)) }
+{
+    match two_sequences(argument) {
+        Some((items, counts)) => partition_by(alloc, items, counts),
+        None => unreachable!(),
+    }
+}
+
+// The pieces of these lengths. Counts that are not packed are packed first.
+fn partition_by<A: Allocator + Copy>(
+    alloc: A,
+    items: Items<'_, A>,
+    counts: Items<'_, A>,
+) -> Result<Value<A>, AllocError>
+    ensures { IfOk result (λ v. (zs : List ℤ) → all_of as_int (item_trees counts.entry) ≡ Some zs
+        → tree_of v ≡ sequence (map sequence (pieces (item_trees items.entry) zs))) }
+{
+    match counts {
+        Items::Ints(ints) => all_pieces(alloc, items, ints),
+        Items::Values(values) => {
+            let ints = packed_numbers(alloc, values)?;
+            all_pieces(alloc, items, &ints)
+        }
+        Items::Bools(_) => all_pieces(alloc, items, &[]),
+        Items::Chars(_) => all_pieces(alloc, items, &[]),
+    }
+}
+
+fn packed_numbers<A: Allocator>(alloc: A, values: &[Value<A>]) -> Result<Vec<i64, A>, AllocError>
+    ensures { IfOk result (λ v. v.items ≡ map (λ v. unwrap_or (as_int (tree_of v)) (pos 0)) values.now) }
+{
+    let mut ints = Vec::with_capacity(alloc, values.len())?;
+    for value in values {
+        ints.push(value.as_int().unwrap_or(0))?;
+    }
+    Ok(ints)
+}
+
+fn all_pieces<A: Allocator + Copy>(
+    alloc: A,
+    items: Items<'_, A>,
+    counts: &[i64],
+) -> Result<Value<A>, AllocError>
+    ensures { IfOk result (λ v. tree_of v
+        ≡ sequence (map sequence (pieces (item_trees items.entry) counts.now))) }
+{
+    let mut made = Vec::with_capacity(alloc, counts.len())?;
+    let mut start = 0;
+    for count in counts {
+        let end = end_of(items, start, *count);
+        made.push(copy_of(alloc, items.part(start, end))?)?;
+        start = end;
+    }
+    Value::sequence(alloc, made)
+}
+
+// Where the piece that begins there ends: it has so many items, or all that are left.
+fn end_of<A: Allocator>(items: Items<'_, A>, start: usize, count: i64) -> usize
+    requires { start ≤ length (item_trees items) }
+    ensures within { (start ≤ result) × (result ≤ length (item_trees items.entry)) }
+    ensures piece { slice_range (item_trees items.entry) start result
+        ≡ take (unsigned_abs count) (drop start (item_trees items.entry)) }
+    ensures rest { drop result (item_trees items.entry)
+        ≡ drop (unsigned_abs count) (drop start (item_trees items.entry)) }
+{
+    let left = items.len() - start;
+    start + left.min(count.unsigned_abs() as usize)
+}

@@ -1,0 +1,8 @@
+use Rattle.std.proofs.Common.{◌≡◌, ◌*◌, ◌++◌, drop, map}
+use Rattle.nesl_values.specs.View.{tree_of}
+use Rattle.nesl_seqs_base.specs.Woven.{evens}
+use Rattle.nesl_seqs_index.proofs.woven.every_other_value.Given as goal
+
+abbrev pub invariant-loop-place : goal.invariant-loop-place
+invariant-loop-place g l =
+    map tree_of l.taken.items ++ evens (drop (2 * l.place) (map tree_of l.values)) ≡ evens (map tree_of l.values)

@@ -1,0 +1,15 @@
+use Rattle.nesl_session_bindings.specs.Stored.{kind_of}
+use Rattle.nesl_session_bindings.proofs.Refusals.{not_retyped, retyped_then, retyped_else}
+use Rattle.nesl_session_bindings.proofs.redefinition.is_retyped.Goals as goal
+
+pub returns-in-None : goal.returns-in-None
+returns-in-None c =
+    (λ q. absurd cc, λ h. absurd (not_retyped c.args.env.now c.requires c.args.name.now (kind_of c.args.kind) c.in-None.ensures h))
+
+pub returns-then-is_other : goal.returns-then-is_other
+returns-then-is_other c =
+    retyped_then c.args.env.now c.requires c.args.name.now (kind_of c.args.kind) c.in-Some.top.now c.in-Some.field-0-1.now c.in-Some.ensures c.is_other.result c.is_referred.result c.is_other.ensures c.is_referred.ensures c.if-is_other.true
+
+pub returns-else-is_other : goal.returns-else-is_other
+returns-else-is_other c =
+    retyped_else c.args.env.now c.requires c.args.name.now (kind_of c.args.kind) c.in-Some.top.now c.in-Some.field-0-1.now c.in-Some.ensures c.is_other.result c.is_other.ensures c.if-is_other.false

@@ -1,0 +1,10 @@
+-- The elements of all other names.
+use Rattle.std.specs.Prelude.{ℕ, ◌+◌, List, [], ◌∷◌, if◌then◌else◌}
+use Rattle.std.specs.Str.{bytes_eq}
+use Rattle.nesl_eval_meaning.specs.Names.{Name}
+use Rattle.nesl_session_bindings.specs.Meanings.{Binding, elements_in, elements_of}
+
+abbrev pub elements_beside : Name → List Binding → ℕ
+elements_beside x [] = 0
+elements_beside x (b ∷ bs) =
+    if bytes_eq x b.name then elements_of bs else elements_in b.meaning + elements_beside x bs

@@ -1,0 +1,28 @@
+-- What the top-level names of a session stand for, without where it lies in memory.
+use Rattle.std.specs.Prelude.{ℕ, List, sum_by}
+use Rattle.nesl_types.specs.Term.{Term, nodes}
+use Rattle.nesl_values.specs.Tree.{size}
+use Rattle.nesl_syntax_tree.specs.Trees.{PatternTree, Tree}
+use Rattle.nesl_builtins.specs.Table.{FunctionType}
+use Rattle.nesl_eval_meaning.specs.Names.{Name, Value}
+use Rattle.nesl_session_bindings.specs.Nodes.{expression_nodes}
+
+-- What a name stands for: a variable with its type and its value; a function with its type, its parameter and its body;
+-- a datatype with its tag and the type that its records hold.
+pub data Meaning : Type 0 where
+  variable : (type : Term) (value : Value) → Meaning
+  function : (type : FunctionType) (parameter : PatternTree) (body : Tree) → Meaning
+  datatype : (tag : ℕ) (content : Term) → Meaning
+
+pub record Binding : Type 0 where
+  pub name : Name
+  pub meaning : Meaning
+
+-- the elements of a name: the nodes of a value, of a function's body, of what a datatype holds
+abbrev pub elements_in : Meaning → ℕ
+elements_in (variable t v) = size v
+elements_in (function f p e) = expression_nodes e
+elements_in (datatype tag t) = nodes t
+
+abbrev pub elements_of : List Binding → ℕ
+elements_of bindings = sum_by (λ b. elements_in b.meaning) bindings

@@ -1,0 +1,52 @@
+//! How many elements names have.
+
+ghost use Rattle.std.specs.Prelude.{◌≡◌, ◌+◌, ◌<◌, ◌^◌, MatchOption};
+ghost use Rattle.nesl_types.specs.Term.{nodes, term};
+ghost use Rattle.nesl_session_bindings.specs.Beside.{elements_beside};
+ghost use Rattle.nesl_session_bindings.specs.Meanings.{elements_in};
+ghost use Rattle.nesl_session_bindings.specs.Stored.{AreKept, Fits, bindings_of, meaning_of};
+
+use crate::nodes;
+use nesl_eval_code::{Env, Payload};
+use nesl_types::{Top, Ty};
+
+/// What is left of `room` after the elements of what stands there, or `None` where they are more.
+fn room_left(top: &Top, payload: &Payload, room: u64) -> Option<u64>
+    requires { Fits top.now payload.now }
+    ensures { MatchOption result (room < elements_in (meaning_of top.now payload.now)) (λ left. left + elements_in (meaning_of top.now payload.now) ≡ room) }
+{
+    match payload {
+        Payload::Variable(value) => room.checked_sub(value.nodes()),
+        Payload::Function { body, .. } => nodes::room_left(body, room),
+        Payload::Datatype => match top {
+            Top::Datatype(_, content) => content.room_left(room),
+            Top::Variable(_) => unreachable!(),
+            Top::Function(_) => unreachable!(),
+        },
+    }
+}
+
+/// How many nodes the type has.
+pub fn nodes_of(ty: &Ty) -> u64
+    requires { nodes (term ty.now) < 2 ^ 64 }
+    ensures { result ≡ nodes (term ty.now) }
+{
+    match ty.room_left(u64::MAX) {
+        Some(left) => u64::MAX - left,
+        None => unreachable!(),
+    }
+}
+
+/// The elements of all other names, where all names have so many.
+pub fn elements_beside(env: &Env, elements: u64, name: &[u8]) -> u64
+    requires { AreKept env.now elements }
+    ensures { result ≡ elements_beside name.now (bindings_of env.now) }
+{
+    match env.get(name) {
+        None => elements,
+        Some((top, payload)) => match room_left(top, payload, elements) {
+            Some(left) => left,
+            None => unreachable!(),
+        },
+    }
+}

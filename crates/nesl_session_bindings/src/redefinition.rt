@@ -1,0 +1,134 @@
+//! Definitions that are refused because of what stands already.
+
+ghost use Rattle.std.specs.Prelude.{◌≡◌, ◌↔◌, ◌&&◌, IsTrue, Some, not, false, slice_get};
+ghost use Rattle.std.specs.Option.{option_map_or};
+ghost use Rattle.std.specs.Str.{bytes_eq};
+ghost use Rattle.nesl_types.specs.declared.bindings.Top.{Top};
+ghost use Rattle.nesl_eval_code.specs.declared.env.Payload.{Payload};
+ghost use Rattle.nesl_eval_code.specs.Stored.{environment, top_of};
+ghost use Rattle.nesl_eval_sound.specs.Refers.{is_referred, top_refers};
+ghost use Rattle.nesl_eval_sound.specs.Lines.{datatypes, is_type};
+ghost use Rattle.nesl_session_bindings.specs.Known.{meaning_in};
+ghost use Rattle.nesl_session_bindings.specs.Redefinition.{IsOther, IsRetyped, is_kept, is_taken};
+ghost use Rattle.nesl_session_bindings.specs.Stored.{AllFit, Fits, bindings_of, kind_of, meaning_of};
+
+use crate::kind::Kind;
+use nesl_builtins::named;
+use nesl_eval_code::{Env, Payload};
+use nesl_eval_sound::refers_to;
+use nesl_types::Top;
+
+/// Whether the name would be a variable or a function of another type.
+fn is_other(top: &Top, kind: Kind<'_>) -> bool
+    ensures { (payload : Payload) → Fits top.now payload → (IsTrue result ↔ IsOther (Some (meaning_of top.now payload)) (kind_of kind.entry)) }
+{
+    match top {
+        Top::Variable(old) => match kind {
+            Kind::Variable(new) => !old.same(new),
+            Kind::Function(_) => true,
+            Kind::Datatype => false,
+        },
+        Top::Function(old) => match kind {
+            Kind::Variable(_) => true,
+            Kind::Function(new) => !old.same(new),
+            Kind::Datatype => false,
+        },
+        Top::Datatype(_, _) => false,
+    }
+}
+
+/// Whether it is a function whose body refers to the name.
+fn payload_refers(name: &[u8], payload: &Payload) -> bool
+    ensures { (top : Top) → result ≡ top_refers name.now (top_of top payload.now) }
+{
+    match payload {
+        Payload::Variable(_) => false,
+        Payload::Function { pattern, body } => refers_to(name, pattern, body),
+        Payload::Datatype => false,
+    }
+}
+
+/// Whether another name stands at the place, a function's whose body refers to this one.
+fn refers_at(env: &Env, place: usize, name: &[u8]) -> bool
+    ensures { result ≡ option_map_or (λ b. not (bytes_eq b.0 name.now) && top_refers name.now (top_of b.1 b.2)) (slice_get env.now place) false }
+{
+    match env.at(place) {
+        None => false,
+        Some((other, _, payload)) => other != name && payload_refers(name, payload),
+    }
+}
+
+/// Whether the body of another function refers to the name.
+fn is_referred(env: &Env, name: &[u8]) -> bool
+    ensures { result ≡ is_referred name.now (environment env.now) }
+{
+    for place in 0..env.len() {
+        if refers_at(env, place, name) {
+            return true;
+        }
+    }
+    false
+}
+
+/// Whether its type would change, though the body of another function refers to it. Bodies are looked through last.
+pub fn is_retyped(env: &Env, name: &[u8], kind: Kind<'_>) -> bool
+    requires { AllFit env.now }
+    ensures { IsTrue result ↔ IsRetyped (bindings_of env.now) name.now (kind_of kind.entry) }
+{
+    match env.get(name) {
+        None => false,
+        Some((top, _)) => is_other(top, kind) && is_referred(env, name),
+    }
+}
+
+/// Whether the name is a datatype's, or any that is bound where a datatype is to be defined.
+fn is_kept(env: &Env, name: &[u8], kind: Kind<'_>) -> bool
+    requires { AllFit env.now }
+    ensures { result ≡ is_kept (meaning_in (bindings_of env.now) name.now) (kind_of kind.entry) }
+{
+    match env.get(name) {
+        None => false,
+        Some((top, _)) => match top {
+            Top::Variable(_) => kind.is_datatype(),
+            Top::Function(_) => kind.is_datatype(),
+            Top::Datatype(_, _) => true,
+        },
+    }
+}
+
+/// Whether the name may not be this because of what it is.
+pub fn is_taken(env: &Env, name: &[u8], kind: Kind<'_>) -> bool
+    requires { AllFit env.now }
+    ensures { result ≡ is_taken (bindings_of env.now) name.now (kind_of kind.entry) }
+{
+    named(name).is_some()
+        || is_kept(env, name, kind)
+        || (name == b"it".as_slice() && kind.is_no_variable())
+}
+
+/// Whether a datatype stands at the place.
+fn is_type_at(env: &Env, place: usize) -> bool
+    ensures { result ≡ option_map_or (λ b. is_type b.1) (slice_get env.now place) false }
+{
+    match env.at(place) {
+        None => false,
+        Some((_, top, _)) => match top {
+            Top::Variable(_) => false,
+            Top::Function(_) => false,
+            Top::Datatype(_, _) => true,
+        },
+    }
+}
+
+/// How many datatypes there are.
+pub fn datatypes(env: &Env) -> u64
+    ensures { result ≡ datatypes env.now }
+{
+    let mut count = 0;
+    for place in 0..env.len() {
+        if is_type_at(env, place) {
+            count += 1;
+        }
+    }
+    count
+}

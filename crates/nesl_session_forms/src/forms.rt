@@ -1,0 +1,172 @@
+//! What is found of a line by its form, where no expression has to be evaluated for it.
+ghost use Rattle.std.specs.Prelude.{◌≡◌, IfOk, option_map};
+ghost use Rattle.nesl_syntax_tree.specs.Trees as trees;
+ghost use Rattle.nesl_syntax_tree.specs.Views.{tree_of, pattern_tree, signature_tree, type_tree};
+ghost use Rattle.nesl_session_bindings.specs.Stored.{bindings_of};
+ghost use Rattle.nesl_session_step.specs.declared.limits.Limits.{Limits};
+ghost use Rattle.nesl_session_step.specs.State.{State};
+ghost use Rattle.nesl_session_step.specs.Finding.{FindsLine};
+ghost use Rattle.nesl_session_forms.specs.Found.{finding_of, CanCharge};
+ghost use Rattle.nesl_session_forms.specs.Forms.{with_names, IsFunction, IsDatatype, IsVariable};
+
+use crate::finding::{Definition, Finding, Meaning, Shown};
+use crate::stops::{Stopped, refused, untyped};
+use nesl_reply::Fault;
+use nesl_session_bindings::{Bindings, Kind};
+use nesl_session_step::limits::Limits;
+use nesl_syntax_tree::tree::{Exp, Pattern, Signature, TypeExp};
+use nesl_types::{Scheme, Ty};
+use std::alloc::{AllocError, Global};
+
+/// What is found where the type of an expression is asked for, in every state with these names.
+pub fn find_type(bindings: &Bindings, alloc: Global, exp: Exp) -> Result<Finding, AllocError>
+    ensures found { IfOk result (λ f. (limits : Limits) (s : State) → FindsLine limits (with_names (bindings_of bindings.now) s) (trees.show_type (tree_of exp)) (finding_of f)) }
+    ensures charges { IfOk result (λ f. (s : State) → CanCharge (with_names (bindings_of bindings.now) s) f) }
+{
+    let known = bindings.infer_exp(alloc, &exp);
+    drop(exp);
+    match known {
+        Ok(ty) => Ok(Finding::Told(Shown::Type(ty))),
+        Err(fault) => untyped(fault).found(),
+    }
+}
+
+/// What is found where a function is defined, in every state with these names.
+pub fn find_function(
+    bindings: &Bindings,
+    limits: Limits,
+    alloc: Global,
+    name: Vec<u8>,
+    parameter: Pattern,
+    signature: Option<Signature>,
+    body: Exp,
+) -> Result<Finding, AllocError>
+    ensures found { IfOk result (λ f. (s : State) → FindsLine limits (with_names (bindings_of bindings.now) s)
+        (trees.function name.items (pattern_tree parameter) (option_map signature_tree signature) (tree_of body)) (finding_of f)) }
+    ensures charges { IfOk result (λ f. (s : State) → CanCharge (with_names (bindings_of bindings.now) s) f) }
+{
+    let known = function_scheme(
+        bindings,
+        limits,
+        alloc,
+        name.as_slice(),
+        &parameter,
+        &signature,
+        &body,
+    );
+    drop(signature);
+    match known {
+        Ok(scheme) => {
+            let meaning = Meaning::Function(scheme, parameter, body);
+            Ok(Finding::Defined(Definition { name, meaning }))
+        }
+        Err(stopped) => {
+            drop(parameter);
+            drop(body);
+            stopped.found()
+        }
+    }
+}
+
+// The scheme of a function that may be defined.
+fn function_scheme(
+    bindings: &Bindings,
+    limits: Limits,
+    alloc: Global,
+    name: &[u8],
+    parameter: &Pattern,
+    signature: &Option<Signature>,
+    body: &Exp,
+) -> Result<Scheme, Stopped>
+    ensures { IsFunction limits (bindings_of bindings.now) name.now (pattern_tree parameter.now) (option_map signature_tree signature.now) (tree_of body.now) result }
+{
+    let scheme = match bindings.infer_function(alloc, name, parameter, signature, body) {
+        Ok(scheme) => scheme,
+        Err(fault) => return Err(untyped(fault)),
+    };
+    match bindings.refusal(name, Kind::Function(&scheme)) {
+        Some(refusal) => {
+            drop(scheme);
+            return Err(refused(refusal));
+        }
+        None => {}
+    }
+    if !bindings.fits_function(name, body, limits.elements) {
+        drop(scheme);
+        return Err(Stopped::Refused(Fault::Elements(0)));
+    }
+    Ok(scheme)
+}
+
+/// What is found where a datatype is defined, in every state with these names.
+pub fn find_datatype(
+    bindings: &Bindings,
+    limits: Limits,
+    alloc: Global,
+    name: Vec<u8>,
+    written: TypeExp,
+) -> Result<Finding, AllocError>
+    ensures found { IfOk result (λ f. (s : State) → FindsLine limits (with_names (bindings_of bindings.now) s)
+        (trees.datatype name.items (type_tree written)) (finding_of f)) }
+    ensures charges { IfOk result (λ f. (s : State) → CanCharge (with_names (bindings_of bindings.now) s) f) }
+{
+    let known = datatype_content(bindings, limits, alloc, name.as_slice(), &written);
+    drop(written);
+    match known {
+        Ok(content) => {
+            let meaning = Meaning::Datatype(bindings.next_tag(), content);
+            Ok(Finding::Defined(Definition { name, meaning }))
+        }
+        Err(stopped) => stopped.found(),
+    }
+}
+
+// What the records of a datatype hold that may be defined.
+fn datatype_content(
+    bindings: &Bindings,
+    limits: Limits,
+    alloc: Global,
+    name: &[u8],
+    written: &TypeExp,
+) -> Result<Ty, Stopped>
+    ensures { IsDatatype limits (bindings_of bindings.now) name.now (type_tree written.now) result }
+{
+    let content = match bindings.infer_datatype(alloc, written) {
+        Ok(content) => content,
+        Err(fault) => return Err(untyped(fault)),
+    };
+    match bindings.refusal(name, Kind::Datatype) {
+        Some(refusal) => {
+            drop(content);
+            return Err(refused(refusal));
+        }
+        None => {}
+    }
+    if !bindings.fits_datatype(name, &content, limits.elements) {
+        drop(content);
+        return Err(Stopped::Refused(Fault::Elements(0)));
+    }
+    Ok(content)
+}
+
+/// The type of a variable that may be bound, where an expression comes to a value.
+pub fn variable_type(
+    bindings: &Bindings,
+    alloc: Global,
+    name: &[u8],
+    exp: &Exp,
+) -> Result<Ty, Stopped>
+    ensures { IsVariable (bindings_of bindings.now) name.now (tree_of exp.now) result }
+{
+    let ty = match bindings.infer_exp(alloc, exp) {
+        Ok(ty) => ty,
+        Err(fault) => return Err(untyped(fault)),
+    };
+    match bindings.refusal(name, Kind::Variable(&ty)) {
+        Some(refusal) => {
+            drop(ty);
+            Err(refused(refusal))
+        }
+        None => Ok(ty),
+    }
+}

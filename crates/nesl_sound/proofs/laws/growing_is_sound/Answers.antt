@@ -1,5 +1,0 @@
-use Rattle.nesl_sound.proofs.Worked.{growing_is_sound}
-use Rattle.nesl_sound.proofs.laws.growing_is_sound.Goals as goal
-
-pub returns : goal.returns
-returns c = growing_is_sound

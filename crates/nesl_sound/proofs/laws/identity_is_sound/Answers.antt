@@ -1,5 +1,0 @@
-use Rattle.nesl_sound.proofs.Worked.{identity_sound}
-use Rattle.nesl_sound.proofs.laws.identity_is_sound.Goals as goal
-
-pub returns : goal.returns
-returns c = identity_sound

@@ -1,5 +1,0 @@
-use Rattle.nesl_sound.proofs.Worked.{point_sound}
-use Rattle.nesl_sound.proofs.laws.point_is_sound.Goals as goal
-
-pub returns : goal.returns
-returns c = point_sound

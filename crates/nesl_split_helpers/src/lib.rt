@@ -1,0 +1,14 @@
+//! What evaluation in halves stands on: who grants helpers, permits and a pool of them, and what the halves of an
+//! interval of places come to together.
+#![tactic(auto)]
+
+mod halving;
+mod helpers;
+mod permits;
+mod pool;
+pub mod sparing;
+
+pub use halving::{Half, begun_with, cost_since, joined_places, joined_values};
+pub use helpers::{Free, Gate, Helpers, NoHelpers, NoPermit, Place};
+pub use permits::Permits;
+pub use pool::{Asking, Permit, Pool};

@@ -1,0 +1,246 @@
+// Lists of parts: the elements of a sequence, and binders with what they are bound to.
+
+ghost use Rattle.std.specs.Prelude.{◌≡◌, ◌≤◌, ◌<◌, max, IfOk, IfSome, MatchOption, Option};
+ghost use Rattle.nesl_syntax_tree.specs.Trees.{Tree, Trees, Binders, PatternTree, height, greatest_bound, node, span_of, and_then, and_bind};
+ghost use Rattle.nesl_syntax_tree.specs.Trees as trees;
+ghost use Rattle.nesl_syntax_open.specs.declared.lists.Bindings.TheVariants as many;
+ghost use Rattle.nesl_syntax_tree.specs.Views.{shape_of, trees_in, binders_in, tree_of};
+ghost use Rattle.nesl_syntax_tree.specs.Grammar.{over, own_body};
+ghost use Rattle.nesl_syntax_open.specs.Machine.{body_or};
+ghost use Rattle.nesl_syntax_open.specs.Parts.{Sees, SeesAll, SeesBound, SeesBody, SeesPattern};
+
+use crate::part::{LIMIT, Part, boxed, boxes, built, low_enough, none, over, too_high};
+use crate::pattern::PatternPart;
+use nesl_lex::token::Span;
+use nesl_syntax_tree::tree::{Binding, Exp, Node};
+use std::alloc::{AllocError, Global};
+
+/// Elements so far with their greatest height, or some that are too high.
+#[derive(Drop)]
+pub enum Elements {
+    Built { items: Vec<Exp>, height: usize },
+    High,
+}
+
+/// Binders so far with the greatest height of their parts, or some that are too high.
+#[derive(Drop)]
+pub enum Bindings {
+    Built { items: Vec<Binding>, height: usize },
+    High,
+}
+
+#[tactic(auto, using(nesl_syntax_tree::proofs::Rows::greatest_and_then, nesl_syntax_tree::proofs::Rows::trees_push))]
+pub fn push_part(elements: Elements, part: Part) -> Result<Elements, AllocError>
+    ensures { IfOk result (λ r. (xs : Trees) (x : Tree) → SeesAll elements xs → Sees part x → SeesAll r (and_then xs x)) }
+{
+    match elements {
+        Elements::Built { items, height: m } => match part {
+            Part::Built { exp, height: n, .. } => {
+                let mut items = items;
+                items.push(exp)?;
+                Ok(Elements::Built {
+                    items,
+                    height: m.max(n),
+                })
+            }
+            Part::High(_) => {
+                drop(items);
+                Ok(Elements::High)
+            }
+        },
+        Elements::High => {
+            drop(part);
+            Ok(Elements::High)
+        }
+    }
+}
+
+// Drops the parts of what is too high.
+fn not_built<T: Drop>(parts: T) -> Bindings
+    ensures { result ≡ many.High }
+{
+    drop(parts);
+    Bindings::High
+}
+
+#[tactic(auto, using(nesl_syntax_tree::proofs::Rows::greatest_and_bind, nesl_syntax_tree::proofs::Rows::binders_push))]
+pub fn push_binding(
+    bindings: Bindings,
+    pattern: PatternPart,
+    value: Part,
+) -> Result<Bindings, AllocError>
+    ensures { IfOk result (λ r. (bs : Binders) (p : PatternTree) (x : Tree) → SeesBound bindings bs → SeesPattern pattern p → Sees value x →
+        SeesBound r (and_bind bs p x)) }
+{
+    let Bindings::Built { items, height: m } = bindings else {
+        return Ok(not_built((pattern, value)));
+    };
+    let PatternPart::Built { pattern, height: n } = pattern else {
+        return Ok(not_built((items, value)));
+    };
+    let Part::Built {
+        exp: value,
+        height: k,
+        ..
+    } = value
+    else {
+        return Ok(not_built((items, pattern)));
+    };
+    let mut items = items;
+    items.push(Binding { pattern, value })?;
+    Ok(Bindings::Built {
+        items,
+        height: m.max(n.max(k)),
+    })
+}
+
+fn sequence_node(items: Vec<Exp>) -> Node
+    ensures { shape_of result ≡ trees.sequence (trees_in items.items) }
+{
+    Node::Sequence(items)
+}
+
+fn let_node(items: Vec<Binding>, body: Box<Exp>) -> Node
+    ensures { shape_of result ≡ trees.let_in (binders_in items.items) (tree_of body.value) }
+{
+    Node::Let {
+        bindings: items,
+        body,
+    }
+}
+
+fn each_node(body: Box<Exp>, items: Vec<Binding>) -> Node
+    ensures { shape_of result ≡ trees.each (tree_of body.value) (binders_in items.items) }
+{
+    Node::Each {
+        body,
+        bindings: items,
+    }
+}
+
+fn filtered_node(body: Box<Exp>, items: Vec<Binding>, filter: Box<Exp>) -> Node
+    ensures { shape_of result ≡ trees.filtered_each (tree_of body.value) (binders_in items.items) (tree_of filter.value) }
+{
+    Node::FilteredEach {
+        body,
+        bindings: items,
+        filter,
+    }
+}
+
+pub fn sequence_of(elements: Elements, span: Span) -> Part
+    ensures { (xs : Trees) → SeesAll elements xs → Sees result (node span (trees.sequence xs)) }
+{
+    match elements {
+        Elements::Built { items, height } if height < LIMIT => {
+            built(span, sequence_node(items), height, false)
+        }
+        other => too_high(other, false),
+    }
+}
+
+// Binders with their height, where a node may stand over them.
+fn low_bindings(bindings: Bindings) -> Option<(Vec<Binding>, usize)>
+    ensures low { IfSome result (λ r. r.1 < 100) }
+    ensures seen { (bs : Binders) → SeesBound bindings bs →
+        MatchOption result (100 ≤ greatest_bound bs) (λ r. (binders_in r.0.items ≡ bs) × (r.1 ≡ greatest_bound bs)) }
+{
+    match bindings {
+        Bindings::Built { items, height } if height < LIMIT => Some((items, height)),
+        other => none(other),
+    }
+}
+
+pub fn let_of(alloc: Global, word: Span, bindings: Bindings, body: Part) -> Result<Part, AllocError>
+    ensures { IfOk result (λ r. (bs : Binders) (x : Tree) → SeesBound bindings bs → Sees body x →
+        Sees r (node (over word (span_of x)) (trees.let_in bs x))) }
+{
+    let Some((items, m)) = low_bindings(bindings) else {
+        return Ok(too_high(body, false));
+    };
+    let Some((body, n)) = low_enough(body) else {
+        return Ok(too_high(items, false));
+    };
+    let span = over(word, body.span);
+    let node = let_node(items, boxed(alloc, body)?);
+    Ok(built(span, node, m.max(n), false))
+}
+
+// The body of an apply-to-each that has none.
+fn element_of(items: &[Binding]) -> Exp
+    ensures { tree_of result ≡ own_body (binders_in items.now) }
+{
+    let span = match items {
+        [] => Span { start: 0, end: 0 },
+        [first, ..] => first.pattern.span,
+    };
+    Exp {
+        span,
+        node: Node::Element,
+    }
+}
+
+// The body of an apply-to-each.
+fn body_of(body: Option<Part>, items: &[Binding]) -> Part
+    ensures { (b : Option Tree) → SeesBody body b → Sees result (body_or b (binders_in items.now)) }
+{
+    match body {
+        Some(part) => part,
+        None => Part::Built {
+            exp: element_of(items),
+            height: 1,
+            pattern: false,
+        },
+    }
+}
+
+// The body and the binders of an apply-to-each with their greater height, where a node may stand over them.
+fn low_each(body: Option<Part>, bindings: Bindings) -> Option<(Exp, Vec<Binding>, usize)>
+    ensures low { IfSome result (λ r. r.2 < 100) }
+    ensures seen { (b : Option Tree) (bs : Binders) → SeesBody body b → SeesBound bindings bs → let greater = max (height (body_or b bs)) (greatest_bound bs) in
+        MatchOption result (100 ≤ greater) (λ r. (tree_of r.0 ≡ body_or b bs) × (binders_in r.1.items ≡ bs) × (r.2 ≡ greater)) }
+{
+    let Some((items, m)) = low_bindings(bindings) else {
+        return none(body);
+    };
+    let Some((body, n)) = low_enough(body_of(body, items.as_slice())) else {
+        return none(items);
+    };
+    Some((body, items, n.max(m)))
+}
+
+pub fn each_of(
+    alloc: Global,
+    body: Option<Part>,
+    bindings: Bindings,
+    span: Span,
+) -> Result<Part, AllocError>
+    ensures { IfOk result (λ r. (b : Option Tree) (bs : Binders) → SeesBody body b → SeesBound bindings bs →
+        Sees r (node span (trees.each (body_or b bs) bs))) }
+{
+    let Some((body, items, height)) = low_each(body, bindings) else {
+        return Ok(Part::High(false));
+    };
+    let node = each_node(boxed(alloc, body)?, items);
+    Ok(built(span, node, height, false))
+}
+
+pub fn filtered_each_of(
+    alloc: Global,
+    body: Option<Part>,
+    bindings: Bindings,
+    filter: Part,
+    span: Span,
+) -> Result<Part, AllocError>
+    ensures { IfOk result (λ r. (b : Option Tree) (bs : Binders) (x : Tree) → SeesBody body b → SeesBound bindings bs → Sees filter x →
+        Sees r (node span (trees.filtered_each (body_or b bs) bs x))) }
+{
+    let Some((body, items, m)) = low_each(body, bindings) else {
+        return Ok(too_high(filter, false));
+    };
+    let Some((filter, n)) = low_enough(filter) else {
+        return Ok(too_high((body, items), false));
+    };
+    let (body, filter) = boxes(alloc, body, filter)?;
+    Ok(built(span, filtered_node(body, items, filter), m.max(n), false))
+}

@@ -1,0 +1,302 @@
+// Parts of a tree, built only up to height 100.
+
+ghost use Rattle.std.specs.Prelude.{◌≡◌, ◌≤◌, ◌<◌, ◌+◌, max, None, IfOk, IfSome, MatchOption};
+ghost use Rattle.nesl_syntax_tree.specs.Trees.{Tree, TypeTree, height, node, span_of, type_span, widened};
+ghost use Rattle.nesl_syntax_tree.specs.Trees as trees;
+ghost use Rattle.nesl_syntax_open.specs.declared.part.Part.TheVariants as part;
+ghost use Rattle.nesl_syntax_tree.specs.Patterns.{is_pattern};
+ghost use Rattle.nesl_syntax_tree.specs.Grammar.{over};
+ghost use Rattle.nesl_syntax_open.specs.Parts.{Sees, SeesType};
+ghost use Rattle.nesl_syntax_tree.specs.Views.{tree_of};
+
+use crate::types::TypePart;
+use nesl_lex::token::Span;
+use nesl_syntax_tree::tree::{Exp, Node, Operator, Prefix};
+use std::alloc::{AllocError, Global};
+
+/// The greatest height of a tree that is built.
+pub const LIMIT: usize = 100;
+
+/// An expression with its height, or one that is too high and isn't built; and whether its tokens could be a pattern.
+#[derive(Drop)]
+pub enum Part {
+    Built {
+        exp: Exp,
+        height: usize,
+        pattern: bool,
+    },
+    High(bool),
+}
+
+/// Drops the parts of what is too high.
+pub fn too_high<T: Drop>(parts: T, pattern: bool) -> Part
+    ensures { result ≡ part.High pattern }
+{
+    drop(parts);
+    Part::High(pattern)
+}
+
+/// The same where what they are made of was wanted.
+pub(crate) fn none<T: Drop, U>(parts: T) -> Option<U>
+    ensures { result ≡ None }
+{
+    drop(parts);
+    None
+}
+
+/// A node in these bytes over parts of at most this height.
+pub(crate) fn built(span: Span, node: Node, height: usize, pattern: bool) -> Part
+    requires { height < 100 }
+    ensures { result ≡ part.Built (record { span = span; node = node }) (height + 1) pattern }
+{
+    Part::Built {
+        exp: Exp { span, node },
+        height: height + 1,
+        pattern,
+    }
+}
+
+/// An expression with its height, where a node may stand over it.
+pub(crate) fn low_enough(part: Part) -> Option<(Exp, usize)>
+    ensures low { IfSome result (λ r. r.1 < 100) }
+    ensures seen { (x : Tree) → Sees part x → MatchOption result (100 ≤ height x) (λ r. (tree_of r.0 ≡ x) × (r.1 ≡ height x)) }
+{
+    match part {
+        Part::Built { exp, height, .. } if height < LIMIT => Some((exp, height)),
+        other => none(other),
+    }
+}
+
+// Two expressions with their greater height, where a node may stand over them.
+fn both(left: Part, right: Part) -> Option<(Exp, Exp, usize)>
+    ensures low { IfSome result (λ r. r.2 < 100) }
+    ensures seen { (x y : Tree) → Sees left x → Sees right y → let greater = max (height x) (height y) in
+        MatchOption result (100 ≤ greater) (λ r. (tree_of r.0 ≡ x) × (tree_of r.1 ≡ y) × (r.2 ≡ greater)) }
+{
+    let Some((left, m)) = low_enough(left) else {
+        return none(right);
+    };
+    let Some((right, n)) = low_enough(right) else {
+        return none(left);
+    };
+    Some((left, right, m.max(n)))
+}
+
+/// A value on the heap.
+pub(crate) fn boxed<T: Drop>(alloc: Global, value: T) -> Result<Box<T>, AllocError>
+    ensures { IfOk result (λ r. r.value ≡ value) }
+{
+    Ok(Box::new(alloc, value)?)
+}
+
+/// Two values on the heap.
+pub(crate) fn boxes<T: Drop>(
+    alloc: Global,
+    left: T,
+    right: T,
+) -> Result<(Box<T>, Box<T>), AllocError>
+    ensures { IfOk result (λ r. (r.0.value ≡ left) × (r.1.value ≡ right)) }
+{
+    let left = boxed(alloc, left)?;
+    let right = boxed(alloc, right)?;
+    Ok((left, right))
+}
+
+/// From the first byte of one to the last of the other.
+pub fn over(from: Span, to: Span) -> Span
+    ensures { result ≡ over from to }
+{
+    Span {
+        start: from.start,
+        end: to.end,
+    }
+}
+
+/// Whether its tokens could be a pattern.
+pub fn may_be_pattern(part: &Part) -> bool
+    ensures { (x : Tree) → Sees part.now x → result ≡ is_pattern x }
+{
+    match part {
+        Part::Built { pattern, .. } => *pattern,
+        Part::High(pattern) => *pattern,
+    }
+}
+
+/// The same part, standing in these bytes.
+pub fn widen(part: Part, span: Span) -> Part
+    ensures { (x : Tree) → Sees part x → Sees result (widened span x) }
+{
+    match part {
+        Part::Built {
+            mut exp,
+            height,
+            pattern,
+        } => {
+            exp.span = span;
+            Part::Built {
+                exp,
+                height,
+                pattern,
+            }
+        }
+        Part::High(pattern) => Part::High(pattern),
+    }
+}
+
+pub fn call_of(alloc: Global, name: Vec<u8>, part: Part, span: Span) -> Result<Part, AllocError>
+    ensures { IfOk result (λ r. (x : Tree) → Sees part x → Sees r (node span (trees.call name.items x))) }
+{
+    let pattern = may_be_pattern(&part);
+    let Some((argument, height)) = low_enough(part) else {
+        return Ok(Part::High(pattern));
+    };
+    let argument = boxed(alloc, argument)?;
+    Ok(built(span, Node::Call { name, argument }, height, pattern))
+}
+
+pub fn pair_of(alloc: Global, left: Part, right: Part) -> Result<Part, AllocError>
+    ensures { IfOk result (λ r. (x y : Tree) → Sees left x → Sees right y →
+        Sees r (node (over (span_of x) (span_of y)) (trees.pair x y))) }
+{
+    let pattern = may_be_pattern(&left) && may_be_pattern(&right);
+    let Some((left, right, height)) = both(left, right) else {
+        return Ok(Part::High(pattern));
+    };
+    let span = over(left.span, right.span);
+    let (left, right) = boxes(alloc, left, right)?;
+    Ok(built(span, Node::Pair { left, right }, height, pattern))
+}
+
+pub fn prefix_of(alloc: Global, prefix: Prefix, sign: Span, part: Part) -> Result<Part, AllocError>
+    ensures { IfOk result (λ r. (x : Tree) → Sees part x → Sees r (node (over sign (span_of x)) (trees.prefix_of prefix x))) }
+{
+    let Some((operand, height)) = low_enough(part) else {
+        return Ok(Part::High(false));
+    };
+    let span = over(sign, operand.span);
+    let node = Node::Prefix {
+        operator: prefix,
+        operand: boxed(alloc, operand)?,
+    };
+    Ok(built(span, node, height, false))
+}
+
+pub fn infix_of(
+    alloc: Global,
+    operator: Operator,
+    left: Part,
+    right: Part,
+) -> Result<Part, AllocError>
+    ensures { IfOk result (λ r. (x y : Tree) → Sees left x → Sees right y →
+        Sees r (node (over (span_of x) (span_of y)) (trees.infix_of operator x y))) }
+{
+    let Some((left, right, height)) = both(left, right) else {
+        return Ok(Part::High(false));
+    };
+    let span = over(left.span, right.span);
+    let (left, right) = boxes(alloc, left, right)?;
+    let node = Node::Infix {
+        operator,
+        left,
+        right,
+    };
+    Ok(built(span, node, height, false))
+}
+
+pub fn index_of(alloc: Global, base: Part, index: Part, close: Span) -> Result<Part, AllocError>
+    ensures { IfOk result (λ r. (x y : Tree) → Sees base x → Sees index y →
+        Sees r (node (over (span_of x) close) (trees.index x y))) }
+{
+    let Some((sequence, index, height)) = both(base, index) else {
+        return Ok(Part::High(false));
+    };
+    let span = over(sequence.span, close);
+    let (sequence, index) = boxes(alloc, sequence, index)?;
+    Ok(built(span, Node::Index { sequence, index }, height, false))
+}
+
+pub fn range_of(alloc: Global, from: Part, to: Part, span: Span) -> Result<Part, AllocError>
+    ensures { IfOk result (λ r. (x y : Tree) → Sees from x → Sees to y → Sees r (node span (trees.range x y))) }
+{
+    let Some((from, to, height)) = both(from, to) else {
+        return Ok(Part::High(false));
+    };
+    let (from, to) = boxes(alloc, from, to)?;
+    Ok(built(span, Node::Range { from, to }, height, false))
+}
+
+// Three expressions with their greatest height, where a node may stand over them.
+fn all_three(first: Part, second: Part, third: Part) -> Option<(Exp, Exp, Exp, usize)>
+    ensures low { IfSome result (λ r. r.3 < 100) }
+    ensures seen { (x y z : Tree) → Sees first x → Sees second y → Sees third z → let greatest = max (height x) (max (height y) (height z)) in
+        MatchOption result (100 ≤ greatest) (λ r. (tree_of r.0 ≡ x) × (tree_of r.1 ≡ y) × (tree_of r.2 ≡ z) × (r.3 ≡ greatest)) }
+{
+    let Some((first, second, m)) = both(first, second) else {
+        return none(third);
+    };
+    let Some((third, n)) = low_enough(third) else {
+        return none((first, second));
+    };
+    Some((first, second, third, m.max(n)))
+}
+
+fn three_boxes<T: Drop>(
+    alloc: Global,
+    first: T,
+    second: T,
+    third: T,
+) -> Result<(Box<T>, Box<T>, Box<T>), AllocError>
+    ensures { IfOk result (λ r. (r.0.value ≡ first) × (r.1.value ≡ second) × (r.2.value ≡ third)) }
+{
+    let (first, second) = boxes(alloc, first, second)?;
+    let third = boxed(alloc, third)?;
+    Ok((first, second, third))
+}
+
+pub fn strided_range_of(
+    alloc: Global,
+    from: Part,
+    to: Part,
+    stride: Part,
+    span: Span,
+) -> Result<Part, AllocError>
+    ensures { IfOk result (λ r. (x y z : Tree) → Sees from x → Sees to y → Sees stride z →
+        Sees r (node span (trees.strided_range x y z))) }
+{
+    let Some((from, to, stride, height)) = all_three(from, to, stride) else {
+        return Ok(Part::High(false));
+    };
+    let (from, to, stride) = three_boxes(alloc, from, to, stride)?;
+    Ok(built(span, Node::StridedRange { from, to, stride }, height, false))
+}
+
+pub fn choice_of(
+    alloc: Global,
+    word: Span,
+    test: Part,
+    yes: Part,
+    no: Part,
+) -> Result<Part, AllocError>
+    ensures { IfOk result (λ r. (x y z : Tree) → Sees test x → Sees yes y → Sees no z →
+        Sees r (node (over word (span_of z)) (trees.choice x y z))) }
+{
+    let Some((test, yes, no, height)) = all_three(test, yes, no) else {
+        return Ok(Part::High(false));
+    };
+    let span = over(word, no.span);
+    let (test, yes, no) = three_boxes(alloc, test, yes, no)?;
+    Ok(built(span, Node::Choice { test, yes, no }, height, false))
+}
+
+/// An empty sequence whose `[` stands here.
+pub fn empty_of(written: TypePart, from: Span) -> Part
+    ensures { (x : TypeTree) → SeesType written x → Sees result (node (over from (type_span x)) (trees.empty x)) }
+{
+    match written {
+        TypePart::Built { written, height } if height < LIMIT => {
+            let span = over(from, written.span);
+            built(span, Node::Empty(written), height, false)
+        }
+        other => too_high(other, false),
+    }
+}

@@ -1,0 +1,367 @@
+//! What each line comes to in halves. The functions that it defines stand for the lines after it.
+//! A line that begins with one of these words is a directive, and any other is evaluated.
+//!
+//! - `% TEXT`: a title, which is written as it is.
+//! - `@helpers never`, `always`, `second` (at every second question) or `pool` (one of three permits): who helps from here on.
+//!   Behind an outcome then stands how many helpers are out, or how many permits are free.
+//! - `@levels NUMBER`, `@budget NUMBER`: so many levels are allowed from here on, and so much work.
+//! - `@requests COUNT`: asks for memory so many times, and does nothing with it.
+//! - `@row LINE`: adds a row, which is an expression that comes to the same in halves and in order.
+//! - `@rows`: writes how many rows don't.
+//! - `@budgets COUNT`: the same with each budget below the count, where helpers are always granted. One counts more where
+//!   helpers are out then.
+//! - `@seeds COUNT`: the same of a row for each seed, where helpers are granted as the seed tells, and whether more helpers
+//!   were granted than there are seeds.
+//! - `@meet LINE`: evaluates it where each half of two places waits for the other, and writes how often the left half was
+//!   entered, the right one and any other place, and how often one waited in vain.
+//! - `@asks`: writes how many permits of pools are free behind questions.
+//! - `@close`: closes the pool.
+
+use crate::forms::{Reading, define, reading_of};
+use crate::gates::HalfGate;
+use crate::granting::Granting;
+use crate::pools::put_asks;
+use crate::requests::request;
+use crate::told::{LEVELS, WORK, is_same, put_outcome};
+use crate::writing::{put, put_done, put_line, put_wrong};
+use nesl_eval::{Outcome, eval_one};
+use nesl_eval_code::Env;
+use nesl_split::eval_split;
+use nesl_split_helpers::{Free, Gate, Helpers, NoHelpers, Pool};
+use nesl_syntax_tree::tree::{Exp, Form};
+use std::alloc::{AllocError, Global};
+use std::rt::Clock;
+use std::sync::Wait;
+use std::sync::ledger::Ledger;
+use std::thread::Threads;
+
+// Who helps.
+#[derive(Clone, Copy)]
+enum Grant {
+    Never,
+    Always,
+    EverySecond,
+    Pool,
+}
+
+// What is evaluated.
+#[derive(Clone, Copy)]
+enum Work<'e> {
+    One(&'e Exp),
+    Rows,
+}
+
+// What is bound, and who helps to evaluate a line.
+#[derive(Drop)]
+struct Halves<'a, L: Ledger, R> {
+    rt: &'a R,
+    pool: &'a Pool<L>,
+    env: Env,
+    rows: String,
+    count: u64,
+    grant: Grant,
+    levels: u32,
+    budget: u64,
+}
+
+impl<'a, L: Ledger + Send + Sync, R: Threads + Wait + Clock + Sync> Halves<'a, L, R> {
+    fn new(rt: &'a R, alloc: Global, pool: &'a Pool<L>) -> Halves<'a, L, R> {
+        Halves {
+            rt,
+            pool,
+            env: Env::new(alloc),
+            rows: String::new(alloc),
+            count: 0,
+            grant: Grant::Never,
+            levels: LEVELS,
+            budget: WORK,
+        }
+    }
+
+    fn answer_lines(
+        &mut self,
+        alloc: Global,
+        text: &str,
+        out: &mut Vec<u8>,
+    ) -> Result<(), AllocError> {
+        for line in text.lines() {
+            self.follow(alloc, line, out)?;
+        }
+        Ok(())
+    }
+
+    fn follow(&mut self, alloc: Global, line: &str, out: &mut Vec<u8>) -> Result<(), AllocError> {
+        let (word, rest) = line.split_once(' ').unwrap_or((line, ""));
+        if word == "%" {
+            put_line(out, line.as_bytes())
+        } else if word == "@helpers" {
+            self.help(rest, out)
+        } else if word == "@levels" || word == "@budget" {
+            self.limit(word, rest, out)
+        } else if word == "@requests" {
+            request(alloc, rest, out)
+        } else if word == "@row" {
+            self.add_row(rest)
+        } else if word == "@rows" {
+            self.evaluate(alloc, Work::Rows, out)
+        } else if word == "@budgets" || word == "@seeds" {
+            self.try_many(alloc, word, rest, out)
+        } else if word == "@meet" {
+            self.meet(alloc, rest, out)
+        } else if word == "@asks" {
+            put_asks(self.rt, alloc, out)
+        } else if word == "@close" {
+            self.pool.close(self.rt);
+            Ok(())
+        } else {
+            self.answer(alloc, line, out)
+        }
+    }
+
+    fn help(&mut self, word: &str, out: &mut Vec<u8>) -> Result<(), AllocError> {
+        if word == "never" {
+            self.grant = Grant::Never;
+        } else if word == "always" {
+            self.grant = Grant::Always;
+        } else if word == "second" {
+            self.grant = Grant::EverySecond;
+        } else if word == "pool" {
+            self.grant = Grant::Pool;
+        } else {
+            return put_wrong(out);
+        }
+        Ok(())
+    }
+
+    fn limit(&mut self, word: &str, number: &str, out: &mut Vec<u8>) -> Result<(), AllocError> {
+        let Ok(number) = number.parse::<u32>() else {
+            return put_wrong(out);
+        };
+        if word == "@levels" {
+            self.levels = number;
+        } else {
+            self.budget = u64::from(number);
+        }
+        Ok(())
+    }
+
+    fn answer(&mut self, alloc: Global, line: &str, out: &mut Vec<u8>) -> Result<(), AllocError> {
+        match reading_of(alloc, line.as_bytes())? {
+            Reading::Form(Form::Eval(exp)) => self.evaluate(alloc, Work::One(&exp), out),
+            Reading::Form(
+                Form::Fun {
+                    name,
+                    parameter,
+                    body,
+                    ..
+                },
+            ) => {
+                let done = define(alloc, &mut self.env, name.as_slice(), parameter, body);
+                put_done(done, b"a function\n", out)
+            }
+            _ => put_line(out, b"no expression"),
+        }
+    }
+
+    fn add_row(&mut self, line: &str) -> Result<(), AllocError> {
+        self.rows.push_str(line)?;
+        self.rows.push_str("\n")?;
+        self.count = self.count.saturating_add(1);
+        Ok(())
+    }
+
+    // What this comes to, and how many helpers are out then, or permits free.
+    fn evaluate(&self, alloc: Global, work: Work<'_>, out: &mut Vec<u8>) -> Result<(), AllocError> {
+        match self.grant {
+            Grant::Never => {
+                self.put_told(alloc, work, &NoHelpers, out)?;
+                out.extend_from_slice(b"\n")
+            }
+            Grant::Always => self.by_granting(alloc, work, &Granting::always(), out),
+            Grant::EverySecond => self.by_granting(alloc, work, &Granting::every_second(), out),
+            Grant::Pool => {
+                self.put_told(alloc, work, &self.pool.by(self.rt), out)?;
+                let free = self.pool.free(self.rt);
+                put(out, format!(in alloc; "; {free} free\n"))
+            }
+        }
+    }
+
+    fn by_granting(
+        &self,
+        alloc: Global,
+        work: Work<'_>,
+        helpers: &Granting,
+        out: &mut Vec<u8>,
+    ) -> Result<(), AllocError> {
+        self.put_told(alloc, work, helpers, out)?;
+        let number = helpers.out();
+        put(out, format!(in alloc; "; {number} out\n"))
+    }
+
+    fn put_told<H: Helpers + Sync>(
+        &self,
+        alloc: Global,
+        work: Work<'_>,
+        helpers: &H,
+        out: &mut Vec<u8>,
+    ) -> Result<(), AllocError> {
+        match work {
+            Work::One(exp) => self.put_outcome(alloc, exp, helpers, &Free, out),
+            Work::Rows => {
+                let wrong = self.wrong_rows(alloc, self.budget, helpers);
+                let all = self.count;
+                put(out, format!(in alloc; "{wrong} wrong of {all} rows"))
+            }
+        }
+    }
+
+    fn told<H: Helpers + Sync, G: Gate + Sync>(
+        &self,
+        alloc: Global,
+        exp: &Exp,
+        budget: u64,
+        helpers: &H,
+        gate: &G,
+    ) -> Outcome<Global> {
+        eval_split(
+            self.rt,
+            alloc,
+            &self.env,
+            exp,
+            self.levels,
+            budget,
+            helpers,
+            gate,
+        )
+    }
+
+    // Whether a row comes in halves to what it comes to in order.
+    fn agrees<H: Helpers + Sync>(
+        &self,
+        alloc: Global,
+        row: &str,
+        budget: u64,
+        helpers: &H,
+    ) -> bool {
+        match reading_of(alloc, row.as_bytes()) {
+            Ok(Reading::Form(Form::Eval(exp))) => self.is_same(alloc, &exp, budget, helpers),
+            _ => false,
+        }
+    }
+
+    fn is_same<H: Helpers + Sync>(
+        &self,
+        alloc: Global,
+        exp: &Exp,
+        budget: u64,
+        helpers: &H,
+    ) -> bool {
+        let told = self.told(alloc, exp, budget, helpers, &Free);
+        is_same(&told, &eval_one(alloc, &self.env, exp, self.levels, budget))
+    }
+
+    // The rows that don't.
+    fn wrong_rows<H: Helpers + Sync>(&self, alloc: Global, budget: u64, helpers: &H) -> u64 {
+        let mut wrong = 0u64;
+        for row in self.rows.as_str().lines() {
+            if !self.agrees(alloc, row, budget, helpers) {
+                wrong = wrong.saturating_add(1);
+            }
+        }
+        wrong
+    }
+
+    fn try_many(
+        &self,
+        alloc: Global,
+        word: &str,
+        count: &str,
+        out: &mut Vec<u8>,
+    ) -> Result<(), AllocError> {
+        match count.parse::<u32>() {
+            Ok(count) if word == "@budgets" => self.try_budgets(alloc, u64::from(count), out),
+            Ok(count) => self.try_seeds(alloc, u64::from(count), out),
+            Err(_) => put_wrong(out),
+        }
+    }
+
+    fn try_budgets(&self, alloc: Global, count: u64, out: &mut Vec<u8>) -> Result<(), AllocError> {
+        let mut wrong = 0u64;
+        for budget in 0..count {
+            let helpers = Granting::always();
+            wrong = wrong.saturating_add(self.wrong_rows(alloc, budget, &helpers));
+            wrong = wrong.saturating_add(u64::from(helpers.out() != 0));
+        }
+        put(out, format!(in alloc; "{wrong} wrong by {count} budgets\n"))
+    }
+
+    fn try_seeds(&self, alloc: Global, count: u64, out: &mut Vec<u8>) -> Result<(), AllocError> {
+        let mut wrong = 0u64;
+        let mut granted = 0u64;
+        for seed in 0..count {
+            let helpers = Granting::seeded(seed);
+            wrong = wrong.saturating_add(self.wrong_by_seed(alloc, seed, &helpers));
+            granted = granted.saturating_add(helpers.granted());
+        }
+        let many = if granted > count { "many" } else { "FEW" };
+        put(
+            out,
+            format!(in alloc; "{wrong} wrong by {count} seeds, {many} granted\n"),
+        )
+    }
+
+    // One, unless the row whose turn it is agrees, and no helper is out then.
+    fn wrong_by_seed(&self, alloc: Global, seed: u64, helpers: &Granting) -> u64 {
+        let place = seed.checked_rem(self.count).unwrap_or(0);
+        let budget = seed.saturating_add(40);
+        match self.rows.as_str().lines().nth(place as usize) {
+            Some(row) if self.agrees(alloc, row, budget, helpers) && helpers.out() == 0 => 0,
+            _ => 1,
+        }
+    }
+
+    fn meet(&self, alloc: Global, line: &str, out: &mut Vec<u8>) -> Result<(), AllocError> {
+        match reading_of(alloc, line.as_bytes())? {
+            Reading::Form(Form::Eval(exp)) => self.put_meeting(alloc, &exp, out),
+            _ => put_wrong(out),
+        }
+    }
+
+    fn put_meeting(&self, alloc: Global, exp: &Exp, out: &mut Vec<u8>) -> Result<(), AllocError> {
+        let gate = HalfGate::new(self.rt);
+        self.put_outcome(alloc, exp, &Granting::always(), &gate, out)?;
+        let (left, right, other, late) = gate.counts();
+        put(
+            out,
+            format!(in alloc; "; {left} left, {right} right, {other} other, {late} late\n"),
+        )
+    }
+
+    fn put_outcome<H: Helpers + Sync, G: Gate + Sync>(
+        &self,
+        alloc: Global,
+        exp: &Exp,
+        helpers: &H,
+        gate: &G,
+        out: &mut Vec<u8>,
+    ) -> Result<(), AllocError> {
+        put_outcome(
+            alloc,
+            &self.told(alloc, exp, self.budget, helpers, gate),
+            out,
+        )
+    }
+}
+
+/// Answers each line of a text, by this pool.
+pub fn answer_halves<L: Ledger + Send + Sync, R: Threads + Wait + Clock + Sync>(
+    rt: &R,
+    alloc: Global,
+    pool: &Pool<L>,
+    text: &str,
+    out: &mut Vec<u8>,
+) -> Result<(), AllocError> {
+    let mut halves = Halves::new(rt, alloc, pool);
+    halves.answer_lines(alloc, text, out)
+}

@@ -1,0 +1,232 @@
+//! What each line comes to. What a line binds stands for the lines after it, up to a line `new`. Behind `=` stands an
+//! expression that should have the value before it; behind `!` one that has two levels; behind `?` one that is run with each
+//! budget up to its whole work. A line that begins with `%` is written as it is.
+
+use crate::driver::Driver;
+use crate::forms::{Reading, define, reading_of};
+use crate::told::{LEVELS, WORK, is_same, put_outcome};
+use crate::writing::{put, put_done, put_line};
+use linked_list_allocator::LocalHeap;
+use nesl_eval::{Outcome, eval_one, eval_one_in};
+use nesl_eval_code::{Env, Payload};
+use nesl_syntax_tree::tree::{Exp, Form};
+use nesl_types::{Top, Ty};
+use nesl_values::{Items, Value};
+use std::alloc::{AllocError, Allocator, Global};
+
+/// The bytes of the heap in which each expression is evaluated besides.
+const HEAP_BYTES: usize = 65_536;
+
+/// What is bound, and the last value, if the last line had one.
+#[derive(Drop)]
+pub struct Outcomes {
+    env: Env,
+    last: Option<Value>,
+}
+
+// What a line asks for.
+#[derive(Clone, Copy)]
+enum Wish {
+    Outcome,
+    Comparison,
+    TwoLevels,
+    Boundaries,
+}
+
+fn wish_of(line: &[u8]) -> (Wish, &[u8]) {
+    match line.split_first() {
+        Some((b'=', rest)) => (Wish::Comparison, rest),
+        Some((b'!', rest)) => (Wish::TwoLevels, rest),
+        Some((b'?', rest)) => (Wish::Boundaries, rest),
+        _ => (Wish::Outcome, line),
+    }
+}
+
+impl Driver for Outcomes {
+    fn follow(&mut self, alloc: Global, line: &str, out: &mut Vec<u8>) -> Result<(), AllocError> {
+        if line == "new" {
+            *self = Outcomes::new(alloc);
+        }
+        if line == "new" || line.starts_with('%') {
+            return put_line(out, line.as_bytes());
+        }
+        let (wish, text) = wish_of(line.as_bytes());
+        match reading_of(alloc, text)? {
+            Reading::Form(form) => self.of_form(alloc, wish, form, out)?,
+            _ => out.extend_from_slice(b"no form")?,
+        }
+        out.extend_from_slice(b"\n")
+    }
+}
+
+impl Outcomes {
+    pub fn new(alloc: Global) -> Outcomes {
+        Outcomes {
+            env: Env::new(alloc),
+            last: None,
+        }
+    }
+
+    fn of_form(
+        &mut self,
+        alloc: Global,
+        wish: Wish,
+        form: Form,
+        out: &mut Vec<u8>,
+    ) -> Result<(), AllocError> {
+        match form {
+            Form::Eval(exp) => self.of_expression(alloc, wish, &exp, out),
+            Form::Bind { name, value } => self.bind(alloc, name.as_slice(), &value, out),
+            Form::Fun {
+                name,
+                parameter,
+                body,
+                ..
+            } => {
+                let done = define(alloc, &mut self.env, name.as_slice(), parameter, body);
+                put_done(done, b"a function", out)
+            }
+            Form::Datatype { name, .. } => {
+                let top = Top::Datatype(self.env.len() as u64, Ty::Int);
+                let done = self.env.set(alloc, name.as_slice(), top, Payload::Datatype);
+                put_done(done, b"a datatype", out)
+            }
+            _ => out.extend_from_slice(b"no expression"),
+        }
+    }
+
+    fn of_expression(
+        &mut self,
+        alloc: Global,
+        wish: Wish,
+        exp: &Exp,
+        out: &mut Vec<u8>,
+    ) -> Result<(), AllocError> {
+        match wish {
+            Wish::Outcome => self.evaluate(alloc, exp, out),
+            Wish::Comparison => out.extend_from_slice(self.compared(alloc, exp)),
+            Wish::TwoLevels => put_held(alloc, &eval_one(alloc, &self.env, exp, 2, WORK), out),
+            Wish::Boundaries => put_boundaries(alloc, &self.env, exp, out),
+        }
+    }
+
+    // What an expression comes to, and whether that is the same in a heap of its own.
+    fn evaluate(&mut self, alloc: Global, exp: &Exp, out: &mut Vec<u8>) -> Result<(), AllocError> {
+        let told = eval_one(alloc, &self.env, exp, LEVELS, WORK);
+        let done = put_both(alloc, &self.env, exp, &told, out);
+        self.last = value_of(told);
+        done
+    }
+
+    fn compared(&self, alloc: Global, exp: &Exp) -> &'static [u8] {
+        match (&self.last, eval_one(alloc, &self.env, exp, LEVELS, WORK)) {
+            (Some(last), Outcome::Done { value, .. }) if last.same(&value) => b"equal",
+            _ => b"another value",
+        }
+    }
+
+    // A type is not looked at by any evaluation.
+    fn bind(
+        &mut self,
+        alloc: Global,
+        name: &[u8],
+        exp: &Exp,
+        out: &mut Vec<u8>,
+    ) -> Result<(), AllocError> {
+        match eval_one(alloc, &self.env, exp, LEVELS, WORK) {
+            Outcome::Done { value, .. } => {
+                let top = Top::Variable(Ty::Int);
+                let done = self.env.set(alloc, name, top, Payload::Variable(value));
+                put_done(done, b"a variable", out)
+            }
+            other => put_held(alloc, &other, out),
+        }
+    }
+}
+
+// How a sequence is held.
+fn held_as(value: &Value) -> &'static str {
+    if value.sequence_len().is_none() {
+        return "";
+    }
+    match value.items() {
+        Items::Ints(_) => ", packed numbers",
+        Items::Bools(_) => ", packed truth values",
+        Items::Chars(_) => ", packed characters",
+        Items::Values(_) => ", values",
+    }
+}
+
+// Writes an outcome, and how its value is held.
+fn put_held(alloc: Global, told: &Outcome<Global>, out: &mut Vec<u8>) -> Result<(), AllocError> {
+    put_outcome(alloc, told, out)?;
+    match told {
+        Outcome::Done { value, .. } => out.extend_from_slice(held_as(value).as_bytes()),
+        _ => Ok(()),
+    }
+}
+
+// Writes an outcome, and what is told in a heap of fixed size, where that is not the same.
+fn put_both(
+    alloc: Global,
+    env: &Env,
+    exp: &Exp,
+    told: &Outcome<Global>,
+    out: &mut Vec<u8>,
+) -> Result<(), AllocError> {
+    put_held(alloc, told, out)?;
+    let heap = LocalHeap::new(alloc, HEAP_BYTES)?;
+    let other = eval_one_in(alloc, env, exp, LEVELS, WORK, &heap);
+    out.extend_from_slice(difference(&other, told))
+}
+
+fn difference<A: Allocator>(told: &Outcome<A>, other: &Outcome<Global>) -> &'static [u8] {
+    if is_same(told, other) {
+        return b"";
+    }
+    match told {
+        Outcome::Memory => b", memory in the heap",
+        _ => b", ANOTHER OUTCOME IN THE HEAP",
+    }
+}
+
+fn value_of(told: Outcome<Global>) -> Option<Value> {
+    match told {
+        Outcome::Done { value, .. } => Some(value),
+        _ => None,
+    }
+}
+
+fn work_of(told: &Outcome<Global>) -> Option<u64> {
+    match told {
+        Outcome::Done { work, .. } => Some(*work),
+        Outcome::Fault { work, .. } => Some(*work),
+        _ => None,
+    }
+}
+
+// Whether what is told under so much fuel is what an expression of this whole work has to tell.
+fn is_right(told: &Outcome<Global>, fuel: u64, work: u64) -> bool {
+    match told {
+        Outcome::Over => fuel < work,
+        other => work <= fuel && work_of(other) == Some(work),
+    }
+}
+
+// Writes below which budget an expression is over.
+fn put_boundaries(
+    alloc: Global,
+    env: &Env,
+    exp: &Exp,
+    out: &mut Vec<u8>,
+) -> Result<(), AllocError> {
+    let Some(work) = work_of(&eval_one(alloc, env, exp, LEVELS, WORK)) else {
+        return out.extend_from_slice(b"over");
+    };
+    for fuel in 0..work.saturating_add(2) {
+        if !is_right(&eval_one(alloc, env, exp, LEVELS, fuel), fuel, work) {
+            return put(out, format!(in alloc; "wrong with a budget of {fuel}"));
+        }
+    }
+    put(out, format!(in alloc; "over just below {work}"))
+}
