@@ -3,7 +3,7 @@ use Rattle.std.specs.Prelude.{ℕ, List, [], ◌∷◌}
 use Rattle.nesl_types.specs.declared.classes.Class.{Class}
 use Rattle.nesl_types.specs.declared.classes.Class.TheVariants.{Any, Ordinal, Number, Logical}
 use Rattle.nesl_types.specs.declared.schemes.Scheme.{Scheme}
-use Rattle.nesl_types.specs.Term.{Term, int, bool, char, variable, seq_of, both, term}
+use Rattle.nesl_types_bank.specs.Term.{Term, int, bool, char, variable, seq_of, both}
 use Rattle.nesl_scalars.specs.declared.unary.Unary.{Unary}
 use Rattle.nesl_scalars.specs.declared.unary.Unary.TheVariants as unary
 use Rattle.nesl_scalars.specs.declared.binary.Binary.{Binary}
@@ -20,7 +20,7 @@ pub record FunctionType : Type 0 where
   pub classes : List Class
 
 abbrev pub function_type : Scheme → FunctionType
-function_type s = record { argument = term s.argument; result = term s.result; classes = s.classes.items }
+function_type s = record { argument = s.argument; result = s.result; classes = s.classes.items }
 
 -- a function whose types have the variable `a`, of a class; and one that takes and gives types without a class
 abbrev pub a : Term

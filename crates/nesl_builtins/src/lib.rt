@@ -6,4 +6,4 @@ mod shapes;
 mod types;
 
 pub use builtin::{Builtin, named, of_infix, of_prefix};
-pub use types::scheme;
+pub use types::{classes, gives, scheme, takes};

@@ -2,8 +2,8 @@
 use Rattle.std.proofs.Common.{[], Some, option_map, ap, subst, sym}
 use Rattle.nesl_types.specs.declared.bindings.Top.{Top}
 use Rattle.nesl_types.specs.declared.bindings.Top.TheVariants as top
-use Rattle.nesl_types.specs.Numbering.{IsBelow}
-use Rattle.nesl_types.specs.Term.{Term, term, int}
+use Rattle.nesl_types_bank.specs.Numbering.{IsBelow}
+use Rattle.nesl_types_bank.specs.Term.{Term, int}
 use Rattle.nesl_syntax_tree.specs.Trees.{TypeTree, TypeShape, written}
 use Rattle.nesl_syntax_tree.specs.Trees as trees
 use Rattle.nesl_infer_names.specs.Names.{datatype_in}
@@ -51,4 +51,4 @@ module _ {P : Type 0} (seen : Top → P → evaluated.Top) where
       functions_stay seen bs sound x s p e (Some 4096) (record { parts = h.fits.parts; taken = h.fits.taken; signed = tt; given = h.fits.given }) can q z
 
   pub written_datatypes : WrittenDatatypesStaySound seen
-  written_datatypes bs sound x a t h e q z = datatypes_stay seen bs sound x t (written_ground (datatype_in bs) a (term t) h) e q z
+  written_datatypes bs sound x a t h e q z = datatypes_stay seen bs sound x t (written_ground (datatype_in bs) a t h) e q z

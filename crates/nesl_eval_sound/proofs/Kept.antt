@@ -9,12 +9,11 @@ use Rattle.nesl_types.specs.declared.bindings.Top.{Top}
 use Rattle.nesl_types.specs.declared.bindings.Top.TheVariants as top
 use Rattle.nesl_types.specs.declared.classes.Class.{Class}
 use Rattle.nesl_types.specs.declared.schemes.Scheme.{Scheme}
-use Rattle.nesl_types.specs.declared.types.Ty.{Ty}
 use Rattle.nesl_types.specs.Class.{IsIn, class_at}
 use Rattle.nesl_types.specs.Scheme.{IsSameScheme}
-use Rattle.nesl_types.specs.Substitution.{substitute}
-use Rattle.nesl_types.specs.Term.{Term, term, int, bool, char, variable, seq_of, both}
-use Rattle.nesl_types.specs.Term as type
+use Rattle.nesl_types_bank.specs.Substitution.{substitute}
+use Rattle.nesl_types_bank.specs.Term.{Term, int, bool, char, variable, seq_of, both}
+use Rattle.nesl_types_bank.specs.Term as type
 use Rattle.nesl_syntax_tree.specs.Trees.{PatternTree, Tree}
 use Rattle.nesl_builtins.specs.declared.builtin.Builtin.{Builtin}
 use Rattle.nesl_builtins.specs.Named.{named_builtin}
@@ -43,29 +42,29 @@ module _ {P : Type 0} (old new : List (List ℕ × Top × P)) where
 
   module _ (held : ℕ → Option Term) (env' : Environment) (x : Name) where
     -- the name is a variable with a value of its type, which has no variables
-    pub record BindsVariable (t : Ty) (v : Value) : Type 0 where
+    pub record BindsVariable (t : Term) (v : Value) : Type 0 where
       pub typed : top_in new x ≡ Some (top.Variable t)
       pub bound : named env' x ≡ Some (variable_of v)
-      pub has_type : values.HasType held v (term t)
-      pub ground : IsGround (term t)
+      pub has_type : values.HasType held v t
+      pub ground : IsGround t
 
     -- the name is a function whose body has the types of its scheme in the bindings before, where types may have any size or a limited one
     pub record BindsFunction (s : Scheme) (p : PatternTree) (e : Tree) : Type 0 where
       pub typed : top_in new x ≡ Some (top.Function s)
       pub bound : named env' x ≡ Some (function_of p e)
       pub limit : Option ℕ
-      pub has_types : HasBodyType (world old (class_at s.classes.items) limit) x p e (term s.argument) (term s.result)
+      pub has_types : HasBodyType (world old (class_at s.classes.items) limit) x p e s.argument s.result
 
     -- the name is a datatype of that tag
-    pub record BindsDatatype (tag : ℕ) (t : Ty) : Type 0 where
+    pub record BindsDatatype (tag : ℕ) (t : Term) : Type 0 where
       pub typed : top_in new x ≡ Some (top.Datatype tag t)
       pub bound : named env' x ≡ Some (datatype_of tag)
-      pub holds : held tag ≡ Some (term t)
-      pub ground : IsGround (term t)
+      pub holds : held tag ≡ Some t
+      pub ground : IsGround t
 
     -- one of these
     abbrev pub Binds : Type 0
-    Binds = ((t : Ty) × (v : Value) × BindsVariable t v) ⊎ ((s : Scheme) × (p : PatternTree) × (e : Tree) × BindsFunction s p e) ⊎ ((tag : ℕ) × (t : Ty) × BindsDatatype tag t)
+    Binds = ((t : Term) × (v : Value) × BindsVariable t v) ⊎ ((s : Scheme) × (p : PatternTree) × (e : Tree) × BindsFunction s p e) ⊎ ((tag : ℕ) × (t : Term) × BindsDatatype tag t)
 
   -- bindings stay well typed where a name is bound anew; a new datatype is added to what datatypes hold
   abbrev pub StayWellTyped : Type 0
@@ -100,7 +99,7 @@ unchanged_means None o d h = record { variables = λ a e. cc; functions = λ m e
 module _ {P : Type 0} (old new : List (List ℕ × Top × P)) (held : ℕ → Option Term) (env : Environment) (bindings_hold : AreWellTyped old held env) where
   -- types at the top level have no variables, but for those of functions
   ground_variable : (s : ℕ → Term) (y : Name) (t : Term) (o : Option Top) → top_in old y ≡ o → as_variable o ≡ Some t → substitute s t ≡ t
-  ground_variable s y t (Some (top.Variable u)) e h = let q : term u ≡ t = cc in subst (λ t. substitute s t ≡ t) q (substitute-ground s (term u) ((bindings_hold y).variables u e).1)
+  ground_variable s y t (Some (top.Variable u)) e h = let q : u ≡ t = cc in subst (λ t. substitute s t ≡ t) q (substitute-ground s u ((bindings_hold y).variables u e).1)
   ground_variable s y t (Some (top.Function f)) e h = cc
   ground_variable s y t (Some (top.Datatype n u)) e h = cc
   ground_variable s y t None e h = cc
@@ -108,7 +107,7 @@ module _ {P : Type 0} (old new : List (List ℕ × Top × P)) (held : ℕ → Op
   ground_datatype : (s : ℕ → Term) (y : Name) (d : ℕ × Term) (o : Option Top) → top_in old y ≡ o → as_datatype o ≡ Some d → substitute s d.1 ≡ d.1
   ground_datatype s y d (Some (top.Variable u)) e h = cc
   ground_datatype s y d (Some (top.Function f)) e h = cc
-  ground_datatype s y d (Some (top.Datatype n u)) e h = let q : (n, term u) ≡ d = cc in subst (λ d. substitute s d.1 ≡ d.1) q (substitute-ground s (term u) ((bindings_hold y).datatypes n u e).2)
+  ground_datatype s y d (Some (top.Datatype n u)) e h = let q : (n, u) ≡ d = cc in subst (λ d. substitute s d.1 ≡ d.1) q (substitute-ground s u ((bindings_hold y).datatypes n u e).2)
   ground_datatype s y d None e h = cc
 
   module _ (of of' : ℕ → Class) (s : ℕ → Term) (classes : (v : ℕ) → IsIn of' (of v) (s v)) where
@@ -118,10 +117,10 @@ module _ {P : Type 0} (old new : List (List ℕ × Top × P)) (held : ℕ → Op
         let q : general (function_type f) ≡ m = cc in
         subst (λ m. Takes of' m (substitute s t) (substitute s u)) q (instance_maps of of' s classes (function_type f) t u (subst (λ m. Takes of m t u) (sym q) k))
     takes_top y m t u (Some (top.Datatype n w)) e h k =
-        let q : single (term w) (type.named n) ≡ m = cc in
-        let i : (t ≡ term w) × (u ≡ type.named n) = subst (λ m. Takes of m t u) (sym q) k in
+        let q : single w (type.named n) ≡ m = cc in
+        let i : (t ≡ w) × (u ≡ type.named n) = subst (λ m. Takes of m t u) (sym q) k in
         subst (λ m. Takes of' m (substitute s t) (substitute s u)) q
-        (ap (substitute s) i.0 ∙ substitute-ground s (term w) ((bindings_hold y).datatypes n w e).2, ap (substitute s) i.1)
+        (ap (substitute s) i.0 ∙ substitute-ground s w ((bindings_hold y).datatypes n w e).2, ap (substitute s) i.1)
     takes_top y m t u None e h k = cc
 
     named_takes : (y : Name) (m : Meaning) (t u : Term) (b : Option Builtin) → StillMeans (top_in old y) (top_in new y) → known_or b (top_meaning (top_in old y)) ≡ Some m → Takes of m t u
@@ -240,9 +239,9 @@ module _ {P : Type 0} (old new : List (List ℕ × Top × P)) (held held' : ℕ 
       let same = redefines.tops y n in
       let in_env = redefines.values y n in
       record {
-        variables = λ t h. let r = (bindings_hold y).variables t (sym same ∙ h) in (subst (IsValue held' (term t)) (sym in_env) (value_stays (term t) (named env y) r.0), r.1);
+        variables = λ t h. let r = (bindings_hold y).variables t (sym same ∙ h) in (subst (IsValue held' t) (sym in_env) (value_stays t (named env y) r.0), r.1);
         functions = λ g h. let r = (bindings_hold y).functions g (sym same ∙ h) in subst (IsBody new y g) (sym in_env) (body_stays y g (named env y) n refl r);
-        datatypes = λ k t h. let r = (bindings_hold y).datatypes k t (sym same ∙ h) in (in_env ∙ r.0, more k (term t) r.1, r.2);
+        datatypes = λ k t h. let r = (bindings_hold y).datatypes k t (sym same ∙ h) in (in_env ∙ r.0, more k t r.1, r.2);
       }
 
   -- all bindings stay well typed
@@ -256,29 +255,29 @@ module _ {P : Type 0} (old new : List (List ℕ × Top × P)) (held held' : ℕ 
   others_mean : (z : Name) → bytes_eq z x ≡ false → StillMeans (top_in old z) (top_in new z)
   others_mean z k = subst (StillMeans (top_in old z)) (sym (redefines.tops z k)) (record { variables = λ t h. h; functions = λ m h. h })
 
-  variable_there : (t : Ty) (v : Value) → BindsVariable old new held' env' x t v → IsWellTyped new held' env' x
+  variable_there : (t : Term) (v : Value) → BindsVariable old new held' env' x t v → IsWellTyped new held' env' x
   variable_there t v h = record {
     variables = λ u e.
         let q : t ≡ u = top_variable_same t u (sym h.typed ∙ e) in
-        subst (λ u. IsValue held' (term u) (named env' x) × IsGround (term u)) q (subst (IsValue held' (term t)) (sym h.bound) h.has_type, h.ground);
+        subst (λ u. IsValue held' u (named env' x) × IsGround u) q (subst (IsValue held' t) (sym h.bound) h.has_type, h.ground);
     functions = λ s e. let q = sym h.typed ∙ e in cc;
     datatypes = λ n u e. let q = sym h.typed ∙ e in cc;
   }
     where
-      top_variable_same : (t u : Ty) → Some (top.Variable t) ≡ Some (top.Variable u) → t ≡ u
+      top_variable_same : (t u : Term) → Some (top.Variable t) ≡ Some (top.Variable u) → t ≡ u
       top_variable_same t u e = cc
 
-  datatype_there : (n : ℕ) (t : Ty) → BindsDatatype old new held' env' x n t → IsWellTyped new held' env' x
+  datatype_there : (n : ℕ) (t : Term) → BindsDatatype old new held' env' x n t → IsWellTyped new held' env' x
   datatype_there n t h = record {
     variables = λ u e. let q = sym h.typed ∙ e in cc;
     functions = λ s e. let q = sym h.typed ∙ e in cc;
     datatypes = λ m u e.
         let q = same n m t u (sym h.typed ∙ e) in
-        subst (λ m. (named env' x ≡ Some (datatype_of m)) × (held' m ≡ Some (term u)) × IsGround (term u)) q.0
-        (subst (λ u. (named env' x ≡ Some (datatype_of n)) × (held' n ≡ Some (term u)) × IsGround (term u)) q.1 (h.bound, h.holds, h.ground));
+        subst (λ m. (named env' x ≡ Some (datatype_of m)) × (held' m ≡ Some u) × IsGround u) q.0
+        (subst (λ u. (named env' x ≡ Some (datatype_of n)) × (held' n ≡ Some u) × IsGround u) q.1 (h.bound, h.holds, h.ground));
   }
     where
-      same : (n m : ℕ) (t u : Ty) → Some (top.Datatype n t) ≡ Some (top.Datatype m u) → (n ≡ m) × (t ≡ u)
+      same : (n m : ℕ) (t u : Term) → Some (top.Datatype n t) ≡ Some (top.Datatype m u) → (n ≡ m) × (t ≡ u)
       same n m t u e = (cc, cc)
 
   function_there : (s : Scheme) (p : PatternTree) (e : Tree) → BindsFunction old new held' env' x s p e → IsWellTyped new held' env' x
@@ -295,8 +294,8 @@ module _ {P : Type 0} (old new : List (List ℕ × Top × P)) (held held' : ℕ 
       whole : IsBody new x s (Some (function_of p e))
       whole of t u i =
           subst (λ t. HasBodyType (world new of None) x p e t u) (sym i.argument)
-          (subst (HasBodyType (world new of None) x p e (substitute i.put (term s.argument))) (sym i.result)
-          (body_map old new held env bindings_hold (class_at s.classes.items) of i.put i.within h.limit x p e (term s.argument) (term s.result) tags_stay (λ y n r. others_mean y n) h.has_types))
+          (subst (HasBodyType (world new of None) x p e (substitute i.put s.argument)) (sym i.result)
+          (body_map old new held env bindings_hold (class_at s.classes.items) of i.put i.within h.limit x p e s.argument s.result tags_stay (λ y n r. others_mean y n) h.has_types))
 
   pub one_stays : Binds old new held' env' x → AreWellTyped new held' env'
   one_stays (inl (t, v, h)) = all_stay (variable_there t v h)

@@ -5,10 +5,9 @@ use Rattle.std.specs.Str.{bytes_eq}
 use Rattle.std.proofs.lemmas.Slice.Eq.{bytes_eq-Decides}
 use Rattle.nesl_types.specs.declared.bindings.Top.{Top}
 use Rattle.nesl_types.specs.declared.bindings.Top.TheVariants as top
-use Rattle.nesl_types.specs.declared.types.Ty.{Ty}
 use Rattle.nesl_types.specs.Names.{found, with_name, is_datatype, datatype_at}
-use Rattle.nesl_types.specs.Term.{Term, term}
-use Rattle.nesl_types.specs.Term as type
+use Rattle.nesl_types_bank.specs.Term.{Term}
+use Rattle.nesl_types_bank.specs.Term as type
 use Rattle.nesl_syntax_tree.specs.Trees.{PatternTree, Tree}
 use Rattle.nesl_infer_names.specs.Names.{top_in, as_datatype}
 use Rattle.nesl_eval_meaning.specs.Names.{Name, Value, Environment, variable_of, function_of, datatype_of, named, outside}
@@ -79,7 +78,7 @@ plain n (top.Datatype tag t) e = cc
 
 module _ {P : Type 0} where
   abbrev pub IsNoDatatype : Name → List (List ℕ × Top × P) → Type 0
-  IsNoDatatype x bs = (tag : ℕ) (u : Ty) → top_in bs x ≡ Some (top.Datatype tag u) → ⊥
+  IsNoDatatype x bs = (tag : ℕ) (u : Term) → top_in bs x ≡ Some (top.Datatype tag u) → ⊥
 
   first_plain : (x k : Name) (o : Top) (w : P) (bs : List (List ℕ × Top × P)) → IsNoDatatype x ((k, o, w) ∷ bs) → bytes_eq x k ≡ true → is_type o ≡ false
   first_plain x k (top.Datatype tag t) w bs free e = absurd (free tag t (ap (λ c. option_map (λ b. b.0) (cond c (Some (top.Datatype tag t, w)) (found x bs))) e))
@@ -128,7 +127,7 @@ module _ {P : Type 0} where
       either true e = refl
       either false e = e
 
-  more_datatypes : (x : Name) (n : ℕ) (t : Ty) (q : P) (bs : List (List ℕ × Top × P)) → datatypes (bs ++ (x, top.Datatype n t, q) ∷ []) ≡ suc (datatypes bs)
+  more_datatypes : (x : Name) (n : ℕ) (t : Term) (q : P) (bs : List (List ℕ × Top × P)) → datatypes (bs ++ (x, top.Datatype n t, q) ∷ []) ≡ suc (datatypes bs)
   more_datatypes x n t q [] = refl
   more_datatypes x n t q (b ∷ bs) = either (is_type b.1) (more_datatypes x n t q bs)
     where
@@ -159,7 +158,7 @@ module _ {P : Type 0} (seen : Top → P → evaluated.Top) where
       either false h = h
 
   -- what the new datatype holds
-  held_last : (bs : List (List ℕ × Top × P)) (x : Name) (t : Ty) (q : P) → IsSound seen bs → held_in (bs ++ (x, top.Datatype (datatypes bs) t, q) ∷ []) (datatypes bs) ≡ Some (term t)
+  held_last : (bs : List (List ℕ × Top × P)) (x : Name) (t : Term) (q : P) → IsSound seen bs → held_in (bs ++ (x, top.Datatype (datatypes bs) t, q) ∷ []) (datatypes bs) ≡ Some t
   held_last bs x t q sound =
       let here : (datatypes bs == datatypes bs) ≡ true = eq-eqb (datatypes bs) (datatypes bs) refl in
       ap (option_and_then (λ b. held_by b.1)) (datatype_at-append bs ((x, top.Datatype (datatypes bs) t, q) ∷ []) (datatypes bs)
@@ -167,7 +166,7 @@ module _ {P : Type 0} (seen : Top → P → evaluated.Top) where
       ∙ ap (λ c. cond c (Some (x, top.Datatype (datatypes bs) t, q)) None) here)
 
   -- and greater tags are none
-  beyond : (bs : List (List ℕ × Top × P)) (x : Name) (t : Ty) (q : P) → IsSound seen bs → (tag : ℕ) → suc (datatypes bs) ≤ tag → datatype_at (bs ++ (x, top.Datatype (datatypes bs) t, q) ∷ []) tag ≡ None
+  beyond : (bs : List (List ℕ × Top × P)) (x : Name) (t : Term) (q : P) → IsSound seen bs → (tag : ℕ) → suc (datatypes bs) ≤ tag → datatype_at (bs ++ (x, top.Datatype (datatypes bs) t, q) ∷ []) tag ≡ None
   beyond bs x t q sound tag l =
       datatype_at-append bs ((x, top.Datatype (datatypes bs) t, q) ∷ []) tag
       ∙ ap (λ o. or_else o (datatype_at ((x, top.Datatype (datatypes bs) t, q) ∷ []) tag)) (sound.numbered tag (omega (arith, l)))
@@ -230,9 +229,9 @@ module _ {P : Type 0} (seen : Top → P → evaluated.Top) where
           typed = top_new bs x (top.Variable t) q can;
           bound = value_new bs x (top.Variable t) q can (variable_of v) z;
           has_type = grows (held_in bs) (held_in (with_name x (top.Variable t) q bs))
-              (λ m u j. ap (option_and_then (λ b. held_by b.1)) (same_datatypes x (top.Variable t) q bs refl can.no_datatype m) ∙ j) v (term t)
-              (subst (HasType (held_in bs) v) (substitute-ground (λ x. type.int) (term t) closed)
-              (subst (IsFine (λ v. HasType (held_in bs) v (ground (term t)))) k (types_kept bs (held_in bs) (values_of seen bs) sound.typed of limit e (term t) h n)));
+              (λ m u j. ap (option_and_then (λ b. held_by b.1)) (same_datatypes x (top.Variable t) q bs refl can.no_datatype m) ∙ j) v t
+              (subst (HasType (held_in bs) v) (substitute-ground (λ x. type.int) t closed)
+              (subst (IsFine (λ v. HasType (held_in bs) v (ground t))) k (types_kept bs (held_in bs) (values_of seen bs) sound.typed of limit e t h n)));
           ground = closed;
         },
       ))
@@ -250,7 +249,7 @@ module _ {P : Type 0} (seen : Top → P → evaluated.Top) where
         record {
           typed = top_new bs x new q can;
           bound = value_new bs x new q can (datatype_of (datatypes bs)) z;
-          holds = subst (λ l. held_in l (datatypes bs) ≡ Some (term t)) (sym last) (held_last bs x t q sound);
+          holds = subst (λ l. held_in l (datatypes bs) ≡ Some t) (sym last) (held_last bs x t q sound);
           ground = closed;
         },
       )))

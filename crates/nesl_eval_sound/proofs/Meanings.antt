@@ -2,7 +2,7 @@
 use Rattle.std.proofs.Common.{◌≡◌, Option, Some, None, refl}
 use Rattle.nesl_types.specs.declared.bindings.Top.{Top}
 use Rattle.nesl_types.specs.declared.bindings.Top.TheVariants as top
-use Rattle.nesl_types.specs.Term.{term, named}
+use Rattle.nesl_types_bank.specs.Term.{named}
 use Rattle.nesl_builtins.specs.declared.builtin.Builtin.{Builtin}
 use Rattle.nesl_builtins.specs.Table.{builtin_type, function_type}
 use Rattle.nesl_infer_names.specs.Names.{as_function, built_in_or}
@@ -11,7 +11,7 @@ use Rattle.nesl_infer_rules.specs.World.{Own, Meaning, general, single, meaning_
 abbrev pub top_meaning : Option Top → Option Meaning
 top_meaning (Some (top.Variable t)) = None
 top_meaning (Some (top.Function s)) = Some (general (function_type s))
-top_meaning (Some (top.Datatype tag held)) = Some (single (term held) (named tag))
+top_meaning (Some (top.Datatype tag held)) = Some (single held (named tag))
 top_meaning None = None
 
 abbrev pub known_or : Option Builtin → Option Meaning → Option Meaning

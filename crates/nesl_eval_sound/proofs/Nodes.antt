@@ -14,8 +14,8 @@ use Rattle.nesl_types.specs.declared.bindings.Top.{Top}
 use Rattle.nesl_types.specs.declared.bindings.Top.TheVariants as top
 use Rattle.nesl_types.specs.declared.classes.Class.{Class}
 use Rattle.nesl_types.specs.declared.schemes.Scheme.{Scheme}
-use Rattle.nesl_types.specs.Term.{Term, term, seq_of}
-use Rattle.nesl_types.specs.Term as type
+use Rattle.nesl_types_bank.specs.Term.{Term, seq_of}
+use Rattle.nesl_types_bank.specs.Term as type
 use Rattle.nesl_scalars.specs.declared.trap.Trap.TheVariants as trap
 use Rattle.nesl_seqs_base.specs.declared.seq_fn.SeqFn.TheVariants as seq
 use Rattle.nesl_seqs_base.specs.Meaning.{meaning}
@@ -80,7 +80,7 @@ module _ (P : Type 0) (context : List (List ℕ × Top × P)) (held : ℕ → Op
 
   top_variable : (x : Name) (t : Term) (o : Option Top) → top_in context x ≡ o → as_variable o ≡ Some t → IsFine (Of t) (variable_in None (named env x))
   top_variable x t (Some (top.Variable u)) e h =
-      let q : term u ≡ t = cc in subst (λ t. IsFine (Of t) (variable_in None (named env x))) q (value_fine (term u) (named env x) ((bindings_hold x).variables u e).0)
+      let q : u ≡ t = cc in subst (λ t. IsFine (Of t) (variable_in None (named env x))) q (value_fine u (named env x) ((bindings_hold x).variables u e).0)
   top_variable x t (Some (top.Function f)) e h = cc
   top_variable x t (Some (top.Datatype n u)) e h = cc
   top_variable x t None e h = cc
@@ -105,9 +105,9 @@ module _ (P : Type 0) (context : List (List ℕ × Top × P)) (held : ℕ → Op
   top_datatype x d (Some (top.Variable u)) e h = cc
   top_datatype x d (Some (top.Function f)) e h = cc
   top_datatype x d (Some (top.Datatype n u)) e h =
-      let q : (n, term u) ≡ d = cc in
+      let q : (n, u) ≡ d = cc in
       let k = (bindings_hold x).datatypes n u e in
-      subst (λ d. (held d.0 ≡ Some d.1) × (ground d.1 ≡ d.1)) q (k.1, substitute-ground (λ x. type.int) (term u) k.2)
+      subst (λ d. (held d.0 ≡ Some d.1) × (ground d.1 ≡ d.1)) q (k.1, substitute-ground (λ x. type.int) u k.2)
   top_datatype x d None e h = cc
 
   knows : (of : ℕ → Class) (limit : Option ℕ) (own : Own) → KnowsDatatypes held (world context of limit own)
@@ -142,10 +142,10 @@ module _ (P : Type 0) (context : List (List ℕ × Top × P)) (held : ℕ → Op
         let i : IsInstanceOf (function_type g) of t u = subst (λ m. Takes of m t u) (sym q) k in
         user_fine x t u (named env x) (body_known x t u g (named env x) ((bindings_hold x).functions g e) free i) refl v j
     top_called x free m t u (Some (top.Datatype n w)) e h k v j =
-        let q : single (term w) (type.named n) ≡ m = cc in
-        let i : (t ≡ term w) × (u ≡ type.named n) = subst (λ m. Takes of m t u) (sym q) k in
+        let q : single w (type.named n) ≡ m = cc in
+        let i : (t ≡ w) × (u ≡ type.named n) = subst (λ m. Takes of m t u) (sym q) k in
         let d = (bindings_hold x).datatypes n w e in
-        let inside : HasType held v (term w) = subst (HasType held v) (substitute-ground (λ x. type.int) (term w) d.2) (subst (λ t. HasType held v (ground t)) i.0 j) in
+        let inside : HasType held v w = subst (HasType held v) (substitute-ground (λ x. type.int) w d.2) (subst (λ t. HasType held v (ground t)) i.0 j) in
         subst (λ o. IsFine (Of u) (called f s None o v)) (sym d.0)
         (at_type u (type.named n) i.1 (made s (values.tagged n v))
         (fine_made held s (values.tagged n v) (type.named n) (refl, subst (λ o. Holding o (λ t. HasType held v t)) (sym d.1) inside)))

@@ -4,7 +4,7 @@ use Rattle.nesl_lex.specs.declared.token.Span.{Span}
 use Rattle.std.specs.Str.{bytes_eq}
 use Rattle.nesl_values.specs.Tree as values
 use Rattle.nesl_values.specs.Parts.{as_pair, as_tagged}
-use Rattle.nesl_types.specs.Term.{Term, named, both}
+use Rattle.nesl_types_bank.specs.Term.{Term, named, both}
 use Rattle.nesl_syntax_tree.specs.Trees.{PatternTree, PatternShape, pattern, name_pattern, pair_pattern, record_pattern}
 use Rattle.nesl_infer_rules.specs.World.{World}
 use Rattle.nesl_infer_rules.specs.Typing.{Scope, local, newest, is_element, name, element, Parts, ShapeParts}

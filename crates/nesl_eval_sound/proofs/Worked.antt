@@ -5,18 +5,17 @@ use Rattle.nesl_types.specs.declared.classes.Class.{Class}
 use Rattle.nesl_types.specs.declared.classes.Class.TheVariants.{Any, Number}
 use Rattle.nesl_types.specs.declared.schemes.Scheme.{Scheme}
 use Rattle.nesl_types.specs.Class.{IsIn, class_at}
-use Rattle.nesl_types.specs.Substitution.{substitute}
-use Rattle.nesl_types.specs.Term as type
+use Rattle.nesl_types_bank.specs.Substitution.{substitute}
+use Rattle.nesl_types_bank.specs.Term as type
 use Rattle.nesl_syntax_tree.specs.declared.tree.Operator.TheVariants as sign
-use Rattle.nesl_types.specs.Term.{Term, term, int, bool, char, seq_of, both}
+use Rattle.nesl_types_bank.specs.Term.{Term, int, bool, char, seq_of, both}
 use Rattle.nesl_builtins.specs.Named.{named_builtin, infix_builtin}
 use Rattle.nesl_builtins.specs.Table.{function_type, builtin_type}
 use Rattle.nesl_infer_names.specs.Names.{built_in_or, as_function, top_in}
 use Rattle.nesl_infer_rules.specs.World.{general, meaning_of, World, single, IsAllowed}
 use Rattle.nesl_infer_rules.specs.Typing.{HasType, IsInstanceOf, IsApplied, IsVariable, Binds, local, name, element, Scope, Parts}
 use Rattle.nesl_eval_meaning.specs.Names.{function_of, datatype_of}
-use Rattle.nesl_types.specs.declared.types.Ty.{Ty}
-use Rattle.nesl_types.specs.Numbering.{IsBelow}
+use Rattle.nesl_types_bank.specs.Numbering.{IsBelow}
 use Rattle.nesl_eval_sound.proofs.Ground.{int_member}
 use Rattle.nesl_eval_sound.specs.Sound.{HasBodyType, world}
 use Rattle.nesl_eval_sound.specs.Lines.{IsSound, held_in, values_of}
@@ -37,8 +36,8 @@ unfolding named_builtin
 no_built_in = refl
 
 module _ (s : Scheme) (h : IsIdentity s) where
-  body_typed : HasBodyType (world unbound (class_at s.classes.items) None) (codes "id") parameter body (term s.argument) (term s.result)
-  body_typed = record { parts = (name (codes "x"), term s.argument) ∷ []; taken = (tt, refl); signed = tt; given = (tt, h.1 ∙ sym h.0) }
+  body_typed : HasBodyType (world unbound (class_at s.classes.items) None) (codes "id") parameter body s.argument s.result
+  body_typed = record { parts = (name (codes "x"), s.argument) ∷ []; taken = (tt, refl); signed = tt; given = (tt, h.1 ∙ sym h.0) }
 
   bindings_sound : IsSound as_it_is (with_identity s)
   bindings_sound =
@@ -76,7 +75,7 @@ no_built_in_point : named_builtin (codes "point") ≡ None
 unfolding named_builtin
 no_built_in_point = refl
 
-module _ (t : Ty) (h : term t ≡ both int int) where
+module _ (t : Term) (h : t ≡ both int int) where
   point_bound : IsSound as_it_is (with_point t)
   point_bound = datatypes_stay as_it_is unbound (nothing_sound as_it_is) (codes "point") t (subst (IsBelow 0) (sym h) (tt, tt)) refl (datatype_of 0) refl
 
@@ -88,10 +87,10 @@ module _ (t : Ty) (h : term t ≡ both int int) where
     parts = (name (codes "b"), int) ∷ (name (codes "a"), int) ∷ []
 
     made : IsApplied w.names of (codes "point") (both int int) (type.named 0)
-    made = (single (term t) (type.named 0), ap (λ b. meaning_of None (built_in_or b (as_function (top_in (with_point t) (codes "point"))))) no_built_in_point, (sym h, refl))
+    made = (single t (type.named 0), ap (λ b. meaning_of None (built_in_or b (as_function (top_in (with_point t) (codes "point"))))) no_built_in_point, (sym h, refl))
 
     taken_apart : Parts w point_of_two (type.named 0) parts
-    taken_apart = (tt, (both int int, ((0, term t), refl, refl, sym h), (tt, (int, int, (name (codes "a"), int) ∷ [], (name (codes "b"), int) ∷ [], refl, (tt, refl), (tt, refl), refl))))
+    taken_apart = (tt, (both int int, ((0, t), refl, refl, sym h), (tt, (int, int, (name (codes "a"), int) ∷ [], (name (codes "b"), int) ∷ [], refl, (tt, refl), (tt, refl), refl))))
 
     added_up : IsInstanceOf (builtin_type (infix_builtin sign.Plus)) of (both int int) int
     added_up = record { put = λ v. int; within = λ v. int_member (class_at (Number ∷ []) v); argument = refl; result = refl }
@@ -176,11 +175,11 @@ doublings_bind w free (suc k) sc t e =
     )
 
 module _ (k : ℕ) (s : Scheme) (h : IsTest s) where
-  growing_typed : HasBodyType (world unbound (class_at s.classes.items) None) (codes "grow") parameter (growing k) (term s.argument) (term s.result)
+  growing_typed : HasBodyType (world unbound (class_at s.classes.items) None) (codes "grow") parameter (growing k) s.argument s.result
   growing_typed =
-      let w = world unbound (class_at s.classes.items) None (Some (codes "grow", term s.argument, term s.result)) in
-      let all = doublings_bind w refl k ((name (codes "x"), term s.argument) ∷ []) (term s.argument) refl in
-      record { parts = (name (codes "x"), term s.argument) ∷ []; taken = (tt, refl); signed = tt; given = (tt, (all.0, all.1, (tt, h.1))) }
+      let w = world unbound (class_at s.classes.items) None (Some (codes "grow", s.argument, s.result)) in
+      let all = doublings_bind w refl k ((name (codes "x"), s.argument) ∷ []) s.argument refl in
+      record { parts = (name (codes "x"), s.argument) ∷ []; taken = (tt, refl); signed = tt; given = (tt, (all.0, all.1, (tt, h.1))) }
 
   growing_sound : IsSound as_it_is (with_growing k s)
   growing_sound =

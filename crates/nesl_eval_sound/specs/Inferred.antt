@@ -3,9 +3,8 @@ use Rattle.std.specs.Prelude.{◌≡◌, ℕ, List, [], Option, None}
 use Rattle.nesl_types.specs.declared.bindings.Top.{Top}
 use Rattle.nesl_types.specs.declared.bindings.Top.TheVariants as top
 use Rattle.nesl_types.specs.declared.schemes.Scheme.{Scheme}
-use Rattle.nesl_types.specs.declared.types.Ty.{Ty}
 use Rattle.nesl_types.specs.Names.{found, with_name}
-use Rattle.nesl_types.specs.Term.{Term, term}
+use Rattle.nesl_types_bank.specs.Term.{Term}
 use Rattle.nesl_syntax_tree.specs.Trees.{PatternTree, Tree, TypeTree, SignatureTree}
 use Rattle.nesl_infer_names.specs.Names.{datatype_in}
 use Rattle.nesl_infer_rules.specs.Contexts.{AreClosed}
@@ -32,8 +31,8 @@ module _ {P : Type 0} (seen : Top → P → evaluated.Top) where
 
   -- `x = e;`, where the principal type has no variable
   abbrev pub InferredVariablesStaySound : Type 0
-  InferredVariablesStaySound = (bs : List (List ℕ × Top × P)) → IsSound seen bs → (x : Name) (e : Tree) (t : Ty) →
-      IsPrincipalType (Typed bs e) (term t) → IsGround (term t) → IsRedefinable seen bs x (top.Variable t) →
+  InferredVariablesStaySound = (bs : List (List ℕ × Top × P)) → IsSound seen bs → (x : Name) (e : Tree) (t : Term) →
+      IsPrincipalType (Typed bs e) t → IsGround t → IsRedefinable seen bs x (top.Variable t) →
       (n w d : ℕ) (v : Value) → out n (values_of seen bs) (outside []) e ≡ value v w d →
       (q : P) → seen (top.Variable t) q ≡ variable_of v → IsSound seen (with_name x (top.Variable t) q bs)
 
@@ -46,7 +45,7 @@ module _ {P : Type 0} (seen : Top → P → evaluated.Top) where
 
   -- `datatype x a;`, where the written type a is t
   abbrev pub WrittenDatatypesStaySound : Type 0
-  WrittenDatatypesStaySound = (bs : List (List ℕ × Top × P)) → IsSound seen bs → (x : Name) (a : TypeTree) (t : Ty) →
-      IsWritten (datatype_in bs) a (term t) → found x bs ≡ None →
+  WrittenDatatypesStaySound = (bs : List (List ℕ × Top × P)) → IsSound seen bs → (x : Name) (a : TypeTree) (t : Term) →
+      IsWritten (datatype_in bs) a t → found x bs ≡ None →
       (q : P) → seen (top.Datatype (datatypes bs) t) q ≡ datatype_of (datatypes bs) →
       IsSound seen (with_name x (top.Datatype (datatypes bs) t) q bs)

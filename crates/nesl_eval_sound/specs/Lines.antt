@@ -5,11 +5,10 @@ use Rattle.nesl_types.specs.declared.bindings.Top.{Top}
 use Rattle.nesl_types.specs.declared.bindings.Top.TheVariants as top
 use Rattle.nesl_types.specs.declared.classes.Class.{Class}
 use Rattle.nesl_types.specs.declared.schemes.Scheme.{Scheme}
-use Rattle.nesl_types.specs.declared.types.Ty.{Ty}
 use Rattle.nesl_types.specs.Class.{class_at}
 use Rattle.nesl_types.specs.Names.{found, with_name, datatype_at}
 use Rattle.nesl_types.specs.Scheme.{IsSameScheme}
-use Rattle.nesl_types.specs.Term.{Term, term}
+use Rattle.nesl_types_bank.specs.Term.{Term}
 use Rattle.nesl_syntax_tree.specs.Trees.{PatternTree, Tree}
 use Rattle.nesl_infer_names.specs.Names.{top_in}
 use Rattle.nesl_infer_rules.specs.Typing.{HasType}
@@ -23,7 +22,7 @@ use Rattle.nesl_eval_sound.specs.Sound.{HasBodyType, AreWellTyped, IsGround, wor
 -- a name means what it meant, where it meant something: a variable of the same type, or a function of the same scheme
 abbrev pub IsUnchanged : Option Top → Option Top → Type 0
 IsUnchanged None o = Unit {0}
-IsUnchanged (Some (top.Variable t)) (Some (top.Variable u)) = term t ≡ term u
+IsUnchanged (Some (top.Variable t)) (Some (top.Variable u)) = t ≡ u
 IsUnchanged (Some (top.Function f)) (Some (top.Function g)) = IsSameScheme f g
 IsUnchanged (Some t) o = ⊥
 
@@ -31,7 +30,7 @@ IsUnchanged (Some t) o = ⊥
 abbrev pub held_by : Top → Option Term
 held_by (top.Variable t) = None
 held_by (top.Function s) = None
-held_by (top.Datatype tag t) = Some (term t)
+held_by (top.Datatype tag t) = Some t
 
 abbrev pub is_type : Top → Bool
 is_type (top.Variable t) = false
@@ -61,13 +60,13 @@ module _ {P : Type 0} (seen : Top → P → evaluated.Top) where
 
   -- the name is no datatype, and where another function refers to it, its type doesn't change
   pub record IsRedefinable (bs : List (List ℕ × Top × P)) (x : Name) (new : Top) : Type 0 where
-    pub no_datatype : (tag : ℕ) (t : Ty) → top_in bs x ≡ Some (top.Datatype tag t) → ⊥
+    pub no_datatype : (tag : ℕ) (t : Term) → top_in bs x ≡ Some (top.Datatype tag t) → ⊥
     pub no_retype : is_referred x (values_of bs) ≡ true → IsUnchanged (top_in bs x) (Some new)
 
   -- `x = e;`
   abbrev pub VariablesStaySound : Type 0
-  VariablesStaySound = (bs : List (List ℕ × Top × P)) → IsSound bs → (x : Name) (t : Ty) (e : Tree) →
-      (of : ℕ → Class) (limit : Option ℕ) → HasType (world bs of limit None) [] e (term t) → IsGround (term t) →
+  VariablesStaySound = (bs : List (List ℕ × Top × P)) → IsSound bs → (x : Name) (t : Term) (e : Tree) →
+      (of : ℕ → Class) (limit : Option ℕ) → HasType (world bs of limit None) [] e t → IsGround t →
       IsRedefinable bs x (top.Variable t) →
       (n w d : ℕ) (v : Value) → out n (values_of bs) (outside []) e ≡ value v w d → (q : P) →
       seen (top.Variable t) q ≡ variable_of v → IsSound (with_name x (top.Variable t) q bs)
@@ -76,13 +75,13 @@ module _ {P : Type 0} (seen : Top → P → evaluated.Top) where
   abbrev pub FunctionsStaySound : Type 0
   FunctionsStaySound = (bs : List (List ℕ × Top × P)) → IsSound bs →
       (x : Name) (s : Scheme) (p : PatternTree) (e : Tree) (limit : Option ℕ) →
-      HasBodyType (world bs (class_at s.classes.items) limit) x p e (term s.argument) (term s.result) →
+      HasBodyType (world bs (class_at s.classes.items) limit) x p e s.argument s.result →
       IsRedefinable bs x (top.Function s) → (q : P) → seen (top.Function s) q ≡ function_of p e →
       IsSound (with_name x (top.Function s) q bs)
 
   -- `datatype x t;`
   abbrev pub DatatypesStaySound : Type 0
-  DatatypesStaySound = (bs : List (List ℕ × Top × P)) → IsSound bs → (x : Name) (t : Ty) → IsGround (term t) →
+  DatatypesStaySound = (bs : List (List ℕ × Top × P)) → IsSound bs → (x : Name) (t : Term) → IsGround t →
       found x bs ≡ None → (q : P) → seen (top.Datatype (datatypes bs) t) q ≡ datatype_of (datatypes bs) →
       IsSound (with_name x (top.Datatype (datatypes bs) t) q bs)
 

@@ -4,10 +4,9 @@ use Rattle.nesl_types.specs.declared.bindings.Top.{Top}
 use Rattle.nesl_types.specs.declared.bindings.Top.TheVariants as top
 use Rattle.nesl_types.specs.declared.classes.Class.{Class}
 use Rattle.nesl_types.specs.declared.schemes.Scheme.{Scheme}
-use Rattle.nesl_types.specs.declared.types.Ty.{Ty}
-use Rattle.nesl_types.specs.Numbering.{IsBelow}
-use Rattle.nesl_types.specs.Substitution.{substitute}
-use Rattle.nesl_types.specs.Term.{Term, term, int}
+use Rattle.nesl_types_bank.specs.Numbering.{IsBelow}
+use Rattle.nesl_types_bank.specs.Substitution.{substitute}
+use Rattle.nesl_types_bank.specs.Term.{Term, int}
 use Rattle.nesl_syntax_tree.specs.Trees.{PatternTree, Tree}
 use Rattle.nesl_builtins.specs.Table.{function_type}
 use Rattle.nesl_infer_names.specs.Names.{top_in}
@@ -56,11 +55,11 @@ module _ {P : Type 0} (context : List (List ℕ × Top × P)) where
 
   -- a name stands for what its type says, where `held` tells what each datatype holds
   pub record IsWellTyped (held : ℕ → Option Term) (env : Environment) (x : Name) : Type 0 where
-    pub variables : (t : Ty) → top_in context x ≡ Some (top.Variable t) →
-        IsValue held (term t) (named env x) × IsGround (term t)
+    pub variables : (t : Term) → top_in context x ≡ Some (top.Variable t) →
+        IsValue held t (named env x) × IsGround t
     pub functions : (s : Scheme) → top_in context x ≡ Some (top.Function s) → IsBody x s (named env x)
-    pub datatypes : (tag : ℕ) (t : Ty) → top_in context x ≡ Some (top.Datatype tag t) →
-        (named env x ≡ Some (datatype_of tag)) × (held tag ≡ Some (term t)) × IsGround (term t)
+    pub datatypes : (tag : ℕ) (t : Term) → top_in context x ≡ Some (top.Datatype tag t) →
+        (named env x ≡ Some (datatype_of tag)) × (held tag ≡ Some t) × IsGround t
 
   -- the bindings are well typed
   abbrev pub AreWellTyped : (ℕ → Option Term) → Environment → Type 0

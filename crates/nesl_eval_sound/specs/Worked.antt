@@ -10,8 +10,7 @@ use Rattle.nesl_types.specs.declared.bindings.Top.{Top}
 use Rattle.nesl_types.specs.declared.bindings.Top.TheVariants as top
 use Rattle.nesl_types.specs.declared.classes.Class.TheVariants.{Any}
 use Rattle.nesl_types.specs.declared.schemes.Scheme.{Scheme}
-use Rattle.nesl_types.specs.declared.types.Ty.{Ty}
-use Rattle.nesl_types.specs.Term.{Term, term, int, bool, char, variable, seq_of, both, nodes}
+use Rattle.nesl_types_bank.specs.Term.{Term, int, bool, char, variable, seq_of, both, nodes}
 use Rattle.nesl_eval_meaning.specs.Names.{Environment, function_of, outside, datatype_of}
 use Rattle.nesl_eval_meaning.specs.Names as evaluated
 use Rattle.nesl_eval_meaning.specs.Outcome.{out}
@@ -40,7 +39,7 @@ with_identity s = (codes "id", top.Function s, function_of parameter body) ∷ [
 
 -- from each type to the same
 abbrev pub IsIdentity : Scheme → Type 0
-IsIdentity s = (term s.argument ≡ variable 0) × (term s.result ≡ variable 0) × (s.classes.items ≡ Any ∷ [])
+IsIdentity s = (s.argument ≡ variable 0) × (s.result ≡ variable 0) × (s.classes.items ≡ Any ∷ [])
 
 abbrev pub three_and_true : Tree
 three_and_true =
@@ -64,7 +63,7 @@ IdentityIsSound = (s : Scheme) → IsIdentity s →
     ((n : ℕ) → IsFine (λ v. HasType (held_in (with_identity s)) v their_type)
     (out n (values_of as_it_is (with_identity s)) (outside []) two_calls))
 
-abbrev pub with_point : Ty → Bindings
+abbrev pub with_point : Term → Bindings
 with_point t = (codes "point", top.Datatype 0 t, datatype_of 0) ∷ []
 
 abbrev pub number_of : ℕ → Tree
@@ -87,7 +86,7 @@ point_taken_apart =
 
 -- the bindings are sound, and the sum of the parts of a record is never stuck and a number
 abbrev pub PointIsSound : Type 0
-PointIsSound = (t : Ty) → term t ≡ both int int →
+PointIsSound = (t : Term) → t ≡ both int int →
     IsSound as_it_is (with_point t) ×
     ((n : ℕ) → IsFine (λ v. HasType (held_in (with_point t)) v int)
     (out n (values_of as_it_is (with_point t)) (outside []) point_taken_apart))
@@ -141,7 +140,7 @@ with_growing k s =
 
 -- from each type to bool
 abbrev pub IsTest : Scheme → Type 0
-IsTest s = (term s.argument ≡ variable 0) × (term s.result ≡ bool) × (s.classes.items ≡ Any ∷ [])
+IsTest s = (s.argument ≡ variable 0) × (s.result ≡ bool) × (s.classes.items ≡ Any ∷ [])
 
 abbrev pub growing_call : Tree
 growing_call = node here (trees.call (codes "grow") three_and_true)

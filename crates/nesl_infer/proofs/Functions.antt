@@ -8,10 +8,10 @@ use Rattle.nesl_types.specs.declared.classes.Class.{Class}
 use Rattle.nesl_types.specs.declared.classes.Class.TheVariants.{Any}
 use Rattle.nesl_types.specs.declared.bindings.Top.{Top}
 use Rattle.nesl_types.specs.declared.schemes.Scheme.{Scheme}
-use Rattle.nesl_types.specs.Term.{Term, int, bool, char, variable, seq_of, both, named, term, nodes}
-use Rattle.nesl_types.specs.Numbering.{IsBelow, variables, first_occurrences, number_of}
+use Rattle.nesl_types_bank.specs.Term.{Term, int, bool, char, variable, seq_of, both, named, nodes}
+use Rattle.nesl_types_bank.specs.Numbering.{IsBelow, variables, first_occurrences, number_of}
 use Rattle.nesl_types.specs.Scheme.{IsSchemeOf}
-use Rattle.nesl_types.specs.Substitution.{substitute}
+use Rattle.nesl_types_bank.specs.Substitution.{substitute}
 use Rattle.nesl_types.specs.Class.{IsIn, IsWithin, class_at}
 use Rattle.nesl_types.proofs.Members.{IsIn-substitute}
 use Rattle.nesl_syntax_tree.specs.Trees.{PatternTree, Tree, SignatureTree}
@@ -153,18 +153,18 @@ whole {A = A} t u F h p = record {
 -- the scheme of a most general solution is principal
 pub scheme_principal : (C : State) (t u : ℕ) (F : (ℕ → Class) → Term → Term → Type 0) → IsWhole C t u F → (s : ℕ → Term) (of : ℕ → Class) → IsBounded s → Holds s of C →
     ((z : ℕ → Term) (k : ℕ → Class) → Holds z k C → IsInstance s of z k) → (g : Scheme) → IsSchemeOf (s t) (s u) of g →
-    IsBelow (length g.classes.items) (term g.argument) → IsBelow (length g.classes.items) (term g.result) → IsPrincipalScheme F g
+    IsBelow (length g.classes.items) g.argument → IsBelow (length g.classes.items) g.result → IsPrincipalScheme F g
 scheme_principal C t u F w s of b h general g is la lr =
     let vs = first_occurrences (variables (s t) ++ variables (s u)) in
     let long : length g.classes.items ≡ length vs = ap length is.classes ∙ length_map of vs in
-    let below_a : IsBelow (length vs) (substitute (λ v. variable (number_of vs v)) (s t)) = subst (λ (x : Term). IsBelow (length vs) x) is.argument (subst (λ (n : ℕ). IsBelow n (term g.argument)) long la) in
-    let below_r : IsBelow (length vs) (substitute (λ v. variable (number_of vs v)) (s u)) = subst (λ (x : Term). IsBelow (length vs) x) is.result (subst (λ (n : ℕ). IsBelow n (term g.result)) long lr) in
+    let below_a : IsBelow (length vs) (substitute (λ v. variable (number_of vs v)) (s t)) = subst (λ (x : Term). IsBelow (length vs) x) is.argument (subst (λ (n : ℕ). IsBelow n g.argument) long la) in
+    let below_r : IsBelow (length vs) (substitute (λ v. variable (number_of vs v)) (s u)) = subst (λ (x : Term). IsBelow (length vs) x) is.result (subst (λ (n : ℕ). IsBelow n g.result) long lr) in
     let typed = w.sound (λ v. substitute (numbered vs) (s v)) (class_at (map of vs)) (bounded_numbered s vs b) (holds_numbered C s of vs h) in
-    let arg : substitute (numbered vs) (s t) ≡ term g.argument = sym (is.argument ∙ renamed-numbered vs (s t) below_a) in
-    let res : substitute (numbered vs) (s u) ≡ term g.result = sym (is.result ∙ renamed-numbered vs (s u) below_r) in
+    let arg : substitute (numbered vs) (s t) ≡ g.argument = sym (is.argument ∙ renamed-numbered vs (s t) below_a) in
+    let res : substitute (numbered vs) (s u) ≡ g.result = sym (is.result ∙ renamed-numbered vs (s u) below_r) in
     record {
-      fits = subst (λ (cs : List Class). F (class_at cs) (term g.argument) (term g.result)) (sym is.classes)
-          (subst (λ (x : Term). F (class_at (map of vs)) (term g.argument) x) res (subst (λ (x : Term). F (class_at (map of vs)) x (substitute (numbered vs) (s u))) arg typed));
+      fits = subst (λ (cs : List Class). F (class_at cs) g.argument g.result) (sym is.classes)
+          (subst (λ (x : Term). F (class_at (map of vs)) g.argument x) res (subst (λ (x : Term). F (class_at (map of vs)) x (substitute (numbered vs) (s u))) arg typed));
       most_general = λ k a r f.
           let z = w.complete k a r f in
           let i = general z.0 k z.1 in

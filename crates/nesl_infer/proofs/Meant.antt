@@ -4,9 +4,9 @@ use Rattle.std.specs.Prelude.{Option, Some, None, option_map}
 use Rattle.nesl_types.specs.declared.bindings.Top.{Top}
 use Rattle.nesl_types.specs.declared.bindings.Top.TheVariants as top
 use Rattle.nesl_types.specs.Names.{found}
-use Rattle.nesl_types.specs.Numbering.{IsBelow}
-use Rattle.nesl_types.specs.Substitution.{substitute}
-use Rattle.nesl_types.specs.Term.{Term, named, term}
+use Rattle.nesl_types_bank.specs.Numbering.{IsBelow}
+use Rattle.nesl_types_bank.specs.Substitution.{substitute}
+use Rattle.nesl_types_bank.specs.Term.{Term, named}
 use Rattle.nesl_builtins.specs.declared.builtin.Builtin.{Builtin}
 use Rattle.nesl_builtins.specs.Named.{named_builtin}
 use Rattle.nesl_infer_names.specs.Names.{Referent, itself, built_in, function, record_of, as_variable, as_function, as_datatype, built_in_or, is_own, hides, top_in, variable_in, function_in}
@@ -20,7 +20,7 @@ AllClosed {P = P} o = (t : Top) (p : P) → o ≡ Some (t, p) → IsClosed t
 
 variable-kept : {P : Type 0} (put : ℕ → Term) (o : Option (Top × P)) → AllClosed o → option_map (substitute put) (as_variable (option_map (λ b. b.0) o)) ≡ as_variable (option_map (λ b. b.0) o)
 variable-kept put None h = refl
-variable-kept put (Some (top.Variable t, p)) h = ap Some (closed-kept put (term t) (h (top.Variable t) p refl))
+variable-kept put (Some (top.Variable t, p)) h = ap Some (closed-kept put t (h (top.Variable t) p refl))
 variable-kept put (Some (top.Function s, p)) h = refl
 variable-kept put (Some (top.Datatype tag held, p)) h = refl
 
@@ -35,7 +35,7 @@ function-closed : {P : Type 0} (o : Option (Top × P)) → AllClosed o → Holds
 function-closed None h tag held e = absurd cc
 function-closed (Some (top.Variable t, p)) h tag held e = absurd cc
 function-closed (Some (top.Function s, p)) h tag held e = absurd cc
-function-closed (Some (top.Datatype n t, p)) h tag held e = subst (IsBelow 0) (same_held n tag (term t) held e) (h (top.Datatype n t) p refl)
+function-closed (Some (top.Datatype n t, p)) h tag held e = subst (IsBelow 0) (same_held n tag t held e) (h (top.Datatype n t) p refl)
 
 or-closed : (b : Option Builtin) (o : Option Referent) → HoldsClosed o → HoldsClosed (built_in_or b o)
 or-closed None o h tag held e = h tag held e
@@ -69,7 +69,7 @@ datatype-closed put None h d e = absurd cc
 datatype-closed put (Some (top.Variable t, p)) h d e = absurd cc
 datatype-closed put (Some (top.Function s, p)) h d e = absurd cc
 datatype-closed put (Some (top.Datatype n t, p)) h d e =
-    subst (λ (k : ℕ × Term). substitute put k.1 ≡ k.1) (same_record (n, term t) d e) (closed-kept put (term t) (h (top.Datatype n t) p refl))
+    subst (λ (k : ℕ × Term). substitute put k.1 ≡ k.1) (same_record (n, t) d e) (closed-kept put t (h (top.Datatype n t) p refl))
 
 same_name : (put : ℕ → Term) (own : Own) → own_name (own_with put own) ≡ own_name own
 same_name put None = refl

@@ -4,9 +4,8 @@ use Rattle.std.specs.Prelude.{◌≡◌, ◌<◌, ◌≤◌, ℕ, List, [], Opti
 use Rattle.nesl_lex.specs.declared.token.Span.{Span}
 use Rattle.nesl_types.specs.declared.bindings.Top.{Top}
 use Rattle.nesl_types.specs.declared.schemes.Scheme.{Scheme}
-use Rattle.nesl_types.specs.declared.types.Ty.{Ty}
-use Rattle.nesl_types.specs.Numbering.{IsBelow}
-use Rattle.nesl_types.specs.Term.{Term, term, nodes}
+use Rattle.nesl_types_bank.specs.Numbering.{IsBelow}
+use Rattle.nesl_types_bank.specs.Term.{Term, nodes}
 use Rattle.nesl_syntax_tree.specs.Trees.{TypeTree, PatternTree, Tree, SignatureTree}
 use Rattle.nesl_builtins.specs.Table.{FunctionType, function_type}
 use Rattle.nesl_infer_names.specs.Firsts.{first}
@@ -62,11 +61,11 @@ Answers f Is (Err Ambiguous) = Is ambiguous
 Answers f Is (Err Memory) = Unit {0}
 
 module _ {P : Type 0} (context : List (List ℕ × Top × P)) where
-  abbrev pub IsTypeOf : Tree → Result Ty InferFault → Type 0
-  IsTypeOf e = Answers term (IsTypeBy (names_in context) e)
+  abbrev pub IsTypeOf : Tree → Result Term InferFault → Type 0
+  IsTypeOf e = Answers (λ t. t) (IsTypeBy (names_in context) e)
 
   abbrev pub IsSchemeFor : List ℕ → PatternTree → Option SignatureTree → Tree → Result Scheme InferFault → Type 0
   IsSchemeFor x p g e = Answers function_type (IsFunctionBy (names_in context) x p g e)
 
-  abbrev pub IsDatatypeFor : TypeTree → Result Ty InferFault → Type 0
-  IsDatatypeFor a = Answers term (IsContentBy (names_in context) a)
+  abbrev pub IsDatatypeFor : TypeTree → Result Term InferFault → Type 0
+  IsDatatypeFor a = Answers (λ t. t) (IsContentBy (names_in context) a)

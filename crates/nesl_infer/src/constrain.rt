@@ -1,11 +1,13 @@
 //! The equations of an expression.
 
 ghost use Rattle.std.specs.Prelude.{◌≡◌, ◌<◌, ◌≤◌, ℕ, List, All, map, length, IfOk, OnOk};
-ghost use Rattle.nesl_types.specs.Term.{Term, term, int, nodes};
-ghost use Rattle.nesl_types.specs.Numbering.{IsBelow};
+ghost use Rattle.nesl_types_bank.specs.Term.{Term, int, nodes};
+ghost use Rattle.nesl_types_bank.specs.Numbering.{IsBelow};
+ghost use Rattle.nesl_unify.specs.Flat.{flat_type};
 ghost use Rattle.nesl_syntax_tree.specs.Trees.{let_in, each, filtered_each};
 ghost use Rattle.nesl_syntax_tree.specs.Views.{tree_of, trees_in, binders_in};
-ghost use Rattle.nesl_infer_rules.specs.Holds.{Adds, AddsNames, Gives, count, scope_at, world_at, AreLocalsBelow, IsOwnBelow};
+ghost use Rattle.nesl_infer_rules.specs.Holds.{Adds, AddsNames, Gives, count, scope_at, world_at, AreLocalsBelow};
+ghost use Rattle.nesl_infer_rules.specs.Holds.{IsOwnBelow};
 ghost use Rattle.nesl_infer_rules.specs.Contexts.{AreClosed};
 ghost use Rattle.nesl_infer_rules.specs.Typing.{HasType, HasShapeType, HaveType, HaveElements, Binds, Draws};
 
@@ -17,7 +19,8 @@ use nesl_infer_rules::leaf::{is_element, is_empty_of, is_variable};
 use nesl_infer_rules::pattern::constrain_pattern;
 use nesl_infer_rules::state::{Local, OwnName, State};
 use nesl_syntax_tree::tree::{Binding, Exp, Node};
-use nesl_types::{Context, Ty};
+use nesl_types::Context;
+use nesl_unify::Flat;
 use std::alloc::{AllocError, Global};
 
 /// Adds what makes `target` a type of the expression.
@@ -35,14 +38,16 @@ pub fn constrain<P: Drop>(
     requires locals { AreLocalsBelow (count state.old) locals.old.items }
     requires own { IsOwnBelow (count state.old) own.now }
     requires closed { AreClosed context.now }
-    ensures adds { OnOk result (Adds state.old state.new (λ s of. HasType (world_at context.now own.now s of) (scope_at s locals.old.items) (tree_of exp.now) (s target))) }
+    ensures adds { OnOk result (Adds state.old state.new
+        (λ s of. HasType (world_at context.now own.now s of) (scope_at s locals.old.items) (tree_of exp.now)
+        (s target))) }
     ensures locals { OnOk result (locals.new.items ≡ locals.old.items) }
 {
     match &exp.node {
-        Node::Number(_) => state.equate(target, Ty::Int),
-        Node::Truth(_) => state.equate(target, Ty::Bool),
-        Node::Character(_) => state.equate(target, Ty::Char),
-        Node::Text(_) => is_text(alloc, state, target),
+        Node::Number(_) => state.equate_flat(target, Flat::Int),
+        Node::Truth(_) => state.equate_flat(target, Flat::Bool),
+        Node::Character(_) => state.equate_flat(target, Flat::Char),
+        Node::Text(_) => is_text(state, target),
         Node::Variable(name) => is_variable(
             alloc,
             state,
@@ -62,7 +67,7 @@ pub fn constrain<P: Drop>(
         } => {
             let left = constrain_part(alloc, state, context, own, locals, first)?;
             let right = constrain_part(alloc, state, context, own, locals, second)?;
-            state.is_pair(alloc, target, left, right)
+            state.is_pair(target, left, right)
         }
         Node::Prefix {
             operator: prefix,
@@ -85,22 +90,22 @@ pub fn constrain<P: Drop>(
             index: place,
         } => {
             let items = constrain_part(alloc, state, context, own, locals, sequence)?;
-            constrain_exactly(alloc, state, context, own, locals, place, Ty::Int)?;
-            state.is_sequence(alloc, items, target)
+            constrain_exactly(alloc, state, context, own, locals, place, Flat::Int)?;
+            state.is_sequence(items, target)
         }
         Node::Choice {
             test,
             yes: first,
             no: second,
         } => {
-            constrain_exactly(alloc, state, context, own, locals, test, Ty::Bool)?;
+            constrain_exactly(alloc, state, context, own, locals, test, Flat::Bool)?;
             constrain(alloc, state, context, own, locals, first, target)?;
             constrain(alloc, state, context, own, locals, second, target)
         }
         Node::Sequence(items) => {
             let item = state.anything()?;
             constrain_items(alloc, state, context, own, locals, items.as_slice(), item)?;
-            state.is_sequence(alloc, target, item)
+            state.is_sequence(target, item)
         }
         Node::Empty(written) => is_empty_of(alloc, state, context, written, target),
         Node::Range {
@@ -108,7 +113,7 @@ pub fn constrain<P: Drop>(
             to: end,
         } => {
             let number = constrain_bounds(alloc, state, context, own, locals, start, end)?;
-            state.is_sequence(alloc, target, number)
+            state.is_sequence(target, number)
         }
         Node::StridedRange {
             from: start,
@@ -117,7 +122,7 @@ pub fn constrain<P: Drop>(
         } => {
             let number = constrain_bounds(alloc, state, context, own, locals, start, end)?;
             constrain(alloc, state, context, own, locals, step, number)?;
-            state.is_sequence(alloc, target, number)
+            state.is_sequence(target, number)
         }
         Node::Let { bindings, body } => constrain_let(
             alloc,
@@ -171,7 +176,8 @@ fn constrain_part<P: Drop>(
     requires locals { AreLocalsBelow (count state.old) locals.old.items }
     requires own { IsOwnBelow (count state.old) own.now }
     requires closed { AreClosed context.now }
-    ensures gives { IfOk result (λ v. Gives state.old state.new (λ s. s v) (λ s of t. HasType (world_at context.now own.now s of) (scope_at s locals.old.items) (tree_of exp.now) t)) }
+    ensures gives { IfOk result (λ v. Gives state.old state.new (λ s. s v)
+        (λ s of t. HasType (world_at context.now own.now s of) (scope_at s locals.old.items) (tree_of exp.now) t)) }
     ensures below { IfOk result (λ v. v < count state.new) }
     ensures locals { OnOk result (locals.new.items ≡ locals.old.items) }
 {
@@ -189,17 +195,19 @@ fn constrain_exactly<P: Drop>(
     own: &Option<OwnName>,
     locals: &mut Vec<Local>,
     exp: &Exp,
-    ty: Ty,
+    flat: Flat,
 ) -> Result<(), AllocError>
-    requires ty { IsBelow 0 (term ty) }
-    requires small { nodes (term ty) ≤ 4096 }
+    requires flat { IsBelow 0 (flat_type flat) }
+    requires small { nodes (flat_type flat) ≤ 4096 }
     requires locals { AreLocalsBelow (count state.old) locals.old.items }
     requires own { IsOwnBelow (count state.old) own.now }
     requires closed { AreClosed context.now }
-    ensures adds { OnOk result (Adds state.old state.new (λ s of. HasType (world_at context.now own.now s of) (scope_at s locals.old.items) (tree_of exp.now) (term ty))) }
+    ensures adds { OnOk result (Adds state.old state.new
+        (λ s of. HasType (world_at context.now own.now s of) (scope_at s locals.old.items) (tree_of exp.now)
+        (flat_type flat))) }
     ensures locals { OnOk result (locals.new.items ≡ locals.old.items) }
 {
-    let part = state.exactly(ty)?;
+    let part = state.exactly(flat)?;
     constrain(alloc, state, context, own, locals, exp, part)
 }
 
@@ -217,11 +225,13 @@ fn constrain_bounds<P: Drop>(
     requires locals { AreLocalsBelow (count state.old) locals.old.items }
     requires own { IsOwnBelow (count state.old) own.now }
     requires closed { AreClosed context.now }
-    ensures gives { IfOk result (λ v. Gives state.old state.new (λ s. s v) (λ s of t. (t ≡ int) × HasType (world_at context.now own.now s of) (scope_at s locals.old.items) (tree_of from.now) t × HasType (world_at context.now own.now s of) (scope_at s locals.old.items) (tree_of to.now) t)) }
+    ensures gives { IfOk result (λ v. Gives state.old state.new (λ s. s v) (λ s of t. (t ≡ int)
+        × HasType (world_at context.now own.now s of) (scope_at s locals.old.items) (tree_of from.now) t
+        × HasType (world_at context.now own.now s of) (scope_at s locals.old.items) (tree_of to.now) t)) }
     ensures below { IfOk result (λ v. v < count state.new) }
     ensures locals { OnOk result (locals.new.items ≡ locals.old.items) }
 {
-    let number = state.exactly(Ty::Int)?;
+    let number = state.exactly(Flat::Int)?;
     constrain(alloc, state, context, own, locals, from, number)?;
     constrain(alloc, state, context, own, locals, to, number)?;
     Ok(number)
@@ -242,7 +252,9 @@ fn constrain_items<P: Drop>(
     requires locals { AreLocalsBelow (count state.old) locals.old.items }
     requires own { IsOwnBelow (count state.old) own.now }
     requires closed { AreClosed context.now }
-    ensures adds { OnOk result (Adds state.old state.new (λ s of. HaveType (world_at context.now own.now s of) (scope_at s locals.old.items) (trees_in items.now) (s target))) }
+    ensures adds { OnOk result (Adds state.old state.new
+        (λ s of. HaveType (world_at context.now own.now s of) (scope_at s locals.old.items) (trees_in items.now)
+        (s target))) }
     ensures locals { OnOk result (locals.new.items ≡ locals.old.items) }
 {
     for item in items {
@@ -264,7 +276,9 @@ fn constrain_bindings<P: Drop>(
     requires locals { AreLocalsBelow (count state.old) locals.old.items }
     requires own { IsOwnBelow (count state.old) own.now }
     requires closed { AreClosed context.now }
-    ensures { OnOk result (AddsNames state.old state.new locals.old.items locals.new.items (λ s of ns. Binds (world_at context.now own.now s of) (scope_at s locals.old.items) (binders_in bindings.now) ns)) }
+    ensures { OnOk result (AddsNames state.old state.new locals.old.items locals.new.items
+        (λ s of ns. Binds (world_at context.now own.now s of) (scope_at s locals.old.items)
+        (binders_in bindings.now) ns)) }
 {
     for binding in bindings {
         let bound = state.anything()?;
@@ -274,7 +288,8 @@ fn constrain_bindings<P: Drop>(
     Ok(())
 }
 
-/// Adds that the values of the binders of an apply-to-each are sequences, and gives the variables of their elements' types.
+/// Adds that the values of the binders of an apply-to-each are sequences, and gives the variables of their elements'
+/// types.
 #[cycle(constrain)]
 fn constrain_values<P: Drop>(
     alloc: Global,
@@ -287,7 +302,9 @@ fn constrain_values<P: Drop>(
     requires locals { AreLocalsBelow (count state.old) locals.old.items }
     requires own { IsOwnBelow (count state.old) own.now }
     requires closed { AreClosed context.now }
-    ensures gives { IfOk result (λ vs. Gives state.old state.new (λ s. map s vs.items) (λ s of is. HaveElements (world_at context.now own.now s of) (scope_at s locals.old.items) (binders_in bindings.now) is)) }
+    ensures gives { IfOk result (λ vs. Gives state.old state.new (λ s. map s vs.items)
+        (λ s of is. HaveElements (world_at context.now own.now s of) (scope_at s locals.old.items)
+        (binders_in bindings.now) is)) }
     ensures below { IfOk result (λ vs. All (λ v. v < count state.new) vs.items) }
     ensures len { IfOk result (λ vs. length vs.items ≡ length bindings.now) }
     ensures locals { OnOk result (locals.new.items ≡ locals.old.items) }
@@ -296,7 +313,7 @@ fn constrain_values<P: Drop>(
     for binding in bindings {
         let item = state.anything()?;
         let sequence = state.anything()?;
-        state.is_sequence(alloc, sequence, item)?;
+        state.is_sequence(sequence, item)?;
         constrain(alloc, state, context, own, locals, &binding.value, sequence)?;
         items.push(item)?;
     }
@@ -319,7 +336,9 @@ fn constrain_let<P: Drop>(
     requires locals { AreLocalsBelow (count state.old) locals.old.items }
     requires own { IsOwnBelow (count state.old) own.now }
     requires closed { AreClosed context.now }
-    ensures adds { OnOk result (Adds state.old state.new (λ s of. HasShapeType (world_at context.now own.now s of) (scope_at s locals.old.items) (let_in (binders_in bindings.now) (tree_of body.now)) (s target))) }
+    ensures adds { OnOk result (Adds state.old state.new
+        (λ s of. HasShapeType (world_at context.now own.now s of) (scope_at s locals.old.items)
+        (let_in (binders_in bindings.now) (tree_of body.now)) (s target))) }
     ensures locals { OnOk result (locals.new.items ≡ locals.old.items) }
 {
     let before = locals.len();
@@ -345,14 +364,16 @@ fn constrain_each<P: Drop>(
     requires locals { AreLocalsBelow (count state.old) locals.old.items }
     requires own { IsOwnBelow (count state.old) own.now }
     requires closed { AreClosed context.now }
-    ensures adds { OnOk result (Adds state.old state.new (λ s of. HasShapeType (world_at context.now own.now s of) (scope_at s locals.old.items) (each (tree_of body.now) (binders_in bindings.now)) (s target))) }
+    ensures adds { OnOk result (Adds state.old state.new
+        (λ s of. HasShapeType (world_at context.now own.now s of) (scope_at s locals.old.items)
+        (each (tree_of body.now) (binders_in bindings.now)) (s target))) }
     ensures locals { OnOk result (locals.new.items ≡ locals.old.items) }
 {
     let before = locals.len();
     constrain_binders(alloc, state, context, own, locals, bindings)?;
     let item = constrain_part(alloc, state, context, own, locals, body)?;
     locals.truncate(before);
-    state.is_sequence(alloc, target, item)
+    state.is_sequence(target, item)
 }
 
 /// The equations of an apply-to-each with a filter.
@@ -372,15 +393,17 @@ fn constrain_filtered_each<P: Drop>(
     requires locals { AreLocalsBelow (count state.old) locals.old.items }
     requires own { IsOwnBelow (count state.old) own.now }
     requires closed { AreClosed context.now }
-    ensures adds { OnOk result (Adds state.old state.new (λ s of. HasShapeType (world_at context.now own.now s of) (scope_at s locals.old.items) (filtered_each (tree_of body.now) (binders_in bindings.now) (tree_of filter.now)) (s target))) }
+    ensures adds { OnOk result (Adds state.old state.new
+        (λ s of. HasShapeType (world_at context.now own.now s of) (scope_at s locals.old.items)
+        (filtered_each (tree_of body.now) (binders_in bindings.now) (tree_of filter.now)) (s target))) }
     ensures locals { OnOk result (locals.new.items ≡ locals.old.items) }
 {
     let before = locals.len();
     constrain_binders(alloc, state, context, own, locals, bindings)?;
     let item = constrain_part(alloc, state, context, own, locals, body)?;
-    constrain_exactly(alloc, state, context, own, locals, filter, Ty::Bool)?;
+    constrain_exactly(alloc, state, context, own, locals, filter, Flat::Bool)?;
     locals.truncate(before);
-    state.is_sequence(alloc, target, item)
+    state.is_sequence(target, item)
 }
 
 /// Adds the names of the binders of an apply-to-each, whose values are sequences.
@@ -396,7 +419,9 @@ fn constrain_binders<P: Drop>(
     requires locals { AreLocalsBelow (count state.old) locals.old.items }
     requires own { IsOwnBelow (count state.old) own.now }
     requires closed { AreClosed context.now }
-    ensures { OnOk result (AddsNames state.old state.new locals.old.items locals.new.items (λ s of ns. (is : List Term) × HaveElements (world_at context.now own.now s of) (scope_at s locals.old.items) (binders_in bindings.now) is × Draws (world_at context.now own.now s of) (binders_in bindings.now) is ns)) }
+    ensures { OnOk result (AddsNames state.old state.new locals.old.items locals.new.items (λ s of ns. (is : List Term)
+        × HaveElements (world_at context.now own.now s of) (scope_at s locals.old.items) (binders_in bindings.now) is
+        × Draws (world_at context.now own.now s of) (binders_in bindings.now) is ns)) }
 {
     let items = constrain_values(alloc, state, context, own, locals, bindings)?;
     bind_items(

@@ -1,14 +1,17 @@
 //! Principal types.
 
-ghost use Rattle.std.specs.Prelude.{◌≡◌, ℕ, option_map, IfOk, IsErrOf};
+ghost use Rattle.std.specs.Prelude.{◌≡◌, ℕ, option_map, IfOk, IsErrOf, MatchOption};
 ghost use Rattle.nesl_infer_rules.specs.Holds.{Gives};
 ghost use Rattle.nesl_syntax_tree.specs.Views.{tree_of, pattern_tree, signature_tree, type_tree};
 ghost use Rattle.nesl_infer.specs.Answers.{IsTypeOf, IsSchemeFor, IsDatatypeFor};
 ghost use Rattle.nesl_types.specs.declared.classes.Class.{Class};
 ghost use Rattle.nesl_types.specs.Class.{class_at};
-ghost use Rattle.nesl_types.specs.Term.{Term, term};
+ghost use Rattle.nesl_types_bank.specs.Term.{Term};
 ghost use Rattle.nesl_infer_rules.specs.Contexts.{AreClosed};
-ghost use Rattle.nesl_infer_rules.specs.Principal.{HasNone, HasNoScheme, IsPrincipal, IsPrincipalScheme, Typed, TypedFunction};
+ghost use Rattle.nesl_infer_rules.specs.Typing.{IsWritten};
+ghost use Rattle.nesl_infer_names.specs.Names.{datatype_in};
+ghost use Rattle.nesl_infer_rules.specs.Principal.{HasNone, HasNoScheme, IsPrincipal, IsPrincipalScheme, Typed};
+ghost use Rattle.nesl_infer_rules.specs.Principal.{TypedFunction};
 
 use crate::constrain::constrain;
 use crate::fault::InferFault;
@@ -19,6 +22,7 @@ use nesl_infer_rules::state::{OwnName, State};
 use nesl_infer_rules::written::written_type;
 use nesl_syntax_tree::tree::{Exp, Pattern, Signature, TypeExp};
 use nesl_types::{Class, Context, Scheme, Ty};
+use nesl_types_bank::Bank;
 use nesl_unify::SolveFault;
 use nesl_unify::solve::is_below;
 use std::alloc::{AllocError, Global};
@@ -37,7 +41,8 @@ fn principal_type<P: Drop>(
     exp: &Exp,
 ) -> Result<PrincipalType, SolveFault>
     requires { AreClosed context.now }
-    ensures principal { IfOk result (λ p. IsPrincipal (Typed context.now (tree_of exp.now)) (class_at p.classes.items) (term p.ty)) }
+    ensures principal { IfOk result (λ p. IsPrincipal (Typed context.now (tree_of exp.now))
+        (class_at p.classes.items) p.ty) }
     ensures ill_typed { IsErrOf result SolveFault.NoSolution → HasNone (Typed context.now (tree_of exp.now)) }
 {
     let mut state = State::new(alloc);
@@ -45,7 +50,7 @@ fn principal_type<P: Drop>(
     let mut locals = Vec::new(alloc);
     constrain(alloc, &mut state, context, &None, &mut locals, exp, root)?;
     let solution = state.solve(alloc)?;
-    let ty = solution.apply(alloc, &Ty::Var(root))?;
+    let ty = solution.variable(alloc, root)?;
     Ok(PrincipalType {
         ty,
         classes: solution.classes,
@@ -70,7 +75,10 @@ fn constrain_function<P: Drop>(
     body: &Exp,
 ) -> Result<Ends, AllocError>
     requires { AreClosed context.now }
-    ensures { IfOk result (λ o. Gives {X = Term × Term} state.old state.new (λ s. (s o.takes, s o.gives)) (λ s of x. TypedFunction context.now name.now (pattern_tree pattern.now) (option_map signature_tree signature.now) (tree_of body.now) of x.0 x.1)) }
+    ensures { IfOk result (λ o. Gives {X = Term
+        × Term} state.old state.new (λ s. (s o.takes, s o.gives))
+        (λ s of x. TypedFunction context.now name.now (pattern_tree pattern.now)
+        (option_map signature_tree signature.now) (tree_of body.now) of x.0 x.1)) }
 {
     let takes = state.anything()?;
     let gives = state.anything()?;
@@ -93,14 +101,18 @@ fn principal_scheme<P: Drop>(
     body: &Exp,
 ) -> Result<Scheme, SolveFault>
     requires { AreClosed context.now }
-    ensures principal { IfOk result (IsPrincipalScheme (TypedFunction context.now name.now (pattern_tree pattern.now) (option_map signature_tree signature.now) (tree_of body.now))) }
-    ensures ill_typed { IsErrOf result SolveFault.NoSolution → HasNoScheme (TypedFunction context.now name.now (pattern_tree pattern.now) (option_map signature_tree signature.now) (tree_of body.now)) }
+    ensures principal { IfOk result (IsPrincipalScheme
+        (TypedFunction context.now name.now (pattern_tree pattern.now) (option_map signature_tree signature.now)
+        (tree_of body.now))) }
+    ensures ill_typed { IsErrOf result SolveFault.NoSolution
+        → HasNoScheme (TypedFunction context.now name.now (pattern_tree pattern.now)
+        (option_map signature_tree signature.now) (tree_of body.now)) }
 {
     let mut state = State::new(alloc);
     let ends = constrain_function(alloc, &mut state, context, name, pattern, signature, body)?;
     let solution = state.solve(alloc)?;
-    let takes = solution.apply(alloc, &Ty::Var(ends.takes))?;
-    let gives = solution.apply(alloc, &Ty::Var(ends.gives))?;
+    let takes = solution.variable(alloc, ends.takes)?;
+    let gives = solution.variable(alloc, ends.gives)?;
     let scheme = Scheme::new(alloc, &takes, &gives, solution.classes.as_slice())?;
     scheme.variables_have_classes();
     Ok(scheme)
@@ -108,9 +120,8 @@ fn principal_scheme<P: Drop>(
 
 /// The type of an expression at the top level.
 ///
-/// # Errors
-/// In this order: the first unknown name in the text; no type of at most 4,096 nodes for each node, name and pattern; more than one
-/// type.
+/// # Errors In this order: the first unknown name in the text; no type of at most 4,096 nodes for each node, name and
+/// pattern; more than one type.
 pub fn infer_exp<P: Drop>(alloc: Global, context: &Context<P>, exp: &Exp) -> Result<Ty, InferFault>
     requires { AreClosed context.now }
     ensures { IsTypeOf context.now (tree_of exp.now) result }
@@ -144,7 +155,8 @@ pub fn infer_function<P: Drop>(
     body: &Exp,
 ) -> Result<Scheme, InferFault>
     requires { AreClosed context.now }
-    ensures { IsSchemeFor context.now name.now (pattern_tree pattern.now) (option_map signature_tree signature.now) (tree_of body.now) result }
+    ensures { IsSchemeFor context.now name.now (pattern_tree pattern.now) (option_map signature_tree signature.now)
+        (tree_of body.now) result }
 {
     if let Some(span) = unknown_in_function(alloc, context, name, pattern, body)? {
         return Err(InferFault::Unknown { span });
@@ -154,6 +166,26 @@ pub fn infer_function<P: Drop>(
         Err(SolveFault::NoSolution) => Err(InferFault::IllTyped),
         Err(SolveFault::Memory) => Err(InferFault::Memory),
     }
+}
+
+/// The type that is written, or `None` where a name in it is no datatype.
+fn type_as_written<P: Drop>(
+    alloc: Global,
+    context: &Context<P>,
+    written: &TypeExp,
+) -> Result<Option<Ty>, AllocError>
+    ensures { IfOk result
+        (λ o. MatchOption o
+        ((u : Term) → IsWritten (datatype_in context.now) (type_tree written.now) u → ⊥)
+        (IsWritten (datatype_in context.now) (type_tree written.now))) }
+{
+    let mut bank = Bank::new(alloc);
+    let place = match written_type(context, &mut bank, written)? {
+        Some(place) => place,
+        None => return Ok(None),
+    };
+    let ty = Ty::read(alloc, &bank, place)?;
+    Ok(Some(ty))
 }
 
 /// The type that a datatype's records hold, as it is written.
@@ -170,7 +202,7 @@ pub fn infer_datatype<P: Drop>(
     if let Some(span) = unknown_in_type(context, written)? {
         return Err(InferFault::Unknown { span });
     }
-    match written_type(alloc, context, written)? {
+    match type_as_written(alloc, context, written)? {
         Some(ty) => match ty.room_left(4096) {
             Some(_) => Ok(ty),
             None => Err(InferFault::IllTyped),

@@ -1,7 +1,8 @@
 //! Laws of typing.
 
 ghost use Rattle.nesl_infer_rules.specs.Contexts.{AreClosed};
-ghost use Rattle.nesl_infer.specs.Laws.{ContentsHaveOneVerdict, ExpressionsHaveOneVerdict, FunctionsHaveOneVerdict, MeaningsHaveInstances, TypingsHaveInstances};
+ghost use Rattle.nesl_infer.specs.Laws.{ContentsHaveOneVerdict, ExpressionsHaveOneVerdict, FunctionsHaveOneVerdict};
+ghost use Rattle.nesl_infer.specs.Laws.{MeaningsHaveInstances, TypingsHaveInstances};
 ghost use Rattle.nesl_infer.specs.References.{TypingsDependOnReferences};
 
 use nesl_types::Context;
@@ -22,8 +23,8 @@ pub fn typings_depend_on_references()
     ensures { TypingsDependOnReferences }
 {}
 
-/// Whatever way a verdict is found, there is no other: of an expression, of a function, and of what a datatype's records
-/// hold.
+/// Whatever way a verdict is found, there is no other: of an expression, of a function, and of what a datatype's
+/// records hold.
 pub fn verdicts_are_one()
     ensures expressions { ExpressionsHaveOneVerdict }
     ensures functions { FunctionsHaveOneVerdict }

@@ -7,7 +7,7 @@ use Rattle.nesl_lex.specs.declared.token.Span.{Span}
 use Rattle.nesl_types.specs.declared.bindings.Top.{Top}
 use Rattle.nesl_types.specs.declared.bindings.Top.TheVariants as top
 use Rattle.nesl_types.specs.Names.{found}
-use Rattle.nesl_types.specs.Term.{Term, term}
+use Rattle.nesl_types_bank.specs.Term.{Term}
 use Rattle.nesl_builtins.specs.declared.builtin.Builtin.{Builtin}
 use Rattle.nesl_builtins.specs.Table.{FunctionType, function_type}
 use Rattle.nesl_builtins.specs.Named.{named_builtin}
@@ -34,16 +34,16 @@ abbrev pub top_in : {P : Type 0} → List (List ℕ × Top × P) → List ℕ �
 top_in context x = option_map (λ b. b.0) (found x context)
 
 abbrev pub as_variable : Option Top → Option Term
-as_variable (Some (top.Variable t)) = Some (term t)
+as_variable (Some (top.Variable t)) = Some t
 as_variable _ = None
 
 abbrev pub as_function : Option Top → Option Referent
 as_function (Some (top.Function s)) = Some (function (function_type s))
-as_function (Some (top.Datatype tag held)) = Some (record_of tag (term held))
+as_function (Some (top.Datatype tag held)) = Some (record_of tag held)
 as_function _ = None
 
 abbrev pub as_datatype : Option Top → Option (ℕ × Term)
-as_datatype (Some (top.Datatype tag held)) = Some (tag, term held)
+as_datatype (Some (top.Datatype tag held)) = Some (tag, held)
 as_datatype _ = None
 
 -- a built-in function, else what the name is at the top level

@@ -16,7 +16,8 @@ use std::alloc::{AllocError, Global};
 
 /// Notes the first record pattern whose name is no datatype.
 pub fn walk_pattern<P: Drop>(context: &Context<P>, found: &mut Option<Span>, pattern: &Pattern)
-    ensures { found.new ≡ earlier found.old (first (unknown_records (datatype_in context.now) (pattern_tree pattern.now))) }
+    ensures { found.new ≡ earlier found.old (first
+        (unknown_records (datatype_in context.now) (pattern_tree pattern.now))) }
 {
     match &pattern.node {
         PatternNode::Name(_) => {}

@@ -14,7 +14,8 @@ use std::collections::BTreeMap;
 pub struct Scope {
     names: Vec<Vec<u8>>,
     counts: BTreeMap<Vec<u8>, u64>,
-    ghost counted: { (x : List ℕ) → count (λ k. k.items) x counts.entries ≡ occurrences x (newest_first (λ k. k.items) names.items) },
+    ghost counted: { (x : List ℕ) → count (λ k. k.items) x counts.entries
+        ≡ occurrences x (newest_first (λ k. k.items) names.items) },
 }
 
 /// How often the name is bound.

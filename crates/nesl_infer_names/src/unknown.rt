@@ -28,8 +28,8 @@ pub fn unknown_in_exp<P: Drop>(
     Ok(found)
 }
 
-/// The first name that refers to nothing in the pattern and the body of a function with this name. A signature refers to
-/// nothing: its names are variables where they are no datatypes.
+/// The first name that refers to nothing in the pattern and the body of a function with this name. A signature refers
+/// to nothing: its names are variables where they are no datatypes.
 pub fn unknown_in_function<P: Drop>(
     alloc: Global,
     context: &Context<P>,
@@ -37,7 +37,8 @@ pub fn unknown_in_function<P: Drop>(
     pattern: &Pattern,
     body: &Exp,
 ) -> Result<Option<Span>, AllocError>
-    ensures { IfOk result (λ r. r ≡ first (unknown_of_function (names_in context.now (Some name.now)) (pattern_tree pattern.now) (tree_of body.now))) }
+    ensures { IfOk result (λ r. r ≡ first (unknown_of_function (names_in context.now (Some name.now))
+        (pattern_tree pattern.now) (tree_of body.now))) }
 {
     let own = Some(Vec::from_slice(alloc, name)?);
     let mut scope = Scope::new(alloc);

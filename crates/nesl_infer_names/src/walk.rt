@@ -26,7 +26,8 @@ fn is_known<P: Drop>(
     scope: &Scope,
     name: &[u8],
 ) -> bool
-    ensures { result ≡ (list_any (bytes_eq name.now) (locals scope.now) || is_some ((names_in context.now (option_map (λ v. v.items) own.now)).variables name.now)) }
+    ensures { result ≡ (list_any (bytes_eq name.now) (locals scope.now)
+        || is_some ((names_in context.now (option_map (λ v. v.items) own.now)).variables name.now)) }
 {
     scope.has(name) || is_variable(context, own, name)
 }
@@ -42,7 +43,9 @@ pub fn walk<P: Drop>(
     found: &mut Option<Span>,
     exp: &Exp,
 ) -> Result<(), AllocError>
-    ensures found { OnOk result (found.new ≡ earlier found.old (first (unknown (names_in context.now (option_map (λ v. v.items) own.now)) (locals scope.old) (tree_of exp.now)))) }
+    ensures found { OnOk result (found.new ≡ earlier found.old
+        (first (unknown (names_in context.now (option_map (λ v. v.items) own.now)) (locals scope.old)
+        (tree_of exp.now)))) }
     ensures scope { OnOk result (locals scope.new ≡ locals scope.old) }
 {
     match &exp.node {
@@ -179,7 +182,9 @@ fn walk_items<P: Drop>(
     found: &mut Option<Span>,
     items: &[Exp],
 ) -> Result<(), AllocError>
-    ensures found { OnOk result (found.new ≡ earlier found.old (first (all_unknown (names_in context.now (option_map (λ v. v.items) own.now)) (locals scope.old) (trees_in items.now)))) }
+    ensures found { OnOk result (found.new ≡ earlier found.old
+        (first (all_unknown (names_in context.now (option_map (λ v. v.items) own.now)) (locals scope.old)
+        (trees_in items.now)))) }
     ensures scope { OnOk result (locals scope.new ≡ locals scope.old) }
 {
     for item in items {
@@ -198,7 +203,9 @@ fn walk_bindings<P: Drop>(
     found: &mut Option<Span>,
     bindings: &[Binding],
 ) -> Result<(), AllocError>
-    ensures found { OnOk result (found.new ≡ earlier found.old (first (unknown_bound (names_in context.now (option_map (λ v. v.items) own.now)) (locals scope.old) (binders_in bindings.now)))) }
+    ensures found { OnOk result (found.new ≡ earlier found.old
+        (first (unknown_bound (names_in context.now (option_map (λ v. v.items) own.now)) (locals scope.old)
+        (binders_in bindings.now)))) }
     ensures scope { OnOk result (locals scope.new ≡ all_bound (binders_in bindings.now) ++ locals scope.old) }
 {
     for binding in bindings {
@@ -219,7 +226,9 @@ fn walk_binders<P: Drop>(
     found: &mut Option<Span>,
     binders: &[Binding],
 ) -> Result<(), AllocError>
-    ensures found { OnOk result (found.new ≡ earlier found.old (first (unknown_drawn (names_in context.now (option_map (λ v. v.items) own.now)) (locals scope.old) (binders_in binders.now)))) }
+    ensures found { OnOk result (found.new ≡ earlier found.old
+        (first (unknown_drawn (names_in context.now (option_map (λ v. v.items) own.now)) (locals scope.old)
+        (binders_in binders.now)))) }
     ensures scope { OnOk result (locals scope.new ≡ locals scope.old) }
 {
     for binder in binders {

@@ -2,18 +2,15 @@
 use Rattle.std.proofs.Common.{◌≡◌, ◌<◌, ◌≤◌, ◌+◌, ℕ, sym, ap, ◌∙◌, subst, arith}
 use Rattle.std.specs.Prelude.{Option, Some, None}
 use Rattle.nesl_types.specs.declared.classes.Class.{Class}
-use Rattle.nesl_types.specs.Term.{Term, named, seq_of, both, nodes}
-use Rattle.nesl_types.specs.Numbering.{IsBelow}
-use Rattle.nesl_types.specs.Substitution.{substitute}
+use Rattle.nesl_types_bank.specs.Term.{Term, named, seq_of, both, nodes}
 use Rattle.nesl_syntax_tree.specs.Trees.{TypeTree, TypeShape, written}
 use Rattle.nesl_syntax_tree.specs.Trees as trees
 use Rattle.nesl_infer_rules.specs.declared.state.State.{State}
 use Rattle.nesl_infer_rules.specs.World.{Datatypes}
 use Rattle.nesl_infer_rules.specs.Typing.{IsWritten, IsWrittenShape}
 use Rattle.nesl_infer_rules.specs.Holds.{count, Adds}
-use Rattle.nesl_infer_rules.proofs.Steps.{gives_and, adds_as, adds_from, adds_is}
+use Rattle.nesl_infer_rules.proofs.Steps.{gives_and, adds_as, adds_from}
 use Rattle.nesl_infer_rules.proofs.Arms.{AnyTerm}
-use Rattle.nesl_infer_rules.proofs.Applied.{closed-kept}
 
 -- what was looked up
 pub looked_up : {A B : State} (Q : (ℕ → Term) → (ℕ → Class) → Option Term → Type 0) (k o : (ℕ → Term) → Option Term) → ((s : ℕ → Term) → k s ≡ o s) →
@@ -50,10 +47,10 @@ mutual
   written_shape-unique ds (trees.pair_type a b) t u h j =
       j.4 ∙ ap (λ (x : Term). both x j.1) (written-unique ds a h.0 j.0 h.2 j.2) ∙ ap (λ (x : Term). both h.0 x) (written-unique ds b h.1 j.1 h.3 j.3) ∙ sym h.4
 
-pub arm_empty : {A B1 B2 C : State} (ds : Datatypes) (a : TypeTree) (t : Term) (i v : ℕ) → v < count A → IsWritten ds a t → IsBelow 0 t →
-    AnyTerm A B1 i → Adds B1 B2 (λ s of. s i ≡ substitute s t) → Adds B2 C (λ s of. s v ≡ seq_of (s i)) → Adds A C (λ s of. (u : Term) × IsWritten ds a u × (s v ≡ seq_of u))
-arm_empty ds a t i v inside w closed p1 p2 p3 =
-    let q2 = gives_and (λ s of u. nodes u ≤ 4096) (λ u s of. u ≡ t) p1 (adds_is i (λ s. substitute s t) (λ s. t) (λ s. closed-kept s t closed) p2) (λ u s z of k h. h) in
+pub arm_empty : {A B1 B2 C : State} (ds : Datatypes) (a : TypeTree) (t : Term) (i v : ℕ) → v < count A → IsWritten ds a t →
+    AnyTerm A B1 i → Adds B1 B2 (λ s of. s i ≡ t) → Adds B2 C (λ s of. s v ≡ seq_of (s i)) → Adds A C (λ s of. (u : Term) × IsWritten ds a u × (s v ≡ seq_of u))
+arm_empty ds a t i v inside w p1 p2 p3 =
+    let q2 = gives_and (λ s of u. nodes u ≤ 4096) (λ u s of. u ≡ t) p1 p2 (λ u s z of k h. h) in
     let q3 = gives_and _ (λ u s of. s v ≡ seq_of u) q2 p3 (λ u s z of k h. sym (k v inside) ∙ h) in
     adds_from _ (λ s of. (u : Term) × IsWritten ds a u × (s v ≡ seq_of u)) q3
     (λ s of b h. (s i, subst (λ (x : Term). IsWritten ds a x) (sym h.0.1) w, h.1))

@@ -8,7 +8,7 @@ use Rattle.std.proofs.lemmas.List.{take_more, map-append}
 use Rattle.nesl_syntax_tree.specs.declared.tree.Member.{Member}
 use Rattle.nesl_syntax_tree.specs.Views.{member_tree}
 use Rattle.nesl_types.specs.declared.classes.Class.{Class}
-use Rattle.nesl_types.specs.Term.{Term, int, seq_of, nodes}
+use Rattle.nesl_types_bank.specs.Term.{Term, int, seq_of, both, nodes}
 use Rattle.nesl_types.specs.Class.{IsIn}
 use Rattle.nesl_syntax_tree.specs.Trees.{TypeTree, TypeShape, MemberTree, SignatureTree, written}
 use Rattle.nesl_syntax_tree.specs.Trees as trees
@@ -230,6 +230,27 @@ arm_member c v T f l p1 p2 =
     (λ s of b h. subst (λ (t : Term). IsIn of c t) h.1 h.0.0)
     (λ s of b h. (T s, ((h, l s b), refl)))
 
+-- a written type whose parts have variables of their own
+pub arm_written_sequence : {A B1 B2 C : State} (T : (ℕ → Term) → Term) (v i : ℕ) → v < count A → ((s z : ℕ → Term) → Agrees (count A) s z → T s ≡ T z) →
+    AnyTerm A B1 i → Adds B1 B2 (λ s of. s i ≡ T s) → Adds B2 C (λ s of. s v ≡ seq_of (s i)) → Adds A C (λ s of. s v ≡ seq_of (T s))
+arm_written_sequence T v i inside f p1 p2 p3 =
+    let q2 = gives_and (λ s of u. nodes u ≤ 4096) (λ u s of. u ≡ T s) p1 p2 (λ u s z of a h. h ∙ f s z a) in
+    let q3 = gives_and _ (λ u s of. s v ≡ seq_of u) q2 p3 (λ u s z of a h. sym (a v inside) ∙ h) in
+    adds_from _ (λ s of. s v ≡ seq_of (T s)) q3
+    (λ s of b h. h.1 ∙ ap seq_of h.0.1)
+    (λ s of b h. let e : nodes (s v) ≡ 1 + nodes (T s) = ap nodes h in let l = b v in (T s, ((omega arith, refl), h)))
+
+pub arm_written_pair : {A B1 B2 B3 B4 C : State} (T U : (ℕ → Term) → Term) (v i j : ℕ) → v < count A → ((s z : ℕ → Term) → Agrees (count A) s z → T s ≡ T z) → ((s z : ℕ → Term) → Agrees (count A) s z → U s ≡ U z) →
+    AnyTerm A B1 i → AnyTerm B1 B2 j → Adds B2 B3 (λ s of. s i ≡ T s) → Adds B3 B4 (λ s of. s j ≡ U s) → Adds B4 C (λ s of. s v ≡ both (s i) (s j)) → Adds A C (λ s of. s v ≡ both (T s) (U s))
+arm_written_pair T U v i j inside f g p1 p2 p3 p4 p5 =
+    let q2 = gives_then (λ s of u. nodes u ≤ 4096) (λ x s of u. nodes u ≤ 4096) p1 p2 (λ x s z of y a h. h) in
+    let q3 = gives_and _ (λ x s of. x.0 ≡ T s) q2 p3 (λ x s z of a h. h ∙ f s z a) in
+    let q4 = gives_and _ (λ x s of. x.1 ≡ U s) q3 p4 (λ x s z of a h. h ∙ g s z a) in
+    let q5 = gives_and _ (λ x s of. s v ≡ both x.0 x.1) q4 p5 (λ x s z of a h. sym (a v inside) ∙ h) in
+    adds_from _ (λ s of. s v ≡ both (T s) (U s)) q5
+    (λ s of b h. h.1 ∙ ap (λ (t : Term). both t (s j)) h.0.0.1 ∙ ap (λ (t : Term). both (T s) t) h.0.1)
+    (λ s of b h. let e : nodes (s v) ≡ 1 + nodes (T s) + nodes (U s) = ap nodes h in let l = b v in ((T s, U s), ((((omega arith, omega arith), refl), refl), h)))
+
 -- what a name means speaks of the variables of the names alone
 pub put_in-fixed : (n : ℕ) (ls : List Local) (s z : ℕ → Term) → AreLocalsBelow n ls → Agrees n s z → put_in (scope_at s ls) ≡ put_in (scope_at z ls)
 put_in-fixed n ls s z h a = ap put_in (scope-fixed n ls h s z a)
@@ -274,6 +295,11 @@ arm_signed {A = A} ds g t u ms os ti ui p1 p2 p3 p4 p5 =
 pub names_below : {A B : State} (ls ms : List Local) (P : Scope → Type 0) → AreLocalsBelow (count A) ls → NamesIn A B ls ms P → AreLocalsBelow (count B) ms
 names_below {A = A} {B = B} ls ms P h p =
     subst (λ (ks : List Local). AreLocalsBelow (count B) ks) (sym p.after_is) (locals-append (count B) ls p.added (locals-weaker (count A) (count B) ls p.gives.more h) p.below)
+
+pub both_below : {A B C : State} (ks ms os : List Local) (P Q : Scope → Type 0) → ks ≡ [] → NamesIn A B ks ms P → NamesIn B C ms os Q → AreLocalsBelow (count C) os
+both_below {A = A} {B = B} {C = C} ks ms os P Q e p q =
+    let none : AreLocalsBelow (count A) ks = subst (λ (ls : List Local). AreLocalsBelow (count A) ls) (sym e) (All-nil (λ (x : Local). x.variable < count A)) in
+    names_below {A = B} {B = C} ms os Q (names_below {A = A} {B = B} ks ms P none p) q
 
 pub nothing_said : {A : State} → Adds A A (λ s of. Unit {0})
 nothing_said = record {

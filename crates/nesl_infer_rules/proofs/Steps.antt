@@ -4,8 +4,8 @@ use Rattle.std.specs.Prelude.{Some, ◌↔◌}
 use Rattle.std.proofs.lemmas.List.Elements.{All-push, All-pop}
 use Rattle.nesl_types.specs.declared.classes.Class.{Class}
 use Rattle.nesl_types.specs.declared.classes.Class.TheVariants.{Any}
-use Rattle.nesl_types.specs.Term.{Term, int, bool, char, variable, seq_of, both, named, nodes}
-use Rattle.nesl_types.specs.Substitution.{substitute}
+use Rattle.nesl_types_bank.specs.Term.{Term, int, bool, char, variable, seq_of, both, named, nodes}
+use Rattle.nesl_types_bank.specs.Substitution.{substitute}
 use Rattle.nesl_types.specs.Class.{IsIn}
 use Rattle.nesl_unify.specs.Bounds.{IsBounded}
 use Rattle.nesl_unify.specs.declared.narrow.Member.{Member}
@@ -165,3 +165,10 @@ pub gives_exactly : {A B C : State} (v : ℕ) (t : Term) → nodes t ≤ 4096 �
 gives_exactly v t l k p1 p2 =
     let q = gives_and (λ s of u. nodes u ≤ 4096) (λ u s of. u ≡ t) p1 (adds_is v (λ s. substitute s t) (λ s. t) k p2) (λ x s z of a h. h) in
     gives_as (λ s. s v) _ (λ s of u. u ≡ t) q q.fixed (λ s of b h. h.1) (λ s of u h. (u, (subst (λ (x : Term). nodes x ≤ 4096) (sym h) l, h), λ z a e. e))
+
+-- a type that is two
+pub adds_never : {A B C D : State} (v : ℕ) → Gives A B (λ s. s v) (λ s of u. nodes u ≤ 4096) → Adds B C (λ s of. s v ≡ int) → Adds C D (λ s of. s v ≡ bool) → Adds A D (λ s of. ⊥)
+adds_never v p1 p2 p3 =
+    let q2 = gives_and (λ s of u. nodes u ≤ 4096) (λ u s of. u ≡ int) p1 p2 (λ x s z of a h. h) in
+    let q3 = gives_and _ (λ u s of. u ≡ bool) q2 p3 (λ x s z of a h. h) in
+    adds_as _ (λ s of. ⊥) q3 (λ s of b h. let e : int ≡ bool = sym h.0.1 ∙ h.1 in cc) (λ s of h. absurd h)

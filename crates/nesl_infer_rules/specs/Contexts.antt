@@ -4,15 +4,14 @@ use Rattle.std.specs.Str.{bytes_eq}
 use Rattle.nesl_types.specs.declared.bindings.Top.{Top}
 use Rattle.nesl_types.specs.declared.bindings.Top.TheVariants as top
 use Rattle.nesl_types.specs.Names.{found}
-use Rattle.nesl_types.specs.Numbering.{IsBelow}
-use Rattle.nesl_types.specs.Term.{term}
+use Rattle.nesl_types_bank.specs.Numbering.{IsBelow}
 use Rattle.nesl_infer_rules.specs.declared.state.OwnName.{OwnName}
 
 -- no variable stands in the type of a top-level variable, nor in a datatype
 abbrev pub IsClosed : Top → Type 0
-IsClosed (top.Variable t) = IsBelow 0 (term t)
+IsClosed (top.Variable t) = IsBelow 0 t
 IsClosed (top.Function s) = Unit {0}
-IsClosed (top.Datatype tag held) = IsBelow 0 (term held)
+IsClosed (top.Datatype tag held) = IsBelow 0 held
 
 -- of each name that is found
 abbrev pub AreClosed : {P : Type 0} → List (List ℕ × Top × P) → Type 0

@@ -1,8 +1,8 @@
 -- Facts on systems have one proof each, so that a struct may keep them.
 use Rattle.std.specs.Prelude.{ℕ}
 use Rattle.std.specs.Coded.{×_prop, Unit-prop, le_prop, codes}
-use Rattle.nesl_types.specs.Term.{Term, int, bool, char, variable, seq_of, both, named}
-use Rattle.nesl_types.specs.Numbering.{IsBelow}
+use Rattle.nesl_types_bank.specs.Term.{Term, int, bool, char, variable, seq_of, both, named}
+use Rattle.nesl_types_bank.specs.Numbering.{IsBelow}
 use Rattle.nesl_types_bank.specs.Codes.{term_code}
 
 pub below_prop : (n : ℕ) (t : Term) → IsProp (IsBelow n t)

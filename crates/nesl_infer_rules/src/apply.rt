@@ -1,17 +1,18 @@
 //! The equations of a name before `(`.
 
 ghost use Rattle.std.specs.Prelude.{◌≡◌, ◌<◌, ℕ, OnOk};
-ghost use Rattle.nesl_types.specs.Term.{Term, both, term};
+ghost use Rattle.nesl_types_bank.specs.Term.{Term, both};
 ghost use Rattle.nesl_builtins.specs.Table.{builtin_type, function_type};
 ghost use Rattle.nesl_infer_rules.specs.Holds.{count, Adds, own_at, IsOwnBelow};
 ghost use Rattle.nesl_infer_rules.specs.Typing.{IsApplied, IsInstanceOf};
 ghost use Rattle.nesl_infer_rules.specs.Contexts.{AreClosed, IsOther};
 ghost use Rattle.nesl_infer_rules.specs.World.{meanings_in};
 
-use crate::instance::{instance, instance_of_two, shared_instance};
+use crate::instance::{equate_part, instantiate, shared_instance};
 use crate::state::{OwnName, State};
-use nesl_builtins::{Builtin, named};
-use nesl_types::{Context, Scheme, Top, Ty};
+use nesl_builtins::{Builtin, classes, gives, named, takes};
+use nesl_types::{Context, Kind, Top};
+use nesl_unify::Flat;
 use std::alloc::{AllocError, Global};
 
 /// Adds what makes the types of the variables an instance of what the built-in takes and gives.
@@ -24,14 +25,16 @@ pub fn built_in(
 ) -> Result<(), AllocError>
     requires given { given < count state.old }
     requires target { target < count state.old }
-    ensures { OnOk result (Adds state.old state.new (λ s of. IsInstanceOf (builtin_type builtin) of (s given) (s target))) }
+    ensures { OnOk result (Adds state.old state.new
+        (λ s of. IsInstanceOf (builtin_type builtin) of (s given) (s target))) }
 {
-    let scheme = nesl_builtins::scheme(alloc, builtin)?;
-    instance(state, alloc, &scheme, given, target)?;
+    let fresh = instantiate(state, alloc, classes(builtin))?;
+    equate_part(state, alloc, given, fresh.as_slice(), &takes(builtin))?;
+    equate_part(state, alloc, target, fresh.as_slice(), &gives(builtin))?;
     Ok(())
 }
 
-/// The same for a built-in that takes a pair, where the types of its parts are given.
+/// Adds that of a built-in that takes a pair, where the types of its parts are given.
 pub fn built_in_of_two(
     state: &mut State,
     alloc: Global,
@@ -44,11 +47,22 @@ pub fn built_in_of_two(
     requires second { second < count state.old }
     requires target { target < count state.old }
     requires pair { (t : Term) × (u : Term) × ((builtin_type builtin).argument ≡ both t u) }
-    ensures { OnOk result (Adds state.old state.new (λ s of. IsInstanceOf (builtin_type builtin) of (both (s first) (s second)) (s target))) }
+    ensures { OnOk result (Adds state.old state.new
+        (λ s of. IsInstanceOf (builtin_type builtin) of (both (s first) (s second)) (s target))) }
 {
-    let scheme = nesl_builtins::scheme(alloc, builtin)?;
-    instance_of_two(state, alloc, &scheme, first, second, target)?;
-    Ok(())
+    match takes(builtin).kind() {
+        Kind::Both(left, right) => {
+            let fresh = instantiate(state, alloc, classes(builtin))?;
+            equate_part(state, alloc, first, fresh.as_slice(), &left)?;
+            equate_part(state, alloc, second, fresh.as_slice(), &right)?;
+            equate_part(state, alloc, target, fresh.as_slice(), &gives(builtin))?;
+            Ok(())
+        }
+        _ => {
+            state.never()?;
+            Ok(())
+        }
+    }
 }
 
 /// Adds what makes the name take the type of `given` and give the type of `target`.
@@ -65,12 +79,13 @@ pub fn applied<P: Drop>(
     requires target { target < count state.old }
     requires own { IsOwnBelow (count state.old) own.now }
     requires closed { AreClosed context.now }
-    ensures { OnOk result (Adds state.old state.new (λ s of. IsApplied (meanings_in context.now (own_at s own.now)) of name.now (s given) (s target))) }
+    ensures { OnOk result (Adds state.old state.new
+        (λ s of. IsApplied (meanings_in context.now (own_at s own.now)) of name.now (s given) (s target))) }
 {
     if let Some(own) = own {
         if name == own.name.as_slice() {
-            state.equate(given, Ty::Var(own.takes))?;
-            state.equate(target, Ty::Var(own.gives))?;
+            state.equate_flat(given, Flat::Var(own.takes))?;
+            state.equate_flat(target, Flat::Var(own.gives))?;
             return Ok(());
         }
     }
@@ -91,7 +106,8 @@ fn applied_beyond<P: Drop>(
     requires target { target < count state.old }
     requires closed { AreClosed context.now }
     requires other { IsOther name.now own.now }
-    ensures { OnOk result (Adds state.old state.new (λ s of. IsApplied (meanings_in context.now (own_at s own.now)) of name.now (s given) (s target))) }
+    ensures { OnOk result (Adds state.old state.new
+        (λ s of. IsApplied (meanings_in context.now (own_at s own.now)) of name.now (s given) (s target))) }
 {
     if let Some(builtin) = named(name) {
         built_in(state, alloc, builtin, given, target)?;
@@ -104,7 +120,7 @@ fn applied_beyond<P: Drop>(
         }
         Some((Top::Datatype(tag, held), _)) => {
             state.equate_closed(alloc, name, given, held)?;
-            state.equate(target, Ty::Named(*tag))?;
+            state.equate_flat(target, Flat::Named(*tag))?;
             Ok(())
         }
         Some((Top::Variable(_), _)) => {

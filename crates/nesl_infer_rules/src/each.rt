@@ -26,7 +26,8 @@ pub fn bind_patterns<P: Drop>(
     requires own { IsOwnBelow (count state.old) own.now }
     requires closed { AreClosed context.now }
     requires len { length items.now ≡ length bindings.now }
-    ensures { OnOk result (AddsNames state.old state.new locals.old.items locals.new.items (λ s of ns. AllParts (world_at context.now own.now s of) (binders_in bindings.now) (map s items.now) ns)) }
+    ensures { OnOk result (AddsNames state.old state.new locals.old.items locals.new.items
+        (λ s of ns. AllParts (world_at context.now own.now s of) (binders_in bindings.now) (map s items.now) ns)) }
 {
     for place in 0..bindings.len() {
         constrain_pattern(
@@ -56,7 +57,8 @@ pub fn bind_items<P: Drop>(
     requires own { IsOwnBelow (count state.old) own.now }
     requires closed { AreClosed context.now }
     requires len { length items.now ≡ length bindings.now }
-    ensures { OnOk result (AddsNames state.old state.new locals.old.items locals.new.items (λ s of ns. Draws (world_at context.now own.now s of) (binders_in bindings.now) (map s items.now) ns)) }
+    ensures { OnOk result (AddsNames state.old state.new locals.old.items locals.new.items
+        (λ s of ns. Draws (world_at context.now own.now s of) (binders_in bindings.now) (map s items.now) ns)) }
 {
     match items.first() {
         Some(first) => {

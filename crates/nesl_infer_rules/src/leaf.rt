@@ -1,7 +1,7 @@
 //! The equations of variables, elements and empty sequences.
 
 ghost use Rattle.std.specs.Prelude.{◌≡◌, ◌<◌, ℕ, Option, Some, OnOk};
-ghost use Rattle.nesl_types.specs.Term.{Term, seq_of};
+ghost use Rattle.nesl_types_bank.specs.Term.{Term, seq_of};
 ghost use Rattle.nesl_syntax_tree.specs.Views.{type_tree};
 ghost use Rattle.nesl_infer_rules.specs.Holds.{count, Adds, scope_at, world_at, AreLocalsBelow};
 ghost use Rattle.nesl_infer_rules.specs.Contexts.{AreClosed};
@@ -13,7 +13,9 @@ use crate::record::is_top_variable;
 use crate::state::{Local, OwnName, State};
 use crate::written::written_type;
 use nesl_syntax_tree::tree::TypeExp;
-use nesl_types::{Context, Ty};
+use nesl_types::Context;
+use nesl_types_bank::Bank;
+use nesl_unify::Flat;
 use std::alloc::{AllocError, Global};
 
 /// Adds what makes `target` the type of a variable.
@@ -29,11 +31,13 @@ pub fn is_variable<P: Drop>(
     requires target { target < count state.old }
     requires locals { AreLocalsBelow (count state.old) locals.now }
     requires closed { AreClosed context.now }
-    ensures { OnOk result (Adds state.old state.new (λ s of. IsVariable (world_at context.now own.now s of) name.now (local name.now (scope_at s locals.now)) (s target))) }
+    ensures { OnOk result (Adds state.old state.new
+        (λ s of. IsVariable (world_at context.now own.now s of) name.now (local name.now (scope_at s locals.now))
+        (s target))) }
 {
     match look_up(locals, name) {
         Some(variable) => {
-            state.equate(target, Ty::Var(variable))?;
+            state.equate_flat(target, Flat::Var(variable))?;
             Ok(())
         }
         None => {
@@ -47,11 +51,12 @@ pub fn is_variable<P: Drop>(
 pub fn is_element(state: &mut State, locals: &[Local], target: u64) -> Result<(), AllocError>
     requires target { target < count state.old }
     requires locals { AreLocalsBelow (count state.old) locals.now }
-    ensures { OnOk result (Adds state.old state.new (λ s of. newest is_element (scope_at s locals.now) ≡ Some (s target))) }
+    ensures { OnOk result (Adds state.old state.new (λ s of. newest is_element (scope_at s locals.now)
+        ≡ Some (s target))) }
 {
     match look_up_element(locals) {
         Some(variable) => {
-            state.equate(target, Ty::Var(variable))?;
+            state.equate_flat(target, Flat::Var(variable))?;
             Ok(())
         }
         None => {
@@ -70,13 +75,35 @@ pub fn is_empty_of<P: Drop>(
     target: u64,
 ) -> Result<(), AllocError>
     requires target { target < count state.old }
-    ensures { OnOk result (Adds state.old state.new (λ s of. (u : Term) × IsWritten (datatype_in context.now) (type_tree written.now) u × (s target ≡ seq_of u))) }
+    ensures { OnOk result (Adds state.old state.new (λ s of. (u : Term)
+        × IsWritten (datatype_in context.now) (type_tree written.now) u × (s target ≡ seq_of u))) }
 {
-    match written_type(alloc, context, written)? {
-        Some(item) => {
-            let variable = state.anything()?;
-            state.equate(variable, item)?;
-            state.is_sequence(alloc, target, variable)?;
+    let mut bank = Bank::new(alloc);
+    is_empty_in(alloc, state, context, &mut bank, written, target)
+}
+
+/// Adds that over a bank that is lent for the type.
+fn is_empty_in<P: Drop>(
+    alloc: Global,
+    state: &mut State,
+    context: &Context<P>,
+    bank: &mut Bank,
+    written: &TypeExp,
+    target: u64,
+) -> Result<(), AllocError>
+    requires target { target < count state.old }
+    ensures { OnOk result
+        (Adds state.old state.new
+        (λ s of. (u : Term)
+        × IsWritten (datatype_in context.now) (type_tree written.now) u
+        × (s target ≡ seq_of u))) }
+{
+    match written_type(context, bank, written)? {
+        Some(place) => {
+            let item = state.anything()?;
+            let none: [u64; 0] = [];
+            state.equate_instance(alloc, item, &none, &bank.part(place))?;
+            state.is_sequence(target, item)?;
             Ok(())
         }
         None => {

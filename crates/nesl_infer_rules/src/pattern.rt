@@ -25,7 +25,8 @@ pub fn constrain_pattern<P: Drop>(
     requires target { target < count state.old }
     requires own { IsOwnBelow (count state.old) own.now }
     requires closed { AreClosed context.now }
-    ensures { OnOk result (AddsNames state.old state.new locals.old.items locals.new.items (λ s of ns. Parts (world_at context.now own.now s of) (pattern_tree pattern.now) (s target) ns)) }
+    ensures { OnOk result (AddsNames state.old state.new locals.old.items locals.new.items
+        (λ s of ns. Parts (world_at context.now own.now s of) (pattern_tree pattern.now) (s target) ns)) }
 {
     match &pattern.node {
         PatternNode::Name(name) => {
@@ -44,7 +45,7 @@ pub fn constrain_pattern<P: Drop>(
             let right = state.anything()?;
             constrain_pattern(alloc, state, context, own, locals, first, left)?;
             constrain_pattern(alloc, state, context, own, locals, second, right)?;
-            state.is_pair(alloc, target, left, right)?;
+            state.is_pair(target, left, right)?;
             Ok(())
         }
         PatternNode::Record { name, part: inner } => {

@@ -1,7 +1,7 @@
 //! The equations of names of the top level.
 
 ghost use Rattle.std.specs.Prelude.{◌≡◌, ◌<◌, ℕ, Option, Some, OnOk};
-ghost use Rattle.nesl_types.specs.Term.{Term};
+ghost use Rattle.nesl_types_bank.specs.Term.{Term};
 ghost use Rattle.nesl_infer_rules.specs.Holds.{count, Adds, own_at};
 ghost use Rattle.nesl_infer_rules.specs.Contexts.{AreClosed};
 ghost use Rattle.nesl_infer_rules.specs.Typing.{IsRecord};
@@ -9,7 +9,8 @@ ghost use Rattle.nesl_infer_names.specs.Names.{datatype_in, hides};
 ghost use Rattle.nesl_infer_rules.specs.World.{own_name, meanings_in};
 
 use crate::state::{OwnName, State};
-use nesl_types::{Context, Top, Ty};
+use nesl_types::{Context, Top};
+use nesl_unify::Flat;
 use std::alloc::{AllocError, Global};
 
 /// Adds what makes `target` the type of the name's records, and `held` the type that they hold.
@@ -24,11 +25,12 @@ pub fn is_record<P: Drop>(
     requires target { target < count state.old }
     requires held { held < count state.old }
     requires closed { AreClosed context.now }
-    ensures { OnOk result (Adds state.old state.new (λ s of. IsRecord (datatype_in context.now) name.now (s target) (s held))) }
+    ensures { OnOk result (Adds state.old state.new
+        (λ s of. IsRecord (datatype_in context.now) name.now (s target) (s held))) }
 {
     match context.get(name) {
         Some((Top::Datatype(tag, ty), _)) => {
-            state.equate(target, Ty::Named(*tag))?;
+            state.equate_flat(target, Flat::Named(*tag))?;
             state.equate_closed(alloc, name, held, ty)?;
             Ok(())
         }
@@ -68,7 +70,8 @@ pub fn is_top_variable<P: Drop>(
 ) -> Result<(), AllocError>
     requires target { target < count state.old }
     requires closed { AreClosed context.now }
-    ensures { OnOk result (Adds state.old state.new (λ s of. (meanings_in context.now (own_at s own.now)).variables name.now ≡ Some (s target))) }
+    ensures { OnOk result (Adds state.old state.new
+        (λ s of. (meanings_in context.now (own_at s own.now)).variables name.now ≡ Some (s target))) }
 {
     if is_hidden(own, name) {
         state.never()?;

@@ -1,10 +1,11 @@
 //! The equations of a signature.
 
 ghost use Rattle.std.specs.Prelude.{◌≡◌, ◌<◌, ◌≤◌, ℕ, List, All, map, option_map, IfOk, OnOk};
-ghost use Rattle.nesl_types.specs.Term.{Term, nodes, term};
-ghost use Rattle.nesl_types.specs.Numbering.{IsBelow};
-ghost use Rattle.nesl_types.specs.Substitution.{substitute};
+ghost use Rattle.nesl_types_bank.specs.Term.{Term, nodes};
+ghost use Rattle.nesl_types_bank.specs.Numbering.{IsBelow};
+ghost use Rattle.nesl_types_bank.specs.Substitution.{substitute};
 ghost use Rattle.nesl_unify.specs.Bounds.{IsBounded};
+ghost use Rattle.nesl_unify.specs.Flat.{flat_type};
 ghost use Rattle.nesl_syntax_tree.specs.Views.{type_tree, member_tree, signature_tree};
 ghost use Rattle.nesl_infer_rules.specs.Holds.{count, Adds, AddsNames, AreLocalsBelow, scope_at};
 ghost use Rattle.nesl_infer_rules.specs.Signatures.{FreeNames, put_in};
@@ -15,7 +16,8 @@ use crate::names::look_up;
 use crate::state::{Key, Local, State};
 use nesl_syntax_tree::tree as syntax;
 use nesl_syntax_tree::tree::{Member, Signature, TypeExp, TypeNode};
-use nesl_types::{Class, Context, Top, Ty};
+use nesl_types::{Class, Context, Top};
+use nesl_unify::Flat;
 use std::alloc::{AllocError, Global};
 
 /// Adds a variable for each name of a written type.
@@ -25,7 +27,8 @@ fn name_types(
     names: &mut Vec<Local>,
     written: &TypeExp,
 ) -> Result<(), AllocError>
-    ensures { OnOk result (AddsNames state.old state.new names.old.items names.new.items (λ s of ns. FreeNames (type_tree written.now) ns)) }
+    ensures { OnOk result (AddsNames state.old state.new names.old.items names.new.items
+        (λ s of ns. FreeNames (type_tree written.now) ns)) }
 {
     match &written.node {
         TypeNode::Int => Ok(()),
@@ -68,46 +71,67 @@ fn tag_of<P: Drop>(context: &Context<P>, name: &[u8]) -> Option<u64>
 }
 
 /// What a name stands for: its datatype, else its variable; `int` where it has none.
-fn name_type<P: Drop>(context: &Context<P>, names: &[Local], name: &[u8]) -> Ty
-    ensures is { (s : ℕ → Term) → substitute s (term result) ≡ meaning (datatype_in context.now name.now) (put_in (scope_at s names.now) name.now) }
-    ensures below { (n : ℕ) → AreLocalsBelow n names.now → IsBelow n (term result) }
-    ensures small { (s : ℕ → Term) → IsBounded s → nodes (substitute s (term result)) ≤ 4096 }
+fn name_type<P: Drop>(context: &Context<P>, names: &[Local], name: &[u8]) -> Flat
+    ensures is { (s : ℕ → Term) →
+        substitute s (flat_type result)
+        ≡ meaning (datatype_in context.now name.now) (put_in (scope_at s names.now) name.now) }
+    ensures below { (n : ℕ) → AreLocalsBelow n names.now → IsBelow n (flat_type result) }
+    ensures small { (s : ℕ → Term) → IsBounded s → nodes (substitute s (flat_type result)) ≤ 4096 }
 {
     match tag_of(context, name) {
-        Some(tag) => Ty::Named(tag),
+        Some(tag) => Flat::Named(tag),
         None => match look_up(names, name) {
-            Some(variable) => Ty::Var(variable),
-            None => Ty::Int,
+            Some(variable) => Flat::Var(variable),
+            None => Flat::Int,
         },
     }
 }
 
-/// The type that is written, with the variable of each name that is no datatype.
-fn signed_type<P: Drop>(
-    alloc: Global,
+/// Adds that `target` is the type that is written, where each name that is no datatype stands for its variable.
+fn constrain_written<P: Drop>(
+    state: &mut State,
     context: &Context<P>,
     names: &[Local],
     written: &TypeExp,
-) -> Result<Ty, AllocError>
-    ensures is { IfOk result (λ t. (s : ℕ → Term) → substitute s (term t) ≡ signed (datatype_in context.now) (put_in (scope_at s names.now)) (type_tree written.now)) }
-    ensures below { IfOk result (λ t. (n : ℕ) → AreLocalsBelow n names.now → IsBelow n (term t)) }
+    target: u64,
+) -> Result<(), AllocError>
+    requires target { target < count state.old }
+    requires names { AreLocalsBelow (count state.old) names.now }
+    ensures { OnOk result
+        (Adds state.old state.new
+        (λ s of. s target
+        ≡ signed (datatype_in context.now) (put_in (scope_at s names.now)) (type_tree written.now))) }
 {
     match &written.node {
-        TypeNode::Int => Ok(Ty::Int),
-        TypeNode::Bool => Ok(Ty::Bool),
-        TypeNode::Char => Ok(Ty::Char),
-        TypeNode::Name { name, .. } => Ok(name_type(context, names, name.as_slice())),
-        TypeNode::Sequence(item) => {
-            let item = signed_type(alloc, context, names, item)?;
-            Ok(Ty::SeqOf(Box::new(alloc, item)?))
+        TypeNode::Int => {
+            state.equate_flat(target, Flat::Int)?;
+            Ok(())
         }
-        TypeNode::Pair {
-            left: first,
-            right: second,
-        } => {
-            let first = signed_type(alloc, context, names, first)?;
-            let second = signed_type(alloc, context, names, second)?;
-            Ok(Ty::Both(Box::new(alloc, first)?, Box::new(alloc, second)?))
+        TypeNode::Bool => {
+            state.equate_flat(target, Flat::Bool)?;
+            Ok(())
+        }
+        TypeNode::Char => {
+            state.equate_flat(target, Flat::Char)?;
+            Ok(())
+        }
+        TypeNode::Name { name, .. } => {
+            state.equate_flat(target, name_type(context, names, name.as_slice()))?;
+            Ok(())
+        }
+        TypeNode::Sequence(item) => {
+            let inner = state.anything()?;
+            constrain_written(state, context, names, item, inner)?;
+            state.is_sequence(target, inner)?;
+            Ok(())
+        }
+        TypeNode::Pair { left, right } => {
+            let first = state.anything()?;
+            let second = state.anything()?;
+            constrain_written(state, context, names, left, first)?;
+            constrain_written(state, context, names, right, second)?;
+            state.is_pair(target, first, second)?;
+            Ok(())
         }
     }
 }
@@ -132,10 +156,11 @@ fn constrain_member<P: Drop>(
     member: &Member,
 ) -> Result<(), AllocError>
     requires names { AreLocalsBelow (count state.old) names.now }
-    ensures { OnOk result (Adds state.old state.new (λ s of. IsMeant (datatype_in context.now) of (put_in (scope_at s names.now)) (member_tree member.now))) }
+    ensures { OnOk result (Adds state.old state.new
+        (λ s of. IsMeant (datatype_in context.now) of (put_in (scope_at s names.now)) (member_tree member.now))) }
 {
     let inside = state.fresh(class_of(member.class))?;
-    state.equate(inside, name_type(context, names, member.name.as_slice()))?;
+    state.equate_flat(inside, name_type(context, names, member.name.as_slice()))?;
     Ok(())
 }
 
@@ -147,7 +172,9 @@ fn constrain_members<P: Drop>(
     members: &[Member],
 ) -> Result<(), AllocError>
     requires names { AreLocalsBelow (count state.old) names.now }
-    ensures { OnOk result (Adds state.old state.new (λ s of. All (IsMeant (datatype_in context.now) of (put_in (scope_at s names.now))) (map member_tree members.now))) }
+    ensures { OnOk result (Adds state.old state.new
+        (λ s of. All (IsMeant (datatype_in context.now) of (put_in (scope_at s names.now)))
+        (map member_tree members.now))) }
 {
     for member in members {
         constrain_member(state, context, names, member)?;
@@ -166,15 +193,14 @@ fn constrain_signed<P: Drop>(
 ) -> Result<(), AllocError>
     requires takes { takes < count state.old }
     requires gives { gives < count state.old }
-    ensures { OnOk result (Adds state.old state.new (λ s of. (put : List ℕ → Term) × Says (datatype_in context.now) of (signature_tree signature.now) put (s takes) (s gives))) }
+    ensures { OnOk result (Adds state.old state.new (λ s of. (put : List ℕ → Term)
+        × Says (datatype_in context.now) of (signature_tree signature.now) put (s takes) (s gives))) }
 {
     let mut names = Vec::new(alloc);
     name_types(alloc, state, &mut names, &signature.from)?;
     name_types(alloc, state, &mut names, &signature.to)?;
-    let from = signed_type(alloc, context, names.as_slice(), &signature.from)?;
-    let to = signed_type(alloc, context, names.as_slice(), &signature.to)?;
-    state.equate(takes, from)?;
-    state.equate(gives, to)?;
+    constrain_written(state, context, names.as_slice(), &signature.from, takes)?;
+    constrain_written(state, context, names.as_slice(), &signature.to, gives)?;
     constrain_members(
         state,
         context,
@@ -195,7 +221,8 @@ pub fn constrain_signature<P: Drop>(
 ) -> Result<(), AllocError>
     requires takes { takes < count state.old }
     requires gives { gives < count state.old }
-    ensures { OnOk result (Adds state.old state.new (λ s of. IsSigned (datatype_in context.now) of (option_map signature_tree signature.now) (s takes) (s gives))) }
+    ensures { OnOk result (Adds state.old state.new
+        (λ s of. IsSigned (datatype_in context.now) of (option_map signature_tree signature.now) (s takes) (s gives))) }
 {
     match signature {
         Some(signature) => {

@@ -2,19 +2,20 @@
 
 ghost use Rattle.std.specs.Prelude.{◌≡◌, ◌<◌, ◌≤◌, ℕ, Some, All, length, map, IfOk, OnOk, IsErrOf};
 ghost use Rattle.nesl_types.specs.declared.classes.Class.{Class};
-ghost use Rattle.nesl_types.specs.Term.{Term, term, nodes, both, seq_of};
-ghost use Rattle.nesl_types.specs.Numbering.{IsBelow};
+ghost use Rattle.nesl_types_bank.specs.Term.{Term, nodes, both, seq_of};
+ghost use Rattle.nesl_types_bank.specs.Numbering.{IsBelow};
 ghost use Rattle.nesl_types.specs.Class.{IsIn};
-ghost use Rattle.nesl_types.specs.Substitution.{substitute};
+ghost use Rattle.nesl_types_bank.specs.Substitution.{substitute};
 ghost use Rattle.nesl_unify.specs.Bounds.{IsBounded};
+ghost use Rattle.nesl_unify.specs.Flat.{flat_type};
 ghost use Rattle.nesl_unify.specs.Solves.{IsInstance, type_of, class_of};
 ghost use Rattle.nesl_infer_rules.specs.Holds.{count, Holds, Gives, Adds};
 ghost use Rattle.nesl_infer_rules.specs.Instances.{type_in};
 
 use crate::table::Table;
-use nesl_types::{Class, Ty};
-use nesl_unify::SolveFault;
-use nesl_unify::solve::{Equation, Solution};
+use nesl_types::{Class, Part, Ty};
+use nesl_unify::solve::Solution;
+use nesl_unify::{Flat, SolveFault};
 use std::alloc::{AllocError, Global};
 
 /// The equations, and the class of each variable: none any more after want of memory.
@@ -66,7 +67,8 @@ impl State {
 
     /// A variable that nothing speaks of yet.
     pub fn fresh(&mut self, class: Class) -> Result<u64, AllocError>
-        ensures gives { IfOk result (λ v. Gives self.old self.new (λ s. s v) (λ s of u. IsIn of class u × (nodes u ≤ 4096))) }
+        ensures gives { IfOk result (λ v. Gives self.old self.new (λ s. s v) (λ s of u. IsIn of class u
+            × (nodes u ≤ 4096))) }
         ensures below { IfOk result (λ v. v < count self.new) }
     {
         match self.table.take() {
@@ -88,26 +90,26 @@ impl State {
     }
 
     /// A variable for this type alone.
-    pub fn exactly(&mut self, ty: Ty) -> Result<u64, AllocError>
-        requires closed { IsBelow 0 (term ty) }
-        requires small { nodes (term ty) ≤ 4096 }
-        ensures gives { IfOk result (λ v. Gives self.old self.new (λ s. s v) (λ s of u. u ≡ term ty)) }
+    pub fn exactly(&mut self, flat: Flat) -> Result<u64, AllocError>
+        requires closed { IsBelow 0 (flat_type flat) }
+        requires small { nodes (flat_type flat) ≤ 4096 }
+        ensures gives { IfOk result (λ v. Gives self.old self.new (λ s. s v) (λ s of u. u ≡ flat_type flat)) }
         ensures below { IfOk result (λ v. v < count self.new) }
     {
         let variable = self.anything()?;
-        self.equate(variable, ty)?;
+        self.equate_flat(variable, flat)?;
         Ok(variable)
     }
 
-    /// Both are the same type.
-    fn add(&mut self, equation: &Equation) -> Result<(), AllocError>
-        requires left { IsBelow (count self.old) (term equation.now.left) }
-        requires right { IsBelow (count self.old) (term equation.now.right) }
-        ensures { OnOk result (Adds self.old self.new (λ s of. substitute s (term equation.now.left) ≡ substitute s (term equation.now.right))) }
+    /// The variable stands for the type.
+    pub fn equate_flat(&mut self, variable: u64, flat: Flat) -> Result<(), AllocError>
+        requires variable { variable < count self.old }
+        requires flat { IsBelow (count self.old) (flat_type flat) }
+        ensures { OnOk result (Adds self.old self.new (λ s of. s variable ≡ substitute s (flat_type flat))) }
     {
         match self.table.take() {
             Some(table) => {
-                let table = table.equate(equation)?;
+                let table = table.equate_flat(variable, flat)?;
                 self.put(table);
                 Ok(())
             }
@@ -115,32 +117,42 @@ impl State {
         }
     }
 
-    /// An equation that never holds.
+    /// What never holds: a type that is two.
     pub fn never(&mut self) -> Result<(), AllocError>
         ensures { OnOk result (Adds self.old self.new (λ s of. ⊥)) }
     {
-        self.add(&Equation {
-            left: Ty::Int,
-            right: Ty::Bool,
-        })?;
+        let none = self.anything()?;
+        self.equate_flat(none, Flat::Int)?;
+        self.equate_flat(none, Flat::Bool)?;
         Ok(())
     }
 
-    /// One equation more: the variable stands for the type.
-    pub fn equate(&mut self, variable: u64, ty: Ty) -> Result<(), AllocError>
+    /// The variable stands for a type with what the fresh variables stand for in place of its variables.
+    pub fn equate_instance(
+        &mut self,
+        alloc: Global,
+        variable: u64,
+        fresh: &[u64],
+        part: &Part<'_>,
+    ) -> Result<(), AllocError>
         requires variable { variable < count self.old }
-        requires ty { IsBelow (count self.old) (term ty) }
-        ensures { OnOk result (Adds self.old self.new (λ s of. s variable ≡ substitute s (term ty))) }
+        requires fresh { All (λ v. v < count self.old) fresh.now }
+        requires part { IsBelow (length fresh.now) part.now }
+        ensures { OnOk result (Adds self.old self.new (λ s of. s variable
+            ≡ substitute (type_in (map s fresh.now)) part.now)) }
     {
-        self.add(&Equation {
-            left: Ty::Var(variable),
-            right: ty,
-        })?;
-        Ok(())
+        match self.table.take() {
+            Some(table) => {
+                let table = table.equate_instance(alloc, variable, fresh, part)?;
+                self.put(table);
+                Ok(())
+            }
+            None => Err(AllocError),
+        }
     }
 
-    /// The variable stands for a type of a top-level name with what the fresh variables stand for in place of its variables.
-    /// The type is put in once a line; `part` tells the types of one name apart.
+    /// The variable stands for a type of a top-level name with what the fresh variables stand for in place of its
+    /// variables. The type is put in once a line; `part` tells the types of one name apart.
     pub fn equate_shared(
         &mut self,
         alloc: Global,
@@ -152,8 +164,9 @@ impl State {
     ) -> Result<(), AllocError>
         requires variable { variable < count self.old }
         requires fresh { All (λ v. v < count self.old) fresh.now }
-        requires ty { IsBelow (length fresh.now) (term ty.now) }
-        ensures { OnOk result (Adds self.old self.new (λ s of. s variable ≡ substitute (type_in (map s fresh.now)) (term ty.now))) }
+        requires ty { IsBelow (length fresh.now) ty.now }
+        ensures { OnOk result (Adds self.old self.new (λ s of. s variable
+            ≡ substitute (type_in (map s fresh.now)) ty.now)) }
     {
         match self.table.take() {
             Some(table) => {
@@ -174,8 +187,8 @@ impl State {
         ty: &Ty,
     ) -> Result<(), AllocError>
         requires variable { variable < count self.old }
-        requires ty { IsBelow 0 (term ty.now) }
-        ensures { OnOk result (Adds self.old self.new (λ s of. s variable ≡ term ty.now)) }
+        requires ty { IsBelow 0 ty.now }
+        ensures { OnOk result (Adds self.old self.new (λ s of. s variable ≡ ty.now)) }
     {
         let none: [u64; 0] = [];
         self.equate_shared(alloc, name, 0, variable, &none, ty)?;
@@ -183,41 +196,34 @@ impl State {
     }
 
     /// The variable stands for the pairs of what the others stand for.
-    pub fn is_pair(
-        &mut self,
-        alloc: Global,
-        variable: u64,
-        first: u64,
-        second: u64,
-    ) -> Result<(), AllocError>
+    pub fn is_pair(&mut self, variable: u64, first: u64, second: u64) -> Result<(), AllocError>
         requires variable { variable < count self.old }
         requires first { first < count self.old }
         requires second { second < count self.old }
         ensures { OnOk result (Adds self.old self.new (λ s of. s variable ≡ both (s first) (s second))) }
     {
-        let first = Box::new(alloc, Ty::Var(first))?;
-        let second = Box::new(alloc, Ty::Var(second))?;
-        self.equate(variable, Ty::Both(first, second))?;
+        self.equate_flat(variable, Flat::Both(first, second))?;
         Ok(())
     }
 
     /// The variable stands for the sequences of what the other stands for.
-    pub fn is_sequence(&mut self, alloc: Global, variable: u64, item: u64) -> Result<(), AllocError>
+    pub fn is_sequence(&mut self, variable: u64, item: u64) -> Result<(), AllocError>
         requires variable { variable < count self.old }
         requires item { item < count self.old }
         ensures { OnOk result (Adds self.old self.new (λ s of. s variable ≡ seq_of (s item))) }
     {
-        let item = Box::new(alloc, Ty::Var(item))?;
-        self.equate(variable, Ty::SeqOf(item))?;
+        self.equate_flat(variable, Flat::SeqOf(item))?;
         Ok(())
     }
 
     /// A most general solution of the equations in which each variable has a type of its class.
     pub fn solve(self, alloc: Global) -> Result<Solution, SolveFault>
         ensures solves { IfOk result (λ a. Holds (type_of a) (class_of a) self) }
-        ensures general { IfOk result (λ a. (s : ℕ → Term) → (of : ℕ → Class) → Holds s of self → IsInstance (type_of a) (class_of a) s of) }
+        ensures general { IfOk result (λ a. (s : ℕ → Term) → (of : ℕ → Class) → Holds s of self
+            → IsInstance (type_of a) (class_of a) s of) }
         ensures bounded { IfOk result (λ a. IsBounded (type_of a)) }
-        ensures none { IsErrOf result SolveFault.NoSolution → (s : ℕ → Term) → (of : ℕ → Class) → IsBounded s → Holds s of self → ⊥ }
+        ensures none { IsErrOf result SolveFault.NoSolution → (s : ℕ → Term) → (of : ℕ → Class) → IsBounded s
+            → Holds s of self → ⊥ }
     {
         let State { table } = self;
         match table {

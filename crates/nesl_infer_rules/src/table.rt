@@ -1,13 +1,12 @@
 //! The equations of a line, with numbers for the types of top-level names.
 
 ghost use Rattle.std.specs.Prelude.{All, length, slice_index};
-ghost use Rattle.nesl_types.specs.Term.{term};
 ghost use Rattle.nesl_unify.specs.Systems.{IsSystem};
 ghost use Rattle.nesl_infer_rules.specs.Facts.{facts};
 
-use nesl_types::{Class, Ty};
-use nesl_unify::solve::{Equation, Solution};
-use nesl_unify::{SolveFault, System};
+use nesl_types::{Class, Part, Ty};
+use nesl_unify::solve::Solution;
+use nesl_unify::{Flat, SolveFault, System};
 use std::alloc::{AllocError, Global};
 use std::collections::BTreeMap;
 
@@ -40,10 +39,11 @@ fn number_of(
 impl Table {
     ghost use Rattle.std.specs.Prelude.{◌≡◌, ◌<◌, ◌++◌, ◌∷◌, [], ◌↔◌, ℕ, IfOk, IfSome, IsErrOf};
     ghost use Rattle.nesl_types.specs.declared.classes.Class.{Class};
-    ghost use Rattle.nesl_types.specs.Term.{Term};
-    ghost use Rattle.nesl_types.specs.Substitution.{substitute};
-    ghost use Rattle.nesl_types.specs.Numbering.{IsBelow};
+    ghost use Rattle.nesl_types_bank.specs.Term.{Term};
+    ghost use Rattle.nesl_types_bank.specs.Substitution.{substitute};
+    ghost use Rattle.nesl_types_bank.specs.Numbering.{IsBelow};
     ghost use Rattle.nesl_unify.specs.Bounds.{IsBounded};
+    ghost use Rattle.nesl_unify.specs.Flat.{flat_type};
     ghost use Rattle.nesl_unify.specs.Solves.{IsInstance, type_of, class_of};
     ghost use Rattle.nesl_unify.specs.Systems.{count, Holds, SolvesSystem};
 
@@ -61,7 +61,8 @@ impl Table {
     /// A variable more, for types of a class.
     pub fn fresh(self, class: Class) -> Result<(Table, u64), AllocError>
         ensures variable { IfOk result (λ r. r.1 ≡ count self.system) }
-        ensures members { IfOk result (λ r. r.0.system.members.items ≡ self.system.members.items ++ record { variable = r.1; class = class } ∷ []) }
+        ensures members { IfOk result (λ r. r.0.system.members.items
+            ≡ self.system.members.items ++ record { variable = r.1; class = class } ∷ []) }
         ensures holds { IfOk result (λ r. (s : ℕ → Term) → Holds r.0.system s ↔ Holds self.system s) }
     {
         let Table {
@@ -73,23 +74,51 @@ impl Table {
         Ok((table, variable))
     }
 
-    /// An equation more.
-    pub fn equate(self, equation: &Equation) -> Result<Table, AllocError>
-        requires left { IsBelow (count self.system) (term equation.now.left) }
-        requires right { IsBelow (count self.system) (term equation.now.right) }
+    /// An equation more: the variable stands for the type.
+    pub fn equate_flat(self, variable: u64, flat: Flat) -> Result<Table, AllocError>
+        requires variable { variable < count self.system }
+        requires flat { IsBelow (count self.system) (flat_type flat) }
         ensures members { IfOk result (λ r. r.system.members.items ≡ self.system.members.items) }
-        ensures holds { IfOk result (λ r. (s : ℕ → Term) → Holds r.system s ↔ (Holds self.system s × (substitute s (term equation.now.left) ≡ substitute s (term equation.now.right)))) }
+        ensures holds { IfOk result
+            (λ r. (s : ℕ → Term) →
+            Holds r.system s ↔ (Holds self.system s × (s variable ≡ substitute s (flat_type flat)))) }
     {
         let Table {
             mut system,
             numbers,
         } = self;
-        system.equate(equation)?;
+        system.equate_flat(variable, flat)?;
         Ok(Table { system, numbers })
     }
 
-    /// An equation more: the variable stands for the type of a name, in which `fresh` gives each variable the one that stands
-    /// for it.
+    /// An equation more: the variable stands for the type, in which `fresh` gives each variable the one that stands for
+    /// it.
+    pub fn equate_instance(
+        self,
+        alloc: Global,
+        variable: u64,
+        fresh: &[u64],
+        part: &Part<'_>,
+    ) -> Result<Table, AllocError>
+        requires variable { variable < count self.system }
+        requires fresh { All (λ v. v < count self.system) fresh.now }
+        requires part { IsBelow (length fresh.now) part.now }
+        ensures members { IfOk result (λ r. r.system.members.items ≡ self.system.members.items) }
+        ensures holds { IfOk result
+            (λ r. (s : ℕ → Term) →
+            Holds r.system s
+            ↔ (Holds self.system s × (s variable ≡ substitute (λ v. s (slice_index fresh.now v)) part.now))) }
+    {
+        let Table {
+            mut system,
+            numbers,
+        } = self;
+        system.equate_instance(alloc, variable, fresh, part)?;
+        Ok(Table { system, numbers })
+    }
+
+    /// An equation more: the variable stands for the type of a name, in which `fresh` gives each variable the one that
+    /// stands for it.
     pub fn equate_shared(
         self,
         alloc: Global,
@@ -101,25 +130,29 @@ impl Table {
     ) -> Result<Table, AllocError>
         requires variable { variable < count self.system }
         requires fresh { All (λ v. v < count self.system) fresh.now }
-        requires ty { IsBelow (length fresh.now) (term ty.now) }
+        requires ty { IsBelow (length fresh.now) ty.now }
         ensures members { IfOk result (λ r. r.system.members.items ≡ self.system.members.items) }
-        ensures holds { IfOk result (λ r. (s : ℕ → Term) → Holds r.system s ↔ (Holds self.system s × (s variable ≡ substitute (λ v. s (slice_index fresh.now v)) (term ty.now)))) }
+        ensures holds { IfOk result (λ r. (s : ℕ → Term)
+            → Holds r.system s ↔ (Holds self.system s
+            × (s variable ≡ substitute (λ v. s (slice_index fresh.now v)) ty.now))) }
     {
         let Table {
             mut system,
             mut numbers,
         } = self;
         let number = number_of(alloc, &mut numbers, name, part)?;
-        system.equate_instance(alloc, variable, fresh, ty, number)?;
+        system.equate_noted_instance(alloc, variable, fresh, &ty.whole(), number)?;
         Ok(Table { system, numbers })
     }
 
     /// A most general solution of the equations in which each variable has a type of its class.
     pub fn solve(self, alloc: Global) -> Result<Solution, SolveFault>
         ensures solves { IfOk result (λ a. SolvesSystem self.system (type_of a) (class_of a)) }
-        ensures general { IfOk result (λ a. (s : ℕ → Term) → (of : ℕ → Class) → SolvesSystem self.system s of → IsInstance (type_of a) (class_of a) s of) }
+        ensures general { IfOk result (λ a. (s : ℕ → Term) → (of : ℕ → Class) → SolvesSystem self.system s of
+            → IsInstance (type_of a) (class_of a) s of) }
         ensures bounded { IfOk result (λ a. IsBounded (type_of a)) }
-        ensures none { IsErrOf result SolveFault.NoSolution → (s : ℕ → Term) → (of : ℕ → Class) → IsBounded s → SolvesSystem self.system s of → ⊥ }
+        ensures none { IsErrOf result SolveFault.NoSolution → (s : ℕ → Term) → (of : ℕ → Class) → IsBounded s
+            → SolvesSystem self.system s of → ⊥ }
     {
         self.system.solve(alloc)
     }

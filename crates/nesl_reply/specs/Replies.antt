@@ -3,7 +3,7 @@ use Rattle.std.specs.Prelude.{ℕ, true, List, [], ◌∷◌, ◌++◌, map, fla
 use Rattle.nesl_values.specs.View.{tree_of}
 use Rattle.nesl_values.specs.Tree.{Tree}
 use Rattle.nesl_types.specs.declared.classes.Class.{Class}
-use Rattle.nesl_types.specs.Term.{Term, term}
+use Rattle.nesl_types_bank.specs.Term.{Term}
 use Rattle.nesl_types.specs.Texts.{type_text, function_text}
 use Rattle.nesl_types.specs.declared.bindings.Top.{Top}
 use Rattle.nesl_scalars.specs.declared.cost.Cost.{Cost}
@@ -61,13 +61,13 @@ told_text known all (refused fault) = fault_text fault
 
 -- what a reply tells
 abbrev pub told : Reply → Told
-told (Reply.Bound name value ty cost) = bound name.now (tree_of value.now) (term ty.now) cost
+told (Reply.Bound name value ty cost) = bound name.now (tree_of value.now) ty.now cost
 told (Reply.FunTold name scheme) =
-    function name.now (term scheme.now.argument) (term scheme.now.result) scheme.now.classes.items
-told (Reply.DatatypeTold name ty) = datatype name.now (term ty.now)
+    function name.now scheme.now.argument scheme.now.result scheme.now.classes.items
+told (Reply.DatatypeTold name ty) = datatype name.now ty.now
 told Reply.Names = names
 told (Reply.Budget work elements lines bytes) = budget work elements lines bytes
-told (Reply.Shown ty) = shown (term ty.now)
+told (Reply.Shown ty) = shown ty.now
 told Reply.Blank = blank
 told Reply.More = more
 told (Reply.Cleared lines) = cleared lines

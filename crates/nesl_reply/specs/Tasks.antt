@@ -3,7 +3,7 @@ use Rattle.std.specs.Prelude.{ℕ, ◌+◌, ◌*◌, ◌-◌, ◌≡◌, codes, 
 use Rattle.std.specs.Fmt.{signed_decimal}
 use Rattle.nesl_values.specs.Tree.{Tree, int, boolean, character, size, sizes}
 use Rattle.nesl_values.specs.View.{tree_of, trees_view}
-use Rattle.nesl_types.specs.Term.{Term, term}
+use Rattle.nesl_types_bank.specs.Term.{Term}
 use Rattle.nesl_reply.specs.declared.value.Task.{Task}
 use Rattle.nesl_reply.specs.Values.{Datatypes, value_text, others_text, character_text, is_text_type}
 
@@ -33,8 +33,8 @@ list_text t (u ∷ us) = leaves_text u us
 
 -- what is still to be written for it
 abbrev pub task_text : Datatypes → Task → List ℕ
-task_text known (Task.Value v t brackets) = value_text known brackets (term t.now) (tree_of v.now)
-task_text known (Task.Others vs t) = others_text known (term t.now) (trees_view vs.now)
+task_text known (Task.Value v t brackets) = value_text known brackets t (tree_of v.now)
+task_text known (Task.Others vs t) = others_text known t (trees_view vs.now)
 task_text known (Task.Bytes bs) = bs.now
 
 -- the last comes first

@@ -5,7 +5,7 @@ use Rattle.std.specs.Fmt.{signed_decimal}
 use Rattle.std.specs.List.{list_all}
 use Rattle.nesl_values.specs.Parts.{list_of}
 use Rattle.nesl_values.specs.Tree.{Tree, Trees, int, boolean, character, pair, seq, tagged, no_trees, tree_then}
-use Rattle.nesl_types.specs.Term.{Term, char, seq_of, both, term}
+use Rattle.nesl_types_bank.specs.Term.{Term, char, seq_of, both}
 use Rattle.nesl_types.specs.Names.{datatype_at}
 use Rattle.nesl_types.specs.Texts.{name_at}
 use Rattle.nesl_types.specs.declared.bindings.Top.{Top}
@@ -22,7 +22,7 @@ held_by None = None
 held_by (Some b) = held_in b.1
   where
     held_in : Top → Option Term
-    held_in (top.Datatype tag ty) = Some (term ty)
+    held_in (top.Datatype tag ty) = Some ty
     held_in other = None
 
 abbrev pub datatypes : {P : Type 0} → List (List ℕ × Top × P) → Datatypes

@@ -1,7 +1,8 @@
 //! Why a line is refused.
 
 ghost use Rattle.std.specs.Prelude.{◌≡◌, ◌++◌, OnOk};
-ghost use Rattle.nesl_reply.specs.Faults.{number_of, fault_of, told, work_text, no_work, span_text, stop_text, fault_text};
+ghost use Rattle.nesl_reply.specs.Faults.{number_of, fault_of, told, work_text, no_work, span_text, stop_text};
+ghost use Rattle.nesl_reply.specs.Faults.{fault_text};
 
 use crate::writing::{write_bytes, write_number};
 use nesl_lex::token::Span;

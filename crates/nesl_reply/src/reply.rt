@@ -1,11 +1,12 @@
 //! Replies: a line each, with its line end.
 
-ghost use Rattle.std.specs.Prelude.{◌≡◌, ◌++◌, ◌<◌, ◌==◌, if◌then◌else◌, length, slice_get, Some, true, IfOk, OnOk, codes, decimal, map};
-ghost use Rattle.nesl_types.specs.Term.{term};
+ghost use Rattle.std.specs.Prelude.{◌≡◌, ◌++◌, ◌<◌, ◌==◌, if◌then◌else◌, length, slice_get, Some, true, IfOk, OnOk};
+ghost use Rattle.std.specs.Prelude.{codes, decimal, map};
 ghost use Rattle.nesl_types.specs.Texts.{type_text as text_of_type, scheme_text as text_of_scheme, name_at};
 ghost use Rattle.nesl_reply.specs.Faults.{fault_text};
 ghost use Rattle.nesl_reply.specs.declared.fault.Fault.TheVariants.{Memory};
-ghost use Rattle.nesl_reply.specs.Replies.{told_of, budget_text, reply_text as text_of_reply, cost_text, used_text, names_text};
+ghost use Rattle.nesl_reply.specs.Replies.{told_of, budget_text, reply_text as text_of_reply, cost_text, used_text};
+ghost use Rattle.nesl_reply.specs.Replies.{names_text};
 
 use crate::fault::{Fault, write_fault};
 use crate::value::write_value;
@@ -123,7 +124,7 @@ fn write_type<P: Drop>(
     ty: &Ty,
     context: &Context<P>,
 ) -> Result<(), AllocError>
-    ensures { OnOk result (out.new.items ≡ out.old.items ++ text_of_type (name_at context.now) true (term ty.now)) }
+    ensures { OnOk result (out.new.items ≡ out.old.items ++ text_of_type (name_at context.now) true ty.now) }
 {
     let text = type_text(alloc, ty, context)?;
     write_bytes(out, &text)

@@ -1,29 +1,32 @@
 //! The texts of values.
 
-ghost use Rattle.std.specs.Prelude.{◌≡◌, ◌+◌, ◌*◌, ◌-◌, ◌<◌, ◌∷◌, [], ◌++◌, ◌==◌, ◌&&◌, not, ℕ, Bool, true, false, IfOk, OnOk, MatchOption, codes, map, unwrap_or};
+ghost use Rattle.std.specs.Prelude.{◌≡◌, ◌+◌, ◌*◌, ◌-◌, ◌<◌, ◌∷◌, [], ◌++◌, ◌==◌, ◌&&◌, not, ℕ, Bool, true, false};
+ghost use Rattle.std.specs.Prelude.{IfOk, OnOk, MatchOption, codes, map, unwrap_or};
 ghost use Rattle.std.specs.List.{list_all};
 ghost use Rattle.nesl_values.specs.Tree.{int, boolean, character, seq, sequence, trees_of, size, sizes};
 ghost use Rattle.nesl_values.specs.Parts.{list_of};
 ghost use Rattle.nesl_values.specs.View.{tree_of, trees_view, item_trees};
-ghost use Rattle.nesl_types.specs.Term.{term};
 ghost use Rattle.nesl_types.specs.Names.{datatype_at};
 ghost use Rattle.nesl_types.specs.Texts.{name_at};
-ghost use Rattle.nesl_reply.specs.Values.{Datatypes, datatypes, value_text as text_of_value, is_quotable, code_of, quoted, is_text_type, elements_text, others_text, bracketed, left_type, right_type, element_type, held_by};
-ghost use Rattle.nesl_reply.specs.Tasks.{task_text, tasks_text, task_work, tasks_work, IsNext, empty_text, leaves_text, list_text};
+ghost use Rattle.nesl_reply.specs.Values.{Datatypes, datatypes, value_text as text_of_value, is_quotable, code_of};
+ghost use Rattle.nesl_reply.specs.Values.{quoted, is_text_type, elements_text, others_text, bracketed, left_type};
+ghost use Rattle.nesl_reply.specs.Values.{right_type, element_type, held_by};
+ghost use Rattle.nesl_reply.specs.Tasks.{task_text, tasks_text, task_work, tasks_work, IsNext, empty_text, leaves_text};
+ghost use Rattle.nesl_reply.specs.Tasks.{list_text};
 
 use crate::leaf::{Leaf, is_printable, write_character, write_other_leaves, write_truth};
 use crate::writing::{write_bytes, write_integer};
-use nesl_types::{Context, Top, Ty};
+use nesl_types::{Context, Kind, Part, Top, Ty};
 use nesl_values::{Items, Shape, Value};
 use std::alloc::{AllocError, Global};
 
 /// What is still to be written.
-#[derive(Clone, Copy)]
+#[derive(Drop)]
 pub enum Task<'a> {
     /// A value of that type; a pair stands in brackets where they are asked for.
-    Value(&'a Value, &'a Ty, bool),
+    Value(&'a Value, Part<'a>, bool),
     /// Elements of that type, each with a comma before it.
-    Others(&'a [Value], &'a Ty),
+    Others(&'a [Value], Part<'a>),
     Bytes(&'static [u8]),
 }
 
@@ -35,7 +38,7 @@ pub fn value_text<P: Drop>(
     ty: &Ty,
     context: &Context<P>,
 ) -> Result<Vec<u8>, AllocError>
-    ensures { IfOk result (λ text. text.items ≡ text_of_value (datatypes context.now) true (term ty.now) (tree_of value.now)) }
+    ensures { IfOk result (λ text. text.items ≡ text_of_value (datatypes context.now) true ty.now (tree_of value.now)) }
 {
     let mut out = Vec::new(alloc);
     write_value(&mut out, alloc, value, ty, context)?;
@@ -50,10 +53,11 @@ pub(crate) fn write_value<P: Drop>(
     ty: &Ty,
     context: &Context<P>,
 ) -> Result<(), AllocError>
-    ensures { OnOk result (out.new.items ≡ out.old.items ++ text_of_value (datatypes context.now) true (term ty.now) (tree_of value.now)) }
+    ensures { OnOk result (out.new.items ≡ out.old.items
+        ++ text_of_value (datatypes context.now) true ty.now (tree_of value.now)) }
 {
     let mut tasks = Vec::new(alloc);
-    plan(&mut tasks, Task::Value(value, ty, true))?;
+    plan(&mut tasks, Task::Value(value, ty.whole(), true))?;
     while let Some(task) = next_task(&mut tasks) {
         write_task(out, &mut tasks, context, task)?;
     }
@@ -87,12 +91,13 @@ fn write_task<'a, P: Drop>(
     task: Task<'a>,
 ) -> Result<(), AllocError>
     ensures text { OnOk result (out.new.items ++ tasks_text (datatypes context.now) tasks.new.items
-        ≡ out.old.items ++ (task_text (datatypes context.now) task.entry ++ tasks_text (datatypes context.now) tasks.old.items)) }
+        ≡ out.old.items ++ (task_text (datatypes context.now) task.entry
+        ++ tasks_text (datatypes context.now) tasks.old.items)) }
     ensures less_work { OnOk result (tasks_work tasks.new.items < task_work task.entry + tasks_work tasks.old.items) }
 {
     match task {
-        Task::Value(value, ty, brackets) => write_front(out, tasks, context, value, ty, brackets),
-        Task::Others(items, ty) => write_others(out, tasks, items, ty),
+        Task::Value(value, ty, brackets) => write_front(out, tasks, context, value, &ty, brackets),
+        Task::Others(items, ty) => write_others(out, tasks, items, &ty),
         Task::Bytes(bytes) => write_bytes(out, bytes),
     }
 }
@@ -103,12 +108,14 @@ fn write_front<'a, P: Drop>(
     tasks: &mut Vec<Task<'a>>,
     context: &'a Context<P>,
     value: &'a Value,
-    ty: &'a Ty,
+    ty: &Part<'a>,
     brackets: bool,
 ) -> Result<(), AllocError>
     ensures text { OnOk result (out.new.items ++ tasks_text (datatypes context.now) tasks.new.items
-        ≡ out.old.items ++ (text_of_value (datatypes context.now) brackets (term ty.now) (tree_of value.now) ++ tasks_text (datatypes context.now) tasks.old.items)) }
-    ensures less_work { OnOk result (tasks_work tasks.new.items < 4 * size (tree_of value.now) - 1 + tasks_work tasks.old.items) }
+        ≡ out.old.items ++ (text_of_value (datatypes context.now) brackets ty.now (tree_of value.now)
+        ++ tasks_text (datatypes context.now) tasks.old.items)) }
+    ensures less_work { OnOk result (tasks_work tasks.new.items
+        < 4 * size (tree_of value.now) - 1 + tasks_work tasks.old.items) }
 {
     match value.shape() {
         Shape::Int(n) => write_integer(out, n),
@@ -128,11 +135,14 @@ fn write_items<'a>(
     out: &mut Vec<u8>,
     tasks: &mut Vec<Task<'a>>,
     items: Items<'a>,
-    ty: &'a Ty,
+    ty: &Part<'a>,
 ) -> Result<(), AllocError>
-    ensures text { OnOk result ((known : Datatypes) (brackets : Bool) → out.new.items ++ tasks_text known tasks.new.items
-        ≡ out.old.items ++ (text_of_value known brackets (term ty.now) (sequence (item_trees items.entry)) ++ tasks_text known tasks.old.items)) }
-    ensures less_work { OnOk result (tasks_work tasks.new.items < 4 * sizes (trees_of (item_trees items.entry)) + 3 + tasks_work tasks.old.items) }
+    ensures text { OnOk result ((known : Datatypes) (brackets : Bool)
+        → out.new.items ++ tasks_text known tasks.new.items
+        ≡ out.old.items ++ (text_of_value known brackets ty.now (sequence (item_trees items.entry))
+        ++ tasks_text known tasks.old.items)) }
+    ensures less_work { OnOk result (tasks_work tasks.new.items
+        < 4 * sizes (trees_of (item_trees items.entry)) + 3 + tasks_work tasks.old.items) }
 {
     match items {
         Items::Values(values) => {
@@ -159,12 +169,15 @@ fn write_pair<'a>(
     tasks: &mut Vec<Task<'a>>,
     left: &'a Value,
     right: &'a Value,
-    ty: &'a Ty,
+    ty: &Part<'a>,
     brackets: bool,
 ) -> Result<(), AllocError>
     ensures text { OnOk result ((known : Datatypes) → out.new.items ++ tasks_text known tasks.new.items
-        ≡ out.old.items ++ (bracketed brackets (text_of_value known true (left_type (term ty.now)) (tree_of left.now) ++ codes ", " ++ text_of_value known false (right_type (term ty.now)) (tree_of right.now)) ++ tasks_text known tasks.old.items)) }
-    ensures less_work { OnOk result (tasks_work tasks.new.items < 4 * (size (tree_of left.now) + size (tree_of right.now)) + 3 + tasks_work tasks.old.items) }
+        ≡ out.old.items ++ (bracketed brackets
+        (text_of_value known true (left_type ty.now) (tree_of left.now) ++ codes ", "
+        ++ text_of_value known false (right_type ty.now) (tree_of right.now)) ++ tasks_text known tasks.old.items)) }
+    ensures less_work { OnOk result (tasks_work tasks.new.items
+        < 4 * (size (tree_of left.now) + size (tree_of right.now)) + 3 + tasks_work tasks.old.items) }
 {
     if brackets {
         write_bytes(out, b"(")?;
@@ -181,11 +194,15 @@ fn write_record<'a, P: Drop>(
     context: &'a Context<P>,
     tag: u64,
     held: &'a Value,
-    ty: &'a Ty,
+    ty: &Part<'a>,
 ) -> Result<(), AllocError>
     ensures text { OnOk result (out.new.items ++ tasks_text (datatypes context.now) tasks.new.items
-        ≡ out.old.items ++ (name_at context.now tag ++ (codes "(" ++ text_of_value (datatypes context.now) false (unwrap_or (held_by (datatype_at context.now tag)) (term ty.now)) (tree_of held.now) ++ codes ")") ++ tasks_text (datatypes context.now) tasks.old.items)) }
-    ensures less_work { OnOk result (tasks_work tasks.new.items < 4 * size (tree_of held.now) + 3 + tasks_work tasks.old.items) }
+        ≡ out.old.items ++ (name_at context.now tag
+        ++ (codes "(" ++ text_of_value (datatypes context.now) false
+        (unwrap_or (held_by (datatype_at context.now tag)) ty.now) (tree_of held.now) ++ codes ")")
+        ++ tasks_text (datatypes context.now) tasks.old.items)) }
+    ensures less_work { OnOk result (tasks_work tasks.new.items
+        < 4 * size (tree_of held.now) + 3 + tasks_work tasks.old.items) }
 {
     if let Some((name, _, _)) = context.datatype(tag) {
         write_bytes(out, name)?;
@@ -199,16 +216,18 @@ fn write_sequence<'a>(
     out: &mut Vec<u8>,
     tasks: &mut Vec<Task<'a>>,
     items: &'a [Value],
-    ty: &'a Ty,
+    ty: &Part<'a>,
 ) -> Result<(), AllocError>
     ensures text { OnOk result ((known : Datatypes) → out.new.items ++ tasks_text known tasks.new.items
-        ≡ out.old.items ++ (text_of_value known true (term ty.now) (seq (trees_view items.now)) ++ tasks_text known tasks.old.items)) }
-    ensures less_work { OnOk result (tasks_work tasks.new.items < 4 * sizes (trees_view items.now) + 3 + tasks_work tasks.old.items) }
+        ≡ out.old.items ++ (text_of_value known true ty.now (seq (trees_view items.now))
+        ++ tasks_text known tasks.old.items)) }
+    ensures less_work { OnOk result (tasks_work tasks.new.items
+        < 4 * sizes (trees_view items.now) + 3 + tasks_work tasks.old.items) }
 {
     if is_text(items, ty) {
         return write_quoted(out, items);
     }
-    write_list(out, tasks, items, element_type(ty))
+    write_list(out, tasks, items, &element_type(ty))
 }
 
 // Writes a sequence as a list.
@@ -216,19 +235,21 @@ fn write_list<'a>(
     out: &mut Vec<u8>,
     tasks: &mut Vec<Task<'a>>,
     items: &'a [Value],
-    ty: &'a Ty,
+    ty: &Part<'a>,
 ) -> Result<(), AllocError>
     ensures text { OnOk result ((known : Datatypes) → out.new.items ++ tasks_text known tasks.new.items
-        ≡ out.old.items ++ ((codes "[" ++ elements_text known (term ty.now) (trees_view items.now) ++ codes "]") ++ tasks_text known tasks.old.items)) }
-    ensures less_work { OnOk result (tasks_work tasks.new.items < 4 * sizes (trees_view items.now) + 3 + tasks_work tasks.old.items) }
+        ≡ out.old.items ++ ((codes "[" ++ elements_text known ty.now (trees_view items.now) ++ codes "]")
+        ++ tasks_text known tasks.old.items)) }
+    ensures less_work { OnOk result (tasks_work tasks.new.items
+        < 4 * sizes (trees_view items.now) + 3 + tasks_work tasks.old.items) }
 {
     write_bytes(out, b"[")?;
     plan(tasks, Task::Bytes(b"]"))?;
     match items.split_first() {
         None => Ok(()),
         Some((first, others)) => {
-            plan(tasks, Task::Others(others, ty))?;
-            plan(tasks, Task::Value(first, ty, true))
+            plan(tasks, Task::Others(others, ty.again()))?;
+            plan(tasks, Task::Value(first, ty.again(), true))
         }
     }
 }
@@ -237,25 +258,26 @@ fn write_others<'a>(
     out: &mut Vec<u8>,
     tasks: &mut Vec<Task<'a>>,
     items: &'a [Value],
-    ty: &'a Ty,
+    ty: &Part<'a>,
 ) -> Result<(), AllocError>
     ensures text { OnOk result ((known : Datatypes) → out.new.items ++ tasks_text known tasks.new.items
-        ≡ out.old.items ++ (others_text known (term ty.now) (trees_view items.now) ++ tasks_text known tasks.old.items)) }
-    ensures less_work { OnOk result (tasks_work tasks.new.items < 4 * sizes (trees_view items.now) + 1 + tasks_work tasks.old.items) }
+        ≡ out.old.items ++ (others_text known ty.now (trees_view items.now) ++ tasks_text known tasks.old.items)) }
+    ensures less_work { OnOk result (tasks_work tasks.new.items
+        < 4 * sizes (trees_view items.now) + 1 + tasks_work tasks.old.items) }
 {
     match items.split_first() {
         None => Ok(()),
         Some((first, others)) => {
             write_bytes(out, b", ")?;
-            plan(tasks, Task::Others(others, ty))?;
-            plan(tasks, Task::Value(first, ty, true))
+            plan(tasks, Task::Others(others, ty.again()))?;
+            plan(tasks, Task::Value(first, ty.again(), true))
         }
     }
 }
 
 // Writes a sequence with no element: as a text where its type allows it.
-fn write_empty(out: &mut Vec<u8>, ty: &Ty) -> Result<(), AllocError>
-    ensures { OnOk result (out.new.items ≡ out.old.items ++ empty_text (term ty.now)) }
+fn write_empty(out: &mut Vec<u8>, ty: &Part<'_>) -> Result<(), AllocError>
+    ensures { OnOk result (out.new.items ≡ out.old.items ++ empty_text ty.now) }
 {
     if is_text_type(ty) {
         return write_bytes(out, b"\"\"");
@@ -264,8 +286,8 @@ fn write_empty(out: &mut Vec<u8>, ty: &Ty) -> Result<(), AllocError>
 }
 
 // Writes a list of leaves.
-fn write_leaves<L: Leaf>(out: &mut Vec<u8>, items: &[L], ty: &Ty) -> Result<(), AllocError>
-    ensures { OnOk result (out.new.items ≡ out.old.items ++ list_text (term ty.now) (map L.leaf items.now)) }
+fn write_leaves<L: Leaf>(out: &mut Vec<u8>, items: &[L], ty: &Part<'_>) -> Result<(), AllocError>
+    ensures { OnOk result (out.new.items ≡ out.old.items ++ list_text ty.now (map L.leaf items.now)) }
 {
     match items.split_first() {
         None => write_empty(out, ty),
@@ -284,24 +306,29 @@ fn write_first<L: Leaf>(out: &mut Vec<u8>, first: L, others: &[L]) -> Result<(),
 }
 
 // Writes a packed sequence of numbers.
-fn write_integers(out: &mut Vec<u8>, items: &[i64], ty: &Ty) -> Result<(), AllocError>
-    ensures { OnOk result ((known : Datatypes) (brackets : Bool) → out.new.items ≡ out.old.items ++ text_of_value known brackets (term ty.now) (seq (trees_of (map int items.now)))) }
+fn write_integers(out: &mut Vec<u8>, items: &[i64], ty: &Part<'_>) -> Result<(), AllocError>
+    ensures { OnOk result ((known : Datatypes) (brackets : Bool)
+        → out.new.items ≡ out.old.items ++ text_of_value known brackets ty.now (seq (trees_of (map int items.now)))) }
 {
     write_leaves(out, items, ty)?;
     Ok(())
 }
 
 // Writes a packed sequence of truth values.
-fn write_truths(out: &mut Vec<u8>, items: &[bool], ty: &Ty) -> Result<(), AllocError>
-    ensures { OnOk result ((known : Datatypes) (brackets : Bool) → out.new.items ≡ out.old.items ++ text_of_value known brackets (term ty.now) (seq (trees_of (map boolean items.now)))) }
+fn write_truths(out: &mut Vec<u8>, items: &[bool], ty: &Part<'_>) -> Result<(), AllocError>
+    ensures { OnOk result ((known : Datatypes) (brackets : Bool)
+        → out.new.items ≡ out.old.items ++ text_of_value known brackets ty.now
+        (seq (trees_of (map boolean items.now)))) }
 {
     write_leaves(out, items, ty)?;
     Ok(())
 }
 
 // Writes a packed sequence of characters: as a text where its type and its bytes allow it.
-fn write_characters(out: &mut Vec<u8>, bytes: &[u8], ty: &Ty) -> Result<(), AllocError>
-    ensures { OnOk result ((known : Datatypes) (brackets : Bool) → out.new.items ≡ out.old.items ++ text_of_value known brackets (term ty.now) (seq (trees_of (map character bytes.now)))) }
+fn write_characters(out: &mut Vec<u8>, bytes: &[u8], ty: &Part<'_>) -> Result<(), AllocError>
+    ensures { OnOk result ((known : Datatypes) (brackets : Bool)
+        → out.new.items ≡ out.old.items ++ text_of_value known brackets ty.now
+        (seq (trees_of (map character bytes.now)))) }
 {
     if is_packed_text(bytes, ty) {
         write_text(out, bytes)?;
@@ -342,16 +369,16 @@ fn write_codes(out: &mut Vec<u8>, items: &[Value]) -> Result<(), AllocError>
 }
 
 // Whether the sequence is written as a text.
-fn is_text(items: &[Value], ty: &Ty) -> bool
-    ensures { result ≡ (is_text_type (term ty.now) && list_all is_quotable (list_of (trees_view items.now))) }
+fn is_text(items: &[Value], ty: &Part<'_>) -> bool
+    ensures { result ≡ (is_text_type ty.now && list_all is_quotable (list_of (trees_view items.now))) }
 {
     is_text_type(ty) && can_be_quoted(items)
 }
 
 // The same, of packed characters.
 #[tactic(auto, using(crate::proofs::Lists::all_of))]
-fn is_packed_text(bytes: &[u8], ty: &Ty) -> bool
-    ensures { result ≡ (is_text_type (term ty.now) && list_all is_quotable (list_of (trees_of (map character bytes.now)))) }
+fn is_packed_text(bytes: &[u8], ty: &Part<'_>) -> bool
+    ensures { result ≡ (is_text_type ty.now && list_all is_quotable (list_of (trees_of (map character bytes.now)))) }
 {
     is_text_type(ty) && all_quotable(bytes)
 }
@@ -397,48 +424,48 @@ fn code_of(item: &Value) -> u8
     }
 }
 
-fn is_text_type(ty: &Ty) -> bool
-    ensures { result ≡ is_text_type (term ty.now) }
+fn is_text_type(ty: &Part<'_>) -> bool
+    ensures { result ≡ is_text_type ty.now }
 {
-    match ty {
-        Ty::SeqOf(item) => matches!(**item, Ty::Char),
+    match ty.kind() {
+        Kind::SeqOf(item) => matches!(item.kind(), Kind::Char),
         _ => false,
     }
 }
 
-fn left_type(ty: &Ty) -> &Ty
-    ensures { term result.now ≡ left_type (term ty.now) }
+fn left_type<'a>(ty: &Part<'a>) -> Part<'a>
+    ensures { result ≡ left_type ty.now }
 {
-    match ty {
-        Ty::Both(left, _) => left,
-        _ => ty,
+    match ty.kind() {
+        Kind::Both(left, _) => left,
+        _ => ty.again(),
     }
 }
 
-fn right_type(ty: &Ty) -> &Ty
-    ensures { term result.now ≡ right_type (term ty.now) }
+fn right_type<'a>(ty: &Part<'a>) -> Part<'a>
+    ensures { result ≡ right_type ty.now }
 {
-    match ty {
-        Ty::Both(_, right) => right,
-        _ => ty,
+    match ty.kind() {
+        Kind::Both(_, right) => right,
+        _ => ty.again(),
     }
 }
 
-fn element_type(ty: &Ty) -> &Ty
-    ensures { term result.now ≡ element_type (term ty.now) }
+fn element_type<'a>(ty: &Part<'a>) -> Part<'a>
+    ensures { result ≡ element_type ty.now }
 {
-    match ty {
-        Ty::SeqOf(item) => item,
-        _ => ty,
+    match ty.kind() {
+        Kind::SeqOf(item) => item,
+        _ => ty.again(),
     }
 }
 
 // The type of what the records of a datatype hold, or `ty` where the tag stands for no datatype.
-fn held_type<'a, P: Drop>(context: &'a Context<P>, tag: u64, ty: &'a Ty) -> &'a Ty
-    ensures { term result.now ≡ unwrap_or (held_by (datatype_at context.now tag)) (term ty.now) }
+fn held_type<'a, P: Drop>(context: &'a Context<P>, tag: u64, ty: &Part<'a>) -> Part<'a>
+    ensures { result ≡ unwrap_or (held_by (datatype_at context.now tag)) ty.now }
 {
     match context.datatype(tag) {
-        Some((_, Top::Datatype(_, held), _)) => held,
-        _ => ty,
+        Some((_, Top::Datatype(_, held), _)) => held.whole(),
+        _ => ty.again(),
     }
 }

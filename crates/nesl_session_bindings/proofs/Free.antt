@@ -3,12 +3,11 @@ use Rattle.std.proofs.Common.{◌≡◌, ℕ, true, false, refl, sym, ap, subst,
 use Rattle.std.specs.Prelude.{option_map, is_some, ◌||◌, ◌&&◌}
 use Rattle.std.specs.Str.{bytes_eq}
 use Rattle.std.proofs.lemmas.Bool.{both_ways, or_parts}
+use Rattle.nesl_types_bank.specs.Term.{Term}
 use Rattle.nesl_types.specs.declared.bindings.Top as kinds
 use Rattle.nesl_types.specs.declared.bindings.Top.TheVariants as kind
 use Rattle.nesl_types.specs.declared.schemes.Scheme.{Scheme}
-use Rattle.nesl_types.specs.declared.types.Ty.{Ty}
 use Rattle.nesl_types.specs.Names.{found}
-use Rattle.nesl_types.specs.Term.{term}
 use Rattle.nesl_builtins.specs.Named.{named_builtin}
 use Rattle.nesl_builtins.specs.Table.{function_type}
 use Rattle.nesl_infer_names.specs.Names.{top_in}
@@ -41,9 +40,9 @@ kept_bound (function f p e) = refl
 kept_bound (datatype tag t) = refl
 
 -- what was not other is unchanged
-variable_same : (u : kinds.Top) (p : Payload) → Fits u p → (t : Ty) → (is_type u ≡ true → ⊥) →
-    (IsOther (Some (meaning_of u p)) (a_variable (term t)) → ⊥) → IsUnchanged (Some u) (Some (kind.Variable t))
-variable_same (kind.Variable a) (payload.Variable v) f t d h = stable_term (term a) (term t) h
+variable_same : (u : kinds.Top) (p : Payload) → Fits u p → (t : Term) → (is_type u ≡ true → ⊥) →
+    (IsOther (Some (meaning_of u p)) (a_variable t) → ⊥) → IsUnchanged (Some u) (Some (kind.Variable t))
+variable_same (kind.Variable a) (payload.Variable v) f t d h = stable_term a t h
 variable_same (kind.Function s) (payload.Function p e) f t d h = h tt
 variable_same (kind.Datatype tag a) payload.Datatype f t d h = absurd (d refl)
 variable_same _ _ f t d h = absurd f
@@ -70,7 +69,7 @@ module _ (es : List Entry) (fit : AllFit es) (x : Name) where
       both_ways (is_kept (meaning_in (bindings_of es) x) k) (not_kept k h)
       (ap (λ o. is_kept o k) (meant (Some (u, p)) e) ∙ kept_type u p (found-fits x es fit u p e) t k)
 
-  no_datatype : (k : Kind) → is_taken (bindings_of es) x k ≡ false → (tag : ℕ) (t : Ty) → top_in es x ≡ Some (kind.Datatype tag t) → ⊥
+  no_datatype : (k : Kind) → is_taken (bindings_of es) x k ≡ false → (tag : ℕ) (t : Term) → top_in es x ≡ Some (kind.Datatype tag t) → ⊥
   no_datatype k h tag t q = by (found x es) refl q
     where
       by : (o : Option (kinds.Top × Payload)) → o ≡ found x es → option_map (λ b. b.0) o ≡ Some (kind.Datatype tag t) → ⊥
@@ -90,9 +89,9 @@ module _ (es : List Entry) (fit : AllFit es) (x : Name) where
   referred : is_referred x (values_of top_of es) ≡ true → is_referred x (environment (bindings_of es)) ≡ true
   referred h = ap (is_referred x) (environment_is es fit) ∙ h
 
-  pub variable_free : (t : Ty) → Refuses (bindings_of es) x (a_variable (term t)) None → IsRedefinable top_of es x (kind.Variable t)
+  pub variable_free : (t : Term) → Refuses (bindings_of es) x (a_variable t) None → IsRedefinable top_of es x (kind.Variable t)
   variable_free t h = record {
-    no_datatype = no_datatype (a_variable (term t)) h.1;
+    no_datatype = no_datatype (a_variable t) h.1;
     no_retype = λ r. by (found x es) refl r;
   }
     where
@@ -100,8 +99,8 @@ module _ (es : List Entry) (fit : AllFit es) (x : Name) where
           IsUnchanged (option_map (λ b. b.0) o) (Some (kind.Variable t))
       by None e r = tt
       by (Some (u, p)) e r =
-          variable_same u p (found-fits x es fit u p e) t (no_type (a_variable (term t)) h.1 u p e)
-          (λ other. h.0 (referred r, subst (λ m. IsOther m (a_variable (term t))) (sym (meant (Some (u, p)) e)) other))
+          variable_same u p (found-fits x es fit u p e) t (no_type (a_variable t) h.1 u p e)
+          (λ other. h.0 (referred r, subst (λ m. IsOther m (a_variable t)) (sym (meant (Some (u, p)) e)) other))
 
   pub function_free : (s : Scheme) → Refuses (bindings_of es) x (a_function (function_type s)) None → IsRedefinable top_of es x (kind.Function s)
   function_free s h = record {

@@ -3,9 +3,8 @@ use Rattle.std.proofs.Common.{◌≡◌, ℕ, ◌+◌, ◌<◌, arith, refl, sym
 use Rattle.nesl_types.specs.declared.bindings.Top as kinds
 use Rattle.nesl_types.specs.declared.bindings.Top.TheVariants as kind
 use Rattle.nesl_types.specs.declared.schemes.Scheme.{Scheme}
-use Rattle.nesl_types.specs.declared.types.Ty.{Ty}
 use Rattle.nesl_types.specs.Names.{with_name}
-use Rattle.nesl_types.specs.Term.{term, nodes}
+use Rattle.nesl_types_bank.specs.Term.{Term, nodes}
 use Rattle.nesl_values.specs.declared.value.Value.{Value}
 use Rattle.nesl_values.specs.Tree.{size}
 use Rattle.nesl_values.specs.View.{tree_of}
@@ -39,11 +38,11 @@ module _ (es : List Entry) (n : ℕ) (kept : AreKept es n) (x : Name) where
       elements_of (bindings_of (with_name x t p es)) ≡ m
   counted t p m e = ap elements_of (put_is x t p es) ∙ put_elements x (meaning_of t p) (bindings_of es) ∙ sym e
 
-  pub variable_kept : InferredVariablesStaySound {P = Payload} top_of → (t : Ty) (v : Value Global) → IsComputed (bindings_of es) (term t) (tree_of v) →
-      Refuses (bindings_of es) x (a_variable (term t)) None → (m : ℕ) → m ≡ elements_beside x (bindings_of es) + size (tree_of v) →
+  pub variable_kept : InferredVariablesStaySound {P = Payload} top_of → (t : Term) (v : Value Global) → IsComputed (bindings_of es) t (tree_of v) →
+      Refuses (bindings_of es) x (a_variable t) None → (m : ℕ) → m ≡ elements_beside x (bindings_of es) + size (tree_of v) →
       AreKept (with_name x (kind.Variable t) (payload.Variable v) es) m
   variable_kept law t v (e, levels, w, d, inferred, came) free m count =
-      let ty = subst (λ (k : Own → Names). IsTypeBy k e (typed (term t))) (known_is es kept.fit) inferred in
+      let ty = subst (λ (k : Own → Names). IsTypeBy k e (typed t)) (known_is es kept.fit) inferred in
       record {
         fit = fit_after x (kind.Variable t) (payload.Variable v) tt es kept.fit;
         sound = law es kept.sound x e t ty.1 ty.2 (variable_free es kept.fit x t free) levels w d (tree_of v)
@@ -63,11 +62,11 @@ module _ (es : List Entry) (n : ℕ) (kept : AreKept es n) (x : Name) where
         counted = counted (kind.Function s) (payload.Function p e) m count;
       }
 
-  pub datatype_kept : WrittenDatatypesStaySound {P = Payload} top_of → (tag : ℕ) → tag ≡ lines.datatypes es → (t : Ty) →
-      (a : TypeTree) × IsContentBy (known (bindings_of es)) a (typed (term t)) → Refuses (bindings_of es) x a_datatype None → (m : ℕ) → m ≡ elements_beside x (bindings_of es) + nodes (term t) →
+  pub datatype_kept : WrittenDatatypesStaySound {P = Payload} top_of → (tag : ℕ) → tag ≡ lines.datatypes es → (t : Term) →
+      (a : TypeTree) × IsContentBy (known (bindings_of es)) a (typed t) → Refuses (bindings_of es) x a_datatype None → (m : ℕ) → m ≡ elements_beside x (bindings_of es) + nodes t →
       AreKept (with_name x (kind.Datatype tag t) payload.Datatype es) m
   datatype_kept law tag same t (a, written) free m count =
-      let ty = subst (λ (k : Own → Names). IsContentBy k a (typed (term t))) (known_is es kept.fit) written in
+      let ty = subst (λ (k : Own → Names). IsContentBy k a (typed t)) (known_is es kept.fit) written in
       let F : ℕ → Type 0 = λ k. IsSound top_of (with_name x (kind.Datatype k t) payload.Datatype es) in
       record {
         fit = fit_after x (kind.Datatype tag t) payload.Datatype tt es kept.fit;
@@ -92,12 +91,12 @@ module _ (es self new : List Entry) (x : Name) (seen : es ≡ self) where
     sum : (k : ℕ) → b ≡ k → a + b ≡ elements_beside x (bindings_of es) + k
     sum k f = omega (arith, beside, f)
 
-    pub variable_set : InferredVariablesStaySound {P = Payload} top_of → (t : Ty) (v : Value Global) → IsComputed (bindings_of self) (term t) (tree_of v) →
-        Refuses (bindings_of self) x (a_variable (term t)) None → new ≡ with_name x (kind.Variable t) (payload.Variable v) es → b ≡ size (tree_of v) → AreKept new (a + b)
+    pub variable_set : InferredVariablesStaySound {P = Payload} top_of → (t : Term) (v : Value Global) → IsComputed (bindings_of self) t (tree_of v) →
+        Refuses (bindings_of self) x (a_variable t) None → new ≡ with_name x (kind.Variable t) (payload.Variable v) es → b ≡ size (tree_of v) → AreKept new (a + b)
     variable_set law t v computed free e f =
         let P : List Entry → Type 0 = λ bs. AreKept bs (a + b) in
-        let C : List Entry → Type 0 = λ bs. IsComputed (bindings_of bs) (term t) (tree_of v) in
-        let R : List Entry → Type 0 = λ bs. Refuses (bindings_of bs) x (a_variable (term t)) None in
+        let C : List Entry → Type 0 = λ bs. IsComputed (bindings_of bs) t (tree_of v) in
+        let R : List Entry → Type 0 = λ bs. Refuses (bindings_of bs) x (a_variable t) None in
         subst P (sym e) (variable_kept es n kept x law t v (subst C (sym seen) computed) (subst R (sym seen) free) (a + b) (sum (size (tree_of v)) f))
 
     pub function_set : InferredFunctionsStaySound {P = Payload} top_of → (s : Scheme) (p : Pattern) (d : Exp) →
@@ -110,14 +109,14 @@ module _ (es self new : List Entry) (x : Name) (seen : es ≡ self) where
         let R : List Entry → Type 0 = λ bs. Refuses (bindings_of bs) x (a_function (function_type s)) None in
         subst P (sym e) (function_kept es n kept x law s p d (subst C (sym seen) inferred) (subst R (sym seen) free) (a + b) (sum (expression_nodes (syntax.tree_of d)) f))
 
-    pub datatype_set : WrittenDatatypesStaySound {P = Payload} top_of → (tag : ℕ) → tag ≡ lines.datatypes es → (t : Ty) →
-        (w : TypeTree) × IsContentBy (known (bindings_of self)) w (typed (term t)) → Refuses (bindings_of self) x a_datatype None →
-        new ≡ with_name x (kind.Datatype tag t) payload.Datatype es → b ≡ nodes (term t) → AreKept new (a + b)
+    pub datatype_set : WrittenDatatypesStaySound {P = Payload} top_of → (tag : ℕ) → tag ≡ lines.datatypes es → (t : Term) →
+        (w : TypeTree) × IsContentBy (known (bindings_of self)) w (typed t) → Refuses (bindings_of self) x a_datatype None →
+        new ≡ with_name x (kind.Datatype tag t) payload.Datatype es → b ≡ nodes t → AreKept new (a + b)
     datatype_set law tag same t written free e f =
         let P : List Entry → Type 0 = λ bs. AreKept bs (a + b) in
-        let C : List Entry → Type 0 = λ bs. (w : TypeTree) × IsContentBy (known (bindings_of bs)) w (typed (term t)) in
+        let C : List Entry → Type 0 = λ bs. (w : TypeTree) × IsContentBy (known (bindings_of bs)) w (typed t) in
         let R : List Entry → Type 0 = λ bs. Refuses (bindings_of bs) x a_datatype None in
-        subst P (sym e) (datatype_kept es n kept x law tag same t (subst C (sym seen) written) (subst R (sym seen) free) (a + b) (sum (nodes (term t)) f))
+        subst P (sym e) (datatype_kept es n kept x law tag same t (subst C (sym seen) written) (subst R (sym seen) free) (a + b) (sum (nodes t) f))
 
     -- the tag is that of the next datatype
     pub tag_is_next : (tag : ℕ) → tag ≡ lines.datatypes es → tag ≡ datatypes (bindings_of self)

@@ -2,7 +2,7 @@
 use Rattle.std.specs.Prelude.{◌≡◌, ℕ, List, [], ◌∷◌, map}
 use Rattle.nesl_types.specs.declared.bindings.Top as kinds
 use Rattle.nesl_types.specs.declared.bindings.Top.TheVariants as kind
-use Rattle.nesl_types.specs.Term.{Term, int, term}
+use Rattle.nesl_types_bank.specs.Term.{Term, int}
 use Rattle.nesl_values.specs.View.{tree_of}
 use Rattle.nesl_syntax_tree.specs.Views as syntax
 use Rattle.nesl_syntax_tree.specs.Trees.{Tree}
@@ -30,10 +30,10 @@ Fits _ _ = ⊥
 
 -- what they mean where they fit; anything where they don't
 abbrev pub meaning_of : kinds.Top → Payload → Meaning
-meaning_of (kind.Variable t) (payload.Variable v) = variable (term t) (tree_of v)
+meaning_of (kind.Variable t) (payload.Variable v) = variable t (tree_of v)
 meaning_of (kind.Function s) (payload.Function p e) =
     function (function_type s) (syntax.pattern_tree p) (syntax.tree_of e)
-meaning_of (kind.Datatype tag t) payload.Datatype = datatype tag (term t)
+meaning_of (kind.Datatype tag t) payload.Datatype = datatype tag t
 meaning_of _ _ = datatype 0 int
 
 abbrev pub binding_of : Entry → Binding
@@ -60,6 +60,6 @@ IsComputed bs t v =
 
 -- what a name is to be, as the code says it
 abbrev pub kind_of : Kind → redefinition.Kind
-kind_of (Kind.Variable t) = a_variable (term t.now)
+kind_of (Kind.Variable t) = a_variable t.now
 kind_of (Kind.Function s) = a_function (function_type s.now)
 kind_of Kind.Datatype = a_datatype

@@ -1,7 +1,7 @@
 //! How many elements names have.
 
 ghost use Rattle.std.specs.Prelude.{◌≡◌, ◌+◌, ◌<◌, ◌^◌, MatchOption};
-ghost use Rattle.nesl_types.specs.Term.{nodes, term};
+ghost use Rattle.nesl_types_bank.specs.Term.{nodes};
 ghost use Rattle.nesl_session_bindings.specs.Beside.{elements_beside};
 ghost use Rattle.nesl_session_bindings.specs.Meanings.{elements_in};
 ghost use Rattle.nesl_session_bindings.specs.Stored.{AreKept, Fits, bindings_of, meaning_of};
@@ -13,7 +13,8 @@ use nesl_types::{Top, Ty};
 /// What is left of `room` after the elements of what stands there, or `None` where they are more.
 fn room_left(top: &Top, payload: &Payload, room: u64) -> Option<u64>
     requires { Fits top.now payload.now }
-    ensures { MatchOption result (room < elements_in (meaning_of top.now payload.now)) (λ left. left + elements_in (meaning_of top.now payload.now) ≡ room) }
+    ensures { MatchOption result (room < elements_in (meaning_of top.now payload.now))
+        (λ left. left + elements_in (meaning_of top.now payload.now) ≡ room) }
 {
     match payload {
         Payload::Variable(value) => room.checked_sub(value.nodes()),
@@ -28,8 +29,8 @@ fn room_left(top: &Top, payload: &Payload, room: u64) -> Option<u64>
 
 /// How many nodes the type has.
 pub fn nodes_of(ty: &Ty) -> u64
-    requires { nodes (term ty.now) < 2 ^ 64 }
-    ensures { result ≡ nodes (term ty.now) }
+    requires { nodes ty.now < 2 ^ 64 }
+    ensures { result ≡ nodes ty.now }
 {
     match ty.room_left(u64::MAX) {
         Some(left) => u64::MAX - left,

@@ -1,8 +1,9 @@
 //! The top-level names of a session.
 
-ghost use Rattle.std.specs.Prelude.{◌≡◌, ◌<◌, ◌++◌, ◌^◌, ℕ, [], None, Option, IfOk, OnOk, OnErr, codes, length, map, nat_le, slice_get};
+ghost use Rattle.std.specs.Prelude.{◌≡◌, ◌<◌, ◌++◌, ◌^◌, ℕ, [], None, Option, IfOk, OnOk, OnErr, codes, length, map};
+ghost use Rattle.std.specs.Prelude.{nat_le, slice_get};
 ghost use Rattle.std.specs.Option.{option_map};
-ghost use Rattle.nesl_types.specs.Term.{Term, term};
+ghost use Rattle.nesl_types_bank.specs.Term.{Term};
 ghost use Rattle.nesl_values.specs.View.{tree_of as value_tree};
 ghost use Rattle.nesl_syntax_tree.specs.Trees.{PatternTree, SignatureTree, Tree, TypeTree};
 ghost use Rattle.nesl_syntax_tree.specs.Views.{pattern_tree, signature_tree, tree_of, type_tree};
@@ -51,7 +52,7 @@ impl Model for Bindings {
     ghost use Rattle.nesl_types.specs.declared.bindings.Top.{Top};
     ghost use Rattle.nesl_eval_code.specs.declared.env.Payload.{Payload};
     ghost use Rattle.std.specs.Coded.{codes};
-    ghost use Rattle.nesl_types.specs.contracts.types.Ty as ty;
+    ghost use Rattle.nesl_types_bank.specs.contracts.types.Ty as ty;
     ghost use Rattle.nesl_eval_code.specs.contracts.env.Payload as payload;
 
     ghost Value = { List (List ℕ × Top × Payload) };
@@ -116,7 +117,7 @@ impl Bindings {
 
     /// The type of an expression.
     pub fn infer_exp(&self, alloc: Global, exp: &Exp) -> Result<Ty, InferFault>
-        ensures { Answers term (IsTypeBy (known (bindings_of self.now)) (tree_of exp.now)) result }
+        ensures { Answers (λ t. t) (IsTypeBy (known (bindings_of self.now)) (tree_of exp.now)) result }
     {
         inferred_lines_keep_types::<Payload>();
         nesl_infer::infer_exp(alloc, self.env.context(), exp)
@@ -131,7 +132,8 @@ impl Bindings {
         signature: &Option<Signature>,
         body: &Exp,
     ) -> Result<Scheme, InferFault>
-        ensures { Answers function_type (IsFunctionBy (known (bindings_of self.now)) name.now (pattern_tree pattern.now) (option_map signature_tree signature.now) (tree_of body.now)) result }
+        ensures { Answers function_type (IsFunctionBy (known (bindings_of self.now)) name.now (pattern_tree pattern.now)
+            (option_map signature_tree signature.now) (tree_of body.now)) result }
     {
         inferred_lines_keep_types::<Payload>();
         nesl_infer::infer_function(alloc, self.env.context(), name, pattern, signature, body)
@@ -139,7 +141,7 @@ impl Bindings {
 
     /// What the records of a datatype hold, as it is written.
     pub fn infer_datatype(&self, alloc: Global, written: &TypeExp) -> Result<Ty, InferFault>
-        ensures { Answers term (IsContentBy (known (bindings_of self.now)) (type_tree written.now)) result }
+        ensures { Answers (λ t. t) (IsContentBy (known (bindings_of self.now)) (type_tree written.now)) result }
     {
         nesl_infer::infer_datatype(alloc, self.env.context(), written)
     }
@@ -166,7 +168,8 @@ impl Bindings {
 
     /// Whether all names have at most so many elements where the name is a variable with this value.
     pub fn fits_variable<A: Allocator>(&self, name: &[u8], value: &Value<A>, limit: u64) -> bool
-        ensures { (t : Term) → result ≡ nat_le (elements_of (put name.now (variable t (value_tree value.now)) (bindings_of self.now))) limit }
+        ensures { (t : Term) → result ≡ nat_le (elements_of
+            (put name.now (variable t (value_tree value.now)) (bindings_of self.now))) limit }
     {
         match limit.checked_sub(self.elements_beside(name)) {
             Some(room) => value.nodes() <= room,
@@ -174,9 +177,11 @@ impl Bindings {
         }
     }
 
-    /// The same where it is a function with this body.
+    /// Whether all names have at most so many elements where the name is a function with this body.
     pub fn fits_function(&self, name: &[u8], body: &Exp, limit: u64) -> bool
-        ensures { (f : FunctionType) (p : PatternTree) → result ≡ nat_le (elements_of (put name.now (function f p (tree_of body.now)) (bindings_of self.now))) limit }
+        ensures { (f : FunctionType) (p : PatternTree)
+            → result ≡ nat_le (elements_of (put name.now (function f p (tree_of body.now)) (bindings_of self.now)))
+            limit }
     {
         match limit.checked_sub(self.elements_beside(name)) {
             Some(room) => nodes::room_left(body, room).is_some(),
@@ -184,9 +189,10 @@ impl Bindings {
         }
     }
 
-    /// The same where it is a datatype whose records hold this.
+    /// Whether all names have at most so many elements where the name is a datatype whose records hold this.
     pub fn fits_datatype(&self, name: &[u8], content: &Ty, limit: u64) -> bool
-        ensures { (tag : ℕ) → result ≡ nat_le (elements_of (put name.now (datatype tag (term content.now)) (bindings_of self.now))) limit }
+        ensures { (tag : ℕ) → result ≡ nat_le (elements_of
+            (put name.now (datatype tag content.now) (bindings_of self.now))) limit }
     {
         match limit.checked_sub(self.elements_beside(name)) {
             Some(room) => content.room_left(room).is_some(),
@@ -196,14 +202,16 @@ impl Bindings {
 
     /// The bytes of a reply, line end included.
     pub fn reply_text(&self, alloc: Global, reply: &Reply<'_>) -> Result<Vec<u8>, AllocError>
-        ensures { IfOk result (λ text. text.items ≡ told_text (datatypes_of (bindings_of self.now)) (map (λ b. b.name) (bindings_of self.now)) (told reply.now) ++ codes "\n") }
+        ensures { IfOk result (λ text. text.items ≡ told_text (datatypes_of (bindings_of self.now))
+            (map (λ b. b.name) (bindings_of self.now)) (told reply.now) ++ codes "\n") }
     {
         nesl_reply::reply_text(alloc, reply, self.env.context())
     }
 
     /// A law: no expression that has a type is ever stuck.
     pub fn typed_never_stuck(&self)
-        ensures { (e : Tree) (t : Term) → IsTypeBy (known (bindings_of self.now)) e (typed t) → (n : ℕ) → out n (environment (bindings_of self.now)) (outside []) e ≡ stuck → ⊥ }
+        ensures { (e : Tree) (t : Term) → IsTypeBy (known (bindings_of self.now)) e (typed t) → (n : ℕ)
+            → out n (environment (bindings_of self.now)) (outside []) e ≡ stuck → ⊥ }
     {
         inferred_lines_keep_types::<Payload>();
         let _env = &self.env;
@@ -217,10 +225,11 @@ impl Bindings {
         ty: Ty,
         value: Value,
     ) -> Result<(), AllocError>
-        requires computed { IsComputed (bindings_of self.old) (term ty) (value_tree value) }
-        requires free { Refuses (bindings_of self.old) name.now (a_variable (term ty)) None }
-        requires room { elements_of (put name.now (variable (term ty) (value_tree value)) (bindings_of self.old)) < 2 ^ 64 }
-        ensures ok { OnOk result (bindings_of self.new ≡ put name.now (variable (term ty) (value_tree value)) (bindings_of self.old)) }
+        requires computed { IsComputed (bindings_of self.old) ty (value_tree value) }
+        requires free { Refuses (bindings_of self.old) name.now (a_variable ty) None }
+        requires room { elements_of (put name.now (variable ty (value_tree value)) (bindings_of self.old)) < 2 ^ 64 }
+        ensures ok { OnOk result (bindings_of self.new
+            ≡ put name.now (variable ty (value_tree value)) (bindings_of self.old)) }
         ensures err { OnErr result (self.new ≡ self.old) }
     {
         inferred_lines_keep_types::<Payload>();
@@ -241,10 +250,16 @@ impl Bindings {
         pattern: Pattern,
         body: Exp,
     ) -> Result<(), AllocError>
-        requires typed { (g : Option SignatureTree) × IsFunctionBy (known (bindings_of self.old)) name.now (pattern_tree pattern) g (tree_of body) (typed (function_type scheme)) }
+        requires typed { (g : Option SignatureTree) × IsFunctionBy (known (bindings_of self.old)) name.now
+            (pattern_tree pattern) g
+            (tree_of body) (typed (function_type scheme)) }
         requires free { Refuses (bindings_of self.old) name.now (a_function (function_type scheme)) None }
-        requires room { elements_of (put name.now (function (function_type scheme) (pattern_tree pattern) (tree_of body)) (bindings_of self.old)) < 2 ^ 64 }
-        ensures ok { OnOk result (bindings_of self.new ≡ put name.now (function (function_type scheme) (pattern_tree pattern) (tree_of body)) (bindings_of self.old)) }
+        requires room { elements_of (put name.now (function (function_type scheme) (pattern_tree pattern)
+            (tree_of body))
+            (bindings_of self.old)) < 2 ^ 64 }
+        ensures ok { OnOk result (bindings_of self.new
+            ≡ put name.now (function (function_type scheme) (pattern_tree pattern) (tree_of body))
+            (bindings_of self.old)) }
         ensures err { OnErr result (self.new ≡ self.old) }
     {
         inferred_lines_keep_types::<Payload>();
@@ -263,10 +278,13 @@ impl Bindings {
         name: &[u8],
         content: Ty,
     ) -> Result<(), AllocError>
-        requires written { (a : TypeTree) × IsContentBy (known (bindings_of self.old)) a (typed (term content)) }
+        requires written { (a : TypeTree) × IsContentBy (known (bindings_of self.old)) a (typed content) }
         requires free { Refuses (bindings_of self.old) name.now a_datatype None }
-        requires room { elements_of (put name.now (datatype (datatypes (bindings_of self.old)) (term content)) (bindings_of self.old)) < 2 ^ 64 }
-        ensures ok { OnOk result (bindings_of self.new ≡ put name.now (datatype (datatypes (bindings_of self.old)) (term content)) (bindings_of self.old)) }
+        requires room { elements_of (put name.now (datatype (datatypes (bindings_of self.old)) content)
+            (bindings_of self.old))
+            < 2 ^ 64 }
+        ensures ok { OnOk result (bindings_of self.new
+            ≡ put name.now (datatype (datatypes (bindings_of self.old)) content) (bindings_of self.old)) }
         ensures err { OnErr result (self.new ≡ self.old) }
     {
         inferred_lines_keep_types::<Payload>();

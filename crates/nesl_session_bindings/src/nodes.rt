@@ -20,7 +20,8 @@ pub fn nodes(exp: &Exp) -> u64
 /// What is left of `room` after the nodes of the expression, or `None` where they are more.
 #[cycle(rooms)]
 pub fn room_left(exp: &Exp, room: u64) -> Option<u64>
-    ensures { MatchOption result (room < expression_nodes (tree_of exp.now)) (λ left. left + expression_nodes (tree_of exp.now) ≡ room) }
+    ensures { MatchOption result (room < expression_nodes (tree_of exp.now))
+        (λ left. left + expression_nodes (tree_of exp.now) ≡ room) }
 {
     let room = room.checked_sub(1)?;
     match &exp.node {
@@ -84,7 +85,9 @@ pub fn room_left(exp: &Exp, room: u64) -> Option<u64>
 /// What is left of `room` after the nodes of all these expressions, or `None` where they are more.
 #[cycle(rooms)]
 fn room_left_by_all(items: &[Exp], room: u64) -> Option<u64>
-    ensures { MatchOption result (room < nodes_of_all (trees_in items.now)) (λ left. left + nodes_of_all (trees_in items.now) ≡ room) }
+    ensures { MatchOption result (room < nodes_of_all (trees_in items.now))
+        (λ left. left + nodes_of_all (trees_in items.now)
+        ≡ room) }
 {
     let mut left = room;
     for item in items {
@@ -96,7 +99,8 @@ fn room_left_by_all(items: &[Exp], room: u64) -> Option<u64>
 /// What is left of `room` after the nodes of what patterns are bound to, or `None` where they are more.
 #[cycle(rooms)]
 fn room_left_bound(bindings: &[Binding], room: u64) -> Option<u64>
-    ensures { MatchOption result (room < nodes_bound (binders_in bindings.now)) (λ left. left + nodes_bound (binders_in bindings.now) ≡ room) }
+    ensures { MatchOption result (room < nodes_bound (binders_in bindings.now))
+        (λ left. left + nodes_bound (binders_in bindings.now) ≡ room) }
 {
     let mut left = room;
     for binding in bindings {

@@ -20,7 +20,8 @@ use nesl_types::Top;
 
 /// Whether the name would be a variable or a function of another type.
 fn is_other(top: &Top, kind: Kind<'_>) -> bool
-    ensures { (payload : Payload) → Fits top.now payload → (IsTrue result ↔ IsOther (Some (meaning_of top.now payload)) (kind_of kind.entry)) }
+    ensures { (payload : Payload) → Fits top.now payload
+        → (IsTrue result ↔ IsOther (Some (meaning_of top.now payload)) (kind_of kind.entry)) }
 {
     match top {
         Top::Variable(old) => match kind {
@@ -50,7 +51,8 @@ fn payload_refers(name: &[u8], payload: &Payload) -> bool
 
 /// Whether another name stands at the place, a function's whose body refers to this one.
 fn refers_at(env: &Env, place: usize, name: &[u8]) -> bool
-    ensures { result ≡ option_map_or (λ b. not (bytes_eq b.0 name.now) && top_refers name.now (top_of b.1 b.2)) (slice_get env.now place) false }
+    ensures { result ≡ option_map_or (λ b. not (bytes_eq b.0 name.now) && top_refers name.now (top_of b.1 b.2))
+        (slice_get env.now place) false }
 {
     match env.at(place) {
         None => false,

@@ -2,8 +2,7 @@
 use Rattle.std.proofs.Common.{◌≡◌, ℕ, ◌<◌, ◌^◌, List, Bool, true, false, cond, leb, nat_lt, Option, Some, None, Result, Ok, Err, refl, sym, ap, subst, arith}
 use Rattle.std.specs.Prelude.{IfOk}
 use Rattle.std.proofs.lemmas.Bool.{leb-false, leb-true, lt-ltb, le-ltb}
-use Rattle.nesl_types.specs.Term.{term}
-use Rattle.nesl_types.specs.declared.types.Ty.{Ty}
+use Rattle.nesl_types_bank.specs.Term.{Term}
 use Rattle.nesl_types.specs.declared.schemes.Scheme.{Scheme}
 use Rattle.nesl_syntax_tree.specs.Trees.{Tree, PatternTree, SignatureTree, TypeTree}
 use Rattle.nesl_syntax_tree.specs.Trees as trees
@@ -92,11 +91,11 @@ function_finds limits bs x p g e f h s =
     let t = function_type f in
     (typed t, h.0, (None, h.1, few limits (with_names bs s) (replies.function x t.argument t.result t.classes) 0 (record { name = x; meaning = function t p e }) h.2))
 
-pub datatype_finds : (limits : Limits) (bs : List Binding) (x : Name) (a : TypeTree) (t : Ty) (tag : ℕ) → tag ≡ datatypes bs → IsDatatype limits bs x a (Ok t) → (s : State)
-    → FindsLine limits (with_names bs s) (trees.datatype x a) (answered (replies.datatype x (term t)) 0 (Some (record { name = x; meaning = datatype tag (term t) })))
+pub datatype_finds : (limits : Limits) (bs : List Binding) (x : Name) (a : TypeTree) (t : Term) (tag : ℕ) → tag ≡ datatypes bs → IsDatatype limits bs x a (Ok t) → (s : State)
+    → FindsLine limits (with_names bs s) (trees.datatype x a) (answered (replies.datatype x t) 0 (Some (record { name = x; meaning = datatype tag t })))
 datatype_finds limits bs x a t tag e h s =
-    let P : ℕ → Type 0 = λ k. FindsLine limits (with_names bs s) (trees.datatype x a) (answered (replies.datatype x (term t)) 0 (Some (record { name = x; meaning = datatype k (term t) }))) in
-    subst P (sym e) (typed (term t), h.0, (None, h.1, few limits (with_names bs s) (replies.datatype x (term t)) 0 (record { name = x; meaning = datatype (datatypes bs) (term t) }) h.2))
+    let P : ℕ → Type 0 = λ k. FindsLine limits (with_names bs s) (trees.datatype x a) (answered (replies.datatype x t) 0 (Some (record { name = x; meaning = datatype k t }))) in
+    subst P (sym e) (typed t, h.0, (None, h.1, few limits (with_names bs s) (replies.datatype x t) 0 (record { name = x; meaning = datatype (datatypes bs) t }) h.2))
 
 -- what is found where a form was stopped
 pub stopped_finds : {E : Type 0} (bs : List Binding) (K : State → Finding → Type 0) (stopped : Stopped) (r : Result Found E)

@@ -1,7 +1,6 @@
 -- What is found of a form without evaluation, whatever the state but for its names.
 use Rattle.std.specs.Prelude.{◌≡◌, true, List, Option, None, Result, Ok, Err, nat_le}
-use Rattle.nesl_types.specs.Term.{term}
-use Rattle.nesl_types.specs.declared.types.Ty.{Ty}
+use Rattle.nesl_types_bank.specs.Term.{Term}
 use Rattle.nesl_types.specs.declared.schemes.Scheme.{Scheme}
 use Rattle.nesl_syntax_tree.specs.Trees.{Tree, PatternTree, SignatureTree, TypeTree}
 use Rattle.nesl_syntax_tree.specs.Trees as trees
@@ -58,13 +57,13 @@ IsFunction limits bs x p g e (Ok f) =
 IsFunction limits bs x p g e (Err stopped) = Stops bs (λ s. FindsLine limits s (trees.function x p g e)) stopped
 
 -- the same of what the records of a datatype hold
-abbrev pub IsDatatype : Limits → List Binding → Name → TypeTree → Result Ty Stopped → Type 0
+abbrev pub IsDatatype : Limits → List Binding → Name → TypeTree → Result Term Stopped → Type 0
 IsDatatype limits bs x a (Ok t) =
-    IsContentBy (known bs) a (typed (term t)) × Refuses bs x a_datatype None
-    × (true ≡ nat_le (elements_of (put x (datatype (datatypes bs) (term t)) bs)) limits.elements)
+    IsContentBy (known bs) a (typed t) × Refuses bs x a_datatype None
+    × (true ≡ nat_le (elements_of (put x (datatype (datatypes bs) t) bs)) limits.elements)
 IsDatatype limits bs x a (Err stopped) = Stops bs (λ s. FindsLine limits s (trees.datatype x a)) stopped
 
 -- the type of a variable that may be bound, or why it may not
-abbrev pub IsVariable : List Binding → Name → Tree → Result Ty Stopped → Type 0
-IsVariable bs x e (Ok t) = IsTypeBy (known bs) e (typed (term t)) × Refuses bs x (a_variable (term t)) None
+abbrev pub IsVariable : List Binding → Name → Tree → Result Term Stopped → Type 0
+IsVariable bs x e (Ok t) = IsTypeBy (known bs) e (typed t) × Refuses bs x (a_variable t) None
 IsVariable bs x e (Err stopped) = (limits : Limits) → Stops bs (λ s. FindsVariable limits s x e) stopped

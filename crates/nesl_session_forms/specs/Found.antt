@@ -1,7 +1,6 @@
 -- What the code's own types stand for.
 use Rattle.std.specs.Prelude.{◌≡◌, ◌≤◌, ◌<◌, ◌^◌, ℕ, Bool, true, false, List}
 use Rattle.std.specs.Prelude.{Option, Some, None}
-use Rattle.nesl_types.specs.Term.{term}
 use Rattle.nesl_values.specs.View as values
 use Rattle.nesl_syntax_tree.specs.Trees.{SignatureTree, TypeTree}
 use Rattle.nesl_syntax_tree.specs.Views.{line_of, tree_of, pattern_tree}
@@ -36,9 +35,9 @@ seen_sense seen.TooHigh = too_high
 seen_sense (seen.Form f) = form (line_of f)
 
 abbrev pub meaning_of : Meaning → meanings.Meaning
-meaning_of (code.Variable t v cost) = meanings.variable (term t) (values.tree_of v)
+meaning_of (code.Variable t v cost) = meanings.variable t (values.tree_of v)
 meaning_of (code.Function f p e) = meanings.function (function_type f) (pattern_tree p) (tree_of e)
-meaning_of (code.Datatype tag t) = meanings.datatype tag (term t)
+meaning_of (code.Datatype tag t) = meanings.datatype tag t
 
 -- the work that was done for it
 abbrev pub work_of : Meaning → ℕ
@@ -48,9 +47,9 @@ work_of (code.Datatype tag t) = 0
 
 -- what is told of a name that is to be this
 abbrev pub told_as : Name → Meaning → Told
-told_as x (code.Variable t v cost) = replies.bound x (values.tree_of v) (term t) cost
-told_as x (code.Function f p e) = replies.function x (term f.argument) (term f.result) f.classes.items
-told_as x (code.Datatype tag t) = replies.datatype x (term t)
+told_as x (code.Variable t v cost) = replies.bound x (values.tree_of v) t cost
+told_as x (code.Function f p e) = replies.function x f.argument f.result f.classes.items
+told_as x (code.Datatype tag t) = replies.datatype x t
 
 abbrev pub binding_of : Definition → Binding
 binding_of d = record { name = d.name.items; meaning = meaning_of d.meaning }
@@ -59,7 +58,7 @@ abbrev pub told_of : Shown → Told
 told_of shown.Blank = replies.blank
 told_of shown.Names = replies.names
 told_of (shown.Budget work elements lines bytes) = replies.budget work elements lines bytes
-told_of (shown.Type t) = replies.shown (term t)
+told_of (shown.Type t) = replies.shown t
 
 abbrev pub finding_of : Found → Finding
 finding_of (found.Unread fault) = unread fault
@@ -101,15 +100,15 @@ HasRoom bs x m = elements_of (put x m bs) < 2 ^ 64
 -- the name can be this: it is well typed, nothing stands against it, and there is room
 abbrev pub CanMean : List Binding → Name → Meaning → Type 0
 CanMean bs x (code.Variable t v cost) =
-    IsComputed bs (term t) (values.tree_of v) × Refuses bs x (a_variable (term t)) None
-    × HasRoom bs x (meanings.variable (term t) (values.tree_of v))
+    IsComputed bs t (values.tree_of v) × Refuses bs x (a_variable t) None
+    × HasRoom bs x (meanings.variable t (values.tree_of v))
 CanMean bs x (code.Function f p e) =
     ((g : Option SignatureTree) × IsFunctionBy (known bs) x (pattern_tree p) g (tree_of e) (typed (function_type f)))
     × Refuses bs x (a_function (function_type f)) None
     × HasRoom bs x (meanings.function (function_type f) (pattern_tree p) (tree_of e))
 CanMean bs x (code.Datatype tag t) =
-    (tag ≡ datatypes bs) × ((a : TypeTree) × IsContentBy (known bs) a (typed (term t)))
-    × Refuses bs x a_datatype None × HasRoom bs x (meanings.datatype (datatypes bs) (term t))
+    (tag ≡ datatypes bs) × ((a : TypeTree) × IsContentBy (known bs) a (typed t))
+    × Refuses bs x a_datatype None × HasRoom bs x (meanings.datatype (datatypes bs) t)
 
 abbrev pub CanBe : List Binding → Definition → Type 0
 CanBe bs d = CanMean bs d.name.items d.meaning

@@ -20,7 +20,8 @@ use std::alloc::{AllocError, Global};
 
 /// What is found where the type of an expression is asked for, in every state with these names.
 pub fn find_type(bindings: &Bindings, alloc: Global, exp: Exp) -> Result<Finding, AllocError>
-    ensures found { IfOk result (λ f. (limits : Limits) (s : State) → FindsLine limits (with_names (bindings_of bindings.now) s) (trees.show_type (tree_of exp)) (finding_of f)) }
+    ensures found { IfOk result (λ f. (limits : Limits) (s : State)
+        → FindsLine limits (with_names (bindings_of bindings.now) s) (trees.show_type (tree_of exp)) (finding_of f)) }
     ensures charges { IfOk result (λ f. (s : State) → CanCharge (with_names (bindings_of bindings.now) s) f) }
 {
     let known = bindings.infer_exp(alloc, &exp);
@@ -42,7 +43,8 @@ pub fn find_function(
     body: Exp,
 ) -> Result<Finding, AllocError>
     ensures found { IfOk result (λ f. (s : State) → FindsLine limits (with_names (bindings_of bindings.now) s)
-        (trees.function name.items (pattern_tree parameter) (option_map signature_tree signature) (tree_of body)) (finding_of f)) }
+        (trees.function name.items (pattern_tree parameter) (option_map signature_tree signature) (tree_of body))
+        (finding_of f)) }
     ensures charges { IfOk result (λ f. (s : State) → CanCharge (with_names (bindings_of bindings.now) s) f) }
 {
     let known = function_scheme(
@@ -78,7 +80,8 @@ fn function_scheme(
     signature: &Option<Signature>,
     body: &Exp,
 ) -> Result<Scheme, Stopped>
-    ensures { IsFunction limits (bindings_of bindings.now) name.now (pattern_tree parameter.now) (option_map signature_tree signature.now) (tree_of body.now) result }
+    ensures { IsFunction limits (bindings_of bindings.now) name.now (pattern_tree parameter.now)
+        (option_map signature_tree signature.now) (tree_of body.now) result }
 {
     let scheme = match bindings.infer_function(alloc, name, parameter, signature, body) {
         Ok(scheme) => scheme,

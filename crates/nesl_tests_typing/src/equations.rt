@@ -5,7 +5,7 @@ ghost use Rattle.nesl_unify.specs.Systems.{IsSystem};
 
 use crate::made::{class_named, seq_of, type_of, variable};
 use crate::rows::{Subject, all_hold};
-use nesl_types::{Class, Ty};
+use nesl_types::{Class, Kind, Ty};
 use nesl_unify::narrow::{Member, members_are_below};
 use nesl_unify::solve::{Equation, Solution, are_below, is_below, solve};
 use nesl_unify::system::System;
@@ -19,7 +19,7 @@ fn push_equation(
 ) -> Result<(), AllocError> {
     if let Some((left, right)) = words.split_once(" = ") {
         let right = type_of(alloc, right)?;
-        let left = Ty::Var(variable(left));
+        let left = Ty::variable(alloc, variable(left))?;
         equations.push(Equation { left, right })?;
     }
     Ok(())
@@ -64,10 +64,10 @@ fn first_class(solution: &Solution) -> &'static str {
 /// Writes a type where it is a variable, and else the number of its nodes.
 fn push_variable_or_size(text: &mut String, ty: Result<Ty, AllocError>) -> Result<(), AllocError> {
     let ty = ty?;
-    match &ty {
-        Ty::Var(variable) => write!(text, " v{variable}"),
-        other => {
-            let left = other.room_left(5000).unwrap_or(0);
+    match ty.kind() {
+        Kind::Var(variable) => write!(text, " v{variable}"),
+        _ => {
+            let left = ty.room_left(5000).unwrap_or(0);
             write!(text, " {}", 5000u64.saturating_sub(left))
         }
     }
@@ -82,8 +82,8 @@ fn push_solution(
 ) -> Result<(), AllocError> {
     text.push_str(first_class(solution))?;
     for word in asked.split_whitespace() {
-        let ty = solution.apply(alloc, &Ty::Var(variable(word)));
-        push_variable_or_size(text, ty)?;
+        let asked = Ty::variable(alloc, variable(word))?;
+        push_variable_or_size(text, solution.apply(alloc, &asked))?;
     }
     Ok(())
 }
@@ -221,7 +221,7 @@ fn other_types_are_not_equal(rt: HostRuntime) {
 
 /// Whether this type stands for the variable.
 fn stands_for(alloc: Global, solution: &Solution, variable: u64, wanted: &Ty) -> bool {
-    match solution.apply(alloc, &Ty::Var(variable)) {
+    match solution.variable(alloc, variable) {
         Ok(ty) => ty.same(wanted),
         Err(_) => false,
     }
@@ -251,7 +251,7 @@ fn equate_instance(
     ensures { OnOk result (IsSystem system.new) }
 {
     if variable < system.len() && is_below(0, ty) {
-        system.equate_instance(alloc, variable, &[], ty, 0)
+        system.equate_instance(alloc, variable, &[], &ty.whole())
     } else {
         Err(AllocError)
     }
@@ -264,8 +264,8 @@ fn add_sequences(alloc: Global, system: &mut System, ty: &Ty) -> Result<u64, All
 {
     let list = system.fresh(Class::Any)?;
     let item = system.fresh(Class::Number)?;
-    let left = Ty::Var(list);
-    let right = seq_of(alloc, Ty::Var(item))?;
+    let left = Ty::variable(alloc, list)?;
+    let right = seq_of(alloc, Ty::variable(alloc, item)?)?;
     equate(system, &Equation { left, right })?;
     equate_instance(alloc, system, list, ty)?;
     Ok(list)
@@ -274,7 +274,7 @@ fn add_sequences(alloc: Global, system: &mut System, ty: &Ty) -> Result<u64, All
 #[test]
 fn systems_are_solved(rt: HostRuntime) {
     let mut system = System::new(rt.alloc());
-    let numbers = seq_of(rt.alloc(), Ty::Int).expect(&rt, "memory");
+    let numbers = type_of(rt.alloc(), "seq int").expect(&rt, "memory");
     let list = add_sequences(rt.alloc(), &mut system, &numbers).expect(&rt, "memory");
     assert!(rt; system.len() == 2);
     let solution = system.solve(rt.alloc()).expect(&rt, "a solution");

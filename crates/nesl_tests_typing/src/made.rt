@@ -24,38 +24,37 @@ pub fn class_named(word: &str) -> Class {
 }
 
 pub fn seq_of(alloc: Global, item: Ty) -> Result<Ty, AllocError> {
-    Ok(Ty::SeqOf(Box::new(alloc, item)?))
+    Ty::seq_of(alloc, &item)
 }
 
 fn both(alloc: Global, first: Ty, second: Ty) -> Result<Ty, AllocError> {
-    let first = Box::new(alloc, first)?;
-    Ok(Ty::Both(first, Box::new(alloc, second)?))
+    Ty::both(alloc, &first, &second)
 }
 
-fn next(types: &mut Vec<Ty>) -> Ty {
-    types.pop().unwrap_or(Ty::Int)
+fn next(types: &mut Vec<Ty>) -> Result<Ty, AllocError> {
+    types.pop().ok_or(AllocError)
 }
 
 /// A datatype by its tag, as `d0`, or a variable.
-fn leaf(word: &str) -> Ty {
+fn leaf(alloc: Global, word: &str) -> Result<Ty, AllocError> {
     match word.strip_prefix('d') {
-        Some(tag) => Ty::Named(count(tag)),
-        None => Ty::Var(variable(word)),
+        Some(tag) => Ty::named(alloc, count(tag)),
+        None => Ty::variable(alloc, variable(word)),
     }
 }
 
 /// The type that begins with the word, where those behind it are read already, the nearest last.
 fn beginning_with(alloc: Global, word: &str, types: &mut Vec<Ty>) -> Result<Ty, AllocError> {
     match word {
-        "int" => Ok(Ty::Int),
-        "bool" => Ok(Ty::Bool),
-        "char" => Ok(Ty::Char),
-        "seq" => seq_of(alloc, next(types)),
+        "int" => Ty::int(alloc),
+        "bool" => Ty::boolean(alloc),
+        "char" => Ty::character(alloc),
+        "seq" => seq_of(alloc, next(types)?),
         "both" => {
-            let first = next(types);
-            both(alloc, first, next(types))
+            let first = next(types)?;
+            both(alloc, first, next(types)?)
         }
-        _ => Ok(leaf(word)),
+        _ => leaf(alloc, word),
     }
 }
 
@@ -65,8 +64,8 @@ fn push_type(alloc: Global, word: &str, types: &mut Vec<Ty>) -> Result<(), Alloc
     Ok(())
 }
 
-/// The types of words, the last one first. What `seq` and `both` are made of stands behind them, and an arrow may stand between
-/// two types: `both int seq char -> v0` are `(int, [char])` and a variable.
+/// The types of words, the last one first. What `seq` and `both` are made of stands behind them, and an arrow may stand
+/// between two types: `both int seq char -> v0` are `(int, [char])` and a variable.
 fn types_of(alloc: Global, words: &str) -> Result<Vec<Ty>, AllocError> {
     let mut types = Vec::new(alloc);
     for word in words.rsplit(' ') {
@@ -80,7 +79,7 @@ fn types_of(alloc: Global, words: &str) -> Result<Vec<Ty>, AllocError> {
 /// The first type of words.
 pub fn type_of(alloc: Global, words: &str) -> Result<Ty, AllocError> {
     let mut types = types_of(alloc, words)?;
-    Ok(next(&mut types))
+    next(&mut types)
 }
 
 fn classes_of(alloc: Global, words: &str) -> Result<Vec<Class>, AllocError> {

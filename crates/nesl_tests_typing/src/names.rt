@@ -81,11 +81,11 @@ let a = 1; a = a in a; => -
 {a : (a, b) in [(1, c)]}; => 20..21"#;
 
 fn add_names(alloc: Global, context: &mut Context<u8>) -> Result<(), AllocError> {
-    context.set(alloc, b"x", Top::Variable(Ty::Int), 0)?;
-    let scheme = Scheme::new(alloc, &Ty::Int, &Ty::Int, &[])?;
+    context.set(alloc, b"x", Top::Variable(Ty::int(alloc)?), 0)?;
+    let scheme = Scheme::new(alloc, &Ty::int(alloc)?, &Ty::int(alloc)?, &[])?;
     context.set(alloc, b"g", Top::Function(scheme), 0)?;
-    context.set(alloc, b"p", Top::Datatype(2, Ty::Int), 0)?;
-    context.set(alloc, b"it", Top::Variable(Ty::Int), 0)
+    context.set(alloc, b"p", Top::Datatype(2, Ty::int(alloc)?), 0)?;
+    context.set(alloc, b"it", Top::Variable(Ty::int(alloc)?), 0)
 }
 
 /// The first unknown name of what the line says.

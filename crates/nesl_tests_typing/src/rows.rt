@@ -1,11 +1,11 @@
-//! Rows of what is asked and what is wanted, `ASKED => WANTED`. What is asked may have parts that are written many times:
-//! `a@3~b$@c` is `ab0b1b2c`.
+//! Rows of what is asked and what is wanted, `ASKED => WANTED`. What is asked may have parts that are written many
+//! times: `a@3~b$@c` is `ab0b1b2c`.
 
 use std::alloc::{AllocError, Global};
 use std::process::Abort;
 
-/// The number that a letter stands for in one of so many rounds, numbered from 0: `$` for that of the round and `&` for the
-/// next one, `!` and `?` for the same of the round that is as far from the end.
+/// The number that a letter stands for in one of so many rounds, numbered from 0: `$` for that of the round and `&` for
+/// the next one, `!` and `?` for the same of the round that is as far from the end.
 fn number_of(letter: char, round: u64, count: u64) -> Option<u64> {
     match letter {
         '$' => Some(round),

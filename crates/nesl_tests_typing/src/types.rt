@@ -29,7 +29,7 @@ fn nodes_are_counted(rt: HostRuntime) {
 
 /// Adds a datatype `point` whose tag is 0.
 fn add_point(alloc: Global, context: &mut Context<u8>) -> Result<(), AllocError> {
-    context.set(alloc, b"point", Top::Datatype(0, Ty::Int), 3)
+    context.set(alloc, b"point", Top::Datatype(0, Ty::int(alloc)?), 3)
 }
 
 /// Writes a type, or the type of functions where the words have an arrow. The datatype `d0` is `point`.
@@ -83,9 +83,9 @@ fn schemes_are_written(rt: HostRuntime) {
 
 /// Adds a variable, a datatype, and the variable again, which is a datatype now.
 fn add_two_datatypes(alloc: Global, context: &mut Context<u8>) -> Result<(), AllocError> {
-    context.set(alloc, b"x", Top::Variable(Ty::Int), 5)?;
-    context.set(alloc, b"point", Top::Datatype(0, Ty::Int), 6)?;
-    context.set(alloc, b"x", Top::Datatype(1, Ty::Bool), 7)
+    context.set(alloc, b"x", Top::Variable(Ty::int(alloc)?), 5)?;
+    context.set(alloc, b"point", Top::Datatype(0, Ty::int(alloc)?), 6)?;
+    context.set(alloc, b"x", Top::Datatype(1, Ty::boolean(alloc)?), 7)
 }
 
 /// The payload of the datatype with the tag; 0 where there is none.
@@ -112,7 +112,7 @@ fn are_named(alloc: Global, context: &Context<u8>) -> Result<bool, AllocError> {
 fn are_found(alloc: Global, context: &mut Context<u8>) -> Result<bool, AllocError> {
     add_two_datatypes(alloc, context)?;
     let are_both = are_tagged(context, 6, 7) && are_named(alloc, context)?;
-    context.set(alloc, b"point", Top::Variable(Ty::Int), 8)?;
+    context.set(alloc, b"point", Top::Variable(Ty::int(alloc)?), 8)?;
     Ok(are_both && are_tagged(context, 0, 7))
 }
 
@@ -125,8 +125,8 @@ fn datatypes_are_found_by_their_tags(rt: HostRuntime) {
 /// Adds a datatype and a variable, and makes the datatype a variable.
 fn add_two_variables(alloc: Global, context: &mut Context<u8>) -> Result<(), AllocError> {
     add_point(alloc, context)?;
-    context.set(alloc, b"x", Top::Variable(Ty::Int), 1)?;
-    context.set(alloc, b"point", Top::Variable(Ty::Bool), 9)
+    context.set(alloc, b"x", Top::Variable(Ty::int(alloc)?), 1)?;
+    context.set(alloc, b"point", Top::Variable(Ty::boolean(alloc)?), 9)
 }
 
 /// The payload of the name; 0 where it is none.

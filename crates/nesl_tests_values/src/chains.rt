@@ -139,7 +139,8 @@ fn of_records(alloc: Global) -> Result<Value, AllocError> {
 fn its_text(rt: HostRuntime) -> Result<(), Fail> {
     let value = of_records(rt.alloc())?;
     let context = session(rt.alloc())?;
-    let text = value_text(rt.alloc(), &value, &Ty::Int, &context)?;
+    let int = Ty::int(rt.alloc())?;
+    let text = value_text(rt.alloc(), &value, &int, &context)?;
     assert!(rt; text.len() == 2_000_001);
     Ok(())
 }

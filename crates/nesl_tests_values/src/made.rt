@@ -6,7 +6,7 @@ use nesl_values_builder::SequenceBuilder;
 use std::alloc::{AllocError, Global};
 
 pub fn seq_of(alloc: Global, item: Result<Ty, AllocError>) -> Result<Ty, AllocError> {
-    Ok(Ty::SeqOf(Box::new(alloc, item?)?))
+    Ty::seq_of(alloc, &item?)
 }
 
 pub fn both(
@@ -14,12 +14,12 @@ pub fn both(
     left: Result<Ty, AllocError>,
     right: Result<Ty, AllocError>,
 ) -> Result<Ty, AllocError> {
-    let left = Box::new(alloc, left?)?;
-    Ok(Ty::Both(left, Box::new(alloc, right?)?))
+    let (left, right) = both_made(left, right)?;
+    Ty::both(alloc, &left, &right)
 }
 
 pub fn two_numbers(alloc: Global) -> Result<Ty, AllocError> {
-    both(alloc, Ok(Ty::Int), Ok(Ty::Int))
+    both(alloc, Ty::int(alloc), Ty::int(alloc))
 }
 
 pub fn text(alloc: Global, bytes: &[u8]) -> Result<Value, AllocError> {
@@ -79,16 +79,16 @@ pub fn tagged(
 /// A session with the datatypes `point` of two numbers, `r` of a pair and a number, `q` of a list of points.
 pub fn session(alloc: Global) -> Result<Context<u8>, AllocError> {
     let mut context = Context::new(alloc);
-    context.set(alloc, b"x", Top::Variable(Ty::Int), 0)?;
+    context.set(alloc, b"x", Top::Variable(Ty::int(alloc)?), 0)?;
     add_datatypes(alloc, &mut context)?;
     Ok(context)
 }
 
 fn add_datatypes(alloc: Global, context: &mut Context<u8>) -> Result<(), AllocError> {
     context.set(alloc, b"point", Top::Datatype(0, two_numbers(alloc)?), 0)?;
-    let r = both(alloc, two_numbers(alloc), Ok(Ty::Int))?;
+    let r = both(alloc, two_numbers(alloc), Ty::int(alloc))?;
     context.set(alloc, b"r", Top::Datatype(1, r), 0)?;
-    let q = seq_of(alloc, Ok(Ty::Named(0)))?;
+    let q = seq_of(alloc, Ty::named(alloc, 0))?;
     context.set(alloc, b"q", Top::Datatype(2, q), 0)?;
     Ok(())
 }

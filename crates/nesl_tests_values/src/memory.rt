@@ -88,7 +88,7 @@ fn push_numbers(builder: &mut SequenceBuilder) -> Result<(), AllocError> {
     Ok(())
 }
 
-// The same of a copy of the item, of characters, and of the item itself.
+// Pushes a copy of the item, characters, and the item itself, each time once more where that is refused.
 fn push_others(builder: &mut SequenceBuilder, item: &Value) -> Result<(), AllocError> {
     if builder.push_copy(Element::Node(item)).is_err() {
         builder.push_copy(Element::Node(item))?;

@@ -10,11 +10,12 @@ fn put_variable(page: &mut Page) -> Result<(), AllocError> {
     let alloc = page.alloc;
     let point = tagged(alloc, 0, numbers(alloc, 3, 4))?;
     let cost = Cost { work: 4, depth: 4 };
-    page.reply(Reply::Bound(b"it", &point, &Ty::Named(0), cost))
+    let ty = Ty::named(alloc, 0)?;
+    page.reply(Reply::Bound(b"it", &point, &ty, cost))
 }
 
 fn two_variables(alloc: Global) -> Result<Ty, AllocError> {
-    both(alloc, Ok(Ty::Var(0)), Ok(Ty::Var(1)))
+    both(alloc, Ty::variable(alloc, 0), Ty::variable(alloc, 1))
 }
 
 fn put_datatype(page: &mut Page) -> Result<(), AllocError> {
@@ -49,7 +50,8 @@ fn put_others(page: &mut Page) -> Result<(), AllocError> {
     );
     page.reply(budget)?;
     page.reply(Reply::Names)?;
-    page.reply(Reply::Shown(&Ty::Int))?;
+    let int = Ty::int(page.alloc)?;
+    page.reply(Reply::Shown(&int))?;
     page.reply(Reply::Blank)?;
     page.reply(Reply::More)?;
     page.reply(Reply::Cleared(12))

@@ -8,16 +8,16 @@ use std::alloc::{AllocError, Global};
 use std::test::Fail;
 
 fn put_leaves(page: &mut Page) -> Result<(), AllocError> {
-    page.value(Ok(Value::Char(10)), Ok(Ty::Char))?;
-    page.value(Ok(Value::Char(126)), Ok(Ty::Char))?;
-    page.value(Ok(Value::Int(i64::MIN)), Ok(Ty::Int))?;
-    page.value(Ok(Value::Bool(false)), Ok(Ty::Bool))
+    page.value(Ok(Value::Char(10)), Ty::character(page.alloc))?;
+    page.value(Ok(Value::Char(126)), Ty::character(page.alloc))?;
+    page.value(Ok(Value::Int(i64::MIN)), Ty::int(page.alloc))?;
+    page.value(Ok(Value::Bool(false)), Ty::boolean(page.alloc))
 }
 
 // Adds the text of these characters.
 fn put_text(page: &mut Page, bytes: &[u8]) -> Result<(), AllocError> {
     let alloc = page.alloc;
-    page.value(text(alloc, bytes), seq_of(alloc, Ok(Ty::Char)))
+    page.value(text(alloc, bytes), seq_of(alloc, Ty::character(alloc)))
 }
 
 fn put_texts(page: &mut Page) -> Result<(), AllocError> {
@@ -28,8 +28,8 @@ fn put_texts(page: &mut Page) -> Result<(), AllocError> {
 
 fn put_no_element(page: &mut Page) -> Result<(), AllocError> {
     let alloc = page.alloc;
-    page.value(Value::empty(alloc), seq_of(alloc, Ok(Ty::Char)))?;
-    page.value(Value::empty(alloc), seq_of(alloc, Ok(Ty::Int)))
+    page.value(Value::empty(alloc), seq_of(alloc, Ty::character(alloc)))?;
+    page.value(Value::empty(alloc), seq_of(alloc, Ty::int(alloc)))
 }
 
 // Adds the text of the sequence of the two, whose type this is.
@@ -45,16 +45,21 @@ fn put_two(
 
 fn put_sequences(page: &mut Page) -> Result<(), AllocError> {
     let alloc = page.alloc;
-    put_two(page, Ok(Value::Int(1)), Ok(Value::Int(-2)), Ok(Ty::Int))?;
+    put_two(
+        page,
+        Ok(Value::Int(1)),
+        Ok(Value::Int(-2)),
+        Ty::int(page.alloc),
+    )?;
     put_two(
         page,
         Ok(Value::Bool(true)),
         Ok(Value::Bool(false)),
-        Ok(Ty::Bool),
+        Ty::boolean(page.alloc),
     )?;
-    let item = seq_of(alloc, Ok(Ty::Char));
+    let item = seq_of(alloc, Ty::character(alloc));
     put_two(page, text(alloc, b"a"), Value::empty(alloc), item)?;
-    let item = seq_of(alloc, Ok(Ty::Int));
+    let item = seq_of(alloc, Ty::int(alloc));
     put_two(
         page,
         Value::empty(alloc),
@@ -66,9 +71,9 @@ fn put_sequences(page: &mut Page) -> Result<(), AllocError> {
 fn put_pairs(page: &mut Page) -> Result<(), AllocError> {
     let alloc = page.alloc;
     let value = pair(alloc, numbers(alloc, 1, 2), Ok(Value::Int(3)));
-    page.value(value, both(alloc, two_numbers(alloc), Ok(Ty::Int)))?;
+    page.value(value, both(alloc, two_numbers(alloc), Ty::int(alloc)))?;
     let value = pair(alloc, Ok(Value::Int(1)), numbers(alloc, 2, 3));
-    page.value(value, both(alloc, Ok(Ty::Int), two_numbers(alloc)))
+    page.value(value, both(alloc, Ty::int(alloc), two_numbers(alloc)))
 }
 
 // Adds the text of a record that holds this.
@@ -77,7 +82,7 @@ fn put_record(
     tag: u64,
     inner: Result<Value, AllocError>,
 ) -> Result<(), AllocError> {
-    page.value(tagged(page.alloc, tag, inner), Ok(Ty::Named(tag)))
+    page.value(tagged(page.alloc, tag, inner), Ty::named(page.alloc, tag))
 }
 
 fn put_records(page: &mut Page) -> Result<(), AllocError> {

@@ -1,7 +1,6 @@
-pub mod Nodes
-pub mod Substitutions
 pub mod Members
 pub mod Bound
 pub mod Written
-pub mod Numbers
 pub mod Places
+pub mod Begun
+pub mod Numbered

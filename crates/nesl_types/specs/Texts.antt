@@ -7,7 +7,7 @@ use Rattle.nesl_types.specs.declared.classes.Class.TheVariants.{Any, Ordinal, Nu
 use Rattle.nesl_types.specs.declared.bindings.Top.{Top}
 use Rattle.nesl_types.specs.declared.schemes.Scheme.{Scheme}
 use Rattle.nesl_types.specs.Names.{datatype_at}
-use Rattle.nesl_types.specs.Term.{Term, int, bool, char, variable, seq_of, both, named, term}
+use Rattle.nesl_types_bank.specs.Term.{Term, int, bool, char, variable, seq_of, both, named}
 
 -- the variables are a to z, then a1 to z1, a2 and so on
 abbrev pub variable_text : ℕ → List ℕ
@@ -52,4 +52,4 @@ function_text names t u classes =
     type_text names true t ++ codes " -> " ++ type_text names true u ++ members_text (member_texts 0 classes)
 
 abbrev pub scheme_text : (ℕ → List ℕ) → Scheme → List ℕ
-scheme_text names s = function_text names (term s.argument) (term s.result) s.classes.items
+scheme_text names s = function_text names s.argument s.result s.classes.items

@@ -1,8 +1,9 @@
 //! What each top-level name is.
 
+use crate::kept::{Kept, Marks};
 use crate::schemes::Scheme;
-use crate::types::Ty;
 use indexmap::IndexMap;
+use nesl_types_bank::Ty;
 use std::alloc::{AllocError, Global};
 use std::marker::Model;
 
@@ -21,6 +22,8 @@ pub enum Top {
 struct Entry<P> {
     top: Top,
     payload: P,
+    /// The numbers under which its types are kept.
+    marks: Marks,
 }
 
 /// What each top-level name is, each with a payload, in order of first definition.
@@ -28,13 +31,19 @@ pub struct Context<P> {
     bindings: IndexMap<Vec<u8>, Entry<P>>,
     /// The place of each datatype, by its tag. After a name was made something else, a place may be too small.
     places: Vec<usize>,
+    /// The types of the names, each once.
+    kept: Kept,
 }
 
 // By hand, so that no crate above has to prove how the parts are dropped.
 impl<P: Drop> Drop for Context<P> {
     fn drop(self) {
-        let Context { bindings, places } = self;
-        drop((bindings, places));
+        let Context {
+            bindings,
+            places,
+            kept,
+        } = self;
+        drop((bindings, places, kept));
     }
 }
 
@@ -42,7 +51,7 @@ impl<P> Model for Context<P> {
     ghost use Rattle.std.specs.Prelude.{ℕ, List, map};
     ghost use Rattle.nesl_types.specs.declared.bindings.Top.{Top};
     ghost use Rattle.std.specs.Coded.{codes};
-    ghost use Rattle.nesl_types.specs.contracts.types.Ty as ty;
+    ghost use Rattle.nesl_types_bank.specs.contracts.types.Ty as ty;
 
     ghost Value = { List (List ℕ × Top × P) };
 
@@ -52,10 +61,11 @@ impl<P> Model for Context<P> {
 
     ghost view = { λ c. map (λ e. (e.0.items, e.1.top, e.1.payload)) c.bindings.entries };
 
-    ghost invariant = { λ c. AreReached (map (λ e. (e.0.items, e.1.top, e.1.payload)) c.bindings.entries) c.places.items };
+    ghost invariant = { λ c. AreReached (map (λ e. (e.0.items, e.1.top, e.1.payload)) c.bindings.entries)
+        c.places.items };
 }
 
-ghost use Rattle.std.specs.Prelude.{◌≡◌, ◌≢◌, ◌≤◌, ◌<◌, ℕ, Some, false, map, slice_index, vec_len, vec_capacity};
+ghost use Rattle.std.specs.Prelude.{◌≡◌, ◌≢◌, ◌≤◌, ◌<◌, ℕ, Some, false, map, slice_index, vec_len, vec_capacity, IfOk};
 ghost use Rattle.nesl_types.specs.Names.{AreReached, is_datatype, is_datatype_at, datatype_place};
 
 // Whether the entry at a place is the datatype with the tag.
@@ -101,7 +111,8 @@ fn note_place<P: Drop>(
     tag: Option<u64>,
 )
     requires room { vec_len places.old < vec_capacity places.old }
-    requires others { (other : ℕ) → tag ≢ Some other → slice_index places.old.items other ≤ datatype_place (map (λ e. (e.0.items, e.1.top, e.1.payload)) bindings.now.entries) other }
+    requires others { (other : ℕ) → tag ≢ Some other → slice_index places.old.items other
+        ≤ datatype_place (map (λ e. (e.0.items, e.1.top, e.1.payload)) bindings.now.entries) other }
     ensures { AreReached (map (λ e. (e.0.items, e.1.top, e.1.payload)) bindings.now.entries) places.new.items }
 {
     if let Some(tag) = tag {
@@ -112,6 +123,34 @@ fn note_place<P: Drop>(
         } else if number == places.len() {
             places.push_reserved(place);
         }
+    }
+}
+
+// What shares the parts of types that are kept, and the numbers under which its own types are.
+fn shared_top(alloc: Global, kept: &mut Kept, top: Top) -> Result<(Top, Marks), AllocError>
+    ensures { IfOk result (λ r. r.0 ≡ top) }
+{
+    match top {
+        Top::Variable(ty) => {
+            let (ty, mark) = kept.share(alloc, ty)?;
+            Ok((Top::Variable(ty), Marks::one(mark)))
+        }
+        Top::Function(scheme) => {
+            let (scheme, marks) = scheme.shared(alloc, kept)?;
+            Ok((Top::Function(scheme), marks))
+        }
+        Top::Datatype(tag, ty) => {
+            let (ty, mark) = kept.share(alloc, ty)?;
+            Ok((Top::Datatype(tag, ty), Marks::one(mark)))
+        }
+    }
+}
+
+// The numbers under which the types of an entry are kept.
+fn marks_of<P: Drop>(entry: Option<Entry<P>>) -> Marks {
+    match entry {
+        Some(entry) => entry.marks,
+        None => Marks::one(None),
     }
 }
 
@@ -127,6 +166,7 @@ impl<P: Drop> Context<P> {
         Context {
             bindings: IndexMap::new(alloc),
             places: Vec::new(alloc),
+            kept: Kept::new(alloc),
         }
     }
 
@@ -158,7 +198,8 @@ impl<P: Drop> Context<P> {
         self.at(place)
     }
 
-    /// Makes the name what is given: in its place where it has one, else after all others.
+    /// Makes the name what is given: in its place where it has one, else after all others. A type that is equal to one
+    /// of another name shares its parts.
     pub fn set(
         &mut self,
         alloc: Global,
@@ -170,9 +211,18 @@ impl<P: Drop> Context<P> {
         ensures err { OnErr result (self.new ≡ self.old) }
     {
         self.places.reserve(1)?;
+        self.bindings.reserve(1)?;
+        self.kept.reserve()?;
         let name = Vec::from_slice(alloc, name)?;
         let tag = tag_of(&top);
-        self.bindings.insert(name, Entry { top, payload })?;
+        let (top, marks) = shared_top(alloc, &mut self.kept, top)?;
+        let entry = Entry {
+            top,
+            payload,
+            marks,
+        };
+        let before = self.bindings.insert(name, entry)?;
+        self.kept.release(marks_of(before));
         note_place(&mut self.places, &self.bindings, tag);
         Ok(())
     }
@@ -182,5 +232,10 @@ impl<P: Drop> Context<P> {
         ensures { result ≡ length self.now }
     {
         self.bindings.len()
+    }
+
+    /// How many different types the names have, as far as they share their parts. Nothing rests on it.
+    pub fn kept_types(&self) -> usize {
+        self.kept.len()
     }
 }

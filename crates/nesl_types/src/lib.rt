@@ -3,12 +3,12 @@
 
 pub mod bindings;
 pub mod classes;
+mod kept;
 pub mod schemes;
 pub mod texts;
-pub mod types;
 
 pub use bindings::{Context, Top};
 pub use classes::{Class, meet};
+pub use nesl_types_bank::{Kind, Part, Ty};
 pub use schemes::Scheme;
 pub use texts::{scheme_text, type_text};
-pub use types::Ty;

@@ -1,14 +1,17 @@
 //! The types of functions.
 
-ghost use Rattle.std.specs.Prelude.{◌≡◌, ◌++◌, ◌↔◌, [], ℕ, IsTrue, map, fold, length, IfOk, OnOk};
-ghost use Rattle.nesl_types.specs.Term.{term, variable};
+ghost use Rattle.std.specs.Prelude.{◌≡◌, ◌++◌, ◌↔◌, [], ℕ, IsTrue, map, length, IfOk};
+ghost use Rattle.nesl_types_bank.specs.Term.{variable};
 ghost use Rattle.nesl_types.specs.Class.{class_at};
-ghost use Rattle.nesl_types.specs.Substitution.{substitute};
-ghost use Rattle.nesl_types.specs.Numbering.{IsBelow, variables, with_number, first_occurrences, numbers_below, number_of};
+ghost use Rattle.nesl_types_bank.specs.Substitution.{substitute};
+ghost use Rattle.nesl_types_bank.specs.Shapes.{IsShapeBelow};
+ghost use Rattle.nesl_types.specs.Numbered.{numbered_shape};
+ghost use Rattle.nesl_types_bank.specs.Numbering.{IsBelow, variables, first_occurrences, numbers_below, number_of};
 
 use crate::classes::Class;
-use crate::types::Ty;
+use crate::kept::{Kept, Marks};
 use indexmap::IndexSet;
+use nesl_types_bank::{Bank, Shape, Ty};
 use std::alloc::{AllocError, Global};
 
 /// The type of a function: what it takes, what it gives, and the class of each variable of these types.
@@ -17,7 +20,8 @@ pub struct Scheme {
     pub argument: Ty,
     pub result: Ty,
     pub classes: Vec<Class>,
-    pub ghost numbered: { first_occurrences (variables (term argument) ++ variables (term result)) ≡ numbers_below (length classes.items) },
+    pub ghost numbered: { first_occurrences (variables argument ++ variables result)
+        ≡ numbers_below (length classes.items) },
 }
 
 // By hand, so that no crate above has to prove how the parts are dropped.
@@ -32,24 +36,6 @@ impl Drop for Scheme {
     }
 }
 
-/// Notes the variables of a type that aren't noted yet.
-fn note_variables(seen: &mut IndexSet<u64>, ty: &Ty) -> Result<(), AllocError>
-    ensures { OnOk result (seen.new.keys ≡ fold with_number seen.old.keys (variables (term ty.now))) }
-{
-    match ty {
-        Ty::Var(variable) => {
-            seen.insert(*variable)?;
-        }
-        Ty::SeqOf(item) => note_variables(seen, item)?,
-        Ty::Both(first, second) => {
-            note_variables(seen, first)?;
-            note_variables(seen, second)?;
-        }
-        _ => {}
-    }
-    Ok(())
-}
-
 /// The number of a variable: how many are noted before it.
 fn number_of(seen: &IndexSet<u64>, variable: u64) -> u64
     ensures { result ≡ number_of seen.now.keys variable }
@@ -60,26 +46,32 @@ fn number_of(seen: &IndexSet<u64>, variable: u64) -> u64
     }
 }
 
+/// A shape with the number of its variable, and with its parts at the places that are given for them.
+fn numbered(seen: &IndexSet<u64>, shape: Shape, places: &[usize]) -> Shape
+    requires { IsShapeBelow (length places.now) shape }
+    ensures { result ≡ numbered_shape (number_of seen.now.keys) places.now shape }
+{
+    match shape {
+        Shape::Var(variable) => Shape::Var(number_of(seen, variable)),
+        Shape::SeqOf(item) => Shape::SeqOf(places[item]),
+        Shape::Both(first, second) => Shape::Both(places[first], places[second]),
+        _ => shape,
+    }
+}
+
 /// The type with the number of each variable in its place.
 fn renumbered(alloc: Global, seen: &IndexSet<u64>, ty: &Ty) -> Result<Ty, AllocError>
-    ensures { IfOk result (λ t. term t ≡ substitute (λ v. variable (number_of seen.now.keys v)) (term ty.now)) }
+    ensures { IfOk result (λ t. t ≡ substitute (λ v. variable (number_of seen.now.keys v)) ty.now) }
 {
-    match ty {
-        Ty::Int => Ok(Ty::Int),
-        Ty::Bool => Ok(Ty::Bool),
-        Ty::Char => Ok(Ty::Char),
-        Ty::Var(variable) => Ok(Ty::Var(number_of(seen, *variable))),
-        Ty::SeqOf(item) => {
-            let item = renumbered(alloc, seen, item)?;
-            Ok(Ty::SeqOf(Box::new(alloc, item)?))
-        }
-        Ty::Both(first, second) => {
-            let first = renumbered(alloc, seen, first)?;
-            let second = renumbered(alloc, seen, second)?;
-            Ok(Ty::Both(Box::new(alloc, first)?, Box::new(alloc, second)?))
-        }
-        Ty::Named(tag) => Ok(Ty::Named(*tag)),
+    let parts = ty.parts();
+    let mut bank = Bank::new(alloc);
+    let mut places = Vec::with_capacity(alloc, parts.len())?;
+    for place in 0..parts.len() {
+        let shape = numbered(seen, parts.shape(place), &places);
+        let put = bank.put(shape)?;
+        places.push(put)?;
     }
+    Ty::read(alloc, &bank, places[parts.len() - 1])
 }
 
 /// The class of a variable, `Any` where none is given.
@@ -114,9 +106,32 @@ impl Scheme {
 
     /// A law: each variable of a scheme has a class.
     pub fn variables_have_classes(&self)
-        ensures argument { IsBelow (length self.now.classes.items) (term self.now.argument) }
-        ensures result { IsBelow (length self.now.classes.items) (term self.now.result) }
+        ensures argument { IsBelow (length self.now.classes.items) self.now.argument }
+        ensures result { IsBelow (length self.now.classes.items) self.now.result }
     {}
+
+    // The same scheme, which shares the parts of types that are kept, and the numbers under which its own are.
+    pub(crate) fn shared(
+        self,
+        alloc: Global,
+        kept: &mut Kept,
+    ) -> Result<(Scheme, Marks), AllocError>
+        ensures { IfOk result (λ r. r.0 ≡ self) }
+    {
+        let Scheme {
+            argument,
+            result,
+            classes,
+        } = self;
+        let (argument, first) = kept.share(alloc, argument)?;
+        let (gives, second) = kept.share(alloc, result)?;
+        let scheme = Scheme {
+            argument,
+            result: gives,
+            classes,
+        };
+        Ok((scheme, Marks { first, second }))
+    }
 
     /// Whether both are the same scheme.
     pub fn same(&self, other: &Scheme) -> bool
@@ -135,7 +150,7 @@ impl Scheme {
         gives: &Ty,
         classes: &[Class],
     ) -> Result<Scheme, AllocError>
-        ensures { IfOk result (IsSchemeOf (term takes.now) (term gives.now) (class_at classes.now)) }
+        ensures { IfOk result (IsSchemeOf takes.now gives.now (class_at classes.now)) }
     {
         let mut seen = IndexSet::new(alloc);
         Scheme::over(alloc, &mut seen, takes, gives, classes)
@@ -150,10 +165,10 @@ impl Scheme {
         classes: &[Class],
     ) -> Result<Scheme, AllocError>
         requires { seen.old.keys ≡ [] }
-        ensures { IfOk result (IsSchemeOf (term takes.now) (term gives.now) (class_at classes.now)) }
+        ensures { IfOk result (IsSchemeOf takes.now gives.now (class_at classes.now)) }
     {
-        note_variables(seen, takes)?;
-        note_variables(seen, gives)?;
+        takes.note_variables(alloc, seen)?;
+        gives.note_variables(alloc, seen)?;
         let classes = classes_of(alloc, classes, seen.as_slice())?;
         let argument = renumbered(alloc, seen, takes)?;
         let gives = renumbered(alloc, seen, gives)?;

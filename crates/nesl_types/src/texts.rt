@@ -1,15 +1,26 @@
 //! The texts of types and schemes.
 
-ghost use Rattle.std.specs.Prelude.{◌≡◌, ◌++◌, ◌∷◌, [], ℕ, true, if◌then◌else◌, IfOk, OnOk, codes};
-ghost use Rattle.nesl_types.specs.Term.{term};
-ghost use Rattle.nesl_types.specs.Texts.{variable_text, name_at, type_text as text_of_type, scheme_text as text_of_scheme, member_texts, members_text};
+ghost use Rattle.std.specs.Prelude.{◌≡◌, ◌++◌, ◌∷◌, [], ◌<◌, ℕ, Bool, true, if◌then◌else◌, List, length, IfOk, OnOk};
+ghost use Rattle.std.specs.Prelude.{codes};
+ghost use Rattle.nesl_types.specs.Texts.{variable_text, type_text as text_of_type, member_texts, members_text};
+ghost use Rattle.nesl_types_bank.specs.Types.{type_at};
+ghost use Rattle.nesl_types.specs.Texts.{name_at, scheme_text as text_of_scheme};
+ghost use Rattle.nesl_types.specs.Pieces.{IsPieceBelow, IsBegun, IsWritten};
 
 use crate::bindings::Context;
 use crate::classes::Class;
 use crate::schemes::Scheme;
-use crate::types::Ty;
 use itoa::Buffer;
+use nesl_types_bank::{Parts, Shape, Ty};
 use std::alloc::{AllocError, Global};
+
+/// A piece of a text that is still to be written.
+#[derive(Clone, Copy)]
+enum Piece {
+    Byte(u8),
+    /// The type at a place, and whether it has brackets where it is a pair.
+    TypeAt(usize, bool),
+}
 
 /// Writes the name of a variable.
 fn write_variable(out: &mut Vec<u8>, variable: u64) -> Result<(), AllocError>
@@ -19,16 +30,6 @@ fn write_variable(out: &mut Vec<u8>, variable: u64) -> Result<(), AllocError>
     if variable >= 26 {
         let mut buffer = Buffer::new();
         out.extend_from_slice(buffer.format(variable / 26).as_bytes())?;
-    }
-    Ok(())
-}
-
-/// Writes the byte where it is wanted.
-fn write_if(out: &mut Vec<u8>, wanted: bool, byte: u8) -> Result<(), AllocError>
-    ensures { OnOk result (out.new.items ≡ out.old.items ++ (if wanted then byte ∷ [] else [])) }
-{
-    if wanted {
-        out.push(byte)?;
     }
     Ok(())
 }
@@ -43,33 +44,137 @@ fn write_name<P: Drop>(out: &mut Vec<u8>, context: &Context<P>, tag: u64) -> Res
     Ok(())
 }
 
+/// Writes the opening bracket of a pair where it is wanted, and leaves the closing one on the stack.
+fn write_bracket(
+    out: &mut Vec<u8>,
+    stack: &mut Vec<Piece>,
+    brackets: bool,
+) -> Result<(), AllocError>
+    ensures out { OnOk result (out.new.items ≡ out.old.items ++ (if brackets then 40 ∷ [] else [])) }
+    ensures stack { OnOk result (stack.new.items ≡ stack.old.items ++ (if brackets then Piece.Byte 41 ∷ [] else [])) }
+{
+    if brackets {
+        out.push(b'(')?;
+        stack.push(Piece::Byte(b')'))?;
+    }
+    Ok(())
+}
+
+/// Writes the text of a pair as far as its first part, and leaves the rest on the stack.
+fn write_pair(
+    out: &mut Vec<u8>,
+    stack: &mut Vec<Piece>,
+    first: usize,
+    second: usize,
+    brackets: bool,
+) -> Result<(), AllocError>
+    ensures { OnOk result ((names : ℕ → List ℕ) → IsBegun names brackets
+        (Shape.Both first second) out.old.items out.new.items stack.old.items stack.new.items) }
+{
+    write_bracket(out, stack, brackets)?;
+    stack.push(Piece::TypeAt(second, false))?;
+    stack.push(Piece::Byte(b' '))?;
+    stack.push(Piece::Byte(b','))?;
+    stack.push(Piece::TypeAt(first, true))?;
+    Ok(())
+}
+
+/// Writes the text of sequences as far as their items, and leaves the rest on the stack.
+fn write_seq(out: &mut Vec<u8>, stack: &mut Vec<Piece>, item: usize) -> Result<(), AllocError>
+    ensures { OnOk result ((names : ℕ → List ℕ) → (brackets : Bool)
+        → IsBegun names brackets (Shape.SeqOf item) out.old.items out.new.items stack.old.items stack.new.items) }
+{
+    out.push(b'[')?;
+    stack.push(Piece::Byte(b']'))?;
+    stack.push(Piece::TypeAt(item, true))?;
+    Ok(())
+}
+
+/// Writes the text of a type as far as its first part, and leaves the rest on the stack.
+fn write_shape<P: Drop>(
+    out: &mut Vec<u8>,
+    stack: &mut Vec<Piece>,
+    context: &Context<P>,
+    shape: Shape,
+    brackets: bool,
+) -> Result<(), AllocError>
+    ensures { OnOk result (IsBegun (name_at context.now) brackets shape out.old.items out.new.items stack.old.items
+        stack.new.items) }
+{
+    match shape {
+        Shape::Int => out.extend_from_slice(b"int")?,
+        Shape::Bool => out.extend_from_slice(b"bool")?,
+        Shape::Char => out.extend_from_slice(b"char")?,
+        Shape::Var(variable) => write_variable(out, variable)?,
+        Shape::SeqOf(item) => write_seq(out, stack, item)?,
+        Shape::Both(first, second) => write_pair(out, stack, first, second, brackets)?,
+        Shape::Named(tag) => write_name(out, context, tag)?,
+    }
+    Ok(())
+}
+
+/// Writes a piece: of a type as much as comes before its first part, with the rest left on the stack.
+fn write_piece<P: Drop>(
+    out: &mut Vec<u8>,
+    stack: &mut Vec<Piece>,
+    parts: &Parts<'_>,
+    context: &Context<P>,
+    piece: Piece,
+) -> Result<(), AllocError>
+    requires { IsPieceBelow (length parts.now) piece }
+    ensures { OnOk result (IsWritten (name_at context.now) (type_at parts.now)
+        (length parts.now) piece out.old.items out.new.items stack.old.items stack.new.items) }
+{
+    match piece {
+        Piece::Byte(byte) => out.push(byte)?,
+        Piece::TypeAt(place, brackets) => {
+            write_shape(out, stack, context, parts.shape(place), brackets)?;
+        }
+    }
+    Ok(())
+}
+
+/// Writes the type at a place; a pair has brackets where they are wanted.
+fn write_part<P: Drop>(
+    alloc: Global,
+    out: &mut Vec<u8>,
+    parts: &Parts<'_>,
+    place: usize,
+    context: &Context<P>,
+    brackets: bool,
+) -> Result<(), AllocError>
+    requires { place < length parts.now }
+    ensures { OnOk result (out.new.items ≡ out.old.items
+        ++ text_of_type (name_at context.now) brackets (type_at parts.now place)) }
+{
+    let mut stack = Vec::new(alloc);
+    stack.push(Piece::TypeAt(place, brackets))?;
+    while let Some(piece) = stack.pop() {
+        write_piece(out, &mut stack, parts, context, piece)?;
+    }
+    Ok(())
+}
+
 /// Writes a type; a pair has brackets where they are wanted.
 fn write_type<P: Drop>(
+    alloc: Global,
     out: &mut Vec<u8>,
     context: &Context<P>,
     ty: &Ty,
     brackets: bool,
 ) -> Result<(), AllocError>
-    ensures { OnOk result (out.new.items ≡ out.old.items ++ text_of_type (name_at context.now) brackets (term ty.now)) }
+    ensures { OnOk result (out.new.items ≡ out.old.items ++ text_of_type (name_at context.now) brackets ty.now) }
 {
-    match ty {
-        Ty::Int => out.extend_from_slice(b"int")?,
-        Ty::Bool => out.extend_from_slice(b"bool")?,
-        Ty::Char => out.extend_from_slice(b"char")?,
-        Ty::Var(variable) => write_variable(out, *variable)?,
-        Ty::SeqOf(item) => {
-            out.push(b'[')?;
-            write_type(out, context, item, true)?;
-            out.push(b']')?;
-        }
-        Ty::Both(first, second) => {
-            write_if(out, brackets, b'(')?;
-            write_type(out, context, first, true)?;
-            out.extend_from_slice(b", ")?;
-            write_type(out, context, second, false)?;
-            write_if(out, brackets, b')')?;
-        }
-        Ty::Named(tag) => write_name(out, context, *tag)?,
+    let parts = ty.parts();
+    write_part(alloc, out, &parts, parts.len() - 1, context, brackets)
+}
+
+/// Writes the byte where it is wanted.
+fn write_if(out: &mut Vec<u8>, wanted: bool, byte: u8) -> Result<(), AllocError>
+    ensures { OnOk result (out.new.items ≡ out.old.items ++ (if wanted then byte ∷ [] else [])) }
+{
+    if wanted {
+        out.push(byte)?;
     }
     Ok(())
 }
@@ -80,10 +185,10 @@ pub fn type_text<P: Drop>(
     ty: &Ty,
     context: &Context<P>,
 ) -> Result<Vec<u8>, AllocError>
-    ensures { IfOk result (λ text. text.items ≡ text_of_type (name_at context.now) true (term ty.now)) }
+    ensures { IfOk result (λ text. text.items ≡ text_of_type (name_at context.now) true ty.now) }
 {
     let mut out = Vec::new(alloc);
-    write_type(&mut out, context, ty, true)?;
+    write_type(alloc, &mut out, context, ty, true)?;
     Ok(out)
 }
 
@@ -106,7 +211,8 @@ fn write_member(
     variable: u64,
     class: &[u8],
 ) -> Result<(), AllocError>
-    ensures { OnOk result (out.new.items ≡ out.old.items ++ (if started then codes "; " else codes " :: (") ++ (variable_text variable ++ class.now)) }
+    ensures { OnOk result (out.new.items ≡ out.old.items ++ (if started then codes "; " else codes " :: (")
+        ++ (variable_text variable ++ class.now)) }
 {
     write_lead(out, started)?;
     write_variable(out, variable)?;
@@ -141,9 +247,9 @@ pub fn scheme_text<P: Drop>(
     ensures { IfOk result (λ text. text.items ≡ text_of_scheme (name_at context.now) scheme.now) }
 {
     let mut out = Vec::new(alloc);
-    write_type(&mut out, context, &scheme.argument, true)?;
+    write_type(alloc, &mut out, context, &scheme.argument, true)?;
     out.extend_from_slice(b" -> ")?;
-    write_type(&mut out, context, &scheme.result, true)?;
+    write_type(alloc, &mut out, context, &scheme.result, true)?;
     write_members(&mut out, &scheme.classes)?;
     Ok(out)
 }

@@ -1,7 +1,9 @@
+pub mod Nodes
+pub mod Substitutions
+pub mod Numbers
 pub mod Made
 pub mod Placed
 pub mod Once
-pub mod Begun
 pub mod Visited
 pub mod Listed
 pub mod Moved

@@ -5,10 +5,10 @@ use Rattle.std.proofs.lemmas.Bool.{cases_lt}
 use Rattle.std.proofs.lemmas.List.{get_or_append_left, get_or_push, length_push, get_or_past, get_or_default, get_or-replicate, length-replicate, get_or-take, length-take-le}
 use Rattle.std.proofs.lemmas.List.Elements.{All-nil, All-cons, All-take}
 use Rattle.std.proofs.lemmas.Option.{slice_get_past, slice_get-get_or}
-use Rattle.nesl_types.specs.Term.{Term, variable, seq_of, both, nodes}
-use Rattle.nesl_types.specs.Substitution.{substitute}
-use Rattle.nesl_types.proofs.Nodes.{nodes_positive}
-use Rattle.nesl_types.proofs.Substitutions.{nodes-substitute}
+use Rattle.nesl_types_bank.specs.Term.{Term, variable, seq_of, both, nodes}
+use Rattle.nesl_types_bank.specs.Substitution.{substitute}
+use Rattle.nesl_types_bank.proofs.Nodes.{nodes_positive}
+use Rattle.nesl_types_bank.proofs.Substitutions.{nodes-substitute}
 use Rattle.nesl_types_bank.specs.declared.shape.Shape.{Shape}
 use Rattle.nesl_types_bank.specs.declared.graph.Node.{Node}
 use Rattle.nesl_types_bank.specs.declared.graph.Node.TheVariants.{Free, Same, Int, Bool as Bool', Char, Named, SeqOf, Both}

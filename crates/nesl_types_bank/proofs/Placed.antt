@@ -6,7 +6,7 @@ use Rattle.std.proofs.lemmas.Option.{get_or_from_slice_get}
 use Rattle.std.proofs.lemmas.Map.Keys.{apart_from_distinct}
 use Rattle.std.proofs.lemmas.List.Quantifiers.{position-Some}
 use Rattle.std.specs.List.{IsDistinct, list_any, position}
-use Rattle.nesl_types.specs.Term.{Term, int}
+use Rattle.nesl_types_bank.specs.Term.{Term, int}
 use Rattle.nesl_types_bank.specs.declared.shape.Shape.{Shape}
 use Rattle.nesl_types_bank.specs.declared.shape.Shape.TheVariants.{Int, Bool as Bool', Char, Var, Named, SeqOf, Both}
 use Rattle.nesl_types_bank.specs.Shapes.{shape_type, shape_size, shape_at, IsShapeBelow}

@@ -1,18 +1,19 @@
 -- A type in a bank, and all that it is made of.
-use Rattle.std.proofs.Common.{◌≡◌, ◌≢◌, inl, inr, ℕ, zero, suc, ◌+◌, ◌<◌, ◌≤◌, Bool, true, false, List, [], ◌∷◌, ◌++◌, All, Option, None, Some, slice_get, length, get_or, set, refl, sym, ap, subst, ◌∙◌, arith}
+use Rattle.std.proofs.Common.{◌≡◌, ◌≢◌, inl, inr, ℕ, zero, suc, ◌+◌, ◌<◌, ◌≤◌, Bool, true, false, true≢false, replicate, List, [], ◌∷◌, ◌++◌, All, Option, None, Some, slice_get, length, get_or, set, refl, sym, ap, subst, ◌∙◌, arith}
 use Rattle.std.proofs.lemmas.Bool.{cases_lt}
-use Rattle.std.proofs.lemmas.List.{get_or_append_left, get_or_push, length_push, get_or_read, get_or-set_same, get_or-set_other, length-set}
+use Rattle.std.proofs.lemmas.List.{get_or_append_left, get_or_push, length_push, get_or_read, get_or-set_same, get_or-set_other, get_or_past, get_or-replicate, length-set, length-replicate}
 use Rattle.std.proofs.lemmas.List.Elements.{All-nil, All-cons, All-head, All-tail, All-push, All-weaker, All-get_or}
 use Rattle.std.proofs.lemmas.Option.{get_or_from_slice_get, slice_get_within}
 use Rattle.std.specs.Option.{option_map_or}
-use Rattle.nesl_types.specs.Term.{Term, seq_of, variable}
-use Rattle.nesl_types.specs.Substitution.{substitute}
+use Rattle.nesl_types_bank.specs.Term.{Term, seq_of, variable}
+use Rattle.nesl_types_bank.specs.Substitution.{substitute}
+use Rattle.nesl_types_bank.specs.Numbering.{IsBelow}
 use Rattle.nesl_types_bank.specs.declared.shape.Shape.{Shape}
 use Rattle.nesl_types_bank.specs.declared.shape.Shape.TheVariants.{Int, Bool as Bool', Char, Var, Named, SeqOf, Both}
 use Rattle.nesl_types_bank.specs.Shapes.{shape_type, IsShapeBelow}
-use Rattle.nesl_types_bank.specs.Types.{type_at, AreDistinct, Extends}
-use Rattle.nesl_types_bank.specs.Visits.{parts, with_marks, AreReached}
-use Rattle.nesl_types_bank.specs.Renames.{renamed, replacement}
+use Rattle.nesl_types_bank.specs.Types.{type_at, AreDistinct, Extends, IsPut}
+use Rattle.nesl_types_bank.specs.Visits.{parts, with_marks, HaveItsVariables, AreReached}
+use Rattle.nesl_types_bank.specs.Renames.{renamed, replacement, HaveVariablesOf}
 use Rattle.nesl_types_bank.proofs.Made.{below_wider}
 use Rattle.nesl_types_bank.proofs.Once.{one_shape}
 use Rattle.nesl_types_bank.proofs.Visited.{cases_eq, parts_below}
@@ -67,12 +68,46 @@ above_parts ms (Both p r) n q b l =
     let c : q ≢ r = omega (arith, b.1) in
     get_or-set_other (set ms r true) p q true false d ∙ get_or-set_other ms r q true false c
 
+-- what holds of the marked places, and of those that are marked besides
+with_marked : (P : ℕ → Type 0) (ms : List Bool) (ps : List ℕ) → ((p : ℕ) → IsMarked ms p → P p) → All P ps → (p : ℕ) → IsMarked (with_marks ms ps) p → P p
+with_marked P ms [] h a p m = h p m
+with_marked P ms (q ∷ ps) h a p m =
+    with_marked P (set ms q true) ps
+    (λ r i. elim (cases_eq r q) [
+      | inl e ↦ subst P (sym e) (All-head P q ps a)
+      | inr d ↦ h r (sym (get_or-set_other ms q r true false d) ∙ i)
+    ]) (All-tail P q ps a) p m
+
+-- the parts of a type have no variables but its own
+parts_variables : (n : ℕ) (s f : ℕ → Term) (x : Shape) → IsBelow n (substitute s (shape_type f x)) → All (λ q. IsBelow n (substitute s (f q))) (parts x)
+parts_variables n s f Int h = All-nil (λ q. IsBelow n (substitute s (f q)))
+parts_variables n s f Bool' h = All-nil (λ q. IsBelow n (substitute s (f q)))
+parts_variables n s f Char h = All-nil (λ q. IsBelow n (substitute s (f q)))
+parts_variables n s f (Var v) h = All-nil (λ q. IsBelow n (substitute s (f q)))
+parts_variables n s f (Named m) h = All-nil (λ q. IsBelow n (substitute s (f q)))
+parts_variables n s f (SeqOf p) h = let P : ℕ → Type 0 = λ q. IsBelow n (substitute s (f q)) in All-cons P p [] h (All-nil P)
+parts_variables n s f (Both p q) h = let P : ℕ → Type 0 = λ r. IsBelow n (substitute s (f r)) in All-cons P q (p ∷ []) h.1 (All-cons P p [] h.0 (All-nil P))
+
+unmarked : (n p : ℕ) → get_or (replicate n false) p false ≡ true → ⊥
+unmarked n p m = elim (cases_lt p n) [
+  | inl l ↦ true≢false (sym m ∙ get_or-replicate n p false false l)
+  | inr g ↦ true≢false (sym m ∙ get_or_past (replicate n false) p false (omega (arith, length-replicate n false)))
+]
+
+-- where only the place itself is marked
+pub only_itself : (ts : List Term) (place k : ℕ) (marks : List Bool) → marks ≡ set (replicate k false) place true → HaveItsVariables ts place marks
+only_itself ts place k marks e n s h p m = elim (cases_eq p place) [
+  | inl i ↦ subst (λ q. IsBelow n (substitute s (type_at ts q))) (sym i) h
+  | inr d ↦ absurd (unmarked k p (sym (get_or-set_other (replicate k false) place p true false d) ∙ ap (λ ms. get_or ms p false) (sym e) ∙ m))
+]
+
 -- the places from `next` on were looked at
 pub record IsReaching (ts : List Term) (place next : ℕ) (marks : List Bool) : Type 0 where
   pub inside : next ≤ length ts
   pub len : length marks ≡ length ts
   pub top : IsMarked marks place
   pub parts : (p : ℕ) (s : Shape) → next ≤ p → IsMarked marks p → p < length ts → IsShapeBelow p s → type_at ts p ≡ shape_type (type_at ts) s → All (IsMarked marks) (parts s)
+  pub only : HaveItsVariables ts place marks
 
 pub reaching_enter : (ts : List Term) (place n k : ℕ) (marks wider : List Bool) (x : Shape) → k + 1 ≡ n → IsMarked marks k → AreDistinct ts → IsShapeBelow k x → type_at ts k ≡ shape_type (type_at ts) x → wider ≡ with_marks marks (parts x) → IsReaching ts place n marks → IsReaching ts place k wider
 reaching_enter ts place n k marks wider x e m d b t w i =
@@ -92,6 +127,9 @@ reaching_enter ts place n k marks wider x e m d b t w i =
             let one : x ≡ s = one_shape (type_at ts) k p x s b c (λ q o y z f. d q o (omega arith) (omega arith) f) (sym t ∙ ap (type_at ts) (sym same) ∙ u) in
             subst (λ y. All (IsMarked more) (parts y)) one here
       ];
+      only = λ c s h.
+          let P : ℕ → Type 0 = λ q. IsBelow c (substitute s (type_at ts q)) in
+          with_marked P marks (parts x) (i.only c s h) (parts_variables c s (type_at ts) x (subst (λ u. IsBelow c (substitute s u)) t (i.only c s h k m)));
     })
 
 -- what holds of a marked place, told of its mark
@@ -140,6 +178,19 @@ module _ (of : List ℕ) (old mid from : List Term) (marks : List Bool) (place n
 
   marked_parts : All (IsMarked marks) (parts x)
   marked_parts = reached.closed next x mark inside below shape
+
+  -- no variables but those of the type and of what was there
+  pub renaming_below : (new : List Term) (p : ℕ) → All (λ q. q < length old) of → IsPut mid new (renamed (replacement mid of) (λ q. type_at mid (get_or places q 0)) x) p → HaveVariablesOf old mid (substitute (replacement old of) (type_at from place)) → HaveVariablesOf old new (substitute (replacement old of) (type_at from place))
+  renaming_below new p o w a n b h =
+      let s : ℕ → Term = replacement old of in
+      let t = renamed (replacement mid of) (λ q. type_at mid (get_or places q 0)) x in
+      let here : t ≡ substitute s (type_at from next) =
+      same_renamed (replacement mid of) s (λ q. type_at mid (get_or places q 0)) (type_at from) x (replacement_kept old mid of i.extends o) (λ k d l. i.types (get_or (parts x) k d) (parts_inside k d l) (marked_parts k d l))
+      ∙ ap (substitute s) (sym shape) in
+      elim w.rest [
+        | inl e ↦ subst (All (IsBelow n)) (sym e) (a n b h)
+        | inr e ↦ subst (All (IsBelow n)) (sym e) (All-push (IsBelow n) mid t (a n b h) (subst (IsBelow n) (sym here) (reached.only n s h next mark)))
+      ]
 
   pub renaming_more : (new : List Term) (p : ℕ) → All (λ q. q < length old) of → Extends mid new → p < length new → type_at new p ≡ renamed (replacement mid of) (λ q. type_at mid (get_or places q 0)) x → IsRenaming of old new from marks (set places next p) (next + 1)
   renaming_more new p o e w t =

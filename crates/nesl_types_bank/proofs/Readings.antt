@@ -3,7 +3,7 @@ use Rattle.std.proofs.Common.{◌≡◌, ◌≢◌, inl, inr, ℕ, ◌+◌, ◌*
 use Rattle.std.proofs.lemmas.Bool.{cases_lt, cases_eq}
 use Rattle.std.proofs.lemmas.List.{get_or_append_left, get_or_push, length_push, get_or-set_same, get_or-set_other, length-set, get_or_past}
 use Rattle.std.proofs.lemmas.List.Sums.{sum_by-set}
-use Rattle.nesl_types.specs.Term.{Term, nodes}
+use Rattle.nesl_types_bank.specs.Term.{Term, nodes}
 use Rattle.nesl_types_bank.specs.declared.shape.Shape.{Shape}
 use Rattle.nesl_types_bank.specs.declared.graph.Node.{Node}
 use Rattle.nesl_types_bank.specs.declared.graph.Node.TheVariants.{Free, Same, Int, Bool as Bool', Char, Named, SeqOf, Both}

@@ -7,8 +7,8 @@ use Rattle.std.proofs.lemmas.List.Elements.{All-pop, All-nil, All-cons, All-appe
 use Rattle.std.proofs.lemmas.List.Folds.{list_any-append}
 use Rattle.std.proofs.lemmas.List.Sums.{fold-append}
 use Rattle.std.specs.List.{list_any}
-use Rattle.nesl_types.specs.Term.{Term}
-use Rattle.nesl_types.specs.Numbering.{variables, with_number}
+use Rattle.nesl_types_bank.specs.Term.{Term}
+use Rattle.nesl_types_bank.specs.Numbering.{variables, with_number}
 use Rattle.nesl_types_bank.specs.declared.shape.Shape.{Shape}
 use Rattle.nesl_types_bank.specs.declared.shape.Shape.TheVariants.{Int, Bool as Bool', Char, Var, Named, SeqOf, Both}
 use Rattle.nesl_types_bank.specs.Shapes.{shape_type, IsShapeBelow}

@@ -1,7 +1,7 @@
 -- Graphs of types: what is said of the type at each place.
 use Rattle.std.specs.Prelude.{◌≡◌, ◌<◌, ℕ, List, All, length, slice_index, slice_index_or}
-use Rattle.nesl_types.specs.Term.{Term, int, bool, char, variable, seq_of, both, named}
-use Rattle.nesl_types.specs.Substitution.{substitute}
+use Rattle.nesl_types_bank.specs.Term.{Term, int, bool, char, variable, seq_of, both, named}
+use Rattle.nesl_types_bank.specs.Substitution.{substitute}
 use Rattle.nesl_types_bank.specs.declared.graph.Node.{Node}
 use Rattle.nesl_types_bank.specs.declared.graph.Node.TheVariants.{Free, Same, Int, Bool, Char, Named, SeqOf, Both}
 use Rattle.nesl_types_bank.specs.Types.{type_at}

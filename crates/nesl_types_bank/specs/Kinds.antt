@@ -1,5 +1,5 @@
 -- What a type is, and its parts.
-use Rattle.nesl_types.specs.Term.{Term, int, bool, char, variable, seq_of, both, named}
+use Rattle.nesl_types_bank.specs.Term.{Term, int, bool, char, variable, seq_of, both, named}
 use Rattle.nesl_types_bank.specs.declared.part.Kind.{Kind}
 use Rattle.nesl_types_bank.specs.declared.part.Kind.TheVariants.{Int, Bool, Char, Var, Named, SeqOf, Both}
 

@@ -1,8 +1,10 @@
+pub mod Term
+pub mod Substitution
+pub mod Numbering
 pub mod Shapes
 pub mod Codes
 pub mod Types
 pub mod Renames
-pub mod Pieces
 pub mod Visits
 pub mod Graph
 pub mod Readings

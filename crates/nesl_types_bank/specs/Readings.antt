@@ -1,7 +1,7 @@
 -- Graphs of types, as far as they are read.
 use Rattle.std.specs.Prelude.{◌≡◌, ◌≢◌, ◌⊎◌, ◌<◌, ℕ, Bool as Bool', true, false, List, ◌∷◌, [], ◌++◌, length}
 use Rattle.std.specs.Prelude.{Option, Some, None, slice_index, slice_index_or, slice_set}
-use Rattle.nesl_types.specs.Term.{Term, nodes}
+use Rattle.nesl_types_bank.specs.Term.{Term, nodes}
 use Rattle.nesl_types_bank.specs.declared.shape.Shape.{Shape}
 use Rattle.nesl_types_bank.specs.declared.shape.Shape.TheVariants as shape
 use Rattle.nesl_types_bank.specs.declared.graph.Node.{Node}

@@ -1,8 +1,9 @@
 -- Types with types in place of their variables.
 use Rattle.std.specs.Prelude.{◌≡◌, ◌<◌, ℕ, List, All, length, Option, Some, slice_get, slice_index}
 use Rattle.std.specs.Option.{option_map_or}
-use Rattle.nesl_types.specs.Term.{Term, variable}
-use Rattle.nesl_types.specs.Substitution.{substitute}
+use Rattle.nesl_types_bank.specs.Term.{Term, variable}
+use Rattle.nesl_types_bank.specs.Substitution.{substitute}
+use Rattle.nesl_types_bank.specs.Numbering.{IsBelow}
 use Rattle.nesl_types_bank.specs.declared.shape.Shape.{Shape}
 use Rattle.nesl_types_bank.specs.declared.shape.Shape.TheVariants.{Int, Bool, Char, Var, Named, SeqOf, Both}
 use Rattle.nesl_types_bank.specs.Shapes.{shape_type}
@@ -22,6 +23,10 @@ renamed s f (Both p q) = shape_type f (Both p q)
 -- what stands for variable v: the type at the place that is given for it, or the variable where none is given
 abbrev pub replacement : List Term → List ℕ → ℕ → Term
 replacement ts of v = option_map_or (type_at ts) (slice_get of v) (variable v)
+
+-- the types of new have no variables but those of old and of the type t
+abbrev pub HaveVariablesOf : List Term → List Term → Term → Type 0
+HaveVariablesOf old new t = (n : ℕ) → All (IsBelow n) old → IsBelow n t → All (IsBelow n) new
 
 -- the places in `to` of the types of `from`, each with `s v` in place of each variable v
 pub record AreRenamed (s : ℕ → Term) (from to : List Term) (places : List ℕ) : Type 0 where

@@ -1,7 +1,7 @@
 -- Types that are each made of earlier ones.
 use Rattle.std.specs.Prelude.{◌≡◌, ◌⊎◌, ◌<◌, ◌≤◌, ℕ, Bool, if◌then◌else◌, min}
 use Rattle.std.specs.Prelude.{List, [], ◌∷◌, ◌++◌, length, map, fold, slice_index_or}
-use Rattle.nesl_types.specs.Term.{Term, int, nodes}
+use Rattle.nesl_types_bank.specs.Term.{Term, int, nodes}
 use Rattle.nesl_types_bank.specs.declared.shape.Shape.{Shape}
 use Rattle.nesl_types_bank.specs.Shapes.{IsShapeBelow, shape_type, shape_at, largest}
 

@@ -1,5 +1,6 @@
 //! Types that are each made of earlier ones.
 
+use crate::part::Part;
 use crate::parts::Parts;
 use crate::shape::Shape;
 use indexmap::IndexSet;
@@ -24,7 +25,7 @@ impl Drop for Bank {
 impl Model for Bank {
     ghost use Rattle.std.specs.Prelude.{List};
     ghost use Rattle.std.specs.Coded.{coded_list};
-    ghost use Rattle.nesl_types.specs.Term.{Term};
+    ghost use Rattle.nesl_types_bank.specs.Term.{Term};
     ghost use Rattle.nesl_types_bank.specs.Codes.{term_code};
 
     ghost Value = { List Term };
@@ -82,6 +83,14 @@ impl Bank {
         Parts::of(self.shapes.as_slice())
     }
 
+    /// The type at a place, borrowed.
+    pub fn part(&self, place: usize) -> Part<'_>
+        requires { place < length self.now }
+        ensures { result ≡ type_at self.now place }
+    {
+        Part::of(self.parts(), place)
+    }
+
     /// How many types there are.
     pub fn len(&self) -> usize
         ensures len { result ≡ length self.now }
@@ -120,7 +129,8 @@ impl Bank {
     /// The place of the type of a shape, where it is there.
     pub fn find(&self, shape: Shape) -> Option<usize>
         requires { IsShapeBelow (length self.now) shape }
-        ensures { IfSome result (λ place. (place < length self.now) × (type_at self.now place ≡ shape_type (type_at self.now) shape)) }
+        ensures { IfSome result (λ place. (place < length self.now)
+            × (type_at self.now place ≡ shape_type (type_at self.now) shape)) }
     {
         self.shapes.get_index_of(&shape)
     }

@@ -1,7 +1,8 @@
 //! Types read out of a graph.
 
-ghost use Rattle.std.specs.Prelude.{◌≡◌, ◌<◌, ◌≤◌, ℕ, [], All, length, true, false, Some as Some', IsTrue, ◌↔◌, IfSome, IfNone, IfOk};
-ghost use Rattle.nesl_types.specs.Term.{Term, nodes};
+ghost use Rattle.std.specs.Prelude.{◌≡◌, ◌<◌, ◌≤◌, ℕ, [], All, length, true, false, Some as Some', IsTrue, ◌↔◌, IfSome};
+ghost use Rattle.std.specs.Prelude.{IfNone, IfOk};
+ghost use Rattle.nesl_types_bank.specs.Term.{Term, nodes};
 ghost use Rattle.nesl_types_bank.specs.Types.{type_at, size_of};
 ghost use Rattle.nesl_types_bank.specs.Graph.{node_at, target, Fits, IsGraph, IsFlat, IsRoot, AreRead};
 ghost use Rattle.nesl_types_bank.specs.Readings.{state_at, found, Keeps, IsBegun, IsStep, IsReading};
@@ -234,7 +235,8 @@ pub fn read_types(
     requires count { count ≤ length graph.now }
     ensures some { IfOk result (λ r. IfSome r (λ a. AreRead graph.now count a.bank a.places.items)) }
     ensures bounded { IfOk result (λ r. IfSome r (λ a. All (λ p. size_of (type_at a.bank p) ≤ most) a.places.items)) }
-    ensures none { IfOk result (λ r. IfNone r ((w : ℕ → Term) → Fits w graph.now → (p : ℕ) × ((p < count) × (most < nodes (w p))))) }
+    ensures none { IfOk result (λ r. IfNone r ((w : ℕ → Term) → Fits w graph.now
+        → (p : ℕ) × ((p < count) × (most < nodes (w p))))) }
 {
     let mut read = match read_all(alloc, graph)? {
         Some(read) => read,

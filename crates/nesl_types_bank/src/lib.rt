@@ -8,12 +8,7 @@ pub mod part;
 pub mod parts;
 pub mod renaming;
 pub mod shape;
-#[cfg(test)]
-mod tests;
-pub mod texts;
 pub mod types;
-#[cfg(test)]
-mod types_tests;
 pub mod visiting;
 
 pub use bank::Bank;
@@ -22,6 +17,5 @@ pub use part::{Kind, Part};
 pub use parts::Parts;
 pub use renaming::{rename, rename_type};
 pub use shape::Shape;
-pub use texts::{type_text, write_type};
 pub use types::Ty;
 pub use visiting::{note_variables, variables};

@@ -2,7 +2,7 @@
 
 ghost use Rattle.std.specs.Prelude.{◌≡◌, ◌<◌, ◌↔◌, IsTrue, length, IfOk};
 ghost use Rattle.nesl_types_bank.specs.Shapes.{IsShapeBelow};
-ghost use Rattle.nesl_types.specs.Term.{Term, seq_of};
+ghost use Rattle.nesl_types_bank.specs.Term.{Term, seq_of};
 ghost use Rattle.nesl_types_bank.specs.Types.{type_at, types};
 ghost use Rattle.nesl_types_bank.specs.Lists.{AreParts, IsCount, IsStep, moved_to, last_type};
 

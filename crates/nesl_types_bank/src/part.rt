@@ -12,7 +12,7 @@ pub struct Part<'a> {
 
 impl<'a> Model for Part<'a> {
     ghost use Rattle.std.specs.Prelude.{◌<◌, length};
-    ghost use Rattle.nesl_types.specs.Term.{Term};
+    ghost use Rattle.nesl_types_bank.specs.Term.{Term};
     ghost use Rattle.nesl_types_bank.specs.Codes.{term_code};
     ghost use Rattle.nesl_types_bank.specs.Types.{type_at};
 
@@ -26,10 +26,10 @@ impl<'a> Model for Part<'a> {
 }
 
 ghost use Rattle.std.specs.Prelude.{◌≡◌, ◌<◌, All, length, IsTrue, IfOk, OnOk, fold};
-ghost use Rattle.nesl_types.specs.Substitution.{substitute};
-ghost use Rattle.nesl_types.specs.Numbering.{variables, with_number};
+ghost use Rattle.nesl_types_bank.specs.Substitution.{substitute};
+ghost use Rattle.nesl_types_bank.specs.Numbering.{variables, with_number};
 ghost use Rattle.nesl_types_bank.specs.Types.{type_at, Extends};
-ghost use Rattle.nesl_types_bank.specs.Renames.{replacement};
+ghost use Rattle.nesl_types_bank.specs.Renames.{replacement, HaveVariablesOf};
 ghost use Rattle.nesl_types_bank.specs.Kinds.{kind_type};
 
 use crate::bank::Bank;
@@ -57,7 +57,7 @@ pub enum Kind<'a> {
 
 impl<'a> Part<'a> {
     /// The type at a place.
-    pub(crate) fn of(parts: Parts<'a>, place: usize) -> Part<'a>
+    pub fn of(parts: Parts<'a>, place: usize) -> Part<'a>
         requires { place < length parts }
         ensures { result ≡ type_at parts.entry place }
     {
@@ -69,6 +69,14 @@ impl<'a> Part<'a> {
         ensures { result ≡ self.now }
     {
         Part::of(self.parts.again(), self.place)
+    }
+
+    /// The types among which it stands, and its place there. Copies nothing.
+    pub fn place(&self) -> (Parts<'a>, usize)
+        ensures within { result.1 < length result.0 }
+        ensures here { type_at result.0 result.1 ≡ self.now }
+    {
+        (self.parts.again(), self.place)
     }
 
     /// What it is, and its parts. Copies nothing.
@@ -103,12 +111,13 @@ impl<'a> Part<'a> {
         ensures extends { Extends to.old to.new }
         ensures within { IfOk result (λ p. p < length to.new) }
         ensures here { IfOk result (λ p. type_at to.new p ≡ substitute (replacement to.old of.now) self.now) }
+        ensures below { OnOk result (HaveVariablesOf to.old to.new (substitute (replacement to.old of.now) self.now)) }
     {
         rename_part(alloc, &self.parts, self.place, to, of)
     }
 
-    /// Whether the type at a place of the bank is this one with the type at place `of[v]` in place of each variable v. A
-    /// variable past the end of `of` stays.
+    /// Whether the type at a place of the bank is this one with the type at place `of[v]` in place of each variable v.
+    /// A variable past the end of `of` stays.
     pub fn is_instance(
         &self,
         alloc: Global,
@@ -117,7 +126,8 @@ impl<'a> Part<'a> {
         of: &[usize],
     ) -> Result<bool, AllocError>
         requires { All (λ p. p < length bank.now) of.now }
-        ensures { IfOk result (λ holds. IsTrue holds → type_at bank.now place ≡ substitute (replacement bank.now of.now) self.now) }
+        ensures { IfOk result (λ holds. IsTrue holds
+            → type_at bank.now place ≡ substitute (replacement bank.now of.now) self.now) }
     {
         is_renamed_part(alloc, &self.parts, self.place, bank, place, of)
     }

@@ -13,7 +13,7 @@ pub struct Parts<'a> {
 impl<'a> Model for Parts<'a> {
     ghost use Rattle.std.specs.Prelude.{List};
     ghost use Rattle.std.specs.Coded.{coded_list};
-    ghost use Rattle.nesl_types.specs.Term.{Term};
+    ghost use Rattle.nesl_types_bank.specs.Term.{Term};
     ghost use Rattle.nesl_types_bank.specs.Codes.{term_code};
 
     ghost Value = { List Term };
@@ -33,7 +33,7 @@ ghost use Rattle.nesl_types_bank.specs.Types.{type_at, types, AreTypes, AreDisti
 
 impl<'a> Parts<'a> {
     /// The types of these shapes.
-    pub(crate) fn of(shapes: &'a [Shape]) -> Parts<'a>
+    pub fn of(shapes: &'a [Shape]) -> Parts<'a>
         requires { AreTypes shapes.now }
         ensures { result ≡ types shapes.now }
     {

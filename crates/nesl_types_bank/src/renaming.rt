@@ -1,11 +1,11 @@
 //! Types with types in place of their variables.
 
-ghost use Rattle.std.specs.Prelude.{◌≡◌, ◌<◌, All, length, slice_index, IsTrue, IfSome, IfOk};
-ghost use Rattle.nesl_types.specs.Substitution.{substitute};
+ghost use Rattle.std.specs.Prelude.{◌≡◌, ◌<◌, All, length, slice_index, IsTrue, IfSome, IfOk, OnOk};
+ghost use Rattle.nesl_types_bank.specs.Substitution.{substitute};
 ghost use Rattle.nesl_types_bank.specs.Shapes.{IsShapeBelow};
 ghost use Rattle.nesl_types_bank.specs.Visits.{parts, with_marks, AreReached};
-ghost use Rattle.nesl_types_bank.specs.Types.{type_at, Extends};
-ghost use Rattle.nesl_types_bank.specs.Renames.{renamed, replacement, AreRenamed, AreBelow, IsFound};
+ghost use Rattle.nesl_types_bank.specs.Types.{type_at, Extends, IsPut};
+ghost use Rattle.nesl_types_bank.specs.Renames.{renamed, replacement, HaveVariablesOf, AreRenamed, AreBelow, IsFound};
 
 use crate::bank::Bank;
 use crate::lists::moved_to;
@@ -25,8 +25,9 @@ fn put_renamed(
     requires parts { All (λ q. slice_index places.now q < length to.old) (parts shape) }
     requires of { All (λ p. p < length to.old) of.now }
     ensures extends { Extends to.old to.new }
-    ensures within { IfOk result (λ p. p < length to.new) }
-    ensures here { IfOk result (λ p. type_at to.new p ≡ renamed (replacement to.old of.now) (λ q. type_at to.old (slice_index places.now q)) shape) }
+    ensures put { IfOk result
+        (IsPut to.old to.new (renamed (replacement to.old of.now)
+        (λ q. type_at to.old (slice_index places.now q)) shape)) }
 {
     match shape {
         Shape::Var(variable) => match of.get(variable as usize) {
@@ -71,8 +72,8 @@ fn reached(alloc: Global, from: &Parts<'_>, place: usize) -> Result<Vec<bool>, A
     Ok(marks)
 }
 
-/// Puts the type at a place of `from` into `to`, with the type at place `of[v]` of `to` in place of each variable v, and
-/// gives its place there. A variable past the end of `of` stays. Only what the type is made of is put into `to`.
+/// Puts the type at a place of `from` into `to`, with the type at place `of[v]` of `to` in place of each variable v,
+/// and gives its place there. A variable past the end of `of` stays. Only what the type is made of is put into `to`.
 pub fn rename_type(
     alloc: Global,
     from: &Bank,
@@ -84,7 +85,8 @@ pub fn rename_type(
     requires places { All (λ p. p < length to.old) of.now }
     ensures extends { Extends to.old to.new }
     ensures within { IfOk result (λ p. p < length to.new) }
-    ensures here { IfOk result (λ p. type_at to.new p ≡ substitute (replacement to.old of.now) (type_at from.now place)) }
+    ensures here { IfOk result (λ p. type_at to.new p
+        ≡ substitute (replacement to.old of.now) (type_at from.now place)) }
 {
     rename_part(alloc, &from.parts(), place, to, of)
 }
@@ -101,7 +103,10 @@ pub(crate) fn rename_part(
     requires places { All (λ p. p < length to.old) of.now }
     ensures extends { Extends to.old to.new }
     ensures within { IfOk result (λ p. p < length to.new) }
-    ensures here { IfOk result (λ p. type_at to.new p ≡ substitute (replacement to.old of.now) (type_at from.now place)) }
+    ensures here { IfOk result (λ p. type_at to.new p
+        ≡ substitute (replacement to.old of.now) (type_at from.now place)) }
+    ensures below { OnOk result
+        (HaveVariablesOf to.old to.new (substitute (replacement to.old of.now) (type_at from.now place))) }
 {
     let marks = reached(alloc, from, place)?;
     let mut places = vec![in alloc; 0usize; from.len()]?;
@@ -114,8 +119,8 @@ pub(crate) fn rename_part(
     Ok(places[place])
 }
 
-/// Puts each type of `from` into `to`, with the type at place `of[v]` of `to` in place of each variable v, and gives the
-/// place in `to` for each place of `from`. A variable past the end of `of` stays.
+/// Puts each type of `from` into `to`, with the type at place `of[v]` of `to` in place of each variable v, and gives
+/// the place in `to` for each place of `from`. A variable past the end of `of` stays.
 pub fn rename(
     alloc: Global,
     from: &Bank,
@@ -158,8 +163,8 @@ fn find_renamed(bank: &Bank, shape: Shape, places: &[Option<usize>], of: &[usize
     }
 }
 
-/// Whether the type at a place of the bank is the one at place `part` of `from`, with the type at place `of[v]` of the bank
-/// in place of each variable v.
+/// Whether the type at a place of the bank is the one at place `part` of `from`, with the type at place `of[v]` of the
+/// bank in place of each variable v.
 pub(crate) fn is_renamed_part(
     alloc: Global,
     from: &Parts<'_>,
@@ -170,7 +175,8 @@ pub(crate) fn is_renamed_part(
 ) -> Result<bool, AllocError>
     requires part { part < length from.now }
     requires of { All (λ p. p < length bank.now) of.now }
-    ensures { IfOk result (λ holds. IsTrue holds → type_at bank.now place ≡ substitute (replacement bank.now of.now) (type_at from.now part)) }
+    ensures { IfOk result (λ holds. IsTrue holds
+        → type_at bank.now place ≡ substitute (replacement bank.now of.now) (type_at from.now part)) }
 {
     let mut places: Vec<Option<usize>> = Vec::with_capacity(alloc, from.len())?;
     for next in 0..from.len() {

@@ -4,8 +4,8 @@ use crate::shape::Shape;
 use std::marker::Model;
 use std::sync::Arc;
 
-/// A type: the shapes of its parts, each behind those that it is made of, no two of them equal, and its own last. Copies
-/// share them.
+/// A type: the shapes of its parts, each behind those that it is made of, no two of them equal, and its own last.
+/// Copies share them.
 pub struct Ty {
     shapes: Arc<Vec<Shape>>,
     /// How many nodes it has, or `None` where they are more than `u64::MAX`.
@@ -21,7 +21,7 @@ impl Drop for Ty {
 }
 
 impl Model for Ty {
-    ghost use Rattle.nesl_types.specs.Term.{Term};
+    ghost use Rattle.nesl_types_bank.specs.Term.{Term};
     ghost use Rattle.nesl_types_bank.specs.Codes.{term_code};
     ghost use Rattle.nesl_types_bank.specs.Types.{types};
     ghost use Rattle.nesl_types_bank.specs.Lists.{last_type, IsType};
@@ -36,14 +36,15 @@ impl Model for Ty {
 }
 
 ghost use Rattle.std.specs.Prelude.{◌≡◌, ◌+◌, ◌<◌, ◌↔◌, All, length, IsTrue, IfOk, OnOk, MatchOption, fold};
-ghost use Rattle.nesl_types.specs.Term.{nodes, int, bool as boolean, char as character, variable, named, seq_of, both};
-ghost use Rattle.nesl_types.specs.Substitution.{substitute};
-ghost use Rattle.nesl_types.specs.Numbering.{variables, with_number};
+ghost use Rattle.nesl_types_bank.specs.Term.{nodes, int, bool as boolean, char as character, variable, named, seq_of};
+ghost use Rattle.nesl_types_bank.specs.Term.{both};
+ghost use Rattle.nesl_types_bank.specs.Substitution.{substitute};
+ghost use Rattle.nesl_types_bank.specs.Numbering.{variables, with_number};
 ghost use Rattle.nesl_types_bank.specs.Shapes.{IsShapeBelow, shape_type};
 ghost use Rattle.nesl_types_bank.specs.Types.{type_at, types, size_of, Extends};
-ghost use Rattle.nesl_types_bank.specs.Lists.{last_type, IsType};
+ghost use Rattle.nesl_types_bank.specs.Lists.{last_type, parts_of, IsType};
 ghost use Rattle.nesl_types_bank.specs.Kinds.{kind_type};
-ghost use Rattle.nesl_types_bank.specs.Renames.{replacement};
+ghost use Rattle.nesl_types_bank.specs.Renames.{replacement, HaveVariablesOf};
 
 use crate::bank::Bank;
 use crate::lists::{are_same, count, list_of_seq, list_parts, number_of, one_more};
@@ -108,8 +109,8 @@ impl Ty {
         Ty::leaf(alloc, Shape::Named(tag))
     }
 
-    /// The sequences of a type. It costs as much as the type has parts: to nest many, put them into a bank, and read the
-    /// last.
+    /// The sequences of a type. It costs as much as the type has parts: to nest many, put them into a bank, and read
+    /// the last.
     pub fn seq_of(alloc: Global, item: &Ty) -> Result<Ty, AllocError>
         ensures { IfOk result (λ t. t ≡ seq_of item.now) }
     {
@@ -141,6 +142,7 @@ impl Ty {
     pub fn parts(&self) -> Parts<'_>
         ensures some { 0 < length result }
         ensures last { last_type result ≡ self.now }
+        ensures order { result ≡ parts_of self.now }
     {
         Parts::of(self.shapes.as_slice())
     }
@@ -161,7 +163,8 @@ impl Ty {
         self.whole().kind()
     }
 
-    /// The same type once more. Copies nothing: `AllocError` is for a count of owners that is full, at 2^63 - 1 of them.
+    /// The same type once more. Copies nothing: `AllocError` is for a count of owners that is full, at 2^63 - 1 of
+    /// them.
     pub fn duplicate(&self, _alloc: Global) -> Result<Ty, AllocError>
         ensures { IfOk result (λ t. t ≡ self.now) }
     {
@@ -218,6 +221,7 @@ impl Ty {
         ensures extends { Extends to.old to.new }
         ensures within { IfOk result (λ p. p < length to.new) }
         ensures here { IfOk result (λ p. type_at to.new p ≡ substitute (replacement to.old of.now) self.now) }
+        ensures below { OnOk result (HaveVariablesOf to.old to.new (substitute (replacement to.old of.now) self.now)) }
     {
         self.whole().put(alloc, to, of)
     }
@@ -231,8 +235,8 @@ impl Ty {
         self.put(alloc, to, &[])
     }
 
-    /// Whether the type at a place of the bank is this one with the type at place `of[v]` in place of each variable v. A
-    /// variable past the end of `of` stays.
+    /// Whether the type at a place of the bank is this one with the type at place `of[v]` in place of each variable v.
+    /// A variable past the end of `of` stays.
     pub fn is_instance(
         &self,
         alloc: Global,
@@ -241,7 +245,8 @@ impl Ty {
         of: &[usize],
     ) -> Result<bool, AllocError>
         requires { All (λ p. p < length bank.now) of.now }
-        ensures { IfOk result (λ holds. IsTrue holds → type_at bank.now place ≡ substitute (replacement bank.now of.now) self.now) }
+        ensures { IfOk result (λ holds. IsTrue holds
+            → type_at bank.now place ≡ substitute (replacement bank.now of.now) self.now) }
     {
         self.whole().is_instance(alloc, bank, place, of)
     }

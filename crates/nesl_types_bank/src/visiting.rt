@@ -1,7 +1,7 @@
 //! The variables of types.
 
 ghost use Rattle.std.specs.Prelude.{◌≡◌, ◌++◌, ◌<◌, fold, length, IfOk, OnOk};
-ghost use Rattle.nesl_types.specs.Numbering.{variables as variables_of, with_number, first_occurrences};
+ghost use Rattle.nesl_types_bank.specs.Numbering.{variables as variables_of, with_number, first_occurrences};
 ghost use Rattle.nesl_types_bank.specs.Types.{type_at};
 ghost use Rattle.nesl_types_bank.specs.Visits.{parts, own_variables};
 

@@ -2,12 +2,12 @@
 use Rattle.std.proofs.Common.{◌≡◌, ℕ, ◌+◌, ◌<◌, ◌≤◌, ◌↔◌, inl, inr, List, length, get_or, sym, ap, ◌∙◌, subst, refl, arith}
 use Rattle.std.proofs.lemmas.Bool.{cases_lt}
 use Rattle.std.proofs.lemmas.List.{get_or_past, get_or_default}
-use Rattle.nesl_types.specs.Term.{Term, int, bool, char, variable, seq_of, both, named, term}
-use Rattle.nesl_types.specs.Substitution.{substitute}
+use Rattle.nesl_types_bank.specs.Term.{Term, int, bool, char, variable, seq_of, both, named}
+use Rattle.nesl_types_bank.specs.Substitution.{substitute}
 use Rattle.nesl_types_bank.specs.declared.graph.Node.{Node}
 use Rattle.nesl_types_bank.specs.declared.graph.Node.TheVariants.{Free}
 use Rattle.nesl_unify.specs.declared.solve.Equation.{Equation}
-use Rattle.nesl_types.specs.Numbering.{IsBelow}
+use Rattle.nesl_types_bank.specs.Numbering.{IsBelow}
 use Rattle.nesl_types_bank.specs.Graph.{Describes, Fits}
 use Rattle.nesl_unify.specs.Extends.{Extends, IsMade}
 
@@ -47,16 +47,16 @@ below_more n m (named k) l h = tt
 
 -- the first i equations hold
 abbrev pub SolvesFirst : (ℕ → Term) → ℕ → List Equation → Type 0
-SolvesFirst s i es = (k : ℕ) (d : Equation) → k < i → substitute s (term (get_or es k d).left) ≡ substitute s (term (get_or es k d).right)
+SolvesFirst s i es = (k : ℕ) (d : Equation) → k < i → substitute s ((get_or es k d).left) ≡ substitute s ((get_or es k d).right)
 
-pub solves_more : (s : ℕ → Term) (i : ℕ) (es : List Equation) (e : Equation) → i < length es → e ≡ get_or es i e → (SolvesFirst s i es × (substitute s (term e.left) ≡ substitute s (term e.right))) ↔ SolvesFirst s (i + 1) es
+pub solves_more : (s : ℕ → Term) (i : ℕ) (es : List Equation) (e : Equation) → i < length es → e ≡ get_or es i e → (SolvesFirst s i es × (substitute s e.left ≡ substitute s e.right)) ↔ SolvesFirst s (i + 1) es
 solves_more s i es e l is = (
   λ h k d j. elim (cases_lt k i) [
     | inl m ↦ h.0 k d m
     | inr m ↦
         let same : k ≡ i = omega arith in
         let at : e ≡ get_or es k d = is ∙ get_or_default es i e d l ∙ ap (λ n. get_or es n d) (sym same) in
-        subst (λ (x : Equation). substitute s (term x.left) ≡ substitute s (term x.right)) at h.1
+        subst (λ (x : Equation). substitute s x.left ≡ substitute s x.right) at h.1
   ],
-  λ h. ((λ k d j. h k d (omega arith)), subst (λ (x : Equation). substitute s (term x.left) ≡ substitute s (term x.right)) (sym is) (h i e (omega arith))),
+  λ h. ((λ k d j. h k d (omega arith)), subst (λ (x : Equation). substitute s x.left ≡ substitute s x.right) (sym is) (h i e (omega arith))),
 )

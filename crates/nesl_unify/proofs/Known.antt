@@ -1,21 +1,23 @@
 -- Equations that grow, and what is known of their variables.
-use Rattle.std.proofs.Common.{◌≡◌, ℕ, ◌+◌, ◌<◌, ◌⊎◌, ◌++◌, ◌↔◌, inl, inr, List, [], ◌∷◌, All, length, get_or, set, slice_index, refl, sym, ap, ◌∙◌, subst, arith}
+use Rattle.std.proofs.Common.{◌≡◌, ℕ, ◌+◌, ◌<◌, ◌⊎◌, ◌++◌, ◌↔◌, inl, inr, List, [], ◌∷◌, All, length, get_or, set, refl, sym, ap, ◌∙◌, subst, arith}
 use Rattle.std.specs.Prelude.{Option, Some, None}
 use Rattle.std.specs.Option.{option_map_or}
 use Rattle.std.proofs.lemmas.Bool.{cases_lt, cases_eq}
 use Rattle.std.proofs.lemmas.List.{get_or_append_left, get_or_push, get_or_past, get_or-set_same, get_or-set_other, length_push, length-set}
-use Rattle.std.proofs.lemmas.List.Elements.{All-push, All-pop}
-use Rattle.nesl_types.specs.Term.{Term, int, bool, char, variable, seq_of, both, named}
-use Rattle.nesl_types.specs.Numbering.{IsBelow}
-use Rattle.nesl_types.specs.Substitution.{substitute}
-use Rattle.nesl_types.proofs.Substitutions.{substitute-same, substitute-substitute}
+use Rattle.std.proofs.lemmas.List.Elements.{All-nil, All-push, All-pop, All-weaker}
+use Rattle.std.proofs.lemmas.Option.{slice_get-get_or}
+use Rattle.nesl_types_bank.specs.Term.{Term, int, bool, char, variable, seq_of, both, named}
+use Rattle.nesl_types_bank.specs.Numbering.{IsBelow}
+use Rattle.nesl_types_bank.specs.Substitution.{substitute}
+use Rattle.nesl_types_bank.proofs.Substitutions.{substitute-substitute}
 use Rattle.nesl_types_bank.specs.Types.{type_at, Extends}
+use Rattle.nesl_types_bank.specs.Renames.{replacement}
 use Rattle.nesl_unify.specs.declared.equations.Sides.{Sides}
 use Rattle.nesl_unify.specs.declared.equations.Equations.{Equations}
 use Rattle.nesl_unify.specs.declared.system.System.{System}
-use Rattle.nesl_unify.specs.Places.{place_for, placed, ArePlaces, IsAdded}
+use Rattle.nesl_unify.specs.Places.{place_for, IsAdded}
 use Rattle.nesl_unify.specs.Systems.{IsAsKnown, HoldIn, Hold, AreEquationsIn, AreEquations, Holds, IsSystem}
-use Rattle.nesl_unify.specs.Growth.{IsFreeAt, Grows, Says, Follows, ArePlacesOf}
+use Rattle.nesl_unify.specs.Growth.{IsFreeAt, Grows, Puts, Adds, Says, Follows, ArePlacesOf, IsBegun}
 use Rattle.nesl_unify.proofs.Grown.{below_more}
 use Rattle.nesl_unify.proofs.Placed.{extends_none, extends_more, places_wider}
 use Rattle.nesl_unify.proofs.Solved.{substitute_below}
@@ -61,35 +63,12 @@ below_substitute m n r (seq_of t) b h = below_substitute m n r t b h
 below_substitute m n r (both t u) b h = (below_substitute m n r t b.0 h, below_substitute m n r u b.1 h)
 below_substitute m n r (named k) b h = tt
 
--- what stands for a variable is made of variables below n
-pub below_placed : (n : ℕ) (ts : List Term) (places : List (Option ℕ)) (v : ℕ) → All (IsBelow n) ts → ArePlaces (length ts) places → (place_for places v ≡ None → v < n) → IsBelow n (placed ts places v)
-below_placed n ts places v a h i = by_place (place_for places v) refl
-  where
-    by_place : (o : Option ℕ) → place_for places v ≡ o → IsBelow n (option_map_or (type_at ts) o (variable v))
-    by_place None e = i e
-    by_place (Some p) e = a p int (h v p e)
-
 pub added_equations : (old new : List Term) (ks : List (Option ℕ)) (es : List Sides) (t : Term) (p : ℕ) → AreEquationsIn old ks es → IsAdded old new t p → IsBelow (length ks) t → AreEquationsIn new ks es
 added_equations old new ks es t p a i b = record {
   below = i.below (length ks) a.below b;
   places = places_wider (length old) (length new) ks i.extends.longer a.places;
   sides = λ k d l. let h = a.sides k d l in let w = i.extends.longer in (omega arith, omega arith);
 }
-
-pub below_known : (ts : List Term) (ks : List (Option ℕ)) (es : List Sides) (t : Term) → AreEquationsIn ts ks es → IsBelow (length ks) t → IsBelow (length ks) (substitute (placed ts ks) t)
-below_known ts ks es t a b = below_substitute (length ks) (length ks) (placed ts ks) t b (λ v l. below_placed (length ks) ts ks v a.below a.places (λ e. l))
-
-pub placed_known : (s : ℕ → Term) (ts : List Term) (ks : List (Option ℕ)) → IsAsKnown ts ks s → (v : ℕ) → substitute s (placed ts ks v) ≡ s v
-placed_known s ts ks h v = by_place (place_for ks v) refl
-  where
-    by_place : (o : Option ℕ) → place_for ks v ≡ o → substitute s (option_map_or (type_at ts) o (variable v)) ≡ s v
-    by_place None e = refl
-    by_place (Some p) e = sym (h v p e)
-
--- what is known may stand in place of the variables
-pub means_known : (s : ℕ → Term) (old new : List Term) (ks : List (Option ℕ)) (t : Term) (p : ℕ) → IsAdded old new (substitute (placed old ks) t) p → IsAsKnown old ks s → substitute s (type_at new p) ≡ substitute s t
-means_known s old new ks t p i h =
-    ap (substitute s) i.here ∙ substitute-substitute s (placed old ks) t ∙ substitute-same (λ v. substitute s (placed old ks v)) s t (placed_known s old ks h)
 
 -- a variable more
 pub place_push : (ks : List (Option ℕ)) (v : ℕ) → place_for (ks ++ None ∷ []) v ≡ place_for ks v
@@ -249,23 +228,6 @@ follows_then a b c P Q R f g i j = record {
   complete = λ s h r. g.complete s (f.complete s h (i s r)) (j s r);
 }
 
--- what sequences or pairs are, their parts are
-pub follows_seq : (a b : Equations) (fresh : List ℕ) (t : Term) (item place : ℕ) → type_at a.types place ≡ seq_of (type_at a.types item) → Follows a b (λ s. substitute (λ v. s (slice_index fresh v)) t ≡ substitute s (type_at a.types item)) →
-    Follows a b (λ s. substitute (λ v. s (slice_index fresh v)) (seq_of t) ≡ substitute s (type_at a.types place))
-follows_seq a b fresh t item place e f =
-    follows_as a b _ _ f (λ s i h. let d : seq_of (substitute (λ v. s (slice_index fresh v)) t) ≡ seq_of (substitute s (type_at a.types item)) = h ∙ ap (substitute s) e in cc)
-
-pub follows_both : (a b c : Equations) (fresh : List ℕ) (t u : Term) (left right place : ℕ) → type_at a.types place ≡ both (type_at a.types left) (type_at a.types right) →
-    Follows a b (λ s. substitute (λ v. s (slice_index fresh v)) t ≡ substitute s (type_at a.types left)) → Follows b c (λ s. substitute (λ v. s (slice_index fresh v)) u ≡ substitute s (type_at b.types right)) →
-    Follows a c (λ s. substitute (λ v. s (slice_index fresh v)) (both t u) ≡ substitute s (type_at a.types place))
-follows_both a b c fresh t u left right place e f g =
-    let z = subst (λ (ts : List Term). Follows b c (λ s. substitute (λ v. s (slice_index fresh v)) u ≡ substitute s (type_at ts right))) f.types g in
-    follows_then a b c _ _ _ f z
-    (λ s h.
-    let i : both (substitute (λ v. s (slice_index fresh v)) t) (substitute (λ v. s (slice_index fresh v)) u) ≡ both (substitute s (type_at a.types left)) (substitute s (type_at a.types right)) = h ∙ ap (substitute s) e in cc)
-    (λ s h.
-    let i : both (substitute (λ v. s (slice_index fresh v)) t) (substitute (λ v. s (slice_index fresh v)) u) ≡ both (substitute s (type_at a.types left)) (substitute s (type_at a.types right)) = h ∙ ap (substitute s) e in cc)
-
 -- both sides that were put in
 pub joined_holds : (a b c d : Equations) (left right : ℕ) (t u : Term) → AreEquations a → Grows a b → Grows b c → (left < length b.types) →
     ((s : ℕ → Term) → IsAsKnown a.types a.known.items s → substitute s (type_at b.types left) ≡ substitute s t) →
@@ -293,67 +255,49 @@ defined_holds a b c v right u m g x z s =
     )
 
 -- the places of the first k variables
-pub record AreFirst (types : List Term) (known : List (Option ℕ)) (new : List Term) (fresh : List ℕ) (k : ℕ) (places : List (Option ℕ)) : Type 0 where
+pub record AreFirst (types : List Term) (known : List (Option ℕ)) (new : List Term) (fresh : List ℕ) (k : ℕ) (places : List ℕ) : Type 0 where
   pub len : length places ≡ k
-  pub within : ArePlaces (length new) places
-  pub given : (v : ℕ) → v < k → (p : ℕ) × (place_for places v ≡ Some p)
-  pub here : (s : ℕ → Term) → IsAsKnown types known s → (v p : ℕ) → place_for places v ≡ Some p → substitute s (type_at new p) ≡ s (slice_index fresh v)
-
-no_place : (v p : ℕ) → place_for [] v ≡ Some p → ⊥
-no_place v p e = let d : None ≡ Some p = sym (get_or_past [] v None (omega arith)) ∙ e in cc
+  pub within : All (λ p. p < length new) places
+  pub here : (s : ℕ → Term) → IsAsKnown types known s → (v : ℕ) → v < k → substitute s (type_at new (get_or places v 0)) ≡ s (get_or fresh v 0)
 
 pub first_none : (types : List Term) (known : List (Option ℕ)) (new : List Term) (fresh : List ℕ) → AreFirst types known new fresh 0 []
-first_none types known new fresh = record {
-  len = refl;
-  within = λ v p e. absurd (no_place v p e);
-  given = λ v l. absurd (omega arith);
-  here = λ s h v p e. absurd (no_place v p e);
-}
+first_none types known new fresh = record { len = refl; within = All-nil (λ p. p < length new); here = λ s h v l. absurd (omega arith) }
 
--- a place is an old one, or the last
-place_cases : (places : List (Option ℕ)) (p v q : ℕ) → place_for (places ++ Some p ∷ []) v ≡ Some q → (place_for places v ≡ Some q) ⊎ ((v ≡ length places) × (q ≡ p))
-place_cases places p v q e = elim (cases_lt v (length places)) [
-  | inl l ↦ inl (sym (get_or_append_left places (Some p ∷ []) None v l) ∙ e)
-  | inr g ↦ elim (cases_eq v (length places)) [
-    | inl i ↦ let d = get_or_push places (Some p) None v (sym i) in inr (i, cc)
-    | inr i ↦ let d = get_or_past (places ++ Some p ∷ []) v None (omega (arith, length_push places (Some p))) in absurd cc
-  ]
-]
-
-pub first_more : (types : List Term) (known : List (Option ℕ)) (mid new : List Term) (fresh : List ℕ) (k : ℕ) (places more : List (Option ℕ)) (p : ℕ) → AreFirst types known mid fresh k places → Extends mid new → p < length new →
-    ((s : ℕ → Term) → IsAsKnown types known s → substitute s (type_at new p) ≡ s (slice_index fresh k)) → more ≡ places ++ Some p ∷ [] → AreFirst types known new fresh (k + 1) more
+pub first_more : (types : List Term) (known : List (Option ℕ)) (mid new : List Term) (fresh : List ℕ) (k : ℕ) (places more : List ℕ) (p : ℕ) → AreFirst types known mid fresh k places → Extends mid new → p < length new →
+    ((s : ℕ → Term) → IsAsKnown types known s → substitute s (type_at new p) ≡ s (get_or fresh k 0)) → more ≡ places ++ p ∷ [] → AreFirst types known new fresh (k + 1) more
 first_more types known mid new fresh k places more p a x l h e = rw e (record {
-  len = length_push places (Some p) ∙ ap (λ n. n + 1) a.len;
-  within = λ v q i. elim (place_cases places p v q i) [
-    | inl j ↦ let b = a.within v q j in let w = x.longer in omega arith
-    | inr j ↦ omega arith
-  ];
-  given = λ v b. elim (cases_lt v k) [
-    | inl j ↦ let g = a.given v j in (g.0, get_or_append_left places (Some p ∷ []) None v (omega (arith, a.len)) ∙ g.1)
-    | inr j ↦ (p, get_or_push places (Some p) None v (omega (arith, a.len)))
-  ];
-  here = λ s i v q j. elim (place_cases places p v q j) [
-    | inl m ↦ ap (substitute s) (x.kept q (a.within v q m)) ∙ a.here s i v q m
-    | inr m ↦
-        let at : k ≡ v = omega (arith, a.len) in
-        ap (λ n. substitute s (type_at new n)) m.1 ∙ h s i ∙ ap (λ n. s (slice_index fresh n)) at
+  len = length_push places p ∙ ap (λ n. n + 1) a.len;
+  within = All-push (λ q. q < length new) places p (All-weaker (λ q. q < length mid) (λ q. q < length new) (λ q i. let w = x.longer in omega arith) places a.within) l;
+  here = λ s i v b. elim (cases_lt v k) [
+    | inl j ↦
+        let inside : v < length places = omega (arith, a.len) in
+        let was : get_or places v 0 < length mid = a.within v 0 inside in
+        ap (λ n. substitute s (type_at new n)) (get_or_append_left places (p ∷ []) 0 v inside) ∙ ap (substitute s) (x.kept (get_or places v 0) was) ∙ a.here s i v j
+    | inr j ↦
+        let at : k ≡ v = omega arith in
+        ap (λ n. substitute s (type_at new n)) (get_or_push places p 0 v (a.len ∙ at)) ∙ h s i ∙ ap (λ n. s (get_or fresh n 0)) at
   ];
 })
 
-pub first_whole : (types : List Term) (known : List (Option ℕ)) (new : List Term) (fresh : List ℕ) (k : ℕ) (places : List (Option ℕ)) → k ≡ length fresh → AreFirst types known new fresh k places → ArePlacesOf types known new fresh places
-first_whole types known new fresh k places e a = record { len = a.len ∙ e; within = a.within; given = λ v l. a.given v (omega arith); here = a.here }
+pub first_whole : (types : List Term) (known : List (Option ℕ)) (new : List Term) (fresh : List ℕ) (k : ℕ) (places : List ℕ) → k ≡ length fresh → AreFirst types known new fresh k places → ArePlacesOf types known new fresh places
+first_whole types known new fresh k places e a = record { len = a.len ∙ e; within = a.within; here = λ s h v l. a.here s h v (omega arith) }
+
+-- what stands for a variable that has a place
+replaced_at : (ts : List Term) (of : List ℕ) (v : ℕ) → v < length of → replacement ts of v ≡ type_at ts (get_or of v 0)
+replaced_at ts of v l = ap (λ o. option_map_or (type_at ts) o (variable v)) (slice_get-get_or of v 0 l)
 
 -- an instance of a type that was put in
-pub instance_below : (n : ℕ) (types ts : List Term) (known of : List (Option ℕ)) (fresh : List ℕ) (t : Term) → All (IsBelow n) ts → ArePlacesOf types known ts fresh of → IsBelow (length fresh) t → IsBelow n (substitute (placed ts of) t)
-instance_below n types ts known of fresh t a h b =
-    below_substitute (length fresh) n (placed ts of) t b (λ v l. below_placed n ts of v a h.within (λ e. let g = h.given v l in let d : None ≡ Some g.0 = sym e ∙ g.1 in absurd cc))
+pub instance_below : (n : ℕ) (types ts : List Term) (known : List (Option ℕ)) (fresh of : List ℕ) (t : Term) → All (IsBelow n) ts → ArePlacesOf types known ts fresh of → IsBelow (length fresh) t → IsBelow n (substitute (replacement ts of) t)
+instance_below n types ts known fresh of t a h b =
+    below_substitute (length fresh) n (replacement ts of) t b
+    (λ v l. let i : v < length of = omega (arith, h.len) in subst (IsBelow n) (sym (replaced_at ts of v i)) (a (get_or of v 0) int (h.within v 0 i)))
 
-pub instance_means : (s : ℕ → Term) (types ts new : List Term) (known of : List (Option ℕ)) (fresh : List ℕ) (t : Term) (p : ℕ) → IsAdded ts new (substitute (placed ts of) t) p → ArePlacesOf types known ts fresh of → IsAsKnown types known s →
-    IsBelow (length fresh) t → substitute s (type_at new p) ≡ substitute (λ v. s (slice_index fresh v)) t
-instance_means s types ts new known of fresh t p i h k b =
-    ap (substitute s) i.here ∙ substitute-substitute s (placed ts of) t
-    ∙ substitute_below (length fresh) (λ v. substitute s (placed ts of v)) (λ v. s (slice_index fresh v)) t b
-    (λ v l. let g = h.given v l in ap (λ o. substitute s (option_map_or (type_at ts) o (variable v))) g.1 ∙ h.here s k v g.0 g.1)
+pub instance_means : (s : ℕ → Term) (types ts new : List Term) (known : List (Option ℕ)) (fresh of : List ℕ) (t : Term) (p : ℕ) → IsAdded ts new (substitute (replacement ts of) t) p → ArePlacesOf types known ts fresh of → IsAsKnown types known s →
+    IsBelow (length fresh) t → substitute s (type_at new p) ≡ substitute (λ v. s (get_or fresh v 0)) t
+instance_means s types ts new known fresh of t p i h k b =
+    ap (substitute s) i.here ∙ substitute-substitute s (replacement ts of) t
+    ∙ substitute_below (length fresh) (λ v. substitute s (replacement ts of v)) (λ v. s (get_or fresh v 0)) t b
+    (λ v l. ap (substitute s) (replaced_at ts of v (omega (arith, h.len))) ∙ h.here s k v l)
 
 pub added_grows : (a : Equations) (new : List Term) (t : Term) (p : ℕ) → AreEquations a → IsAdded a.types new t p → IsBelow (length a.known.items) t → Grows a (record a { types = new })
 added_grows a new t p m i b = record {
@@ -371,6 +315,81 @@ instance_holds a b e f right v u w p y z s =
       λ i. let j = h.0 i in (w.sound s j.0, j.1),
       λ i. h.1 (w.complete s i.0 i.1, i.1),
     )
+
+-- types that were put in
+pub puts_added : (a : Equations) (new : List Term) (t : Term) (p : ℕ) → AreEquations a → IsAdded a.types new t p → IsBelow (length a.known.items) t → Puts a (record a { types = new }) t p
+puts_added a new t p m i b = record { grows = added_grows a new t p m i b; within = i.within; here = λ s h. ap (substitute s) i.here }
+
+-- what is known of a variable
+pub puts_known : (a : Equations) (v p : ℕ) → AreEquations a → place_for a.known.items v ≡ Some p → Puts a a (variable v) p
+puts_known a v p m e = record { grows = grows_none a m; within = m.places v p e; here = λ s h. sym (h v p e) }
+
+-- its variables are those of the equations
+pub puts_below : (a b : Equations) (t : Term) (p : ℕ) → Puts a b t p → IsBelow (length b.known.items) (type_at b.types p)
+puts_below a b t p x = x.grows.made.below p int x.within
+
+pub puts_seq : (a b c : Equations) (t : Term) (p q : ℕ) → AreEquations a → Puts a b t p → Puts b c (seq_of (type_at b.types p)) q → Puts a c (seq_of t) q
+puts_seq a b c t p q m x y = record {
+  grows = grows_more a b c x.grows y.grows;
+  within = y.within;
+  here = λ s h. y.here s (grows_known s a b m x.grows h) ∙ ap seq_of (x.here s h);
+}
+
+-- what was put in stays
+pub puts_later : (a b c : Equations) (t : Term) (p : ℕ) → Puts a b t p → Grows b c → Puts a c t p
+puts_later a b c t p x g = record {
+  grows = grows_more a b c x.grows g;
+  within = let l = x.within in let w = g.extends.longer in omega arith;
+  here = λ s h. ap (substitute s) (g.extends.kept p x.within) ∙ x.here s h;
+}
+
+pub puts_both : (a b c d : Equations) (t u : Term) (p q r : ℕ) → AreEquations a → Puts a b t p → Puts b c u q → Puts c d (both (type_at c.types p) (type_at c.types q)) r → Puts a d (both t u) r
+puts_both a b c d t u p q r m x y z =
+    let w = puts_later a b c t p x y.grows in
+    record {
+      grows = grows_more a c d w.grows z.grows;
+      within = z.within;
+      here = λ s h.
+          z.here s (grows_known s a c m w.grows h)
+          ∙ ap (λ k. both k (substitute s (type_at c.types q))) (w.here s h)
+          ∙ ap (both (substitute s t)) (y.here s (grows_known s a b m x.grows h));
+    }
+
+-- a variable is a type that was put in
+pub adds_defined : (a b c : Equations) (v p : ℕ) (t : Term) → AreEquations a → Puts a b t p → Says b c (λ s. s v ≡ substitute s (type_at b.types p)) → Adds a c (λ s. s v ≡ substitute s t)
+adds_defined a b c v p t m x z = record {
+  made = z.made;
+  count = z.count ∙ ap length x.grows.known;
+  holds = defined_holds a b c v p (λ s. substitute s t) m x.grows x.here z;
+}
+
+-- both sides are types that were put in
+pub adds_joined : (a b c d : Equations) (t u : Term) (p q : ℕ) → AreEquations a → Puts a b t p → Puts b c u q → Says c d (λ s. substitute s (type_at c.types p) ≡ substitute s (type_at c.types q)) → Adds a d (λ s. substitute s t ≡ substitute s u)
+adds_joined a b c d t u p q m x y z = record {
+  made = z.made;
+  count = z.count ∙ ap length y.grows.known ∙ ap length x.grows.known;
+  holds = joined_holds a b c d p q t u m x.grows y.grows x.within x.here y.here z;
+}
+
+-- an instance of a type is put in, of which `a` was all that was known
+pub begun_grows : (a b : Equations) (new : List Term) (v p : ℕ) (fresh of : List ℕ) (t : Term) → IsBegun a b v fresh t of → IsBelow (length fresh) t → IsAdded b.types new (substitute (replacement b.types of) t) p → Grows b (record b { types = new })
+begun_grows a b new v p fresh of t x l i =
+    let d = x.mid in
+    let m = x.put.grows.made in
+    added_grows b new (substitute (replacement b.types of) t) p m i (instance_below (length b.known.items) d.types b.types d.known.items fresh of t m.below x.put.here l)
+
+pub begun_adds : (a b c : Equations) (new : List Term) (v p : ℕ) (fresh of : List ℕ) (t : Term) → IsBegun a b v fresh t of → IsBelow (length fresh) t → IsAdded b.types new (substitute (replacement b.types of) t) p →
+    Says (record b { types = new }) c (λ s. s v ≡ substitute s (type_at new p)) → Adds a c (λ s. s v ≡ substitute (λ w. s (get_or fresh w 0)) t)
+begun_adds a b c new v p fresh of t x l i z =
+    let d = x.mid in
+    let e : Equations = record b { types = new } in
+    let g = begun_grows a b new v p fresh of t x l i in
+    record {
+      made = z.made;
+      count = z.count ∙ ap length x.put.grows.known ∙ x.learnt.count;
+      holds = instance_holds a d e c p v (λ s. substitute (λ w. s (get_or fresh w 0)) t) x.learnt (grows_more d b e x.put.grows g)
+          (λ s k. instance_means s d.types b.types new d.known.items fresh of t p i x.put.here k l) z;
+    }
 
 -- only the types of a system's variables matter
 pub holds_below : (a : System) (s z : ℕ → Term) → IsSystem a → ((v : ℕ) → v < length a.members.items → s v ≡ z v) → Holds a s → Holds a z

@@ -8,3 +8,6 @@ pub mod Narrowing
 pub mod Placed
 pub mod Known
 pub mod Starts
+pub mod Below
+pub mod Beside
+pub mod Moved

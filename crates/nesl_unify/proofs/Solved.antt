@@ -6,9 +6,9 @@ use Rattle.std.proofs.lemmas.Bool.{cases_lt}
 use Rattle.std.proofs.lemmas.List.{length-replicate, get_or_past}
 use Rattle.nesl_types.specs.declared.classes.Class.{Class}
 use Rattle.nesl_types.specs.Class.{IsIn}
-use Rattle.nesl_types.specs.Numbering.{IsBelow}
-use Rattle.nesl_types.specs.Term.{Term, int, bool, char, variable, seq_of, both, named, nodes}
-use Rattle.nesl_types.specs.Substitution.{substitute}
+use Rattle.nesl_types_bank.specs.Numbering.{IsBelow}
+use Rattle.nesl_types_bank.specs.Term.{Term, int, bool, char, variable, seq_of, both, named, nodes}
+use Rattle.nesl_types_bank.specs.Substitution.{substitute}
 use Rattle.nesl_types_bank.specs.declared.graph.Node.{Node}
 use Rattle.nesl_types_bank.specs.declared.graph.Node.TheVariants.{Free, Same, Int, Bool, Char, Named, SeqOf, Both}
 use Rattle.nesl_types_bank.specs.Graph.{node_at, Fits, IsFlat, IsGraph, IsNodeBelow, target, AreRead}

@@ -4,9 +4,9 @@ use Rattle.std.specs.Prelude.{Option, Some, None}
 use Rattle.std.proofs.lemmas.Bool.{cases_lt}
 use Rattle.std.proofs.lemmas.List.{get_or_past, get_or_push, get_or_append_left, get_or-replicate, get_or_default, length-replicate, length_push}
 use Rattle.std.proofs.lemmas.List.Elements.{All-nil, All-push, All-pop}
-use Rattle.nesl_types.specs.Term.{Term, int, seq_of}
-use Rattle.nesl_types.specs.Numbering.{IsBelow}
-use Rattle.nesl_types.specs.Substitution.{substitute}
+use Rattle.nesl_types_bank.specs.Term.{Term, int, seq_of}
+use Rattle.nesl_types_bank.specs.Numbering.{IsBelow}
+use Rattle.nesl_types_bank.specs.Substitution.{substitute}
 use Rattle.nesl_types_bank.specs.declared.shape.Shape.{Shape}
 use Rattle.nesl_types_bank.specs.declared.shape.Shape.TheVariants.{Int, Bool, Char, Var, Named, SeqOf, Both}
 use Rattle.nesl_types_bank.specs.Shapes.{IsShapeBelow, shape_type}

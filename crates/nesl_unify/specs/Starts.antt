@@ -1,6 +1,6 @@
 -- The table of equations: their variables, and behind them their types.
 use Rattle.std.specs.Prelude.{◌≡◌, ◌<◌, ◌+◌, ℕ, List, Option, Some, All, length, max}
-use Rattle.nesl_types.specs.Term.{Term}
+use Rattle.nesl_types_bank.specs.Term.{Term}
 use Rattle.nesl_types_bank.specs.declared.shape.Shape.{Shape}
 use Rattle.nesl_types_bank.specs.declared.shape.Shape.TheVariants as shape
 use Rattle.nesl_types_bank.specs.Shapes.{IsShapeBelow, shape_type}

@@ -1,9 +1,9 @@
 -- Systems: equations between types, and classes of variables.
 use Rattle.std.specs.Prelude.{◌≡◌, ◌<◌, ℕ, List, Option, Some, All, length}
 use Rattle.nesl_types.specs.declared.classes.Class.{Class}
-use Rattle.nesl_types.specs.Term.{Term}
-use Rattle.nesl_types.specs.Numbering.{IsBelow}
-use Rattle.nesl_types.specs.Substitution.{substitute}
+use Rattle.nesl_types_bank.specs.Term.{Term}
+use Rattle.nesl_types_bank.specs.Numbering.{IsBelow}
+use Rattle.nesl_types_bank.specs.Substitution.{substitute}
 use Rattle.nesl_types_bank.specs.Types.{type_at}
 use Rattle.nesl_unify.specs.declared.equations.Sides.{Sides}
 use Rattle.nesl_unify.specs.declared.equations.Equations.{Equations}

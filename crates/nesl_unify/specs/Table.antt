@@ -1,6 +1,6 @@
 -- A table of the nodes of types, each at a place.
 use Rattle.std.specs.Prelude.{◌<◌, ◌≤◌, ℕ, List, length}
-use Rattle.nesl_types.specs.Term.{Term, int, bool, char, variable, seq_of, both, named}
+use Rattle.nesl_types_bank.specs.Term.{Term, int, bool, char, variable, seq_of, both, named}
 use Rattle.nesl_types_bank.specs.declared.graph.Node.{Node}
 use Rattle.nesl_types_bank.specs.declared.graph.Node.TheVariants.{Free, Same, Int, Bool, Char, Named, SeqOf, Both}
 use Rattle.nesl_types_bank.specs.Graph.{node_at, target}

@@ -3,7 +3,9 @@
 
 mod equations;
 pub mod fault;
+pub mod flat;
 mod instance;
+mod learning;
 pub mod narrow;
 mod room;
 mod solution;
@@ -15,4 +17,5 @@ mod types;
 mod unify;
 
 pub use fault::SolveFault;
+pub use flat::Flat;
 pub use system::System;

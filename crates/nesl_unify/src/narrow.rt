@@ -2,8 +2,8 @@
 
 ghost use Rattle.std.specs.Prelude.{◌≡◌, ◌≢◌, ◌<◌, ◌↔◌, ℕ, All, IsTrue, IfOk, IsErrOf, OnOk, vec_len};
 ghost use Rattle.nesl_types.specs.declared.classes.Class.{Class};
-ghost use Rattle.nesl_types.specs.Term.{Term};
-ghost use Rattle.nesl_types.specs.Substitution.{substitute};
+ghost use Rattle.nesl_types_bank.specs.Term.{Term};
+ghost use Rattle.nesl_types_bank.specs.Substitution.{substitute};
 ghost use Rattle.nesl_types.specs.Class.{IsIn};
 ghost use Rattle.nesl_unify.specs.Table.{outside, outside_at};
 ghost use Rattle.nesl_types.specs.Class.{class_at};
@@ -42,8 +42,11 @@ fn make_class_room(classes: &mut Vec<Class>, variable: u64) -> Result<(), AllocE
 
 /// Restricts a variable to a class.
 fn restrict(classes: &mut Vec<Class>, variable: u64, class: Class) -> Result<(), AllocError>
-    ensures here { OnOk result ((of : ℕ → Class) → (t : Term) → IsIn of (class_at classes.new.items variable) t ↔ (IsIn of (class_at classes.old.items variable) t × IsIn of class t)) }
-    ensures others { OnOk result ((v : ℕ) → v ≢ variable → class_at classes.new.items v ≡ class_at classes.old.items v) }
+    ensures here { OnOk result ((of : ℕ → Class) → (t : Term)
+        → IsIn of (class_at classes.new.items variable) t
+        ↔ (IsIn of (class_at classes.old.items variable) t × IsIn of class t)) }
+    ensures others { OnOk result ((v : ℕ) → v ≢ variable
+        → class_at classes.new.items v ≡ class_at classes.old.items v) }
 {
     make_class_room(classes, variable)?;
     let place = variable as usize;
@@ -59,9 +62,13 @@ fn restrict_node(
     class: Class,
 ) -> Result<(), SolveFault>
     ensures within { OnOk result (IsIn (class_at classes.new.items) class (outside place node)) }
-    ensures narrower { OnOk result ((v : ℕ) → (of : ℕ → Class) → (t : Term) → IsIn of (class_at classes.new.items v) t → IsIn of (class_at classes.old.items v) t) }
-    ensures general { OnOk result ((w : ℕ → Term) → (of : ℕ → Class) → IsIn of class (substitute w (outside place node)) → ((v : ℕ) → IsIn of (class_at classes.old.items v) (w v)) → (v : ℕ) → IsIn of (class_at classes.new.items v) (w v)) }
-    ensures none { IsErrOf result SolveFault.NoSolution → (w : ℕ → Term) → (of : ℕ → Class) → IsIn of class (substitute w (outside place node)) → ⊥ }
+    ensures narrower { OnOk result ((v : ℕ) → (of : ℕ → Class) → (t : Term) → IsIn of (class_at classes.new.items v) t
+        → IsIn of (class_at classes.old.items v) t) }
+    ensures general { OnOk result ((w : ℕ → Term) → (of : ℕ → Class) → IsIn of class (substitute w (outside place node))
+        → ((v : ℕ) → IsIn of (class_at classes.old.items v) (w v)) → (v : ℕ)
+        → IsIn of (class_at classes.new.items v) (w v)) }
+    ensures none { IsErrOf result SolveFault.NoSolution → (w : ℕ → Term) → (of : ℕ → Class)
+        → IsIn of class (substitute w (outside place node)) → ⊥ }
 {
     match (node, class) {
         (Node::Free, _) => Ok(restrict(classes, place as u64, class)?),
@@ -80,10 +87,16 @@ fn restrict_member(
     nodes: &[Node],
     member: &Member,
 ) -> Result<(), SolveFault>
-    ensures within { OnOk result (IsIn (class_at classes.new.items) member.now.class (outside_at nodes.now member.now.variable)) }
-    ensures narrower { OnOk result ((v : ℕ) → (of : ℕ → Class) → (t : Term) → IsIn of (class_at classes.new.items v) t → IsIn of (class_at classes.old.items v) t) }
-    ensures general { OnOk result ((w : ℕ → Term) → (of : ℕ → Class) → IsIn of member.now.class (substitute w (outside_at nodes.now member.now.variable)) → ((v : ℕ) → IsIn of (class_at classes.old.items v) (w v)) → (v : ℕ) → IsIn of (class_at classes.new.items v) (w v)) }
-    ensures none { IsErrOf result SolveFault.NoSolution → (w : ℕ → Term) → (of : ℕ → Class) → IsIn of member.now.class (substitute w (outside_at nodes.now member.now.variable)) → ⊥ }
+    ensures within { OnOk result (IsIn (class_at classes.new.items) member.now.class
+        (outside_at nodes.now member.now.variable)) }
+    ensures narrower { OnOk result ((v : ℕ) → (of : ℕ → Class) → (t : Term) → IsIn of (class_at classes.new.items v) t
+        → IsIn of (class_at classes.old.items v) t) }
+    ensures general { OnOk result ((w : ℕ → Term) → (of : ℕ → Class)
+        → IsIn of member.now.class (substitute w (outside_at nodes.now member.now.variable))
+        → ((v : ℕ) → IsIn of (class_at classes.old.items v) (w v)) → (v : ℕ)
+        → IsIn of (class_at classes.new.items v) (w v)) }
+    ensures none { IsErrOf result SolveFault.NoSolution → (w : ℕ → Term) → (of : ℕ → Class)
+        → IsIn of member.now.class (substitute w (outside_at nodes.now member.now.variable)) → ⊥ }
 {
     let root = target(nodes, member.variable as usize);
     restrict_node(classes, root, node_at(nodes, root), member.class)?;
@@ -97,8 +110,11 @@ pub(crate) fn narrow(
     members: &[Member],
 ) -> Result<Vec<Class>, SolveFault>
     ensures within { IfOk result (λ cs. IsInAll (outside_at nodes.now) (class_at cs.items) members.now) }
-    ensures general { IfOk result (λ cs. (w : ℕ → Term) → (of : ℕ → Class) → IsInAll (λ v. substitute w (outside_at nodes.now v)) of members.now → (v : ℕ) → IsIn of (class_at cs.items v) (w v)) }
-    ensures none { IsErrOf result SolveFault.NoSolution → (w : ℕ → Term) → (of : ℕ → Class) → IsInAll (λ v. substitute w (outside_at nodes.now v)) of members.now → ⊥ }
+    ensures general { IfOk result (λ cs. (w : ℕ → Term) → (of : ℕ → Class)
+        → IsInAll (λ v. substitute w (outside_at nodes.now v)) of members.now → (v : ℕ)
+        → IsIn of (class_at cs.items v) (w v)) }
+    ensures none { IsErrOf result SolveFault.NoSolution → (w : ℕ → Term) → (of : ℕ → Class)
+        → IsInAll (λ v. substitute w (outside_at nodes.now v)) of members.now → ⊥ }
 {
     let mut classes = Vec::with_capacity(alloc, members.len())?;
     for member in members {

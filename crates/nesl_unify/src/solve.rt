@@ -3,9 +3,9 @@
 ghost use Rattle.std.specs.Prelude.{◌≡◌, ◌<◌, ℕ, All, IfOk, IsErrOf};
 ghost use Rattle.nesl_types.specs.declared.classes.Class.{Class};
 ghost use Rattle.nesl_types.specs.Class.{class_at};
-ghost use Rattle.nesl_types.specs.Substitution.{substitute};
-ghost use Rattle.nesl_types.specs.Term.{Term, term};
-ghost use Rattle.nesl_types.specs.Numbering.{IsBelow};
+ghost use Rattle.nesl_types_bank.specs.Substitution.{substitute};
+ghost use Rattle.nesl_types_bank.specs.Term.{Term};
+ghost use Rattle.nesl_types_bank.specs.Numbering.{IsBelow};
 ghost use Rattle.nesl_unify.specs.Bounds.{IsBounded};
 
 use crate::equations::Equations;
@@ -51,8 +51,8 @@ ghost use Rattle.nesl_unify.specs.Met.{AreMet};
 ghost use Rattle.nesl_unify.specs.Pairs.{IsPairBelow};
 ghost use Rattle.nesl_unify.specs.Systems.{AreEquations, Hold};
 
-/// A most general solution of a table in which the places of each pair are one, and each member's variable has a type of its
-/// class. The first `count` places are those of the variables.
+/// A most general solution of a table in which the places of each pair are one, and each member's variable has a type
+/// of its class. The first `count` places are those of the variables.
 pub(crate) fn solve_table(
     alloc: Global,
     count: usize,
@@ -65,9 +65,11 @@ pub(crate) fn solve_table(
     requires members { All (λ m. m.variable < count) members.now }
     ensures met { IfOk result (λ a. AreMet count nodes.items pending.items (type_of a)) }
     ensures within { IfOk result (λ a. IsInAll (type_of a) (class_of a) members.now) }
-    ensures general { IfOk result (λ a. (s : ℕ → Term) → (of : ℕ → Class) → AreMet count nodes.items pending.items s → IsInAll s of members.now → IsInstance (type_of a) (class_of a) s of) }
+    ensures general { IfOk result (λ a. (s : ℕ → Term) → (of : ℕ → Class) → AreMet count nodes.items pending.items s
+        → IsInAll s of members.now → IsInstance (type_of a) (class_of a) s of) }
     ensures bounded { IfOk result (λ a. IsBounded (type_of a)) }
-    ensures none { IsErrOf result SolveFault.NoSolution → (s : ℕ → Term) → (of : ℕ → Class) → IsBounded s → AreMet count nodes.items pending.items s → IsInAll s of members.now → ⊥ }
+    ensures none { IsErrOf result SolveFault.NoSolution → (s : ℕ → Term) → (of : ℕ → Class) → IsBounded s
+        → AreMet count nodes.items pending.items s → IsInAll s of members.now → ⊥ }
 {
     unify(nodes.as_mut_slice(), pending)?;
     let Read {
@@ -95,9 +97,11 @@ pub(crate) fn solve_equations(
     requires members { All (λ m. m.variable < length equations.now.known.items) members.now }
     ensures holds { IfOk result (λ a. Hold equations.now (type_of a)) }
     ensures within { IfOk result (λ a. IsInAll (type_of a) (class_of a) members.now) }
-    ensures general { IfOk result (λ a. (s : ℕ → Term) → (of : ℕ → Class) → Hold equations.now s → IsInAll s of members.now → IsInstance (type_of a) (class_of a) s of) }
+    ensures general { IfOk result (λ a. (s : ℕ → Term) → (of : ℕ → Class) → Hold equations.now s
+        → IsInAll s of members.now → IsInstance (type_of a) (class_of a) s of) }
     ensures bounded { IfOk result (λ a. IsBounded (type_of a)) }
-    ensures none { IsErrOf result SolveFault.NoSolution → (s : ℕ → Term) → (of : ℕ → Class) → IsBounded s → Hold equations.now s → IsInAll s of members.now → ⊥ }
+    ensures none { IsErrOf result SolveFault.NoSolution → (s : ℕ → Term) → (of : ℕ → Class) → IsBounded s
+        → Hold equations.now s → IsInAll s of members.now → ⊥ }
 {
     let count = equations.known.len();
     let nodes = start_nodes(alloc, count, &equations.types)?;
@@ -133,13 +137,13 @@ fn equations_of(alloc: Global, count: u64, equations: &[Equation]) -> Result<Equ
 {
     let mut all = no_equations(alloc, count)?;
     for equation in equations {
-        all.equate(&equation.left, &equation.right)?;
+        all.equate(alloc, &equation.left, &equation.right)?;
     }
     Ok(all)
 }
 
-/// A most general solution of the equations in which each member's variable has a type of its class. The variables are numbers
-/// below `count`.
+/// A most general solution of the equations in which each member's variable has a type of its class. The variables are
+/// numbers below `count`.
 pub fn solve(
     alloc: Global,
     count: u64,
@@ -149,9 +153,11 @@ pub fn solve(
     requires equations { AreBelow count equations.now }
     requires members { All (λ m. m.variable < count) members.now }
     ensures solves { IfOk result (λ a. IsSolution equations.now members.now (type_of a) (class_of a)) }
-    ensures general { IfOk result (λ a. (s : ℕ → Term) → (of : ℕ → Class) → IsSolution equations.now members.now s of → IsInstance (type_of a) (class_of a) s of) }
+    ensures general { IfOk result (λ a. (s : ℕ → Term) → (of : ℕ → Class) → IsSolution equations.now members.now s of
+        → IsInstance (type_of a) (class_of a) s of) }
     ensures bounded { IfOk result (λ a. IsBounded (type_of a)) }
-    ensures none { IsErrOf result SolveFault.NoSolution → (s : ℕ → Term) → (of : ℕ → Class) → IsBounded s → IsSolution equations.now members.now s of → ⊥ }
+    ensures none { IsErrOf result SolveFault.NoSolution → (s : ℕ → Term) → (of : ℕ → Class) → IsBounded s
+        → IsSolution equations.now members.now s of → ⊥ }
 {
     let equations = equations_of(alloc, count, equations)?;
     let solution = solve_equations(alloc, &equations, members)?;

@@ -1,7 +1,7 @@
 //! The table of equations: their variables, and behind them their types.
 
 ghost use Rattle.std.specs.Prelude.{◌≡◌, ◌<◌, ◌+◌, ◌^◌, ◌↔◌, ℕ, All, Some as Some', length, replicate, IfOk, OnOk};
-ghost use Rattle.nesl_types.specs.Term.{Term};
+ghost use Rattle.nesl_types_bank.specs.Term.{Term};
 ghost use Rattle.nesl_unify.specs.Pairs.{AreEqual, IsPairBelow};
 ghost use Rattle.nesl_unify.specs.Places.{place_for, ArePlaces};
 ghost use Rattle.nesl_unify.specs.Starts.{node_of, end_of_shape, IsStart, AreSidesEqual, AreKnownEqual};
@@ -51,7 +51,8 @@ pub fn start_nodes(alloc: Global, count: usize, types: &Bank) -> Result<Vec<Node
 /// The pairs of places of the sides in the table.
 fn pairs_of_sides(alloc: Global, count: usize, sides: &[Sides]) -> Result<Vec<Pair>, AllocError>
     requires { All (λ e. (count + e.left < 2 ^ 64) × (count + e.right < 2 ^ 64)) sides.now }
-    ensures below { IfOk result (λ ps. (n : ℕ) → All (λ e. (e.left < n) × (e.right < n)) sides.now → All (IsPairBelow (count + n)) ps.items) }
+    ensures below { IfOk result (λ ps. (n : ℕ) → All (λ e. (e.left < n) × (e.right < n)) sides.now
+        → All (IsPairBelow (count + n)) ps.items) }
     ensures equal { IfOk result (λ ps. (w : ℕ → Term) → AreEqual w ps.items ↔ AreSidesEqual count sides.now w) }
 {
     let mut pairs = Vec::with_capacity(alloc, sides.len())?;
@@ -67,8 +68,10 @@ fn pairs_of_sides(alloc: Global, count: usize, sides: &[Sides]) -> Result<Vec<Pa
 fn add_known(pairs: &mut Vec<Pair>, count: usize, known: &[Option<usize>]) -> Result<(), AllocError>
     requires count { length known.now ≡ count }
     requires places { (v : ℕ) → (p : ℕ) → place_for known.now v ≡ Some' p → count + p < 2 ^ 64 }
-    ensures below { OnOk result ((n : ℕ) → ArePlaces n known.now → All (IsPairBelow (count + n)) pairs.old.items → All (IsPairBelow (count + n)) pairs.new.items) }
-    ensures equal { OnOk result ((w : ℕ → Term) → AreEqual w pairs.new.items ↔ (AreEqual w pairs.old.items × AreKnownEqual count known.now w)) }
+    ensures below { OnOk result ((n : ℕ) → ArePlaces n known.now → All (IsPairBelow (count + n)) pairs.old.items
+        → All (IsPairBelow (count + n)) pairs.new.items) }
+    ensures equal { OnOk result ((w : ℕ → Term) → AreEqual w pairs.new.items
+        ↔ (AreEqual w pairs.old.items × AreKnownEqual count known.now w)) }
 {
     for variable in 0..count {
         if let Some(place) = place_for(known, variable as u64) {
@@ -91,8 +94,10 @@ pub fn start_pairs(
     requires count { length known.now ≡ count }
     requires sides { All (λ e. (count + e.left < 2 ^ 64) × (count + e.right < 2 ^ 64)) sides.now }
     requires places { (v : ℕ) → (p : ℕ) → place_for known.now v ≡ Some' p → count + p < 2 ^ 64 }
-    ensures below { IfOk result (λ ps. (n : ℕ) → All (λ e. (e.left < n) × (e.right < n)) sides.now → ArePlaces n known.now → All (IsPairBelow (count + n)) ps.items) }
-    ensures equal { IfOk result (λ ps. (w : ℕ → Term) → AreEqual w ps.items ↔ (AreSidesEqual count sides.now w × AreKnownEqual count known.now w)) }
+    ensures below { IfOk result (λ ps. (n : ℕ) → All (λ e. (e.left < n) × (e.right < n)) sides.now
+        → ArePlaces n known.now → All (IsPairBelow (count + n)) ps.items) }
+    ensures equal { IfOk result (λ ps. (w : ℕ → Term)
+        → AreEqual w ps.items ↔ (AreSidesEqual count sides.now w × AreKnownEqual count known.now w)) }
 {
     let mut pairs = pairs_of_sides(alloc, count, sides)?;
     add_known(&mut pairs, count, known)?;

@@ -3,7 +3,7 @@ use Rattle.std.specs.Prelude.{All, OnOk}
 use Rattle.std.proofs.lemmas.Result.{on_ok_weaker}
 use Rattle.std.proofs.lemmas.List.Elements.{All-nil, All-push, All-weaker}
 use Rattle.std.proofs.lemmas.Grind.{common_steps}
-use Rattle.nesl_types.specs.Term.{Term, term, int, bool, both}
+use Rattle.nesl_types_bank.specs.Term.{Term, int, bool, both}
 use Rattle.nesl_syntax_tree.specs.declared.tree.Node as declared
 use Rattle.nesl_syntax_tree.specs.Views.{type_tree, shape_of, trees_in, tree_of, binders_in, pattern_tree}
 use Rattle.nesl_syntax_tree.specs.declared.tree.Binding.{Binding}
@@ -20,6 +20,7 @@ use Rattle.nesl_infer_rules.specs.Principal.{bounded}
 use Rattle.nesl_infer_rules.proofs.Places.{fixed}
 use Rattle.nesl_infer_rules.proofs.Arms.{AllType, Types, infix_pair, arm_more, arm_sequence, retyped}
 use Rattle.nesl_infer.proofs.Shapes.{sequence_shape, let_shape, each_shape, filtered_shape, take-trees}
+use Rattle.nesl_unify.specs.Flat.{flat_type}
 use Rattle.nesl_infer.proofs.Parts.{typed, part_as, exactly_as, bounds_as, arm_part, arm_exactly, arm_bounds, arm_pair, arm_infix, arm_prefix, arm_call, arm_index, arm_choice, arm_range, arm_strided_range, arm_binders, arm_let, arm_each, arm_filtered_each}
 use Rattle.nesl_infer_rules.proofs.Applied.{Applies}
 use Rattle.nesl_infer_rules.proofs.Patterns.{NamesOf, added_below, locals-weaker}
@@ -131,8 +132,8 @@ constrain-returns-in-Number-clause-adds g t c =
     let S : (ℕ → Term) → Scope = λ s. scope_at s ls in
     let v = c.args.target in
     let e = c.args.exp.now in
-    typed _ _ N S e (declared.Number c.in-Number.field-0) (trees.number c.in-Number.field-0) v c.equate.result c.in-Number.is refl
-    c.equate.ensures
+    typed _ _ N S e (declared.Number c.in-Number.field-0) (trees.number c.in-Number.field-0) v c.equate_flat.result c.in-Number.is refl
+    c.equate_flat.ensures
 
 pub constrain-returns-in-Truth-clause-adds : goal.constrain-returns-in-Truth-clause-adds
 constrain-returns-in-Truth-clause-adds g t c =
@@ -141,8 +142,8 @@ constrain-returns-in-Truth-clause-adds g t c =
     let S : (ℕ → Term) → Scope = λ s. scope_at s ls in
     let v = c.args.target in
     let e = c.args.exp.now in
-    typed _ _ N S e (declared.Truth c.in-Truth.field-0) (trees.truth c.in-Truth.field-0) v c.equate-in-Truth.result c.in-Truth.is refl
-    c.equate-in-Truth.ensures
+    typed _ _ N S e (declared.Truth c.in-Truth.field-0) (trees.truth c.in-Truth.field-0) v c.equate_flat-in-Truth.result c.in-Truth.is refl
+    c.equate_flat-in-Truth.ensures
 
 pub constrain-returns-in-Character-clause-adds : goal.constrain-returns-in-Character-clause-adds
 constrain-returns-in-Character-clause-adds g t c =
@@ -151,8 +152,8 @@ constrain-returns-in-Character-clause-adds g t c =
     let S : (ℕ → Term) → Scope = λ s. scope_at s ls in
     let v = c.args.target in
     let e = c.args.exp.now in
-    typed _ _ N S e (declared.Character c.in-Character.field-0) (trees.character c.in-Character.field-0) v c.equate-in-Character.result c.in-Character.is refl
-    c.equate-in-Character.ensures
+    typed _ _ N S e (declared.Character c.in-Character.field-0) (trees.character c.in-Character.field-0) v c.equate_flat-in-Character.result c.in-Character.is refl
+    c.equate_flat-in-Character.ensures
 
 pub constrain-returns-in-Text-clause-adds : goal.constrain-returns-in-Text-clause-adds
 constrain-returns-in-Text-clause-adds g t c =
@@ -405,7 +406,7 @@ constrain_exactly-returns-clause-adds g t c =
     let ls = c.args.locals.now.items in
     let S : (ℕ → Term) → Scope = λ s. scope_at s ls in
     let f = fixed c.args.context.now (count c.args.state.now) c.args.own.now ls c.requires.own c.requires.locals in
-    on_ok_weaker c.constrain.result (arm_exactly N S f (tree_of c.args.exp.now) (term c.args.ty) c.in_ok-part.part c.in_ok-part.ensures.gives) c.constrain.ensures.adds
+    on_ok_weaker c.constrain.result (arm_exactly N S f (tree_of c.args.exp.now) (flat_type c.args.flat) c.in_ok-part.part c.in_ok-part.ensures.gives) c.constrain.ensures.adds
 
 pub constrain_bounds-returns-clause-gives : goal.constrain_bounds-returns-clause-gives
 constrain_bounds-returns-clause-gives g t c =

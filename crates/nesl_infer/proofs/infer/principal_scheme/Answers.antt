@@ -3,7 +3,7 @@ use Rattle.std.specs.Prelude.{option_map}
 use Rattle.nesl_types.specs.declared.classes.Class.{Class}
 use Rattle.nesl_types.specs.Class.{class_at}
 use Rattle.nesl_types.specs.Scheme.{IsSchemeOf}
-use Rattle.nesl_types.specs.Term.{Term, term}
+use Rattle.nesl_types_bank.specs.Term.{Term}
 use Rattle.nesl_syntax_tree.specs.Views.{tree_of, pattern_tree, signature_tree}
 use Rattle.nesl_unify.specs.Solves.{type_of, class_of}
 use Rattle.nesl_infer_rules.specs.declared.state.State.{State}
@@ -36,6 +36,6 @@ returns-clause-principal g c =
     let is : IsSchemeOf (type_of a ends.takes) (type_of a ends.gives) (class_of a) s =
     subst (λ (cs : List Class). IsSchemeOf (type_of a ends.takes) (type_of a ends.gives) (class_at cs) s) c.as_slice.ensures.value
     (subst (λ (x : Term). IsSchemeOf (type_of a ends.takes) x (class_at c.as_slice.result.now) s) c.in_ok-gives.ensures
-    (subst (λ (x : Term). IsSchemeOf x (term c.in_ok-gives.gives) (class_at c.as_slice.result.now) s) c.in_ok-takes.ensures c.in_ok-scheme.ensures)) in
+    (subst (λ (x : Term). IsSchemeOf x c.in_ok-gives.gives (class_at c.as_slice.result.now) s) c.in_ok-takes.ensures c.in_ok-scheme.ensures)) in
     scheme_principal C ends.takes ends.gives F w (type_of a) (class_of a) q.bounded q.solves q.general s is
     c.variables_have_classes.ensures.argument c.variables_have_classes.ensures.result

@@ -1,6 +1,6 @@
 use Rattle.std.proofs.Common.{◌≡◌, ℕ, true, sym, ap, subst, ◌∙◌}
 use Rattle.std.specs.Str.{bytes_eq}
-use Rattle.nesl_types.specs.Term.{Term}
+use Rattle.nesl_types_bank.specs.Term.{Term}
 use Rattle.nesl_infer_rules.specs.World.{Meanings, meanings_in}
 use Rattle.nesl_infer_rules.specs.Holds.{own_at, IsOwnBelow, count}
 use Rattle.nesl_infer_rules.proofs.Applied.{applied_single, own_means}
@@ -16,4 +16,4 @@ returns-then-eq g c =
     let below = subst (λ k. IsOwnBelow (count c.args.state.now) k) c.in-Some.is c.requires.own in
     let same : bytes_eq x o.name.items ≡ true = ap (bytes_eq x) (sym c.as_slice.ensures.value) ∙ sym c.if-eq.ensures in
     applied_single N x (λ s. s o.takes) (λ s. s o.gives) c.args.given c.args.target c.requires.target (λ s z a. a o.gives below.1) (λ s. own_means context own o x s c.in-Some.is same)
-    c.in_ok-equate.ensures c.in_ok-equate-2.ensures
+    c.in_ok-equate_flat.ensures c.in_ok-equate_flat-2.ensures

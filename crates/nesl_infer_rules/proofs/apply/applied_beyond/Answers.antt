@@ -1,7 +1,7 @@
 use Rattle.std.proofs.Common.{ℕ, Some, None, sym, ap, subst, ◌∙◌}
 use Rattle.nesl_types.specs.declared.bindings.Top.{Top}
 use Rattle.nesl_infer_rules.specs.Contexts.{IsClosed}
-use Rattle.nesl_types.specs.Term.{Term, term, named}
+use Rattle.nesl_types_bank.specs.Term.{Term, named}
 use Rattle.nesl_builtins.specs.Table.{function_type, builtin_type}
 use Rattle.nesl_infer_names.specs.Names.{as_function}
 use Rattle.nesl_infer_rules.specs.World.{Meanings, meaning_of, meanings_in}
@@ -37,18 +37,18 @@ returns-in_ok-shared_instance-in-Some-Function-default g c =
     (λ s. top_means context own x s (Some (d.field-0-0.now, d.field-0-1.now)) c.requires.other none d.ensures ∙ ap (λ (t : Top). meaning_of (own_at s own) (as_function (Some t))) d.field-0-0-is)
     c.in_ok-shared_instance-in-Some-Function-default.ensures
 
-pub returns-in_ok-equate-in-Some-Datatype-default : goal.returns-in_ok-equate-in-Some-Datatype-default
-returns-in_ok-equate-in-Some-Datatype-default g c =
+pub returns-in_ok-equate_flat-in-Some-Datatype-default : goal.returns-in_ok-equate_flat-in-Some-Datatype-default
+returns-in_ok-equate_flat-in-Some-Datatype-default g c =
     let context = c.args.context.now in
     let own = c.args.own.now in
     let x = c.args.name.now in
     let N : (ℕ → Term) → Meanings = λ s. meanings_in context (own_at s own) in
     let none = c.in_default.ensures in
     let d = c.in-Some-Datatype-default in
-    applied_single N x (λ s. term d.held) (λ s. named d.tag) c.args.given c.args.target c.requires.target (λ s z a i. named d.tag)
+    applied_single N x (λ s. d.held) (λ s. named d.tag) c.args.given c.args.target c.requires.target (λ s z a i. named d.tag)
     (λ s. top_means context own x s (Some (d.field-0-0.now, d.field-0-1.now)) c.requires.other none d.ensures ∙ ap (λ (t : Top). meaning_of (own_at s own) (as_function (Some t))) d.field-0-0-is)
     c.in_ok-equate_closed-in-Some-Datatype-default.ensures
-    c.in_ok-equate-in-Some-Datatype-default.ensures
+    c.in_ok-equate_flat-in-Some-Datatype-default.ensures
 
 pub returns-in_ok-never-in-Some-Variable-default : goal.returns-in_ok-never-in-Some-Variable-default
 returns-in_ok-never-in-Some-Variable-default g c =

@@ -1,7 +1,6 @@
 use Rattle.std.proofs.Common.{◌≡◌, ℕ, List, map, subst}
 use Rattle.nesl_types.specs.declared.classes.Class.{Class}
-use Rattle.nesl_types.specs.Term.{term}
-use Rattle.nesl_types.specs.Substitution.{substitute}
+use Rattle.nesl_types_bank.specs.Substitution.{substitute}
 use Rattle.nesl_infer_rules.specs.Instances.{type_in}
 use Rattle.nesl_infer_rules.specs.Holds.{Adds}
 use Rattle.nesl_builtins.specs.Table.{function_type}
@@ -14,5 +13,5 @@ returns c =
     let vs = c.in_ok-fresh.fresh.items in
     arm_instance (function_type s) vs c.args.given c.args.target c.requires.given c.requires.target c.variables_have_classes.ensures.argument c.variables_have_classes.ensures.result
     (subst (λ (cs : List Class). Fresh c.args.state.now c.instantiate.new.state cs vs) c.as_slice.ensures.value c.in_ok-fresh.ensures.gives)
-    (subst (λ (ws : List ℕ). Adds c.instantiate.new.state c.equate_shared.new.self (λ z of. z c.args.given ≡ substitute (type_in (map z ws)) (term s.argument))) c.as_slice-2.ensures.value c.in_ok-equate_shared.ensures)
-    (subst (λ (ws : List ℕ). Adds c.equate_shared.new.self c.equate_shared-2.new.self (λ z of. z c.args.target ≡ substitute (type_in (map z ws)) (term s.result))) c.as_slice-3.ensures.value c.in_ok-equate_shared-2.ensures)
+    (subst (λ (ws : List ℕ). Adds c.instantiate.new.state c.equate_shared.new.self (λ z of. z c.args.given ≡ substitute (type_in (map z ws)) s.argument)) c.as_slice-2.ensures.value c.in_ok-equate_shared.ensures)
+    (subst (λ (ws : List ℕ). Adds c.equate_shared.new.self c.equate_shared-2.new.self (λ z of. z c.args.target ≡ substitute (type_in (map z ws)) s.result)) c.as_slice-3.ensures.value c.in_ok-equate_shared-2.ensures)

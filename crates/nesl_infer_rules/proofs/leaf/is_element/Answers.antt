@@ -5,11 +5,11 @@ use Rattle.nesl_infer_rules.specs.Typing.{is_element, newest}
 use Rattle.nesl_infer_rules.proofs.Leaves.{looked_up, some_is, none_is}
 use Rattle.nesl_infer_rules.proofs.leaf.is_element.Goals as goal
 
-pub returns-in_ok-equate-in-Some : goal.returns-in_ok-equate-in-Some
-returns-in_ok-equate-in-Some c =
+pub returns-in_ok-equate_flat-in-Some : goal.returns-in_ok-equate_flat-in-Some
+returns-in_ok-equate_flat-in-Some c =
     let v = c.args.target in
     looked_up (λ s of o. o ≡ Some (s v)) (λ s. Some (s c.in-Some.variable)) (λ s. newest is_element (scope_at s c.args.locals.now)) (λ s. c.in-Some.ensures.found s)
-    (some_is v c.in-Some.variable c.in_ok-equate-in-Some.ensures)
+    (some_is v c.in-Some.variable c.in_ok-equate_flat-in-Some.ensures)
 
 pub returns-in_ok-never-in-None : goal.returns-in_ok-never-in-None
 returns-in_ok-never-in-None c =

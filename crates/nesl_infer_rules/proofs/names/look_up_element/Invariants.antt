@@ -1,6 +1,6 @@
 use Rattle.std.proofs.Common.{◌≡◌, ◌<◌, ℕ, take}
 use Rattle.std.specs.Prelude.{MatchOption, option_map}
-use Rattle.nesl_types.specs.Term.{Term}
+use Rattle.nesl_types_bank.specs.Term.{Term}
 use Rattle.nesl_infer_rules.specs.Holds.{scope_at, AreLocalsBelow}
 use Rattle.nesl_infer_rules.specs.Typing.{is_element, newest}
 use Rattle.nesl_infer_rules.proofs.names.look_up_element.Given as goal

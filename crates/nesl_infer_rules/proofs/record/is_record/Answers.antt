@@ -1,7 +1,6 @@
 use Rattle.std.proofs.Common.{◌≡◌, Some, sym, ap, subst, ◌∙◌}
 use Rattle.std.specs.Prelude.{option_map}
 use Rattle.nesl_types.specs.declared.bindings.Top.{Top}
-use Rattle.nesl_types.specs.Term.{term}
 use Rattle.nesl_infer_names.specs.Names.{datatype_in, as_datatype}
 use Rattle.nesl_infer_rules.specs.Contexts.{IsClosed}
 use Rattle.nesl_infer_rules.proofs.Applied.{is_a_record, no_record}
@@ -16,9 +15,9 @@ pub returns-in_ok-equate_closed-in-Some-Datatype-default : goal.returns-in_ok-eq
 returns-in_ok-equate_closed-in-Some-Datatype-default g c =
     let x = c.args.name.now in
     let d = c.in-Some-Datatype-default in
-    let is : datatype_in c.args.context.now x ≡ Some (d.tag, term d.ty) = ap (λ k. as_datatype (option_map (λ b. b.0) k)) (sym d.ensures) ∙ ap (λ (t : Top). as_datatype (Some t)) d.field-0-0-is in
-    is_a_record (datatype_in c.args.context.now) x d.tag (term d.ty) c.args.target c.args.held c.requires.held is
-    c.in_ok-equate-in-Some-Datatype-default.ensures
+    let is : datatype_in c.args.context.now x ≡ Some (d.tag, d.ty) = ap (λ k. as_datatype (option_map (λ b. b.0) k)) (sym d.ensures) ∙ ap (λ (t : Top). as_datatype (Some t)) d.field-0-0-is in
+    is_a_record (datatype_in c.args.context.now) x d.tag d.ty c.args.target c.args.held c.requires.held is
+    c.in_ok-equate_flat-in-Some-Datatype-default.ensures
     c.in_ok-equate_closed-in-Some-Datatype-default.ensures
 
 pub returns-in_ok-never-in-Some-Variable-default : goal.returns-in_ok-never-in-Some-Variable-default

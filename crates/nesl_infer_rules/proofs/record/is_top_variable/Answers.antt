@@ -1,6 +1,6 @@
 use Rattle.std.proofs.Common.{ℕ, Some, None, sym, ap, subst, ◌∙◌}
 use Rattle.nesl_types.specs.declared.bindings.Top.{Top}
-use Rattle.nesl_types.specs.Term.{Term, term}
+use Rattle.nesl_types_bank.specs.Term.{Term}
 use Rattle.nesl_infer_names.specs.Names.{as_variable}
 use Rattle.nesl_infer_rules.specs.Contexts.{IsClosed}
 use Rattle.nesl_infer_rules.specs.World.{Meanings, meanings_in}
@@ -25,7 +25,7 @@ returns-in_ok-equate_closed-in-Some-Variable-default g c =
     let x = c.args.name.now in
     let N : (ℕ → Term) → Meanings = λ s. meanings_in context (own_at s own) in
     let d = c.in-Some-Variable-default in
-    is_variable N x (term d.ty) c.args.target
+    is_variable N x d.ty c.args.target
     (λ s. variable_means context own x s (Some (d.field-0-0.now, d.field-0-1.now)) (sym (c.is_hidden.ensures s) ∙ c.if-is_hidden.false) d.ensures ∙ ap (λ (t : Top). as_variable (Some t)) d.field-0-0-is)
     c.in_ok-equate_closed-in-Some-Variable-default.ensures
 

@@ -1,5 +1,4 @@
 use Rattle.std.proofs.Common.{◌≡◌}
-use Rattle.nesl_types.specs.Term.{term}
 use Rattle.nesl_syntax_tree.specs.Views.{type_tree}
 use Rattle.nesl_infer.specs.Answers.{IsContentBy}
 use Rattle.nesl_reply.specs.Replies as replies
@@ -16,7 +15,7 @@ returns-in-Err c =
     let l = c.args.limits in
     let x = c.args.name.now in
     let a = type_tree c.args.written.now in
-    untyped_stops (bindings_of c.args.bindings.now) term (λ s. IsContentBy (known s.bindings) a)
+    untyped_stops (bindings_of c.args.bindings.now) (λ t. t) (λ s. IsContentBy (known s.bindings) a)
     (λ s t. Defines l s x a_datatype (replies.datatype x t) (datatype (datatypes s.bindings) t)) c.in-Err.fault c.untyped.result (λ s. c.in-Err.ensures) c.untyped.ensures
 
 pub returns-in-Some : goal.returns-in-Some
@@ -24,7 +23,7 @@ returns-in-Some c =
     let l = c.args.limits in
     let x = c.args.name.now in
     let a = type_tree c.args.written.now in
-    against_stops (bindings_of c.args.bindings.now) (term c.in-Ok.content) (λ s. IsContentBy (known s.bindings) a) x (λ t. a_datatype)
+    against_stops (bindings_of c.args.bindings.now) c.in-Ok.content (λ s. IsContentBy (known s.bindings) a) x (λ t. a_datatype)
     (λ s t r. r ≡ bound_or_refused l s (replies.datatype x t) 0 (record { name = x; meaning = datatype (datatypes s.bindings) t }))
     c.in-Some.refusal c.refused.result (λ s. c.in-Ok.ensures) c.in-Some.ensures c.refused.ensures
 
@@ -33,5 +32,5 @@ returns-then-not-fits_datatype c =
     let x = c.args.name.now in
     let a = type_tree c.args.written.now in
     let bs = bindings_of c.args.bindings.now in
-    many_stops c.args.limits bs (term c.in-Ok.content) (λ s. IsContentBy (known s.bindings) a) x (λ t. a_datatype) (λ t. replies.datatype x t) (λ s t. datatype (datatypes s.bindings) t)
+    many_stops c.args.limits bs c.in-Ok.content (λ s. IsContentBy (known s.bindings) a) x (λ t. a_datatype) (λ t. replies.datatype x t) (λ s t. datatype (datatypes s.bindings) t)
     (λ s. c.in-Ok.ensures) c.in-None.ensures (λ s. c.if-not-fits_datatype.ensures (datatypes bs))

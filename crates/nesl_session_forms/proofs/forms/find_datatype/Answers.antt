@@ -1,5 +1,4 @@
 use Rattle.std.proofs.Common.{Ok, Err, arith, subst}
-use Rattle.nesl_types.specs.Term.{term}
 use Rattle.nesl_syntax_tree.specs.Views.{type_tree}
 use Rattle.nesl_syntax_tree.specs.Trees as trees
 use Rattle.nesl_eval_meaning.specs.Names.{Name}
@@ -23,7 +22,7 @@ returns-in-Ok-clause-charges c =
     let a = type_tree c.args.written in
     let P : Name → Type 0 = λ y. IsDatatype c.args.limits bs y a (Ok c.in-Ok.content) in
     let h = subst P c.as_slice.ensures.value c.in-Ok.ensures in
-    let fits = room (elements_of (put c.args.name.items (datatype (datatypes bs) (term c.in-Ok.content)) bs)) c.args.limits.elements (omega arith) h.2 in
+    let fits = room (elements_of (put c.args.name.items (datatype (datatypes bs) c.in-Ok.content) bs)) c.args.limits.elements (omega arith) h.2 in
     λ s. (omega arith, (c.next_tag.ensures, (a, h.0), h.1, fits))
 
 pub returns-in-Err-clause-found : goal.returns-in-Err-clause-found

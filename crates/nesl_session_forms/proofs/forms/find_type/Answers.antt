@@ -1,5 +1,4 @@
 use Rattle.std.proofs.Common.{refl}
-use Rattle.nesl_types.specs.Term.{term}
 use Rattle.nesl_syntax_tree.specs.Views.{tree_of}
 use Rattle.nesl_infer.specs.Answers.{IsTypeBy, typed}
 use Rattle.nesl_session_bindings.specs.Known.{known}
@@ -13,11 +12,11 @@ pub returns-in-Err-clause-found : goal.returns-in-Err-clause-found
 returns-in-Err-clause-found c =
     let bs = bindings_of c.args.bindings.now in
     let e = tree_of c.args.exp in
-    let stops = untyped_stops bs term (λ s. IsTypeBy (known s.bindings) e) (λ s t. IsTold (replies.shown t)) c.in-Err.fault c.untyped.result (λ s. c.in-Err.ensures) c.untyped.ensures in
+    let stops = untyped_stops bs (λ t. t) (λ s. IsTypeBy (known s.bindings) e) (λ s t. IsTold (replies.shown t)) c.in-Err.fault c.untyped.result (λ s. c.in-Err.ensures) c.untyped.ensures in
     found_answers _ _ c.found.result (λ f h limits s. h s) (stopped_finds bs (Judged (λ s. IsTypeBy (known s.bindings) e) (λ s t. IsTold (replies.shown t))) c.untyped.result c.found.result stops c.found.ensures)
 
 pub returns-in-Ok-clause-found : goal.returns-in-Ok-clause-found
-returns-in-Ok-clause-found c = λ limits s. (typed (term c.in-Ok.ty), c.in-Ok.ensures, refl)
+returns-in-Ok-clause-found c = λ limits s. (typed c.in-Ok.ty, c.in-Ok.ensures, refl)
 
 pub returns-in-Err-clause-charges : goal.returns-in-Err-clause-charges
 returns-in-Err-clause-charges c = stopped_charges (bindings_of c.args.bindings.now) c.untyped.result c.found.result c.found.ensures

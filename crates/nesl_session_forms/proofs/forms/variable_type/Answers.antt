@@ -1,5 +1,5 @@
 use Rattle.std.proofs.Common.{[]}
-use Rattle.nesl_types.specs.Term.{Term, term}
+use Rattle.nesl_types_bank.specs.Term.{Term}
 use Rattle.nesl_syntax_tree.specs.Views.{tree_of}
 use Rattle.nesl_infer.specs.Answers.{IsTypeBy}
 use Rattle.nesl_eval_meaning.specs.Names.{outside}
@@ -18,11 +18,11 @@ returns-in-Err c = λ limits.
     let x = c.args.name.now in
     let e = tree_of c.args.exp.now in
     let K : State → Term → Finding → Type 0 = λ s t. Comes limits s x t (within (budget limits s) (out 1000 (environment s.bindings) (outside []) e)) in
-    untyped_stops (bindings_of c.args.bindings.now) term (λ s. IsTypeBy (known s.bindings) e) (λ s t. Unless s x (a_variable t) (K s t)) c.in-Err.fault c.untyped.result (λ s. c.in-Err.ensures) c.untyped.ensures
+    untyped_stops (bindings_of c.args.bindings.now) (λ t. t) (λ s. IsTypeBy (known s.bindings) e) (λ s t. Unless s x (a_variable t) (K s t)) c.in-Err.fault c.untyped.result (λ s. c.in-Err.ensures) c.untyped.ensures
 
 pub returns-in-Some : goal.returns-in-Some
 returns-in-Some c = λ limits.
     let x = c.args.name.now in
     let e = tree_of c.args.exp.now in
     let K : State → Term → Finding → Type 0 = λ s t. Comes limits s x t (within (budget limits s) (out 1000 (environment s.bindings) (outside []) e)) in
-    against_stops (bindings_of c.args.bindings.now) (term c.in-Ok.ty) (λ s. IsTypeBy (known s.bindings) e) x a_variable K c.in-Some.refusal c.refused.result (λ s. c.in-Ok.ensures) c.in-Some.ensures c.refused.ensures
+    against_stops (bindings_of c.args.bindings.now) c.in-Ok.ty (λ s. IsTypeBy (known s.bindings) e) x a_variable K c.in-Some.refusal c.refused.result (λ s. c.in-Ok.ensures) c.in-Some.ensures c.refused.ensures

@@ -1,5 +1,5 @@
 use Rattle.std.proofs.Common.{◌++◌, ◌∷◌, [], ◌-◌, List, length, subst, sym, ap, ◌∙◌}
-use Rattle.nesl_types.specs.Term.{seq_of}
+use Rattle.nesl_types_bank.specs.Term.{seq_of}
 use Rattle.nesl_types_bank.specs.declared.shape.Shape.{Shape}
 use Rattle.nesl_types_bank.specs.declared.shape.Shape.TheVariants.{SeqOf}
 use Rattle.nesl_types_bank.specs.Types.{types}

@@ -13,6 +13,6 @@ loop-place-preserved c =
     let new = c.put_renamed.new.to in
     let p = c.in_ok-renamed.renamed in
     let k = c.loop-place.place in
-    let here = subst (λ (ps : List ℕ). type_at new p ≡ renamed (replacement mid of) (λ q. type_at mid (get_or ps q 0)) c.shape.result) c.deref.ensures.value c.in_ok-renamed.ensures.here in
+    let here = subst (λ (ps : List ℕ). type_at new p ≡ renamed (replacement mid of) (λ q. type_at mid (get_or ps q 0)) c.shape.result) c.deref.ensures.value c.in_ok-renamed.ensures.put.here in
     subst (λ (ps : List ℕ). AreRenamedBelow of old new from ps (k + 1)) (sym c.in_ok-push.ensures.items)
-    (renamed_push of old mid new from c.loop-place.places.items k p c.shape.result c.requires.places c.put_renamed.ensures.extends c.shape.ensures.parts c.shape.ensures.shape c.in_ok-renamed.ensures.within here c.loop-place.invariant)
+    (renamed_push of old mid new from c.loop-place.places.items k p c.shape.result c.requires.places c.put_renamed.ensures.extends c.shape.ensures.parts c.shape.ensures.shape c.in_ok-renamed.ensures.put.within here c.loop-place.invariant)

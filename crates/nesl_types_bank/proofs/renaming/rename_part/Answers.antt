@@ -1,7 +1,7 @@
 use Rattle.std.proofs.Common.{◌≡◌, ◌<◌, ℕ, List, length, get_or, subst, arith}
 use Rattle.nesl_types_bank.specs.Renames.{renamed, replacement}
-use Rattle.nesl_types_bank.specs.Types.{type_at}
-use Rattle.nesl_types_bank.proofs.Reached.{mark_read, renaming_more}
+use Rattle.nesl_types_bank.specs.Types.{type_at, IsPut}
+use Rattle.nesl_types_bank.proofs.Reached.{mark_read, renaming_more, renaming_below}
 use Rattle.nesl_types_bank.proofs.renaming.rename_part.Goals as goal
 
 pub loop-next-preserved : goal.loop-next-preserved
@@ -19,5 +19,12 @@ loop-next-preserved c =
     let inside : k < length from = omega (arith, c.len-next-end.ensures.len, c.loop-next-test.true) in
     let l : k < length marks = omega (arith, r.len) in
     let mark = mark_read marks k c.index.result.now l c.index.ensures c.if-not-index.false in
-    let here = subst (λ (ps : List ℕ). type_at new p ≡ renamed (replacement mid of) (λ q. type_at mid (get_or ps q 0)) c.shape.result) c.deref.ensures.value c.in_ok-places-2.ensures.here in
-    renaming_more of c.args.to.now mid from marks c.args.place k places c.shape.result r mark inside c.shape.ensures.parts c.shape.ensures.shape i new p c.requires.places c.put_renamed.ensures.extends c.in_ok-places-2.ensures.within here
+    let put = subst (λ (ps : List ℕ). IsPut mid new (renamed (replacement mid of) (λ q. type_at mid (get_or ps q 0)) c.shape.result) p) c.deref.ensures.value c.in_ok-places-2.ensures.put in
+    let old = c.args.to.now in
+    let place = c.args.place in
+    let x = c.shape.result in
+    let o = c.requires.places in
+    record {
+      renaming = renaming_more of old mid from marks place k places x r mark inside c.shape.ensures.parts c.shape.ensures.shape i.renaming new p o c.put_renamed.ensures.extends put.within put.here;
+      below = renaming_below of old mid from marks place k places x r mark inside c.shape.ensures.parts c.shape.ensures.shape i.renaming new p o put i.below;
+    }

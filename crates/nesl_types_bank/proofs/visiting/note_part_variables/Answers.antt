@@ -1,6 +1,6 @@
 use Rattle.std.proofs.Common.{true, set, fold, refl, ◌∙◌}
 use Rattle.std.proofs.lemmas.List.{length-set}
-use Rattle.nesl_types.specs.Numbering.{variables, with_number}
+use Rattle.nesl_types_bank.specs.Numbering.{variables, with_number}
 use Rattle.nesl_types_bank.specs.Types.{type_at}
 use Rattle.nesl_types_bank.proofs.Visited.{skip, enter, less_left, top_inside, top_mark}
 use Rattle.nesl_types_bank.proofs.visiting.note_part_variables.Goals as goal

@@ -1,5 +1,5 @@
 use Rattle.std.proofs.Common.{◌≡◌, ◌+◌, ◌*◌, length, fold}
-use Rattle.nesl_types.specs.Numbering.{variables, with_number}
+use Rattle.nesl_types_bank.specs.Numbering.{variables, with_number}
 use Rattle.nesl_types_bank.specs.Types.{type_at}
 use Rattle.nesl_types_bank.proofs.Visited.{IsVisiting, unmarked}
 use Rattle.nesl_types_bank.proofs.visiting.note_part_variables.Given as goal

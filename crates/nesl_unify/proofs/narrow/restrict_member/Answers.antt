@@ -1,6 +1,6 @@
 use Rattle.std.proofs.Common.{sym, subst, rules}
-use Rattle.nesl_types.specs.Term.{Term}
-use Rattle.nesl_types.specs.Substitution.{substitute}
+use Rattle.nesl_types_bank.specs.Term.{Term}
+use Rattle.nesl_types_bank.specs.Substitution.{substitute}
 use Rattle.nesl_types.specs.Class.{IsIn}
 use Rattle.nesl_unify.proofs.Narrowing.{outside_found}
 use Rattle.nesl_unify.proofs.narrow.restrict_member.Goals as goal

@@ -1,6 +1,6 @@
 use Rattle.std.proofs.Common.{◌≡◌, ℕ, length}
 use Rattle.std.specs.Prelude.{◌↔◌}
-use Rattle.nesl_types.specs.Term.{Term}
+use Rattle.nesl_types_bank.specs.Term.{Term}
 use Rattle.nesl_unify.specs.Systems.{AreEquations, Hold}
 use Rattle.nesl_unify.proofs.Grown.{SolvesFirst}
 use Rattle.nesl_unify.proofs.solve.equations_of.Given as goal

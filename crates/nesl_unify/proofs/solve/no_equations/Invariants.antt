@@ -1,5 +1,5 @@
 use Rattle.std.proofs.Common.{◌≡◌, ℕ, length}
-use Rattle.nesl_types.specs.Term.{Term}
+use Rattle.nesl_types_bank.specs.Term.{Term}
 use Rattle.nesl_unify.specs.Systems.{AreEquations, Hold}
 use Rattle.nesl_unify.proofs.solve.no_equations.Given as goal
 

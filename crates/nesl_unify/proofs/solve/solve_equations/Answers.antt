@@ -1,7 +1,7 @@
 use Rattle.std.proofs.Common.{◌≡◌, ◌<◌, ◌+◌, ◌^◌, ℕ, List, All, length, sym, subst, rules, arith}
 use Rattle.std.specs.Prelude.{◌↔◌, Option, Some}
-use Rattle.nesl_types.specs.Numbering.{IsBelow}
-use Rattle.nesl_types.specs.Term.{Term}
+use Rattle.nesl_types_bank.specs.Numbering.{IsBelow}
+use Rattle.nesl_types_bank.specs.Term.{Term}
 use Rattle.nesl_unify.specs.declared.equations.Sides.{Sides}
 use Rattle.nesl_unify.specs.Pairs.{AreEqual, IsPairBelow}
 use Rattle.nesl_unify.specs.Places.{place_for, ArePlaces}

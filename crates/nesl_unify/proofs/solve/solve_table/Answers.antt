@@ -2,8 +2,8 @@ use Rattle.std.proofs.Common.{◌≡◌, ◌<◌, ◌≤◌, ℕ, List, All, len
 use Rattle.std.specs.Prelude.{IfSome, IfNone, Option}
 use Rattle.std.proofs.lemmas.List.{with_items_is}
 use Rattle.nesl_types.specs.Class.{class_at}
-use Rattle.nesl_types.specs.Term.{Term, nodes}
-use Rattle.nesl_types.specs.Substitution.{substitute}
+use Rattle.nesl_types_bank.specs.Term.{Term, nodes}
+use Rattle.nesl_types_bank.specs.Substitution.{substitute}
 use Rattle.nesl_types_bank.specs.declared.graph.Node.{Node}
 use Rattle.nesl_types_bank.specs.declared.graph.Read.{Read}
 use Rattle.nesl_types_bank.specs.Graph.{Fits, IsFlat, IsGraph, AreRead}

@@ -1,5 +1,5 @@
 use Rattle.std.proofs.Common.{◌≡◌, ◌<◌, ℕ, length}
-use Rattle.nesl_types.specs.Term.{Term}
+use Rattle.nesl_types_bank.specs.Term.{Term}
 use Rattle.nesl_types_bank.specs.Graph.{Fits}
 use Rattle.nesl_unify.specs.Table.{IsTable}
 use Rattle.nesl_unify.proofs.Tables.{Relinks}

@@ -1,5 +1,5 @@
 use Rattle.std.proofs.Common.{◌≡◌, ◌↔◌, ◌+◌, ◌*◌, ℕ, length, sum_by, All}
-use Rattle.nesl_types.specs.Term.{Term}
+use Rattle.nesl_types_bank.specs.Term.{Term}
 use Rattle.nesl_types_bank.specs.Graph.{Fits}
 use Rattle.nesl_unify.specs.Table.{IsTable, standing}
 use Rattle.nesl_unify.specs.Pairs.{AreEqual, IsPairBelow}

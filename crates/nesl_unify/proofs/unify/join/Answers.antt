@@ -1,5 +1,5 @@
 use Rattle.std.proofs.Common.{sym, subst}
-use Rattle.nesl_types.specs.Term.{Term}
+use Rattle.nesl_types_bank.specs.Term.{Term}
 use Rattle.nesl_types_bank.specs.Graph.{node_at, Describes}
 use Rattle.nesl_unify.proofs.Joins.{join_same, join_table, join_pending, join_fewer}
 use Rattle.nesl_unify.proofs.unify.join.Goals as goal

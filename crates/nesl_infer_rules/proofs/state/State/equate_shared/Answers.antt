@@ -1,6 +1,5 @@
 use Rattle.std.proofs.Common.{◌≡◌, map, slice_index, sym, ◌∙◌}
-use Rattle.nesl_types.specs.Term.{term}
-use Rattle.nesl_types.specs.Substitution.{substitute}
+use Rattle.nesl_types_bank.specs.Substitution.{substitute}
 use Rattle.nesl_infer_rules.specs.Instances.{type_in}
 use Rattle.nesl_infer_rules.proofs.Steps.{adds_equation, adds_is}
 use Rattle.nesl_infer_rules.proofs.Instances.{shared_is}
@@ -11,7 +10,7 @@ returns-in_ok-table-in-Some c =
     let q = c.in_ok-table-in-Some.ensures in
     let v = c.args.variable in
     let vs = c.args.fresh.now in
-    let t = term c.args.ty.now in
+    let t = c.args.ty.now in
     adds_is v (λ s. substitute (λ w. s (slice_index vs w)) t) (λ s. substitute (type_in (map s vs)) t) (λ s. shared_is s vs t c.requires.ty)
     (adds_equation c.args.self.now c.put.new.self c.in-Some.table c.in_ok-table-in-Some.table (sym c.take.ensures.value ∙ c.in-Some.is) c.put.ensures (λ s. s v ≡ substitute (λ w. s (slice_index vs w)) t)
     q.members q.holds)

@@ -1,7 +1,5 @@
-use Rattle.std.proofs.Common.{◌≡◌}
-use Rattle.nesl_infer_rules.proofs.Steps.{adds_as}
-use Rattle.nesl_types.specs.Term.{int, bool}
+use Rattle.nesl_infer_rules.proofs.Steps.{adds_never}
 use Rattle.nesl_infer_rules.proofs.state.State.never.Goals as goal
 
 pub returns : goal.returns
-returns c = adds_as (λ s of x. int ≡ bool) (λ s of. ⊥) c.in_ok-add.ensures (λ s of b h. cc) (λ s of h. absurd h)
+returns c = adds_never c.in_ok-none.none c.in_ok-none.ensures.gives c.in_ok-equate_flat.ensures c.in_ok-equate_flat-2.ensures

@@ -1,5 +1,4 @@
 use Rattle.std.proofs.Common.{◌≡◌, ◌+◌, ◌<◌, ◌∙◌, arith}
-use Rattle.nesl_types.specs.Term.{term}
 use Rattle.nesl_session_bindings.specs.Meanings.{datatype}
 use Rattle.nesl_session_bindings.specs.Beside.{elements_beside}
 use Rattle.nesl_session_bindings.specs.Stored.{bindings_of}
@@ -9,9 +8,9 @@ use Rattle.nesl_session_bindings.proofs.bindings.Bindings.fits_datatype.Goals as
 pub returns-in-Some : goal.returns-in-Some
 returns-in-Some c = λ tag.
     let left : c.in-Some.room + elements_beside c.args.name.now (bindings_of c.args.self.now) ≡ c.args.limit = omega (arith, c.in-Some.ensures, c.elements_beside.ensures) in
-    c.is_some.ensures ∙ fits_left c.args.name.now (datatype tag (term c.args.content.now)) (bindings_of c.args.self.now) c.args.limit c.in-Some.room c.room_left.result left c.room_left.ensures
+    c.is_some.ensures ∙ fits_left c.args.name.now (datatype tag c.args.content.now) (bindings_of c.args.self.now) c.args.limit c.in-Some.room c.room_left.result left c.room_left.ensures
 
 pub returns-in-None : goal.returns-in-None
 returns-in-None c = λ tag.
     let more : c.args.limit < elements_beside c.args.name.now (bindings_of c.args.self.now) = omega (arith, c.in-None.ensures, c.elements_beside.ensures) in
-    fits_not c.args.name.now (datatype tag (term c.args.content.now)) (bindings_of c.args.self.now) c.args.limit more
+    fits_not c.args.name.now (datatype tag c.args.content.now) (bindings_of c.args.self.now) c.args.limit more

@@ -1,5 +1,4 @@
 use Rattle.std.proofs.Common.{subst}
-use Rattle.nesl_types.specs.Term.{term}
 use Rattle.nesl_syntax_tree.specs.Views.{type_tree}
 use Rattle.nesl_infer_names.specs.Names.{Names, Own}
 use Rattle.nesl_infer.specs.Answers.{Answers, IsContentBy}
@@ -8,5 +7,5 @@ use Rattle.nesl_session_bindings.proofs.bindings.Bindings.infer_datatype.Goals a
 
 pub returns : goal.returns
 returns c =
-    subst (λ (k : Own → Names). Answers term (IsContentBy k (type_tree c.args.written.now)) c.infer_datatype.result)
+    subst (λ (k : Own → Names). Answers (λ t. t) (IsContentBy k (type_tree c.args.written.now)) c.infer_datatype.result)
     (known_there c.context.result.now c.self.inside.env c.args.self.now c.self.invariant.fit c.context.ensures c.self.view_is) c.infer_datatype.ensures

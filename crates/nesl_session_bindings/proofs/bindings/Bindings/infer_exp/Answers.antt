@@ -1,5 +1,4 @@
 use Rattle.std.proofs.Common.{List, sym, subst}
-use Rattle.nesl_types.specs.Term.{term}
 use Rattle.nesl_syntax_tree.specs.Views.{tree_of}
 use Rattle.nesl_infer_names.specs.Names.{Names, Own}
 use Rattle.nesl_infer.specs.Answers.{Answers, IsTypeBy}
@@ -14,5 +13,5 @@ infer_exp-requires c =
 
 pub returns : goal.returns
 returns c =
-    subst (λ (k : Own → Names). Answers term (IsTypeBy k (tree_of c.args.exp.now)) c.infer_exp.result)
+    subst (λ (k : Own → Names). Answers (λ t. t) (IsTypeBy k (tree_of c.args.exp.now)) c.infer_exp.result)
     (known_there c.context.result.now c.self.inside.env c.args.self.now c.self.invariant.fit c.context.ensures c.self.view_is) c.infer_exp.ensures

@@ -1,6 +1,5 @@
 use Rattle.std.proofs.Common.{ℕ, ◌+◌, ◌<◌, ◌^◌, ◌∙◌, ap, arith}
 use Rattle.nesl_types.specs.declared.bindings.Top.TheVariants as kind
-use Rattle.nesl_types.specs.Term.{term}
 use Rattle.nesl_eval_code.specs.declared.env.Payload.TheVariants as payload
 use Rattle.nesl_eval_code.specs.Stored.{top_of}
 use Rattle.nesl_session_bindings.specs.Known.{datatypes, put}
@@ -12,7 +11,7 @@ use Rattle.nesl_session_bindings.proofs.bindings.Bindings.set_datatype.Goals as 
 pub overflow_add-elements : goal.overflow_add-elements
 overflow_add-elements c =
     let few : c.elements_beside-beside.result + c.nodes_of.result < 2 ^ 64 =
-    few_enough c.self.inside.env c.args.self.now c.self.inside.env c.args.name.now c.self.view_is (datatype (datatypes (bindings_of c.args.self.now)) (term c.args.content)) (2 ^ 64)
+    few_enough c.self.inside.env c.args.self.now c.self.inside.env c.args.name.now c.self.view_is (datatype (datatypes (bindings_of c.args.self.now)) c.args.content) (2 ^ 64)
     c.elements_beside-beside.result c.nodes_of.result c.elements_beside-beside.ensures c.nodes_of.ensures c.requires.room in
     omega (arith, few)
 
@@ -24,6 +23,6 @@ invariant_of-self-2 c =
 pub returns-clause-ok : goal.returns-clause-ok
 returns-clause-ok c =
     set_is c.self.inside.env c.args.self.now c.set.new.self c.args.name.now c.self.view_is (kind.Datatype c.datatypes-tag.result c.args.content) payload.Datatype c.in_ok-set.ensures.ok
-    ∙ ap (λ (k : ℕ). put c.args.name.now (datatype k (term c.args.content)) (bindings_of c.args.self.now))
+    ∙ ap (λ (k : ℕ). put c.args.name.now (datatype k c.args.content) (bindings_of c.args.self.now))
     (tag_is_next c.self.inside.env c.args.self.now c.set.new.self c.args.name.now c.self.view_is c.self.inside.elements c.elements_beside-beside.result c.nodes_of.result c.self.invariant c.elements_beside-beside.ensures
     c.datatypes-tag.result c.datatypes-tag.ensures)

@@ -1,6 +1,5 @@
 use Rattle.std.proofs.Common.{◌+◌, ◌<◌, ◌^◌, arith}
 use Rattle.nesl_types.specs.declared.bindings.Top.TheVariants as kind
-use Rattle.nesl_types.specs.Term.{term}
 use Rattle.nesl_values.specs.View.{tree_of}
 use Rattle.nesl_eval_code.specs.declared.env.Payload.TheVariants as payload
 use Rattle.nesl_eval_code.specs.Stored.{top_of}
@@ -11,7 +10,7 @@ use Rattle.nesl_session_bindings.proofs.bindings.Bindings.set_variable.Goals as 
 pub overflow_add-elements : goal.overflow_add-elements
 overflow_add-elements c =
     let few : c.elements_beside-beside.result + c.nodes.result < 2 ^ 64 =
-    few_enough c.self.inside.env c.args.self.now c.self.inside.env c.args.name.now c.self.view_is (variable (term c.args.ty) (tree_of c.args.value)) (2 ^ 64)
+    few_enough c.self.inside.env c.args.self.now c.self.inside.env c.args.name.now c.self.view_is (variable c.args.ty (tree_of c.args.value)) (2 ^ 64)
     c.elements_beside-beside.result c.nodes.result c.elements_beside-beside.ensures c.nodes.ensures c.requires.room in
     omega (arith, few)
 

@@ -9,9 +9,11 @@ note_place-requires-clause-others g c =
     let row = shown (λ k. k.items) (λ e. e.top) (λ e. e.payload) in
     let old = map row c.self.inside.bindings.entries in
     let e =
-    ap (map row) c.in_ok-insert.ensures.entries
-    ∙ with_name-shown (λ k. k.items) (λ e. e.top) (λ e. e.payload) c.in_ok-name.name (record { top = c.args.top; payload = c.args.payload }) c.self.inside.bindings.entries
-    ∙ ap (λ n. with_name n c.args.top c.args.payload old) c.in_ok-name.ensures.items in
+    ap (map row) c.in_ok-before.ensures.entries
+    ∙ with_name-shown (λ k. k.items) (λ e. e.top) (λ e. e.payload) c.in_ok-name.name (record { top = c.in_ok-top.top; payload = c.args.payload; marks = c.in_ok-top.marks }) c.reserve-2.new.self.entries
+    ∙ ap (λ es. with_name c.in_ok-name.name.items c.in_ok-top.top c.args.payload (map row es)) c.in_ok-reserve-2.ensures.entries
+    ∙ ap (λ n. with_name n c.in_ok-top.top c.args.payload old) c.in_ok-name.ensures.items
+    ∙ ap (λ t. with_name c.args.name.now t c.args.payload old) c.in_ok-top.ensures in
     λ other h.
     subst (λ ns. slice_index c.reserve.new.self.items other ≤ datatype_place ns other) (sym e)
     (subst (λ ps. slice_index ps other ≤ datatype_place (with_name c.args.name.now c.args.top c.args.payload old) other) (sym c.in_ok-reserve.ensures.items)
@@ -19,7 +21,11 @@ note_place-requires-clause-others g c =
 
 pub returns-clause-ok : goal.returns-clause-ok
 returns-clause-ok g c =
-    ap (map (shown (λ k. k.items) (λ e. e.top) (λ e. e.payload))) c.in_ok-insert.ensures.entries
-    ∙ with_name-shown (λ k. k.items) (λ e. e.top) (λ e. e.payload) c.in_ok-name.name (record { top = c.args.top; payload = c.args.payload }) c.self.inside.bindings.entries
-    ∙ ap (λ n. with_name n c.args.top c.args.payload (map (shown (λ k. k.items) (λ e. e.top) (λ e. e.payload)) c.self.inside.bindings.entries)) c.in_ok-name.ensures.items
+    let row = shown (λ k. k.items) (λ e. e.top) (λ e. e.payload) in
+    let old = map row c.self.inside.bindings.entries in
+    ap (map row) c.in_ok-before.ensures.entries
+    ∙ with_name-shown (λ k. k.items) (λ e. e.top) (λ e. e.payload) c.in_ok-name.name (record { top = c.in_ok-top.top; payload = c.args.payload; marks = c.in_ok-top.marks }) c.reserve-2.new.self.entries
+    ∙ ap (λ es. with_name c.in_ok-name.name.items c.in_ok-top.top c.args.payload (map row es)) c.in_ok-reserve-2.ensures.entries
+    ∙ ap (λ n. with_name n c.in_ok-top.top c.args.payload old) c.in_ok-name.ensures.items
+    ∙ ap (λ t. with_name c.args.name.now t c.args.payload old) c.in_ok-top.ensures
     ∙ ap (with_name c.args.name.now c.args.top c.args.payload) c.self.view_is

@@ -1,16 +1,16 @@
 use Rattle.std.proofs.Common.{◌≡◌, ℕ, List, ◌++◌, length, ap, sym, ◌∙◌, map}
 use Rattle.std.proofs.lemmas.List.{length-map}
-use Rattle.nesl_types.specs.Term.{term, variable}
+use Rattle.nesl_types_bank.specs.Term.{variable}
 use Rattle.nesl_types.specs.Class.{class_at}
-use Rattle.nesl_types.specs.Substitution.{substitute}
-use Rattle.nesl_types.specs.Numbering.{variables, first_occurrences, numbers_below, number_of}
-use Rattle.nesl_types.proofs.Numbers.{noted-both, numbered-renamed}
+use Rattle.nesl_types_bank.specs.Substitution.{substitute}
+use Rattle.nesl_types_bank.specs.Numbering.{variables, first_occurrences, numbers_below, number_of}
+use Rattle.nesl_types_bank.proofs.Numbers.{noted-both, numbered-renamed}
 use Rattle.nesl_types.proofs.schemes.Scheme.over.Goals as goal
 
 pub invariant_of-result : goal.invariant_of-result
 invariant_of-result c =
-    let t = term c.args.takes.now in
-    let u = term c.args.gives.now in
+    let t = c.args.takes.now in
+    let u = c.args.gives.now in
     let noted = noted-both t u _ _ _ c.requires c.in_ok-note_variables.ensures c.in_ok-note_variables-2.ensures in
     let argument = c.in_ok-argument.ensures ∙ ap (λ (ks : List ℕ). substitute (λ v. variable (number_of ks v)) t) noted in
     let gives = c.in_ok-gives.ensures ∙ ap (λ (ks : List ℕ). substitute (λ v. variable (number_of ks v)) u) noted in
@@ -20,8 +20,8 @@ invariant_of-result c =
 
 pub returns : goal.returns
 returns c =
-    let t = term c.args.takes.now in
-    let u = term c.args.gives.now in
+    let t = c.args.takes.now in
+    let u = c.args.gives.now in
     let noted = noted-both t u _ _ _ c.requires c.in_ok-note_variables.ensures c.in_ok-note_variables-2.ensures in
     record {
       argument = c.in_ok-argument.ensures ∙ ap (λ (ks : List ℕ). substitute (λ v. variable (number_of ks v)) t) noted;

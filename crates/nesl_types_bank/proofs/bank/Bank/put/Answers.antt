@@ -1,5 +1,5 @@
 use Rattle.std.proofs.Common.{◌≡◌, ◌++◌, ◌∷◌, [], ℕ, List, Bool, length, slice_index, subst, sym, ap, ◌∙◌}
-use Rattle.nesl_types.specs.Term.{Term}
+use Rattle.nesl_types_bank.specs.Term.{Term}
 use Rattle.nesl_types_bank.specs.declared.shape.Shape.{Shape}
 use Rattle.nesl_types_bank.specs.Shapes.{IsShapeBelow, shape_type, shape_size}
 use Rattle.nesl_types_bank.specs.Types.{type_at, types, AreMade, IsPlaced, IsPut}

@@ -1,5 +1,5 @@
 use Rattle.std.proofs.Common.{◌≡◌, ◌<◌, List, length, sym, ap, subst, arith}
-use Rattle.nesl_types.specs.Term.{Term}
+use Rattle.nesl_types_bank.specs.Term.{Term}
 use Rattle.nesl_types_bank.specs.Shapes.{shape_type, shape_at}
 use Rattle.nesl_types_bank.specs.Types.{type_at, types}
 use Rattle.nesl_types_bank.proofs.Made.{length-types, type_made}

@@ -1,6 +1,6 @@
 use Rattle.std.proofs.Common.{◌≡◌, List, ap, sym, ◌∙◌}
 use Rattle.std.specs.Prelude.{Option, Some, ℕ}
-use Rattle.nesl_types.specs.Substitution.{substitute}
+use Rattle.nesl_types_bank.specs.Substitution.{substitute}
 use Rattle.nesl_types_bank.specs.Types.{type_at}
 use Rattle.nesl_unify.specs.Places.{place_for}
 use Rattle.nesl_unify.proofs.Known.{follows_says}

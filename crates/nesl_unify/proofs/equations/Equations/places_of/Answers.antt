@@ -6,7 +6,7 @@ pub loop-variable-preserved : goal.loop-variable-preserved
 loop-variable-preserved c =
     let a = c.args.self.now in
     let b = c.loop-variable.self in
-    let d = c.put.new.self in
+    let d = c.put_variable.new.self in
     let g = c.loop-variable.invariant.grows in
     let p = c.in_ok-place.ensures in
     let r = c.resolve-place.ensures in

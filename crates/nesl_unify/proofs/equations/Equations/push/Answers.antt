@@ -1,6 +1,6 @@
 use Rattle.std.proofs.Common.{List, refl}
 use Rattle.std.specs.Prelude.{Option, ℕ}
-use Rattle.nesl_types.specs.Term.{Term}
+use Rattle.nesl_types_bank.specs.Term.{Term}
 use Rattle.nesl_unify.specs.declared.equations.Equations.{Equations}
 use Rattle.nesl_unify.proofs.Known.{says_defined, says_side}
 use Rattle.nesl_unify.proofs.equations.Equations.push.Goals as goal

@@ -1,6 +1,6 @@
 use Rattle.std.proofs.Common.{◌≡◌, ◌<◌, ℕ, length}
-use Rattle.nesl_types.specs.Term.{Term}
-use Rattle.nesl_types.specs.Substitution.{substitute}
+use Rattle.nesl_types_bank.specs.Term.{Term}
+use Rattle.nesl_types_bank.specs.Substitution.{substitute}
 use Rattle.nesl_types_bank.specs.Types.{type_at}
 use Rattle.nesl_unify.specs.Systems.{IsAsKnown}
 use Rattle.nesl_unify.proofs.equations.Equations.resolve.Given as goal

@@ -1,0 +1,5 @@
+use Rattle.nesl_types_bank.specs.Readings.{HasNoLinks}
+use Rattle.nesl_tests_types.proofs.graphs.chain.Given as goal
+
+abbrev pub invariant-loop-place : goal.invariant-loop-place
+invariant-loop-place l = HasNoLinks l.places l.graph.items

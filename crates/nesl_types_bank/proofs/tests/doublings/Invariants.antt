@@ -1,5 +1,0 @@
-use Rattle.nesl_types_bank.specs.Readings.{HasNoLinks}
-use Rattle.nesl_types_bank.proofs.tests.doublings.Given as goal
-
-abbrev pub invariant-loop-place : goal.invariant-loop-place
-invariant-loop-place l = HasNoLinks l.places l.graph.items

@@ -1,4 +1,0 @@
-pub mod Bound
-pub mod Places
-pub mod Begun
-pub mod Numbered

@@ -1,5 +1,0 @@
-pub mod Names
-pub mod Scheme
-pub mod Texts
-pub mod Pieces
-pub mod Numbered
