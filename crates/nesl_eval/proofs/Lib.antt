@@ -1,3 +1,4 @@
 pub mod Meant
 pub mod Copying
 pub mod Reaching
+pub mod Ranges

@@ -27,6 +27,7 @@ use nesl_eval_nodes::parts::{
 };
 use nesl_eval_nodes::places::Places;
 use nesl_eval_nodes::scope::{Scope, local};
+use nesl_eval_plain::{Block, bodies_in_columns, filters_in_columns};
 use nesl_lex::token::Span;
 use nesl_scalars::Binary;
 use nesl_values::Value;
@@ -428,7 +429,8 @@ fn apply_three<A: Allocator + Copy, T: Tops<A>>(
 ) -> Result<Value<A>, Stop>
     requires { meter.old.fuel + meter.old.depth < 2 ^ 64 }
     ensures meets { let f = run levels (T.table tops.now) in Meets Is meter.old result meter.new
-        (run_three f (frames_of scope.now) first.now second.now third.now (λ x y z. applied span.now function (pair x (pair y z)))) }
+        (run_three f (frames_of scope.now) first.now second.now third.now
+        (λ x y z. applied span.now function (pair x (pair y z)))) }
     ensures spent { meter.new.fuel + meter.new.depth ≤ meter.old.fuel + meter.old.depth }
 {
     let one = part(tops, scope, first, levels, meter, alloc)?;
@@ -692,10 +694,10 @@ fn holds_at<A: Allocator + Copy, T: Tops<A>>(
     truth(value)
 }
 
-// The places at which a filter holds.
+// The places at which a filter holds, one by one.
 #[cycle(eval)]
 #[inline(never)]
-fn filters<A: Allocator + Copy, T: Tops<A>>(
+fn filters_in_order<A: Allocator + Copy, T: Tops<A>>(
     tops: &T,
     scope: &Scope<'_, A>,
     values: &[Value<A>],
@@ -766,10 +768,10 @@ fn all_bodies<A: Allocator + Copy, T: Tops<A>>(
     finished(builder)
 }
 
-// The values of a body at places.
+// The values of a body at places, one by one.
 #[cycle(eval)]
 #[inline(never)]
-fn bodies<A: Allocator + Copy, T: Tops<A>>(
+fn bodies_in_order<A: Allocator + Copy, T: Tops<A>>(
     tops: &T,
     scope: &Scope<'_, A>,
     values: &[Value<A>],
@@ -796,4 +798,69 @@ fn bodies<A: Allocator + Copy, T: Tops<A>>(
     }
     meter.depth = start + most;
     Ok(builder)
+}
+
+// The values of a body at places, in columns where it is plain.
+#[cycle(eval)]
+fn bodies<A: Allocator + Copy, T: Tops<A>>(
+    tops: &T,
+    scope: &Scope<'_, A>,
+    values: &[Value<A>],
+    body: &Code,
+    places: Places<'_>,
+    levels: u32,
+    meter: &mut Meter,
+    alloc: A,
+) -> Result<SequenceBuilder<A>, Stop>
+    requires { meter.old.fuel + meter.old.depth < 2 ^ 64 }
+    ensures meets { let f = run levels (T.table tops.now) in Meets Has meter.old result meter.new
+        (run_bodies f (frames_of scope.now) (map tree_of values.now) body.now (places_of places.entry)) }
+    ensures spent { meter.new.fuel + meter.new.depth ≤ meter.old.fuel + meter.old.depth }
+{
+    let len = places.len();
+    let block = Block {
+        tops: &*tops,
+        scope: &*scope,
+        values: &*values,
+        places,
+        from: 0,
+        to: len,
+        alloc: &alloc,
+    };
+    match bodies_in_columns(&block, body, len, levels, meter) {
+        Some(builder) => Ok(builder),
+        None => bodies_in_order(tops, scope, values, body, places, levels, meter, alloc),
+    }
+}
+
+// The places at which a filter holds, in columns where it is plain.
+#[cycle(eval)]
+fn filters<A: Allocator + Copy, T: Tops<A>>(
+    tops: &T,
+    scope: &Scope<'_, A>,
+    values: &[Value<A>],
+    filter: &Code,
+    len: usize,
+    levels: u32,
+    meter: &mut Meter,
+    alloc: A,
+) -> Result<Vec<usize, A>, Stop>
+    requires { meter.old.fuel + meter.old.depth < 2 ^ 64 }
+    ensures meets { let f = run levels (T.table tops.now) in Meets (λ ks is. ks.items ≡ is) meter.old result meter.new
+        (run_filters f (frames_of scope.now) (map tree_of values.now) filter.now (range_with_len 0 len)) }
+    ensures spent { meter.new.fuel + meter.new.depth ≤ meter.old.fuel + meter.old.depth }
+{
+    let block = Block {
+        tops: &*tops,
+        scope: &*scope,
+        values: &*values,
+        places: Places::All(len),
+        from: 0,
+        to: len,
+        alloc: &alloc,
+    };
+    match filters_in_columns(&block, filter, levels, meter) {
+        Some(kept) => Ok(kept),
+        None => filters_in_order(tops, scope, values, filter, len, levels, meter, alloc),
+    }
 }

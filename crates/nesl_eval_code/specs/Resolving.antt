@@ -9,7 +9,8 @@ use Rattle.nesl_eval_code.specs.declared.layers.LocalPlace.{LocalPlace}
 use Rattle.nesl_eval_code.specs.declared.code.Code.{Code}
 use Rattle.nesl_eval_code.specs.declared.places.Places.{Places}
 use Rattle.nesl_eval_meaning.specs.Names.{Name}
-use Rattle.nesl_eval_code.specs.Means.{Layer, bindings, binders, patterns, last_binding, steps_to, spot, IsSpotOf, IsNoLocal}
+use Rattle.nesl_eval_code.specs.Means.{Layer, bindings, binders, patterns, last_binding, steps_to, spot, IsSpotOf}
+use Rattle.nesl_eval_code.specs.Means.{IsNoLocal}
 
 -- the layers that a value of the program stands for
 abbrev pub layers_step : Layers-F (List Layer) → List Layer

@@ -4,8 +4,10 @@ use Rattle.nesl_lex.specs.declared.token.Span.{Span}
 use Rattle.nesl_values.specs.Tree as values
 use Rattle.nesl_values.specs.Parts.{as_bool}
 use Rattle.nesl_scalars.specs.declared.trap.Trap.TheVariants.{Deep}
-use Rattle.nesl_eval_code.specs.declared.code.Code.{Code, Number, Truth, Character, Text, Local, Top, Named, Pair', Apply'}
-use Rattle.nesl_eval_code.specs.declared.code.Code.{ApplyTwo', ApplyThree', Call', CallNamed', Choice', Sequence', Empty}
+use Rattle.nesl_eval_code.specs.declared.code.Code.{Code, Number, Truth, Character, Text, Local, Top, Named, Pair'}
+use Rattle.nesl_eval_code.specs.declared.code.Code.{Apply'}
+use Rattle.nesl_eval_code.specs.declared.code.Code.{ApplyTwo', ApplyThree', Call', CallNamed', Choice', Sequence'}
+use Rattle.nesl_eval_code.specs.declared.code.Code.{Empty}
 use Rattle.nesl_eval_code.specs.declared.code.Code.{Let', Each', FilteredEach', items-the_row-Code}
 use Rattle.nesl_eval_meaning.specs.Names.{Name, Value, named}
 use Rattle.nesl_eval_code.specs.Frames.{Frames, local_at, frame, row}

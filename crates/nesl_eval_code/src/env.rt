@@ -52,7 +52,7 @@ impl Model for Env {
     ghost use Rattle.nesl_types.specs.declared.bindings.Top.{Top};
     ghost use Rattle.nesl_eval_code.specs.declared.env.Payload.{Payload};
     ghost use Rattle.std.specs.Coded.{codes};
-    ghost use Rattle.nesl_types.specs.contracts.types.Ty as ty;
+    ghost use Rattle.nesl_types_bank.specs.contracts.types.Ty as ty;
     ghost use Rattle.nesl_eval_code.specs.contracts.env.Payload as payload;
 
     ghost Value = { List (List ℕ × Top × Payload) };
@@ -228,8 +228,8 @@ impl Env {
         }
     }
 
-    /// Makes the name what is given: in its place where it has one, else after all others. A function's body is prepared
-    /// once, here; in it the function's own name has its place already.
+    /// Makes the name what is given: in its place where it has one, else after all others. A function's body is
+    /// prepared once, here; in it the function's own name has its place already.
     pub fn set(
         &mut self,
         alloc: Global,

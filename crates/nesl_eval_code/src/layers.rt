@@ -2,7 +2,8 @@
 
 ghost use Rattle.std.specs.Prelude.{◌≡◌, ◌++◌, ◌∷◌, ◌<◌, [], IfOk, IfSome, suc, length};
 ghost use Rattle.nesl_syntax_tree.specs.Views.{pattern_tree, binders_in};
-ghost use Rattle.nesl_eval_code.specs.Means.{bindings, binders, binds, steps_to, last_binding, patterns, spot, IsElementSpot};
+ghost use Rattle.nesl_eval_code.specs.Means.{bindings, binders, binds, steps_to, last_binding, patterns, spot};
+ghost use Rattle.nesl_eval_code.specs.Means.{IsElementSpot};
 ghost use Rattle.nesl_eval_code.specs.Resolving.{layers_of, FindsIn, Finds};
 
 use crate::code::Step;

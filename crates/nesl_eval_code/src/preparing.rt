@@ -199,7 +199,8 @@ fn codes_of_sources(
     drawn: &[Binding],
     layers: &Layers<'_>,
 ) -> Result<Vec<Code>, AllocError>
-    ensures { IfOk result (λ cs. AllMean (known places.now) (layers_of layers.now) cs.items (sources (binders_in drawn.now))) }
+    ensures { IfOk result (λ cs. AllMean (known places.now) (layers_of layers.now) cs.items
+        (sources (binders_in drawn.now))) }
 {
     let mut codes = Vec::new(alloc);
     for binder in drawn {
@@ -217,7 +218,8 @@ fn codes_of_bindings(
     bound: &[Binding],
     layers: &Layers<'_>,
 ) -> Result<Vec<Code>, AllocError>
-    ensures { IfOk result (λ cs. BindingsMean (known places.now) (layers_of layers.now) [] cs.items (binders_in bound.now)) }
+    ensures { IfOk result (λ cs. BindingsMean (known places.now) (layers_of layers.now) [] cs.items
+        (binders_in bound.now)) }
 {
     let mut codes = Vec::new(alloc);
     for (index, binding) in bound.iter().enumerate() {
@@ -238,7 +240,8 @@ pub(crate) fn code_of_body(
     parameter: &Pattern,
     body: &Exp,
 ) -> Result<Code, AllocError>
-    ensures { IfOk result (λ c. Means (known places.now) (layer (pattern_tree parameter.now ∷ []) ∷ []) c (tree_of body.now)) }
+    ensures { IfOk result (λ c. Means (known places.now) (layer (pattern_tree parameter.now ∷ []) ∷ []) c
+        (tree_of body.now)) }
 {
     let layers = of_body(parameter);
     code_of(alloc, places, body, &layers)
@@ -290,7 +293,8 @@ fn code_of_call(
     name: &[u8],
     argument: Box<Code>,
 ) -> Result<Code, AllocError>
-    ensures { IfOk result (λ c. (ls : List Layer) (e : Tree) → Means (known places.now) ls argument.value e → Means (known places.now) ls c (node span (call name.now e))) }
+    ensures { IfOk result (λ c. (ls : List Layer) (e : Tree) → Means (known places.now) ls argument.value e
+        → Means (known places.now) ls c (node span (call name.now e))) }
 {
     if let Some(function) = named(name) {
         return Ok(Code::Apply {

@@ -19,9 +19,11 @@ use Rattle.nesl_seqs_base.specs.Prices.{reads, depth_of}
 use Rattle.nesl_builtins.specs.declared.builtin.Builtin.{Builtin}
 use Rattle.nesl_builtins.specs.declared.builtin.Builtin.TheVariants.{OfOne, OfTwo, OfSequences}
 use Rattle.nesl_builtins.specs.Named.{named_builtin, infix_builtin, prefix_builtin}
-use Rattle.nesl_syntax_tree.specs.Trees.{PatternTree, Tree, Trees, Binders, node, none, more, no_binders, binder, span_of}
+use Rattle.nesl_syntax_tree.specs.Trees.{PatternTree, Tree, Trees, Binders, node, none, more, no_binders, binder}
+use Rattle.nesl_syntax_tree.specs.Trees.{span_of}
 use Rattle.nesl_syntax_tree.specs.Trees as trees
-use Rattle.nesl_eval_meaning.specs.Names.{Value, Locals, Scope, outside, with_names, Top, variable_of, function_of, datatype_of}
+use Rattle.nesl_eval_meaning.specs.Names.{Value, Locals, Scope, outside, with_names, Top, variable_of, function_of}
+use Rattle.nesl_eval_meaning.specs.Names.{datatype_of}
 use Rattle.nesl_eval_meaning.specs.Names.{Environment, named, bound}
 use Rattle.nesl_eval_meaning.specs.Out.{Out, value, fault, stuck, added, then_out, given, at_call, all_beside}
 

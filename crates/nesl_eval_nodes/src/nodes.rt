@@ -169,7 +169,8 @@ pub fn empty<A: Allocator + Copy>(alloc: A) -> Result<Value<A>, Stop>
 /// A truth value.
 #[inline]
 pub fn truth<A: Allocator>(value: Value<A>) -> Result<bool, Stop>
-    ensures { MatchResult result (λ b. as_bool (tree_of value) ≡ Some b) (λ e. (e ≡ Stop.Stuck) × (as_bool (tree_of value) ≡ None)) }
+    ensures { MatchResult result (λ b. as_bool (tree_of value) ≡ Some b) (λ e. (e ≡ Stop.Stuck)
+        × (as_bool (tree_of value) ≡ None)) }
 {
     match value.as_bool() {
         Some(b) => {

@@ -10,14 +10,15 @@ use Rattle.nesl_syntax_tree.proofs.tree.PatternNode.TheLaws.TheKnot as pattern_k
 use Rattle.nesl_syntax_tree.proofs.tree.TypeNode.TheLaws.TheKnot as type_knot
 use Rattle.nesl_syntax_tree.proofs.tree.Operator.TheSendSync as operator_crosses
 use Rattle.nesl_syntax_tree.proofs.tree.Prefix.TheSendSync as prefix_crosses
-use Rattle.nesl_types.specs.contracts.types.Ty as ty_row
-use Rattle.nesl_types.proofs.types.Ty.TheLaws.TheKnot as ty_knot
+use Rattle.nesl_types_bank.specs.contracts.types.Ty as ty_row
+use Rattle.nesl_types_bank.proofs.shape.Shape.TheSendSync as shape_crosses
 use Rattle.nesl_types.proofs.classes.Class.TheSendSync as kind_crosses
 use Rattle.nesl_types.specs.contracts.bindings.Top as kind_row
 use Rattle.nesl_eval_code.specs.contracts.env.Payload as payload_row
 use Rattle.nesl_values.proofs.node.Node.TheLaws.TheKnot as value_knot
 use Rattle.nesl_types.specs.contracts.bindings.Entry as entry_row
 use Rattle.nesl_types.specs.contracts.bindings.Context as context_row
+use Rattle.nesl_types.specs.contracts.kept.Shared as shared_row
 
 pattern_sync : IsSync (pattern_row.the_field).row
 pattern_sync = search (sendable, standard.crosses, pattern_knot.crosses, span_crosses.the_field_sync) depth 20 fits 100000
@@ -25,11 +26,11 @@ pattern_sync = search (sendable, standard.crosses, pattern_knot.crosses, span_cr
 exp_sync : IsSync (exp_row.the_field).row
 exp_sync = search (sendable, standard.crosses, exp_knot.crosses, type_knot.crosses, pattern_knot.crosses, pattern_sync, span_crosses.the_field_sync, operator_crosses.the_field_sync, prefix_crosses.the_field_sync) depth 20 fits 100000
 
-ty_sync : IsSync (ty_row.the_field).row
-ty_sync = search (sendable, standard.crosses, ty_knot.crosses) depth 20
+ty_sync : IsSync ty_row.the_row
+ty_sync = search (sendable, standard.crosses, shape_crosses.the_send, shape_crosses.the_sync) depth 20 fits 100000
 
 kind_sync : IsSync (kind_row.the_field).row
-kind_sync = search (sendable, standard.crosses, ty_sync, ty_knot.crosses, kind_crosses.the_sync) depth 20 fits 100000
+kind_sync = search (sendable, standard.crosses, ty_sync, kind_crosses.the_sync) depth 20 fits 100000
 
 pub payload_sync : IsSync payload_row.the_row
 payload_sync = search (sendable, standard.crosses, value_knot.crosses, exp_sync, pattern_sync) depth 20 fits 100000
@@ -37,5 +38,8 @@ payload_sync = search (sendable, standard.crosses, value_knot.crosses, exp_sync,
 pub entry_sync : IsSync (entry_row.the_row payload_row.the_row)
 entry_sync = search (sendable, standard.crosses, kind_sync, payload_sync) depth 20 fits 100000
 
+shared_sync : IsSync shared_row.the_row
+shared_sync = search (sendable, standard.crosses, ty_sync) depth 20
+
 pub context_sync : IsSync (context_row.the_row payload_row.the_row)
-context_sync = search (sendable, standard.crosses, maps.crosses, entry_sync) depth 30 fits 100000
+context_sync = search (sendable, standard.crosses, maps.crosses, entry_sync, shared_sync) depth 40 fits 1000000

@@ -31,6 +31,7 @@ use nesl_eval_nodes::parts::{
 };
 use nesl_eval_nodes::places::Places;
 use nesl_eval_nodes::scope::{Scope, local};
+use nesl_eval_plain::{Block, bodies_in_columns, filters_in_columns};
 use nesl_lex::token::Span;
 use nesl_scalars::Binary;
 use nesl_split_helpers::{
@@ -453,7 +454,8 @@ fn apply_three<R: Threads + Sync, H: Helpers + Sync, G: Gate + Sync, T: Tops<Glo
 ) -> Result<Value<Global>, Stop>
     requires { meter.old.fuel + meter.old.depth < 2 ^ 64 }
     ensures meets { let f = run levels (T.table tops.now) in Meets Is meter.old result meter.new
-        (run_three f (frames_of scope.now) first.now second.now third.now (λ x y z. applied span.now function (pair x (pair y z)))) }
+        (run_three f (frames_of scope.now) first.now second.now third.now
+        (λ x y z. applied span.now function (pair x (pair y z)))) }
     ensures spent { meter.new.fuel + meter.new.depth ≤ meter.old.fuel + meter.old.depth }
 {
     let one = part(tops, scope, first, levels, meter, crew)?;
@@ -726,10 +728,10 @@ fn holds_at<R: Threads + Sync, H: Helpers + Sync, G: Gate + Sync, T: Tops<Global
     truth(value)
 }
 
-// The places at which a filter holds, by this thread.
+// The places at which a filter holds, one by one.
 #[cycle(eval)]
 #[inline(never)]
-fn filters_in_order<R: Threads + Sync, H: Helpers + Sync, G: Gate + Sync, T: Tops<Global> + Sync>(
+fn filters_one_by_one<R: Threads + Sync, H: Helpers + Sync, G: Gate + Sync, T: Tops<Global> + Sync>(
     interval: &Interval<'_, R, H, G, T>,
     from: usize,
     to: usize,
@@ -897,10 +899,10 @@ fn all_bodies<'x, R: Threads + Sync, H: Helpers + Sync, G: Gate + Sync, T: Tops<
     finished(builder)
 }
 
-// The values of a body, by this thread.
+// The values of a body, one by one.
 #[cycle(eval)]
 #[inline(never)]
-fn bodies_in_order<R: Threads + Sync, H: Helpers + Sync, G: Gate + Sync, T: Tops<Global> + Sync>(
+fn bodies_one_by_one<R: Threads + Sync, H: Helpers + Sync, G: Gate + Sync, T: Tops<Global> + Sync>(
     interval: &Interval<'_, R, H, G, T>,
     from: usize,
     to: usize,
@@ -991,4 +993,68 @@ fn half_of_bodies<R: Threads + Sync, H: Helpers + Sync, G: Gate + Sync, T: Tops<
     let found = bodies(interval, from, to, levels, &mut meter);
     let cost = cost_since(begun, meter);
     Half { found, cost }
+}
+
+// The places at which a filter holds, by this thread: in columns where it is plain.
+#[cycle(eval)]
+fn filters_in_order<R: Threads + Sync, H: Helpers + Sync, G: Gate + Sync, T: Tops<Global> + Sync>(
+    interval: &Interval<'_, R, H, G, T>,
+    from: usize,
+    to: usize,
+    levels: u32,
+    meter: &mut Meter,
+) -> Result<Vec<usize>, Stop>
+    requires room { meter.old.fuel + meter.old.depth < 2 ^ 64 }
+    requires turns { (from ≤ to) × (to ≤ length (places_of interval.now.places)) }
+    ensures meets { Meets ArePlaces meter.old result meter.new (filters_in T.table levels interval.now from to) }
+    ensures spent { meter.new.fuel + meter.new.depth ≤ meter.old.fuel + meter.old.depth }
+{
+    let block = Block {
+        tops: interval.tops,
+        scope: interval.scope,
+        values: interval.values,
+        places: interval.places,
+        from,
+        to,
+        alloc: &interval.crew.alloc,
+    };
+    match filters_in_columns(&block, interval.code, levels, meter) {
+        Some(found) => Ok(found),
+        None => filters_one_by_one(interval, from, to, levels, meter),
+    }
+}
+
+// The values of a body, by this thread: in columns where it is plain.
+#[cycle(eval)]
+fn bodies_in_order<R: Threads + Sync, H: Helpers + Sync, G: Gate + Sync, T: Tops<Global> + Sync>(
+    interval: &Interval<'_, R, H, G, T>,
+    from: usize,
+    to: usize,
+    levels: u32,
+    meter: &mut Meter,
+) -> Result<SequenceBuilder, Stop>
+    requires room { meter.old.fuel + meter.old.depth < 2 ^ 64 }
+    requires turns { (from ≤ to) × (to ≤ length (places_of interval.now.places)) }
+    ensures meets { Meets Has meter.old result meter.new (bodies_in T.table levels interval.now from to) }
+    ensures spent { meter.new.fuel + meter.new.depth ≤ meter.old.fuel + meter.old.depth }
+{
+    // The values of all places behind are added to the first ones.
+    let room = if from == 0 {
+        interval.places.len()
+    } else {
+        to - from
+    };
+    let block = Block {
+        tops: interval.tops,
+        scope: interval.scope,
+        values: interval.values,
+        places: interval.places,
+        from,
+        to,
+        alloc: &interval.crew.alloc,
+    };
+    match bodies_in_columns(&block, interval.code, room, levels, meter) {
+        Some(found) => Ok(found),
+        None => bodies_one_by_one(interval, from, to, levels, meter),
+    }
 }

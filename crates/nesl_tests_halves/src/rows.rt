@@ -41,10 +41,20 @@ work 20
 {10 / a : a in [5, 2, 3, 0]}; => fault work (work 20)
 work 21
 {10 / a : a in [5, 2, 3, 0]}; => fault division at 1..7 (work 21)
+work 1000000
+sum({a * a + 1 : a in index(24)}); => it = 4348 : int (work 196, depth 14)
+work 1000000
+{a in index(24) | rem(a, 3) == 0}; => it = [0, 3, 6, 9, 12, 15, 18, 21] : [int] (work 187, depth 10)
+work 1000000
+{1 / (a - 19) + 1 / (a - 14) : a in index(24)}; => fault division at 16..28 (work 206)
+work 195
+sum({a * a + 1 : a in index(24)}); => fault work (work 195)
+work 196
+sum({a * a + 1 : a in index(24)}); => it = 4348 : int (work 196, depth 14)
 ";
 
 /// The lines of all sessions.
-pub const LINES: u64 = 12;
+pub const LINES: u64 = 17;
 
 // A fresh session whose lines may take so much work.
 fn begun(alloc: Global, work: &str) -> Result<Session, AllocError> {

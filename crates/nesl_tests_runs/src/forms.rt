@@ -38,5 +38,5 @@ pub fn define(
     body: Exp,
 ) -> Result<(), AllocError> {
     let function = Payload::Function { pattern, body };
-    env.set(alloc, name, Top::Variable(Ty::Int), function)
+    env.set(alloc, name, Top::Variable(Ty::int(alloc)?), function)
 }

@@ -2,18 +2,18 @@
 //! A line that begins with one of these words is a directive, and any other is evaluated.
 //!
 //! - `% TEXT`: a title, which is written as it is.
-//! - `@helpers never`, `always`, `second` (at every second question) or `pool` (one of three permits): who helps from here on.
-//!   Behind an outcome then stands how many helpers are out, or how many permits are free.
+//! - `@helpers never`, `always`, `second` (at every second question) or `pool` (one of three permits): who helps from
+//!   here on. Behind an outcome then stands how many helpers are out, or how many permits are free.
 //! - `@levels NUMBER`, `@budget NUMBER`: so many levels are allowed from here on, and so much work.
 //! - `@requests COUNT`: asks for memory so many times, and does nothing with it.
 //! - `@row LINE`: adds a row, which is an expression that comes to the same in halves and in order.
 //! - `@rows`: writes how many rows don't.
-//! - `@budgets COUNT`: the same with each budget below the count, where helpers are always granted. One counts more where
-//!   helpers are out then.
-//! - `@seeds COUNT`: the same of a row for each seed, where helpers are granted as the seed tells, and whether more helpers
-//!   were granted than there are seeds.
-//! - `@meet LINE`: evaluates it where each half of two places waits for the other, and writes how often the left half was
-//!   entered, the right one and any other place, and how often one waited in vain.
+//! - `@budgets COUNT`: the same with each budget below the count, where helpers are always granted. One counts more
+//!   where helpers are out then.
+//! - `@seeds COUNT`: the same of a row for each seed, where helpers are granted as the seed tells, and whether more
+//!   helpers were granted than there are seeds.
+//! - `@meet LINE`: evaluates it where each half of two places waits for the other, and writes how often the left half
+//!   was entered, the right one and any other place, and how often one waited in vain.
 //! - `@asks`: writes how many permits of pools are free behind questions.
 //! - `@close`: closes the pool.
 

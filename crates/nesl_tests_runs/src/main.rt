@@ -1,5 +1,6 @@
-//! Answers lines, each as a driver does. A line `== NAME` is written as it is, and says which one answers the lines behind it:
-//! `types`, `outcomes`, `halves` or `sessions`. At the head of the module of that name stands what its lines are.
+//! Answers lines, each as a driver does. A line `== NAME` is written as it is, and says which one answers the lines
+//! behind it: `types`, `outcomes`, `halves` or `sessions`. At the head of the module of that name stands what its lines
+//! are.
 #![tactic(auto)]
 
 mod definitions;

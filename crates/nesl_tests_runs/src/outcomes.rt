@@ -1,6 +1,6 @@
 //! What each line comes to. What a line binds stands for the lines after it, up to a line `new`. Behind `=` stands an
-//! expression that should have the value before it; behind `!` one that has two levels; behind `?` one that is run with each
-//! budget up to its whole work. A line that begins with `%` is written as it is.
+//! expression that should have the value before it; behind `!` one that has two levels; behind `?` one that is run with
+//! each budget up to its whole work. A line that begins with `%` is written as it is.
 
 use crate::driver::Driver;
 use crate::forms::{Reading, define, reading_of};
@@ -87,7 +87,7 @@ impl Outcomes {
                 put_done(done, b"a function", out)
             }
             Form::Datatype { name, .. } => {
-                let top = Top::Datatype(self.env.len() as u64, Ty::Int);
+                let top = Top::Datatype(self.env.len() as u64, Ty::int(alloc)?);
                 let done = self.env.set(alloc, name.as_slice(), top, Payload::Datatype);
                 put_done(done, b"a datatype", out)
             }
@@ -135,7 +135,7 @@ impl Outcomes {
     ) -> Result<(), AllocError> {
         match eval_one(alloc, &self.env, exp, LEVELS, WORK) {
             Outcome::Done { value, .. } => {
-                let top = Top::Variable(Ty::Int);
+                let top = Top::Variable(Ty::int(alloc)?);
                 let done = self.env.set(alloc, name, top, Payload::Variable(value));
                 put_done(done, b"a variable", out)
             }

@@ -15,7 +15,8 @@ use std::sync::Wait;
 use std::sync::ledger::{Blank, Ledger};
 use std::thread::Threads;
 
-/// What is answered to the lines of each part, and whether there was memory for all of it. A pool of three permits is for all.
+/// What is answered to the lines of each part, and whether there was memory for all of it. A pool of three permits is
+/// for all.
 pub fn answers<L: Ledger + Send + Sync, R: Threads + Wait + Clock + Sync>(
     rt: &R,
     alloc: Global,

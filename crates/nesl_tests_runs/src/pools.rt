@@ -8,10 +8,10 @@ use std::marker::Brand;
 use std::sync::Wait;
 use std::sync::ledger::{Blank, Ledger};
 
-/// Writes how many permits are free. Of a pool of three: at first and behind each of three questions, behind a fourth that is
-/// refused, and behind each permit that goes back. Of a pool of none: behind a question that is refused, and behind another
-/// once it is closed. Of a pool of three with one permit out: behind questions that are refused once it is closed, and once
-/// more; then behind the permit that goes back, and behind one more that is refused.
+/// Writes how many permits are free. Of a pool of three: at first and behind each of three questions, behind a fourth
+/// that is refused, and behind each permit that goes back. Of a pool of none: behind a question that is refused, and
+/// behind another once it is closed. Of a pool of three with one permit out: behind questions that are refused once it
+/// is closed, and once more; then behind the permit that goes back, and behind one more that is refused.
 pub fn put_asks<R: Wait>(rt: &R, alloc: Global, out: &mut Vec<u8>) -> Result<(), AllocError> {
     let (granted, fourth, back) = of_three::<Brand, _>(rt, Blank::new(3));
     put(out, format!(in alloc; "{granted:?} {fourth:?} {back:?}\n"))?;

@@ -1,6 +1,6 @@
-//! What sessions answer: a fault's number stands behind an answer, and whether it was not recorded. Of a long answer only the
-//! beginning and the end are written, and how many bytes it has and what they add up to.
-//! A line that begins with one of these words is a directive, and any other is said to the session as it is.
+//! What sessions answer: a fault's number stands behind an answer, and whether it was not recorded. Of a long answer
+//! only the beginning and the end are written, and how many bytes it has and what they add up to. A line that begins
+//! with one of these words is a directive, and any other is said to the session as it is.
 //!
 //! - `@ TEXT`: a title, which is written.
 //! - `@session NAME=NUMBER ..`: a fresh session, with the limits of the program but for those named; it is written.

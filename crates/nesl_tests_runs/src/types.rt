@@ -1,9 +1,8 @@
-//! What the types of each line are, or why it has none. What a line defines stands for the lines after it, up to a line `new`.
-//! A line that begins with `%` is written as it is.
+//! What the types of each line are, or why it has none. What a line defines stands for the lines after it, up to a line
+//! `new`. A line that begins with `%` is written as it is.
 
 ghost use Rattle.std.specs.Prelude.{IfOk};
-ghost use Rattle.nesl_types.specs.Numbering.{IsBelow};
-ghost use Rattle.nesl_types.specs.Term.{term};
+ghost use Rattle.nesl_types_bank.specs.Numbering.{IsBelow};
 
 use crate::definitions::Definitions;
 use crate::driver::Driver;

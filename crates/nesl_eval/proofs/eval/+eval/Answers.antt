@@ -27,6 +27,8 @@ use Rattle.nesl_eval_nodes.proofs.Making.{keeps_truth, branch_yes, branch_no, br
 use Rattle.nesl_eval_nodes.proofs.Rows.{node-Sequence, node-Let, node-Each, node-FilteredEach}
 use Rattle.nesl_eval_nodes.proofs.Sides.{turn_stops, turn_next, turns_done}
 use Rattle.nesl_eval_nodes.proofs.Arms.{drop_next, drop_past, range_next, range_past, over_runs, over_stops, LenIs}
+use Rattle.std.proofs.lemmas.List.FromFn.{length-range_with_len}
+use Rattle.nesl_eval.proofs.Ranges.{range_all}
 use Rattle.nesl_eval.proofs.eval.+eval.Goals as goal
 
 pub value_in-returns-clause-meets : goal.value_in-returns-clause-meets
@@ -469,8 +471,8 @@ body_at-returns-clause-meets g t c =
     let o = f (row c.args.place (map tree_of c.args.values.now) ∷ fs) c.args.body.now in
     meets_then (Is {A = g.row.A.Denot}) (IsOne {A = g.row.A.Denot}) c.args.meter.now c.value_in.new.meter c.paid.new.meter c.in_ok-value.value c.paid.result o counted (simp frames-Row at c.in_ok-value.ensures.meets) (λ x e. subst (λ y. Meets (IsOne {A = g.row.A.Denot}) c.value_in.new.meter c.paid.result c.paid.new.meter (counted y)) e c.paid.ensures.meets)
 
-pub filters-returns-in_err-holds-clause-meets : goal.filters-returns-in_err-holds-clause-meets
-filters-returns-in_err-holds-clause-meets g t c =
+pub filters_in_order-returns-in_err-holds-clause-meets : goal.filters_in_order-returns-in_err-holds-clause-meets
+filters_in_order-returns-in_err-holds-clause-meets g t c =
     let tb = g.T.Tops.table c.args.tops.now in
     let f = run c.args.levels tb in
     let fs = frames_of c.args.scope.now in
@@ -482,8 +484,8 @@ filters-returns-in_err-holds-clause-meets g t c =
     let next : range_with_len i (n - i) ≡ i ∷ range_with_len (i + 1) (n - (i + 1)) = range_next i n c.loop-place-test.true in
     rw (p.1, p.2) (turn_stops T (Keeps i) q _ (range_with_len (i + 1) (n - (i + 1))) i c.loop-place.meter.fuel c.args.meter.now.depth c.loop-place.most c.loop-place.kept.items c.args.meter.now c.holds_at.new.meter c.in_err-holds.field-0.0 (all_beside q (range_with_len 0 n)) next c.loop-place.invariant.leads c.in_err-holds.ensures.meets)
 
-pub filters-returns-in_err-keep_if-clause-meets : goal.filters-returns-in_err-keep_if-clause-meets
-filters-returns-in_err-keep_if-clause-meets g t c =
+pub filters_in_order-returns-in_err-keep_if-clause-meets : goal.filters_in_order-returns-in_err-keep_if-clause-meets
+filters_in_order-returns-in_err-keep_if-clause-meets g t c =
     let tb = g.T.Tops.table c.args.tops.now in
     let f = run c.args.levels tb in
     let fs = frames_of c.args.scope.now in
@@ -491,8 +493,8 @@ filters-returns-in_err-keep_if-clause-meets g t c =
     let T : Vec ℕ g.row.A.Denot → List ℕ → Type 0 = λ ks is. ks.items ≡ is in
     rw (p.1, p.2, c.in_err-keep_if.ensures) (memory_any T c.args.meter.now c.holds_at.new.meter (run_filters f fs (map tree_of c.args.values.now) c.args.filter.now (range_with_len 0 c.args.len)))
 
-pub filters-loop-place-preserved : goal.filters-loop-place-preserved
-filters-loop-place-preserved g t c =
+pub filters_in_order-loop-place-preserved : goal.filters_in_order-loop-place-preserved
+filters_in_order-loop-place-preserved g t c =
     let tb = g.T.Tops.table c.args.tops.now in
     let f = run c.args.levels tb in
     let fs = frames_of c.args.scope.now in
@@ -508,8 +510,8 @@ filters-loop-place-preserved g t c =
       begun = c.loop-place.invariant.begun;
     }
 
-pub filters-returns-clause-meets : goal.filters-returns-clause-meets
-filters-returns-clause-meets g t c =
+pub filters_in_order-returns-clause-meets : goal.filters_in_order-returns-clause-meets
+filters_in_order-returns-clause-meets g t c =
     let tb = g.T.Tops.table c.args.tops.now in
     let f = run c.args.levels tb in
     let fs = frames_of c.args.scope.now in
@@ -517,8 +519,8 @@ filters-returns-clause-meets g t c =
     let T : Vec ℕ g.row.A.Denot → List ℕ → Type 0 = λ ks is. ks.items ≡ is in
     turns_done T q (range_with_len c.loop-place.place (c.args.len - c.loop-place.place)) c.loop-place.meter.fuel c.args.meter.now.depth c.loop-place.most c.loop-place.kept.items c.args.meter.now c.loop-place.kept (all_beside q (range_with_len 0 c.args.len)) (range_past c.loop-place.place c.args.len c.loop-place-test.false) c.loop-place.invariant.leads refl
 
-pub bodies-returns-in_err-value-clause-meets : goal.bodies-returns-in_err-value-clause-meets
-bodies-returns-in_err-value-clause-meets g t c =
+pub bodies_in_order-returns-in_err-value-clause-meets : goal.bodies_in_order-returns-in_err-value-clause-meets
+bodies_in_order-returns-in_err-value-clause-meets g t c =
     let tb = g.T.Tops.table c.args.tops.now in
     let f = run c.args.levels tb in
     let fs = frames_of c.args.scope.now in
@@ -529,16 +531,16 @@ bodies-returns-in_err-value-clause-meets g t c =
     let next = drop_next is k c.at-place.result c.at-place.ensures in
     rw (p.1, p.2) (turn_stops (Has {A = g.row.A.Denot}) (IsOne {A = g.row.A.Denot}) q (drop k is) (drop (k + 1) is) c.at-place.result c.loop-turn.meter.fuel c.args.meter.now.depth c.loop-turn.most (elements_of c.loop-turn.builder) c.args.meter.now c.body_at.new.meter c.in_err-value.field-0.0 (all_beside q is) next c.loop-turn.invariant.leads c.in_err-value.ensures.meets)
 
-pub bodies-returns-in_err-add-clause-meets : goal.bodies-returns-in_err-add-clause-meets
-bodies-returns-in_err-add-clause-meets g t c =
+pub bodies_in_order-returns-in_err-add-clause-meets : goal.bodies_in_order-returns-in_err-add-clause-meets
+bodies_in_order-returns-in_err-add-clause-meets g t c =
     let tb = g.T.Tops.table c.args.tops.now in
     let f = run c.args.levels tb in
     let fs = frames_of c.args.scope.now in
     let p = err_from_is_err_and c.from_residual-in_err-add.result c.from_residual-in_err-add.ensures.1 in
     rw (p.1, p.2, c.in_err-add.ensures) (memory_any (Has {A = g.row.A.Denot}) c.args.meter.now c.body_at.new.meter (run_bodies f fs (map tree_of c.args.values.now) c.args.body.now (places_of c.args.places)))
 
-pub bodies-loop-turn-preserved : goal.bodies-loop-turn-preserved
-bodies-loop-turn-preserved g t c =
+pub bodies_in_order-loop-turn-preserved : goal.bodies_in_order-loop-turn-preserved
+bodies_in_order-loop-turn-preserved g t c =
     let tb = g.T.Tops.table c.args.tops.now in
     let f = run c.args.levels tb in
     let fs = frames_of c.args.scope.now in
@@ -553,11 +555,20 @@ bodies-loop-turn-preserved g t c =
       begun = c.loop-turn.invariant.begun;
     }
 
-pub bodies-returns-clause-meets : goal.bodies-returns-clause-meets
-bodies-returns-clause-meets g t c =
+pub bodies_in_order-returns-clause-meets : goal.bodies_in_order-returns-clause-meets
+bodies_in_order-returns-clause-meets g t c =
     let tb = g.T.Tops.table c.args.tops.now in
     let f = run c.args.levels tb in
     let fs = frames_of c.args.scope.now in
     let q = λ (i : ℕ). then_out (run_at f fs (map tree_of c.args.values.now) c.args.body.now i) counted in
     let is = places_of c.args.places in
     turns_done (Has {A = g.row.A.Denot}) q (drop c.loop-turn.turn is) c.loop-turn.meter.fuel c.args.meter.now.depth c.loop-turn.most (elements_of c.loop-turn.builder) c.args.meter.now c.loop-turn.builder (all_beside q is) (drop_past is c.loop-turn.turn (omega (arith, c.len-turn-end.ensures))) c.loop-turn.invariant.leads refl
+
+pub filters-filters_in_columns-requires-clause-turns : goal.filters-filters_in_columns-requires-clause-turns
+filters-filters_in_columns-requires-clause-turns g t c = (omega arith, omega (arith, length-range_with_len 0 c.args.len))
+
+pub filters-returns-in-Some-clause-meets : goal.filters-returns-in-Some-clause-meets
+filters-returns-in-Some-clause-meets g t c =
+    let f = run c.args.levels (g.T.Tops.table c.args.tops.now) in
+    let F : List ℕ → Type 0 = λ is. Meets {R = Vec ℕ g.row.A.Denot} (λ ks js. ks.items ≡ js) c.args.meter.now (Ok c.in-Some.kept) c.filters_in_columns.new.meter (run_filters f (frames_of c.args.scope.now) (map tree_of c.args.values.now) c.args.filter.now is) in
+    subst F (range_all c.args.len) c.in-Some.ensures.meets

@@ -82,13 +82,19 @@ abbrev pub decreases-body_at : goal.decreases-body_at
 decreases-body_at g l = l.levels * 32 + 4
 
 abbrev pub decreases-filters : goal.decreases-filters
-decreases-filters g l = l.levels * 32 + 6
+decreases-filters g l = l.levels * 32 + 7
+
+abbrev pub decreases-filters_in_order : goal.decreases-filters_in_order
+decreases-filters_in_order g l = l.levels * 32 + 6
 
 abbrev pub decreases-all_bodies : goal.decreases-all_bodies
 decreases-all_bodies g l = l.levels * 32 + 8
 
 abbrev pub decreases-bodies : goal.decreases-bodies
-decreases-bodies g l = l.levels * 32 + 6
+decreases-bodies g l = l.levels * 32 + 7
+
+abbrev pub decreases-bodies_in_order : goal.decreases-bodies_in_order
+decreases-bodies_in_order g l = l.levels * 32 + 6
 
 abbrev pub invariant-eval_all-loop-next : goal.invariant-eval_all-loop-next
 invariant-eval_all-loop-next g l =
@@ -108,8 +114,8 @@ invariant-in_let-loop-code g l =
       spent : l.meter.fuel + l.meter.depth ≤ l.fn.meter.fuel + l.fn.meter.depth;
     }
 
-abbrev pub invariant-filters-loop-place : goal.invariant-filters-loop-place
-invariant-filters-loop-place g l =
+abbrev pub invariant-filters_in_order-loop-place : goal.invariant-filters_in_order-loop-place
+invariant-filters_in_order-loop-place g l =
     let f = run l.levels (g.T.Tops.table l.tops) in
     let p = λ (i : ℕ). then_out (run_at f (frames_of l.scope) (map tree_of l.values) l.filter i) (kept i) in
     record {
@@ -118,8 +124,8 @@ invariant-filters-loop-place g l =
       begun : l.start ≡ l.fn.meter.depth;
     }
 
-abbrev pub invariant-bodies-loop-turn : goal.invariant-bodies-loop-turn
-invariant-bodies-loop-turn g l =
+abbrev pub invariant-bodies_in_order-loop-turn : goal.invariant-bodies_in_order-loop-turn
+invariant-bodies_in_order-loop-turn g l =
     let f = run l.levels (g.T.Tops.table l.tops) in
     let p = λ (i : ℕ). then_out (run_at f (frames_of l.scope) (map tree_of l.values) l.body i) counted in
     record {

@@ -502,8 +502,8 @@ all_filters-returns-clause-meets g t c =
     let o = λ (ks : List ℕ). run_filters f (frames_of c.args.scope.now) (map tree_of c.args.values.now) c.args.filter.now ks in
     subst (λ ks. Meets (ArePlaces {A = Global}) c.args.meter.now c.filters.result c.filters.new.meter (o ks)) (range_all c.args.len) c.filters.ensures.meets
 
-pub filters_in_order-returns-in_err-holds-clause-meets : goal.filters_in_order-returns-in_err-holds-clause-meets
-filters_in_order-returns-in_err-holds-clause-meets g t c =
+pub filters_one_by_one-returns-in_err-holds-clause-meets : goal.filters_one_by_one-returns-in_err-holds-clause-meets
+filters_one_by_one-returns-in_err-holds-clause-meets g t c =
     let s = c.args.interval.now in
     let q = λ (k : ℕ). then_out (run_at (run c.args.levels (g.T.Tops.table s.tops.now)) (frames_of s.scope.now) (map tree_of s.values.now) s.code.now k) (outcome.kept k) in
     let is = places_of s.places in
@@ -514,8 +514,8 @@ filters_in_order-returns-in_err-holds-clause-meets g t c =
     let p = err_from_is_err_and c.from_residual.result c.from_residual.ensures.1 in
     rw (p.1, p.2) (turn_stops (ArePlaces {A = Global}) (Keeps i) q (slice_range is k n) (slice_range is (k + 1) n) i c.loop-turn.meter.fuel c.args.meter.now.depth c.loop-turn.most c.loop-turn.kept.items c.args.meter.now c.holds_at.new.meter c.in_err-holds.field-0.0 (all_beside q (slice_range is c.args.from n)) next c.loop-turn.invariant.leads c.in_err-holds.ensures.meets)
 
-pub filters_in_order-returns-in_err-keep_if-clause-meets : goal.filters_in_order-returns-in_err-keep_if-clause-meets
-filters_in_order-returns-in_err-keep_if-clause-meets g t c =
+pub filters_one_by_one-returns-in_err-keep_if-clause-meets : goal.filters_one_by_one-returns-in_err-keep_if-clause-meets
+filters_one_by_one-returns-in_err-keep_if-clause-meets g t c =
     let s = c.args.interval.now in
     let q = λ (k : ℕ). then_out (run_at (run c.args.levels (g.T.Tops.table s.tops.now)) (frames_of s.scope.now) (map tree_of s.values.now) s.code.now k) (outcome.kept k) in
     let is = places_of s.places in
@@ -523,8 +523,8 @@ filters_in_order-returns-in_err-keep_if-clause-meets g t c =
     let p = err_from_is_err_and c.from_residual-in_err-keep_if.result c.from_residual-in_err-keep_if.ensures.1 in
     rw (p.1, p.2, c.in_err-keep_if.ensures) (memory_any (ArePlaces {A = Global}) c.args.meter.now c.holds_at.new.meter (all_beside q (slice_range is c.args.from n)))
 
-pub filters_in_order-loop-turn-preserved : goal.filters_in_order-loop-turn-preserved
-filters_in_order-loop-turn-preserved g t c =
+pub filters_one_by_one-loop-turn-preserved : goal.filters_one_by_one-loop-turn-preserved
+filters_one_by_one-loop-turn-preserved g t c =
     let s = c.args.interval.now in
     let q = λ (k : ℕ). then_out (run_at (run c.args.levels (g.T.Tops.table s.tops.now)) (frames_of s.scope.now) (map tree_of s.values.now) s.code.now k) (outcome.kept k) in
     let is = places_of s.places in
@@ -539,8 +539,8 @@ filters_in_order-loop-turn-preserved g t c =
       begun = c.loop-turn.invariant.begun;
     }
 
-pub filters_in_order-returns-clause-meets : goal.filters_in_order-returns-clause-meets
-filters_in_order-returns-clause-meets g t c =
+pub filters_one_by_one-returns-clause-meets : goal.filters_one_by_one-returns-clause-meets
+filters_one_by_one-returns-clause-meets g t c =
     let s = c.args.interval.now in
     let q = λ (k : ℕ). then_out (run_at (run c.args.levels (g.T.Tops.table s.tops.now)) (frames_of s.scope.now) (map tree_of s.values.now) s.code.now k) (outcome.kept k) in
     let is = places_of s.places in
@@ -579,8 +579,8 @@ filters-returns-clause-meets g t c =
     subst (λ o. Meets (ArePlaces {A = Global}) c.args.meter.now c.joined_places.result c.joined_places.new.meter o) (sym cut)
     (c.joined_places.ensures.meets (all_beside q left) (all_beside q right) (c.fork-left.ensures.left c.args.meter.now refl).1 (c.fork-left.ensures.right c.args.meter.now refl).1)
 
-pub bodies_in_order-returns-in_err-value-clause-meets : goal.bodies_in_order-returns-in_err-value-clause-meets
-bodies_in_order-returns-in_err-value-clause-meets g t c =
+pub bodies_one_by_one-returns-in_err-value-clause-meets : goal.bodies_one_by_one-returns-in_err-value-clause-meets
+bodies_one_by_one-returns-in_err-value-clause-meets g t c =
     let s = c.args.interval.now in
     let q = λ (k : ℕ). then_out (run_at (run c.args.levels (g.T.Tops.table s.tops.now)) (frames_of s.scope.now) (map tree_of s.values.now) s.code.now k) counted in
     let is = places_of s.places in
@@ -591,8 +591,8 @@ bodies_in_order-returns-in_err-value-clause-meets g t c =
     let p = err_from_is_err_and c.from_residual.result c.from_residual.ensures.1 in
     rw (p.1, p.2) (turn_stops (Has {A = Global}) (IsOne {A = Global}) q (slice_range is k n) (slice_range is (k + 1) n) i c.loop-turn.meter.fuel c.args.meter.now.depth c.loop-turn.most (elements_of c.loop-turn.builder) c.args.meter.now c.body_at.new.meter c.in_err-value.field-0.0 (all_beside q (slice_range is c.args.from n)) next c.loop-turn.invariant.leads c.in_err-value.ensures.meets)
 
-pub bodies_in_order-returns-in_err-add-clause-meets : goal.bodies_in_order-returns-in_err-add-clause-meets
-bodies_in_order-returns-in_err-add-clause-meets g t c =
+pub bodies_one_by_one-returns-in_err-add-clause-meets : goal.bodies_one_by_one-returns-in_err-add-clause-meets
+bodies_one_by_one-returns-in_err-add-clause-meets g t c =
     let s = c.args.interval.now in
     let q = λ (k : ℕ). then_out (run_at (run c.args.levels (g.T.Tops.table s.tops.now)) (frames_of s.scope.now) (map tree_of s.values.now) s.code.now k) counted in
     let is = places_of s.places in
@@ -600,8 +600,8 @@ bodies_in_order-returns-in_err-add-clause-meets g t c =
     let p = err_from_is_err_and c.from_residual-in_err-add.result c.from_residual-in_err-add.ensures.1 in
     rw (p.1, p.2, c.in_err-add.ensures) (memory_any (Has {A = Global}) c.args.meter.now c.body_at.new.meter (all_beside q (slice_range is c.args.from n)))
 
-pub bodies_in_order-loop-turn-preserved : goal.bodies_in_order-loop-turn-preserved
-bodies_in_order-loop-turn-preserved g t c =
+pub bodies_one_by_one-loop-turn-preserved : goal.bodies_one_by_one-loop-turn-preserved
+bodies_one_by_one-loop-turn-preserved g t c =
     let s = c.args.interval.now in
     let q = λ (k : ℕ). then_out (run_at (run c.args.levels (g.T.Tops.table s.tops.now)) (frames_of s.scope.now) (map tree_of s.values.now) s.code.now k) counted in
     let is = places_of s.places in
@@ -616,8 +616,8 @@ bodies_in_order-loop-turn-preserved g t c =
       begun = c.loop-turn.invariant.begun;
     }
 
-pub bodies_in_order-returns-clause-meets : goal.bodies_in_order-returns-clause-meets
-bodies_in_order-returns-clause-meets g t c =
+pub bodies_one_by_one-returns-clause-meets : goal.bodies_one_by_one-returns-clause-meets
+bodies_one_by_one-returns-clause-meets g t c =
     let s = c.args.interval.now in
     let q = λ (k : ℕ). then_out (run_at (run c.args.levels (g.T.Tops.table s.tops.now)) (frames_of s.scope.now) (map tree_of s.values.now) s.code.now k) counted in
     let is = places_of s.places in

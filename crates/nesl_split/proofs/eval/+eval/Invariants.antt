@@ -95,7 +95,10 @@ abbrev pub decreases-bodies : goal.decreases-bodies
 decreases-bodies g l = (l.levels * 2 ^ 68 + 8) + (l.to - l.from) * 4
 
 abbrev pub decreases-filters_in_order : goal.decreases-filters_in_order
-decreases-filters_in_order g l = l.levels * 2 ^ 68 + 6
+decreases-filters_in_order g l = l.levels * 2 ^ 68 + 7
+
+abbrev pub decreases-filters_one_by_one : goal.decreases-filters_one_by_one
+decreases-filters_one_by_one g l = l.levels * 2 ^ 68 + 6
 
 abbrev pub decreases-half_of_filters : goal.decreases-half_of_filters
 decreases-half_of_filters g l = (l.levels * 2 ^ 68 + 9) + (l.to - l.from) * 4
@@ -104,7 +107,10 @@ abbrev pub decreases-filters-half : goal.decreases-filters-half
 decreases-filters-half g l = (l.levels * 2 ^ 68 + 10) + (l.to - l.from) * 4
 
 abbrev pub decreases-bodies_in_order : goal.decreases-bodies_in_order
-decreases-bodies_in_order g l = l.levels * 2 ^ 68 + 6
+decreases-bodies_in_order g l = l.levels * 2 ^ 68 + 7
+
+abbrev pub decreases-bodies_one_by_one : goal.decreases-bodies_one_by_one
+decreases-bodies_one_by_one g l = l.levels * 2 ^ 68 + 6
 
 abbrev pub decreases-half_of_bodies : goal.decreases-half_of_bodies
 decreases-half_of_bodies g l = (l.levels * 2 ^ 68 + 9) + (l.to - l.from) * 4
@@ -130,8 +136,8 @@ invariant-in_let-loop-code g l =
       spent : l.meter.fuel + l.meter.depth ≤ l.fn.meter.fuel + l.fn.meter.depth;
     }
 
-abbrev pub invariant-filters_in_order-loop-turn : goal.invariant-filters_in_order-loop-turn
-invariant-filters_in_order-loop-turn g l =
+abbrev pub invariant-filters_one_by_one-loop-turn : goal.invariant-filters_one_by_one-loop-turn
+invariant-filters_one_by_one-loop-turn g l =
     let s = l.interval in
     let p = λ (i : ℕ). then_out (run_at (run l.levels (g.T.Tops.table s.tops.now)) (frames_of s.scope.now) (map tree_of s.values.now) s.code.now i) (kept i) in
     let is = places_of s.places in
@@ -141,8 +147,8 @@ invariant-filters_in_order-loop-turn g l =
       begun : l.start ≡ l.fn.meter.depth;
     }
 
-abbrev pub invariant-bodies_in_order-loop-turn : goal.invariant-bodies_in_order-loop-turn
-invariant-bodies_in_order-loop-turn g l =
+abbrev pub invariant-bodies_one_by_one-loop-turn : goal.invariant-bodies_one_by_one-loop-turn
+invariant-bodies_one_by_one-loop-turn g l =
     let s = l.interval in
     let p = λ (i : ℕ). then_out (run_at (run l.levels (g.T.Tops.table s.tops.now)) (frames_of s.scope.now) (map tree_of s.values.now) s.code.now i) counted in
     let is = places_of s.places in

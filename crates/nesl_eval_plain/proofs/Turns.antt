@@ -1,0 +1,150 @@
+-- Block after block.
+use Rattle.std.proofs.Common.{◌≡◌, ℕ, ℤ, zero, suc, ◌+◌, ◌-◌, ◌*◌, ◌<◌, ◌≤◌, max, Bool, cond, List, [], ◌∷◌, ◌++◌, map, length, take, drop, take_all, get_or, get_or-drop, length-take, take-add, drop-drop, length-drop, Some, Result, Ok, Err, false, refl, sym, ap, ◌∙◌, arith, append_assoc}
+use Rattle.std.specs.Prelude.{slice_range, slice_get, MatchResult, is_err}
+use Rattle.std.proofs.lemmas.Grind.{take_at_read}
+use Rattle.std.proofs.lemmas.Option.{slice_get_within, get_or_from_slice_get}
+use Rattle.nesl_values.specs.Tree.{boolean, int, character}
+use Rattle.nesl_eval_meaning.specs.Names.{Value}
+use Rattle.nesl_eval_meaning.specs.Out.{Out, value, then_out, beside, all_beside}
+use Rattle.nesl_eval_meaning.specs.Outcome.{counted, kept}
+use Rattle.nesl_eval_meaning.proofs.Joins.{all_halved}
+use Rattle.nesl_eval_columns.specs.declared.column.Column.{Column}
+use Rattle.nesl_eval_columns.specs.declared.column.Column.TheVariants.{Ints, Bools, Chars}
+use Rattle.nesl_eval_columns.specs.Columns.{leaves_of}
+use Rattle.nesl_eval_columns.proofs.Turns.{two_len}
+use Rattle.nesl_eval_plain.specs.Comes.{Comes, deep, chosen}
+use Rattle.nesl_eval_plain.proofs.Comes.{Small, bodies_of, filters_of}
+use Rattle.nesl_eval_plain.proofs.Places.{len_range}
+
+value_is : {X : Type 0} (xs ys : X) (m n i j : ℕ) → xs ≡ ys → m ≡ n → i ≡ j → value xs m i ≡ value ys n j
+value_is xs ys m n i j e f h = cc
+
+-- the leaves of a column are small
+ints_small : (xs : List ℤ) → Small (map int xs)
+ints_small [] = tt
+ints_small (x ∷ xs) = (refl, ints_small xs)
+
+bools_small : (xs : List Bool) → Small (map boolean xs)
+bools_small [] = tt
+bools_small (x ∷ xs) = (refl, bools_small xs)
+
+chars_small : (xs : List ℕ) → Small (map character xs)
+chars_small [] = tt
+chars_small (x ∷ xs) = (refl, chars_small xs)
+
+leaves_small : {A : Type 0} (c : Column A) → Small (leaves_of c)
+leaves_small (Ints v) = ints_small v.items
+leaves_small (Bools v) = bools_small v.items
+leaves_small (Chars v) = chars_small v.items
+
+-- a part that is cut in two
+range_cut : {X : Type 0} (xs : List X) (from centre to : ℕ) → from ≤ centre → centre ≤ to → slice_range xs from to ≡ slice_range xs from centre ++ slice_range xs centre to
+range_cut xs from centre to h k =
+    let both : to - from ≡ (centre - from) + (to - centre) = omega arith in
+    let there : from + (centre - from) ≡ centre = omega arith in
+    ap (λ n. take n (drop from xs)) both ∙ take-add (centre - from) (to - centre) (drop from xs)
+    ∙ ap (λ ys. take (centre - from) (drop from xs) ++ take (to - centre) ys) (drop-drop (centre - from) from xs ∙ ap (λ n. drop n xs) there)
+
+-- one more block
+more : {X : Type 0} (p : ℕ → Out (List X)) (is js ks : List ℕ) (xs ys : List X) (w v d e : ℕ) → ks ≡ is ++ js → all_beside p is ≡ value xs w d → all_beside p js ≡ value ys v e → all_beside p ks ≡ value (xs ++ ys) (w + v) (max d e)
+more p is js ks xs ys w v d e q h k =
+    ap (all_beside p) q ∙ all_halved p is js ∙ ap (λ o. beside o (all_beside p js)) h ∙ ap (λ o. beside (value xs w d) o) k
+
+deep_some : (is : List ℕ) (n : ℕ) → 0 < length is → deep is n ≡ n
+deep_some [] n h = absurd (omega arith)
+deep_some (i ∷ is) n h = refl
+
+-- the state after a block: what was made, and what is left of the fuel
+module _ {X : Type 0} (p : ℕ → Out (List X)) (places : List ℕ) (from turn end fuel left left' most most' w n : ℕ) (xs ys zs : List X) where
+  pub next_block : from ≤ turn → turn < end → end ≤ length places → left ≤ fuel → left ≡ left' + w → zs ≡ xs ++ ys → most' ≡ max most n → all_beside p (slice_range places from turn) ≡ value xs (fuel - left) most → all_beside p (slice_range places turn end) ≡ value ys w n → all_beside p (slice_range places from end) ≡ value zs (fuel - left') most'
+  next_block a b c d e z m h k =
+      more p (slice_range places from turn) (slice_range places turn end) (slice_range places from end) xs ys (fuel - left) w most n (range_cut places from turn end a (omega arith)) h k
+      ∙ value_is (xs ++ ys) zs (fuel - left + w) (fuel - left') (max most n) most' (sym z) (omega arith) (sym m)
+
+-- nothing yet
+pub no_block : {X : Type 0} (p : ℕ → Out (List X)) (places : List ℕ) (from fuel : ℕ) (xs : List X) → xs ≡ [] → all_beside p (slice_range places from from) ≡ value xs (fuel - fuel) 0
+no_block p places from fuel xs e =
+    let none : from - from ≡ zero = omega arith in
+    ap (λ n. all_beside p (take n (drop from places))) none ∙ value_is [] xs 0 (fuel - fuel) 0 0 (sym e) (omega arith) refl
+
+-- the bodies of a block
+pub block_bodies : {A : Type 0} (p : ℕ → Out Value) (n : ℕ) (places : List ℕ) (turn end : ℕ) (c : Column A) → turn < end → end ≤ length places → Comes p n (slice_range places turn end) (leaves_of c) → all_beside (λ i. then_out (p i) counted) (slice_range places turn end) ≡ value (leaves_of c) ((end - turn) * (n + 1)) n
+block_bodies p n places turn end c a b h =
+    let len = len_range places turn end (omega arith) b in
+    bodies_of p n (slice_range places turn end) (leaves_of c) h (leaves_small c)
+    ∙ value_is (leaves_of c) (leaves_of c) (length (slice_range places turn end) * (n + 1)) ((end - turn) * (n + 1)) (deep (slice_range places turn end) n) n refl (ap (λ k. k * (n + 1)) len) (deep_some (slice_range places turn end) n (omega (arith, len)))
+
+-- the filters of a block
+chosen_take : (n : ℕ) (is : List ℕ) (bs : List Bool) → length bs ≤ n → chosen (take n is) bs ≡ chosen is bs
+chosen_take n [] bs h = take_none n bs
+  where
+    take_none : (n : ℕ) (bs : List Bool) → chosen (take n []) bs ≡ chosen [] bs
+    take_none zero bs = refl
+    take_none (suc n) bs = refl
+chosen_take zero (i ∷ is) [] h = refl
+chosen_take zero (i ∷ is) (b ∷ bs) h = absurd (omega arith)
+chosen_take (suc n) (i ∷ is) [] h = refl
+chosen_take (suc n) (i ∷ is) (b ∷ bs) h = ap (λ ks. cond b (i ∷ []) [] ++ ks) (chosen_take n is bs (omega arith))
+
+pub block_filters : (p : ℕ → Out Value) (n : ℕ) (places : List ℕ) (turn end : ℕ) (bs : List Bool) → turn < end → end ≤ length places → Comes p n (slice_range places turn end) (map boolean bs) → length bs ≡ end - turn → all_beside (λ i. then_out (p i) (kept i)) (slice_range places turn end) ≡ value (chosen (drop turn places) bs) ((end - turn) * n) n
+block_filters p n places turn end bs a b h l =
+    let len = len_range places turn end (omega arith) b in
+    filters_of p n (slice_range places turn end) bs h
+    ∙ value_is (chosen (slice_range places turn end) bs) (chosen (drop turn places) bs) (length (slice_range places turn end) * n) ((end - turn) * n) (deep (slice_range places turn end) n) n (chosen_take (end - turn) (drop turn places) bs (omega arith)) (ap (λ k. k * n) len) (deep_some (slice_range places turn end) n (omega (arith, len)))
+
+len_map : {X Y : Type 0} (f : X → Y) (xs : List X) → length (map f xs) ≡ length xs
+len_map f [] = refl
+len_map f (x ∷ xs) = ap suc (len_map f xs)
+
+pub flags_len : (p : ℕ → Out Value) (n : ℕ) (places : List ℕ) (turn end : ℕ) (bs : List Bool) → turn < end → end ≤ length places → Comes p n (slice_range places turn end) (map boolean bs) → length bs ≡ end - turn
+flags_len p n places turn end bs a b h =
+    sym (len_map boolean bs) ∙ two_len (λ i v. p i ≡ value v n n) (slice_range places turn end) (map boolean bs) h ∙ len_range places turn end (omega arith) b
+
+-- one more place
+chosen_push : (is : List ℕ) (bs : List Bool) (i : ℕ) (b : Bool) → length is ≡ length bs → chosen (is ++ i ∷ []) (bs ++ b ∷ []) ≡ chosen is bs ++ cond b (i ∷ []) []
+chosen_push [] [] i b h = append_none (cond b (i ∷ []) [])
+  where
+    append_none : (ks : List ℕ) → ks ++ [] ≡ ks
+    append_none [] = refl
+    append_none (k ∷ ks) = ap (λ js. k ∷ js) (append_none ks)
+chosen_push [] (c ∷ bs) i b h = absurd (omega arith)
+chosen_push (j ∷ is) [] i b h = absurd (omega arith)
+chosen_push (j ∷ is) (c ∷ bs) i b h =
+    ap (λ ks. cond c (j ∷ []) [] ++ ks) (chosen_push is bs i b (omega arith)) ∙ sym (append_assoc (cond c (j ∷ []) []) (chosen is bs) (cond b (i ∷ []) []))
+
+-- what a call ensures of its `Ok`
+pub ok_so : {E : Type 0} (C : Type 0) (Q : E → Type 0) (r : Result (Unit {0}) E) → MatchResult r (λ x. C) Q → false ≡ is_err r → C
+ok_so C Q (Ok x) h e = h
+ok_so C Q (Err x) h e = cc
+
+-- one more turn of a filter
+turn_at : {X : Type 0} (xs : List X) (from k : ℕ) (x : X) → slice_get xs (from + k) ≡ Some x → take (k + 1) (drop from xs) ≡ take k (drop from xs) ++ x ∷ []
+turn_at xs from k x h =
+    let inside = slice_get_within xs (from + k) x h in
+    let len : length (drop from xs) ≡ length xs - from = length-drop from xs in
+    let some : k < length (drop from xs) = omega (arith, inside, len) in
+    let its : get_or (drop from xs) k x ≡ x = get_or-drop from xs k x ∙ get_or_from_slice_get xs (from + k) x x h in
+    (take_at_read (drop from xs) k x some).1 ∙ ap (λ y. take k (drop from xs) ++ y ∷ []) its
+
+flag_at : (bs : List Bool) (k : ℕ) → k < length bs → take (k + 1) bs ≡ take k bs ++ get_or bs k false ∷ []
+flag_at bs k h = (take_at_read bs k false h).1
+
+pub next_turn : (places : List ℕ) (bs : List Bool) (from turn to place : ℕ) (old new start : List ℕ) → from ≤ turn → turn < to → to ≤ length places → length bs ≡ to - from → slice_get places turn ≡ Some place → new ≡ old ++ cond (get_or bs (turn - from) false) (place ∷ []) [] → old ≡ start ++ chosen (take (turn - from) (drop from places)) (take (turn - from) bs) → new ≡ start ++ chosen (take (turn + 1 - from) (drop from places)) (take (turn + 1 - from) bs)
+next_turn places bs from turn to place old new start a b c l h n o =
+    let k = turn - from in
+    let there : from + k ≡ turn = omega arith in
+    let more : turn + 1 - from ≡ k + 1 = omega arith in
+    let its : slice_get places (from + k) ≡ Some place = ap (λ i. slice_get places i) there ∙ h in
+    let flag = get_or bs k false in
+    let same : length (take k (drop from places)) ≡ length (take k bs) = omega (arith, length-take k (drop from places), length-take k bs, length-drop from places) in
+    n ∙ ap (λ ks. ks ++ cond flag (place ∷ []) []) o
+    ∙ append_assoc start (chosen (take k (drop from places)) (take k bs)) (cond flag (place ∷ []) [])
+    ∙ ap (λ ks. start ++ ks) (sym (chosen_push (take k (drop from places)) (take k bs) place flag same)
+    ∙ ap (λ js. chosen js (take k bs ++ flag ∷ [])) (sym (turn_at places from k place its))
+    ∙ ap (λ cs. chosen (take (k + 1) (drop from places)) cs) (sym (flag_at bs k (omega arith)))
+    ∙ ap (λ m. chosen (take m (drop from places)) (take m bs)) (sym more))
+
+pub all_turns : (places : List ℕ) (bs : List Bool) (from turn to : ℕ) (new start : List ℕ) → from ≤ to → to ≤ turn → turn ≤ to → length bs ≡ to - from → new ≡ start ++ chosen (take (turn - from) (drop from places)) (take (turn - from) bs) → new ≡ start ++ chosen (drop from places) bs
+all_turns places bs from turn to new start a b c l h =
+    let whole : take (turn - from) bs ≡ bs = take_all (turn - from) bs (omega arith) in
+    h ∙ ap (λ cs. start ++ chosen (take (turn - from) (drop from places)) cs) whole ∙ ap (λ ks. start ++ ks) (chosen_take (turn - from) (drop from places) bs (omega arith))

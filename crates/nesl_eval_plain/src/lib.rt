@@ -1,0 +1,13 @@
+//! Plain code in columns: one part of it at a block of places, and then the next part. Code is plain where its value
+//! at each place of an apply-to-each is a leaf that is computed from leaves.
+#![tactic(auto)]
+
+mod block;
+mod found;
+mod names;
+mod parts;
+mod plain;
+mod whole;
+
+pub use block::Block;
+pub use whole::{bodies_in_columns, filters_in_columns};

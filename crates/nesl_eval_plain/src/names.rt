@@ -1,0 +1,144 @@
+// Names at the places of a block.
+ghost use Rattle.std.specs.Prelude.{◌≡◌, ◌≤◌, Some, IfSome, IsTrue, length, slice_get, slice_range};
+ghost use Rattle.nesl_eval_code.specs.Frames.{local_at, place_in};
+ghost use Rattle.nesl_eval_meaning.specs.Out.{given, value};
+ghost use Rattle.nesl_eval_code.specs.Run.{run_top, slot_at};
+ghost use Rattle.nesl_eval_nodes.specs.Sides.{places_of};
+ghost use Rattle.nesl_eval_columns.specs.Columns.{leaves_of};
+ghost use Rattle.nesl_eval_columns.specs.Each.{EachTwo};
+ghost use Rattle.nesl_eval_plain.specs.Blocks.{block_places, IsWithin, frames_at, Finds};
+
+use crate::block::{Block, same};
+use crate::found::Found;
+use nesl_eval_code::Step;
+use nesl_eval_columns::{Column, each_of};
+use nesl_eval_nodes::held::{Held, Tops};
+use nesl_eval_nodes::places::Places;
+use nesl_eval_nodes::scope::lent_local;
+use nesl_values::{Element, Items};
+use std::alloc::Allocator;
+
+// The items at these places.
+fn gathered<X: Copy, A: Allocator>(items: &[X], places: &[usize], alloc: A) -> Option<Vec<X, A>>
+    ensures { IfSome result (λ v. EachTwo (λ i x. slice_get items.now i ≡ Some x) places.now v.items) }
+{
+    let some = *items.first()?;
+    each_of(
+        places,
+        some,
+        alloc,
+        |place: usize| at_or(items, place, some),
+    )
+}
+
+#[inline(always)]
+fn at_or<X: Copy>(items: &[X], place: usize, some: X) -> (X, bool)
+    ensures { IsTrue result.1 → slice_get items.now place ≡ Some result.0 }
+{
+    match items.get(place) {
+        Some(item) => (*item, true),
+        None => (some, false),
+    }
+}
+
+// The items from one place to another.
+fn part<X: Copy, A: Allocator>(items: &[X], from: usize, to: usize, alloc: A) -> Option<Vec<X, A>>
+    requires { from ≤ to }
+    ensures { IfSome result (λ v. (to ≤ length items.now) × (v.items ≡ slice_range items.now from to)) }
+{
+    if items.len() < to {
+        return None;
+    }
+    match Vec::from_slice(alloc, &items[from..to]) {
+        Ok(copies) => Some(copies),
+        Err(_) => None,
+    }
+}
+
+fn at_places<X: Copy, A: Allocator>(
+    items: &[X],
+    places: Places<'_>,
+    from: usize,
+    to: usize,
+    alloc: A,
+) -> Option<Vec<X, A>>
+    requires { (from ≤ to) × (to ≤ length (places_of places)) }
+    ensures { IfSome result (λ v.
+        EachTwo (λ i x. slice_get items.now i ≡ Some x) (slice_range (places_of places.entry) from to) v.items) }
+{
+    match places {
+        Places::All(_) => part(items, from, to, alloc),
+        Places::These(these) => gathered(items, &these[from..to], alloc),
+    }
+}
+
+// The elements of a sequence of the newest row.
+fn newest<'x, A: Allocator + Copy, T>(block: &'x Block<'x, A, T>, index: usize) -> Option<Column<A>>
+    requires { IsWithin block.now }
+    ensures { IfSome result (λ c. EachTwo (λ i v. place_in (frames_at block.now i) 0 index ≡ Some v)
+        (block_places block.now) (leaves_of c)) }
+{
+    let value = block.values.get(index)?;
+    match value.items() {
+        Items::Ints(items) => Some(Column::Ints(at_places(
+            items,
+            block.places,
+            block.from,
+            block.to,
+            *block.alloc,
+        )?)),
+        Items::Bools(items) => Some(Column::Bools(at_places(
+            items,
+            block.places,
+            block.from,
+            block.to,
+            *block.alloc,
+        )?)),
+        Items::Chars(items) => Some(Column::Chars(at_places(
+            items,
+            block.places,
+            block.from,
+            block.to,
+            *block.alloc,
+        )?)),
+        Items::Values(_) => None,
+    }
+}
+
+// A local name: an element of a sequence that lies packed, or one leaf at all places.
+pub fn local<'x, A: Allocator + Copy, T>(
+    block: &'x Block<'x, A, T>,
+    up: usize,
+    index: usize,
+    steps: &[Step],
+) -> Option<Found<A>>
+    requires { IsWithin block.now }
+    ensures { IfSome result
+        (Finds (λ i. given (local_at (frames_at block.now i) up index steps.now) (λ v. value v 0 0))
+        (block_places block.now)) }
+{
+    if up == 0 {
+        if !steps.is_empty() {
+            return None;
+        }
+        let column = newest(block, index)?;
+        return Some(Found { column, nodes: 0 });
+    }
+    let element = lent_local(block.scope, up - 1, index, steps)?;
+    same(block, element)
+}
+
+// A top-level variable.
+pub fn top<'x, A: Allocator + Copy, T: Tops<A>>(
+    block: &'x Block<'x, A, T>,
+    place: usize,
+) -> Option<Found<A>>
+    requires { IsWithin block.now }
+    ensures { IfSome result
+        (Finds (λ i. run_top (slot_at (T.table block.now.tops.now) place)) (block_places block.now)) }
+{
+    match block.tops.held(place) {
+        Ok(Held::Variable(value)) => same(block, Element::Node(value)),
+        _ => None,
+    }
+}

@@ -1,0 +1,272 @@
+//! An apply-to-each whose body or filter is plain, block by block.
+ghost use Rattle.std.specs.Prelude.{◌≡◌, ◌+◌, ◌*◌, ◌-◌, ◌<◌, ◌≤◌, ◌^◌, ◌++◌, Ok, IfSome, MatchOption, IsTrue};
+ghost use Rattle.std.specs.Prelude.{map, length, drop};
+ghost use Rattle.nesl_values.specs.Tree.{boolean};
+ghost use Rattle.nesl_values.specs.View.{tree_of};
+ghost use Rattle.nesl_values_builder.specs.Elements.{elements_of};
+ghost use Rattle.nesl_eval_meaning.specs.Out.{value};
+ghost use Rattle.nesl_eval_code.specs.Run.{run, run_filters, run_bodies};
+ghost use Rattle.nesl_eval_nodes.specs.Scopes.{frames_of};
+ghost use Rattle.nesl_eval_nodes.specs.Sides.{places_of, Has};
+ghost use Rattle.nesl_eval_nodes.specs.Meets.{Meets};
+ghost use Rattle.nesl_eval_columns.specs.Columns.{leaves_of};
+ghost use Rattle.nesl_eval_plain.specs.Comes.{chosen};
+ghost use Rattle.nesl_eval_plain.specs.Blocks.{block_places, IsWithin, IsPartOf};
+
+use crate::block::Block;
+use crate::found::{Found, sum};
+use crate::parts::column;
+use crate::plain::is_plain;
+use nesl_eval_code::Code;
+use nesl_eval_columns::Column;
+use nesl_eval_nodes::held::Tops;
+use nesl_eval_nodes::meter::Meter;
+use nesl_eval_nodes::nodes::keep_if;
+use nesl_eval_nodes::places::Places;
+use nesl_values_builder::SequenceBuilder;
+use std::alloc::Allocator;
+
+/// How many places are done at once.
+const BLOCK: usize = 1024;
+
+/// Fewer places than that are done one by one.
+const LEAST: usize = 8;
+
+// Where the block ends that begins there.
+fn end_of(turn: usize, to: usize) -> usize
+    requires { turn < to }
+    ensures { (turn < result) × (result ≤ to) }
+{
+    if to - turn < BLOCK { to } else { turn + BLOCK }
+}
+
+// The places in the turns from one to another.
+fn part<'x, A: Allocator + Copy, T>(
+    whole: &Block<'x, A, T>,
+    from: usize,
+    to: usize,
+) -> Block<'x, A, T>
+    ensures { IsPartOf result whole.now from to }
+{
+    Block {
+        tops: whole.tops,
+        scope: whole.scope,
+        values: whole.values,
+        places: whole.places,
+        from,
+        to,
+        alloc: whole.alloc,
+    }
+}
+
+// Whether the fuel is enough for so many times this work.
+fn suffices(fuel: u64, count: usize, each: u64) -> bool {
+    match each.checked_mul(count as u64) {
+        Some(work) => work <= fuel,
+        None => false,
+    }
+}
+
+// What is left of the fuel after so many times this work, if there is so much.
+fn charged(fuel: u64, count: usize, each: u64) -> Option<u64>
+    requires { 0 < count }
+    ensures { IfSome result (λ rest. (fuel ≡ rest + count * each) × (each ≤ count * each)) }
+{
+    let work = each.checked_mul(count as u64)?;
+    fuel.checked_sub(work)
+}
+
+// Adds the leaves of a column, if there is room.
+fn extended<A: Allocator + Copy>(builder: &mut SequenceBuilder<A>, column: Column<A>) -> bool
+    ensures { IsTrue result → elements_of builder.new ≡ elements_of builder.old ++ leaves_of column }
+{
+    let outcome = match column {
+        Column::Ints(items) => builder.extend_from_ints(&items),
+        Column::Bools(items) => builder.extend_from_bools(&items),
+        Column::Chars(items) => builder.extend_from_chars(&items),
+    };
+    outcome.is_ok()
+}
+
+// The values of a body, with what is left of the fuel, and the depth.
+#[derive(Drop)]
+struct Made<A: Allocator> {
+    builder: SequenceBuilder<A>,
+    fuel: u64,
+    depth: u64,
+}
+
+fn values_within<'x, A: Allocator + Copy, T: Tops<A>>(
+    whole: &'x Block<'x, A, T>,
+    body: &Code,
+    room: usize,
+    levels: u32,
+    fuel: u64,
+) -> Option<Made<A>>
+    requires { IsWithin whole.now }
+    ensures { let w = whole.now in let f = run levels (T.table w.tops.now) in IfSome result (λ d.
+        (d.fuel + d.depth ≤ fuel)
+        × (run_bodies f (frames_of w.scope.now) (map tree_of w.values.now) body.now (block_places w)
+        ≡ value (elements_of d.builder) (fuel - d.fuel) d.depth)) }
+{
+    let mut left = fuel;
+    let mut deepest = 0;
+    let mut builder = SequenceBuilder::with_room(*whole.alloc, room);
+    let mut turn = whole.from;
+    while turn < whole.to {
+        let end = end_of(turn, whole.to);
+        let block = part(whole, turn, end);
+        let Found { column, nodes } = column(&block, body, levels)?;
+        let each = sum(nodes, 1)?;
+        if !suffices(left, whole.to - turn, each) {
+            return None;
+        }
+        left = charged(left, end - turn, each)?;
+        if !extended(&mut builder, column) {
+            return None;
+        }
+        deepest = nodes.max(deepest);
+        turn = end;
+    }
+    Some(Made {
+        builder,
+        fuel: left,
+        depth: deepest,
+    })
+}
+
+/// The values of a body at the places of a block, if it is plain and has a value at each of them, and the fuel is
+/// enough. Else the meter is as it was. Room is made for `room` values.
+pub fn bodies_in_columns<'x, A: Allocator + Copy, T: Tops<A>>(
+    whole: &'x Block<'x, A, T>,
+    body: &Code,
+    room: usize,
+    levels: u32,
+    meter: &mut Meter,
+) -> Option<SequenceBuilder<A>>
+    requires room { meter.old.fuel + meter.old.depth < 2 ^ 64 }
+    requires turns { IsWithin whole.now }
+    ensures meets { let w = whole.now in let f = run levels (T.table w.tops.now) in MatchOption result
+        (meter.new ≡ meter.old)
+        (λ b. Meets Has meter.old (Ok b) meter.new
+        (run_bodies f (frames_of w.scope.now) (map tree_of w.values.now) body.now (block_places w))) }
+    ensures spent { meter.new.fuel + meter.new.depth ≤ meter.old.fuel + meter.old.depth }
+{
+    if whole.to - whole.from < LEAST || !is_plain(body, levels) {
+        return None;
+    }
+    let Made {
+        builder,
+        fuel,
+        depth,
+    } = values_within(whole, body, room, levels, meter.fuel)?;
+    meter.fuel = fuel;
+    meter.depth += depth;
+    Some(builder)
+}
+
+// The leaves of a column of truth values.
+fn truths<A: Allocator>(column: Column<A>) -> Option<Vec<bool, A>>
+    ensures { IfSome result (λ v. map boolean v.items ≡ leaves_of column) }
+{
+    match column {
+        Column::Bools(flags) => Some(flags),
+        _ => None,
+    }
+}
+
+// Adds the places from one turn to another at which the filter holds, if there is room.
+fn choose<A: Allocator>(
+    kept: &mut Vec<usize, A>,
+    places: Places<'_>,
+    from: usize,
+    to: usize,
+    flags: &[bool],
+) -> bool
+    requires turns { (from ≤ to) × (to ≤ length (places_of places)) }
+    requires len { length flags.now ≡ to - from }
+    ensures { IsTrue result → kept.new.items ≡ kept.old.items ++ chosen (drop from (places_of places.entry)) flags.now }
+{
+    for turn in from..to {
+        let place = places.at(turn);
+        if keep_if(kept, place, flags[turn - from]).is_err() {
+            return false;
+        }
+    }
+    true
+}
+
+// The places at which a filter holds, with what is left of the fuel, and the depth.
+#[derive(Drop)]
+struct Kept<A: Allocator> {
+    places: Vec<usize, A>,
+    fuel: u64,
+    depth: u64,
+}
+
+fn places_within<'x, A: Allocator + Copy, T: Tops<A>>(
+    whole: &'x Block<'x, A, T>,
+    filter: &Code,
+    levels: u32,
+    fuel: u64,
+) -> Option<Kept<A>>
+    requires { IsWithin whole.now }
+    ensures { let w = whole.now in let f = run levels (T.table w.tops.now) in IfSome result (λ d.
+        (d.fuel + d.depth ≤ fuel)
+        × (run_filters f (frames_of w.scope.now) (map tree_of w.values.now) filter.now (block_places w)
+        ≡ value d.places.items (fuel - d.fuel) d.depth)) }
+{
+    let mut left = fuel;
+    let mut most = 0;
+    let mut places = Vec::new(*whole.alloc);
+    let mut turn = whole.from;
+    while turn < whole.to {
+        let end = end_of(turn, whole.to);
+        let block = part(whole, turn, end);
+        let Found { column, nodes } = column(&block, filter, levels)?;
+        if !suffices(left, whole.to - turn, nodes) {
+            return None;
+        }
+        left = charged(left, end - turn, nodes)?;
+        let flags = truths(column)?;
+        if !choose(&mut places, whole.places, turn, end, &flags) {
+            return None;
+        }
+        most = nodes.max(most);
+        turn = end;
+    }
+    Some(Kept {
+        places,
+        fuel: left,
+        depth: most,
+    })
+}
+
+/// The places of a block at which a filter holds, if it is plain and has a value at each of them, and the fuel is
+/// enough. Else the meter is as it was.
+pub fn filters_in_columns<'x, A: Allocator + Copy, T: Tops<A>>(
+    whole: &'x Block<'x, A, T>,
+    filter: &Code,
+    levels: u32,
+    meter: &mut Meter,
+) -> Option<Vec<usize, A>>
+    requires room { meter.old.fuel + meter.old.depth < 2 ^ 64 }
+    requires turns { IsWithin whole.now }
+    ensures meets { let w = whole.now in let f = run levels (T.table w.tops.now) in MatchOption result
+        (meter.new ≡ meter.old)
+        (λ ks. Meets (λ ks is. ks.items ≡ is) meter.old (Ok ks) meter.new
+        (run_filters f (frames_of w.scope.now) (map tree_of w.values.now) filter.now (block_places w))) }
+    ensures spent { meter.new.fuel + meter.new.depth ≤ meter.old.fuel + meter.old.depth }
+{
+    if whole.to - whole.from < LEAST || !is_plain(filter, levels) {
+        return None;
+    }
+    let Kept {
+        places,
+        fuel,
+        depth,
+    } = places_within(whole, filter, levels, meter.fuel)?;
+    meter.fuel = fuel;
+    meter.depth += depth;
+    Some(places)
+}
