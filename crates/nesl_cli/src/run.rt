@@ -43,7 +43,8 @@ pub struct Offer<'a> {
     pub is_logged: bool,
 }
 
-/// What the words ask for: a batch for the users that they name, which is run, or a service that is to be offered to them.
+/// What the words ask for: a batch for the users that they name, which is run, or a service that is to be offered to
+/// them.
 pub fn answered<'a, S: Source, W: Sink>(
     alloc: Global,
     words: &'a [&'a str],
@@ -127,7 +128,8 @@ fn ran<S: Source, W: Sink>(
 ) -> Result<Ran, AllocError>
     ensures batch { IfOk result (λ ran. IsBatch ran.end ran.lines
         (S.left reader.old) (S.left reader.new) (W.held writer.old) (W.held writer.new) house.old house.new) }
-    ensures err { OnErr result (Untouched (S.left reader.old) (S.left reader.new) (W.held writer.old) (W.held writer.new)) }
+    ensures err { OnErr result (Untouched (S.left reader.old) (S.left reader.new) (W.held writer.old)
+        (W.held writer.new)) }
 {
     match heap {
         None => Ok(batch(alloc, reader, writer, house)),

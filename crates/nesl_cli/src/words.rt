@@ -6,7 +6,10 @@ ghost use Rattle.clap.specs.Matches.{found_of};
 ghost use Rattle.clap.specs.declared.builder.command.Command.TheViews.{out-Command as fields_of};
 ghost use Rattle.clap.specs.Simple.{with_subcommand};
 ghost use Rattle.clap.specs.Words.{app_of, fault_of, FailsBy, shape_of, subcommand_rows_of};
-ghost use Rattle.nesl_cli.specs.Words.{batch, connections_rule, first_line_rule, heap_rule, idle_rule, is_among, log_rule, number_among, number_rule, port_rule, program, serve, serve_counts, serve_seconds, task_among, task_in, task_of, users_among, users_in, users_of, users_rule, without_subcommands, workers_rule};
+ghost use Rattle.nesl_cli.specs.Words.{batch, connections_rule, first_line_rule, heap_rule, idle_rule, is_among};
+ghost use Rattle.nesl_cli.specs.Words.{log_rule, number_among, number_rule, port_rule, program, serve, serve_counts};
+ghost use Rattle.nesl_cli.specs.Words.{serve_seconds, task_among, task_in, task_of, users_among, users_in, users_of};
+ghost use Rattle.nesl_cli.specs.Words.{users_rule, without_subcommands, workers_rule};
 ghost use Rattle.nesl_cli.specs.Wanted.{task_wanted, users_wanted};
 
 use clap::builder::ValueParser;
@@ -80,7 +83,7 @@ const SERVE_AFTER: &str = "\
 It prints `listening on 127.0.0.1:7000` once it listens on that port. The first line of a connection
 names its user and is told back; each line behind it is answered by one line, as in
 
-    nc 127.0.0.1 7000
+    rlwrap nc -N 127.0.0.1 7000
     user ann
     user ann
     2 * 3 + 1;

@@ -10,12 +10,13 @@ use Rattle.nesl_syntax_tree.proofs.tree.PatternNode.TheLaws.TheKnot as pattern_k
 use Rattle.nesl_syntax_tree.proofs.tree.TypeNode.TheLaws.TheKnot as type_knot
 use Rattle.nesl_syntax_tree.proofs.tree.Operator.TheSendSync as operator_crosses
 use Rattle.nesl_syntax_tree.proofs.tree.Prefix.TheSendSync as prefix_crosses
-use Rattle.nesl_types.specs.contracts.types.Ty as ty_row
-use Rattle.nesl_types.proofs.types.Ty.TheLaws.TheKnot as ty_knot
+use Rattle.nesl_types_bank.specs.contracts.types.Ty as ty_row
+use Rattle.nesl_types_bank.proofs.shape.Shape.TheSendSync as shape_crosses
 use Rattle.nesl_types.proofs.classes.Class.TheSendSync as kind_crosses
 use Rattle.nesl_types.specs.contracts.bindings.Top as kind_row
 use Rattle.nesl_types.specs.contracts.bindings.Entry as entry_row
 use Rattle.nesl_types.specs.contracts.bindings.Context as context_row
+use Rattle.nesl_types.specs.contracts.kept.Shared as shared_row
 use Rattle.nesl_values.proofs.node.Node.TheLaws.TheKnot as value_knot
 use Rattle.nesl_builtins.proofs.builtin.Builtin.TheSendSync as builtin_crosses
 use Rattle.nesl_eval_code.specs.contracts.code.Code as code_row
@@ -35,11 +36,11 @@ pattern_send = search (sendable, standard.crosses, pattern_knot.crosses, span_cr
 exp_send : IsSend (exp_row.the_field).row
 exp_send = search (sendable, standard.crosses, exp_knot.crosses, type_knot.crosses, pattern_knot.crosses, pattern_send, span_crosses.the_field_send, operator_crosses.the_field_send, prefix_crosses.the_field_send) depth 20 fits 100000
 
-ty_send : IsSend (ty_row.the_field).row
-ty_send = search (sendable, standard.crosses, ty_knot.crosses) depth 20
+ty_send : IsSend ty_row.the_row
+ty_send = search (sendable, standard.crosses, shape_crosses.the_send, shape_crosses.the_sync) depth 20 fits 100000
 
 kind_send : IsSend (kind_row.the_field).row
-kind_send = search (sendable, standard.crosses, ty_send, ty_knot.crosses, kind_crosses.the_send) depth 20 fits 100000
+kind_send = search (sendable, standard.crosses, ty_send, kind_crosses.the_send) depth 20 fits 100000
 
 payload_send : IsSend payload_row.the_row
 payload_send = search (sendable, standard.crosses, value_knot.crosses, exp_send, pattern_send) depth 20 fits 100000
@@ -47,8 +48,11 @@ payload_send = search (sendable, standard.crosses, value_knot.crosses, exp_send,
 entry_send : IsSend (entry_row.the_row payload_row.the_row)
 entry_send = search (sendable, standard.crosses, kind_send, payload_send) depth 20 fits 100000
 
+shared_send : IsSend shared_row.the_row
+shared_send = search (sendable, standard.crosses, ty_send) depth 20
+
 context_send : IsSend (context_row.the_row payload_row.the_row)
-context_send = search (sendable, standard.crosses, maps.crosses, entry_send) depth 30 fits 100000
+context_send = search (sendable, standard.crosses, maps.crosses, entry_send, shared_send) depth 40 fits 1000000
 
 env_send : IsSend env_row.the_row
 env_send = search (sendable, standard.crosses, maps.crosses, code_send, context_send) depth 30 fits 100000
@@ -66,11 +70,11 @@ pattern_sync = search (sendable, standard.crosses, pattern_knot.crosses, span_cr
 exp_sync : IsSync (exp_row.the_field).row
 exp_sync = search (sendable, standard.crosses, exp_knot.crosses, type_knot.crosses, pattern_knot.crosses, pattern_sync, span_crosses.the_field_sync, operator_crosses.the_field_sync, prefix_crosses.the_field_sync) depth 20 fits 100000
 
-ty_sync : IsSync (ty_row.the_field).row
-ty_sync = search (sendable, standard.crosses, ty_knot.crosses) depth 20
+ty_sync : IsSync ty_row.the_row
+ty_sync = search (sendable, standard.crosses, shape_crosses.the_send, shape_crosses.the_sync) depth 20 fits 100000
 
 kind_sync : IsSync (kind_row.the_field).row
-kind_sync = search (sendable, standard.crosses, ty_sync, ty_knot.crosses, kind_crosses.the_sync) depth 20 fits 100000
+kind_sync = search (sendable, standard.crosses, ty_sync, kind_crosses.the_sync) depth 20 fits 100000
 
 payload_sync : IsSync payload_row.the_row
 payload_sync = search (sendable, standard.crosses, value_knot.crosses, exp_sync, pattern_sync) depth 20 fits 100000
@@ -78,8 +82,11 @@ payload_sync = search (sendable, standard.crosses, value_knot.crosses, exp_sync,
 entry_sync : IsSync (entry_row.the_row payload_row.the_row)
 entry_sync = search (sendable, standard.crosses, kind_sync, payload_sync) depth 20 fits 100000
 
+shared_sync : IsSync shared_row.the_row
+shared_sync = search (sendable, standard.crosses, ty_sync) depth 20
+
 context_sync : IsSync (context_row.the_row payload_row.the_row)
-context_sync = search (sendable, standard.crosses, maps.crosses, entry_sync) depth 30 fits 100000
+context_sync = search (sendable, standard.crosses, maps.crosses, entry_sync, shared_sync) depth 40 fits 1000000
 
 env_sync : IsSync env_row.the_row
 env_sync = search (sendable, standard.crosses, maps.crosses, code_sync, context_sync) depth 30 fits 100000

@@ -53,7 +53,8 @@ pub struct Said {
 impl House {
     ghost use Rattle.nesl_house.specs.Said.{events_of};
 
-    /// A house in which each user of the roster has an empty session with these limits. The roster is checked before any memory is taken.
+    /// A house in which each user of the roster has an empty session with these limits. The roster is checked before
+    /// any memory is taken.
     pub fn new(alloc: Global, roster: &[Vec<u8>], limits: Limits) -> Result<House, NewFault>
         ensures roster { OnOk result (IsRoster (map (λ v. v.items) roster.now)) }
         ensures opened { IfOk result (λ house. house ≡ opened limits (map (λ v. v.items) roster.now)) }
@@ -110,7 +111,7 @@ impl House {
         self.say_by(alloc, &Plainly, user, text)
     }
 
-    /// The same, evaluated in a heap.
+    /// One line of a user, evaluated in a heap. A stranger is told `fault user`, and nothing changes.
     pub fn say_in<A: Allocator + Copy>(
         &mut self,
         alloc: Global,
@@ -123,7 +124,8 @@ impl House {
         self.say_by(alloc, &InHeap(heap), user, text)
     }
 
-    /// The same, evaluated in halves that threads share where `helpers` are granted. It waits for these threads.
+    /// One line of a user, evaluated in halves that threads share where `helpers` are granted: it waits for these
+    /// threads. A stranger is told `fault user`, and nothing changes.
     pub fn say_with<R: Threads + Sync, H: Helpers + Sync, G: Gate + Sync>(
         &mut self,
         rt: &R,
@@ -141,7 +143,7 @@ impl House {
         self.say_as(alloc, &ByCall { call }, user, text)
     }
 
-    /// The same, said in this manner.
+    /// One line of a user, said in this manner. A stranger is told `fault user`, and nothing changes.
     pub fn say_by<M: Manner>(
         &mut self,
         alloc: Global,
@@ -174,7 +176,8 @@ impl House {
         self.run_by(alloc, &Plainly, script)
     }
 
-    /// The same, each line evaluated in halves that threads share where `helpers` are granted. It waits for these threads.
+    /// Lines of many users, in order, each evaluated in halves that threads share where `helpers` are granted: it waits
+    /// for these threads. Where the list of the answers is refused, no line was said.
     pub fn run_with<R: Threads + Sync, H: Helpers + Sync, G: Gate + Sync>(
         &mut self,
         rt: &R,
@@ -193,7 +196,8 @@ impl House {
         self.run_as(alloc, &ByCall { call }, script)
     }
 
-    /// The same, each line said in this manner.
+    /// Lines of many users, in order, each said in this manner. Where the list of the answers is refused, no line was
+    /// said.
     pub fn run_by<M: Manner>(
         &mut self,
         alloc: Global,

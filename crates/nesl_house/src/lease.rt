@@ -61,8 +61,8 @@ impl Lease {
         self.seat.session()
     }
 
-    /// One line of the session, evaluated in halves that threads share where `helpers` are granted. Nothing else changes
-    /// a session that is out. It waits for these threads.
+    /// One line of the session, evaluated in halves that threads share where `helpers` are granted. Nothing else
+    /// changes a session that is out. It waits for these threads.
     pub fn line_split<R: Threads + Sync, H: Helpers + Sync, G: Gate + Sync>(
         &mut self,
         rt: &R,

@@ -6,8 +6,8 @@ use nesl_session::answer::Answer;
 use nesl_session::session::Session;
 use std::alloc::{Allocator, Global};
 
-/// How a line is said to a session. Whichever way is taken, the answer is the step's, or want of memory, which leaves all
-/// as it was.
+/// How a line is said to a session. Whichever way is taken, the answer is the step's, or want of memory, which leaves
+/// all as it was.
 pub trait Manner {
     /// Says a line to a session.
     fn say(&self, alloc: Global, session: &mut Session, text: &[u8]) -> Answer
@@ -67,7 +67,8 @@ pub(crate) struct ByCall<F> {
 
 impl<F: Fn(&mut Session, &[u8]) -> Answer + Drop> Saying for ByCall<F> {
     ghost sound = { λ by. ((args : _) → F.Fn.pre by.call args)
-        × ((session : _) (text : _) (answer : _) (after : _) → F.Fn.post by.call (session, (text, tt)) (answer, (after, tt))
+        × ((session : _) (text : _) (answer : _) (after : _)
+        → F.Fn.post by.call (session, (text, tt)) (answer, (after, tt))
         → Responds session.now text.now answer after.now) };
 
     fn say(&self, _alloc: Global, session: &mut Session, text: &[u8]) -> Answer {

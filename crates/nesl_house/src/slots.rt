@@ -1,5 +1,6 @@
 //! Places for seats, each of which is at home or away.
-ghost use Rattle.std.specs.Prelude.{◌≡◌, ℕ, ◌+◌, ◌<◌, ◌^◌, IfOk, IfSome, Some, All, length, map, position, slice_get, slice_set, sum_by, false};
+ghost use Rattle.std.specs.Prelude.{◌≡◌, ℕ, ◌+◌, ◌<◌, ◌^◌, IfOk, IfSome, Some, All, length, map, position, slice_get};
+ghost use Rattle.std.specs.Prelude.{slice_set, sum_by, false};
 ghost use Rattle.std.specs.List.{range_with_len};
 ghost use Rattle.std.specs.Option.{IfNone};
 ghost use Rattle.nesl_session_step.specs.State.{State, told_lines};
@@ -57,7 +58,8 @@ impl Slots {
         ensures away { IfNone result ((count : ℕ) × (slice_get self.old.slots.items place ≡ Some (Slot.Away count))) }
         ensures none { IfNone result (self.new ≡ self.old) }
         ensures home { IfSome result (λ seat. slice_get self.old.slots.items place ≡ Some (Slot.Home seat)) }
-        ensures some { IfSome result (λ seat. self.new.slots.items ≡ slice_set self.old.slots.items place (Slot.Away (told_lines seat.session))) }
+        ensures some { IfSome result (λ seat. self.new.slots.items
+            ≡ slice_set self.old.slots.items place (Slot.Away (told_lines seat.session))) }
         ensures booked { self.new.booked ≡ self.old.booked }
     {
         let slot = &mut self.slots[place];
@@ -76,7 +78,8 @@ impl Slots {
     /// Puts a seat to its place. What the place had counted is counted no longer.
     pub fn put_back(&mut self, seat: Seat)
         ensures slots { self.new.slots.items ≡ slice_set self.old.slots.items seat.place (Slot.Home seat) }
-        ensures booked { self.new.booked + counted_at self.old.slots.items seat.place ≡ self.old.booked + told_lines seat.session }
+        ensures booked { self.new.booked + counted_at self.old.slots.items seat.place
+            ≡ self.old.booked + told_lines seat.session }
     {
         let Slots { booked, slots } = self;
         let slot = &mut slots[seat.place()];

@@ -1,5 +1,6 @@
 //! The seats of many users, taken out and given back by many threads.
-ghost use Rattle.std.specs.Prelude.{◌≡◌, ◌+◌, ◌≤◌, ◌<◌, ◌↔◌, [], IfErr, IfOk, IfSome, IsErrOf, None, OnOk, Some, length, map, position};
+ghost use Rattle.std.specs.Prelude.{◌≡◌, ◌+◌, ◌≤◌, ◌<◌, ◌↔◌, [], IfErr, IfOk, IfSome, IsErrOf, None, OnOk, Some};
+ghost use Rattle.std.specs.Prelude.{length, map, position};
 ghost use Rattle.std.specs.Str.{bytes_eq};
 ghost use Rattle.std.specs.Vec.{vec_capacity};
 ghost use Rattle.nesl_session_step.specs.State.{told_lines};
@@ -89,7 +90,8 @@ pub enum CloseFault {
 }
 
 impl Table {
-    /// A table in which each user of the roster has an empty session with these limits. The roster is checked before any memory is taken.
+    /// A table in which each user of the roster has an empty session with these limits. The roster is checked before
+    /// any memory is taken.
     pub fn new(alloc: Global, roster: &[Vec<u8>], limits: Limits) -> Result<Table, NewFault>
         ensures roster { OnOk result (IsRoster (map (λ v. v.items) roster.now)) }
         ensures made { IfOk result (λ t. t ≡ record { roster = map (λ v. v.items) roster.now; limits = limits }) }

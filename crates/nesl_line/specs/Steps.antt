@@ -56,7 +56,8 @@ NamesFit room house = AllByRecursion (λ account. length account.name ≤ room) 
 pub record Turns (house house' : List Account) (who who' : Option (List ℕ)) (line text : List ℕ) : Type 0 where
   pub events : List Event
   pub turn : Turn house who line text events who'
-  pub runs : (start : List Account) (before : List Event) → Runs start before house → Runs start (before ++ events) house'
+  pub runs : (start : List Account) (before : List Event) → Runs start before house →
+      Runs start (before ++ events) house'
 
 -- one line was heard, and what is told of it was sent
 pub record Answered

@@ -18,14 +18,15 @@ pub fn batch<S: Source, W: Sink>(
     writer: &mut W,
     house: &mut House,
 ) -> Ran
-    ensures batch { IsBatch result.end result.lines (S.left reader.old) (S.left reader.new) (W.held writer.old) (W.held writer.new) house.old house.new }
+    ensures batch { IsBatch result.end result.lines (S.left reader.old) (S.left reader.new) (W.held writer.old)
+        (W.held writer.new) house.old house.new }
     ensures reads { ReadsOf result.end (S.tally reader.old) (S.tally reader.new) }
     ensures writes { WritesOf result.end result.lines (W.tally writer.old) (W.tally writer.new) }
 {
     batch_by(alloc, reader, writer, house, &Plainly)
 }
 
-/// The same, each line evaluated in a heap.
+/// Answers the lines of a reader as `batch` does, each evaluated in a heap.
 pub fn batch_in<S: Source, W: Sink, A: Allocator + Copy>(
     alloc: Global,
     reader: &mut S,
@@ -33,14 +34,15 @@ pub fn batch_in<S: Source, W: Sink, A: Allocator + Copy>(
     house: &mut House,
     heap: A,
 ) -> Ran
-    ensures batch { IsBatch result.end result.lines (S.left reader.old) (S.left reader.new) (W.held writer.old) (W.held writer.new) house.old house.new }
+    ensures batch { IsBatch result.end result.lines (S.left reader.old) (S.left reader.new) (W.held writer.old)
+        (W.held writer.new) house.old house.new }
     ensures reads { ReadsOf result.end (S.tally reader.old) (S.tally reader.new) }
     ensures writes { WritesOf result.end result.lines (W.tally writer.old) (W.tally writer.new) }
 {
     batch_by(alloc, reader, writer, house, &InHeap(heap))
 }
 
-/// The same, each line said in this manner.
+/// Answers the lines of a reader as `batch` does, each said in this manner.
 pub fn batch_by<S: Source, W: Sink, M: Manner>(
     alloc: Global,
     reader: &mut S,
@@ -48,7 +50,8 @@ pub fn batch_by<S: Source, W: Sink, M: Manner>(
     house: &mut House,
     manner: &M,
 ) -> Ran
-    ensures batch { IsBatch result.end result.lines (S.left reader.old) (S.left reader.new) (W.held writer.old) (W.held writer.new) house.old house.new }
+    ensures batch { IsBatch result.end result.lines (S.left reader.old) (S.left reader.new) (W.held writer.old)
+        (W.held writer.new) house.old house.new }
     ensures reads { ReadsOf result.end (S.tally reader.old) (S.tally reader.new) }
     ensures writes { WritesOf result.end result.lines (W.tally writer.old) (W.tally writer.new) }
 {

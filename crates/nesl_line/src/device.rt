@@ -18,8 +18,8 @@ pub trait Source {
     /// The bytes that are left to read, where they are known.
     ghost left: { Self → Option (List ℕ) };
 
-    /// How many reads were made, and how many of them failed. One that a signal interrupted may be made again, and counts
-    /// once then.
+    /// How many reads were made, and how many of them failed. One that a signal interrupted may be made again, and
+    /// counts once then.
     ghost tally: { Self → ReadTally };
 
     /// Reads some bytes into the front of `buf`. None come only at the end, or where `buf` is empty.
@@ -59,8 +59,8 @@ pub trait Sink {
 }
 
 /// A reader or a writer of the system, with counts of what was asked of it. A call that a signal interrupted is made
-/// again, and counts once. It adds no buffer: give it a `BufWriter` to gather the writes of one answer, which are flushed
-/// together.
+/// again, and counts once. It adds no buffer: give it a `BufWriter` to gather the writes of one answer, which are
+/// flushed together.
 #[derive(Drop)]
 pub struct Device<T> {
     inner: T,

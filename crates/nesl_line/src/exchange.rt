@@ -45,7 +45,8 @@ pub fn exchange<S: Source, W: Sink, H: Hearer>(
 ) -> Ran
     requires ready { H.ready hearer.old world.old }
     requires untold { H.heard hearer.old world.old hearer.old world.old [] [] }
-    ensures exchange { IsExchange (H.heard hearer.old world.old hearer.new world.new) (H.over hearer.new) result.end result.lines
+    ensures exchange { IsExchange (H.heard hearer.old world.old hearer.new world.new)
+        (H.over hearer.new) result.end result.lines
         (S.left reader.old) (S.left reader.new) (W.held writer.old) (W.held writer.new) }
     ensures reads { ReadsOf result.end (S.tally reader.old) (S.tally reader.new) }
     ensures writes { WritesOf result.end result.lines (W.tally writer.old) (W.tally writer.new) }
@@ -75,7 +76,8 @@ fn converse<S: Source, W: Sink, H: Hearer>(
     requires fresh { IsFresh talk.old }
     requires ready { H.ready hearer.old world.old }
     requires untold { H.heard hearer.old world.old hearer.old world.old [] [] }
-    ensures exchange { IsExchange (H.heard hearer.old world.old hearer.new world.new) (H.over hearer.new) result talk.new.lines
+    ensures exchange { IsExchange (H.heard hearer.old world.old hearer.new world.new)
+        (H.over hearer.new) result talk.new.lines
         (S.left reader.old) (S.left reader.new) (W.held writer.old) (W.held writer.new) }
     ensures reads { ReadsOf result (S.tally reader.old) (S.tally reader.new) }
     ensures writes { WritesOf result talk.new.lines (W.tally writer.old) (W.tally writer.new) }

@@ -34,7 +34,8 @@ pub trait Hearer {
     /// Hears one line.
     fn hear(&mut self, alloc: Global, world: &mut Self::World, line: &[u8]) -> Told
         requires { ready self.old world.old }
-        ensures heard { (first : Self) (start : Self.World) (lines texts : List (List ℕ)) → heard first start self.old world.old lines texts
+        ensures heard { (first : Self) (start : Self.World) (lines texts : List (List ℕ))
+            → heard first start self.old world.old lines texts
             → heard first start self.new world.new (lines ++ line.now ∷ []) (texts ++ text_told line.now result ∷ []) }
         ensures ready { over self.new ≡ false → ready self.new world.new };
 

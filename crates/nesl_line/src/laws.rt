@@ -7,13 +7,18 @@ ghost use Rattle.nesl_line.specs.Conversation.{Conversation};
 
 /// A text has one list of lines, read to its end or up to a fault.
 pub fn one_list_of_lines()
-    ensures all { (text : List ℕ) (lines others : List (List ℕ)) → AllLines text lines → AllLines text others → lines ≡ others }
-    ensures whole { (text : List ℕ) (lines others : List (List ℕ)) → WholeLines text lines → WholeLines text others → lines ≡ others }
+    ensures all { (text : List ℕ) (lines others : List (List ℕ)) → AllLines text lines → AllLines text others
+        → lines ≡ others }
+    ensures whole { (text : List ℕ) (lines others : List (List ℕ)) → WholeLines text lines → WholeLines text others
+        → lines ≡ others }
 {}
 
-/// What is told in a conversation is determined by the lines, the roster, who is selected at first, and the sessions' replies; so is what was said to sessions, and who is selected in the end.
+/// What is told in a conversation is determined by the lines, the roster, who is selected at first, and the sessions'
+/// replies; so is what was said to sessions, and who is selected in the end.
 pub fn one_conversation()
-    ensures { (house other : List Account) (who last final : Option (List ℕ)) (lines texts others : List (List ℕ)) (events said : List Event)
-        → roster_of house ≡ roster_of other → Conversation house who lines texts events last → Conversation other who lines others said final
+    ensures { (house other : List Account) (who last final : Option (List ℕ)) (lines texts others : List (List ℕ))
+        (events said : List Event)
+        → roster_of house ≡ roster_of other → Conversation house who lines texts events last
+        → Conversation other who lines others said final
         → replies_of events ≡ replies_of said → (texts ≡ others) × (events ≡ said) × (last ≡ final) }
 {}

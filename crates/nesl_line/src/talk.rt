@@ -1,5 +1,6 @@
 //! An exchange, as it goes on.
-ghost use Rattle.std.specs.Prelude.{◌≡◌, ℕ, ◌+◌, ◌<◌, ◌≤◌, ◌^◌, [], ◌∷◌, ◌++◌, List, Option, IfOk, IfSome, IfNone, length, take, slice_index, true, false, ⊤};
+ghost use Rattle.std.specs.Prelude.{◌≡◌, ℕ, ◌+◌, ◌<◌, ◌≤◌, ◌^◌, [], ◌∷◌, ◌++◌, List, Option, IfOk, IfSome, IfNone};
+ghost use Rattle.std.specs.Prelude.{length, take, slice_index, true, false, ⊤};
 ghost use Rattle.std.specs.Bool.{MatchBool};
 ghost use Rattle.nesl_line.specs.Lines.{HasNoFeed, AllLines, WholeLines};
 ghost use Rattle.nesl_line.specs.Tally.{WriteTally, flushed_by};
@@ -57,11 +58,15 @@ impl Talk {
     ) -> Flow
         requires ready { H.ready hearer.old world.old }
         requires few { self.old.lines + length bytes.now < 2 ^ 64 }
-        ensures talk { (first : H) (start : H.World) (held : Option (List ℕ)) (read : List ℕ) → Goes (H.heard first start hearer.old world.old) self.old read held (W.held writer.old)
-            → By result (Goes (H.heard first start hearer.new world.new) self.new (read ++ bytes.now) held (W.held writer.new))
+        ensures talk { (first : H) (start : H.World) (held : Option (List ℕ)) (read : List ℕ)
+            → Goes (H.heard first start hearer.old world.old) self.old read held (W.held writer.old)
+            → By result (Goes (H.heard first start hearer.new world.new) self.new (read ++ bytes.now) held
+            (W.held writer.new))
             (Halts (H.heard first start hearer.new world.new) self.new (read ++ bytes.now) held (W.held writer.new))
-            (Stops WholeLines (H.heard first start hearer.new world.new) self.new (read ++ bytes.now) held (W.held writer.new)) }
-        ensures tally { (start : WriteTally) → W.tally writer.old ≡ flushed_by self.old.lines start → Flushed (is_sent result) self.new.lines start (W.tally writer.new) }
+            (Stops WholeLines (H.heard first start hearer.new world.new) self.new (read ++ bytes.now) held
+            (W.held writer.new)) }
+        ensures tally { (start : WriteTally) → W.tally writer.old ≡ flushed_by self.old.lines start
+            → Flushed (is_sent result) self.new.lines start (W.tally writer.new) }
         ensures ready { By result (H.ready hearer.new world.new) (H.over hearer.new ≡ true) ⊤ }
         ensures few { self.new.lines ≤ self.old.lines + length bytes.now }
     {
@@ -90,9 +95,12 @@ impl Talk {
     ) -> bool
         requires ready { H.ready hearer.old world.old }
         requires few { self.old.lines + 1 < 2 ^ 64 }
-        ensures talk { (first : H) (start : H.World) (held : Option (List ℕ)) (read : List ℕ) → Goes (H.heard first start hearer.old world.old) self.old read held (W.held writer.old)
-            → MatchBool result (Goes (H.heard first start hearer.new world.new) self.new (read ++ 10 ∷ []) held (W.held writer.new))
-            ((tail : List ℕ) → Stops WholeLines (H.heard first start hearer.new world.new) self.new (read ++ 10 ∷ tail) held (W.held writer.new)) }
+        ensures talk { (first : H) (start : H.World) (held : Option (List ℕ)) (read : List ℕ)
+            → Goes (H.heard first start hearer.old world.old) self.old read held (W.held writer.old)
+            → MatchBool result (Goes (H.heard first start hearer.new world.new) self.new (read ++ 10 ∷ []) held
+            (W.held writer.new))
+            ((tail : List ℕ) → Stops WholeLines (H.heard first start hearer.new world.new) self.new
+            (read ++ 10 ∷ tail) held (W.held writer.new)) }
         ensures tally { Flushed result 1 (W.tally writer.old) (W.tally writer.new) }
         ensures ready { H.over hearer.new ≡ false → H.ready hearer.new world.new }
         ensures lines { self.new.lines ≡ self.old.lines + 1 }
@@ -114,10 +122,12 @@ impl Talk {
     ) -> bool
         requires ready { H.ready hearer.old world.old }
         requires few { self.old.lines + 1 < 2 ^ 64 }
-        ensures talk { (first : H) (start : H.World) (held : Option (List ℕ)) (read : List ℕ) → Goes (H.heard first start hearer.old world.old) self.old read held (W.held writer.old)
+        ensures talk { (first : H) (start : H.World) (held : Option (List ℕ)) (read : List ℕ)
+            → Goes (H.heard first start hearer.old world.old) self.old read held (W.held writer.old)
             → MatchBool result (Done (H.heard first start hearer.new world.new) self.new read held (W.held writer.new))
             (Stops AllLines (H.heard first start hearer.new world.new) self.new read held (W.held writer.new)) }
-        ensures tally { (start : WriteTally) → W.tally writer.old ≡ flushed_by self.old.lines start → Flushed result self.new.lines start (W.tally writer.new) }
+        ensures tally { (start : WriteTally) → W.tally writer.old ≡ flushed_by self.old.lines start
+            → Flushed result self.new.lines start (W.tally writer.new) }
     {
         if self.line.bytes().is_empty() {
             return true;
@@ -129,7 +139,8 @@ impl Talk {
 
 // The place of the first LF.
 fn feed_in(bytes: &[u8]) -> Option<usize>
-    ensures some { IfSome result (λ place. (place < length bytes.now) × (slice_index bytes.now place ≡ 10) × HasNoFeed (take place bytes.now)) }
+    ensures some { IfSome result (λ place. (place < length bytes.now) × (slice_index bytes.now place ≡ 10)
+        × HasNoFeed (take place bytes.now)) }
     ensures none { IfNone result (HasNoFeed bytes.now) }
 {
     memchr(b'\n', bytes)

@@ -16,7 +16,8 @@ pub fn answer<H: Hearer, W: Sink>(
     line: &[u8],
 ) -> bool
     requires { H.ready hearer.old world.old }
-    ensures answered { (first : H) (start : H.World) → Answered (H.heard first start hearer.old world.old) (H.heard first start hearer.new world.new) line.now (W.held writer.old) (W.held writer.new) result }
+    ensures answered { (first : H) (start : H.World) → Answered (H.heard first start hearer.old world.old)
+        (H.heard first start hearer.new world.new) line.now (W.held writer.old) (W.held writer.new) result }
     ensures tally { Flushed result 1 (W.tally writer.old) (W.tally writer.new) }
     ensures ready { H.over hearer.new ≡ false → H.ready hearer.new world.new }
 {

@@ -33,7 +33,8 @@ impl<'m, M: Manner> Chooser<'m, M> {
     fn select(&mut self, house: &House, line: &[u8], name: &[u8]) -> Told
         requires fit { NamesFit (vec_capacity self.old.who) house.now }
         requires named { IsUserLine line.now name.now }
-        ensures turn { Turns house.now house.now (chosen self.old.who.items) (chosen self.new.who.items) line.now (text_told line.now result) }
+        ensures turn { Turns house.now house.now (chosen self.old.who.items) (chosen self.new.who.items) line.now
+            (text_told line.now result) }
         ensures fit { NamesFit (vec_capacity self.new.who) house.now }
     {
         if house.session(name).is_none() {
@@ -48,7 +49,8 @@ impl<'m, M: Manner> Chooser<'m, M> {
     fn say(&self, alloc: Global, house: &mut House, line: &[u8]) -> Told
         requires named { NamesNobody line.now }
         requires fit { NamesFit (vec_capacity self.now.who) house.old }
-        ensures turn { Turns house.old house.new (chosen self.now.who.items) (chosen self.now.who.items) line.now (text_told line.now result) }
+        ensures turn { Turns house.old house.new (chosen self.now.who.items) (chosen self.now.who.items) line.now
+            (text_told line.now result) }
         ensures fit { NamesFit (vec_capacity self.now.who) house.new }
     {
         if self.who.is_empty() {

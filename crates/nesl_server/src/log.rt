@@ -19,8 +19,8 @@ const PAUSE_MILLIS: u64 = 10;
 
 const MOST_PAUSES: u32 = 100;
 
-/// Lines that a thread of its own writes to standard error, so that nobody waits for its reader. What can't be handed to
-/// that thread is lost, and it tells how many lines were.
+/// Lines that a thread of its own writes to standard error, so that nobody waits for its reader. What can't be handed
+/// to that thread is lost, and it tells how many lines were.
 pub struct Log<'x, R> {
     rt: &'x R,
     alloc: Global,

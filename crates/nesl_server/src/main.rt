@@ -29,8 +29,8 @@ use std::{env, thread};
 /// The bytes of an answer that are gathered before they are written.
 const ANSWER_BYTES: usize = 8192;
 
-/// The bytes of the stack that a batch is evaluated on: an evaluation of 1,000 levels takes 1.2 MiB at most, and what goes
-/// over a type 2.4 MiB.
+/// The bytes of the stack that a batch is evaluated on: an evaluation of 1,000 levels takes 1.2 MiB at most, and what
+/// goes over a type 2.4 MiB.
 const STACK_BYTES: usize = 8_388_608;
 
 fn main(rt: HostRuntime) -> ExitCode {

@@ -19,7 +19,7 @@ const MOST_PAUSES: u32 = 600;
 #[derive(Drop)]
 pub(crate) struct Door<'x> {
     listener: &'x TcpListener,
-    /// The same socket, by which waiting for connections is ended.
+    /// The listener's socket once more, by which waiting for connections is ended.
     closer: TcpStream,
 }
 
@@ -34,8 +34,8 @@ impl<'x> Door<'x> {
         let _ = self.closer.shutdown(Shutdown::Both).is_ok();
     }
 
-    /// Waits for the next connection. What the system lacks, another process may have: so it is asked again for a minute.
-    /// One that was gone before it was taken up doesn't count.
+    /// Waits for the next connection. What the system lacks, another process may have: so it is asked again for a
+    /// minute. One that was gone before it was taken up doesn't count.
     pub(crate) fn next<R: Wait + Clock>(&self, rt: &R) -> io::Result<TcpStream> {
         let mut pauses = 0;
         for _ in rt.forever() {

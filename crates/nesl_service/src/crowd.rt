@@ -6,7 +6,8 @@ use std::sync::atomic::{AtomicU64, Ordering};
 use std::thread;
 use std::thread::{Builder, Scope, Threads};
 
-/// The bytes of a thread's stack. An evaluation of 1,000 levels takes 1.2 MiB at most, and what goes over a type 2.4 MiB.
+/// The bytes of a thread's stack. An evaluation of 1,000 levels takes 1.2 MiB at most, and what goes over a type 2.4
+/// MiB.
 const STACK_BYTES: usize = 8_388_608;
 
 /// Where the threads of a crowd wait for each other before they begin.
@@ -53,8 +54,9 @@ impl Start {
     }
 }
 
-/// Makes so many threads that each do the work over what they share, and joins them. Once they are made `lead` runs beside
-/// them, and is told how many there are: fewer than were wanted where one could not be made, and then no further is tried.
+/// Makes so many threads that each do the work over what they share, and joins them. Once they are made `lead` runs
+/// beside them, and is told how many there are: fewer than were wanted where one could not be made, and then no further
+/// is tried.
 pub fn run_crowd<R: Threads + Wait + Sync, S: Sync, F: Fn(&S) + Sync, L: Fn(&S, usize)>(
     rt: &R,
     shared: &S,

@@ -23,7 +23,8 @@ impl Receipts {
 
     /// Takes one in, and takes no memory. False where it is for a 65th place, or where its place comes to 2^64 lines.
     pub fn take_in(&mut self, receipt: Receipt) -> bool
-        ensures taken { IsTrue result → recorded_in self.new.entries.items ≡ recorded_in self.old.entries.items + receipt.recorded }
+        ensures taken { IsTrue result → recorded_in self.new.entries.items
+            ≡ recorded_in self.old.entries.items + receipt.recorded }
         ensures kept { IsFalse result → self.new ≡ self.old }
     {
         match self.entry_of(receipt.place) {
@@ -49,7 +50,8 @@ impl Receipts {
     // Adds lines to an entry.
     fn add_to(&mut self, entry: usize, recorded: u64) -> bool
         requires { entry < length self.old.entries.items }
-        ensures taken { IsTrue result → recorded_in self.new.entries.items ≡ recorded_in self.old.entries.items + recorded }
+        ensures taken { IsTrue result → recorded_in self.new.entries.items
+            ≡ recorded_in self.old.entries.items + recorded }
         ensures kept { IsFalse result → self.new ≡ self.old }
     {
         let had = self.entries[entry];
@@ -67,7 +69,8 @@ impl Receipts {
 
     // Adds an entry.
     fn push(&mut self, receipt: Receipt) -> bool
-        ensures taken { IsTrue result → recorded_in self.new.entries.items ≡ recorded_in self.old.entries.items + receipt.recorded }
+        ensures taken { IsTrue result → recorded_in self.new.entries.items
+            ≡ recorded_in self.old.entries.items + receipt.recorded }
         ensures kept { IsFalse result → self.new ≡ self.old }
     {
         if self.entries.len() == self.entries.capacity() {

@@ -141,7 +141,7 @@ impl<
         )
     }
 
-    // The same, told to the journal. What the user's session was told is taken in.
+    // Serves a connection, and tells the journal when it begins and ends. What the user's session was told is taken in.
     fn attend_told(&self, number: u64, stream: &TcpStream) {
         self.journal.begun(number);
         let since = Instant::now(self.rt).ok();
@@ -296,12 +296,12 @@ fn serve_in<
     }
 }
 
-/// Serves so many connections, or as many as come, by so many threads and with so many helpers in all; the answer is the
-/// house that the sessions are in the end. A first line may take 10 seconds.
+/// Serves so many connections, or as many as come, by so many threads and with so many helpers in all; the answer is
+/// the house that the sessions are in the end. A first line may take 10 seconds.
 ///
 /// Each thread takes the next number and then the next connection. After a fault no further number is given out and no
-/// connection is waited for, and the answer comes once the threads have ended; a fault of a socket is told before one of
-/// memory. Where a thread, or the room that its connections need, can't be had, no connection is served. However a
+/// connection is waited for, and the answer comes once the threads have ended; a fault of a socket is told before one
+/// of memory. Where a thread, or the room that its connections need, can't be had, no connection is served. However a
 /// connection ends, the service goes on.
 pub fn serve_on<R: Threads + Wait + Clock + Sync>(
     rt: &R,
@@ -330,7 +330,7 @@ pub fn serve_on<R: Threads + Wait + Clock + Sync>(
     serve_through(rt, alloc, listener, table, terms, observers)
 }
 
-/// The same by these terms, where observers are told of what happens.
+/// Serves connections by these terms, and tells observers of what happens. The answer is the closed table.
 pub fn serve_through<R: Threads + Wait + Clock + Sync, G: Gate + Sync, J: Journal + Sync>(
     rt: &R,
     alloc: Global,

@@ -25,8 +25,8 @@ const MOMENT_MILLIS: u64 = 500;
 
 const MOST_READS: u32 = 256;
 
-/// Reads the lines of a connection. It fails where a line hasn't come in time, and ends where the first line can't name a
-/// user any more, whatever comes behind it.
+/// Reads the lines of a connection. It fails where a line hasn't come in time, and ends where the first line can't name
+/// a user any more, whatever comes behind it.
 #[derive(Drop)]
 pub(crate) struct Reader<'s, R> {
     rt: &'s R,
@@ -167,8 +167,8 @@ fn left_until<R: Clock>(rt: &R, until: Option<Instant>) -> io::Result<Option<Dur
     Ok(Some(left))
 }
 
-/// Hears for a moment what a peer still says that was turned away. A connection that is closed with bytes unread is reset,
-/// and then the peer might not read why.
+/// Hears for a moment what a peer still says that was turned away. A connection that is closed with bytes unread is
+/// reset, and then the peer might not read why.
 pub(crate) fn hear_out<R: Clock>(rt: &R, stream: &TcpStream) -> io::Result<()> {
     stream.shutdown(Shutdown::Write)?;
     let until = end_of(rt, Some(Duration::from_millis(MOMENT_MILLIS)))?;

@@ -4,7 +4,7 @@ use Rattle.std.proofs.lemmas.Bool.{leb-true}
 use Rattle.nesl_values.specs.View.{tree_of}
 use Rattle.nesl_lex.specs.declared.token.Span.{Span}
 use Rattle.nesl_scalars.specs.declared.trap.Trap.{Trap}
-use Rattle.nesl_types.specs.Term.{Term}
+use Rattle.nesl_types_bank.specs.Term.{Term}
 use Rattle.nesl_syntax_tree.specs.Trees.{Tree}
 use Rattle.nesl_eval_meaning.specs.Names.{Value, Name, Environment, outside}
 use Rattle.nesl_eval_meaning.specs.Outcome.{out}

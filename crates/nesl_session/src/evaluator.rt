@@ -78,7 +78,8 @@ pub(crate) struct ByCall<F> {
 
 impl<F: Fn(&Env, &Exp, u32, u64) -> Outcome<Global> + Drop> Evaluator<Global> for ByCall<F> {
     ghost sound = { λ by. ((args : _) → F.Fn.pre by.call args)
-        × ((env : _) (exp : _) (levels : _) (fuel : _) (outcome : _) → F.Fn.post by.call (env, (exp, (levels, (fuel, tt)))) outcome
+        × ((env : _) (exp : _) (levels : _) (fuel : _) (outcome : _)
+        → F.Fn.post by.call (env, (exp, (levels, (fuel, tt)))) outcome
         → Tells outcome (within fuel (out levels (environment env.now) (outside []) (tree_of_exp exp.now)))) };
 
     fn evaluate(

@@ -1,7 +1,6 @@
 //! What is found of a line by its form.
 ghost use Rattle.std.specs.Prelude.{◌≡◌, [], None, IfOk};
 ghost use Rattle.nesl_syntax_tree.specs.Views.{line_of, tree_of};
-ghost use Rattle.nesl_types.specs.Term.{term};
 ghost use Rattle.nesl_infer.specs.Answers.{IsTypeBy, typed};
 ghost use Rattle.nesl_eval_meaning.specs.Names.{outside};
 ghost use Rattle.nesl_eval_meaning.specs.Out.{within};
@@ -35,7 +34,8 @@ pub fn find_form<A: Allocator, E: Evaluator<A>>(
 ) -> Result<Finding, AllocError>
     requires counts { Counts standing.now }
     requires sound { E.sound by.now }
-    ensures found { IfOk result (λ f. FindsLine standing.now.limits (state_of standing.now) (line_of form) (finding_of f)) }
+    ensures found { IfOk result (λ f. FindsLine standing.now.limits (state_of standing.now) (line_of form)
+        (finding_of f)) }
     ensures charges { IfOk result (CanCharge (state_of standing.now)) }
 {
     match form {
@@ -93,7 +93,8 @@ fn find_it<A: Allocator, E: Evaluator<A>>(
     by: &E,
 ) -> Result<Finding, AllocError>
     requires { E.sound by.now }
-    ensures found { IfOk result (λ f. FindsVariable standing.now.limits (state_of standing.now) it (tree_of exp.now) (finding_of f)) }
+    ensures found { IfOk result (λ f. FindsVariable standing.now.limits (state_of standing.now) it (tree_of exp.now)
+        (finding_of f)) }
     ensures charges { IfOk result (CanCharge (state_of standing.now)) }
 {
     let name = Vec::from_slice(alloc, b"it")?;
@@ -109,7 +110,9 @@ fn find_variable<A: Allocator, E: Evaluator<A>>(
     by: &E,
 ) -> Result<Finding, AllocError>
     requires { E.sound by.now }
-    ensures found { IfOk result (λ f. FindsVariable standing.now.limits (state_of standing.now) name.items (tree_of exp.now) (finding_of f)) }
+    ensures found { IfOk result (λ f. FindsVariable standing.now.limits (state_of standing.now) name.items
+        (tree_of exp.now)
+        (finding_of f)) }
     ensures charges { IfOk result (CanCharge (state_of standing.now)) }
 {
     match variable_type(&standing.bindings, alloc, name.as_slice(), exp) {
@@ -128,10 +131,11 @@ fn find_value<A: Allocator, E: Evaluator<A>>(
     by: &E,
 ) -> Result<Finding, AllocError>
     requires sound { E.sound by.now }
-    requires typed { IsTypeBy (known (state_of standing.now).bindings) (tree_of exp.now) (typed (term ty)) }
-    requires free { Refuses (state_of standing.now).bindings name.items (a_variable (term ty)) None }
-    ensures found { IfOk result (λ f. Comes standing.now.limits (state_of standing.now) name.items (term ty)
-        (within (budget standing.now.limits (state_of standing.now)) (out 1000 (environment (state_of standing.now).bindings) (outside []) (tree_of exp.now))) (finding_of f)) }
+    requires typed { IsTypeBy (known (state_of standing.now).bindings) (tree_of exp.now) (typed ty) }
+    requires free { Refuses (state_of standing.now).bindings name.items (a_variable ty) None }
+    ensures found { IfOk result (λ f. Comes standing.now.limits (state_of standing.now) name.items ty
+        (within (budget standing.now.limits (state_of standing.now))
+        (out 1000 (environment (state_of standing.now).bindings) (outside []) (tree_of exp.now))) (finding_of f)) }
     ensures charges { IfOk result (CanCharge (state_of standing.now)) }
 {
     standing.bindings.typed_never_stuck();

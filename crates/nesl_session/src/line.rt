@@ -2,7 +2,8 @@
 ghost use Rattle.std.specs.Prelude.{◌≡◌, ◌+◌, ◌++◌, List, ℕ, IfOk, OnErr, IsFalse, nat_lt, if◌then◌else◌, length};
 ghost use Rattle.nesl_reply.specs.declared.fault.Fault.TheVariants as faults;
 ghost use Rattle.nesl_session_step.specs.Finding.{unread, reset};
-ghost use Rattle.nesl_session_step.specs.Step.{Finds, Step, is_reset, is_part, is_full, longest, most_told, told_by_reset, response_of};
+ghost use Rattle.nesl_session_step.specs.Step.{Finds, Step, is_reset, is_part, is_full, longest, most_told};
+ghost use Rattle.nesl_session_step.specs.Step.{told_by_reset, response_of};
 ghost use Rattle.nesl_session_step.specs.Sense.{HasSense};
 ghost use Rattle.nesl_session_forms.specs.Found.{finding_of, seen_sense, CanCharge};
 ghost use Rattle.nesl_session.specs.Reading.{FindsRead};
@@ -33,7 +34,8 @@ pub fn step<A: Allocator, E: Evaluator<A>>(
 ) -> Result<Answer, AllocError>
     requires counts { Counts standing.old }
     requires sound { E.sound by.now }
-    ensures step { IfOk result (λ a. Step standing.old.limits (state_of standing.old) text.now a (state_of standing.new)) }
+    ensures step { IfOk result (λ a. Step standing.old.limits (state_of standing.old) text.now a
+        (state_of standing.new)) }
     ensures err { OnErr result (state_of standing.new ≡ state_of standing.old) }
     ensures counts { Counts standing.new }
     ensures limits { standing.new.limits ≡ standing.old.limits }

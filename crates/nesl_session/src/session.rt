@@ -169,14 +169,16 @@ impl Session {
         self.line_by(alloc, text, &InPlace)
     }
 
-    /// The same, evaluated in `heap`, from which the value that is bound is copied.
+    /// One line, evaluated in `heap`, from which the value that is bound is copied. The answer is the step's, or want
+    /// of memory, which leaves all as it was.
     pub fn line_in<A: Allocator + Copy>(&mut self, alloc: Global, text: &[u8], heap: A) -> Answer
         ensures { Responds self.old text.now result self.new }
     {
         self.line_by(alloc, text, &InHeap { heap })
     }
 
-    /// The same, evaluated in halves that threads share where `helpers` are granted. It waits for these threads.
+    /// One line, evaluated in halves that threads share where `helpers` are granted: it waits for these threads. The
+    /// answer is the step's, or want of memory, which leaves all as it was.
     pub fn line_split<R: Threads + Sync, H: Helpers + Sync, G: Gate + Sync>(
         &mut self,
         rt: &R,

@@ -1,5 +1,6 @@
 //! How a session stands, and what a line changes.
-ghost use Rattle.std.specs.Prelude.{◌≡◌, ◌+◌, ◌-◌, ◌<◌, ◌≤◌, ◌^◌, ◌++◌, ℕ, [], true, IfOk, OnOk, OnErr, codes, length, take, sum_by, vec_len, vec_capacity};
+ghost use Rattle.std.specs.Prelude.{◌≡◌, ◌+◌, ◌-◌, ◌<◌, ◌≤◌, ◌^◌, ◌++◌, ℕ, [], true, IfOk, OnOk, OnErr, codes, length};
+ghost use Rattle.std.specs.Prelude.{take, sum_by, vec_len, vec_capacity};
 ghost use Rattle.nesl_session_bindings.specs.Known.{put};
 ghost use Rattle.nesl_session_bindings.specs.Stored.{bindings_of};
 ghost use Rattle.nesl_session_step.specs.State.{opening};
@@ -151,7 +152,8 @@ impl Standing {
     ) -> Result<(), AllocError>
         requires counts { Counts self.old }
         requires can { CanSettle (state_of self.old) text.now (Finding.Defined definition) }
-        ensures ok { OnOk result (state_of self.new ≡ after text.now (state_of self.old) (finding_of (Finding.Defined definition))) }
+        ensures ok { OnOk result (state_of self.new ≡ after text.now (state_of self.old)
+            (finding_of (Finding.Defined definition))) }
         ensures err { OnErr result (state_of self.new ≡ state_of self.old) }
         ensures counts { Counts self.new }
         ensures limits { self.new.limits ≡ self.old.limits }
@@ -187,7 +189,8 @@ impl Standing {
     fn charge(&mut self, work: u64)
         requires counts { Counts self.old }
         requires paid { work ≤ self.old.work_left }
-        ensures state { state_of self.new ≡ record (state_of self.old) { work_left = self.old.work_left - work; pending = [] } }
+        ensures state { state_of self.new ≡ record (state_of self.old)
+            { work_left = self.old.work_left - work; pending = [] } }
         ensures counts { Counts self.new }
         ensures limits { self.new.limits ≡ self.old.limits }
     {
@@ -214,7 +217,8 @@ fn room_for(
 // Joins a part to those before it, with a blank in place of its last byte.
 fn join(pending: &mut Vec<u8>, text: &[u8]) -> Result<(), AllocError>
     requires { is_part text.now ≡ true }
-    ensures ok { OnOk result (pending.new.items ≡ pending.old.items ++ (take (length text.now - 1) text.now ++ codes " ")) }
+    ensures ok { OnOk result (pending.new.items ≡ pending.old.items
+        ++ (take (length text.now - 1) text.now ++ codes " ")) }
     ensures err { OnErr result (pending.new.items ≡ pending.old.items) }
 {
     pending.extend_from_slice(text)?;
@@ -226,7 +230,8 @@ fn join(pending: &mut Vec<u8>, text: &[u8]) -> Result<(), AllocError>
 // Binds a name.
 fn define(bindings: &mut Bindings, alloc: Global, definition: Definition) -> Result<(), AllocError>
     requires { CanBe (bindings_of bindings.old) definition }
-    ensures ok { OnOk result (bindings_of bindings.new ≡ put definition.name.items (meaning_of definition.meaning) (bindings_of bindings.old)) }
+    ensures ok { OnOk result (bindings_of bindings.new
+        ≡ put definition.name.items (meaning_of definition.meaning) (bindings_of bindings.old)) }
     ensures err { OnErr result (bindings.new ≡ bindings.old) }
 {
     let Definition { name, meaning } = definition;

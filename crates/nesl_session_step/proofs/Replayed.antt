@@ -1,7 +1,7 @@
 -- A step from a state that is replayed leaves one that is replayed.
 use Rattle.std.proofs.Common.{◌≡◌, ℕ, List, [], ◌∷◌, ◌++◌, ◌+◌, length, Bool, true, false, Option, Some, None, nat_lt, cond, refl, sym, ap, ◌∙◌, subst}
 use Rattle.std.specs.Bool.{MatchBool}
-use Rattle.nesl_types.specs.Term.{Term}
+use Rattle.nesl_types_bank.specs.Term.{Term}
 use Rattle.nesl_syntax_tree.specs.Trees.{Line}
 use Rattle.nesl_syntax_tree.specs.Trees as trees
 use Rattle.nesl_scalars.specs.declared.trap.Trap.{Trap}

@@ -3,7 +3,7 @@ use Rattle.std.proofs.Common.{◌≡◌, ℕ, List, [], ◌∷◌, ◌++◌, ◌
 use Rattle.nesl_lex.specs.Tokens.{Placed}
 use Rattle.nesl_lex.specs.Lexemes.{HasTokens}
 use Rattle.nesl_lex.specs.Laws.{OneList, OnePlace, NotBoth}
-use Rattle.nesl_types.specs.Term.{Term}
+use Rattle.nesl_types_bank.specs.Term.{Term}
 use Rattle.nesl_syntax_tree.specs.Trees.{Line, line_height}
 use Rattle.nesl_syntax_tree.specs.Trees as trees
 use Rattle.nesl_syntax_tree.specs.Lines.{IsLine}

@@ -5,7 +5,7 @@ use Rattle.nesl_lex.specs.declared.token.Span.{Span}
 use Rattle.nesl_types.specs.declared.classes.Class.{Class}
 use Rattle.nesl_types.specs.declared.classes.Class.TheVariants.{Any, Number}
 use Rattle.nesl_types.specs.Class.{IsIn, class_at}
-use Rattle.nesl_types.specs.Term.{Term, int, both}
+use Rattle.nesl_types_bank.specs.Term.{Term, int, both}
 use Rattle.nesl_values.specs.Tree as values
 use Rattle.nesl_syntax_tree.specs.declared.tree.Operator.TheVariants as ops
 use Rattle.nesl_syntax_tree.specs.Trees.{Tree, node}

@@ -1,6 +1,6 @@
 -- What is found of a line with a tree: the first check that fails, or what it comes to.
 use Rattle.std.specs.Prelude.{◌≡◌, ℕ, [], Option, Some, None, length, sum_by, min, nat_lt, if◌then◌else◌}
-use Rattle.nesl_types.specs.Term.{Term}
+use Rattle.nesl_types_bank.specs.Term.{Term}
 use Rattle.nesl_syntax_tree.specs.Trees as trees
 use Rattle.nesl_syntax_tree.specs.Trees.{Tree, Line}
 use Rattle.nesl_builtins.specs.Table.{FunctionType}

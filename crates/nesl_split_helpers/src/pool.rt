@@ -42,7 +42,8 @@ impl<L: Ledger> Kept<L> {
 
     fn ask(&mut self) -> Option<Permit<L>>
         ensures granted { IsSome result ↔ ((0 < self.old.permits.free) × (self.old.permits.closed ≡ false)) }
-        ensures some { IfSome result (λ _. self.new.permits ≡ record self.old.permits { free = self.old.permits.free - 1 }) }
+        ensures some { IfSome result (λ _. self.new.permits
+            ≡ record self.old.permits { free = self.old.permits.free - 1 }) }
         ensures none { IfNone result (self.new.permits ≡ self.old.permits) }
     {
         let Kept {

@@ -29,8 +29,8 @@ const UNTIMED: u64 = 64;
 /// where it waits for the other half.
 const LATE: u64 = 200;
 
-/// How many microseconds halves sleep before they begin, where such as didn't were late: a scheduler that puts a new thread
-/// on its maker's processor places it anew when it wakes, if its maker sleeps too.
+/// How many microseconds halves sleep before they begin, where such as didn't were late: a scheduler that puts a new
+/// thread on its maker's processor places it anew when it wakes, if its maker sleeps too.
 const NAP: u64 = 1;
 
 /// The halves of how many intervals sleep after one was late.
@@ -38,26 +38,26 @@ const NAPS: u64 = 64;
 
 /// Asks others for helpers, for one connection, and stops asking where that doesn't pay.
 ///
-/// Helpers are asked for in a connection's first line, and in the 8 lines after one that lasted 500 microseconds or longer,
-/// until the next one began. So short lines pay nothing for trials, and all lines of a slow user count as long.
+/// Helpers are asked for in a connection's first line, and in the 8 lines after one that lasted 500 microseconds or
+/// longer, until the next one began. So short lines pay nothing for trials, and all lines of a slow user count as long.
 ///
-/// The first ask of a line is most often for its longest interval, so it is judged apart from the others. After four helpers
-/// in a row that came back within 500 microseconds of their grants, no ask of their kind is put for a pause: 31 milliseconds
-/// the first time, and then twice as long and one more than the pause before, up to 127. A helper in vain takes some 150
-/// microseconds, so four of them take two hundredths of the time before the first pause ends, and half a hundredth later,
-/// however many asks there are. After a helper that took longer the next ask of its kind is put, and the last pause counts as
-/// a sixteenth.
+/// The first ask of a line is most often for its longest interval, so it is judged apart from the others. After four
+/// helpers in a row that came back within 500 microseconds of their grants, no ask of their kind is put for a pause: 31
+/// milliseconds the first time, and then twice as long and one more than the pause before, up to 127. A helper in vain
+/// takes some 150 microseconds, so four of them take two hundredths of the time before the first pause ends, and half a
+/// hundredth later, however many asks there are. After a helper that took longer the next ask of its kind is put, and
+/// the last pause counts as a sixteenth.
 ///
-/// A half of an interval asks as it is entered. Its ask is put whatever came of others, and its helper isn't judged: the
-/// interval was worth one or wasn't. But no ask is put for a half that is one thread's share of the interval, where all
-/// helpers and the asking thread take part: else the thread that cuts first would take the helper that the other half is
-/// about to ask for. While all helpers are out for this connection no ask is put at all, which is told without a write to
-/// memory, since all its threads ask at every interval inside.
+/// A half of an interval asks as it is entered. Its ask is put whatever came of others, and its helper isn't judged:
+/// the interval was worth one or wasn't. But no ask is put for a half that is one thread's share of the interval, where
+/// all helpers and the asking thread take part: else the thread that cuts first would take the helper that the other
+/// half is about to ask for. While all helpers are out for this connection no ask is put at all, which is told without
+/// a write to memory, since all its threads ask at every interval inside.
 ///
-/// This is also the connection's gate, by which it sees that a line begins and that halves are entered, and how long they
-/// are; it tells another gate of each place. Where a half was entered 200 microseconds after its grant or later, the halves
-/// of the next 64 intervals sleep for a microsecond, and theirs too, so that the scheduler places their threads. Where the
-/// clock can't be read it stands at 0, and no line is long.
+/// This is also the connection's gate, by which it sees that a line begins and that halves are entered, and how long
+/// they are; it tells another gate of each place. Where a half was entered 200 microseconds after its grant or later,
+/// the halves of the next 64 intervals sleep for a microsecond, and theirs too, so that the scheduler places their
+/// threads. Where the clock can't be read it stands at 0, and no line is long.
 #[derive(Drop)]
 pub struct Sparing<'a, C, H, G> {
     clock: &'a C,
@@ -66,24 +66,44 @@ pub struct Sparing<'a, C, H, G> {
     // How many helpers there are, and how many of them are out for this connection.
     workers: u64,
     out: AtomicU64,
-    // The microsecond at which the last line began, and 1 where it has put or passed over no ask.
-    since: AtomicU64,
-    begun: AtomicU64,
-    // In how many lines helpers are asked for, this one included; before the first line it is one more.
-    hopeful: AtomicU64,
-    // How many halves were entered that are about to ask, and how many places the last of them has.
-    waiting: AtomicU64,
-    entered: AtomicU64,
-    // The places of the longest half of the interval that was cut last.
-    longest: AtomicU64,
-    // The microsecond of the last grant, 1 where the halves of the interval sleep, and of how many further ones they do.
-    granted: AtomicU64,
-    sleeps: AtomicU64,
-    naps: AtomicU64,
+    line: Line,
+    halves: Halves,
+    naps: Naps,
     firsts: Pauses,
     others: Pauses,
     // How many of the other asks are passed over before the clock is read again.
     untimed: AtomicU64,
+}
+
+/// The connection's line, and in how many of them helpers are asked for.
+#[derive(Drop)]
+struct Line {
+    // The microsecond at which it began.
+    since: AtomicU64,
+    // 1 as long as it has put or passed over no ask.
+    begun: AtomicU64,
+    // In how many lines helpers are asked for, this one included; before the first line it is one more.
+    hopeful: AtomicU64,
+}
+
+/// The halves of the interval that was cut last.
+#[derive(Drop)]
+struct Halves {
+    // How many were entered that are about to ask, and how many places the last of them has.
+    waiting: AtomicU64,
+    entered: AtomicU64,
+    // The places of the longest one.
+    longest: AtomicU64,
+}
+
+/// Whether halves sleep before they begin, since such as didn't were late.
+#[derive(Drop)]
+struct Naps {
+    // The microsecond of the last grant.
+    granted: AtomicU64,
+    // 1 where the halves of the interval sleep, and of how many further ones they do.
+    sleeps: AtomicU64,
+    left: AtomicU64,
 }
 
 /// When asks of a kind are put.
@@ -110,6 +130,93 @@ pub struct Timed<P> {
     permit: P,
     granted: u64,
     kind: Kind,
+}
+
+impl Line {
+    fn new() -> Line {
+        Line {
+            since: AtomicU64::new(u64::MAX),
+            begun: AtomicU64::new(0),
+            hopeful: AtomicU64::new(2),
+        }
+    }
+
+    // A line begins at this microsecond, and the one before is over.
+    fn begin(&self, now: u64) {
+        let lasted = now.saturating_sub(self.since.load(Ordering::SeqCst));
+        let left = self.hopeful.load(Ordering::SeqCst).saturating_sub(1);
+        let hopeful = if lasted >= WORTH { HOPE } else { left };
+        self.hopeful.store(hopeful, Ordering::SeqCst);
+        self.since.store(now, Ordering::SeqCst);
+        self.begun.store(1, Ordering::SeqCst);
+    }
+
+    // Whether helpers are asked for in it.
+    fn is_hopeful(&self) -> bool {
+        self.hopeful.load(Ordering::SeqCst) > 0
+    }
+}
+
+impl Halves {
+    fn new() -> Halves {
+        Halves {
+            waiting: AtomicU64::new(0),
+            entered: AtomicU64::new(0),
+            longest: AtomicU64::new(0),
+        }
+    }
+
+    // An interval is cut that is no half of another.
+    fn begin(&self) {
+        self.longest.store(0, Ordering::SeqCst);
+    }
+
+    // A half of so many places is entered, which asks next unless it has one place alone.
+    fn enter(&self, places: u64) {
+        let longest = self.longest.load(Ordering::SeqCst);
+        self.longest.store(longest.max(places), Ordering::SeqCst);
+        if places > 1 {
+            self.entered.store(places, Ordering::SeqCst);
+            self.waiting.fetch_add(1, Ordering::SeqCst);
+        }
+    }
+
+    // Whether the half that was entered last is one thread's share of the interval, of so many. Halves of an odd
+    // interval differ by one.
+    fn is_share(&self, threads: u64) -> bool {
+        let places = self.entered.load(Ordering::SeqCst);
+        let whole = self.longest.load(Ordering::SeqCst).saturating_mul(2);
+        places.saturating_mul(threads) <= whole.saturating_add(threads)
+    }
+}
+
+impl Naps {
+    fn new() -> Naps {
+        Naps {
+            granted: AtomicU64::new(0),
+            sleeps: AtomicU64::new(0),
+            left: AtomicU64::new(0),
+        }
+    }
+
+    // An interval is cut that is no half of another.
+    fn begin(&self) {
+        let sleeps = take_one(&self.left);
+        self.sleeps.store(u64::from(sleeps), Ordering::SeqCst);
+    }
+
+    // Whether the halves of the interval sleep.
+    fn is_due(&self) -> bool {
+        self.sleeps.load(Ordering::SeqCst) != 0
+    }
+
+    // A half that didn't sleep is entered at this microsecond: if it is late, later ones sleep.
+    fn note_entry(&self, now: u64) {
+        let granted = self.granted.load(Ordering::SeqCst);
+        if now.saturating_sub(granted) >= LATE {
+            self.left.store(NAPS, Ordering::SeqCst);
+        }
+    }
 }
 
 impl Pauses {
@@ -151,15 +258,9 @@ impl<'a, C: Clock, H: Helpers, G: Gate> Sparing<'a, C, H, G> {
             gate,
             workers: u64::from(workers),
             out: AtomicU64::new(0),
-            since: AtomicU64::new(u64::MAX),
-            begun: AtomicU64::new(0),
-            hopeful: AtomicU64::new(2),
-            waiting: AtomicU64::new(0),
-            entered: AtomicU64::new(0),
-            longest: AtomicU64::new(0),
-            granted: AtomicU64::new(0),
-            sleeps: AtomicU64::new(0),
-            naps: AtomicU64::new(0),
+            line: Line::new(),
+            halves: Halves::new(),
+            naps: Naps::new(),
             firsts: Pauses::new(),
             others: Pauses::new(),
             untimed: AtomicU64::new(0),
@@ -176,59 +277,27 @@ impl<'a, C: Clock, H: Helpers, G: Gate> Sparing<'a, C, H, G> {
 
     // A line begins, and the one before is over.
     fn begin_line(&self) {
-        let now = self.now();
-        let lasted = now.saturating_sub(self.since.load(Ordering::SeqCst));
-        let left = self.hopeful.load(Ordering::SeqCst).saturating_sub(1);
-        let hopeful = if lasted >= WORTH { HOPE } else { left };
-        self.hopeful.store(hopeful, Ordering::SeqCst);
-        self.since.store(now, Ordering::SeqCst);
-        self.begun.store(1, Ordering::SeqCst);
-        self.waiting.store(0, Ordering::SeqCst);
-        self.longest.store(0, Ordering::SeqCst);
+        self.line.begin(self.now());
+        self.halves.waiting.store(0, Ordering::SeqCst);
+        self.halves.begin();
         self.untimed.store(0, Ordering::SeqCst);
     }
 
-    // An interval is cut that is no half of another.
-    fn begin_interval(&self) {
-        let sleeps = take_one(&self.naps);
-        self.sleeps.store(u64::from(sleeps), Ordering::SeqCst);
-        self.longest.store(0, Ordering::SeqCst);
-    }
-
-    // A half of so many places is entered, which asks next unless it has one place alone.
+    // A half of so many places is entered.
     fn enter_half(&self, places: u64) {
-        if self.sleeps.load(Ordering::SeqCst) != 0 {
+        if self.naps.is_due() {
             thread::sleep(self.clock, Duration::from_micros(NAP));
-        } else if self.is_late() {
-            self.naps.store(NAPS, Ordering::SeqCst);
+        } else {
+            self.naps.note_entry(self.now());
         }
-        let longest = self.longest.load(Ordering::SeqCst);
-        self.longest.store(longest.max(places), Ordering::SeqCst);
-        if places > 1 {
-            self.entered.store(places, Ordering::SeqCst);
-            self.waiting.fetch_add(1, Ordering::SeqCst);
-        }
-    }
-
-    // Whether a half that is entered now is late.
-    fn is_late(&self) -> bool {
-        let granted = self.granted.load(Ordering::SeqCst);
-        self.now().saturating_sub(granted) >= LATE
-    }
-
-    // Whether the half that was entered last is one thread's share of the interval. Halves of an odd interval differ by one.
-    fn is_share(&self) -> bool {
-        let threads = self.workers.saturating_add(1);
-        let places = self.entered.load(Ordering::SeqCst);
-        let whole = self.longest.load(Ordering::SeqCst).saturating_mul(2);
-        places.saturating_mul(threads) <= whole.saturating_add(threads)
+        self.halves.enter(places);
     }
 
     // What an ask is for that is put now. The next one is for something else.
     fn take_kind(&self) -> Kind {
-        if take_one(&self.begun) {
+        if take_one(&self.line.begun) {
             Kind::First
-        } else if take_one(&self.waiting) {
+        } else if take_one(&self.halves.waiting) {
             Kind::Half
         } else {
             Kind::Other
@@ -238,20 +307,22 @@ impl<'a, C: Clock, H: Helpers, G: Gate> Sparing<'a, C, H, G> {
     // Whether an ask of the kind is put.
     fn is_put(&self, kind: Kind) -> bool {
         match kind {
-            Kind::First => {
-                self.is_hopeful()
-                    && self.since.load(Ordering::SeqCst) >= self.firsts.until.load(Ordering::SeqCst)
+            Kind::First => self.line.is_hopeful() && self.is_first_put(),
+            Kind::Half => !self.halves.is_share(self.workers.saturating_add(1)),
+            Kind::Other => {
+                self.line.is_hopeful() && !take_one(&self.untimed) && self.is_pause_over()
             }
-            Kind::Half => !self.is_share(),
-            Kind::Other => self.is_hopeful() && !take_one(&self.untimed) && self.is_pause_over(),
         }
     }
 
-    fn is_hopeful(&self) -> bool {
-        self.hopeful.load(Ordering::SeqCst) > 0
+    // Whether the pause of the first asks was over when the line began.
+    fn is_first_put(&self) -> bool {
+        let until = self.firsts.until.load(Ordering::SeqCst);
+        self.line.since.load(Ordering::SeqCst) >= until
     }
 
-    // Whether the pause of the other asks is over. If it isn't, so many of them are passed over with no look at the clock.
+    // Whether the pause of the other asks is over. If it isn't, so many of them are passed over with no look at the
+    // clock.
     fn is_pause_over(&self) -> bool {
         let until = self.others.until.load(Ordering::SeqCst);
         if until == 0 || self.now() >= until {
@@ -297,10 +368,11 @@ impl<C: Clock, H: Helpers, G: Gate> Helpers for Sparing<'_, C, H, G> {
         };
         self.out.fetch_add(1, Ordering::SeqCst);
         if kind != Kind::Half {
-            self.begin_interval();
+            self.naps.begin();
+            self.halves.begin();
         }
         let granted = self.now();
-        self.granted.store(granted, Ordering::SeqCst);
+        self.naps.granted.store(granted, Ordering::SeqCst);
         Some(Timed {
             permit,
             granted,

@@ -11,7 +11,8 @@ use Rattle.nesl_syntax.specs.declared.signature.MemberEnd.{MemberEnd}
 use Rattle.nesl_syntax.specs.declared.signature.MemberEnd.TheVariants as end
 use Rattle.nesl_syntax_tree.specs.declared.tree.Class.{Class}
 use Rattle.nesl_syntax_tree.specs.declared.tree.Class.TheVariants as class
-use Rattle.nesl_syntax_tree.specs.Trees.{Tree, PatternTree, TypeTree, MemberTree, SignatureTree, Line, nothing, function}
+use Rattle.nesl_syntax_tree.specs.Trees.{Tree, PatternTree, TypeTree, MemberTree, SignatureTree, Line, nothing}
+use Rattle.nesl_syntax_tree.specs.Trees.{function}
 use Rattle.nesl_syntax_tree.specs.Trees.{datatype, bind, eval, show_names, show_budget, show_type}
 use Rattle.nesl_syntax_tree.specs.Patterns.{pattern_in}
 use Rattle.nesl_syntax_open.specs.Machine.{expression, written_type}

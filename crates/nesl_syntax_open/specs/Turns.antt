@@ -11,7 +11,8 @@ use Rattle.nesl_syntax_tree.specs.Trees.{Tree, Binders, node}
 use Rattle.nesl_syntax_tree.specs.Trees as trees
 use Rattle.nesl_syntax_tree.specs.Grammar.{over}
 use Rattle.nesl_syntax_open.specs.Machine as machine
-use Rattle.nesl_syntax_open.specs.Machine.{Waiting, becomes, ends, open_at, binders, body_of, filter, body_or, let_group}
+use Rattle.nesl_syntax_open.specs.Machine.{Waiting, becomes, ends, open_at, binders, body_of, filter, body_or}
+use Rattle.nesl_syntax_open.specs.Machine.{let_group}
 use Rattle.nesl_syntax_open.specs.Machine.{each_group}
 use Rattle.nesl_syntax_open.specs.Parts.{Sees}
 use Rattle.nesl_syntax_open.specs.Stack.{SeesPending}

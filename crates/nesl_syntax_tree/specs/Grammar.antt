@@ -14,8 +14,10 @@ use Rattle.nesl_syntax_tree.specs.declared.tree.Operator.{Operator}
 use Rattle.nesl_syntax_tree.specs.declared.tree.Operator.TheVariants as operator
 use Rattle.nesl_syntax_tree.specs.declared.tree.Prefix.{Prefix}
 use Rattle.nesl_syntax_tree.specs.declared.tree.Prefix.TheVariants as prefix
-use Rattle.nesl_syntax_tree.specs.Trees.{Tree, Shape, Trees, Binders, PatternTree, TypeTree, node, pattern, written, span_of}
-use Rattle.nesl_syntax_tree.specs.Trees.{pattern_span, type_span, widened, widened_pattern, widened_type, and_then, and_bind}
+use Rattle.nesl_syntax_tree.specs.Trees.{Tree, Shape, Trees, Binders, PatternTree, TypeTree, node, pattern, written}
+use Rattle.nesl_syntax_tree.specs.Trees.{span_of}
+use Rattle.nesl_syntax_tree.specs.Trees.{pattern_span, type_span, widened, widened_pattern, widened_type, and_then}
+use Rattle.nesl_syntax_tree.specs.Trees.{and_bind}
 use Rattle.nesl_syntax_tree.specs.Trees.{none, no_binders}
 use Rattle.nesl_syntax_tree.specs.Trees as trees
 

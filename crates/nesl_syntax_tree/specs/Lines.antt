@@ -6,7 +6,8 @@ use Rattle.nesl_lex.specs.declared.token.Word.TheVariants as word
 use Rattle.nesl_lex.specs.declared.token.Sign.TheVariants as sign
 use Rattle.nesl_syntax_tree.specs.declared.tree.Class.{Class}
 use Rattle.nesl_syntax_tree.specs.declared.tree.Class.TheVariants as class
-use Rattle.nesl_syntax_tree.specs.Trees.{Tree, PatternTree, TypeTree, MemberTree, SignatureTree, Line, nothing, function}
+use Rattle.nesl_syntax_tree.specs.Trees.{Tree, PatternTree, TypeTree, MemberTree, SignatureTree, Line, nothing}
+use Rattle.nesl_syntax_tree.specs.Trees.{function}
 use Rattle.nesl_syntax_tree.specs.Trees.{datatype, bind, eval, show_names, show_budget, show_type}
 use Rattle.nesl_syntax_tree.specs.Grammar.{sign_at, word_at, name_at, IsType, IsPattern, Parses}
 

@@ -1,7 +1,8 @@
 -- Patterns, which the code reads as expressions.
 use Rattle.std.specs.Prelude.{Bool, true, false, ◌&&◌, List, ℕ, Option, Some, None}
 use Rattle.nesl_lex.specs.declared.token.Span.{Span}
-use Rattle.nesl_syntax_tree.specs.Trees.{Tree, Shape, PatternTree, PatternShape, node, pattern, name_pattern, pair_pattern}
+use Rattle.nesl_syntax_tree.specs.Trees.{Tree, Shape, PatternTree, PatternShape, node, pattern, name_pattern}
+use Rattle.nesl_syntax_tree.specs.Trees.{pair_pattern}
 use Rattle.nesl_syntax_tree.specs.Trees.{record_pattern}
 use Rattle.nesl_syntax_tree.specs.Trees as trees
 

@@ -14,7 +14,8 @@ use Rattle.nesl_syntax_tree.specs.declared.tree.Signature.{Signature}
 use Rattle.nesl_syntax_tree.specs.declared.tree.Form.{Form}
 use Rattle.nesl_syntax_tree.specs.declared.tree.Form.TheVariants as forms
 use Rattle.nesl_syntax_tree.specs.Trees.{TypeTree, TypeShape, PatternTree, PatternShape, Tree, Shape, Trees, Binders}
-use Rattle.nesl_syntax_tree.specs.Trees.{MemberTree, SignatureTree, Line, written, pattern, node, none, more, no_binders}
+use Rattle.nesl_syntax_tree.specs.Trees.{MemberTree, SignatureTree, Line, written, pattern, node, none, more}
+use Rattle.nesl_syntax_tree.specs.Trees.{no_binders}
 use Rattle.nesl_syntax_tree.specs.Trees.{binder}
 use Rattle.nesl_syntax_tree.specs.Trees as trees
 

@@ -68,7 +68,7 @@ fn hear_their_own(alloc: Global, talks: &Talks, order: u8) -> Result<bool, Fail>
     Ok(are_heard(ann, bob, order, answers.as_slice()))
 }
 
-// The same where these helpers are asked for.
+// Whether each hears the replies to their own lines, in this order, where these helpers are asked for.
 fn hear_their_own_by<R: Threads + Wait + Sync, H: Helpers + Sync>(
     rt: &R,
     alloc: Global,
@@ -83,7 +83,7 @@ fn hear_their_own_by<R: Threads + Wait + Sync, H: Helpers + Sync>(
     Ok(are_heard(ann, bob, order, answers.as_slice()))
 }
 
-// The same by a pool of three permits, which are free again in the end.
+// Whether each hears the replies to their own lines by a pool of three permits, which are free again in the end.
 fn hear_their_own_in<L: Ledger + Send + Sync, R: Threads + Wait + Sync>(
     rt: &R,
     alloc: Global,
@@ -112,7 +112,7 @@ fn are_heard_in_all_orders(alloc: Global, talks: &Talks) -> Result<bool, Fail> {
     Ok(orders == ORDERS)
 }
 
-// The same where these helpers are asked for.
+// Whether they do in each order of the turns, where these helpers are asked for.
 fn are_heard_in_all_orders_by<R: Threads + Wait + Sync, H: Helpers + Sync>(
     rt: &R,
     alloc: Global,
@@ -136,7 +136,7 @@ fn hear_their_own_by_three<R: Threads + Wait + Sync>(
     hear_their_own_in::<Brand, R>(rt, alloc, talks, order, Blank::new(3))
 }
 
-// The same by pools.
+// Whether they do in each order of the turns, by pools of three permits.
 fn are_heard_in_all_orders_in<R: Threads + Wait + Sync>(
     rt: &R,
     alloc: Global,

@@ -14,8 +14,8 @@ user bob
 it = 9 : int (work 3, depth 3)
 ";
 
-/// What is answered to the first bytes of the conversation, which then ends, and to how many lines. Of a sum that is cut
-/// off before its `;` the form isn't whole; the name that is cut off is a stranger's.
+/// What is answered to the first bytes of the conversation, which then ends, and to how many lines. Of a sum that is
+/// cut off before its `;` the form isn't whole; the name that is cut off is a stranger's.
 fn answered(len: usize) -> (&'static str, u64) {
     match len {
         0 => ("", 0),

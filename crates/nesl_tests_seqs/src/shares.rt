@@ -53,7 +53,7 @@ fn are_joined(alloc: Global, three: &Value) -> Result<bool, AllocError> {
     )
 }
 
-// The same of functions that move elements, and of functions of one element.
+// Whether functions that move elements, and those of one element, come to results of the sizes that they should have.
 fn are_moved(alloc: Global, three: &Value, value: &Value) -> Result<bool, AllocError> {
     let rotated = Argument::Two(three, &Value::Int(1));
     let third = Argument::Two(three, &Value::Int(2));

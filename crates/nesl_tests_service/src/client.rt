@@ -104,9 +104,9 @@ fn is_played<R: Net<Stream = TcpStream>>(
     }
 }
 
-// Plays clients. Each row begins with the number of a connection, which is made when its number first comes:
-// `0 > LINE` says a line on it, `0 + BYTES` what is no whole line, `0 < ANSWER` holds the answer to the one that is wanted,
-// `0 ?` does nothing more, `0 -` hears that there is no more, and `0 .` says no more and hears what is left.
+// Plays clients. Each row begins with the number of a connection, which is made when its number first comes: `0 > LINE`
+// says a line on it, `0 + BYTES` what is no whole line, `0 < ANSWER` holds the answer to the one that is wanted, `0 ?`
+// does nothing more, `0 -` hears that there is no more, and `0 .` says no more and hears what is left.
 pub fn play<R: Net<Stream = TcpStream> + Abort>(
     rt: &R,
     alloc: Global,

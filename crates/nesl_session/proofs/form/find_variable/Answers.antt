@@ -1,5 +1,4 @@
 use Rattle.std.proofs.Common.{[], None, Ok, Err, subst}
-use Rattle.nesl_types.specs.Term.{term}
 use Rattle.nesl_syntax_tree.specs.Views.{tree_of}
 use Rattle.nesl_infer.specs.Answers.{typed}
 use Rattle.nesl_eval_meaning.specs.Names.{Name, outside}
@@ -18,7 +17,7 @@ returns-in-Ok-clause-found g c =
     let s = state_of c.args.standing.now in
     let l = c.args.standing.now.limits in
     let x = c.args.name.items in
-    let t = term c.in-Ok.ty in
+    let t = c.in-Ok.ty in
     let e = tree_of c.args.exp.now in
     let P : Name → Type 0 = λ y. IsVariable s.bindings y e (Ok c.in-Ok.ty) in
     let h = subst P c.as_slice.ensures.value c.in-Ok.ensures in

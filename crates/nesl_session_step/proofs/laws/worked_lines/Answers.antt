@@ -2,7 +2,7 @@ use Rattle.std.proofs.Common.{◌≡◌, refl, sym, subst, codes, lit≤, ℕ, L
 use Rattle.std.specs.Prelude.{pos}
 use Rattle.std.specs.Fmt.{digits}
 use Rattle.nesl_lex.specs.declared.token.Span.{Span}
-use Rattle.nesl_types.specs.Term.{int}
+use Rattle.nesl_types_bank.specs.Term.{int}
 use Rattle.nesl_values.specs.Tree as values
 use Rattle.nesl_syntax_tree.specs.Trees.{Line}
 use Rattle.nesl_syntax_tree.specs.Trees as trees
