@@ -1,0 +1,63 @@
+"""What scripts/stress/attack says to the program: sessions in both ways, and lines of deep and large types."""
+import subprocess
+import time
+
+from lib import Service, compare, demand, ending, prepared
+
+
+def in_batch(program, said, limits=None, user="ann"):
+    """Says the lines of a session to `batch`, and compares the answers."""
+    data = "".join(line + "\n" for line in [f"user {user}", *(line for line, _ in said)]).encode("latin-1")
+    ran = subprocess.run([program, "batch", user], input=data, stdout=subprocess.PIPE, stderr=subprocess.PIPE,
+                         preexec_fn=prepared(limits or {}, ()), check=False)
+    demand(ran.returncode == 0, ending(ran.returncode))
+    compare([("", f"user {user}"), *said], ran.stdout.decode("latin-1").split("\n")[:-1])
+
+
+def in_service(program, said, limits=None, user="ann"):
+    """Says the lines of a session to `serve`, each after the answer to the one before, and compares the answers."""
+    with Service(program, users=[user], limits=limits) as service, service.client(user) as client:
+        for line, wanted in said:
+            try:
+                mine = client.ask(line)
+            except OSError as error:
+                mine = f"({error})"
+            if mine.startswith("(") and service.run.poll() is None:
+                time.sleep(0.2)
+            service.must_live()
+            compare([(line, wanted)], [mine])
+        client.leave()
+
+
+# What is said, with what is wanted.
+
+def nests():
+    """w puts a value into a sequence, and each of w1 to w7 calls the one before three times: wN makes 3**N levels."""
+    said = [("function w(x) = [x];", "w : a -> [a]")]
+    for level in range(1, 8):
+        below, result = f"w{level - 1}" if level > 1 else "w", "[" * 3**level + "a" + "]" * 3**level
+        said.append((f"function w{level}(x) = {below}({below}({below}(x)));", f"w{level} : a -> {result}"))
+    return said
+
+
+def nest_cost(level):
+    return 2 + 3 * nest_cost(level - 1) if level else 3
+
+
+def nested_type():
+    calls = [7, 6, 6, 5, 4, 4, 3, 2, 2]
+    count, cost = sum(3**level for level in calls), 1 + sum(nest_cost(level) for level in calls)
+    written = f"{'[' * count}1{']' * count} : {'[' * count}int{']' * count}"
+    line = "x = " + "".join(f"w{level}(" for level in calls) + "1" + ")" * len(calls) + ";"
+    return [*nests(), (line, f"x = {written} (work {cost}, depth {cost})"),
+            ("x;", f"it = {written} (work 1, depth 1)"), ("#x;", "it = 1 : int (work 2, depth 2)"),
+            (":reset", "reset: lines 11")]
+
+
+LARGE = {  # three functions d, whose results have types of 4,095 nodes: equal halves, and two without equal parts
+    "pairs of equals": ["function p(x) = (x, x);", "function d(x) = p(p(p(p(p(p(p(p(p(p(p(x)))))))))));"],
+    "sequences": [line for line, _ in nests()] + ["function d(x) = w7(w6(w6(w5(w4(w4(w3(w2(w1(w1(w(w(x))))))))))));"],
+    "pairs": ["function p(x) = (1, x);", "function p1(x) = p(p(p(p(x))));", "function p2(x) = p1(p1(p1(p1(x))));",
+              "function p3(x) = p2(p2(p2(p2(x))));", "function p4(x) = p3(p3(p3(p3(x))));",
+              "function d(x) = p4(p4(p4(p4(p4(p4(p4(p3(p3(p3(p2(p2(p2(p1(p1(p1(p(p(p(x)))))))))))))))))));"],
+}
