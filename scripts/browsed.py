@@ -250,6 +250,12 @@ class Tab:
         self.until(lambda: self.seen("book"), f"{user} is seated")
         self.settle()
 
+    def reload(self):
+        """Loads the page anew, and waits until its user is seated again."""
+        self.driver.refresh()
+        self.until(lambda: self.module("session.js", "page.session.seated") is True, "the user is seated again")
+        self.settle()
+
     def settle(self):
         """Waits until nothing is said any more: what the page wants to know it asks soon."""
         self.driver.execute_async_script(SETTLED, self.address + "session.js")

@@ -16,10 +16,7 @@ let waiting = 0;
 export function openLeft() {
   (kept.names ?? []).forEach(([name, type]) => names.set(name, type));
   session.addEventListener("told", ({ detail }) => learn(detail.line, readReply(detail.reply)));
-  find("ask").addEventListener("click", () => {
-    [...names].filter(([, type]) => !type?.includes(" -> ")).forEach(([name]) => names.set(name, undefined));
-    return askAll(Infinity);
-  });
+  find("ask").addEventListener("click", () => askAll(() => true, Infinity));
   drawNames();
 }
 
@@ -29,15 +26,18 @@ export function askSoon() {
   waiting = setTimeout(() => session.ask(":budget"), QUIET);
 }
 
-/** Asks for all that this tab doesn't know of the session. Gives false where a form that went on was ended by it. */
-export async function askAll(most = MOST_ASKED) {
+/** Asks for the names, and for types that this tab doesn't know. Gives false where that ended a form that went on. */
+export async function askAll(wanted = (type) => type === undefined, most = MOST_ASKED) {
   const reply = await session.ask(":budget");
   if (reply === null || readReply(reply).kind === "fault") return !reply || /^fault transcript/.test(reply);
   await session.ask(":names");
-  const unknown = [...names].filter(([, type]) => type === undefined).slice(0, most);
-  for (const [name] of unknown) await session.ask(`:type ${name};`);
+  const asked = [...names].filter(([, type]) => wanted(type)).slice(0, most);
+  for (const [name] of asked) await session.ask(`:type ${name};`);
   return true;
 }
+
+/** Whether a type is one that only functions and datatypes have; nobody is told those of `:type`. */
+const isOfFunction = (type) => / -> /.test(type);
 
 function learn(line, told) {
   const asked = /^:type (\w+);$/.exec(line)?.[1];
@@ -45,7 +45,7 @@ function learn(line, told) {
   else if (told.kind === "reset") names.clear();
   else if (told.kind === "names") order(told.names?.split(", ") ?? []);
   else if (names.has(asked) && told.kind === "type") names.set(asked, told.type);
-  else if (names.has(asked) && told.word === "unknown") names.set(asked, names.get(asked) ?? "");
+  else if (names.has(asked) && told.word === "unknown" && !isOfFunction(names.get(asked))) names.set(asked, "");
   else if (told.kind === "budget") drawBars(told);
   keep({ names: [...names] });
   drawNames();

@@ -55,6 +55,7 @@ export function openNotebook(then) {
 
 /** Puts a form into the field. */
 export function write(form) {
+  recalled = null;
   put(form);
   field.focus();
 }
@@ -151,9 +152,11 @@ function shortened(cell) {
 
 /** Marks the bytes from..to of a form in its cells, since its parts may have been said in several. */
 function markFault(last, from, to) {
+  let behind = last.start + bytesOf(last.form);
   for (let place = cells.indexOf(last); place >= 0; place -= 1) {
     const cell = cells[place];
-    if (cell !== last && cell.reply !== "more") continue;
+    if (cell.start + bytesOf(cell.form) !== behind || (cell !== last && cell.reply !== "more")) continue;
+    behind = cell.start;
     const mark = [Math.max(0, from - cell.start), Math.min(bytesOf(cell.form), to - cell.start)];
     if (mark[0] < mark[1]) cell.mark = mark;
     if (cell !== last) drawCell(cell);
@@ -174,7 +177,7 @@ function drawState() {
 
 function drawCell(cell) {
   const again = button("button.quiet", "again", () => write(cell.form));
-  again.ariaLabel = `Write again: ${cell.form}`;
+  again.ariaLabel = `Write again: ${cell.form.slice(0, FOLDED)}`;
   const said = make("div.said", drawForm(cell), again);
   const item = make(`li.cell.is-${readReply(cell.reply ?? "").kind}`, said, make("div.reply", ...drawReply(cell)));
   if (items.has(cell)) items.get(cell).replaceWith(item);
