@@ -78,6 +78,15 @@ CALLS = [
     ("[{} : {}]", [INT, INT], seq(INT)), ("[{} : {} : {}]", [INT, INT, INT], seq(INT)),
     ("({}, {})", [A, B], pair(A, B)), ("(if {} then {} else {})", [BOOL, A, A], A),
 ]
+# Calls of scalars alone, and sequences of so many places, with how many there are of each: around the ends of the blocks
+# in which plain bodies are evaluated.
+SCALARS = [row for row in CALLS
+           if all(isinstance(ty, str) or ty[0] == "any" and ty[2] != "any" for ty in [*row[1], row[2]])]
+PACKED = {INT: ["index({})", "reverse(index({}))", "[0 : {}]", "dist(5, {})", "{{a - 5 : a in index({})}}",
+                "{{rem(a * 7919, 10007) : a in index({})}}", "{{lshift(1, rem(a, 63)) : a in index({})}}"],
+          BOOL: ["{{oddp(a) : a in index({})}}", "dist(T, {})"],
+          CHAR: ["{{code_char(rem(a, 256)) : a in index({})}}", "dist(`c, {})"]}
+PLACES = [0, 1, 2, 7, 8, 9, 40, 1000, 1023, 1024, 1025, 2047, 2048, 2049, 3000]
 LOCALS = ["x", "y", "z", "w", "it", "u1"]
 UNKNOWN = ["nothing", "nobody", "q"]
 
@@ -233,6 +242,44 @@ class Session:
                 return "[" + ", ".join(self.expression(ty[1], scope, depth - 1) for _ in range(rng.choice([1, 2, 3]))) + "]"
             return self.each(ty, scope, depth)
         return self.call(ty, scope, depth)
+
+    # Apply-to-eachs whose bodies and filters are plain: constants, names, and functions of scalars.
+
+    def scalar(self, ty, names, depth):
+        rng = self.rng
+        if depth <= 0 or rng.random() < 0.15:
+            known = [name for name, found in names if found == ty]
+            if known and rng.random() < 0.8:
+                return rng.choice(known)
+            constants = {INT: ["0", "1", "2", "3", "7", "1000", "3037000500", "9223372036854775807"], BOOL: ["T", "F"]}
+            return rng.choice(constants.get(ty, ["`c", "`z"]))
+        rows = []
+        for form, takes, gives in rng.sample(SCALARS, len(SCALARS)):
+            given = {}
+            if self.matched(gives, ty, given):
+                rows.append((form, takes, given))
+        form, takes, given = rng.choice(rows)
+        for one in takes:
+            self.fill(one, given)
+        return form.format(*[self.scalar(instance(one, given), names, depth - 1) for one in takes])
+
+    def plain(self):
+        rng = self.rng
+        count = rng.choice(PLACES)
+        names = [(name, rng.choice([INT, INT, INT, BOOL, CHAR])) for name in "abc"[:rng.choice([1, 1, 2, 3])]]
+        binders = "; ".join(f"{name} in {rng.choice(PACKED[ty]).format(count + (rng.random() < 0.02))}"
+                            for name, ty in names)
+        outer = [("k", INT)] if rng.random() < 0.3 else []
+        known = names + outer + [(name, ty) for name, ty in self.variables.items() if isinstance(ty, str)]
+        body = self.scalar(rng.choice([INT, INT, BOOL, CHAR]), known, rng.randrange(0, 5))
+        if rng.random() < 0.15:
+            body = f"({body}, {self.scalar(INT, known, 2)})"
+        if rng.random() < 0.1:
+            body = f"let n = {body} in n"
+        filtered = f" | {self.scalar(BOOL, known, rng.randrange(1, 4))}" if rng.random() < 0.4 else ""
+        each = "{" + body + " : " + binders + filtered + "}"
+        whole = f"let k = {rng.choice([0, 1, 3, 1000])} in {each}" if outer else each
+        return rng.choice([f"#({whole});", f"take({whole}, {rng.choice([1, 5, -5])});", f"{whole};"])
 
     # Lines, each with a call that notes what it defined once the other program has taken it.
 
