@@ -15,8 +15,8 @@ import time
 from pathlib import Path
 
 TOP = Path(__file__).resolve().parent.parent
-sys.path.insert(0, str(next((TOP / "scripts").rglob("attacked.py")).parent))
-from attacked import Failed, demand, free_port  # noqa: E402
+sys.path.insert(0, str(TOP / "scripts"))
+from lib import Failed, demand, free_port  # noqa: E402
 
 UNIT = "/usr/lib/systemd/system/pazkindu@.service"
 INCLUDED = "systemd,systemd-sysv,man-db,iproute2"

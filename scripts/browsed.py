@@ -10,7 +10,7 @@ import sys
 import threading
 import time
 
-from attacked import PATIENCE, Failed, demand, short
+from lib import PATIENCE, Failed, demand, short
 
 try:
     from selenium import webdriver
