@@ -1,12 +1,12 @@
 -- Types with types in place of their variables.
-use Rattle.std.specs.Prelude.{◌≡◌, ◌<◌, ℕ, List, All, length, Option, Some, slice_get, slice_index}
+use Rattle.std.specs.Prelude.{◌≡◌, ◌<◌, ◌≤◌, ℕ, List, All, length, Option, Some, slice_get, slice_index, slice_set}
 use Rattle.std.specs.Option.{option_map_or}
 use Rattle.nesl_types_bank.specs.Term.{Term, variable}
 use Rattle.nesl_types_bank.specs.Substitution.{substitute}
 use Rattle.nesl_types_bank.specs.Numbering.{IsBelow}
 use Rattle.nesl_types_bank.specs.declared.shape.Shape.{Shape}
 use Rattle.nesl_types_bank.specs.declared.shape.Shape.TheVariants.{Int, Bool, Char, Var, Named, SeqOf, Both}
-use Rattle.nesl_types_bank.specs.Shapes.{shape_type}
+use Rattle.nesl_types_bank.specs.Shapes.{shape_type, IsShapeBelow}
 use Rattle.nesl_types_bank.specs.Types.{type_at}
 use Rattle.nesl_types_bank.specs.Lists.{moved_to}
 
@@ -34,16 +34,25 @@ pub record AreRenamed (s : ℕ → Term) (from to : List Term) (places : List �
   pub within : All (λ p. p < length to) places
   pub types : (p : ℕ) → p < length from → type_at to (slice_index places p) ≡ substitute s (type_at from p)
 
--- each place that was found is below n
+-- each place that is wanted is below n
 abbrev pub AreBelow : ℕ → List (Option ℕ) → Type 0
-AreBelow n places = (q a : ℕ) → moved_to places q ≡ Some a → a < n
+AreBelow n wanted = (q a : ℕ) → moved_to wanted q ≡ Some a → a < n
 
--- the types of ts at the places that were found are those that `f` gives, with `s v` in place of each variable v
-abbrev pub AreInstances : (ℕ → Term) → List Term → List (Option ℕ) → (ℕ → Term) → Type 0
-AreInstances s ts places f = (q a : ℕ) → moved_to places q ≡ Some a → type_at ts a ≡ substitute s (f q)
+-- part q is wanted at place p now, and was wanted at no other place before
+pub record IsWanted (old new : List (Option ℕ)) (q p : ℕ) : Type 0 where
+  pub now : new ≡ slice_set old q (Some p)
+  pub before : (a : ℕ) → moved_to old q ≡ Some a → a ≡ p
 
--- the type of a shape is at place p, with `s v` in place of each variable v, where those of its parts are at the places
--- that were found
-pub record IsFound (s : ℕ → Term) (ts : List Term) (places : List (Option ℕ)) (shape : Shape) (p : ℕ) : Type 0 where
-  pub within : p < length ts
-  pub here : (f : ℕ → Term) → AreInstances s ts places f → type_at ts p ≡ substitute s (shape_type f shape)
+-- of the parts before n, each that is wanted somewhere is what `f` gives, with `s v` in place of each variable v
+abbrev pub AreInstances : (ℕ → Term) → List Term → List (Option ℕ) → ℕ → (ℕ → Term) → Type 0
+AreInstances s ts wanted n f = (q a : ℕ) → q < n → moved_to wanted q ≡ Some a → type_at ts a ≡ substitute s (f q)
+
+-- the type at place p is that of a shape, with `s v` in place of each variable v, where its parts are what is at the
+-- places at which they are wanted now; those that were wanted stay so
+pub record Matches (s : ℕ → Term) (ts : List Term) (old new : List (Option ℕ)) (shape : Shape) (p : ℕ) : Type 0 where
+  pub longer : length new ≡ length old
+  pub kept : (q a : ℕ) → moved_to old q ≡ Some a → moved_to new q ≡ Some a
+  pub others : (n q : ℕ) → IsShapeBelow n shape → n ≤ q → moved_to new q ≡ moved_to old q
+  pub below : AreBelow (length ts) old → AreBelow (length ts) new
+  pub here : (n : ℕ) (f : ℕ → Term) → IsShapeBelow n shape → AreInstances s ts new n f →
+      type_at ts p ≡ substitute s (shape_type f shape)

@@ -5,10 +5,9 @@ ghost use Rattle.nesl_types_bank.specs.Substitution.{substitute};
 ghost use Rattle.nesl_types_bank.specs.Shapes.{IsShapeBelow};
 ghost use Rattle.nesl_types_bank.specs.Visits.{parts, with_marks, AreReached};
 ghost use Rattle.nesl_types_bank.specs.Types.{type_at, Extends, IsPut};
-ghost use Rattle.nesl_types_bank.specs.Renames.{renamed, replacement, HaveVariablesOf, AreRenamed, AreBelow, IsFound};
+ghost use Rattle.nesl_types_bank.specs.Renames.{renamed, replacement, HaveVariablesOf, AreRenamed, IsWanted, Matches};
 
 use crate::bank::Bank;
-use crate::lists::moved_to;
 use crate::parts::Parts;
 use crate::shape::Shape;
 use std::alloc::{AllocError, Global};
@@ -91,7 +90,7 @@ pub fn rename_type(
     rename_part(alloc, &from.parts(), place, to, of)
 }
 
-/// The same for types that are borrowed.
+/// Puts the type at a place of borrowed types into `to`, as `rename_type` does that of a bank.
 pub(crate) fn rename_part(
     alloc: Global,
     from: &Parts<'_>,
@@ -139,32 +138,59 @@ pub fn rename(
     Ok(places)
 }
 
-/// The place in a bank of a type with others in place of its variables, where it is there. Its shape is given, and for
-/// each of its parts the place in the bank, where it is there.
-fn find_renamed(bank: &Bank, shape: Shape, places: &[Option<usize>], of: &[usize]) -> Option<usize>
-    requires places { AreBelow (length bank.now) places.now }
+/// Notes that a part has to be at a place of the bank. Whether it was noted for no other place before.
+fn want(wanted: &mut Vec<Option<usize>>, part: usize, place: usize) -> bool
+    requires { part < length wanted.old.items }
+    ensures { IsTrue result → IsWanted wanted.old.items wanted.new.items part place }
+{
+    let before = wanted[part];
+    wanted[part] = Some(place);
+    match before {
+        Some(other) => other == place,
+        None => true,
+    }
+}
+
+/// Whether the type at a place of the bank has a shape, with the type at place `of[v]` of the bank in place of each
+/// variable v, and notes at which places of the bank the shape's parts have to be then.
+fn matches_shape(
+    wanted: &mut Vec<Option<usize>>,
+    shape: Shape,
+    bank: &Bank,
+    place: usize,
+    of: &[usize],
+) -> bool
+    requires parts { IsShapeBelow (length wanted.old.items) shape }
+    requires place { place < length bank.now }
     requires of { All (λ p. p < length bank.now) of.now }
-    ensures { IfSome result (IsFound (replacement bank.now of.now) bank.now places.now shape) }
+    ensures { IsTrue result
+        → Matches (replacement bank.now of.now) bank.now wanted.old.items wanted.new.items shape place }
 {
     match shape {
         Shape::Var(variable) => {
             let given = of.get(variable as usize);
             match given {
-                Some(place) => Some(*place),
-                None => bank.find(shape),
+                Some(given) => *given == place,
+                None => bank.shape(place) == shape,
             }
         }
-        Shape::SeqOf(item) => bank.find(Shape::SeqOf(moved_to(places, item)?)),
-        Shape::Both(first, second) => {
-            let first = moved_to(places, first)?;
-            bank.find(Shape::Both(first, moved_to(places, second)?))
-        }
-        _ => bank.find(shape),
+        Shape::SeqOf(item) => match bank.shape(place) {
+            Shape::SeqOf(other) => want(wanted, item, other),
+            _ => false,
+        },
+        Shape::Both(first, second) => match bank.shape(place) {
+            Shape::Both(left, right) => {
+                let is_right = want(wanted, second, right);
+                is_right && want(wanted, first, left)
+            }
+            _ => false,
+        },
+        _ => bank.shape(place) == shape,
     }
 }
 
 /// Whether the type at a place of the bank is the one at place `part` of `from`, with the type at place `of[v]` of the
-/// bank in place of each variable v.
+/// bank in place of each variable v. Looks at each part once, each before those that it is made of.
 pub(crate) fn is_renamed_part(
     alloc: Global,
     from: &Parts<'_>,
@@ -178,10 +204,19 @@ pub(crate) fn is_renamed_part(
     ensures { IfOk result (λ holds. IsTrue holds
         → type_at bank.now place ≡ substitute (replacement bank.now of.now) (type_at from.now part)) }
 {
-    let mut places: Vec<Option<usize>> = Vec::with_capacity(alloc, from.len())?;
-    for next in 0..from.len() {
-        let found = find_renamed(bank, from.shape(next), &places, of);
-        places.push(found)?;
+    if place >= bank.len() {
+        return Ok(false);
     }
-    Ok(moved_to(&places, part) == Some(place))
+    let mut next = from.len();
+    let mut wanted: Vec<Option<usize>> = vec![in alloc; None; next]?;
+    wanted[part] = Some(place);
+    while next > 0 {
+        next -= 1;
+        if let Some(at) = wanted[next] {
+            if !matches_shape(&mut wanted, from.shape(next), bank, at, of) {
+                return Ok(false);
+            }
+        }
+    }
+    Ok(true)
 }

@@ -1,24 +1,36 @@
-use Rattle.std.proofs.Common.{ℕ, ◌+◌, List, Option, IfSome, length, subst, sym, ap, ◌∙◌}
-use Rattle.std.proofs.lemmas.List.{length_push}
-use Rattle.nesl_types_bank.specs.Types.{type_at}
-use Rattle.nesl_types_bank.specs.Renames.{replacement, AreBelow, AreInstances, IsFound}
-use Rattle.nesl_types_bank.proofs.Found.{below_push, instances_push}
+use Rattle.std.proofs.Common.{ℕ, ◌+◌, ◌-◌, ◌<◌, ◌≡◌, length, sym, ◌∙◌, subst, arith}
+use Rattle.nesl_types_bank.specs.Renames.{replacement}
+use Rattle.nesl_types_bank.proofs.Found.{IsChecking, checking_some, checked_whole, read_here}
 use Rattle.nesl_types_bank.proofs.renaming.is_renamed_part.Goals as goal
 
-pub loop-next-preserved : goal.loop-next-preserved
-loop-next-preserved c =
-    let bank = c.args.bank.now in
-    let from = c.args.from.now in
-    let s = replacement bank c.args.of.now in
-    let places = c.loop-next.places.items in
-    let o = c.find_renamed-found.result in
-    let x = c.shape.result in
-    let k = c.loop-next.next in
+pub matches_shape-requires-clause-place : goal.matches_shape-requires-clause-place
+matches_shape-requires-clause-place c =
     let i = c.loop-next.invariant in
-    let f = subst (λ (ps : List (Option ℕ)). IfSome o (IsFound s bank ps x)) c.deref.ensures.value c.find_renamed-found.ensures in
-    let items = c.in_ok-push.ensures.items in
-    record {
-      len = ap length items ∙ length_push places o ∙ ap (λ n. n + 1) i.len;
-      below = subst (AreBelow (length bank)) (sym items) (below_push s bank from places k x o i.len i.below i.found f c.shape.ensures.shape);
-      found = subst (λ (ps : List (Option ℕ)). AreInstances s bank ps (type_at from)) (sym items) (instances_push s bank from places k x o i.len i.below i.found f c.shape.ensures.shape);
-    }
+    let wanted = c.loop-next.wanted.items in
+    let k : ℕ = c.loop-next.next - 1 in
+    let l : k < length wanted = omega (arith, i.inside, i.len, c.loop-next-test.true) in
+    i.below k c.in-Some.at (read_here wanted k c.index.result.now l c.index.ensures ∙ c.in-Some.is)
+
+pub loop-next-preserved-else-not-matches_shape : goal.loop-next-preserved-else-not-matches_shape
+loop-next-preserved-else-not-matches_shape c =
+    let i = c.loop-next.invariant in
+    let bank = c.args.bank.now in
+    let wanted = c.loop-next.wanted.items in
+    let n = c.loop-next.next in
+    let k : ℕ = n - 1 in
+    let e : k + 1 ≡ n = omega (arith, c.loop-next-test.true) in
+    let l : k < length wanted = omega (arith, i.inside, i.len, c.loop-next-test.true) in
+    let here = read_here wanted k c.index.result.now l c.index.ensures ∙ c.in-Some.is in
+    checking_some (replacement bank c.args.of.now) bank c.args.from.now c.args.part c.args.place n k wanted e i c.matches_shape.new.wanted.items c.in-Some.at c.shape.result here c.shape.ensures.parts c.shape.ensures.shape (c.matches_shape.ensures c.if-not-matches_shape.false)
+
+pub returns : goal.returns
+returns c =
+    let bank = c.args.bank.now in
+    let s = replacement bank c.args.of.now in
+    let from = c.args.from.now in
+    let part = c.args.part in
+    let place = c.args.place in
+    let wanted = c.loop-next.wanted.items in
+    let n = c.loop-next.next in
+    let e : n ≡ 0 = omega (arith, c.loop-next-test.false) in
+    λ t. checked_whole s bank from part place wanted (subst (λ k. IsChecking s bank from part place k wanted) e c.loop-next.invariant)
