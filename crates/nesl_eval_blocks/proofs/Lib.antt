@@ -1,0 +1,4 @@
+pub mod Outs
+pub mod Places
+pub mod Parts
+pub mod Runs

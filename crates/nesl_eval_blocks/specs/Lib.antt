@@ -1,0 +1,4 @@
+pub mod Block
+pub mod Exec
+pub mod Flat
+pub mod Laws
