@@ -15,8 +15,8 @@ use nesl_eval_nodes::scope::Scope;
 use nesl_values::{Element, Items, Value};
 use std::alloc::Allocator;
 
-/// The places of an apply-to-each in the turns from `from` to before `to`, and what the code there sees: `values` are the
-/// sequences whose elements it names, one of each at each place.
+/// The places of an apply-to-each in the turns from `from` to before `to`, and what the code there sees: `values` are
+/// the sequences whose elements it names, one of each at each place.
 #[derive_where(Clone, Copy)]
 pub struct Block<'x, A: Allocator, T> {
     pub tops: &'x T,

@@ -1,7 +1,11 @@
 // Laws of the definition of tokens, and worked lines.
 
-ghost use Rattle.nesl_lex.specs.Laws.{OneList, OnePlace, NotBoth, Either, TokensInOrder, TokensStandIn, ReadingComputes};
-ghost use Rattle.nesl_lex.specs.Examples.{Arrow, ArrowAndMinus, TwoMinuses, ThreeColons, TwoComments, PercentInText, OpenText, OpenComment, BlankCharacter, LoneBackquote, BackquoteAndDelete, GreatestNumber, TooLargeNumber, LeadingZeros, TruthAndName, FoldedWords, NumberAndName, ZeroByte, LargeByte};
+ghost use Rattle.nesl_lex.specs.Laws.{OneList, OnePlace, NotBoth, Either, TokensInOrder, TokensStandIn};
+ghost use Rattle.nesl_lex.specs.Laws.{ReadingComputes};
+ghost use Rattle.nesl_lex.specs.Examples.{Arrow, ArrowAndMinus, TwoMinuses, ThreeColons, TwoComments, PercentInText};
+ghost use Rattle.nesl_lex.specs.Examples.{OpenText, OpenComment, BlankCharacter, LoneBackquote, BackquoteAndDelete};
+ghost use Rattle.nesl_lex.specs.Examples.{GreatestNumber, TooLargeNumber, LeadingZeros, TruthAndName, FoldedWords};
+ghost use Rattle.nesl_lex.specs.Examples.{NumberAndName, ZeroByte, LargeByte};
 
 /// Each line either has one list of tokens or is stuck at one place.
 pub fn one_reading()
@@ -17,8 +21,8 @@ pub fn tokens_in_order()
     ensures stand_in { TokensStandIn }
 {}
 
-/// A line's tokens, or the place where it is stuck, computed: so a crate above can state a worked line as bytes, call this
-/// law and give its clause the bytes.
+/// A line's tokens, or the place where it is stuck, computed: so a crate above can state a worked line as bytes, call
+/// this law and give its clause the bytes.
 pub fn reading_computes()
     ensures { ReadingComputes }
 {}

@@ -1,7 +1,10 @@
 // What stands at the front of some bytes.
 
-ghost use Rattle.std.specs.Prelude.{◌≡◌, ◌≢◌, ◌≤◌, ◌<◌, ◌^◌, ◌+◌, ◌-◌, ◌*◌, ◌==◌, ◌↔◌, IsTrue, IfOk, IfSome, IfNone, length, map, slice_index, Bool};
-ghost use Rattle.nesl_lex.specs.Lexemes.{is_digit, is_capital, is_letter, is_name_byte, is_printable, is_text_byte, small_letter, AllBytes, value_behind, word_text, IsTruthText, IsNamed, sign_text};
+ghost use Rattle.std.specs.Prelude.{◌≡◌, ◌≢◌, ◌≤◌, ◌<◌, ◌^◌, ◌+◌, ◌-◌, ◌*◌, ◌==◌, ◌↔◌, IsTrue, IfOk, IfSome, IfNone};
+ghost use Rattle.std.specs.Prelude.{length, map, slice_index, Bool};
+ghost use Rattle.nesl_lex.specs.Lexemes.{is_digit, is_capital, is_letter, is_name_byte, is_printable, is_text_byte};
+ghost use Rattle.nesl_lex.specs.Lexemes.{small_letter, AllBytes, value_behind, word_text, IsTruthText, IsNamed};
+ghost use Rattle.nesl_lex.specs.Lexemes.{sign_text};
 ghost use Rattle.nesl_lex.specs.Tokens.{lexeme_of};
 ghost use Rattle.nesl_lex.specs.Scan.{start_of, test_of, front_len, Stands, single, double, sign_in};
 ghost use Rattle.nesl_lex.specs.declared.token.Word as word;

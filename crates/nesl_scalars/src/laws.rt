@@ -1,6 +1,8 @@
 //! What the definitions' words for whole numbers mean, and calls that are worked by hand.
 
-ghost use Rattle.nesl_scalars.specs.Laws.{QuotientAndRemainder, SignOfRemainder, RoundedDown, GreatestRoot, LeastByMinusOne, SevenByTwo, ByZero, Shifts, RootOfGreatest, Complement, Mixed};
+ghost use Rattle.nesl_scalars.specs.Laws.{QuotientAndRemainder, SignOfRemainder, RoundedDown, GreatestRoot};
+ghost use Rattle.nesl_scalars.specs.Laws.{LeastByMinusOne, SevenByTwo, ByZero, Shifts, RootOfGreatest, Complement};
+ghost use Rattle.nesl_scalars.specs.Laws.{Mixed};
 
 /// Quotients, remainders and roots are what the words say.
 pub fn whole_numbers()

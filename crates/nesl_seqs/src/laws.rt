@@ -1,5 +1,6 @@
 //! What the definitions come to, in other words, and calls that are worked by hand.
-ghost use Rattle.nesl_seqs.specs.Laws.{PlacesOfRotate, NumbersOfRange, TakenAndDropped, EveryOther, Woven, Zipped, Cut, PlacesOfPermute, ToldEqual, NumberOfDigits};
+ghost use Rattle.nesl_seqs.specs.Laws.{PlacesOfRotate, NumbersOfRange, TakenAndDropped, EveryOther, Woven, Zipped, Cut};
+ghost use Rattle.nesl_seqs.specs.Laws.{PlacesOfPermute, ToldEqual, NumberOfDigits};
 ghost use Rattle.nesl_seqs.specs.Worked.{Steps, Pieces, Writes, Permutes, Equals, Sums, Greatest, Turns};
 
 /// `rotate` moves element j to place (j + k) modulo n, whatever number k is.

@@ -3,7 +3,8 @@ ghost use Rattle.std.specs.Prelude.{◌≡◌, ◌<◌, ◌^◌, IfSome, length,
 ghost use Rattle.nesl_values.specs.Parts.{as_sequence};
 ghost use Rattle.nesl_values.specs.View.{tree_of, item_trees};
 ghost use Rattle.nesl_seqs_base.specs.Lent.{argument_tree};
-ghost use Rattle.nesl_seqs_base.specs.Arguments.{sequence_and_int, two_sequences, tree_and_int, two_ints, three_ints, sequence_item_place};
+ghost use Rattle.nesl_seqs_base.specs.Arguments.{sequence_and_int, two_sequences, tree_and_int, two_ints, three_ints};
+ghost use Rattle.nesl_seqs_base.specs.Arguments.{sequence_item_place};
 
 use crate::argument::Argument;
 use nesl_scalars::Trap;

@@ -1,5 +1,6 @@
 // Sequences of sequences.
-ghost use Rattle.std.specs.Prelude.{◌≡◌, ◌+◌, ◌-◌, ◌≤◌, ℤ, pos, List, Some, None, length, map, take, drop, slice_range, is_some, option_map, unwrap_or, unsigned_abs, IfOk, IfSome, IsSome};
+ghost use Rattle.std.specs.Prelude.{◌≡◌, ◌+◌, ◌-◌, ◌≤◌, ℤ, pos, List, Some, None, length, map, take, drop, slice_range};
+ghost use Rattle.std.specs.Prelude.{is_some, option_map, unwrap_or, unsigned_abs, IfOk, IfSome, IsSome};
 ghost use Rattle.std.specs.List.{flat_map, list_all};
 ghost use Rattle.nesl_values.specs.Tree.{sequence};
 ghost use Rattle.nesl_values.specs.Parts.{as_int, as_sequence, elements};

@@ -7,7 +7,8 @@ ghost use Rattle.nesl_seqs_base.specs.Outcome.{IsGiven, gives, traps};
 ghost use Rattle.nesl_seqs_base.specs.Pieces.{element_at, halves, taken, dropped, places_on, rotated};
 ghost use Rattle.nesl_seqs_base.specs.Meaning.{meaning};
 ghost use Rattle.nesl_seqs_base.specs.Prices.{Prices, reads};
-ghost use Rattle.nesl_seqs_base.specs.declared.seq_fn.SeqFn.TheVariants.{Length, ElementAt, Append, Bottop, Take, Drop, Reverse, Rotate};
+ghost use Rattle.nesl_seqs_base.specs.declared.seq_fn.SeqFn.TheVariants.{Length, ElementAt, Append, Bottop, Take, Drop};
+ghost use Rattle.nesl_seqs_base.specs.declared.seq_fn.SeqFn.TheVariants.{Reverse, Rotate};
 
 use crate::building::{joined_copy, sequence_of_two};
 use nesl_scalars::Trap;

@@ -1,5 +1,6 @@
 // Sequences from numbers.
-ghost use Rattle.std.specs.Prelude.{◌≡◌, ◌+◌, ◌-◌, ◌*◌, ◌<◌, ◌≤◌, ◌^◌, ℕ, ◌+ℤ◌, ◌<ℤ◌, pos, map, replicate, IfOk, IsSome, MatchResult, SomeIff};
+ghost use Rattle.std.specs.Prelude.{◌≡◌, ◌+◌, ◌-◌, ◌*◌, ◌<◌, ◌≤◌, ◌^◌, ℕ, ◌+ℤ◌, ◌<ℤ◌, pos, map, replicate, IfOk};
+ghost use Rattle.std.specs.Prelude.{IsSome, MatchResult, SomeIff};
 ghost use Rattle.std.specs.Int.{int_gap};
 ghost use Rattle.nesl_values.specs.Tree.{size, sequence};
 ghost use Rattle.nesl_values.specs.View.{tree_of};

@@ -1,5 +1,6 @@
 // A sequence with another element at a place.
-ghost use Rattle.std.specs.Prelude.{◌≡◌, ◌+◌, ◌-◌, ◌<◌, ◌≤◌, ◌++◌, List, pos, length, take, drop, slice_set, IfOk, MatchResult, OnOk, SomeIff};
+ghost use Rattle.std.specs.Prelude.{◌≡◌, ◌+◌, ◌-◌, ◌<◌, ◌≤◌, ◌++◌, List, pos, length, take, drop, slice_set, IfOk};
+ghost use Rattle.std.specs.Prelude.{MatchResult, OnOk, SomeIff};
 ghost use Rattle.nesl_values.specs.Tree.{Tree, size, sizes, trees_of, sequence};
 ghost use Rattle.nesl_values.specs.View.{tree_of, item_trees};
 ghost use Rattle.nesl_values_builder.specs.Elements.{elements_of};

@@ -1,5 +1,6 @@
 // Sequences that are taken apart in two.
-ghost use Rattle.std.specs.Prelude.{◌≡◌, ◌++◌, ◌∷◌, Bool, true, false, List, [], Some, None, map, is_some, unwrap_or, IfOk, IfSome, IsSome, OnOk};
+ghost use Rattle.std.specs.Prelude.{◌≡◌, ◌++◌, ◌∷◌, Bool, true, false, List, [], Some, None, map, is_some, unwrap_or};
+ghost use Rattle.std.specs.Prelude.{IfOk, IfSome, IsSome, OnOk};
 ghost use Rattle.std.specs.List.{list_all};
 ghost use Rattle.nesl_values.specs.Tree.{Tree, pair, sequence};
 ghost use Rattle.nesl_values.specs.Parts.{as_bool, as_pair, as_sequence};

@@ -70,7 +70,8 @@ fn element_of(kind: Kind, key: i64) -> Scalar
 
 // The place of the best element and its number.
 fn best<A: Allocator>(argument: Argument<'_, A>, order: Order) -> Result<(Kind, (usize, i64)), Trap>
-    ensures found { (f : Kind → ℕ × ℤ → Tree) → Finds (λ p. f p.0 p.1) (from_best order f (argument_tree argument.entry)) result }
+    ensures found { (f : Kind → ℕ × ℤ → Tree)
+        → Finds (λ p. f p.0 p.1) (from_best order f (argument_tree argument.entry)) result }
     ensures small { IfOk result (λ p. (p.1.0 < 2 ^ 63) × IsKey p.0 p.1.1) }
 {
     let Some(items) = sequence(argument) else {

@@ -48,7 +48,8 @@ pub fn price_of_reduction<A: Allocator>(
     limit: u128,
 ) -> Result<Option<Price>, Trap>
     ensures { (o : Outcome) → Tells o outcome
-        → Prices o (length_of (argument_tree argument.entry)) (1 + digits (length_of (argument_tree argument.entry))) limit result }
+        → Prices o (length_of (argument_tree argument.entry))
+        (1 + digits (length_of (argument_tree argument.entry))) limit result }
 {
     outcome?;
     let len = argument.sequence_len().unwrap_or(0);

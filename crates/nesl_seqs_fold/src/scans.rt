@@ -1,5 +1,6 @@
 // Scans: what is told of the elements before each.
-ghost use Rattle.std.specs.Prelude.{◌≡◌, ◌+◌, ◌-◌, ◌≤◌, ◌<◌, ◌^◌, length, map, option_map, option_and_then, IfOk, IsTrue, SomeIff};
+ghost use Rattle.std.specs.Prelude.{◌≡◌, ◌+◌, ◌-◌, ◌≤◌, ◌<◌, ◌^◌, length, map, option_map, option_and_then, IfOk};
+ghost use Rattle.std.specs.Prelude.{IsTrue, SomeIff};
 ghost use Rattle.std.specs.List.{list_all};
 ghost use Rattle.std.specs.Option.{is_some};
 ghost use Rattle.nesl_values.specs.Tree.{Tree, size};
@@ -31,7 +32,8 @@ fn price_of_scan<A: Allocator>(
     limit: u128,
 ) -> Result<Option<Price>, Trap>
     ensures { (o : Outcome) → HasLeaves o (length_of (argument_tree argument.entry)) outcome
-        → Prices o (length_of (argument_tree argument.entry)) (1 + digits (length_of (argument_tree argument.entry))) limit result }
+        → Prices o (length_of (argument_tree argument.entry))
+        (1 + digits (length_of (argument_tree argument.entry))) limit result }
 {
     outcome?;
     let len = argument.sequence_len().unwrap_or(0);
@@ -66,7 +68,8 @@ pub fn price_plus_scan<A: Allocator>(
 
 // Why `plus_scan` has no result, where it has none.
 fn check_sums<A: Allocator>(argument: Argument<'_, A>) -> Result<(), Trap>
-    ensures { HasLeaves (meaning PlusScan (argument_tree argument.entry)) (length_of (argument_tree argument.entry)) result }
+    ensures { HasLeaves (meaning PlusScan (argument_tree argument.entry))
+        (length_of (argument_tree argument.entry)) result }
 {
     match sequence(argument) {
         Some(items) => check_sums_of(items),
@@ -88,7 +91,8 @@ fn check_sums_of<A: Allocator>(items: Items<'_, A>) -> Result<(), Trap>
 
 fn sums_of_items_fit<A: Allocator>(items: Items<'_, A>) -> Option<bool>
     requires { length (item_trees items) < 2 ^ 63 }
-    ensures { result ≡ option_map (λ zs. list_all fits (before_each total zs)) (all_of as_int (item_trees items.entry)) }
+    ensures { result ≡ option_map (λ zs. list_all fits (before_each total zs))
+        (all_of as_int (item_trees items.entry)) }
 {
     match items {
         Items::Ints(ints) => {
@@ -205,7 +209,8 @@ pub fn price_logic_scan<A: Allocator>(
 
 // Why `or_scan` and `and_scan` have no result, where they have none.
 fn check_logic<A: Allocator>(argument: Argument<'_, A>) -> Result<(), Trap>
-    ensures { (j : Joint) → HasLeaves (logic_scanned j (argument_tree argument.entry)) (length_of (argument_tree argument.entry)) result }
+    ensures { (j : Joint) → HasLeaves (logic_scanned j (argument_tree argument.entry))
+        (length_of (argument_tree argument.entry)) result }
 {
     match sequence(argument) {
         Some(items) => check_logic_of(items),

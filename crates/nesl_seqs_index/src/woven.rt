@@ -245,7 +245,7 @@ fn woven<T: Copy, A: Allocator>(alloc: A, one: &[T], other: &[T]) -> Result<Vec<
     Ok(made)
 }
 
-// The same for items that are not packed alike.
+// The items of the two in turn, where they are not packed alike.
 fn woven_items<A: Allocator + Copy>(
     alloc: A,
     one: Items<'_, A>,

@@ -1,5 +1,6 @@
 // Sequences that are written to.
-ghost use Rattle.std.specs.Prelude.{◌≡◌, ◌+◌, ◌-◌, ◌*◌, ◌/◌, ◌≤◌, ◌<◌, ℕ, None, length, map, take, drop, is_some, reverse, unwrap_or, option_map, slice_index, SomeIff, IfSome, IfOk, IsTrue};
+ghost use Rattle.std.specs.Prelude.{◌≡◌, ◌+◌, ◌-◌, ◌*◌, ◌/◌, ◌≤◌, ◌<◌, ℕ, None, length, map, take, drop, is_some};
+ghost use Rattle.std.specs.Prelude.{reverse, unwrap_or, option_map, slice_index, SomeIff, IfSome, IfOk, IsTrue};
 ghost use Rattle.std.specs.List.{list_all};
 ghost use Rattle.std.specs.Option.{MatchOption};
 ghost use Rattle.nesl_values.specs.Tree.{Tree, size, sizes, sequence, trees_of, int, boolean, character};
@@ -11,7 +12,8 @@ ghost use Rattle.nesl_seqs_base.specs.Meaning.{meaning};
 ghost use Rattle.nesl_seqs_base.specs.Places.{arrival};
 ghost use Rattle.nesl_seqs_base.specs.Prices.{Prices, reads, price};
 ghost use Rattle.nesl_seqs_base.specs.Reductions.{all_of};
-ghost use Rattle.nesl_seqs_base.specs.Write.{int_and_tree, overwritten, written, write_of, writes_of, told_by, is_leaf, writes_leaf};
+ghost use Rattle.nesl_seqs_base.specs.Write.{int_and_tree, overwritten, written, write_of, writes_of, told_by, is_leaf};
+ghost use Rattle.nesl_seqs_base.specs.Write.{writes_leaf};
 ghost use Rattle.nesl_seqs_base.specs.declared.seq_fn.SeqFn.TheVariants.{Write};
 
 use nesl_scalars::Trap;
@@ -184,7 +186,7 @@ fn is_leaf<A: Allocator>(value: &Value<A>) -> bool
     value.as_int().is_some() || value.as_bool().is_some() || value.as_char().is_some()
 }
 
-// The same: one window of places after the other.
+// The nodes of all elements as they are in the end, one window of places after the other.
 fn nodes_of_windows<A: Allocator>(
     items: Items<'_, A>,
     pairs: &[Value<A>],
@@ -327,7 +329,7 @@ fn overwritten_copy<A: Allocator + Copy>(
     }
 }
 
-// The same packed, where all that is written is such a leaf as the items.
+// The sequence after all writes, packed, where all that is written is such a leaf as the items.
 fn packed_copy<A: Allocator + Copy>(
     alloc: A,
     items: Items<'_, A>,

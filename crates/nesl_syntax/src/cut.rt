@@ -32,7 +32,8 @@ fn divides(divider: Divider, token: &Token) -> bool
 
 /// The tokens before the first divider, and those behind it.
 pub fn cut(divider: Divider, tokens: &[Token]) -> Option<(&[Token], &[Token])>
-    ensures { MatchOption result (cut divider (placed tokens.now) ≡ None) (λ r. cut divider (placed tokens.now) ≡ Some (placed r.0.now, placed r.1.now)) }
+    ensures { MatchOption result (cut divider (placed tokens.now) ≡ None)
+        (λ r. cut divider (placed tokens.now) ≡ Some (placed r.0.now, placed r.1.now)) }
 {
     for (i, token) in tokens.iter().enumerate() {
         if divides(divider, token) {

@@ -73,7 +73,8 @@ fn function_with(
     signature: Option<SignaturePart>,
     body: Exp,
 ) -> Result<Form, ParseFault>
-    ensures { (s : Option SignatureTree) → SeesOptional signature s → height (tree_of body) ≤ 100 → pattern_height (pattern_tree pattern) ≤ 100 →
+    ensures { (s : Option SignatureTree) → SeesOptional signature s → height (tree_of body) ≤ 100 →
+        pattern_height (pattern_tree pattern) ≤ 100 →
         GivesLine result (Some (trees.function name.items (pattern_tree pattern) s (tree_of body))) }
 {
     match signature {
@@ -99,7 +100,8 @@ fn function_with(
 
 // The line of a function's parts.
 fn function_of(name: Vec<u8>, head: Head, body: Part) -> Result<Form, ParseFault>
-    ensures { (h : reading.Heads) (e : Tree) → SeesHead head h → Sees body e → GivesLine result (Some (reading.function_of name.items h e)) }
+    ensures { (h : reading.Heads) (e : Tree) → SeesHead head h → Sees body e →
+        GivesLine result (Some (reading.function_of name.items h e)) }
 {
     let Head { pattern, signature } = head;
     match pattern {

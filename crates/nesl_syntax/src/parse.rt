@@ -1,13 +1,19 @@
 // Reading tokens with a list of what is open.
 
-ghost use Rattle.std.specs.Prelude.{◌≡◌, ◌≤◌, ◌<◌, ◌∷◌, [], ◌++◌, Err, IfOk, IfErr, IfSome, if◌then◌else◌, None, Some, List, vec_len};
+ghost use Rattle.std.specs.Prelude.{◌≡◌, ◌≤◌, ◌<◌, ◌∷◌, [], ◌++◌, Err, IfOk, IfErr, IfSome, if◌then◌else◌, None, Some};
+ghost use Rattle.std.specs.Prelude.{List, vec_len};
 ghost use Rattle.nesl_syntax_tree.specs.Trees.{Tree, TypeTree};
-ghost use Rattle.nesl_syntax_open.specs.Machine.{Waiting, type_at, typing, opened, called, taken_up, before, with_newest, marked, separated, listed, mark_level, followed, let_closed, let_body, emptied, empty_opening, type_done, type_separated, type_bracketed, bracket_type, type_closed, begun_with, typed_with, typed_on};
+ghost use Rattle.nesl_syntax_open.specs.Machine.{Waiting, type_at, typing, opened, called, taken_up, before};
+ghost use Rattle.nesl_syntax_open.specs.Machine.{with_newest, marked, separated, listed, mark_level, followed};
+ghost use Rattle.nesl_syntax_open.specs.Machine.{let_closed, let_body, emptied, empty_opening, type_done};
+ghost use Rattle.nesl_syntax_open.specs.Machine.{type_separated, type_bracketed, bracket_type, type_closed, begun_with};
+ghost use Rattle.nesl_syntax_open.specs.Machine.{typed_with, typed_on};
 ghost use Rattle.nesl_syntax_open.specs.Machine as machine;
 ghost use Rattle.nesl_syntax_open.specs.Parts.{Sees, SeesType};
 ghost use Rattle.nesl_syntax_open.specs.Stack.{SeesOpening, SeesTypeOpening, SeesPending, SeesStack};
 ghost use Rattle.nesl_syntax_open.specs.Turns.{SeesTurn};
-ghost use Rattle.nesl_syntax.specs.Steps.{SeesMode, Follows, Gives, PendingGiven, TypeOpeningGiven, TypeGiven, OpeningPopped, newest_opening, TypePopped, newest_type};
+ghost use Rattle.nesl_syntax.specs.Steps.{SeesMode, Follows, Gives, PendingGiven, TypeOpeningGiven, TypeGiven};
+ghost use Rattle.nesl_syntax.specs.Steps.{OpeningPopped, newest_opening, TypePopped, newest_type};
 ghost use Rattle.nesl_syntax.specs.declared.parse.Mode.TheVariants as mode;
 ghost use Rattle.nesl_syntax_open.specs.declared.part.Part.TheVariants as part;
 ghost use Rattle.nesl_lex.specs.Tokens.{lexeme_of, placed_of, placed, symbol, reserved};
@@ -75,7 +81,8 @@ fn wait_for_type(stack: &mut Vec<Pending>, opening: TypeOpening) -> Result<Mode,
 
 // The newest, where it is an opening.
 fn pop_opening(stack: &mut Vec<Pending>) -> Option<Opening>
-    ensures { (ws : List Waiting) → SeesStack stack.old.items ws → OpeningPopped result stack.new.items (newest_opening ws) }
+    ensures { (ws : List Waiting) → SeesStack stack.old.items ws →
+        OpeningPopped result stack.new.items (newest_opening ws) }
 {
     match stack.pop() {
         Some(Pending::Open(opening)) => Some(opening),
@@ -88,7 +95,8 @@ fn pop_opening(stack: &mut Vec<Pending>) -> Option<Opening>
 
 // The newest, where it is a type's.
 fn pop_type(stack: &mut Vec<Pending>) -> Option<TypeOpening>
-    ensures popped { (ws : List Waiting) → SeesStack stack.old.items ws → TypePopped result stack.new.items (newest_type ws) }
+    ensures popped { (ws : List Waiting) → SeesStack stack.old.items ws →
+        TypePopped result stack.new.items (newest_type ws) }
     ensures shorter { IfSome result (λ o. vec_len stack.new < vec_len stack.old) }
 {
     match stack.pop() {
@@ -142,7 +150,8 @@ fn end_part(
 
 // One more element, where a list is open.
 fn list(stack: &mut Vec<Pending>, opening: Opening, part: Part) -> Result<Mode, ParseFault>
-    ensures { (ws : List Waiting) (o : machine.Opening) (x : Tree) → SeesStack stack.old.items ws → SeesOpening opening o → Sees part x →
+    ensures { (ws : List Waiting) (o : machine.Opening) (x : Tree) → SeesStack stack.old.items ws →
+        SeesOpening opening o → Sees part x →
         Follows result stack.new.items (with_newest before ws (listed o x)) }
 {
     match opening {
@@ -331,7 +340,8 @@ fn begin_sign(
     sign: Sign,
     span: Span,
 ) -> Result<Mode, ParseFault>
-    ensures { (ws : List Waiting) → SeesStack stack.old.items ws → Follows result stack.new.items (begun_with ws span (symbol sign)) }
+    ensures { (ws : List Waiting) → SeesStack stack.old.items ws →
+        Follows result stack.new.items (begun_with ws span (symbol sign)) }
 {
     match sign {
         Sign::OpenParenthesis => open(stack, Pending::Open(Opening::Round(span))),
@@ -376,7 +386,8 @@ fn begin_word(
     word: Word,
     span: Span,
 ) -> Result<Mode, ParseFault>
-    ensures { (ws : List Waiting) → SeesStack stack.old.items ws → Follows result stack.new.items (begun_with ws span (reserved word)) }
+    ensures { (ws : List Waiting) → SeesStack stack.old.items ws →
+        Follows result stack.new.items (begun_with ws span (reserved word)) }
 {
     match word {
         Word::If => open(stack, Pending::Open(Opening::Test(span))),
@@ -522,7 +533,8 @@ fn bracketed(
     part: TypePart,
     at: Span,
 ) -> Result<TypePart, ParseFault>
-    ensures { (o : machine.TypeOpening) (a : TypeTree) → SeesTypeOpening opening o → SeesType part a → TypeGiven result (bracket_type o at a) }
+    ensures { (o : machine.TypeOpening) (a : TypeTree) → SeesTypeOpening opening o → SeesType part a →
+        TypeGiven result (bracket_type o at a) }
 {
     match opening {
         TypeOpening::List(from) => Ok(sequence_of(alloc, part, over(from, at))?),

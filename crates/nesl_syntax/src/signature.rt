@@ -79,7 +79,8 @@ fn member_named(name: &Token, class: &Token) -> Result<Member, ParseFault>
 
 // A name, `in` and a class.
 fn member(name: &Token, word: &Token, class: &Token) -> Result<Member, ParseFault>
-    ensures { Given SeesMember result (reading.member_of (lexeme_of name.now.kind) (lexeme_of word.now.kind) (lexeme_of class.now.kind)) }
+    ensures { Given SeesMember result (reading.member_of
+        (lexeme_of name.now.kind) (lexeme_of word.now.kind) (lexeme_of class.now.kind)) }
 {
     match &word.kind {
         Kind::Reserved(word) => match word {
@@ -177,7 +178,8 @@ fn too_high<T: Drop>(parts: T) -> SignaturePart
 
 // The signature of its parts.
 fn signature_of(from: TypePart, target: Target) -> SignaturePart
-    ensures { (a : TypeTree) (r : reading.Targets) → SeesType from a → SeesTarget target r → SeesSignature result (reading.signature_of a r) }
+    ensures { (a : TypeTree) (r : reading.Targets) → SeesType from a → SeesTarget target r →
+        SeesSignature result (reading.signature_of a r) }
 {
     let Target { to, members } = target;
     match from {

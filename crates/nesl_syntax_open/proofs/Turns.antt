@@ -16,26 +16,26 @@ pub some_bound : (bs : Binders) (p : PatternTree) (x : Tree) → some_binders (a
 some_bound no_binders p x = refl
 some_bound (binder q y bs) p x = refl
 
-pub turned_let : (m : Mark) (t s : Span) (bs : Binders) (p : PatternTree) (x : Tree) → turned m t (value (let_group s) bs p) x ≡ let_turned m s (and_bind bs p x)
-turned_let mark.CloseParenthesis t s bs p x = refl
-turned_let mark.CloseBracket t s bs p x = refl
-turned_let mark.CloseBrace t s bs p x = refl
-turned_let mark.Colon t s bs p x = refl
-turned_let mark.Semicolon t s bs p x = refl
-turned_let mark.Bar t s bs p x = refl
-turned_let mark.Equal t s bs p x = refl
-turned_let mark.Then t s bs p x = refl
-turned_let mark.Else t s bs p x = refl
-turned_let mark.In t s bs p x = refl
+pub at_let : (m : Mark) (t s : Span) (bs : Binders) (p : PatternTree) (x : Tree) → turned m t (value (let_group s) bs p) x ≡ let_turned m s (and_bind bs p x)
+at_let mark.CloseParenthesis t s bs p x = refl
+at_let mark.CloseBracket t s bs p x = refl
+at_let mark.CloseBrace t s bs p x = refl
+at_let mark.Colon t s bs p x = refl
+at_let mark.Semicolon t s bs p x = refl
+at_let mark.Bar t s bs p x = refl
+at_let mark.Equal t s bs p x = refl
+at_let mark.Then t s bs p x = refl
+at_let mark.Else t s bs p x = refl
+at_let mark.In t s bs p x = refl
 
-pub turned_each : (m : Mark) (t s : Span) (b : Option Tree) (bs : Binders) (p : PatternTree) (x : Tree) → turned m t (value (each_group s b) bs p) x ≡ each_turned m t s b (and_bind bs p x)
-turned_each mark.CloseParenthesis t s b bs p x = refl
-turned_each mark.CloseBracket t s b bs p x = refl
-turned_each mark.CloseBrace t s b bs p x = refl
-turned_each mark.Colon t s b bs p x = refl
-turned_each mark.Semicolon t s b bs p x = refl
-turned_each mark.Bar t s b bs p x = refl
-turned_each mark.Equal t s b bs p x = refl
-turned_each mark.Then t s b bs p x = refl
-turned_each mark.Else t s b bs p x = refl
-turned_each mark.In t s b bs p x = refl
+pub at_each : (m : Mark) (t s : Span) (b : Option Tree) (bs : Binders) (p : PatternTree) (x : Tree) → turned m t (value (each_group s b) bs p) x ≡ each_turned m t s b (and_bind bs p x)
+at_each mark.CloseParenthesis t s b bs p x = refl
+at_each mark.CloseBracket t s b bs p x = refl
+at_each mark.CloseBrace t s b bs p x = refl
+at_each mark.Colon t s b bs p x = refl
+at_each mark.Semicolon t s b bs p x = refl
+at_each mark.Bar t s b bs p x = refl
+at_each mark.Equal t s b bs p x = refl
+at_each mark.Then t s b bs p x = refl
+at_each mark.Else t s b bs p x = refl
+at_each mark.In t s b bs p x = refl

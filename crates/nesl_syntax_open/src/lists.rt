@@ -1,7 +1,8 @@
 // Lists of parts: the elements of a sequence, and binders with what they are bound to.
 
 ghost use Rattle.std.specs.Prelude.{◌≡◌, ◌≤◌, ◌<◌, max, IfOk, IfSome, MatchOption, Option};
-ghost use Rattle.nesl_syntax_tree.specs.Trees.{Tree, Trees, Binders, PatternTree, height, greatest_bound, node, span_of, and_then, and_bind};
+ghost use Rattle.nesl_syntax_tree.specs.Trees.{Tree, Trees, Binders, PatternTree, height, greatest_bound, node};
+ghost use Rattle.nesl_syntax_tree.specs.Trees.{span_of, and_then, and_bind};
 ghost use Rattle.nesl_syntax_tree.specs.Trees as trees;
 ghost use Rattle.nesl_syntax_open.specs.declared.lists.Bindings.TheVariants as many;
 ghost use Rattle.nesl_syntax_tree.specs.Views.{shape_of, trees_in, binders_in, tree_of};
@@ -31,7 +32,8 @@ pub enum Bindings {
 
 #[tactic(auto, using(nesl_syntax_tree::proofs::Rows::greatest_and_then, nesl_syntax_tree::proofs::Rows::trees_push))]
 pub fn push_part(elements: Elements, part: Part) -> Result<Elements, AllocError>
-    ensures { IfOk result (λ r. (xs : Trees) (x : Tree) → SeesAll elements xs → Sees part x → SeesAll r (and_then xs x)) }
+    ensures { IfOk result (λ r. (xs : Trees) (x : Tree) → SeesAll elements xs → Sees part x →
+        SeesAll r (and_then xs x)) }
 {
     match elements {
         Elements::Built { items, height: m } => match part {
@@ -69,7 +71,8 @@ pub fn push_binding(
     pattern: PatternPart,
     value: Part,
 ) -> Result<Bindings, AllocError>
-    ensures { IfOk result (λ r. (bs : Binders) (p : PatternTree) (x : Tree) → SeesBound bindings bs → SeesPattern pattern p → Sees value x →
+    ensures { IfOk result (λ r. (bs : Binders) (p : PatternTree) (x : Tree) → SeesBound bindings bs →
+        SeesPattern pattern p → Sees value x →
         SeesBound r (and_bind bs p x)) }
 {
     let Bindings::Built { items, height: m } = bindings else {
@@ -119,7 +122,8 @@ fn each_node(body: Box<Exp>, items: Vec<Binding>) -> Node
 }
 
 fn filtered_node(body: Box<Exp>, items: Vec<Binding>, filter: Box<Exp>) -> Node
-    ensures { shape_of result ≡ trees.filtered_each (tree_of body.value) (binders_in items.items) (tree_of filter.value) }
+    ensures { shape_of result
+        ≡ trees.filtered_each (tree_of body.value) (binders_in items.items) (tree_of filter.value) }
 {
     Node::FilteredEach {
         body,
@@ -197,8 +201,10 @@ fn body_of(body: Option<Part>, items: &[Binding]) -> Part
 // The body and the binders of an apply-to-each with their greater height, where a node may stand over them.
 fn low_each(body: Option<Part>, bindings: Bindings) -> Option<(Exp, Vec<Binding>, usize)>
     ensures low { IfSome result (λ r. r.2 < 100) }
-    ensures seen { (b : Option Tree) (bs : Binders) → SeesBody body b → SeesBound bindings bs → let greater = max (height (body_or b bs)) (greatest_bound bs) in
-        MatchOption result (100 ≤ greater) (λ r. (tree_of r.0 ≡ body_or b bs) × (binders_in r.1.items ≡ bs) × (r.2 ≡ greater)) }
+    ensures seen { (b : Option Tree) (bs : Binders) → SeesBody body b → SeesBound bindings bs →
+        let greater = max (height (body_or b bs)) (greatest_bound bs) in
+        MatchOption result (100 ≤ greater)
+        (λ r. (tree_of r.0 ≡ body_or b bs) × (binders_in r.1.items ≡ bs) × (r.2 ≡ greater)) }
 {
     let Some((items, m)) = low_bindings(bindings) else {
         return none(body);
@@ -232,7 +238,8 @@ pub fn filtered_each_of(
     filter: Part,
     span: Span,
 ) -> Result<Part, AllocError>
-    ensures { IfOk result (λ r. (b : Option Tree) (bs : Binders) (x : Tree) → SeesBody body b → SeesBound bindings bs → Sees filter x →
+    ensures { IfOk result (λ r. (b : Option Tree) (bs : Binders) (x : Tree) → SeesBody body b →
+        SeesBound bindings bs → Sees filter x →
         Sees r (node span (trees.filtered_each (body_or b bs) bs x))) }
 {
     let Some((body, items, m)) = low_each(body, bindings) else {

@@ -36,7 +36,7 @@ pub fn too_high<T: Drop>(parts: T, pattern: bool) -> Part
     Part::High(pattern)
 }
 
-/// The same where what they are made of was wanted.
+/// Drops the parts of what is too high, where what it is made of was wanted.
 pub(crate) fn none<T: Drop, U>(parts: T) -> Option<U>
     ensures { result ≡ None }
 {
@@ -59,7 +59,8 @@ pub(crate) fn built(span: Span, node: Node, height: usize, pattern: bool) -> Par
 /// An expression with its height, where a node may stand over it.
 pub(crate) fn low_enough(part: Part) -> Option<(Exp, usize)>
     ensures low { IfSome result (λ r. r.1 < 100) }
-    ensures seen { (x : Tree) → Sees part x → MatchOption result (100 ≤ height x) (λ r. (tree_of r.0 ≡ x) × (r.1 ≡ height x)) }
+    ensures seen { (x : Tree) → Sees part x →
+        MatchOption result (100 ≤ height x) (λ r. (tree_of r.0 ≡ x) × (r.1 ≡ height x)) }
 {
     match part {
         Part::Built { exp, height, .. } if height < LIMIT => Some((exp, height)),
@@ -122,7 +123,7 @@ pub fn may_be_pattern(part: &Part) -> bool
     }
 }
 
-/// The same part, standing in these bytes.
+/// A part of these bytes in place of its own.
 pub fn widen(part: Part, span: Span) -> Part
     ensures { (x : Tree) → Sees part x → Sees result (widened span x) }
 {
@@ -168,7 +169,8 @@ pub fn pair_of(alloc: Global, left: Part, right: Part) -> Result<Part, AllocErro
 }
 
 pub fn prefix_of(alloc: Global, prefix: Prefix, sign: Span, part: Part) -> Result<Part, AllocError>
-    ensures { IfOk result (λ r. (x : Tree) → Sees part x → Sees r (node (over sign (span_of x)) (trees.prefix_of prefix x))) }
+    ensures { IfOk result (λ r. (x : Tree) → Sees part x →
+        Sees r (node (over sign (span_of x)) (trees.prefix_of prefix x))) }
 {
     let Some((operand, height)) = low_enough(part) else {
         return Ok(Part::High(false));
@@ -228,8 +230,10 @@ pub fn range_of(alloc: Global, from: Part, to: Part, span: Span) -> Result<Part,
 // Three expressions with their greatest height, where a node may stand over them.
 fn all_three(first: Part, second: Part, third: Part) -> Option<(Exp, Exp, Exp, usize)>
     ensures low { IfSome result (λ r. r.3 < 100) }
-    ensures seen { (x y z : Tree) → Sees first x → Sees second y → Sees third z → let greatest = max (height x) (max (height y) (height z)) in
-        MatchOption result (100 ≤ greatest) (λ r. (tree_of r.0 ≡ x) × (tree_of r.1 ≡ y) × (tree_of r.2 ≡ z) × (r.3 ≡ greatest)) }
+    ensures seen { (x y z : Tree) → Sees first x → Sees second y → Sees third z →
+        let greatest = max (height x) (max (height y) (height z)) in
+        MatchOption result (100 ≤ greatest)
+        (λ r. (tree_of r.0 ≡ x) × (tree_of r.1 ≡ y) × (tree_of r.2 ≡ z) × (r.3 ≡ greatest)) }
 {
     let Some((first, second, m)) = both(first, second) else {
         return none(third);

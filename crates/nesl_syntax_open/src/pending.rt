@@ -1,10 +1,12 @@
 // What is open while tokens are read: brackets, operators with their left sides, parts of a choice, binders.
 
-ghost use Rattle.std.specs.Prelude.{◌≡◌, ◌≤◌, ◌<◌, ◌∷◌, [], ◌++◌, List, IfOk, IfSome, IfNone, MatchOption, length, vec_len};
+ghost use Rattle.std.specs.Prelude.{◌≡◌, ◌≤◌, ◌<◌, ◌∷◌, [], ◌++◌, List, IfOk, IfSome, IfNone, MatchOption, length};
+ghost use Rattle.std.specs.Prelude.{vec_len};
 ghost use Rattle.nesl_syntax_open.specs.declared.pending.Pending as pending;
 ghost use Rattle.nesl_syntax_tree.specs.Trees.{Tree};
 ghost use Rattle.nesl_syntax_tree.specs.Grammar as grammar;
-ghost use Rattle.nesl_syntax_open.specs.Machine.{Waiting, opening_wants, opening_begins, wanted_by, begun_by, completed, folded};
+ghost use Rattle.nesl_syntax_open.specs.Machine.{Waiting, opening_wants, opening_begins, wanted_by, begun_by};
+ghost use Rattle.nesl_syntax_open.specs.Machine.{completed, folded};
 ghost use Rattle.nesl_syntax_open.specs.Machine as machine;
 ghost use Rattle.nesl_syntax_open.specs.Parts.{Sees};
 ghost use Rattle.nesl_syntax_open.specs.Stack.{SeesGroup, SeesOpening, SeesPending, SeesStack};
@@ -72,7 +74,7 @@ pub enum Opening {
     },
 }
 
-/// The same of a type.
+/// What is open in a type and must be closed by a token: a bracket from the span on, or what a comma stands behind.
 #[derive(Drop)]
 pub enum TypeOpening {
     Empty(Span),
@@ -195,7 +197,8 @@ fn alone<T: Drop>(open: T, part: Part) -> Part
 
 // It and its last part, put together.
 fn complete(alloc: Global, pending: Pending, part: Part) -> Result<Part, AllocError>
-    ensures { IfOk result (λ r. (w : Waiting) (x : Tree) → SeesPending pending w → Sees part x → Sees r (completed w x)) }
+    ensures { IfOk result (λ r. (w : Waiting) (x : Tree) → SeesPending pending w → Sees part x →
+        Sees r (completed w x)) }
 {
     match pending {
         Pending::Comma(left) => pair_of(alloc, left, part),
@@ -213,13 +216,13 @@ fn complete(alloc: Global, pending: Pending, part: Part) -> Result<Part, AllocEr
 
 /// The newest, if anything is open.
 pub fn newest(stack: &[Pending]) -> Option<&Pending>
-    ensures { MatchOption result (stack.now ≡ []) (λ p. (under : List pending.Pending) × (stack.now ≡ under ++ p.now ∷ [])) }
+    ensures { MatchOption result (stack.now ≡ [])
+        (λ p. (under : List pending.Pending) × (stack.now ≡ under ++ p.now ∷ [])) }
 {
     stack.last()
 }
 
 /// The level of what may stand at this place.
-
 pub fn wanted(stack: &[Pending]) -> u8
     ensures { (ws : List Waiting) → SeesStack stack.now ws → result ≡ machine.wanted ws }
 {
@@ -235,7 +238,8 @@ fn pop_at(stack: &mut Vec<Pending>, level: u8) -> Option<Pending>
     ensures popped { IfSome result (λ p. stack.old.items ≡ stack.new.items ++ p ∷ []) }
     ensures shorter { IfSome result (λ p. vec_len stack.new < vec_len stack.old) }
     ensures ranked { IfSome result (λ p. (w : Waiting) → SeesPending p w → level ≤ machine.rank w) }
-    ensures settled { IfNone result ((ws : List Waiting) (x : Tree) → SeesStack stack.old.items ws → folded level ws x ≡ (ws, x)) }
+    ensures settled { IfNone result ((ws : List Waiting) (x : Tree) → SeesStack stack.old.items ws →
+        folded level ws x ≡ (ws, x)) }
     ensures same { IfNone result (stack.new.items ≡ stack.old.items) }
 {
     let rank = match newest(stack) {

@@ -29,6 +29,13 @@ pub enum Turn {
     Ends(Part),
 }
 
+/// A token that ends a part, and where it stands.
+#[derive(Clone, Copy)]
+struct PlacedMark {
+    mark: Mark,
+    at: Span,
+}
+
 // The tokens have no tree; what was read of one is dropped.
 fn refuse<T: Drop>(value: T) -> Result<Turn, ParseFault>
     ensures { result ≡ Err ParseFault.Syntax }
@@ -37,7 +44,7 @@ fn refuse<T: Drop>(value: T) -> Result<Turn, ParseFault>
     Err(ParseFault::Syntax)
 }
 
-// The same where memory ran out.
+// Memory ran out; what was read of a tree is dropped.
 fn run_out<T: Drop>(value: T) -> Result<Turn, ParseFault>
     ensures { result ≡ Err ParseFault.Memory }
 {
@@ -51,11 +58,11 @@ fn becomes(opening: Opening) -> Result<Turn, ParseFault>
     Ok(Turn::Becomes(Pending::Open(opening)))
 }
 
-fn end_round(part: Part, mark: Mark, from: Span, at: Span) -> Result<Turn, ParseFault>
-    ensures { (x : Tree) → Sees part x → Turns result (turned mark at (machine.round from) x) }
+fn end_round(part: Part, from: Span, end: PlacedMark) -> Result<Turn, ParseFault>
+    ensures { (x : Tree) → Sees part x → Turns result (turned end.mark end.at (machine.round from) x) }
 {
-    match mark {
-        Mark::CloseParenthesis => Ok(Turn::Ends(widen(part, over(from, at)))),
+    match end.mark {
+        Mark::CloseParenthesis => Ok(Turn::Ends(widen(part, over(from, end.at)))),
         _ => refuse(part),
     }
 }
@@ -64,46 +71,40 @@ fn end_call(
     alloc: Global,
     name: Vec<u8>,
     part: Part,
-    mark: Mark,
     from: Span,
-    at: Span,
+    end: PlacedMark,
 ) -> Result<Turn, ParseFault>
-    ensures { (x : Tree) → Sees part x → Turns result (turned mark at (machine.call name.items from) x) }
+    ensures { (x : Tree) → Sees part x → Turns result (turned end.mark end.at (machine.call name.items from) x) }
 {
-    match mark {
-        Mark::CloseParenthesis => Ok(Turn::Ends(call_of(alloc, name, part, over(from, at))?)),
+    match end.mark {
+        Mark::CloseParenthesis => Ok(Turn::Ends(call_of(alloc, name, part, over(from, end.at))?)),
         _ => refuse((name, part)),
     }
 }
 
-fn end_index(
-    alloc: Global,
-    base: Part,
-    part: Part,
-    mark: Mark,
-    at: Span,
-) -> Result<Turn, ParseFault>
-    ensures { (a x : Tree) → Sees base a → Sees part x → Turns result (turned mark at (machine.index_of a) x) }
+fn end_index(alloc: Global, base: Part, part: Part, end: PlacedMark) -> Result<Turn, ParseFault>
+    ensures { (a x : Tree) → Sees base a → Sees part x → Turns result (turned end.mark end.at (machine.index_of a) x) }
 {
-    match mark {
-        Mark::CloseBracket => Ok(Turn::Ends(index_of(alloc, base, part, at)?)),
+    match end.mark {
+        Mark::CloseBracket => Ok(Turn::Ends(index_of(alloc, base, part, end.at)?)),
         _ => refuse((base, part)),
     }
 }
 
-fn end_test(part: Part, mark: Mark, word: Span, at: Span) -> Result<Turn, ParseFault>
-    ensures { (x : Tree) → Sees part x → Turns result (turned mark at (machine.test word) x) }
+fn end_test(part: Part, word: Span, end: PlacedMark) -> Result<Turn, ParseFault>
+    ensures { (x : Tree) → Sees part x → Turns result (turned end.mark end.at (machine.test word) x) }
 {
-    match mark {
+    match end.mark {
         Mark::Then => becomes(Opening::Branch { word, test: part }),
         _ => refuse(part),
     }
 }
 
-fn end_branch(test: Part, part: Part, mark: Mark, word: Span, at: Span) -> Result<Turn, ParseFault>
-    ensures { (a x : Tree) → Sees test a → Sees part x → Turns result (turned mark at (machine.branch word a) x) }
+fn end_branch(test: Part, part: Part, word: Span, end: PlacedMark) -> Result<Turn, ParseFault>
+    ensures { (a x : Tree) → Sees test a → Sees part x →
+        Turns result (turned end.mark end.at (machine.branch word a) x) }
 {
-    match mark {
+    match end.mark {
         Mark::Else => Ok(Turn::Becomes(Pending::Else {
             word,
             test,
@@ -118,16 +119,16 @@ fn end_list(
     some: bool,
     elements: Elements,
     part: Part,
-    mark: Mark,
     from: Span,
-    at: Span,
+    end: PlacedMark,
 ) -> Result<Turn, ParseFault>
-    ensures { (xs : Trees) (x : Tree) → some ≡ some_elements xs → SeesAll elements xs → Sees part x → Turns result (turned mark at (machine.list from xs) x) }
+    ensures { (xs : Trees) (x : Tree) → some ≡ some_elements xs → SeesAll elements xs → Sees part x →
+        Turns result (turned end.mark end.at (machine.list from xs) x) }
 {
-    match mark {
+    match end.mark {
         Mark::CloseBracket => {
             let elements = push_part(elements, part)?;
-            Ok(Turn::Ends(sequence_of(elements, over(from, at))))
+            Ok(Turn::Ends(sequence_of(elements, over(from, end.at))))
         }
         Mark::Colon => {
             drop(elements);
@@ -144,19 +145,19 @@ fn end_range_from(
     alloc: Global,
     start: Part,
     part: Part,
-    mark: Mark,
     from: Span,
-    at: Span,
+    end: PlacedMark,
 ) -> Result<Turn, ParseFault>
-    ensures { (a x : Tree) → Sees start a → Sees part x → Turns result (turned mark at (machine.range_from from a) x) }
+    ensures { (a x : Tree) → Sees start a → Sees part x →
+        Turns result (turned end.mark end.at (machine.range_from from a) x) }
 {
-    match mark {
+    match end.mark {
         Mark::Colon => becomes(Opening::RangeTo {
             from,
             start,
             stop: part,
         }),
-        Mark::CloseBracket => Ok(Turn::Ends(range_of(alloc, start, part, over(from, at))?)),
+        Mark::CloseBracket => Ok(Turn::Ends(range_of(alloc, start, part, over(from, end.at))?)),
         _ => refuse((start, part)),
     }
 }
@@ -166,15 +167,15 @@ fn end_range_to(
     start: Part,
     stop: Part,
     part: Part,
-    mark: Mark,
     from: Span,
-    at: Span,
+    end: PlacedMark,
 ) -> Result<Turn, ParseFault>
-    ensures { (a b x : Tree) → Sees start a → Sees stop b → Sees part x → Turns result (turned mark at (machine.range_to from a b) x) }
+    ensures { (a b x : Tree) → Sees start a → Sees stop b → Sees part x →
+        Turns result (turned end.mark end.at (machine.range_to from a b) x) }
 {
-    match mark {
+    match end.mark {
         Mark::CloseBracket => {
-            let range = strided_range_of(alloc, start, stop, part, over(from, at))?;
+            let range = strided_range_of(alloc, start, stop, part, over(from, end.at))?;
             Ok(Turn::Ends(range))
         }
         _ => refuse((start, stop, part)),
@@ -207,16 +208,10 @@ pub fn no_bindings(alloc: Global) -> Bindings
     }
 }
 
-fn end_brace(
-    alloc: Global,
-    part: Part,
-    mark: Mark,
-    from: Span,
-    at: Span,
-) -> Result<Turn, ParseFault>
-    ensures { (x : Tree) → Sees part x → Turns result (turned mark at (machine.brace from) x) }
+fn end_brace(alloc: Global, part: Part, from: Span, end: PlacedMark) -> Result<Turn, ParseFault>
+    ensures { (x : Tree) → Sees part x → Turns result (turned end.mark end.at (machine.brace from) x) }
 {
-    match mark {
+    match end.mark {
         Mark::Colon => {
             let group = Group::Each {
                 from,
@@ -243,18 +238,17 @@ fn end_pattern(
     group: Group,
     bindings: Bindings,
     part: Part,
-    mark: Mark,
-    at: Span,
+    end: PlacedMark,
 ) -> Result<Turn, ParseFault>
     ensures { (g : machine.Group) (bs : Binders) (x : Tree) → SeesGroup group g → SeesBound bindings bs → Sees part x →
-        Turns result (turned mark at (machine.binders g bs) x) }
+        Turns result (turned end.mark end.at (machine.binders g bs) x) }
 {
     match group {
-        Group::Let(word) => match mark {
+        Group::Let(word) => match end.mark {
             Mark::Equal => bind(alloc, Group::Let(word), bindings, part),
             _ => refuse((bindings, part)),
         },
-        Group::Each { from, body } => match mark {
+        Group::Each { from, body } => match end.mark {
             Mark::In => bind(alloc, Group::Each { from, body }, bindings, part),
             _ => refuse((body, bindings, part)),
         },
@@ -262,10 +256,11 @@ fn end_pattern(
 }
 
 // Behind the value of a binder of a let.
-fn end_let_value(bindings: Bindings, word: Span, mark: Mark) -> Result<Turn, ParseFault>
-    ensures { (bs : Binders) → SeesBound bindings bs → some_binders bs ≡ true → Turns result (let_turned mark word bs) }
+fn end_let_value(bindings: Bindings, word: Span, end: PlacedMark) -> Result<Turn, ParseFault>
+    ensures { (bs : Binders) → SeesBound bindings bs → some_binders bs ≡ true →
+        Turns result (let_turned end.mark word bs) }
 {
-    match mark {
+    match end.mark {
         Mark::Semicolon => becomes(Opening::Binders {
             group: Group::Let(word),
             some: true,
@@ -276,18 +271,18 @@ fn end_let_value(bindings: Bindings, word: Span, mark: Mark) -> Result<Turn, Par
     }
 }
 
-// The same of an apply-to-each.
+// Behind the value of a binder of an apply-to-each.
 fn end_each_value(
     alloc: Global,
     body: Option<Part>,
     bindings: Bindings,
-    mark: Mark,
     from: Span,
-    at: Span,
+    end: PlacedMark,
 ) -> Result<Turn, ParseFault>
-    ensures { (b : Option Tree) (bs : Binders) → SeesBody body b → SeesBound bindings bs → some_binders bs ≡ true → Turns result (each_turned mark at from b bs) }
+    ensures { (b : Option Tree) (bs : Binders) → SeesBody body b → SeesBound bindings bs → some_binders bs ≡ true →
+        Turns result (each_turned end.mark end.at from b bs) }
 {
-    match mark {
+    match end.mark {
         Mark::Semicolon => becomes(Opening::Binders {
             group: Group::Each { from, body },
             some: true,
@@ -298,30 +293,30 @@ fn end_each_value(
             body,
             bindings,
         }),
-        Mark::CloseBrace => Ok(Turn::Ends(each_of(alloc, body, bindings, over(from, at))?)),
+        Mark::CloseBrace => Ok(Turn::Ends(each_of(alloc, body, bindings, over(from, end.at))?)),
         _ => refuse((body, bindings)),
     }
 }
 
-#[tactic(auto, using(crate::proofs::Turns::turned_let, crate::proofs::Turns::turned_each, crate::proofs::Turns::some_bound))]
+#[tactic(auto, using(crate::proofs::Turns::at_let, crate::proofs::Turns::at_each, crate::proofs::Turns::some_bound))]
 fn end_value(
     alloc: Global,
     group: Group,
     bindings: Bindings,
     pattern: PatternPart,
     part: Part,
-    mark: Mark,
-    at: Span,
+    end: PlacedMark,
 ) -> Result<Turn, ParseFault>
-    ensures { (g : machine.Group) (bs : Binders) (p : PatternTree) (x : Tree) → SeesGroup group g → SeesBound bindings bs → SeesPattern pattern p → Sees part x →
-        Turns result (turned mark at (machine.value g bs p) x) }
+    ensures { (g : machine.Group) (bs : Binders) (p : PatternTree) (x : Tree) → SeesGroup group g →
+        SeesBound bindings bs → SeesPattern pattern p → Sees part x →
+        Turns result (turned end.mark end.at (machine.value g bs p) x) }
 {
     let Ok(bindings) = push_binding(bindings, pattern, part) else {
         return run_out(group);
     };
     match group {
-        Group::Let(word) => end_let_value(bindings, word, mark),
-        Group::Each { from, body } => end_each_value(alloc, body, bindings, mark, from, at),
+        Group::Let(word) => end_let_value(bindings, word, end),
+        Group::Each { from, body } => end_each_value(alloc, body, bindings, from, end),
     }
 }
 
@@ -330,16 +325,15 @@ fn end_filter(
     body: Option<Part>,
     bindings: Bindings,
     part: Part,
-    mark: Mark,
     from: Span,
-    at: Span,
+    end: PlacedMark,
 ) -> Result<Turn, ParseFault>
     ensures { (b : Option Tree) (bs : Binders) (x : Tree) → SeesBody body b → SeesBound bindings bs → Sees part x →
-        Turns result (turned mark at (machine.filter from b bs) x) }
+        Turns result (turned end.mark end.at (machine.filter from b bs) x) }
 {
-    match mark {
+    match end.mark {
         Mark::CloseBrace => {
-            let each = filtered_each_of(alloc, body, bindings, part, over(from, at))?;
+            let each = filtered_each_of(alloc, body, bindings, part, over(from, end.at))?;
             Ok(Turn::Ends(each))
         }
         _ => refuse((body, bindings, part)),
@@ -354,38 +348,40 @@ pub fn turn_of(
     mark: Mark,
     at: Span,
 ) -> Result<Turn, ParseFault>
-    ensures { (o : machine.Opening) (x : Tree) → SeesOpening opening o → Sees part x → Turns result (turned mark at o x) }
+    ensures { (o : machine.Opening) (x : Tree) → SeesOpening opening o → Sees part x →
+        Turns result (turned mark at o x) }
 {
+    let end = PlacedMark { mark, at };
     match opening {
-        Opening::Round(from) => end_round(part, mark, from, at),
-        Opening::Call { name, from } => end_call(alloc, name, part, mark, from, at),
-        Opening::Index(base) => end_index(alloc, base, part, mark, at),
-        Opening::Test(word) => end_test(part, mark, word, at),
-        Opening::Branch { word, test } => end_branch(test, part, mark, word, at),
+        Opening::Round(from) => end_round(part, from, end),
+        Opening::Call { name, from } => end_call(alloc, name, part, from, end),
+        Opening::Index(base) => end_index(alloc, base, part, end),
+        Opening::Test(word) => end_test(part, word, end),
+        Opening::Branch { word, test } => end_branch(test, part, word, end),
         Opening::List {
             from,
             some,
             elements,
-        } => end_list(some, elements, part, mark, from, at),
-        Opening::RangeFrom { from, start } => end_range_from(alloc, start, part, mark, from, at),
+        } => end_list(some, elements, part, from, end),
+        Opening::RangeFrom { from, start } => end_range_from(alloc, start, part, from, end),
         Opening::RangeTo { from, start, stop } => {
-            end_range_to(alloc, start, stop, part, mark, from, at)
+            end_range_to(alloc, start, stop, part, from, end)
         }
-        Opening::Brace(from) => end_brace(alloc, part, mark, from, at),
+        Opening::Brace(from) => end_brace(alloc, part, from, end),
         Opening::Binders {
             group,
             bindings,
             ..
-        } => end_pattern(alloc, group, bindings, part, mark, at),
+        } => end_pattern(alloc, group, bindings, part, end),
         Opening::Value {
             group,
             bindings,
             pattern,
-        } => { end_value(alloc, group, bindings, pattern, part, mark, at) }
+        } => { end_value(alloc, group, bindings, pattern, part, end) }
         Opening::Filter {
             from,
             body,
             bindings,
-        } => { end_filter(alloc, body, bindings, part, mark, from, at) }
+        } => { end_filter(alloc, body, bindings, part, from, end) }
     }
 }

@@ -45,7 +45,7 @@ pub fn leaf(span: Span, node: TypeNode) -> TypePart
     built(span, node, 0)
 }
 
-/// The same type, standing in these bytes.
+/// A type of these bytes in place of its own.
 pub fn widen(part: TypePart, span: Span) -> TypePart
     ensures { (x : TypeTree) → SeesType part x → SeesType result (widened_type span x) }
 {
@@ -64,7 +64,8 @@ pub fn widen(part: TypePart, span: Span) -> TypePart
 // A type with its height, where another may stand over it.
 fn low_enough(part: TypePart) -> Option<(TypeExp, usize)>
     ensures low { IfSome result (λ r. r.1 < 100) }
-    ensures seen { (x : TypeTree) → SeesType part x → MatchOption result (100 ≤ type_height x) (λ r. (type_tree r.0 ≡ x) × (r.1 ≡ type_height x)) }
+    ensures seen { (x : TypeTree) → SeesType part x →
+        MatchOption result (100 ≤ type_height x) (λ r. (type_tree r.0 ≡ x) × (r.1 ≡ type_height x)) }
 {
     match part {
         TypePart::Built { written, height } if height < LIMIT => Some((written, height)),

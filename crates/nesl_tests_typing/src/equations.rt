@@ -197,8 +197,8 @@ fn a_chain_of_equal_variables(rt: HostRuntime) {
     all_hold(&rt, rt.alloc(), &Solutions, &[CHAIN]);
 }
 
-/// A thousand variables, each the first of a dozen in which each but the last is the pairs of the next one with itself, stand
-/// for types of 4,095 nodes, and are then all made equal.
+/// A thousand variables, each the first of a dozen in which each but the last is the pairs of the next one with itself,
+/// stand for types of 4,095 nodes, and are then all made equal.
 const LARGE_AND_EQUAL: &str = "12000|\
     @1000~v$.0 = both v$.1 v$.1, v$.1 = both v$.2 v$.2, v$.2 = both v$.3 v$.3, v$.3 = both v$.4 v$.4, \
     v$.4 = both v$.5 v$.5, v$.5 = both v$.6 v$.6, v$.6 = both v$.7 v$.7, v$.7 = both v$.8 v$.8, \

@@ -1,5 +1,5 @@
-//! Expressions and their trees. The trees come from an independent reader of the same grammar, the spans of written types
-//! from hand.
+//! Expressions and their trees. The trees come from an independent reader of the same grammar, the spans of written
+//! types from hand.
 
 use crate::rows::all_hold;
 use crate::shown::Forms;

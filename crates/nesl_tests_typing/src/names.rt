@@ -8,8 +8,8 @@ use nesl_syntax_tree::tree::Form;
 use nesl_types::{Context, Scheme, Top, Ty};
 use std::alloc::{AllocError, Global};
 
-/// Lines, each with the place of its first unknown name, or a `-` where it has none. A variable `x`, a function `g` and a
-/// datatype `p` are defined, and `it` is a variable.
+/// Lines, each with the place of its first unknown name, or a `-` where it has none. A variable `x`, a function `g` and
+/// a datatype `p` are defined, and `it` is a variable.
 const LINES: &str = r#"x; => -
 y; => 0..1
 (y); => 0..3

@@ -1,5 +1,6 @@
 // Sequences that are built from their front to their end.
-ghost use Rattle.std.specs.Prelude.{◌≡◌, List, [], ◌∷◌, ◌++◌, take, map, is_ok, if◌then◌else◌, IfOk, OnOk, OnErr, vec_len};
+ghost use Rattle.std.specs.Prelude.{◌≡◌, List, [], ◌∷◌, ◌++◌, take, map, is_ok, if◌then◌else◌, IfOk, OnOk, OnErr};
+ghost use Rattle.std.specs.Prelude.{vec_len};
 ghost use Rattle.nesl_values.specs.Tree.{int, boolean, character, sequence};
 ghost use Rattle.nesl_values.specs.View.{tree_of, element_tree, item_trees};
 ghost use Rattle.nesl_values_builder.specs.Elements.{elements_of};
