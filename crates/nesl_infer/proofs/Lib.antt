@@ -1,4 +1,5 @@
 pub mod Wholes
+pub mod Integers
 pub mod Functions
 pub mod Instanced
 pub mod Known

@@ -15,6 +15,7 @@ ghost use Rattle.nesl_infer_rules.specs.Principal.{TypedFunction};
 
 use crate::constrain::constrain;
 use crate::fault::InferFault;
+use crate::integer::is_integer;
 use nesl_infer_names::{unknown_in_exp, unknown_in_function, unknown_in_type};
 use nesl_infer_rules::pattern::constrain_pattern;
 use nesl_infer_rules::signature::constrain_signature;
@@ -128,6 +129,9 @@ pub fn infer_exp<P: Drop>(alloc: Global, context: &Context<P>, exp: &Exp) -> Res
 {
     if let Some(span) = unknown_in_exp(alloc, context, exp)? {
         return Err(InferFault::Unknown { span });
+    }
+    if is_integer(context, exp) {
+        return Ok(Ty::int(alloc)?);
     }
     match principal_type(alloc, context, exp) {
         Ok(PrincipalType { ty, classes: _ }) => {

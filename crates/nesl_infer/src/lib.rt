@@ -4,6 +4,7 @@
 mod constrain;
 mod fault;
 mod infer;
+mod integer;
 pub mod laws;
 mod leaf;
 
