@@ -9,6 +9,7 @@ import functools
 import importlib.machinery
 import importlib.util
 import os
+import re
 import resource
 import select
 import shutil
@@ -150,6 +151,55 @@ def ended(lines):
     rows = [line.split("run=ended status=")[1] for line in lines if line.startswith("case=") and "run=ended" in line]
     count = next((place for place, line in enumerate(lines) if line.startswith("allocations: ")), len(lines))
     return int(rows[0].split()[0]) if rows else None, lines[:count]
+
+
+# The rows of nesl_tests_runs.
+
+class Row:
+    """A row with the lines of its answer, and the title that it stands under."""
+
+    def __init__(self, title, line):
+        self.title, self.line, self.answer = title, line, []
+
+    def said(self):
+        """The text that is said, or None where the row is a directive."""
+        return self.line[2:] if self.line.startswith(">") else None
+
+    def lines(self):
+        return [self.line, *self.answer]
+
+
+def is_row(line):
+    return line == ">" or line.startswith("> ") or line[:1] in ("@", "=", "!", "?")
+
+
+def stored_rows(part):
+    """The rows of a part of nesl_tests_runs; the head of that crate's `src/rows.rt` says how they are written."""
+    text = (TOP / "crates" / "nesl_tests_runs" / "stdin").read_bytes().decode("utf-8")
+    lines = dict(one.split("\n", 1) for one in ("\n" + text).split("\n== ")[1:])[part].split("\n")
+    rows, title = [], ""
+    for line in lines:
+        if is_row(line):
+            rows.append(Row(title, line))
+        elif line.startswith("% "):
+            title = line[2:]
+        elif line:
+            rows[-1].answer.append(line)
+    return rows
+
+
+def missed(lines):
+    """The rows that nesl_tests_runs or nesl_tests_refusals writes as missed, each with the lines that it got as its
+    answer; and the lines that count the rows of each part."""
+    rows, counts = [], []
+    for line in lines:
+        if line.startswith("+ "):
+            rows[-1][1].append(line[2:])
+        elif re.fullmatch(r".*: \d+ rows hold, \d+ missed", line):
+            counts.append(line)
+        elif is_row(line) and not line.startswith(("@ ", "@by ")):
+            rows.append((line, []))
+    return rows, counts
 
 
 # Another program, with which this one is compared.

@@ -1,21 +1,32 @@
-//! What answers lines.
+//! What answers rows.
 
+use crate::rows::{Asked, Rows};
 use std::alloc::{AllocError, Global};
 
-/// What answers lines. Each answer is written behind those before it.
+/// What answers rows.
 pub trait Driver {
-    fn follow(&mut self, alloc: Global, line: &str, out: &mut Vec<u8>) -> Result<(), AllocError>;
+    /// Writes the answer to a row, in whole lines.
+    fn follow(
+        &mut self,
+        alloc: Global,
+        asked: Asked<'_>,
+        out: &mut Vec<u8>,
+    ) -> Result<(), AllocError>;
 }
 
-/// Answers each line of a text.
-pub fn answer_lines<D: Driver + Drop>(
+/// Answers the rows of a part, and writes those that are missed and how many hold.
+pub fn try_rows<D: Driver + Drop>(
     mut driver: D,
     alloc: Global,
+    part: &str,
     text: &str,
     out: &mut Vec<u8>,
 ) -> Result<(), AllocError> {
+    let mut rows = Rows::new(alloc);
     for line in text.lines() {
-        driver.follow(alloc, line, out)?;
+        if let Some(asked) = rows.read(line, out)? {
+            driver.follow(alloc, asked, rows.answer())?;
+        }
     }
-    Ok(())
+    rows.end(alloc, part, out)
 }

@@ -1,17 +1,15 @@
-//! What each line comes to in halves. The functions that it defines stand for the lines after it.
-//! A line that begins with one of these words is a directive, and any other is evaluated.
+//! What each line comes to in halves. The functions that it defines stand for the lines after it. The directives are
 //!
-//! - `% TEXT`: a title, which is written as it is.
 //! - `@helpers never`, `always`, `second` (at every second question) or `pool` (one of three permits): who helps from
 //!   here on. Behind an outcome then stands how many helpers are out, or how many permits are free.
 //! - `@levels NUMBER`, `@budget NUMBER`: so many levels are allowed from here on, and so much work.
 //! - `@requests COUNT`: asks for memory so many times, and does nothing with it.
 //! - `@row LINE`: adds a row, which is an expression that comes to the same in halves and in order.
-//! - `@rows`: writes how many rows don't.
-//! - `@budgets COUNT`: the same with each budget below the count, where helpers are always granted. One counts more
-//!   where helpers are out then.
-//! - `@seeds COUNT`: the same of a row for each seed, where helpers are granted as the seed tells, and whether more
-//!   helpers were granted than there are seeds.
+//! - `@rows`: writes how many of these rows don't.
+//! - `@budgets COUNT`: evaluates all rows with each budget below the count, where helpers are always granted. It writes
+//!   how many don't come to the same; one counts more if helpers are out then.
+//! - `@seeds COUNT`: evaluates a row for each seed, where helpers are granted as the seed tells, and writes how many
+//!   don't come to the same, and whether more helpers were granted than there are seeds.
 //! - `@meet LINE`: evaluates it where each half of two places waits for the other, and writes how often the left half
 //!   was entered, the right one and any other place, and how often one waited in vain.
 //! - `@asks`: writes how many permits of pools are free behind questions.
@@ -22,6 +20,7 @@ use crate::gates::HalfGate;
 use crate::granting::Granting;
 use crate::pools::put_asks;
 use crate::requests::request;
+use crate::rows::{Asked, Rows};
 use crate::told::{LEVELS, WORK, is_same, put_outcome};
 use crate::writing::{put, put_done, put_line, put_wrong};
 use nesl_eval::{Outcome, eval_one};
@@ -78,23 +77,36 @@ impl<'a, L: Ledger + Send + Sync, R: Threads + Wait + Clock + Sync> Halves<'a, L
         }
     }
 
-    fn answer_lines(
-        &mut self,
-        alloc: Global,
-        text: &str,
-        out: &mut Vec<u8>,
-    ) -> Result<(), AllocError> {
+    fn try_rows(&mut self, alloc: Global, text: &str, out: &mut Vec<u8>) -> Result<(), AllocError> {
+        let mut rows = Rows::new(alloc);
         for line in text.lines() {
-            self.follow(alloc, line, out)?;
+            if let Some(asked) = rows.read(line, out)? {
+                self.follow(alloc, asked, rows.answer())?;
+            }
         }
-        Ok(())
+        rows.end(alloc, "halves", out)
     }
 
-    fn follow(&mut self, alloc: Global, line: &str, out: &mut Vec<u8>) -> Result<(), AllocError> {
-        let (word, rest) = line.split_once(' ').unwrap_or((line, ""));
-        if word == "%" {
-            put_line(out, line.as_bytes())
-        } else if word == "@helpers" {
+    fn follow(
+        &mut self,
+        alloc: Global,
+        asked: Asked<'_>,
+        out: &mut Vec<u8>,
+    ) -> Result<(), AllocError> {
+        match asked {
+            Asked::Text(text) => self.answer(alloc, text, out),
+            Asked::Directive(word, rest) => self.direct(alloc, word, rest, out),
+        }
+    }
+
+    fn direct(
+        &mut self,
+        alloc: Global,
+        word: &str,
+        rest: &str,
+        out: &mut Vec<u8>,
+    ) -> Result<(), AllocError> {
+        if word == "@helpers" {
             self.help(rest, out)
         } else if word == "@levels" || word == "@budget" {
             self.limit(word, rest, out)
@@ -114,7 +126,7 @@ impl<'a, L: Ledger + Send + Sync, R: Threads + Wait + Clock + Sync> Halves<'a, L
             self.pool.close(self.rt);
             Ok(())
         } else {
-            self.answer(alloc, line, out)
+            put_wrong(out)
         }
     }
 
@@ -354,8 +366,8 @@ impl<'a, L: Ledger + Send + Sync, R: Threads + Wait + Clock + Sync> Halves<'a, L
     }
 }
 
-/// Answers each line of a text, by this pool.
-pub fn answer_halves<L: Ledger + Send + Sync, R: Threads + Wait + Clock + Sync>(
+/// Answers the rows of a part by this pool, and writes those that are missed and how many hold.
+pub fn try_halves<L: Ledger + Send + Sync, R: Threads + Wait + Clock + Sync>(
     rt: &R,
     alloc: Global,
     pool: &Pool<L>,
@@ -363,5 +375,5 @@ pub fn answer_halves<L: Ledger + Send + Sync, R: Threads + Wait + Clock + Sync>(
     out: &mut Vec<u8>,
 ) -> Result<(), AllocError> {
     let mut halves = Halves::new(rt, alloc, pool);
-    halves.answer_lines(alloc, text, out)
+    halves.try_rows(alloc, text, out)
 }

@@ -1,6 +1,7 @@
-//! Answers lines, each as a driver does. A line `== NAME` is written as it is, and says which one answers the lines
-//! behind it: `types`, `outcomes`, `halves` or `sessions`. At the head of the module of that name stands what its lines
-//! are.
+//! Answers rows, and compares each answer with the lines below its row. A line `== NAME` says which part begins:
+//! `types`, `outcomes`, `halves` or `sessions`. At the head of the module of that name stands what its rows are, and at
+//! the head of `rows` how they are written. Written are the rows that are missed, each with the answer that was wanted
+//! (`-`) and the one that it got (`+`), and behind each part how many of its rows hold.
 #![tactic(auto)]
 
 mod definitions;
@@ -13,12 +14,13 @@ mod outcomes;
 mod parts;
 mod pools;
 mod requests;
+mod rows;
 mod sessions;
 mod told;
 mod types;
 mod writing;
 
-use crate::parts::answers;
+use crate::parts::try_parts;
 use std::io::{self, Write};
 use std::marker::Brand;
 use std::sync::ledger::Blank;
@@ -26,7 +28,7 @@ use std::sync::ledger::Blank;
 fn main(rt: HostRuntime) -> io::Result<()> {
     let alloc = rt.alloc();
     let text = io::read_to_string(alloc, rt.reader())?;
-    let (told, done) = answers::<Brand, _>(&rt, alloc, Blank::new(3), text);
+    let (told, done) = try_parts::<Brand, _>(&rt, alloc, Blank::new(3), text);
     let mut writer = io::writer(&rt);
     writer.write_all(told.as_slice())?;
     writer.flush()?;

@@ -1,11 +1,15 @@
-//! What each line comes to. What a line binds stands for the lines after it, up to a line `new`. Behind `=` stands an
-//! expression that should have the value before it; behind `!` one that has two levels; behind `?` one that is run with
-//! each budget up to its whole work. A line that begins with `%` is written as it is.
+//! What each line comes to. What a line binds stands for the lines after it. The directives are
+//!
+//! - `@new`: nothing is bound from here on.
+//! - `= LINE`: an expression that has to have the value of the line before it. If it has, there is no answer.
+//! - `! LINE`: an expression that is evaluated with two levels.
+//! - `? LINE`: an expression that is evaluated with each budget up to its whole work.
 
 use crate::driver::Driver;
 use crate::forms::{Reading, define, reading_of};
+use crate::rows::Asked;
 use crate::told::{LEVELS, WORK, is_same, put_outcome};
-use crate::writing::{put, put_done, put_line};
+use crate::writing::{put, put_done, put_line, put_wrong};
 use linked_list_allocator::LocalHeap;
 use nesl_eval::{Outcome, eval_one, eval_one_in};
 use nesl_eval_code::{Env, Payload};
@@ -24,7 +28,7 @@ pub struct Outcomes {
     last: Option<Value>,
 }
 
-// What a line asks for.
+// What is to be written of an expression.
 #[derive(Clone, Copy)]
 enum Wish {
     Outcome,
@@ -33,29 +37,37 @@ enum Wish {
     Boundaries,
 }
 
-fn wish_of(line: &[u8]) -> (Wish, &[u8]) {
-    match line.split_first() {
-        Some((b'=', rest)) => (Wish::Comparison, rest),
-        Some((b'!', rest)) => (Wish::TwoLevels, rest),
-        Some((b'?', rest)) => (Wish::Boundaries, rest),
-        _ => (Wish::Outcome, line),
+// What a directive wishes of the line behind it.
+fn wish_of(word: &str) -> Option<Wish> {
+    if word == "=" {
+        Some(Wish::Comparison)
+    } else if word == "!" {
+        Some(Wish::TwoLevels)
+    } else if word == "?" {
+        Some(Wish::Boundaries)
+    } else {
+        None
     }
 }
 
 impl Driver for Outcomes {
-    fn follow(&mut self, alloc: Global, line: &str, out: &mut Vec<u8>) -> Result<(), AllocError> {
-        if line == "new" {
-            *self = Outcomes::new(alloc);
+    fn follow(
+        &mut self,
+        alloc: Global,
+        asked: Asked<'_>,
+        out: &mut Vec<u8>,
+    ) -> Result<(), AllocError> {
+        match asked {
+            Asked::Text(text) => self.answer(alloc, Wish::Outcome, text, out),
+            Asked::Directive(word, _) if word == "@new" => {
+                *self = Outcomes::new(alloc);
+                Ok(())
+            }
+            Asked::Directive(word, text) => match wish_of(word) {
+                Some(wish) => self.answer(alloc, wish, text, out),
+                None => put_wrong(out),
+            },
         }
-        if line == "new" || line.starts_with('%') {
-            return put_line(out, line.as_bytes());
-        }
-        let (wish, text) = wish_of(line.as_bytes());
-        match reading_of(alloc, text)? {
-            Reading::Form(form) => self.of_form(alloc, wish, form, out)?,
-            _ => out.extend_from_slice(b"no form")?,
-        }
-        out.extend_from_slice(b"\n")
     }
 }
 
@@ -64,6 +76,19 @@ impl Outcomes {
         Outcomes {
             env: Env::new(alloc),
             last: None,
+        }
+    }
+
+    fn answer(
+        &mut self,
+        alloc: Global,
+        wish: Wish,
+        text: &str,
+        out: &mut Vec<u8>,
+    ) -> Result<(), AllocError> {
+        match reading_of(alloc, text.as_bytes())? {
+            Reading::Form(form) => self.of_form(alloc, wish, form, out),
+            _ => put_line(out, b"no form"),
         }
     }
 
@@ -84,14 +109,14 @@ impl Outcomes {
                 ..
             } => {
                 let done = define(alloc, &mut self.env, name.as_slice(), parameter, body);
-                put_done(done, b"a function", out)
+                put_done(done, b"a function\n", out)
             }
             Form::Datatype { name, .. } => {
                 let top = Top::Datatype(self.env.len() as u64, Ty::int(alloc)?);
                 let done = self.env.set(alloc, name.as_slice(), top, Payload::Datatype);
-                put_done(done, b"a datatype", out)
+                put_done(done, b"a datatype\n", out)
             }
-            _ => out.extend_from_slice(b"no expression"),
+            _ => put_line(out, b"no expression"),
         }
     }
 
@@ -104,8 +129,10 @@ impl Outcomes {
     ) -> Result<(), AllocError> {
         match wish {
             Wish::Outcome => self.evaluate(alloc, exp, out),
-            Wish::Comparison => out.extend_from_slice(self.compared(alloc, exp)),
-            Wish::TwoLevels => put_held(alloc, &eval_one(alloc, &self.env, exp, 2, WORK), out),
+            Wish::Comparison => self.compare(alloc, exp, out),
+            Wish::TwoLevels => {
+                put_held_line(alloc, &eval_one(alloc, &self.env, exp, 2, WORK), out)
+            }
             Wish::Boundaries => put_boundaries(alloc, &self.env, exp, out),
         }
     }
@@ -118,10 +145,11 @@ impl Outcomes {
         done
     }
 
-    fn compared(&self, alloc: Global, exp: &Exp) -> &'static [u8] {
+    // Writes that an expression has another value than the last, if it has.
+    fn compare(&self, alloc: Global, exp: &Exp, out: &mut Vec<u8>) -> Result<(), AllocError> {
         match (&self.last, eval_one(alloc, &self.env, exp, LEVELS, WORK)) {
-            (Some(last), Outcome::Done { value, .. }) if last.same(&value) => b"equal",
-            _ => b"another value",
+            (Some(last), Outcome::Done { value, .. }) if last.same(&value) => Ok(()),
+            _ => put_line(out, b"another value"),
         }
     }
 
@@ -137,9 +165,9 @@ impl Outcomes {
             Outcome::Done { value, .. } => {
                 let top = Top::Variable(Ty::int(alloc)?);
                 let done = self.env.set(alloc, name, top, Payload::Variable(value));
-                put_done(done, b"a variable", out)
+                put_done(done, b"a variable\n", out)
             }
-            other => put_held(alloc, &other, out),
+            other => put_held_line(alloc, &other, out),
         }
     }
 }
@@ -166,6 +194,16 @@ fn put_held(alloc: Global, told: &Outcome<Global>, out: &mut Vec<u8>) -> Result<
     }
 }
 
+// Writes an outcome and how its value is held, in a line.
+fn put_held_line(
+    alloc: Global,
+    told: &Outcome<Global>,
+    out: &mut Vec<u8>,
+) -> Result<(), AllocError> {
+    put_held(alloc, told, out)?;
+    out.extend_from_slice(b"\n")
+}
+
 // Writes an outcome, and what is told in a heap of fixed size, where that is not the same.
 fn put_both(
     alloc: Global,
@@ -177,7 +215,7 @@ fn put_both(
     put_held(alloc, told, out)?;
     let heap = LocalHeap::new(alloc, HEAP_BYTES)?;
     let other = eval_one_in(alloc, env, exp, LEVELS, WORK, &heap);
-    out.extend_from_slice(difference(&other, told))
+    put_line(out, difference(&other, told))
 }
 
 fn difference<A: Allocator>(told: &Outcome<A>, other: &Outcome<Global>) -> &'static [u8] {
@@ -221,12 +259,12 @@ fn put_boundaries(
     out: &mut Vec<u8>,
 ) -> Result<(), AllocError> {
     let Some(work) = work_of(&eval_one(alloc, env, exp, LEVELS, WORK)) else {
-        return out.extend_from_slice(b"over");
+        return put_line(out, b"over");
     };
     for fuel in 0..work.saturating_add(2) {
         if !is_right(&eval_one(alloc, env, exp, LEVELS, fuel), fuel, work) {
-            return put(out, format!(in alloc; "wrong with a budget of {fuel}"));
+            return put(out, format!(in alloc; "wrong with a budget of {fuel}\n"));
         }
     }
-    put(out, format!(in alloc; "over just below {work}"))
+    put(out, format!(in alloc; "over just below {work}\n"))
 }

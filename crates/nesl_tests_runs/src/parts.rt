@@ -3,8 +3,8 @@
 ghost use Rattle.std.specs.Prelude.{◌≡◌};
 
 use crate::definitions::Definitions;
-use crate::driver::answer_lines;
-use crate::halves::answer_halves;
+use crate::driver::try_rows;
+use crate::halves::try_halves;
 use crate::outcomes::Outcomes;
 use crate::sessions::Sessions;
 use crate::writing::put_line;
@@ -15,9 +15,8 @@ use std::sync::Wait;
 use std::sync::ledger::{Blank, Ledger};
 use std::thread::Threads;
 
-/// What is answered to the lines of each part, and whether there was memory for all of it. A pool of three permits is
-/// for all.
-pub fn answers<L: Ledger + Send + Sync, R: Threads + Wait + Clock + Sync>(
+/// What is written of each part, and whether there was memory for all of it. A pool of three permits is for all.
+pub fn try_parts<L: Ledger + Send + Sync, R: Threads + Wait + Clock + Sync>(
     rt: &R,
     alloc: Global,
     blank: Blank,
@@ -27,11 +26,11 @@ pub fn answers<L: Ledger + Send + Sync, R: Threads + Wait + Clock + Sync>(
 {
     let pool: Pool<L> = Pool::new(3, blank);
     let mut out = Vec::new(alloc);
-    let done = answer_parts(rt, alloc, &pool, text.as_str(), &mut out);
+    let done = try_each(rt, alloc, &pool, text.as_str(), &mut out);
     (out, done)
 }
 
-fn answer_parts<L: Ledger + Send + Sync, R: Threads + Wait + Clock + Sync>(
+fn try_each<L: Ledger + Send + Sync, R: Threads + Wait + Clock + Sync>(
     rt: &R,
     alloc: Global,
     pool: &Pool<L>,
@@ -39,13 +38,13 @@ fn answer_parts<L: Ledger + Send + Sync, R: Threads + Wait + Clock + Sync>(
     out: &mut Vec<u8>,
 ) -> Result<(), AllocError> {
     for part in text.split("\n== ") {
-        answer_part(rt, alloc, pool, part, out)?;
+        try_part(rt, alloc, pool, part, out)?;
     }
     Ok(())
 }
 
-// Answers the lines of a part behind its head.
-fn answer_part<L: Ledger + Send + Sync, R: Threads + Wait + Clock + Sync>(
+// Tries the rows of a part, which stand behind its head.
+fn try_part<L: Ledger + Send + Sync, R: Threads + Wait + Clock + Sync>(
     rt: &R,
     alloc: Global,
     pool: &Pool<L>,
@@ -54,16 +53,14 @@ fn answer_part<L: Ledger + Send + Sync, R: Threads + Wait + Clock + Sync>(
 ) -> Result<(), AllocError> {
     let (head, lines) = part.split_once('\n').unwrap_or((part, ""));
     let head = head.strip_prefix("== ").unwrap_or(head);
-    out.extend_from_slice(b"== ")?;
-    put_line(out, head.as_bytes())?;
     if head == "types" {
-        answer_lines(Definitions::new(alloc), alloc, lines, out)
+        try_rows(Definitions::new(alloc), alloc, head, lines, out)
     } else if head == "outcomes" {
-        answer_lines(Outcomes::new(alloc), alloc, lines, out)
+        try_rows(Outcomes::new(alloc), alloc, head, lines, out)
     } else if head == "halves" {
-        answer_halves(rt, alloc, pool, lines, out)
+        try_halves(rt, alloc, pool, lines, out)
     } else if head == "sessions" {
-        answer_lines(Sessions::new(alloc)?, alloc, lines, out)
+        try_rows(Sessions::new(alloc)?, alloc, head, lines, out)
     } else {
         put_line(out, b"no such part")
     }

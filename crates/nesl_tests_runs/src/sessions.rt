@@ -1,10 +1,8 @@
 //! What sessions answer: a fault's number stands behind an answer, and whether it was not recorded. Of a long answer
-//! only the beginning and the end are written, and how many bytes it has and what they add up to. A line that begins
-//! with one of these words is a directive, and any other is said to the session as it is.
+//! only the beginning and the end are written, and how many bytes it has and what they add up to. The directives are
 //!
-//! - `@ TEXT`: a title, which is written.
-//! - `@session NAME=NUMBER ..`: a fresh session, with the limits of the program but for those named; it is written.
-//! - `@heap BYTES`: what comes after is evaluated in a heap of so many bytes, up to `@heap off`; it is written.
+//! - `@session NAME=NUMBER ..`: a fresh session, with the limits of the program but for those named.
+//! - `@heap BYTES`: what comes after is evaluated in a heap of so many bytes, up to `@heap off`.
 //! - `@repeat COUNT TEXT COUNT TEXT ..`: says the line that has each text so many times, where `_` stands for a blank.
 //! - `@bytes NUMBER ..`: says the line of these bytes.
 //! - `@state`: writes what the session's readers tell.
@@ -14,7 +12,8 @@
 
 use crate::driver::Driver;
 use crate::requests::request;
-use crate::writing::{put, put_directive, put_line, put_wrong};
+use crate::rows::Asked;
+use crate::writing::{put, put_line, put_unread, put_wrong};
 use linked_list_allocator::LocalHeap;
 use nesl_session::Fault;
 use nesl_session::answer::Answer;
@@ -47,16 +46,42 @@ pub struct Sessions {
 }
 
 impl Driver for Sessions {
-    fn follow(&mut self, alloc: Global, line: &str, out: &mut Vec<u8>) -> Result<(), AllocError> {
-        let (word, rest) = line.split_once(' ').unwrap_or((line, ""));
-        if word == "@" {
-            put_line(out, line.as_bytes())
-        } else if word == "@session" {
+    fn follow(
+        &mut self,
+        alloc: Global,
+        asked: Asked<'_>,
+        out: &mut Vec<u8>,
+    ) -> Result<(), AllocError> {
+        match asked {
+            Asked::Text(text) => self.say(alloc, text.as_bytes(), out),
+            Asked::Directive(word, rest) => self.direct(alloc, word, rest, out),
+        }
+    }
+}
+
+impl Sessions {
+    pub fn new(alloc: Global) -> Result<Sessions, AllocError> {
+        Ok(Sessions {
+            session: Session::new(alloc, LIMITS)?,
+            heap: None,
+            again: false,
+            refused: 0,
+        })
+    }
+
+    fn direct(
+        &mut self,
+        alloc: Global,
+        word: &str,
+        rest: &str,
+        out: &mut Vec<u8>,
+    ) -> Result<(), AllocError> {
+        if word == "@session" {
             let is_read = self.begin(alloc, rest)?;
-            put_directive(out, line, is_read)
+            put_unread(is_read, out)
         } else if word == "@heap" {
             let is_read = self.evaluate_in(alloc, rest)?;
-            put_directive(out, line, is_read)
+            put_unread(is_read, out)
         } else if word == "@repeat" {
             self.say_made(alloc, repeated(alloc, rest)?, out)
         } else if word == "@bytes" {
@@ -71,19 +96,8 @@ impl Driver for Sessions {
         } else if word == "@requests" {
             request(alloc, rest, out)
         } else {
-            self.say(alloc, line.as_bytes(), out)
+            put_wrong(out)
         }
-    }
-}
-
-impl Sessions {
-    pub fn new(alloc: Global) -> Result<Sessions, AllocError> {
-        Ok(Sessions {
-            session: Session::new(alloc, LIMITS)?,
-            heap: None,
-            again: false,
-            refused: 0,
-        })
     }
 
     // Begins a session with the limits that are named, if they can be read.

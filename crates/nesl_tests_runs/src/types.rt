@@ -1,5 +1,5 @@
-//! What the types of each line are, or why it has none. What a line defines stands for the lines after it, up to a line
-//! `new`. A line that begins with `%` is written as it is.
+//! What the types of each line are, or why it has none. What a line defines stands for the lines after it, up to a
+//! directive `@new`.
 
 ghost use Rattle.std.specs.Prelude.{IfOk};
 ghost use Rattle.nesl_types_bank.specs.Numbering.{IsBelow};
@@ -7,25 +7,50 @@ ghost use Rattle.nesl_types_bank.specs.Numbering.{IsBelow};
 use crate::definitions::Definitions;
 use crate::driver::Driver;
 use crate::forms::{Reading, reading_of};
-use crate::writing::{put, put_bytes, put_line};
+use crate::rows::Asked;
+use crate::writing::{put, put_bytes, put_line, put_wrong};
 use nesl_infer::{InferFault, infer_datatype, infer_exp, infer_function};
 use nesl_syntax_tree::tree::{Exp, Form, Pattern, Signature, TypeExp};
 use nesl_types::{Top, scheme_text, type_text};
 use std::alloc::{AllocError, Global};
 
 impl Driver for Definitions {
-    fn follow(&mut self, alloc: Global, line: &str, out: &mut Vec<u8>) -> Result<(), AllocError> {
-        if line == "new" {
-            *self = Definitions::new(alloc);
+    fn follow(
+        &mut self,
+        alloc: Global,
+        asked: Asked<'_>,
+        out: &mut Vec<u8>,
+    ) -> Result<(), AllocError> {
+        match asked {
+            Asked::Text(text) => of_text(alloc, self, text, out),
+            Asked::Directive(word, _) if word == "@new" => {
+                *self = Definitions::new(alloc);
+                Ok(())
+            }
+            Asked::Directive(_, _) => put_wrong(out),
         }
-        if line == "new" || line.starts_with('%') {
-            return put_line(out, line.as_bytes());
-        }
-        match reading_of(alloc, line.as_bytes())? {
-            Reading::Form(form) => of_form(alloc, self, &form, out),
-            Reading::NoForm => put_line(out, b"no form"),
-            Reading::NoTokens => put_line(out, b"no tokens"),
-        }
+    }
+}
+
+// The parts of a function's definition.
+#[derive(Clone, Copy)]
+struct Function<'f> {
+    name: &'f [u8],
+    parameter: &'f Pattern,
+    signature: &'f Option<Signature>,
+    body: &'f Exp,
+}
+
+fn of_text(
+    alloc: Global,
+    definitions: &mut Definitions,
+    text: &str,
+    out: &mut Vec<u8>,
+) -> Result<(), AllocError> {
+    match reading_of(alloc, text.as_bytes())? {
+        Reading::Form(form) => of_form(alloc, definitions, &form, out),
+        Reading::NoForm => put_line(out, b"no form"),
+        Reading::NoTokens => put_line(out, b"no tokens"),
     }
 }
 
@@ -46,15 +71,15 @@ fn of_form(
             parameter,
             signature,
             body,
-        } => of_function(
-            alloc,
-            definitions,
-            name.as_slice(),
-            parameter,
-            signature,
-            body,
-            out,
-        ),
+        } => {
+            let function = Function {
+                name: name.as_slice(),
+                parameter,
+                signature,
+                body,
+            };
+            of_function(alloc, definitions, function, out)
+        }
         Form::Datatype { name, content } => {
             of_datatype(alloc, definitions, name.as_slice(), content, out)
         }
@@ -97,12 +122,15 @@ fn of_expression(
 fn of_function(
     alloc: Global,
     definitions: &mut Definitions,
-    name: &[u8],
-    parameter: &Pattern,
-    signature: &Option<Signature>,
-    body: &Exp,
+    function: Function<'_>,
     out: &mut Vec<u8>,
 ) -> Result<(), AllocError> {
+    let Function {
+        name,
+        parameter,
+        signature,
+        body,
+    } = function;
     match infer_function(
         alloc,
         &definitions.context,

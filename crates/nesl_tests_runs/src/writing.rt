@@ -28,13 +28,9 @@ pub fn put_bytes(out: &mut Vec<u8>, text: Result<Vec<u8>, AllocError>) -> Result
     put_line(out, text?.as_slice())
 }
 
-/// Writes a directive as it is, if it could be read.
-pub fn put_directive(out: &mut Vec<u8>, line: &str, is_read: bool) -> Result<(), AllocError> {
-    if is_read {
-        put_line(out, line.as_bytes())
-    } else {
-        put_wrong(out)
-    }
+/// Writes that a directive can't be read, unless it was.
+pub fn put_unread(is_read: bool, out: &mut Vec<u8>) -> Result<(), AllocError> {
+    if is_read { Ok(()) } else { put_wrong(out) }
 }
 
 /// Writes that a directive can't be read.

@@ -1,4 +1,4 @@
 use Rattle.nesl_tests_runs.proofs.main.Given as goal
 
-abbrev pub ghosts-answers : goal.ghosts-answers
-ghosts-answers g a = record { name = a.blank.name; parts = a.blank.parts }
+abbrev pub ghosts-try_parts : goal.ghosts-try_parts
+ghosts-try_parts g a = record { name = a.blank.name; parts = a.blank.parts }
