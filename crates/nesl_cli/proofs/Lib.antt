@@ -1,3 +1,4 @@
 pub mod Flags
 pub mod Numbers
+pub mod Tasks
 pub mod Failed

@@ -10,6 +10,7 @@ use Rattle.nesl_service.specs.declared.service.ServeFault.TheVariants as serve_f
 use Rattle.nesl_cli.specs.declared.failure.Failure.{Failure}
 use Rattle.nesl_cli.specs.declared.failure.Failure.TheVariants.{Read, Write, Memory, Serve}
 use Rattle.nesl_cli.specs.declared.failure.Failure.TheVariants.{Count, Name, Twice, Encoding}
+use Rattle.nesl_cli.specs.declared.failure.Failure.TheVariants.{Costs, Value, Taken, Stats}
 
 -- 1 for a device or memory, 2 for the words
 abbrev pub status_of : Failure → ℕ
@@ -21,6 +22,10 @@ status_of Count = 2
 status_of (Name name) = 2
 status_of (Twice name) = 2
 status_of Encoding = 2
+status_of (Costs fault) = 1
+status_of (Value text) = 2
+status_of (Taken port) = 1
+status_of (Stats file) = 1
 
 -- 0 where a service that was offered ended well
 abbrev pub status_after : Result (Unit {0}) Failure → ℕ

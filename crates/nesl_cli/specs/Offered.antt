@@ -1,18 +1,12 @@
 -- The service that is offered.
 use Rattle.std.specs.Prelude.{ℕ, ◌*◌, ◌^◌, List, Option, map, nat_lt, unwrap_or, if◌then◌else◌}
 use Rattle.nesl_cli.specs.Words.{Service}
+use Rattle.nesl_cli.specs.Wanted.{service_wanted}
 use Rattle.nesl_cli.specs.declared.run.Offer.{Offer}
 
 -- the service that is offered, and to which users, in order
 abbrev pub service_offered : Offer → Service
-service_offered offer = record {
-  port = offer.port;
-  workers = offer.workers;
-  connections = offer.connections;
-  idle = offer.idle;
-  first_line = offer.first_line;
-  is_logged = offer.is_logged;
-}
+service_offered offer = service_wanted offer.service
 
 abbrev pub users_offered : Offer → List (List ℕ)
 users_offered offer = map (λ user. user.now) offer.users.items

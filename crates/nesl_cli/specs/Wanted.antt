@@ -1,21 +1,28 @@
 -- What the words ask for, in the code.
-use Rattle.std.specs.Prelude.{ℕ, List, map}
+use Rattle.std.specs.Prelude.{ℕ, List, map, option_map}
 use Rattle.nesl_cli.specs.declared.words.Task.{Task as Code}
 use Rattle.nesl_cli.specs.declared.words.Task.TheVariants as code
+use Rattle.nesl_cli.specs.declared.words.Service.{Service as ServiceCode}
 use Rattle.nesl_cli.specs.declared.words.Wanted.{Wanted}
-use Rattle.nesl_cli.specs.Words.{Task, a_batch, a_service}
+use Rattle.nesl_cli.specs.Words.{Task, Service, a_batch, some_costs, a_service}
+
+-- the service
+abbrev pub service_wanted : ServiceCode → Service
+service_wanted service = record {
+  port = service.port;
+  workers = service.workers;
+  connections = service.connections;
+  idle = service.idle;
+  first_line = service.first_line;
+  is_logged = service.is_logged;
+  stats = option_map (λ file. file.now) service.stats;
+}
 
 -- what is to be done
 abbrev pub task_wanted : Code → Task
 task_wanted (code.Batch heap) = a_batch (record { heap = heap })
-task_wanted (code.Service port workers connections idle first_line is_logged) = a_service (record {
-  port = port;
-  workers = workers;
-  connections = connections;
-  idle = idle;
-  first_line = first_line;
-  is_logged = is_logged;
-})
+task_wanted (code.Costs values heap) = some_costs (record { values = values.now; heap = heap })
+task_wanted (code.Service service) = a_service (service_wanted service)
 
 -- the users, in order
 abbrev pub users_wanted : Wanted → List (List ℕ)

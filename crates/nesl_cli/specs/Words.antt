@@ -5,7 +5,7 @@ use Rattle.std.specs.Str.{bytes_eq}
 use Rattle.std.specs.Str.Parse.{digits_value, without_leading_plus}
 use Rattle.clap.specs.Lexer.{usize_max}
 use Rattle.clap.specs.Simple.{App, Shape, new_rule, new_shape, new_app, on_top, with_subcommand, subcommand_of}
-use Rattle.clap.specs.Walk.{Rule, Row, all_of, one_of, walked}
+use Rattle.clap.specs.Walk.{Rule, Row, all_of, first_of, one_of, walked}
 use Rattle.clap.specs.ValueTests.{is_unsigned_in}
 use Rattle.clap.specs.Faults.{fault_of, is_simple_and_free, walk_fault, defaults_fault}
 use Rattle.clap.specs.declared.error.kind.ErrorKind.TheVariants as kind
@@ -20,6 +20,13 @@ number_rule name long least most = record (new_rule name) {
   parser = Some (vp.Unsigned least most);
 }
 
+-- an option `--long NAME`: a text, at most once
+abbrev pub text_rule : (name long : List ℕ) → Rule
+text_rule name long = record (new_rule name) {
+  long = Some long;
+  action = Some Set;
+}
+
 -- `--heap BYTES`: a number from 16 to 1073741824, at most once
 abbrev pub heap_rule : Rule
 heap_rule = number_rule (codes "BYTES") (codes "heap") 16 1073741824
@@ -32,9 +39,13 @@ users_rule = record (new_rule (codes "USER")) {
   required = true;
 }
 
--- the subcommand `batch [--heap BYTES] USER..`
+-- `--csv VALUES`: a text, at most once
+abbrev pub csv_rule : Rule
+csv_rule = text_rule (codes "VALUES") (codes "csv")
+
+-- the subcommand `batch [--heap BYTES] [--csv VALUES] USER..`
 abbrev pub batch : Shape
-batch = record (new_shape (codes "batch")) { rules = heap_rule ∷ users_rule ∷ [] }
+batch = record (new_shape (codes "batch")) { rules = heap_rule ∷ csv_rule ∷ users_rule ∷ [] }
 
 -- `--port P`: a number from 0 to 65535, once
 abbrev pub port_rule : Rule
@@ -63,21 +74,29 @@ log_rule = record (new_rule (codes "LOG")) {
   action = Some SetTrue;
 }
 
--- the subcommand `serve --port P --workers W [--connections N] [--idle SECONDS] [--first-line SECONDS] [--log] USER..`:
--- first its port and its counts, then its seconds
+-- `--stats FILE`: a text, at most once
+abbrev pub stats_rule : Rule
+stats_rule = text_rule (codes "FILE") (codes "stats")
+
+-- the subcommand `serve --port P --workers W [--connections N] [--idle SECONDS] [--first-line SECONDS] [--log]
+-- [--stats FILE] USER..`: first its port and its counts, then its seconds, then what it tells
 abbrev pub serve_counts : Shape
 serve_counts = record (new_shape (codes "serve")) { rules = port_rule ∷ workers_rule ∷ connections_rule ∷ [] }
 
 abbrev pub serve_seconds : Shape
 serve_seconds = record serve_counts { rules = serve_counts.rules ++ idle_rule ∷ first_line_rule ∷ [] }
 
-abbrev pub serve : Shape
-serve = record serve_seconds { rules = serve_seconds.rules ++ log_rule ∷ users_rule ∷ [] }
+abbrev pub serve_told : Shape
+serve_told = record serve_seconds { rules = serve_seconds.rules ++ log_rule ∷ stats_rule ∷ [] }
 
--- the program before its subcommands: one is required, and help is told where there are no words
+abbrev pub serve : Shape
+serve = record serve_told { rules = serve_told.rules ++ users_rule ∷ [] }
+
+-- the program before its subcommands: one is required, help is told where there are no words, and it has a version
 abbrev pub without_subcommands : App
-without_subcommands =
-    on_top (λ s. record s { subcommand_required = true; arg_required_else_help = true }) (new_app (codes "pazkindu"))
+without_subcommands = on_top
+    (λ s. record s { subcommand_required = true; arg_required_else_help = true; has_version = true })
+    (new_app (codes "pazkindu"))
 
 -- the program
 abbrev pub program : App
@@ -103,6 +122,10 @@ number text =
 abbrev pub number_among : List ℕ → List Row → Option ℕ
 number_among name rows = option_and_then number (one_of name rows)
 
+-- the text of this name among what was found, if it is there
+abbrev pub text_among : List ℕ → List Row → Option (List ℕ)
+text_among name rows = first_of name rows
+
 -- whether the flag of this name is set, by what was found, which has `true` or `false` for each flag
 abbrev pub is_true : Option (List ℕ) → Bool
 is_true None = false
@@ -115,9 +138,14 @@ is_among name rows = is_true (slice_get (unwrap_or (all_of name rows) []) 0)
 pub record Batch : Type 0 where
   pub heap : Option ℕ
 
+-- the costs of a batch, for the values of `n` in this text, with the bytes of its heap, if there is one
+pub record Costs : Type 0 where
+  pub values : List ℕ
+  pub heap : Option ℕ
+
 -- a service: its port, how many helpers its threads may have in all, how many connections it serves, if it ends, how
--- many seconds a line has to come whole and an answer to be taken, how many the first line has, if these are told, and
--- whether each connection is told of
+-- many seconds a line has to come whole and an answer to be taken, how many the first line has, if these are told,
+-- whether each connection is told of, and the file for its counters, if there is one
 pub record Service : Type 0 where
   pub port : Option ℕ
   pub workers : Option ℕ
@@ -125,24 +153,35 @@ pub record Service : Type 0 where
   pub idle : Option ℕ
   pub first_line : Option ℕ
   pub is_logged : Bool
+  pub stats : Option (List ℕ)
 
 -- what is to be done
 pub data Task : Type 0 where
   a_batch : Batch → Task
+  some_costs : Costs → Task
   a_service : Service → Task
+
+-- a batch, or its costs where there are values for them
+abbrev pub batch_among : (values : Option (List ℕ)) → (heap : Option ℕ) → Task
+batch_among None heap = a_batch (record { heap = heap })
+batch_among (Some values) heap = some_costs (record { values = values; heap = heap })
+
+abbrev pub service_among : List Row → Service
+service_among rows = record {
+  port = number_among (codes "PORT") rows;
+  workers = number_among (codes "WORKERS") rows;
+  connections = number_among (codes "CONNECTIONS") rows;
+  idle = number_among (codes "SECONDS") rows;
+  first_line = number_among (codes "FIRST") rows;
+  is_logged = is_among (codes "LOG") rows;
+  stats = text_among (codes "FILE") rows;
+}
 
 -- by the subcommand and what was found behind it
 abbrev pub task_among : (name : List ℕ) → List Row → Task
 task_among name rows =
-    if bytes_eq name (codes "serve") then a_service (record {
-      port = number_among (codes "PORT") rows;
-      workers = number_among (codes "WORKERS") rows;
-      connections = number_among (codes "CONNECTIONS") rows;
-      idle = number_among (codes "SECONDS") rows;
-      first_line = number_among (codes "FIRST") rows;
-      is_logged = is_among (codes "LOG") rows;
-    })
-    else a_batch (record { heap = number_among (codes "BYTES") rows })
+    if bytes_eq name (codes "serve") then a_service (service_among rows)
+    else batch_among (text_among (codes "VALUES") rows) (number_among (codes "BYTES") rows)
 
 abbrev pub task_in : Option (List ℕ × List Row) → Task
 task_in None = a_batch (record { heap = None })
@@ -155,9 +194,9 @@ task_of words = task_in (subcommand_of program words)
 pub program_is_simple : is_simple_and_free program ≡ true
 program_is_simple = refl
 
--- worked: two users; no heap, a heap, and one that is too small; users behind `--`; a service that ends and one that
--- doesn't, without a port, with too many workers, and with no second for the first line; no word, no user, an unknown
--- subcommand, and a call for help
+-- worked: two users; no heap, a heap, and one that is too small; costs, and twice; users behind `--`; a service that
+-- ends and one that doesn't, without a port, with too many workers, and with no second for the first line; no word, no
+-- user, an unknown subcommand, and calls for help and for the version
 abbrev pub asked : List (List ℕ) → List (List ℕ)
 asked words = codes "pazkindu" ∷ words
 
@@ -189,6 +228,18 @@ small_heap :
 unfolding walked walk_fault defaults_fault
 small_heap = refl
 
+with_values :
+    task_of (asked (codes "batch" ∷ codes "ann" ∷ codes "--csv=1,2,4" ∷ []))
+    ≡ some_costs (record { values = codes "1,2,4"; heap = None })
+unfolding walked
+with_values = refl
+
+values_twice :
+    fault_of program (asked (codes "batch" ∷ codes "--csv" ∷ codes "1" ∷ codes "--csv" ∷ codes "2" ∷ codes "ann" ∷ []))
+    ≡ kind.ArgumentConflict ∷ []
+unfolding walked walk_fault defaults_fault
+values_twice = refl
+
 behind_dashes : users_of (asked (codes "batch" ∷ codes "--" ∷ codes "-x" ∷ [])) ≡ codes "-x" ∷ []
 unfolding walked
 behind_dashes = refl
@@ -211,6 +262,7 @@ served_twice :
       idle = None;
       first_line = None;
       is_logged = false;
+      stats = None;
     })
 unfolding walked
 served_twice = refl
@@ -218,7 +270,7 @@ served_twice = refl
 served_on :
     task_of
     (asked (codes "serve" ∷ codes "--workers=0" ∷ codes "--idle=60" ∷ codes "ann" ∷ codes "--log" ∷ codes "--port=4000"
-    ∷ codes "--first-line=5" ∷ []))
+    ∷ codes "--first-line=5" ∷ codes "--stats" ∷ codes "counters" ∷ []))
     ≡ a_service (record {
       port = Some 4000;
       workers = Some 0;
@@ -226,6 +278,7 @@ served_on :
       idle = Some 60;
       first_line = Some 5;
       is_logged = true;
+      stats = Some (codes "counters");
     })
 unfolding walked
 served_on = refl
@@ -257,3 +310,7 @@ unknown = refl
 help : fault_of program (asked (codes "--help" ∷ [])) ≡ kind.DisplayHelp ∷ []
 unfolding walked walk_fault defaults_fault
 help = refl
+
+version : fault_of program (asked (codes "--version" ∷ [])) ≡ kind.DisplayVersion ∷ []
+unfolding walked walk_fault defaults_fault
+version = refl

@@ -5,6 +5,7 @@ ghost use Rattle.clap.specs.Values.{kind_of};
 ghost use Rattle.nesl_cli.specs.Failures.{failure_of, memory_failure_of, status_after, status_of, words_status_of};
 ghost use Rattle.nesl_cli.specs.Program.{Fails};
 
+use crate::costs::CostsFault;
 use clap::error::ErrorKind;
 use nesl_house::roster::NewFault;
 use nesl_line::exchange::End;
@@ -30,6 +31,18 @@ pub enum Failure<'a> {
     Twice(&'a str),
     #[error("words: not UTF-8")]
     Encoding,
+    /// Costs could not be written whole.
+    #[error("{0}")]
+    Costs(CostsFault),
+    /// What is no value of `n`.
+    #[error("csv: bad value {0}")]
+    Value(&'a str),
+    /// Another listens on this port.
+    #[error("serve: socket fault\nport {0} is taken")]
+    Taken(u16),
+    /// The counters of a service can't be written into this file.
+    #[error("serve: can't write {0}")]
+    Stats(&'a str),
 }
 
 /// Why the words came to no whole run.
@@ -86,6 +99,8 @@ impl<'a> Failure<'a> {
         match self {
             Failure::Read | Failure::Write | Failure::Memory | Failure::Serve(_) => 1,
             Failure::Encoding | Failure::Count | Failure::Name(_) | Failure::Twice(_) => 2,
+            Failure::Costs(_) | Failure::Taken(_) | Failure::Stats(_) => 1,
+            Failure::Value(_) => 2,
         }
     }
 }

@@ -2,7 +2,9 @@
 //! there is neither.
 #![tactic(auto)]
 
+pub mod costs;
 pub mod failure;
+mod help;
 pub mod run;
 pub mod terms;
 pub mod words;

@@ -1,16 +1,18 @@
 //! What the words come to.
-ghost use Rattle.std.specs.Prelude.{◌≡◌, IfOk, OnOk, OnErr, IfErr, Err, map};
+ghost use Rattle.std.specs.Prelude.{◌≡◌, ℕ, List, Option, IfOk, OnOk, OnErr, IfErr, Err, map};
 ghost use Rattle.clap.specs.Words.{fault_of, HasKind};
 ghost use Rattle.clap.specs.declared.error.Error as clap;
+ghost use Rattle.nesl_house.specs.Roster.{IsRoster, opened};
 ghost use Rattle.nesl_line.specs.declared.exchange.End.TheVariants as end;
 ghost use Rattle.nesl_line.specs.Batch.{IsBatch};
 ghost use Rattle.nesl_cli.specs.Words.{program, users_of};
-ghost use Rattle.nesl_cli.specs.Program.{Comes, Fails, Served, Untouched};
+ghost use Rattle.nesl_cli.specs.Program.{limits, Comes, Fails, Served, Untouched};
 ghost use Rattle.nesl_cli.specs.declared.failure.Failure.{Failure};
 ghost use Rattle.nesl_cli.specs.declared.failure.Refusal.TheVariants as refusal;
 
+use crate::costs::write_costs;
 use crate::failure::{Failure, Refusal};
-use crate::words::{self, Task};
+use crate::words::{self, Service, Task};
 use linked_list_allocator::LocalHeap;
 use nesl_house::house::House;
 use nesl_line::batch::{batch, batch_in};
@@ -28,23 +30,15 @@ pub const LIMITS: Limits = Limits {
     transcript_bytes: 1_048_576,
 };
 
-/// A service for these users, in order: on this port, with so many helpers, and for so many connections, if it ends.
-/// Where they are told, a line has so many `idle` seconds to come whole, and as many may pass while nothing of an
-/// answer is taken; the first line of a connection has so many `first_line` seconds. Each connection is told of, if it
-/// is logged.
+/// A service for these users, in order.
 #[derive(Drop)]
 pub struct Offer<'a> {
     pub users: Vec<&'a str>,
-    pub port: Option<usize>,
-    pub workers: Option<usize>,
-    pub connections: Option<usize>,
-    pub idle: Option<usize>,
-    pub first_line: Option<usize>,
-    pub is_logged: bool,
+    pub service: Service<'a>,
 }
 
-/// What the words ask for: a batch for the users that they name, which is run, or a service that is to be offered to
-/// them.
+/// What the words ask for: a batch for the users that they name, or its costs, which is run, or a service that is to be
+/// offered to them.
 pub fn answered<'a, S: Source, W: Sink>(
     alloc: Global,
     words: &'a [&'a str],
@@ -70,27 +64,18 @@ pub fn answered<'a, S: Source, W: Sink>(
             Ok(()) => Ok(None),
             Err(failure) => Err(Refusal::Run(failure)),
         },
-        Task::Service {
-            port,
-            workers,
-            connections,
-            idle,
-            first_line,
-            is_logged,
-        } => Ok(Some(Offer {
-            users,
-            port,
-            workers,
-            connections,
-            idle,
-            first_line,
-            is_logged,
-        })),
+        Task::Costs { values, heap } => {
+            match write_costs(alloc, users.as_slice(), values, heap, reader, writer) {
+                Ok(()) => Ok(None),
+                Err(failure) => Err(Refusal::Run(failure)),
+            }
+        }
+        Task::Service(service) => Ok(Some(Offer { users, service })),
     }
 }
 
 // A house for these users, and a batch of its lines, evaluated in a heap where one is wanted.
-fn run<'a, S: Source, W: Sink>(
+pub(crate) fn run<'a, S: Source, W: Sink>(
     alloc: Global,
     users: &[&'a str],
     heap: Option<usize>,
@@ -102,19 +87,29 @@ fn run<'a, S: Source, W: Sink>(
     ensures failed { IfErr result (λ failure. Fails failure (map (λ user. user.now) users.now)
         (S.left reader.old) (S.left reader.new) (W.held writer.old) (W.held writer.new)) }
 {
-    let Ok(roster) = roster(alloc, users) else {
-        return Err(Failure::Memory);
-    };
-    let mut house = match House::new(alloc, roster.as_slice(), LIMITS) {
-        Ok(house) => house,
-        Err(fault) => return Err(Failure::of_roster(fault, users)),
-    };
+    let mut house = house_of(alloc, users)?;
     let Ok(ran) = ran(alloc, reader, writer, &mut house, heap) else {
         return Err(Failure::Memory);
     };
     match Failure::of_end(ran.end) {
         None => Ok(()),
         Some(failure) => Err(failure),
+    }
+}
+
+// A house for these users; nothing was read or written where it is refused.
+pub(crate) fn house_of<'a>(alloc: Global, users: &[&'a str]) -> Result<House, Failure<'a>>
+    ensures roster { OnOk result (IsRoster (map (λ user. user.now) users.now)) }
+    ensures opened { IfOk result (λ house. house ≡ opened limits (map (λ user. user.now) users.now)) }
+    ensures failed { IfErr result (λ failure. (left held : Option (List ℕ))
+        → Fails failure (map (λ user. user.now) users.now) left left held held) }
+{
+    let Ok(roster) = roster(alloc, users) else {
+        return Err(Failure::Memory);
+    };
+    match House::new(alloc, roster.as_slice(), LIMITS) {
+        Ok(house) => Ok(house),
+        Err(fault) => Err(Failure::of_roster(fault, users)),
     }
 }
 

@@ -17,10 +17,10 @@ impl Offer<'_> {
     pub fn address(&self) -> Option<SocketAddr>
         ensures loopback { IfSome result
             (λ address. IsV4And (socket_ip address) (λ ip. ipv4_octets ip ≡ 127 ∷ 0 ∷ 0 ∷ 1 ∷ [])) }
-        ensures port { IfSome result (λ address. socket_port address ≡ unwrap_or self.now.port 0) }
-        ensures none { IfNone result (2 ^ 16 ≤ unwrap_or self.now.port 0) }
+        ensures port { IfSome result (λ address. socket_port address ≡ unwrap_or self.now.service.port 0) }
+        ensures none { IfNone result (2 ^ 16 ≤ unwrap_or self.now.service.port 0) }
     {
-        match u16::try_from(self.port.unwrap_or(0)) {
+        match u16::try_from(self.service.port.unwrap_or(0)) {
             Ok(port) => Some(SocketAddr::new(IpAddr::V4(Ipv4Addr::LOCALHOST), port)),
             Err(_) => None,
         }
@@ -29,24 +29,24 @@ impl Offer<'_> {
     /// By what terms the service is kept: as many threads as there are users, and one more, serve.
     pub fn terms(&self) -> Terms
         ensures threads { result.threads ≡ length self.now.users.items + 1 }
-        ensures workers { result.workers ≡ workers_in self.now.workers }
-        ensures connections { result.connections ≡ self.now.connections }
-        ensures first_line { as_nanos result.patience.first_line ≡ nanos_in (unwrap_or self.now.first_line 10) }
-        ensures idle { option_map as_nanos result.patience.idle ≡ option_map nanos_in self.now.idle }
+        ensures workers { result.workers ≡ workers_in self.now.service.workers }
+        ensures connections { result.connections ≡ self.now.service.connections }
+        ensures first_line { as_nanos result.patience.first_line ≡ nanos_in (unwrap_or self.now.service.first_line 10) }
+        ensures idle { option_map as_nanos result.patience.idle ≡ option_map nanos_in self.now.service.idle }
     {
         Terms {
             threads: self.users.len() + 1,
-            workers: u32::try_from(self.workers.unwrap_or(0)).unwrap_or(0),
-            connections: match self.connections {
+            workers: u32::try_from(self.service.workers.unwrap_or(0)).unwrap_or(0),
+            connections: match self.service.connections {
                 Some(connections) => Some(connections as u64),
                 None => None,
             },
             patience: Patience {
-                first_line: match self.first_line {
+                first_line: match self.service.first_line {
                     Some(seconds) => Duration::from_secs(seconds as u64),
                     None => Duration::from_secs(FIRST_LINE_SECONDS),
                 },
-                idle: match self.idle {
+                idle: match self.service.idle {
                     Some(seconds) => Some(Duration::from_secs(seconds as u64)),
                     None => None,
                 },

@@ -1,15 +1,15 @@
 //! What standard error tells of connections.
 
 use crossbeam_channel::{Receiver, Sender, bounded};
-use nesl_line::exchange::End;
-use nesl_service::journal::Visit;
+use jiff_core::civil::DateTime;
+use nesl_service::journal::{Caller, Seat, Visit};
 use std::alloc::{AllocError, Global};
 use std::io::Eprint;
 use std::sync::atomic::{AtomicU64, Ordering};
 use std::sync::{Arc, Wait};
-use std::thread;
 use std::thread::Threads;
 use std::time::{Clock, Duration};
+use std::{fmt, thread};
 
 /// How many lines wait at most until they are written.
 const MOST_WAITING: usize = 1024;
@@ -33,6 +33,35 @@ pub struct Log<'x, R> {
 struct Counts {
     lost: AtomicU64,
     done: AtomicU64,
+}
+
+// A second of UTC, as 2026-11-26T14:37:15Z; a dash where the clock can't be read.
+#[derive(Drop)]
+struct Stamp(Option<DateTime>);
+
+impl Stamp {
+    fn now(clock: &impl Clock) -> Stamp {
+        match clock.since_1970() {
+            Ok(since) => Stamp(DateTime::from_nanosecond(
+                i128::from(since.as_secs()) * 1_000_000_000,
+            ).ok()),
+            Err(_) => Stamp(None),
+        }
+    }
+}
+
+impl fmt::Display for Stamp {
+    fn fmt<W: fmt::Write>(&self, f: &mut fmt::Formatter<W>) -> fmt::Result {
+        let Some(DateTime { date, time }) = self.0 else {
+            return f.write_str("-");
+        };
+        let (year, month, day) = (date.year, date.month, date.day);
+        let (hour, minute, second) = (time.hour, time.minute, time.second);
+        write!(
+            f,
+            "{year:04}-{month:02}-{day:02}T{hour:02}:{minute:02}:{second:02}Z"
+        )
+    }
 }
 
 impl<'x, R: Threads + Wait + Clock + Eprint + Clone + Send + Drop + 'static> Log<'x, R> {
@@ -77,28 +106,39 @@ impl<R: Wait + Clock> Log<'_, R> {
             thread::sleep(rt, Duration::from_millis(PAUSE_MILLIS));
         }
     }
-}
 
-impl<R: Wait> Log<'_, R> {
-    /// A connection begins.
-    pub fn begun(&self, number: u64) {
-        self.tell(format!(in self.alloc; "connection {number} began"));
+    /// A connection begins. False where the line is lost, here and below.
+    pub fn begun(&self, caller: Caller) -> bool {
+        self.tell(caller, String::from_str(self.alloc, "began"))
+    }
+
+    /// A connection was seated.
+    pub fn seated(&self, caller: Caller, seat: Seat<'_>) -> bool {
+        self.tell(caller, seat_text(self.alloc, seat))
     }
 
     /// A connection has ended.
-    pub fn ended(&self, number: u64, visit: &Visit<'_>) {
-        self.tell(text_of(self.alloc, number, visit));
+    pub fn ended(&self, caller: Caller, visit: &Visit<'_>) -> bool {
+        self.tell(caller, end_text(self.alloc, visit))
     }
 
     // Hands a line to the thread that writes them.
-    fn tell(&self, line: Result<String, AllocError>) {
-        let is_told = match line {
+    fn tell(&self, caller: Caller, what: Result<String, AllocError>) -> bool {
+        let is_told = match self.line(caller, what) {
             Ok(line) => self.to.try_send(self.rt, line).is_ok(),
             Err(_) => false,
         };
         if !is_told {
             self.counts.lost.fetch_add(1, Ordering::SeqCst);
         }
+        is_told
+    }
+
+    // A line: the time, the connection, and what is told of it.
+    fn line(&self, caller: Caller, what: Result<String, AllocError>) -> Result<String, AllocError> {
+        let (stamp, what) = (Stamp::now(self.rt), what?);
+        let Caller { number, port } = caller;
+        format!(in self.alloc; "{stamp} connection {number} port {port} {what}")
     }
 }
 
@@ -120,30 +160,30 @@ fn write_lost(rt: &impl Eprint, counts: &Counts) {
     }
 }
 
+// Who was seated, or why nobody was.
+fn seat_text(alloc: Global, seat: Seat<'_>) -> Result<String, AllocError> {
+    match seat {
+        Seat::User(name) => {
+            let name = str::from_utf8(name).unwrap_or("?");
+            format!(in alloc; "seated {name}")
+        }
+        Seat::Unknown => String::from_str(alloc, "turned away: unknown"),
+        Seat::Busy => String::from_str(alloc, "turned away: busy"),
+    }
+}
+
 // Who was there, how many lines were answered, how it ended, and how long it took.
-fn text_of(alloc: Global, number: u64, visit: &Visit<'_>) -> Result<String, AllocError> {
+fn end_text(alloc: Global, visit: &Visit<'_>) -> Result<String, AllocError> {
     let user = match visit.user {
         Some(name) => str::from_utf8(name).unwrap_or("?"),
         None => "no user",
     };
-    let lines = visit.lines;
-    let end = end_of(visit.end);
+    let (lines, ending) = (visit.lines, visit.ending.words());
     match visit.took {
         Some(took) => {
             let millis = took.as_millis();
-            format!(in alloc;
-                "connection {number} ended: {user}, {lines} lines, {end}, {millis} ms"
-            )
+            format!(in alloc; "ended: {user}, {lines} lines, {ending}, {millis} ms")
         }
-        None => format!(in alloc; "connection {number} ended: {user}, {lines} lines, {end}"),
-    }
-}
-
-fn end_of(end: End) -> &'static str {
-    match end {
-        End::Input => "end of input",
-        End::ReadFault => "read fault",
-        End::WriteFault => "write fault",
-        End::NoMemory => "no memory",
+        None => format!(in alloc; "ended: {user}, {lines} lines, {ending}"),
     }
 }

@@ -10,12 +10,15 @@ mod host;
 mod log;
 mod offer;
 mod standard;
+mod stats;
 
 use crate::offer::keep;
 use crate::standard::fill_standard;
+use crate::stats::Replace;
 use clap::error::ErrorKind;
 use nesl_cli::failure::{Failure, Refusal, status_after, words_status};
 use nesl_cli::run::answered;
+use nesl_cli::words::example;
 use nesl_line::device::{Device, Sink, Source};
 use std::alloc::{AllocError, Global};
 use std::io::{self, BufWriter, Eprint, Print};
@@ -29,8 +32,7 @@ use std::{env, thread};
 /// The bytes of an answer that are gathered before they are written.
 const ANSWER_BYTES: usize = 8192;
 
-/// The bytes of the stack that a batch is evaluated on: an evaluation of 1,000 levels takes 1.2 MiB at most, and what
-/// goes over a type 2.4 MiB.
+/// The bytes of the stack that a batch is evaluated on: an evaluation of 1,000 levels was measured to take 1.2 MiB.
 const STACK_BYTES: usize = 8_388_608;
 
 fn main(rt: HostRuntime) -> ExitCode {
@@ -103,6 +105,7 @@ fn run<
         + Clock
         + Print
         + Eprint
+        + Replace
         + Clone
         + Drop
         + Send
@@ -127,9 +130,19 @@ fn refused<R: Print + Eprint>(rt: &R, words: &[&str], error: &clap::Error) -> Ex
     if error.kind() == ErrorKind::OutOfMemory {
         return told(rt, Failure::of_memory(words));
     }
-    match error.print(rt) {
+    match print(rt, words, error) {
         Ok(()) => ExitCode::from(words_status(error)),
         Err(_) => ExitCode::FAILURE,
+    }
+}
+
+// Prints the text of a refusal, and behind it an example where it has none.
+fn print<R: Print + Eprint>(rt: &R, words: &[&str], error: &clap::Error) -> io::Result<()> {
+    error.print(rt)?;
+    match error.kind() {
+        ErrorKind::DisplayHelp | ErrorKind::DisplayVersion => Ok(()),
+        ErrorKind::DisplayHelpOnMissingArgumentOrSubcommand => Ok(()),
+        _ => rt.eprintln(example(words)),
     }
 }
 

@@ -6,17 +6,19 @@ ghost use Rattle.nesl_cli.specs.declared.failure.Failure.TheVariants.{Serve};
 
 use crate::host::Host;
 use crate::log::Log;
+use crate::stats::{Replace, Stats};
 use nesl_cli::failure::Failure;
 use nesl_cli::run::{LIMITS, Offer, roster};
 use nesl_house::roster::NewFault;
 use nesl_house::table::{Closed, Table};
+use nesl_service::counters::Counters;
 use nesl_service::service::{Observers, ServeFault, serve_through};
 use nesl_split_helpers::Free;
 use std::alloc::{AllocError, Global};
 use std::io;
 use std::io::{Eprint, Print};
 use std::net::{Net, TcpListener, TcpStream};
-use std::sync::Wait;
+use std::sync::{Arc, Wait};
 use std::thread::Threads;
 use std::time::Clock;
 
@@ -29,6 +31,7 @@ pub fn keep<
         + Clock
         + Print
         + Eprint
+        + Replace
         + Clone
         + Drop
         + Send
@@ -36,13 +39,11 @@ pub fn keep<
         + 'static,
 >(rt: &R, alloc: Global, offer: &Offer<'a>) -> Result<(), Failure<'a>> {
     let table = table(alloc, offer.users.as_slice())?;
-    let Ok((listener, port)) = listener(rt, offer) else {
-        return Err(Failure::Serve(ServeFault::Socket));
+    let (listener, port) = match listener(rt, offer) {
+        Ok(listening) => listening,
+        Err(error) => return Err(unheard(offer, &error)),
     };
-    let Ok(log) = log(rt, alloc, offer) else {
-        return Err(Failure::Serve(ServeFault::Memory));
-    };
-    let host = Host { rt, port, log };
+    let host = host(rt, alloc, offer, port)?;
     let observers = Observers {
         gate: &Free,
         journal: &host,
@@ -97,22 +98,79 @@ fn listener<R: Net<Stream = TcpStream, Listener = TcpListener>>(
     Ok((listener, port))
 }
 
+// Why the port can't be had.
+fn unheard<'a>(offer: &Offer<'a>, error: &io::Error) -> Failure<'a> {
+    match offer.address() {
+        Some(address) if error.kind() == io::ErrorKind::AddrInUse => Failure::Taken(address.port()),
+        _ => Failure::Serve(ServeFault::Socket),
+    }
+}
+
+// Who tells of the service.
+fn host<'x, 'a, R: Threads + Wait + Clock + Eprint + Replace + Clone + Send + Drop + 'static>(
+    rt: &'x R,
+    alloc: Global,
+    offer: &Offer<'a>,
+    port: u16,
+) -> Result<Host<'x, R>, Failure<'a>> {
+    let Ok(counters) = shared_counters(alloc) else {
+        return Err(Failure::Serve(ServeFault::Memory));
+    };
+    let stats = stats(rt, alloc, offer, &counters)?;
+    let Ok(log) = log(rt, alloc, offer) else {
+        return Err(Failure::Serve(ServeFault::Memory));
+    };
+    Ok(Host {
+        rt,
+        port,
+        log,
+        stats,
+        counters,
+    })
+}
+
+fn shared_counters(alloc: Global) -> Result<Arc<Counters>, AllocError> {
+    Ok(Arc::new(alloc, Counters::new(alloc)?)?)
+}
+
 // The log, where one is wanted.
 fn log<'x, R: Threads + Wait + Clock + Eprint + Clone + Send + Drop + 'static>(
     rt: &'x R,
     alloc: Global,
     offer: &Offer<'_>,
 ) -> Result<Option<Log<'x, R>>, AllocError> {
-    if !offer.is_logged {
+    if !offer.service.is_logged {
         return Ok(None);
     }
     Ok(Some(Log::new(rt, alloc)?))
 }
 
+// The file for the counters, where one is wanted.
+fn stats<'x, 'a, R: Threads + Wait + Clock + Replace + Clone + Send + Drop + 'static>(
+    rt: &'x R,
+    alloc: Global,
+    offer: &Offer<'a>,
+    counters: &Arc<Counters>,
+) -> Result<Option<Stats<'x, R>>, Failure<'a>> {
+    let Some(file) = offer.service.stats else {
+        return Ok(None);
+    };
+    let Ok(counters) = Arc::try_clone(counters) else {
+        return Err(Failure::Serve(ServeFault::Memory));
+    };
+    match Stats::new(rt, alloc, file, counters) {
+        Ok(stats) => Ok(Some(stats)),
+        Err(error) if error.kind() == io::ErrorKind::OutOfMemory => Err(Failure::Serve(
+            ServeFault::Memory,
+        )),
+        Err(_) => Err(Failure::Stats(file)),
+    }
+}
+
 // Says how many connections were served, and the lines in all.
 fn told<R: Print>(rt: &R, offer: &Offer<'_>, closed: &Closed) -> io::Result<()> {
     let lines = closed.lines;
-    match offer.connections {
+    match offer.service.connections {
         Some(connections) => println!(rt; "served {connections} connections, {lines} lines"),
         None => println!(rt; "served {} connections, {lines} lines", u64::MAX),
     }

@@ -34,13 +34,13 @@ impl<'x> Door<'x> {
         let _ = self.closer.shutdown(Shutdown::Both).is_ok();
     }
 
-    /// Waits for the next connection. What the system lacks, another process may have: so it is asked again for a
-    /// minute. One that was gone before it was taken up doesn't count.
-    pub(crate) fn next<R: Wait + Clock>(&self, rt: &R) -> io::Result<TcpStream> {
+    /// Waits for the next connection, and tells the port that it comes from. What the system lacks, another process may
+    /// have: so it is asked again for a minute. One that was gone before it was taken up doesn't count.
+    pub(crate) fn next<R: Wait + Clock>(&self, rt: &R) -> io::Result<(TcpStream, u16)> {
         let mut pauses = 0;
         for _ in rt.forever() {
             match self.listener.accept() {
-                Ok((stream, _)) => return Ok(stream),
+                Ok((stream, address)) => return Ok((stream, address.port())),
                 Err(error) if error.kind() == ErrorKind::ConnectionAborted => {}
                 Err(error) if is_scarce(&error) && pauses < MOST_PAUSES => {
                     thread::sleep(rt, Duration::from_millis(PAUSE_MILLIS));

@@ -6,8 +6,8 @@ use std::sync::atomic::{AtomicU64, Ordering};
 use std::thread;
 use std::thread::{Builder, Scope, Threads};
 
-/// The bytes of a thread's stack. An evaluation of 1,000 levels takes 1.2 MiB at most, and what goes over a type 2.4
-/// MiB.
+/// The bytes of a thread's stack. An evaluation of 1,000 levels was measured to take 1.2 MiB; nothing else recurs as
+/// deep.
 const STACK_BYTES: usize = 8_388_608;
 
 /// Where the threads of a crowd wait for each other before they begin.

@@ -3,10 +3,13 @@ ghost use Rattle.std.specs.Prelude.{◌≡◌, IfOk};
 ghost use Rattle.nesl_house.specs.Table.{IsClosed};
 
 use crate::accept::Door;
+use crate::answers::{Ear, Overheard};
+use crate::asking::Told;
 use crate::crowd::{Start, run_crowd};
-use crate::journal::{Journal, NoJournal, Visit};
+use crate::journal::{Caller, Ending, Journal, Missed, NoJournal, Visit};
 use crate::numbers::{Fault, Numbers};
 use crate::receipts::Receipts;
+use crate::watch::Watch;
 use crate::wire::{Patience, Reader, Writer, hear_out};
 use nesl_house::table::{CloseFault, Closed, Table};
 use nesl_line::device::Device;
@@ -110,31 +113,41 @@ impl<
         self.numbers.lock(self.rt).fault.is_some()
     }
 
-    // One connection, served whole. Where there is no memory for its answers, nothing is read.
-    fn attend(&self, stream: &TcpStream) -> Served {
+    // One connection, served whole, and what was waited for in vain. Where there is no memory for its answers, nothing
+    // is read.
+    fn attend(&self, caller: Caller, stream: &TcpStream) -> (Served, Option<Missed>) {
         let patience = self.terms.patience;
-        let writer = Writer::new(self.rt, stream, patience);
-        let Ok(writer) = BufWriter::with_capacity(self.alloc, ANSWER_BYTES, writer) else {
-            return Served {
+        let watch = Watch::new(self.rt, self.journal.is_counting());
+        let overheard = Overheard {
+            writer: Writer::new(self.rt, stream, patience),
+            ear: Ear::new(&watch, self.journal, caller),
+        };
+        let Ok(writer) = BufWriter::with_capacity(self.alloc, ANSWER_BYTES, overheard) else {
+            let served = Served {
                 lines: 0,
                 receipt: None,
                 end: End::NoMemory,
             };
+            return (served, None);
         };
-        let mut reader = Device::new(Reader::new(self.rt, stream, patience));
+        let mut reader = Device::new(Reader::new(self.rt, stream, &watch, patience));
         let mut writer = Device::new(writer);
         let served = self.serve(&mut reader, &mut writer);
         // What could not be written is not tried again.
-        drop(writer.into_inner().into_parts());
-        served
+        let (overheard, _) = writer.into_inner().into_parts();
+        let missed = reader.into_inner().missed();
+        (served, missed.or(overheard.writer.missed()))
     }
 
     fn serve(
         &self,
         reader: &mut Device<Reader<'_, R>>,
-        writer: &mut Device<BufWriter<Writer<'_, R>>>,
+        writer: &mut Device<BufWriter<Overheard<'_, Writer<'_, R>, R, J>>>,
     ) -> Served {
-        let helpers = self.pool.by(self.rt);
+        let helpers = Told {
+            helpers: self.pool.by(self.rt),
+            journal: self.journal,
+        };
         let sparing = Sparing::new(self.rt, helpers, self.terms.workers, self.gate);
         serve(
             self.rt, self.alloc, reader, writer, self.table, &sparing, &sparing,
@@ -142,12 +155,12 @@ impl<
     }
 
     // Serves a connection, and tells the journal when it begins and ends. What the user's session was told is taken in.
-    fn attend_told(&self, number: u64, stream: &TcpStream) {
-        self.journal.begun(number);
+    fn attend_told(&self, caller: Caller, stream: &TcpStream) {
+        self.journal.begun(caller);
         let since = Instant::now(self.rt).ok();
         // An answer is sent at once, where the system can.
         let _ = stream.set_nodelay(true).is_ok();
-        let served = self.attend(stream);
+        let (served, missed) = self.attend(caller, stream);
         if was_turned_away(&served) {
             let _ = hear_out(self.rt, stream).is_ok();
         }
@@ -155,7 +168,11 @@ impl<
             Some(since) => since.elapsed(self.rt).ok(),
             None => None,
         };
-        self.journal.ended(number, &self.visit(&served, took));
+        let visit = Visit {
+            took,
+            ..self.visit(&served, missed)
+        };
+        self.journal.ended(caller, &visit);
         if let Some(receipt) = served.receipt {
             if !self.receipts.lock(self.rt).take_in(receipt) {
                 self.end(Fault::Memory);
@@ -164,7 +181,7 @@ impl<
     }
 
     // What is told of a connection that has ended.
-    fn visit(&self, served: &Served, took: Option<Duration>) -> Visit<'x> {
+    fn visit(&self, served: &Served, missed: Option<Missed>) -> Visit<'x> {
         let user = match served.receipt {
             Some(receipt) => self.name_of(receipt.place),
             None => None,
@@ -172,8 +189,8 @@ impl<
         Visit {
             user,
             lines: served.lines,
-            end: served.end,
-            took,
+            ending: Ending::of(served.end, was_turned_away(served), missed),
+            took: None,
         }
     }
 
@@ -183,10 +200,10 @@ impl<
         Some(name.as_slice())
     }
 
-    // The next connection; none where the service has ended.
-    fn next_stream(&self) -> Option<TcpStream> {
+    // The next connection, and the port that it comes from; none where the service has ended.
+    fn next_stream(&self) -> Option<(TcpStream, u16)> {
         match self.door.next(self.rt) {
-            Ok(stream) => Some(stream),
+            Ok(taken_up) => Some(taken_up),
             Err(_) => {
                 if !self.has_ended() {
                     self.end(Fault::Socket);
@@ -205,10 +222,10 @@ impl<
             let Some(number) = self.numbers.lock(self.rt).next() else {
                 break;
             };
-            let Some(stream) = self.next_stream() else {
+            let Some((stream, port)) = self.next_stream() else {
                 break;
             };
-            self.attend_told(number, &stream);
+            self.attend_told(Caller { number, port }, &stream);
         }
     }
 
@@ -243,6 +260,14 @@ fn room_of_one(alloc: Global) -> Result<(Vec<u8>, Vec<u8>), AllocError> {
     Ok((line, answer))
 }
 
+// Where a service is kept.
+#[derive_where(Clone, Copy)]
+struct Site<'x, R> {
+    rt: &'x R,
+    alloc: Global,
+    listener: &'x TcpListener,
+}
+
 // The service over a pool of its own.
 fn serve_in<
     L: Ledger + Send + Sync,
@@ -250,9 +275,7 @@ fn serve_in<
     G: Gate + Sync,
     J: Journal + Sync,
 >(
-    rt: &R,
-    alloc: Global,
-    listener: &TcpListener,
+    site: Site<'_, R>,
     table: Table,
     terms: Terms,
     observers: Observers<'_, G, J>,
@@ -261,6 +284,11 @@ fn serve_in<
     requires { (blank.name ≡ L.name) × (blank.parts ≡ L.parts) × (blank.parts ≡ terms.workers) }
     ensures { IfOk result (λ c. IsClosed table.roster c.house c.lines) }
 {
+    let Site {
+        rt,
+        alloc,
+        listener,
+    } = site;
     let Ok(door) = Door::new(listener) else {
         return Err(ServeFault::Socket);
     };
@@ -342,5 +370,10 @@ pub fn serve_through<R: Threads + Wait + Clock + Sync, G: Gate + Sync, J: Journa
     ensures { IfOk result (λ c. IsClosed table.roster c.house c.lines) }
 {
     let blank = Blank::new(u64::from(terms.workers));
-    serve_in::<Brand, R, G, J>(rt, alloc, listener, table, terms, observers, blank)
+    let site = Site {
+        rt,
+        alloc,
+        listener,
+    };
+    serve_in::<Brand, R, G, J>(site, table, terms, observers, blank)
 }

@@ -1,7 +1,10 @@
 //! The bytes of a connection, each wait for which is bounded in time.
 ghost use Rattle.std.specs.Prelude.{◌≡◌};
+ghost use Rattle.std.specs.Io.{ReadsAtMost, WritesAtMost};
 
+use crate::journal::Missed;
 use crate::opening::Opening;
+use crate::watch::Watch;
 use std::io;
 use std::io::{ErrorKind, Read, Write};
 use std::net::{Shutdown, TcpStream};
@@ -31,6 +34,7 @@ const MOST_READS: u32 = 256;
 pub(crate) struct Reader<'s, R> {
     rt: &'s R,
     stream: &'s TcpStream,
+    watch: &'s Watch<'s, R>,
     patience: Patience,
     opening: Opening,
     /// Whether no byte of the line that is waited for was read yet.
@@ -38,18 +42,36 @@ pub(crate) struct Reader<'s, R> {
     until: Option<Instant>,
     /// Whether the socket's reads are bounded in time.
     is_timed: bool,
+    /// Whether a line hasn't come in time.
+    is_late: bool,
 }
 
 impl<'s, R: Clock> Reader<'s, R> {
-    pub(crate) fn new(rt: &'s R, stream: &'s TcpStream, patience: Patience) -> Reader<'s, R> {
+    pub(crate) fn new(
+        rt: &'s R,
+        stream: &'s TcpStream,
+        watch: &'s Watch<'s, R>,
+        patience: Patience,
+    ) -> Reader<'s, R> {
         Reader {
             rt,
             stream,
+            watch,
             patience,
             opening: Opening::new(),
             is_between: true,
             until: None,
             is_timed: false,
+            is_late: false,
+        }
+    }
+
+    /// Which line hasn't come in time.
+    pub(crate) fn missed(&self) -> Option<Missed> {
+        match self.opening {
+            _ if !self.is_late => None,
+            Opening::Whole => Some(Missed::Line),
+            _ => Some(Missed::FirstLine),
         }
     }
 
@@ -75,6 +97,15 @@ impl<'s, R: Clock> Reader<'s, R> {
         Ok(())
     }
 
+    // Reads some bytes before the time of the line is over.
+    fn read_in_time(&mut self, buf: &mut [u8]) -> io::Result<usize>
+        ensures { ReadsAtMost result buf.new }
+    {
+        self.begin()?;
+        let mut stream = self.stream;
+        stream.read(buf)
+    }
+
     // These bytes came.
     fn note(&mut self, bytes: &[u8]) {
         self.opening = self.opening.after(bytes);
@@ -89,12 +120,23 @@ impl<R: Clock> Read for Reader<'_, R> {
         if self.opening == Opening::Refused {
             return Ok(0);
         }
-        self.begin()?;
-        let mut stream = self.stream;
-        let count = stream.read(buf)?;
-        self.note(&buf[..count]);
-        Ok(count)
+        match self.read_in_time(buf) {
+            Ok(count) => {
+                self.note(&buf[..count]);
+                self.watch.begin();
+                Ok(count)
+            }
+            Err(error) => {
+                self.is_late = is_late(&error);
+                Err(error)
+            }
+        }
     }
+}
+
+// Whether something wasn't done in time.
+fn is_late(error: &io::Error) -> bool {
+    matches!(error.kind(), ErrorKind::TimedOut | ErrorKind::WouldBlock)
 }
 
 /// Writes the answers of a connection. It fails where a piece of one isn't taken in time.
@@ -105,6 +147,8 @@ pub(crate) struct Writer<'s, R> {
     idle: Option<Duration>,
     /// Until when the rest of a piece may take of which not all was taken yet.
     until: Option<Instant>,
+    /// Whether a piece wasn't taken in time.
+    is_late: bool,
 }
 
 impl<'s, R: Clock> Writer<'s, R> {
@@ -114,6 +158,16 @@ impl<'s, R: Clock> Writer<'s, R> {
             stream,
             idle: patience.idle,
             until: None,
+            is_late: false,
+        }
+    }
+
+    /// Whether an answer wasn't taken in time.
+    pub(crate) fn missed(&self) -> Option<Missed> {
+        if self.is_late {
+            Some(Missed::Taking)
+        } else {
+            None
         }
     }
 
@@ -125,6 +179,19 @@ impl<'s, R: Clock> Writer<'s, R> {
         self.stream
             .set_write_timeout(left_until(self.rt, self.until)?)
     }
+
+    // Writes some bytes of a piece before its time is over.
+    fn write_in_time(&mut self, piece: &[u8]) -> io::Result<usize>
+        ensures { WritesAtMost result piece.now }
+    {
+        self.begin()?;
+        let mut stream = self.stream;
+        let taken = stream.write(piece)?;
+        if taken == piece.len() {
+            self.until = None;
+        }
+        Ok(taken)
+    }
 }
 
 impl<R: Clock> Write for Writer<'_, R> {
@@ -133,13 +200,13 @@ impl<R: Clock> Write for Writer<'_, R> {
         if self.idle.is_none() {
             return stream.write(buf);
         }
-        self.begin()?;
-        let piece = &buf[..buf.len().min(PIECE_BYTES)];
-        let taken = stream.write(piece)?;
-        if taken == piece.len() {
-            self.until = None;
+        match self.write_in_time(&buf[..buf.len().min(PIECE_BYTES)]) {
+            Ok(taken) => Ok(taken),
+            Err(error) => {
+                self.is_late = is_late(&error);
+                Err(error)
+            }
         }
-        Ok(taken)
     }
 
     fn flush(&mut self) -> io::Result<()> {

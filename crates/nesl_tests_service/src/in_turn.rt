@@ -1,6 +1,6 @@
 // Two users whose sessions outlast their connections.
 use crate::client::{ann_and_bob, play};
-use nesl_service::journal::NoJournal;
+use nesl_service::journal::{Journal, NoJournal};
 use nesl_service::service::{Observers, ServeFault, Terms, serve_on, serve_through};
 use nesl_service::wire::Patience;
 use nesl_split_helpers::{Free, Gate};
@@ -42,19 +42,32 @@ pub fn lines_by<
     R: Net<Listener = TcpListener, Stream = TcpStream> + Threads + Wait + Clock + Abort + Sync,
     G: Gate + Sync,
 >(rt: &R, alloc: Global, terms: Terms, gate: &G, rows: &str) -> Result<u128, Fail> {
+    let observers = Observers {
+        gate,
+        journal: &NoJournal,
+    };
+    lines_told(rt, alloc, terms, observers, rows)
+}
+
+// How many lines are served to connections that are played, by these terms; these observers are told.
+pub fn lines_told<
+    R: Net<Listener = TcpListener, Stream = TcpStream> + Threads + Wait + Clock + Abort + Sync,
+    G: Gate + Sync,
+    J: Journal + Sync,
+>(
+    rt: &R,
+    alloc: Global,
+    terms: Terms,
+    observers: Observers<'_, G, J>,
+    rows: &str,
+) -> Result<u128, Fail> {
     let listener = TcpListener::bind(rt, "127.0.0.1:0")?;
     let address = listener.local_addr()?;
     let table = ann_and_bob(alloc)?;
     let (played, closed) = thread::join(
         rt,
         || play(rt, alloc, address, rows),
-        || {
-            let observers = Observers {
-                gate,
-                journal: &NoJournal,
-            };
-            serve_through(rt, alloc, &listener, table, terms, observers)
-        },
+        || serve_through(rt, alloc, &listener, table, terms, observers),
     );
     played?;
     Ok(closed?.lines)

@@ -14,4 +14,6 @@ mod receipts;
 #[cfg(test)]
 mod sparing;
 #[cfg(test)]
+mod telling;
+#[cfg(test)]
 mod waiting;

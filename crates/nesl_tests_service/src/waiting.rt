@@ -1,7 +1,7 @@
 // How long a service waits for a connection.
 use crate::client::ann_and_bob;
 use crate::in_turn::{lines_by, patient};
-use nesl_service::journal::{Journal, Visit};
+use nesl_service::journal::{Answered, Caller, Journal, Seat, Visit};
 use nesl_service::service::{Observers, ServeFault, Terms, serve_on, serve_through};
 use nesl_service::wire::Patience;
 use nesl_split_helpers::Free;
@@ -127,11 +127,27 @@ impl Journal for Closed {
         false
     }
 
-    fn begun(&self, _number: u64) {
+    fn begun(&self, _caller: Caller) {
         self.told.fetch_add(1, Ordering::SeqCst);
     }
 
-    fn ended(&self, _number: u64, _visit: &Visit<'_>) {
+    fn seated(&self, _caller: Caller, _seat: Seat<'_>) {
+        self.told.fetch_add(1, Ordering::SeqCst);
+    }
+
+    fn ended(&self, _caller: Caller, _visit: &Visit<'_>) {
+        self.told.fetch_add(1, Ordering::SeqCst);
+    }
+
+    fn is_counting(&self) -> bool {
+        true
+    }
+
+    fn answered(&self, _answered: &Answered) {
+        self.told.fetch_add(1, Ordering::SeqCst);
+    }
+
+    fn asked(&self, _is_granted: bool) {
         self.told.fetch_add(1, Ordering::SeqCst);
     }
 }

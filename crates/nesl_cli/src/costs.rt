@@ -1,0 +1,239 @@
+//! What the last line of a batch costs, for each of several values of `n`.
+ghost use Rattle.std.specs.Prelude.{◌≡◌, ℕ, List, Option, IfErr, map};
+ghost use Rattle.nesl_cli.specs.Program.{Fails};
+
+use crate::failure::Failure;
+use crate::run::{house_of, run};
+use nesl_line::device::{Device, Sink, Source};
+use nesl_line::exchange::MOST_READS;
+use std::alloc::{AllocError, Global};
+use thiserror::Error;
+
+/// Why costs could not be written whole.
+#[derive(Clone, Copy, PartialEq, Eq, Debug, Error)]
+pub enum CostsFault {
+    #[error("batch: read fault")]
+    Read,
+    #[error("batch: write fault")]
+    Write,
+    #[error("batch: no memory")]
+    Memory,
+}
+
+impl From<AllocError> for CostsFault {
+    fn from(_error: AllocError) -> CostsFault {
+        CostsFault::Memory
+    }
+}
+
+/// The first row.
+const HEAD: &[u8] = b"n,work,depth,fault\n";
+
+/// The most digits of a value.
+const MOST_DIGITS: usize = 18;
+
+/// How many bytes are asked for at once.
+const CHUNK: usize = 4096;
+
+// What is said for each value: these lines, for these users, evaluated in a heap of so many bytes, if there is to be
+// one.
+#[derive(Clone, Copy)]
+struct Said<'a> {
+    users: &'a [&'a str],
+    heap: Option<usize>,
+    lines: &'a [u8],
+}
+
+/// Writes the costs as CSV: the names of the cells, and a row for each of the values. The lines of the reader are said
+/// anew for each value, by the first user as far as they name no other. A row has the value, and the work and the depth
+/// that the last answer tells, or else its fault.
+pub(crate) fn write_costs<'a, S: Source, W: Sink>(
+    alloc: Global,
+    users: &[&'a str],
+    values: &'a str,
+    heap: Option<usize>,
+    reader: &mut S,
+    writer: &mut W,
+) -> Result<(), Failure<'a>>
+    ensures failed { IfErr result (λ failure. Fails failure (map (λ user. user.now) users.now)
+        (S.left reader.old) (S.left reader.new) (W.held writer.old) (W.held writer.new)) }
+{
+    let values = values_in(alloc, values)?;
+    let _ = house_of(alloc, users)?;
+    match read_and_write(alloc, users, heap, values.as_slice(), reader, writer) {
+        Ok(()) => Ok(()),
+        Err(fault) => Err(Failure::Costs(fault)),
+    }
+}
+
+// Reads the lines, and writes the rows.
+fn read_and_write<S: Source, W: Sink>(
+    alloc: Global,
+    users: &[&str],
+    heap: Option<usize>,
+    values: &[&str],
+    reader: &mut S,
+    writer: &mut W,
+) -> Result<(), CostsFault> {
+    let lines = lines_of(alloc, reader)?;
+    let said = Said {
+        users,
+        heap,
+        lines: lines.as_slice(),
+    };
+    write_whole(writer, HEAD)?;
+    for value in values {
+        let row = row_for(alloc, &said, value)?;
+        write_whole(writer, row.as_slice())?;
+    }
+    Ok(())
+}
+
+// The values that a text has between commas, each of 1 to 18 digits.
+fn values_in<'a>(alloc: Global, text: &'a str) -> Result<Vec<&'a str>, Failure<'a>>
+    ensures { IfErr result (λ failure. (users : List (List ℕ)) (left held : Option (List ℕ))
+        → Fails failure users left left held held) }
+{
+    let mut values = Vec::new(alloc);
+    for value in text.split(',') {
+        if !is_value(value) {
+            return Err(Failure::Value(value));
+        }
+        if values.push(value).is_err() {
+            return Err(Failure::Memory);
+        }
+    }
+    Ok(values)
+}
+
+fn is_value(text: &str) -> bool {
+    let bytes = text.as_bytes();
+    !bytes.is_empty() && bytes.len() <= MOST_DIGITS && are_digits(bytes)
+}
+
+fn are_digits(bytes: &[u8]) -> bool {
+    bytes.iter().all(|byte| byte.is_ascii_digit())
+}
+
+// All that a reader has.
+fn lines_of<S: Source>(alloc: Global, reader: &mut S) -> Result<Vec<u8>, CostsFault> {
+    let mut lines = Vec::new(alloc);
+    let mut chunk = [0u8; CHUNK];
+    for _ in 0..MOST_READS {
+        match reader.read(&mut chunk) {
+            Err(_) => return Err(CostsFault::Read),
+            Ok(0) => return Ok(lines),
+            Ok(count) => lines.extend_from_slice(&chunk[..count])?,
+        }
+    }
+    Err(CostsFault::Read)
+}
+
+// Writes all of the bytes, and hands them on.
+fn write_whole<W: Sink>(writer: &mut W, bytes: &[u8]) -> Result<(), CostsFault> {
+    let mut rest = bytes;
+    for _ in 0..bytes.len() {
+        if rest.is_empty() {
+            break;
+        }
+        match writer.write(rest) {
+            Err(_) => return Err(CostsFault::Write),
+            Ok(0) => return Err(CostsFault::Write),
+            Ok(count) => rest = rest.get(count..).unwrap_or(&[]),
+        }
+    }
+    match writer.flush() {
+        Ok(()) => Ok(()),
+        Err(_) => Err(CostsFault::Write),
+    }
+}
+
+// The row of a value.
+fn row_for(alloc: Global, said: &Said<'_>, value: &str) -> Result<Vec<u8>, CostsFault> {
+    let script = script_for(alloc, said, value)?;
+    let replies = replies_to(alloc, said, script.as_slice())?;
+    Ok(row_of(alloc, value, last_line(replies.as_slice()))?)
+}
+
+// The lines behind those that select the first user and give `n` this value.
+fn script_for(alloc: Global, said: &Said<'_>, value: &str) -> Result<Vec<u8>, AllocError> {
+    let first = match said.users.first() {
+        Some(user) => *user,
+        None => "",
+    };
+    let mut script = Vec::with_capacity(alloc, said.lines.len().saturating_add(64))?;
+    for part in [
+        b"user ".as_slice(),
+        first.as_bytes(),
+        b"\nn = ",
+        value.as_bytes(),
+        b";\n",
+        said.lines,
+    ] {
+        script.extend_from_slice(part)?;
+    }
+    Ok(script)
+}
+
+// What a new house of the users answers to these bytes.
+fn replies_to(alloc: Global, said: &Said<'_>, script: &[u8]) -> Result<Vec<u8>, CostsFault> {
+    let mut reader = Device::new(script);
+    let mut writer = Device::new(Vec::new(alloc));
+    match run(alloc, said.users, said.heap, &mut reader, &mut writer) {
+        Ok(()) => Ok(writer.into_inner()),
+        Err(_) => Err(CostsFault::Memory),
+    }
+}
+
+// The last line of a text each line of which has a line end.
+fn last_line(text: &[u8]) -> &[u8] {
+    let lines = text.strip_suffix(b"\n".as_slice()).unwrap_or(text);
+    match lines.iter().rposition(|byte| *byte == b'\n') {
+        Some(end) => lines.get(end.saturating_add(1)..).unwrap_or(&[]),
+        None => lines,
+    }
+}
+
+// The row of a value, by the last answer: the work and the depth that it tells, or else its fault.
+fn row_of(alloc: Global, value: &str, answer: &[u8]) -> Result<Vec<u8>, AllocError> {
+    let none = b"".as_slice();
+    let (work, depth, fault) = match cost_in(answer) {
+        Some((work, depth)) => (work, depth, none),
+        None => (none, none, fault_in(answer)),
+    };
+    let mut row = Vec::new(alloc);
+    for part in [
+        value.as_bytes(),
+        b",",
+        work,
+        b",",
+        depth,
+        b",",
+        fault,
+        b"\n",
+    ] {
+        row.extend_from_slice(part)?;
+    }
+    Ok(row)
+}
+
+// The work and the depth at the end of an answer.
+fn cost_in(answer: &[u8]) -> Option<(&[u8], &[u8])> {
+    let inner = answer.strip_suffix(b")".as_slice())?;
+    let open = inner.iter().rposition(|byte| *byte == b'(')?;
+    let inner = inner.get(open..)?.strip_prefix(b"(work ".as_slice())?;
+    let comma = inner.iter().position(|byte| *byte == b',')?;
+    let depth = inner.get(comma..)?.strip_prefix(b", depth ".as_slice())?;
+    Some((inner.get(..comma)?, depth))
+}
+
+// The fault that an answer is, by its name, or that it tells no cost.
+fn fault_in(answer: &[u8]) -> &[u8] {
+    match answer.strip_prefix(b"fault ".as_slice()) {
+        Some(name) => match name.iter().position(|byte| *byte == b' ') {
+            Some(end) => name.get(..end).unwrap_or(name),
+            None => name,
+        },
+        None => b"no cost",
+    }
+}

@@ -1,0 +1,87 @@
+//! The help texts.
+
+pub(crate) const ABOUT: &str = "NESL sessions for many users, every reply of which is proved";
+
+pub(crate) const BATCH: &str = "Answers the lines of standard input on standard output";
+
+pub(crate) const USERS: &str =
+    "A user's name: a letter a to z, then letters and digits, at most 16 in all; \
+    1 to 64 users, each named once";
+
+pub(crate) const HEAP: &str = "Evaluates in one heap of so many bytes: 16 to 1073741824";
+
+pub(crate) const CSV: &str =
+    "Writes n, work and depth of the last line for each of these values of n, as 1,2,4,8; \
+    the lines of standard input are said anew for each";
+
+pub(crate) const SERVE: &str = "Answers the lines of connections to 127.0.0.1, each of one user; \
+    the first line of each is `user NAME`";
+
+pub(crate) const PORT: &str =
+    "The port that is listened on: 0 to 65535, where 0 is any that is free";
+
+pub(crate) const WORKERS: &str =
+    "How many threads may help those that serve, all together: 0 to 64";
+
+pub(crate) const CONNECTIONS: &str = "Ends after so many connections: 1 to 1000000";
+
+pub(crate) const IDLE: &str =
+    "Ends a connection whose line has not come whole after so many seconds, \
+    or that takes nothing of an answer for so long: 1 to 86400";
+
+pub(crate) const FIRST_LINE: &str = "Ends a connection whose first line has not come whole \
+    after so many seconds: 1 to 86400, 10 without it";
+
+pub(crate) const LOG: &str =
+    "Tells on standard error of each connection's begin, user and end, and why it ended";
+
+pub(crate) const STATS: &str = "Writes how the service is doing into this file, \
+    as one line of JSON, every ten seconds and at the end";
+
+pub(crate) const BATCH_EXAMPLE: &str = "For example: pazkindu batch ann bob < lines";
+
+pub(crate) const SERVE_EXAMPLE: &str =
+    "For example: pazkindu serve --port 7000 --workers 4 ann bob";
+
+pub(crate) const BATCH_AFTER: &str = "\
+A line `user NAME` selects the user that the lines behind it are for. Each other line goes to that
+user's own session and is answered by one line: a value with its type, work and depth, what else was
+defined, or a fault. So
+
+    user ann
+    {a * a : a in [1, 2]};
+
+is answered by
+
+    user ann
+    it = [1, 4] : [int] (work 12, depth 7)
+
+A line that ends in a backslash goes on in the user's next one. :names, :budget and :type tell of
+the session, and :reset clears it.
+
+Exit status: 0 at the end of input, 1 where a device or memory failed, 2 where the words or the
+users' names are wrong.";
+
+pub(crate) const SERVE_AFTER: &str = "\
+It prints `listening on 127.0.0.1:7000` once it listens on that port. The first line of a connection
+names its user and is told back; each line behind it is answered by one line, as in
+
+    rlwrap nc -N 127.0.0.1 7000
+    user ann
+    user ann
+    2 * 3 + 1;
+    it = 7 : int (work 5, depth 5)
+
+A user has one connection at a time, and the session waits for the next. There are no passwords, so
+only this machine is listened to; docs/OPERATING.md says how others are let in, and what it costs.
+
+Exit status: 0 after the last of the connections, 1 where a socket or memory failed, 2 where the
+words or the users' names are wrong.";
+
+pub(crate) const PROGRAM_AFTER: &str = "\
+For instance, with one user whose name is ann,
+
+    printf 'user ann\\n2 * 3 + 1;\\n' | pazkindu batch ann
+
+prints `user ann` and `it = 7 : int (work 5, depth 5)`. `pazkindu batch --help` and `pazkindu serve
+--help` say more; README.md is where the guide begins, and docs/LANGUAGE.md has the language.";

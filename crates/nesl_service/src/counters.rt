@@ -1,0 +1,204 @@
+//! How a service is doing, in numbers.
+
+use crate::answers::FAULTS;
+use crate::journal::{Answered, Caller, Ending, Seat};
+use std::alloc::{AllocError, Global};
+use std::fmt::Write;
+use std::sync::atomic::{AtomicU64, Ordering};
+use std::time::Duration;
+
+/// Lines are slow that take as many milliseconds as one of these or longer.
+const SLOW_MILLIS: [u64; 3] = [1, 10, 100];
+
+/// Counts what a service does; any thread may. None of it names a user or a line.
+#[derive(Drop)]
+pub struct Counters {
+    begun: AtomicU64,
+    unknown: AtomicU64,
+    busy: AtomicU64,
+    /// By the place of the ending in `Ending::ALL`.
+    ended: Vec<AtomicU64>,
+    lines: AtomicU64,
+    /// By the place of the word in `FAULTS`.
+    faults: Vec<AtomicU64>,
+    /// By the place of the time in `SLOW_MILLIS`.
+    slow: Vec<AtomicU64>,
+    work: AtomicU64,
+    granted: AtomicU64,
+    refused: AtomicU64,
+    told: AtomicU64,
+    lost: AtomicU64,
+}
+
+// So many counters, each at 0.
+fn zeros(alloc: Global, count: usize) -> Result<Vec<AtomicU64>, AllocError> {
+    let mut zeros = Vec::with_capacity(alloc, count)?;
+    for _ in 0..count {
+        zeros.push(AtomicU64::new(0))?;
+    }
+    Ok(zeros)
+}
+
+fn add(counter: &AtomicU64, more: u64) {
+    counter.fetch_add(more, Ordering::SeqCst);
+}
+
+fn add_at(counters: &[AtomicU64], place: usize) {
+    if let Some(counter) = counters.get(place) {
+        add(counter, 1);
+    }
+}
+
+fn read(counter: &AtomicU64) -> u64 {
+    counter.load(Ordering::SeqCst)
+}
+
+fn read_at(counters: &[AtomicU64], place: usize) -> u64 {
+    match counters.get(place) {
+        Some(counter) => read(counter),
+        None => 0,
+    }
+}
+
+// Writes `"NAME":NUMBER`, behind a comma where it isn't the first.
+fn write_one(
+    text: &mut String,
+    place: usize,
+    name: &str,
+    counters: &[AtomicU64],
+) -> Result<(), AllocError> {
+    let comma = if place > 0 { "," } else { "" };
+    let number = read_at(counters, place);
+    write!(text, "{comma}\"{name}\":{number}")?;
+    Ok(())
+}
+
+impl Counters {
+    /// All of them at 0.
+    pub fn new(alloc: Global) -> Result<Counters, AllocError> {
+        Ok(Counters {
+            begun: AtomicU64::new(0),
+            unknown: AtomicU64::new(0),
+            busy: AtomicU64::new(0),
+            ended: zeros(alloc, Ending::ALL.len())?,
+            lines: AtomicU64::new(0),
+            faults: zeros(alloc, FAULTS.len())?,
+            slow: zeros(alloc, SLOW_MILLIS.len())?,
+            work: AtomicU64::new(0),
+            granted: AtomicU64::new(0),
+            refused: AtomicU64::new(0),
+            told: AtomicU64::new(0),
+            lost: AtomicU64::new(0),
+        })
+    }
+
+    /// A connection has begun.
+    pub fn begun(&self) {
+        add(&self.begun, 1);
+    }
+
+    /// A connection was seated.
+    pub fn seated(&self, seat: Seat<'_>) {
+        match seat {
+            Seat::User(_) => {}
+            Seat::Unknown => add(&self.unknown, 1),
+            Seat::Busy => add(&self.busy, 1),
+        }
+    }
+
+    /// A connection has ended.
+    pub fn ended(&self, ending: Ending) {
+        if let Some(place) = Ending::ALL.iter().position(|one| *one == ending) {
+            add_at(self.ended.as_slice(), place);
+        }
+    }
+
+    /// A line was answered.
+    pub fn answered(&self, answered: &Answered) {
+        add(&self.lines, 1);
+        if answered.work > 0 {
+            add(&self.work, answered.work);
+        }
+        if let Some(place) = answered.fault {
+            add_at(self.faults.as_slice(), place);
+        }
+        if let Some(took) = answered.took {
+            for (place, millis) in SLOW_MILLIS.iter().enumerate() {
+                if took >= Duration::from_millis(*millis) {
+                    add_at(self.slow.as_slice(), place);
+                }
+            }
+        }
+    }
+
+    /// A helper was asked for.
+    pub fn asked(&self, is_granted: bool) {
+        add(
+            if is_granted {
+                &self.granted
+            } else {
+                &self.refused
+            },
+            1,
+        );
+    }
+
+    /// A line of the log was told or lost.
+    pub fn told(&self, is_told: bool) {
+        add(if is_told { &self.told } else { &self.lost }, 1);
+    }
+
+    /// One line of JSON: all counters, after so long a time.
+    pub fn json(&self, alloc: Global, uptime: Duration) -> Result<String, AllocError> {
+        let mut text = String::new(alloc);
+        self.write_connections(&mut text, uptime)?;
+        self.write_lines(&mut text)?;
+        let (granted, refused) = (read(&self.granted), read(&self.refused));
+        write!(
+            text,
+            "\"helpers\":{{\"granted\":{granted},\"refused\":{refused}}}"
+        )?;
+        let (told, lost) = (read(&self.told), read(&self.lost));
+        write!(text, ",\"log\":{{\"told\":{told},\"lost\":{lost}}}}}")?;
+        Ok(text)
+    }
+
+    // Writes how long it is there, and what became of connections.
+    fn write_connections(&self, text: &mut String, uptime: Duration) -> Result<(), AllocError> {
+        let mut ended = 0u64;
+        for one in self.ended.as_slice() {
+            ended = ended.saturating_add(read(one));
+        }
+        let (seconds, begun) = (uptime.as_secs(), read(&self.begun));
+        let open = begun.saturating_sub(ended);
+        write!(
+            text,
+            "{{\"uptime\":{seconds},\"begun\":{begun},\"open\":{open}"
+        )?;
+        let (unknown, busy) = (read(&self.unknown), read(&self.busy));
+        write!(
+            text,
+            ",\"turned_away\":{{\"unknown\":{unknown},\"busy\":{busy}}},\"ended\":{{"
+        )?;
+        for (place, ending) in Ending::ALL.iter().enumerate() {
+            write_one(text, place, ending.words(), self.ended.as_slice())?;
+        }
+        write!(text, "}},")?;
+        Ok(())
+    }
+
+    // Writes what became of lines.
+    fn write_lines(&self, text: &mut String) -> Result<(), AllocError> {
+        let (lines, work) = (read(&self.lines), read(&self.work));
+        write!(text, "\"lines\":{lines},\"work\":{work},\"faults\":{{")?;
+        for (place, word) in FAULTS.iter().enumerate() {
+            write_one(text, place, word, self.faults.as_slice())?;
+        }
+        write!(text, "}},\"slow\":{{")?;
+        for (place, name) in ["1 ms", "10 ms", "100 ms"].iter().enumerate() {
+            write_one(text, place, name, self.slow.as_slice())?;
+        }
+        write!(text, "}},")?;
+        Ok(())
+    }
+}
