@@ -1,0 +1,4 @@
+pub mod Access
+pub mod Messages
+pub mod Rest
+pub mod Route

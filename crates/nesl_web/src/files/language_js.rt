@@ -1,0 +1,108 @@
+//! `page/language.js`, by scripts/page_files.
+
+/// The text.
+pub static TEXT: &str =
+    r##"/** What the page knows of lines and replies: the parts of a form, places in it, replies, faults, and numbers for n. */
+
+/** The most bytes that a form may have, its parts together. */
+export const MOST = 65536;
+
+/** What each fault means, in a sentence. */
+export const FAULTS = {
+  long: "A form has at most 65,536 bytes, its parts together.",
+  lexical: "No token begins at this byte.",
+  syntax: "The tokens are no form: one definition, one expression or one command, most of which end in a semicolon.",
+  nested: "The form is more than 100 high: too many parts stand within each other.",
+  unknown: "This name refers to nothing.",
+  type: "There is no type: what a function or sign is given isn’t what it takes.",
+  ambiguous: "The expression’s type isn’t determined.",
+  retype: "Another function refers to this name, so its type can’t change.",
+  taken: "The name is a built-in function’s or a datatype’s, or it can’t be defined so.",
+  overflow: "A number doesn’t fit in 64 bits.",
+  division: "A number is divided by 0.",
+  range: "A place or a number lies outside of what is allowed here.",
+  code: "A character’s code is 0 to 255.",
+  length: "Sequences that go together differ in length, or a length is below 0.",
+  empty: "An empty sequence has no greatest or least element.",
+  permutation: "A place stands twice among those that are written to.",
+  count: "The lengths of the pieces don’t add up to the length of the sequence.",
+  stride: "The step of a range is at least 1.",
+  deep: "More than 1,000 nodes stand within each other, those of called bodies too.",
+  large: "A pair, literal or record would have more than 1,048,576 nodes.",
+  work: "The line needs more work than a line may take, 1,000,000, or than the session has left.",
+  elements: "What is bound would have more than 100,000 nodes.",
+  transcript: "The session has no room for this line. The command :reset makes room, and forgets all names.",
+  memory: "Memory was wanting. The session is as it was.",
+  user: "The server knows no user of this name.",
+  busy: "Another connection has this user, maybe in another tab or window.",
+};
+
+/** The patterns of replies, each with the kind of reply and the names of its groups. */
+const REPLIES = [
+  ["value", /^(\w+) = (.*) : (.*) \(work (\d+), depth (\d+)\)$/, "name", "value", "type", "work", "depth"],
+  ["fault", /^fault ([a-z]+)(?: at (\d+)(?:\.\.(\d+))?)?(?: \(work (\d+)\))?$/, "word", "from", "to", "work"],
+  ["names", /^names:(?: (.*))?$/, "names"],
+  ["budget", /^budget: work (\d+), elements (\d+) of (\d+), lines (\d+) of (\d+), bytes (\d+) of (\d+)$/,
+    "work", "elements", "mostElements", "lines", "mostLines", "bytes", "mostBytes"],
+  ["type", /^type: (.*)$/, "type"],
+  ["reset", /^reset: lines (\d+)$/, "lines"],
+  ["function", /^(\w+) : (.* -> .*)$/, "name", "type"],
+];
+
+/** A reply, taken apart: its kind, and what it tells. `ok`, `more` and anything else have no more than their text. */
+export function readReply(text) {
+  for (const [kind, pattern, ...names] of REPLIES) {
+    const found = pattern.exec(text);
+    if (found) return Object.fromEntries([["kind", kind], ...names.map((name, place) => [name, found[place + 1]])]);
+  }
+  return { kind: text, text };
+}
+
+/** A number with its digits in groups of three. */
+export const grouped = (number) => String(number).replace(/\B(?=(\d{3})+$)/g, ",");
+
+/** How many bytes a text has as UTF-8. */
+export const bytesOf = (text) => new TextEncoder().encode(text).length;
+
+/** A form as it is said: each line but the last ends in a backslash. */
+export function partsOf(form) {
+  const lines = form.split("\n");
+  return lines.map((line, place) => (place < lines.length - 1 ? `${line}\\` : line));
+}
+
+/** A form as it is kept: no blanks around it, and no backslashes before its line breaks. */
+export const tidied = (text) => text.trim().replace(/\\\n/g, "\n");
+
+/** What stands in a text before the bytes from..to, in them, and behind them. Characters are never cut. */
+export function cutAt(text, from, to) {
+  const cut = ["", "", ""];
+  let byte = 0;
+  for (const character of text) {
+    const end = byte + bytesOf(character);
+    cut[end <= from ? 0 : byte < to ? 1 : 2] += character;
+    byte = end;
+  }
+  return cut;
+}
+
+const TOKENS = /%[^%]*%?|"[^"]*"?|`[ -~]|[a-z]\w*|\d+|\s+|[^]/gi;
+
+/** An expression with a number in place of n, as a whole token; null where no n stands in it. */
+export function withNumber(expression, number) {
+  const tokens = expression.match(TOKENS) ?? [];
+  const calls = (place) => tokens.slice(place + 1).find((token) => !/^[%\s]/.test(token)) === "(";
+  let found = false;
+  const put = tokens.map((token, place) => {
+    if (token.toLowerCase() !== "n" || calls(place)) return token;
+    found = true;
+    return /\d$/.test(tokens[place - 1] ?? "") ? ` ${number}` : String(number);
+  });
+  return found ? put.join("") : null;
+}
+
+/** The line that measures an expression for a number. The parentheses cost nothing, and let it bind only `it`. */
+export function measuringLine(expression, number) {
+  const put = withNumber(expression.trim().replace(/;$/, ""), number);
+  return put && `(${put.replace(/\s*\n\s*/g, " ")});`;
+}
+"##;

@@ -1,0 +1,112 @@
+//! `page/main.js`, by scripts/page_files.
+
+/// The text.
+pub static TEXT: &str =
+    r##"/** The page as a whole: who is at it, its connection, and which view is shown. */
+import { announce, find } from "./dom.js";
+import { forget, keep, kept } from "./kept.js";
+import { FAULTS } from "./language.js";
+import { askAll, askSoon, openLeft } from "./left.js";
+import { openLessons, showLessons } from "./lesson_view.js";
+import { openMeasure, showMeasure } from "./measure.js";
+import { openNotebook, queueForms, tellField } from "./notebook.js";
+import { session } from "./session.js";
+
+const UNREACHABLE = "The server can’t be reached. It may have been stopped.";
+const LOST = "The connection has ended. What is bound stays with the session, and waits for you.";
+const ENDED_FORM = "A form that was begun elsewhere waited in this session. The page’s question has ended it.";
+const NO_NAME = "A user’s name is a small letter, then small letters and digits, at most 16 in all.";
+const VIEWS = ["notebook", "measure", "lessons"];
+
+let view = VIEWS[0];
+
+/** What a connection that was refused is told, in words. */
+const why = (fault) => (FAULTS[fault] ? `fault ${fault}: ${FAULTS[fault]}` : UNREACHABLE);
+
+async function signIn(event) {
+  event.preventDefault();
+  const user = find("user").value.trim();
+  if (!/^[a-z][a-z0-9]{0,15}$/.test(user)) return refuse(NO_NAME);
+  const fault = await session.connect(user);
+  if (fault) return refuse(why(fault));
+  keep({ user });
+  return sit();
+}
+
+function refuse(text) {
+  find("sign-fault").textContent = text;
+  find("user").focus();
+  find("user").select();
+}
+
+/** Takes the session of this tab up again, after a reload or where the connection was lost. */
+async function takeUp() {
+  session.pending = kept.pending ?? 0;
+  const fault = await session.connectAgain(kept.user);
+  if (fault === "user") return leave(why(fault));
+  return fault ? tell(why(fault)) : sit();
+}
+
+/** Shows the book of a user who is seated. */
+async function sit() {
+  show(true);
+  tell("");
+  announce(`Connected as ${session.user}.`);
+  if (view === "notebook") find("field").focus();
+  if (!(await askAll())) tellField(ENDED_FORM);
+}
+
+function show(book) {
+  find("sign").hidden = book;
+  find("book").hidden = !book;
+  find("who").textContent = kept.user ?? "";
+  document.title = book ? `${kept.user} · Pazkindu` : "Pazkindu";
+  if (book) route();
+  else refuse(kept.told ?? "");
+}
+
+/** Tells what is wrong with the connection, or nothing. */
+function tell(text) {
+  find("banner").hidden = !text;
+  find("banner-text").textContent = text;
+  find("light").className = session.seated ? "light" : "light out";
+}
+
+/** Ends the connection, and begins with an empty page, which may tell why. */
+function leave(told) {
+  session.end();
+  forget();
+  keep({ told });
+  location.reload();
+}
+
+/** Shows the view that the address names, or else the one that is shown. */
+function route() {
+  const named = location.hash.slice(1);
+  if (VIEWS.includes(named)) view = named;
+  VIEWS.forEach((each) => (find(each).hidden = each !== view));
+  document.querySelectorAll("nav a").forEach((link) => {
+    link.ariaCurrent = link.hash === `#${view}` ? "page" : null;
+  });
+  if (view === "measure") showMeasure();
+  if (view === "lessons") showLessons();
+}
+
+function toNotebook(act) {
+  location.hash = "#notebook";
+  route();
+  act();
+}
+
+openNotebook(askSoon);
+openLeft();
+openMeasure(askSoon);
+openLessons((forms, title) => toNotebook(() => queueForms(forms, title)));
+find("sign-form").addEventListener("submit", signIn);
+find("leave").addEventListener("click", () => leave(""));
+find("again").addEventListener("click", takeUp);
+session.addEventListener("lost", () => tell(LOST));
+window.addEventListener("hashchange", () => kept.user && route());
+show(Boolean(kept.user));
+if (kept.user) takeUp();
+"##;

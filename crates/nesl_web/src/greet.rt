@@ -1,0 +1,101 @@
+//! A connection of a browser, as it begins.
+
+use crate::answer::{Refusal, file_head, refused, upgrade};
+use crate::files::File;
+use crate::head::{HeadFault, read_head};
+use crate::messages::Messages;
+use crate::route::{Route, route_for};
+use crate::wire::Wire;
+use std::alloc::Global;
+use std::io;
+use std::io::{ErrorKind, Write};
+use std::net::TcpStream;
+use std::time::{Clock, Duration};
+
+/// How many seconds a head may take to come, and a piece of an answer to be taken.
+const HEAD_SECONDS: u64 = 10;
+
+/// What became of a connection.
+#[derive(Drop)]
+pub enum Greeted<'s, R> {
+    /// It asked for a file of the page or was refused, was answered with this status, and has ended.
+    Answered(u16),
+    /// It is a WebSocket.
+    Session(Messages<'s, R>),
+}
+
+/// Reads what a browser asks for, and answers it. The names of the host that were `given` are let in beside those by
+/// which each machine calls itself. On a WebSocket a piece of an answer may take as long as `idle`.
+pub fn greet<'s, R: Clock>(
+    rt: &'s R,
+    alloc: Global,
+    stream: &'s TcpStream,
+    given: &[&[u8]],
+    idle: Option<Duration>,
+) -> io::Result<Greeted<'s, R>> {
+    let time = Some(Duration::from_secs(HEAD_SECONDS));
+    let mut wire = Wire::new(rt, stream, time);
+    wire.wait(time)?;
+    match read_head(alloc, &mut wire) {
+        Ok(bytes) => match route_for(alloc, given, bytes.as_slice())? {
+            Route::Page(file) => page(alloc, wire, file),
+            Route::Refused(refusal) => refuse(alloc, wire, refusal),
+            Route::Session(key, end) => {
+                wire.be_patient(idle)?;
+                session(alloc, wire, &key, bytes, end)
+            }
+        },
+        Err(HeadFault::Refused(refusal)) => refuse(alloc, wire, refusal),
+        Err(HeadFault::Lost) => Err(lost()),
+    }
+}
+
+// The connection ended, or memory ran out.
+fn lost() -> io::Error {
+    io::Error::from(ErrorKind::ConnectionAborted)
+}
+
+// Sends a file of the page, and ends.
+fn page<'s, R: Clock>(
+    alloc: Global,
+    mut wire: Wire<'s, R>,
+    file: File,
+) -> io::Result<Greeted<'s, R>> {
+    let Ok(head) = file_head(alloc, file) else {
+        return Err(lost());
+    };
+    wire.write_all(head.as_slice())?;
+    wire.write_all(file.text.as_bytes())?;
+    let _ = wire.hear_out().is_ok();
+    Ok(Greeted::Answered(200))
+}
+
+// Says why a request is refused, and ends.
+fn refuse<'s, R: Clock>(
+    alloc: Global,
+    mut wire: Wire<'s, R>,
+    refusal: Refusal,
+) -> io::Result<Greeted<'s, R>> {
+    let Ok(answer) = refused(alloc, refusal) else {
+        return Err(lost());
+    };
+    wire.write_all(answer.as_slice())?;
+    let _ = wire.hear_out().is_ok();
+    Ok(Greeted::Answered(refusal.status()))
+}
+
+// Accepts a WebSocket whose head ends at this place.
+fn session<'s, R: Clock>(
+    alloc: Global,
+    mut wire: Wire<'s, R>,
+    key: &[u8; 28],
+    bytes: Vec<u8>,
+    end: usize,
+) -> io::Result<Greeted<'s, R>> {
+    let Ok(answer) = upgrade(alloc, key) else {
+        return Err(lost());
+    };
+    let first = Vec::from_slice(alloc, bytes.get(end..).unwrap_or(&[]))?;
+    wire.write_all(answer.as_slice())?;
+    Ok(Greeted::Session(Messages::new(alloc, wire, first)))
+}

@@ -1,0 +1,13 @@
+//! The page, and connections of browsers: who may come, what is asked for, and lines over a WebSocket.
+#![tactic(auto)]
+
+pub mod access;
+pub mod answer;
+pub mod files;
+pub mod greet;
+pub mod head;
+pub mod lines;
+pub mod messages;
+mod rest;
+pub mod route;
+pub mod wire;

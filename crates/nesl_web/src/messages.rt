@@ -1,0 +1,172 @@
+//! The messages of a WebSocket.
+ghost use Rattle.std.specs.Prelude.{length};
+ghost use Rattle.nesl_web.specs.Messages.{IfLine};
+
+use crate::wire::Wire;
+use std::alloc::Global;
+use std::cell::{Cell, RefCell};
+use std::io;
+use std::io::ErrorKind;
+use std::time::{Clock, Duration};
+use tungstenite::{
+    CloseCode, CloseFrame, Error, Message, NoMask, Role, Utf8Bytes, WebSocket, WebSocketConfig,
+};
+
+/// The most bytes of a message: one more than a form may have.
+pub const MOST_BYTES: usize = 65_537;
+
+/// How many bytes are asked for at once.
+const READ_BYTES: usize = 4096;
+
+/// What a read gave.
+#[derive(Drop)]
+pub enum Heard {
+    /// A line, without its line end.
+    Line(Utf8Bytes),
+    /// What no line is, and needs no answer here.
+    Aside,
+    /// The peer says that it ends the connection.
+    Farewell,
+    /// What no line can be, and how the connection is ended for it.
+    Unfit(CloseCode),
+    /// The connection is lost, a message hasn't come in time, or memory ran out.
+    Lost(io::Error),
+}
+
+impl Heard {
+    /// What a read gave.
+    fn of(read: Result<Message, Error>) -> Heard
+        ensures { IfLine result }
+    {
+        match read {
+            Ok(Message::Text(text)) => line_of(text),
+            Ok(Message::Binary(_)) => Heard::Unfit(CloseCode::Unsupported),
+            Ok(Message::Ping(_) | Message::Pong(_) | Message::Close(_)) => Heard::Aside,
+            Err(Error::ConnectionClosed) => Heard::Farewell,
+            Err(Error::Capacity(_)) => Heard::Unfit(CloseCode::Size),
+            Err(Error::Utf8) => Heard::Unfit(CloseCode::Invalid),
+            Err(Error::Protocol(_)) => Heard::Unfit(CloseCode::Protocol),
+            Err(Error::Io(error)) => Heard::Lost(error),
+            Err(_) => Heard::Lost(lost()),
+        }
+    }
+}
+
+/// A WebSocket whose lines are read and whose answers are written in turn.
+#[derive(Drop)]
+pub struct Messages<'s, R> {
+    alloc: Global,
+    socket: RefCell<WebSocket<Wire<'s, R>, NoMask>>,
+    /// Whether an answer could not be sent whole.
+    is_broken: Cell<bool>,
+}
+
+impl<'s, R: Clock> Messages<'s, R> {
+    /// The messages of a connection whose first bytes have come.
+    pub fn new(alloc: Global, wire: Wire<'s, R>, first: Vec<u8>) -> Messages<'s, R> {
+        let config = WebSocketConfig::default()
+            .read_buffer_size(READ_BYTES)
+            .max_message_size(Some(MOST_BYTES))
+            .max_frame_size(Some(MOST_BYTES));
+        let socket = WebSocket::from_partially_read(
+            alloc,
+            wire,
+            NoMask,
+            first,
+            Role::Server,
+            Some(config),
+        );
+        Messages {
+            alloc,
+            socket: RefCell::new(socket),
+            is_broken: Cell::new(false),
+        }
+    }
+
+    /// The next line, which may take so long; none after the peer's farewell. What can't be a line ends the connection.
+    pub fn next(&self, time: Option<Duration>) -> io::Result<Option<Utf8Bytes>> {
+        let Ok(mut socket) = self.socket.try_borrow_mut() else {
+            return Err(lost());
+        };
+        socket.get_mut().wait(time)?;
+        for _ in 0..u64::MAX {
+            match Heard::of(socket.read()) {
+                Heard::Line(line) => return Ok(Some(line)),
+                Heard::Aside => {}
+                Heard::Farewell => return Ok(None),
+                Heard::Unfit(code) => {
+                    let _ = socket.close(Some(farewell(code))).is_ok();
+                    return Err(lost());
+                }
+                Heard::Lost(error) => return Err(error),
+            }
+        }
+        Err(lost())
+    }
+
+    /// Sends one message.
+    pub fn tell(&self, text: String) -> io::Result<()> {
+        let Ok(text) = Utf8Bytes::from_string(text) else {
+            return Err(lost());
+        };
+        let Ok(mut socket) = self.socket.try_borrow_mut() else {
+            return Err(lost());
+        };
+        match socket.send(Message::Text(text)) {
+            Ok(()) => Ok(()),
+            Err(error) => {
+                self.is_broken.set(true);
+                Err(failure_of(error))
+            }
+        }
+    }
+
+    /// Ends the connection: says so, if that wasn't said, and hears the peer out.
+    pub fn end(self) {
+        let Messages {
+            alloc: _,
+            socket,
+            is_broken,
+        } = self;
+        let mut socket = socket.into_inner();
+        if is_broken.get() {
+            return;
+        }
+        if socket.can_write() {
+            let _ = socket.close(Some(farewell(CloseCode::Normal))).is_ok();
+        }
+        let _ = socket.get_mut().hear_out().is_ok();
+    }
+}
+
+// A message could not be read or sent.
+fn lost() -> io::Error {
+    io::Error::from(ErrorKind::ConnectionAborted)
+}
+
+// Why a message could not be sent.
+fn failure_of(error: Error) -> io::Error {
+    match error {
+        Error::Io(error) => error,
+        _ => lost(),
+    }
+}
+
+// The end of a connection, as it is told.
+fn farewell(code: CloseCode) -> CloseFrame {
+    CloseFrame {
+        code,
+        reason: Utf8Bytes::new(),
+    }
+}
+
+// A text is a line if no line ends within it.
+fn line_of(text: Utf8Bytes) -> Heard
+    ensures { IfLine result }
+{
+    if text.as_str().as_bytes().contains(&b'\n') {
+        Heard::Unfit(CloseCode::Unsupported)
+    } else {
+        Heard::Line(text)
+    }
+}

@@ -1,0 +1,116 @@
+//! What a request comes to.
+ghost use Rattle.std.specs.Prelude.{◌≡◌, map, true, IfOk};
+ghost use Rattle.httparse.specs.Spans.{IsRequestOf, IsRequestWithin};
+ghost use Rattle.nesl_web.specs.Route.{HasHead, LetsIn};
+
+use crate::access::{is_allowed, values_of};
+use crate::answer::Refusal;
+use crate::files::{File, file_at};
+use httparse::spans::{EMPTY_HEADER_SPAN, HeaderSpan, RequestSpans, parse_request};
+use httparse::{Error, Status};
+use std::alloc::{AllocError, Global};
+use websocket::handshake::server::check_request;
+
+/// The most fields of a head.
+const MOST_FIELDS: usize = 64;
+
+/// What a request comes to.
+#[derive(Clone, Copy)]
+pub enum Route {
+    /// A file of the page.
+    Page(File),
+    /// A WebSocket, with the key that accepts it, and where the bytes begin that came behind the head.
+    Session([u8; 28], usize),
+    Refused(Refusal),
+}
+
+/// Whether a head has come whole, or why it is refused.
+#[tactic(auto, using(crate::proofs::RouteLemmas::has_head))]
+pub fn is_whole(bytes: &[u8]) -> Result<bool, Refusal>
+    ensures { IfOk result (λ whole. whole ≡ true → HasHead bytes.now) }
+{
+    let mut fields = [EMPTY_HEADER_SPAN; MOST_FIELDS];
+    match parse_request(bytes, &mut fields) {
+        Ok(Status::Complete(_)) => Ok(true),
+        Ok(Status::Partial) => Ok(false),
+        Err(error) => Err(refusal_of(error)),
+    }
+}
+
+/// What a request comes to that begins with these bytes, by the names of the host that were given.
+pub fn route_for(alloc: Global, given: &[&[u8]], bytes: &[u8]) -> Result<Route, AllocError>
+    ensures { IfOk result (LetsIn (map (λ name. name.now) given.now) bytes.now) }
+{
+    let mut fields = [EMPTY_HEADER_SPAN; MOST_FIELDS];
+    match parse_request(bytes, &mut fields) {
+        Ok(Status::Complete(request)) => route_of(alloc, given, bytes, &request, &fields),
+        Ok(Status::Partial) => Ok(Route::Refused(Refusal::Unreadable)),
+        Err(error) => Ok(Route::Refused(refusal_of(error))),
+    }
+}
+
+fn refusal_of(error: Error) -> Refusal {
+    match error {
+        Error::TooManyHeaders => Refusal::Large,
+        _ => Refusal::Unreadable,
+    }
+}
+
+// What a request comes to that was read so.
+fn route_of(
+    alloc: Global,
+    given: &[&[u8]],
+    bytes: &[u8],
+    request: &RequestSpans,
+    fields: &[HeaderSpan],
+) -> Result<Route, AllocError>
+    requires within { IsRequestWithin bytes.now fields.now request.now }
+    requires read { IsRequestOf bytes.now fields.now request.now }
+    ensures { IfOk result (LetsIn (map (λ name. name.now) given.now) bytes.now) }
+{
+    let all = &fields[..request.headers];
+    let hosts = values_of(alloc, bytes, all, b"Host")?;
+    let origins = values_of(alloc, bytes, all, b"Origin")?;
+    if !is_allowed(given, hosts.as_slice(), origins.as_slice()) {
+        return Ok(Route::Refused(Refusal::Forbidden));
+    }
+    Ok(found(bytes, request, fields))
+}
+
+// What an allowed request comes to.
+fn found(bytes: &[u8], request: &RequestSpans, fields: &[HeaderSpan]) -> Route
+    requires { IsRequestWithin bytes.now fields.now request.now }
+{
+    let Ok(path) = str::from_utf8(without_query(request.path.of(bytes))) else {
+        return Route::Refused(Refusal::NotFound);
+    };
+    let file = file_at(path);
+    if path != "/session" && file.is_none() {
+        return Route::Refused(Refusal::NotFound);
+    }
+    if request.method.of(bytes) != b"GET".as_slice() {
+        return Route::Refused(Refusal::Method);
+    }
+    match file {
+        Some(file) => Route::Page(file),
+        None => session(bytes, request, fields),
+    }
+}
+
+// A request for a WebSocket, if it is one.
+fn session(bytes: &[u8], request: &RequestSpans, fields: &[HeaderSpan]) -> Route
+    requires { IsRequestWithin bytes.now fields.now request.now }
+{
+    match check_request(bytes, request, fields) {
+        Ok(key) => Route::Session(key, request.len),
+        Err(_) => Route::Refused(Refusal::Unreadable),
+    }
+}
+
+// What stands before a question mark.
+fn without_query(target: &[u8]) -> &[u8] {
+    match target.iter().position(|byte| *byte == b'?') {
+        Some(place) => &target[..place],
+        None => target,
+    }
+}
