@@ -1,0 +1,88 @@
+//! Hints on lines without tokens.
+ghost use Rattle.std.specs.Prelude.{IfOk, length};
+ghost use Rattle.nesl_hints_reading.specs.Within.{IsWithin};
+
+use crate::hint::{Hint, Sentence};
+use crate::signs::SIGNS;
+use nesl_lex::token::Span;
+use std::alloc::{AllocError, Global};
+
+/// Why no token, blank or whole comment stands at this byte of the text.
+pub fn lexical(alloc: Global, text: &[u8], at: usize) -> Result<Hint, AllocError>
+    ensures { IfOk result (IsWithin (length text.now)) }
+{
+    let start = at.min(text.len());
+    let (len, said) = said_of(&text[start..]);
+    let hint = Hint {
+        place: Span {
+            start,
+            end: start.saturating_add(len),
+        },
+        second: None,
+        sentence: Sentence::of(alloc, said)?.done(),
+    };
+    Ok(hint.within(text.len()))
+}
+
+// How many bytes are wrong at the front, and why.
+fn said_of(bytes: &[u8]) -> (usize, &'static [u8]) {
+    match bytes.first() {
+        None => (0, b"something is missing here"),
+        Some(byte) => match *byte {
+            b'"' => said_of_text(bytes),
+            b'%' => (
+                1,
+                b"the comment that begins here has no closing `%`; a remainder is `rem(a, b)`",
+            ),
+            b'0'..=b'9' => (digits(bytes), b"9223372036854775807 is the greatest number"),
+            b'`' => (
+                bytes.len().min(2),
+                b"a character is a backquote and one byte from 32 to 126, as `a; of others say `code_char(10)`",
+            ),
+            _ => said_of_sign(bytes),
+        },
+    }
+}
+
+fn digits(bytes: &[u8]) -> usize {
+    bytes.iter().take_while(|b| b.is_ascii_digit()).count()
+}
+
+// Why the text that begins at the front doesn't end.
+fn said_of_text(bytes: &[u8]) -> (usize, &'static [u8]) {
+    let inside = bytes
+        .iter()
+        .skip(1)
+        .take_while(|b| **b >= 32 && **b <= 126)
+        .count();
+    let len = inside.saturating_add(1);
+    if len < bytes.len() {
+        return (
+            len.saturating_add(1),
+            b"a text has bytes from 32 to 126 only, and no escapes: `code_char(10)` makes another byte",
+        );
+    }
+    (1, b"the text that begins here has no closing `\"`")
+}
+
+// Why a byte begins no token that is no letter, digit or quote.
+fn said_of_sign(bytes: &[u8]) -> (usize, &'static [u8]) {
+    for (seen, said) in &SIGNS {
+        if bytes.starts_with(seen) {
+            return (seen.len(), said);
+        }
+    }
+    match bytes.first() {
+        Some(byte) if *byte > 126 => (
+            1usize.saturating_add(
+                bytes
+                    .iter()
+                    .skip(1)
+                    .take_while(|b| **b >= 128 && **b < 192)
+                    .count(),
+            ),
+            b"this is no sign of the language, whose bytes are from 32 to 126",
+        ),
+        _ => (1, b"no sign begins with this byte"),
+    }
+}

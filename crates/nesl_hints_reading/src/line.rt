@@ -1,0 +1,322 @@
+//! Hints on lines without a form.
+ghost use Rattle.std.specs.Prelude.{IfOk, length};
+ghost use Rattle.nesl_hints_reading.specs.Within.{IsWithin};
+
+use crate::commands::read_command;
+use crate::halt::{Halt, Wrong, stop, stop_with};
+use crate::hint::Hint;
+use crate::machine::{read_expression, read_type};
+use crate::problems::{Problem, told};
+use crate::source::{is_sign, is_word, name_in};
+use nesl_lex::token::{Kind, Sign, Span, Token, Word};
+use std::alloc::{AllocError, Global};
+
+/// Words that begin a line in other languages, and what is said of them.
+const FOREIGN: [(&[u8], &[u8]); 18] = [
+    (b"def", b"a function is defined by `function g(x) = x + 1;`"),
+    (b"fun", b"a function is defined by `function g(x) = x + 1;`"),
+    (b"fn", b"a function is defined by `function g(x) = x + 1;`"),
+    (
+        b"func",
+        b"a function is defined by `function g(x) = x + 1;`",
+    ),
+    (
+        b"define",
+        b"a function is defined by `function g(x) = x + 1;`",
+    ),
+    (
+        b"lambda",
+        b"functions are no values: define one by `function g(x) = x + 1;`",
+    ),
+    (
+        b"type",
+        b"a datatype is defined by `datatype point (int, int);`, and a type is told by `:type x;`",
+    ),
+    (
+        b"data",
+        b"a datatype is defined by `datatype point (int, int);`",
+    ),
+    (
+        b"struct",
+        b"a datatype is defined by `datatype point (int, int);`",
+    ),
+    (
+        b"var",
+        b"a variable is bound by its name alone, as in `x = 3;`",
+    ),
+    (
+        b"val",
+        b"a variable is bound by its name alone, as in `x = 3;`",
+    ),
+    (
+        b"const",
+        b"a variable is bound by its name alone, as in `x = 3;`",
+    ),
+    (
+        b"set",
+        b"a variable is bound by its name alone, as in `x = 3;`",
+    ),
+    (
+        b"return",
+        b"nothing is returned: a function's body is its value",
+    ),
+    (
+        b"print",
+        b"an expression alone tells its value: leave `print` out",
+    ),
+    (
+        b"for",
+        b"there are no loops: `{a * a : a in v}` does something for each element",
+    ),
+    (
+        b"while",
+        b"there are no loops: a function may call itself, and `{a * a : a in v}` goes over elements",
+    ),
+    (
+        b"import",
+        b"there are no modules: all functions are there from the beginning",
+    ),
+];
+
+/// Why the tokens of the text are no form: the first token after which none can go on.
+pub fn syntax(alloc: Global, text: &[u8], tokens: &[Token]) -> Result<Hint, AllocError>
+    ensures { IfOk result (IsWithin (length text.now)) }
+{
+    let wrong = match read_line(alloc, tokens) {
+        Err(Halt::Wrong(wrong)) => wrong,
+        Err(Halt::Memory) => return Err(AllocError),
+        Ok(()) => Wrong {
+            problem: Problem::NoForm,
+            place: Span {
+                start: 0,
+                end: text.len(),
+            },
+            second: None,
+        },
+    };
+    let hint = told(alloc, text, wrong)?;
+    Ok(hint.within(text.len()))
+}
+
+// Reads a line.
+fn read_line(alloc: Global, tokens: &[Token]) -> Result<(), Halt> {
+    let [first, rest @ ..] = tokens else {
+        return Ok(());
+    };
+    match &first.kind {
+        Kind::Symbol(Sign::Colon) => read_command(alloc, first, rest),
+        Kind::Reserved(Word::Function) => read_function(alloc, first.span, rest),
+        Kind::Reserved(Word::Datatype) => read_datatype(alloc, first.span, rest),
+        Kind::Name(name) => read_named(alloc, name.as_slice(), tokens, rest),
+        Kind::Truth(_) => match rest {
+            [next, ..] if is_sign(next, Sign::Equal) => stop(Problem::TruthAsName, first.span),
+            _ => read_body(alloc, tokens, first.span),
+        },
+        Kind::Reserved(word) => match rest {
+            [next, ..] if is_sign(next, Sign::Equal) => stop(Problem::WordAsName, first.span),
+            _ => {
+                let _ = word;
+                read_body(alloc, tokens, first.span)
+            }
+        },
+        _ => read_body(alloc, tokens, first.span),
+    }
+}
+
+// Reads a line that begins with a name.
+fn read_named(alloc: Global, name: &[u8], tokens: &[Token], rest: &[Token]) -> Result<(), Halt> {
+    let [next, behind @ ..] = rest else {
+        return read_body(alloc, tokens, Span { start: 0, end: 0 });
+    };
+    if is_sign(next, Sign::Equal) {
+        return read_body(alloc, behind, next.span);
+    }
+    match read_body(alloc, tokens, next.span) {
+        Err(Halt::Wrong(found)) => {
+            for (foreign, said) in &FOREIGN {
+                if name == *foreign {
+                    let place = match tokens.first() {
+                        Some(first) => first.span,
+                        None => next.span,
+                    };
+                    return stop(Problem::Elsewhere(said), place);
+                }
+            }
+            Err(Halt::Wrong(found))
+        }
+        other => other,
+    }
+}
+
+/// Reads an expression and the `;` behind it. `before` is the token before it.
+pub(crate) fn read_body(alloc: Global, tokens: &[Token], before: Span) -> Result<(), Halt> {
+    let Some((last, front)) = tokens.split_last() else {
+        return stop(Problem::GoesOn, before);
+    };
+    if is_sign(last, Sign::Semicolon) {
+        return read_expression(alloc, front, last.span);
+    }
+    read_expression(alloc, tokens, last.span)?;
+    stop(Problem::NoSemicolon, last.span)
+}
+
+// The name of a definition.
+fn read_name(token: &Token) -> Result<(), Halt> {
+    match &token.kind {
+        Kind::Name(_) => Ok(()),
+        Kind::Truth(_) => stop(Problem::TruthAsName, token.span),
+        Kind::Reserved(_) => stop(Problem::WordAsName, token.span),
+        _ => stop(Problem::NoName, token.span),
+    }
+}
+
+// How many tokens stand before the first one of a sign.
+fn place_of(tokens: &[Token], sign: Sign) -> Option<usize> {
+    tokens.iter().position(|token| is_sign(token, sign))
+}
+
+// Reads a function's line behind its first word.
+fn read_function(alloc: Global, word: Span, rest: &[Token]) -> Result<(), Halt> {
+    let [name, behind @ ..] = rest else {
+        return stop(Problem::NoName, word);
+    };
+    read_name(name)?;
+    let Some(cut) = place_of(behind, Sign::Equal) else {
+        return no_equal(alloc, name.span, behind);
+    };
+    let (head, body) = behind.split_at(cut.min(behind.len()));
+    let equal = body.first().map_or(name.span, |token| token.span);
+    read_head(alloc, name.span, head, equal)?;
+    let tail = body.get(1..).unwrap_or(&[]);
+    read_body(alloc, tail, equal)
+}
+
+// A function's line that has no `=`.
+fn no_equal(alloc: Global, name: Span, behind: &[Token]) -> Result<(), Halt> {
+    if let Some(place) = place_of(behind, Sign::DoubleEqual) {
+        if let Some(token) = behind.get(place) {
+            return stop(Problem::DoubleEqual, token.span);
+        }
+    }
+    let [first, next @ ..] = behind else {
+        return stop(Problem::NoParameter, name);
+    };
+    check_names(behind, true)?;
+    let _ = alloc;
+    if name_in(first).is_some() {
+        return match next.first() {
+            Some(token) => stop_with(Problem::NoEqual, token.span, first.span),
+            None => stop(Problem::NoEqual, first.span),
+        };
+    }
+    let mut depth = 0u64;
+    for token in behind {
+        if is_sign(token, Sign::OpenParenthesis) {
+            depth = depth.saturating_add(1);
+        } else if is_sign(token, Sign::CloseParenthesis) {
+            depth = depth.saturating_sub(1);
+        } else if depth == 0 {
+            return stop(Problem::NoEqual, token.span);
+        }
+    }
+    stop(Problem::NoEqual, name)
+}
+
+// The first truth value among the names of a parameter, up to the first token of another kind, or anything else there
+// where `only_truths` doesn't say otherwise.
+fn check_names(tokens: &[Token], only_truths: bool) -> Result<(), Halt> {
+    for token in tokens {
+        match &token.kind {
+            Kind::Truth(_) => return stop(Problem::TruthAsName, token.span),
+            Kind::Name(_)
+            | Kind::Symbol(Sign::OpenParenthesis | Sign::CloseParenthesis | Sign::Comma) => {}
+            _ if only_truths => return Ok(()),
+            Kind::Reserved(_) => return stop(Problem::WordAsName, token.span),
+            _ => return stop(Problem::NoPattern, token.span),
+        }
+    }
+    Ok(())
+}
+
+// Reads a parameter, and a signature behind a `:`, if there is one.
+fn read_head(alloc: Global, name: Span, head: &[Token], equal: Span) -> Result<(), Halt> {
+    let Some(cut) = place_of(head, Sign::Colon) else {
+        return read_parameter(alloc, name, head, equal);
+    };
+    let (parameter, behind) = head.split_at(cut.min(head.len()));
+    let colon = behind.first().map_or(equal, |token| token.span);
+    read_parameter(alloc, name, parameter, colon)?;
+    read_signature(alloc, behind.get(1..).unwrap_or(&[]), equal)
+}
+
+fn read_parameter(alloc: Global, name: Span, tokens: &[Token], end: Span) -> Result<(), Halt> {
+    let [_, rest @ ..] = tokens else {
+        return stop(Problem::NoParameter, end);
+    };
+    check_names(tokens, false)?;
+    match read_expression(alloc, tokens, end) {
+        Err(Halt::Wrong(found)) => match found.problem {
+            Problem::NoParentheses => match rest.first() {
+                Some(token) => stop_with(Problem::SecondParameter, token.span, name),
+                None => Err(Halt::Wrong(found)),
+            },
+            _ => Err(Halt::Wrong(found)),
+        },
+        other => other,
+    }
+}
+
+fn read_signature(alloc: Global, tokens: &[Token], end: Span) -> Result<(), Halt> {
+    let Some(cut) = place_of(tokens, Sign::RightArrow) else {
+        let place = tokens.first().map_or(end, |token| token.span);
+        return stop(Problem::NoArrow, place);
+    };
+    let (front, behind) = tokens.split_at(cut.min(tokens.len()));
+    let arrow = behind.first().map_or(end, |token| token.span);
+    read_type(alloc, front, arrow)?;
+    let target = behind.get(1..).unwrap_or(&[]);
+    match place_of(target, Sign::DoubleColon) {
+        None => read_type(alloc, target, end),
+        Some(cut) => {
+            let (to, members) = target.split_at(cut.min(target.len()));
+            let colons = members.first().map_or(end, |token| token.span);
+            read_type(alloc, to, colons)?;
+            read_members(members.get(1..).unwrap_or(&[]), end)
+        }
+    }
+}
+
+// Reads the classes of names, in parentheses.
+fn read_members(tokens: &[Token], end: Span) -> Result<(), Halt> {
+    for (place, token) in tokens.iter().enumerate() {
+        let fits = match place % 4 {
+            0 if place == 0 => is_sign(token, Sign::OpenParenthesis),
+            0 => is_sign(token, Sign::Semicolon) || is_sign(token, Sign::CloseParenthesis),
+            2 => is_word(token, Word::In),
+            _ => name_in(token).is_some(),
+        };
+        if !fits {
+            return stop(Problem::NoMember, token.span);
+        }
+    }
+    match tokens.last() {
+        Some(last) if is_sign(last, Sign::CloseParenthesis) => Ok(()),
+        _ => stop(Problem::NoMember, end),
+    }
+}
+
+// Reads a datatype's line behind its first word.
+fn read_datatype(alloc: Global, word: Span, rest: &[Token]) -> Result<(), Halt> {
+    let [name, behind @ ..] = rest else {
+        return stop(Problem::NoName, word);
+    };
+    read_name(name)?;
+    let Some((last, front)) = behind.split_last() else {
+        return stop(Problem::NoType, name.span);
+    };
+    if is_sign(last, Sign::Semicolon) {
+        return read_type(alloc, front, last.span);
+    }
+    read_type(alloc, behind, last.span)?;
+    stop(Problem::NoSemicolon, last.span)
+}

@@ -1,0 +1,392 @@
+//! The tokens that stand behind an expression.
+
+use crate::halt::{Halt, stop, stop_with};
+use crate::machine::{Machine, Mode};
+use crate::openings::{Open, Opening};
+use crate::problems::Problem;
+use crate::source::{is_sign, name_in};
+use nesl_lex::token::{Kind, Sign, Span, Token, Word};
+
+/// Two neighbouring signs that another language has for one, and what is said of them.
+const PAIRS: [(Sign, Sign, &[u8]); 13] = [
+    (
+        Sign::Plus,
+        Sign::Equal,
+        b"`+=` is no sign: a name is bound anew, as in `x = x + 1;`",
+    ),
+    (
+        Sign::DoublePlus,
+        Sign::Semicolon,
+        b"`++` joins two sequences; one more is `x = x + 1;`",
+    ),
+    (
+        Sign::Minus,
+        Sign::Equal,
+        b"`-=` is no sign: a name is bound anew, as in `x = x - 1;`",
+    ),
+    (
+        Sign::Star,
+        Sign::Equal,
+        b"`*=` is no sign: a name is bound anew, as in `x = x * 2;`",
+    ),
+    (
+        Sign::Star,
+        Sign::Star,
+        b"`**` is no sign: write a product, or `lshift(1, n)` for a power of two",
+    ),
+    (
+        Sign::Slash,
+        Sign::Slash,
+        b"`//` is no sign: `/` between whole numbers drops the fraction, and a comment is `% .. %`",
+    ),
+    (
+        Sign::Less,
+        Sign::Greater,
+        b"`<>` is no sign: two values that differ are `/=`",
+    ),
+    (Sign::Equal, Sign::Greater, b"`=>` is no sign: write `>=`"),
+    (Sign::Equal, Sign::Less, b"`=<` is no sign: write `<=`"),
+    (
+        Sign::DoubleEqual,
+        Sign::Equal,
+        b"`===` is no sign: `==` compares, and `eql(a, b)` compares sequences and pairs",
+    ),
+    (
+        Sign::Bar,
+        Sign::Bar,
+        b"`||` is no sign: write `or`, which evaluates both sides",
+    ),
+    (
+        Sign::Colon,
+        Sign::Equal,
+        b"a name is bound by `=` alone, as in `x = 3;`",
+    ),
+    (
+        Sign::Less,
+        Sign::Less,
+        b"`<<` is no sign: write `lshift(x, n)`",
+    ),
+];
+
+/// What is said of two signs that another language has for one.
+pub(crate) fn pair_said(first: &Token, second: &Token) -> Option<&'static [u8]> {
+    if first.span.end != second.span.start {
+        return None;
+    }
+    for (one, other, said) in &PAIRS {
+        if is_sign(first, *one) && is_sign(second, *other) {
+            return Some(said);
+        }
+    }
+    None
+}
+
+impl<'a> Machine<'a> {
+    /// A token behind an expression.
+    pub(crate) fn follow(&mut self, place: usize, token: &Token) -> Result<(), Halt> {
+        if self.is_whole_type() {
+            return stop(Problem::BehindType, token.span);
+        }
+        match &token.kind {
+            Kind::Symbol(sign) => self.follow_sign(place, token, *sign),
+            Kind::Reserved(word) => self.follow_word(place, token, *word),
+            _ => self.no_operator(place, token),
+        }
+    }
+
+    fn follow_sign(&mut self, place: usize, token: &Token, sign: Sign) -> Result<(), Halt> {
+        match sign {
+            Sign::OpenParenthesis => self.call(place, token),
+            Sign::OpenBracket => self.open(Opening::Index, token.span, place),
+            Sign::OpenBrace | Sign::Hash => self.no_operator(place, token),
+            Sign::CloseParenthesis | Sign::CloseBracket | Sign::CloseBrace => {
+                self.close(token, sign)
+            }
+            Sign::Comma => self.comma(place, token),
+            Sign::Semicolon => self.semicolon(place, token),
+            Sign::Colon => self.colon(place, token),
+            Sign::Bar => self.bar(place, token),
+            Sign::Equal => self.equal(place, token),
+            Sign::DoubleColon => stop(Problem::ColonHere, token.span),
+            _ => {
+                self.operator();
+                Ok(())
+            }
+        }
+    }
+
+    fn follow_word(&mut self, place: usize, token: &Token, word: Word) -> Result<(), Halt> {
+        match word {
+            Word::Or | Word::Nor | Word::Xor | Word::And | Word::Nand => {
+                self.operator();
+                Ok(())
+            }
+            Word::Then => self.turn(
+                place,
+                token,
+                Opening::Test,
+                Opening::Branch,
+                Problem::ThenAlone,
+            ),
+            Word::Else => {
+                self.turn(
+                    place,
+                    token,
+                    Opening::Branch,
+                    Opening::OtherBranch,
+                    Problem::ElseAlone,
+                )
+            }
+            Word::In => self.inside(place, token),
+            Word::Function | Word::Datatype => stop(Problem::FormInside, token.span),
+            _ => self.no_operator(place, token),
+        }
+    }
+
+    // Behind an operator an expression stands that is no `let` and no `if`.
+    fn operator(&mut self) {
+        self.mode = Mode::Before;
+        self.fresh = false;
+        self.ended = false;
+    }
+
+    // An expression begins behind another one.
+    fn no_operator(&self, place: usize, token: &Token) -> Result<(), Halt> {
+        let Some(before) = self.before(place) else {
+            return stop(Problem::NoOperator, token.span);
+        };
+        if name_in(before).is_some() && Machine::begins(token) {
+            return stop_with(Problem::NoParentheses, token.span, before.span);
+        }
+        stop(Problem::NoOperator, token.span)
+    }
+
+    // A `(` behind an expression.
+    fn call(&mut self, place: usize, token: &Token) -> Result<(), Halt> {
+        match self.before(place) {
+            Some(before) => match &before.kind {
+                Kind::Name(_) => self.open(Opening::Call, token.span, place),
+                Kind::Truth(_) => stop(Problem::TruthCalled, before.span),
+                _ => stop(Problem::NotCalled, token.span),
+            },
+            None => stop(Problem::NotCalled, token.span),
+        }
+    }
+
+    // A closing bracket.
+    fn close(&mut self, token: &Token, sign: Sign) -> Result<(), Halt> {
+        self.settle();
+        let Some(open) = self.opens.pop() else {
+            return stop(Problem::NotOpen, token.span);
+        };
+        let wanted = match open.opening {
+            Opening::Round | Opening::Call => Sign::CloseParenthesis,
+            Opening::Square | Opening::Index => Sign::CloseBracket,
+            Opening::Brace | Opening::EachPattern | Opening::EachValue | Opening::Filter => {
+                Sign::CloseBrace
+            }
+            _ => return unclosed(open, token.span),
+        };
+        if sign != wanted {
+            return stop_with(Problem::OtherBracket, token.span, open.at);
+        }
+        match open.opening {
+            Opening::Brace => stop_with(Problem::Elements, token.span, open.at),
+            Opening::EachPattern => stop_with(Problem::NoEachIn, token.span, open.at),
+            _ => {
+                self.mode = Mode::Behind;
+                Ok(())
+            }
+        }
+    }
+
+    // What is open becomes its next part by the token, where it is this one.
+    fn turn(
+        &mut self,
+        place: usize,
+        token: &Token,
+        from: Opening,
+        to: Opening,
+        alone: Problem,
+    ) -> Result<(), Halt> {
+        self.settle();
+        match self.opens.pop() {
+            Some(open) if open.opening == from => {
+                self.opens.push(open.turned(to, place.saturating_add(1)))?;
+                self.expect();
+                Ok(())
+            }
+            Some(open) if open.is_bracket() => {
+                stop_with(Problem::StillOpen, token.span, open.at)
+            }
+            Some(open) => unclosed(open, token.span),
+            None => stop(alone, token.span),
+        }
+    }
+
+    fn comma(&mut self, place: usize, token: &Token) -> Result<(), Halt> {
+        self.settle();
+        match self.opens.pop() {
+            Some(mut open) => match open.opening {
+                Opening::Round | Opening::Call => self.go_on(open),
+                Opening::Square if open.colons == 0 => {
+                    open.commas = true;
+                    self.go_on(open)
+                }
+                Opening::Index => {
+                    let called = self.before(open.from.saturating_sub(1));
+                    match called {
+                        Some(before) if name_in(before).is_some() => {
+                            let _ = place;
+                            stop_with(Problem::NoParentheses, open.at, before.span)
+                        }
+                        _ => stop(Problem::CommaHere, token.span),
+                    }
+                }
+                Opening::Brace => stop_with(Problem::Elements, token.span, open.at),
+                Opening::Test | Opening::Branch | Opening::LetPattern => unclosed(open, token.span),
+                _ => stop(Problem::CommaHere, token.span),
+            },
+            None => stop(Problem::CommaHere, token.span),
+        }
+    }
+
+    // Something that was open is so still, and an expression stands next.
+    fn go_on(&mut self, open: Open) -> Result<(), Halt> {
+        self.opens.push(open)?;
+        self.expect();
+        Ok(())
+    }
+
+    fn semicolon(&mut self, place: usize, token: &Token) -> Result<(), Halt> {
+        self.settle();
+        match self.opens.pop() {
+            Some(open) => match open.opening {
+                Opening::LetValue => {
+                    self.go_on(open.turned(Opening::LetPattern, place.saturating_add(1)))?;
+                    self.ended = true;
+                    Ok(())
+                }
+                Opening::EachValue => {
+                    self.go_on(open.turned(Opening::EachPattern, place.saturating_add(1)))
+                }
+                _ if open.is_bracket() => stop_with(Problem::StillOpen, token.span, open.at),
+                _ => unclosed(open, token.span),
+            },
+            None => {
+                let tokens = self.tokens;
+                match tokens.get(place.saturating_add(1)) {
+                    Some(next) => stop(Problem::TwoForms, next.span),
+                    None => stop(Problem::TwoForms, token.span),
+                }
+            }
+        }
+    }
+
+    fn colon(&mut self, place: usize, token: &Token) -> Result<(), Halt> {
+        self.settle();
+        let next = self.tokens.get(place.saturating_add(1));
+        match self.opens.pop() {
+            Some(mut open) => match open.opening {
+                Opening::Brace => {
+                    self.go_on(open.turned(Opening::EachPattern, place.saturating_add(1)))
+                }
+                Opening::Square if open.colons < 2 && !open.commas => {
+                    open.colons += 1;
+                    self.go_on(open)
+                }
+                _ => stop(Problem::ColonHere, token.span),
+            },
+            None => match next {
+                Some(next) if is_sign(next, Sign::Equal) => stop(Problem::BoundByEqual, token.span),
+                _ => stop(Problem::ColonHere, token.span),
+            },
+        }
+    }
+
+    fn bar(&mut self, place: usize, token: &Token) -> Result<(), Halt> {
+        self.settle();
+        match self.opens.pop() {
+            Some(open) if open.opening == Opening::EachValue => {
+                self.go_on(open.turned(Opening::Filter, place.saturating_add(1)))
+            }
+            _ => match self.tokens.get(place.saturating_add(1)) {
+                Some(next) => match pair_said(token, next) {
+                    Some(said) => stop(Problem::Elsewhere(said), over(token.span, next.span)),
+                    None => stop(Problem::BarHere, token.span),
+                },
+                None => stop(Problem::BarHere, token.span),
+            },
+        }
+    }
+
+    fn equal(&mut self, place: usize, token: &Token) -> Result<(), Halt> {
+        match self.opens.pop() {
+            Some(open) if open.opening == Opening::LetPattern => {
+                self.check_pattern(open.from, place)?;
+                self.go_on(open.turned(Opening::LetValue, place.saturating_add(1)))
+            }
+            _ => match self.tokens.get(place.saturating_add(1)) {
+                Some(next) => match pair_said(token, next) {
+                    Some(said) => stop(Problem::Elsewhere(said), over(token.span, next.span)),
+                    None => stop(Problem::EqualForEqual, token.span),
+                },
+                None => stop(Problem::EqualForEqual, token.span),
+            },
+        }
+    }
+
+    // An `in` behind an expression.
+    fn inside(&mut self, place: usize, token: &Token) -> Result<(), Halt> {
+        self.settle();
+        match self.opens.pop() {
+            Some(open) => match open.opening {
+                Opening::LetValue => self.go_on(open.turned(
+                    Opening::LetBody,
+                    place.saturating_add(1),
+                )),
+                Opening::Brace | Opening::EachPattern => {
+                    self.check_pattern(open.from, place)?;
+                    self.go_on(open.turned(Opening::EachValue, place.saturating_add(1)))
+                }
+                Opening::LetPattern => stop_with(Problem::NoLetEqual, token.span, open.at),
+                _ if open.is_bracket() => stop_with(Problem::StillOpen, token.span, open.at),
+                _ => unclosed(open, token.span),
+            },
+            None => stop(Problem::InAlone, token.span),
+        }
+    }
+
+    // Whether the tokens between are a pattern's.
+    fn check_pattern(&self, from: usize, to: usize) -> Result<(), Halt> {
+        let len = to.saturating_sub(from);
+        for token in self.tokens.iter().skip(from).take(len) {
+            match &token.kind {
+                Kind::Truth(_) => return stop(Problem::TruthAsName, token.span),
+                Kind::Name(_)
+                | Kind::Symbol(Sign::OpenParenthesis | Sign::CloseParenthesis | Sign::Comma) => {}
+                _ => return stop(Problem::NoPattern, token.span),
+            }
+        }
+        Ok(())
+    }
+}
+
+/// From the first byte of one to the last of the other.
+pub(crate) fn over(from: Span, to: Span) -> Span {
+    Span {
+        start: from.start,
+        end: to.end,
+    }
+}
+
+// Something is open that is no bracket, and isn't what the token ends.
+fn unclosed<T>(open: Open, at: Span) -> Result<T, Halt> {
+    match open.opening {
+        Opening::Test => stop_with(Problem::NoThen, at, open.at),
+        Opening::Branch => stop_with(Problem::NoElse, at, open.at),
+        Opening::LetPattern => stop_with(Problem::NoLetEqual, at, open.at),
+        Opening::LetValue => stop_with(Problem::NoIn, at, open.at),
+        _ => stop_with(Problem::StillOpen, at, open.at),
+    }
+}
