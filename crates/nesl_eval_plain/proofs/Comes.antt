@@ -47,7 +47,7 @@ same_comes p v [] law = tt
 same_comes p v (i ∷ is) law = (law i, same_comes p v is law)
 
 -- a value with other numbers
-cost_is : {X : Type 0} (v : X) (m n i j : ℕ) → m ≡ n → i ≡ j → value v m i ≡ value v n j
+pub cost_is : {X : Type 0} (v : X) (m n i j : ℕ) → m ≡ n → i ≡ j → value v m i ≡ value v n j
 cost_is v m n i j e f = cc
 
 -- a node that is entered

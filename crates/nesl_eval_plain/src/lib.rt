@@ -5,6 +5,7 @@
 mod block;
 mod found;
 mod names;
+mod outer;
 mod parts;
 mod plain;
 mod whole;

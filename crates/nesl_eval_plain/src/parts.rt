@@ -9,12 +9,14 @@ ghost use Rattle.nesl_eval_plain.specs.Blocks.{block_places, IsWithin, frames_at
 use crate::block::{Block, character, number, truth};
 use crate::found::{Found, sum};
 use crate::names::{local, top};
+use crate::outer::{length_of, outer_value, picked};
 use nesl_builtins::Builtin;
 use nesl_eval_code::Code;
 use nesl_eval_columns::{of_one, of_two};
 use nesl_eval_nodes::held::Tops;
 use nesl_lex::token::Span;
 use nesl_scalars::Binary;
+use nesl_seqs_base::seq_fn::SeqFn;
 use std::alloc::Allocator;
 
 // What was found, with the own 1 of a node.
@@ -100,6 +102,34 @@ fn apply_two<'x, A: Allocator + Copy, T: Tops<A>>(
 {
     match function {
         Builtin::OfTwo(function) => two(block, function, left, right, span, levels),
+        Builtin::OfSequences(function) => element(block, function, left, right, span, levels),
+        Builtin::OfOne(_) => None,
+    }
+}
+
+// An element of a sequence that is the same at all places, or another function of two, which is not plain.
+#[cycle(plain)]
+fn element<'x, A: Allocator + Copy, T: Tops<A>>(
+    block: &'x Block<'x, A, T>,
+    function: SeqFn,
+    left: &Code,
+    right: &Code,
+    span: &Span,
+    levels: u32,
+) -> Option<Found<A>>
+    requires { IsWithin block.now }
+    ensures { let f = run levels (T.table block.now.tops.now) in IfSome result
+        (Finds (λ i. run_two f (frames_at block.now i) left.now right.now
+        (λ x y. applied span.now (Builtin.OfSequences function) (pair x y))) (block_places block.now)) }
+{
+    match function {
+        SeqFn::ElementAt => {
+            let sequence = outer_value(block, left, levels)?;
+            let places = column(block, right, levels)?;
+            let column = picked(sequence, &places.column, *block.alloc)?;
+            let nodes = sum(places.nodes, 1)?;
+            Some(Found { column, nodes })
+        }
         _ => None,
     }
 }
@@ -154,7 +184,7 @@ fn apply<'x, A: Allocator + Copy, T: Tops<A>>(
             let found = of_pair(block, function, argument, span, levels - 1)?;
             entered(found)
         }
-        Builtin::OfSequences(_) => None,
+        Builtin::OfSequences(function) => length_of(block, function, argument, span, levels),
     }
 }
 

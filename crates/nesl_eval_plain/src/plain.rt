@@ -2,8 +2,10 @@
 
 use nesl_builtins::Builtin;
 use nesl_eval_code::Code;
+use nesl_seqs_base::seq_fn::SeqFn;
 
-/// Whether code is made of constants, names and functions of scalars only. What a name stands for is not looked at.
+/// Whether code is made of constants, names, functions of scalars, and elements and lengths of names outside of the
+/// row. What a name stands for is not looked at.
 #[cycle(plainness)]
 pub fn is_plain(code: &Code, levels: u32) -> bool {
     if levels == 0 {
@@ -23,7 +25,7 @@ pub fn is_plain(code: &Code, levels: u32) -> bool {
         } => match function {
             Builtin::OfOne(_) => is_plain(argument, below),
             Builtin::OfTwo(_) => is_plain_pair(argument, below),
-            Builtin::OfSequences(_) => false,
+            Builtin::OfSequences(function) => *function == SeqFn::Length && is_outer(argument),
         },
         Code::ApplyTwo {
             function,
@@ -32,8 +34,20 @@ pub fn is_plain(code: &Code, levels: u32) -> bool {
             ..
         } => match function {
             Builtin::OfTwo(_) => is_plain(left, below) && is_plain(right, below),
-            _ => false,
+            Builtin::OfSequences(function) => {
+                *function == SeqFn::ElementAt && is_outer(left) && is_plain(right, below)
+            }
+            Builtin::OfOne(_) => false,
         },
+        _ => false,
+    }
+}
+
+// Whether code is a name outside of the row.
+fn is_outer(code: &Code) -> bool {
+    match code {
+        Code::Local { up, .. } => *up > 0,
+        Code::Top { .. } => true,
         _ => false,
     }
 }

@@ -6,6 +6,8 @@ use Rattle.nesl_eval_code.specs.Run.{run}
 use Rattle.nesl_eval_columns.specs.Columns.{leaves_of}
 use Rattle.nesl_eval_columns.proofs.Turns.{some_so}
 use Rattle.nesl_eval_plain.specs.Blocks.{block_places, frames_at}
+use Rattle.nesl_values.specs.View.{tree_of}
+use Rattle.nesl_eval_plain.proofs.Elements.{elements_come}
 use Rattle.nesl_eval_plain.proofs.Comes.{entered_comes, then_entered, one_comes, two_comes, pair_comes}
 use Rattle.nesl_eval_plain.proofs.parts.+plain.Goals as goal
 
@@ -68,3 +70,15 @@ node-returns-in-ApplyTwo g t c = rw (c.in-ApplyTwo.is, ← c.deref-in-ApplyTwo.e
 
 pub apply_two-returns-in-OfTwo : goal.apply_two-returns-in-OfTwo
 apply_two-returns-in-OfTwo g t c = rw c.in-OfTwo.is c.two.ensures
+
+pub apply-returns-in-OfSequences : goal.apply-returns-in-OfSequences
+apply-returns-in-OfSequences g t c = rw c.in-OfSequences.is c.length_of.ensures
+
+pub apply_two-returns-in-OfSequences : goal.apply_two-returns-in-OfSequences
+apply_two-returns-in-OfSequences g t c = rw c.in-OfSequences.is c.element.ensures
+
+pub element-returns-in_ok-nodes-in-ElementAt : goal.element-returns-in_ok-nodes-in-ElementAt
+element-returns-in_ok-nodes-in-ElementAt g t c =
+    let b = c.args.block.now in
+    let places = c.in_ok-places-in-ElementAt.places in
+    rw (c.in-ElementAt.is, c.in_ok-nodes-in-ElementAt.ensures) (elements_come (run c.args.levels (g.T.Tops.table b.tops.now)) (frames_at b) c.args.left.now c.args.right.now c.args.span.now (tree_of c.in_ok-sequence-in-ElementAt.sequence.now) places.nodes (block_places b) (leaves_of places.column) (leaves_of c.in_ok-column-in-ElementAt.column) c.in_ok-sequence-in-ElementAt.ensures c.in_ok-places-in-ElementAt.ensures c.in_ok-column-in-ElementAt.ensures)

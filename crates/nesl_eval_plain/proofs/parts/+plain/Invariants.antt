@@ -18,3 +18,6 @@ decreases-of_pair g l = l.levels * 8 + 5
 
 abbrev pub decreases-apply_two : goal.decreases-apply_two
 decreases-apply_two g l = l.levels * 8 + 6
+
+abbrev pub decreases-element : goal.decreases-element
+decreases-element g l = l.levels * 8 + 5
