@@ -1,6 +1,8 @@
-//! The parts of the input.
+//! The texts of the input, and the ways in which they are said.
 use crate::kept::{has_refused, is_same, kept};
 use crate::talk::{batched, batched_in_heap, run, say};
+use crate::tally::Tally;
+use crate::text::Text;
 use crate::told::{Refusal, Told, put, put_line};
 use crate::visits::visited;
 use std::alloc::{AllocError, Global};
@@ -47,16 +49,17 @@ fn tell<R: Threads + Wait + Sync>(
     }
 }
 
-// Writes what comes of a text.
-fn put_told<R: Threads + Wait + Sync>(
+// Says a text in a way, and writes what of it isn't as wanted.
+fn try_way<R: Threads + Wait + Sync>(
     rt: &R,
     alloc: Global,
-    (way, text): (&str, &str),
+    way: &str,
+    text: &Text<'_>,
+    tally: &mut Tally,
     out: &mut Vec<u8>,
 ) -> Result<(), AllocError> {
-    let told = tell(rt, alloc, way, text)?;
-    out.extend_from_slice(told.answers.as_slice())?;
-    out.extend_from_slice(told.standing.as_slice())?;
+    let told = tell(rt, alloc, way, text.lines.as_str())?;
+    tally.compare(way, text, &told, out)?;
     if told.repeated > 0 {
         let repeated = told.repeated;
         put(
@@ -68,7 +71,7 @@ fn put_told<R: Threads + Wait + Sync>(
         put_line(out, "@ ANOTHER STATE AFTER A REFUSAL")?;
     }
     if has_refused(&told) {
-        let kept = kept(alloc, text, &told)?;
+        let kept = kept(alloc, text.lines.as_str(), &told)?;
         let alone = tell(rt, alloc, way, kept.as_str())?;
         let verdict = if is_same(&told, &alone) {
             "@ the same by the kept lines alone"
@@ -80,42 +83,53 @@ fn put_told<R: Threads + Wait + Sync>(
     Ok(())
 }
 
-// Asks for memory as often as a line before the first part says.
-fn request(alloc: Global, line: &str) -> Result<(), AllocError> {
-    let count = line.strip_prefix("@requests ").unwrap_or("0");
+// Asks for memory as often as a line before the first text says.
+fn request(alloc: Global, count: &str) -> Result<(), AllocError> {
     for _ in 0..count.parse::<u32>().unwrap_or(0) {
         let _byte = Box::new(alloc, 0)?;
     }
     Ok(())
 }
 
-fn answer_parts<R: Threads + Wait + Sync>(
+// Says a text, which stands behind its title, in each of its ways.
+fn try_text<R: Threads + Wait + Sync>(
     rt: &R,
     alloc: Global,
-    text: &str,
+    part: &str,
     out: &mut Vec<u8>,
 ) -> Result<(), AllocError> {
-    for part in text.split("\n== ") {
-        let (head, lines) = part.split_once('\n').unwrap_or((part, ""));
-        let (way, _) = head.split_once(' ').unwrap_or((head, ""));
-        if lines.is_empty() {
-            request(alloc, head)?;
-            continue;
-        }
-        out.extend_from_slice(b"== ")?;
-        put_line(out, head)?;
-        put_told(rt, alloc, (way, lines), out)?;
+    let (head, rows) = part.split_once('\n').unwrap_or((part, ""));
+    if let Some(count) = head.strip_prefix("@requests ") {
+        return request(alloc, count);
+    }
+    let title = head.strip_prefix("== ").unwrap_or(head);
+    let text = Text::read(alloc, rows)?;
+    let mut tally = Tally::new();
+    for way in text.ways.split_whitespace() {
+        try_way(rt, alloc, way, &text, &mut tally, out)?;
+    }
+    tally.put(alloc, title, out)
+}
+
+fn try_each<R: Threads + Wait + Sync>(
+    rt: &R,
+    alloc: Global,
+    texts: &str,
+    out: &mut Vec<u8>,
+) -> Result<(), AllocError> {
+    for part in texts.split("\n== ") {
+        try_text(rt, alloc, part, out)?;
     }
     Ok(())
 }
 
-/// What is answered to the parts, and whether there was memory for all of it.
-pub fn answers<R: Threads + Wait + Sync>(
+/// What is written of the texts, and whether there was memory for all of it.
+pub fn try_texts<R: Threads + Wait + Sync>(
     rt: &R,
     alloc: Global,
-    text: &str,
+    texts: &str,
 ) -> (Vec<u8>, Result<(), AllocError>) {
     let mut out = Vec::new(alloc);
-    let done = answer_parts(rt, alloc, text, &mut out);
+    let done = try_each(rt, alloc, texts, &mut out);
     (out, done)
 }
