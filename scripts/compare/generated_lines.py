@@ -243,16 +243,36 @@ class Session:
             return self.each(ty, scope, depth)
         return self.call(ty, scope, depth)
 
-    # Apply-to-eachs whose bodies and filters are plain: constants, names, and functions of scalars.
+    # Apply-to-eachs whose bodies and filters are plain: constants, names, functions of scalars, elements and lengths of
+    # names outside, `let` and `if`, and pairs.
+
+    def named(self, names, ty):
+        """A name of this type, if there is one. What stands first hides what stands behind."""
+        seen, known = set(), []
+        for name, found in names:
+            if found == ty and name not in seen:
+                known.append(name)
+            seen.add(name)
+        return self.rng.choice(known) if known else None
 
     def scalar(self, ty, names, depth):
         rng = self.rng
         if depth <= 0 or rng.random() < 0.15:
-            known = [name for name, found in names if found == ty]
+            known = self.named(names, ty)
             if known and rng.random() < 0.8:
-                return rng.choice(known)
+                return known
             constants = {INT: ["0", "1", "2", "3", "7", "1000", "3037000500", "9223372036854775807"], BOOL: ["T", "F"]}
             return rng.choice(constants.get(ty, ["`c", "`z"]))
+        kind = rng.random()
+        if kind < 0.1:
+            return self.bound(ty, names, depth)
+        if kind < 0.22:
+            test = self.scalar(BOOL, names, depth - 1)
+            return f"(if {test} then {self.scalar(ty, names, depth - 1)} else {self.scalar(ty, names, depth - 1)})"
+        if kind < 0.3:
+            text = self.outer(ty, names, depth)
+            if text:
+                return text
         rows = []
         for form, takes, gives in rng.sample(SCALARS, len(SCALARS)):
             given = {}
@@ -263,6 +283,37 @@ class Session:
             self.fill(one, given)
         return form.format(*[self.scalar(instance(one, given), names, depth - 1) for one in takes])
 
+    def bound(self, ty, names, depth):
+        """A `let` of scalars, and of pairs of them."""
+        rng = self.rng
+        bindings = []
+        for _ in range(rng.choice([1, 1, 2, 3])):
+            held = [rng.choice([INT, INT, BOOL, CHAR]) for _ in range(rng.choice([1, 1, 1, 2, 3]))]
+            fresh = rng.sample(["a", "b", "d", "e", "g", "h"], len(held))
+            parts = [self.scalar(one, names, depth - 1) for one in held]
+            if len(held) == 1:
+                bindings.append(f"{fresh[0]} = {parts[0]}")
+            elif rng.random() < 0.2:
+                others = [self.scalar(one, names, 1) for one in held]
+                test = self.scalar(BOOL, names, 1)
+                bindings.append(f"({', '.join(fresh)}) = if {test} then ({', '.join(parts)}) else ({', '.join(others)})")
+            else:
+                bindings.append(f"({', '.join(fresh)}) = ({', '.join(parts)})")
+            names = list(zip(fresh, held)) + names
+        return f"(let {'; '.join(bindings)} in {self.scalar(ty, names, depth - 1)})"
+
+    def outer(self, ty, names, depth):
+        """An element of a sequence outside, or its length, if there is one that fits."""
+        rng = self.rng
+        if ty == INT and rng.random() < 0.3:
+            known = self.named(names, seq(rng.choice([INT, BOOL, CHAR])))
+            return f"(#{known})" if known else None
+        known = self.named(names, seq(ty))
+        if not known:
+            return None
+        place = self.scalar(INT, names, depth - 1)
+        return f"{known}[{place}]" if rng.random() < 0.1 else f"{known}[rem(rem({place}, #{known}) + #{known}, #{known})]"
+
     def plain(self):
         rng = self.rng
         count = rng.choice(PLACES)
@@ -270,15 +321,18 @@ class Session:
         binders = "; ".join(f"{name} in {rng.choice(PACKED[ty]).format(count + (rng.random() < 0.02))}"
                             for name, ty in names)
         outer = [("k", INT)] if rng.random() < 0.3 else []
-        known = names + outer + [(name, ty) for name, ty in self.variables.items() if isinstance(ty, str)]
+        held = rng.choice([INT, INT, BOOL, CHAR])
+        outer += [("m", seq(held))] if rng.random() < 0.3 else []
+        known = names + outer + [(name, ty) for name, ty in self.variables.items()
+                                 if isinstance(ty, str) or ty[0] == "seq" and isinstance(ty[1], str)]
         body = self.scalar(rng.choice([INT, INT, BOOL, CHAR]), known, rng.randrange(0, 5))
         if rng.random() < 0.15:
             body = f"({body}, {self.scalar(INT, known, 2)})"
-        if rng.random() < 0.1:
-            body = f"let n = {body} in n"
         filtered = f" | {self.scalar(BOOL, known, rng.randrange(1, 4))}" if rng.random() < 0.4 else ""
-        each = "{" + body + " : " + binders + filtered + "}"
-        whole = f"let k = {rng.choice([0, 1, 3, 1000])} in {each}" if outer else each
+        whole = "{" + body + " : " + binders + filtered + "}"
+        for name, ty in outer:
+            value = rng.choice([0, 1, 3, 1000]) if ty == INT else rng.choice(PACKED[held]).format(rng.choice([1, 2, 9, 1030]))
+            whole = f"let {name} = {value} in {whole}"
         return rng.choice([f"#({whole});", f"take({whole}, {rng.choice([1, 5, -5])});", f"{whole};"])
 
     # Lines, each with a call that notes what it defined once the other program has taken it.

@@ -21,13 +21,13 @@ CLAIM = (
 # The sections in reading order, each with its files. Where two files have one name, a definition follows it.
 SECTIONS = (
     ("Tokens", "Tokens Lexemes"),
-    ("Trees", "Trees Grammar Lines.IsLine"),
+    ("Trees", "Trees Grammar Lines.IsForm"),
     ("Values", "Tree Parts"),
-    ("Types", "Term Class Substitution Numbering Table.FunctionType Named"),
-    ("Names that refer to nothing", "Names.unknown Firsts"),
-    ("Typing", "World Typing Principal Answers"),
+    ("Types", "Term Class Substitution Numbering FunctionTypes Named"),
+    ("Names that refer to nothing", "Names.unknown_names Firsts"),
+    ("Typing", "World Typing Principal Verdicts"),
     ("Functions on scalars", "Outcomes Integers Scalars"),
-    ("Functions on sequences", "Outcome.given Arguments Reductions Pieces Ranges Pairs Equal Extremes Scans Levels "
+    ("Functions on sequences", "Outcome.if_there Arguments Reductions Pieces Ranges Pairs Equal Extremes Scans Levels "
      "Sides Woven Places Gather Permute Write Meaning Prices"),
     ("Outcomes of expressions", "Names.Environment Out Outcome.out"),
     ("The names of a session", "Meanings Nodes Known Refers Redefinition"),

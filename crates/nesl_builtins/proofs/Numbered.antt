@@ -4,7 +4,7 @@ use Rattle.nesl_types_bank.specs.Numbering.{IsBelow, variables, first_occurrence
 use Rattle.nesl_types_bank.proofs.Numbers.{numbered-below}
 use Rattle.nesl_builtins.specs.declared.builtin.Builtin.{Builtin}
 use Rattle.nesl_builtins.specs.declared.builtin.Builtin.TheVariants.{OfOne, OfTwo, OfSequences}
-use Rattle.nesl_builtins.specs.Table.{FunctionType, builtin_type}
+use Rattle.nesl_builtins.specs.FunctionTypes.{FunctionType, builtin_type}
 use Rattle.nesl_scalars.specs.declared.unary.Unary.{Unary}
 use Rattle.nesl_scalars.specs.declared.unary.Unary.TheVariants as unary
 use Rattle.nesl_scalars.specs.declared.binary.Binary.{Binary}

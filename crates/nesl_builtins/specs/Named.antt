@@ -62,9 +62,9 @@ builtins =
     (codes "unzip", OfSequences seq.Unzip) ∷ (codes "permute", OfSequences seq.Permute) ∷
     (codes "rep", OfSequences seq.Rep) ∷ (codes "eql", OfSequences seq.Eql) ∷ []
 
-abbrev pub entry : {X : Type 0} → List ℕ → List (List ℕ × X) → Option X
-entry x [] = None
-entry x (e ∷ es) = if bytes_eq x e.0 then Some e.1 else entry x es
+abbrev pub look_up : {X : Type 0} → List ℕ → List (List ℕ × X) → Option X
+look_up x [] = None
+look_up x (e ∷ es) = if bytes_eq x e.0 then Some e.1 else look_up x es
 
-unfoldable pub named_builtin : List ℕ → Option Builtin
-named_builtin x = entry x builtins
+unfoldable pub builtin_named : List ℕ → Option Builtin
+builtin_named x = look_up x builtins

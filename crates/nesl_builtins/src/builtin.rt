@@ -1,7 +1,7 @@
 //! Which built-in function a name or a sign is.
 
 ghost use Rattle.std.specs.Prelude.{◌≡◌, map};
-ghost use Rattle.nesl_builtins.specs.Named.{entry, named_builtin, infix_builtin, prefix_builtin};
+ghost use Rattle.nesl_builtins.specs.Named.{look_up, builtin_named, infix_builtin, prefix_builtin};
 
 use nesl_scalars::{Binary, Unary};
 use nesl_seqs_base::seq_fn::SeqFn;
@@ -70,7 +70,7 @@ const NAMES: [(&[u8], Builtin); 46] = [
 
 /// What the table has beside the name.
 fn entry(mut table: &[(&[u8], Builtin)], name: &[u8]) -> Option<Builtin>
-    ensures { result ≡ entry name.now (map (λ e. (e.0.now, e.1)) table.entry.now) }
+    ensures { result ≡ look_up name.now (map (λ e. (e.0.now, e.1)) table.entry.now) }
 {
     while let [(known, builtin), rest @ ..] = table {
         if name == *known {
@@ -83,7 +83,7 @@ fn entry(mut table: &[(&[u8], Builtin)], name: &[u8]) -> Option<Builtin>
 
 /// The built-in function that is called by the name.
 pub fn named(name: &[u8]) -> Option<Builtin>
-    ensures { result ≡ named_builtin name.now }
+    ensures { result ≡ builtin_named name.now }
 {
     entry(&NAMES, name)
 }

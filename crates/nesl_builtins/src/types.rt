@@ -1,7 +1,8 @@
 //! The types of the built-in functions.
 
 ghost use Rattle.std.specs.Prelude.{◌≡◌, IfOk};
-ghost use Rattle.nesl_builtins.specs.Table.{function_type, unary_type, binary_type, sequence_type, builtin_type};
+ghost use Rattle.nesl_builtins.specs.FunctionTypes.{function_type, unary_type, binary_type, sequence_type};
+ghost use Rattle.nesl_builtins.specs.FunctionTypes.{builtin_type};
 
 use crate::builtin::Builtin;
 use crate::shapes::{

@@ -4,7 +4,7 @@ use Rattle.std.specs.Prelude.{IfSome}
 use Rattle.std.proofs.lemmas.Option.{slice_get-map}
 use Rattle.std.specs.Io.KnownBytes.{Consumes, Appends}
 use Rattle.nesl_house.specs.declared.roster.NewFault.TheVariants.{Name, Twice}
-use Rattle.nesl_house.specs.Roster.{IsRoster, IsRefused, bad_name, stands_twice, opened}
+use Rattle.nesl_house.specs.Roster.{IsRoster, IsRefused, bad_name, stands_twice, new_house}
 use Rattle.nesl_house.specs.Runs.{Account}
 use Rattle.nesl_line.specs.declared.exchange.End.{End}
 use Rattle.nesl_line.specs.declared.exchange.End.TheVariants.{Input, ReadFault, WriteFault, NoMemory}
@@ -42,7 +42,7 @@ nothing_done left left' held held' read written c a r w =
     (subst P r c, subst Q w a)
 
 -- a batch ran to its end
-pub served : (end : End) (count : ℕ) (users : List (List ℕ)) (left left' held held' : Option (List ℕ)) (house house' : List Account) → IsRoster users → house ≡ opened limits users → IsBatch end count left left' held held' house house' → None ≡ failure_of end
+pub served : (end : End) (count : ℕ) (users : List (List ℕ)) (left left' held held' : Option (List ℕ)) (house house' : List Account) → IsRoster users → house ≡ new_house limits users → IsBatch end count left left' held held' house house' → None ≡ failure_of end
     → Served Input users left left' held held'
 served Input count users left left' held held' house house' r o b e = let P : List Account → Type 0 = λ x. IsBatch Input count left left' held held' x house' in (r, (count, (house', subst P o b)))
 served ReadFault count users left left' held held' house house' r o b e = absurd (cc)
@@ -56,7 +56,7 @@ failed_as failure other users left left' held held' e f =
     subst P (sym same) f
 
 -- a batch failed
-pub failed : (end : End) (failure : Failure) (count : ℕ) (users : List (List ℕ)) (left left' held held' : Option (List ℕ)) (house house' : List Account) → IsRoster users → house ≡ opened limits users → IsBatch end count left left' held held' house house' → Some failure ≡ failure_of end
+pub failed : (end : End) (failure : Failure) (count : ℕ) (users : List (List ℕ)) (left left' held held' : Option (List ℕ)) (house house' : List Account) → IsRoster users → house ≡ new_house limits users → IsBatch end count left left' held held' house house' → Some failure ≡ failure_of end
     → Fails failure users left left' held held'
 failed Input failure count users left left' held held' house house' r o b e = absurd (cc)
 failed ReadFault failure count users left left' held held' house house' r o b e =

@@ -3,7 +3,7 @@ use Rattle.std.specs.Prelude.{◌≡◌, ◌⊎◌, ℕ, List, [], Option, Some,
 use Rattle.std.specs.Io.KnownBytes.{Consumes, Appends}
 use Rattle.nesl_session_step.specs.declared.limits.Limits.{Limits}
 use Rattle.nesl_house.specs.declared.roster.NewFault.TheVariants as refusal
-use Rattle.nesl_house.specs.Roster.{IsRoster, IsRefused, opened}
+use Rattle.nesl_house.specs.Roster.{IsRoster, IsRefused, new_house}
 use Rattle.nesl_house.specs.Runs.{Account}
 use Rattle.nesl_line.specs.Batch.{IsBatch}
 use Rattle.nesl_line.specs.declared.exchange.End.{End}
@@ -32,7 +32,7 @@ limits = record {
 abbrev pub Served : End → List (List ℕ) → Option (List ℕ) → Option (List ℕ) → Option (List ℕ) → Option (List ℕ) → Type 0
 Served end users left left' held held' =
     IsRoster users
-    × ((count : ℕ) × ((house : List Account) × IsBatch end count left left' held held' (opened limits users) house))
+    × ((count : ℕ) × ((house : List Account) × IsBatch end count left left' held held' (new_house limits users) house))
 
 -- nothing was read or written
 abbrev pub Untouched : Option (List ℕ) → Option (List ℕ) → Option (List ℕ) → Option (List ℕ) → Type 0

@@ -2,7 +2,7 @@
 ghost use Rattle.std.specs.Prelude.{◌≡◌, ℕ, List, Option, IfOk, OnOk, OnErr, IfErr, Err, map};
 ghost use Rattle.clap.specs.Words.{fault_of, HasKind};
 ghost use Rattle.clap.specs.declared.error.Error as clap;
-ghost use Rattle.nesl_house.specs.Roster.{IsRoster, opened};
+ghost use Rattle.nesl_house.specs.Roster.{IsRoster, new_house};
 ghost use Rattle.nesl_line.specs.declared.exchange.End.TheVariants as end;
 ghost use Rattle.nesl_line.specs.Batch.{IsBatch};
 ghost use Rattle.nesl_cli.specs.Words.{program, users_of};
@@ -39,7 +39,7 @@ pub struct Offer<'a> {
 
 /// What the words ask for: a batch for the users that they name, or its costs, which is run, or a service that is to be
 /// offered to them.
-pub fn answered<'a, S: Source, W: Sink>(
+pub fn carry_out<'a, S: Source, W: Sink>(
     alloc: Global,
     words: &'a [&'a str],
     reader: &mut S,
@@ -100,7 +100,7 @@ pub(crate) fn run<'a, S: Source, W: Sink>(
 // A house for these users; nothing was read or written where it is refused.
 pub(crate) fn house_of<'a>(alloc: Global, users: &[&'a str]) -> Result<House, Failure<'a>>
     ensures roster { OnOk result (IsRoster (map (λ user. user.now) users.now)) }
-    ensures opened { IfOk result (λ house. house ≡ opened limits (map (λ user. user.now) users.now)) }
+    ensures opened { IfOk result (λ house. house ≡ new_house limits (map (λ user. user.now) users.now)) }
     ensures failed { IfErr result (λ failure. (left held : Option (List ℕ))
         → Fails failure (map (λ user. user.now) users.now) left left held held) }
 {

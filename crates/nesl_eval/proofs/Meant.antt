@@ -12,23 +12,23 @@ use Rattle.nesl_eval_code.specs.Means.{Means, IsTableOf, names_of}
 use Rattle.nesl_eval_code.specs.Laws.{RunsAsMeant}
 use Rattle.nesl_eval.specs.declared.outcome.Outcome.{Outcome}
 use Rattle.nesl_eval.specs.declared.outcome.Outcome.TheVariants.{Done, Fault, Over, Memory}
-use Rattle.nesl_eval.specs.Tells.{Tells}
+use Rattle.nesl_eval.specs.Outcomes.{OutcomeIs}
 
 none_within : (b : ℕ) → nat_le 0 b ≡ true
 none_within b = grind (arith, nat_tests)
 
-tells_stuck : {A : Type 0} (r : Outcome A) (b : ℕ) → Tells r (within b stuck)
+tells_stuck : {A : Type 0} (r : Outcome A) (b : ℕ) → OutcomeIs r (within b stuck)
 tells_stuck (Done v w d) b = rw (none_within b) tt
 tells_stuck (Fault k s w) b = rw (none_within b) tt
 tells_stuck Over b = rw (none_within b) tt
 tells_stuck Memory b = tt
 
 -- what tells of a run tells of what it agrees with
-as_meant : {A : Type 0} (r : Outcome A) (b : ℕ) (p o : Out Value) → ((o ≡ stuck → ⊥) → p ≡ o) → Tells r (within b p) → Tells r (within b o)
+as_meant : {A : Type 0} (r : Outcome A) (b : ℕ) (p o : Out Value) → ((o ≡ stuck → ⊥) → p ≡ o) → OutcomeIs r (within b p) → OutcomeIs r (within b o)
 as_meant r b p stuck f h = tells_stuck r b
-as_meant r b p (value x w d) f h = subst (λ q. Tells r (within b q)) (f (λ e. cc)) h
-as_meant r b p (fault k s w) f h = subst (λ q. Tells r (within b q)) (f (λ e. cc)) h
+as_meant r b p (value x w d) f h = subst (λ q. OutcomeIs r (within b q)) (f (λ e. cc)) h
+as_meant r b p (fault k s w) f h = subst (λ q. OutcomeIs r (within b q)) (f (λ e. cc)) h
 
-pub tells_meant : {A : Type 0} (law : RunsAsMeant) (r : Outcome A) (b n : ℕ) (t : Table) (env : Environment) (c : Code) (e : Tree) (names : List Name) → names_of t ≡ names → IsTableOf n env t → Means names [] c e → Tells r (within b (run n t [] c)) → Tells r (within b (out n env (outside []) e))
+pub tells_meant : {A : Type 0} (law : RunsAsMeant) (r : Outcome A) (b n : ℕ) (t : Table) (env : Environment) (c : Code) (e : Tree) (names : List Name) → names_of t ≡ names → IsTableOf n env t → Means names [] c e → OutcomeIs r (within b (run n t [] c)) → OutcomeIs r (within b (out n env (outside []) e))
 tells_meant law r b n t env c e names same stands means h =
     as_meant r b (run n t [] c) (out n env (outside []) e) (law n t env c e stands (subst (λ ns. Means ns [] c e) (sym same) means)) h

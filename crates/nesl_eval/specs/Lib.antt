@@ -1,3 +1,3 @@
-pub mod Tells
+pub mod Outcomes
 pub mod Copied
 pub mod Reached

@@ -8,7 +8,7 @@ ghost use Rattle.nesl_eval_meaning.specs.Out.{within};
 ghost use Rattle.nesl_eval_meaning.specs.Outcome.{out};
 ghost use Rattle.nesl_eval_code.specs.Stored.{environment, names_in};
 ghost use Rattle.nesl_eval_code.specs.TopLevels.{table_in};
-ghost use Rattle.nesl_eval.specs.Tells.{Tells};
+ghost use Rattle.nesl_eval.specs.Outcomes.{OutcomeIs};
 ghost use Rattle.nesl_eval.specs.Copied.{AreCopies, copies-prop, tree_at};
 
 use crate::outcome::{Outcome, evaluate};
@@ -130,7 +130,7 @@ fn copy_at<A: Allocator + Copy>(
     }
 }
 
-/// The same as `eval_one` in a heap of its own: of the values of the bindings, those that the expression's code can
+/// What `eval_one` comes to, in a heap of its own: of the values of the bindings, those that the expression's code can
 /// reach are copied there, each once.
 pub fn eval_one_in<A: Allocator + Copy>(
     alloc: Global,
@@ -140,7 +140,7 @@ pub fn eval_one_in<A: Allocator + Copy>(
     fuel: u64,
     heap: A,
 ) -> Outcome<A>
-    ensures { Tells result
+    ensures { OutcomeIs result
         (within fuel (out levels (environment env.now) (outside []) (tree_of_exp exp.now))) }
 {
     runs_as_meant();

@@ -4,14 +4,14 @@ ghost use Rattle.std.specs.List.{range_with_len};
 ghost use Rattle.nesl_values.specs.Tree.{pair, sequence};
 ghost use Rattle.nesl_values.specs.Parts.{as_bool};
 ghost use Rattle.nesl_values.specs.View.{tree_of};
-ghost use Rattle.nesl_eval_meaning.specs.Names.{named};
-ghost use Rattle.nesl_eval_meaning.specs.Out.{then_out};
-ghost use Rattle.nesl_eval_meaning.specs.Outcome.{made, applied, branch, kept, counted};
+ghost use Rattle.nesl_eval_meaning.specs.Names.{look_up};
+ghost use Rattle.nesl_eval_meaning.specs.Out.{and_then};
+ghost use Rattle.nesl_eval_meaning.specs.Outcome.{small_enough, apply_builtin, branch, place_if_true, body_value};
 ghost use Rattle.nesl_eval_code.specs.Run.{run, run_node, run_two, run_three, run_all, run_let, run_at};
 ghost use Rattle.nesl_eval_code.specs.Run.{run_filters, run_bodies, run_over, run_called, as_result, slot_at};
 ghost use Rattle.nesl_eval_nodes.specs.Scopes.{frames_of};
-ghost use Rattle.nesl_eval_nodes.specs.Standing.{Stands};
-ghost use Rattle.nesl_eval_nodes.specs.Sides.{places_of, Keeps, IsOne, Has};
+ghost use Rattle.nesl_eval_nodes.specs.Standing.{PartStandsFor};
+ghost use Rattle.nesl_eval_nodes.specs.Sides.{places_of, IsKeptPlace, IsOne, Has};
 ghost use Rattle.nesl_eval_nodes.specs.Meets.{Meets, Is, Are};
 
 use nesl_builtins::Builtin;
@@ -19,11 +19,12 @@ use nesl_eval_code::Code;
 use nesl_eval_nodes::held::{Held, Tops};
 use nesl_eval_nodes::meter::{Meter, Stop};
 use nesl_eval_nodes::nodes::{
-    add, empty, finished, keep, keep_if, length_of_all, named_top, of_pair_made, of_two_made, paid,
-    paired, sequence_of, tagged, text, told_at, top, truth,
+    add, apply_to_leaves, apply_to_pair, find_top, finish, keep, keep_if, length_of_all,
+    make_empty, make_pair, make_record, make_text, named_top, pay, place_fault, read_truth,
+    sequence_of,
 };
 use nesl_eval_nodes::parts::{
-    Part, applied_to_one, applied_to_three, applied_to_two, entered_name, within_limit,
+    Part, apply_to_one, apply_to_three, apply_to_two, enter_name, within_limit,
 };
 use nesl_eval_nodes::places::Places;
 use nesl_eval_nodes::scope::{Scope, local};
@@ -139,14 +140,14 @@ fn larger<A: Allocator + Copy, T: Tops<A>>(
         Code::Number { value, .. } => Ok(Value::Int(*value)),
         Code::Truth { value, .. } => Ok(Value::Bool(*value)),
         Code::Character { value, .. } => Ok(Value::Char(*value)),
-        Code::Text { bytes, .. } => text(bytes, meter, alloc),
+        Code::Text { bytes, .. } => make_text(bytes, meter, alloc),
         Code::Local {
             up,
             index,
             steps,
             ..
         } => local(scope, *up, *index, steps),
-        Code::Top { place, .. } => top(tops, *place),
+        Code::Top { place, .. } => find_top(tops, *place),
         Code::Named { name, .. } => named_top(tops, name),
         Code::Pair { span, left, right } => in_pair(
             tops, scope, left, right, span, levels, meter, alloc,
@@ -193,7 +194,7 @@ fn larger<A: Allocator + Copy, T: Tops<A>>(
         Code::Sequence { span, parts } => in_sequence(
             tops, scope, parts, span, levels, meter, alloc,
         ),
-        Code::Empty { .. } => empty(alloc),
+        Code::Empty { .. } => make_empty(alloc),
         Code::Let { bindings, body, .. } => in_let(
             tops, scope, bindings, body, levels, meter, alloc,
         ),
@@ -232,12 +233,12 @@ fn of_scalars<A: Allocator + Copy, T: Tops<A>>(
     requires { meter.old.fuel + meter.old.depth < 2 ^ 64 }
     ensures meets { let f = run levels (T.table tops.now) in Meets Is meter.old result meter.new
         (run_two f (frames_of scope.now) left.now right.now
-        (λ x y. applied span.now (Builtin.OfTwo function) (pair x y))) }
+        (λ x y. apply_builtin span.now (Builtin.OfTwo function) (pair x y))) }
     ensures spent { meter.new.fuel + meter.new.depth ≤ meter.old.fuel + meter.old.depth }
 {
     let one = value_in(tops, scope, left, levels, meter, alloc)?;
     let other = value_in(tops, scope, right, levels, meter, alloc)?;
-    of_two_made(function, one, other, *span)
+    apply_to_leaves(function, one, other, *span)
 }
 
 // A function of two scalars that are written as a pair, which was entered.
@@ -258,12 +259,12 @@ fn of_scalar_pair<A: Allocator + Copy, T: Tops<A>>(
     requires { meter.old.fuel + meter.old.depth < 2 ^ 64 }
     ensures meets { let f = run levels (T.table tops.now) in Meets Is meter.old result meter.new
         (run_two f (frames_of scope.now) left.now right.now
-        (λ x y. then_out (made within.now (pair x y)) (applied span.now (Builtin.OfTwo function)))) }
+        (λ x y. and_then (small_enough within.now (pair x y)) (apply_builtin span.now (Builtin.OfTwo function)))) }
     ensures spent { meter.new.fuel + meter.new.depth ≤ meter.old.fuel + meter.old.depth }
 {
     let one = value_in(tops, scope, left, levels, meter, alloc)?;
     let other = value_in(tops, scope, right, levels, meter, alloc)?;
-    of_pair_made(function, one, other, *within, *span)
+    apply_to_pair(function, one, other, *within, *span)
 }
 
 // A pair of two parts.
@@ -281,12 +282,12 @@ fn in_pair<A: Allocator + Copy, T: Tops<A>>(
 ) -> Result<Value<A>, Stop>
     requires { meter.old.fuel + meter.old.depth < 2 ^ 64 }
     ensures meets { let f = run levels (T.table tops.now) in Meets Is meter.old result meter.new
-        (run_two f (frames_of scope.now) left.now right.now (λ x y. made span.now (pair x y))) }
+        (run_two f (frames_of scope.now) left.now right.now (λ x y. small_enough span.now (pair x y))) }
     ensures spent { meter.new.fuel + meter.new.depth ≤ meter.old.fuel + meter.old.depth }
 {
     let one = eval_in(tops, scope, left, levels, meter, alloc)?;
     let other = eval_in(tops, scope, right, levels, meter, alloc)?;
-    paired(one, other, *span, alloc)
+    make_pair(one, other, *span, alloc)
 }
 
 // A part, which is lent where it is a name.
@@ -302,13 +303,13 @@ fn part<A: Allocator + Copy, T: Tops<A>>(
 ) -> Result<Part<A>, Stop>
     requires { meter.old.fuel + meter.old.depth < 2 ^ 64 }
     ensures meets { let f = run levels (T.table tops.now) in
-        Meets (Stands (T.table tops.now) (frames_of scope.now) code.now) meter.old result meter.new
+        Meets (PartStandsFor (T.table tops.now) (frames_of scope.now) code.now) meter.old result meter.new
         (f (frames_of scope.now) code.now) }
     ensures spent { meter.new.fuel + meter.new.depth ≤ meter.old.fuel + meter.old.depth }
 {
     match code {
-        Code::Local { .. } => entered_name(tops, scope, code, levels, meter),
-        Code::Top { .. } => entered_name(tops, scope, code, levels, meter),
+        Code::Local { .. } => enter_name(tops, scope, code, levels, meter),
+        Code::Top { .. } => enter_name(tops, scope, code, levels, meter),
         _ => Ok(Part::Made(eval_in(tops, scope, code, levels, meter, alloc)?)),
     }
 }
@@ -328,7 +329,7 @@ fn apply<A: Allocator + Copy, T: Tops<A>>(
 ) -> Result<Value<A>, Stop>
     requires { meter.old.fuel + meter.old.depth < 2 ^ 64 }
     ensures meets { let f = run levels (T.table tops.now) in Meets Is meter.old result meter.new
-        (then_out (f (frames_of scope.now) argument.now) (applied span.now function)) }
+        (and_then (f (frames_of scope.now) argument.now) (apply_builtin span.now function)) }
     ensures spent { meter.new.fuel + meter.new.depth ≤ meter.old.fuel + meter.old.depth }
 {
     match argument {
@@ -350,7 +351,7 @@ fn apply<A: Allocator + Copy, T: Tops<A>>(
         }
         _ => {
             let one = part(tops, scope, argument, levels, meter, alloc)?;
-            applied_to_one(
+            apply_to_one(
                 &*tops, &*scope, function, argument, &one, *span, meter, alloc,
             )
         }
@@ -375,13 +376,13 @@ fn apply_pair<A: Allocator + Copy, T: Tops<A>>(
     requires { meter.old.fuel + meter.old.depth < 2 ^ 64 }
     ensures meets { let f = run levels (T.table tops.now) in Meets Is meter.old result meter.new
         (run_two f (frames_of scope.now) left.now right.now
-        (λ x y. then_out (made within.now (pair x y)) (applied span.now function))) }
+        (λ x y. and_then (small_enough within.now (pair x y)) (apply_builtin span.now function))) }
     ensures spent { meter.new.fuel + meter.new.depth ≤ meter.old.fuel + meter.old.depth }
 {
     let one = part(tops, scope, left, levels, meter, alloc)?;
     let other = part(tops, scope, right, levels, meter, alloc)?;
     within_limit(&*tops, &*scope, left, &one, right, &other, *within)?;
-    applied_to_two(
+    apply_to_two(
         &*tops, &*scope, function, left, &one, right, &other, *span, meter, alloc,
     )
 }
@@ -402,12 +403,12 @@ fn apply_two<A: Allocator + Copy, T: Tops<A>>(
 ) -> Result<Value<A>, Stop>
     requires { meter.old.fuel + meter.old.depth < 2 ^ 64 }
     ensures meets { let f = run levels (T.table tops.now) in Meets Is meter.old result meter.new
-        (run_two f (frames_of scope.now) left.now right.now (λ x y. applied span.now function (pair x y))) }
+        (run_two f (frames_of scope.now) left.now right.now (λ x y. apply_builtin span.now function (pair x y))) }
     ensures spent { meter.new.fuel + meter.new.depth ≤ meter.old.fuel + meter.old.depth }
 {
     let one = part(tops, scope, left, levels, meter, alloc)?;
     let other = part(tops, scope, right, levels, meter, alloc)?;
-    applied_to_two(
+    apply_to_two(
         &*tops, &*scope, function, left, &one, right, &other, *span, meter, alloc,
     )
 }
@@ -430,13 +431,13 @@ fn apply_three<A: Allocator + Copy, T: Tops<A>>(
     requires { meter.old.fuel + meter.old.depth < 2 ^ 64 }
     ensures meets { let f = run levels (T.table tops.now) in Meets Is meter.old result meter.new
         (run_three f (frames_of scope.now) first.now second.now third.now
-        (λ x y z. applied span.now function (pair x (pair y z)))) }
+        (λ x y z. apply_builtin span.now function (pair x (pair y z)))) }
     ensures spent { meter.new.fuel + meter.new.depth ≤ meter.old.fuel + meter.old.depth }
 {
     let one = part(tops, scope, first, levels, meter, alloc)?;
     let two = part(tops, scope, second, levels, meter, alloc)?;
     let three = part(tops, scope, third, levels, meter, alloc)?;
-    applied_to_three(
+    apply_to_three(
         &*tops, &*scope, function, first, &one, second, &two, third, &three, *span, meter, alloc,
     )
 }
@@ -456,12 +457,12 @@ fn choice<A: Allocator + Copy, T: Tops<A>>(
 ) -> Result<Value<A>, Stop>
     requires { meter.old.fuel + meter.old.depth < 2 ^ 64 }
     ensures meets { let f = run levels (T.table tops.now) in Meets Is meter.old result meter.new
-        (then_out (f (frames_of scope.now) test.now)
+        (and_then (f (frames_of scope.now) test.now)
         (λ x. branch (as_bool x) (f (frames_of scope.now) yes.now) (f (frames_of scope.now) no.now))) }
     ensures spent { meter.new.fuel + meter.new.depth ≤ meter.old.fuel + meter.old.depth }
 {
     let tested = value_in(tops, scope, test, levels, meter, alloc)?;
-    if truth(tested)? {
+    if read_truth(tested)? {
         value_in(tops, scope, yes, levels, meter, alloc)
     } else {
         value_in(tops, scope, no, levels, meter, alloc)
@@ -483,7 +484,7 @@ fn call<A: Allocator + Copy, T: Tops<A>>(
 ) -> Result<Value<A>, Stop>
     requires { meter.old.fuel + meter.old.depth < 2 ^ 64 }
     ensures meets { let f = run levels (T.table tops.now) in Meets Is meter.old result meter.new
-        (then_out (f (frames_of scope.now) argument.now) (run_called f span.now (slot_at (T.table tops.now) place))) }
+        (and_then (f (frames_of scope.now) argument.now) (run_called f span.now (slot_at (T.table tops.now) place))) }
     ensures spent { meter.new.fuel + meter.new.depth ≤ meter.old.fuel + meter.old.depth }
 {
     let value = value_in(tops, scope, argument, levels, meter, alloc)?;
@@ -511,9 +512,9 @@ fn called<A: Allocator + Copy, T: Tops<A>>(
         Ok(Held::Function(body)) => {
             let inner = Scope::Argument(&argument);
             let found = value_in(tops, &inner, body, levels, meter, alloc);
-            told_at(found, span)
+            place_fault(found, span)
         }
-        Ok(Held::Datatype(tag)) => tagged(tag, argument, span, alloc),
+        Ok(Held::Datatype(tag)) => make_record(tag, argument, span, alloc),
         Ok(_) => Err(Stop::Stuck),
         Err(_) => Err(Stop::Memory),
     }
@@ -534,7 +535,8 @@ fn call_named<A: Allocator + Copy, T: Tops<A>>(
 ) -> Result<Value<A>, Stop>
     requires { meter.old.fuel + meter.old.depth < 2 ^ 64 }
     ensures meets { let f = run levels (T.table tops.now) in Meets Is meter.old result meter.new
-        (then_out (f (frames_of scope.now) argument.now) (run_called f span.now (named (T.table tops.now) name.now))) }
+        (and_then (f (frames_of scope.now) argument.now)
+        (run_called f span.now (look_up (T.table tops.now) name.now))) }
     ensures spent { meter.new.fuel + meter.new.depth ≤ meter.old.fuel + meter.old.depth }
 {
     match tops.place_of(name) {
@@ -560,7 +562,7 @@ fn in_sequence<A: Allocator + Copy, T: Tops<A>>(
 ) -> Result<Value<A>, Stop>
     requires { meter.old.fuel + meter.old.depth < 2 ^ 64 }
     ensures meets { let f = run levels (T.table tops.now) in Meets Is meter.old result meter.new
-        (then_out (run_all f (frames_of scope.now) [] parts.now) (λ vs. made span.now (sequence vs))) }
+        (and_then (run_all f (frames_of scope.now) [] parts.now) (λ vs. small_enough span.now (sequence vs))) }
     ensures spent { meter.new.fuel + meter.new.depth ≤ meter.old.fuel + meter.old.depth }
 {
     let values = eval_all(tops, scope, parts, levels, meter, alloc)?;
@@ -609,7 +611,7 @@ fn filtered<A: Allocator + Copy, T: Tops<A>>(
     requires { meter.old.fuel + meter.old.depth < 2 ^ 64 }
     ensures meets { let f = run levels (T.table tops.now) in Meets Is meter.old result meter.new
         (run_over f span.now (frames_of scope.now) sources.now
-        (λ vs is. then_out (run_filters f (frames_of scope.now) vs filter.now is)
+        (λ vs is. and_then (run_filters f (frames_of scope.now) vs filter.now is)
         (λ ks. as_result (run_bodies f (frames_of scope.now) vs body.now ks)))) }
     ensures spent { meter.new.fuel + meter.new.depth ≤ meter.old.fuel + meter.old.depth }
 {
@@ -685,13 +687,13 @@ fn holds_at<A: Allocator + Copy, T: Tops<A>>(
     alloc: A,
 ) -> Result<bool, Stop>
     requires { meter.old.fuel + meter.old.depth < 2 ^ 64 }
-    ensures meets { let f = run levels (T.table tops.now) in Meets (Keeps place) meter.old result meter.new
-        (then_out (run_at f (frames_of scope.now) (map tree_of values.now) filter.now place) (kept place)) }
+    ensures meets { let f = run levels (T.table tops.now) in Meets (IsKeptPlace place) meter.old result meter.new
+        (and_then (run_at f (frames_of scope.now) (map tree_of values.now) filter.now place) (place_if_true place)) }
     ensures spent { meter.new.fuel + meter.new.depth ≤ meter.old.fuel + meter.old.depth }
 {
     let inner = Scope::Row(&*values, place, &*scope);
     let value = value_in(tops, &inner, filter, levels, meter, alloc)?;
-    truth(value)
+    read_truth(value)
 }
 
 // The places at which a filter holds, one by one.
@@ -739,12 +741,12 @@ fn body_at<A: Allocator + Copy, T: Tops<A>>(
 ) -> Result<Value<A>, Stop>
     requires { meter.old.fuel + meter.old.depth < 2 ^ 64 }
     ensures meets { let f = run levels (T.table tops.now) in Meets IsOne meter.old result meter.new
-        (then_out (run_at f (frames_of scope.now) (map tree_of values.now) body.now place) counted) }
+        (and_then (run_at f (frames_of scope.now) (map tree_of values.now) body.now place) body_value) }
     ensures spent { meter.new.fuel + meter.new.depth ≤ meter.old.fuel + meter.old.depth }
 {
     let inner = Scope::Row(&*values, place, &*scope);
     let value = value_in(tops, &inner, body, levels, meter, alloc)?;
-    paid(value, meter)
+    pay(value, meter)
 }
 
 // The sequence of the values of a body at places.
@@ -765,7 +767,7 @@ fn all_bodies<A: Allocator + Copy, T: Tops<A>>(
     ensures spent { meter.new.fuel + meter.new.depth ≤ meter.old.fuel + meter.old.depth }
 {
     let builder = bodies(tops, scope, values, body, places, levels, meter, alloc)?;
-    finished(builder)
+    finish(builder)
 }
 
 // The values of a body at places, one by one.

@@ -5,7 +5,7 @@ ghost use Rattle.nesl_eval_meaning.specs.Names.{outside};
 ghost use Rattle.nesl_eval_meaning.specs.Out.{within};
 ghost use Rattle.nesl_eval_meaning.specs.Outcome.{out};
 ghost use Rattle.nesl_eval_code.specs.Stored.{environment};
-ghost use Rattle.nesl_eval.specs.Tells.{Tells};
+ghost use Rattle.nesl_eval.specs.Outcomes.{OutcomeIs};
 
 use crate::outcome::{Outcome, evaluate};
 use nesl_eval_code::{Env, prepare, runs_as_meant};
@@ -14,7 +14,7 @@ use std::alloc::Global;
 
 /// What an expression comes to where these bindings stand, with so many levels and so much work.
 pub fn eval_one(alloc: Global, env: &Env, exp: &Exp, levels: u32, fuel: u64) -> Outcome<Global>
-    ensures { Tells result
+    ensures { OutcomeIs result
         (within fuel (out levels (environment env.now) (outside []) (tree_of exp.now))) }
 {
     runs_as_meant();

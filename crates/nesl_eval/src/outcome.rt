@@ -1,10 +1,10 @@
 //! What an evaluation under a budget tells.
 ghost use Rattle.std.specs.Prelude.{◌≤◌, []};
-ghost use Rattle.nesl_values.specs.Tree.{Tree};
+ghost use Rattle.nesl_values.specs.Tree.{ValueTree};
 ghost use Rattle.nesl_eval_meaning.specs.Out.{Out, within};
 ghost use Rattle.nesl_eval_code.specs.Run.{run};
 ghost use Rattle.nesl_eval_nodes.specs.Meets.{Meets, Is};
-ghost use Rattle.nesl_eval.specs.Tells.{Tells};
+ghost use Rattle.nesl_eval.specs.Outcomes.{OutcomeIs};
 
 use crate::eval::eval_in;
 use nesl_eval_code::Code;
@@ -44,7 +44,7 @@ pub fn evaluate<A: Allocator + Copy, T: Tops<A>>(
     fuel: u64,
     heap: A,
 ) -> Outcome<A>
-    ensures { Tells result (within fuel (run levels (T.table tops.now) [] code.now)) }
+    ensures { OutcomeIs result (within fuel (run levels (T.table tops.now) [] code.now)) }
 {
     let mut meter = Meter { fuel, depth: 0 };
     let scope = Scope::Empty;
@@ -59,8 +59,8 @@ pub fn outcome_of<A: Allocator>(
     meter: Meter,
 ) -> Outcome<A>
     requires { meter.fuel ≤ fuel }
-    ensures { (o : Out Tree) → Meets Is (record { fuel = fuel; depth = 0 }) found meter o
-        → Tells result (within fuel o) }
+    ensures { (o : Out ValueTree) → Meets Is (record { fuel = fuel; depth = 0 }) found meter o
+        → OutcomeIs result (within fuel o) }
 {
     let work = fuel - meter.fuel;
     match found {

@@ -79,7 +79,7 @@ impl Reached {
         Ok(())
     }
 
-    // The same of a name's place.
+    // Marks the place of a name, the first time that it is met.
     fn note_name(&mut self, tops: &TopLevel<'_>, name: &[u8]) -> Result<(), AllocError>
         ensures grows { OnOk result
             (Grows self.old.marks.items self.new.marks.items self.old.queue.items self.new.queue.items) }

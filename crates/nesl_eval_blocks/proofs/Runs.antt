@@ -8,9 +8,10 @@ use Rattle.nesl_values.specs.Tree as values
 use Rattle.nesl_values.specs.Parts.{as_bool, elements}
 use Rattle.nesl_builtins.specs.declared.builtin.Builtin.{Builtin}
 use Rattle.nesl_eval_code.specs.declared.code.Code.{Code, Number, Truth, Character, Text, Local, Top, Named, Pair', Apply', ApplyTwo', ApplyThree', Call', CallNamed', Choice', Sequence', Empty, Let', Each', FilteredEach', Row_of-Code, end_of-Code, more_of-Code, items-the_row-Code}
-use Rattle.nesl_eval_meaning.specs.Names.{Value, named}
-use Rattle.nesl_eval_meaning.specs.Out.{Out, value, then_out, given}
-use Rattle.nesl_eval_meaning.specs.Outcome.{made, applied, branch, places, lengths, kept, counted}
+use Rattle.nesl_eval_meaning.specs.Names.{Value, look_up}
+use Rattle.nesl_eval_meaning.specs.Out.{Out, value, and_then, given}
+use Rattle.nesl_eval_meaning.specs.Outcome.{small_enough, apply_builtin, branch, common_places, lengths, place_if_true}
+use Rattle.nesl_eval_meaning.specs.Outcome.{body_value}
 use Rattle.nesl_eval_code.specs.Frames.{Frames, frame, row}
 use Rattle.nesl_eval_code.specs.Run.{Table, run, run_node, run_all, run_let, run_filters, run_bodies, run_called, as_result, slot_at, code_span}
 use Rattle.nesl_eval_blocks.specs.Block.{What, Leaf, Maker, of_one, of_two, of_three, of_pair, pairing, listing, placed, called_by, Block, push, enter, call, bind, forget, each, filtered, number, truth, character, text, empty, top, by_name}
@@ -37,11 +38,11 @@ module _ (t : Table) (n : ℕ) where
   abbrev Flat : ℕ → Code → Type 0
   Flat h c =
       (fs : Frames) (o : Option Block) (vs : List Value) → Open o vs →
-      exec t n (laid fs) (flat h (sizes fs) c o) vs ≡ then_out (run (n - h) t fs c) (then_exec fs o vs)
+      exec t n (laid fs) (flat h (sizes fs) c o) vs ≡ and_then (run (n - h) t fs c) (then_exec fs o vs)
 
   -- a part that is pushed
   before_is : (h : ℕ) (fs : Frames) (c : Code) → Flat h c → (b : Block) (vs : List Value) →
-      exec t n (laid fs) (flat h (sizes fs) c (Some b)) vs ≡ then_out (run (n - h) t fs c) (λ v. exec t n (laid fs) b (v ∷ vs))
+      exec t n (laid fs) (flat h (sizes fs) c (Some b)) vs ≡ and_then (run (n - h) t fs c) (λ v. exec t n (laid fs) b (v ∷ vs))
   before_is h fs c i b vs = i fs (Some b) vs tt
 
   -- a block of its own
@@ -50,7 +51,7 @@ module _ (t : Table) (n : ℕ) where
 
   leaf_runs : (h : ℕ) (fs : Frames) (c : Code) (w : What) → run_node (run (n - suc h) t) t fs c ≡ leaf_value t (laid fs) w →
       run (n - h) t fs c ≡ leaf_out t n h (laid fs) (leaf (code_span c) w)
-  leaf_runs h fs c w e = run_entered t n h fs c ∙ ap (λ o. then_out (admitted n h (code_span c)) (λ u. o)) e
+  leaf_runs h fs c w e = run_entered t n h fs c ∙ ap (λ o. and_then (admitted n h (code_span c)) (λ u. o)) e
 
   some_leaf : (h : ℕ) (fs : Frames) (c : Code) (w : What) (l : Leaf) → run_node (run (n - suc h) t) t fs c ≡ leaf_value t (laid fs) w →
       Some (leaf (code_span c) w) ≡ Some l → run (n - h) t fs c ≡ leaf_out t n h (laid fs) l
@@ -84,21 +85,21 @@ module _ (t : Table) (n : ℕ) where
   -- a leaf alone
   push_is : (h : ℕ) (c : Code) (w : Frames → What) → ((fs : Frames) → run_node (run (n - suc h) t) t fs c ≡ leaf_value t (laid fs) (w fs)) →
       (fs : Frames) (o : Option Block) (vs : List Value) →
-      exec t n (laid fs) (push h (leaf (code_span c) (w fs)) (rest o)) vs ≡ then_out (run (n - h) t fs c) (then_exec fs o vs)
-  push_is h c w e fs o vs = ap (λ p. then_out p (then_exec fs o vs)) (sym (leaf_runs h fs c (w fs) (e fs)))
+      exec t n (laid fs) (push h (leaf (code_span c) (w fs)) (rest o)) vs ≡ and_then (run (n - h) t fs c) (then_exec fs o vs)
+  push_is h c w e fs o vs = ap (λ p. and_then p (then_exec fs o vs)) (sym (leaf_runs h fs c (w fs) (e fs)))
 
   -- what is made of all parts of a node
   node_made : (h : ℕ) (fs : Frames) (c : Code) (m : Maker) (s : Span) (ps : List Part) (cs : List Code) → AllAre t n (suc h) fs ps cs →
       (o : Option Block) (vs : List Value) → run_with (run (n - suc h) t) fs [] cs (made_of s m) ≡ run_node (run (n - suc h) t) t fs c →
-      exec t n (laid fs) (enter h (code_span c) (making (suc h) s m 0 ps (rest o))) vs ≡ then_out (run (n - h) t fs c) (then_exec fs o vs)
+      exec t n (laid fs) (enter h (code_span c) (making (suc h) s m 0 ps (rest o))) vs ≡ and_then (run (n - h) t fs c) (then_exec fs o vs)
   node_made h fs c m s ps cs a o vs e =
       then_node t n h fs c (then_exec fs o vs) _
-      (making_is t n (suc h) fs s m 0 ps cs a (rest o) [] vs refl ∙ ap (λ p. then_out p (then_exec fs o vs)) e)
+      (making_is t n (suc h) fs s m 0 ps cs a (rest o) [] vs refl ∙ ap (λ p. and_then p (then_exec fs o vs)) e)
 
   -- a function of one value
   one_is : (h : ℕ) (s : Span) (g : Builtin) (a : Code) → Flat h a → (fs : Frames) (o : Option Block) (vs : List Value) →
       exec t n (laid fs) (making h s (of_one g) 0 (part (leaf_of (sizes fs) a) (λ b. flat h (sizes fs) a (Some b)) ∷ []) (rest o)) vs
-      ≡ then_out (then_out (run (n - h) t fs a) (applied s g)) (then_exec fs o vs)
+      ≡ and_then (and_then (run (n - h) t fs a) (apply_builtin s g)) (then_exec fs o vs)
   one_is h s g a i fs o vs = making_is t n h fs s (of_one g) 0 (part _ _ ∷ []) (a ∷ []) (part_is h fs a i, tt) (rest o) [] vs refl
 
   -- and of a pair that is written out
@@ -107,18 +108,18 @@ module _ (t : Table) (n : ℕ) where
       exec t n (laid fs) (enter h w (making (suc h) s (of_pair w g) 0
       (part (leaf_of (sizes fs) a) (λ c. flat (suc h) (sizes fs) a (Some c)) ∷ part (leaf_of (sizes fs) d) (λ c. flat (suc h) (sizes fs) d (Some c)) ∷ [])
       (rest o))) vs
-      ≡ then_out (then_out (run (n - h) t fs (Pair' w p a q d)) (applied s g)) (then_exec fs o vs)
+      ≡ and_then (and_then (run (n - h) t fs (Pair' w p a q d)) (apply_builtin s g)) (then_exec fs o vs)
   pair_is h s w g p a q d i j fs o vs =
       let x = run (n - suc h) t fs a in
       let y = run (n - suc h) t fs d in
-      let m : Value → Value → Out Value = λ u v. made w (values.pair u v) in
-      let k : Value → Out Value = λ v. then_out (applied s g v) (then_exec fs o vs) in
+      let m : Value → Value → Out Value = λ u v. small_enough w (values.pair u v) in
+      let k : Value → Out Value = λ v. and_then (apply_builtin s g v) (then_exec fs o vs) in
       then_node t n h fs (Pair' w p a q d) k _
       (making_is t n (suc h) fs s (of_pair w g) 0 (part _ _ ∷ part _ _ ∷ []) (a ∷ d ∷ []) (part_is (suc h) fs a i, (part_is (suc h) fs d j, tt)) (rest o) [] vs refl
-      ∙ ap (λ e. then_out e (then_exec fs o vs))
-      (sym (then_assoc x (λ u. then_out y (m u)) (applied s g) ∙ then_same x _ _ (λ u. then_assoc y (m u) (applied s g))))
-      ∙ then_assoc (then_out x (λ u. then_out y (m u))) (applied s g) (then_exec fs o vs))
-      ∙ sym (then_assoc (run (n - h) t fs (Pair' w p a q d)) (applied s g) (then_exec fs o vs))
+      ∙ ap (λ e. and_then e (then_exec fs o vs))
+      (sym (then_assoc x (λ u. and_then y (m u)) (apply_builtin s g) ∙ then_same x _ _ (λ u. then_assoc y (m u) (apply_builtin s g))))
+      ∙ then_assoc (and_then x (λ u. and_then y (m u))) (apply_builtin s g) (then_exec fs o vs))
+      ∙ sym (then_assoc (run (n - h) t fs (Pair' w p a q d)) (apply_builtin s g) (then_exec fs o vs))
 
   call_is : (h : ℕ) (s : Span) (k : ℕ) (p : _) (a : Code) → Flat (suc h) a → Flat h (Call' s k p a)
   call_is h s k p a i fs o vs way =
@@ -132,18 +133,18 @@ module _ (t : Table) (n : ℕ) where
       let q = run (n - suc h) t fs a in
       then_node t n h fs (CallNamed' s x p a) (then_exec fs o vs) _
       (before_is (suc h) fs a i (call h s (called_by x.items) (rest o)) vs
-      ∙ sym (then_assoc q (run_called (run (n - suc h) t) s (named t x.items)) (then_exec fs o vs)))
+      ∙ sym (then_assoc q (run_called (run (n - suc h) t) s (look_up t x.items)) (then_exec fs o vs)))
 
   -- one of two blocks
   decided : (h : ℕ) (fs : Frames) (c d : Code) → Flat h c → Flat h d → (o : Option Block) (vs : List Value) → Open o vs → (x : Value) →
       exec t n (laid fs) (deciding (flat h (sizes fs) c None) (flat h (sizes fs) d None) o) (x ∷ vs)
-      ≡ then_out (branch (as_bool x) (run (n - h) t fs c) (run (n - h) t fs d)) (then_exec fs o vs)
+      ≡ and_then (branch (as_bool x) (run (n - h) t fs c) (run (n - h) t fs d)) (then_exec fs o vs)
   decided h fs c d i j None [] way x =
       branch_same (as_bool x) _ _ _ _ (alone_is h fs c i) (alone_is h fs d j)
       ∙ sym (then_value (branch (as_bool x) (run (n - h) t fs c) (run (n - h) t fs d)))
   decided h fs c d i j None (v ∷ vs) way x = absurd way
   decided h fs c d i j (Some b) vs way x =
-      ap (λ q. then_out q (λ v. exec t n (laid fs) b (v ∷ vs))) (branch_same (as_bool x) _ _ _ _ (alone_is h fs c i) (alone_is h fs d j))
+      ap (λ q. and_then q (λ v. exec t n (laid fs) b (v ∷ vs))) (branch_same (as_bool x) _ _ _ _ (alone_is h fs c i) (alone_is h fs d j))
 
   choice_is : (h : ℕ) (s : Span) (p : _) (a : Code) (q : _) (c : Code) (r : _) (d : Code) → Flat (suc h) a → Flat (suc h) c → Flat (suc h) d →
       Flat h (Choice' s p a q c r d)
@@ -157,7 +158,7 @@ module _ (t : Table) (n : ℕ) where
   -- the body of a `let`
   inside_is : (h : ℕ) (e : Code) → Flat h e → (fs : Frames) (o : Option Block) (vs : List Value) → Open o vs → (us : List Value) →
       exec t n (laid fs ++ frame us) (flat h (length us ∷ sizes fs) e (forgetting (room (sizes fs)) o)) vs
-      ≡ then_out (run (n - h) t (frame us ∷ fs) e) (then_exec fs o vs)
+      ≡ and_then (run (n - h) t (frame us ∷ fs) e) (then_exec fs o vs)
   inside_is h e i fs None (v ∷ vs) way us = absurd way
   inside_is h e i fs None [] way us =
       ap (λ k. exec t n (laid fs ++ frame us) (flat h (k ∷ sizes fs) e None) []) (sym (length-map us Some)) ∙ i (frame us ∷ fs) None [] tt
@@ -176,45 +177,45 @@ module _ (t : Table) (n : ℕ) where
   -- what depends on the sequences that were pushed
   over_is : (h : ℕ) (c : Code) (s : Span) (fs : Frames) (ps : List Part) (cs : List Code) → AllAre t n (suc h) fs ps cs → (k : ℕ) → k ≡ length cs →
       (b : Block) (o : Option Block) (vs : List Value) (f : List Value → List ℕ → Out Value) →
-      ((ws : List Value) → k ≡ length ws → exec t n (laid fs) b (ws ++ vs) ≡ then_out (at_places s (reverse ws) (f (reverse ws))) (then_exec fs o vs)) →
-      run_node (run (n - suc h) t) t fs c ≡ then_out (run_all (run (n - suc h) t) fs [] cs) (λ us. at_places s us (f us)) →
-      exec t n (laid fs) (enter h (code_span c) (pushing ps b)) vs ≡ then_out (run (n - h) t fs c) (then_exec fs o vs)
+      ((ws : List Value) → k ≡ length ws → exec t n (laid fs) b (ws ++ vs) ≡ and_then (at_places s (reverse ws) (f (reverse ws))) (then_exec fs o vs)) →
+      run_node (run (n - suc h) t) t fs c ≡ and_then (run_all (run (n - suc h) t) fs [] cs) (λ us. at_places s us (f us)) →
+      exec t n (laid fs) (enter h (code_span c) (pushing ps b)) vs ≡ and_then (run (n - h) t fs c) (then_exec fs o vs)
   over_is h c s fs ps cs a k len b o vs f g e =
       let F = run (n - suc h) t in
       then_node t n h fs c (then_exec fs o vs) _
-      (pushing_is t n (suc h) fs ps cs a b [] vs k (λ us. then_out (at_places s us (f us)) (then_exec fs o vs)) g (omega arith)
-      ∙ run_with_is F fs [] cs (λ us. then_out (at_places s us (f us)) (then_exec fs o vs))
+      (pushing_is t n (suc h) fs ps cs a b [] vs k (λ us. and_then (at_places s us (f us)) (then_exec fs o vs)) g (omega arith)
+      ∙ run_with_is F fs [] cs (λ us. and_then (at_places s us (f us)) (then_exec fs o vs))
       ∙ sym (then_assoc (run_all F fs [] cs) (λ us. at_places s us (f us)) (then_exec fs o vs))
-      ∙ ap (λ p. then_out p (then_exec fs o vs)) (sym e))
+      ∙ ap (λ p. and_then p (then_exec fs o vs)) (sym e))
 
   places_same : (s : Span) (us : List Value) (f g : List ℕ → Out Value) → ((is : List ℕ) → f is ≡ g is) → at_places s us f ≡ at_places s us g
-  places_same s us f g e = given_same (lengths us) _ _ (λ ns. then_same (places s ns) f g e)
+  places_same s us f g e = given_same (lengths us) _ _ (λ ns. then_same (common_places s ns) f g e)
 
   values_same : (f g : ℕ → Out Value) → ((i : ℕ) → f i ≡ g i) → (is : List ℕ) → values_of f is ≡ values_of g is
-  values_same f g e is = ap as_result (all_same _ _ (λ i. ap (λ p. then_out p counted) (e i)) is)
+  values_same f g e is = ap as_result (all_same _ _ (λ i. ap (λ p. and_then p body_value) (e i)) is)
 
   kept_same : (f g : ℕ → Out Value) → ((i : ℕ) → f i ≡ g i) → (is : List ℕ) → kept_of f is ≡ kept_of g is
-  kept_same f g e is = all_same _ _ (λ i. ap (λ p. then_out p (kept i)) (e i)) is
+  kept_same f g e is = all_same _ _ (λ i. ap (λ p. and_then p (place_if_true i)) (e i)) is
 
   each_there : (h : ℕ) (e : Code) → Flat h e → (s : Span) (fs : Frames) (k : ℕ) (b : Block) (vs ws : List Value) → k ≡ length ws →
       exec t n (laid fs) (each s k (flat h (k ∷ sizes fs) e None) b) (ws ++ vs)
-      ≡ then_out (at_places s (reverse ws) (λ is. as_result (run_bodies (run (n - h) t) fs (reverse ws) e is))) (λ v. exec t n (laid fs) b (v ∷ vs))
+      ≡ and_then (at_places s (reverse ws) (λ is. as_result (run_bodies (run (n - h) t) fs (reverse ws) e is))) (λ v. exec t n (laid fs) b (v ∷ vs))
   each_there h e j s fs k b vs ws len =
       let long : k ≡ length (reverse ws) = len ∙ sym (length-reverse ws) in
-      ap (λ o. given o (λ p. then_out (at_places s p.0 (values_of (λ i. exec t n (laid fs ++ row i p.0) (flat h (k ∷ sizes fs) e None) []))) (λ v. exec t n (laid fs) b (v ∷ p.1))))
+      ap (λ o. given o (λ p. and_then (at_places s p.0 (values_of (λ i. exec t n (laid fs ++ row i p.0) (flat h (k ∷ sizes fs) e None) []))) (λ v. exec t n (laid fs) b (v ∷ p.1))))
       (taken_all k ws vs len)
-      ∙ ap (λ o. then_out o (λ v. exec t n (laid fs) b (v ∷ vs))) (places_same s (reverse ws) _ _ (values_same _ _ (at_is h e j fs (reverse ws) k long)))
+      ∙ ap (λ o. and_then o (λ v. exec t n (laid fs) b (v ∷ vs))) (places_same s (reverse ws) _ _ (values_same _ _ (at_is h e j fs (reverse ws) k long)))
 
   filtered_there : (h : ℕ) (e c : Code) → Flat h e → Flat h c → (s : Span) (fs : Frames) (k : ℕ) (b : Block) (vs ws : List Value) → k ≡ length ws →
       exec t n (laid fs) (filtered s k (flat h (k ∷ sizes fs) e None) (flat h (k ∷ sizes fs) c None) b) (ws ++ vs)
-      ≡ then_out (at_places s (reverse ws) (λ is. then_out (run_filters (run (n - h) t) fs (reverse ws) c is) (λ ks. as_result (run_bodies (run (n - h) t) fs (reverse ws) e ks)))) (λ v. exec t n (laid fs) b (v ∷ vs))
+      ≡ and_then (at_places s (reverse ws) (λ is. and_then (run_filters (run (n - h) t) fs (reverse ws) c is) (λ ks. as_result (run_bodies (run (n - h) t) fs (reverse ws) e ks)))) (λ v. exec t n (laid fs) b (v ∷ vs))
   filtered_there h e c j l s fs k b vs ws len =
       let long : k ≡ length (reverse ws) = len ∙ sym (length-reverse ws) in
-      ap (λ o. given o (λ p. then_out (at_places s p.0 (λ is. then_out (kept_of (λ i. exec t n (laid fs ++ row i p.0) (flat h (k ∷ sizes fs) c None) []) is)
+      ap (λ o. given o (λ p. and_then (at_places s p.0 (λ is. and_then (kept_of (λ i. exec t n (laid fs ++ row i p.0) (flat h (k ∷ sizes fs) c None) []) is)
       (values_of (λ i. exec t n (laid fs ++ row i p.0) (flat h (k ∷ sizes fs) e None) [])))) (λ v. exec t n (laid fs) b (v ∷ p.1))))
       (taken_all k ws vs len)
-      ∙ ap (λ o. then_out o (λ v. exec t n (laid fs) b (v ∷ vs))) (places_same s (reverse ws) _ _ (λ is.
-      ap (λ o. then_out o (values_of (λ i. exec t n (laid fs ++ row i (reverse ws)) (flat h (k ∷ sizes fs) e None) []))) (kept_same _ _ (at_is h c l fs (reverse ws) k long) is)
+      ∙ ap (λ o. and_then o (λ v. exec t n (laid fs) b (v ∷ vs))) (places_same s (reverse ws) _ _ (λ is.
+      ap (λ o. and_then o (values_of (λ i. exec t n (laid fs ++ row i (reverse ws)) (flat h (k ∷ sizes fs) e None) []))) (kept_same _ _ (at_is h c l fs (reverse ws) k long) is)
       ∙ then_same (run_filters (run (n - h) t) fs (reverse ws) c is) _ _ (values_same _ _ (at_is h e j fs (reverse ws) k long))))
 
   length_is : {m : _} (cs : Row_of-Code m) → length_of cs ≡ length (items-the_row-Code _ cs)
@@ -261,12 +262,12 @@ module _ (t : Table) (n : ℕ) where
         (each_there (suc h) e (flat_is (suc h) e) s fs (length_of cs) (rest o) vs) refl
     flat_is h (FilteredEach' s v cs p e q c) fs o vs way =
         over_is h (FilteredEach' s v cs p e q c) s fs (parts_in (suc h) (sizes fs) cs) (items-the_row-Code _ cs) (parts_are (suc h) fs cs) (length_of cs) (length_is cs)
-        _ o vs (λ us is. then_out (run_filters (run (n - suc h) t) fs us c is) (λ ks. as_result (run_bodies (run (n - suc h) t) fs us e ks)))
+        _ o vs (λ us is. and_then (run_filters (run (n - suc h) t) fs us c is) (λ ks. as_result (run_bodies (run (n - suc h) t) fs us e ks)))
         (filtered_there (suc h) e c (flat_is (suc h) e) (flat_is (suc h) c) s fs (length_of cs) (rest o) vs) refl
 
     applying_is : (h : ℕ) (s : Span) (g : Builtin) (a : Code) → Flat h a → (fs : Frames) (o : Option Block) (vs : List Value) →
         exec t n (laid fs) (applying h (sizes fs) s g (λ b. flat h (sizes fs) a (Some b)) a (rest o)) vs
-        ≡ then_out (then_out (run (n - h) t fs a) (applied s g)) (then_exec fs o vs)
+        ≡ and_then (and_then (run (n - h) t fs a) (apply_builtin s g)) (then_exec fs o vs)
     applying_is h s g (Pair' w p a q d) i fs o vs = pair_is h s w g p a q d (flat_is (suc h) a) (flat_is (suc h) d) fs o vs
     applying_is h s g a i fs o vs = one_is h s g a i fs o vs
 
@@ -275,8 +276,8 @@ module _ (t : Table) (n : ℕ) where
     parts_are h fs (more_of-Code c cs) = (part_is h fs c (flat_is h c), parts_are h fs cs)
 
     bindings_are : {m : _} (h : ℕ) (fs : Frames) (cs : Row_of-Code m) (ws : List Value) (f : ℕ → Block) (e : Code) (vs : List Value) (k : Value → Out Value) →
-        ((us : List Value) → exec t n (laid fs ++ frame us) (f (length us)) vs ≡ then_out (run (n - h) t (frame us ∷ fs) e) k) →
-        exec t n (laid fs ++ frame ws) (binding h (sizes fs) (length ws) cs f) vs ≡ then_out (run_let (run (n - h) t) fs ws (items-the_row-Code _ cs) e) k
+        ((us : List Value) → exec t n (laid fs ++ frame us) (f (length us)) vs ≡ and_then (run (n - h) t (frame us ∷ fs) e) k) →
+        exec t n (laid fs ++ frame ws) (binding h (sizes fs) (length ws) cs f) vs ≡ and_then (run_let (run (n - h) t) fs ws (items-the_row-Code _ cs) e) k
     bindings_are h fs end_of-Code ws f e vs k i = i ws
     bindings_are h fs (more_of-Code c cs) ws f e vs k i =
         let B = bind (binding h (sizes fs) (suc (length ws)) cs f) in

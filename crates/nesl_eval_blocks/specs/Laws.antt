@@ -2,7 +2,7 @@
 use Rattle.std.specs.Prelude.{◌≡◌, ℕ, ◌-◌, List, [], ◌∷◌, map, length, Some}
 use Rattle.nesl_eval_code.specs.declared.code.Code.{Code}
 use Rattle.nesl_eval_meaning.specs.Names.{Value}
-use Rattle.nesl_eval_meaning.specs.Out.{then_out}
+use Rattle.nesl_eval_meaning.specs.Out.{and_then}
 use Rattle.nesl_eval_code.specs.Frames.{Frames}
 use Rattle.nesl_eval_code.specs.Run.{Table, run}
 use Rattle.nesl_eval_blocks.specs.Block.{Block}
@@ -22,4 +22,4 @@ abbrev pub LeavesItsValue : Type 0
 LeavesItsValue =
     (t : Table) (n h : ℕ) (fs : Frames) (c : Code) (b : Block) (vs : List Value) →
     exec t n (laid fs) (flat h (sizes fs) c (Some b)) vs
-    ≡ then_out (run (n - h) t fs c) (λ v. exec t n (laid fs) b (v ∷ vs))
+    ≡ and_then (run (n - h) t fs c) (λ v. exec t n (laid fs) b (v ∷ vs))

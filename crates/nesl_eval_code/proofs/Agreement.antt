@@ -2,7 +2,8 @@
 use Rattle.std.proofs.Common.{◌≡◌, ℕ, ◌+◌, refl, ◌∙◌, ap, subst, arith, List, [], ◌∷◌, Option, Some, None, Bool, true, false}
 use Rattle.nesl_lex.specs.declared.token.Span.{Span}
 use Rattle.nesl_eval_meaning.specs.Names.{Value}
-use Rattle.nesl_eval_meaning.specs.Out.{Out, value, fault, stuck, added, then_out, given, at_call, beside, all_beside}
+use Rattle.nesl_eval_meaning.specs.Out.{Out, value, fault, stuck, after_cost, and_then, given, at_call, beside}
+use Rattle.nesl_eval_meaning.specs.Out.{all_beside}
 use Rattle.nesl_eval_meaning.specs.Outcome.{branch}
 use Rattle.nesl_eval_code.specs.Means.{Agrees}
 
@@ -15,17 +16,17 @@ equal {X} {r} {o} {p} h e = let F : Out X → Type 0 = λ q. Agrees r q in subst
 pub equal_left : {X : Type 0} {r q o : Out X} → q ≡ r → Agrees r o → Agrees q o
 equal_left e h n = e ∙ h n
 
-pub agrees_added : {X : Type 0} (w d : ℕ) (r o : Out X) → Agrees r o → Agrees (added w d r) (added w d o)
+pub agrees_added : {X : Type 0} (w d : ℕ) (r o : Out X) → Agrees r o → Agrees (after_cost w d r) (after_cost w d o)
 agrees_added w d r stuck h n = absurd (n refl)
-agrees_added w d r (value x w' d') h n = ap (added w d) (h (λ e. cc))
-agrees_added w d r (fault t s w') h n = ap (added w d) (h (λ e. cc))
+agrees_added w d r (value x w' d') h n = ap (after_cost w d) (h (λ e. cc))
+agrees_added w d r (fault t s w') h n = ap (after_cost w d) (h (λ e. cc))
 
 pub agrees_then : {X Y : Type 0} (r o : Out X) (h k : X → Out Y) → Agrees r o → ((x : X) → Agrees (h x) (k x)) →
-    Agrees (then_out r h) (then_out o k)
+    Agrees (and_then r h) (and_then o k)
 agrees_then r stuck h k a f n = absurd (n refl)
-agrees_then r (fault t s w) h k a f n = ap (λ q. then_out q h) (a (λ e. cc))
+agrees_then r (fault t s w) h k a f n = ap (λ q. and_then q h) (a (λ e. cc))
 agrees_then r (value x w d) h k a f n =
-    ap (λ q. then_out q h) (a (λ e. cc)) ∙ agrees_added w d (h x) (k x) (f x) n
+    ap (λ q. and_then q h) (a (λ e. cc)) ∙ agrees_added w d (h x) (k x) (f x) n
 
 pub agrees_given : {X Y : Type 0} (b : Option X) (h k : X → Out Y) → ((x : X) → Agrees (h x) (k x)) →
     Agrees (given b h) (given b k)
@@ -60,7 +61,7 @@ pub agrees_all : {I X : Type 0} (f g : I → Out (List X)) (is : List I) → ((i
 agrees_all f g [] h = same (value [] 0 0)
 agrees_all f g (i ∷ is) h = agrees_beside (f i) (g i) (all_beside f is) (all_beside g is) (h i) (agrees_all f g is h)
 
-added_added : {X : Type 0} (w d v e : ℕ) (o : Out X) → added (w + v) (d + e) o ≡ added w d (added v e o)
+added_added : {X : Type 0} (w d v e : ℕ) (o : Out X) → after_cost (w + v) (d + e) o ≡ after_cost w d (after_cost v e o)
 added_added w d v e stuck = refl
 added_added w d v e (fault t s u) = ap (λ n. fault t s n) (omega arith)
 added_added w d v e (value x u f) = two (omega arith) (omega arith)
@@ -68,18 +69,18 @@ added_added w d v e (value x u f) = two (omega arith) (omega arith)
     two : {X : Type 0} {x : X} {m n i j : ℕ} → m ≡ n → i ≡ j → value x m i ≡ value x n j
     two p q = cc
 
-then_added : {X Y : Type 0} (w d : ℕ) (o : Out X) (k : X → Out Y) → then_out (added w d o) k ≡ added w d (then_out o k)
+then_added : {X Y : Type 0} (w d : ℕ) (o : Out X) (k : X → Out Y) → and_then (after_cost w d o) k ≡ after_cost w d (and_then o k)
 then_added w d stuck k = refl
 then_added w d (fault t s v) k = refl
 then_added w d (value x v e) k = added_added w d v e (k x)
 
 pub then_then : {X Y Z : Type 0} (o : Out X) (h : X → Out Y) (k : Y → Out Z) →
-    then_out (then_out o h) k ≡ then_out o (λ x. then_out (h x) k)
+    and_then (and_then o h) k ≡ and_then o (λ x. and_then (h x) k)
 then_then stuck h k = refl
 then_then (fault t s w) h k = refl
 then_then (value x w d) h k = then_added w d (h x) k
 
-pub then_value : {X : Type 0} (o : Out X) → then_out o (λ x. value x 0 0) ≡ o
+pub then_value : {X : Type 0} (o : Out X) → and_then o (λ x. value x 0 0) ≡ o
 then_value stuck = refl
 then_value (fault t s w) = refl
 then_value (value x w d) = two (omega arith) (omega arith)
@@ -88,7 +89,7 @@ then_value (value x w d) = two (omega arith) (omega arith)
     two p q = cc
 
 -- what follows may be any function that comes to the same
-pub then_same : {X Y : Type 0} (o : Out X) (h k : X → Out Y) → ((x : X) → h x ≡ k x) → then_out o h ≡ then_out o k
+pub then_same : {X Y : Type 0} (o : Out X) (h k : X → Out Y) → ((x : X) → h x ≡ k x) → and_then o h ≡ and_then o k
 then_same stuck h k e = refl
 then_same (fault t s w) h k e = refl
-then_same (value x w d) h k e = ap (added w d) (e x)
+then_same (value x w d) h k e = ap (after_cost w d) (e x)

@@ -1,4 +1,4 @@
--- The same of nodes with lists of parts.
+-- Code shows its tree, for nodes with lists of parts.
 use Rattle.std.proofs.Common.{◌≡◌, ℕ, refl, sym, ◌∙◌, ap, subst, rules, List, [], ◌∷◌, ◌++◌, append_assoc, append-nil, Option, Some, None}
 use Rattle.std.proofs.Common.{Vec, Box, Global}
 use Rattle.std.specs.Prelude.{slice_get, option_map, option_and_then}
@@ -10,10 +10,10 @@ use Rattle.nesl_eval_code.specs.declared.code.Code.{Code, the_lemmas}
 use Rattle.nesl_eval_code.specs.declared.code.Code as code
 use Rattle.nesl_eval_meaning.specs.Names.{Name, Value, Locals, Scope, Environment, bound, with_names}
 use Rattle.nesl_eval_code.specs.Frames.{Frames, frame, row}
-use Rattle.nesl_eval_meaning.specs.Out.{Out, value, then_out, given}
-use Rattle.nesl_eval_meaning.specs.Outcome.{out, all_parts, let_of, made, sources, places, lengths, bound_at, first_at, out_at, kept, counted, filters, bodies, over}
+use Rattle.nesl_eval_meaning.specs.Out.{Out, value, and_then, given}
+use Rattle.nesl_eval_meaning.specs.Outcome.{out, all_parts, let_of, small_enough, sources, common_places, lengths, bound_at, first_at, out_at, place_if_true, body_value, kept_places, body_values, over_places}
 use Rattle.nesl_eval_code.specs.Run.{Runs, Table, run, run_node, run_all, run_let, run_at, run_filters, run_bodies, run_over, as_result, code_span}
-use Rattle.nesl_eval_code.specs.Means.{Agrees, Means, Layer, bindings, binders, bound_all, layered, Shows, IsTableOf, Begins, AllMean, BindingsMean, patterns, with_element}
+use Rattle.nesl_eval_code.specs.Means.{Agrees, Means, Layer, bindings, binders, bound_all, layered, FramesShow, IsTableOf, Begins, AllMean, BindingsMean, patterns, with_element}
 use Rattle.nesl_eval_code.proofs.Agreement.{same, equal, equal_left, agrees_then, agrees_given, agrees_all, then_then, then_value, then_same}
 use Rattle.nesl_eval_code.proofs.Tables.{fewer}
 use Rattle.nesl_eval_code.proofs.Nodes.{node_means}
@@ -21,7 +21,7 @@ use Rattle.nesl_eval_code.proofs.Locals.{layer_names, layer_element}
 use Rattle.nesl_eval_code.proofs.Bodies.{row_of}
 
 node-Sequence : (f : Runs) (t : Table) (fs : Frames) (s : Span) (v : Vec Code Global) →
-    run_node f t fs (code.Sequence s v) ≡ then_out (run_all f fs [] v.items) (λ vs. made s (values.sequence vs))
+    run_node f t fs (code.Sequence s v) ≡ and_then (run_all f fs [] v.items) (λ vs. small_enough s (values.sequence vs))
 node-Sequence f t fs s v = search (rules, the_lemmas)
 
 node-Let : (f : Runs) (t : Table) (fs : Frames) (s : Span) (v : Vec Code Global) (c : Box Code Global) →
@@ -34,7 +34,7 @@ node-Each f t fs s v c = search (rules, the_lemmas)
 
 node-FilteredEach : (f : Runs) (t : Table) (fs : Frames) (s : Span) (v : Vec Code Global) (c d : Box Code Global) →
     run_node f t fs (code.FilteredEach s v c d)
-    ≡ run_over f s fs v.items (λ vs is. then_out (run_filters f fs vs d.value is) (λ ks. as_result (run_bodies f fs vs c.value ks)))
+    ≡ run_over f s fs v.items (λ vs is. and_then (run_filters f fs vs d.value is) (λ ks. as_result (run_bodies f fs vs c.value ks)))
 node-FilteredEach f t fs s v c d = search (rules, the_lemmas)
 
 span-Sequence : (s : Span) (v : Vec Code Global) → code_span (code.Sequence s v) ≡ s
@@ -51,18 +51,18 @@ span-FilteredEach s v c d = search (rules, the_lemmas)
 
 -- parts after those that came to `vs`
 abbrev put_after : List Value → Out (List Value) → Out (List Value)
-put_after vs o = then_out o (λ us. value (vs ++ us) 0 0)
+put_after vs o = and_then o (λ us. value (vs ++ us) 0 0)
 
 put_one : (vs : List Value) (v : Value) (o : Out (List Value)) →
-    put_after (vs ++ v ∷ []) o ≡ put_after vs (then_out o (λ us. value (v ∷ us) 0 0))
+    put_after (vs ++ v ∷ []) o ≡ put_after vs (and_then o (λ us. value (v ∷ us) 0 0))
 put_one vs v o =
-    then_same o (λ us. value ((vs ++ v ∷ []) ++ us) 0 0) (λ us. then_out (value (v ∷ us) 0 0) (λ ws. value (vs ++ ws) 0 0))
+    then_same o (λ us. value ((vs ++ v ∷ []) ++ us) 0 0) (λ us. and_then (value (v ∷ us) 0 0) (λ ws. value (vs ++ ws) 0 0))
     (λ us. ap (λ ws. value ws 0 0) (append_assoc vs (v ∷ []) us))
     ∙ sym (then_then o (λ us. value (v ∷ us) 0 0) (λ ws. value (vs ++ ws) 0 0))
 
 module _ (names : List Name) (ls : List Layer) where
   all_mean : (cs : List Code) (es : Trees) → AllMean names ls cs es → (n : ℕ) (t : Table) (env : Environment) → Begins names t →
-      IsTableOf n env t → (fs : Frames) (sc : Scope) → Shows ls fs sc → (vs : List Value) →
+      IsTableOf n env t → (fs : Frames) (sc : Scope) → FramesShow ls fs sc → (vs : List Value) →
       Agrees (run_all (run n t) fs vs cs) (put_after vs (all_parts (out n env) sc es))
   all_mean [] none h n t env b at fs sc sh vs = λ k. ap (λ us. value us 0 0) (sym (append-nil vs))
   all_mean [] (more e es) h n t env b at fs sc sh vs = absurd h
@@ -70,10 +70,10 @@ module _ (names : List Name) (ls : List Layer) where
   all_mean (c ∷ cs) (more e es) h n t env b at fs sc sh vs =
       equal (agrees_then _ _ _ _ (h.0 n t env b at fs sc sh)
       (λ v. equal (all_mean cs es h.1 n t env b at fs sc sh (vs ++ v ∷ [])) (put_one vs v (all_parts (out n env) sc es))))
-      (sym (then_then (out n env sc e) (λ v. then_out (all_parts (out n env) sc es) (λ us. value (v ∷ us) 0 0)) (λ us. value (vs ++ us) 0 0)))
+      (sym (then_then (out n env sc e) (λ v. and_then (all_parts (out n env) sc es) (λ us. value (v ∷ us) 0 0)) (λ us. value (vs ++ us) 0 0)))
 
   pub all_from_none : (cs : List Code) (es : Trees) → AllMean names ls cs es → (n : ℕ) (t : Table) (env : Environment) → Begins names t →
-      IsTableOf n env t → (fs : Frames) (sc : Scope) → Shows ls fs sc →
+      IsTableOf n env t → (fs : Frames) (sc : Scope) → FramesShow ls fs sc →
       Agrees (run_all (run n t) fs [] cs) (all_parts (out n env) sc es)
   all_from_none cs es h n t env b at fs sc sh =
       equal (all_mean cs es h n t env b at fs sc sh []) (then_value (all_parts (out n env) sc es))
@@ -110,7 +110,7 @@ layer_more ps vs p v outer sc ms l h =
 module _ (names : List Name) (ls : List Layer) where
   let_mean : (ps : List PatternTree) (ds : List Code) (c : Code) (bs : Binders) (e : Tree) → BindingsMean names ls ps ds bs →
       Means names (bindings (ps ++ patterns bs) ∷ ls) c e →
-      (n : ℕ) (t : Table) (env : Environment) → Begins names t → IsTableOf n env t → (fs : Frames) (outer : Scope) → Shows ls fs outer →
+      (n : ℕ) (t : Table) (env : Environment) → Begins names t → IsTableOf n env t → (fs : Frames) (outer : Scope) → FramesShow ls fs outer →
       (vs : List Value) (sc : Scope) → layered (bindings ps) vs outer ≡ Some sc →
       Agrees (run_let (run n t) fs vs ds c) (let_of (out n env) bs e sc)
   let_mean ps [] c no_binders e h i n t env b at fs outer sh vs sc l =
@@ -140,7 +140,7 @@ module _ (names : List Name) (ls : List Layer) where
 
   -- a body or a filter at a place
   mean_at : (c : Code) (e : Tree) (bs : Binders) → Means names (binders (patterns bs) ∷ ls) c e → (n : ℕ) (t : Table) (env : Environment) →
-      Begins names t → IsTableOf n env t → (fs : Frames) (sc : Scope) → Shows ls fs sc → (vs : List Value) (i : ℕ) →
+      Begins names t → IsTableOf n env t → (fs : Frames) (sc : Scope) → FramesShow ls fs sc → (vs : List Value) (i : ℕ) →
       Agrees (run_at (run n t) fs vs c i) (out_at (out n env) bs vs sc e i)
   mean_at c e bs h n t env b at fs sc sh vs i = by (bound_at bs vs i sc.names) refl
     where
@@ -153,25 +153,25 @@ module _ (names : List Name) (ls : List Layer) where
           (r.items, sc, r.framed, sh, ap (option_map (with_element (slice_get r.items 0))) r.bound ∙ ap (λ o. Some (with_element o ms)) (sym r.first))
 
   bodies_mean : (c : Code) (e : Tree) (bs : Binders) → Means names (binders (patterns bs) ∷ ls) c e → (n : ℕ) (t : Table) (env : Environment) →
-      Begins names t → IsTableOf n env t → (fs : Frames) (sc : Scope) → Shows ls fs sc → (vs : List Value) (is : List ℕ) →
-      Agrees (as_result (run_bodies (run n t) fs vs c is)) (bodies (out n env) bs vs sc e is)
+      Begins names t → IsTableOf n env t → (fs : Frames) (sc : Scope) → FramesShow ls fs sc → (vs : List Value) (is : List ℕ) →
+      Agrees (as_result (run_bodies (run n t) fs vs c is)) (body_values (out n env) bs vs sc e is)
   bodies_mean c e bs h n t env b at fs sc sh vs is =
-      agrees_then _ _ _ _ (agrees_all _ _ is (λ i. agrees_then _ _ _ _ (mean_at c e bs h n t env b at fs sc sh vs i) (λ v. same (counted v))))
+      agrees_then _ _ _ _ (agrees_all _ _ is (λ i. agrees_then _ _ _ _ (mean_at c e bs h n t env b at fs sc sh vs i) (λ v. same (body_value v))))
       (λ us. same _)
 
   filters_mean : (c : Code) (e : Tree) (bs : Binders) → Means names (binders (patterns bs) ∷ ls) c e → (n : ℕ) (t : Table) (env : Environment) →
-      Begins names t → IsTableOf n env t → (fs : Frames) (sc : Scope) → Shows ls fs sc → (vs : List Value) (is : List ℕ) →
-      Agrees (run_filters (run n t) fs vs c is) (filters (out n env) bs vs sc e is)
+      Begins names t → IsTableOf n env t → (fs : Frames) (sc : Scope) → FramesShow ls fs sc → (vs : List Value) (is : List ℕ) →
+      Agrees (run_filters (run n t) fs vs c is) (kept_places (out n env) bs vs sc e is)
   filters_mean c e bs h n t env b at fs sc sh vs is =
-      agrees_all _ _ is (λ i. agrees_then _ _ _ _ (mean_at c e bs h n t env b at fs sc sh vs i) (λ v. same (kept i v)))
+      agrees_all _ _ is (λ i. agrees_then _ _ _ _ (mean_at c e bs h n t env b at fs sc sh vs i) (λ v. same (place_if_true i v)))
 
   over_mean : (s : Span) (cs : List Code) (bs : Binders) → AllMean names ls cs (sources bs) → (n : ℕ) (t : Table) (env : Environment) →
-      Begins names t → IsTableOf n env t → (fs : Frames) (sc : Scope) → Shows ls fs sc → (f g : List Value → List ℕ → Out Value) →
+      Begins names t → IsTableOf n env t → (fs : Frames) (sc : Scope) → FramesShow ls fs sc → (f g : List Value → List ℕ → Out Value) →
       ((vs : List Value) (is : List ℕ) → Agrees (f vs is) (g vs is)) →
-      Agrees (run_over (run n t) s fs cs f) (over (out n env) s bs sc g)
+      Agrees (run_over (run n t) s fs cs f) (over_places (out n env) s bs sc g)
   over_mean s cs bs h n t env b at fs sc sh f g k =
       agrees_then _ _ _ _ (all_from_none names ls cs (sources bs) h n t env b at fs sc sh)
-      (λ vs. agrees_given (lengths vs) _ _ (λ ns. agrees_then _ _ _ _ (same (places s ns)) (λ is. k vs is)))
+      (λ vs. agrees_given (lengths vs) _ _ (λ ns. agrees_then _ _ _ _ (same (common_places s ns)) (λ is. k vs is)))
 
   pub means_each : (s : Span) (v : Vec Code Global) (c : Box Code Global) (bs : Binders) (e : Tree) → AllMean names ls v.items (sources bs) →
       Means names (binders (patterns bs) ∷ ls) c.value e → Means names ls (code.Each s v c) (node s (trees.each e bs))

@@ -5,7 +5,7 @@ use Rattle.nesl_syntax_tree.specs.Trees.{PatternTree, pattern, name_pattern, pai
 use Rattle.nesl_values.specs.Parts.{as_pair, as_tagged}
 use Rattle.nesl_eval_code.specs.declared.code.Step.{Step}
 use Rattle.nesl_eval_code.specs.declared.code.Step.TheVariants.{Left, Right, Inside}
-use Rattle.nesl_eval_meaning.specs.Names.{Name, Value, Locals, Scope, with_names, named, bound}
+use Rattle.nesl_eval_meaning.specs.Names.{Name, Value, Locals, Scope, with_names, look_up, bound}
 use Rattle.nesl_eval_code.specs.Frames.{followed, local_at, frame}
 use Rattle.nesl_eval_code.specs.Means.{Layer, bindings, binders, bound_all, layered, binds, steps_to, last_binding, or_later, Spot, spot, patterns_of, IsSpotOf, IsNoLocal, IsElementSpot, with_element}
 
@@ -15,33 +15,33 @@ or_none true b e = absurd cc
 or_none false b e = (refl, e)
 
 abbrev pub Leaves : Name → PatternTree → Type 0
-Leaves x p = (v : Value) (ns ms : Locals) → binds x p ≡ false → bound p v ns ≡ Some ms → named ms x ≡ named ns x
+Leaves x p = (v : Value) (ns ms : Locals) → binds x p ≡ false → bound p v ns ≡ Some ms → look_up ms x ≡ look_up ns x
 
 pub unbound : (x : Name) (p : PatternTree) → Leaves x p
 unbound x (pattern s (name_pattern y)) v ns ms f e =
     let q : ms ≡ (y, v) ∷ ns = cc in
-    ap (λ l. named l x) q ∙ ap (λ b. if b then Some v else named ns x) f
+    ap (λ l. look_up l x) q ∙ ap (λ b. if b then Some v else look_up ns x) f
 unbound x (pattern s (record_pattern y p)) v ns ms f e = inside (unbound x p) (as_tagged v) e
   where
-    inside : Leaves x p → (o : Option (ℕ × Value)) → option_and_then (λ b. bound p b.1 ns) o ≡ Some ms → named ms x ≡ named ns x
+    inside : Leaves x p → (o : Option (ℕ × Value)) → option_and_then (λ b. bound p b.1 ns) o ≡ Some ms → look_up ms x ≡ look_up ns x
     inside ih None h = absurd cc
     inside ih (Some b) h = ih b.1 ns ms f h
 unbound x (pattern s (pair_pattern p q)) v ns ms f e = parts (unbound x p) (unbound x q) (as_pair v) e
   where
     behind : Leaves x p → Leaves x q → (b : Value × Value) (o : Option Locals) → bound p b.0 ns ≡ o →
-        option_and_then (bound q b.1) o ≡ Some ms → named ms x ≡ named ns x
+        option_and_then (bound q b.1) o ≡ Some ms → look_up ms x ≡ look_up ns x
     behind l r b None g h = absurd cc
     behind l r b (Some os) g h =
         r b.1 os ms (or_none (binds x q) (binds x p) f).0 h ∙ l b.0 ns os (or_none (binds x q) (binds x p) f).1 g
 
     parts : Leaves x p → Leaves x q → (o : Option (Value × Value)) →
-        option_and_then (λ b. option_and_then (bound q b.1) (bound p b.0 ns)) o ≡ Some ms → named ms x ≡ named ns x
+        option_and_then (λ b. option_and_then (bound q b.1) (bound p b.0 ns)) o ≡ Some ms → look_up ms x ≡ look_up ns x
     parts l r None h = absurd cc
     parts l r (Some b) h = behind l r b (bound p b.0 ns) refl h
 
 -- what a name stands for in a pattern's value
 abbrev pub Leads : Name → List Step → Value → Locals → Type 0
-Leads x steps v ms = (w : Value) × (followed steps v ≡ Some w) × (named ms x ≡ Some w)
+Leads x steps v ms = (w : Value) × (followed steps v ≡ Some w) × (look_up ms x ≡ Some w)
 
 abbrev pub There : Name → PatternTree → Type 0
 There x p = (v : Value) (ns ms : Locals) → binds x p ≡ true → bound p v ns ≡ Some ms → Leads x (steps_to x p) v ms
@@ -49,7 +49,7 @@ There x p = (v : Value) (ns ms : Locals) → binds x p ≡ true → bound p v ns
 pub bound_there : (x : Name) (p : PatternTree) → There x p
 bound_there x (pattern s (name_pattern y)) v ns ms f e =
     let q : ms ≡ (y, v) ∷ ns = cc in
-    (v, refl, ap (λ l. named l x) q ∙ ap (λ b. if b then Some v else named ns x) f)
+    (v, refl, ap (λ l. look_up l x) q ∙ ap (λ b. if b then Some v else look_up ns x) f)
 bound_there x (pattern s (record_pattern y p)) v ns ms f e = inside (bound_there x p) (as_tagged v) refl e
   where
     inside : There x p → (o : Option (ℕ × Value)) → as_tagged v ≡ o → option_and_then (λ b. bound p b.1 ns) o ≡ Some ms →
@@ -88,14 +88,14 @@ no_later true None e = absurd cc
 no_later false None e = (refl, refl)
 
 pub all_unbound : (x : Name) (ps : List PatternTree) (vs : List Value) (ns ms : Locals) → last_binding x ps ≡ None →
-    bound_all ps vs ns ≡ Some ms → named ms x ≡ named ns x
-all_unbound x [] [] ns ms f e = let q : ms ≡ ns = cc in ap (λ l. named l x) q
+    bound_all ps vs ns ≡ Some ms → look_up ms x ≡ look_up ns x
+all_unbound x [] [] ns ms f e = let q : ms ≡ ns = cc in ap (λ l. look_up l x) q
 all_unbound x [] (v ∷ vs) ns ms f e = absurd cc
 all_unbound x (p ∷ ps) [] ns ms f e = absurd cc
 all_unbound x (p ∷ ps) (v ∷ vs) ns ms f e = first (λ os h g. all_unbound x ps vs os ms h g) (bound p v ns) refl e
   where
-    first : ((os : Locals) → last_binding x ps ≡ None → bound_all ps vs os ≡ Some ms → named ms x ≡ named os x) →
-        (o : Option Locals) → bound p v ns ≡ o → option_and_then (bound_all ps vs) o ≡ Some ms → named ms x ≡ named ns x
+    first : ((os : Locals) → last_binding x ps ≡ None → bound_all ps vs os ≡ Some ms → look_up ms x ≡ look_up os x) →
+        (o : Option Locals) → bound p v ns ≡ o → option_and_then (bound_all ps vs) o ≡ Some ms → look_up ms x ≡ look_up ns x
     first ih None g h = absurd cc
     first ih (Some os) g h =
         ih os (no_later (binds x p) (last_binding x ps) f).1 h
@@ -170,7 +170,7 @@ layer_element ps vs outer sc e = made (bound_all ps vs outer.names) e
 
 -- at top level no name is local
 pub none_at_top : (x : Name) → IsNoLocal [] x
-none_at_top x [] sc h = ap (λ s. named s.names x) h
+none_at_top x [] sc h = ap (λ s. look_up s.names x) h
 none_at_top x (f ∷ fs) sc h = absurd h
 
 -- a name that the newest frame's patterns bind

@@ -13,16 +13,17 @@ use Rattle.nesl_scalars.specs.declared.trap.Trap.TheVariants.{Deep}
 use Rattle.nesl_seqs_base.specs.declared.seq_fn.SeqFn.TheVariants as seq
 use Rattle.nesl_builtins.specs.declared.builtin.Builtin.{Builtin}
 use Rattle.nesl_builtins.specs.declared.builtin.Builtin.TheVariants.{OfSequences}
-use Rattle.nesl_builtins.specs.Named.{named_builtin, infix_builtin, prefix_builtin}
+use Rattle.nesl_builtins.specs.Named.{builtin_named, infix_builtin, prefix_builtin}
 use Rattle.nesl_eval_code.specs.declared.code.Code.{Code, the_lemmas}
 use Rattle.nesl_eval_code.specs.declared.code.Code as code
 use Rattle.nesl_eval_code.specs.declared.code.Step.{Step}
-use Rattle.nesl_eval_meaning.specs.Names.{Name, Value, Scope, Environment, named}
+use Rattle.nesl_eval_meaning.specs.Names.{Name, Value, Scope, Environment, look_up}
 use Rattle.nesl_eval_code.specs.Frames.{Frames, local_at}
 use Rattle.nesl_eval_meaning.specs.Out.{Out, value, fault, given}
-use Rattle.nesl_eval_meaning.specs.Outcome.{out, node_of, greatest, two_parts, variable_in, called, applied, made}
+use Rattle.nesl_eval_meaning.specs.Outcome.{out, node_of, greatest_number, two_parts, variable_in, call_name}
+use Rattle.nesl_eval_meaning.specs.Outcome.{apply_builtin, small_enough}
 use Rattle.nesl_eval_code.specs.Run.{Table, run, run_node, run_top, run_called, run_two, code_span, slot_at}
-use Rattle.nesl_eval_code.specs.Means.{Agrees, Means, Layer, Shows, IsTableOf, Begins, place_of, Spot, IsSpotOf, IsNoLocal, IsElementSpot}
+use Rattle.nesl_eval_code.specs.Means.{Agrees, Means, Layer, FramesShow, IsTableOf, Begins, place_of, Spot, IsSpotOf, IsNoLocal, IsElementSpot}
 use Rattle.nesl_eval_code.proofs.Agreement.{same, equal, agrees_added, agrees_then, agrees_branch}
 use Rattle.nesl_eval_code.proofs.Tables.{fewer, found_named, found_placed, same_variable, agrees_called, placed_in}
 
@@ -31,7 +32,7 @@ module _ (names : List Name) (ls : List Layer) where
   abbrev pub NodeMeans : Code → Tree → Type 0
   NodeMeans c e =
       (n : ℕ) (t : Table) (env : Environment) → Begins names t → IsTableOf (suc n) env t →
-      (fs : Frames) (sc : Scope) → Shows ls fs sc → Agrees (run_node (run n t) t fs c) (node_of (out n env) env sc e)
+      (fs : Frames) (sc : Scope) → FramesShow ls fs sc → Agrees (run_node (run n t) t fs c) (node_of (out n env) env sc e)
 
   pub node_means : (c : Code) (e : Tree) → code_span c ≡ span_of e → NodeMeans c e → Means names ls c e
   unfolding run out
@@ -39,7 +40,7 @@ module _ (names : List Name) (ls : List Layer) where
   node_means c e s h (suc n) t env b at fs sc sh = agrees_added 1 1 _ _ (h n t env b at fs sc sh)
 
   -- leaves
-  pub means_number : (s : Span) (n : ℕ) (z : ℤ) → z ≡ pos (min n greatest) → Means names ls (code.Number s z) (node s (trees.number n))
+  pub means_number : (s : Span) (n : ℕ) (z : ℤ) → z ≡ pos (min n greatest_number) → Means names ls (code.Number s z) (node s (trees.number n))
   means_number s n z e = node_means _ _ refl (λ m t env b at fs sc sh n. ap (λ y. value (values.int y) 0 0) e)
 
   pub means_truth : (s : Span) (q : Bool) → Means names ls (code.Truth s q) (node s (trees.truth q))
@@ -63,7 +64,7 @@ module _ (names : List Name) (ls : List Layer) where
       let w = h fs sc sh in
       let l : local_at fs up i steps.items ≡ Some w.0 =
       ap (λ k. local_at fs k i steps.items) e ∙ ap (λ k. local_at fs p.up k steps.items) f ∙ ap (local_at fs p.up p.index) g ∙ w.2 in
-      ap (λ o. given o (λ v. value v 0 0)) l ∙ sym (ap (λ o. variable_in o (named env x)) w.1))
+      ap (λ o. given o (λ v. value v 0 0)) l ∙ sym (ap (λ o. variable_in o (look_up env x)) w.1))
 
   pub means_element : (s : Span) (up i : ℕ) (steps : Vec Step Global) (p : Spot) → IsElementSpot ls p → up ≡ p.up → i ≡ p.index →
       steps.items ≡ p.steps → Means names ls (code.Local s up i steps) (node s trees.element)
@@ -75,44 +76,44 @@ module _ (names : List Name) (ls : List Layer) where
   pub means_top : (s : Span) (x : Name) (k : ℕ) → IsNoLocal ls x → place_of names x ≡ Some k → Means names ls (code.Top s k) (node s (trees.variable x))
   means_top s x k h p =
       node_means _ _ refl (λ m t env b at fs sc sh n.
-      same_variable (suc m) t env (slot_at t k) (named env x) (found_placed (suc m) t env t env x k at (placed_in names t x k b p))
-      ∙ sym (ap (λ o. variable_in o (named env x)) (h fs sc sh)))
+      same_variable (suc m) t env (slot_at t k) (look_up env x) (found_placed (suc m) t env t env x k at (placed_in names t x k b p))
+      ∙ sym (ap (λ o. variable_in o (look_up env x)) (h fs sc sh)))
 
   pub means_named : (s : Span) (x : Name) (v : Vec ℕ Global) → v.items ≡ x → IsNoLocal ls x → Means names ls (code.Named s v) (node s (trees.variable x))
   means_named s x v e h =
       node_means _ _ refl (λ m t env b at fs sc sh n.
-      ap (λ y. run_top (named t y)) e
-      ∙ same_variable (suc m) t env (named t x) (named env x) (found_named (suc m) t env t env x at)
-      ∙ sym (ap (λ o. variable_in o (named env x)) (h fs sc sh)))
+      ap (λ y. run_top (look_up t y)) e
+      ∙ same_variable (suc m) t env (look_up t x) (look_up env x) (found_named (suc m) t env t env x at)
+      ∙ sym (ap (λ o. variable_in o (look_up env x)) (h fs sc sh)))
 
   -- calls
-  pub means_builtin : (s : Span) (x : Name) (g : Builtin) (a : Box Code Global) (e : Tree) → named_builtin x ≡ Some g → Means names ls a.value e →
+  pub means_builtin : (s : Span) (x : Name) (g : Builtin) (a : Box Code Global) (e : Tree) → builtin_named x ≡ Some g → Means names ls a.value e →
       Means names ls (code.Apply s g a) (node s (trees.call x e))
   means_builtin s x g a e q h =
       node_means _ _ refl (λ m t env b at fs sc sh.
       agrees_then _ _ _ _ (h m t env b (fewer m env t at) fs sc sh)
-      (λ v. equal (same (applied s g v)) (sym (ap (λ o. called (out m env) s o (named env x) v) q))))
+      (λ v. equal (same (apply_builtin s g v)) (sym (ap (λ o. call_name (out m env) s o (look_up env x) v) q))))
 
-  pub means_call : (s : Span) (x : Name) (k : ℕ) (a : Box Code Global) (e : Tree) → named_builtin x ≡ None → place_of names x ≡ Some k →
+  pub means_call : (s : Span) (x : Name) (k : ℕ) (a : Box Code Global) (e : Tree) → builtin_named x ≡ None → place_of names x ≡ Some k →
       Means names ls a.value e → Means names ls (code.Call s k a) (node s (trees.call x e))
   means_call s x k a e q p h =
       node_means _ _ refl (λ m t env b at fs sc sh.
       agrees_then _ _ _ _ (h m t env b (fewer m env t at) fs sc sh)
-      (λ v. equal (agrees_called m t env s (slot_at t k) (named env x) v (found_placed (suc m) t env t env x k at (placed_in names t x k b p)))
-      (sym (ap (λ o. called (out m env) s o (named env x) v) q))))
+      (λ v. equal (agrees_called m t env s (slot_at t k) (look_up env x) v (found_placed (suc m) t env t env x k at (placed_in names t x k b p)))
+      (sym (ap (λ o. call_name (out m env) s o (look_up env x) v) q))))
 
-  pub means_call_named : (s : Span) (x : Name) (y : Vec ℕ Global) (a : Box Code Global) (e : Tree) → named_builtin x ≡ None → y.items ≡ x →
+  pub means_call_named : (s : Span) (x : Name) (y : Vec ℕ Global) (a : Box Code Global) (e : Tree) → builtin_named x ≡ None → y.items ≡ x →
       Means names ls a.value e → Means names ls (code.CallNamed s y a) (node s (trees.call x e))
   means_call_named s x y a e q p h =
       node_means _ _ refl (λ m t env b at fs sc sh.
       agrees_then _ _ _ _ (h m t env b (fewer m env t at) fs sc sh)
-      (λ v. equal (let F : Name → Type 0 = λ z. Agrees (run_called (run m t) s (named t z) v) (called (out m env) s None (named env x) v) in
-      subst F (sym p) (agrees_called m t env s (named t x) (named env x) v (found_named (suc m) t env t env x at)))
-      (sym (ap (λ o. called (out m env) s o (named env x) v) q))))
+      (λ v. equal (let F : Name → Type 0 = λ z. Agrees (run_called (run m t) s (look_up t z) v) (call_name (out m env) s None (look_up env x) v) in
+      subst F (sym p) (agrees_called m t env s (look_up t x) (look_up env x) v (found_named (suc m) t env t env x at)))
+      (sym (ap (λ o. call_name (out m env) s o (look_up env x) v) q))))
 
   -- nodes of one to three parts
   pub two_mean : (a c : Code) (l r : Tree) (k : Value → Value → Out Value) → Means names ls a l → Means names ls c r →
-      (n : ℕ) (t : Table) (env : Environment) → Begins names t → IsTableOf n env t → (fs : Frames) (sc : Scope) → Shows ls fs sc →
+      (n : ℕ) (t : Table) (env : Environment) → Begins names t → IsTableOf n env t → (fs : Frames) (sc : Scope) → FramesShow ls fs sc →
       Agrees (run_two (run n t) fs a c k) (two_parts (out n env) sc l r k)
   two_mean a c l r k h i n t env b at fs sc sh =
       agrees_then _ _ _ _ (h n t env b at fs sc sh) (λ x. agrees_then _ _ _ _ (i n t env b at fs sc sh) (λ y. same _))
@@ -120,7 +121,7 @@ module _ (names : List Name) (ls : List Layer) where
   pub means_pair : (s : Span) (a c : Box Code Global) (l r : Tree) → Means names ls a.value l → Means names ls c.value r →
       Means names ls (code.Pair s a c) (node s (trees.pair l r))
   means_pair s a c l r h i =
-      node_means _ _ refl (λ m t env b at fs sc sh. two_mean a.value c.value l r (λ x y. made s (values.pair x y)) h i m t env b (fewer m env t at) fs sc sh)
+      node_means _ _ refl (λ m t env b at fs sc sh. two_mean a.value c.value l r (λ x y. small_enough s (values.pair x y)) h i m t env b (fewer m env t at) fs sc sh)
 
   pub means_prefix : (s : Span) (o : Prefix) (a : Box Code Global) (e : Tree) → Means names ls a.value e →
       Means names ls (code.Apply s (prefix_builtin o) a) (node s (trees.prefix_of o e))
@@ -130,24 +131,24 @@ module _ (names : List Name) (ls : List Layer) where
   pub means_infix : (s : Span) (o : Operator) (a c : Box Code Global) (l r : Tree) → Means names ls a.value l → Means names ls c.value r →
       Means names ls (code.ApplyTwo s (infix_builtin o) a c) (node s (trees.infix_of o l r))
   means_infix s o a c l r h i =
-      node_means _ _ refl (λ m t env b at fs sc sh. two_mean a.value c.value l r (λ x y. applied s (infix_builtin o) (values.pair x y)) h i m t env b (fewer m env t at) fs sc sh)
+      node_means _ _ refl (λ m t env b at fs sc sh. two_mean a.value c.value l r (λ x y. apply_builtin s (infix_builtin o) (values.pair x y)) h i m t env b (fewer m env t at) fs sc sh)
 
   pub means_index : (s : Span) (a c : Box Code Global) (l r : Tree) → Means names ls a.value l → Means names ls c.value r →
       Means names ls (code.ApplyTwo s (OfSequences seq.ElementAt) a c) (node s (trees.index l r))
   means_index s a c l r h i =
-      node_means _ _ refl (λ m t env b at fs sc sh. two_mean a.value c.value l r (λ x y. applied s (OfSequences seq.ElementAt) (values.pair x y)) h i m t env b (fewer m env t at) fs sc sh)
+      node_means _ _ refl (λ m t env b at fs sc sh. two_mean a.value c.value l r (λ x y. apply_builtin s (OfSequences seq.ElementAt) (values.pair x y)) h i m t env b (fewer m env t at) fs sc sh)
 
   pub means_range : (s : Span) (a c : Box Code Global) (l r : Tree) → Means names ls a.value l → Means names ls c.value r →
       Means names ls (code.ApplyTwo s (OfSequences seq.Range) a c) (node s (trees.range l r))
   means_range s a c l r h i =
-      node_means _ _ refl (λ m t env b at fs sc sh. two_mean a.value c.value l r (λ x y. applied s (OfSequences seq.Range) (values.pair x y)) h i m t env b (fewer m env t at) fs sc sh)
+      node_means _ _ refl (λ m t env b at fs sc sh. two_mean a.value c.value l r (λ x y. apply_builtin s (OfSequences seq.Range) (values.pair x y)) h i m t env b (fewer m env t at) fs sc sh)
 
   pub means_strided : (s : Span) (a c d : Box Code Global) (l r u : Tree) → Means names ls a.value l → Means names ls c.value r → Means names ls d.value u →
       Means names ls (code.ApplyThree s (OfSequences seq.RangeBy) a c d) (node s (trees.strided_range l r u))
   means_strided s a c d l r u h i j =
       node_means _ _ refl (λ m t env b at fs sc sh.
       agrees_then _ _ _ _ (h m t env b (fewer m env t at) fs sc sh)
-      (λ x. two_mean c.value d.value r u (λ y z. applied s (OfSequences seq.RangeBy) (values.pair x (values.pair y z))) i j m t env b (fewer m env t at) fs sc sh))
+      (λ x. two_mean c.value d.value r u (λ y z. apply_builtin s (OfSequences seq.RangeBy) (values.pair x (values.pair y z))) i j m t env b (fewer m env t at) fs sc sh))
 
   pub means_choice : (s : Span) (a c d : Box Code Global) (l r u : Tree) → Means names ls a.value l → Means names ls c.value r → Means names ls d.value u →
       Means names ls (code.Choice s a c d) (node s (trees.choice l r u))

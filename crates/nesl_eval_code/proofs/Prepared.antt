@@ -16,7 +16,7 @@ use Rattle.nesl_syntax_tree.specs.Views.{shape_of, tree_of, trees_in, binders_in
 use Rattle.nesl_syntax_tree.proofs.Rows.{row_is, row_of_binders_is}
 use Rattle.nesl_eval_code.specs.declared.code.Code.{Code}
 use Rattle.nesl_eval_meaning.specs.Names.{Name}
-use Rattle.nesl_eval_meaning.specs.Outcome.{sources, greatest}
+use Rattle.nesl_eval_meaning.specs.Outcome.{sources, greatest_number}
 use Rattle.nesl_eval_code.specs.Means.{Means, AllMean, BindingsMean, Layer, bindings, patterns}
 
 pub sequence_shape : (v : Vec Exp Global) → shape_of (declared.Sequence v) ≡ trees.sequence (trees_in v.items)
@@ -108,7 +108,7 @@ pub inner_means : (names : List Name) (ls ms : List Layer) (c : Code) (e : Tree)
 inner_means names ls ms c e q h = let F : List Layer → Type 0 = λ y. Means names y c e in subst F q h
 
 -- a number that is stored and read again
-pub read_number : (z : ℤ) (n : ℕ) → mag z < 9223372036854775808 → z ≡ pos (min n greatest) → to_z w64 (of_z w64 z) ≡ pos (min n greatest)
+pub read_number : (z : ℤ) (n : ℕ) → mag z < 9223372036854775808 → z ≡ pos (min n greatest_number) → to_z w64 (of_z w64 z) ≡ pos (min n greatest_number)
 read_number z n m e =
-    let F : ℤ → Type 0 = λ y. to_z w64 (of_z w64 y) ≡ pos (min n greatest) in
-    subst F (sym e) (to_z-of_z w64 (pos (min n greatest)) (omega (arith, ints)))
+    let F : ℤ → Type 0 = λ y. to_z w64 (of_z w64 y) ≡ pos (min n greatest_number) in
+    subst F (sym e) (to_z-of_z w64 (pos (min n greatest_number)) (omega (arith, ints)))

@@ -10,7 +10,7 @@ use Rattle.nesl_eval_code.specs.declared.layers.Layers.{Layers, Top, Parameter, 
 use Rattle.nesl_eval_code.specs.declared.layers.LocalPlace.{LocalPlace}
 use Rattle.nesl_eval_meaning.specs.Names.{Name}
 use Rattle.nesl_eval_code.specs.Means.{Layer, bindings, binders, patterns, patterns_of, last_binding, or_later, binds, steps_to, Spot, spot, IsSpotOf, IsNoLocal}
-use Rattle.nesl_eval_code.specs.Resolving.{layers_of, FindsIn, Finds}
+use Rattle.nesl_eval_code.specs.Resolving.{layers_of, FindsIn, FindsLocal}
 use Rattle.nesl_eval_code.proofs.Locals.{spot_here, spot_outside, none_here, none_at_top}
 
 pub layers-Top : layers_of Top ≡ []
@@ -28,7 +28,7 @@ pub layers-Row : (bs : Bor (List Binding)) (outer : Bor Layers) →
 layers-Row bs outer = search (rules, the_lemmas)
 
 pub found_in : (ls : List Layer) (l : Layer) (ms : List Layer) (x : Name) (p : LocalPlace) → ls ≡ l ∷ ms →
-    FindsIn (patterns_of l) x (Some p) → Finds ls x (Some p)
+    FindsIn (patterns_of l) x (Some p) → FindsLocal ls x (Some p)
 found_in ls l ms x p e h =
     let here = spot_here l ms x p.index h.0 h.1 h.2 in
     let same : spot 0 p.index (steps_to x h.0) ≡ spot p.up p.index p.steps.items =
@@ -38,8 +38,8 @@ found_in ls l ms x p e h =
     subst F (sym e) (subst G same here)
 
 pub found_out : (ls : List Layer) (l : Layer) (ms : List Layer) (x : Name) (p r : LocalPlace) → ls ≡ l ∷ ms →
-    last_binding x (patterns_of l) ≡ None → Finds ms x (Some p) →
-    spot r.up r.index r.steps.items ≡ spot (suc p.up) p.index p.steps.items → Finds ls x (Some r)
+    last_binding x (patterns_of l) ≡ None → FindsLocal ms x (Some p) →
+    spot r.up r.index r.steps.items ≡ spot (suc p.up) p.index p.steps.items → FindsLocal ls x (Some r)
 found_out ls l ms x p r e f h s =
     let F : List Layer → Type 0 = λ y. IsSpotOf y x (spot r.up r.index r.steps.items) in
     let G : Spot → Type 0 = λ y. IsSpotOf (l ∷ ms) x y in
@@ -51,7 +51,7 @@ found_none ls l ms x e f h =
     let F : List Layer → Type 0 = λ y. IsNoLocal y x in subst F (sym e) (none_here l ms x f h)
 
 pub found_only : (ls : List Layer) (q : PatternTree) (x : Name) → ls ≡ bindings (q ∷ []) ∷ [] →
-    (o : Option LocalPlace) → FindsIn (q ∷ []) x o → Finds ls x o
+    (o : Option LocalPlace) → FindsIn (q ∷ []) x o → FindsLocal ls x o
 found_only ls q x e None h = found_none ls (bindings (q ∷ [])) [] x e h (none_at_top x)
 found_only ls q x e (Some p) h = found_in ls (bindings (q ∷ [])) [] x p e h
 

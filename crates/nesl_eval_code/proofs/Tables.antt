@@ -3,9 +3,9 @@ use Rattle.std.proofs.Common.{◌≡◌, ℕ, suc, refl, ◌∙◌, ap, subst, a
 use Rattle.std.specs.Prelude.{option_map, if◌then◌else◌}
 use Rattle.std.specs.Str.{bytes_eq}
 use Rattle.nesl_lex.specs.declared.token.Span.{Span}
-use Rattle.nesl_eval_meaning.specs.Names.{Name, Value, Environment, Top, variable_of, function_of, datatype_of, nothing, named}
+use Rattle.nesl_eval_meaning.specs.Names.{Name, Value, Environment, Top, variable_of, function_of, datatype_of, nothing, look_up}
 use Rattle.nesl_eval_meaning.specs.Out.{stuck}
-use Rattle.nesl_eval_meaning.specs.Outcome.{variable_in, called, out}
+use Rattle.nesl_eval_meaning.specs.Outcome.{variable_in, call_name, out}
 use Rattle.nesl_eval_code.specs.Run.{Table, Slot, variable_slot, function_slot, datatype_slot, nothing_slot, slot_at, run_top, run_called, run}
 use Rattle.nesl_eval_code.specs.Means.{Agrees, StandsFor, AllStand, IsTableOf, names_of, place_of, Begins}
 use Rattle.nesl_eval_code.proofs.Agreement.{same, agrees_call}
@@ -46,21 +46,21 @@ fewer n env t h = fewer_all n t env t env h
 
 module _ (n : ℕ) (t : Table) (env : Environment) (s : Name × Slot) (b : Name × Top) (ss : Table) (bs : Environment) (x : Name)
     (here : StandsFor n t env s.1 b.1) where
-  by_name : (q : Bool) → Stands n t env (named ss x) (named bs x) →
-      Stands n t env (if q then Some s.1 else named ss x) (if q then Some b.1 else named bs x)
+  by_name : (q : Bool) → Stands n t env (look_up ss x) (look_up bs x) →
+      Stands n t env (if q then Some s.1 else look_up ss x) (if q then Some b.1 else look_up bs x)
   by_name true h = here
   by_name false h = h
 
-  module _ (ih : (k : ℕ) → place_of (names_of ss) x ≡ Some k → Stands n t env (slot_at ss k) (named bs x)) where
+  module _ (ih : (k : ℕ) → place_of (names_of ss) x ≡ Some k → Stands n t env (slot_at ss k) (look_up bs x)) where
     next_place : (o : Option ℕ) → place_of (names_of ss) x ≡ o → (k : ℕ) → option_map suc o ≡ Some k →
-        Stands n t env (slot_at (s ∷ ss) k) (named bs x)
+        Stands n t env (slot_at (s ∷ ss) k) (look_up bs x)
     next_place None e k h = absurd cc
     next_place (Some j) e k h =
         let i : suc j ≡ k = cc in
-        let F : ℕ → Type 0 = λ m. Stands n t env (slot_at (s ∷ ss) m) (named bs x) in subst F i (ih j e)
+        let F : ℕ → Type 0 = λ m. Stands n t env (slot_at (s ∷ ss) m) (look_up bs x) in subst F i (ih j e)
 
     by_place : (q : Bool) (k : ℕ) → (if q then Some 0 else option_map suc (place_of (names_of ss) x)) ≡ Some k →
-        Stands n t env (slot_at (s ∷ ss) k) (if q then Some b.1 else named bs x)
+        Stands n t env (slot_at (s ∷ ss) k) (if q then Some b.1 else look_up bs x)
     by_place true k h =
         let e : 0 ≡ k = cc in
         let F : ℕ → Type 0 = λ m. Stands n t env (slot_at (s ∷ ss) m) (Some b.1) in subst F e here
@@ -68,22 +68,22 @@ module _ (n : ℕ) (t : Table) (env : Environment) (s : Name × Slot) (b : Name 
 
 -- what is found under a name is what the name means
 pub found_named : (n : ℕ) (t : Table) (env : Environment) (ss : Table) (bs : Environment) (x : Name) →
-    AllStand n t env ss bs → Stands n t env (named ss x) (named bs x)
+    AllStand n t env ss bs → Stands n t env (look_up ss x) (look_up bs x)
 found_named n t env [] [] x h = tt
 found_named n t env [] (b ∷ bs) x h = absurd h
 found_named n t env (s ∷ ss) [] x h = absurd h
 found_named n t env (s ∷ ss) (b ∷ bs) x h =
-    let F : Name → Type 0 = λ y. Stands n t env (if bytes_eq x s.0 then Some s.1 else named ss x) (if bytes_eq x y then Some b.1 else named bs x) in
+    let F : Name → Type 0 = λ y. Stands n t env (if bytes_eq x s.0 then Some s.1 else look_up ss x) (if bytes_eq x y then Some b.1 else look_up bs x) in
     subst F h.0 (by_name n t env s b ss bs x h.1 (bytes_eq x s.0) (found_named n t env ss bs x h.2))
 
 -- and what stands at a name's place
 pub found_placed : (n : ℕ) (t : Table) (env : Environment) (ss : Table) (bs : Environment) (x : Name) (k : ℕ) →
-    AllStand n t env ss bs → place_of (names_of ss) x ≡ Some k → Stands n t env (slot_at ss k) (named bs x)
+    AllStand n t env ss bs → place_of (names_of ss) x ≡ Some k → Stands n t env (slot_at ss k) (look_up bs x)
 found_placed n t env [] [] x k h p = absurd cc
 found_placed n t env [] (b ∷ bs) x k h p = absurd h
 found_placed n t env (s ∷ ss) [] x k h p = absurd h
 found_placed n t env (s ∷ ss) (b ∷ bs) x k h p =
-    let F : Name → Type 0 = λ y. Stands n t env (slot_at (s ∷ ss) k) (if bytes_eq x y then Some b.1 else named bs x) in
+    let F : Name → Type 0 = λ y. Stands n t env (slot_at (s ∷ ss) k) (if bytes_eq x y then Some b.1 else look_up bs x) in
     subst F h.0 (by_place n t env s b ss bs x h.1 (λ j e. found_placed n t env ss bs x j h.2 e) (bytes_eq x s.0) k p)
 
 -- a variable, and a call, where they stand for one another
@@ -110,7 +110,7 @@ same_variable n t env (Some nothing_slot) (Some (datatype_of k)) h = refl
 same_variable n t env (Some nothing_slot) (Some nothing) h = refl
 
 pub agrees_called : (n : ℕ) (t : Table) (env : Environment) (s : Span) (o : Option Slot) (b : Option Top) (v : Value) →
-    Stands (suc n) t env o b → Agrees (run_called (run n t) s o v) (called (out n env) s None b v)
+    Stands (suc n) t env o b → Agrees (run_called (run n t) s o v) (call_name (out n env) s None b v)
 agrees_called n t env s None None v h = same stuck
 agrees_called n t env s None (Some b) v h = absurd h
 agrees_called n t env s (Some u) None v h = absurd h
@@ -125,7 +125,7 @@ agrees_called n t env s (Some (function_slot c)) (Some nothing) v h = absurd h
 agrees_called n t env s (Some (datatype_slot j)) (Some (variable_of u)) v h = absurd h
 agrees_called n t env s (Some (datatype_slot j)) (Some (function_of p e)) v h = absurd h
 agrees_called n t env s (Some (datatype_slot j)) (Some (datatype_of k)) v h =
-    λ m. ap (λ i. called (out n env) s None (Some (datatype_of i)) v) h
+    λ m. ap (λ i. call_name (out n env) s None (Some (datatype_of i)) v) h
 agrees_called n t env s (Some (datatype_slot j)) (Some nothing) v h = absurd h
 agrees_called n t env s (Some nothing_slot) (Some (variable_of u)) v h = absurd h
 agrees_called n t env s (Some nothing_slot) (Some (function_of p e)) v h = absurd h

@@ -7,7 +7,7 @@ use Rattle.nesl_syntax_tree.specs.Trees.{record_pattern, none, more, no_binders,
 use Rattle.nesl_eval_code.specs.declared.code.Code.{Code}
 use Rattle.nesl_eval_code.specs.declared.code.Step.{Step}
 use Rattle.nesl_eval_code.specs.declared.code.Step.TheVariants.{Left, Right, Inside}
-use Rattle.nesl_eval_meaning.specs.Names.{Name, Value, Locals, Scope, outside, with_names, Environment, Top, named}
+use Rattle.nesl_eval_meaning.specs.Names.{Name, Value, Locals, Scope, outside, with_names, Environment, Top, look_up}
 use Rattle.nesl_eval_meaning.specs.Names.{bound}
 use Rattle.nesl_eval_meaning.specs.Names.{variable_of, function_of, datatype_of, nothing}
 use Rattle.nesl_eval_meaning.specs.Out.{Out, stuck}
@@ -41,12 +41,12 @@ layered (bindings ps) vs sc = option_map (with_names sc) (bound_all ps vs sc.nam
 layered (binders ps) vs sc = option_map (with_element (slice_get vs 0)) (bound_all ps vs sc.names)
 
 -- these frames, whose values are those of these layers, hold the names of this scope
-abbrev pub Shows : List Layer → Frames → Scope → Type 0
-Shows [] [] sc = sc ≡ outside []
-Shows [] (f ∷ fs) sc = ⊥
-Shows (l ∷ ls) [] sc = ⊥
-Shows (l ∷ ls) (f ∷ fs) sc =
-    (vs : List Value) × (outer : Scope) × (f ≡ frame vs) × Shows ls fs outer × (layered l vs outer ≡ Some sc)
+abbrev pub FramesShow : List Layer → Frames → Scope → Type 0
+FramesShow [] [] sc = sc ≡ outside []
+FramesShow [] (f ∷ fs) sc = ⊥
+FramesShow (l ∷ ls) [] sc = ⊥
+FramesShow (l ∷ ls) (f ∷ fs) sc =
+    (vs : List Value) × (outer : Scope) × (f ≡ frame vs) × FramesShow ls fs outer × (layered l vs outer ≡ Some sc)
 
 -- what stands at a place of the table is what the name means; a function's code agrees with its body on fewer than n
 -- levels
@@ -87,7 +87,7 @@ Begins names t = (more : List Name) × (names_of t ≡ names ++ more)
 abbrev pub Means : List Name → List Layer → Code → Tree → Type 0
 Means names ls c e =
     (n : ℕ) (t : Table) (env : Environment) → Begins names t → IsTableOf n env t →
-    (fs : Frames) (sc : Scope) → Shows ls fs sc → Agrees (run n t fs c) (out n env sc e)
+    (fs : Frames) (sc : Scope) → FramesShow ls fs sc → Agrees (run n t fs c) (out n env sc e)
 
 -- whether a pattern binds a name
 abbrev pub binds : Name → PatternTree → Bool
@@ -128,17 +128,17 @@ patterns_of (binders ps) = ps
 -- at each place that the layers' frames may have, the value of the name is at the spot
 abbrev pub IsSpotOf : List Layer → Name → Spot → Type 0
 IsSpotOf ls x p =
-    (fs : Frames) (sc : Scope) → Shows ls fs sc →
-    (v : Value) × (named sc.names x ≡ Some v) × (local_at fs p.up p.index p.steps ≡ Some v)
+    (fs : Frames) (sc : Scope) → FramesShow ls fs sc →
+    (v : Value) × (look_up sc.names x ≡ Some v) × (local_at fs p.up p.index p.steps ≡ Some v)
 
 -- the name is no local one
 abbrev pub IsNoLocal : List Layer → Name → Type 0
-IsNoLocal ls x = (fs : Frames) (sc : Scope) → Shows ls fs sc → named sc.names x ≡ None
+IsNoLocal ls x = (fs : Frames) (sc : Scope) → FramesShow ls fs sc → look_up sc.names x ≡ None
 
 -- the element of the innermost apply-to-each, if there is one, is at the spot
 abbrev pub IsElementSpot : List Layer → Spot → Type 0
 IsElementSpot ls p =
-    (fs : Frames) (sc : Scope) → Shows ls fs sc → local_at fs p.up p.index p.steps ≡ sc.element
+    (fs : Frames) (sc : Scope) → FramesShow ls fs sc → local_at fs p.up p.index p.steps ≡ sc.element
 
 -- codes that stand for trees, one by one
 abbrev pub AllMean : List Name → List Layer → List Code → Trees → Type 0

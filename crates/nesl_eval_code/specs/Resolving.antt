@@ -30,9 +30,9 @@ FindsIn ps x (Some p) =
     (p.steps.items ≡ steps_to x q) × (p.up ≡ 0)
 
 -- where the value of a name is, or that it is no local one
-abbrev pub Finds : List Layer → Name → Option LocalPlace → Type 0
-Finds ls x None = IsNoLocal ls x
-Finds ls x (Some p) = IsSpotOf ls x (spot p.up p.index p.steps.items)
+abbrev pub FindsLocal : List Layer → Name → Option LocalPlace → Type 0
+FindsLocal ls x None = IsNoLocal ls x
+FindsLocal ls x (Some p) = IsSpotOf ls x (spot p.up p.index p.steps.items)
 
 -- the names of a map in order
 abbrev pub keys_of : List (Vec ℕ Global × Option Code) → List Name

@@ -86,7 +86,7 @@ pub enum Code {
         place: usize,
         argument: Box<Code>,
     },
-    /// The same by a name that has no place yet.
+    /// A user's function or a datatype, by a name that has no place yet.
     CallNamed {
         span: Span,
         name: Vec<u8>,

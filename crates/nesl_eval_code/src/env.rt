@@ -35,7 +35,7 @@ pub enum Payload {
 /// What each top-level name is, in order of first definition.
 pub struct Env {
     context: Context<Payload>,
-    /// The same names in the same order, each with the code of its body, if it is a function.
+    /// The context's names in its order, each with the code of its body, if it is a function.
     bodies: IndexMap<Vec<u8>, Option<Code>>,
 }
 

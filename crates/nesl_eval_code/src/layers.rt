@@ -4,7 +4,7 @@ ghost use Rattle.std.specs.Prelude.{◌≡◌, ◌++◌, ◌∷◌, ◌<◌, [],
 ghost use Rattle.nesl_syntax_tree.specs.Views.{pattern_tree, binders_in};
 ghost use Rattle.nesl_eval_code.specs.Means.{bindings, binders, binds, steps_to, last_binding, patterns, spot};
 ghost use Rattle.nesl_eval_code.specs.Means.{IsElementSpot};
-ghost use Rattle.nesl_eval_code.specs.Resolving.{layers_of, FindsIn, Finds};
+ghost use Rattle.nesl_eval_code.specs.Resolving.{layers_of, FindsIn, FindsLocal};
 
 use crate::code::Step;
 use nesl_syntax_tree::tree::{Binding, Pattern, PatternNode};
@@ -143,7 +143,7 @@ pub(crate) fn place_of_local(
     layers: &Layers<'_>,
     name: &[u8],
 ) -> Result<Option<LocalPlace>, AllocError>
-    ensures { IfOk result (Finds (layers_of layers.now) name.now) }
+    ensures { IfOk result (FindsLocal (layers_of layers.now) name.now) }
 {
     match layers {
         Layers::Top => Ok(None),

@@ -3,7 +3,7 @@
 ghost use Rattle.std.specs.Prelude.{◌≡◌, ◌∷◌, [], IfOk, pos, min, List};
 ghost use Rattle.nesl_syntax_tree.specs.Trees.{Tree, node, variable, call, element};
 ghost use Rattle.nesl_syntax_tree.specs.Views.{tree_of, trees_in, binders_in, pattern_tree};
-ghost use Rattle.nesl_eval_meaning.specs.Outcome.{greatest, sources};
+ghost use Rattle.nesl_eval_meaning.specs.Outcome.{greatest_number, sources};
 ghost use Rattle.nesl_eval_code.specs.Means.{Means, AllMean, BindingsMean, Layer, bindings as layer};
 ghost use Rattle.nesl_eval_code.specs.Resolving.{layers_of, known};
 
@@ -249,7 +249,7 @@ pub(crate) fn code_of_body(
 
 /// A number that a tree holds; one beyond the greatest stands for it.
 fn number(value: u64) -> i64
-    ensures { result ≡ pos (min value greatest) }
+    ensures { result ≡ pos (min value greatest_number) }
 {
     if value <= i64::MAX as u64 {
         value as i64

@@ -9,5 +9,5 @@ mod unary;
 
 pub use binary::of_two;
 pub use column::Column;
-pub use made::each_of;
+pub use made::{each_of, each_of_two};
 pub use unary::of_one;

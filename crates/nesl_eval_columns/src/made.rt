@@ -2,7 +2,7 @@
 ghost use Rattle.std.specs.Prelude.{◌≡◌, true, IsTrue, IfSome, length, map};
 ghost use Rattle.nesl_scalars.specs.Scalars.{unary, binary};
 ghost use Rattle.nesl_scalars.specs.Outcomes.{gives};
-ghost use Rattle.nesl_eval_columns.specs.Columns.{Makes, Turns};
+ghost use Rattle.nesl_eval_columns.specs.Columns.{Makes, MapsColumn};
 ghost use Rattle.nesl_eval_columns.specs.Each.{EachTwo, EachThree};
 
 use crate::leaf::Leaf;
@@ -31,6 +31,34 @@ fn filled<X: Copy, Y: Copy, Z: Copy, F: Fn(X, Y) -> (Z, bool)>(
     all
 }
 
+/// What `f` has for each two, if that is something for all of them. `some` may be anything.
+#[inline(always)]
+pub fn each_of_two<X: Copy, Y: Copy, Z: Copy, A: Allocator, F: Fn(X, Y) -> (Z, bool)>(
+    left: &[X],
+    right: &[Y],
+    some: Z,
+    alloc: A,
+    f: F,
+) -> Option<Vec<Z, A>>
+    requires callable { F.IsAlwaysCallable f }
+    ensures { IfSome result (λ v. EachThree (λ x y z. F.post f x y (z, true)) left.now right.now v.items) }
+{
+    let len = left.len();
+    if right.len() != len {
+        return None;
+    }
+    let mut out = Vec::new(alloc);
+    match out.resize(len, some) {
+        Ok(()) => {}
+        Err(_) => return None,
+    }
+    if filled(&mut out, left, right, f) {
+        Some(out)
+    } else {
+        None
+    }
+}
+
 // What a function has for each two, if that is something for all of them.
 #[inline(always)]
 pub fn made<X: Leaf, Z: Leaf, A: Allocator, F: Fn(X, X) -> (Z, bool)>(
@@ -45,20 +73,7 @@ pub fn made<X: Leaf, Z: Leaf, A: Allocator, F: Fn(X, X) -> (Z, bool)>(
         → binary function (X.leaf a) (X.leaf b) ≡ gives (Z.leaf c) }
     ensures { IfSome result (λ v. Makes function (map X.leaf left.now) (map X.leaf right.now) (map Z.leaf v.items)) }
 {
-    let len = left.len();
-    if right.len() != len {
-        return None;
-    }
-    let mut out = Vec::new(alloc);
-    match out.resize(len, Z::some()) {
-        Ok(()) => {}
-        Err(_) => return None,
-    }
-    if filled(&mut out, left, right, f) {
-        Some(out)
-    } else {
-        None
-    }
+    each_of_two(left, right, Z::some(), alloc, f)
 }
 
 // Writes what `f` has for each, and tells whether it has something for all of them.
@@ -111,7 +126,7 @@ pub fn made_of_one<X: Leaf, Z: Leaf, A: Allocator, F: Fn(X) -> (Z, bool)>(
     requires callable { F.IsAlwaysCallable f }
     requires law { (a : X) (c : Z) → F.post f a (c, true)
         → unary function (X.leaf a) ≡ gives (Z.leaf c) }
-    ensures { IfSome result (λ v. Turns function (map X.leaf items.now) (map Z.leaf v.items)) }
+    ensures { IfSome result (λ v. MapsColumn function (map X.leaf items.now) (map Z.leaf v.items)) }
 {
     each_of(items, Z::some(), alloc, f)
 }

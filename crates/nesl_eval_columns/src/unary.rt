@@ -3,7 +3,7 @@ ghost use Rattle.std.specs.Prelude.{◌≡◌, ℕ, ℤ, Bool, true, IfSome, IsT
 ghost use Rattle.nesl_scalars.specs.Outcomes.{gives};
 ghost use Rattle.nesl_scalars.specs.Scalars.{unary, of_int};
 ghost use Rattle.nesl_values.specs.Tree.{int, boolean, character};
-ghost use Rattle.nesl_eval_columns.specs.Columns.{leaves_of, Turns};
+ghost use Rattle.nesl_eval_columns.specs.Columns.{leaves_of, MapsColumn};
 
 use crate::column::Column;
 use crate::leaf::Leaf;
@@ -14,7 +14,7 @@ use std::alloc::{Allocator, Global};
 
 /// What the function has for the leaves of a column, where it has something at each place.
 pub fn of_one<A: Allocator>(function: Unary, column: &Column<A>, alloc: A) -> Option<Column<A>>
-    ensures { IfSome result (λ c. Turns function (leaves_of column.now) (leaves_of c)) }
+    ensures { IfSome result (λ c. MapsColumn function (leaves_of column.now) (leaves_of c)) }
 {
     match column {
         Column::Ints(items) => of_ints(function, items, alloc),
@@ -33,7 +33,7 @@ fn ints<X: Leaf, A: Allocator, F: Fn(X) -> (i64, bool)>(
 ) -> Option<Column<A>>
     requires callable { F.IsAlwaysCallable f }
     requires law { (a : X) (c : ℤ) → F.post f a (c, true) → unary function (X.leaf a) ≡ gives (int c) }
-    ensures { IfSome result (λ c. Turns function (map X.leaf items.now) (leaves_of c)) }
+    ensures { IfSome result (λ c. MapsColumn function (map X.leaf items.now) (leaves_of c)) }
 {
     Some(Column::Ints(made_of_one(function, items, alloc, f)?))
 }
@@ -48,7 +48,7 @@ fn bools<X: Leaf, A: Allocator, F: Fn(X) -> (bool, bool)>(
 ) -> Option<Column<A>>
     requires callable { F.IsAlwaysCallable f }
     requires law { (a : X) (c : Bool) → F.post f a (c, true) → unary function (X.leaf a) ≡ gives (boolean c) }
-    ensures { IfSome result (λ c. Turns function (map X.leaf items.now) (leaves_of c)) }
+    ensures { IfSome result (λ c. MapsColumn function (map X.leaf items.now) (leaves_of c)) }
 {
     Some(Column::Bools(made_of_one(function, items, alloc, f)?))
 }
@@ -63,14 +63,14 @@ fn chars<X: Leaf, A: Allocator, F: Fn(X) -> (u8, bool)>(
 ) -> Option<Column<A>>
     requires callable { F.IsAlwaysCallable f }
     requires law { (a : X) (c : ℕ) → F.post f a (c, true) → unary function (X.leaf a) ≡ gives (character c) }
-    ensures { IfSome result (λ c. Turns function (map X.leaf items.now) (leaves_of c)) }
+    ensures { IfSome result (λ c. MapsColumn function (map X.leaf items.now) (leaves_of c)) }
 {
     Some(Column::Chars(made_of_one(function, items, alloc, f)?))
 }
 
 #[inline(never)]
 fn of_ints<A: Allocator>(function: Unary, items: &[i64], alloc: A) -> Option<Column<A>>
-    ensures { IfSome result (λ c. Turns function (map int items.now) (leaves_of c)) }
+    ensures { IfSome result (λ c. MapsColumn function (map int items.now) (leaves_of c)) }
 {
     match function {
         Unary::Not => ints(function, items, alloc, |a| (!a, true)),
@@ -99,7 +99,7 @@ fn of_ints<A: Allocator>(function: Unary, items: &[i64], alloc: A) -> Option<Col
 
 #[inline(never)]
 fn of_bools<A: Allocator>(function: Unary, items: &[bool], alloc: A) -> Option<Column<A>>
-    ensures { IfSome result (λ c. Turns function (map boolean items.now) (leaves_of c)) }
+    ensures { IfSome result (λ c. MapsColumn function (map boolean items.now) (leaves_of c)) }
 {
     match function {
         Unary::Not => bools(function, items, alloc, |b| (!b, true)),
@@ -110,7 +110,7 @@ fn of_bools<A: Allocator>(function: Unary, items: &[bool], alloc: A) -> Option<C
 
 #[inline(never)]
 fn of_chars<A: Allocator>(function: Unary, items: &[u8], alloc: A) -> Option<Column<A>>
-    ensures { IfSome result (λ c. Turns function (map character items.now) (leaves_of c)) }
+    ensures { IfSome result (λ c. MapsColumn function (map character items.now) (leaves_of c)) }
 {
     match function {
         Unary::CharCode => ints(function, items, alloc, |c| (i64::from(c), true)),

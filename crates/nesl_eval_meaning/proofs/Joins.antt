@@ -2,13 +2,14 @@
 use Rattle.std.proofs.Common.{◌≡◌, ℕ, ◌<◌, ◌≤◌, Bool, true, false, refl, sym, ◌∙◌, ap, arith, List, [], ◌∷◌, ◌++◌, append_assoc}
 use Rattle.std.specs.Prelude.{nat_le, if◌then◌else◌}
 use Rattle.std.proofs.lemmas.Bool.Decides.{nat_tests}
-use Rattle.nesl_eval_meaning.specs.Out.{Out, value, fault, stuck, beside, all_beside, work_of, told, over, within}
-use Rattle.nesl_eval_meaning.specs.Join.{joined}
+use Rattle.nesl_eval_meaning.specs.Out.{Out, value, fault, stuck, beside, all_beside, work_of, fits_budget}
+use Rattle.nesl_eval_meaning.specs.Out.{exceeds_budget, within}
+use Rattle.nesl_eval_meaning.specs.Join.{halves_joined}
 
-within_yes : {X : Type 0} (b : ℕ) (o : Out X) → work_of o ≤ b → within b o ≡ told o
+within_yes : {X : Type 0} (b : ℕ) (o : Out X) → work_of o ≤ b → within b o ≡ fits_budget o
 within_yes b o h = let e : nat_le (work_of o) b ≡ true = grind (arith, nat_tests) in rw e refl
 
-within_no : {X : Type 0} (b : ℕ) (o : Out X) → b < work_of o → within b o ≡ over
+within_no : {X : Type 0} (b : ℕ) (o : Out X) → b < work_of o → within b o ≡ exceeds_budget
 within_no b o h = let e : nat_le (work_of o) b ≡ false = grind (arith, nat_tests) in rw e refl
 
 -- the work of two intervals is at least that of the right one
@@ -29,16 +30,16 @@ fails : (m b : ℕ) → (nat_le m b ≡ false → b < m)
 fails m b h = grind (arith, nat_tests)
 
 -- what is found of two halves under the same budget is what is found of the whole; nothing is said where it is stuck
-pub join_law : {X : Type 0} (b : ℕ) (o p : Out (List X)) → (p ≡ stuck → ⊥) → joined (within b o) (within b p) b ≡ within b (beside o p)
-join_law b stuck p n = elim (nat_le 0 b) as (λ x. joined (if x then told stuck else over) (within b p) b ≡ (if x then told stuck else over)) [ true ↦ refl | false ↦ refl ]
-join_law b (fault t s w) p n = elim (nat_le w b) as (λ x. joined (if x then told (fault t s w) else over) (within b p) b ≡ (if x then told (fault t s w) else over)) [ true ↦ refl | false ↦ refl ]
+pub join_law : {X : Type 0} (b : ℕ) (o p : Out (List X)) → (p ≡ stuck → ⊥) → halves_joined (within b o) (within b p) b ≡ within b (beside o p)
+join_law b stuck p n = elim (nat_le 0 b) as (λ x. halves_joined (if x then fits_budget stuck else exceeds_budget) (within b p) b ≡ (if x then fits_budget stuck else exceeds_budget)) [ true ↦ refl | false ↦ refl ]
+join_law b (fault t s w) p n = elim (nat_le w b) as (λ x. halves_joined (if x then fits_budget (fault t s w) else exceeds_budget) (within b p) b ≡ (if x then fits_budget (fault t s w) else exceeds_budget)) [ true ↦ refl | false ↦ refl ]
 join_law b (value xs w d) p n = left (nat_le w b) refl
   where
-    right : (x : Bool) → nat_le (work_of p) b ≡ x → joined (told (value xs w d)) (if x then told p else over) b ≡ within b (beside (value xs w d) p)
+    right : (x : Bool) → nat_le (work_of p) b ≡ x → halves_joined (fits_budget (value xs w d)) (if x then fits_budget p else exceeds_budget) b ≡ within b (beside (value xs w d) p)
     right true e = refl
     right false e = sym (within_no b (beside (value xs w d) p) (more_work xs w d p b (fails (work_of p) b e)))
 
-    left : (x : Bool) → nat_le w b ≡ x → joined (if x then told (value xs w d) else over) (within b p) b ≡ within b (beside (value xs w d) p)
+    left : (x : Bool) → nat_le w b ≡ x → halves_joined (if x then fits_budget (value xs w d) else exceeds_budget) (within b p) b ≡ within b (beside (value xs w d) p)
     left true e = right (nat_le (work_of p) b) refl
     left false e = sym (within_no b (beside (value xs w d) p) (left_over xs w d p b (fails w b e) n))
 

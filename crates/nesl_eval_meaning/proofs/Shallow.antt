@@ -9,20 +9,21 @@ use Rattle.nesl_scalars.specs.declared.trap.Trap.TheVariants as trap
 use Rattle.std.specs.List.{list_all, range_with_len}
 use Rattle.nesl_scalars.specs.Outcomes as outcomes
 use Rattle.nesl_scalars.specs.Scalars.{unary, binary}
-use Rattle.nesl_seqs_base.specs.Meaning.{meaning}
+use Rattle.nesl_seqs_base.specs.Meaning.{outcome_of}
 use Rattle.nesl_seqs_base.specs.Prices.{reads, powers_within, digits, depth_of}
 use Rattle.nesl_seqs_base.specs.declared.seq_fn.SeqFn.{SeqFn}
 use Rattle.nesl_seqs_base.specs.declared.seq_fn.SeqFn.TheVariants.{Length, ElementAt, Append, Dist, Range, RangeBy, Index, Sum, Any, All, Count, Bottop, Take, Drop, Reverse, Rotate, Zip, Rep, Eql, MaxVal, MinVal, MaxIndex, MinIndex, PlusScan, OrScan, AndScan, Flatten, Unzip, OddElts, EvenElts, Interleave, Gather, Permute, Split, Partition, Write}
 use Rattle.nesl_builtins.specs.declared.builtin.Builtin.{Builtin}
 use Rattle.nesl_builtins.specs.declared.builtin.Builtin.TheVariants.{OfOne, OfTwo, OfSequences}
-use Rattle.nesl_builtins.specs.Named.{named_builtin, prefix_builtin, infix_builtin}
+use Rattle.nesl_builtins.specs.Named.{builtin_named, prefix_builtin, infix_builtin}
 use Rattle.nesl_seqs_base.specs.declared.seq_fn.SeqFn.TheVariants as seq
 use Rattle.nesl_syntax_tree.specs.Trees.{Tree, Trees, Binders, node, none, more, no_binders, binder}
 use Rattle.nesl_syntax_tree.specs.Trees as trees
-use Rattle.nesl_eval_meaning.specs.Names.{Value, Scope, Environment, Top, variable_of, function_of, datatype_of, nothing, named, bound, outside, with_names}
-use Rattle.nesl_eval_meaning.specs.Out.{Out, value, fault, stuck, added, then_out, given, at_call, beside, all_beside}
-use Rattle.nesl_eval_meaning.specs.Outcome.{Parts, out, node_of, made, on_scalars, on_sequence, applied, variable_in, called, branch, two_parts, all_parts, let_of, sources, places, lengths, scope_at, out_at, kept, counted, filters, bodies, over}
-use Rattle.nesl_eval_meaning.specs.Laws.{IsShallow, Counts, DepthWithinWork}
+use Rattle.nesl_eval_meaning.specs.Names.{Value, Scope, Environment, Top, variable_of, function_of, datatype_of, nothing, look_up, bound, outside, with_names}
+use Rattle.nesl_eval_meaning.specs.Out.{Out, value, fault, stuck, after_cost, and_then, given, at_call, beside}
+use Rattle.nesl_eval_meaning.specs.Out.{all_beside}
+use Rattle.nesl_eval_meaning.specs.Outcome.{PartOutcomes, out, node_of, small_enough, on_scalars, on_sequence, apply_builtin, variable_in, call_name, branch, two_parts, all_parts, let_of, sources, common_places, lengths, scope_at, out_at, place_if_true, body_value, kept_places, body_values, over_places}
+use Rattle.nesl_eval_meaning.specs.Laws.{IsShallow, CostsOne, DepthWithinWork}
 
 at_most_one : (b : Bool) → cond b 1 0 ≤ 1
 at_most_one true = omega arith
@@ -74,12 +75,12 @@ depth_fits Split n = (omega arith, omega arith)
 depth_fits Partition n = (omega arith, omega arith)
 depth_fits Write n = (omega arith, omega arith)
 
-after : {X : Type 0} (w d : ℕ) (o : Out X) → d ≤ w → IsShallow o → IsShallow (added w d o)
+after : {X : Type 0} (w d : ℕ) (o : Out X) → d ≤ w → IsShallow o → IsShallow (after_cost w d o)
 after w d stuck l h = tt
 after w d (fault t s v) l h = tt
 after w d (value x v e) l h = omega arith
 
-then_shallow : {X Y : Type 0} (o : Out X) (k : X → Out Y) → IsShallow o → ((x : X) → IsShallow (k x)) → IsShallow (then_out o k)
+then_shallow : {X Y : Type 0} (o : Out X) (k : X → Out Y) → IsShallow o → ((x : X) → IsShallow (k x)) → IsShallow (and_then o k)
 then_shallow stuck k h i = tt
 then_shallow (fault t s w) k h i = tt
 then_shallow (value x w d) k h i = after w d (k x) h (i x)
@@ -109,7 +110,7 @@ branch_shallow None o p h i = tt
 branch_shallow (Some true) o p h i = h
 branch_shallow (Some false) o p h i = i
 
-made_shallow : (s : Span) (v : Value) → IsShallow (made s v)
+made_shallow : (s : Span) (v : Value) → IsShallow (small_enough s v)
 made_shallow s v = by (nat_le (size v) 1048576)
   where
     by : (b : Bool) → IsShallow (if b then value v 0 0 else fault trap.Large s 0)
@@ -126,10 +127,10 @@ sequence_shallow s f v (outcomes.gives u) = omega (arith, depth_fits f (reads f 
 sequence_shallow s f v (outcomes.traps t) = tt
 sequence_shallow s f v outcomes.undefined = tt
 
-applied_shallow : (s : Span) (g : Builtin) (v : Value) → IsShallow (applied s g v)
+applied_shallow : (s : Span) (g : Builtin) (v : Value) → IsShallow (apply_builtin s g v)
 applied_shallow s (OfOne f) v = scalars_shallow s (unary f v)
 applied_shallow s (OfTwo f) v = given_shallow (as_pair v) _ (λ p. scalars_shallow s (binary f p.0 p.1))
-applied_shallow s (OfSequences f) v = sequence_shallow s f v (meaning f v)
+applied_shallow s (OfSequences f) v = sequence_shallow s f v (outcome_of f v)
 
 variable_shallow : (o : Option Value) (t : Option Top) → IsShallow (variable_in o t)
 variable_shallow (Some v) t = omega arith
@@ -139,8 +140,8 @@ variable_shallow None (Some (function_of p e)) = tt
 variable_shallow None (Some (datatype_of k)) = tt
 variable_shallow None (Some nothing) = tt
 
-module _ (f : Parts) (h : (sc : Scope) (e : Tree) → IsShallow (f sc e)) where
-  called_shallow : (s : Span) (g : Option Builtin) (t : Option Top) (v : Value) → IsShallow (called f s g t v)
+module _ (f : PartOutcomes) (h : (sc : Scope) (e : Tree) → IsShallow (f sc e)) where
+  called_shallow : (s : Span) (g : Option Builtin) (t : Option Top) (v : Value) → IsShallow (call_name f s g t v)
   called_shallow s (Some b) t v = applied_shallow s b v
   called_shallow s None None v = tt
   called_shallow s None (Some (variable_of w)) v = tt
@@ -168,26 +169,26 @@ module _ (f : Parts) (h : (sc : Scope) (e : Tree) → IsShallow (f sc e)) where
   at_shallow : (bs : Binders) (vs : List Value) (sc : Scope) (e : Tree) (i : ℕ) → IsShallow (out_at f bs vs sc e i)
   at_shallow bs vs sc e i = given_shallow (scope_at bs vs sc i) _ (λ inner. h inner e)
 
-  kept_shallow : (i : ℕ) (v : Value) → IsShallow (kept i v)
+  kept_shallow : (i : ℕ) (v : Value) → IsShallow (place_if_true i v)
   kept_shallow i v = given_shallow (as_bool v) _ (λ b. zero_least)
     where
       zero_least : 0 ≤ 0
       zero_least = omega arith
 
-  counted_shallow : (v : Value) → IsShallow (counted v)
+  counted_shallow : (v : Value) → IsShallow (body_value v)
   counted_shallow v = omega arith
 
   sequence_of_shallow : (us : List Value) → IsShallow {X = Value} (value (values.sequence us) 0 0)
   sequence_of_shallow us = omega arith
 
-  bodies_shallow : (bs : Binders) (vs : List Value) (sc : Scope) (e : Tree) (is : List ℕ) → IsShallow (bodies f bs vs sc e is)
+  bodies_shallow : (bs : Binders) (vs : List Value) (sc : Scope) (e : Tree) (is : List ℕ) → IsShallow (body_values f bs vs sc e is)
   bodies_shallow bs vs sc e is =
-      then_shallow _ _ (all_shallow _ is (λ i. then_shallow _ counted (at_shallow bs vs sc e i) counted_shallow)) sequence_of_shallow
+      then_shallow _ _ (all_shallow _ is (λ i. then_shallow _ body_value (at_shallow bs vs sc e i) counted_shallow)) sequence_of_shallow
 
-  filters_shallow : (bs : Binders) (vs : List Value) (sc : Scope) (e : Tree) (is : List ℕ) → IsShallow (filters f bs vs sc e is)
-  filters_shallow bs vs sc e is = all_shallow _ is (λ i. then_shallow _ (kept i) (at_shallow bs vs sc e i) (kept_shallow i))
+  filters_shallow : (bs : Binders) (vs : List Value) (sc : Scope) (e : Tree) (is : List ℕ) → IsShallow (kept_places f bs vs sc e is)
+  filters_shallow bs vs sc e is = all_shallow _ is (λ i. then_shallow _ (place_if_true i) (at_shallow bs vs sc e i) (kept_shallow i))
 
-  places_shallow : (s : Span) (ns : List ℕ) → IsShallow (places s ns)
+  places_shallow : (s : Span) (ns : List ℕ) → IsShallow (common_places s ns)
   places_shallow s [] = tt
   places_shallow s (n ∷ ns) = by (list_all (λ m. m == n) ns)
     where
@@ -196,7 +197,7 @@ module _ (f : Parts) (h : (sc : Scope) (e : Tree) → IsShallow (f sc e)) where
       by false = tt
 
   over_shallow : (s : Span) (bs : Binders) (sc : Scope) (k : List Value → List ℕ → Out Value) → ((vs : List Value) (is : List ℕ) → IsShallow (k vs is)) →
-      IsShallow (over f s bs sc k)
+      IsShallow (over_places f s bs sc k)
   over_shallow s bs sc k i =
       then_shallow _ _ (parts_shallow sc (sources bs)) (λ vs. given_shallow (lengths vs) _ (λ ns. then_shallow _ (k vs) (places_shallow s ns) (i vs)))
 
@@ -205,8 +206,8 @@ module _ (f : Parts) (h : (sc : Scope) (e : Tree) → IsShallow (f sc e)) where
   node_shallow env sc (node s (trees.truth b)) = omega arith
   node_shallow env sc (node s (trees.character c)) = omega arith
   node_shallow env sc (node s (trees.text cs)) = omega arith
-  node_shallow env sc (node s (trees.variable x)) = variable_shallow (named sc.names x) (named env x)
-  node_shallow env sc (node s (trees.call x a)) = then_shallow (f sc a) _ (h sc a) (called_shallow s (named_builtin x) (named env x))
+  node_shallow env sc (node s (trees.variable x)) = variable_shallow (look_up sc.names x) (look_up env x)
+  node_shallow env sc (node s (trees.call x a)) = then_shallow (f sc a) _ (h sc a) (called_shallow s (builtin_named x) (look_up env x))
   node_shallow env sc (node s (trees.pair a b)) = two_shallow sc a b _ (λ x y. made_shallow s (values.pair x y))
   node_shallow env sc (node s (trees.prefix_of o a)) = then_shallow (f sc a) _ (h sc a) (applied_shallow s (prefix_builtin o))
   node_shallow env sc (node s (trees.infix_of o a b)) = two_shallow sc a b _ (λ x y. applied_shallow s (infix_builtin o) (values.pair x y))
@@ -220,7 +221,7 @@ module _ (f : Parts) (h : (sc : Scope) (e : Tree) → IsShallow (f sc e)) where
   node_shallow env sc (node s (trees.let_in bs e)) = let_shallow bs e sc
   node_shallow env sc (node s (trees.each e bs)) = over_shallow s bs sc _ (λ vs is. bodies_shallow bs vs sc e is)
   node_shallow env sc (node s (trees.filtered_each e bs c)) =
-      over_shallow s bs sc _ (λ vs is. then_shallow _ (bodies f bs vs sc e) (filters_shallow bs vs sc c is) (bodies_shallow bs vs sc e))
+      over_shallow s bs sc _ (λ vs is. then_shallow _ (body_values f bs vs sc e) (filters_shallow bs vs sc c is) (bodies_shallow bs vs sc e))
   node_shallow env sc (node s trees.element) = given_shallow sc.element _ (λ v. zero_least)
     where
       zero_least : 0 ≤ 0
@@ -232,12 +233,12 @@ out_shallow zero env sc e = tt
 out_shallow (suc n) env sc e =
     after 1 1 (node_of (out n env) env sc e) (omega arith) (node_shallow (out n env) (out_shallow n env) env sc e)
 
-counts : {X : Type 0} (o : Out X) → Counts (added 1 1 o)
+counts : {X : Type 0} (o : Out X) → CostsOne (after_cost 1 1 o)
 counts stuck = tt
 counts (fault t s w) = omega arith
 counts (value x w d) = (omega arith, omega arith)
 
-out_counts : (n : ℕ) (env : Environment) (sc : Scope) (e : Tree) → Counts (out (suc n) env sc e)
+out_counts : (n : ℕ) (env : Environment) (sc : Scope) (e : Tree) → CostsOne (out (suc n) env sc e)
 unfolding out
 out_counts n env sc e = counts (node_of (out n env) env sc e)
 

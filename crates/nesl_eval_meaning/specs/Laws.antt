@@ -12,11 +12,11 @@ IsShallow (fault t s w) = Unit {0}
 IsShallow stuck = Unit {0}
 
 -- and both are at least 1; so is the work of a fault
-abbrev pub Counts : {X : Type 0} → Out X → Type 0
-Counts (value x w d) = (1 ≤ w) × (1 ≤ d)
-Counts (fault t s w) = 1 ≤ w
-Counts stuck = Unit {0}
+abbrev pub CostsOne : {X : Type 0} → Out X → Type 0
+CostsOne (value x w d) = (1 ≤ w) × (1 ≤ d)
+CostsOne (fault t s w) = 1 ≤ w
+CostsOne stuck = Unit {0}
 
 abbrev pub DepthWithinWork : Type 0
 DepthWithinWork =
-    (n : ℕ) (env : Environment) (sc : Scope) (e : Tree) → IsShallow (out n env sc e) × Counts (out (suc n) env sc e)
+    (n : ℕ) (env : Environment) (sc : Scope) (e : Tree) → IsShallow (out n env sc e) × CostsOne (out (suc n) env sc e)

@@ -7,15 +7,15 @@ use Rattle.nesl_syntax_tree.specs.Trees.{PatternTree, pattern, name_pattern, pai
 
 -- values are plain trees, and names are their bytes
 abbrev pub Value : Type 0
-Value = values.Tree
+Value = values.ValueTree
 
 abbrev pub Name : Type 0
 Name = List ℕ
 
 -- what the first of these names stands for
-abbrev pub named : {X : Type 0} → List (Name × X) → Name → Option X
-named [] x = None
-named (b ∷ bs) x = if bytes_eq x b.0 then Some b.1 else named bs x
+abbrev pub look_up : {X : Type 0} → List (Name × X) → Name → Option X
+look_up [] x = None
+look_up (b ∷ bs) x = if bytes_eq x b.0 then Some b.1 else look_up bs x
 
 -- local names with their values, the newest first
 abbrev pub Locals : Type 0

@@ -11,16 +11,16 @@ pub data Out (X : Type 0) : Type 0 where
   stuck : Out X
 
 -- the same after so much work and depth
-abbrev pub added : {X : Type 0} → ℕ → ℕ → Out X → Out X
-added w d (value x w' d') = value x (w + w') (d + d')
-added w d (fault t s w') = fault t s (w + w')
-added w d stuck = stuck
+abbrev pub after_cost : {X : Type 0} → ℕ → ℕ → Out X → Out X
+after_cost w d (value x w' d') = value x (w + w') (d + d')
+after_cost w d (fault t s w') = fault t s (w + w')
+after_cost w d stuck = stuck
 
 -- an outcome, and then the one that depends on its value
-abbrev pub then_out : {X Y : Type 0} → Out X → (X → Out Y) → Out Y
-then_out (value x w d) k = added w d (k x)
-then_out (fault t s w) k = fault t s w
-then_out stuck k = stuck
+abbrev pub and_then : {X Y : Type 0} → Out X → (X → Out Y) → Out Y
+and_then (value x w d) k = after_cost w d (k x)
+and_then (fault t s w) k = fault t s w
+and_then stuck k = stuck
 
 -- what depends on something that may not be there
 abbrev pub given : {X Y : Type 0} → Option X → (X → Out Y) → Out Y
@@ -54,9 +54,9 @@ work_of stuck = 0
 
 -- an outcome under a budget: only the whole work decides
 pub data Budgeted (X : Type 0) : Type 0 where
-  told : Out X → Budgeted X
-  over : Budgeted X
+  fits_budget : Out X → Budgeted X
+  exceeds_budget : Budgeted X
 
 -- the outcome, where its work is within the budget
 abbrev pub within : {X : Type 0} → ℕ → Out X → Budgeted X
-within b o = if nat_le (work_of o) b then told o else over
+within b o = if nat_le (work_of o) b then fits_budget o else exceeds_budget

@@ -7,7 +7,7 @@ use Rattle.nesl_syntax_tree.specs.Trees.{truth, variable, call, pair, infix_of, 
 use Rattle.nesl_syntax_tree.specs.Trees.{element, let_in, pattern, name_pattern, pair_pattern}
 use Rattle.nesl_values.specs.Tree as values
 use Rattle.nesl_scalars.specs.declared.trap.Trap.TheVariants as trap
-use Rattle.nesl_builtins.specs.Named.{named_builtin}
+use Rattle.nesl_builtins.specs.Named.{builtin_named}
 use Rattle.nesl_seqs_base.specs.Prices.{digits}
 use Rattle.nesl_eval_meaning.specs.Names.{Environment, function_of, datatype_of, outside}
 use Rattle.nesl_eval_meaning.specs.Out.{Out, value, fault}
@@ -36,7 +36,7 @@ abbrev pub ints : List ℕ → Tree
 ints ns = here (sequence (numbers ns))
 
 -- an expression on a line with 1,000 levels, where no name is bound
-abbrev pub alone : Tree → Out values.Tree
+abbrev pub alone : Tree → Out values.ValueTree
 alone e = out 1000 [] (outside []) e
 
 -- `{a in [3, 5, 9] | a < 4}`
@@ -83,7 +83,7 @@ with_fact = (
 -- `fact(3)`
 pub fact_of_three :
     out 20 with_fact (outside []) (here (call (codes "fact") (int_of 3))) ≡ value (values.int (pos 6)) 27 27
-unfolding out named_builtin
+unfolding out builtin_named
 fact_of_three = refl
 
 -- `function q(x) = 1 / x`, and `q(0)` at the bytes 3 to 7: the fault is told with the span of the call
@@ -95,7 +95,7 @@ pub fault_in_a_call :
     ) ∷ []) (outside [])
     (node (from 3 7) (call (codes "q") (int_of 0)))
     ≡ fault trap.Division (from 3 7) 5
-unfolding out named_builtin
+unfolding out builtin_named
 fault_in_a_call = refl
 
 -- `1 + 2 + 3` with two levels
@@ -117,7 +117,7 @@ pair_made = refl
 pub record_made :
     out 9 ((codes "point", datatype_of 2) ∷ []) (outside []) (here (call (codes "point") (int_of 7)))
     ≡ value (values.tagged 2 (values.int (pos 7))) 2 2
-unfolding out named_builtin
+unfolding out builtin_named
 record_made = refl
 
 -- `let (a, b) = (3, 4) in rem(b, a)`
@@ -126,7 +126,7 @@ pub pattern_bound :
     (here (pair (int_of 3) (int_of 4))) no_binders)
     (here (call (codes "rem") (here (pair (the (codes "b")) (the (codes "a"))))))))
     ≡ value (values.int (pos 1)) 8 8
-unfolding out named_builtin
+unfolding out builtin_named
 pattern_bound = refl
 
 -- `let x = 1; x = 2 in x`: the later name hides the earlier
@@ -148,5 +148,5 @@ written = refl
 -- `sum([1, 2, 3])`: a reduction of three elements is deeper by the two digits of three
 pub summed :
     alone (here (call (codes "sum") (ints (1 ∷ 2 ∷ 3 ∷ [])))) ≡ value (values.int (pos 6)) 8 7
-unfolding out named_builtin digits
+unfolding out builtin_named digits
 summed = refl

@@ -2,7 +2,7 @@
 
 ghost use Rattle.std.specs.Prelude.{◌≡◌, ◌++◌, ℕ, List};
 ghost use Rattle.nesl_eval_meaning.specs.Out.{Out, stuck, beside, all_beside, within};
-ghost use Rattle.nesl_eval_meaning.specs.Join.{joined};
+ghost use Rattle.nesl_eval_meaning.specs.Join.{halves_joined};
 ghost use Rattle.nesl_eval_meaning.specs.Names.{Value};
 ghost use Rattle.nesl_eval_meaning.specs.Laws.{DepthWithinWork};
 
@@ -15,9 +15,9 @@ pub fn depth_within_work()
 /// one is not stuck: no expression that has a type is.
 pub fn joins_neighbours()
     ensures values { (b : ℕ) (o p : Out (List Value)) → (p ≡ stuck → ⊥)
-        → joined (within b o) (within b p) b ≡ within b (beside o p) }
+        → halves_joined (within b o) (within b p) b ≡ within b (beside o p) }
     ensures places { (b : ℕ) (o p : Out (List ℕ)) → (p ≡ stuck → ⊥)
-        → joined (within b o) (within b p) b ≡ within b (beside o p) }
+        → halves_joined (within b o) (within b p) b ≡ within b (beside o p) }
 {}
 
 /// The outcomes at places, cut in two anywhere, are those at the places before the cut, beside those behind it.

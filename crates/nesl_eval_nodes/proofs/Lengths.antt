@@ -12,7 +12,7 @@ use Rattle.nesl_eval_nodes.specs.declared.meter.Stop.{Stop}
 use Rattle.nesl_eval_nodes.specs.declared.meter.Stop.TheVariants.{Fault, Stuck}
 use Rattle.nesl_eval_meaning.specs.Names.{Value}
 use Rattle.nesl_eval_meaning.specs.Out.{given}
-use Rattle.nesl_eval_meaning.specs.Outcome.{lengths, places}
+use Rattle.nesl_eval_meaning.specs.Outcome.{lengths, common_places}
 use Rattle.nesl_eval_nodes.specs.Meets.{Meets}
 use Rattle.nesl_eval_nodes.proofs.Arms.{LenIs}
 
@@ -39,12 +39,12 @@ answer n s (Some true) = Ok n
 answer n s (Some false) = Err (Fault Length s)
 answer n s None = Err Stuck
 
-answered : (m : Meter) (s : Span) (n : ℕ) (o : Option (List ℕ)) (r : Option Bool) → TellsAll n o r → Meets LenIs m (answer n s r) m (given (option_map (λ ms. n ∷ ms) o) (places s))
+answered : (m : Meter) (s : Span) (n : ℕ) (o : Option (List ℕ)) (r : Option Bool) → TellsAll n o r → Meets LenIs m (answer n s r) m (given (option_map (λ ms. n ∷ ms) o) (common_places s))
 answered m s n None r f = tt
 answered m s n (Some ns) None f = absurd (none-some (list_all (λ k. k == n) ns) (f ns refl))
 answered m s n (Some ns) (Some true) f = rw (← some_same true (list_all (λ k. k == n) ns) (f ns refl)) (refl, omega arith, omega arith)
 answered m s n (Some ns) (Some false) f = rw (← some_same false (list_all (λ k. k == n) ns) (f ns refl)) (refl, refl, omega arith)
 
 -- the length of the first, where the others have it
-pub length_told : (m : Meter) (s : Span) (n : ℕ) (t : Value) (ts vs : List Value) (r : Option Bool) → vs ≡ t ∷ ts → Some n ≡ option_map length (as_sequence t) → TellsAll n (lengths ts) r → Meets LenIs m (answer n s r) m (given (lengths vs) (places s))
+pub length_told : (m : Meter) (s : Span) (n : ℕ) (t : Value) (ts vs : List Value) (r : Option Bool) → vs ≡ t ∷ ts → Some n ≡ option_map length (as_sequence t) → TellsAll n (lengths ts) r → Meets LenIs m (answer n s r) m (given (lengths vs) (common_places s))
 length_told m s n t ts vs r split len f = rw (split, ← len) (answered m s n (lengths ts) r f)

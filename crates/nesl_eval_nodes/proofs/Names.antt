@@ -14,7 +14,7 @@ use Rattle.nesl_eval_nodes.specs.declared.meter.Meter.{Meter}
 use Rattle.nesl_eval_nodes.specs.declared.meter.Stop.{Stop}
 use Rattle.nesl_eval_nodes.specs.declared.meter.Stop.TheVariants.{Fault, Over, Memory, Stuck}
 use Rattle.nesl_eval_nodes.specs.declared.parts.Part.{Part}
-use Rattle.nesl_eval_nodes.specs.Standing.{variable_at, settled, Shows}
+use Rattle.nesl_eval_nodes.specs.Standing.{variable_at, settled, ElementShows}
 use Rattle.nesl_eval_nodes.specs.Meets.{Meets}
 
 -- the value that a name stands for, as an outcome
@@ -40,14 +40,14 @@ same_stop T U m n Over (fault k s w) h = h
 same_stop T U m n Memory (fault k s w) h = tt
 same_stop T U m n Stuck (fault k s w) h = absurd h
 
-pub named_part : {A : Type 0} (m : Meter) (o : Option Value) (e : Element A) (p : Part A) → ((q : Option Value) → q ≡ Some (element_tree e) → settled q p ≡ Some (element_tree e)) → Meets (Shows {A = A}) m (Ok e) m (told_of o) → Meets (λ (p : Part A) (x : Value). settled o p ≡ Some x) m (Ok p) m (told_of o)
+pub named_part : {A : Type 0} (m : Meter) (o : Option Value) (e : Element A) (p : Part A) → ((q : Option Value) → q ≡ Some (element_tree e) → settled q p ≡ Some (element_tree e)) → Meets (ElementShows {A = A}) m (Ok e) m (told_of o) → Meets (λ (p : Part A) (x : Value). settled o p ≡ Some x) m (Ok p) m (told_of o)
 named_part m None e p f h = tt
 named_part m (Some x) e p f h = (f (Some x) (ap Some (sym h.0)) ∙ ap Some h.0, h.1, h.2)
 
 none_made : Meter
 none_made = record { fuel = 0; depth = 0 }
 
-lent_some : {A : Type 0} (r : Result (Element A) Stop) (x : Value) → ((m : Meter) → Meets (Shows {A = A}) m r m (value x 0 0)) → MatchResult r (λ e. element_tree e ≡ x) (λ s. s ≡ Memory)
+lent_some : {A : Type 0} (r : Result (Element A) Stop) (x : Value) → ((m : Meter) → Meets (ElementShows {A = A}) m r m (value x 0 0)) → MatchResult r (λ e. element_tree e ≡ x) (λ s. s ≡ Memory)
 lent_some (Ok e) x f = (f none_made).0
 lent_some (Err (Fault k s)) x f = absurd (f none_made)
 lent_some (Err Over) x f = absurd (no_less none_made.fuel (f none_made))
@@ -57,8 +57,8 @@ lent_some (Err Over) x f = absurd (no_less none_made.fuel (f none_made))
 lent_some (Err Memory) x f = refl
 lent_some (Err Stuck) x f = absurd (f none_made)
 
-pub lent_named : {A : Type 0} (r : Result (Element A) Stop) (o : Option Value) (x : Value) → ((m : Meter) → Meets (Shows {A = A}) m r m (told_of o)) → o ≡ Some x → MatchResult r (λ e. element_tree e ≡ x) (λ s. s ≡ Memory)
-lent_named {A} r o x f e = lent_some r x (λ m. subst (λ q. Meets (Shows {A = A}) m r m (told_of q)) e (f m))
+pub lent_named : {A : Type 0} (r : Result (Element A) Stop) (o : Option Value) (x : Value) → ((m : Meter) → Meets (ElementShows {A = A}) m r m (told_of o)) → o ≡ Some x → MatchResult r (λ e. element_tree e ≡ x) (λ s. s ≡ Memory)
+lent_named {A} r o x f e = lent_some r x (λ m. subst (λ q. Meets (ElementShows {A = A}) m r m (told_of q)) e (f m))
 
 -- a top-level name's node
 pub top_told : (o : Option Slot) → run_top o ≡ told_of (variable_at o)

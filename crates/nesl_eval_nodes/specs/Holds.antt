@@ -13,5 +13,5 @@ held_slot (Datatype k) = datatype_slot k
 held_slot Nothing = nothing_slot
 
 -- what is lent is what stands at the place, or nothing where there is no such place
-abbrev pub Holds : {A : Type 0} → Table → ℕ → Held A → Type 0
-Holds t k h = held_slot h ≡ unwrap_or (slot_at t k) nothing_slot
+abbrev pub HoldsSlot : {A : Type 0} → Table → ℕ → Held A → Type 0
+HoldsSlot t k h = held_slot h ≡ unwrap_or (slot_at t k) nothing_slot

@@ -14,8 +14,8 @@ places_of (Places.All n) = range_with_len 0 n
 places_of (Places.These is) = is.now
 
 -- whether the place is kept
-abbrev pub Keeps : ℕ → Bool → List ℕ → Type 0
-Keeps i b is = cond b (i ∷ []) [] ≡ is
+abbrev pub IsKeptPlace : ℕ → Bool → List ℕ → Type 0
+IsKeptPlace i b is = cond b (i ∷ []) [] ≡ is
 
 -- the value alone is the list
 abbrev pub IsOne : {A : Type 0} → code.Value A → List Value → Type 0

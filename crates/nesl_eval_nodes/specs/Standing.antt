@@ -29,19 +29,19 @@ settled o (Made v) = Some (tree_of v)
 settled o Name = o
 
 -- the part stands for this tree
-abbrev pub Stands : {A : Type 0} → Table → Frames → Code → Part A → Value → Type 0
-Stands t fs c p x = settled (named_tree t fs c) p ≡ Some x
+abbrev pub PartStandsFor : {A : Type 0} → Table → Frames → Code → Part A → Value → Type 0
+PartStandsFor t fs c p x = settled (named_tree t fs c) p ≡ Some x
 
 -- the element is this tree
-abbrev pub Shows : {A : Type 0} → Element A → Value → Type 0
-Shows e x = element_tree e ≡ x
+abbrev pub ElementShows : {A : Type 0} → Element A → Value → Type 0
+ElementShows e x = element_tree e ≡ x
 
 -- the value is the element, where that is a leaf that lies packed
-abbrev pub Fits : {A : Type 0} → Element A → values.Value A → Type 0
-Fits (Node v) w = Unit {0}
-Fits (Int n) w = tree_of w ≡ trees.int n
-Fits (Bool b) w = tree_of w ≡ trees.boolean b
-Fits (Char c) w = tree_of w ≡ trees.character c
+abbrev pub ElementFits : {A : Type 0} → Element A → values.Value A → Type 0
+ElementFits (Node v) w = Unit {0}
+ElementFits (Int n) w = tree_of w ≡ trees.int n
+ElementFits (Bool b) w = tree_of w ≡ trees.boolean b
+ElementFits (Char c) w = tree_of w ≡ trees.character c
 
 -- the code is a local name, or a top-level name's place
 abbrev pub IsName : Code → Type 0

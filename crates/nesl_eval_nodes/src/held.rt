@@ -1,6 +1,6 @@
 //! What evaluation sees of the top level.
 ghost use Rattle.std.specs.Prelude.{◌≡◌, ⊤, IfOk, option_and_then};
-ghost use Rattle.nesl_eval_meaning.specs.Names.{named};
+ghost use Rattle.nesl_eval_meaning.specs.Names.{look_up};
 ghost use Rattle.nesl_eval_code.specs.Run.{slot_at};
 
 use nesl_eval_code::Code;
@@ -38,12 +38,12 @@ pub trait Tops<A: Allocator> {
     /// The names, and what stands there.
     ghost table: { Self → Table };
 
-    ghost use Rattle.nesl_eval_nodes.specs.Holds.{Holds};
+    ghost use Rattle.nesl_eval_nodes.specs.Holds.{HoldsSlot};
 
     fn held(&self, place: usize) -> Result<Held<'_, A>, AllocError>
-        ensures { IfOk result (Holds (table self.now) place) };
+        ensures { IfOk result (HoldsSlot (table self.now) place) };
 
     /// The place of a name, if it has one.
     fn place_of(&self, name: &[u8]) -> Option<usize>
-        ensures { option_and_then (slot_at (table self.now)) result ≡ named (table self.now) name.now };
+        ensures { option_and_then (slot_at (table self.now)) result ≡ look_up (table self.now) name.now };
 }

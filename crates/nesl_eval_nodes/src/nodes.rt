@@ -2,16 +2,17 @@
 ghost use Rattle.std.specs.Prelude.{◌≡◌, List, ◌==◌, ◌+◌, ◌<◌, ◌≤◌, ◌^◌, ◌∷◌, ◌++◌, [], ℕ, Some, IfOk};
 ghost use Rattle.std.specs.Prelude.{MatchResult, cond, map, length, ◌↔◌, IsTrue};
 ghost use Rattle.std.specs.List.{range_with_len, list_all};
-ghost use Rattle.nesl_values.specs.Tree.{Tree, sequence, tagged, pair, character};
+ghost use Rattle.nesl_values.specs.Tree.{ValueTree, sequence, tagged, pair, character};
 ghost use Rattle.nesl_values.specs.Parts.{as_bool};
 ghost use Rattle.nesl_values.specs.View.{tree_of};
 ghost use Rattle.nesl_values_builder.specs.Elements.{elements_of};
 ghost use Rattle.nesl_scalars.specs.Scalars.{unary, binary};
 ghost use Rattle.nesl_seqs_base.specs.Lent.{argument_tree};
-ghost use Rattle.nesl_seqs_base.specs.Meaning.{meaning};
-ghost use Rattle.nesl_eval_meaning.specs.Names.{named};
-ghost use Rattle.nesl_eval_meaning.specs.Out.{Out, value, at_call, given, then_out};
-ghost use Rattle.nesl_eval_meaning.specs.Outcome.{made, applied, on_scalars, on_sequence, counted, lengths, places};
+ghost use Rattle.nesl_seqs_base.specs.Meaning.{outcome_of};
+ghost use Rattle.nesl_eval_meaning.specs.Names.{look_up};
+ghost use Rattle.nesl_eval_meaning.specs.Out.{Out, value, at_call, given, and_then};
+ghost use Rattle.nesl_eval_meaning.specs.Outcome.{small_enough, apply_builtin, on_scalars, on_sequence, body_value};
+ghost use Rattle.nesl_eval_meaning.specs.Outcome.{lengths, common_places};
 ghost use Rattle.nesl_eval_code.specs.Run.{run_top, slot_at, code_span};
 ghost use Rattle.nesl_eval_nodes.specs.declared.meter.Meter.{Meter};
 ghost use Rattle.nesl_eval_nodes.specs.Sides.{IsOne, Has};
@@ -34,7 +35,7 @@ pub const LARGE: u64 = 1_048_576;
 
 /// The value that was made of parts.
 fn within_limit<A: Allocator>(value: Value<A>, span: Span) -> Result<Value<A>, Stop>
-    ensures { (m : Meter) → Meets Is m result m (made span (tree_of value)) }
+    ensures { (m : Meter) → Meets Is m result m (small_enough span (tree_of value)) }
 {
     if value.nodes() <= LARGE {
         Ok(value)
@@ -44,13 +45,13 @@ fn within_limit<A: Allocator>(value: Value<A>, span: Span) -> Result<Value<A>, S
 }
 
 /// The pair of two values.
-pub fn paired<A: Allocator>(
+pub fn make_pair<A: Allocator>(
     left: Value<A>,
     right: Value<A>,
     span: Span,
     alloc: A,
 ) -> Result<Value<A>, Stop>
-    ensures { (m : Meter) → Meets Is m result m (made span (pair (tree_of left) (tree_of right))) }
+    ensures { (m : Meter) → Meets Is m result m (small_enough span (pair (tree_of left) (tree_of right))) }
 {
     match Value::pair(alloc, left, right) {
         Ok(value) => within_limit(value, span),
@@ -60,7 +61,7 @@ pub fn paired<A: Allocator>(
 
 /// Whether a pair of values with so many nodes is within the limit.
 #[inline]
-pub fn fit(first: u64, second: u64) -> bool
+pub fn pair_fits(first: u64, second: u64) -> bool
     ensures { IsTrue result ↔ (first + second + 1 ≤ 1048576) }
 {
     first < LARGE && second < LARGE - first
@@ -74,9 +75,9 @@ fn pair_within_limit<A: Allocator>(
     span: Span,
 ) -> Result<(), Stop>
     ensures { let z = pair (tree_of left.now) (tree_of right.now) in
-        (m : Meter) → Meets (λ _ x. x ≡ z) m result m (made span z) }
+        (m : Meter) → Meets (λ _ x. x ≡ z) m result m (small_enough span z) }
 {
-    if fit(left.nodes(), right.nodes()) {
+    if pair_fits(left.nodes(), right.nodes()) {
         Ok(())
     } else {
         Err(Stop::Fault(Trap::Large, span))
@@ -84,13 +85,13 @@ fn pair_within_limit<A: Allocator>(
 }
 
 /// The value with that tag.
-pub fn tagged<A: Allocator>(
+pub fn make_record<A: Allocator>(
     tag: u64,
     inner: Value<A>,
     span: Span,
     alloc: A,
 ) -> Result<Value<A>, Stop>
-    ensures { (m : Meter) → Meets Is m result m (made span (tagged tag (tree_of inner))) }
+    ensures { (m : Meter) → Meets Is m result m (small_enough span (tagged tag (tree_of inner))) }
 {
     match Value::tagged(alloc, tag, inner) {
         Ok(value) => within_limit(value, span),
@@ -99,7 +100,7 @@ pub fn tagged<A: Allocator>(
 }
 
 /// The value of a text, whose characters cost.
-pub fn text<A: Allocator + Copy>(
+pub fn make_text<A: Allocator + Copy>(
     bytes: &[u8],
     meter: &mut Meter,
     alloc: A,
@@ -136,7 +137,7 @@ pub fn share<A: Allocator>(value: &Value<A>) -> Result<Value<A>, Stop>
 }
 
 /// The value of a top-level variable.
-pub fn top<A: Allocator, T: Tops<A>>(tops: &T, place: usize) -> Result<Value<A>, Stop>
+pub fn find_top<A: Allocator, T: Tops<A>>(tops: &T, place: usize) -> Result<Value<A>, Stop>
     ensures { (m : Meter) → Meets Is m result m (run_top (slot_at (T.table tops.now) place)) }
 {
     match tops.held(place) {
@@ -148,16 +149,16 @@ pub fn top<A: Allocator, T: Tops<A>>(tops: &T, place: usize) -> Result<Value<A>,
 
 /// The value of a top-level variable that had no place when the code was prepared.
 pub fn named_top<A: Allocator, T: Tops<A>>(tops: &T, name: &[u8]) -> Result<Value<A>, Stop>
-    ensures { (m : Meter) → Meets Is m result m (run_top (named (T.table tops.now) name.now)) }
+    ensures { (m : Meter) → Meets Is m result m (run_top (look_up (T.table tops.now) name.now)) }
 {
     match tops.place_of(name) {
-        Some(place) => top(tops, place),
+        Some(place) => find_top(tops, place),
         None => Err(Stop::Stuck),
     }
 }
 
 /// The sequence of no elements.
-pub fn empty<A: Allocator + Copy>(alloc: A) -> Result<Value<A>, Stop>
+pub fn make_empty<A: Allocator + Copy>(alloc: A) -> Result<Value<A>, Stop>
     ensures { (m : Meter) → Meets Is m result m (value (sequence []) 0 0) }
 {
     match Value::empty(alloc) {
@@ -168,7 +169,7 @@ pub fn empty<A: Allocator + Copy>(alloc: A) -> Result<Value<A>, Stop>
 
 /// A truth value.
 #[inline]
-pub fn truth<A: Allocator>(value: Value<A>) -> Result<bool, Stop>
+pub fn read_truth<A: Allocator>(value: Value<A>) -> Result<bool, Stop>
     ensures { MatchResult result (λ b. as_bool (tree_of value) ≡ Some b) (λ e. (e ≡ Stop.Stuck)
         × (as_bool (tree_of value) ≡ None)) }
 {
@@ -183,7 +184,7 @@ pub fn truth<A: Allocator>(value: Value<A>) -> Result<bool, Stop>
 
 /// A function of two scalars.
 #[inline(always)]
-pub fn of_two<A: Allocator>(
+pub fn apply_binary<A: Allocator>(
     function: Binary,
     left: &Value<A>,
     right: &Value<A>,
@@ -200,7 +201,7 @@ pub fn of_two<A: Allocator>(
 
 /// A function of two scalars, which are leaves and hold nothing.
 #[inline(always)]
-pub fn of_two_made<A: Allocator>(
+pub fn apply_to_leaves<A: Allocator>(
     function: Binary,
     left: Value<A>,
     right: Value<A>,
@@ -209,7 +210,7 @@ pub fn of_two_made<A: Allocator>(
     ensures { (m : Meter) → Meets Is m result m
         (on_scalars span (binary function (tree_of left) (tree_of right))) }
 {
-    let found = of_two(function, &left, &right, span);
+    let found = apply_binary(function, &left, &right, span);
     let_go(left);
     let_go(right);
     found
@@ -217,7 +218,7 @@ pub fn of_two_made<A: Allocator>(
 
 /// A function of two scalars that are written as a pair, which is not built.
 #[inline(always)]
-pub fn of_pair_made<A: Allocator>(
+pub fn apply_to_pair<A: Allocator>(
     function: Binary,
     left: Value<A>,
     right: Value<A>,
@@ -225,10 +226,11 @@ pub fn of_pair_made<A: Allocator>(
     span: Span,
 ) -> Result<Value<A>, Stop>
     ensures { (m : Meter) → Meets Is m result m
-        (then_out (made within (pair (tree_of left) (tree_of right))) (applied span (Builtin.OfTwo function))) }
+        (and_then (small_enough within (pair (tree_of left) (tree_of right)))
+        (apply_builtin span (Builtin.OfTwo function))) }
 {
     pair_within_limit(&left, &right, within)?;
-    of_two_made(function, left, right, span)
+    apply_to_leaves(function, left, right, span)
 }
 
 // Drops a value. A leaf holds nothing.
@@ -241,7 +243,7 @@ fn let_go<A: Allocator>(value: Value<A>) {
 }
 
 /// A function of one scalar.
-pub fn of_one<A: Allocator>(
+pub fn apply_unary<A: Allocator>(
     function: Unary,
     argument: &Value<A>,
     span: Span,
@@ -266,7 +268,7 @@ fn on_sequences<A: Allocator + Copy>(
 ) -> Result<Value<A>, Stop>
     requires { meter.old.fuel + meter.old.depth < 2 ^ 64 }
     ensures meets { Meets Is meter.old result meter.new (on_sequence span function
-        (argument_tree argument.entry) (meaning function (argument_tree argument.entry))) }
+        (argument_tree argument.entry) (outcome_of function (argument_tree argument.entry))) }
     ensures spent { meter.new.fuel + meter.new.depth ≤ meter.old.fuel + meter.old.depth }
 {
     match price_within(function, argument, meter.fuel as u128 + 1) {
@@ -285,7 +287,7 @@ fn on_sequences<A: Allocator + Copy>(
 }
 
 /// A built-in function.
-pub fn applied<A: Allocator + Copy>(
+pub fn apply_builtin<A: Allocator + Copy>(
     function: Builtin,
     argument: Argument<'_, A>,
     span: Span,
@@ -293,18 +295,18 @@ pub fn applied<A: Allocator + Copy>(
     alloc: A,
 ) -> Result<Value<A>, Stop>
     requires { meter.old.fuel + meter.old.depth < 2 ^ 64 }
-    ensures meets { Meets Is meter.old result meter.new (applied span function (argument_tree argument.entry)) }
+    ensures meets { Meets Is meter.old result meter.new (apply_builtin span function (argument_tree argument.entry)) }
     ensures spent { meter.new.fuel + meter.new.depth ≤ meter.old.fuel + meter.old.depth }
 {
     match function {
         Builtin::OfOne(function) => match argument {
-            Argument::One(value) => of_one(function, value, span),
+            Argument::One(value) => apply_unary(function, value, span),
             Argument::Two(_, _) | Argument::Three(_, _, _) => Err(Stop::Stuck),
         },
         Builtin::OfTwo(function) => match argument {
-            Argument::Two(left, right) => of_two(function, left, right, span),
+            Argument::Two(left, right) => apply_binary(function, left, right, span),
             Argument::One(value) => match value.as_pair() {
-                Some((left, right)) => of_two(function, left, right, span),
+                Some((left, right)) => apply_binary(function, left, right, span),
                 None => Err(Stop::Stuck),
             },
             Argument::Three(_, _, _) => Err(Stop::Stuck),
@@ -316,7 +318,7 @@ pub fn applied<A: Allocator + Copy>(
 /// The length of sequences of one length.
 pub fn length_of_all<A: Allocator>(values: &[Value<A>], span: Span) -> Result<usize, Stop>
     ensures { (m : Meter) → Meets (λ n is. range_with_len 0 n ≡ is) m result m
-        (given (lengths (map tree_of values.now)) (places span)) }
+        (given (lengths (map tree_of values.now)) (common_places span)) }
 {
     let Some((first, others)) = values.split_first() else {
         return Err(Stop::Stuck);
@@ -352,7 +354,7 @@ pub fn sequence_of<A: Allocator + Copy>(
     span: Span,
     alloc: A,
 ) -> Result<Value<A>, Stop>
-    ensures { (m : Meter) → Meets Is m result m (made span (sequence (map tree_of values.items))) }
+    ensures { (m : Meter) → Meets Is m result m (small_enough span (sequence (map tree_of values.items))) }
 {
     match packed(values, alloc) {
         Ok(value) => within_limit(value, span),
@@ -372,8 +374,11 @@ fn packed<A: Allocator + Copy>(values: Vec<Value<A>, A>, alloc: A) -> Result<Val
 
 /// A fault inside a called body is told with the span of the call.
 #[inline]
-pub fn told_at<A: Allocator>(found: Result<Value<A>, Stop>, span: Span) -> Result<Value<A>, Stop>
-    ensures { (o : Out Tree) (m n : Meter) → Meets Is m found n o
+pub fn place_fault<A: Allocator>(
+    found: Result<Value<A>, Stop>,
+    span: Span,
+) -> Result<Value<A>, Stop>
+    ensures { (o : Out ValueTree) (m n : Meter) → Meets Is m found n o
         → Meets Is m result n (at_call span o) }
 {
     match found {
@@ -412,8 +417,8 @@ pub fn span_of(code: &Code) -> Span
 
 /// The value of a body, which costs its nodes.
 #[inline(always)]
-pub fn paid<A: Allocator>(value: Value<A>, meter: &mut Meter) -> Result<Value<A>, Stop>
-    ensures meets { Meets IsOne meter.old result meter.new (counted (tree_of value)) }
+pub fn pay<A: Allocator>(value: Value<A>, meter: &mut Meter) -> Result<Value<A>, Stop>
+    ensures meets { Meets IsOne meter.old result meter.new (body_value (tree_of value)) }
     ensures spent { meter.new.fuel ≤ meter.old.fuel }
     ensures depth { meter.new.depth ≡ meter.old.depth }
 {
@@ -422,7 +427,7 @@ pub fn paid<A: Allocator>(value: Value<A>, meter: &mut Meter) -> Result<Value<A>
 }
 
 /// The sequence that was made.
-pub fn finished<A: Allocator + Copy>(builder: SequenceBuilder<A>) -> Result<Value<A>, Stop>
+pub fn finish<A: Allocator + Copy>(builder: SequenceBuilder<A>) -> Result<Value<A>, Stop>
     ensures { MatchResult result (λ v. tree_of v ≡ sequence (elements_of builder)) (λ e. e ≡ Stop.Memory) }
 {
     match builder.finish() {

@@ -1,18 +1,19 @@
 //! Arguments: parts that were made, and names that are looked up when they are needed.
 ghost use Rattle.std.specs.Prelude.{◌≡◌, Option, Some, ◌+◌, ◌<◌, ◌≤◌, ◌^◌, MatchResult};
-ghost use Rattle.nesl_values.specs.Tree.{Tree, pair, size};
+ghost use Rattle.nesl_values.specs.Tree.{ValueTree, pair, size};
 ghost use Rattle.nesl_values.specs.View.{tree_of, element_tree};
 ghost use Rattle.nesl_eval_meaning.specs.Out.{value, given};
-ghost use Rattle.nesl_eval_meaning.specs.Outcome.{made, applied};
+ghost use Rattle.nesl_eval_meaning.specs.Outcome.{small_enough, apply_builtin};
 ghost use Rattle.nesl_eval_code.specs.Run.{slot_at, run};
 ghost use Rattle.nesl_eval_nodes.specs.declared.meter.Meter.{Meter};
 ghost use Rattle.nesl_eval_nodes.specs.Scopes.{frames_of};
-ghost use Rattle.nesl_eval_nodes.specs.Standing.{named_tree, settled, variable_at, Stands, Shows, Fits, IsName};
+ghost use Rattle.nesl_eval_nodes.specs.Standing.{named_tree, settled, variable_at, PartStandsFor, ElementShows};
+ghost use Rattle.nesl_eval_nodes.specs.Standing.{ElementFits, IsName};
 ghost use Rattle.nesl_eval_nodes.specs.Meets.{Meets, Is};
 
 use crate::held::{Held, Tops};
 use crate::meter::{Meter, Stop};
-use crate::nodes::{applied, fit};
+use crate::nodes::{apply_builtin, pair_fits};
 use crate::scope::{Scope, lent_local};
 use nesl_builtins::Builtin;
 use nesl_eval_code::Code;
@@ -35,7 +36,7 @@ fn lent_name<'x, A: Allocator, T: Tops<A>>(
     scope: &Scope<'x, A>,
     code: &Code,
 ) -> Result<Element<'x, A>, Stop>
-    ensures { (m : Meter) → Meets Shows m result m
+    ensures { (m : Meter) → Meets ElementShows m result m
         (given (named_tree (T.table tops.now) (frames_of scope.now) code.now) (λ v. value v 0 0)) }
 {
     match code {
@@ -55,7 +56,7 @@ fn lent_name<'x, A: Allocator, T: Tops<A>>(
 
 // A top-level variable.
 fn lent_top<'x, A: Allocator, T: Tops<A>>(tops: &'x T, place: usize) -> Result<Element<'x, A>, Stop>
-    ensures { (m : Meter) → Meets Shows m result m
+    ensures { (m : Meter) → Meets ElementShows m result m
         (given (variable_at (slot_at (T.table tops.now) place)) (λ v. value v 0 0)) }
 {
     match tops.held(place) {
@@ -71,7 +72,7 @@ fn name_part<A: Allocator, T: Tops<A>>(
     scope: &Scope<'_, A>,
     code: &Code,
 ) -> Result<Part<A>, Stop>
-    ensures { (m : Meter) → Meets (Stands (T.table tops.now) (frames_of scope.now) code.now) m result m
+    ensures { (m : Meter) → Meets (PartStandsFor (T.table tops.now) (frames_of scope.now) code.now) m result m
         (given (named_tree (T.table tops.now) (frames_of scope.now) code.now) (λ v. value v 0 0)) }
 {
     let element = lent_name(tops, scope, code)?;
@@ -79,7 +80,7 @@ fn name_part<A: Allocator, T: Tops<A>>(
 }
 
 /// A name as a part, with its own 1.
-pub fn entered_name<A: Allocator, T: Tops<A>>(
+pub fn enter_name<A: Allocator, T: Tops<A>>(
     tops: &T,
     scope: &Scope<'_, A>,
     code: &Code,
@@ -89,7 +90,7 @@ pub fn entered_name<A: Allocator, T: Tops<A>>(
     requires name { IsName code.now }
     requires room { meter.old.fuel + meter.old.depth < 2 ^ 64 }
     ensures meets { let t = T.table tops.now in let fs = frames_of scope.now in
-        Meets (Stands t fs code.now) meter.old result meter.new (run levels t fs code.now) }
+        Meets (PartStandsFor t fs code.now) meter.old result meter.new (run levels t fs code.now) }
     ensures spent { meter.new.fuel + meter.new.depth ≤ meter.old.fuel + meter.old.depth }
 {
     meter.enter(levels, code)?;
@@ -99,7 +100,7 @@ pub fn entered_name<A: Allocator, T: Tops<A>>(
 // A leaf is made; what has parts is lent.
 #[inline]
 fn part_of<A: Allocator>(element: Element<'_, A>) -> Part<A>
-    ensures { (o : Option Tree) → o ≡ Some (element_tree element.entry)
+    ensures { (o : Option ValueTree) → o ≡ Some (element_tree element.entry)
         → settled o result ≡ Some (element_tree element.entry) }
 {
     match element {
@@ -117,7 +118,7 @@ fn lent<'x, A: Allocator, T: Tops<A>>(
     code: &Code,
     part: &'x Part<A>,
 ) -> Result<Element<'x, A>, Stop>
-    ensures { (x : Tree) → Stands (T.table tops.now) (frames_of scope.now) code.now part.now x
+    ensures { (x : ValueTree) → PartStandsFor (T.table tops.now) (frames_of scope.now) code.now part.now x
         → MatchResult result (λ e. element_tree e ≡ x) (λ e. e ≡ Stop.Memory) }
 {
     match part {
@@ -129,7 +130,7 @@ fn lent<'x, A: Allocator, T: Tops<A>>(
 // A packed leaf as a value of its own; for any other element some leaf.
 #[inline]
 fn leaf_of<A: Allocator>(element: Element<'_, A>) -> Value<A>
-    ensures { Fits element.entry result }
+    ensures { ElementFits element.entry result }
 {
     match element {
         Element::Int(n) => Value::Int(n),
@@ -142,7 +143,7 @@ fn leaf_of<A: Allocator>(element: Element<'_, A>) -> Value<A>
 // The element as a value, which is the leaf where it lies packed.
 #[inline]
 fn value_of<'x, A: Allocator>(element: Element<'x, A>, leaf: &'x Value<A>) -> &'x Value<A>
-    requires { Fits element leaf.now }
+    requires { ElementFits element leaf.now }
     ensures { tree_of result.now ≡ element_tree element.entry }
 {
     match element {
@@ -171,13 +172,13 @@ pub fn within_limit<'x, A: Allocator, T: Tops<A>>(
     other: &'x Part<A>,
     span: Span,
 ) -> Result<(), Stop>
-    ensures { (x y : Tree) → Stands (T.table tops.now) (frames_of scope.now) left.now one.now x
-        → Stands (T.table tops.now) (frames_of scope.now) right.now other.now y
-        → (m : Meter) → Meets (λ u z. z ≡ pair x y) m result m (made span (pair x y)) }
+    ensures { (x y : ValueTree) → PartStandsFor (T.table tops.now) (frames_of scope.now) left.now one.now x
+        → PartStandsFor (T.table tops.now) (frames_of scope.now) right.now other.now y
+        → (m : Meter) → Meets (λ u z. z ≡ pair x y) m result m (small_enough span (pair x y)) }
 {
     let first = lent(tops, scope, left, one)?;
     let second = lent(tops, scope, right, other)?;
-    if fit(nodes_of(first), nodes_of(second)) {
+    if pair_fits(nodes_of(first), nodes_of(second)) {
         Ok(())
     } else {
         Err(Stop::Fault(Trap::Large, span))
@@ -185,7 +186,7 @@ pub fn within_limit<'x, A: Allocator, T: Tops<A>>(
 }
 
 /// A built-in function of one part.
-pub fn applied_to_one<'x, A: Allocator + Copy, T: Tops<A>>(
+pub fn apply_to_one<'x, A: Allocator + Copy, T: Tops<A>>(
     tops: &'x T,
     scope: &Scope<'x, A>,
     function: Builtin,
@@ -196,18 +197,18 @@ pub fn applied_to_one<'x, A: Allocator + Copy, T: Tops<A>>(
     alloc: A,
 ) -> Result<Value<A>, Stop>
     requires { meter.old.fuel + meter.old.depth < 2 ^ 64 }
-    ensures meets { (x : Tree) → Stands (T.table tops.now) (frames_of scope.now) code.now part.now x
-        → Meets Is meter.old result meter.new (applied span function x) }
+    ensures meets { (x : ValueTree) → PartStandsFor (T.table tops.now) (frames_of scope.now) code.now part.now x
+        → Meets Is meter.old result meter.new (apply_builtin span function x) }
     ensures spent { meter.new.fuel + meter.new.depth ≤ meter.old.fuel + meter.old.depth }
 {
     let element = lent(tops, scope, code, part)?;
     let leaf = leaf_of(element);
     let argument = Argument::One(value_of(element, &leaf));
-    applied(function, argument, span, meter, alloc)
+    apply_builtin(function, argument, span, meter, alloc)
 }
 
 /// A built-in function of two parts.
-pub fn applied_to_two<'x, A: Allocator + Copy, T: Tops<A>>(
+pub fn apply_to_two<'x, A: Allocator + Copy, T: Tops<A>>(
     tops: &'x T,
     scope: &Scope<'x, A>,
     function: Builtin,
@@ -220,9 +221,9 @@ pub fn applied_to_two<'x, A: Allocator + Copy, T: Tops<A>>(
     alloc: A,
 ) -> Result<Value<A>, Stop>
     requires { meter.old.fuel + meter.old.depth < 2 ^ 64 }
-    ensures meets { (x y : Tree) → Stands (T.table tops.now) (frames_of scope.now) left.now one.now x
-        → Stands (T.table tops.now) (frames_of scope.now) right.now other.now y
-        → Meets Is meter.old result meter.new (applied span function (pair x y)) }
+    ensures meets { (x y : ValueTree) → PartStandsFor (T.table tops.now) (frames_of scope.now) left.now one.now x
+        → PartStandsFor (T.table tops.now) (frames_of scope.now) right.now other.now y
+        → Meets Is meter.old result meter.new (apply_builtin span function (pair x y)) }
     ensures spent { meter.new.fuel + meter.new.depth ≤ meter.old.fuel + meter.old.depth }
 {
     let first = lent(tops, scope, left, one)?;
@@ -230,11 +231,11 @@ pub fn applied_to_two<'x, A: Allocator + Copy, T: Tops<A>>(
     let first_leaf = leaf_of(first);
     let second_leaf = leaf_of(second);
     let argument = Argument::Two(value_of(first, &first_leaf), value_of(second, &second_leaf));
-    applied(function, argument, span, meter, alloc)
+    apply_builtin(function, argument, span, meter, alloc)
 }
 
 /// A built-in function of three parts.
-pub fn applied_to_three<'x, A: Allocator + Copy, T: Tops<A>>(
+pub fn apply_to_three<'x, A: Allocator + Copy, T: Tops<A>>(
     tops: &'x T,
     scope: &Scope<'x, A>,
     function: Builtin,
@@ -249,11 +250,11 @@ pub fn applied_to_three<'x, A: Allocator + Copy, T: Tops<A>>(
     alloc: A,
 ) -> Result<Value<A>, Stop>
     requires { meter.old.fuel + meter.old.depth < 2 ^ 64 }
-    ensures meets { (x y z : Tree)
-        → Stands (T.table tops.now) (frames_of scope.now) first_code.now one.now x
-        → Stands (T.table tops.now) (frames_of scope.now) second_code.now two.now y
-        → Stands (T.table tops.now) (frames_of scope.now) third_code.now three.now z
-        → Meets Is meter.old result meter.new (applied span function (pair x (pair y z))) }
+    ensures meets { (x y z : ValueTree)
+        → PartStandsFor (T.table tops.now) (frames_of scope.now) first_code.now one.now x
+        → PartStandsFor (T.table tops.now) (frames_of scope.now) second_code.now two.now y
+        → PartStandsFor (T.table tops.now) (frames_of scope.now) third_code.now three.now z
+        → Meets Is meter.old result meter.new (apply_builtin span function (pair x (pair y z))) }
     ensures spent { meter.new.fuel + meter.new.depth ≤ meter.old.fuel + meter.old.depth }
 {
     let first = lent(tops, scope, first_code, one)?;
@@ -267,5 +268,5 @@ pub fn applied_to_three<'x, A: Allocator + Copy, T: Tops<A>>(
         value_of(second, &second_leaf),
         value_of(third, &third_leaf),
     );
-    applied(function, argument, span, meter, alloc)
+    apply_builtin(function, argument, span, meter, alloc)
 }

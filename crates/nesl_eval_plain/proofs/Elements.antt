@@ -13,12 +13,11 @@ use Rattle.nesl_eval_code.specs.declared.code.Step.{Step}
 use Rattle.nesl_eval_code.specs.Frames.{Frames, row, local_at}
 use Rattle.nesl_eval_code.specs.Run.{Runs, Table, run, run_node, run_two}
 use Rattle.nesl_eval_meaning.specs.Names.{Value}
-use Rattle.nesl_eval_meaning.specs.Out.{Out, value, given, added, then_out}
-use Rattle.nesl_eval_meaning.specs.Outcome.{applied, on_sequence}
+use Rattle.nesl_eval_meaning.specs.Out.{Out, value, given, after_cost, and_then}
+use Rattle.nesl_eval_meaning.specs.Outcome.{apply_builtin, on_sequence}
 use Rattle.nesl_eval_columns.specs.Each.{EachTwo}
-use Rattle.nesl_eval_plain.specs.Comes.{Comes}
 use Rattle.nesl_eval_plain.specs.Picked.{at_number, Picks}
-use Rattle.nesl_eval_plain.proofs.Comes.{each_so, each_then, cost_is}
+use Rattle.nesl_eval_plain.proofs.Comes.{cost_is}
 
 -- a name that is entered
 pub entered_once : (n : ℕ) (t : Table) (fs : Frames) (c : Code) (v : Value) → 0 < n → run_node (run (n - 1) t) t fs c ≡ value v 0 0 → run n t fs c ≡ value v 1 1
@@ -27,7 +26,7 @@ entered_once zero t fs c v some h = absurd (omega arith)
 entered_once (suc n) t fs c v some h =
     let same : suc n - 1 ≡ n = omega arith in
     let e : run_node (run n t) t fs c ≡ value v 0 0 = subst (λ k. run_node (run k t) t fs c ≡ value v 0 0) same h in
-    ap (added 1 1) e
+    ap (after_cost 1 1) e
 
 -- what stands for a sequence of so many elements
 pub is_sequence : (v : Value) (ts : List Value) (n : ℕ) → Some n ≡ option_map length (as_sequence v) → ts ≡ elements v → as_sequence v ≡ Some ts
@@ -51,25 +50,19 @@ items_picked leaf xs v is small (k ∷ ks) [] h = absurd h
 items_picked leaf xs v is small (k ∷ ks) (y ∷ ys) h = (item_picked leaf xs v k y is small h.0, items_picked leaf xs v is small ks ys h.1)
 
 -- an element at a place
-pub element_comes : (f : Runs) (fs : Frames) (a b : Code) (s : Span) (v x z : Value) (n : ℕ) → f fs a ≡ value v 1 1 → f fs b ≡ value x n n → Picks v x z → run_two f fs a b (λ x y. applied s (OfSequences ElementAt) (pair x y)) ≡ value z (n + 1) (n + 1)
-element_comes f fs a b s v x z n h k e =
-    ap (λ o. then_out o (λ x. then_out (f fs b) (λ y. applied s (OfSequences ElementAt) (pair x y)))) h
-    ∙ ap (λ o. added 1 1 (then_out o (λ y. applied s (OfSequences ElementAt) (pair v y)))) k
-    ∙ ap (λ o. added 1 1 (added n n (on_sequence s ElementAt (pair v x) o))) e.0
+pub element_at : (f : Runs) (fs : Frames) (a b : Code) (s : Span) (v x z : Value) (n : ℕ) → f fs a ≡ value v 1 1 → f fs b ≡ value x n n → Picks v x z → run_two f fs a b (λ x y. apply_builtin s (OfSequences ElementAt) (pair x y)) ≡ value z (n + 1) (n + 1)
+element_at f fs a b s v x z n h k e =
+    ap (λ o. and_then o (λ x. and_then (f fs b) (λ y. apply_builtin s (OfSequences ElementAt) (pair x y)))) h
+    ∙ ap (λ o. after_cost 1 1 (and_then o (λ y. apply_builtin s (OfSequences ElementAt) (pair v y)))) k
+    ∙ ap (λ o. after_cost 1 1 (after_cost n n (on_sequence s ElementAt (pair v x) o))) e.0
     ∙ cost_is z (1 + (n + (0 + (size z - 1)))) (n + 1) (1 + (n + 0)) (n + 1) (omega (arith, e.1)) (omega arith)
 
-pub elements_come : (f : Runs) (fs : ℕ → Frames) (a b : Code) (s : Span) (v : Value) (n : ℕ) (is : List ℕ) (xs zs : List Value) → ((i : ℕ) → f (fs i) a ≡ value v 1 1) → Comes (λ i. f (fs i) b) n is xs → EachTwo (Picks v) xs zs → Comes (λ i. run_two f (fs i) a b (λ x y. applied s (OfSequences ElementAt) (pair x y))) (n + 1) is zs
-elements_come f fs a b s v n is xs zs h k e =
-    each_then (λ i x. f (fs i) b ≡ value x n n) (Picks v) (λ i z. run_two f (fs i) a b (λ x y. applied s (OfSequences ElementAt) (pair x y)) ≡ value z (n + 1) (n + 1))
-    (λ i x z k e. element_comes f (fs i) a b s v x z n (h i) k e) is xs zs k e
-
--- the length at each place
+-- the length at a place
 value_at_one : (x y : Value) (m : ℕ) → value x 0 0 ≡ value y m m → value x 1 1 ≡ value y 1 1
 value_at_one x y m e = cc
 
-pub length_comes : (f : Runs) (fs : ℕ → Frames) (a : Code) (s : Span) (v : Value) (ts : List Value) (m : ℕ) (is : List ℕ) (ys : List Value) → ((i : ℕ) → f (fs i) a ≡ value v 1 1) → as_sequence v ≡ Some ts → Comes (λ i. value (int (pos (length ts))) 0 0) m is ys → Comes (λ i. then_out (f (fs i) a) (applied s (OfSequences Length))) 1 is ys
-length_comes f fs a s v ts m is ys h q e =
-    each_so (λ i y. value (int (pos (length ts))) 0 0 ≡ value y m m) (λ i y. then_out (f (fs i) a) (applied s (OfSequences Length)) ≡ value y 1 1)
-    (λ i y e. ap (λ o. then_out o (applied s (OfSequences Length))) (h i)
-    ∙ ap (λ o. added 1 1 (on_sequence s Length v (seqs.given o (λ ts. seqs.gives (int (pos (length ts))))))) q
-    ∙ value_at_one (int (pos (length ts))) y m e) is ys e
+pub length_at : (f : Runs) (fs : Frames) (a : Code) (s : Span) (v : Value) (ts : List Value) (y : Value) (m : ℕ) → f fs a ≡ value v 1 1 → as_sequence v ≡ Some ts → value (int (pos (length ts))) 0 0 ≡ value y m m → and_then (f fs a) (apply_builtin s (OfSequences Length)) ≡ value y 1 1
+length_at f fs a s v ts y m h q e =
+    ap (λ o. and_then o (apply_builtin s (OfSequences Length))) h
+    ∙ ap (λ o. after_cost 1 1 (on_sequence s Length v (seqs.if_there o (λ ts. seqs.gives (int (pos (length ts))))))) q
+    ∙ value_at_one (int (pos (length ts))) y m e

@@ -1,21 +1,33 @@
 -- Elements at places.
-use Rattle.std.proofs.Common.{◌≡◌, ℕ, zero, suc, ◌+◌, ◌-◌, ◌<◌, ◌≤◌, ◌⊎◌, inl, inr, List, [], ◌∷◌, map, length, get_or, take, drop, replicate, refl, sym, ap, ◌∙◌, arith, subst, Some, None, true}
+use Rattle.std.proofs.Common.{◌≡◌, ℕ, zero, suc, ◌+◌, ◌-◌, ◌<◌, ◌≤◌, ◌⊎◌, inl, inr, pos, List, [], ◌∷◌, map, length, get_or, take, drop, replicate, refl, sym, ap, ◌∙◌, arith, subst, Option, Some, None, true}
 use Rattle.std.specs.Prelude.{slice_get, slice_range, option_map, option_and_then, ◌==◌}
 use Rattle.std.proofs.lemmas.Bool.Decides.{nat_tests}
 use Rattle.std.specs.List.{range_with_len}
-use Rattle.std.proofs.lemmas.Option.{slice_get_cases, slice_get-map}
+use Rattle.std.proofs.lemmas.Option.{slice_get_cases, slice_get-map, slice_get-get_or, slice_get_within, same_Some}
 use Rattle.std.proofs.lemmas.Grind.{common_steps}
 use Rattle.std.proofs.lemmas.List.FromFn.{length-range_with_len}
 use Rattle.nesl_values.specs.Parts.{elements}
+use Rattle.nesl_values.specs.Tree.{int}
+use Rattle.nesl_values.specs.View.{tree_of}
 use Rattle.nesl_eval_code.specs.declared.code.Step.{Step}
 use Rattle.nesl_eval_meaning.specs.Names.{Value}
 use Rattle.nesl_eval_code.specs.Frames.{Frames, row, place_in, local_at, followed}
 use Rattle.nesl_eval_meaning.specs.Out.{Out, value, given}
+use Rattle.nesl_eval_nodes.specs.Sides.{places_of}
+use Rattle.nesl_eval_nodes.specs.Scopes.{frames_of}
 use Rattle.nesl_eval_nodes.proofs.Arms.{drop_next}
 use Rattle.nesl_eval_nodes.proofs.Lookups.{in_row, in_tail}
+use Rattle.nesl_eval_columns.specs.declared.column.Column.{Column}
+use Rattle.nesl_eval_columns.specs.Columns.{leaves_of}
 use Rattle.nesl_eval_columns.specs.Each.{EachTwo}
+use Rattle.nesl_eval_plain.specs.declared.block.Block.{Block}
+use Rattle.nesl_eval_plain.specs.declared.scopes.Scopes.{Scopes, Rows}
 use Rattle.nesl_eval_plain.specs.Comes.{Comes}
-use Rattle.nesl_eval_plain.proofs.Comes.{each_so, same_comes}
+use Rattle.nesl_eval_plain.specs.Blocks.{block_places, frames_at, IsWithin}
+use Rattle.nesl_eval_plain.specs.Frames.{bound_at, frames_in, IsAt, AreAt, AllAre}
+use Rattle.nesl_eval_plain.proofs.Comes.{each_so, cost_is}
+use Rattle.nesl_eval_plain.proofs.Framed.{at_row, frames-Rows}
+use Rattle.nesl_eval_plain.proofs.Finding.{each_at, two_from}
 
 -- the element at a place
 abbrev pub Stands : {X : Type 0} → List X → ℕ → X → Type 0
@@ -66,11 +78,16 @@ row_at fs vs index v e is ys h =
     each_so (Stands (elements v)) (λ i y. place_in (row i vs ∷ fs) 0 index ≡ Some y)
     (λ i y q. in_row vs fs i index ∙ ap (option_and_then (λ u. slice_get (elements u) i)) e ∙ q) is ys h
 
+none_left : (steps : List Step) → true ≡ (length steps == 0) → steps ≡ []
+none_left [] h = refl
+none_left (s ∷ steps) h = absurd (grind (arith, nat_tests))
+
 -- a name without steps
-pub local_comes : (fs : ℕ → Frames) (index : ℕ) (is : List ℕ) (ys : List Value) → EachTwo (λ i y. place_in (fs i) 0 index ≡ Some y) is ys → Comes (λ i. given (local_at (fs i) 0 index []) (λ v. value v 0 0)) 0 is ys
-local_comes fs index is ys h =
-    each_so (λ i y. place_in (fs i) 0 index ≡ Some y) (λ i y. given (local_at (fs i) 0 index []) (λ v. value v 0 0) ≡ value y 0 0)
-    (λ i y e. rw e refl) is ys h
+name_at : (fs : Frames) (up index : ℕ) (steps : List Step) (v : Value) → up ≡ 0 → true ≡ (length steps == 0) → place_in fs 0 index ≡ Some v → given (local_at fs up index steps) (λ v. value v 0 0) ≡ value v 0 0
+name_at fs up index steps v z e h =
+    let F : ℕ → List Step → Type 0 = λ n ss. given (local_at fs n index ss) (λ v. value v 0 0) ≡ value v 0 0 in
+    let plain : F 0 [] = ap (λ o. given (option_and_then (followed []) o) (λ v. value v 0 0)) h in
+    subst (λ n. F n steps) (sym z) (subst (F 0) (sym (none_left steps e)) plain)
 
 -- a name further up
 pub outer_at : (fs : Frames) (vs : List Value) (i up index : ℕ) (steps : List Step) (v : Value) → 0 < up → Some v ≡ local_at fs (up - 1) index steps → given (local_at (row i vs ∷ fs) up index steps) (λ v. value v 0 0) ≡ value v 0 0
@@ -87,16 +104,44 @@ map_replicate f (suc n) x = ap (λ ys. f x ∷ ys) (map_replicate f n x)
 pub len_range : {X : Type 0} (xs : List X) (from to : ℕ) → from ≤ to → to ≤ length xs → length (slice_range xs from to) ≡ to - from
 len_range xs from to h k = grind (arith, common_steps)
 
-pub same_whole : (p : ℕ → Out Value) (v : Value) (xs : List ℕ) (from to : ℕ) (leaves : List Value) → (from ≤ to) × (to ≤ length xs) → leaves ≡ replicate (to - from) v → ((i : ℕ) → p i ≡ value v 0 0) → Comes p 0 (slice_range xs from to) leaves
-same_whole p v xs from to leaves h e law =
-    let whole : leaves ≡ replicate (length (slice_range xs from to)) v = e ∙ ap (λ k. replicate k v) (sym (len_range xs from to h.0 h.1)) in
-    subst (λ ys. Comes p 0 (slice_range xs from to) ys) (sym whole) (same_comes p v (slice_range xs from to) law)
+-- a name in the rows of a block
+pub row_finds : {A T : Type 0} (b : Block A T) (s : Scopes A) (up index : ℕ) (steps : List Step) (vs : List Value) → s ≡ Rows → up ≡ 0 → true ≡ (length steps == 0) → EachTwo (λ i v. place_in (frames_at b i) 0 index ≡ Some v) (block_places b) vs → AreAt (λ fs. given (local_at fs up index steps) (λ v. value v 0 0)) (frames_in b s) (slice_get vs) (λ k. Some 0)
+row_finds b s up index steps vs is z e h = λ k fs q.
+    let w = at_row b s k fs is q in
+    let x = each_at (λ i v. place_in (frames_at b i) 0 index ≡ Some v) (block_places b) vs k w.0 h w.1 in
+    let there = subst (λ hs. place_in hs 0 index ≡ Some x.0) w.2 x.2 in
+    (x.0, 0, x.1, refl, name_at fs up index steps x.0 z e there)
 
-none_left : (steps : List Step) → true ≡ (length steps == 0) → steps ≡ []
-none_left [] h = refl
-none_left (s ∷ steps) h = absurd (grind (arith, nat_tests))
+-- a name above the rows of a block, which has one value
+pub above_rows : {A T : Type 0} (b : Block A T) (s : Scopes A) (up index : ℕ) (steps : List Step) (v : Value) → s ≡ Rows → 0 < up → Some v ≡ local_at (frames_of b.scope.now) (up - 1) index steps → AllAre (λ fs. given (local_at fs up index steps) (λ v. value v 0 0)) (frames_in b s) (value v 0 0)
+above_rows b s up index steps v is some e = λ k fs q.
+    let w = at_row b s k fs is q in
+    subst (λ hs. given (local_at hs up index steps) (λ v. value v 0 0) ≡ value v 0 0) w.2
+    (outer_at (frames_of b.scope.now) (map tree_of b.values.now) w.0 up index steps v some e)
 
-pub local_first : (fs : ℕ → Frames) (up index : ℕ) (steps : List Step) (is : List ℕ) (ys : List Value) → up ≡ 0 → true ≡ (length steps == 0) → EachTwo (λ i y. place_in (fs i) 0 index ≡ Some y) is ys → Comes (λ i. given (local_at (fs i) up index steps) (λ v. value v 0 0)) 0 is ys
-local_first fs up index steps is ys z e h =
-    let F : ℕ → List Step → Type 0 = λ n ss. Comes (λ i. given (local_at (fs i) n index ss) (λ v. value v 0 0)) 0 is ys in
-    subst (λ n. F n steps) (sym z) (subst (F 0) (sym (none_left steps e)) (local_comes fs index is ys h))
+-- a name in the frame of a `let`
+pub bound_finds : {A : Type 0} (cs : List (Column A)) (gs : Frames) (up index k : ℕ) (steps : List Step) (c : Column A) (vs : List Value) → slice_get cs index ≡ Some c → up ≡ 0 → true ≡ (length steps == 0) → k < length (leaves_of c) → vs ≡ leaves_of c → IsAt (slice_get vs) (λ j. Some 0) k (given (local_at (bound_at cs k ∷ gs) up index steps) (λ v. value v 0 0))
+bound_finds cs gs up index k steps c vs is z e h same =
+    let v = get_or (leaves_of c) k (int (pos 0)) in
+    let leaf = slice_get-get_or (leaves_of c) k (int (pos 0)) h in
+    let there : place_in (bound_at cs k ∷ gs) 0 index ≡ Some v =
+    ap (option_and_then (λ o. o)) (slice_get-map (λ d. slice_get (leaves_of d) k) cs index ∙ ap (option_map (λ d. slice_get (leaves_of d) k)) is) ∙ leaf in
+    (v, 0, ap (λ us. slice_get us k) same ∙ leaf, refl, name_at (bound_at cs k ∷ gs) up index steps v z e there)
+
+-- a name further up than a frame
+pub name_below : (up index : ℕ) (steps : List Step) → 0 < up → (x : List (Option Value)) (gs : Frames) → given (local_at (x ∷ gs) up index steps) (λ v. value v 0 0) ≡ given (local_at gs (up - 1) index steps) (λ v. value v 0 0)
+name_below up index steps h x gs = ap (λ o. given (option_and_then (followed steps) o) (λ v. value v 0 0)) (in_tail x gs up index h)
+
+-- how many turns there are
+pub rows_count : {A T : Type 0} (b : Block A T) (s : Scopes A) (k : ℕ) (fs : Frames) → IsWithin b → s ≡ Rows → frames_in b s k ≡ Some fs → k < b.to - b.from
+rows_count b s k fs within is e =
+    let w = at_row b s k fs is e in
+    omega (arith, slice_get_within (block_places b) k w.0 w.1, len_range (places_of b.places) b.from b.to within.0 within.1)
+
+-- what was found, as a relation of places and leaves
+pub rows_come : {A T : Type 0} (b : Block A T) (p : Frames → Out Value) (n : ℕ) (vs : List Value) → IsWithin b → length vs ≡ b.to - b.from → AreAt p (frames_in b Rows) (slice_get vs) (λ k. Some n) → Comes (λ i. p (frames_at b i)) n (block_places b) vs
+rows_come b p n vs within len h =
+    two_from (λ i v. p (frames_at b i) ≡ value v n n) (block_places b) vs (len ∙ sym (len_range (places_of b.places) b.from b.to within.0 within.1))
+    (λ k i e. let x = h k (frames_at b i) (frames-Rows b k ∙ ap (option_map (frames_at b)) e) in
+    let same : x.1 ≡ n = sym (same_Some n x.1 x.3) in
+    (x.0, x.2, x.4 ∙ cost_is x.0 x.1 n x.1 n same same))

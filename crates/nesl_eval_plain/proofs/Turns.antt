@@ -1,12 +1,13 @@
 -- Block after block.
-use Rattle.std.proofs.Common.{◌≡◌, ℕ, ℤ, zero, suc, ◌+◌, ◌-◌, ◌*◌, ◌<◌, ◌≤◌, max, Bool, cond, List, [], ◌∷◌, ◌++◌, map, length, take, drop, take_all, get_or, get_or-drop, length-take, take-add, drop-drop, length-drop, Some, Result, Ok, Err, false, refl, sym, ap, ◌∙◌, arith, append_assoc}
+use Rattle.std.proofs.Common.{◌≡◌, ℕ, ℤ, zero, suc, true, set, append-nil, ◌+◌, ◌-◌, ◌*◌, ◌<◌, ◌≤◌, max, Bool, cond, List, [], ◌∷◌, ◌++◌, map, length, take, drop, take_all, get_or, get_or-drop, length-take, take-add, drop-drop, length-drop, Some, Result, Ok, Err, false, refl, sym, ap, ◌∙◌, arith, append_assoc}
 use Rattle.std.specs.Prelude.{slice_range, slice_get, MatchResult, is_err}
 use Rattle.std.proofs.lemmas.Grind.{take_at_read}
+use Rattle.std.proofs.lemmas.List.{take_more_set, take-set}
 use Rattle.std.proofs.lemmas.Option.{slice_get_within, get_or_from_slice_get}
 use Rattle.nesl_values.specs.Tree.{boolean, int, character}
 use Rattle.nesl_eval_meaning.specs.Names.{Value}
-use Rattle.nesl_eval_meaning.specs.Out.{Out, value, then_out, beside, all_beside}
-use Rattle.nesl_eval_meaning.specs.Outcome.{counted, kept}
+use Rattle.nesl_eval_meaning.specs.Out.{Out, value, and_then, beside, all_beside}
+use Rattle.nesl_eval_meaning.specs.Outcome.{body_value, place_if_true}
 use Rattle.nesl_eval_meaning.proofs.Joins.{all_halved}
 use Rattle.nesl_eval_columns.specs.declared.column.Column.{Column}
 use Rattle.nesl_eval_columns.specs.declared.column.Column.TheVariants.{Ints, Bools, Chars}
@@ -68,7 +69,7 @@ no_block p places from fuel xs e =
     ap (λ n. all_beside p (take n (drop from places))) none ∙ value_is [] xs 0 (fuel - fuel) 0 0 (sym e) (omega arith) refl
 
 -- the bodies of a block
-pub block_bodies : {A : Type 0} (p : ℕ → Out Value) (n : ℕ) (places : List ℕ) (turn end : ℕ) (c : Column A) → turn < end → end ≤ length places → Comes p n (slice_range places turn end) (leaves_of c) → all_beside (λ i. then_out (p i) counted) (slice_range places turn end) ≡ value (leaves_of c) ((end - turn) * (n + 1)) n
+pub block_bodies : {A : Type 0} (p : ℕ → Out Value) (n : ℕ) (places : List ℕ) (turn end : ℕ) (c : Column A) → turn < end → end ≤ length places → Comes p n (slice_range places turn end) (leaves_of c) → all_beside (λ i. and_then (p i) body_value) (slice_range places turn end) ≡ value (leaves_of c) ((end - turn) * (n + 1)) n
 block_bodies p n places turn end c a b h =
     let len = len_range places turn end (omega arith) b in
     bodies_of p n (slice_range places turn end) (leaves_of c) h (leaves_small c)
@@ -86,7 +87,7 @@ chosen_take zero (i ∷ is) (b ∷ bs) h = absurd (omega arith)
 chosen_take (suc n) (i ∷ is) [] h = refl
 chosen_take (suc n) (i ∷ is) (b ∷ bs) h = ap (λ ks. cond b (i ∷ []) [] ++ ks) (chosen_take n is bs (omega arith))
 
-pub block_filters : (p : ℕ → Out Value) (n : ℕ) (places : List ℕ) (turn end : ℕ) (bs : List Bool) → turn < end → end ≤ length places → Comes p n (slice_range places turn end) (map boolean bs) → length bs ≡ end - turn → all_beside (λ i. then_out (p i) (kept i)) (slice_range places turn end) ≡ value (chosen (drop turn places) bs) ((end - turn) * n) n
+pub block_filters : (p : ℕ → Out Value) (n : ℕ) (places : List ℕ) (turn end : ℕ) (bs : List Bool) → turn < end → end ≤ length places → Comes p n (slice_range places turn end) (map boolean bs) → length bs ≡ end - turn → all_beside (λ i. and_then (p i) (place_if_true i)) (slice_range places turn end) ≡ value (chosen (drop turn places) bs) ((end - turn) * n) n
 block_filters p n places turn end bs a b h l =
     let len = len_range places turn end (omega arith) b in
     filters_of p n (slice_range places turn end) bs h
@@ -148,3 +149,14 @@ pub all_turns : (places : List ℕ) (bs : List Bool) (from turn to : ℕ) (new s
 all_turns places bs from turn to new start a b c l h =
     let whole : take (turn - from) bs ≡ bs = take_all (turn - from) bs (omega arith) in
     h ∙ ap (λ cs. start ++ chosen (take (turn - from) (drop from places)) cs) whole ∙ ap (λ ks. start ++ ks) (chosen_take (turn - from) (drop from places) bs (omega arith))
+
+-- one more place that is written, and counts if it is chosen
+chosen_more : (out : List ℕ) (count count' place : ℕ) (flag : Bool) → count < length out → count' ≡ count + cond flag 1 0 → take count' (set out count place) ≡ take count out ++ cond flag (place ∷ []) []
+chosen_more out count count' place true h e = ap (λ n. take n (set out count place)) e ∙ take_more_set out count place h
+chosen_more out count count' place false h e =
+    let same : count' ≡ count = omega (arith, e) in
+    ap (λ n. take n (set out count place)) same ∙ take-set out count place ∙ sym (append-nil (take count out))
+
+pub next_written : (places : List ℕ) (bs : List Bool) (from turn to place : ℕ) (out : List ℕ) (count count' : ℕ) → from ≤ turn → turn < to → to ≤ length places → length bs ≡ to - from → count < length out → slice_get places turn ≡ Some place → count' ≡ count + cond (get_or bs (turn - from) false) 1 0 → take count out ≡ chosen (take (turn - from) (drop from places)) (take (turn - from) bs) → take count' (set out count place) ≡ chosen (take (turn + 1 - from) (drop from places)) (take (turn + 1 - from) bs)
+next_written places bs from turn to place out count count' a b c l room h e o =
+    next_turn places bs from turn to place (take count out) (take count' (set out count place)) [] a b c l h (chosen_more out count count' place (get_or bs (turn - from) false) room e) o

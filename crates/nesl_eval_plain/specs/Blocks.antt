@@ -1,15 +1,10 @@
--- Blocks of places, and what is found at them.
+-- Blocks of places.
 use Rattle.std.specs.Prelude.{◌≡◌, ℕ, ◌≤◌, List, ◌∷◌, map, length, slice_range}
 use Rattle.nesl_values.specs.View.{tree_of}
-use Rattle.nesl_eval_meaning.specs.Names.{Value}
 use Rattle.nesl_eval_code.specs.Frames.{Frames, row}
-use Rattle.nesl_eval_meaning.specs.Out.{Out}
 use Rattle.nesl_eval_nodes.specs.Sides.{places_of}
 use Rattle.nesl_eval_nodes.specs.Scopes.{frames_of}
-use Rattle.nesl_eval_columns.specs.Columns.{leaves_of}
 use Rattle.nesl_eval_plain.specs.declared.block.Block.{Block}
-use Rattle.nesl_eval_plain.specs.declared.found.Found.{Found}
-use Rattle.nesl_eval_plain.specs.Comes.{Comes}
 
 -- the places
 abbrev pub block_places : {A T : Type 0} → Block A T → List ℕ
@@ -22,10 +17,6 @@ IsWithin b = (b.from ≤ b.to) × (b.to ≤ length (places_of b.places))
 -- the frames at a place
 abbrev pub frames_at : {A T : Type 0} → Block A T → ℕ → Frames
 frames_at b i = row i (map tree_of b.values.now) ∷ frames_of b.scope.now
-
--- what was found at these places
-abbrev pub Finds : {A : Type 0} → (ℕ → Out Value) → List ℕ → Found A → Type 0
-Finds p is r = Comes p r.nodes is (leaves_of r.column)
 
 -- the same apply-to-each at the places in these turns
 abbrev pub IsPartOf : {A T : Type 0} → Block A T → Block A T → ℕ → ℕ → Type 0

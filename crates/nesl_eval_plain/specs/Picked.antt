@@ -3,7 +3,7 @@ use Rattle.std.specs.Prelude.{◌≡◌, ℤ, pos, negsuc, List, Option, None, s
 use Rattle.nesl_values.specs.Tree.{size, pair}
 use Rattle.nesl_seqs_base.specs.declared.seq_fn.SeqFn.TheVariants.{ElementAt}
 use Rattle.nesl_seqs_base.specs.Outcome.{gives}
-use Rattle.nesl_seqs_base.specs.Meaning.{meaning}
+use Rattle.nesl_seqs_base.specs.Meaning.{outcome_of}
 use Rattle.nesl_eval_meaning.specs.Names.{Value}
 
 -- the item before which there are so many
@@ -13,4 +13,4 @@ at_number xs (negsuc n) = None
 
 -- the third is the element of the first at the place that the second names, and it is a leaf
 abbrev pub Picks : Value → Value → Value → Type 0
-Picks v x z = (meaning ElementAt (pair v x) ≡ gives z) × (size z ≡ 1)
+Picks v x z = (outcome_of ElementAt (pair v x) ≡ gives z) × (size z ≡ 1)

@@ -1,5 +1,5 @@
 // What plain code comes to.
-ghost use Rattle.std.specs.Prelude.{◌≡◌, ◌+◌, IfSome};
+ghost use Rattle.std.specs.Prelude.{◌≡◌, ◌+◌, [], ◌∷◌, ◌++◌, IfSome};
 
 use nesl_eval_columns::Column;
 use std::alloc::Allocator;
@@ -16,4 +16,14 @@ pub fn sum(nodes: u64, more: u64) -> Option<u64>
     ensures { IfSome result (λ n. n ≡ nodes + more) }
 {
     nodes.checked_add(more)
+}
+
+// Adds a column, if there is room.
+pub fn keep<A: Allocator>(columns: &mut Vec<Column<A>, A>, column: Column<A>) -> Option<()>
+    ensures { IfSome result (λ u. columns.new.items ≡ columns.old.items ++ column ∷ []) }
+{
+    match columns.push(column) {
+        Ok(()) => Some(()),
+        Err(_) => None,
+    }
 }

@@ -3,11 +3,13 @@
 #![tactic(auto)]
 
 mod block;
+mod constants;
 mod found;
 mod names;
 mod outer;
 mod parts;
 mod plain;
+mod scopes;
 mod whole;
 
 pub use block::Block;

@@ -1,18 +1,22 @@
-// Names at the places of a block.
-ghost use Rattle.std.specs.Prelude.{◌≡◌, ◌≤◌, Some, IfSome, IsTrue, length, slice_get, slice_range};
+// Names at the turns of a block.
+ghost use Rattle.std.specs.Prelude.{◌≡◌, ◌≤◌, Some, IfSome, IsSomeAnd, IsTrue, length, slice_get, slice_range};
 ghost use Rattle.nesl_eval_code.specs.Frames.{local_at, place_in};
 ghost use Rattle.nesl_eval_meaning.specs.Out.{given, value};
 ghost use Rattle.nesl_eval_code.specs.Run.{run_top, slot_at};
 ghost use Rattle.nesl_eval_nodes.specs.Sides.{places_of};
 ghost use Rattle.nesl_eval_columns.specs.Columns.{leaves_of};
 ghost use Rattle.nesl_eval_columns.specs.Each.{EachTwo};
-ghost use Rattle.nesl_eval_plain.specs.Blocks.{block_places, IsWithin, frames_at, Finds};
+ghost use Rattle.nesl_eval_plain.specs.Blocks.{block_places, IsWithin, frames_at};
+ghost use Rattle.nesl_eval_plain.specs.Frames.{frames_in, Finds};
 
-use crate::block::{Block, same};
+use crate::block::Block;
+use crate::constants::same;
 use crate::found::Found;
+use crate::outer::at_top;
+use crate::scopes::{Scopes, count};
 use nesl_eval_code::Step;
 use nesl_eval_columns::{Column, each_of};
-use nesl_eval_nodes::held::{Held, Tops};
+use nesl_eval_nodes::held::Tops;
 use nesl_eval_nodes::places::Places;
 use nesl_eval_nodes::scope::lent_local;
 use nesl_values::{Element, Items};
@@ -105,17 +109,18 @@ fn newest<'x, A: Allocator + Copy, T>(block: &'x Block<'x, A, T>, index: usize) 
     }
 }
 
-// A local name: an element of a sequence that lies packed, or one leaf at all places.
-pub fn local<'x, A: Allocator + Copy, T>(
+// A name in the rows: an element of a sequence that lies packed, or one leaf at all turns.
+fn in_rows<'x, A: Allocator + Copy, T>(
     block: &'x Block<'x, A, T>,
+    scopes: &Scopes<'_, A>,
     up: usize,
     index: usize,
     steps: &[Step],
 ) -> Option<Found<A>>
     requires { IsWithin block.now }
-    ensures { IfSome result
-        (Finds (λ i. given (local_at (frames_at block.now i) up index steps.now) (λ v. value v 0 0))
-        (block_places block.now)) }
+    ensures { scopes.now ≡ Scopes.Rows → IfSome result
+        (Finds (λ fs. given (local_at fs up index steps.now) (λ v. value v 0 0))
+        (frames_in block.now scopes.now)) }
 {
     if up == 0 {
         if !steps.is_empty() {
@@ -125,20 +130,65 @@ pub fn local<'x, A: Allocator + Copy, T>(
         return Some(Found { column, nodes: 0 });
     }
     let element = lent_local(block.scope, up - 1, index, steps)?;
-    same(block, element)
+    same(block, scopes, element)
 }
 
-// A top-level variable.
+// A binding of a `let`, at so many turns at the least.
+fn bound<A: Allocator, B: Allocator>(
+    columns: &[Column<A>],
+    index: usize,
+    least: usize,
+    alloc: B,
+) -> Option<Column<B>>
+    ensures { IfSome result (λ c. IsSomeAnd (slice_get columns.now index) (λ d.
+        (least ≤ length (leaves_of d)) × (leaves_of c ≡ leaves_of d))) }
+{
+    let column = columns.get(index)?;
+    if column.len() < least {
+        return None;
+    }
+    column.copy_into(alloc)
+}
+
+/// A local name: what the rows or the bindings have for it.
+pub fn local<'x, A: Allocator + Copy, T>(
+    block: &'x Block<'x, A, T>,
+    scopes: &Scopes<'_, A>,
+    up: usize,
+    index: usize,
+    steps: &[Step],
+) -> Option<Found<A>>
+    requires { IsWithin block.now }
+    ensures { IfSome result
+        (Finds (λ fs. given (local_at fs up index steps.now) (λ v. value v 0 0))
+        (frames_in block.now scopes.now)) }
+{
+    match scopes {
+        Scopes::Rows => in_rows(block, scopes, up, index, steps),
+        Scopes::Let(columns, rest) => {
+            if up > 0 {
+                return local(block, *rest, up - 1, index, steps);
+            }
+            if !steps.is_empty() {
+                return None;
+            }
+            let least = count(block, *rest);
+            let column = bound(*columns, index, least, *block.alloc)?;
+            Some(Found { column, nodes: 0 })
+        }
+    }
+}
+
+/// A top-level variable.
 pub fn top<'x, A: Allocator + Copy, T: Tops<A>>(
     block: &'x Block<'x, A, T>,
+    scopes: &Scopes<'_, A>,
     place: usize,
 ) -> Option<Found<A>>
     requires { IsWithin block.now }
     ensures { IfSome result
-        (Finds (λ i. run_top (slot_at (T.table block.now.tops.now) place)) (block_places block.now)) }
+        (Finds (λ fs. run_top (slot_at (T.table block.now.tops.now) place)) (frames_in block.now scopes.now)) }
 {
-    match block.tops.held(place) {
-        Ok(Held::Variable(value)) => same(block, Element::Node(value)),
-        _ => None,
-    }
+    let value = at_top(block, place)?;
+    same(block, scopes, Element::Node(value))
 }

@@ -1,37 +1,39 @@
-//! Sequences that are the same at all places of a block, as a name outside of the apply-to-each stands for one.
-ghost use Rattle.std.specs.Prelude.{◌≡◌, ◌-◌, ℕ, Some, IfSome, IsTrue};
+//! Sequences that are the same at all turns of a block, as a name outside of the apply-to-each stands for one.
+ghost use Rattle.std.specs.Prelude.{◌≡◌, Some, IfSome, IsTrue};
 ghost use Rattle.nesl_lex.specs.declared.token.Span.{Span};
 ghost use Rattle.nesl_values.specs.View.{tree_of};
-ghost use Rattle.nesl_eval_meaning.specs.Out.{given, then_out, value};
-ghost use Rattle.nesl_eval_meaning.specs.Outcome.{applied};
+ghost use Rattle.nesl_eval_meaning.specs.Out.{given, and_then, value};
+ghost use Rattle.nesl_eval_meaning.specs.Outcome.{apply_builtin};
 ghost use Rattle.nesl_eval_code.specs.Frames.{local_at};
 ghost use Rattle.nesl_eval_code.specs.Run.{Runs, run, run_node, run_top, slot_at};
 ghost use Rattle.nesl_eval_columns.specs.Columns.{leaves_of};
 ghost use Rattle.nesl_eval_columns.specs.Each.{EachTwo};
-ghost use Rattle.nesl_eval_plain.specs.Blocks.{block_places, IsWithin, frames_at, Finds};
+ghost use Rattle.nesl_eval_plain.specs.Blocks.{IsWithin};
+ghost use Rattle.nesl_eval_plain.specs.Frames.{frames_in, Finds, AllAre};
 ghost use Rattle.nesl_eval_plain.specs.Picked.{at_number, Picks};
 
-use crate::block::{Block, number};
+use crate::block::Block;
+use crate::constants::number;
 use crate::found::Found;
+use crate::scopes::Scopes;
 use nesl_builtins::Builtin;
 use nesl_eval_code::{Code, Step};
 use nesl_eval_columns::{Column, each_of};
 use nesl_eval_nodes::held::{Held, Tops};
 use nesl_eval_nodes::scope::lent_local;
-use nesl_lex::token::Span;
 use nesl_seqs_base::seq_fn::SeqFn;
 use nesl_values::{Element, Items, Value};
 use std::alloc::Allocator;
 
-// The value of a local name that stands further up than the row, if it is no packed element.
-fn further_up<'x, A: Allocator + Copy, T>(
+// The value of a local name that stands further up than the rows, if it is no packed element.
+fn above_rows<'x, A: Allocator + Copy, T>(
     block: &'x Block<'x, A, T>,
     up: usize,
     index: usize,
     steps: &[Step],
 ) -> Option<&'x Value<A>>
-    ensures { IfSome result (λ v. (i : ℕ) →
-        given (local_at (frames_at block.now i) up index steps.now) (λ v. value v 0 0) ≡ value (tree_of v.now) 0 0) }
+    ensures { IfSome result (λ v. AllAre (λ fs. given (local_at fs up index steps.now) (λ v. value v 0 0))
+        (frames_in block.now Scopes.Rows) (value (tree_of v.now) 0 0)) }
 {
     if up == 0 {
         return None;
@@ -42,8 +44,30 @@ fn further_up<'x, A: Allocator + Copy, T>(
     }
 }
 
-// The value of a top-level variable.
-fn at_top<'x, A: Allocator + Copy, T: Tops<A>>(
+// The value of a local name that stands further up than the rows and all bindings.
+fn further_up<'x, A: Allocator + Copy, T>(
+    block: &'x Block<'x, A, T>,
+    scopes: &Scopes<'_, A>,
+    up: usize,
+    index: usize,
+    steps: &[Step],
+) -> Option<&'x Value<A>>
+    ensures { IfSome result (λ v. AllAre (λ fs. given (local_at fs up index steps.now) (λ v. value v 0 0))
+        (frames_in block.now scopes.now) (value (tree_of v.now) 0 0)) }
+{
+    match scopes {
+        Scopes::Rows => above_rows(block, up, index, steps),
+        Scopes::Let(_, rest) => {
+            if up == 0 {
+                return None;
+            }
+            further_up(block, *rest, up - 1, index, steps)
+        }
+    }
+}
+
+/// The value of a top-level variable.
+pub fn at_top<'x, A: Allocator + Copy, T: Tops<A>>(
     block: &'x Block<'x, A, T>,
     place: usize,
 ) -> Option<&'x Value<A>>
@@ -55,13 +79,14 @@ fn at_top<'x, A: Allocator + Copy, T: Tops<A>>(
     }
 }
 
-// The value that a node has at all places, if it is a name outside of the row.
+// The value that a node has at all turns, if it is a name outside of the rows and bindings.
 fn named<'x, A: Allocator + Copy, T: Tops<A>>(
     block: &'x Block<'x, A, T>,
+    scopes: &Scopes<'_, A>,
     code: &Code,
 ) -> Option<&'x Value<A>>
-    ensures { let tb = T.table block.now.tops.now in IfSome result
-        (λ v. (f : Runs) (i : ℕ) → run_node f tb (frames_at block.now i) code.now ≡ value (tree_of v.now) 0 0) }
+    ensures { let tb = T.table block.now.tops.now in IfSome result (λ v. (f : Runs)
+        → AllAre (λ fs. run_node f tb fs code.now) (frames_in block.now scopes.now) (value (tree_of v.now) 0 0)) }
 {
     match code {
         Code::Local {
@@ -69,25 +94,26 @@ fn named<'x, A: Allocator + Copy, T: Tops<A>>(
             index,
             steps,
             ..
-        } => further_up(block, *up, *index, steps),
+        } => further_up(block, scopes, *up, *index, steps),
         Code::Top { place, .. } => at_top(block, *place),
         _ => None,
     }
 }
 
-/// The value that code has at all places, if it is a name outside of the row.
+/// The value that code has at all turns, if it is a name outside of the rows and bindings.
 pub fn outer_value<'x, A: Allocator + Copy, T: Tops<A>>(
     block: &'x Block<'x, A, T>,
+    scopes: &Scopes<'_, A>,
     code: &Code,
     levels: u32,
 ) -> Option<&'x Value<A>>
-    ensures { let tb = T.table block.now.tops.now in IfSome result
-        (λ v. (i : ℕ) → run levels tb (frames_at block.now i) code.now ≡ value (tree_of v.now) 1 1) }
+    ensures { let tb = T.table block.now.tops.now in IfSome result (λ v.
+        AllAre (λ fs. run levels tb fs code.now) (frames_in block.now scopes.now) (value (tree_of v.now) 1 1)) }
 {
     if levels == 0 {
         return None;
     }
-    named(block, code)
+    named(block, scopes, code)
 }
 
 // The item before which there are so many, if there is one.
@@ -137,25 +163,24 @@ pub fn picked<A: Allocator, B: Allocator>(
     }
 }
 
-/// The length of a sequence that is the same at all places.
+/// The length of a sequence that is the same at all turns.
 pub fn length_of<'x, A: Allocator + Copy, T: Tops<A>>(
     block: &'x Block<'x, A, T>,
+    scopes: &Scopes<'_, A>,
     function: SeqFn,
     argument: &Code,
-    span: &Span,
     levels: u32,
 ) -> Option<Found<A>>
     requires { IsWithin block.now }
-    ensures { let f = run levels (T.table block.now.tops.now) in IfSome result
-        (Finds
-        (λ i. then_out (f (frames_at block.now i) argument.now) (applied span.now (Builtin.OfSequences function)))
-        (block_places block.now)) }
+    ensures { let f = run levels (T.table block.now.tops.now) in (s : Span) → IfSome result
+        (Finds (λ fs. and_then (f fs argument.now) (apply_builtin s (Builtin.OfSequences function)))
+        (frames_in block.now scopes.now)) }
 {
     match function {
         SeqFn::Length => {
-            let sequence = outer_value(block, argument, levels)?;
+            let sequence = outer_value(block, scopes, argument, levels)?;
             let _len = sequence.sequence_len()?;
-            let Found { column, .. } = number(block, sequence.items().len() as i64)?;
+            let Found { column, .. } = number(block, scopes, sequence.items().len() as i64)?;
             Some(Found { column, nodes: 1 })
         }
         _ => None,

@@ -1,20 +1,23 @@
-// Plain code at the places of a block.
-ghost use Rattle.std.specs.Prelude.{◌≡◌, ◌+◌, ◌*◌, IfSome};
+// Plain code at the turns of a block.
+ghost use Rattle.std.specs.Prelude.{◌≡◌, ◌+◌, [], IfSome};
+ghost use Rattle.nesl_lex.specs.declared.token.Span.{Span};
 ghost use Rattle.nesl_values.specs.Tree.{pair};
-ghost use Rattle.nesl_eval_meaning.specs.Out.{then_out};
-ghost use Rattle.nesl_eval_meaning.specs.Outcome.{applied};
-ghost use Rattle.nesl_eval_code.specs.Run.{run, run_node, run_two};
-ghost use Rattle.nesl_eval_plain.specs.Blocks.{block_places, IsWithin, frames_at, Finds};
+ghost use Rattle.nesl_eval_meaning.specs.Out.{and_then};
+ghost use Rattle.nesl_eval_meaning.specs.Outcome.{apply_builtin};
+ghost use Rattle.nesl_eval_code.specs.Run.{run, run_node, run_two, run_let};
+ghost use Rattle.nesl_eval_plain.specs.Blocks.{IsWithin};
+ghost use Rattle.nesl_eval_plain.specs.Frames.{frames_in, Finds};
 
-use crate::block::{Block, character, number, truth};
-use crate::found::{Found, sum};
+use crate::block::Block;
+use crate::constants::{character, number, truth};
+use crate::found::{Found, keep, sum};
 use crate::names::{local, top};
 use crate::outer::{length_of, outer_value, picked};
+use crate::scopes::Scopes;
 use nesl_builtins::Builtin;
 use nesl_eval_code::Code;
 use nesl_eval_columns::{of_one, of_two};
 use nesl_eval_nodes::held::Tops;
-use nesl_lex::token::Span;
 use nesl_scalars::Binary;
 use nesl_seqs_base::seq_fn::SeqFn;
 use std::alloc::Allocator;
@@ -30,21 +33,22 @@ fn entered<A: Allocator>(found: Found<A>) -> Option<Found<A>>
     })
 }
 
-/// What code comes to, if it is plain and has a value at each place.
+/// What code comes to, if it is plain and has a value at each turn.
 #[cycle(plain)]
 pub fn column<'x, A: Allocator + Copy, T: Tops<A>>(
     block: &'x Block<'x, A, T>,
+    scopes: &Scopes<'_, A>,
     code: &Code,
     levels: u32,
 ) -> Option<Found<A>>
     requires { IsWithin block.now }
     ensures { let tb = T.table block.now.tops.now in IfSome result
-        (Finds (λ i. run levels tb (frames_at block.now i) code.now) (block_places block.now)) }
+        (Finds (λ fs. run levels tb fs code.now) (frames_in block.now scopes.now)) }
 {
     if levels == 0 {
         return None;
     }
-    let found = node(block, code, levels - 1)?;
+    let found = node(block, scopes, code, levels - 1)?;
     entered(found)
 }
 
@@ -52,80 +56,115 @@ pub fn column<'x, A: Allocator + Copy, T: Tops<A>>(
 #[cycle(plain)]
 fn node<'x, A: Allocator + Copy, T: Tops<A>>(
     block: &'x Block<'x, A, T>,
+    scopes: &Scopes<'_, A>,
     code: &Code,
     levels: u32,
 ) -> Option<Found<A>>
     requires { IsWithin block.now }
     ensures { let tb = T.table block.now.tops.now in IfSome result
-        (Finds (λ i. run_node (run levels tb) tb (frames_at block.now i) code.now) (block_places block.now)) }
+        (Finds (λ fs. run_node (run levels tb) tb fs code.now) (frames_in block.now scopes.now)) }
 {
     match code {
-        Code::Number { value, .. } => number(block, *value),
-        Code::Truth { value, .. } => truth(block, *value),
-        Code::Character { value, .. } => character(block, *value),
+        Code::Number { value, .. } => number(block, scopes, *value),
+        Code::Truth { value, .. } => truth(block, scopes, *value),
+        Code::Character { value, .. } => character(block, scopes, *value),
         Code::Local {
             up,
             index,
             steps,
             ..
-        } => local(block, *up, *index, steps),
-        Code::Top { place, .. } => top(block, *place),
+        } => local(block, scopes, *up, *index, steps),
+        Code::Top { place, .. } => top(block, scopes, *place),
         Code::Apply {
-            span,
             function,
             argument,
-        } => apply(block, *function, argument, span, levels),
+            ..
+        } => apply(block, scopes, *function, argument, levels),
         Code::ApplyTwo {
-            span,
             function,
             left,
             right,
-        } => apply_two(block, *function, left, right, span, levels),
+            ..
+        } => apply_two(block, scopes, *function, left, right, levels),
+        Code::Let { bindings, body, .. } => in_let(block, scopes, bindings, body, levels),
         _ => None,
     }
+}
+
+// The body of a `let`, after its bindings, of which each sees those before it.
+#[cycle(plain)]
+fn in_let<'x, A: Allocator + Copy, T: Tops<A>>(
+    block: &'x Block<'x, A, T>,
+    scopes: &Scopes<'_, A>,
+    bindings: &[Code],
+    body: &Code,
+    levels: u32,
+) -> Option<Found<A>>
+    requires { IsWithin block.now }
+    ensures { let f = run levels (T.table block.now.tops.now) in IfSome result
+        (Finds (λ fs. run_let f fs [] bindings.now body.now) (frames_in block.now scopes.now)) }
+{
+    let mut nodes = 0;
+    let mut columns = Vec::new(*block.alloc);
+    for binding in bindings {
+        let bound = {
+            let inner = Scopes::Let(&*columns, &*scopes);
+            column(block, &inner, binding, levels)?
+        };
+        nodes = sum(nodes, bound.nodes)?;
+        keep(&mut columns, bound.column)?;
+    }
+    let inner = Scopes::Let(&*columns, &*scopes);
+    let last = column(block, &inner, body, levels)?;
+    let all = sum(nodes, last.nodes)?;
+    Some(Found {
+        column: last.column,
+        nodes: all,
+    })
 }
 
 // A function of the two parts that an operator stands between.
 #[cycle(plain)]
 fn apply_two<'x, A: Allocator + Copy, T: Tops<A>>(
     block: &'x Block<'x, A, T>,
+    scopes: &Scopes<'_, A>,
     function: Builtin,
     left: &Code,
     right: &Code,
-    span: &Span,
     levels: u32,
 ) -> Option<Found<A>>
     requires { IsWithin block.now }
-    ensures { let f = run levels (T.table block.now.tops.now) in IfSome result
-        (Finds (λ i. run_two f (frames_at block.now i) left.now right.now
-        (λ x y. applied span.now function (pair x y))) (block_places block.now)) }
+    ensures { let f = run levels (T.table block.now.tops.now) in (s : Span) → IfSome result
+        (Finds (λ fs. run_two f fs left.now right.now (λ x y. apply_builtin s function (pair x y)))
+        (frames_in block.now scopes.now)) }
 {
     match function {
-        Builtin::OfTwo(function) => two(block, function, left, right, span, levels),
-        Builtin::OfSequences(function) => element(block, function, left, right, span, levels),
+        Builtin::OfTwo(function) => two(block, scopes, function, left, right, levels),
+        Builtin::OfSequences(function) => element(block, scopes, function, left, right, levels),
         Builtin::OfOne(_) => None,
     }
 }
 
-// An element of a sequence that is the same at all places, or another function of two, which is not plain.
+// An element of a sequence that is the same at all turns, or another function of two, which is not plain.
 #[cycle(plain)]
 fn element<'x, A: Allocator + Copy, T: Tops<A>>(
     block: &'x Block<'x, A, T>,
+    scopes: &Scopes<'_, A>,
     function: SeqFn,
     left: &Code,
     right: &Code,
-    span: &Span,
     levels: u32,
 ) -> Option<Found<A>>
     requires { IsWithin block.now }
-    ensures { let f = run levels (T.table block.now.tops.now) in IfSome result
-        (Finds (λ i. run_two f (frames_at block.now i) left.now right.now
-        (λ x y. applied span.now (Builtin.OfSequences function) (pair x y))) (block_places block.now)) }
+    ensures { let f = run levels (T.table block.now.tops.now) in (s : Span) → IfSome result
+        (Finds (λ fs. run_two f fs left.now right.now
+        (λ x y. apply_builtin s (Builtin.OfSequences function) (pair x y)))
+        (frames_in block.now scopes.now)) }
 {
     match function {
         SeqFn::ElementAt => {
-            let sequence = outer_value(block, left, levels)?;
-            let places = column(block, right, levels)?;
+            let sequence = outer_value(block, scopes, left, levels)?;
+            let places = column(block, scopes, right, levels)?;
             let column = picked(sequence, &places.column, *block.alloc)?;
             let nodes = sum(places.nodes, 1)?;
             Some(Found { column, nodes })
@@ -138,19 +177,19 @@ fn element<'x, A: Allocator + Copy, T: Tops<A>>(
 #[cycle(plain)]
 fn two<'x, A: Allocator + Copy, T: Tops<A>>(
     block: &'x Block<'x, A, T>,
+    scopes: &Scopes<'_, A>,
     function: Binary,
     left: &Code,
     right: &Code,
-    span: &Span,
     levels: u32,
 ) -> Option<Found<A>>
     requires { IsWithin block.now }
-    ensures { let f = run levels (T.table block.now.tops.now) in IfSome result
-        (Finds (λ i. run_two f (frames_at block.now i) left.now right.now
-        (λ x y. applied span.now (Builtin.OfTwo function) (pair x y))) (block_places block.now)) }
+    ensures { let f = run levels (T.table block.now.tops.now) in (s : Span) → IfSome result
+        (Finds (λ fs. run_two f fs left.now right.now (λ x y. apply_builtin s (Builtin.OfTwo function) (pair x y)))
+        (frames_in block.now scopes.now)) }
 {
-    let one = column(block, left, levels)?;
-    let other = column(block, right, levels)?;
+    let one = column(block, scopes, left, levels)?;
+    let other = column(block, scopes, right, levels)?;
     let column = of_two(function, &one.column, &other.column, *block.alloc)?;
     let nodes = sum(one.nodes, other.nodes)?;
     Some(Found { column, nodes })
@@ -160,19 +199,18 @@ fn two<'x, A: Allocator + Copy, T: Tops<A>>(
 #[cycle(plain)]
 fn apply<'x, A: Allocator + Copy, T: Tops<A>>(
     block: &'x Block<'x, A, T>,
+    scopes: &Scopes<'_, A>,
     function: Builtin,
     argument: &Code,
-    span: &Span,
     levels: u32,
 ) -> Option<Found<A>>
     requires { IsWithin block.now }
-    ensures { let f = run levels (T.table block.now.tops.now) in IfSome result
-        (Finds (λ i. then_out (f (frames_at block.now i) argument.now) (applied span.now function))
-        (block_places block.now)) }
+    ensures { let f = run levels (T.table block.now.tops.now) in (s : Span) → IfSome result
+        (Finds (λ fs. and_then (f fs argument.now) (apply_builtin s function)) (frames_in block.now scopes.now)) }
 {
     match function {
         Builtin::OfOne(function) => {
-            let one = column(block, argument, levels)?;
+            let one = column(block, scopes, argument, levels)?;
             let column = of_one(function, &one.column, *block.alloc)?;
             let nodes = one.nodes;
             Some(Found { column, nodes })
@@ -181,10 +219,10 @@ fn apply<'x, A: Allocator + Copy, T: Tops<A>>(
             if levels == 0 {
                 return None;
             }
-            let found = of_pair(block, function, argument, span, levels - 1)?;
+            let found = of_pair(block, scopes, function, argument, levels - 1)?;
             entered(found)
         }
-        Builtin::OfSequences(function) => length_of(block, function, argument, span, levels),
+        Builtin::OfSequences(function) => length_of(block, scopes, function, argument, levels),
     }
 }
 
@@ -192,20 +230,20 @@ fn apply<'x, A: Allocator + Copy, T: Tops<A>>(
 #[cycle(plain)]
 fn of_pair<'x, A: Allocator + Copy, T: Tops<A>>(
     block: &'x Block<'x, A, T>,
+    scopes: &Scopes<'_, A>,
     function: Binary,
     argument: &Code,
-    span: &Span,
     levels: u32,
 ) -> Option<Found<A>>
     requires { IsWithin block.now }
-    ensures { let tb = T.table block.now.tops.now in IfSome result
-        (Finds (λ i. then_out (run_node (run levels tb) tb (frames_at block.now i) argument.now)
-        (applied span.now (Builtin.OfTwo function))) (block_places block.now)) }
+    ensures { let tb = T.table block.now.tops.now in (s : Span) → IfSome result
+        (Finds (λ fs. and_then (run_node (run levels tb) tb fs argument.now) (apply_builtin s (Builtin.OfTwo function)))
+        (frames_in block.now scopes.now)) }
 {
     match argument {
         Code::Pair { left, right, .. } => {
-            let one = column(block, left, levels)?;
-            let other = column(block, right, levels)?;
+            let one = column(block, scopes, left, levels)?;
+            let other = column(block, scopes, right, levels)?;
             let column = of_two(function, &one.column, &other.column, *block.alloc)?;
             let nodes = sum(one.nodes, other.nodes)?;
             Some(Found { column, nodes })

@@ -4,10 +4,10 @@ use nesl_builtins::Builtin;
 use nesl_eval_code::Code;
 use nesl_seqs_base::seq_fn::SeqFn;
 
-/// Whether code is made of constants, names, functions of scalars, and elements and lengths of names outside of the
-/// row. What a name stands for is not looked at.
+/// Whether code is made of constants, names, functions of scalars, elements and lengths of names outside of the rows,
+/// and `let`s of these, with so many frames of `let`s below the row. What a name stands for is not looked at.
 #[cycle(plainness)]
-pub fn is_plain(code: &Code, levels: u32) -> bool {
+pub fn is_plain(code: &Code, frames: usize, levels: u32) -> bool {
     if levels == 0 {
         return false;
     }
@@ -16,37 +16,60 @@ pub fn is_plain(code: &Code, levels: u32) -> bool {
         Code::Number { .. } => true,
         Code::Truth { .. } => true,
         Code::Character { .. } => true,
-        Code::Local { up, steps, .. } => *up > 0 || steps.is_empty(),
+        Code::Local { up, steps, .. } => *up > frames || steps.is_empty(),
         Code::Top { .. } => true,
         Code::Apply {
             function,
             argument,
             ..
-        } => match function {
-            Builtin::OfOne(_) => is_plain(argument, below),
-            Builtin::OfTwo(_) => is_plain_pair(argument, below),
-            Builtin::OfSequences(function) => *function == SeqFn::Length && is_outer(argument),
-        },
+        } => is_plain_call(*function, argument, frames, below),
         Code::ApplyTwo {
             function,
             left,
             right,
             ..
         } => match function {
-            Builtin::OfTwo(_) => is_plain(left, below) && is_plain(right, below),
+            Builtin::OfTwo(_) => is_plain(left, frames, below) && is_plain(right, frames, below),
             Builtin::OfSequences(function) => {
-                *function == SeqFn::ElementAt && is_outer(left) && is_plain(right, below)
+                *function == SeqFn::ElementAt
+                    && is_outer(left, frames)
+                    && is_plain(right, frames, below)
             }
             Builtin::OfOne(_) => false,
         },
+        Code::Let { bindings, body, .. } => {
+            frames < usize::MAX
+                && are_plain(bindings, frames + 1, below)
+                && is_plain(body, frames + 1, below)
+        }
         _ => false,
     }
 }
 
-// Whether code is a name outside of the row.
-fn is_outer(code: &Code) -> bool {
+// Whether a call of a function of one argument is plain.
+#[cycle(plainness)]
+fn is_plain_call(function: Builtin, argument: &Code, frames: usize, levels: u32) -> bool {
+    match function {
+        Builtin::OfOne(_) => is_plain(argument, frames, levels),
+        Builtin::OfTwo(_) => is_plain_pair(argument, frames, levels),
+        Builtin::OfSequences(function) => function == SeqFn::Length && is_outer(argument, frames),
+    }
+}
+
+#[cycle(plainness)]
+fn are_plain(codes: &[Code], frames: usize, levels: u32) -> bool {
+    for code in codes {
+        if !is_plain(code, frames, levels) {
+            return false;
+        }
+    }
+    true
+}
+
+// Whether code is a name outside of the rows and bindings.
+fn is_outer(code: &Code, frames: usize) -> bool {
     match code {
-        Code::Local { up, .. } => *up > 0,
+        Code::Local { up, .. } => *up > frames,
         Code::Top { .. } => true,
         _ => false,
     }
@@ -54,12 +77,13 @@ fn is_outer(code: &Code) -> bool {
 
 // Whether code is a written pair of plain parts.
 #[cycle(plainness)]
-fn is_plain_pair(code: &Code, levels: u32) -> bool {
+fn is_plain_pair(code: &Code, frames: usize, levels: u32) -> bool {
     if levels == 0 {
         return false;
     }
     match code {
-        Code::Pair { left, right, .. } => is_plain(left, levels - 1) && is_plain(right, levels - 1),
+        Code::Pair { left, right, .. } => is_plain(left, frames, levels - 1)
+            && is_plain(right, frames, levels - 1),
         _ => false,
     }
 }

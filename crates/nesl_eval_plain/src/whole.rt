@@ -1,6 +1,6 @@
 //! An apply-to-each whose body or filter is plain, block by block.
 ghost use Rattle.std.specs.Prelude.{◌≡◌, ◌+◌, ◌*◌, ◌-◌, ◌<◌, ◌≤◌, ◌^◌, ◌++◌, Ok, IfSome, MatchOption, IsTrue};
-ghost use Rattle.std.specs.Prelude.{map, length, drop};
+ghost use Rattle.std.specs.Prelude.{cond, map, length, take, drop};
 ghost use Rattle.nesl_values.specs.Tree.{boolean};
 ghost use Rattle.nesl_values.specs.View.{tree_of};
 ghost use Rattle.nesl_values_builder.specs.Elements.{elements_of};
@@ -17,11 +17,11 @@ use crate::block::Block;
 use crate::found::{Found, sum};
 use crate::parts::column;
 use crate::plain::is_plain;
+use crate::scopes::Scopes;
 use nesl_eval_code::Code;
 use nesl_eval_columns::Column;
 use nesl_eval_nodes::held::Tops;
 use nesl_eval_nodes::meter::Meter;
-use nesl_eval_nodes::nodes::keep_if;
 use nesl_eval_nodes::places::Places;
 use nesl_values_builder::SequenceBuilder;
 use std::alloc::Allocator;
@@ -116,7 +116,10 @@ fn values_within<'x, A: Allocator + Copy, T: Tops<A>>(
     while turn < whole.to {
         let end = end_of(turn, whole.to);
         let block = part(whole, turn, end);
-        let Found { column, nodes } = column(&block, body, levels)?;
+        let Found { column, nodes } = column(&block, &Scopes::Rows, body, levels)?;
+        if column.len() != end - turn {
+            return None;
+        }
         let each = sum(nodes, 1)?;
         if !suffices(left, whole.to - turn, each) {
             return None;
@@ -152,7 +155,7 @@ pub fn bodies_in_columns<'x, A: Allocator + Copy, T: Tops<A>>(
         (run_bodies f (frames_of w.scope.now) (map tree_of w.values.now) body.now (block_places w))) }
     ensures spent { meter.new.fuel + meter.new.depth ≤ meter.old.fuel + meter.old.depth }
 {
-    if whole.to - whole.from < LEAST || !is_plain(body, levels) {
+    if whole.to - whole.from < LEAST || !is_plain(body, 0, levels) {
         return None;
     }
     let Made {
@@ -175,25 +178,60 @@ fn truths<A: Allocator>(column: Column<A>) -> Option<Vec<bool, A>>
     }
 }
 
+#[inline(always)]
+fn one_if(flag: bool) -> usize
+    ensures is { result ≡ cond flag 1 0 }
+    ensures small { result ≤ 1 }
+{
+    if flag { 1 } else { 0 }
+}
+
+// Writes the places from one turn to another at which the filter holds, one behind the other, and tells how many there
+// are. Each place is written, and counts only where the filter holds: there is no branch.
+fn write_chosen(
+    out: &mut [usize],
+    places: Places<'_>,
+    from: usize,
+    to: usize,
+    flags: &[bool],
+) -> usize
+    requires turns { (from ≤ to) × (to ≤ length (places_of places)) }
+    requires len { length flags.now ≡ to - from }
+    requires room { length out.old ≡ to - from }
+    ensures within { result ≤ length out.new }
+    ensures chosen { take result out.new ≡ chosen (drop from (places_of places.entry)) flags.now }
+{
+    let mut count = 0;
+    for turn in from..to {
+        out[count] = places.at(turn);
+        count += one_if(flags[turn - from]);
+    }
+    count
+}
+
 // Adds the places from one turn to another at which the filter holds, if there is room.
-fn choose<A: Allocator>(
+fn choose<A: Allocator + Copy>(
     kept: &mut Vec<usize, A>,
     places: Places<'_>,
     from: usize,
     to: usize,
     flags: &[bool],
+    alloc: A,
 ) -> bool
     requires turns { (from ≤ to) × (to ≤ length (places_of places)) }
     requires len { length flags.now ≡ to - from }
     ensures { IsTrue result → kept.new.items ≡ kept.old.items ++ chosen (drop from (places_of places.entry)) flags.now }
 {
-    for turn in from..to {
-        let place = places.at(turn);
-        if keep_if(kept, place, flags[turn - from]).is_err() {
-            return false;
-        }
+    let mut fresh = Vec::new(alloc);
+    match fresh.resize(to - from, 0) {
+        Ok(()) => {}
+        Err(_) => return false,
     }
-    true
+    let count = write_chosen(&mut fresh, places, from, to, flags);
+    match kept.extend_from_slice(&fresh[..count]) {
+        Ok(()) => true,
+        Err(_) => false,
+    }
 }
 
 // The places at which a filter holds, with what is left of the fuel, and the depth.
@@ -223,13 +261,16 @@ fn places_within<'x, A: Allocator + Copy, T: Tops<A>>(
     while turn < whole.to {
         let end = end_of(turn, whole.to);
         let block = part(whole, turn, end);
-        let Found { column, nodes } = column(&block, filter, levels)?;
+        let Found { column, nodes } = column(&block, &Scopes::Rows, filter, levels)?;
+        if column.len() != end - turn {
+            return None;
+        }
         if !suffices(left, whole.to - turn, nodes) {
             return None;
         }
         left = charged(left, end - turn, nodes)?;
         let flags = truths(column)?;
-        if !choose(&mut places, whole.places, turn, end, &flags) {
+        if !choose(&mut places, whole.places, turn, end, &flags, *whole.alloc) {
             return None;
         }
         most = nodes.max(most);
@@ -258,7 +299,7 @@ pub fn filters_in_columns<'x, A: Allocator + Copy, T: Tops<A>>(
         (run_filters f (frames_of w.scope.now) (map tree_of w.values.now) filter.now (block_places w))) }
     ensures spent { meter.new.fuel + meter.new.depth ≤ meter.old.fuel + meter.old.depth }
 {
-    if whole.to - whole.from < LEAST || !is_plain(filter, levels) {
+    if whole.to - whole.from < LEAST || !is_plain(filter, 0, levels) {
         return None;
     }
     let Kept {

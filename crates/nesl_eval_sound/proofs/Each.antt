@@ -4,9 +4,9 @@ use Rattle.std.specs.List.{filter_map, filter, flat_map, enumerate_from, find, c
 use Rattle.nesl_seqs_base.specs.Places.{elements_at, arrival}
 use Rattle.nesl_seqs_base.specs.Woven.{evens, woven}
 use Rattle.nesl_seqs_base.specs.Levels.{pieces}
-use Rattle.nesl_seqs_base.specs.Sides.{beside}
+use Rattle.nesl_seqs_base.specs.Sides.{marked}
 use Rattle.nesl_seqs_base.specs.Equal.{bool_eq}
-use Rattle.nesl_values.specs.Tree.{Tree}
+use Rattle.nesl_values.specs.Tree.{ValueTree}
 use mathlib.Core.List.{reverse_aux}
 
 abbrev pub Each : {X : Type 0} → (X → Type 0) → List X → Type 0
@@ -124,7 +124,7 @@ each_zip_right P [] (y ∷ ys) h = tt
 each_zip_right P (x ∷ xs) [] h = tt
 each_zip_right P (x ∷ xs) (y ∷ ys) h = (h.0, each_zip_right P xs ys h.1)
 
-pub each_beside : {X : Type 0} (P : X → Type 0) (b : Bool) (xs : List X) (bs : List Bool) → Each P xs → Each P (beside b xs bs)
+pub each_beside : {X : Type 0} (P : X → Type 0) (b : Bool) (xs : List X) (bs : List Bool) → Each P xs → Each P (marked b xs bs)
 each_beside P b xs bs h =
     each_map P (λ p. p.0) (filter (λ p. bool_eq b p.1) (zip xs bs)) (each_filter (λ p. P p.0) (λ p. bool_eq b p.1) (zip xs bs) (each_zip_left P xs bs h))
 
@@ -146,10 +146,10 @@ found_holds P p (x ∷ xs) h = first P (p x) x (find p xs) h.0 (found_holds P p 
     first P false x o h k = k
 
 -- what arrives at a place is among what is put somewhere
-pub arrival_holds : (P : Tree → Type 0) (ws : List (ℕ × Tree)) (k : ℕ) → Each (λ w. P w.1) ws → IfRead (arrival ws k) P
+pub arrival_holds : (P : ValueTree → Type 0) (ws : List (ℕ × ValueTree)) (k : ℕ) → Each (λ w. P w.1) ws → IfRead (arrival ws k) P
 arrival_holds P ws k h = second (find (λ w. nat_eq k w.0) ws) (found_holds (λ w. P w.1) (λ w. nat_eq k w.0) ws h)
   where
-    second : (o : Option (ℕ × Tree)) → IfRead o (λ w. P w.1) → IfRead (option_map (λ w. w.1) o) P
+    second : (o : Option (ℕ × ValueTree)) → IfRead o (λ w. P w.1) → IfRead (option_map (λ w. w.1) o) P
     second None h = tt
     second (Some w) h = h
 

@@ -8,19 +8,20 @@ use Rattle.nesl_scalars.specs.declared.trap.Trap.{Trap}
 use Rattle.nesl_scalars.specs.declared.trap.Trap.TheVariants.{Large}
 use Rattle.nesl_seqs_base.specs.declared.seq_fn.SeqFn.{SeqFn}
 use Rattle.nesl_eval_sound.specs.HasType.{HasType}
-use Rattle.nesl_eval_sound.specs.Keeps.{Gives}
+use Rattle.nesl_eval_sound.specs.Keeps.{OutcomeHasType}
 use Rattle.nesl_eval_meaning.specs.Names.{Value}
-use Rattle.nesl_eval_meaning.specs.Out.{Out, value, fault, stuck, added, then_out, given, at_call, beside, all_beside}
-use Rattle.nesl_eval_meaning.specs.Outcome.{made, on_scalars, on_sequence}
+use Rattle.nesl_eval_meaning.specs.Out.{Out, value, fault, stuck, after_cost, and_then, given, at_call, beside}
+use Rattle.nesl_eval_meaning.specs.Out.{all_beside}
+use Rattle.nesl_eval_meaning.specs.Outcome.{small_enough, on_scalars, on_sequence}
 use Rattle.nesl_eval_sound.specs.Sound.{IsFine}
 use Rattle.nesl_eval_sound.proofs.Each.{Each, Reads, each_append}
 
-pub fine_added : {X : Type 0} (P : X → Type 0) (w d : ℕ) (o : Out X) → IsFine P o → IsFine P (added w d o)
+pub fine_added : {X : Type 0} (P : X → Type 0) (w d : ℕ) (o : Out X) → IsFine P o → IsFine P (after_cost w d o)
 fine_added P w d (value x w' d') h = h
 fine_added P w d (fault t s w') h = tt
 fine_added P w d stuck h = absurd h
 
-pub fine_then : {X Y : Type 0} (P : X → Type 0) (Q : Y → Type 0) (o : Out X) (k : X → Out Y) → IsFine P o → ((x : X) → P x → IsFine Q (k x)) → IsFine Q (then_out o k)
+pub fine_then : {X Y : Type 0} (P : X → Type 0) (Q : Y → Type 0) (o : Out X) (k : X → Out Y) → IsFine P o → ((x : X) → P x → IsFine Q (k x)) → IsFine Q (and_then o k)
 fine_then P Q (value x w d) k h j = fine_added Q w d (k x) (j x h)
 fine_then P Q (fault t s w) k h j = tt
 fine_then P Q stuck k h j = absurd h
@@ -55,15 +56,15 @@ fine_or_fault P true x t s h = h
 fine_or_fault P false x t s h = tt
 
 module _ (held : ℕ → Option Term) where
-  pub fine_made : (s : Span) (v : Value) (t : Term) → HasType held v t → IsFine (λ v. HasType held v t) (made s v)
+  pub fine_made : (s : Span) (v : Value) (t : Term) → HasType held v t → IsFine (λ v. HasType held v t) (small_enough s v)
   fine_made s v t h = fine_or_fault (λ v. HasType held v t) (nat_le (size v) 1048576) v Large s h
 
-  pub fine_on_scalars : (s : Span) (o : outcomes.Outcome) (t : Term) → Gives held o t → IsFine (λ v. HasType held v t) (on_scalars s o)
+  pub fine_on_scalars : (s : Span) (o : outcomes.Outcome) (t : Term) → OutcomeHasType held o t → IsFine (λ v. HasType held v t) (on_scalars s o)
   fine_on_scalars s (outcomes.gives v) t h = h
   fine_on_scalars s (outcomes.traps e) t h = tt
   fine_on_scalars s outcomes.undefined t h = absurd h
 
-  pub fine_on_sequence : (s : Span) (f : SeqFn) (v : Value) (o : outcomes.Outcome) (t : Term) → Gives held o t → IsFine (λ v. HasType held v t) (on_sequence s f v o)
+  pub fine_on_sequence : (s : Span) (f : SeqFn) (v : Value) (o : outcomes.Outcome) (t : Term) → OutcomeHasType held o t → IsFine (λ v. HasType held v t) (on_sequence s f v o)
   fine_on_sequence s f v (outcomes.gives u) t h = h
   fine_on_sequence s f v (outcomes.traps e) t h = tt
   fine_on_sequence s f v outcomes.undefined t h = absurd h

@@ -1,6 +1,6 @@
 -- The functions on sequences keep types.
 use Rattle.nesl_types_bank.specs.Term.{Term}
-use Rattle.nesl_seqs_base.specs.Meaning.{meaning}
+use Rattle.nesl_seqs_base.specs.Meaning.{outcome_of}
 use Rattle.nesl_seqs_base.specs.declared.seq_fn.SeqFn.TheVariants as f
 use Rattle.nesl_seqs_base.specs.declared.order.Order.TheVariants.{Greatest, Least}
 use Rattle.nesl_seqs_base.specs.declared.joint.Joint.TheVariants.{Or, And}
@@ -9,7 +9,7 @@ use Rattle.nesl_eval_sound.proofs.Sequences.{keeps_length, keeps_index, keeps_ap
 use Rattle.std.proofs.Common.{subst, sym}
 use Rattle.nesl_types_bank.specs.Term as type
 use Rattle.nesl_eval_sound.specs.HasType.{HasType}
-use Rattle.nesl_eval_sound.specs.Keeps.{Gives}
+use Rattle.nesl_eval_sound.specs.Keeps.{OutcomeHasType}
 
 pub sequences_keep : SequencesKeepTypes
 sequences_keep f.Length held s m v h = keeps_length held (s 0) v h
@@ -20,7 +20,7 @@ sequences_keep f.Range held s m v h = keeps_range held v h
 sequences_keep f.RangeBy held s m v h = keeps_range_by held v h
 sequences_keep f.Index held s m v h = keeps_iota held v h
 sequences_keep f.Sum held s m v h =
-    subst (λ a. HasType held v (type.seq_of a) → Gives held (meaning f.Sum v) a) (sym (m 0)) (keeps_sum held v) h
+    subst (λ a. HasType held v (type.seq_of a) → OutcomeHasType held (outcome_of f.Sum v) a) (sym (m 0)) (keeps_sum held v) h
 sequences_keep f.Any held s m v h = keeps_any held v h
 sequences_keep f.All held s m v h = keeps_all held v h
 sequences_keep f.Count held s m v h = keeps_count held v h
@@ -37,7 +37,7 @@ sequences_keep f.MinVal held s m v h = keeps_best held Least (s 0) (m 0) v h
 sequences_keep f.MaxIndex held s m v h = keeps_place held Greatest (s 0) (m 0) v h
 sequences_keep f.MinIndex held s m v h = keeps_place held Least (s 0) (m 0) v h
 sequences_keep f.PlusScan held s m v h =
-    subst (λ a. HasType held v (type.seq_of a) → Gives held (meaning f.PlusScan v) (type.seq_of a)) (sym (m 0)) (keeps_plus_scan held v) h
+    subst (λ a. HasType held v (type.seq_of a) → OutcomeHasType held (outcome_of f.PlusScan v) (type.seq_of a)) (sym (m 0)) (keeps_plus_scan held v) h
 sequences_keep f.OrScan held s m v h = keeps_scan held Or (s 0) (m 0) v h
 sequences_keep f.AndScan held s m v h = keeps_scan held And (s 0) (m 0) v h
 sequences_keep f.Flatten held s m v h = keeps_flatten held (s 0) v h

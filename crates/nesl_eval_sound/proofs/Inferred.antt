@@ -7,7 +7,7 @@ use Rattle.nesl_types_bank.specs.Term.{Term, int}
 use Rattle.nesl_syntax_tree.specs.Trees.{TypeTree, TypeShape, written}
 use Rattle.nesl_syntax_tree.specs.Trees as trees
 use Rattle.nesl_infer_names.specs.Names.{datatype_in}
-use Rattle.nesl_infer_rules.specs.World.{Datatypes}
+use Rattle.nesl_infer_rules.specs.World.{DatatypesByName}
 use Rattle.nesl_infer_rules.specs.Typing.{IsWritten, IsWrittenShape}
 use Rattle.nesl_eval_meaning.specs.Names.{outside}
 use Rattle.nesl_eval_meaning.specs.Names as evaluated
@@ -21,10 +21,10 @@ use Rattle.nesl_eval_sound.proofs.Nodes.{types_kept}
 use Rattle.nesl_eval_sound.proofs.Lines.{variables_stay, functions_stay, datatypes_stay}
 
 mutual
-  pub written_ground : (ns : Datatypes) (a : TypeTree) (t : Term) → IsWritten ns a t → IsBelow 0 t
+  pub written_ground : (ns : DatatypesByName) (a : TypeTree) (t : Term) → IsWritten ns a t → IsBelow 0 t
   written_ground ns (written s k) t h = shape_ground ns k t h
 
-  shape_ground : (ns : Datatypes) (k : TypeShape) (t : Term) → IsWrittenShape ns k t → IsBelow 0 t
+  shape_ground : (ns : DatatypesByName) (k : TypeShape) (t : Term) → IsWrittenShape ns k t → IsBelow 0 t
   shape_ground ns trees.int t h = subst (IsBelow 0) (sym h) tt
   shape_ground ns trees.bool t h = subst (IsBelow 0) (sym h) tt
   shape_ground ns trees.char t h = subst (IsBelow 0) (sym h) tt

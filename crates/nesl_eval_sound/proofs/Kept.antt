@@ -12,17 +12,17 @@ use Rattle.nesl_types.specs.declared.schemes.Scheme.{Scheme}
 use Rattle.nesl_types.specs.Class.{IsIn, class_at}
 use Rattle.nesl_types.specs.Scheme.{IsSameScheme}
 use Rattle.nesl_types_bank.specs.Substitution.{substitute}
-use Rattle.nesl_types_bank.specs.Term.{Term, int, bool, char, variable, seq_of, both}
+use Rattle.nesl_types_bank.specs.Term.{Term, int, bool, char, variable, seq_of, pair_of}
 use Rattle.nesl_types_bank.specs.Term as type
 use Rattle.nesl_syntax_tree.specs.Trees.{PatternTree, Tree}
 use Rattle.nesl_builtins.specs.declared.builtin.Builtin.{Builtin}
-use Rattle.nesl_builtins.specs.Named.{named_builtin}
-use Rattle.nesl_builtins.specs.Table.{builtin_type, function_type}
+use Rattle.nesl_builtins.specs.Named.{builtin_named}
+use Rattle.nesl_builtins.specs.FunctionTypes.{builtin_type, function_type}
 use Rattle.nesl_infer_names.specs.Names.{top_in, as_variable, as_datatype, as_function, built_in_or, itself}
-use Rattle.nesl_infer_rules.specs.World.{World, Meaning, general, single, meaning_of}
-use Rattle.nesl_infer_rules.specs.Typing.{Takes}
+use Rattle.nesl_infer_rules.specs.World.{Assumptions, Callable, general, single, callable_of}
+use Rattle.nesl_infer_rules.specs.Typing.{CallableTakes}
 use Rattle.nesl_infer.specs.Laws.{scope_with}
-use Rattle.nesl_eval_meaning.specs.Names.{Name, Value, Environment, variable_of, function_of, datatype_of, nothing, named}
+use Rattle.nesl_eval_meaning.specs.Names.{Name, Value, Environment, variable_of, function_of, datatype_of, nothing, look_up}
 use Rattle.nesl_eval_meaning.specs.Names as evaluated
 use Rattle.nesl_eval_sound.specs.HasType as values
 use Rattle.nesl_eval_sound.specs.Refers.{binds, body_refers}
@@ -36,29 +36,29 @@ module _ {P : Type 0} (old new : List (List ℕ × Top × P)) where
   -- only the name x changes, which was no datatype; where another function's body refers to it, it means what it meant
   pub record Redefines (x : Name) (env env' : Environment) : Type 0 where
     pub tops : (y : Name) → bytes_eq y x ≡ false → top_in new y ≡ top_in old y
-    pub values : (y : Name) → bytes_eq y x ≡ false → named env' y ≡ named env y
+    pub values : (y : Name) → bytes_eq y x ≡ false → look_up env' y ≡ look_up env y
     pub no_datatype : as_datatype (top_in old x) ≡ None
-    pub no_retype : (y : Name) (p : PatternTree) (e : Tree) → bytes_eq y x ≡ false → named env y ≡ Some (function_of p e) → body_refers x p e ≡ true → IsUnchanged (top_in old x) (top_in new x)
+    pub no_retype : (y : Name) (p : PatternTree) (e : Tree) → bytes_eq y x ≡ false → look_up env y ≡ Some (function_of p e) → body_refers x p e ≡ true → IsUnchanged (top_in old x) (top_in new x)
 
   module _ (held : ℕ → Option Term) (env' : Environment) (x : Name) where
     -- the name is a variable with a value of its type, which has no variables
     pub record BindsVariable (t : Term) (v : Value) : Type 0 where
       pub typed : top_in new x ≡ Some (top.Variable t)
-      pub bound : named env' x ≡ Some (variable_of v)
+      pub bound : look_up env' x ≡ Some (variable_of v)
       pub has_type : values.HasType held v t
       pub ground : IsGround t
 
     -- the name is a function whose body has the types of its scheme in the bindings before, where types may have any size or a limited one
     pub record BindsFunction (s : Scheme) (p : PatternTree) (e : Tree) : Type 0 where
       pub typed : top_in new x ≡ Some (top.Function s)
-      pub bound : named env' x ≡ Some (function_of p e)
+      pub bound : look_up env' x ≡ Some (function_of p e)
       pub limit : Option ℕ
       pub has_types : HasBodyType (world old (class_at s.classes.items) limit) x p e s.argument s.result
 
     -- the name is a datatype of that tag
     pub record BindsDatatype (tag : ℕ) (t : Term) : Type 0 where
       pub typed : top_in new x ≡ Some (top.Datatype tag t)
-      pub bound : named env' x ≡ Some (datatype_of tag)
+      pub bound : look_up env' x ≡ Some (datatype_of tag)
       pub holds : held tag ≡ Some t
       pub ground : IsGround t
 
@@ -78,13 +78,13 @@ substitute-variable bool = refl
 substitute-variable char = refl
 substitute-variable (variable v) = refl
 substitute-variable (seq_of t) = ap seq_of (substitute-variable t)
-substitute-variable (both t u) = let e = substitute-variable t in let d = substitute-variable u in cc
+substitute-variable (pair_of t u) = let e = substitute-variable t in let d = substitute-variable u in cc
 substitute-variable (type.named n) = refl
 
 -- what a name meant it still means
 pub record StillMeans (old new : Option Top) : Type 0 where
   pub variables : (t : Term) → as_variable old ≡ Some t → as_variable new ≡ Some t
-  pub functions : (m : Meaning) → top_meaning old ≡ Some m → top_meaning new ≡ Some m
+  pub functions : (m : Callable) → top_meaning old ≡ Some m → top_meaning new ≡ Some m
 
 same_type : (f g : Scheme) → IsSameScheme f g → function_type f ≡ function_type g
 same_type f g h = let a = h.argument in let b = h.result in let c = h.classes in cc
@@ -111,23 +111,23 @@ module _ {P : Type 0} (old new : List (List ℕ × Top × P)) (held : ℕ → Op
   ground_datatype s y d None e h = cc
 
   module _ (of of' : ℕ → Class) (s : ℕ → Term) (classes : (v : ℕ) → IsIn of' (of v) (s v)) where
-    takes_top : (y : Name) (m : Meaning) (t u : Term) (o : Option Top) → top_in old y ≡ o → top_meaning o ≡ Some m → Takes of m t u → Takes of' m (substitute s t) (substitute s u)
+    takes_top : (y : Name) (m : Callable) (t u : Term) (o : Option Top) → top_in old y ≡ o → top_meaning o ≡ Some m → CallableTakes of m t u → CallableTakes of' m (substitute s t) (substitute s u)
     takes_top y m t u (Some (top.Variable w)) e h k = cc
     takes_top y m t u (Some (top.Function f)) e h k =
         let q : general (function_type f) ≡ m = cc in
-        subst (λ m. Takes of' m (substitute s t) (substitute s u)) q (instance_maps of of' s classes (function_type f) t u (subst (λ m. Takes of m t u) (sym q) k))
+        subst (λ m. CallableTakes of' m (substitute s t) (substitute s u)) q (instance_maps of of' s classes (function_type f) t u (subst (λ m. CallableTakes of m t u) (sym q) k))
     takes_top y m t u (Some (top.Datatype n w)) e h k =
         let q : single w (type.named n) ≡ m = cc in
-        let i : (t ≡ w) × (u ≡ type.named n) = subst (λ m. Takes of m t u) (sym q) k in
-        subst (λ m. Takes of' m (substitute s t) (substitute s u)) q
+        let i : (t ≡ w) × (u ≡ type.named n) = subst (λ m. CallableTakes of m t u) (sym q) k in
+        subst (λ m. CallableTakes of' m (substitute s t) (substitute s u)) q
         (ap (substitute s) i.0 ∙ substitute-ground s w ((bindings_hold y).datatypes n w e).2, ap (substitute s) i.1)
     takes_top y m t u None e h k = cc
 
-    named_takes : (y : Name) (m : Meaning) (t u : Term) (b : Option Builtin) → StillMeans (top_in old y) (top_in new y) → known_or b (top_meaning (top_in old y)) ≡ Some m → Takes of m t u
-        → (m' : Meaning) × (known_or b (top_meaning (top_in new y)) ≡ Some m') × Takes of' m' (substitute s t) (substitute s u)
+    named_takes : (y : Name) (m : Callable) (t u : Term) (b : Option Builtin) → StillMeans (top_in old y) (top_in new y) → known_or b (top_meaning (top_in old y)) ≡ Some m → CallableTakes of m t u
+        → (m' : Callable) × (known_or b (top_meaning (top_in new y)) ≡ Some m') × CallableTakes of' m' (substitute s t) (substitute s u)
     named_takes y m t u (Some b) w h k =
         let q : general (builtin_type b) ≡ m = cc in
-        (general (builtin_type b), refl, instance_maps of of' s classes (builtin_type b) t u (subst (λ m. Takes of m t u) (sym q) k))
+        (general (builtin_type b), refl, instance_maps of of' s classes (builtin_type b) t u (subst (λ m. CallableTakes of m t u) (sym q) k))
     named_takes y m t u None w h k = (m, w.functions m h, takes_top y m t u (top_in old y) refl h k)
 
     module _ (limit : Option ℕ) (f : Name) (a b : Term) where
@@ -143,17 +143,17 @@ module _ {P : Type 0} (old new : List (List ℕ × Top × P)) (held : ℕ → Op
           variables false true e t h = cc
           variables false false e t h = (still e).variables t h ∙ ap Some (sym (ground_variable s y t (top_in old y) refl h))
 
-          functions : (c : Bool) → bytes_eq y f ≡ c → (m : Meaning) (t u : Term)
-              → meaning_of (Some (f, a, b)) (cond c (Some itself) (built_in_or (named_builtin y) (as_function (top_in old y)))) ≡ Some m → Takes of m t u
-              → (m' : Meaning) × (meaning_of (Some (f, substitute s a, substitute s b)) (cond c (Some itself) (built_in_or (named_builtin y) (as_function (top_in new y)))) ≡ Some m')
-              × Takes of' m' (substitute s t) (substitute s u)
+          functions : (c : Bool) → bytes_eq y f ≡ c → (m : Callable) (t u : Term)
+              → callable_of (Some (f, a, b)) (cond c (Some itself) (built_in_or (builtin_named y) (as_function (top_in old y)))) ≡ Some m → CallableTakes of m t u
+              → (m' : Callable) × (callable_of (Some (f, substitute s a, substitute s b)) (cond c (Some itself) (built_in_or (builtin_named y) (as_function (top_in new y)))) ≡ Some m')
+              × CallableTakes of' m' (substitute s t) (substitute s u)
           functions true e m t u h k =
               let q : single a b ≡ m = cc in
-              let i : (t ≡ a) × (u ≡ b) = subst (λ m. Takes of m t u) (sym q) k in
+              let i : (t ≡ a) × (u ≡ b) = subst (λ m. CallableTakes of m t u) (sym q) k in
               (single (substitute s a) (substitute s b), refl, (ap (substitute s) i.0, ap (substitute s) i.1))
           functions false e m t u h k =
-              let r = named_takes y m t u (named_builtin y) (still e) (sym (meaning_is (Some (f, a, b)) (named_builtin y) (top_in old y)) ∙ h) k in
-              (r.0, meaning_is (Some (f, substitute s a, substitute s b)) (named_builtin y) (top_in new y) ∙ r.1, r.2)
+              let r = named_takes y m t u (builtin_named y) (still e) (sym (meaning_is (Some (f, a, b)) (builtin_named y) (top_in old y)) ∙ h) k in
+              (r.0, meaning_is (Some (f, substitute s a, substitute s b)) (builtin_named y) (top_in new y) ∙ r.1, r.2)
 
     -- a body keeps its types, at the types put for variables
     body_map : (limit : Option ℕ) (f : Name) (p : PatternTree) (e : Tree) (a b : Term)
@@ -161,8 +161,8 @@ module _ {P : Type 0} (old new : List (List ℕ × Top × P)) (held : ℕ → Op
         → ((y : Name) → bytes_eq y f ≡ false → body_refers y p e ≡ true → StillMeans (top_in old y) (top_in new y))
         → HasBodyType (world old of limit) f p e a b → HasBodyType (world new of' None) f p e (substitute s a) (substitute s b)
     body_map limit f p e a b tags still h =
-        let w : World = world old of limit (Some (f, a, b)) in
-        let w' : World = world new of' None (Some (f, substitute s a, substitute s b)) in
+        let w : Assumptions = world old of limit (Some (f, a, b)) in
+        let w' : Assumptions = world new of' None (Some (f, substitute s a, substitute s b)) in
         let maps : Maps s w w' = record { classes = classes; datatypes = λ y d q. (tags y d q, ground_datatype s y d (top_in old y) refl q); allowed = λ t q. tt } in
         let hides : Hides (λ y. binds y p) h.parts = subst (Hides (λ y. binds y p)) (append-nil h.parts) (hides_parts w p a h.parts h.taken (λ x. false) [] (λ x q. refl)) in
         record {
@@ -192,13 +192,13 @@ mutual
   grows held held' g (value.int n) int h = h
   grows held held' g (value.boolean b) bool h = h
   grows held held' g (value.character c) char h = h
-  grows held held' g (value.pair l r) (both t u) h = (grows held held' g l t h.0, grows held held' g r u h.1)
+  grows held held' g (value.pair l r) (pair_of t u) h = (grows held held' g l t h.0, grows held held' g r u h.1)
   grows held held' g (value.seq vs) (seq_of t) h = each_grows held held' g vs t h
   grows held held' g (value.tagged n v) (type.named m) h =
       (h.0, held_more held held' g n (λ t. values.HasType held v t) (λ t. values.HasType held' v t) (λ t k. grows held held' g v t k) (held n) refl h.1)
   grows held held' g v t h = absurd h
 
-  pub each_grows : (held held' : ℕ → Option Term) → ((n : ℕ) (t : Term) → held n ≡ Some t → held' n ≡ Some t) → (vs : value.Trees) (t : Term) → values.EachHasType held vs t → values.EachHasType held' vs t
+  pub each_grows : (held held' : ℕ → Option Term) → ((n : ℕ) (t : Term) → held n ≡ Some t → held' n ≡ Some t) → (vs : value.ValueTrees) (t : Term) → values.EachHasType held vs t → values.EachHasType held' vs t
   each_grows held held' g value.no_trees t h = tt
   each_grows held held' g (value.tree_then v vs) t h = (grows held held' g v t h.0, each_grows held held' g vs t h.1)
 
@@ -221,7 +221,7 @@ module _ {P : Type 0} (old new : List (List ℕ × Top × P)) (held held' : ℕ 
   value_stays t (Some nothing) h = absurd h
   value_stays t None h = absurd h
 
-  body_stays : (y : Name) (g : Scheme) (o : Option evaluated.Top) → bytes_eq y x ≡ false → named env y ≡ o → IsBody old y g o → IsBody new y g o
+  body_stays : (y : Name) (g : Scheme) (o : Option evaluated.Top) → bytes_eq y x ≡ false → look_up env y ≡ o → IsBody old y g o → IsBody new y g o
   body_stays y g (Some (function_of p e)) n q h = λ of t u i. body_same old new held env bindings_hold of y p e t u tags_stay (λ z f r. still z (bytes_eq z x) refl r) (h of t u i)
     where
       still : (z : Name) (c : Bool) → bytes_eq z x ≡ c → body_refers z p e ≡ true → StillMeans (top_in old z) (top_in new z)
@@ -239,8 +239,8 @@ module _ {P : Type 0} (old new : List (List ℕ × Top × P)) (held held' : ℕ 
       let same = redefines.tops y n in
       let in_env = redefines.values y n in
       record {
-        variables = λ t h. let r = (bindings_hold y).variables t (sym same ∙ h) in (subst (IsValue held' t) (sym in_env) (value_stays t (named env y) r.0), r.1);
-        functions = λ g h. let r = (bindings_hold y).functions g (sym same ∙ h) in subst (IsBody new y g) (sym in_env) (body_stays y g (named env y) n refl r);
+        variables = λ t h. let r = (bindings_hold y).variables t (sym same ∙ h) in (subst (IsValue held' t) (sym in_env) (value_stays t (look_up env y) r.0), r.1);
+        functions = λ g h. let r = (bindings_hold y).functions g (sym same ∙ h) in subst (IsBody new y g) (sym in_env) (body_stays y g (look_up env y) n refl r);
         datatypes = λ k t h. let r = (bindings_hold y).datatypes k t (sym same ∙ h) in (in_env ∙ r.0, more k t r.1, r.2);
       }
 
@@ -259,7 +259,7 @@ module _ {P : Type 0} (old new : List (List ℕ × Top × P)) (held held' : ℕ 
   variable_there t v h = record {
     variables = λ u e.
         let q : t ≡ u = top_variable_same t u (sym h.typed ∙ e) in
-        subst (λ u. IsValue held' u (named env' x) × IsGround u) q (subst (IsValue held' t) (sym h.bound) h.has_type, h.ground);
+        subst (λ u. IsValue held' u (look_up env' x) × IsGround u) q (subst (IsValue held' t) (sym h.bound) h.has_type, h.ground);
     functions = λ s e. let q = sym h.typed ∙ e in cc;
     datatypes = λ n u e. let q = sym h.typed ∙ e in cc;
   }
@@ -273,8 +273,8 @@ module _ {P : Type 0} (old new : List (List ℕ × Top × P)) (held held' : ℕ 
     functions = λ s e. let q = sym h.typed ∙ e in cc;
     datatypes = λ m u e.
         let q = same n m t u (sym h.typed ∙ e) in
-        subst (λ m. (named env' x ≡ Some (datatype_of m)) × (held' m ≡ Some u) × IsGround u) q.0
-        (subst (λ u. (named env' x ≡ Some (datatype_of n)) × (held' n ≡ Some u) × IsGround u) q.1 (h.bound, h.holds, h.ground));
+        subst (λ m. (look_up env' x ≡ Some (datatype_of m)) × (held' m ≡ Some u) × IsGround u) q.0
+        (subst (λ u. (look_up env' x ≡ Some (datatype_of n)) × (held' n ≡ Some u) × IsGround u) q.1 (h.bound, h.holds, h.ground));
   }
     where
       same : (n m : ℕ) (t u : Term) → Some (top.Datatype n t) ≡ Some (top.Datatype m u) → (n ≡ m) × (t ≡ u)
@@ -284,7 +284,7 @@ module _ {P : Type 0} (old new : List (List ℕ × Top × P)) (held held' : ℕ 
   function_there s p e h = record {
     variables = λ u q. let q' = sym h.typed ∙ q in cc;
     functions = λ g q. let i : s ≡ g = same s g (sym h.typed ∙ q) in
-        subst (λ g. IsBody new x g (named env' x)) i (subst (IsBody new x s) (sym h.bound) whole);
+        subst (λ g. IsBody new x g (look_up env' x)) i (subst (IsBody new x s) (sym h.bound) whole);
     datatypes = λ m u q. let q' = sym h.typed ∙ q in cc;
   }
     where

@@ -10,7 +10,7 @@ use Rattle.nesl_types_bank.specs.Term.{Term}
 use Rattle.nesl_types_bank.specs.Term as type
 use Rattle.nesl_syntax_tree.specs.Trees.{PatternTree, Tree}
 use Rattle.nesl_infer_names.specs.Names.{top_in, as_datatype}
-use Rattle.nesl_eval_meaning.specs.Names.{Name, Value, Environment, variable_of, function_of, datatype_of, named, outside}
+use Rattle.nesl_eval_meaning.specs.Names.{Name, Value, Environment, variable_of, function_of, datatype_of, look_up, outside}
 use Rattle.nesl_eval_meaning.specs.Names as evaluated
 use Rattle.nesl_eval_sound.specs.HasType.{HasType}
 use Rattle.nesl_eval_sound.specs.Sound.{IsFine, ground}
@@ -43,7 +43,7 @@ module _ {P : Type 0} where
       either false e h = ap (cond (bytes_eq y b.0) (Some (b.1, b.2))) h
 
 -- a function of another name that refers to the name is among them
-is_referred_by : (x : Name) (env : Environment) (y : Name) (p : PatternTree) (e : Tree) → bytes_eq y x ≡ false → named env y ≡ Some (function_of p e) → body_refers x p e ≡ true → is_referred x env ≡ true
+is_referred_by : (x : Name) (env : Environment) (y : Name) (p : PatternTree) (e : Tree) → bytes_eq y x ≡ false → look_up env y ≡ Some (function_of p e) → body_refers x p e ≡ true → is_referred x env ≡ true
 is_referred_by x [] y p e n h r = cc
 is_referred_by x (b ∷ env) y p e n h r = either (bytes_eq y b.0) refl h (is_referred_by x env y p e n)
   where
@@ -56,7 +56,7 @@ is_referred_by x (b ∷ env) y p e n h r = either (bytes_eq y b.0) refl h (is_re
     last_true true c h = refl
     last_true false c h = h
 
-    either : (c : Bool) → bytes_eq y b.0 ≡ c → cond c (Some b.1) (named env y) ≡ Some (function_of p e) → (named env y ≡ Some (function_of p e) → body_refers x p e ≡ true → is_referred x env ≡ true)
+    either : (c : Bool) → bytes_eq y b.0 ≡ c → cond c (Some b.1) (look_up env y) ≡ Some (function_of p e) → (look_up env y ≡ Some (function_of p e) → body_refers x p e ≡ true → is_referred x env ≡ true)
         → ((not (bytes_eq b.0 x) && top_refers x b.1) || is_referred x env) ≡ true
     either true d k j =
         let q : b.1 ≡ function_of p e = cc in
@@ -148,12 +148,12 @@ module _ {P : Type 0} where
       either false e = refl
 
 module _ {P : Type 0} (seen : Top → P → evaluated.Top) where
-  pub named-values : (x : Name) (bs : List (List ℕ × Top × P)) → named (values_of seen bs) x ≡ option_map (λ b. seen b.0 b.1) (found x bs)
+  pub named-values : (x : Name) (bs : List (List ℕ × Top × P)) → look_up (values_of seen bs) x ≡ option_map (λ b. seen b.0 b.1) (found x bs)
   named-values x [] = refl
   named-values x (b ∷ bs) = either (bytes_eq x b.0) (named-values x bs)
     where
-      either : (c : Bool) → named (values_of seen bs) x ≡ option_map (λ b. seen b.0 b.1) (found x bs)
-          → cond c (Some (seen b.1 b.2)) (named (values_of seen bs) x) ≡ option_map (λ b. seen b.0 b.1) (cond c (Some (b.1, b.2)) (found x bs))
+      either : (c : Bool) → look_up (values_of seen bs) x ≡ option_map (λ b. seen b.0 b.1) (found x bs)
+          → cond c (Some (seen b.1 b.2)) (look_up (values_of seen bs) x) ≡ option_map (λ b. seen b.0 b.1) (cond c (Some (b.1, b.2)) (found x bs))
       either true h = refl
       either false h = h
 
@@ -183,7 +183,7 @@ module _ {P : Type 0} (seen : Top → P → evaluated.Top) where
     top_new : top_in (with_name x t q bs) x ≡ Some t
     top_new = ap (option_map (λ b. b.0)) (found-with_name x t q bs)
 
-    value_new : (v : evaluated.Top) → seen t q ≡ v → named (values_of seen (with_name x t q bs)) x ≡ Some v
+    value_new : (v : evaluated.Top) → seen t q ≡ v → look_up (values_of seen (with_name x t q bs)) x ≡ Some v
     value_new v e = named-values x (with_name x t q bs) ∙ ap (option_map (λ b. seen b.0 b.1)) (found-with_name x t q bs) ∙ ap Some e
 
     no_tag : (o : Option Top) → top_in bs x ≡ o → as_datatype o ≡ None

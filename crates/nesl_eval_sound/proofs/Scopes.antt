@@ -4,10 +4,11 @@ use Rattle.nesl_lex.specs.declared.token.Span.{Span}
 use Rattle.std.specs.Str.{bytes_eq}
 use Rattle.nesl_values.specs.Tree as values
 use Rattle.nesl_values.specs.Parts.{as_pair, as_tagged}
-use Rattle.nesl_types_bank.specs.Term.{Term, named, both}
+use Rattle.nesl_types_bank.specs.Term.{Term, named, pair_of}
 use Rattle.nesl_syntax_tree.specs.Trees.{PatternTree, PatternShape, pattern, name_pattern, pair_pattern, record_pattern}
-use Rattle.nesl_infer_rules.specs.World.{World}
-use Rattle.nesl_infer_rules.specs.Typing.{Scope, local, newest, is_element, name, element, Parts, ShapeParts}
+use Rattle.nesl_infer_rules.specs.World.{Assumptions}
+use Rattle.nesl_infer_rules.specs.Typing.{LocalTypes, local_type, newest_type, is_element, name, element, PatternAdds}
+use Rattle.nesl_infer_rules.specs.Typing.{PatternShapeAdds}
 use Rattle.nesl_eval_meaning.specs.Names.{Name, Value, Locals, bound}
 use Rattle.nesl_eval_meaning.specs.Names as evaluated
 use Rattle.nesl_eval_sound.specs.HasType.{HasType, Holding}
@@ -23,26 +24,26 @@ module _ (held : ℕ → Option Term) where
   Agree (Some v) (Some t) = HasType held v (ground t)
 
   -- each name has a value of its type, and so has the element
-  pub record Fits (names : Locals) (first : Option Value) (ts : Scope) : Type 0 where
-    pub names_fit : (x : Name) → Agree (evaluated.named names x) (local x ts)
-    pub first_fits : Agree first (newest is_element ts)
+  pub record Fits (names : Locals) (first : Option Value) (ts : LocalTypes) : Type 0 where
+    pub names_fit : (x : Name) → Agree (evaluated.look_up names x) (local_type x ts)
+    pub first_fits : Agree first (newest_type is_element ts)
 
   pub nothing_fits : Fits [] None []
   nothing_fits = record { names_fit = λ x. tt; first_fits = tt }
 
-  pub name_added : (x : Name) (v : Value) (t : Term) → HasType held v (ground t) → (names : Locals) (first : Option Value) (ts : Scope) → Fits names first ts
+  pub name_added : (x : Name) (v : Value) (t : Term) → HasType held v (ground t) → (names : Locals) (first : Option Value) (ts : LocalTypes) → Fits names first ts
       → Fits ((x, v) ∷ names) first ((name x, t) ∷ ts)
-  name_added x v t j names first ts h = record { names_fit = λ y. either (bytes_eq y x) (evaluated.named names y) (local y ts) (h.names_fit y); first_fits = h.first_fits }
+  name_added x v t j names first ts h = record { names_fit = λ y. either (bytes_eq y x) (evaluated.look_up names y) (local_type y ts) (h.names_fit y); first_fits = h.first_fits }
     where
       either : (c : Bool) (o : Option Value) (p : Option Term) → Agree o p → Agree (cond c (Some v) o) (cond c (Some t) p)
       either true o p k = j
       either false o p k = k
 
-  pub element_added : (o : Option Value) (t : Term) → Agree o (Some t) → (names : Locals) (first : Option Value) (ts : Scope) → Fits names first ts → Fits names o ((element, t) ∷ ts)
+  pub element_added : (o : Option Value) (t : Term) → Agree o (Some t) → (names : Locals) (first : Option Value) (ts : LocalTypes) → Fits names first ts → Fits names o ((element, t) ∷ ts)
   element_added o t j names first ts h = record { names_fit = h.names_fit; first_fits = j }
 
   -- what a pair's parts are
-  pair_parts : (v : Value) (t u : Term) → HasType held v (both t u) → Reads (as_pair v) (λ p. HasType held p.0 t × HasType held p.1 u)
+  pair_parts : (v : Value) (t u : Term) → HasType held v (pair_of t u) → Reads (as_pair v) (λ p. HasType held p.0 t × HasType held p.1 u)
   pair_parts (values.pair l r) t u h = h
   pair_parts v t u h = absurd h
 
@@ -55,16 +56,16 @@ module _ (held : ℕ → Option Term) where
   then_read P Q (Some x) f r k = k x r
 
   -- a datatype's values hold what it holds
-  abbrev pub KnowsDatatypes : World → Type 0
+  abbrev pub KnowsDatatypes : Assumptions → Type 0
   KnowsDatatypes w = (x : Name) (d : ℕ × Term) → w.names.datatypes x ≡ Some d → (held d.0 ≡ Some d.1) × (ground d.1 ≡ d.1)
 
-  module _ (w : World) (knows : KnowsDatatypes w) where
+  module _ (w : Assumptions) (knows : KnowsDatatypes w) where
     mutual
-      pub binds : (p : PatternTree) (t : Term) (ns : Scope) → Parts w p t ns → (v : Value) → HasType held v (ground t) → (names : Locals) (first : Option Value) (ts : Scope) → Fits names first ts
+      pub binds : (p : PatternTree) (t : Term) (ns : LocalTypes) → PatternAdds w p t ns → (v : Value) → HasType held v (ground t) → (names : Locals) (first : Option Value) (ts : LocalTypes) → Fits names first ts
           → Reads (bound p v names) (λ us. Fits us first (ns ++ ts))
       binds (pattern s k) t ns h = binds_shape s k t ns h.1
 
-      pub binds_shape : (s : Span) (k : PatternShape) (t : Term) (ns : Scope) → ShapeParts w k t ns → (v : Value) → HasType held v (ground t) → (names : Locals) (first : Option Value) (ts : Scope)
+      pub binds_shape : (s : Span) (k : PatternShape) (t : Term) (ns : LocalTypes) → PatternShapeAdds w k t ns → (v : Value) → HasType held v (ground t) → (names : Locals) (first : Option Value) (ts : LocalTypes)
           → Fits names first ts → Reads (bound (pattern s k) v names) (λ us. Fits us first (ns ++ ts))
       binds_shape s (name_pattern x) t ns h v j names first ts f = subst (λ ns. Fits ((x, v) ∷ names) first (ns ++ ts)) (sym h) (name_added x v t j names first ts f)
       binds_shape s (pair_pattern p q) t ns (a, b, ms, os, e, hp, hq, es) v j names first ts f =

@@ -8,12 +8,12 @@ use Rattle.nesl_types_bank.specs.Numbering.{IsBelow}
 use Rattle.nesl_types_bank.specs.Substitution.{substitute}
 use Rattle.nesl_types_bank.specs.Term.{Term, int}
 use Rattle.nesl_syntax_tree.specs.Trees.{PatternTree, Tree}
-use Rattle.nesl_builtins.specs.Table.{function_type}
+use Rattle.nesl_builtins.specs.FunctionTypes.{function_type}
 use Rattle.nesl_infer_names.specs.Names.{top_in}
-use Rattle.nesl_infer_rules.specs.World.{World, Own, meanings_in}
+use Rattle.nesl_infer_rules.specs.World.{Assumptions, OwnFunction, meanings_in}
 use Rattle.nesl_infer_rules.specs.Typing.{HasType, IsInstanceOf}
 use Rattle.nesl_infer_rules.specs.Principal.{HasFunctionType}
-use Rattle.nesl_eval_meaning.specs.Names.{Name, Environment, variable_of, function_of, datatype_of, named, outside}
+use Rattle.nesl_eval_meaning.specs.Names.{Name, Environment, variable_of, function_of, datatype_of, look_up, outside}
 use Rattle.nesl_eval_meaning.specs.Names as evaluated
 use Rattle.nesl_eval_meaning.specs.Out.{Out, value, fault, stuck}
 use Rattle.nesl_eval_meaning.specs.Outcome.{out}
@@ -34,7 +34,7 @@ abbrev pub IsGround : Term → Type 0
 IsGround t = IsBelow 0 t
 
 -- a body gives u where its parameter takes t, without a signature
-abbrev pub HasBodyType : (Own → World) → Name → PatternTree → Tree → Term → Term → Type 0
+abbrev pub HasBodyType : (OwnFunction → Assumptions) → Name → PatternTree → Tree → Term → Term → Type 0
 HasBodyType w x p e t u = HasFunctionType w x p None e t u
 
 -- there is a value of the type
@@ -44,7 +44,7 @@ IsValue held t _ = ⊥
 
 module _ {P : Type 0} (context : List (List ℕ × Top × P)) where
   -- the world of these names, where the types of a function's body are of any size, or not above a limit
-  abbrev pub world : (ℕ → Class) → Option ℕ → Own → World
+  abbrev pub world : (ℕ → Class) → Option ℕ → OwnFunction → Assumptions
   world of limit own = record { names = meanings_in context own; of = of; limit = limit }
 
   -- there is a body, which has every instance of the scheme
@@ -56,10 +56,10 @@ module _ {P : Type 0} (context : List (List ℕ × Top × P)) where
   -- a name stands for what its type says, where `held` tells what each datatype holds
   pub record IsWellTyped (held : ℕ → Option Term) (env : Environment) (x : Name) : Type 0 where
     pub variables : (t : Term) → top_in context x ≡ Some (top.Variable t) →
-        IsValue held t (named env x) × IsGround t
-    pub functions : (s : Scheme) → top_in context x ≡ Some (top.Function s) → IsBody x s (named env x)
+        IsValue held t (look_up env x) × IsGround t
+    pub functions : (s : Scheme) → top_in context x ≡ Some (top.Function s) → IsBody x s (look_up env x)
     pub datatypes : (tag : ℕ) (t : Term) → top_in context x ≡ Some (top.Datatype tag t) →
-        (named env x ≡ Some (datatype_of tag)) × (held tag ≡ Some t) × IsGround t
+        (look_up env x ≡ Some (datatype_of tag)) × (held tag ≡ Some t) × IsGround t
 
   -- the bindings are well typed
   abbrev pub AreWellTyped : (ℕ → Option Term) → Environment → Type 0

@@ -10,7 +10,7 @@ use Rattle.nesl_types.specs.declared.bindings.Top.{Top}
 use Rattle.nesl_types.specs.declared.bindings.Top.TheVariants as top
 use Rattle.nesl_types.specs.declared.classes.Class.TheVariants.{Any}
 use Rattle.nesl_types.specs.declared.schemes.Scheme.{Scheme}
-use Rattle.nesl_types_bank.specs.Term.{Term, int, bool, char, variable, seq_of, both, nodes}
+use Rattle.nesl_types_bank.specs.Term.{Term, int, bool, char, variable, seq_of, pair_of, nodes}
 use Rattle.nesl_eval_meaning.specs.Names.{Environment, function_of, outside, datatype_of}
 use Rattle.nesl_eval_meaning.specs.Names as evaluated
 use Rattle.nesl_eval_meaning.specs.Outcome.{out}
@@ -54,7 +54,7 @@ two_calls =
 
 -- ((int, bool), [char])
 abbrev pub their_type : Term
-their_type = both (both int bool) (seq_of char)
+their_type = pair_of (pair_of int bool) (seq_of char)
 
 -- the bindings are sound, and the calls at two types are never stuck and have their type
 abbrev pub IdentityIsSound : Type 0
@@ -86,7 +86,7 @@ point_taken_apart =
 
 -- the bindings are sound, and the sum of the parts of a record is never stuck and a number
 abbrev pub PointIsSound : Type 0
-PointIsSound = (t : Term) → t ≡ both int int →
+PointIsSound = (t : Term) → t ≡ pair_of int int →
     IsSound as_it_is (with_point t) ×
     ((n : ℕ) → IsFine (λ v. HasType (held_in (with_point t)) v int)
     (out n (values_of as_it_is (with_point t)) (outside []) point_taken_apart))
@@ -128,7 +128,7 @@ doublings (suc k) =
 -- a type doubled so often
 abbrev pub doubled : ℕ → Term → Term
 doubled zero t = t
-doubled (suc k) t = doubled k (both t t)
+doubled (suc k) t = doubled k (pair_of t t)
 
 abbrev pub growing : ℕ → Tree
 growing k = node here (trees.let_in (doublings k) (node here (trees.truth true)))
@@ -154,4 +154,4 @@ pub record GrowingIsSound : Type 0 where
       ((n : ℕ) → IsFine (λ v. HasType (held_in (with_growing k s)) v bool)
       (out n (values_of as_it_is (with_growing k s)) (outside []) growing_call))
   pub defined : nodes (doubled 11 (variable 0)) ≡ 4095
-  pub called : nodes (doubled 11 (both int bool)) ≡ 8191
+  pub called : nodes (doubled 11 (pair_of int bool)) ≡ 8191

@@ -15,7 +15,7 @@ pub fn scalars_keep_types()
     ensures { ScalarsKeepTypes }
 {}
 
-/// The same of the functions on sequences.
+/// No function on sequences is stuck at an argument of its type, and what it gives has its result's type.
 pub fn sequences_keep_types()
     ensures { SequencesKeepTypes }
 {}
@@ -35,8 +35,8 @@ pub fn lines_keep_types<P>()
     ensures datatypes { (seen : Top → P → evaluated.Top) → DatatypesStaySound seen }
 {}
 
-/// The same with what is inferred: a principal type without variables, a principal scheme, a written type. Inference
-/// can begin, since sound bindings are closed.
+/// Each line keeps the bindings well typed if what it binds has what is inferred for it: a principal type without
+/// variables, a principal scheme, a written type. Inference can begin, since sound bindings are closed.
 pub fn inferred_lines_keep_types<P>()
     ensures closed { (seen : Top → P → evaluated.Top) → SoundIsClosed seen }
     ensures outcomes { (seen : Top → P → evaluated.Top) → InferredTypesAreKept seen }
@@ -50,7 +50,7 @@ pub fn identity_is_sound()
     ensures { IdentityIsSound }
 {}
 
-/// The same of `datatype point (int, int);`, and of a record that is taken apart.
+/// `datatype point (int, int);` keeps them well typed, and a record that is made and taken apart is never stuck.
 pub fn point_is_sound()
     ensures { PointIsSound }
 {}

@@ -40,7 +40,7 @@ pub(crate) fn stop<T>(problem: Problem, place: Span) -> Result<T, Halt> {
     }))
 }
 
-/// The same, with what else has to do with it.
+/// Ends a walk: this is wrong at this place, and the second place has to do with it.
 pub(crate) fn stop_with<T>(problem: Problem, place: Span, second: Span) -> Result<T, Halt> {
     Err(Halt::Wrong(Wrong {
         problem,

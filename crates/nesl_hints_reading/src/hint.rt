@@ -17,7 +17,7 @@ pub struct Hint {
 impl Hint {
     ghost use Rattle.nesl_hints_reading.specs.Within.{IsWithin};
 
-    /// The same hint for a text of so many bytes: what lies behind the text is cut off.
+    /// This hint, cut down to a text of so many bytes.
     pub fn within(self, len: usize) -> Hint
         ensures { IsWithin len result }
     {
@@ -64,7 +64,7 @@ impl Sentence {
         })
     }
 
-    /// The same, with these bytes behind it.
+    /// This sentence, with these bytes behind it.
     pub fn and(self, bytes: &[u8]) -> Result<Sentence, AllocError> {
         let mut sentence = self;
         sentence.bytes.extend_from_slice(bytes)?;

@@ -6,6 +6,7 @@ use crate::commands::read_command;
 use crate::halt::{Halt, Wrong, stop, stop_with};
 use crate::hint::Hint;
 use crate::machine::{read_expression, read_type};
+use crate::marks::{over, pair_said};
 use crate::problems::{Problem, told};
 use crate::source::{is_sign, is_word, name_in};
 use nesl_lex::token::{Kind, Sign, Span, Token, Word};
@@ -129,6 +130,11 @@ fn read_named(alloc: Global, name: &[u8], tokens: &[Token], rest: &[Token]) -> R
         return read_body(alloc, tokens, Span { start: 0, end: 0 });
     };
     if is_sign(next, Sign::Equal) {
+        if let [sign, ..] = behind {
+            if let Some(said) = pair_said(next, sign) {
+                return stop(Problem::Elsewhere(said), over(next.span, sign.span));
+            }
+        }
         return read_body(alloc, behind, next.span);
     }
     match read_body(alloc, tokens, next.span) {

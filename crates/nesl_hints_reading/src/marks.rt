@@ -155,6 +155,13 @@ impl<'a> Machine<'a> {
         let Some(before) = self.before(place) else {
             return stop(Problem::NoOperator, token.span);
         };
+        if let Some(open) = self.opens.last() {
+            match open.opening {
+                Opening::EachPattern => return stop_with(Problem::NoEachIn, token.span, open.at),
+                Opening::LetPattern => return stop_with(Problem::NoLetEqual, token.span, open.at),
+                _ => {}
+            }
+        }
         if name_in(before).is_some() && Machine::begins(token) {
             return stop_with(Problem::NoParentheses, token.span, before.span);
         }

@@ -56,7 +56,7 @@ impl Open {
         }
     }
 
-    /// The same, with something else open: the next part of what it is.
+    /// What is open, when its next part begins.
     pub(crate) fn turned(self, opening: Opening, from: usize) -> Open {
         Open {
             opening,

@@ -148,7 +148,7 @@ fn said_of(problem: Problem) -> (&'static [u8], Quote, &'static [u8]) {
     }
 }
 
-// The same of definitions.
+// What is said of a problem of a definition.
 fn said_of_definition(problem: Problem) -> (&'static [u8], Quote, &'static [u8]) {
     match problem {
         Problem::NoEqual => plain(
@@ -188,7 +188,7 @@ fn said_of_definition(problem: Problem) -> (&'static [u8], Quote, &'static [u8])
     }
 }
 
-// The same of expressions.
+// What is said of a problem of an expression.
 fn said_of_expression(problem: Problem) -> (&'static [u8], Quote, &'static [u8]) {
     match problem {
         Problem::NoParentheses => (
@@ -215,7 +215,7 @@ fn said_of_expression(problem: Problem) -> (&'static [u8], Quote, &'static [u8])
         ),
         Problem::NoLetEqual => plain(b"a `let` binds by `=`, as in `let y = 1 in y + 1;`"),
         Problem::NoEachIn => plain(
-            b"behind `:` stand a name and its sequence, as in `{a * a : a in [1, 2]}`",
+            b"behind `:` stand a name, `in` and a sequence, as in `{a * a : a in [1, 2]}`",
         ),
         Problem::Elements => plain(
             b"a sequence of elements stands in `[ ]`; `{a * a : a in [1, 2]}` is an apply-to-each",
@@ -239,7 +239,7 @@ fn said_of_expression(problem: Problem) -> (&'static [u8], Quote, &'static [u8])
     }
 }
 
-// The same of brackets, and of what stands between.
+// What is said of brackets, and of what stands between them.
 fn said_of_bracket(problem: Problem) -> (&'static [u8], Quote, &'static [u8]) {
     match problem {
         Problem::StillOpen => (b"the `", Quote::Second, b"` before it is still open"),

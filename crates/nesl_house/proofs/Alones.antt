@@ -8,12 +8,12 @@ use Rattle.std.proofs.lemmas.List.{map-append}
 use Rattle.std.proofs.lemmas.List.Elements.{filter-append}
 use Rattle.std.proofs.lemmas.Slice.Eq.{bytes_eq-Decides}
 use Rattle.nesl_session_step.specs.State.{State, Log}
-use Rattle.nesl_session_step.specs.Response.{Response, no_memory, no_user, is_memory}
-use Rattle.nesl_session_step.specs.Solo.{Replays, Alone, Responds}
+use Rattle.nesl_session_step.specs.Response.{Reply, no_memory, no_user, is_memory}
+use Rattle.nesl_session_step.specs.Solo.{Replays, SessionAnswers, Responds}
 use Rattle.nesl_session_step.specs.Laws.{GoesOn, OneRun, OneState}
-use Rattle.nesl_house.specs.Script.{Event, lines_of, replies_of, own, kept}
+use Rattle.nesl_house.specs.Script.{Event, lines_of, replies_of, own_events, kept_events}
 use Rattle.nesl_house.specs.Laws.{ScriptsFollow, SameBindings, OwnLinesDecide}
-use Rattle.nesl_house.specs.Runs.{Account, roster_of, session_of, AllReplay, RunsAlone, IsTold, Runs}
+use Rattle.nesl_house.specs.Runs.{Account, roster_of, session_of, AllReplay, RunsAlone, IsReplied, Runs}
 
 -- a session that is found is a replay
 found_here : (b : Bool) (account : Account) (rest : Option Log) (log : Log) → (s : State) × Replays account.session s → (rest ≡ Some log → (s : State) × Replays log s) → cond b (Some account.session) rest ≡ Some log → (s : State) × Replays log s
@@ -25,7 +25,7 @@ session_replays [] user log all e = absurd (cc)
 session_replays (account ∷ accounts) user log all e = found_here (bytes_eq account.name user) account (session_of accounts user) log all.0 (session_replays accounts user log all.1) e
 
 -- a session that is told nothing stays as it is
-alone_none : (log : Log) (s : State) → Replays log s → Alone log [] [] log
+alone_none : (log : Log) (s : State) → Replays log s → SessionAnswers log [] [] log
 alone_none log s r = record { before = s; after = s; starts = r; run = refl; ends = r; limits = refl }
 
 -- told nothing, a user's session stays
@@ -47,25 +47,25 @@ alone_next goes_on (Some old) mid new es fs a b =
     let P : Option Log → Type 0 = λ x. RunsAlone x fs new in
     let c = subst P a.1 b in
     let one = goes_on old a.0 c.0 (lines_of es) (lines_of fs) (replies_of es) (replies_of fs) a.2 c.2 in
-    let Q : List (List ℕ) → Type 0 = λ x. Alone old x (replies_of es ++ replies_of fs) c.0 in
-    let R : List Response → Type 0 = λ x. Alone old (lines_of (es ++ fs)) x c.0 in
+    let Q : List (List ℕ) → Type 0 = λ x. SessionAnswers old x (replies_of es ++ replies_of fs) c.0 in
+    let R : List Reply → Type 0 = λ x. SessionAnswers old (lines_of (es ++ fs)) x c.0 in
     (c.0, c.1, subst R (sym (map-append (λ (e : Event). e.reply) es fs)) (subst Q (sym (map-append (λ (e : Event). e.line) es fs)) one))
 
 pub stays_none : (o new : Option Log) (es : List Event) → RunsAlone o es new → o ≡ None → new ≡ None
 stays_none None new es a e = a
 stays_none (Some log) new es a e = absurd (cc)
 
-pub kept-append : (user : List ℕ) (es fs : List Event) → kept user (es ++ fs) ≡ kept user es ++ kept user fs
-kept-append user es fs = ap (filter (λ (e : Event). not (is_memory e.reply))) (filter-append (λ (e : Event). bytes_eq e.user user) es fs) ∙ filter-append (λ (e : Event). not (is_memory e.reply)) (own user es) (own user fs)
+pub kept-append : (user : List ℕ) (es fs : List Event) → kept_events user (es ++ fs) ≡ kept_events user es ++ kept_events user fs
+kept-append user es fs = ap (filter (λ (e : Event). not (is_memory e.reply))) (filter-append (λ (e : Event). bytes_eq e.user user) es fs) ∙ filter-append (λ (e : Event). not (is_memory e.reply)) (own_events user es) (own_events user fs)
 
 -- one script after another
 pub runs_then : GoesOn → ScriptsFollow
 runs_then goes_on a b c es fs p q = record {
   roster = q.roster ∙ p.roster;
-  each = all_append (IsTold a) (IsTold b) (λ e t. record { stranger = λ none. t.stranger (stays_none (session_of a e.user) (session_of b e.user) (kept e.user es) (p.users e.user) none); memory = t.memory }) es fs p.each q.each;
+  each = all_append (IsReplied a) (IsReplied b) (λ e t. record { stranger = λ none. t.stranger (stays_none (session_of a e.user) (session_of b e.user) (kept_events e.user es) (p.users e.user) none); memory = t.memory }) es fs p.each q.each;
   users = λ user.
       let P : List Event → Type 0 = λ x. RunsAlone (session_of a user) x (session_of c user) in
-      subst P (sym (kept-append user es fs)) (alone_next goes_on (session_of a user) (session_of b user) (session_of c user) (kept user es) (kept user fs) (p.users user) (q.users user));
+      subst P (sym (kept-append user es fs)) (alone_next goes_on (session_of a user) (session_of b user) (session_of c user) (kept_events user es) (kept_events user fs) (p.users user) (q.users user));
 }
 
 -- a user's own lines decide
@@ -76,7 +76,7 @@ alone_decided one_run one two session es fs after_one after_two p q e f same =
     let Q : Option Log → Type 0 = λ x. RunsAlone x fs after_two in
     let a = subst P e p in
     let b = subst Q f q in
-    let R : List (List ℕ) → Type 0 = λ x. Alone session x (replies_of fs) b.0 in
+    let R : List (List ℕ) → Type 0 = λ x. SessionAnswers session x (replies_of fs) b.0 in
     let u = one_run session a.0 b.0 (lines_of es) (replies_of es) (replies_of fs) a.2 (subst R (sym same) b.2) in
     (u.0, a.1 ∙ ap (λ (x : Log). Some x) u.1 ∙ sym b.1)
 
@@ -91,16 +91,16 @@ same_bindings one_state house other user e bindings others a b =
 
 pub own_lines : OneRun → OneState → OwnLinesDecide
 own_lines one_run one_state one two after_one after_two said_one said_two user session p q e f same =
-    let d = alone_decided one_run (session_of one user) (session_of two user) session (kept user said_one) (kept user said_two) (session_of after_one user) (session_of after_two user) (p.users user) (q.users user) e f same in
+    let d = alone_decided one_run (session_of one user) (session_of two user) session (kept_events user said_one) (kept_events user said_two) (session_of after_one user) (session_of after_two user) (p.users user) (q.users user) e f same in
     (d.0, d.1, same_bindings one_state after_one after_two user d.1)
 
 -- One line, of which a session gave the answer: to its user it is a run of one line or of none, and to the others of none.
-one_kept : (memory : Bool) (e : Event) (old new : Log) → is_memory e.reply ≡ memory → (s : State) × Replays old s → MatchBool memory ((e.reply ≡ no_memory) × (new ≡ old)) (Alone old (e.line ∷ []) (e.reply ∷ []) new)
+one_kept : (memory : Bool) (e : Event) (old new : Log) → is_memory e.reply ≡ memory → (s : State) × Replays old s → MatchBool memory ((e.reply ≡ no_memory) × (new ≡ old)) (SessionAnswers old (e.line ∷ []) (e.reply ∷ []) new)
     → RunsAlone (Some old) (cond (not memory) (e ∷ []) []) (Some new)
 one_kept true e old new m r a = (old, ap (λ (x : Log). Some x) a.1, alone_none old r.0 r.1)
 one_kept false e old new m r a = (new, refl, a)
 
-memory_told : (memory : Bool) (reply : Response) (old new : Log) (P : Type 0) → MatchBool memory ((reply ≡ no_memory) × (new ≡ old)) P → memory ≡ true → reply ≡ no_memory
+memory_told : (memory : Bool) (reply : Reply) (old new : Log) (P : Type 0) → MatchBool memory ((reply ≡ no_memory) × (new ≡ old)) P → memory ≡ true → reply ≡ no_memory
 memory_told true reply old new P a h = a.0
 memory_told false reply old new P a h = absurd (cc)
 
@@ -113,7 +113,7 @@ pub runs_one : (house house' : List Account) (e : Event) (old new : Log) → All
     → ((v : List ℕ) → bytes_eq e.user v ≡ false → session_of house' v ≡ session_of house v) → Responds old e.line e.reply new → Runs house (e ∷ []) house'
 runs_one house house' e old new all names had has others a = record {
   roster = names;
-  each = (record { stranger = λ none. absurd (cc); memory = memory_told (is_memory e.reply) e.reply old new (Alone old (e.line ∷ []) (e.reply ∷ []) new) a }, tt);
+  each = (record { stranger = λ none. absurd (cc); memory = memory_told (is_memory e.reply) e.reply old new (SessionAnswers old (e.line ∷ []) (e.reply ∷ []) new) a }, tt);
   users = λ v.
       one_user (bytes_eq e.user v) e None None (session_of house v) (session_of house' v)
       (λ yes'.

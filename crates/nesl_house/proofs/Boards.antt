@@ -10,7 +10,7 @@ use Rattle.std.proofs.lemmas.List.Elements.{All-set}
 use Rattle.std.proofs.lemmas.List.FromFn.{length-map-range_with_len, map-range_with_len_more}
 use Rattle.std.proofs.lemmas.List.Sums.{sum_by-le, sum_by-cons, sum_by-set, get_or-le-sum_by}
 use Rattle.nesl_session_step.specs.declared.limits.Limits.{Limits}
-use Rattle.nesl_session_step.specs.State.{State, told_lines, unsaid}
+use Rattle.nesl_session_step.specs.State.{State, recorded_lines, empty_log}
 use Rattle.nesl_session_step.specs.Solo.{Replays}
 use Rattle.nesl_house.specs.declared.slots.Slot.{Slot}
 use Rattle.nesl_house.specs.declared.slots.Slot.TheVariants.{Home, Away}
@@ -52,7 +52,7 @@ all_home slots e = home_from slots 0 (sym (position_from-zero is_away slots) ∙
 
 -- what the session of a seat was told
 abbrev pub told : Seat → ℕ
-told seat = told_lines seat.session
+told seat = recorded_lines seat.session
 
 -- so as many seats as places, whose sessions were told what the places count
 sum_home : (seats : List Seat) → sum_by counted (map Home seats) ≡ sum_by told seats
@@ -169,8 +169,8 @@ in_place_set slots k x own all place seat e = elim (set_read slots k place x (Ho
 opened_read : (limits : Limits) (a n k : ℕ) (seat : Seat) → slice_get (map (opened_at limits) (range_with_len a n)) k ≡ Some (Home seat) → seat.place ≡ a + k
 opened_read limits a zero k seat e = absurd (cc)
 opened_read limits a (suc n) zero seat e =
-    let first : Home (record { place = a; session = unsaid limits }) ≡ Home seat = cc in
-    let same : record { place = a; session = unsaid limits } ≡ seat = cc in
+    let first : Home (record { place = a; session = empty_log limits }) ≡ Home seat = cc in
+    let same : record { place = a; session = empty_log limits } ≡ seat = cc in
     let place : seat.place ≡ a = sym (ap (λ (s : Seat). s.place) same) in
     omega (arith, place)
 opened_read limits a (suc n) (suc k) seat e = let more : seat.place ≡ a + 1 + k = opened_read limits (a + 1) n k seat e in omega (arith, more)
@@ -205,7 +205,7 @@ module _ (limits : Limits) (slots : List Slot) (n : ℕ) where
   pub opened_few : slots ≡ map (opened_at limits) (range_with_len 0 n) → All (λ s. counted s < 2 ^ 64) slots
   opened_few e = subst (λ (x : List Slot). All (λ s. counted s < 2 ^ 64) x) (sym e) (opened_small limits n)
 
-pub opened_more : (limits : Limits) (slots slots' : List Slot) (seat : Seat) (place : ℕ) → slots ≡ map (opened_at limits) (range_with_len 0 place) → seat ≡ record { place = place; session = unsaid limits } → slots' ≡ slots ++ Home seat ∷ [] → slots' ≡ map (opened_at limits) (range_with_len 0 (place + 1))
+pub opened_more : (limits : Limits) (slots slots' : List Slot) (seat : Seat) (place : ℕ) → slots ≡ map (opened_at limits) (range_with_len 0 place) → seat ≡ record { place = place; session = empty_log limits } → slots' ≡ slots ++ Home seat ∷ [] → slots' ≡ map (opened_at limits) (range_with_len 0 (place + 1))
 opened_more limits slots slots' seat place e is push = push ∙ ap (λ x. x ++ Home seat ∷ []) e ∙ ap (λ y. map (opened_at limits) (range_with_len 0 place) ++ Home y ∷ []) is ∙ sym (map-range_with_len_more (opened_at limits) 0 place place (omega arith))
 
 -- the seat that a place lends is its own

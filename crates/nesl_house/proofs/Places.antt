@@ -8,11 +8,11 @@ use Rattle.std.proofs.Math.ListN.{set}
 use Rattle.std.proofs.lemmas.List.{take_more}
 use Rattle.std.specs.Bool.{MatchBool}
 use Rattle.std.proofs.lemmas.Slice.Eq.{bytes_eq-Decides}
-use Rattle.nesl_session_step.specs.Response.{Response, is_memory, no_memory, no_user}
+use Rattle.nesl_session_step.specs.Response.{Reply, is_memory, no_memory, no_user}
 use Rattle.nesl_house.specs.declared.house.Said.{Said}
 use Rattle.nesl_house.specs.Script.{Event}
 use Rattle.nesl_session_step.specs.State.{State, Log}
-use Rattle.nesl_session_step.specs.Solo.{Replays, Alone, Responds}
+use Rattle.nesl_session_step.specs.Solo.{Replays, SessionAnswers, Responds}
 use Rattle.nesl_house.specs.Runs.{Account, roster_of, session_of, AllReplay, Runs}
 use Rattle.nesl_house.specs.Laws.{ScriptsFollow}
 use Rattle.nesl_house.proofs.Alones.{session_replays, runs_one, runs_stranger}
@@ -67,25 +67,25 @@ no_session_from (u ∷ us) user i e = not_here (bytes_eq u.name user) (position_
 pub no_session : (users : List Account) (user : List ℕ) → position (λ u. bytes_eq u.name user) users ≡ None → session_of users user ≡ None
 no_session users user e = no_session_from users user 0 (sym (position_from-zero (λ u. bytes_eq u.name user) users) ∙ e)
 
-events_append : (xs ys : List Said) (rs ss : List Response) → length xs ≡ length rs → events_of (xs ++ ys) (rs ++ ss) ≡ events_of xs rs ++ events_of ys ss
+events_append : (xs ys : List Said) (rs ss : List Reply) → length xs ≡ length rs → events_of (xs ++ ys) (rs ++ ss) ≡ events_of xs rs ++ events_of ys ss
 events_append [] ys [] ss h = refl
 events_append [] ys (r ∷ rs) ss h = absurd (omega (arith, h))
 events_append (x ∷ xs) ys [] ss h = absurd (omega (arith, h))
 events_append (x ∷ xs) ys (r ∷ rs) ss h = ap (λ (es : List Event). record { user = x.user.items; line = x.text.items; reply = r } ∷ es) (events_append xs ys rs ss (omega (arith, h)))
 
 -- one line more of a script
-pub events_push : (script : List Said) (i : ℕ) (d : Said) (replies : List Response) (reply : Response) → i < length script → length replies ≡ i
+pub events_push : (script : List Said) (i : ℕ) (d : Said) (replies : List Reply) (reply : Reply) → i < length script → length replies ≡ i
     → events_of (take (i + 1) script) (replies ++ reply ∷ []) ≡ events_of (take i script) replies ++ record { user = (get_or script i d).user.items; line = (get_or script i d).text.items; reply = reply } ∷ []
 events_push script i d replies reply h n =
     let short : length (take i script) ≡ length replies = omega (arith, length-take i script) in
     ap (λ xs. events_of xs (replies ++ reply ∷ [])) (take_more script i d h) ∙ events_append (take i script) (get_or script i d ∷ []) replies (reply ∷ []) short
 
-answered_replay : (memory : Bool) (old : Log) (line : List ℕ) (reply : Response) (new : Log) → MatchBool memory ((reply ≡ no_memory) × (new ≡ old)) (Alone old (line ∷ []) (reply ∷ []) new) → (s : State) × Replays old s → (s : State) × Replays new s
+answered_replay : (memory : Bool) (old : Log) (line : List ℕ) (reply : Reply) (new : Log) → MatchBool memory ((reply ≡ no_memory) × (new ≡ old)) (SessionAnswers old (line ∷ []) (reply ∷ []) new) → (s : State) × Replays old s → (s : State) × Replays new s
 answered_replay true old line reply new a r = let P : Log → Type 0 = λ x. (s : State) × Replays x s in subst P (sym a.1) r
 answered_replay false old line reply new a r = (a.after, a.ends)
 
 -- the user of a place says a line, and has the account w then
-module _ (house : List Account) (users xs : List Account) (user line : List ℕ) (k : ℕ) (d w : Account) (reply : Response) where
+module _ (house : List Account) (users xs : List Account) (user line : List ℕ) (k : ℕ) (d w : Account) (reply : Reply) where
   there : Some k ≡ position (λ u. bytes_eq u.name user) xs → xs ≡ users → IsPlace users user k d
   there e x = is_place users user k d (ap (position (λ (u : Account). bytes_eq u.name user)) (sym x) ∙ sym e)
 
@@ -107,7 +107,7 @@ module _ (house : List Account) (users xs : List Account) (user line : List ℕ)
       (runs_one users (set users k w) (record { user = user; line = line; reply = reply }) d.session w.session all (names_set users k d w p.0 (m ∙ n)) (had e x g) (session_set users user k d w p (m ∙ n))
       (λ v other. session_others users k d w v p.0 (m ∙ n) (ap (λ y. bytes_eq y v) (m ∙ same) ∙ other)) a)
 
-pub said_stranger : (house : List Account) (users xs : List Account) (user line : List ℕ) (reply : Response) → AllReplay users → users ≡ house → None ≡ position (λ u. bytes_eq u.name user) xs → xs ≡ users → reply ≡ no_user
+pub said_stranger : (house : List Account) (users xs : List Account) (user line : List ℕ) (reply : Reply) → AllReplay users → users ≡ house → None ≡ position (λ u. bytes_eq u.name user) xs → xs ≡ users → reply ≡ no_user
     → Runs house (record { user = user; line = line; reply = reply } ∷ []) house
 said_stranger house users xs user line reply all h e x a =
     let P : List Account → Type 0 = λ y. Runs y (record { user = user; line = line; reply = reply } ∷ []) y in
@@ -120,7 +120,7 @@ pub session_missed : (house : List Account) (users xs : List Account) (user : Li
 session_missed house users xs user h e x = sym (no_session users user (ap (position (λ u. bytes_eq u.name user)) (sym x) ∙ sym e)) ∙ ap (λ s. session_of s user) h
 
 -- one line more of a script that is run
-pub run_more : ScriptsFollow → (start now next : List Account) (script : List Said) (i : ℕ) (said : Said) (replies replies' : List Response) (reply : Response) (user line : List ℕ) → Runs start (events_of (take i script) replies) now
+pub run_more : ScriptsFollow → (start now next : List Account) (script : List Said) (i : ℕ) (said : Said) (replies replies' : List Reply) (reply : Reply) (user line : List ℕ) → Runs start (events_of (take i script) replies) now
     → Runs now (record { user = user; line = line; reply = reply } ∷ []) next → i < length script → length replies ≡ i → said ≡ get_or script i said → user ≡ said.user.items → line ≡ said.text.items → replies' ≡ replies ++ reply ∷ []
     → Runs start (events_of (take (i + 1) script) replies') next
 run_more follow start now next script i said replies replies' reply user line p q h n s u l e =

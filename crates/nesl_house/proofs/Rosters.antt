@@ -7,7 +7,7 @@ use Rattle.std.proofs.lemmas.List.Elements.{All-push}
 use Rattle.std.proofs.lemmas.List.Quantifiers.{all_pairs_push}
 use Rattle.std.proofs.lemmas.Slice.Eq.{bytes_eq-Decides}
 use Rattle.nesl_house.specs.declared.roster.NewFault.TheVariants.{Name, Twice}
-use Rattle.nesl_house.specs.Roster.{is_letter, is_digit, is_user_name, AreUsers, IsCount, IsRefused, bad_name, stands_twice}
+use Rattle.nesl_house.specs.Roster.{is_small_letter, is_digit, is_user_name, AreUsers, IsCount, IsRefused, bad_name, stands_twice}
 
 -- a list, cut at a place
 pub cut_at : {A B : Type 0} (f : A → B) (xs : List A) (i : ℕ) (d : A) → i < length xs → map f xs ≡ map f (take i xs) ++ f (get_or xs i d) ∷ map f (drop (suc i) xs)
@@ -75,11 +75,11 @@ module _ {A : Type 0} (f : A → List ℕ) (xs : List A) (i : ℕ) (d : A) (it :
         apart = all_pairs_push (λ one other. one ≢ other) (map f (take i xs)) it u.apart (stands_nowhere f it (take i xs) t);
       })
 
-pub named : (name : List ℕ) (first : ℕ) (spelled : Bool) → Some first ≡ slice_get name 0 → is_letter first ≡ true → length name ≤ 16 → spelled ≡ list_all (λ b. is_letter b || is_digit b) name → spelled ≡ is_user_name name
+pub named : (name : List ℕ) (first : ℕ) (spelled : Bool) → Some first ≡ slice_get name 0 → is_small_letter first ≡ true → length name ≤ 16 → spelled ≡ list_all (λ b. is_small_letter b || is_digit b) name → spelled ≡ is_user_name name
 named [] first spelled e l n s = absurd (cc)
 named (b ∷ bs) first spelled e l n s =
     let same : first ≡ b = cc in
-    let letter : is_letter b ≡ true = ap is_letter (sym same) ∙ l in
+    let letter : is_small_letter b ≡ true = ap is_small_letter (sym same) ∙ l in
     let short : nat_le (length (b ∷ bs)) 16 ≡ true = le-leb (length (b ∷ bs)) 16 n in
-    let all = list_all (λ x. is_letter x || is_digit x) (b ∷ bs) in
+    let all = list_all (λ x. is_small_letter x || is_digit x) (b ∷ bs) in
     s ∙ sym (ap (λ t. t && (nat_le (length (b ∷ bs)) 16 && all)) letter ∙ ap (λ t. t && all) short)

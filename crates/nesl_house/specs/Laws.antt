@@ -2,8 +2,8 @@
 use Rattle.std.specs.Prelude.{◌≡◌, ◌++◌, ℕ, List, Some}
 use Rattle.nesl_session_bindings.specs.Meanings.{Binding}
 use Rattle.nesl_session_step.specs.State.{Log}
-use Rattle.nesl_house.specs.Script.{Event, kept, lines_of, replies_of}
-use Rattle.nesl_house.specs.Runs.{Account, session_of, Binds, Runs}
+use Rattle.nesl_house.specs.Script.{Event, kept_events, lines_of, replies_of}
+use Rattle.nesl_house.specs.Runs.{Account, session_of, HasBindings, Runs}
 
 -- of one script after another, what comes of the second goes on from the house that the first leaves
 abbrev pub ScriptsFollow : Type 0
@@ -14,7 +14,8 @@ ScriptsFollow =
 -- whatever a user's names stand for in the one house, they stand for in the other
 abbrev pub SameBindings : List Account → List Account → List ℕ → Type 0
 SameBindings house other user =
-    (bindings others : List Binding) → Binds house user bindings → Binds other user others → bindings ≡ others
+    (bindings others : List Binding) → HasBindings house user bindings → HasBindings other user others
+    → bindings ≡ others
 
 -- Two scripts that agree on a user's kept lines, said to houses in which that user has one session, give that user the
 -- same replies, and leave the same session and the same bindings.
@@ -23,6 +24,6 @@ OwnLinesDecide =
     (one two after_one after_two : List Account) (said_one said_two : List Event) (user : List ℕ) (session : Log)
     → Runs one said_one after_one → Runs two said_two after_two
     → session_of one user ≡ Some session → session_of two user ≡ Some session
-    → lines_of (kept user said_one) ≡ lines_of (kept user said_two)
-    → (replies_of (kept user said_one) ≡ replies_of (kept user said_two))
+    → lines_of (kept_events user said_one) ≡ lines_of (kept_events user said_two)
+    → (replies_of (kept_events user said_one) ≡ replies_of (kept_events user said_two))
     × (session_of after_one user ≡ session_of after_two user) × SameBindings after_one after_two user

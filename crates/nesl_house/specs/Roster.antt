@@ -4,14 +4,14 @@ use Rattle.std.specs.Prelude.{length, map, All, AllPairs, Contains, Option, posi
 use Rattle.std.specs.List.{list_all}
 use Rattle.std.specs.Str.{bytes_eq}
 use Rattle.nesl_session_step.specs.declared.limits.Limits.{Limits}
-use Rattle.nesl_session_step.specs.State.{unsaid}
+use Rattle.nesl_session_step.specs.State.{empty_log}
 use Rattle.nesl_house.specs.declared.roster.NewFault.{NewFault}
 use Rattle.nesl_house.specs.declared.roster.NewFault.TheVariants.{Count, Name, Twice, Memory}
 use Rattle.nesl_house.specs.Runs.{Account}
 
 -- a to z
-abbrev pub is_letter : ℕ → Bool
-is_letter b = nat_le 97 b && nat_le b 122
+abbrev pub is_small_letter : ℕ → Bool
+is_small_letter b = nat_le 97 b && nat_le b 122
 
 -- 0 to 9
 abbrev pub is_digit : ℕ → Bool
@@ -19,12 +19,12 @@ is_digit b = nat_le 48 b && nat_le b 57
 
 abbrev pub begins_with_letter : List ℕ → Bool
 begins_with_letter [] = false
-begins_with_letter (b ∷ bs) = is_letter b
+begins_with_letter (b ∷ bs) = is_small_letter b
 
 -- a user name: a letter, then letters and digits, at most 16 in all
 abbrev pub is_user_name : List ℕ → Bool
 is_user_name name =
-    begins_with_letter name && (nat_le (length name) 16 && list_all (λ b. is_letter b || is_digit b) name)
+    begins_with_letter name && (nat_le (length name) 16 && list_all (λ b. is_small_letter b || is_digit b) name)
 
 -- user names, of which none stands twice
 pub record AreUsers (names : List (List ℕ)) : Type 0 where
@@ -59,9 +59,9 @@ pub data IsRefused (names : List (List ℕ)) : NewFault → Type 0 where
   no_memory_left : IsRoster names → IsRefused names Memory
 
 -- an account with an empty session
-abbrev pub fresh : Limits → List ℕ → Account
-fresh limits name = record { name = name; session = unsaid limits }
+abbrev pub new_account : Limits → List ℕ → Account
+new_account limits name = record { name = name; session = empty_log limits }
 
 -- the house in which each of these users has an empty session
-abbrev pub opened : Limits → List (List ℕ) → List Account
-opened limits names = map (fresh limits) names
+abbrev pub new_house : Limits → List (List ℕ) → List Account
+new_house limits names = map (new_account limits) names

@@ -5,8 +5,8 @@ use Rattle.std.specs.Str.{bytes_eq}
 use Rattle.nesl_session_bindings.specs.Meanings.{Binding}
 use Rattle.nesl_session_step.specs.State.{State, Log}
 use Rattle.nesl_session_step.specs.Response.{no_memory, no_user, is_memory}
-use Rattle.nesl_session_step.specs.Solo.{Replays, Alone}
-use Rattle.nesl_house.specs.Script.{Event, lines_of, replies_of, kept}
+use Rattle.nesl_session_step.specs.Solo.{Replays, SessionAnswers}
+use Rattle.nesl_house.specs.Script.{Event, lines_of, replies_of, kept_events}
 
 -- A house is a list of accounts: a user's name, and that user's session.
 pub record Account : Type 0 where
@@ -28,7 +28,7 @@ abbrev pub AllReplay : List Account → Type 0
 AllReplay house = AllByRecursion (λ account. (s : State) × Replays account.session s) house
 
 -- the names of this user's session and what they stand for: the bindings of the state that it is the replay to
-pub record Binds (house : List Account) (user : List ℕ) (bindings : List Binding) : Type 0 where
+pub record HasBindings (house : List Account) (user : List ℕ) (bindings : List Binding) : Type 0 where
   pub session : Log
   pub state : State
   pub has : session_of house user ≡ Some session
@@ -40,10 +40,10 @@ pub record Binds (house : List Account) (user : List ℕ) (bindings : List Bindi
 abbrev pub RunsAlone : Option Log → List Event → Option Log → Type 0
 RunsAlone None events after = after ≡ None
 RunsAlone (Some old) events after =
-    (new : Log) × (after ≡ Some new) × Alone old (lines_of events) (replies_of events) new
+    (new : Log) × (after ≡ Some new) × SessionAnswers old (lines_of events) (replies_of events) new
 
 -- A stranger is told `fault user`. Who is told of want of memory is told nothing else.
-pub record IsTold (house : List Account) (e : Event) : Type 0 where
+pub record IsReplied (house : List Account) (e : Event) : Type 0 where
   pub stranger : session_of house e.user ≡ None → e.reply ≡ no_user
   pub memory : is_memory e.reply ≡ true → e.reply ≡ no_memory
 
@@ -51,5 +51,5 @@ pub record IsTold (house : List Account) (e : Event) : Type 0 where
 -- whom was told what a session alone tells of that user's kept lines.
 pub record Runs (old : List Account) (events : List Event) (new : List Account) : Type 0 where
   pub roster : roster_of new ≡ roster_of old
-  pub each : AllByRecursion (IsTold old) events
-  pub users : (user : List ℕ) → RunsAlone (session_of old user) (kept user events) (session_of new user)
+  pub each : AllByRecursion (IsReplied old) events
+  pub users : (user : List ℕ) → RunsAlone (session_of old user) (kept_events user events) (session_of new user)

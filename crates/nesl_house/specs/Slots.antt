@@ -1,14 +1,14 @@
 -- Places for seats, each of which is at home or away.
 use Rattle.std.specs.Prelude.{◌≡◌, ℕ, List, [], ◌∷◌, Bool, true, false, Some, map, slice_get, slice_index_or}
 use Rattle.nesl_session_step.specs.declared.limits.Limits.{Limits}
-use Rattle.nesl_session_step.specs.State.{told_lines, unsaid}
+use Rattle.nesl_session_step.specs.State.{recorded_lines, empty_log}
 use Rattle.nesl_house.specs.declared.slots.Slot.{Slot}
 use Rattle.nesl_house.specs.declared.slots.Slot.TheVariants.{Home, Away}
 use Rattle.nesl_house.specs.Register.{Seat}
 
 -- the lines that a place counts: those that its session was told, or had been told when it was taken out
 abbrev pub counted : Slot → ℕ
-counted (Home seat) = told_lines seat.session
+counted (Home seat) = recorded_lines seat.session
 counted (Away count) = count
 
 -- the lines that the place at this index counts
@@ -21,7 +21,7 @@ is_away (Away count) = true
 
 -- a seat with an empty session, at home at its place
 abbrev pub opened_at : Limits → ℕ → Slot
-opened_at limits place = Home (record { place = place; session = unsaid limits })
+opened_at limits place = Home (record { place = place; session = empty_log limits })
 
 -- each seat that is at home is at its own place
 abbrev pub AreInPlace : List Slot → Type 0

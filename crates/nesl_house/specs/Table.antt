@@ -1,7 +1,7 @@
 -- Seats that are taken out of a table and given back.
 use Rattle.std.specs.Prelude.{◌≡◌, ◌≢◌, ℕ, List, [], ◌∷◌, map, sum_by}
 use Rattle.std.specs.List.{AllByRecursion, range_with_len}
-use Rattle.nesl_session_step.specs.State.{State, told_lines}
+use Rattle.nesl_session_step.specs.State.{State, recorded_lines}
 use Rattle.nesl_session_step.specs.Solo.{Replays}
 use Rattle.nesl_house.specs.Runs.{Account, roster_of}
 use Rattle.nesl_house.specs.Register.{Register, Seat}
@@ -30,7 +30,7 @@ pub record IsClosed (roster : List (List ℕ)) (house : List Account) (lines : �
   pub replayed : AreReplays held
   pub names : roster_of house ≡ roster
   pub users : house ≡ seated roster held
-  pub told : lines ≡ sum_by (λ (seat : Seat). told_lines seat.session) held
+  pub told : lines ≡ sum_by (λ (seat : Seat). recorded_lines seat.session) held
 
 -- A table that isn't closed is handed back, and the receipts with it. Where some are missing, their lines are told,
 -- which aren't those that the table holds.

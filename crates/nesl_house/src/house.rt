@@ -3,7 +3,7 @@ ghost use Rattle.std.specs.Prelude.{◌≡◌, ℕ, [], ◌∷◌, IfOk, IfErr, 
 ghost use Rattle.std.specs.Str.{bytes_eq};
 ghost use Rattle.nesl_session_step.specs.Solo.{Responds};
 ghost use Rattle.nesl_house.specs.Runs.{session_of, Runs, AllReplay};
-ghost use Rattle.nesl_house.specs.Roster.{IsRoster, IsRefused, opened};
+ghost use Rattle.nesl_house.specs.Roster.{IsRoster, IsRefused, new_house};
 
 use crate::laws::scripts_follow;
 use crate::manner::{By, ByCall, InHeap, Manner, Plainly, Saying};
@@ -57,7 +57,7 @@ impl House {
     /// any memory is taken.
     pub fn new(alloc: Global, roster: &[Vec<u8>], limits: Limits) -> Result<House, NewFault>
         ensures roster { OnOk result (IsRoster (map (λ v. v.items) roster.now)) }
-        ensures opened { IfOk result (λ house. house ≡ opened limits (map (λ v. v.items) roster.now)) }
+        ensures opened { IfOk result (λ house. house ≡ new_house limits (map (λ v. v.items) roster.now)) }
         ensures refused { IfErr result (IsRefused (map (λ v. v.items) roster.now)) }
     {
         check(roster)?;
@@ -68,7 +68,7 @@ impl House {
     }
 
     fn open(alloc: Global, roster: &[Vec<u8>], limits: Limits) -> Result<House, AllocError>
-        ensures { IfOk result (λ house. house ≡ opened limits (map (λ v. v.items) roster.now)) }
+        ensures { IfOk result (λ house. house ≡ new_house limits (map (λ v. v.items) roster.now)) }
     {
         let mut users = Vec::with_capacity(alloc, roster.len())?;
         for name in roster {

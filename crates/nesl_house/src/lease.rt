@@ -1,11 +1,11 @@
 //! A seat that is out of the table.
 ghost use Rattle.std.specs.Prelude.{◌≡◌, ◌+◌};
-ghost use Rattle.nesl_session_step.specs.State.{told_lines};
+ghost use Rattle.nesl_session_step.specs.State.{recorded_lines};
 ghost use Rattle.nesl_session_step.specs.Solo.{Responds};
 
 use crate::seat::Seat;
 use nesl_session::answer::Answer;
-use nesl_session::laws::told_lines_grow;
+use nesl_session::laws::recorded_lines_grow;
 use nesl_session::session::Session;
 use nesl_split_helpers::{Gate, Helpers};
 use std::alloc::Global;
@@ -21,14 +21,14 @@ pub struct Lease {
 
 impl Model for Lease {
     ghost use Rattle.std.specs.Prelude.{◌≤◌};
-    ghost use Rattle.nesl_session_step.specs.State.{told_lines};
+    ghost use Rattle.nesl_session_step.specs.State.{recorded_lines};
     ghost use Rattle.nesl_house.specs.Register.{Leased};
 
     ghost Value = { Leased };
 
     ghost view = { λ l. record { seat = l.seat; counted = l.counted } };
 
-    ghost invariant = { λ l. l.counted ≤ told_lines l.seat.session };
+    ghost invariant = { λ l. l.counted ≤ recorded_lines l.seat.session };
 }
 
 /// The lines that were told to the session of a place under a lease.
@@ -41,9 +41,9 @@ pub struct Receipt {
 impl Lease {
     /// A lease of a seat that was taken out.
     pub(crate) fn new(seat: Seat) -> Lease
-        ensures { result ≡ record { seat = seat; counted = told_lines seat.session } }
+        ensures { result ≡ record { seat = seat; counted = recorded_lines seat.session } }
     {
-        let counted = seat.session().told_lines();
+        let counted = seat.session().recorded_lines();
         Lease { seat, counted }
     }
 
@@ -74,7 +74,7 @@ impl Lease {
         ensures answers { Responds self.old.seat.session text.now result self.new.seat.session }
         ensures kept { (self.new.seat.place ≡ self.old.seat.place) × (self.new.counted ≡ self.old.counted) }
     {
-        told_lines_grow();
+        recorded_lines_grow();
         self.seat.line_split(rt, alloc, text, helpers, gate)
     }
 
@@ -82,11 +82,11 @@ impl Lease {
     pub(crate) fn end(self) -> (Seat, Receipt)
         ensures seat { result.0 ≡ self.seat }
         ensures place { result.1.place ≡ self.seat.place }
-        ensures recorded { result.1.recorded + self.counted ≡ told_lines self.seat.session }
+        ensures recorded { result.1.recorded + self.counted ≡ recorded_lines self.seat.session }
     {
         let Lease { seat, counted } = self;
         let place = seat.place();
-        let recorded = seat.session().told_lines() - counted;
+        let recorded = seat.session().recorded_lines() - counted;
         (seat, Receipt { place, recorded })
     }
 }

@@ -2,7 +2,7 @@
 ghost use Rattle.std.specs.Prelude.{◌≡◌, ◌≤◌, ◌<◌, OnOk, IfErr, map, ◌||◌};
 ghost use Rattle.std.specs.List.{list_any, list_all};
 ghost use Rattle.std.specs.Str.{bytes_eq};
-ghost use Rattle.nesl_house.specs.Roster.{is_letter, is_digit, is_user_name, IsRoster, IsRefused};
+ghost use Rattle.nesl_house.specs.Roster.{is_small_letter, is_digit, is_user_name, IsRoster, IsRefused};
 
 use thiserror::Error;
 
@@ -70,13 +70,13 @@ pub fn is_user_name(name: &[u8]) -> bool
 
 // Whether these are letters and digits.
 fn is_spelled(name: &[u8]) -> bool
-    ensures { result ≡ list_all (λ b. is_letter b || is_digit b) name.now }
+    ensures { result ≡ list_all (λ b. is_small_letter b || is_digit b) name.now }
 {
     name.iter().all(|b| is_letter(*b) || is_digit(*b))
 }
 
 fn is_letter(b: u8) -> bool
-    ensures { result ≡ is_letter b }
+    ensures { result ≡ is_small_letter b }
 {
     b'a' <= b && b <= b'z'
 }

@@ -1,6 +1,6 @@
 //! What is at a place of a table.
 ghost use Rattle.std.specs.Prelude.{◌≡◌, ◌<◌, IfOk};
-ghost use Rattle.nesl_session_step.specs.State.{unsaid};
+ghost use Rattle.nesl_session_step.specs.State.{empty_log};
 ghost use Rattle.nesl_session_step.specs.Solo.{Responds};
 
 use nesl_session::answer::Answer;
@@ -41,7 +41,7 @@ impl Seat {
     /// The seat of a place, with an empty session.
     pub(crate) fn new(alloc: Global, place: usize, limits: Limits) -> Result<Seat, AllocError>
         requires { place < 64 }
-        ensures { IfOk result (λ seat. seat ≡ record { place = place; session = unsaid limits }) }
+        ensures { IfOk result (λ seat. seat ≡ record { place = place; session = empty_log limits }) }
     {
         let session = Session::new(alloc, limits)?;
         Ok(Seat { place, session })

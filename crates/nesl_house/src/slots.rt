@@ -3,7 +3,7 @@ ghost use Rattle.std.specs.Prelude.{◌≡◌, ℕ, ◌+◌, ◌<◌, ◌^◌, I
 ghost use Rattle.std.specs.Prelude.{slice_set, sum_by, false};
 ghost use Rattle.std.specs.List.{range_with_len};
 ghost use Rattle.std.specs.Option.{IfNone};
-ghost use Rattle.nesl_session_step.specs.State.{State, told_lines};
+ghost use Rattle.nesl_session_step.specs.State.{State, recorded_lines};
 ghost use Rattle.nesl_session_step.specs.Solo.{Replays};
 ghost use Rattle.nesl_house.specs.Slots.{counted, counted_at, is_away, opened_at, AreInPlace};
 
@@ -59,14 +59,14 @@ impl Slots {
         ensures none { IfNone result (self.new ≡ self.old) }
         ensures home { IfSome result (λ seat. slice_get self.old.slots.items place ≡ Some (Slot.Home seat)) }
         ensures some { IfSome result (λ seat. self.new.slots.items
-            ≡ slice_set self.old.slots.items place (Slot.Away (told_lines seat.session))) }
+            ≡ slice_set self.old.slots.items place (Slot.Away (recorded_lines seat.session))) }
         ensures booked { self.new.booked ≡ self.old.booked }
     {
         let slot = &mut self.slots[place];
         match slot {
             Slot::Away(_) => None,
             Slot::Home(seat) => {
-                let away = Slot::Away(seat.session().told_lines());
+                let away = Slot::Away(seat.session().recorded_lines());
                 match mem::replace(slot, away) {
                     Slot::Home(seat) => Some(seat),
                     Slot::Away(_) => unreachable!(),
@@ -79,12 +79,12 @@ impl Slots {
     pub fn put_back(&mut self, seat: Seat)
         ensures slots { self.new.slots.items ≡ slice_set self.old.slots.items seat.place (Slot.Home seat) }
         ensures booked { self.new.booked + counted_at self.old.slots.items seat.place
-            ≡ self.old.booked + told_lines seat.session }
+            ≡ self.old.booked + recorded_lines seat.session }
     {
         let Slots { booked, slots } = self;
         let slot = &mut slots[seat.place()];
         let had = slot.counted();
-        let has = seat.session().told_lines();
+        let has = seat.session().recorded_lines();
         *slot = Slot::Home(seat);
         *booked = *booked - u128::from(had) + u128::from(has);
     }
@@ -96,7 +96,7 @@ impl Slot {
         ensures { result ≡ counted self.now }
     {
         match self {
-            Slot::Home(seat) => seat.session().told_lines(),
+            Slot::Home(seat) => seat.session().recorded_lines(),
             Slot::Away(count) => *count,
         }
     }

@@ -3,7 +3,7 @@ ghost use Rattle.std.specs.Prelude.{◌≡◌, ◌+◌, ◌≤◌, ◌<◌, ◌�
 ghost use Rattle.std.specs.Prelude.{length, map, position};
 ghost use Rattle.std.specs.Str.{bytes_eq};
 ghost use Rattle.std.specs.Vec.{vec_capacity};
-ghost use Rattle.nesl_session_step.specs.State.{told_lines};
+ghost use Rattle.nesl_session_step.specs.State.{recorded_lines};
 ghost use Rattle.nesl_house.specs.Roster.{IsRefused, IsRoster, place_of};
 ghost use Rattle.nesl_house.specs.Slots.{at_home, AreHome};
 ghost use Rattle.nesl_house.specs.Runs.{AllReplay};
@@ -151,7 +151,7 @@ impl Table {
         ensures no_user { IsErrOf result TakeFault.NoUser ↔ (place_of self.now.roster user.now ≡ None) }
         ensures place { IfOk result (λ l. place_of self.now.roster user.now ≡ Some l.seat.place) }
         ensures limits { IfOk result (λ l. l.seat.session.limits ≡ self.now.limits) }
-        ensures counted { IfOk result (λ l. l.counted ≡ told_lines l.seat.session) }
+        ensures counted { IfOk result (λ l. l.counted ≡ recorded_lines l.seat.session) }
     {
         let Some(place) = self.place_of(user) else {
             return Err(TakeFault::NoUser);
@@ -170,7 +170,7 @@ impl Table {
     /// Puts a seat back to its place, and tells how many lines its session was told under the lease.
     pub fn give<R: Wait>(&self, rt: &R, lease: Lease) -> Receipt
         ensures place { result.place ≡ lease.seat.place }
-        ensures recorded { result.recorded + lease.counted ≡ told_lines lease.seat.session }
+        ensures recorded { result.recorded + lease.counted ≡ recorded_lines lease.seat.session }
     {
         let (seat, receipt) = lease.end();
         self.slots.lock(rt).put_back(seat);

@@ -2,7 +2,7 @@
 ghost use Rattle.std.specs.Prelude.{◌≡◌, IfOk};
 ghost use Rattle.nesl_session_step.specs.State.{State};
 ghost use Rattle.nesl_session_step.specs.Solo.{Replays, Responds};
-ghost use Rattle.nesl_house.specs.Roster.{fresh};
+ghost use Rattle.nesl_house.specs.Roster.{new_account};
 
 use crate::manner::Saying;
 use nesl_session::answer::Answer;
@@ -29,7 +29,7 @@ impl Model for User {
 impl User {
     /// A user with an empty session.
     pub(crate) fn new(alloc: Global, name: &[u8], limits: Limits) -> Result<User, AllocError>
-        ensures fresh { IfOk result (λ user. user ≡ fresh limits name.now) }
+        ensures fresh { IfOk result (λ user. user ≡ new_account limits name.now) }
         ensures replayed { IfOk result (λ user. (state : State) × Replays user.session state) }
     {
         let name = Vec::from_slice(alloc, name)?;

@@ -8,7 +8,7 @@ use Rattle.nesl_types.specs.declared.classes.Class.{Class}
 use Rattle.nesl_types.specs.declared.classes.Class.TheVariants.{Any}
 use Rattle.nesl_types.specs.declared.bindings.Top.{Top}
 use Rattle.nesl_types.specs.declared.schemes.Scheme.{Scheme}
-use Rattle.nesl_types_bank.specs.Term.{Term, int, bool, char, variable, seq_of, both, named, nodes}
+use Rattle.nesl_types_bank.specs.Term.{Term, int, bool, char, variable, seq_of, pair_of, named, nodes}
 use Rattle.nesl_types_bank.specs.Numbering.{IsBelow, variables, first_occurrences, number_of}
 use Rattle.nesl_types.specs.Scheme.{IsSchemeOf}
 use Rattle.nesl_types_bank.specs.Substitution.{substitute}
@@ -23,10 +23,10 @@ use Rattle.nesl_unify.specs.declared.narrow.Member.{Member}
 use Rattle.nesl_infer_rules.specs.declared.state.State.{State}
 use Rattle.nesl_infer_rules.specs.declared.state.Local.{Local}
 use Rattle.nesl_infer_names.specs.Names.{datatype_in}
-use Rattle.nesl_infer_rules.specs.World.{Meanings, meanings_in}
-use Rattle.nesl_infer_rules.specs.Typing.{HasType, Parts, IsSigned}
+use Rattle.nesl_infer_rules.specs.World.{TypedNames, meanings_in}
+use Rattle.nesl_infer_rules.specs.Typing.{HasType, PatternAdds, IsSigned}
 use Rattle.nesl_infer_rules.specs.Principal.{bounded, TypedFunction, IsPrincipalScheme}
-use Rattle.nesl_infer_rules.specs.Holds.{Holds, HoldsIn, Gives, Adds, AddsNames, scope_at}
+use Rattle.nesl_infer_rules.specs.Steps.{IsSolution, HoldsIn, Gives, Adds, AddsNames, scope_at}
 use Rattle.nesl_infer_rules.proofs.Places.{small}
 use Rattle.nesl_infer_rules.proofs.Steps.{gives_then, gives_and, gives_as, adds_as, in_any}
 use Rattle.nesl_infer_rules.proofs.Arms.{AnyTerm}
@@ -56,7 +56,7 @@ same_nodes r bool h = refl
 same_nodes r char h = refl
 same_nodes r (variable v) h = h v
 same_nodes r (seq_of t) h = ap (λ (n : ℕ). 1 + n) (same_nodes r t h)
-same_nodes r (both t u) h = let e = same_nodes r t h in let d = same_nodes r u h in omega arith
+same_nodes r (pair_of t u) h = let e = same_nodes r t h in let d = same_nodes r u h in omega arith
 same_nodes r (named k) h = refl
 
 -- a type whose renamed variables are below n
@@ -66,7 +66,7 @@ renamed-numbered vs bool h = refl
 renamed-numbered vs char h = refl
 renamed-numbered vs (variable v) h = numbered-inside vs v h
 renamed-numbered vs (seq_of t) h = ap seq_of (renamed-numbered vs t h)
-renamed-numbered vs (both t u) h = let e = renamed-numbered vs t h.0 in let d = renamed-numbered vs u h.1 in cc
+renamed-numbered vs (pair_of t u) h = let e = renamed-numbered vs t h.0 in let d = renamed-numbered vs u h.1 in cc
 renamed-numbered vs (named k) h = refl
 
 -- the variable of a number
@@ -88,7 +88,7 @@ put_back put vs bool h = refl
 put_back put vs char h = refl
 put_back put vs (variable v) h = ap put (sym (number-back vs v h))
 put_back put vs (seq_of t) h = ap seq_of (put_back put vs t h)
-put_back put vs (both t u) h = let e = put_back put vs t h.0 in let d = put_back put vs u h.1 in cc
+put_back put vs (pair_of t u) h = let e = put_back put vs t h.0 in let d = put_back put vs u h.1 in cc
 put_back put vs (named k) h = refl
 
 class-map : (of : ℕ → Class) (vs : List ℕ) (n : ℕ) → n < length vs → class_at (map of vs) n ≡ of (get_or vs n 0)
@@ -131,7 +131,7 @@ numbered_in (Some t) s of vs h = record {
 }
 
 -- a solution with the numbers in place of its variables
-holds_numbered : (C : State) (s : ℕ → Term) (of : ℕ → Class) (vs : List ℕ) → Holds s of C → Holds (λ v. substitute (numbered vs) (s v)) (class_at (map of vs)) C
+holds_numbered : (C : State) (s : ℕ → Term) (of : ℕ → Class) (vs : List ℕ) → IsSolution s of C → IsSolution (λ v. substitute (numbered vs) (s v)) (class_at (map of vs)) C
 holds_numbered C s of vs h = numbered_in C.table s of vs h
 
 bounded_numbered : (s : ℕ → Term) (vs : List ℕ) → IsBounded s → IsBounded (λ v. substitute (numbered vs) (s v))
@@ -139,8 +139,8 @@ bounded_numbered s vs b v = subst (λ (n : ℕ). n ≤ 4096) (sym (same_nodes (n
 
 -- the equations of a function have just its typings as solutions
 pub record IsWhole (C : State) (t u : ℕ) (F : (ℕ → Class) → Term → Term → Type 0) : Type 0 where
-  pub sound : (s : ℕ → Term) (of : ℕ → Class) → IsBounded s → Holds s of C → F of (s t) (s u)
-  pub complete : (of : ℕ → Class) (a b : Term) → F of a b → (z : ℕ → Term) × Holds z of C × IsBounded z × (z t ≡ a) × (z u ≡ b)
+  pub sound : (s : ℕ → Term) (of : ℕ → Class) → IsBounded s → IsSolution s of C → F of (s t) (s u)
+  pub complete : (of : ℕ → Class) (a b : Term) → F of a b → (z : ℕ → Term) × IsSolution z of C × IsBounded z × (z t ≡ a) × (z u ≡ b)
 
 pub whole : {A C : State} (t u : ℕ) (F : (ℕ → Class) → Term → Term → Type 0) → IsEmpty A → Gives {X = Term × Term} A C (λ s. (s t, s u)) (λ s of x. F of x.0 x.1) → IsWhole C t u F
 whole {A = A} t u F h p = record {
@@ -151,8 +151,8 @@ whole {A = A} t u F h p = record {
 }
 
 -- the scheme of a most general solution is principal
-pub scheme_principal : (C : State) (t u : ℕ) (F : (ℕ → Class) → Term → Term → Type 0) → IsWhole C t u F → (s : ℕ → Term) (of : ℕ → Class) → IsBounded s → Holds s of C →
-    ((z : ℕ → Term) (k : ℕ → Class) → Holds z k C → IsInstance s of z k) → (g : Scheme) → IsSchemeOf (s t) (s u) of g →
+pub scheme_principal : (C : State) (t u : ℕ) (F : (ℕ → Class) → Term → Term → Type 0) → IsWhole C t u F → (s : ℕ → Term) (of : ℕ → Class) → IsBounded s → IsSolution s of C →
+    ((z : ℕ → Term) (k : ℕ → Class) → IsSolution z k C → IsInstance s of z k) → (g : Scheme) → IsSchemeOf (s t) (s u) of g →
     IsBelow (length g.classes.items) g.argument → IsBelow (length g.classes.items) g.result → IsPrincipalScheme F g
 scheme_principal C t u F w s of b h general g is la lr =
     let vs = first_occurrences (variables (s t) ++ variables (s u)) in
@@ -183,14 +183,14 @@ scheme_principal C t u F w s of b h general g is la lr =
 -- what the equations of a function say
 pub arm_function : {P : Type 0} (context : List (List ℕ × Top × P)) {A B1 B2 B3 B4 C : State} (x : List ℕ) (p : PatternTree) (g : Option SignatureTree) (e : Tree) (t u : ℕ) (ms : List Local) →
     AnyTerm A B1 t → AnyTerm B1 B2 u →
-    AddsNames B2 B3 [] ms (λ s of ns. Parts (bounded (meanings_in context (Some (x, s t, s u))) of) p (s t) ns) →
+    AddsNames B2 B3 [] ms (λ s of ns. PatternAdds (bounded (meanings_in context (Some (x, s t, s u))) of) p (s t) ns) →
     Adds B3 B4 (λ s of. IsSigned (datatype_in context) of g (s t) (s u)) →
     Adds B4 C (λ s of. HasType (bounded (meanings_in context (Some (x, s t, s u))) of) (scope_at s ms) e (s u)) →
     Gives {X = Term × Term} A C (λ s. (s t, s u)) (λ s of k. TypedFunction context x p g e of k.0 k.1)
 arm_function context x p g e t u ms p1 p2 p3 p4 p5 =
-    let M : Term → Term → Meanings = λ a b. meanings_in context (Some (x, a, b)) in
+    let M : Term → Term → TypedNames = λ a b. meanings_in context (Some (x, a, b)) in
     let q2 = gives_then (λ s of k. nodes k ≤ 4096) (λ k s of j. nodes j ≤ 4096) p1 p2 (λ k s z of j a h. h) in
-    let q3 = gives_then _ (λ k s of ns. Parts (bounded (M k.0 k.1) of) p k.0 ns) q2 p3.gives (λ k s z of ns a h. h) in
+    let q3 = gives_then _ (λ k s of ns. PatternAdds (bounded (M k.0 k.1) of) p k.0 ns) q2 p3.gives (λ k s z of ns a h. h) in
     let q4 = gives_and _ (λ k s of. IsSigned (datatype_in context) of g k.0.0 k.0.1) q3 p4 (λ k s z of a h. h) in
     let last = adds_as (λ s of k. HasType (bounded (M (s t) (s u)) of) (scope_at s ms) e (s u)) (λ s of. HasType (bounded (M (s t) (s u)) of) (scope_at s p3.added) e (s u)) p5
     (λ s of b h. subst (λ (ls : List Local). HasType (bounded (M (s t) (s u)) of) (scope_at s ls) e (s u)) p3.after_is h)

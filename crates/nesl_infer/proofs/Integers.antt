@@ -7,13 +7,13 @@ use Rattle.nesl_types.specs.declared.bindings.Top.{Top}
 use Rattle.nesl_types.specs.declared.classes.Class.{Class}
 use Rattle.nesl_types.specs.declared.classes.Class.TheVariants.{Any, Number}
 use Rattle.nesl_types.specs.Class.{IsIn, class_at}
-use Rattle.nesl_types_bank.specs.Term.{Term, int, both}
+use Rattle.nesl_types_bank.specs.Term.{Term, int, pair_of}
 use Rattle.nesl_types_bank.specs.Substitution.{substitute}
 use Rattle.nesl_syntax_tree.specs.declared.tree.Operator.{Operator}
 use Rattle.nesl_syntax_tree.specs.Trees.{Tree, Shape, node}
 use Rattle.nesl_syntax_tree.specs.Trees as trees
 use Rattle.nesl_builtins.specs.Named.{infix_builtin}
-use Rattle.nesl_builtins.specs.Table.{FunctionType, a, builtin_type, in_class}
+use Rattle.nesl_builtins.specs.FunctionTypes.{FunctionType, a, builtin_type, in_class}
 use Rattle.nesl_infer_rules.specs.World.{meanings_in}
 use Rattle.nesl_infer_rules.specs.Typing.{IsInstanceOf, HasShapeType}
 use Rattle.nesl_infer_rules.specs.Principal.{bounded, IsPrincipal, IsPrincipalType, Typed}
@@ -57,20 +57,20 @@ module _ {P : Type 0} (context : List (List ℕ × Top × P)) where
   in_numbers of zero = refl
   in_numbers of (suc v) = tt
 
-  put_both : (f : ℕ → Term) → both int int ≡ both (f 0) (f 0) → f 0 ≡ int
+  put_both : (f : ℕ → Term) → pair_of int int ≡ pair_of (f 0) (f 0) → f 0 ≡ int
   put_both f e = cc
 
-  pub only_infix : (s : Span) (o : Operator) (l r : Tree) → builtin_type (infix_builtin o) ≡ in_class Number (both a a) a → IsOnlyType context l int → IsOnlyType context r int →
+  pub only_infix : (s : Span) (o : Operator) (l r : Tree) → builtin_type (infix_builtin o) ≡ in_class Number (pair_of a a) a → IsOnlyType context l int → IsOnlyType context r int →
       IsOnlyType context (node s (trees.infix_of o l r)) int
   only_infix s o l r e h k =
-      let F : FunctionType = in_class Number (both a a) a in
+      let F : FunctionType = in_class Number (pair_of a a) a in
       only_node s (trees.infix_of o l r)
       (λ of.
-      let i : IsInstanceOf F of (both int int) int = record { put = λ v. int; within = in_numbers of; argument = refl; result = refl } in
-      (int, int, h.fits of, k.fits of, subst (λ (f : FunctionType). IsInstanceOf f of (both int int) int) (sym e) i))
+      let i : IsInstanceOf F of (pair_of int int) int = record { put = λ v. int; within = in_numbers of; argument = refl; result = refl } in
+      (int, int, h.fits of, k.fits of, subst (λ (f : FunctionType). IsInstanceOf f of (pair_of int int) int) (sym e) i))
       (λ of u g.
       let one = h.only of g.0 g.2 in
       let two = k.only of g.1 g.3 in
-      let i : IsInstanceOf F of (both g.0 g.1) u = subst (λ (f : FunctionType). IsInstanceOf f of (both g.0 g.1) u) e g.4 in
-      let j : IsInstanceOf F of (both int int) u = subst (λ (t : Term). IsInstanceOf F of (both t int) u) one (subst (λ (t : Term). IsInstanceOf F of (both g.0 t) u) two i) in
+      let i : IsInstanceOf F of (pair_of g.0 g.1) u = subst (λ (f : FunctionType). IsInstanceOf f of (pair_of g.0 g.1) u) e g.4 in
+      let j : IsInstanceOf F of (pair_of int int) u = subst (λ (t : Term). IsInstanceOf F of (pair_of t int) u) one (subst (λ (t : Term). IsInstanceOf F of (pair_of g.0 t) u) two i) in
       j.result ∙ put_both j.put j.argument)

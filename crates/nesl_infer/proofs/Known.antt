@@ -3,12 +3,12 @@ use Rattle.std.proofs.Common.{◌≡◌, ℕ, List, [], ◌∷◌, ◌++◌, ref
 use Rattle.std.specs.Prelude.{Option, Some, None}
 use Rattle.std.specs.Option.{is_some}
 use Rattle.nesl_lex.specs.declared.token.Span.{Span}
-use Rattle.nesl_types_bank.specs.Term.{Term, int, bool, char, named, seq_of, both}
+use Rattle.nesl_types_bank.specs.Term.{Term, int, bool, char, named, seq_of, pair_of}
 use Rattle.nesl_syntax_tree.specs.Trees.{TypeTree, TypeShape, written}
 use Rattle.nesl_syntax_tree.specs.Trees as trees
-use Rattle.nesl_infer_names.specs.Names.{unless, unknown_types, unknown_types_in}
+use Rattle.nesl_infer_names.specs.Names.{span_unless_known, unknown_types, unknown_types_in}
 use Rattle.nesl_infer_names.specs.Firsts.{first}
-use Rattle.nesl_infer_rules.specs.World.{Datatypes}
+use Rattle.nesl_infer_rules.specs.World.{DatatypesByName}
 use Rattle.nesl_infer_rules.specs.Typing.{IsWritten, IsWrittenShape}
 
 pub none_first : (ss : List Span) → None ≡ first ss → ss ≡ []
@@ -19,15 +19,15 @@ both_empty : (ss rs : List Span) → ss ++ rs ≡ [] → (ss ≡ []) × (rs ≡ 
 both_empty [] rs e = (refl, e)
 both_empty (s ∷ ss) rs e = cc
 
-known_name : (ds : Datatypes) (x : List ℕ) (s : Span) (o : Option (ℕ × Term)) → ds x ≡ o → unless (is_some o) s ≡ [] → (u : Term) × IsWrittenShape ds (trees.named x s) u
+known_name : (ds : DatatypesByName) (x : List ℕ) (s : Span) (o : Option (ℕ × Term)) → ds x ≡ o → span_unless_known (is_some o) s ≡ [] → (u : Term) × IsWrittenShape ds (trees.named x s) u
 known_name ds x s None e h = cc
 known_name ds x s (Some d) e h = (named d.0, (d, e, refl))
 
 mutual
-  pub known-written : (ds : Datatypes) (a : TypeTree) → unknown_types ds a ≡ [] → (u : Term) × IsWritten ds a u
+  pub known-written : (ds : DatatypesByName) (a : TypeTree) → unknown_types ds a ≡ [] → (u : Term) × IsWritten ds a u
   known-written ds (written s k) h = known_shape-written ds k h
 
-  known_shape-written : (ds : Datatypes) (k : TypeShape) → unknown_types_in ds k ≡ [] → (u : Term) × IsWrittenShape ds k u
+  known_shape-written : (ds : DatatypesByName) (k : TypeShape) → unknown_types_in ds k ≡ [] → (u : Term) × IsWrittenShape ds k u
   known_shape-written ds trees.int h = (int, refl)
   known_shape-written ds trees.bool h = (bool, refl)
   known_shape-written ds trees.char h = (char, refl)
@@ -37,4 +37,4 @@ mutual
       let e = both_empty (unknown_types ds a) (unknown_types ds b) h in
       let k = known-written ds a e.0 in
       let l = known-written ds b e.1 in
-      (both k.0 l.0, (k.0, l.0, k.1, l.1, refl))
+      (pair_of k.0 l.0, (k.0, l.0, k.1, l.1, refl))

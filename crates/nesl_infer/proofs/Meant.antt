@@ -8,9 +8,9 @@ use Rattle.nesl_types_bank.specs.Numbering.{IsBelow}
 use Rattle.nesl_types_bank.specs.Substitution.{substitute}
 use Rattle.nesl_types_bank.specs.Term.{Term, named}
 use Rattle.nesl_builtins.specs.declared.builtin.Builtin.{Builtin}
-use Rattle.nesl_builtins.specs.Named.{named_builtin}
+use Rattle.nesl_builtins.specs.Named.{builtin_named}
 use Rattle.nesl_infer_names.specs.Names.{Referent, itself, built_in, function, record_of, as_variable, as_function, as_datatype, built_in_or, is_own, hides, top_in, variable_in, function_in}
-use Rattle.nesl_infer_rules.specs.World.{single, Own, own_name, meaning_of, meanings_in}
+use Rattle.nesl_infer_rules.specs.World.{single, OwnFunction, own_name, callable_of, meanings_in}
 use Rattle.nesl_infer_rules.specs.Contexts.{IsClosed, AreClosed}
 use Rattle.nesl_infer.specs.Laws.{meaning_with, own_with, IsWith}
 use Rattle.nesl_infer_rules.proofs.Applied.{closed-kept}
@@ -45,7 +45,7 @@ own-closed : (own : Bool) (o : Option Referent) → HoldsClosed o → HoldsClose
 own-closed true o h tag held e = absurd cc
 own-closed false o h tag held e = h tag held e
 
-meaning-with : (put : ℕ → Term) (own : Own) (o : Option Referent) → HoldsClosed o → option_map (meaning_with put) (meaning_of own o) ≡ meaning_of (own_with put own) o
+meaning-with : (put : ℕ → Term) (own : OwnFunction) (o : Option Referent) → HoldsClosed o → option_map (meaning_with put) (callable_of own o) ≡ callable_of (own_with put own) o
 meaning-with put None None h = refl
 meaning-with put (Some own) None h = refl
 meaning-with put None (Some itself) h = refl
@@ -71,18 +71,18 @@ datatype-closed put (Some (top.Function s, p)) h d e = absurd cc
 datatype-closed put (Some (top.Datatype n t, p)) h d e =
     subst (λ (k : ℕ × Term). substitute put k.1 ≡ k.1) (same_record (n, t) d e) (closed-kept put t (h (top.Datatype n t) p refl))
 
-same_name : (put : ℕ → Term) (own : Own) → own_name (own_with put own) ≡ own_name own
+same_name : (put : ℕ → Term) (own : OwnFunction) → own_name (own_with put own) ≡ own_name own
 same_name put None = refl
 same_name put (Some own) = refl
 
-pub meant-with : {P : Type 0} (context : List (List ℕ × Top × P)) → AreClosed context → (own : Own) (put : ℕ → Term) → IsWith put (meanings_in context own) (meanings_in context (own_with put own))
+pub meant-with : {P : Type 0} (context : List (List ℕ × Top × P)) → AreClosed context → (own : OwnFunction) (put : ℕ → Term) → IsWith put (meanings_in context own) (meanings_in context (own_with put own))
 meant-with context h own put = record {
   variables = λ x t e.
       let kept = hidden-kept put (hides (own_name own) x) (as_variable (top_in context x)) (variable-kept put (found x context) (h x)) in
       ap (λ n. variable_in context n x) (same_name put own) ∙ sym kept ∙ ap (option_map (substitute put)) e;
   functions = λ x m e.
-      let closed = own-closed (is_own (own_name own) x) (built_in_or (named_builtin x) (as_function (top_in context x))) (or-closed (named_builtin x) (as_function (top_in context x)) (function-closed (found x context) (h x))) in
-      ap (λ n. meaning_of (own_with put own) (function_in context n x)) (same_name put own) ∙ sym (meaning-with put own (function_in context (own_name own) x) closed) ∙ ap (option_map (meaning_with put)) e;
+      let closed = own-closed (is_own (own_name own) x) (built_in_or (builtin_named x) (as_function (top_in context x))) (or-closed (builtin_named x) (as_function (top_in context x)) (function-closed (found x context) (h x))) in
+      ap (λ n. callable_of (own_with put own) (function_in context n x)) (same_name put own) ∙ sym (meaning-with put own (function_in context (own_name own) x) closed) ∙ ap (option_map (meaning_with put)) e;
   datatypes = λ x d e. e;
   closed = λ x d e. datatype-closed put (found x context) (h x) d e;
 }

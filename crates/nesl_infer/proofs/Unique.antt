@@ -8,11 +8,11 @@ use Rattle.std.proofs.lemmas.List.Folds.{list_any-append}
 use Rattle.std.specs.List.{list_any}
 use Rattle.nesl_types.specs.declared.classes.Class.{Class}
 use Rattle.nesl_types.specs.declared.classes.Class.TheVariants.{Any, Ordinal, Number, Logical}
-use Rattle.nesl_types_bank.specs.Term.{Term, int, bool, char, variable, seq_of, both, named}
+use Rattle.nesl_types_bank.specs.Term.{Term, int, bool, char, variable, seq_of, pair_of, named}
 use Rattle.nesl_types.specs.Class.{IsIn, IsWithin, class_at}
 use Rattle.nesl_types_bank.specs.Substitution.{substitute}
 use Rattle.nesl_types_bank.specs.Numbering.{variables, with_number, first_occurrences, numbers_below, number_of}
-use Rattle.nesl_builtins.specs.Table.{FunctionType}
+use Rattle.nesl_builtins.specs.FunctionTypes.{FunctionType}
 use Rattle.nesl_infer_rules.specs.Principal.{IsPrincipalFunction, IsNumbered}
 
 -- each number of a list has a property
@@ -183,10 +183,10 @@ in_order r s (v ∷ vs) k n m h f e d =
           | inr j ↦ let is : k ≡ w = omega arith in subst (λ (x : ℕ). (r x ≡ x) × (s x ≡ x)) is (a, b)
         ]
 
-left_same : (a b c d : Term) → both a b ≡ both c d → a ≡ c
+left_same : (a b c d : Term) → pair_of a b ≡ pair_of c d → a ≡ c
 left_same a b c d e = cc
 
-right_same : (a b c d : Term) → both a b ≡ both c d → b ≡ d
+right_same : (a b c d : Term) → pair_of a b ≡ pair_of c d → b ≡ d
 right_same a b c d e = cc
 
 item_same : (a b : Term) → seq_of a ≡ seq_of b → a ≡ b
@@ -199,7 +199,7 @@ forced p q bool e = tt
 forced p q char e = tt
 forced p q (variable v) e = (e, tt)
 forced p q (seq_of t) e = forced p q t (item_same _ _ e)
-forced p q (both t u) e = each-append (λ v. substitute q (p v) ≡ variable v) (variables t) (variables u) (forced p q t (left_same _ _ _ _ e)) (forced p q u (right_same _ _ _ _ e))
+forced p q (pair_of t u) e = each-append (λ v. substitute q (p v) ≡ variable v) (variables t) (variables u) (forced p q t (left_same _ _ _ _ e)) (forced p q u (right_same _ _ _ _ e))
 forced p q (named n) e = tt
 
 abbrev number_in : Term → ℕ
@@ -208,7 +208,7 @@ number_in bool = 0
 number_in char = 0
 number_in (variable v) = v
 number_in (seq_of t) = 0
-number_in (both t u) = 0
+number_in (pair_of t u) = 0
 number_in (named n) = 0
 
 is_variable : (q : ℕ → Term) (v : ℕ) (x : Term) → substitute q x ≡ variable v → (x ≡ variable (number_in x)) × (number_in (q (number_in x)) ≡ v)
@@ -217,7 +217,7 @@ is_variable q v bool e = absurd cc
 is_variable q v char e = absurd cc
 is_variable q v (variable w) e = (refl, ap number_in e)
 is_variable q v (seq_of t) e = absurd cc
-is_variable q v (both t u) e = absurd cc
+is_variable q v (pair_of t u) e = absurd cc
 is_variable q v (named n) e = absurd cc
 
 put-variables : (p : ℕ → Term) (t : Term) → Each (λ v. p v ≡ variable (number_in (p v))) (variables t) → variables (substitute p t) ≡ map (λ v. number_in (p v)) (variables t)
@@ -226,7 +226,7 @@ put-variables p bool h = refl
 put-variables p char h = refl
 put-variables p (variable v) h = ap variables h.0
 put-variables p (seq_of t) h = put-variables p t h
-put-variables p (both t u) h =
+put-variables p (pair_of t u) h =
     let k = each-split (λ v. p v ≡ variable (number_in (p v))) (variables t) (variables u) h in
     ap (λ (l : List ℕ). l ++ variables (substitute p u)) (put-variables p t k.0) ∙ ap (λ (l : List ℕ). map (λ v. number_in (p v)) (variables t) ++ l) (put-variables p u k.1)
     ∙ sym (map-append (λ v. number_in (p v)) (variables t) (variables u))
@@ -238,7 +238,7 @@ put-kept p bool h = refl
 put-kept p char h = refl
 put-kept p (variable v) h = h.0
 put-kept p (seq_of t) h = ap seq_of (put-kept p t h)
-put-kept p (both t u) h =
+put-kept p (pair_of t u) h =
     let k = each-split (λ v. p v ≡ variable v) (variables t) (variables u) h in
     let e = put-kept p t k.0 in
     let d = put-kept p u k.1 in
@@ -309,14 +309,14 @@ same_function f g a r c = λ i. record { argument = a i; result = r i; classes =
 -- two most general types of one function, both with their variables numbered
 pub one_function : (F : (ℕ → Class) → Term → Term → Type 0) (f g : FunctionType) → IsNumbered f → IsNumbered g → IsPrincipalFunction F f → IsPrincipalFunction F g → f ≡ g
 one_function F f g m n a b =
-    let t = both f.argument f.result in
-    let u = both g.argument g.result in
+    let t = pair_of f.argument f.result in
+    let u = pair_of g.argument g.result in
     let cs = f.classes in
     let ds = g.classes in
     let i = a.most_general (class_at ds) g.argument g.result b.fits in
     let j = b.most_general (class_at cs) f.argument f.result a.fits in
-    let e : u ≡ substitute i.put t = ap (λ (x : Term). both x g.result) i.argument ∙ ap (λ (x : Term). both (substitute i.put f.argument) x) i.result in
-    let d : t ≡ substitute j.put u = ap (λ (x : Term). both x f.result) j.argument ∙ ap (λ (x : Term). both (substitute j.put g.argument) x) j.result in
+    let e : u ≡ substitute i.put t = ap (λ (x : Term). pair_of x g.result) i.argument ∙ ap (λ (x : Term). pair_of (substitute i.put f.argument) x) i.result in
+    let d : t ≡ substitute j.put u = ap (λ (x : Term). pair_of x f.result) j.argument ∙ ap (λ (x : Term). pair_of (substitute j.put g.argument) x) j.result in
     let there = one_type t u (length cs) (length ds) i.put j.put m n e d in
     let back = one_type u t (length ds) (length cs) j.put i.put n m d e in
     let one : t ≡ u = sym (e ∙ put-kept i.put t there.0) in

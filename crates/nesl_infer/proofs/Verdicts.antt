@@ -7,10 +7,10 @@ use Rattle.nesl_types.specs.Class.{class_at}
 use Rattle.nesl_types_bank.specs.Numbering.{IsBelow}
 use Rattle.nesl_types_bank.specs.Term.{Term, nodes}
 use Rattle.nesl_syntax_tree.specs.Trees.{TypeTree, PatternTree, Tree, SignatureTree}
-use Rattle.nesl_builtins.specs.Table.{FunctionType}
+use Rattle.nesl_builtins.specs.FunctionTypes.{FunctionType}
 use Rattle.nesl_infer_names.specs.Firsts.{first}
-use Rattle.nesl_infer_names.specs.Names.{Names, unknown, unknown_of_function, unknown_types}
-use Rattle.nesl_infer.specs.Answers.{Verdict, typed, unknown_at, ill_typed, ambiguous, IsTypeBy, IsFunctionBy, IsContentBy}
+use Rattle.nesl_infer_names.specs.Names.{Names, unknown_names, unknown_of_function, unknown_types}
+use Rattle.nesl_infer.specs.Verdicts.{Verdict, typed, unknown_at, ill_typed, ambiguous, IsTypeBy, IsFunctionBy, IsContentBy}
 use Rattle.nesl_infer_rules.specs.Principal.{TypedBy, TypedFunctionBy, IsPrincipalType}
 use Rattle.nesl_infer_rules.proofs.Applied.{closed-kept}
 use Rattle.nesl_infer_rules.proofs.Leaves.{written-unique}
@@ -37,19 +37,19 @@ too_many t u e h k = let same : nodes t ≡ nodes u = ap nodes e in omega (arith
 
 pub one_of_expression : (known : Option (List ℕ) → Names) (e : Tree) (v u : Verdict Term) → IsTypeBy known e v → IsTypeBy known e u → v ≡ u
 one_of_expression known e (typed t) (typed u) a b = ap typed (closed_one (TypedBy known e) t u a.1 b.1 a.2)
-one_of_expression known e (typed t) (unknown_at s) a b = absurd (none_unknown (unknown (known None) [] e) s a.0 b)
+one_of_expression known e (typed t) (unknown_at s) a b = absurd (none_unknown (unknown_names (known None) [] e) s a.0 b)
 one_of_expression known e (typed t) ill_typed a b = absurd (b.1 a.1.0 t a.1.1.fits)
 one_of_expression known e (typed t) ambiguous a b = absurd (no_other (TypedBy known e) t b.1.0 a.1 b.1.1 a.2 b.1.2)
-one_of_expression known e (unknown_at s) (typed u) a b = absurd (none_unknown (unknown (known None) [] e) s b.0 a)
+one_of_expression known e (unknown_at s) (typed u) a b = absurd (none_unknown (unknown_names (known None) [] e) s b.0 a)
 one_of_expression known e (unknown_at s) (unknown_at r) a b = ap unknown_at (same_span s r (sym a ∙ b))
-one_of_expression known e (unknown_at s) ill_typed a b = absurd (none_unknown (unknown (known None) [] e) s b.0 a)
-one_of_expression known e (unknown_at s) ambiguous a b = absurd (none_unknown (unknown (known None) [] e) s b.0 a)
+one_of_expression known e (unknown_at s) ill_typed a b = absurd (none_unknown (unknown_names (known None) [] e) s b.0 a)
+one_of_expression known e (unknown_at s) ambiguous a b = absurd (none_unknown (unknown_names (known None) [] e) s b.0 a)
 one_of_expression known e ill_typed (typed u) a b = absurd (a.1 b.1.0 u b.1.1.fits)
-one_of_expression known e ill_typed (unknown_at r) a b = absurd (none_unknown (unknown (known None) [] e) r a.0 b)
+one_of_expression known e ill_typed (unknown_at r) a b = absurd (none_unknown (unknown_names (known None) [] e) r a.0 b)
 one_of_expression known e ill_typed ill_typed a b = λ i. ill_typed
 one_of_expression known e ill_typed ambiguous a b = absurd (a.1 b.1.1.0 b.1.0 b.1.1.1.fits)
 one_of_expression known e ambiguous (typed u) a b = absurd (no_other (TypedBy known e) u a.1.0 b.1 a.1.1 b.2 a.1.2)
-one_of_expression known e ambiguous (unknown_at r) a b = absurd (none_unknown (unknown (known None) [] e) r a.0 b)
+one_of_expression known e ambiguous (unknown_at r) a b = absurd (none_unknown (unknown_names (known None) [] e) r a.0 b)
 one_of_expression known e ambiguous ill_typed a b = absurd (b.1 a.1.1.0 a.1.0 a.1.1.1.fits)
 one_of_expression known e ambiguous ambiguous a b = λ i. ambiguous
 

@@ -6,26 +6,26 @@ use Rattle.nesl_types.specs.Class.{IsIn}
 use Rattle.nesl_types_bank.specs.Substitution.{substitute}
 use Rattle.nesl_syntax_tree.specs.Trees.{TypeTree, PatternTree, SignatureTree, Tree}
 use Rattle.nesl_types.specs.declared.bindings.Top.{Top}
-use Rattle.nesl_builtins.specs.Table.{FunctionType}
+use Rattle.nesl_builtins.specs.FunctionTypes.{FunctionType}
 use Rattle.nesl_infer_names.specs.Names.{Names}
-use Rattle.nesl_infer_rules.specs.World.{Meanings, Meaning, general, single, Own, meanings_in}
-use Rattle.nesl_infer_rules.specs.Typing.{Scope, HasType}
+use Rattle.nesl_infer_rules.specs.World.{TypedNames, Callable, general, single, OwnFunction, meanings_in}
+use Rattle.nesl_infer_rules.specs.Typing.{LocalTypes, HasType}
 use Rattle.nesl_infer_rules.specs.Principal.{unbounded}
-use Rattle.nesl_infer.specs.Answers.{Verdict, IsTypeBy, IsFunctionBy, IsContentBy}
+use Rattle.nesl_infer.specs.Verdicts.{Verdict, IsTypeBy, IsFunctionBy, IsContentBy}
 
 -- with types in place of variables: local names, what a name before `(` means, and what all names mean
-abbrev pub scope_with : (ℕ → Term) → Scope → Scope
+abbrev pub scope_with : (ℕ → Term) → LocalTypes → LocalTypes
 scope_with put [] = []
 scope_with put (b ∷ bs) = (b.0, substitute put b.1) ∷ scope_with put bs
 
-abbrev pub meaning_with : (ℕ → Term) → Meaning → Meaning
+abbrev pub meaning_with : (ℕ → Term) → Callable → Callable
 meaning_with put (general f) = general f
 meaning_with put (single t u) = single (substitute put t) (substitute put u)
 
 -- the datatypes hold types without variables
-pub record IsWith (put : ℕ → Term) (N M : Meanings) : Type 0 where
+pub record IsWith (put : ℕ → Term) (N M : TypedNames) : Type 0 where
   pub variables : (x : List ℕ) (t : Term) → N.variables x ≡ Some t → M.variables x ≡ Some (substitute put t)
-  pub functions : (x : List ℕ) (m : Meaning) → N.functions x ≡ Some m → M.functions x ≡ Some (meaning_with put m)
+  pub functions : (x : List ℕ) (m : Callable) → N.functions x ≡ Some m → M.functions x ≡ Some (meaning_with put m)
   pub datatypes : (x : List ℕ) (d : ℕ × Term) → N.datatypes x ≡ Some d → M.datatypes x ≡ Some d
   pub closed : (x : List ℕ) (d : ℕ × Term) → N.datatypes x ≡ Some d → substitute put d.1 ≡ d.1
 
@@ -33,19 +33,19 @@ pub record IsWith (put : ℕ → Term) (N M : Meanings) : Type 0 where
 -- size
 abbrev pub TypingsHaveInstances : Type 0
 TypingsHaveInstances =
-    (of k : ℕ → Class) (put : ℕ → Term) → ((v : ℕ) → IsIn k (of v) (put v)) → (N M : Meanings) → IsWith put N M →
-    (e : Tree) (sc : Scope) (t : Term) → HasType (unbounded N of) sc e t →
+    (of k : ℕ → Class) (put : ℕ → Term) → ((v : ℕ) → IsIn k (of v) (put v)) → (N M : TypedNames) → IsWith put N M →
+    (e : Tree) (sc : LocalTypes) (t : Term) → HasType (unbounded N of) sc e t →
     HasType (unbounded M k) (scope_with put sc) e (substitute put t)
 
 -- the function in whose body an expression stands, with types in place of variables
-abbrev pub own_with : (ℕ → Term) → Own → Own
+abbrev pub own_with : (ℕ → Term) → OwnFunction → OwnFunction
 own_with put None = None
 own_with put (Some own) = Some (own.0, substitute put own.1, substitute put own.2)
 
 -- what names mean with types in place of variables is what they mean where the own function has such types
 abbrev pub MeaningsHaveInstances : {P : Type 0} → List (List ℕ × Top × P) → Type 0
 MeaningsHaveInstances context =
-    (own : Own) (put : ℕ → Term) → IsWith put (meanings_in context own) (meanings_in context (own_with put own))
+    (own : OwnFunction) (put : ℕ → Term) → IsWith put (meanings_in context own) (meanings_in context (own_with put own))
 
 -- an expression has one verdict: one type, or one reason why it has none
 abbrev pub ExpressionsHaveOneVerdict : Type 0

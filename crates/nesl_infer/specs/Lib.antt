@@ -1,4 +1,4 @@
-pub mod Answers
+pub mod Verdicts
 pub mod Laws
 pub mod References
 pub mod Only

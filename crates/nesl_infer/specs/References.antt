@@ -7,16 +7,16 @@ use Rattle.nesl_types_bank.specs.Term.{Term}
 use Rattle.nesl_syntax_tree.specs.Trees.{TypeTree, TypeShape, PatternTree, PatternShape, Tree, Shape, Trees, Binders}
 use Rattle.nesl_syntax_tree.specs.Trees.{written, pattern, node, none, more, no_binders, binder}
 use Rattle.nesl_syntax_tree.specs.Trees as trees
-use Rattle.nesl_infer_names.specs.Names.{bound, all_bound}
-use Rattle.nesl_infer_rules.specs.World.{Meanings, Datatypes}
-use Rattle.nesl_infer_rules.specs.Typing.{Key, Scope, name, element, HasType}
+use Rattle.nesl_infer_names.specs.Names.{names_bound, all_names_bound}
+use Rattle.nesl_infer_rules.specs.World.{TypedNames, DatatypesByName}
+use Rattle.nesl_infer_rules.specs.Typing.{Key, LocalTypes, name, element, HasType}
 
 -- the names of a written type
 abbrev mutual
-  pub SameTypes : Datatypes → Datatypes → TypeTree → Type 0
+  pub SameTypes : DatatypesByName → DatatypesByName → TypeTree → Type 0
   SameTypes ds es (written s k) = SameTypesIn ds es k
 
-  pub SameTypesIn : Datatypes → Datatypes → TypeShape → Type 0
+  pub SameTypesIn : DatatypesByName → DatatypesByName → TypeShape → Type 0
   SameTypesIn ds es trees.int = Unit {0}
   SameTypesIn ds es trees.bool = Unit {0}
   SameTypesIn ds es trees.char = Unit {0}
@@ -26,10 +26,10 @@ abbrev mutual
 
 -- the names of record patterns
 abbrev mutual
-  pub SameRecords : Datatypes → Datatypes → PatternTree → Type 0
+  pub SameRecords : DatatypesByName → DatatypesByName → PatternTree → Type 0
   SameRecords ds es (pattern s k) = SameRecordsIn ds es k
 
-  pub SameRecordsIn : Datatypes → Datatypes → PatternShape → Type 0
+  pub SameRecordsIn : DatatypesByName → DatatypesByName → PatternShape → Type 0
   SameRecordsIn ds es (trees.name_pattern x) = Unit {0}
   SameRecordsIn ds es (trees.pair_pattern p q) = SameRecords ds es p × SameRecords ds es q
   SameRecordsIn ds es (trees.record_pattern x p) = (ds x ≡ es x) × SameRecords ds es p
@@ -37,10 +37,10 @@ abbrev mutual
 -- an expression refers to its variables that are no local names, to its names before `(`, and to the datatypes of its
 -- patterns and types; `ls` are the local names
 abbrev mutual
-  pub Same : Meanings → Meanings → List (List ℕ) → Tree → Type 0
+  pub Same : TypedNames → TypedNames → List (List ℕ) → Tree → Type 0
   Same N M ls (node s k) = SameIn N M ls k
 
-  pub SameIn : Meanings → Meanings → List (List ℕ) → Shape → Type 0
+  pub SameIn : TypedNames → TypedNames → List (List ℕ) → Shape → Type 0
   SameIn N M ls (trees.number n) = Unit {0}
   SameIn N M ls (trees.truth b) = Unit {0}
   SameIn N M ls (trees.character c) = Unit {0}
@@ -56,24 +56,24 @@ abbrev mutual
   SameIn N M ls (trees.empty a) = SameTypes N.datatypes M.datatypes a
   SameIn N M ls (trees.range a b) = Same N M ls a × Same N M ls b
   SameIn N M ls (trees.strided_range a b c) = Same N M ls a × Same N M ls b × Same N M ls c
-  SameIn N M ls (trees.let_in bs e) = SameBound N M ls bs × Same N M (all_bound bs ++ ls) e
-  SameIn N M ls (trees.each e bs) = Same N M (all_bound bs ++ ls) e × SameDrawn N M ls bs
+  SameIn N M ls (trees.let_in bs e) = SameBound N M ls bs × Same N M (all_names_bound bs ++ ls) e
+  SameIn N M ls (trees.each e bs) = Same N M (all_names_bound bs ++ ls) e × SameDrawn N M ls bs
   SameIn N M ls (trees.filtered_each e bs f) =
-      Same N M (all_bound bs ++ ls) e × SameDrawn N M ls bs × Same N M (all_bound bs ++ ls) f
+      Same N M (all_names_bound bs ++ ls) e × SameDrawn N M ls bs × Same N M (all_names_bound bs ++ ls) f
   SameIn N M ls trees.element = Unit {0}
 
-  pub AllSame : Meanings → Meanings → List (List ℕ) → Trees → Type 0
+  pub AllSame : TypedNames → TypedNames → List (List ℕ) → Trees → Type 0
   AllSame N M ls none = Unit {0}
   AllSame N M ls (more e es) = Same N M ls e × AllSame N M ls es
 
   -- of a `let`: each value sees the names before it
-  pub SameBound : Meanings → Meanings → List (List ℕ) → Binders → Type 0
+  pub SameBound : TypedNames → TypedNames → List (List ℕ) → Binders → Type 0
   SameBound N M ls no_binders = Unit {0}
   SameBound N M ls (binder p e bs) =
-      SameRecords N.datatypes M.datatypes p × Same N M ls e × SameBound N M (bound p ++ ls) bs
+      SameRecords N.datatypes M.datatypes p × Same N M ls e × SameBound N M (names_bound p ++ ls) bs
 
   -- of an apply-to-each: the sequences don't see the binders
-  pub SameDrawn : Meanings → Meanings → List (List ℕ) → Binders → Type 0
+  pub SameDrawn : TypedNames → TypedNames → List (List ℕ) → Binders → Type 0
   SameDrawn N M ls no_binders = Unit {0}
   SameDrawn N M ls (binder p e bs) =
       SameRecords N.datatypes M.datatypes p × Same N M ls e × SameDrawn N M ls bs
@@ -83,14 +83,14 @@ abbrev pub with_key : Key → List (List ℕ) → List (List ℕ)
 with_key (name x) ls = x ∷ ls
 with_key element ls = ls
 
-abbrev pub names_of : Scope → List (List ℕ)
+abbrev pub names_of : LocalTypes → List (List ℕ)
 names_of [] = []
 names_of (b ∷ sc) = with_key b.0 (names_of sc)
 
 -- a typing depends on what the names that the expression refers to mean, and on no other name
 abbrev pub TypingsDependOnReferences : Type 0
 TypingsDependOnReferences =
-    (N M : Meanings) (of : ℕ → Class) (limit : Option ℕ) (e : Tree) (sc : Scope) (t : Term) →
+    (N M : TypedNames) (of : ℕ → Class) (limit : Option ℕ) (e : Tree) (sc : LocalTypes) (t : Term) →
     Same N M (names_of sc) e →
     HasType (record { names = N; of = of; limit = limit }) sc e t →
     HasType (record { names = M; of = of; limit = limit }) sc e t

@@ -6,16 +6,16 @@ ghost use Rattle.nesl_types_bank.specs.Numbering.{IsBelow};
 ghost use Rattle.nesl_unify.specs.Flat.{flat_type};
 ghost use Rattle.nesl_syntax_tree.specs.Trees.{let_in, each, filtered_each};
 ghost use Rattle.nesl_syntax_tree.specs.Views.{tree_of, trees_in, binders_in};
-ghost use Rattle.nesl_infer_rules.specs.Holds.{Adds, AddsNames, Gives, count, scope_at, world_at, AreLocalsBelow};
-ghost use Rattle.nesl_infer_rules.specs.Holds.{IsOwnBelow};
+ghost use Rattle.nesl_infer_rules.specs.Steps.{Adds, AddsNames, Gives, count, scope_at, world_at, AreLocalsBelow};
+ghost use Rattle.nesl_infer_rules.specs.Steps.{IsOwnBelow};
 ghost use Rattle.nesl_infer_rules.specs.Contexts.{AreClosed};
-ghost use Rattle.nesl_infer_rules.specs.Typing.{HasType, HasShapeType, HaveType, HaveElements, Binds, Draws};
+ghost use Rattle.nesl_infer_rules.specs.Typing.{HasType, HasShapeType, HaveType, HaveElements, BindingsAdd, BindersAdd};
 
 use crate::leaf::is_text;
 use nesl_builtins::{of_infix, of_prefix};
-use nesl_infer_rules::apply::{applied, built_in, built_in_of_two};
+use nesl_infer_rules::apply::{constrain_builtin, constrain_call, constrain_operator};
 use nesl_infer_rules::each::bind_items;
-use nesl_infer_rules::leaf::{is_element, is_empty_of, is_variable};
+use nesl_infer_rules::leaf::{constrain_element, constrain_empty, constrain_variable};
 use nesl_infer_rules::pattern::constrain_pattern;
 use nesl_infer_rules::state::{Local, OwnName, State};
 use nesl_syntax_tree::tree::{Binding, Exp, Node};
@@ -48,7 +48,7 @@ pub fn constrain<P: Drop>(
         Node::Truth(_) => state.equate_flat(target, Flat::Bool),
         Node::Character(_) => state.equate_flat(target, Flat::Char),
         Node::Text(_) => is_text(state, target),
-        Node::Variable(name) => is_variable(
+        Node::Variable(name) => constrain_variable(
             alloc,
             state,
             context,
@@ -59,7 +59,7 @@ pub fn constrain<P: Drop>(
         ),
         Node::Call { name, argument } => {
             let given = constrain_part(alloc, state, context, own, locals, argument)?;
-            applied(alloc, state, context, own, name.as_slice(), given, target)
+            constrain_call(alloc, state, context, own, name.as_slice(), given, target)
         }
         Node::Pair {
             left: first,
@@ -67,14 +67,14 @@ pub fn constrain<P: Drop>(
         } => {
             let left = constrain_part(alloc, state, context, own, locals, first)?;
             let right = constrain_part(alloc, state, context, own, locals, second)?;
-            state.is_pair(target, left, right)
+            state.equate_pair(target, left, right)
         }
         Node::Prefix {
             operator: prefix,
             operand,
         } => {
             let given = constrain_part(alloc, state, context, own, locals, operand)?;
-            built_in(state, alloc, of_prefix(*prefix), given, target)
+            constrain_builtin(state, alloc, of_prefix(*prefix), given, target)
         }
         Node::Infix {
             operator,
@@ -83,7 +83,7 @@ pub fn constrain<P: Drop>(
         } => {
             let left = constrain_part(alloc, state, context, own, locals, first)?;
             let right = constrain_part(alloc, state, context, own, locals, second)?;
-            built_in_of_two(state, alloc, of_infix(*operator), left, right, target)
+            constrain_operator(state, alloc, of_infix(*operator), left, right, target)
         }
         Node::Index {
             sequence,
@@ -91,7 +91,7 @@ pub fn constrain<P: Drop>(
         } => {
             let items = constrain_part(alloc, state, context, own, locals, sequence)?;
             constrain_exactly(alloc, state, context, own, locals, place, Flat::Int)?;
-            state.is_sequence(items, target)
+            state.equate_sequence(items, target)
         }
         Node::Choice {
             test,
@@ -103,17 +103,17 @@ pub fn constrain<P: Drop>(
             constrain(alloc, state, context, own, locals, second, target)
         }
         Node::Sequence(items) => {
-            let item = state.anything()?;
+            let item = state.add_any()?;
             constrain_items(alloc, state, context, own, locals, items.as_slice(), item)?;
-            state.is_sequence(target, item)
+            state.equate_sequence(target, item)
         }
-        Node::Empty(written) => is_empty_of(alloc, state, context, written, target),
+        Node::Empty(written) => constrain_empty(alloc, state, context, written, target),
         Node::Range {
             from: start,
             to: end,
         } => {
             let number = constrain_bounds(alloc, state, context, own, locals, start, end)?;
-            state.is_sequence(target, number)
+            state.equate_sequence(target, number)
         }
         Node::StridedRange {
             from: start,
@@ -122,7 +122,7 @@ pub fn constrain<P: Drop>(
         } => {
             let number = constrain_bounds(alloc, state, context, own, locals, start, end)?;
             constrain(alloc, state, context, own, locals, step, number)?;
-            state.is_sequence(target, number)
+            state.equate_sequence(target, number)
         }
         Node::Let { bindings, body } => constrain_let(
             alloc,
@@ -159,7 +159,7 @@ pub fn constrain<P: Drop>(
             filter,
             target,
         ),
-        Node::Element => is_element(state, locals.as_slice(), target),
+        Node::Element => constrain_element(state, locals.as_slice(), target),
     }
 }
 
@@ -181,7 +181,7 @@ fn constrain_part<P: Drop>(
     ensures below { IfOk result (λ v. v < count state.new) }
     ensures locals { OnOk result (locals.new.items ≡ locals.old.items) }
 {
-    let part = state.anything()?;
+    let part = state.add_any()?;
     constrain(alloc, state, context, own, locals, exp, part)?;
     Ok(part)
 }
@@ -207,7 +207,7 @@ fn constrain_exactly<P: Drop>(
         (flat_type flat))) }
     ensures locals { OnOk result (locals.new.items ≡ locals.old.items) }
 {
-    let part = state.exactly(flat)?;
+    let part = state.add_exact(flat)?;
     constrain(alloc, state, context, own, locals, exp, part)
 }
 
@@ -231,7 +231,7 @@ fn constrain_bounds<P: Drop>(
     ensures below { IfOk result (λ v. v < count state.new) }
     ensures locals { OnOk result (locals.new.items ≡ locals.old.items) }
 {
-    let number = state.exactly(Flat::Int)?;
+    let number = state.add_exact(Flat::Int)?;
     constrain(alloc, state, context, own, locals, from, number)?;
     constrain(alloc, state, context, own, locals, to, number)?;
     Ok(number)
@@ -277,11 +277,11 @@ fn constrain_bindings<P: Drop>(
     requires own { IsOwnBelow (count state.old) own.now }
     requires closed { AreClosed context.now }
     ensures { OnOk result (AddsNames state.old state.new locals.old.items locals.new.items
-        (λ s of ns. Binds (world_at context.now own.now s of) (scope_at s locals.old.items)
+        (λ s of ns. BindingsAdd (world_at context.now own.now s of) (scope_at s locals.old.items)
         (binders_in bindings.now) ns)) }
 {
     for binding in bindings {
-        let bound = state.anything()?;
+        let bound = state.add_any()?;
         constrain(alloc, state, context, own, locals, &binding.value, bound)?;
         constrain_pattern(alloc, state, context, own, locals, &binding.pattern, bound)?;
     }
@@ -311,9 +311,9 @@ fn constrain_values<P: Drop>(
 {
     let mut items = Vec::new(alloc);
     for binding in bindings {
-        let item = state.anything()?;
-        let sequence = state.anything()?;
-        state.is_sequence(sequence, item)?;
+        let item = state.add_any()?;
+        let sequence = state.add_any()?;
+        state.equate_sequence(sequence, item)?;
         constrain(alloc, state, context, own, locals, &binding.value, sequence)?;
         items.push(item)?;
     }
@@ -373,7 +373,7 @@ fn constrain_each<P: Drop>(
     constrain_binders(alloc, state, context, own, locals, bindings)?;
     let item = constrain_part(alloc, state, context, own, locals, body)?;
     locals.truncate(before);
-    state.is_sequence(target, item)
+    state.equate_sequence(target, item)
 }
 
 /// The equations of an apply-to-each with a filter.
@@ -403,7 +403,7 @@ fn constrain_filtered_each<P: Drop>(
     let item = constrain_part(alloc, state, context, own, locals, body)?;
     constrain_exactly(alloc, state, context, own, locals, filter, Flat::Bool)?;
     locals.truncate(before);
-    state.is_sequence(target, item)
+    state.equate_sequence(target, item)
 }
 
 /// Adds the names of the binders of an apply-to-each, whose values are sequences.
@@ -421,7 +421,7 @@ fn constrain_binders<P: Drop>(
     requires closed { AreClosed context.now }
     ensures { OnOk result (AddsNames state.old state.new locals.old.items locals.new.items (λ s of ns. (is : List Term)
         × HaveElements (world_at context.now own.now s of) (scope_at s locals.old.items) (binders_in bindings.now) is
-        × Draws (world_at context.now own.now s of) (binders_in bindings.now) is ns)) }
+        × BindersAdd (world_at context.now own.now s of) (binders_in bindings.now) is ns)) }
 {
     let items = constrain_values(alloc, state, context, own, locals, bindings)?;
     bind_items(

@@ -1,16 +1,16 @@
 //! Principal types.
 
 ghost use Rattle.std.specs.Prelude.{◌≡◌, ℕ, option_map, IfOk, IsErrOf, MatchOption};
-ghost use Rattle.nesl_infer_rules.specs.Holds.{Gives};
+ghost use Rattle.nesl_infer_rules.specs.Steps.{Gives};
 ghost use Rattle.nesl_syntax_tree.specs.Views.{tree_of, pattern_tree, signature_tree, type_tree};
-ghost use Rattle.nesl_infer.specs.Answers.{IsTypeOf, IsSchemeFor, IsDatatypeFor};
+ghost use Rattle.nesl_infer.specs.Verdicts.{IsTypeOf, IsSchemeFor, IsDatatypeFor};
 ghost use Rattle.nesl_types.specs.declared.classes.Class.{Class};
 ghost use Rattle.nesl_types.specs.Class.{class_at};
 ghost use Rattle.nesl_types_bank.specs.Term.{Term};
 ghost use Rattle.nesl_infer_rules.specs.Contexts.{AreClosed};
 ghost use Rattle.nesl_infer_rules.specs.Typing.{IsWritten};
 ghost use Rattle.nesl_infer_names.specs.Names.{datatype_in};
-ghost use Rattle.nesl_infer_rules.specs.Principal.{HasNone, HasNoScheme, IsPrincipal, IsPrincipalScheme, Typed};
+ghost use Rattle.nesl_infer_rules.specs.Principal.{HasNoType, HasNoFunctionType, IsPrincipal, IsPrincipalScheme, Typed};
 ghost use Rattle.nesl_infer_rules.specs.Principal.{TypedFunction};
 
 use crate::constrain::constrain;
@@ -44,10 +44,10 @@ fn principal_type<P: Drop>(
     requires { AreClosed context.now }
     ensures principal { IfOk result (λ p. IsPrincipal (Typed context.now (tree_of exp.now))
         (class_at p.classes.items) p.ty) }
-    ensures ill_typed { IsErrOf result SolveFault.NoSolution → HasNone (Typed context.now (tree_of exp.now)) }
+    ensures ill_typed { IsErrOf result SolveFault.NoSolution → HasNoType (Typed context.now (tree_of exp.now)) }
 {
     let mut state = State::new(alloc);
-    let root = state.anything()?;
+    let root = state.add_any()?;
     let mut locals = Vec::new(alloc);
     constrain(alloc, &mut state, context, &None, &mut locals, exp, root)?;
     let solution = state.solve(alloc)?;
@@ -81,8 +81,8 @@ fn constrain_function<P: Drop>(
         (λ s of x. TypedFunction context.now name.now (pattern_tree pattern.now)
         (option_map signature_tree signature.now) (tree_of body.now) of x.0 x.1)) }
 {
-    let takes = state.anything()?;
-    let gives = state.anything()?;
+    let takes = state.add_any()?;
+    let gives = state.add_any()?;
     let name = Vec::from_slice(alloc, name)?;
     let own = Some(OwnName { name, takes, gives });
     let mut locals = Vec::new(alloc);
@@ -106,7 +106,7 @@ fn principal_scheme<P: Drop>(
         (TypedFunction context.now name.now (pattern_tree pattern.now) (option_map signature_tree signature.now)
         (tree_of body.now))) }
     ensures ill_typed { IsErrOf result SolveFault.NoSolution
-        → HasNoScheme (TypedFunction context.now name.now (pattern_tree pattern.now)
+        → HasNoFunctionType (TypedFunction context.now name.now (pattern_tree pattern.now)
         (option_map signature_tree signature.now) (tree_of body.now)) }
 {
     let mut state = State::new(alloc);

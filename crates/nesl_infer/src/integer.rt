@@ -2,10 +2,10 @@
 
 ghost use Rattle.std.specs.Prelude.{◌≡◌, IsTrue, None, Some};
 ghost use Rattle.nesl_types.specs.declared.classes.Class.TheVariants.{Number};
-ghost use Rattle.nesl_types_bank.specs.Term.{int, both};
+ghost use Rattle.nesl_types_bank.specs.Term.{int, pair_of};
 ghost use Rattle.nesl_syntax_tree.specs.Views.{tree_of};
 ghost use Rattle.nesl_builtins.specs.Named.{infix_builtin};
-ghost use Rattle.nesl_builtins.specs.Table.{a, builtin_type, in_class};
+ghost use Rattle.nesl_builtins.specs.FunctionTypes.{a, builtin_type, in_class};
 ghost use Rattle.nesl_infer_rules.specs.World.{meanings_in};
 ghost use Rattle.nesl_infer.specs.Only.{IsOnlyType};
 
@@ -14,7 +14,7 @@ use nesl_types::{Context, Kind, Top};
 
 /// Whether the operator takes two numbers and gives a number.
 fn is_arithmetic(operator: Operator) -> bool
-    ensures { IsTrue result → builtin_type (infix_builtin operator) ≡ in_class Number (both a a) a }
+    ensures { IsTrue result → builtin_type (infix_builtin operator) ≡ in_class Number (pair_of a a) a }
 {
     match operator {
         Operator::Plus => true,

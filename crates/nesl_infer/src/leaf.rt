@@ -2,7 +2,7 @@
 
 ghost use Rattle.std.specs.Prelude.{◌≡◌, ◌<◌, OnOk};
 ghost use Rattle.nesl_types_bank.specs.Term.{char, seq_of};
-ghost use Rattle.nesl_infer_rules.specs.Holds.{count, Adds};
+ghost use Rattle.nesl_infer_rules.specs.Steps.{count, Adds};
 
 use nesl_infer_rules::state::State;
 use nesl_unify::Flat;
@@ -13,6 +13,6 @@ pub fn is_text(state: &mut State, target: u64) -> Result<(), AllocError>
     requires target { target < count state.old }
     ensures { OnOk result (Adds state.old state.new (λ s of. s target ≡ seq_of char)) }
 {
-    let letter = state.exactly(Flat::Char)?;
-    state.is_sequence(target, letter)
+    let letter = state.add_exact(Flat::Char)?;
+    state.equate_sequence(target, letter)
 }

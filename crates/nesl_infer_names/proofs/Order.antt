@@ -5,10 +5,10 @@ use Rattle.std.specs.List.{list_any}
 use Rattle.std.specs.Str.{bytes_eq}
 use Rattle.nesl_lex.specs.declared.token.Span.{Span}
 use Rattle.nesl_types_bank.specs.Term.{Term}
-use Rattle.nesl_syntax_tree.specs.Trees.{Tree, Shape, Trees, Binders, PatternTree, PatternShape, TypeTree, TypeShape, SignatureTree, Line, node, pattern, written, none, more, no_binders, binder}
+use Rattle.nesl_syntax_tree.specs.Trees.{Tree, Shape, Trees, Binders, PatternTree, PatternShape, TypeTree, TypeShape, SignatureTree, FormTree, node, pattern, written, none, more, no_binders, binder}
 use Rattle.nesl_syntax_tree.specs.Trees as trees
 use Rattle.nesl_syntax_tree.specs.Spans.{Item, exp_item, pattern_item, type_item, token_item, item_span, items_of, bound_items, body_items, shape_items, pattern_items, type_items, Lined, none_lined, more_lined, Orderly, orderly, signature_items, line_items}
-use Rattle.nesl_infer_names.specs.Names.{Names, unless, unknown, unknown_in, all_unknown, unknown_bound, unknown_drawn, unknown_types, unknown_types_in, unknown_records, unknown_records_in, unknown_of_function, bound, all_bound}
+use Rattle.nesl_infer_names.specs.Names.{Names, span_unless_known, unknown_names, unknown_in, all_unknown_names, unknown_in_let, unknown_in_each, unknown_types, unknown_types_in, unknown_records, unknown_records_in, unknown_of_function, names_bound, all_names_bound}
 use Rattle.nesl_infer_names.specs.Order.{Ascends, none_ascend, more_ascend, unknown_in_line}
 
 mutual
@@ -45,11 +45,11 @@ both (none_ascend g) r = start_from _ g r
 both (more_ascend g l) r = more_ascend g (both l r)
 
 -- a span that may be unknown, before others
-maybe : {i j : ℕ} {ss : List Span} (b : Bool) (s : Span) → i ≤ s.start → Ascends s.start ss j → Ascends i (unless b s ++ ss) j
+maybe : {i j : ℕ} {ss : List Span} (b : Bool) (s : Span) → i ≤ s.start → Ascends s.start ss j → Ascends i (span_unless_known b s ++ ss) j
 maybe true s h r = start_from _ h r
 maybe false s h r = more_ascend h r
 
-maybe_last : {i j : ℕ} (b : Bool) (s : Span) → i ≤ s.start → s.start ≤ j → Ascends i (unless b s) j
+maybe_last : {i j : ℕ} (b : Bool) (s : Span) → i ≤ s.start → s.start ≤ j → Ascends i (span_unless_known b s) j
 maybe_last true s h g = none_ascend (omega arith)
 maybe_last false s h g = more_ascend h (none_ascend g)
 
@@ -77,12 +77,12 @@ module _ (ds : List ℕ → Option (ℕ × Term)) where
 
 module _ (ns : Names) where
   -- the body of an apply-to-each
-  body_order : (ls : List (List ℕ)) (e : Tree) {i j : ℕ} → ((i j : ℕ) → Lined i (exp_item e ∷ []) j → Ascends i (unknown ns ls e) j) → Lined i (body_items e) j → Ascends i (unknown ns ls e) j
+  body_order : (ls : List (List ℕ)) (e : Tree) {i j : ℕ} → ((i j : ℕ) → Lined i (exp_item e ∷ []) j → Ascends i (unknown_names ns ls e) j) → Lined i (body_items e) j → Ascends i (unknown_names ns ls e) j
   body_order ls (node s trees.element) f l = none_ascend (lined_low l)
   body_order ls e f l = f _ _ l
 
   mutual
-    order : (ls : List (List ℕ)) (e : Tree) {i j : ℕ} → Lined i (exp_item e ∷ []) j → Ascends i (unknown ns ls e) j
+    order : (ls : List (List ℕ)) (e : Tree) {i j : ℕ} → Lined i (exp_item e ∷ []) j → Ascends i (unknown_names ns ls e) j
     order ls (node s k) (more_lined a (orderly l) (none_lined b)) = start_from _ a (end_to _ b (shape_order ls s k l))
 
     shape_order : (ls : List (List ℕ)) (s : Span) (k : Shape) → Lined s.start (shape_items k) s.end → Ascends s.start (unknown_in ns ls s k) s.end
@@ -101,38 +101,38 @@ module _ (ns : Names) where
     shape_order ls s (trees.empty a) l = type_order ns.datatypes a l
     shape_order ls s (trees.range a b) l = let c = front l in both (order ls a c.first) (order ls b c.rest)
     shape_order ls s (trees.strided_range a b d) l = let c = front l in let g = front c.rest in both (order ls a c.first) (both (order ls b g.first) (order ls d g.rest))
-    shape_order ls s (trees.let_in bs e) l = let c = cut (bound_items bs) (exp_item e ∷ []) l in both (bound_order ls bs c.first) (order (all_bound bs ++ ls) e c.rest)
+    shape_order ls s (trees.let_in bs e) l = let c = cut (bound_items bs) (exp_item e ∷ []) l in both (bound_order ls bs c.first) (order (all_names_bound bs ++ ls) e c.rest)
     shape_order ls s (trees.each e bs) l =
-        let c = cut (body_items e) (bound_items bs) l in both (body_order (all_bound bs ++ ls) e (λ m n h. order (all_bound bs ++ ls) e h) c.first) (drawn_order ls bs c.rest)
+        let c = cut (body_items e) (bound_items bs) l in both (body_order (all_names_bound bs ++ ls) e (λ m n h. order (all_names_bound bs ++ ls) e h) c.first) (drawn_order ls bs c.rest)
     shape_order ls s (trees.filtered_each e bs f) l =
         let c = cut (body_items e) (bound_items bs ++ (exp_item f ∷ [])) l in
         let g = cut (bound_items bs) (exp_item f ∷ []) c.rest in
-        both (body_order (all_bound bs ++ ls) e (λ m n h. order (all_bound bs ++ ls) e h) c.first) (both (drawn_order ls bs g.first) (order (all_bound bs ++ ls) f g.rest))
+        both (body_order (all_names_bound bs ++ ls) e (λ m n h. order (all_names_bound bs ++ ls) e h) c.first) (both (drawn_order ls bs g.first) (order (all_names_bound bs ++ ls) f g.rest))
     shape_order ls s trees.element l = none_ascend (lined_low l)
 
-    all_order : (ls : List (List ℕ)) (es : Trees) {i j : ℕ} → Lined i (items_of es) j → Ascends i (all_unknown ns ls es) j
+    all_order : (ls : List (List ℕ)) (es : Trees) {i j : ℕ} → Lined i (items_of es) j → Ascends i (all_unknown_names ns ls es) j
     all_order ls none l = none_ascend (lined_low l)
     all_order ls (more e es) l = let c = front l in both (order ls e c.first) (all_order ls es c.rest)
 
-    bound_order : (ls : List (List ℕ)) (bs : Binders) {i j : ℕ} → Lined i (bound_items bs) j → Ascends i (unknown_bound ns ls bs) j
+    bound_order : (ls : List (List ℕ)) (bs : Binders) {i j : ℕ} → Lined i (bound_items bs) j → Ascends i (unknown_in_let ns ls bs) j
     bound_order ls no_binders l = none_ascend (lined_low l)
     bound_order ls (binder p e bs) l =
-        let c = front l in let g = front c.rest in both (pattern_order ns.datatypes p c.first) (both (order ls e g.first) (bound_order (bound p ++ ls) bs g.rest))
+        let c = front l in let g = front c.rest in both (pattern_order ns.datatypes p c.first) (both (order ls e g.first) (bound_order (names_bound p ++ ls) bs g.rest))
 
-    drawn_order : (ls : List (List ℕ)) (bs : Binders) {i j : ℕ} → Lined i (bound_items bs) j → Ascends i (unknown_drawn ns ls bs) j
+    drawn_order : (ls : List (List ℕ)) (bs : Binders) {i j : ℕ} → Lined i (bound_items bs) j → Ascends i (unknown_in_each ns ls bs) j
     drawn_order ls no_binders l = none_ascend (lined_low l)
     drawn_order ls (binder p e bs) l =
         let c = front l in let g = front c.rest in both (pattern_order ns.datatypes p c.first) (both (order ls e g.first) (drawn_order ls bs g.rest))
 
-pub line_order : (ns : Names) (l : Line) {i j : ℕ} → Lined i (line_items l) j → Ascends i (unknown_in_line ns l) j
+pub line_order : (ns : Names) (l : FormTree) {i j : ℕ} → Lined i (line_items l) j → Ascends i (unknown_in_line ns l) j
 line_order ns trees.nothing l = none_ascend (lined_low l)
 line_order ns (trees.function x p s e) l =
     let c = front l in
     let g = cut (signature_items s) (exp_item e ∷ []) c.rest in
-    both (pattern_order ns.datatypes p c.first) (start_from _ (lined_low g.first) (order ns (bound p) e g.rest))
+    both (pattern_order ns.datatypes p c.first) (start_from _ (lined_low g.first) (order ns (names_bound p) e g.rest))
 line_order ns (trees.datatype x a) l = type_order ns.datatypes a l
 line_order ns (trees.bind x e) l = order ns [] e l
-line_order ns (trees.eval e) l = order ns [] e l
+line_order ns (trees.evaluate e) l = order ns [] e l
 line_order ns trees.show_names l = none_ascend (lined_low l)
 line_order ns trees.show_budget l = none_ascend (lined_low l)
 line_order ns (trees.show_type e) l = order ns [] e l

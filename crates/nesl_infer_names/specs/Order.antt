@@ -3,9 +3,9 @@ use Rattle.std.specs.Prelude.{ℕ, ◌≤◌, List, [], ◌∷◌, length}
 use Rattle.nesl_lex.specs.declared.token.Span.{Span}
 use Rattle.nesl_lex.specs.Tokens.{Placed}
 use Rattle.nesl_lex.specs.Lexemes.{HasTokens}
-use Rattle.nesl_syntax_tree.specs.Trees.{Line, function, datatype, bind, eval, show_type}
-use Rattle.nesl_syntax_tree.specs.Lines.{IsLine}
-use Rattle.nesl_infer_names.specs.Names.{Names, unknown, unknown_of_function, unknown_types}
+use Rattle.nesl_syntax_tree.specs.Trees.{FormTree, function, datatype, bind, evaluate, show_type}
+use Rattle.nesl_syntax_tree.specs.Lines.{IsForm}
+use Rattle.nesl_infer_names.specs.Names.{Names, unknown_names, unknown_of_function, unknown_types}
 
 -- spans between these places, of which each begins where the one before it begins, or later
 pub data Ascends : ℕ → List Span → ℕ → Type 0 where
@@ -14,16 +14,16 @@ pub data Ascends : ℕ → List Span → ℕ → Type 0 where
       {i j : ℕ} {s : Span} {ss : List Span} → i ≤ s.start → Ascends s.start ss j → Ascends i (s ∷ ss) j
 
 -- what is unknown in a line
-abbrev pub unknown_in_line : Names → Line → List Span
+abbrev pub unknown_in_line : Names → FormTree → List Span
 unknown_in_line ns (function x p s e) = unknown_of_function ns p e
 unknown_in_line ns (datatype x a) = unknown_types ns.datatypes a
-unknown_in_line ns (bind x e) = unknown ns [] e
-unknown_in_line ns (eval e) = unknown ns [] e
-unknown_in_line ns (show_type e) = unknown ns [] e
+unknown_in_line ns (bind x e) = unknown_names ns [] e
+unknown_in_line ns (evaluate e) = unknown_names ns [] e
+unknown_in_line ns (show_type e) = unknown_names ns [] e
 unknown_in_line ns other = []
 
 -- it is listed as it stands in the text, so the first of the list is the first in the line
 abbrev pub UnknownInOrder : Type 0
 UnknownInOrder =
-    (line : List ℕ) (ts : List Placed) (l : Line) (ns : Names) → HasTokens line ts → IsLine ts l →
+    (line : List ℕ) (ts : List Placed) (l : FormTree) (ns : Names) → HasTokens line ts → IsForm ts l →
     Ascends 0 (unknown_in_line ns l) (length line)

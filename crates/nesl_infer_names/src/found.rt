@@ -2,13 +2,13 @@
 
 ghost use Rattle.std.specs.Prelude.{◌≡◌};
 ghost use Rattle.nesl_infer_names.specs.Firsts.{earlier, first};
-ghost use Rattle.nesl_infer_names.specs.Names.{unless};
+ghost use Rattle.nesl_infer_names.specs.Names.{span_unless_known};
 
 use nesl_lex::token::Span;
 
 /// Notes the span unless the name there is known, or another was noted before.
 pub fn note(found: &mut Option<Span>, known: bool, span: Span)
-    ensures { found.new ≡ earlier found.old (first (unless known span)) }
+    ensures { found.new ≡ earlier found.old (first (span_unless_known known span)) }
 {
     if !known && found.is_none() {
         *found = Some(span);

@@ -4,7 +4,7 @@ ghost use Rattle.std.specs.Prelude.{◌≡◌, ◌++◌, OnOk};
 ghost use Rattle.nesl_syntax_tree.specs.Views.{pattern_tree, binders_in};
 ghost use Rattle.nesl_infer_names.specs.Firsts.{earlier, first};
 ghost use Rattle.nesl_infer_names.specs.Scopes.{locals};
-ghost use Rattle.nesl_infer_names.specs.Names.{unknown_records, datatype_in, bound, all_bound};
+ghost use Rattle.nesl_infer_names.specs.Names.{unknown_records, datatype_in, names_bound, all_names_bound};
 
 use crate::found::note;
 use crate::known::is_datatype;
@@ -37,7 +37,7 @@ pub fn walk_pattern<P: Drop>(context: &Context<P>, found: &mut Option<Span>, pat
 
 /// Adds the names that the pattern binds.
 pub fn bind(alloc: Global, scope: &mut Scope, pattern: &Pattern) -> Result<(), AllocError>
-    ensures { OnOk result (locals scope.new ≡ bound (pattern_tree pattern.now) ++ locals scope.old) }
+    ensures { OnOk result (locals scope.new ≡ names_bound (pattern_tree pattern.now) ++ locals scope.old) }
 {
     match &pattern.node {
         PatternNode::Name(name) => scope.push(alloc, name.as_slice()),
@@ -55,7 +55,7 @@ pub fn bind(alloc: Global, scope: &mut Scope, pattern: &Pattern) -> Result<(), A
 
 /// Adds the names that all the binders bind.
 pub fn bind_all(alloc: Global, scope: &mut Scope, bindings: &[Binding]) -> Result<(), AllocError>
-    ensures { OnOk result (locals scope.new ≡ all_bound (binders_in bindings.now) ++ locals scope.old) }
+    ensures { OnOk result (locals scope.new ≡ all_names_bound (binders_in bindings.now) ++ locals scope.old) }
 {
     for binding in bindings {
         bind(alloc, scope, &binding.pattern)?;

@@ -3,7 +3,8 @@
 ghost use Rattle.std.specs.Prelude.{◌≡◌, None, Some, [], IfOk};
 ghost use Rattle.nesl_syntax_tree.specs.Views.{tree_of, pattern_tree, type_tree};
 ghost use Rattle.nesl_infer_names.specs.Firsts.{first};
-ghost use Rattle.nesl_infer_names.specs.Names.{names_in, datatype_in, unknown, unknown_of_function, unknown_types};
+ghost use Rattle.nesl_infer_names.specs.Names.{names_in, datatype_in, unknown_names, unknown_of_function};
+ghost use Rattle.nesl_infer_names.specs.Names.{unknown_types};
 
 use crate::patterns::{bind, walk_pattern};
 use crate::scope::Scope;
@@ -20,7 +21,7 @@ pub fn unknown_in_exp<P: Drop>(
     context: &Context<P>,
     exp: &Exp,
 ) -> Result<Option<Span>, AllocError>
-    ensures { IfOk result (λ r. r ≡ first (unknown (names_in context.now None) [] (tree_of exp.now))) }
+    ensures { IfOk result (λ r. r ≡ first (unknown_names (names_in context.now None) [] (tree_of exp.now))) }
 {
     let mut scope = Scope::new(alloc);
     let mut found = None;

@@ -7,7 +7,8 @@ ghost use Rattle.std.specs.Str.{bytes_eq};
 ghost use Rattle.nesl_syntax_tree.specs.Views.{tree_of, trees_in, binders_in};
 ghost use Rattle.nesl_infer_names.specs.Firsts.{earlier, first};
 ghost use Rattle.nesl_infer_names.specs.Scopes.{locals};
-ghost use Rattle.nesl_infer_names.specs.Names.{names_in, all_bound, unknown, all_unknown, unknown_bound, unknown_drawn};
+ghost use Rattle.nesl_infer_names.specs.Names.{names_in, all_names_bound, unknown_names, all_unknown_names};
+ghost use Rattle.nesl_infer_names.specs.Names.{unknown_in_let, unknown_in_each};
 
 use crate::found::{add, note};
 use crate::known::{is_function, is_variable};
@@ -44,7 +45,7 @@ pub fn walk<P: Drop>(
     exp: &Exp,
 ) -> Result<(), AllocError>
     ensures found { OnOk result (found.new ≡ earlier found.old
-        (first (unknown (names_in context.now (option_map (λ v. v.items) own.now)) (locals scope.old)
+        (first (unknown_names (names_in context.now (option_map (λ v. v.items) own.now)) (locals scope.old)
         (tree_of exp.now)))) }
     ensures scope { OnOk result (locals scope.new ≡ locals scope.old) }
 {
@@ -172,7 +173,7 @@ pub fn walk<P: Drop>(
     }
 }
 
-/// The same for each of the expressions.
+/// Finds the first unknown name in any of the expressions.
 #[cycle(walk)]
 fn walk_items<P: Drop>(
     alloc: Global,
@@ -183,7 +184,7 @@ fn walk_items<P: Drop>(
     items: &[Exp],
 ) -> Result<(), AllocError>
     ensures found { OnOk result (found.new ≡ earlier found.old
-        (first (all_unknown (names_in context.now (option_map (λ v. v.items) own.now)) (locals scope.old)
+        (first (all_unknown_names (names_in context.now (option_map (λ v. v.items) own.now)) (locals scope.old)
         (trees_in items.now)))) }
     ensures scope { OnOk result (locals scope.new ≡ locals scope.old) }
 {
@@ -193,7 +194,7 @@ fn walk_items<P: Drop>(
     Ok(())
 }
 
-/// The same for the bindings of a `let`, whose names are in scope afterwards.
+/// Finds the first unknown name in the bindings of a `let`, whose names are in scope afterwards.
 #[cycle(walk)]
 fn walk_bindings<P: Drop>(
     alloc: Global,
@@ -204,9 +205,9 @@ fn walk_bindings<P: Drop>(
     bindings: &[Binding],
 ) -> Result<(), AllocError>
     ensures found { OnOk result (found.new ≡ earlier found.old
-        (first (unknown_bound (names_in context.now (option_map (λ v. v.items) own.now)) (locals scope.old)
+        (first (unknown_in_let (names_in context.now (option_map (λ v. v.items) own.now)) (locals scope.old)
         (binders_in bindings.now)))) }
-    ensures scope { OnOk result (locals scope.new ≡ all_bound (binders_in bindings.now) ++ locals scope.old) }
+    ensures scope { OnOk result (locals scope.new ≡ all_names_bound (binders_in bindings.now) ++ locals scope.old) }
 {
     for binding in bindings {
         walk_pattern(context, found, &binding.pattern);
@@ -216,7 +217,7 @@ fn walk_bindings<P: Drop>(
     Ok(())
 }
 
-/// The same for the binders of an apply-to-each, whose sequences don't see their names.
+/// Finds the first unknown name in the binders of an apply-to-each, whose sequences don't see their names.
 #[cycle(walk)]
 fn walk_binders<P: Drop>(
     alloc: Global,
@@ -227,7 +228,7 @@ fn walk_binders<P: Drop>(
     binders: &[Binding],
 ) -> Result<(), AllocError>
     ensures found { OnOk result (found.new ≡ earlier found.old
-        (first (unknown_drawn (names_in context.now (option_map (λ v. v.items) own.now)) (locals scope.old)
+        (first (unknown_in_each (names_in context.now (option_map (λ v. v.items) own.now)) (locals scope.old)
         (binders_in binders.now)))) }
     ensures scope { OnOk result (locals scope.new ≡ locals scope.old) }
 {

@@ -4,7 +4,7 @@ use Rattle.std.proofs.lemmas.Bool.{cases_eq}
 use Rattle.std.proofs.lemmas.Bool.Decides.{nat_tests}
 use Rattle.std.specs.Prelude.{nat_eq, Option, Some, None}
 use Rattle.nesl_types.specs.declared.classes.Class.{Class}
-use Rattle.nesl_types_bank.specs.Term.{Term, int, bool, char, variable, seq_of, both, named, nodes}
+use Rattle.nesl_types_bank.specs.Term.{Term, int, bool, char, variable, seq_of, pair_of, named, nodes}
 use Rattle.nesl_types_bank.specs.Substitution.{substitute}
 use Rattle.nesl_types_bank.specs.Numbering.{IsBelow}
 use Rattle.nesl_types.specs.Class.{IsIn}
@@ -12,7 +12,7 @@ use Rattle.nesl_unify.specs.Bounds.{IsBounded}
 use Rattle.nesl_unify.proofs.Known.{holds_below}
 use Rattle.nesl_infer_rules.specs.declared.state.State.{State}
 use Rattle.nesl_infer_rules.specs.declared.table.Table.{Table}
-use Rattle.nesl_infer_rules.specs.Holds.{Agrees, count, count_of, Holds, HoldsIn}
+use Rattle.nesl_infer_rules.specs.Steps.{Agrees, count, count_of, IsSolution, HoldsIn}
 
 pub substitute-below : (n : ℕ) (s z : ℕ → Term) (t : Term) → Agrees n s z → IsBelow n t → substitute s t ≡ substitute z t
 substitute-below n s z int a b = refl
@@ -20,7 +20,7 @@ substitute-below n s z bool a b = refl
 substitute-below n s z char a b = refl
 substitute-below n s z (variable v) a b = a v b
 substitute-below n s z (seq_of t) a b = ap seq_of (substitute-below n s z t a b)
-substitute-below n s z (both t u) a b =
+substitute-below n s z (pair_of t u) a b =
     let e = substitute-below n s z t a b.0 in
     let d = substitute-below n s z u a b.1 in
     cc
@@ -32,7 +32,7 @@ below-weaker m n bool l b = tt
 below-weaker m n char l b = tt
 below-weaker m n (variable v) l b = omega arith
 below-weaker m n (seq_of t) l b = below-weaker m n t l b
-below-weaker m n (both t u) l b = (below-weaker m n t l b.0, below-weaker m n u l b.1)
+below-weaker m n (pair_of t u) l b = (below-weaker m n t l b.0, below-weaker m n u l b.1)
 below-weaker m n (named k) l b = tt
 
 -- a solution may change beyond the variables of its state
@@ -45,7 +45,7 @@ agrees_in (Some t) s z of a h = record {
       subst (λ (u : Term). IsIn of e.class u) (a e.variable (t.made.members k d l)) (h.within k d l);
 }
 
-pub holds-agrees : (state : State) (s z : ℕ → Term) (of : ℕ → Class) → Agrees (count state) s z → Holds s of state → Holds z of state
+pub holds-agrees : (state : State) (s z : ℕ → Term) (of : ℕ → Class) → Agrees (count state) s z → IsSolution s of state → IsSolution z of state
 holds-agrees state s z of a h = agrees_in state.table s z of a h
 
 pub Agrees-trans : (m n : ℕ) (s z y : ℕ → Term) → m ≤ n → Agrees m s z → Agrees n z y → Agrees m s y

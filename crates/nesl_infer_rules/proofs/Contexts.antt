@@ -9,7 +9,7 @@ use Rattle.nesl_types_bank.specs.Term.{Term}
 use Rattle.nesl_syntax_tree.specs.Trees.{TypeTree, TypeShape, written}
 use Rattle.nesl_syntax_tree.specs.Trees as trees
 use Rattle.nesl_infer_rules.specs.Contexts.{IsClosed, AreClosed}
-use Rattle.nesl_infer_rules.specs.World.{Datatypes}
+use Rattle.nesl_infer_rules.specs.World.{DatatypesByName}
 use Rattle.nesl_infer_rules.specs.Typing.{IsWritten, IsWrittenShape}
 
 -- what a name is after another was defined: what it was, or what was defined
@@ -49,10 +49,10 @@ closed_with x t p bs k h = λ y u q e.
 
 -- no variable stands in a type that is written
 mutual
-  pub written-closed : (ds : Datatypes) (a : TypeTree) (t : Term) → IsWritten ds a t → IsBelow 0 t
+  pub written-closed : (ds : DatatypesByName) (a : TypeTree) (t : Term) → IsWritten ds a t → IsBelow 0 t
   written-closed ds (written s k) t h = shape-closed ds k t h
 
-  pub shape-closed : (ds : Datatypes) (k : TypeShape) (t : Term) → IsWrittenShape ds k t → IsBelow 0 t
+  pub shape-closed : (ds : DatatypesByName) (k : TypeShape) (t : Term) → IsWrittenShape ds k t → IsBelow 0 t
   shape-closed ds trees.int t h = subst (IsBelow 0) (sym h) tt
   shape-closed ds trees.bool t h = subst (IsBelow 0) (sym h) tt
   shape-closed ds trees.char t h = subst (IsBelow 0) (sym h) tt

@@ -5,17 +5,17 @@ use Rattle.std.proofs.lemmas.Bool.{cases_lt}
 use Rattle.std.proofs.lemmas.Bool.Decides.{nat_tests}
 use Rattle.nesl_types.specs.declared.classes.Class.{Class}
 use Rattle.nesl_types.specs.declared.classes.Class.TheVariants.{Any, Ordinal, Number, Logical}
-use Rattle.nesl_types_bank.specs.Term.{Term, int, bool, char, variable, seq_of, both, named, nodes}
+use Rattle.nesl_types_bank.specs.Term.{Term, int, bool, char, variable, seq_of, pair_of, named, nodes}
 use Rattle.nesl_types.specs.Class.{IsIn, class_at}
 use Rattle.nesl_types_bank.specs.Numbering.{IsBelow}
 use Rattle.nesl_types_bank.specs.Substitution.{substitute, occurs}
 use Rattle.nesl_types_bank.proofs.Substitutions.{substitute-substitute, nodes_of_part}
 use Rattle.nesl_unify.proofs.Solved.{substitute_below}
-use Rattle.nesl_builtins.specs.Table.{FunctionType}
+use Rattle.nesl_builtins.specs.FunctionTypes.{FunctionType}
 use Rattle.nesl_infer_rules.specs.declared.state.State.{State}
 use Rattle.nesl_infer_rules.specs.Typing.{IsInstanceOf}
 use Rattle.nesl_infer_rules.specs.Instances.{AreOf, type_in}
-use Rattle.nesl_infer_rules.specs.Holds.{count, Gives, Adds}
+use Rattle.nesl_infer_rules.specs.Steps.{count, Gives, Adds}
 use Rattle.nesl_infer_rules.proofs.Steps.{gives_then, gives_and, gives_as, adds_from}
 
 pub renamed-below : (n : ℕ) (vs : List ℕ) (t : Term) → All (λ v. v < n) vs → IsBelow (length vs) t → IsBelow n (substitute (λ v. variable (slice_index vs v)) t)
@@ -24,7 +24,7 @@ renamed-below n vs bool a b = tt
 renamed-below n vs char a b = tt
 renamed-below n vs (variable v) a b = a v 0 b
 renamed-below n vs (seq_of t) a b = renamed-below n vs t a b
-renamed-below n vs (both t u) a b = (renamed-below n vs t a b.0, renamed-below n vs u a b.1)
+renamed-below n vs (pair_of t u) a b = (renamed-below n vs t a b.0, renamed-below n vs u a b.1)
 renamed-below n vs (named k) a b = tt
 
 type_in-map : (s : ℕ → Term) (vs : List ℕ) (v : ℕ) → v < length vs → s (slice_index vs v) ≡ type_in (map s vs) v
@@ -144,7 +144,7 @@ substitute-where n f g bool b h = refl
 substitute-where n f g char b h = refl
 substitute-where n f g (variable v) b h = h v b (grind (arith, nat_tests))
 substitute-where n f g (seq_of t) b h = ap seq_of (substitute-where n f g t b h)
-substitute-where n f g (both t u) b h =
+substitute-where n f g (pair_of t u) b h =
     let e = substitute-where n f g t b.0 (λ v l o. h v l (or_left (occurs v t) (occurs v u) o)) in
     let d = substitute-where n f g u b.1 (λ v l o. h v l (or_right (occurs v t) (occurs v u) o)) in
     cc
@@ -173,28 +173,28 @@ arm_instance f vs g t gi ti ba br p1 p2 p3 =
     ))
 
 -- of a function that takes a pair, where each part is given
-pub arm_instance_of_two : {A B1 B2 B3 C : State} (f : FunctionType) (l r : Term) (vs : List ℕ) (g h t : ℕ) → f.argument ≡ both l r → g < count A → h < count A → t < count A →
+pub arm_instance_of_two : {A B1 B2 B3 C : State} (f : FunctionType) (l r : Term) (vs : List ℕ) (g h t : ℕ) → f.argument ≡ pair_of l r → g < count A → h < count A → t < count A →
     IsBelow (length f.classes) f.argument → IsBelow (length f.classes) f.result → Fresh A B1 f.classes vs →
     Adds B1 B2 (λ s of. s g ≡ substitute (type_in (map s vs)) l) → Adds B2 B3 (λ s of. s h ≡ substitute (type_in (map s vs)) r) → Adds B3 C (λ s of. s t ≡ substitute (type_in (map s vs)) f.result) →
-    Adds A C (λ s of. IsInstanceOf f of (both (s g) (s h)) (s t))
+    Adds A C (λ s of. IsInstanceOf f of (pair_of (s g) (s h)) (s t))
 arm_instance_of_two f l r vs g h t e gi hi ti ba br p1 p2 p3 p4 =
-    let below : IsBelow (length f.classes) (both l r) = subst (λ (x : Term). IsBelow (length f.classes) x) e ba in
+    let below : IsBelow (length f.classes) (pair_of l r) = subst (λ (x : Term). IsBelow (length f.classes) x) e ba in
     let q2 = gives_and (λ s of us. AreOf of f.classes us) (λ us s of. s g ≡ substitute (type_in us) l) p1 p2 (λ us s z of a k. sym (a g gi) ∙ k) in
     let q3 = gives_and _ (λ us s of. s h ≡ substitute (type_in us) r) q2 p3 (λ us s z of a k. sym (a h hi) ∙ k) in
     let q4 = gives_and _ (λ us s of. s t ≡ substitute (type_in us) f.result) q3 p4 (λ us s z of a k. sym (a t ti) ∙ k) in
-    adds_from _ (λ s of. IsInstanceOf f of (both (s g) (s h)) (s t)) q4
+    adds_from _ (λ s of. IsInstanceOf f of (pair_of (s g) (s h)) (s t)) q4
     (λ s of b k. record {
       put = type_in (map s vs);
       within = are-in of f.classes (map s vs) k.0.0.0;
       argument =
           let one = k.0.0.1 in
           let two = k.0.1 in
-          let whole : both (s g) (s h) ≡ substitute (type_in (map s vs)) (both l r) = cc in
+          let whole : pair_of (s g) (s h) ≡ substitute (type_in (map s vs)) (pair_of l r) = cc in
           whole ∙ ap (substitute (type_in (map s vs))) (sym e);
       result = k.1;
     })
     (λ s of b k.
-    let whole : both (s g) (s h) ≡ both (substitute k.put l) (substitute k.put r) = k.argument ∙ ap (substitute k.put) e in
+    let whole : pair_of (s g) (s h) ≡ pair_of (substitute k.put l) (substitute k.put r) = k.argument ∙ ap (substitute k.put) e in
     let one : s g ≡ substitute k.put l = cc in
     let two : s h ≡ substitute k.put r = cc in (
       taken (trimmed k.put) f.classes,

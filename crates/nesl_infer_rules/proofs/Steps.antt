@@ -4,7 +4,7 @@ use Rattle.std.specs.Prelude.{Some, ◌↔◌}
 use Rattle.std.proofs.lemmas.List.Elements.{All-push, All-pop}
 use Rattle.nesl_types.specs.declared.classes.Class.{Class}
 use Rattle.nesl_types.specs.declared.classes.Class.TheVariants.{Any}
-use Rattle.nesl_types_bank.specs.Term.{Term, int, bool, char, variable, seq_of, both, named, nodes}
+use Rattle.nesl_types_bank.specs.Term.{Term, int, bool, char, variable, seq_of, pair_of, named, nodes}
 use Rattle.nesl_types_bank.specs.Substitution.{substitute}
 use Rattle.nesl_types.specs.Class.{IsIn}
 use Rattle.nesl_unify.specs.Bounds.{IsBounded}
@@ -13,7 +13,7 @@ use Rattle.nesl_unify.specs.Members.{IsInAll}
 use Rattle.nesl_unify.specs.Systems as system
 use Rattle.nesl_infer_rules.specs.declared.state.State.{State}
 use Rattle.nesl_infer_rules.specs.declared.table.Table.{Table}
-use Rattle.nesl_infer_rules.specs.Holds.{Agrees, count, count_of, Holds, HoldsIn, Gives, Adds}
+use Rattle.nesl_infer_rules.specs.Steps.{Agrees, count, count_of, IsSolution, HoldsIn, Gives, Adds}
 use Rattle.nesl_infer_rules.proofs.Agreement.{holds-agrees, Agrees-trans, with_at, with_at-agrees, with_at-same, with_at-bounded}
 
 -- one step after another, where what the second says of x speaks of the variables of the first state alone
@@ -105,7 +105,7 @@ gives_and {X = X} {A = A} {r = r} P Q p h m =
 
 -- one equation
 pub adds_equation : (A B : State) (a b : Table) → A.table ≡ Some a → B.table ≡ Some b → (Q : (ℕ → Term) → Type 0) →
-    b.system.members.items ≡ a.system.members.items → ((s : ℕ → Term) → system.Holds b.system s ↔ (system.Holds a.system s × Q s)) → Adds A B (λ s of. Q s)
+    b.system.members.items ≡ a.system.members.items → ((s : ℕ → Term) → system.IsSolvedBy b.system s ↔ (system.IsSolvedBy a.system s × Q s)) → Adds A B (λ s of. Q s)
 adds_equation A B a b i j Q m q =
     let same : count B ≡ count A = ap count_of j ∙ ap length m ∙ sym (ap count_of i) in
     record {
@@ -122,7 +122,7 @@ adds_equation A B a b i j Q m q =
 
 -- one variable, for some type of its class
 pub gives_fresh : (A B : State) (a b : Table) → A.table ≡ Some a → B.table ≡ Some b → (c : Class) (v : ℕ) → v ≡ system.count a.system →
-    b.system.members.items ≡ a.system.members.items ++ record { variable = v; class = c } ∷ [] → ((s : ℕ → Term) → system.Holds b.system s ↔ system.Holds a.system s) →
+    b.system.members.items ≡ a.system.members.items ++ record { variable = v; class = c } ∷ [] → ((s : ℕ → Term) → system.IsSolvedBy b.system s ↔ system.IsSolvedBy a.system s) →
     Gives A B (λ s. s v) (λ s of u. IsIn of c u × (nodes u ≤ 4096))
 gives_fresh A B a b i j c v is m q =
     let fresh : Member = record { variable = v; class = c } in
@@ -140,7 +140,7 @@ gives_fresh A B a b i j c v is m q =
           let g : Agrees (count A) s y = subst (λ (n : ℕ). Agrees n s y) here (with_at-agrees s v u) in
           let k = subst (HoldsIn y of) i (holds-agrees A s y of g h) in
           let all = All-push (λ (x : Member). IsIn of x.class (y x.variable)) a.system.members.items fresh k.within (subst (λ (t : Term). IsIn of c t) (sym (with_at-same s v u)) e.0) in
-          let on : Holds y of B = subst (HoldsIn y of) (sym j) (record { equal = (q y).1 k.equal; within = subst (IsInAll y of) (sym m) all }) in
+          let on : IsSolution y of B = subst (HoldsIn y of) (sym j) (record { equal = (q y).1 k.equal; within = subst (IsInAll y of) (sym m) all }) in
           (y, g, on, with_at-bounded s v u l e.1, with_at-same s v u);
     }
 
@@ -154,7 +154,7 @@ in_any of bool = tt
 in_any of char = tt
 in_any of (variable v) = λ t m. tt
 in_any of (seq_of t) = tt
-in_any of (both t u) = tt
+in_any of (pair_of t u) = tt
 in_any of (named n) = tt
 
 pub gives_anything : {A B : State} (v : ℕ) → Gives A B (λ s. s v) (λ s of u. IsIn of Any u × (nodes u ≤ 4096)) → Gives A B (λ s. s v) (λ s of u. nodes u ≤ 4096)

@@ -3,7 +3,7 @@ use Rattle.std.specs.Prelude.{ℕ, List}
 use Rattle.std.specs.Coded.{×_prop, Unit-prop, le_prop}
 use Rattle.nesl_types.specs.declared.bindings.Top.{Top}
 use Rattle.nesl_types.specs.declared.bindings.Top.TheVariants as top
-use Rattle.nesl_types_bank.specs.Term.{Term, int, bool, char, variable, seq_of, both, named}
+use Rattle.nesl_types_bank.specs.Term.{Term, int, bool, char, variable, seq_of, pair_of, named}
 use Rattle.nesl_types_bank.specs.Numbering.{IsBelow}
 use Rattle.nesl_infer_rules.specs.Contexts.{IsClosed, AreClosed}
 
@@ -13,7 +13,7 @@ below-prop n bool = Unit-prop
 below-prop n char = Unit-prop
 below-prop n (variable v) = le_prop
 below-prop n (seq_of t) = below-prop n t
-below-prop n (both t u) = ×_prop (below-prop n t) (below-prop n u)
+below-prop n (pair_of t u) = ×_prop (below-prop n t) (below-prop n u)
 below-prop n (named k) = Unit-prop
 
 pub top-prop : (t : Top) → IsProp (IsClosed t)

@@ -2,7 +2,7 @@ pub mod Facts
 pub mod World
 pub mod Typing
 pub mod Principal
-pub mod Holds
+pub mod Steps
 pub mod Instances
 pub mod Contexts
 pub mod Closed

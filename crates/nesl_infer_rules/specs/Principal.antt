@@ -8,23 +8,23 @@ use Rattle.nesl_types.specs.Class.{IsIn, class_at}
 use Rattle.nesl_types_bank.specs.Substitution.{substitute}
 use Rattle.nesl_types_bank.specs.Numbering.{IsBelow, variables, first_occurrences, numbers_below}
 use Rattle.nesl_syntax_tree.specs.Trees.{PatternTree, Tree, SignatureTree}
-use Rattle.nesl_builtins.specs.Table.{FunctionType, function_type}
+use Rattle.nesl_builtins.specs.FunctionTypes.{FunctionType, function_type}
 use Rattle.nesl_infer_names.specs.Names.{Names, names_in}
-use Rattle.nesl_infer_rules.specs.World.{World, Meanings, Own, meanings_by}
-use Rattle.nesl_infer_rules.specs.Typing.{Scope, HasType, Parts, IsSigned, IsInstanceOf}
+use Rattle.nesl_infer_rules.specs.World.{Assumptions, TypedNames, OwnFunction, typed_names_by}
+use Rattle.nesl_infer_rules.specs.Typing.{LocalTypes, HasType, PatternAdds, IsSigned, IsInstanceOf}
 
 -- the world of a line in which each type has at most 4,096 nodes, or any number of nodes
-abbrev pub bounded : Meanings → (ℕ → Class) → World
+abbrev pub bounded : TypedNames → (ℕ → Class) → Assumptions
 bounded ns of = record { names = ns; of = of; limit = Some 4096 }
 
-abbrev pub unbounded : Meanings → (ℕ → Class) → World
+abbrev pub unbounded : TypedNames → (ℕ → Class) → Assumptions
 unbounded ns of = record { names = ns; of = of; limit = None }
 
 -- a function takes t and gives u: its own name has this one type in its body
-pub record HasFunctionType (w : Own → World) (name : List ℕ) (p : PatternTree) (s : Option SignatureTree)
+pub record HasFunctionType (w : OwnFunction → Assumptions) (name : List ℕ) (p : PatternTree) (s : Option SignatureTree)
     (body : Tree) (t u : Term) : Type 0 where
-  pub parts : Scope
-  pub taken : Parts (w (Some (name, t, u))) p t parts
+  pub parts : LocalTypes
+  pub taken : PatternAdds (w (Some (name, t, u))) p t parts
   pub signed : IsSigned (w (Some (name, t, u))).names.datatypes (w (Some (name, t, u))).of s t u
   pub given : HasType (w (Some (name, t, u))) parts body u
 
@@ -56,11 +56,12 @@ IsPrincipalScheme Fits s = IsPrincipalFunction Fits (function_type s)
 module _ (known : Option (List ℕ) → Names) where
   -- the bounded types of an expression, where no local names are
   abbrev pub TypedBy : Tree → (ℕ → Class) → Term → Type 0
-  TypedBy e of t = HasType (bounded (meanings_by known None) of) [] e t
+  TypedBy e of t = HasType (bounded (typed_names_by known None) of) [] e t
 
   -- what a function takes and gives
   abbrev pub TypedFunctionBy : List ℕ → PatternTree → Option SignatureTree → Tree → (ℕ → Class) → Term → Term → Type 0
-  TypedFunctionBy name p s body of t u = HasFunctionType (λ own. bounded (meanings_by known own) of) name p s body t u
+  TypedFunctionBy name p s body of t u =
+      HasFunctionType (λ own. bounded (typed_names_by known own) of) name p s body t u
 
 module _ {P : Type 0} (context : List (List ℕ × Top × P)) where
   abbrev pub Typed : Tree → (ℕ → Class) → Term → Type 0
@@ -77,8 +78,8 @@ IsPrincipalType Fits t = (classes : ℕ → Class) × IsPrincipal Fits classes t
 abbrev pub IsAmbiguous : ((ℕ → Class) → Term → Type 0) → Type 0
 IsAmbiguous Fits = (t : Term) × IsPrincipalType Fits t × (IsBelow 0 t → ⊥)
 
-abbrev pub HasNone : ((ℕ → Class) → Term → Type 0) → Type 0
-HasNone Fits = (of : ℕ → Class) (t : Term) → Fits of t → ⊥
+abbrev pub HasNoType : ((ℕ → Class) → Term → Type 0) → Type 0
+HasNoType Fits = (of : ℕ → Class) (t : Term) → Fits of t → ⊥
 
-abbrev pub HasNoScheme : ((ℕ → Class) → Term → Term → Type 0) → Type 0
-HasNoScheme Fits = (of : ℕ → Class) (t u : Term) → Fits of t u → ⊥
+abbrev pub HasNoFunctionType : ((ℕ → Class) → Term → Term → Type 0) → Type 0
+HasNoFunctionType Fits = (of : ℕ → Class) (t u : Term) → Fits of t u → ⊥

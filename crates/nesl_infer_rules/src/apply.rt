@@ -1,10 +1,10 @@
 //! The equations of a name before `(`.
 
 ghost use Rattle.std.specs.Prelude.{◌≡◌, ◌<◌, ℕ, OnOk};
-ghost use Rattle.nesl_types_bank.specs.Term.{Term, both};
-ghost use Rattle.nesl_builtins.specs.Table.{builtin_type, function_type};
-ghost use Rattle.nesl_infer_rules.specs.Holds.{count, Adds, own_at, IsOwnBelow};
-ghost use Rattle.nesl_infer_rules.specs.Typing.{IsApplied, IsInstanceOf};
+ghost use Rattle.nesl_types_bank.specs.Term.{Term, pair_of};
+ghost use Rattle.nesl_builtins.specs.FunctionTypes.{builtin_type, function_type};
+ghost use Rattle.nesl_infer_rules.specs.Steps.{count, Adds, own_at, IsOwnBelow};
+ghost use Rattle.nesl_infer_rules.specs.Typing.{NameTakes, IsInstanceOf};
 ghost use Rattle.nesl_infer_rules.specs.Contexts.{AreClosed, IsOther};
 ghost use Rattle.nesl_infer_rules.specs.World.{meanings_in};
 
@@ -16,7 +16,7 @@ use nesl_unify::Flat;
 use std::alloc::{AllocError, Global};
 
 /// Adds what makes the types of the variables an instance of what the built-in takes and gives.
-pub fn built_in(
+pub fn constrain_builtin(
     state: &mut State,
     alloc: Global,
     builtin: Builtin,
@@ -35,7 +35,7 @@ pub fn built_in(
 }
 
 /// Adds that of a built-in that takes a pair, where the types of its parts are given.
-pub fn built_in_of_two(
+pub fn constrain_operator(
     state: &mut State,
     alloc: Global,
     builtin: Builtin,
@@ -46,9 +46,9 @@ pub fn built_in_of_two(
     requires first { first < count state.old }
     requires second { second < count state.old }
     requires target { target < count state.old }
-    requires pair { (t : Term) × (u : Term) × ((builtin_type builtin).argument ≡ both t u) }
+    requires pair { (t : Term) × (u : Term) × ((builtin_type builtin).argument ≡ pair_of t u) }
     ensures { OnOk result (Adds state.old state.new
-        (λ s of. IsInstanceOf (builtin_type builtin) of (both (s first) (s second)) (s target))) }
+        (λ s of. IsInstanceOf (builtin_type builtin) of (pair_of (s first) (s second)) (s target))) }
 {
     match takes(builtin).kind() {
         Kind::Both(left, right) => {
@@ -59,14 +59,14 @@ pub fn built_in_of_two(
             Ok(())
         }
         _ => {
-            state.never()?;
+            state.add_contradiction()?;
             Ok(())
         }
     }
 }
 
 /// Adds what makes the name take the type of `given` and give the type of `target`.
-pub fn applied<P: Drop>(
+pub fn constrain_call<P: Drop>(
     alloc: Global,
     state: &mut State,
     context: &Context<P>,
@@ -80,7 +80,7 @@ pub fn applied<P: Drop>(
     requires own { IsOwnBelow (count state.old) own.now }
     requires closed { AreClosed context.now }
     ensures { OnOk result (Adds state.old state.new
-        (λ s of. IsApplied (meanings_in context.now (own_at s own.now)) of name.now (s given) (s target))) }
+        (λ s of. NameTakes (meanings_in context.now (own_at s own.now)) of name.now (s given) (s target))) }
 {
     if let Some(own) = own {
         if name == own.name.as_slice() {
@@ -89,11 +89,11 @@ pub fn applied<P: Drop>(
             return Ok(());
         }
     }
-    applied_beyond(alloc, state, context, own, name, given, target)
+    constrain_other_call(alloc, state, context, own, name, given, target)
 }
 
 /// The same, for a name that isn't the function's that is being defined.
-fn applied_beyond<P: Drop>(
+fn constrain_other_call<P: Drop>(
     alloc: Global,
     state: &mut State,
     context: &Context<P>,
@@ -107,10 +107,10 @@ fn applied_beyond<P: Drop>(
     requires closed { AreClosed context.now }
     requires other { IsOther name.now own.now }
     ensures { OnOk result (Adds state.old state.new
-        (λ s of. IsApplied (meanings_in context.now (own_at s own.now)) of name.now (s given) (s target))) }
+        (λ s of. NameTakes (meanings_in context.now (own_at s own.now)) of name.now (s given) (s target))) }
 {
     if let Some(builtin) = named(name) {
-        built_in(state, alloc, builtin, given, target)?;
+        constrain_builtin(state, alloc, builtin, given, target)?;
         return Ok(());
     }
     match context.get(name) {
@@ -124,11 +124,11 @@ fn applied_beyond<P: Drop>(
             Ok(())
         }
         Some((Top::Variable(_), _)) => {
-            state.never()?;
+            state.add_contradiction()?;
             Ok(())
         }
         None => {
-            state.never()?;
+            state.add_contradiction()?;
             Ok(())
         }
     }

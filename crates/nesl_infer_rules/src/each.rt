@@ -2,9 +2,9 @@
 
 ghost use Rattle.std.specs.Prelude.{◌≡◌, ◌<◌, ℕ, All, map, length, OnOk};
 ghost use Rattle.nesl_syntax_tree.specs.Views.{binders_in};
-ghost use Rattle.nesl_infer_rules.specs.Holds.{AddsNames, count, world_at, IsOwnBelow};
+ghost use Rattle.nesl_infer_rules.specs.Steps.{AddsNames, count, world_at, IsOwnBelow};
 ghost use Rattle.nesl_infer_rules.specs.Contexts.{AreClosed};
-ghost use Rattle.nesl_infer_rules.specs.Typing.{AllParts, Draws};
+ghost use Rattle.nesl_infer_rules.specs.Typing.{PatternsAdd, BindersAdd};
 
 use crate::pattern::constrain_pattern;
 use crate::state::{Key, Local, OwnName, State};
@@ -27,7 +27,7 @@ pub fn bind_patterns<P: Drop>(
     requires closed { AreClosed context.now }
     requires len { length items.now ≡ length bindings.now }
     ensures { OnOk result (AddsNames state.old state.new locals.old.items locals.new.items
-        (λ s of ns. AllParts (world_at context.now own.now s of) (binders_in bindings.now) (map s items.now) ns)) }
+        (λ s of ns. PatternsAdd (world_at context.now own.now s of) (binders_in bindings.now) (map s items.now) ns)) }
 {
     for place in 0..bindings.len() {
         constrain_pattern(
@@ -58,7 +58,7 @@ pub fn bind_items<P: Drop>(
     requires closed { AreClosed context.now }
     requires len { length items.now ≡ length bindings.now }
     ensures { OnOk result (AddsNames state.old state.new locals.old.items locals.new.items
-        (λ s of ns. Draws (world_at context.now own.now s of) (binders_in bindings.now) (map s items.now) ns)) }
+        (λ s of ns. BindersAdd (world_at context.now own.now s of) (binders_in bindings.now) (map s items.now) ns)) }
 {
     match items.first() {
         Some(first) => {
@@ -70,7 +70,7 @@ pub fn bind_items<P: Drop>(
             Ok(())
         }
         None => {
-            state.never()?;
+            state.add_contradiction()?;
             Ok(())
         }
     }

@@ -5,10 +5,10 @@ ghost use Rattle.nesl_types_bank.specs.Term.{variable};
 ghost use Rattle.nesl_types_bank.specs.Numbering.{IsBelow};
 ghost use Rattle.nesl_types_bank.specs.Substitution.{substitute};
 ghost use Rattle.nesl_unify.specs.Flat.{flat_type};
-ghost use Rattle.nesl_infer_rules.specs.Holds.{count, Gives, Adds};
+ghost use Rattle.nesl_infer_rules.specs.Steps.{count, Gives, Adds};
 ghost use Rattle.nesl_infer_rules.specs.Instances.{AreOf, type_in};
 ghost use Rattle.nesl_infer_rules.specs.Typing.{IsInstanceOf};
-ghost use Rattle.nesl_builtins.specs.Table.{function_type};
+ghost use Rattle.nesl_builtins.specs.FunctionTypes.{function_type};
 
 use crate::state::State;
 use nesl_types::{Class, Kind, Part, Scheme};

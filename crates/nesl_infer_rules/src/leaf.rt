@@ -3,13 +3,13 @@
 ghost use Rattle.std.specs.Prelude.{◌≡◌, ◌<◌, ℕ, Option, Some, OnOk};
 ghost use Rattle.nesl_types_bank.specs.Term.{Term, seq_of};
 ghost use Rattle.nesl_syntax_tree.specs.Views.{type_tree};
-ghost use Rattle.nesl_infer_rules.specs.Holds.{count, Adds, scope_at, world_at, AreLocalsBelow};
+ghost use Rattle.nesl_infer_rules.specs.Steps.{count, Adds, scope_at, world_at, AreLocalsBelow};
 ghost use Rattle.nesl_infer_rules.specs.Contexts.{AreClosed};
-ghost use Rattle.nesl_infer_rules.specs.Typing.{IsVariable, IsWritten, local, newest, is_element};
+ghost use Rattle.nesl_infer_rules.specs.Typing.{IsVariable, IsWritten, local_type, newest_type, is_element};
 ghost use Rattle.nesl_infer_names.specs.Names.{datatype_in};
 
 use crate::names::{look_up, look_up_element};
-use crate::record::is_top_variable;
+use crate::record::constrain_top_variable;
 use crate::state::{Local, OwnName, State};
 use crate::written::written_type;
 use nesl_syntax_tree::tree::TypeExp;
@@ -19,7 +19,7 @@ use nesl_unify::Flat;
 use std::alloc::{AllocError, Global};
 
 /// Adds what makes `target` the type of a variable.
-pub fn is_variable<P: Drop>(
+pub fn constrain_variable<P: Drop>(
     alloc: Global,
     state: &mut State,
     context: &Context<P>,
@@ -32,7 +32,7 @@ pub fn is_variable<P: Drop>(
     requires locals { AreLocalsBelow (count state.old) locals.now }
     requires closed { AreClosed context.now }
     ensures { OnOk result (Adds state.old state.new
-        (λ s of. IsVariable (world_at context.now own.now s of) name.now (local name.now (scope_at s locals.now))
+        (λ s of. IsVariable (world_at context.now own.now s of) name.now (local_type name.now (scope_at s locals.now))
         (s target))) }
 {
     match look_up(locals, name) {
@@ -41,17 +41,17 @@ pub fn is_variable<P: Drop>(
             Ok(())
         }
         None => {
-            is_top_variable(alloc, state, context, own, name, target)?;
+            constrain_top_variable(alloc, state, context, own, name, target)?;
             Ok(())
         }
     }
 }
 
 /// Adds what makes `target` the type of the innermost apply-to-each's element.
-pub fn is_element(state: &mut State, locals: &[Local], target: u64) -> Result<(), AllocError>
+pub fn constrain_element(state: &mut State, locals: &[Local], target: u64) -> Result<(), AllocError>
     requires target { target < count state.old }
     requires locals { AreLocalsBelow (count state.old) locals.now }
-    ensures { OnOk result (Adds state.old state.new (λ s of. newest is_element (scope_at s locals.now)
+    ensures { OnOk result (Adds state.old state.new (λ s of. newest_type is_element (scope_at s locals.now)
         ≡ Some (s target))) }
 {
     match look_up_element(locals) {
@@ -60,14 +60,14 @@ pub fn is_element(state: &mut State, locals: &[Local], target: u64) -> Result<()
             Ok(())
         }
         None => {
-            state.never()?;
+            state.add_contradiction()?;
             Ok(())
         }
     }
 }
 
 /// Adds what makes `target` the sequences of the type that is written.
-pub fn is_empty_of<P: Drop>(
+pub fn constrain_empty<P: Drop>(
     alloc: Global,
     state: &mut State,
     context: &Context<P>,
@@ -79,11 +79,11 @@ pub fn is_empty_of<P: Drop>(
         × IsWritten (datatype_in context.now) (type_tree written.now) u × (s target ≡ seq_of u))) }
 {
     let mut bank = Bank::new(alloc);
-    is_empty_in(alloc, state, context, &mut bank, written, target)
+    constrain_empty_in(alloc, state, context, &mut bank, written, target)
 }
 
 /// Adds that over a bank that is lent for the type.
-fn is_empty_in<P: Drop>(
+fn constrain_empty_in<P: Drop>(
     alloc: Global,
     state: &mut State,
     context: &Context<P>,
@@ -100,14 +100,14 @@ fn is_empty_in<P: Drop>(
 {
     match written_type(context, bank, written)? {
         Some(place) => {
-            let item = state.anything()?;
+            let item = state.add_any()?;
             let none: [u64; 0] = [];
             state.equate_instance(alloc, item, &none, &bank.part(place))?;
-            state.is_sequence(target, item)?;
+            state.equate_sequence(target, item)?;
             Ok(())
         }
         None => {
-            state.never()?;
+            state.add_contradiction()?;
             Ok(())
         }
     }

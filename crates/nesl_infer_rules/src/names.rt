@@ -2,8 +2,8 @@
 
 ghost use Rattle.std.specs.Prelude.{◌≡◌, ◌<◌, ℕ, MatchOption, option_map};
 ghost use Rattle.nesl_types_bank.specs.Term.{Term};
-ghost use Rattle.nesl_infer_rules.specs.Holds.{key_of, scope_at, AreLocalsBelow};
-ghost use Rattle.nesl_infer_rules.specs.Typing.{is_name, is_element, local, newest};
+ghost use Rattle.nesl_infer_rules.specs.Steps.{key_of, scope_at, AreLocalsBelow};
+ghost use Rattle.nesl_infer_rules.specs.Typing.{is_name, is_element, local_type, newest_type};
 
 use crate::state::{Key, Local};
 
@@ -30,7 +30,7 @@ impl Key {
 
 /// The variable of a local name's type: the newest of that name.
 pub fn look_up(locals: &[Local], name: &[u8]) -> Option<u64>
-    ensures found { (s : ℕ → Term) → option_map s result ≡ local name.now (scope_at s locals.now) }
+    ensures found { (s : ℕ → Term) → option_map s result ≡ local_type name.now (scope_at s locals.now) }
     ensures below { MatchOption result (Unit {0}) (λ v. (n : ℕ) → AreLocalsBelow n locals.now → v < n) }
 {
     let mut found = None;
@@ -44,7 +44,7 @@ pub fn look_up(locals: &[Local], name: &[u8]) -> Option<u64>
 
 /// The variable of the element's type in the innermost apply-to-each.
 pub fn look_up_element(locals: &[Local]) -> Option<u64>
-    ensures found { (s : ℕ → Term) → option_map s result ≡ newest is_element (scope_at s locals.now) }
+    ensures found { (s : ℕ → Term) → option_map s result ≡ newest_type is_element (scope_at s locals.now) }
     ensures below { MatchOption result (Unit {0}) (λ v. (n : ℕ) → AreLocalsBelow n locals.now → v < n) }
 {
     let mut found = None;

@@ -2,11 +2,11 @@
 
 ghost use Rattle.std.specs.Prelude.{◌≡◌, ◌<◌, ℕ, OnOk};
 ghost use Rattle.nesl_syntax_tree.specs.Views.{pattern_tree};
-ghost use Rattle.nesl_infer_rules.specs.Holds.{AddsNames, count, world_at, IsOwnBelow};
+ghost use Rattle.nesl_infer_rules.specs.Steps.{AddsNames, count, world_at, IsOwnBelow};
 ghost use Rattle.nesl_infer_rules.specs.Contexts.{AreClosed};
-ghost use Rattle.nesl_infer_rules.specs.Typing.{Parts};
+ghost use Rattle.nesl_infer_rules.specs.Typing.{PatternAdds};
 
-use crate::record::is_record;
+use crate::record::constrain_record;
 use crate::state::{Key, Local, OwnName, State};
 use nesl_syntax_tree::tree::{Pattern, PatternNode};
 use nesl_types::Context;
@@ -26,7 +26,7 @@ pub fn constrain_pattern<P: Drop>(
     requires own { IsOwnBelow (count state.old) own.now }
     requires closed { AreClosed context.now }
     ensures { OnOk result (AddsNames state.old state.new locals.old.items locals.new.items
-        (λ s of ns. Parts (world_at context.now own.now s of) (pattern_tree pattern.now) (s target) ns)) }
+        (λ s of ns. PatternAdds (world_at context.now own.now s of) (pattern_tree pattern.now) (s target) ns)) }
 {
     match &pattern.node {
         PatternNode::Name(name) => {
@@ -41,16 +41,16 @@ pub fn constrain_pattern<P: Drop>(
             left: first,
             right: second,
         } => {
-            let left = state.anything()?;
-            let right = state.anything()?;
+            let left = state.add_any()?;
+            let right = state.add_any()?;
             constrain_pattern(alloc, state, context, own, locals, first, left)?;
             constrain_pattern(alloc, state, context, own, locals, second, right)?;
-            state.is_pair(target, left, right)?;
+            state.equate_pair(target, left, right)?;
             Ok(())
         }
         PatternNode::Record { name, part: inner } => {
-            let held = state.anything()?;
-            is_record(alloc, state, context, name.as_slice(), target, held)?;
+            let held = state.add_any()?;
+            constrain_record(alloc, state, context, name.as_slice(), target, held)?;
             constrain_pattern(alloc, state, context, own, locals, inner, held)?;
             Ok(())
         }

@@ -2,7 +2,7 @@
 
 ghost use Rattle.std.specs.Prelude.{◌≡◌, ◌<◌, ℕ, Option, Some, OnOk};
 ghost use Rattle.nesl_types_bank.specs.Term.{Term};
-ghost use Rattle.nesl_infer_rules.specs.Holds.{count, Adds, own_at};
+ghost use Rattle.nesl_infer_rules.specs.Steps.{count, Adds, own_at};
 ghost use Rattle.nesl_infer_rules.specs.Contexts.{AreClosed};
 ghost use Rattle.nesl_infer_rules.specs.Typing.{IsRecord};
 ghost use Rattle.nesl_infer_names.specs.Names.{datatype_in, hides};
@@ -14,7 +14,7 @@ use nesl_unify::Flat;
 use std::alloc::{AllocError, Global};
 
 /// Adds what makes `target` the type of the name's records, and `held` the type that they hold.
-pub fn is_record<P: Drop>(
+pub fn constrain_record<P: Drop>(
     alloc: Global,
     state: &mut State,
     context: &Context<P>,
@@ -35,15 +35,15 @@ pub fn is_record<P: Drop>(
             Ok(())
         }
         Some((Top::Variable(_), _)) => {
-            state.never()?;
+            state.add_contradiction()?;
             Ok(())
         }
         Some((Top::Function(_), _)) => {
-            state.never()?;
+            state.add_contradiction()?;
             Ok(())
         }
         None => {
-            state.never()?;
+            state.add_contradiction()?;
             Ok(())
         }
     }
@@ -60,7 +60,7 @@ fn is_hidden(own: &Option<OwnName>, name: &[u8]) -> bool
 }
 
 /// Adds what makes `target` the type of the top-level variable of the name.
-pub fn is_top_variable<P: Drop>(
+pub fn constrain_top_variable<P: Drop>(
     alloc: Global,
     state: &mut State,
     context: &Context<P>,
@@ -74,7 +74,7 @@ pub fn is_top_variable<P: Drop>(
         (λ s of. (meanings_in context.now (own_at s own.now)).variables name.now ≡ Some (s target))) }
 {
     if is_hidden(own, name) {
-        state.never()?;
+        state.add_contradiction()?;
         return Ok(());
     }
     match context.get(name) {
@@ -83,15 +83,15 @@ pub fn is_top_variable<P: Drop>(
             Ok(())
         }
         Some((Top::Function(_), _)) => {
-            state.never()?;
+            state.add_contradiction()?;
             Ok(())
         }
         Some((Top::Datatype(_, _), _)) => {
-            state.never()?;
+            state.add_contradiction()?;
             Ok(())
         }
         None => {
-            state.never()?;
+            state.add_contradiction()?;
             Ok(())
         }
     }

@@ -7,9 +7,10 @@ ghost use Rattle.nesl_types_bank.specs.Substitution.{substitute};
 ghost use Rattle.nesl_unify.specs.Bounds.{IsBounded};
 ghost use Rattle.nesl_unify.specs.Flat.{flat_type};
 ghost use Rattle.nesl_syntax_tree.specs.Views.{type_tree, member_tree, signature_tree};
-ghost use Rattle.nesl_infer_rules.specs.Holds.{count, Adds, AddsNames, AreLocalsBelow, scope_at};
+ghost use Rattle.nesl_infer_rules.specs.Steps.{count, Adds, AddsNames, AreLocalsBelow, scope_at};
 ghost use Rattle.nesl_infer_rules.specs.Signatures.{FreeNames, put_in};
-ghost use Rattle.nesl_infer_rules.specs.Typing.{IsMeant, IsSigned, Says, class_of, meaning, signed};
+ghost use Rattle.nesl_infer_rules.specs.Typing.{IsInItsClass, IsSigned, FitsSignature, class_of, name_in_signature};
+ghost use Rattle.nesl_infer_rules.specs.Typing.{signed};
 ghost use Rattle.nesl_infer_names.specs.Names.{datatype_in};
 
 use crate::names::look_up;
@@ -35,7 +36,7 @@ fn name_types(
         TypeNode::Bool => Ok(()),
         TypeNode::Char => Ok(()),
         TypeNode::Name { name, .. } => {
-            let variable = state.anything()?;
+            let variable = state.add_any()?;
             let name = Vec::from_slice(alloc, name.as_slice())?;
             names.push(Local {
                 key: Key::Name(name),
@@ -74,7 +75,7 @@ fn tag_of<P: Drop>(context: &Context<P>, name: &[u8]) -> Option<u64>
 fn name_type<P: Drop>(context: &Context<P>, names: &[Local], name: &[u8]) -> Flat
     ensures is { (s : ℕ → Term) →
         substitute s (flat_type result)
-        ≡ meaning (datatype_in context.now name.now) (put_in (scope_at s names.now) name.now) }
+        ≡ name_in_signature (datatype_in context.now name.now) (put_in (scope_at s names.now) name.now) }
     ensures below { (n : ℕ) → AreLocalsBelow n names.now → IsBelow n (flat_type result) }
     ensures small { (s : ℕ → Term) → IsBounded s → nodes (substitute s (flat_type result)) ≤ 4096 }
 {
@@ -120,17 +121,17 @@ fn constrain_written<P: Drop>(
             Ok(())
         }
         TypeNode::Sequence(item) => {
-            let inner = state.anything()?;
+            let inner = state.add_any()?;
             constrain_written(state, context, names, item, inner)?;
-            state.is_sequence(target, inner)?;
+            state.equate_sequence(target, inner)?;
             Ok(())
         }
         TypeNode::Pair { left, right } => {
-            let first = state.anything()?;
-            let second = state.anything()?;
+            let first = state.add_any()?;
+            let second = state.add_any()?;
             constrain_written(state, context, names, left, first)?;
             constrain_written(state, context, names, right, second)?;
-            state.is_pair(target, first, second)?;
+            state.equate_pair(target, first, second)?;
             Ok(())
         }
     }
@@ -157,7 +158,7 @@ fn constrain_member<P: Drop>(
 ) -> Result<(), AllocError>
     requires names { AreLocalsBelow (count state.old) names.now }
     ensures { OnOk result (Adds state.old state.new
-        (λ s of. IsMeant (datatype_in context.now) of (put_in (scope_at s names.now)) (member_tree member.now))) }
+        (λ s of. IsInItsClass (datatype_in context.now) of (put_in (scope_at s names.now)) (member_tree member.now))) }
 {
     let inside = state.fresh(class_of(member.class))?;
     state.equate_flat(inside, name_type(context, names, member.name.as_slice()))?;
@@ -173,7 +174,7 @@ fn constrain_members<P: Drop>(
 ) -> Result<(), AllocError>
     requires names { AreLocalsBelow (count state.old) names.now }
     ensures { OnOk result (Adds state.old state.new
-        (λ s of. All (IsMeant (datatype_in context.now) of (put_in (scope_at s names.now)))
+        (λ s of. All (IsInItsClass (datatype_in context.now) of (put_in (scope_at s names.now)))
         (map member_tree members.now))) }
 {
     for member in members {
@@ -194,7 +195,7 @@ fn constrain_signed<P: Drop>(
     requires takes { takes < count state.old }
     requires gives { gives < count state.old }
     ensures { OnOk result (Adds state.old state.new (λ s of. (put : List ℕ → Term)
-        × Says (datatype_in context.now) of (signature_tree signature.now) put (s takes) (s gives))) }
+        × FitsSignature (datatype_in context.now) of (signature_tree signature.now) put (s takes) (s gives))) }
 {
     let mut names = Vec::new(alloc);
     name_types(alloc, state, &mut names, &signature.from)?;

@@ -2,14 +2,14 @@
 
 ghost use Rattle.std.specs.Prelude.{◌≡◌, ◌<◌, ◌≤◌, ℕ, Some, All, length, map, IfOk, OnOk, IsErrOf};
 ghost use Rattle.nesl_types.specs.declared.classes.Class.{Class};
-ghost use Rattle.nesl_types_bank.specs.Term.{Term, nodes, both, seq_of};
+ghost use Rattle.nesl_types_bank.specs.Term.{Term, nodes, pair_of, seq_of};
 ghost use Rattle.nesl_types_bank.specs.Numbering.{IsBelow};
 ghost use Rattle.nesl_types.specs.Class.{IsIn};
 ghost use Rattle.nesl_types_bank.specs.Substitution.{substitute};
 ghost use Rattle.nesl_unify.specs.Bounds.{IsBounded};
 ghost use Rattle.nesl_unify.specs.Flat.{flat_type};
 ghost use Rattle.nesl_unify.specs.Solves.{IsInstance, type_of, class_of};
-ghost use Rattle.nesl_infer_rules.specs.Holds.{count, Holds, Gives, Adds};
+ghost use Rattle.nesl_infer_rules.specs.Steps.{count, IsSolution, Gives, Adds};
 ghost use Rattle.nesl_infer_rules.specs.Instances.{type_in};
 
 use crate::table::Table;
@@ -50,7 +50,7 @@ pub struct OwnName {
 impl State {
     /// No equations, and no variables.
     pub fn new(alloc: Global) -> State
-        ensures { (s : ℕ → Term) → (of : ℕ → Class) → Holds s of result }
+        ensures { (s : ℕ → Term) → (of : ℕ → Class) → IsSolution s of result }
     {
         State {
             table: Some(Table::new(alloc)),
@@ -82,7 +82,7 @@ impl State {
     }
 
     /// A variable for any type.
-    pub fn anything(&mut self) -> Result<u64, AllocError>
+    pub fn add_any(&mut self) -> Result<u64, AllocError>
         ensures gives { IfOk result (λ v. Gives self.old self.new (λ s. s v) (λ s of u. nodes u ≤ 4096)) }
         ensures below { IfOk result (λ v. v < count self.new) }
     {
@@ -90,13 +90,13 @@ impl State {
     }
 
     /// A variable for this type alone.
-    pub fn exactly(&mut self, flat: Flat) -> Result<u64, AllocError>
+    pub fn add_exact(&mut self, flat: Flat) -> Result<u64, AllocError>
         requires closed { IsBelow 0 (flat_type flat) }
         requires small { nodes (flat_type flat) ≤ 4096 }
         ensures gives { IfOk result (λ v. Gives self.old self.new (λ s. s v) (λ s of u. u ≡ flat_type flat)) }
         ensures below { IfOk result (λ v. v < count self.new) }
     {
-        let variable = self.anything()?;
+        let variable = self.add_any()?;
         self.equate_flat(variable, flat)?;
         Ok(variable)
     }
@@ -118,10 +118,10 @@ impl State {
     }
 
     /// What never holds: a type that is two.
-    pub fn never(&mut self) -> Result<(), AllocError>
+    pub fn add_contradiction(&mut self) -> Result<(), AllocError>
         ensures { OnOk result (Adds self.old self.new (λ s of. ⊥)) }
     {
-        let none = self.anything()?;
+        let none = self.add_any()?;
         self.equate_flat(none, Flat::Int)?;
         self.equate_flat(none, Flat::Bool)?;
         Ok(())
@@ -196,18 +196,18 @@ impl State {
     }
 
     /// The variable stands for the pairs of what the others stand for.
-    pub fn is_pair(&mut self, variable: u64, first: u64, second: u64) -> Result<(), AllocError>
+    pub fn equate_pair(&mut self, variable: u64, first: u64, second: u64) -> Result<(), AllocError>
         requires variable { variable < count self.old }
         requires first { first < count self.old }
         requires second { second < count self.old }
-        ensures { OnOk result (Adds self.old self.new (λ s of. s variable ≡ both (s first) (s second))) }
+        ensures { OnOk result (Adds self.old self.new (λ s of. s variable ≡ pair_of (s first) (s second))) }
     {
         self.equate_flat(variable, Flat::Both(first, second))?;
         Ok(())
     }
 
     /// The variable stands for the sequences of what the other stands for.
-    pub fn is_sequence(&mut self, variable: u64, item: u64) -> Result<(), AllocError>
+    pub fn equate_sequence(&mut self, variable: u64, item: u64) -> Result<(), AllocError>
         requires variable { variable < count self.old }
         requires item { item < count self.old }
         ensures { OnOk result (Adds self.old self.new (λ s of. s variable ≡ seq_of (s item))) }
@@ -218,12 +218,12 @@ impl State {
 
     /// A most general solution of the equations in which each variable has a type of its class.
     pub fn solve(self, alloc: Global) -> Result<Solution, SolveFault>
-        ensures solves { IfOk result (λ a. Holds (type_of a) (class_of a) self) }
-        ensures general { IfOk result (λ a. (s : ℕ → Term) → (of : ℕ → Class) → Holds s of self
+        ensures solves { IfOk result (λ a. IsSolution (type_of a) (class_of a) self) }
+        ensures general { IfOk result (λ a. (s : ℕ → Term) → (of : ℕ → Class) → IsSolution s of self
             → IsInstance (type_of a) (class_of a) s of) }
         ensures bounded { IfOk result (λ a. IsBounded (type_of a)) }
         ensures none { IsErrOf result SolveFault.NoSolution → (s : ℕ → Term) → (of : ℕ → Class) → IsBounded s
-            → Holds s of self → ⊥ }
+            → IsSolution s of self → ⊥ }
     {
         let State { table } = self;
         match table {

@@ -45,12 +45,12 @@ impl Table {
     ghost use Rattle.nesl_unify.specs.Bounds.{IsBounded};
     ghost use Rattle.nesl_unify.specs.Flat.{flat_type};
     ghost use Rattle.nesl_unify.specs.Solves.{IsInstance, type_of, class_of};
-    ghost use Rattle.nesl_unify.specs.Systems.{count, Holds, SolvesSystem};
+    ghost use Rattle.nesl_unify.specs.Systems.{count, IsSolvedBy, SolvesSystem};
 
     /// No variables and no equations.
     pub fn new(alloc: Global) -> Table
         ensures members { result.system.members.items ≡ [] }
-        ensures holds { (s : ℕ → Term) → Holds result.system s }
+        ensures holds { (s : ℕ → Term) → IsSolvedBy result.system s }
     {
         Table {
             system: System::new(alloc),
@@ -63,7 +63,7 @@ impl Table {
         ensures variable { IfOk result (λ r. r.1 ≡ count self.system) }
         ensures members { IfOk result (λ r. r.0.system.members.items
             ≡ self.system.members.items ++ record { variable = r.1; class = class } ∷ []) }
-        ensures holds { IfOk result (λ r. (s : ℕ → Term) → Holds r.0.system s ↔ Holds self.system s) }
+        ensures holds { IfOk result (λ r. (s : ℕ → Term) → IsSolvedBy r.0.system s ↔ IsSolvedBy self.system s) }
     {
         let Table {
             mut system,
@@ -81,7 +81,7 @@ impl Table {
         ensures members { IfOk result (λ r. r.system.members.items ≡ self.system.members.items) }
         ensures holds { IfOk result
             (λ r. (s : ℕ → Term) →
-            Holds r.system s ↔ (Holds self.system s × (s variable ≡ substitute s (flat_type flat)))) }
+            IsSolvedBy r.system s ↔ (IsSolvedBy self.system s × (s variable ≡ substitute s (flat_type flat)))) }
     {
         let Table {
             mut system,
@@ -106,8 +106,8 @@ impl Table {
         ensures members { IfOk result (λ r. r.system.members.items ≡ self.system.members.items) }
         ensures holds { IfOk result
             (λ r. (s : ℕ → Term) →
-            Holds r.system s
-            ↔ (Holds self.system s × (s variable ≡ substitute (λ v. s (slice_index fresh.now v)) part.now))) }
+            IsSolvedBy r.system s
+            ↔ (IsSolvedBy self.system s × (s variable ≡ substitute (λ v. s (slice_index fresh.now v)) part.now))) }
     {
         let Table {
             mut system,
@@ -133,7 +133,7 @@ impl Table {
         requires ty { IsBelow (length fresh.now) ty.now }
         ensures members { IfOk result (λ r. r.system.members.items ≡ self.system.members.items) }
         ensures holds { IfOk result (λ r. (s : ℕ → Term)
-            → Holds r.system s ↔ (Holds self.system s
+            → IsSolvedBy r.system s ↔ (IsSolvedBy self.system s
             × (s variable ≡ substitute (λ v. s (slice_index fresh.now v)) ty.now))) }
     {
         let Table {

@@ -6,7 +6,7 @@ use Rattle.nesl_lex.specs.declared.token.Sign.{Sign}
 use Rattle.nesl_lex.specs.declared.scan.Start.{Start}
 use Rattle.nesl_lex.specs.declared.scan.Start.TheVariants as start
 use Rattle.nesl_lex.specs.Tokens.{Lexeme, number, name, reserved, truth, character, quoted, symbol}
-use Rattle.nesl_lex.specs.Lexemes.{is_digit, is_name_byte, is_printable, is_comment_byte, is_text_byte, small_letter, AllBytes, value_behind, sign_text, IsNameText, IsNamed, Spells, IsStuck}
+use Rattle.nesl_lex.specs.Lexemes.{is_digit, is_name_byte, is_printable, is_comment_byte, is_text_byte, small_letter, AllBytes, with_digits, sign_text, IsNameText, SpellsName, Spells, HasNoToken}
 use Rattle.nesl_lex.specs.Scan.{start_of, front_len, Stops, sign_in, GapAt, TextAt}
 use Rattle.nesl_lex.proofs.Starts.{start_blank, start_comment, start_number, start_name, start_character, start_text, letter_is_name_byte, no_comment_byte}
 use Rattle.nesl_lex.proofs.Fronts.{front_of, Closed, closed_at, stopped_at}
@@ -63,7 +63,7 @@ run_start bytes p s k r = ap start_of r.at ∙ k
 pub run_each : (bytes : List ℕ) → 0 < length bytes → start_of (get_or bytes 0 0) ≡ start.Number → AllBytes is_digit (take (front_len is_digit bytes) bytes)
 run_each bytes h k = let r = digit_run bytes h k in subst (λ (us : List ℕ). AllBytes is_digit us) (sym r.taken) r.each
 
-pub number_text : (bytes : List ℕ) → 0 < length bytes → start_of (get_or bytes 0 0) ≡ start.Number → (v : ℕ) → v ≡ value_behind 0 (take (front_len is_digit bytes) bytes) → v < 2 ^ 63 → TextAt bytes (front_len is_digit bytes) (number v)
+pub number_text : (bytes : List ℕ) → 0 < length bytes → start_of (get_or bytes 0 0) ≡ start.Number → (v : ℕ) → v ≡ with_digits 0 (take (front_len is_digit bytes) bytes) → v < 2 ^ 63 → TextAt bytes (front_len is_digit bytes) (number v)
 number_text bytes h k v e small =
     let r = digit_run bytes h k in
     record {
@@ -71,20 +71,20 @@ number_text bytes h k v e small =
       rest = r.rest;
       whole = r.whole;
       long = r.long;
-      spells = (r.each, e ∙ ap (value_behind 0) r.taken, small);
+      spells = (r.each, e ∙ ap (with_digits 0) r.taken, small);
       longest = digits_longest r.first r.front r.rest (run_start bytes is_digit start.Number k r) r.stops;
     }
 
-pub number_stuck : (bytes : List ℕ) → 0 < length bytes → start_of (get_or bytes 0 0) ≡ start.Number → 2 ^ 63 ≤ value_behind 0 (take (front_len is_digit bytes) bytes) → IsStuck bytes
+pub number_stuck : (bytes : List ℕ) → 0 < length bytes → start_of (get_or bytes 0 0) ≡ start.Number → 2 ^ 63 ≤ with_digits 0 (take (front_len is_digit bytes) bytes) → HasNoToken bytes
 number_stuck bytes h k large =
     let r = digit_run bytes h k in
-    subst IsStuck (sym r.whole) (no_number r.first r.front r.rest (run_start bytes is_digit start.Number k r) r.each r.stops (omega (arith, ap (value_behind 0) r.taken)))
+    subst HasNoToken (sym r.whole) (no_number r.first r.front r.rest (run_start bytes is_digit start.Number k r) r.each r.stops (omega (arith, ap (with_digits 0) r.taken)))
 
 -- a name, a reserved word or a truth value
 name_run : (bytes : List ℕ) → 0 < length bytes → start_of (get_or bytes 0 0) ≡ start.Name → Run is_name_byte bytes
 name_run bytes h k = run_of is_name_byte bytes h (letter_is_name_byte (get_or bytes 0 0) (start_name (get_or bytes 0 0) k))
 
-spells_named : (text : List ℕ) (x : Lexeme) → IsNameText text → IsNamed (map small_letter text) x → Spells text x
+spells_named : (text : List ℕ) (x : Lexeme) → IsNameText text → SpellsName (map small_letter text) x → Spells text x
 spells_named text (number n) t i = absurd i
 spells_named text (name bytes) t i = (t, i)
 spells_named text (reserved w) t i = (t, i)
@@ -93,7 +93,7 @@ spells_named text (character c) t i = absurd i
 spells_named text (quoted bytes) t i = absurd i
 spells_named text (symbol s) t i = absurd i
 
-pub name_text : (bytes : List ℕ) → 0 < length bytes → start_of (get_or bytes 0 0) ≡ start.Name → (x : Lexeme) → IsNamed (map small_letter (take (front_len is_name_byte bytes) bytes)) x → TextAt bytes (front_len is_name_byte bytes) x
+pub name_text : (bytes : List ℕ) → 0 < length bytes → start_of (get_or bytes 0 0) ≡ start.Name → (x : Lexeme) → SpellsName (map small_letter (take (front_len is_name_byte bytes) bytes)) x → TextAt bytes (front_len is_name_byte bytes) x
 name_text bytes h k x i =
     let r = name_run bytes h k in
     let s = run_start bytes is_name_byte start.Name k r in
@@ -102,7 +102,7 @@ name_text bytes h k x i =
       rest = r.rest;
       whole = r.whole;
       long = r.long;
-      spells = spells_named (r.first ∷ r.front) x (start_name r.first s, r.each.1) (subst (λ (us : List ℕ). IsNamed (map small_letter us) x) r.taken i);
+      spells = spells_named (r.first ∷ r.front) x (start_name r.first s, r.each.1) (subst (λ (us : List ℕ). SpellsName (map small_letter us) x) r.taken i);
       longest = name_longest r.first r.front r.rest s r.stops;
     }
 
@@ -116,7 +116,7 @@ pub symbol_text : (bytes : List ℕ) → 0 < length bytes → (s : Sign) → sig
 symbol_text [] h s e = absurd (omega arith)
 symbol_text (b ∷ bs) h s e = sign_of b bs s e
 
-pub symbol_stuck : (bytes : List ℕ) → 0 < length bytes → start_of (get_or bytes 0 0) ≡ start.Other → sign_in bytes ≡ None → IsStuck bytes
+pub symbol_stuck : (bytes : List ℕ) → 0 < length bytes → start_of (get_or bytes 0 0) ≡ start.Other → sign_in bytes ≡ None → HasNoToken bytes
 symbol_stuck [] h k e = absurd (omega arith)
 symbol_stuck (b ∷ bs) h k e = no_start b bs k e
 
@@ -126,9 +126,9 @@ character_text [] h k p = absurd (omega arith)
 character_text (b ∷ []) h k p = absurd (omega arith)
 character_text (b ∷ c ∷ cs) h k p = subst (λ (x : ℕ). TextAt (x ∷ c ∷ cs) 2 (character c)) (sym (start_character b k)) (record { text = 96 ∷ c ∷ []; rest = cs; whole = refl; long = refl; spells = (refl, p); longest = character_longest c cs })
 
-pub character_stuck : (bytes : List ℕ) → 0 < length bytes → start_of (get_or bytes 0 0) ≡ start.Character → (1 < length bytes → is_printable (get_or bytes 1 0) ≡ true → ⊥) → IsStuck bytes
+pub character_stuck : (bytes : List ℕ) → 0 < length bytes → start_of (get_or bytes 0 0) ≡ start.Character → (1 < length bytes → is_printable (get_or bytes 1 0) ≡ true → ⊥) → HasNoToken bytes
 character_stuck [] h k n = absurd (omega arith)
-character_stuck (b ∷ bs) h k n = subst (λ (x : ℕ). IsStuck (x ∷ bs)) (sym (start_character b k)) (no_character bs (λ l p. n (omega arith) p))
+character_stuck (b ∷ bs) h k n = subst (λ (x : ℕ). HasNoToken (x ∷ bs)) (sym (start_character b k)) (no_character bs (λ l p. n (omega arith) p))
 
 -- a text: 34, then bytes other than 34, then 34
 quoted_of : (bs : List ℕ) → Closed is_text_byte 34 bs → TextAt (34 ∷ bs) (front_len is_text_byte bs + 2) (quoted (take (front_len is_text_byte bs) bs))
@@ -146,9 +146,9 @@ pub quoted_text : (bytes : List ℕ) → 0 < length bytes → start_of (get_or b
 quoted_text [] h k l e = absurd (omega arith)
 quoted_text (b ∷ bs) h k l e = subst (λ (x : ℕ). TextAt (x ∷ bs) (front_len is_text_byte bs + 2) (quoted (take (front_len is_text_byte bs) bs))) (sym (start_text b k)) (quoted_of bs (closed_at is_text_byte 34 bs l e))
 
-pub quoted_stuck : (bytes : List ℕ) → 0 < length bytes → start_of (get_or bytes 0 0) ≡ start.Text → (front_len is_text_byte (drop 1 bytes) < length (drop 1 bytes) → get_or (drop 1 bytes) (front_len is_text_byte (drop 1 bytes)) 0 ≡ 34 → ⊥) → IsStuck bytes
+pub quoted_stuck : (bytes : List ℕ) → 0 < length bytes → start_of (get_or bytes 0 0) ≡ start.Text → (front_len is_text_byte (drop 1 bytes) < length (drop 1 bytes) → get_or (drop 1 bytes) (front_len is_text_byte (drop 1 bytes)) 0 ≡ 34 → ⊥) → HasNoToken bytes
 quoted_stuck [] h k n = absurd (omega arith)
-quoted_stuck (b ∷ bs) h k n = subst (λ (x : ℕ). IsStuck (x ∷ bs)) (sym (start_text b k)) (no_quoted bs n)
+quoted_stuck (b ∷ bs) h k n = subst (λ (x : ℕ). HasNoToken (x ∷ bs)) (sym (start_text b k)) (no_quoted bs n)
 
 -- a comment: 37, then bytes other than 37, then 37
 comment_of : (bs : List ℕ) → Closed is_comment_byte 37 bs → GapAt (37 ∷ bs) (front_len is_comment_byte bs + 2)
@@ -164,6 +164,6 @@ pub comment_gap : (bytes : List ℕ) → 0 < length bytes → start_of (get_or b
 comment_gap [] h k l = absurd (omega arith)
 comment_gap (c ∷ cs) h k l = subst (λ (x : ℕ). GapAt (x ∷ cs) (front_len is_comment_byte cs + 2)) (sym (start_comment c k)) (comment_of cs (closed_at is_comment_byte 37 cs l (no_comment_byte _ (stopped_at is_comment_byte cs l))))
 
-pub comment_stuck : (bytes : List ℕ) → 0 < length bytes → start_of (get_or bytes 0 0) ≡ start.Comment → length (drop 1 bytes) ≤ front_len is_comment_byte (drop 1 bytes) → IsStuck bytes
+pub comment_stuck : (bytes : List ℕ) → 0 < length bytes → start_of (get_or bytes 0 0) ≡ start.Comment → length (drop 1 bytes) ≤ front_len is_comment_byte (drop 1 bytes) → HasNoToken bytes
 comment_stuck [] h k l = absurd (omega arith)
-comment_stuck (c ∷ cs) h k l = subst (λ (x : ℕ). IsStuck (x ∷ cs)) (sym (start_comment c k)) (no_comment cs (λ m. omega arith))
+comment_stuck (c ∷ cs) h k l = subst (λ (x : ℕ). HasNoToken (x ∷ cs)) (sym (start_comment c k)) (no_comment cs (λ m. omega arith))

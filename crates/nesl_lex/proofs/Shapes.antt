@@ -4,7 +4,7 @@ use Rattle.nesl_lex.specs.declared.token.Sign.{Sign}
 use Rattle.nesl_lex.specs.declared.scan.Start.{Start}
 use Rattle.nesl_lex.specs.declared.scan.Start.TheVariants as start
 use Rattle.nesl_lex.specs.Tokens.{Lexeme, number, name, reserved, truth, character, quoted, symbol}
-use Rattle.nesl_lex.specs.Lexemes.{is_blank, is_digit, is_name_byte, is_printable, is_comment_byte, is_text_byte, AllBytes, value_behind, sign_text, IsDigits, IsNameText, HasShape, Spells, IsLongest, IsGap, IsStuck}
+use Rattle.nesl_lex.specs.Lexemes.{is_blank, is_digit, is_name_byte, is_printable, is_comment_byte, is_text_byte, AllBytes, with_digits, sign_text, IsDigits, IsNameText, IsTokenText, Spells, IsLongest, IsGap, HasNoToken}
 use Rattle.nesl_lex.specs.Scan.{start_of, front_len, Stops, sign_in}
 use Rattle.nesl_lex.proofs.Starts.{blank_starts, digit_starts, letter_starts}
 use Rattle.nesl_lex.proofs.Fronts.{each_le, Ended, ended_at, insides_same, SameFront, same_front}
@@ -27,7 +27,7 @@ spelled_form text (character c) s = of_character c s.0
 spelled_form text (quoted inside) s = of_quoted inside s.0 s.1
 spelled_form text (symbol g) s = of_sign g s
 
-pub form_of : (text : List ℕ) → HasShape text → Form text
+pub form_of : (text : List ℕ) → IsTokenText text → Form text
 form_of text h = elim h [ inl d ↦ of_digits d | inr s ↦ spelled_form text s.0 s.1 ]
 
 -- what the first byte of a form begins
@@ -188,11 +188,11 @@ sign_longest b bs s rest w le = λ f back h x.
     sign_le (b ∷ bs) s b f back le (sign_start s rest b bs w) k y (begins_at f back b bs k y)
 
 -- two longest texts at one place are one
-pub longest_same : (us xs vs ys : List ℕ) → us ++ xs ≡ vs ++ ys → HasShape us → HasShape vs → IsLongest us xs → IsLongest vs ys → SameFront us vs xs ys
+pub longest_same : (us xs vs ys : List ℕ) → us ++ xs ≡ vs ++ ys → IsTokenText us → IsTokenText vs → IsLongest us xs → IsLongest vs ys → SameFront us vs xs ys
 longest_same us xs vs ys h s t l m = let a = l vs ys h t in let b = m us xs (sym h) s in same_front us vs xs ys h (omega arith)
 
 -- a byte that begins no gap, and no token that is spelled there
-pub stuck_at : (b : ℕ) (bs : List ℕ) (k : Start) → start_of b ≡ k → k ≢ start.Blank → k ≢ start.Comment → ((text back : List ℕ) (x : Lexeme) → b ∷ bs ≡ text ++ back → Spells text x → IsLongest text back → ⊥) → IsStuck (b ∷ bs)
+pub stuck_at : (b : ℕ) (bs : List ℕ) (k : Start) → start_of b ≡ k → k ≢ start.Blank → k ≢ start.Comment → ((text back : List ℕ) (x : Lexeme) → b ∷ bs ≡ text ++ back → Spells text x → IsLongest text back → ⊥) → HasNoToken (b ∷ bs)
 stuck_at b bs k e n m t = record {
   byte = λ x. cc;
   no_gap = λ gap rest h g. gap_begins gap rest b bs k (sym h) e n m g;
@@ -200,7 +200,7 @@ stuck_at b bs k e n m t = record {
 }
 
 -- digits spell a number alone
-digits_spell : (b : ℕ) (front : List ℕ) (x : Lexeme) → start_of b ≡ start.Number → Spells (b ∷ front) x → value_behind 0 (b ∷ front) < 2 ^ 63
+digits_spell : (b : ℕ) (front : List ℕ) (x : Lexeme) → start_of b ≡ start.Number → Spells (b ∷ front) x → with_digits 0 (b ∷ front) < 2 ^ 63
 digits_spell b front (number n) d s = omega (arith, s.1, s.2)
 digits_spell b front (name bs) d s = let e : start_of b ≡ start.Name = letter_starts b s.0.0 in cc
 digits_spell b front (reserved w) d s = let e : start_of b ≡ start.Name = letter_starts b s.0.0 in cc
@@ -210,7 +210,7 @@ digits_spell b front (quoted inside) d s = let e : start_of b ≡ start.Text = b
 digits_spell b front (symbol g) d s = let e : start_of b ≡ start.Other = begins_at (b ∷ front) [] b (front ++ []) refl (of_sign g s) in cc
 
 -- a number that is too large
-pub no_number : (b : ℕ) (front rest : List ℕ) → start_of b ≡ start.Number → AllBytes is_digit (b ∷ front) → Stops is_digit rest → 2 ^ 63 ≤ value_behind 0 (b ∷ front) → IsStuck ((b ∷ front) ++ rest)
+pub no_number : (b : ℕ) (front rest : List ℕ) → start_of b ≡ start.Number → AllBytes is_digit (b ∷ front) → Stops is_digit rest → 2 ^ 63 ≤ with_digits 0 (b ∷ front) → HasNoToken ((b ∷ front) ++ rest)
 no_number b front rest d e s v = stuck_at b (front ++ rest) start.Number d (λ k. cc) (λ k. cc) (λ text back x h t u.
     let k = longest_same text back (b ∷ front) rest (sym h) (inr (x, t)) (inl e) u (digits_longest b front rest d s) in
     let y = digits_spell b front x d (subst (λ (us : List ℕ). Spells us x) k.fronts t) in omega arith)
@@ -224,7 +224,7 @@ quote_ends bs text back h (of_quoted inside k i) e = (length inside, ended_at is
 quote_ends bs text back h (of_sign g k) e = cc
 
 -- a text that isn't closed
-pub no_quoted : (bs : List ℕ) → (front_len is_text_byte bs < length bs → get_or bs (front_len is_text_byte bs) 0 ≡ 34 → ⊥) → IsStuck (34 ∷ bs)
+pub no_quoted : (bs : List ℕ) → (front_len is_text_byte bs < length bs → get_or bs (front_len is_text_byte bs) 0 ≡ 34 → ⊥) → HasNoToken (34 ∷ bs)
 no_quoted bs n = stuck_at 34 bs start.Text refl (λ k. cc) (λ k. cc) (λ text back x h t u.
     let y = form_of text (inr (x, t)) in
     let q = quote_ends bs text back (sym h) y (begins_at text back 34 bs (sym h) y) in
@@ -244,7 +244,7 @@ character_ends bs text back (quoted inside) h s e = let f : start_of 96 ≡ star
 character_ends bs text back (symbol g) h s e = let f : start_of 96 ≡ start.Other = begins_at text back 96 bs h (of_sign g s) in cc
 
 -- a backquote with no byte 32 to 126 behind it
-pub no_character : (bs : List ℕ) → (1 ≤ length bs → is_printable (get_or bs 0 0) ≡ true → ⊥) → IsStuck (96 ∷ bs)
+pub no_character : (bs : List ℕ) → (1 ≤ length bs → is_printable (get_or bs 0 0) ≡ true → ⊥) → HasNoToken (96 ∷ bs)
 no_character bs n = stuck_at 96 bs start.Character refl (λ k. cc) (λ k. cc) (λ text back x h t u.
     let q = character_ends bs text back x (sym h) t refl in n q.0 q.1)
 
@@ -256,7 +256,7 @@ sign_ends b bs text back o n h (of_character c k) e = cc
 sign_ends b bs text back o n h (of_quoted inside k i) e = cc
 sign_ends b bs text back o n h (of_sign g k) e = sign_none b bs n g back (ap (λ (us : List ℕ). us ++ back) (sym k) ∙ h)
 
-pub no_start : (b : ℕ) (bs : List ℕ) → start_of b ≡ start.Other → sign_in (b ∷ bs) ≡ None → IsStuck (b ∷ bs)
+pub no_start : (b : ℕ) (bs : List ℕ) → start_of b ≡ start.Other → sign_in (b ∷ bs) ≡ None → HasNoToken (b ∷ bs)
 no_start b bs o n = stuck_at b bs start.Other o (λ k. cc) (λ k. cc) (λ text back x h t u.
     let y = form_of text (inr (x, t)) in
     sign_ends b bs text back o n (sym h) y (begins_at text back b bs (sym h) y))
@@ -282,7 +282,7 @@ comment_form bs text back h (of_character c k) e = cc
 comment_form bs text back h (of_quoted inside k i) e = cc
 comment_form bs text back h (of_sign g k) e = cc
 
-pub no_comment : (bs : List ℕ) → (front_len is_comment_byte bs < length bs → ⊥) → IsStuck (37 ∷ bs)
+pub no_comment : (bs : List ℕ) → (front_len is_comment_byte bs < length bs → ⊥) → HasNoToken (37 ∷ bs)
 no_comment bs n = record {
   byte = λ x. cc;
   no_gap = λ gap back h g. let q = gap_ends gap back bs (sym h) g in n (omega (arith, q.1.long, q.1.within));

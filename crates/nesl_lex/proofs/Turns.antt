@@ -4,7 +4,7 @@ use Rattle.std.proofs.lemmas.List.{drop-drop, map-append, drop_all}
 use Rattle.std.proofs.Math.Seq.{drop-append_seam}
 use Rattle.nesl_lex.specs.declared.token.Token.{Token}
 use Rattle.nesl_lex.specs.Tokens.{Lexeme, Placed, placed_of, placed}
-use Rattle.nesl_lex.specs.Lexemes.{IsStuck, whole, stuck, at_place, Reads, finished, halted, passed, took, HasTokens, IsStuckAt}
+use Rattle.nesl_lex.specs.Lexemes.{HasNoToken, whole, halted_at, token_from, Reads, finished, halted, passed, took, HasTokens, HasNoTokenAt}
 use Rattle.nesl_lex.specs.Scan.{GapAt, TextAt}
 use Rattle.nesl_lex.specs.Progress.{Progress}
 use Rattle.nesl_lex.proofs.Pieces.{from_of}
@@ -30,15 +30,15 @@ gap_turn line at n so_far p g = record {
       p.completes ts e (passed g.gap g.rest (sym (from_of at line) ∙ g.whole) g.is_gap r');
 }
 
-pub text_turn : (line : List ℕ) (at n : ℕ) (x : Lexeme) (so_far now : List Placed) → now ≡ so_far ++ at_place x at n ∷ [] → Progress line at so_far → TextAt (take (length line - at) (drop at line)) n x → Progress line (at + n) now
+pub text_turn : (line : List ℕ) (at n : ℕ) (x : Lexeme) (so_far now : List Placed) → now ≡ so_far ++ token_from x at n ∷ [] → Progress line at so_far → TextAt (take (length line - at) (drop at line)) n x → Progress line (at + n) now
 text_turn line at n x so_far now w p g = record {
   within = fits_behind line at n g.text g.rest p.within g.whole g.long;
   completes = λ ts e r.
       let d = left_behind line at n g.text g.rest g.whole g.long in
-      let t = at_place x at n in
+      let t = token_from x at n in
       let r' : Reads (at + length g.text) g.rest ts e = subst (λ (m : ℕ). Reads (at + m) g.rest ts e) (sym g.long) (subst (λ (xs : List ℕ). Reads (at + n) xs ts e) d r) in
-      let k : Reads at (drop at line) (at_place x at (length g.text) ∷ ts) e = took g.text g.rest x (sym (from_of at line) ∙ g.whole) g.spells g.longest r' in
-      let k' : Reads at (drop at line) (t ∷ ts) e = subst (λ (m : ℕ). Reads at (drop at line) (at_place x at m ∷ ts) e) g.long k in
+      let k : Reads at (drop at line) (token_from x at (length g.text) ∷ ts) e = took g.text g.rest x (sym (from_of at line) ∙ g.whole) g.spells g.longest r' in
+      let k' : Reads at (drop at line) (t ∷ ts) e = subst (λ (m : ℕ). Reads at (drop at line) (token_from x at m ∷ ts) e) g.long k in
       subst (λ (us : List Placed). Reads 0 line us e) (sym (append_assoc so_far (t ∷ []) ts) ∙ ap (λ (us : List Placed). us ++ ts) (sym w)) (p.completes (t ∷ ts) e k');
 }
 
@@ -50,14 +50,14 @@ at_end line at so_far h p =
     let d : drop at line ≡ [] = drop_all at line h in
     subst (λ (us : List Placed). Reads 0 line us whole) (append-nil so_far) (p.completes [] whole (subst (λ (xs : List ℕ). Reads at xs [] whole) (sym d) finished))
 
-pub at_stop : (line : List ℕ) (at : ℕ) (so_far : List Placed) → IsStuck (take (length line - at) (drop at line)) → Progress line at so_far → IsStuckAt line at
-at_stop line at so_far s p = (so_far ++ [], p.completes [] (stuck at) (halted (subst IsStuck (from_of at line) s)))
+pub at_stop : (line : List ℕ) (at : ℕ) (so_far : List Placed) → HasNoToken (take (length line - at) (drop at line)) → Progress line at so_far → HasNoTokenAt line at
+at_stop line at so_far s p = (so_far ++ [], p.completes [] (halted_at at) (halted (subst HasNoToken (from_of at line) s)))
 
 pub one_list : (line : List ℕ) (ts us : List Placed) → HasTokens line ts → HasTokens line us → us ≡ ts
 one_list line ts us p q = (one_reading q p).tokens
 
-pub not_both : (line : List ℕ) (at : ℕ) (ts : List Placed) → IsStuckAt line at → HasTokens line ts → ⊥
+pub not_both : (line : List ℕ) (at : ℕ) (ts : List Placed) → HasNoTokenAt line at → HasTokens line ts → ⊥
 not_both line at ts s p = let e = (one_reading s.1 p).endings in cc
 
-pub one_place : (line : List ℕ) (at other : ℕ) → IsStuckAt line at → IsStuckAt line other → other ≡ at
+pub one_place : (line : List ℕ) (at other : ℕ) → HasNoTokenAt line at → HasNoTokenAt line other → other ≡ at
 one_place line at other s t = let e = (one_reading s.1 t.1).endings in cc

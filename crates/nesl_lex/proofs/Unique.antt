@@ -4,7 +4,7 @@ use Rattle.nesl_lex.specs.declared.token.Sign.{Sign}
 use Rattle.nesl_lex.specs.declared.scan.Start.{Start}
 use Rattle.nesl_lex.specs.declared.scan.Start.TheVariants as start
 use Rattle.nesl_lex.specs.Tokens.{Lexeme, number, name, reserved, truth, character, quoted, symbol, Placed}
-use Rattle.nesl_lex.specs.Lexemes.{is_blank, is_comment_byte, is_text_byte, small_letter, AllBytes, value_behind, sign_text, IsNameText, IsNamed, Spells, IsGap, Ending, at_place, Reads, finished, halted, passed, took}
+use Rattle.nesl_lex.specs.Lexemes.{is_blank, is_comment_byte, is_text_byte, small_letter, AllBytes, with_digits, sign_text, IsNameText, SpellsName, Spells, IsGap, Ending, token_from, Reads, finished, halted, passed, took}
 use Rattle.nesl_lex.specs.Scan.{start_of, front_len, sign_in}
 use Rattle.nesl_lex.proofs.Starts.{clash, digit_starts, letter_starts}
 use Rattle.nesl_lex.proofs.Fronts.{insides_same, ended_at, same_front}
@@ -44,7 +44,7 @@ symbol_of None = None
 
 -- the one lexeme that a text may spell, by its first byte
 abbrev spelled_as : Start → List ℕ → Option Lexeme
-spelled_as start.Number text = Some (number (value_behind 0 text))
+spelled_as start.Number text = Some (number (with_digits 0 text))
 spelled_as start.Name text = Some (named_in (map small_letter text))
 spelled_as start.Character (b ∷ c ∷ cs) = Some (character c)
 spelled_as start.Text (b ∷ bs) = Some (quoted (take (front_len is_text_byte bs) bs))
@@ -55,7 +55,7 @@ abbrev spelled : List ℕ → Option Lexeme
 spelled [] = None
 spelled (b ∷ bs) = spelled_as (start_of b) (b ∷ bs)
 
-name_spelled : (text : List ℕ) (x : Lexeme) → IsNameText text → IsNamed (map small_letter text) x → spelled text ≡ Some x
+name_spelled : (text : List ℕ) (x : Lexeme) → IsNameText text → SpellsName (map small_letter text) x → spelled text ≡ Some x
 name_spelled [] x t i = absurd t
 name_spelled (b ∷ bs) x t i = rw (letter_starts b t.0) (ap (λ (y : Lexeme). Some y) (named_one (map small_letter (b ∷ bs)) x i))
 
@@ -102,7 +102,7 @@ reads_moved : (m n : ℕ) (xs ys : List ℕ) (us : List Placed) (f : Ending) →
 reads_moved m n xs ys us f h k r = subst (λ (x : ℕ). Reads x xs us f) (sym h) (subst (λ (zs : List ℕ). Reads n zs us f) (sym k) r)
 
 took_same : (at : ℕ) (text text' : List ℕ) (x x' : Lexeme) (ts us : List Placed) (e f : Ending) → text ≡ text' → x ≡ x' → SameReading ts us e f
-    → SameReading (at_place x at (length text) ∷ ts) (at_place x' at (length text') ∷ us) e f
+    → SameReading (token_from x at (length text) ∷ ts) (token_from x' at (length text') ∷ us) e f
 took_same at text text' x x' ts us e f h k r = record { tokens = rw (h, k, r.tokens) refl; endings = r.endings }
 
 -- there is one reading

@@ -6,7 +6,7 @@ use Rattle.std.proofs.lemmas.Slice.Eq.{bytes_eq-Decides}
 use Rattle.nesl_lex.specs.declared.token.Word.{Word}
 use Rattle.nesl_lex.specs.declared.token.Word.TheVariants as word
 use Rattle.nesl_lex.specs.Tokens.{Lexeme, number, name, reserved, truth, character, quoted, symbol}
-use Rattle.nesl_lex.specs.Lexemes.{word_text, IsTruthText, IsNamed}
+use Rattle.nesl_lex.specs.Lexemes.{word_text, IsTruthText, SpellsName}
 use Rattle.nesl_lex.specs.Reading.{all_words, word_among, word_in, truth_in, named_by, named_in}
 
 word_read : (w : Word) → word_in (word_text w) ≡ Some w
@@ -54,19 +54,19 @@ truth_found bytes false false false true s a b c d h = inl ((bytes_eq-Decides by
 truth_found bytes false false false false true a b c d h = inr ((bytes_eq-Decides bytes (codes "false")).0 d)
 truth_found bytes false false false false false a b c d h = cc
 
-named_from : (small : List ℕ) (w : Option Word) (v : Option Bool) → word_in small ≡ w → truth_in small ≡ v → IsNamed small (named_by small w v)
+named_from : (small : List ℕ) (w : Option Word) (v : Option Bool) → word_in small ≡ w → truth_in small ≡ v → SpellsName small (named_by small w v)
 named_from small (Some w) v h k = word_found all_words small w h
 named_from small None (Some v) h k = truth_found small v (bytes_eq small (codes "t")) (bytes_eq small (codes "true")) (bytes_eq small (codes "f")) (bytes_eq small (codes "false")) refl refl refl refl k
 named_from small None None h k = (refl, word_none small h, λ value t. let e = truth_named small value t in let f : named_in small ≡ name small = rw (h, k) refl in cc)
 
 -- the small letters are that
-pub named_is : (small : List ℕ) → IsNamed small (named_in small)
+pub named_is : (small : List ℕ) → SpellsName small (named_in small)
 named_is small = named_from small (word_in small) (truth_in small) refl refl
 
 word_named : (small : List ℕ) (w : Word) → small ≡ word_text w → named_in small ≡ reserved w
 word_named small w e = let k : word_in small ≡ Some w = ap word_in e ∙ word_read w in rw k refl
 
-name_named : (small : List ℕ) → ((w : Word) → small ≢ word_text w) → ((value : Bool) → IsTruthText small value → ⊥) → (x : Lexeme) → x ≡ named_in small → IsNamed small x → x ≡ name small
+name_named : (small : List ℕ) → ((w : Word) → small ≢ word_text w) → ((value : Bool) → IsTruthText small value → ⊥) → (x : Lexeme) → x ≡ named_in small → SpellsName small x → x ≡ name small
 name_named small no_word no_truth (number n) h i = absurd i
 name_named small no_word no_truth (name bytes) h i = ap name i.0
 name_named small no_word no_truth (reserved w) h i = absurd (no_word w i)
@@ -76,7 +76,7 @@ name_named small no_word no_truth (quoted bytes) h i = absurd i
 name_named small no_word no_truth (symbol s) h i = absurd i
 
 -- they are nothing else
-pub named_one : (small : List ℕ) (x : Lexeme) → IsNamed small x → named_in small ≡ x
+pub named_one : (small : List ℕ) (x : Lexeme) → SpellsName small x → named_in small ≡ x
 named_one small (number n) i = absurd i
 named_one small (name bytes) i = name_named small i.1 i.2 (named_in small) refl (named_is small) ∙ ap name (sym i.0)
 named_one small (reserved w) i = word_named small w i

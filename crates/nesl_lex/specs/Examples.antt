@@ -3,7 +3,7 @@ use Rattle.std.specs.Prelude.{ℕ, true, false, [], ◌∷◌, codes}
 use Rattle.nesl_lex.specs.declared.token.Word.TheVariants as word
 use Rattle.nesl_lex.specs.declared.token.Sign.TheVariants as sign
 use Rattle.nesl_lex.specs.Tokens.{Lexeme, number, name, reserved, truth, character, quoted, symbol, Placed}
-use Rattle.nesl_lex.specs.Lexemes.{HasTokens, IsStuckAt}
+use Rattle.nesl_lex.specs.Lexemes.{HasTokens, HasNoTokenAt}
 
 -- a token from start on and before end
 abbrev token : ℕ → ℕ → Lexeme → Placed
@@ -35,26 +35,26 @@ abbrev pub PercentInText : Type 0
 PercentInText = HasTokens (34 ∷ 97 ∷ 37 ∷ 98 ∷ 34 ∷ []) (token 0 5 (quoted (codes "a%b")) ∷ [])
 
 abbrev pub OpenText : Type 0
-OpenText = IsStuckAt (120 ∷ 32 ∷ 34 ∷ 97 ∷ []) 2
+OpenText = HasNoTokenAt (120 ∷ 32 ∷ 34 ∷ 97 ∷ []) 2
 
 abbrev pub OpenComment : Type 0
-OpenComment = IsStuckAt (codes "x %a") 2
+OpenComment = HasNoTokenAt (codes "x %a") 2
 
 abbrev pub BlankCharacter : Type 0
 BlankCharacter = HasTokens (codes "` x") (token 0 2 (character 32) ∷ token 2 3 (name (codes "x")) ∷ [])
 
 abbrev pub LoneBackquote : Type 0
-LoneBackquote = IsStuckAt (codes "x`") 1
+LoneBackquote = HasNoTokenAt (codes "x`") 1
 
 abbrev pub BackquoteAndDelete : Type 0
-BackquoteAndDelete = IsStuckAt (96 ∷ 127 ∷ []) 0
+BackquoteAndDelete = HasNoTokenAt (96 ∷ 127 ∷ []) 0
 
 abbrev pub GreatestNumber : Type 0
 GreatestNumber = HasTokens (codes "9223372036854775807") (token 0 19 (number 9223372036854775807) ∷ [])
 
 -- no shorter front of the digits is taken
 abbrev pub TooLargeNumber : Type 0
-TooLargeNumber = IsStuckAt (codes " 9223372036854775808") 1
+TooLargeNumber = HasNoTokenAt (codes " 9223372036854775808") 1
 
 abbrev pub LeadingZeros : Type 0
 LeadingZeros = HasTokens (codes "00000000000000000000009") (token 0 23 (number 9) ∷ [])
@@ -70,7 +70,7 @@ abbrev pub NumberAndName : Type 0
 NumberAndName = HasTokens (codes "1in2") (token 0 1 (number 1) ∷ token 1 4 (name (codes "in2")) ∷ [])
 
 abbrev pub ZeroByte : Type 0
-ZeroByte = IsStuckAt (97 ∷ 0 ∷ []) 1
+ZeroByte = HasNoTokenAt (97 ∷ 0 ∷ []) 1
 
 abbrev pub LargeByte : Type 0
-LargeByte = IsStuckAt (32 ∷ 200 ∷ []) 1
+LargeByte = HasNoTokenAt (32 ∷ 200 ∷ []) 1

@@ -1,7 +1,7 @@
 -- Laws of the definition of tokens.
 use Rattle.std.specs.Prelude.{◌≡◌, ℕ, List, length, All, ◌⊎◌}
 use Rattle.nesl_lex.specs.Tokens.{Placed}
-use Rattle.nesl_lex.specs.Lexemes.{Reads, HasTokens, IsStuckAt}
+use Rattle.nesl_lex.specs.Lexemes.{Reads, HasTokens, HasNoTokenAt}
 use Rattle.nesl_lex.specs.Places.{InOrder, StandsIn}
 use Rattle.nesl_lex.specs.Reading.{reading_of}
 
@@ -11,15 +11,15 @@ OneList = (line : List ℕ) (ts us : List Placed) → HasTokens line ts → HasT
 
 -- a line is stuck at one place at most
 abbrev pub OnePlace : Type 0
-OnePlace = (line : List ℕ) (at other : ℕ) → IsStuckAt line at → IsStuckAt line other → other ≡ at
+OnePlace = (line : List ℕ) (at other : ℕ) → HasNoTokenAt line at → HasNoTokenAt line other → other ≡ at
 
 -- a line that has tokens is stuck nowhere
 abbrev pub NotBoth : Type 0
-NotBoth = (line : List ℕ) (ts : List Placed) (at : ℕ) → HasTokens line ts → IsStuckAt line at → ⊥
+NotBoth = (line : List ℕ) (ts : List Placed) (at : ℕ) → HasTokens line ts → HasNoTokenAt line at → ⊥
 
 -- a line has tokens or is stuck somewhere
 abbrev pub Either : Type 0
-Either = (line : List ℕ) → ((ts : List Placed) × HasTokens line ts) ⊎ ((at : ℕ) × IsStuckAt line at)
+Either = (line : List ℕ) → ((ts : List Placed) × HasTokens line ts) ⊎ ((at : ℕ) × HasNoTokenAt line at)
 
 -- a line's tokens stand within it, one behind another
 abbrev pub TokensInOrder : Type 0

@@ -47,9 +47,9 @@ AllBytes p [] = Unit {0}
 AllBytes p (b ∷ bs) = (p b ≡ true) × AllBytes p bs
 
 -- the number that digits behind a value make
-abbrev pub value_behind : ℕ → List ℕ → ℕ
-value_behind n [] = n
-value_behind n (d ∷ ds) = value_behind (n * 10 + (d - 48)) ds
+abbrev pub with_digits : ℕ → List ℕ → ℕ
+with_digits n [] = n
+with_digits n (d ∷ ds) = with_digits (n * 10 + (d - 48)) ds
 
 abbrev pub word_text : Word → List ℕ
 word_text word.Function = codes "function"
@@ -112,29 +112,29 @@ IsNameText [] = ⊥
 IsNameText (b ∷ bs) = (is_letter b ≡ true) × AllBytes is_name_byte bs
 
 -- what a text of a name's form is, in small letters: a reserved word, a truth value, or else a name
-abbrev pub IsNamed : List ℕ → Lexeme → Type 0
-IsNamed small (name bytes) =
+abbrev pub SpellsName : List ℕ → Lexeme → Type 0
+SpellsName small (name bytes) =
     (bytes ≡ small) × ((w : Word) → small ≢ word_text w) × ((value : Bool) → IsTruthText small value → ⊥)
-IsNamed small (reserved w) = small ≡ word_text w
-IsNamed small (truth value) = IsTruthText small value
-IsNamed small _ = ⊥
+SpellsName small (reserved w) = small ≡ word_text w
+SpellsName small (truth value) = IsTruthText small value
+SpellsName small _ = ⊥
 
 -- what the text is as a token
 abbrev pub Spells : List ℕ → Lexeme → Type 0
-Spells text (number n) = IsDigits text × (n ≡ value_behind 0 text) × (n < 2 ^ 63)
+Spells text (number n) = IsDigits text × (n ≡ with_digits 0 text) × (n < 2 ^ 63)
 Spells text (character c) = (text ≡ 96 ∷ c ∷ []) × (is_printable c ≡ true)
 Spells text (quoted inside) = (text ≡ 34 ∷ (inside ++ 34 ∷ [])) × AllBytes is_text_byte inside
 Spells text (symbol s) = text ≡ sign_text s
-Spells text x = IsNameText text × IsNamed (map small_letter text) x
+Spells text x = IsNameText text × SpellsName (map small_letter text) x
 
 -- a token's text, also where it is a number that is too large
-abbrev pub HasShape : List ℕ → Type 0
-HasShape text = IsDigits text ⊎ ((x : Lexeme) × Spells text x)
+abbrev pub IsTokenText : List ℕ → Type 0
+IsTokenText text = IsDigits text ⊎ ((x : Lexeme) × Spells text x)
 
 -- no longer front of what stands here has a token's shape
 abbrev pub IsLongest : List ℕ → List ℕ → Type 0
 IsLongest text rest =
-    (front back : List ℕ) → text ++ rest ≡ front ++ back → HasShape front → length front ≤ length text
+    (front back : List ℕ) → text ++ rest ≡ front ++ back → IsTokenText front → length front ≤ length text
 
 -- a blank, or a comment from % to the next %
 abbrev pub IsGap : List ℕ → Type 0
@@ -144,7 +144,7 @@ IsGap (b ∷ bs) =
     ⊎ ((b ≡ 37) × (inside : List ℕ) × (bs ≡ inside ++ 37 ∷ []) × AllBytes is_comment_byte inside)
 
 -- no token, blank or whole comment stands at the front of these bytes, and there is a byte
-pub record IsStuck (bytes : List ℕ) : Type 0 where
+pub record HasNoToken (bytes : List ℕ) : Type 0 where
   pub byte : bytes ≢ []
   pub no_gap : (gap rest : List ℕ) → bytes ≡ gap ++ rest → IsGap gap → ⊥
   pub no_token : (text rest : List ℕ) (x : Lexeme)
@@ -153,16 +153,16 @@ pub record IsStuck (bytes : List ℕ) : Type 0 where
 -- how a reading ends: at the end of the bytes, or at a place where nothing stands
 pub data Ending : Type 0 where
   whole : Ending
-  stuck : ℕ → Ending
+  halted_at : ℕ → Ending
 
 -- a token that stands from this place on, of this length
-abbrev pub at_place : Lexeme → ℕ → ℕ → Placed
-at_place x at n = record { lexeme = x; span = record { start = at; end = at + n } }
+abbrev pub token_from : Lexeme → ℕ → ℕ → Placed
+token_from x at n = record { lexeme = x; span = record { start = at; end = at + n } }
 
 -- from this place on these bytes are read as these tokens, up to this ending
 pub data Reads : ℕ → List ℕ → List Placed → Ending → Type 0 where
   finished : {at : ℕ} → Reads at [] [] whole
-  halted : {at : ℕ} {bytes : List ℕ} → IsStuck bytes → Reads at bytes [] (stuck at)
+  halted : {at : ℕ} {bytes : List ℕ} → HasNoToken bytes → Reads at bytes [] (halted_at at)
   passed : {at : ℕ} {bytes : List ℕ} {ts : List Placed} {e : Ending} (gap rest : List ℕ)
       → bytes ≡ gap ++ rest → IsGap gap
       → Reads (at + length gap) rest ts e
@@ -170,12 +170,12 @@ pub data Reads : ℕ → List ℕ → List Placed → Ending → Type 0 where
   took : {at : ℕ} {bytes : List ℕ} {ts : List Placed} {e : Ending} (text rest : List ℕ) (x : Lexeme)
       → bytes ≡ text ++ rest → Spells text x → IsLongest text rest
       → Reads (at + length text) rest ts e
-      → Reads at bytes (at_place x at (length text) ∷ ts) e
+      → Reads at bytes (token_from x at (length text) ∷ ts) e
 
 -- the tokens of a line
 abbrev pub HasTokens : List ℕ → List Placed → Type 0
 HasTokens line ts = Reads 0 line ts whole
 
 -- the first byte at which no token, blank or whole comment stands
-abbrev pub IsStuckAt : List ℕ → ℕ → Type 0
-IsStuckAt line at = (ts : List Placed) × Reads 0 line ts (stuck at)
+abbrev pub HasNoTokenAt : List ℕ → ℕ → Type 0
+HasNoTokenAt line at = (ts : List Placed) × Reads 0 line ts (halted_at at)

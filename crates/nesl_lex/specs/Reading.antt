@@ -9,7 +9,7 @@ use Rattle.nesl_lex.specs.declared.scan.Start.{Start}
 use Rattle.nesl_lex.specs.declared.scan.Start.TheVariants as start
 use Rattle.nesl_lex.specs.Tokens.{Lexeme, number, name, reserved, truth, character, quoted, symbol, Placed}
 use Rattle.nesl_lex.specs.Lexemes.{is_digit, is_name_byte, is_printable, is_comment_byte, is_text_byte, small_letter}
-use Rattle.nesl_lex.specs.Lexemes.{value_behind, word_text, sign_text, Ending, whole, stuck, at_place}
+use Rattle.nesl_lex.specs.Lexemes.{with_digits, word_text, sign_text, Ending, whole, halted_at, token_from}
 use Rattle.nesl_lex.specs.Scan.{start_of, front_len, sign_in}
 
 abbrev pub all_words : List Word
@@ -78,7 +78,7 @@ abbrev pub found_as : Start → List ℕ → List ℕ → Found
 found_as start.Blank bytes rest = gap 1
 found_as start.Comment bytes rest = comment_found (front_len is_comment_byte rest) rest
 found_as start.Number bytes rest =
-    number_found (front_len is_digit bytes) (value_behind 0 (take (front_len is_digit bytes) bytes))
+    number_found (front_len is_digit bytes) (with_digits 0 (take (front_len is_digit bytes) bytes))
 found_as start.Name bytes rest =
     token (front_len is_name_byte bytes) (named_in (map small_letter (take (front_len is_name_byte bytes) bytes)))
 found_as start.Character bytes rest = character_found bytes
@@ -99,8 +99,8 @@ with_token t r = record { tokens = t ∷ r.tokens; ending = r.ending }
 -- what was found here, and the reading behind so many bytes
 abbrev pub reading_behind : ℕ → Found → (ℕ → Reading) → Reading
 reading_behind at (gap n) behind = behind n
-reading_behind at (token n x) behind = with_token (at_place x at n) (behind n)
-reading_behind at no_piece behind = record { tokens = []; ending = stuck at }
+reading_behind at (token n x) behind = with_token (token_from x at n) (behind n)
+reading_behind at no_piece behind = record { tokens = []; ending = halted_at at }
 
 -- the reading of so many bytes at most, which stand here
 abbrev pub reading_from : ℕ → ℕ → List ℕ → Reading

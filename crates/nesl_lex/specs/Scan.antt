@@ -11,7 +11,7 @@ use Rattle.nesl_lex.specs.declared.scan.Piece.{Piece}
 use Rattle.nesl_lex.specs.declared.scan.Piece.TheVariants.{Gap, Token, Nothing}
 use Rattle.nesl_lex.specs.Tokens.{Lexeme, lexeme_of}
 use Rattle.nesl_lex.specs.Lexemes.{AllBytes, is_blank, is_digit, is_letter, is_name_byte, is_comment_byte, is_text_byte}
-use Rattle.nesl_lex.specs.Lexemes.{IsGap, IsStuck, Spells, IsLongest}
+use Rattle.nesl_lex.specs.Lexemes.{IsGap, HasNoToken, Spells, IsLongest}
 
 -- what a first byte begins
 abbrev pub start_of : ℕ → Start
@@ -51,10 +51,10 @@ pub record TextAt (bytes : List ℕ) (n : ℕ) (x : Lexeme) : Type 0 where
   pub longest : IsLongest text rest
 
 -- what was found at the front stands there
-abbrev pub Stands : List ℕ → Piece → Type 0
-Stands bytes (Gap n) = GapAt bytes n
-Stands bytes (Token n kind) = TextAt bytes n (lexeme_of kind)
-Stands bytes Nothing = IsStuck bytes
+abbrev pub PieceStands : List ℕ → Piece → Type 0
+PieceStands bytes (Gap n) = GapAt bytes n
+PieceStands bytes (Token n kind) = TextAt bytes n (lexeme_of kind)
+PieceStands bytes Nothing = HasNoToken bytes
 
 -- what ends a run
 abbrev pub Stops : (ℕ → Bool) → List ℕ → Type 0

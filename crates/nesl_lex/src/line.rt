@@ -2,7 +2,7 @@
 
 ghost use Rattle.std.specs.Prelude.{◌≡◌, List, IfOk, IsErrOf};
 ghost use Rattle.nesl_lex.specs.Tokens.{Placed, placed};
-ghost use Rattle.nesl_lex.specs.Lexemes.{HasTokens, IsStuckAt};
+ghost use Rattle.nesl_lex.specs.Lexemes.{HasTokens, HasNoTokenAt};
 ghost use Rattle.nesl_lex.specs.Faults.{OnLexical};
 
 use crate::fault::LexFault;
@@ -17,7 +17,7 @@ pub fn lex(alloc: Global, line: &[u8]) -> Result<Vec<Token>, LexFault>
     ensures only { IfOk result (λ v. (others : List Placed) → HasTokens line.now others → others ≡ placed v.items) }
 
     // At this byte no token, blank or whole comment stands, and the line has no tokens.
-    ensures stuck { OnLexical result (λ at. IsStuckAt line.now at) }
+    ensures stuck { OnLexical result (λ at. HasNoTokenAt line.now at) }
     ensures none { OnLexical result (λ at. (others : List Placed) → HasTokens line.now others → ⊥) }
 {
     let mut tokens = Vec::new(alloc);

@@ -3,10 +3,10 @@
 ghost use Rattle.std.specs.Prelude.{◌≡◌, ◌≢◌, ◌≤◌, ◌<◌, ◌^◌, ◌+◌, ◌-◌, ◌*◌, ◌==◌, ◌↔◌, IsTrue, IfOk, IfSome, IfNone};
 ghost use Rattle.std.specs.Prelude.{length, map, slice_index, Bool};
 ghost use Rattle.nesl_lex.specs.Lexemes.{is_digit, is_capital, is_letter, is_name_byte, is_printable, is_text_byte};
-ghost use Rattle.nesl_lex.specs.Lexemes.{small_letter, AllBytes, value_behind, word_text, IsTruthText, IsNamed};
+ghost use Rattle.nesl_lex.specs.Lexemes.{small_letter, AllBytes, with_digits, word_text, IsTruthText, SpellsName};
 ghost use Rattle.nesl_lex.specs.Lexemes.{sign_text};
 ghost use Rattle.nesl_lex.specs.Tokens.{lexeme_of};
-ghost use Rattle.nesl_lex.specs.Scan.{start_of, test_of, front_len, Stands, single, double, sign_in};
+ghost use Rattle.nesl_lex.specs.Scan.{start_of, test_of, front_len, PieceStands, single, double, sign_in};
 ghost use Rattle.nesl_lex.specs.declared.token.Word as word;
 ghost use Rattle.nesl_lex.specs.declared.scan.Start.TheVariants as start;
 
@@ -133,8 +133,8 @@ fn front_len(bytes: &[u8], class: ByteClass) -> usize
 // The number that the digits make.
 fn number(digits: &[u8]) -> Option<u64>
     requires { AllBytes is_digit digits.now }
-    ensures some { IfSome result (λ n. (n ≡ value_behind 0 digits.now) × (n < 2 ^ 63)) }
-    ensures none { IfNone result (2 ^ 63 ≤ value_behind 0 digits.now) }
+    ensures some { IfSome result (λ n. (n ≡ with_digits 0 digits.now) × (n < 2 ^ 63)) }
+    ensures none { IfNone result (2 ^ 63 ≤ with_digits 0 digits.now) }
 {
     let mut value = 0;
     for digit in digits {
@@ -270,7 +270,7 @@ fn sign_len(sign: Sign) -> usize
 fn comment(bytes: &[u8]) -> Piece
     requires some { 0 < length bytes.now }
     requires percent { start_of (slice_index bytes.now 0) ≡ start.Comment }
-    ensures { Stands bytes.now result }
+    ensures { PieceStands bytes.now result }
 {
     let rest = &bytes[1..];
     let n = front_len(rest, ByteClass::Comment);
@@ -285,7 +285,7 @@ fn comment(bytes: &[u8]) -> Piece
 fn digits(bytes: &[u8]) -> Piece
     requires some { 0 < length bytes.now }
     requires digit { start_of (slice_index bytes.now 0) ≡ start.Number }
-    ensures { Stands bytes.now result }
+    ensures { PieceStands bytes.now result }
 {
     let n = front_len(bytes, ByteClass::Digit);
     match number(&bytes[..n]) {
@@ -296,7 +296,7 @@ fn digits(bytes: &[u8]) -> Piece
 
 // What a name's text is in small letters: a reserved word, a truth value or a name.
 fn named(text: Vec<u8>) -> Kind
-    ensures { IsNamed text.items (lexeme_of result) }
+    ensures { SpellsName text.items (lexeme_of result) }
 {
     if let Some(word) = word(text.as_slice()) {
         return Kind::Reserved(word);
@@ -311,7 +311,7 @@ fn named(text: Vec<u8>) -> Kind
 fn name(alloc: Global, bytes: &[u8]) -> Result<Piece, AllocError>
     requires some { 0 < length bytes.now }
     requires letter { start_of (slice_index bytes.now 0) ≡ start.Name }
-    ensures { IfOk result (λ piece. Stands bytes.now piece) }
+    ensures { IfOk result (λ piece. PieceStands bytes.now piece) }
 {
     let n = front_len(bytes, ByteClass::NameByte);
     let text = small(alloc, &bytes[..n])?;
@@ -322,7 +322,7 @@ fn name(alloc: Global, bytes: &[u8]) -> Result<Piece, AllocError>
 fn character(bytes: &[u8]) -> Piece
     requires some { 0 < length bytes.now }
     requires backquote { start_of (slice_index bytes.now 0) ≡ start.Character }
-    ensures { Stands bytes.now result }
+    ensures { PieceStands bytes.now result }
 {
     if bytes.len() > 1 && is_printable(bytes[1]) {
         Piece::Token(2, Kind::Character(bytes[1]))
@@ -335,7 +335,7 @@ fn character(bytes: &[u8]) -> Piece
 fn text(alloc: Global, bytes: &[u8]) -> Result<Piece, AllocError>
     requires some { 0 < length bytes.now }
     requires quote { start_of (slice_index bytes.now 0) ≡ start.Text }
-    ensures { IfOk result (λ piece. Stands bytes.now piece) }
+    ensures { IfOk result (λ piece. PieceStands bytes.now piece) }
 {
     let rest = &bytes[1..];
     let n = front_len(rest, ByteClass::Text);
@@ -351,7 +351,7 @@ fn text(alloc: Global, bytes: &[u8]) -> Result<Piece, AllocError>
 fn symbol(bytes: &[u8]) -> Piece
     requires some { 0 < length bytes.now }
     requires other { start_of (slice_index bytes.now 0) ≡ start.Other }
-    ensures { Stands bytes.now result }
+    ensures { PieceStands bytes.now result }
 {
     match sign(bytes) {
         Some(sign) => Piece::Token(sign_len(sign), Kind::Symbol(sign)),
@@ -362,7 +362,7 @@ fn symbol(bytes: &[u8]) -> Piece
 /// What stands at the front.
 pub fn next_piece(alloc: Global, bytes: &[u8]) -> Result<Piece, AllocError>
     requires { 0 < length bytes.now }
-    ensures { IfOk result (λ piece. Stands bytes.now piece) }
+    ensures { IfOk result (λ piece. PieceStands bytes.now piece) }
 {
     match start_of(bytes[0]) {
         Start::Blank => Ok(Piece::Gap(1)),

@@ -5,3 +5,4 @@ pub mod Turns
 pub mod Exchanges
 pub mod Unique
 pub mod Visits
+pub mod Hints

@@ -5,10 +5,10 @@ use Rattle.std.specs.Bool.{MatchBool}
 use Rattle.std.proofs.lemmas.List.{map-append, length-map, length-take}
 use Rattle.std.proofs.lemmas.Grind.{flat_map-append}
 use Rattle.std.specs.Io.KnownBytes.{Appends}
-use Rattle.nesl_line.specs.Lines.{HasNoFeed, handed, most_handed, cut, last_line, AllLines, Splits, WholeLines}
+use Rattle.nesl_line.specs.Lines.{HasNoFeed, handed, most_handed, cut_line, last_line, AllLines, Splits, WholeLines}
 use Rattle.nesl_line.specs.Exchange.{Hearing, text_of, WrittenWhole, WrittenInPart}
 use Rattle.nesl_line.specs.declared.line.Line.{Line}
-use Rattle.nesl_line.specs.Steps.{Sent, Answered, Holds, Progress, Ceased, Finished}
+use Rattle.nesl_line.specs.Steps.{Sent, Answered, HasFront, Progress, Ceased, Finished}
 use Rattle.nesl_line.proofs.Bytes.{splits_more, splits_feed, splits_on, appends_then}
 
 pub text_of-push : (texts : List (List ℕ)) (text : List ℕ) → text_of (texts ++ text ∷ []) ≡ text_of texts ++ text
@@ -35,7 +35,7 @@ went_off A B true m e = absurd (cc)
 went_off A B false m e = m
 
 -- more bytes of a line come
-pub progress_more : (Heard : Hearing) (read more : List ℕ) (line line' : Line) (held held' : Option (List ℕ)) (n : ℕ) → Progress Heard read line held held' n → HasNoFeed more → ((raw : List ℕ) → Holds line raw → Holds line' (raw ++ more))
+pub progress_more : (Heard : Hearing) (read more : List ℕ) (line line' : Line) (held held' : Option (List ℕ)) (n : ℕ) → Progress Heard read line held held' n → HasNoFeed more → ((raw : List ℕ) → HasFront line raw → HasFront line' (raw ++ more))
     → Progress Heard (read ++ more) line' held held' n
 progress_more Heard read more line line' held held' n p none h = record {
   whole = p.whole;
@@ -58,7 +58,7 @@ module _ (Before After : Hearing) (read bytes : List ℕ) (line line' : Line) (h
       let P : List (List ℕ) → Type 0 = λ x. After x (p.texts ++ a.text ∷ []) in
       subst P (ap (λ x. map handed p.whole ++ x ∷ []) same ∙ sym (handed_push p.whole p.raw)) (a.heard (map handed p.whole) p.texts p.heard)
 
-  progress_line : Progress Before read line held held' n → ((raw : List ℕ) → Holds line raw → bytes ≡ handed raw) → Answered Before After bytes held' held'' true → Holds line' [] → Progress After (read ++ 10 ∷ []) line' held held'' (n + 1)
+  progress_line : Progress Before read line held held' n → ((raw : List ℕ) → HasFront line raw → bytes ≡ handed raw) → Answered Before After bytes held' held'' true → HasFront line' [] → Progress After (read ++ 10 ∷ []) line' held held'' (n + 1)
   progress_line p h a e = record {
     whole = p.whole ++ p.raw ∷ [];
     raw = [];
@@ -70,7 +70,7 @@ module _ (Before After : Hearing) (read bytes : List ℕ) (line line' : Line) (h
     counted = omega (arith, p.counted, length-append p.whole (p.raw ∷ []));
   }
 
-  stopped_line : (tail : List ℕ) → Progress Before read line held held' n → ((raw : List ℕ) → Holds line raw → bytes ≡ handed raw) → Answered Before After bytes held' held'' false → Ceased WholeLines WrittenInPart After (read ++ 10 ∷ tail) held held'' (n + 1)
+  stopped_line : (tail : List ℕ) → Progress Before read line held held' n → ((raw : List ℕ) → HasFront line raw → bytes ≡ handed raw) → Answered Before After bytes held' held'' false → Ceased WholeLines WrittenInPart After (read ++ 10 ∷ tail) held held'' (n + 1)
   stopped_line tail p h a =
       let rest = splits_on (read ++ 10 ∷ []) tail (p.whole ++ p.raw ∷ []) [] (splits_feed read p.whole p.raw p.splits) in
       let S : List ℕ → Type 0 = λ x. Splits x ((p.whole ++ p.raw ∷ []) ++ rest.0) rest.1 in
@@ -86,7 +86,7 @@ module _ (Before After : Hearing) (read bytes : List ℕ) (line line' : Line) (h
         counted = omega (arith, p.counted, length-append p.whole (p.raw ∷ []), length-map (p.whole ++ p.raw ∷ []) handed);
       }
 
-  pub line_ended : (well : Bool) → Progress Before read line held held' n → ((raw : List ℕ) → Holds line raw → bytes ≡ handed raw) → Answered Before After bytes held' held'' well → Holds line' []
+  pub line_ended : (well : Bool) → Progress Before read line held held' n → ((raw : List ℕ) → HasFront line raw → bytes ≡ handed raw) → Answered Before After bytes held' held'' well → HasFront line' []
       → MatchBool well (Progress After (read ++ 10 ∷ []) line' held held'' (n + 1)) ((tail : List ℕ) → Ceased WholeLines WrittenInPart After (read ++ 10 ∷ tail) held held'' (n + 1))
   line_ended true p h a e = progress_line p h a e
   line_ended false p h a e = λ tail. stopped_line tail p h a
@@ -111,9 +111,9 @@ last_line_none : (raw : List ℕ) → take most_handed raw ≡ [] → last_line 
 last_line_none [] e = refl
 last_line_none (b ∷ bs) e = absurd (omega (arith, ap length e, length-take most_handed (b ∷ bs)))
 
-last_line_some : (raw : List ℕ) → 0 < length raw → last_line raw ≡ cut raw ∷ []
+last_line_some : (raw : List ℕ) → 0 < length raw → last_line raw ≡ cut_line raw ∷ []
 last_line_some [] h = absurd (omega (arith, h))
-last_line_some (b ∷ bs) h = ap (λ t. cond t [] (cut (b ∷ bs) ∷ [])) (eqb-suc-zero (length bs))
+last_line_some (b ∷ bs) h = ap (λ t. cond t [] (cut_line (b ∷ bs) ∷ [])) (eqb-suc-zero (length bs))
 
 -- nothing is left at the end of input
 pub finished_before : (Heard : Hearing) (read : List ℕ) (line : Line) (held held' : Option (List ℕ)) (n : ℕ) → Progress Heard read line held held' n → line.bytes.items ≡ [] → Finished Heard read held held' n
@@ -130,7 +130,7 @@ finished_before Heard read line held held' n p e = record {
 module _ (Before After : Hearing) (read bytes : List ℕ) (line : Line) (held held' held'' : Option (List ℕ)) (n : ℕ) (p : Progress Before read line held held' n) (b : bytes ≡ line.bytes.items) (some : 0 < length bytes) where
   last_is : map handed p.whole ++ bytes ∷ [] ≡ map handed p.whole ++ last_line p.raw
   last_is =
-      let same : bytes ≡ cut p.raw = b ∙ p.holds.0 in
+      let same : bytes ≡ cut_line p.raw = b ∙ p.holds.0 in
       let raw_some : 0 < length p.raw = omega (arith, some, ap length same, length-take most_handed p.raw) in
       ap (λ x. map handed p.whole ++ x ∷ []) same ∙ ap (λ x. map handed p.whole ++ x) (sym (last_line_some p.raw raw_some))
 

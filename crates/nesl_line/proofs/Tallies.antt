@@ -1,16 +1,16 @@
 -- Counts of what was written.
 use Rattle.std.proofs.Common.{◌≡◌, ℕ, ◌+◌, ◌-◌, ◌^◌, ◌<◌, ◌≤◌, ◌==◌, ◌&&◌, Bool, true, false, nat_lt, refl, sym, ap, ◌∙◌, subst, arith, ◌⊎◌, inl, inr, ⊎_elim, cond, lt-ltb}
 use Rattle.std.proofs.lemmas.Bool.{cases_lt, eqb-true}
-use Rattle.nesl_line.specs.Tally.{WriteTally, counted, Rose, flushed_by, written_by, Blames, ReadTally}
+use Rattle.nesl_line.specs.Tally.{WriteTally, risen_by, Rose, flushed_by, written_by, WriteFailed, ReadTally}
 use Rattle.nesl_line.specs.Steps.{Wrote, Flushed}
 
-pub counted_none : (n : ℕ) → counted 0 n ≡ n
+pub counted_none : (n : ℕ) → risen_by 0 n ≡ n
 counted_none n = omega arith
 
-pub counted_then : (a b n : ℕ) → counted b (counted a n) ≡ counted (a + b) n
+pub counted_then : (a b n : ℕ) → risen_by b (risen_by a n) ≡ risen_by (a + b) n
 counted_then a b n = omega arith
 
-pub rose : (n : ℕ) → Rose n (counted 1 n)
+pub rose : (n : ℕ) → Rose n (risen_by 1 n)
 rose n = ⊎_elim (λ h. inl (omega (arith, h))) (λ h. inr (omega (arith, h))) (cases_lt n (2 ^ 64 - 1))
 
 pub written_none : (t : WriteTally) → t ≡ written_by 0 t
@@ -43,65 +43,65 @@ flushed_then a b t = let behind = left_behind a b t.behind (a == 0) (b == 0) (a 
 -- n flushes, and then what else was counted
 pub flushed_more : (well : Bool) (m n : ℕ) (a b c : WriteTally) → b ≡ flushed_by m a → Flushed well n b c → Flushed well (m + n) a c
 flushed_more true m n a b c e t = t ∙ ap (flushed_by n) e ∙ flushed_then m n a
-flushed_more false m n a b c e t = let P : WriteTally → Type 0 = λ x. Blames x c in subst P e t
+flushed_more false m n a b c e t = let P : WriteTally → Type 0 = λ x. WriteFailed x c in subst P e t
 
 -- a flush leaves nothing behind of what was written before it
 pub flushed_after : (well : Bool) (k : ℕ) (a b c : WriteTally) → b ≡ written_by k a → Flushed well 1 b c → Flushed well 1 a c
 flushed_after true k a b c e t = t ∙ ap (flushed_by 1) e
-flushed_after false k a b c e t = let P : WriteTally → Type 0 = λ x. Blames x c in subst P e t
+flushed_after false k a b c e t = let P : WriteTally → Type 0 = λ x. WriteFailed x c in subst P e t
 
-pub stalled : (a b : WriteTally) → b ≡ record a { stalled = counted 1 a.stalled } → Blames a b
-stalled a b e = let P : WriteTally → Type 0 = λ x. Blames a x in subst P (sym e) (inr (rose a.stalled))
+pub stalled : (a b : WriteTally) → b ≡ record a { stalled = risen_by 1 a.stalled } → WriteFailed a b
+stalled a b e = let P : WriteTally → Type 0 = λ x. WriteFailed a x in subst P (sym e) (inr (rose a.stalled))
 
-pub failed : (a b : WriteTally) → b ≡ record a { failed = counted 1 a.failed } → Blames a b
-failed a b e = let P : WriteTally → Type 0 = λ x. Blames a x in subst P (sym e) (inl (rose a.failed))
+pub failed : (a b : WriteTally) → b ≡ record a { failed = risen_by 1 a.failed } → WriteFailed a b
+failed a b e = let P : WriteTally → Type 0 = λ x. WriteFailed a x in subst P (sym e) (inl (rose a.failed))
 
 -- what a write did to the tally, by how many bytes it took
-took : (m n : ℕ) (a b : WriteTally) (none some : Bool) → (n == 0) ≡ none → nat_lt 0 m ≡ some → b ≡ cond (n == 0 && nat_lt 0 m) (record a { stalled = counted 1 a.stalled }) (written_by n a)
-    → b ≡ cond (none && some) (record a { stalled = counted 1 a.stalled }) (written_by n a)
-took m n a b none some e f t = t ∙ (λ i. cond (e i && f i) (record a { stalled = counted 1 a.stalled }) (written_by n a))
+took : (m n : ℕ) (a b : WriteTally) (none some : Bool) → (n == 0) ≡ none → nat_lt 0 m ≡ some → b ≡ cond (n == 0 && nat_lt 0 m) (record a { stalled = risen_by 1 a.stalled }) (written_by n a)
+    → b ≡ cond (none && some) (record a { stalled = risen_by 1 a.stalled }) (written_by n a)
+took m n a b none some e f t = t ∙ (λ i. cond (e i && f i) (record a { stalled = risen_by 1 a.stalled }) (written_by n a))
 
 none_of : (n : ℕ) (b : Bool) → (n == 0) ≡ b → (n ≡ 0 → ⊥) → b ≡ false
 none_of n true e h = absurd (h (eqb-true n 0 e))
 none_of n false e h = refl
 
-pub took_some : (m n : ℕ) (a b : WriteTally) → (n ≡ 0 → ⊥) → b ≡ cond (n == 0 && nat_lt 0 m) (record a { stalled = counted 1 a.stalled }) (written_by n a) → b ≡ written_by n a
+pub took_some : (m n : ℕ) (a b : WriteTally) → (n ≡ 0 → ⊥) → b ≡ cond (n == 0 && nat_lt 0 m) (record a { stalled = risen_by 1 a.stalled }) (written_by n a) → b ≡ written_by n a
 took_some m n a b h t = took m n a b false (nat_lt 0 m) (none_of n (n == 0) refl h) refl t
 
-pub took_none : (m n : ℕ) (a b : WriteTally) → n ≡ 0 → 0 < m → b ≡ cond (n == 0 && nat_lt 0 m) (record a { stalled = counted 1 a.stalled }) (written_by n a) → Blames a b
+pub took_none : (m n : ℕ) (a b : WriteTally) → n ≡ 0 → 0 < m → b ≡ cond (n == 0 && nat_lt 0 m) (record a { stalled = risen_by 1 a.stalled }) (written_by n a) → WriteFailed a b
 took_none m n a b e h t = stalled a b (took m n a b true true (ap (λ k. k == 0) e) (lt-ltb 0 m h) t)
 
 -- something was written, and then something failed
-pub blamed_after : (k : ℕ) (a b c : WriteTally) → b ≡ written_by k a → Blames b c → Blames a c
-blamed_after k a b c e t = let P : WriteTally → Type 0 = λ x. Blames x c in subst P e t
+pub blamed_after : (k : ℕ) (a b c : WriteTally) → b ≡ written_by k a → WriteFailed b c → WriteFailed a c
+blamed_after k a b c e t = let P : WriteTally → Type 0 = λ x. WriteFailed x c in subst P e t
 
 -- so many reads were made, and none of them failed
 abbrev pub ReadsMade : ℕ → ReadTally → ReadTally → Type 0
-ReadsMade k old new = new ≡ record { made = counted k old.made; failed = old.failed }
+ReadsMade k old new = new ≡ record { made = risen_by k old.made; failed = old.failed }
 
 pub made_none : (t : ReadTally) → ReadsMade 0 t t
 made_none t = ap (λ n. record t { made = n }) (sym (counted_none t.made))
 
-pub made_more : (k : ℕ) (old now new : ReadTally) → ReadsMade k old now → new ≡ record now { made = counted 1 now.made } → ReadsMade (k + 1) old new
-made_more k old now new e t = t ∙ ap (λ (x : ReadTally). record x { made = counted 1 x.made }) e ∙ ap (λ n. record { made = n; failed = old.failed }) (counted_then k 1 old.made)
+pub made_more : (k : ℕ) (old now new : ReadTally) → ReadsMade k old now → new ≡ record now { made = risen_by 1 now.made } → ReadsMade (k + 1) old new
+made_more k old now new e t = t ∙ ap (λ (x : ReadTally). record x { made = risen_by 1 x.made }) e ∙ ap (λ n. record { made = n; failed = old.failed }) (counted_then k 1 old.made)
 
-counted_most : (k n : ℕ) → counted k n ≤ n + k
+counted_most : (k n : ℕ) → risen_by k n ≤ n + k
 counted_most k n = omega arith
 
 pub made_few : (k : ℕ) (old new : ReadTally) → ReadsMade k old new → k ≤ 2 ^ 32 → (new.made ≤ old.made + 2 ^ 32) × (new.failed ≡ old.failed)
 made_few k old new e h =
-    let made : new.made ≡ counted k old.made = ap (λ (x : ReadTally). x.made) e in
+    let made : new.made ≡ risen_by k old.made = ap (λ (x : ReadTally). x.made) e in
     (omega (arith, made, counted_most k old.made, h), ap (λ (x : ReadTally). x.failed) e)
 
-pub made_failed : (k : ℕ) (old now new : ReadTally) → ReadsMade k old now → new ≡ record now { made = counted 1 now.made; failed = counted 1 now.failed } → k < 2 ^ 32
-    → (new.made ≤ old.made + 2 ^ 32) × (Rose old.failed new.failed ⊎ (new.made ≡ counted (2 ^ 32) old.made))
+pub made_failed : (k : ℕ) (old now new : ReadTally) → ReadsMade k old now → new ≡ record now { made = risen_by 1 now.made; failed = risen_by 1 now.failed } → k < 2 ^ 32
+    → (new.made ≤ old.made + 2 ^ 32) × (Rose old.failed new.failed ⊎ (new.made ≡ risen_by (2 ^ 32) old.made))
 made_failed k old now new e t h =
-    let made : new.made ≡ counted 1 now.made = ap (λ (x : ReadTally). x.made) t in
-    let was : now.made ≡ counted k old.made = ap (λ (x : ReadTally). x.made) e in
+    let made : new.made ≡ risen_by 1 now.made = ap (λ (x : ReadTally). x.made) t in
+    let was : now.made ≡ risen_by k old.made = ap (λ (x : ReadTally). x.made) e in
     let few : new.made ≤ old.made + 2 ^ 32 = omega (arith, made, was, counted_most 1 now.made, counted_most k old.made, h) in
-    let failed' : new.failed ≡ counted 1 old.failed = ap (λ (x : ReadTally). x.failed) t ∙ ap (λ (x : ReadTally). counted 1 x.failed) e in
+    let failed' : new.failed ≡ risen_by 1 old.failed = ap (λ (x : ReadTally). x.failed) t ∙ ap (λ (x : ReadTally). risen_by 1 x.failed) e in
     let P : ℕ → Type 0 = λ x. Rose old.failed x in
     (few, inl (subst P (sym failed') (rose old.failed)))
 
-pub made_all : (k : ℕ) (old new : ReadTally) → ReadsMade k old new → k ≡ 2 ^ 32 → (new.made ≤ old.made + 2 ^ 32) × (Rose old.failed new.failed ⊎ (new.made ≡ counted (2 ^ 32) old.made))
-made_all k old new e h = ((made_few k old new e (omega arith)).0, inr (ap (λ (x : ReadTally). x.made) e ∙ ap (λ n. counted n old.made) h))
+pub made_all : (k : ℕ) (old new : ReadTally) → ReadsMade k old new → k ≡ 2 ^ 32 → (new.made ≤ old.made + 2 ^ 32) × (Rose old.failed new.failed ⊎ (new.made ≡ risen_by (2 ^ 32) old.made))
+made_all k old new e h = ((made_few k old new e (omega arith)).0, inr (ap (λ (x : ReadTally). x.made) e ∙ ap (λ n. risen_by n old.made) h))

@@ -6,14 +6,14 @@ use Rattle.std.specs.Str.{bytes_eq}
 use Rattle.std.proofs.lemmas.Slice.Eq.{bytes_eq-Decides}
 use Rattle.std.specs.Option.{option_map, is_some}
 use Rattle.nesl_session_step.specs.State.{Log}
-use Rattle.nesl_session_step.specs.Response.{Response, no_user}
-use Rattle.nesl_house.specs.Script.{Event, kept}
+use Rattle.nesl_session_step.specs.Response.{Reply, no_user}
+use Rattle.nesl_house.specs.Script.{Event, kept_events}
 use Rattle.nesl_house.specs.Laws.{ScriptsFollow}
 use Rattle.nesl_house.specs.Runs.{Account, roster_of, session_of, AllReplay, Runs}
 use Rattle.nesl_house.proofs.Alones.{stays_none, was_none, runs_none}
 use Rattle.nesl_line.specs.Lines.{with_feed}
-use Rattle.nesl_line.specs.Conversation.{IsUserLine, NamesNobody, Turn, selects, stranger, nobody, says, Conversation, silence, goes_on, Talked}
-use Rattle.nesl_line.specs.Steps.{chosen, NamesFit, Turns}
+use Rattle.nesl_line.specs.Conversation.{IsUserLine, NamesNobody, Turn, selects, stranger, nobody, says, Conversation, silence, goes_on, HouseConversation}
+use Rattle.nesl_line.specs.Steps.{chosen, NamesFit, TurnsHouse}
 
 pub missed : {T U : Type 0} (f : T → U) (o : Option T) (x : Option U) (b : Bool) → option_map f o ≡ x → is_some o ≡ not b → b ≡ true → x ≡ None
 missed f None x b e i t = sym e
@@ -34,11 +34,11 @@ silent : (house start : List Account) (before : List Event) → Runs start befor
 silent house start before r = let P : List Event → Type 0 = λ x. Runs start x house in subst P (sym (append-nil before)) r
 
 -- a stranger is told `fault user`
-pub told_no_user : (house house' : List Account) (who who' : Option (List ℕ)) (line : List ℕ) (reply : Response) → reply ≡ no_user → Turns house house' who who' line no_user.bytes → Turns house house' who who' line reply.bytes
-told_no_user house house' who who' line reply e t = let P : Response → Type 0 = λ x. Turns house house' who who' line x.bytes in subst P (sym e) t
+pub told_no_user : (house house' : List Account) (who who' : Option (List ℕ)) (line : List ℕ) (reply : Reply) → reply ≡ no_user → TurnsHouse house house' who who' line no_user.bytes → TurnsHouse house house' who who' line reply.bytes
+told_no_user house house' who who' line reply e t = let P : Reply → Type 0 = λ x. TurnsHouse house house' who who' line x.bytes in subst P (sym e) t
 
 -- a user line of a stranger
-pub turns_stranger : (house : List Account) (who : Option (List ℕ)) (items line name : List ℕ) → IsUserLine line name → session_of house name ≡ None → items ≡ [] → Turns house house who (chosen items) line no_user.bytes
+pub turns_stranger : (house : List Account) (who : Option (List ℕ)) (items line name : List ℕ) → IsUserLine line name → session_of house name ≡ None → items ≡ [] → TurnsHouse house house who (chosen items) line no_user.bytes
 turns_stranger house who items line name u n e = record {
   events = [];
   turn = let P : Option (List ℕ) → Type 0 = λ x. Turn house who line no_user.bytes [] x in subst P (sym (ap chosen e)) (stranger name u n);
@@ -46,7 +46,7 @@ turns_stranger house who items line name u n e = record {
 }
 
 -- a line while nobody is selected
-pub turns_nobody : (house : List Account) (items line : List ℕ) → NamesNobody line → items ≡ [] → Turns house house (chosen items) (chosen items) line no_user.bytes
+pub turns_nobody : (house : List Account) (items line : List ℕ) → NamesNobody line → items ≡ [] → TurnsHouse house house (chosen items) (chosen items) line no_user.bytes
 turns_nobody house items line u e = record {
   events = [];
   turn = let P : Option (List ℕ) → Type 0 = λ x. Turn house (chosen items) line no_user.bytes [] x in subst P (sym (ap chosen e)) (nobody u (ap chosen e));
@@ -54,7 +54,7 @@ turns_nobody house items line u e = record {
 }
 
 -- a user line of a user of the house
-pub turns_user : (house : List Account) (who : Option (List ℕ)) (items line name : List ℕ) → IsUserLine line name → session_of house name ≢ None → items ≡ name → Turns house house who (chosen items) line (with_feed line)
+pub turns_user : (house : List Account) (who : Option (List ℕ)) (items line name : List ℕ) → IsUserLine line name → session_of house name ≢ None → items ≡ name → TurnsHouse house house who (chosen items) line (with_feed line)
 turns_user house who items line name u n e = record {
   events = [];
   turn = let P : Option (List ℕ) → Type 0 = λ x. Turn house who line (with_feed line) [] x in subst P (sym (ap chosen e ∙ chosen_some name u.some)) (selects name u n);
@@ -62,8 +62,8 @@ turns_user house who items line name u n e = record {
 }
 
 -- a line while a user is selected
-pub turns_says : ScriptsFollow → (house house' : List Account) (items user line : List ℕ) (reply : Response) → NamesNobody line → 0 < length items → user ≡ items → Runs house (record { user = user; line = line; reply = reply } ∷ []) house'
-    → Turns house house' (chosen items) (chosen items) line reply.bytes
+pub turns_says : ScriptsFollow → (house house' : List Account) (items user line : List ℕ) (reply : Reply) → NamesNobody line → 0 < length items → user ≡ items → Runs house (record { user = user; line = line; reply = reply } ∷ []) house'
+    → TurnsHouse house house' (chosen items) (chosen items) line reply.bytes
 turns_says follow house house' items user line reply u h e r = record {
   events = record { user = items; line = line; reply = reply } ∷ [];
   turn =
@@ -76,8 +76,8 @@ turns_says follow house house' items user line reply u h e r = record {
 
 -- a house has the same users after a run, so a turn there is one at the start
 turn_first : (start house : List Account) (before : List Event) (who who' : Option (List ℕ)) (line text : List ℕ) (events : List Event) → Runs start before house → Turn house who line text events who' → Turn start who line text events who'
-turn_first start house before who who' line text events r (selects name u n) = selects name u (λ e. n (stays_none (session_of start name) (session_of house name) (kept name before) (r.users name) e))
-turn_first start house before who who' line text events r (stranger name u n) = stranger name u (was_none (session_of start name) (session_of house name) (kept name before) (r.users name) n)
+turn_first start house before who who' line text events r (selects name u n) = selects name u (λ e. n (stays_none (session_of start name) (session_of house name) (kept_events name before) (r.users name) e))
+turn_first start house before who who' line text events r (stranger name u n) = stranger name u (was_none (session_of start name) (session_of house name) (kept_events name before) (r.users name) n)
 turn_first start house before who who' line text events r (nobody u e) = nobody u e
 turn_first start house before who who' line text events r (says user reply u e) = says user reply u e
 
@@ -92,8 +92,8 @@ conversation_more house who mid next lines texts events more line text (goes_on 
     subst P (sym (append_assoc said rest more)) (goes_on one two next first told (others ++ line ∷ []) (answers ++ text ∷ []) said (rest ++ more) s (conversation_more house two last next others answers rest more line text c t))
 
 -- one line more was heard
-pub talked_more : (start house house' : List Account) (who who' : Option (List ℕ)) (lines texts : List (List ℕ)) (line text : List ℕ) → Turns house house' who who' line text → Talked start lines texts who house
-    → Talked start (lines ++ line ∷ []) (texts ++ text ∷ []) who' house'
+pub talked_more : (start house house' : List Account) (who who' : Option (List ℕ)) (lines texts : List (List ℕ)) (line text : List ℕ) → TurnsHouse house house' who who' line text → HouseConversation start lines texts who house
+    → HouseConversation start (lines ++ line ∷ []) (texts ++ text ∷ []) who' house'
 talked_more start house house' who who' lines texts line text a t = record {
   events = t.events ++ a.events;
   said = conversation_more start None who who' lines texts t.events a.events line text t.said (turn_first start house t.events who who' line text a.events t.runs a.turn);
@@ -101,9 +101,9 @@ talked_more start house house' who who' lines texts line text a t = record {
 }
 
 -- nothing was heard yet
-pub talked_none : (house : List Account) (items : List ℕ) → AllReplay house → items ≡ [] → Talked house [] [] (chosen items) house
+pub talked_none : (house : List Account) (items : List ℕ) → AllReplay house → items ≡ [] → HouseConversation house [] [] (chosen items) house
 talked_none house items all e =
-    let P : Option (List ℕ) → Type 0 = λ x. Talked house [] [] x house in
+    let P : Option (List ℕ) → Type 0 = λ x. HouseConversation house [] [] x house in
     subst P (sym (ap chosen e)) (record { events = []; said = silence None; runs = runs_none house all })
 
 pub emptied : (items : List ℕ) (n : ℕ) (b : Bool) → n ≡ length items → b ≡ (n == 0) → b ≡ true → items ≡ []

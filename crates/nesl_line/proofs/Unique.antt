@@ -5,7 +5,7 @@ use Rattle.std.specs.List.{AllByRecursion}
 use Rattle.std.specs.Str.{bytes_eq}
 use Rattle.std.proofs.lemmas.List.{map-append}
 use Rattle.nesl_session_step.specs.State.{Log}
-use Rattle.nesl_session_step.specs.Response.{Response}
+use Rattle.nesl_session_step.specs.Response.{Reply}
 use Rattle.nesl_house.specs.Script.{Event, replies_of}
 use Rattle.nesl_house.specs.Runs.{Account, roster_of, session_of}
 use Rattle.nesl_line.specs.Lines.{HasNoFeed, with_feed, Splits, handed, last_line, AllLines, WholeLines}
@@ -69,10 +69,10 @@ one_name : (line n m : List ℕ) → IsUserLine line n → IsUserLine line m →
 one_name line n m a b = let e = sym a.spelled ∙ b.spelled in cc
 
 -- One line has one turn, up to the session's reply.
-abbrev Same : List ℕ → List ℕ → List Event → List Event → Option (List ℕ) → Option (List ℕ) → List Response → List Response → Type 0
+abbrev Same : List ℕ → List ℕ → List Event → List Event → Option (List ℕ) → Option (List ℕ) → List Reply → List Reply → Type 0
 Same text told events said next then rest more = (text ≡ told) × (events ≡ said) × (next ≡ then) × (rest ≡ more)
 
-turn_one : (house other : List Account) (who : Option (List ℕ)) (line text told : List ℕ) (events said : List Event) (next then : Option (List ℕ)) (rest more : List Response) → roster_of house ≡ roster_of other → Turn house who line text events next → Turn other who line told said then
+turn_one : (house other : List Account) (who : Option (List ℕ)) (line text told : List ℕ) (events said : List Event) (next then : Option (List ℕ)) (rest more : List Reply) → roster_of house ≡ roster_of other → Turn house who line text events next → Turn other who line told said then
     → replies_of events ++ rest ≡ replies_of said ++ more → Same text told events said next then rest more
 turn_one house other who line text told events said next then rest more r (selects n u f) (selects m v g) e = let same = one_name line n m u v in (refl, refl, ap (λ x. Some x) same, e)
 turn_one house other who line text told events said next then rest more r (selects n u f) (stranger m v g) e =
@@ -100,7 +100,7 @@ turn_one house other who line text told events said next then rest more r (says 
     let user : n ≡ m = cc in
     let same : q ≡ reply = cc in
     let others : rest ≡ more = cc in
-    (ap (λ (x : Response). x.bytes) same, λ i. record { user = user i; line = line; reply = same i } ∷ [], ap (λ x. Some x) user, others)
+    (ap (λ (x : Reply). x.bytes) same, λ i. record { user = user i; line = line; reply = same i } ∷ [], ap (λ x. Some x) user, others)
 
 pub conversation_one : (house other : List Account) (who last final : Option (List ℕ)) (lines texts others : List (List ℕ)) (events said : List Event) → roster_of house ≡ roster_of other → Conversation house who lines texts events last → Conversation other who lines others said final
     → replies_of events ≡ replies_of said → (texts ≡ others) × (events ≡ said) × (last ≡ final)

@@ -8,14 +8,14 @@ use Rattle.std.proofs.lemmas.Slice.Eq.{bytes_eq-Decides}
 use Rattle.std.proofs.lemmas.List.{map-append}
 use Rattle.std.proofs.lemmas.List.Sums.{sum_by_push}
 use Rattle.nesl_session_step.specs.declared.limits.Limits.{Limits}
-use Rattle.nesl_session_step.specs.State.{State, Log, told_lines}
-use Rattle.nesl_session_step.specs.Response.{Response, no_memory, is_memory}
-use Rattle.nesl_session_step.specs.Solo.{Replays, Alone, Responds}
-use Rattle.nesl_session_step.specs.Laws.{GoesOn, ToldLinesGrow}
+use Rattle.nesl_session_step.specs.State.{State, Log, recorded_lines}
+use Rattle.nesl_session_step.specs.Response.{Reply, no_memory, is_memory}
+use Rattle.nesl_session_step.specs.Solo.{Replays, SessionAnswers, Responds}
+use Rattle.nesl_session_step.specs.Laws.{GoesOn, RecordedLinesGrow}
 use Rattle.nesl_house.specs.declared.lease.Receipt.{Receipt}
 use Rattle.nesl_house.specs.Register.{Leased, Register}
 use Rattle.nesl_house.specs.Roster.{place_of}
-use Rattle.nesl_house.specs.Script.{Event, lines_of, replies_of, kept}
+use Rattle.nesl_house.specs.Script.{Event, lines_of, replies_of, kept_events}
 use Rattle.nesl_house.proofs.Alones.{kept-append}
 use Rattle.nesl_line.specs.declared.exchange.End.{End}
 use Rattle.nesl_line.specs.declared.guest.Stage.{Stage}
@@ -23,12 +23,12 @@ use Rattle.nesl_line.specs.declared.guest.Stage.TheVariants.{Waiting, Seated, Ov
 use Rattle.nesl_line.specs.Lines.{with_feed}
 use Rattle.nesl_line.specs.Conversation.{IsUserLine}
 use Rattle.nesl_line.specs.Exchange.{Hearing, IsExchange}
-use Rattle.nesl_line.specs.Guest.{NamesPlace, NothingCame, TurnedAway, Refuses, recorded_among, Visits}
+use Rattle.nesl_line.specs.Guest.{NamesPlace, NothingCame, TurnedAway, RefusesSeat, recorded_among, Visits}
 use Rattle.nesl_line.specs.Serve.{IsServed}
-use Rattle.nesl_line.specs.Visiting.{IsSeated, HeardAt, is_over, Says, Gives}
+use Rattle.nesl_line.specs.Visiting.{IsSeated, HeardAt, is_over, SessionAnswersLine, HasReceipt}
 
 -- a user is seated
-pub seated_first : (roster : List (List ℕ)) (limits : Limits) (lease : Leased) (line user : List ℕ) → IsUserLine line user → place_of roster user ≡ Some lease.seat.place → lease.seat.session.limits ≡ limits → lease.counted ≡ told_lines lease.seat.session → (s : State) × Replays lease.seat.session s
+pub seated_first : (roster : List (List ℕ)) (limits : Limits) (lease : Leased) (line user : List ℕ) → IsUserLine line user → place_of roster user ≡ Some lease.seat.place → lease.seat.session.limits ≡ limits → lease.counted ≡ recorded_lines lease.seat.session → (s : State) × Replays lease.seat.session s
     → IsSeated roster limits lease (line ∷ []) (with_feed line ∷ [])
 seated_first roster limits lease line user u p l c r = (
   lease.seat.session,
@@ -54,31 +54,31 @@ all_push : {X : Type 0} (P : X → Type 0) (xs : List X) (x : X) → AllByRecurs
 all_push P [] x a p = (p, tt)
 all_push P (y ∷ ys) x a p = (a.0, all_push P ys x a.1 p)
 
-told_memory : (memory : Bool) (reply : Response) (old new : Log) (P : Type 0) → MatchBool memory ((reply ≡ no_memory) × (new ≡ old)) P → memory ≡ true → reply ≡ no_memory
+told_memory : (memory : Bool) (reply : Reply) (old new : Log) (P : Type 0) → MatchBool memory ((reply ≡ no_memory) × (new ≡ old)) P → memory ≡ true → reply ≡ no_memory
 told_memory true reply old new P a h = a.0
 told_memory false reply old new P a h = absurd (cc)
 
 -- of one line it is kept, unless it was refused for want of memory
-kept_one : (e : Event) (memory : Bool) → is_memory e.reply ≡ memory → kept e.user (e ∷ []) ≡ cond (not memory) (e ∷ []) []
+kept_one : (e : Event) (memory : Bool) → is_memory e.reply ≡ memory → kept_events e.user (e ∷ []) ≡ cond (not memory) (e ∷ []) []
 kept_one e memory m =
     ap (λ b. filter (λ (x : Event). not (is_memory x.reply)) (cond b (e ∷ []) [])) ((bytes_eq-Decides e.user e.user).1 refl) ∙ ap (λ b. cond (not b) (e ∷ []) []) m
 
 -- the session goes on alone
-alone_push : GoesOn → (had log log' : Log) (es : List Event) (e : Event) (memory : Bool) → Alone had (lines_of es) (replies_of es) log → MatchBool memory ((e.reply ≡ no_memory) × (log' ≡ log)) (Alone log (e.line ∷ []) (e.reply ∷ []) log')
-    → Alone had (lines_of (es ++ cond (not memory) (e ∷ []) [])) (replies_of (es ++ cond (not memory) (e ∷ []) [])) log'
+alone_push : GoesOn → (had log log' : Log) (es : List Event) (e : Event) (memory : Bool) → SessionAnswers had (lines_of es) (replies_of es) log → MatchBool memory ((e.reply ≡ no_memory) × (log' ≡ log)) (SessionAnswers log (e.line ∷ []) (e.reply ∷ []) log')
+    → SessionAnswers had (lines_of (es ++ cond (not memory) (e ∷ []) [])) (replies_of (es ++ cond (not memory) (e ∷ []) [])) log'
 alone_push goes_on had log log' es e true a r =
-    let P : List Event → Type 0 = λ x. Alone had (lines_of x) (replies_of x) log' in
-    let Q : Log → Type 0 = λ x. Alone had (lines_of es) (replies_of es) x in
+    let P : List Event → Type 0 = λ x. SessionAnswers had (lines_of x) (replies_of x) log' in
+    let Q : Log → Type 0 = λ x. SessionAnswers had (lines_of es) (replies_of es) x in
     subst P (sym (append-nil es)) (subst Q (sym r.1) a)
 alone_push goes_on had log log' es e false a r =
     let both = goes_on had log log' (lines_of es) (e.line ∷ []) (replies_of es) (e.reply ∷ []) a r in
-    let P : List (List ℕ) → Type 0 = λ x. Alone had x (replies_of es ++ e.reply ∷ []) log' in
-    let Q : List Response → Type 0 = λ x. Alone had (lines_of (es ++ e ∷ [])) x log' in
+    let P : List (List ℕ) → Type 0 = λ x. SessionAnswers had x (replies_of es ++ e.reply ∷ []) log' in
+    let Q : List Reply → Type 0 = λ x. SessionAnswers had (lines_of (es ++ e ∷ [])) x log' in
     subst Q (sym (map-append (λ (x : Event). x.reply) es (e ∷ []))) (subst P (sym (map-append (λ (x : Event). x.line) es (e ∷ []))) both)
 
-module _ (roster : List (List ℕ)) (limits : Limits) (lease : Leased) (after : Leased × Response) (lines texts : List (List ℕ)) (line : List ℕ) where
+module _ (roster : List (List ℕ)) (limits : Limits) (lease : Leased) (after : Leased × Reply) (lines texts : List (List ℕ)) (line : List ℕ) where
   -- the user says a line more
-  pub seated_more : GoesOn → ToldLinesGrow → IsSeated roster limits lease lines texts → Says lease line after → IsSeated roster limits after.0 (lines ++ line ∷ []) (texts ++ after.1.bytes ∷ [])
+  pub seated_more : GoesOn → RecordedLinesGrow → IsSeated roster limits lease lines texts → SessionAnswersLine lease line after → IsSeated roster limits after.0 (lines ++ line ∷ []) (texts ++ after.1.bytes ∷ [])
   seated_more goes_on grow s a =
       let log = lease.seat.session in
       let log' = after.0.seat.session in
@@ -90,13 +90,13 @@ module _ (roster : List (List ℕ)) (limits : Limits) (lease : Leased) (after : 
       let user = v.names.user in
       let e : Event = record { user = user; line = line; reply = reply } in
       let es = v.script in
-      let Bytes : List Response → List (List ℕ) = λ x. map (λ (a : Response). a.bytes) x in
+      let Bytes : List Reply → List (List ℕ) = λ x. map (λ (a : Reply). a.bytes) x in
       let replies : replies_of (es ++ e ∷ []) ≡ replies_of es ++ reply ∷ [] = map-append (λ (x : Event). x.reply) es (e ∷ []) in
       let said : lines_of (es ++ e ∷ []) ≡ lines_of es ++ line ∷ [] = map-append (λ (x : Event). x.line) es (e ∷ []) in
-      let told : Bytes (replies_of (es ++ e ∷ [])) ≡ Bytes (replies_of es) ++ reply.bytes ∷ [] = ap Bytes replies ∙ map-append (λ (a : Response). a.bytes) (replies_of es) (reply ∷ []) in
-      let counts : recorded_among (replies_of (es ++ e ∷ [])) ≡ recorded_among (replies_of es) + cond reply.recorded 1 0 = ap recorded_among replies ∙ sum_by_push (λ (a : Response). cond a.recorded 1 0) (replies_of es) reply in
-      let one : kept user (es ++ e ∷ []) ≡ kept user es ++ cond (not (is_memory reply)) (e ∷ []) [] = kept-append user es (e ∷ []) ∙ ap (λ x. kept user es ++ x) (kept_one e (is_memory reply) refl) in
-      let P : List Event → Type 0 = λ x. Alone had (lines_of x) (replies_of x) log' in
+      let told : Bytes (replies_of (es ++ e ∷ [])) ≡ Bytes (replies_of es) ++ reply.bytes ∷ [] = ap Bytes replies ∙ map-append (λ (a : Reply). a.bytes) (replies_of es) (reply ∷ []) in
+      let counts : recorded_among (replies_of (es ++ e ∷ [])) ≡ recorded_among (replies_of es) + cond reply.recorded 1 0 = ap recorded_among replies ∙ sum_by_push (λ (a : Reply). cond a.recorded 1 0) (replies_of es) reply in
+      let one : kept_events user (es ++ e ∷ []) ≡ kept_events user es ++ cond (not (is_memory reply)) (e ∷ []) [] = kept-append user es (e ∷ []) ∙ ap (λ x. kept_events user es ++ x) (kept_one e (is_memory reply) refl) in
+      let P : List Event → Type 0 = λ x. SessionAnswers had (lines_of x) (replies_of x) log' in
       let V : ℕ → Type 0 = λ p. Visits roster limits p (recorded + cond reply.recorded 1 0) had log' (lines ++ line ∷ []) (texts ++ reply.bytes ∷ []) in (
         had,
         recorded + cond reply.recorded 1 0,
@@ -110,7 +110,7 @@ module _ (roster : List (List ℕ)) (limits : Limits) (lease : Leased) (after : 
           own = all_push (λ (x : Event). x.user ≡ user) es e v.own refl;
           memory = all_push (λ (x : Event). is_memory x.reply ≡ true → x.reply ≡ no_memory) es e v.memory (told_memory (is_memory reply) reply log log' _ r);
           limits_are = v.limits_are;
-          alone = subst P (sym one) (alone_push goes_on had log log' (kept user es) e (is_memory reply) v.alone r);
+          alone = subst P (sym one) (alone_push goes_on had log log' (kept_events user es) e (is_memory reply) v.alone r);
           recorded_are = ap (λ n. n + cond reply.recorded 1 0) v.recorded_are ∙ sym counts;
           grown = omega (arith, grow log log' line reply r, v.grown);
         }),
@@ -131,7 +131,7 @@ heard_as Heard Other over end count left left' held held' x other = record {
 }
 
 -- an exchange of one user, at its end
-pub served_by : (roster : List (List ℕ)) (limits : Limits) (stage : Stage) (receipt : Option Receipt) (end : End) (count : ℕ) (left left' held held' : Option (List ℕ)) → Gives stage receipt → IsExchange (HeardAt roster limits stage) (is_over stage) end count left left' held held'
+pub served_by : (roster : List (List ℕ)) (limits : Limits) (stage : Stage) (receipt : Option Receipt) (end : End) (count : ℕ) (left left' held held' : Option (List ℕ)) → HasReceipt stage receipt → IsExchange (HeardAt roster limits stage) (is_over stage) end count left left' held held'
     → IsServed roster limits receipt end count left left' held held'
 served_by roster limits Waiting None end count left left' held held' g x = inl x
 served_by roster limits Waiting (Some receipt) end count left left' held held' g x = absurd (cc)
@@ -148,7 +148,7 @@ served_by roster limits (Seated lease) (Some receipt) end count left left' held 
     (had, lease.seat.session, heard_as Heard (Visits roster limits receipt.place receipt.recorded had lease.seat.session) false end count left left' held held' x (subst Q (sym g.0) (subst P same x.heard.3)))
 
 -- the same of a guest, whose table is that of the beginning
-pub served_at : (table first now : Register) (stage : Stage) (receipt : Option Receipt) (end : End) (count : ℕ) (left left' held held' : Option (List ℕ)) → first ≡ table → Gives stage receipt
+pub served_at : (table first now : Register) (stage : Stage) (receipt : Option Receipt) (end : End) (count : ℕ) (left left' held held' : Option (List ℕ)) → first ≡ table → HasReceipt stage receipt
     → IsExchange (λ lines texts. (now ≡ first) × HeardAt first.roster first.limits stage lines texts) (is_over stage) end count left left' held held' → IsServed table.roster table.limits receipt end count left left' held held'
 served_at table first now stage receipt end count left left' held held' e g x =
     let P : Register → Type 0 = λ t. IsServed t.roster t.limits receipt end count left left' held held' in
@@ -156,8 +156,8 @@ served_at table first now stage receipt end count left left' held held' e g x =
     subst P e (served_by first.roster first.limits stage receipt end count left left' held held' g (heard_as Before (HeardAt first.roster first.limits stage) (is_over stage) end count left left' held held' x x.heard.1))
 
 -- nobody was seated, and this is told of it
-pub turned_away : (roster : List (List ℕ)) (line : List ℕ) (reply told : Response) → told ≡ reply → Refuses roster line reply → TurnedAway roster (line ∷ []) (told.bytes ∷ [])
-turned_away roster line reply told e r = record { line = line; reply = reply; refuses = r; came = refl; told = ap (λ (x : Response). x.bytes ∷ []) e }
+pub turned_away : (roster : List (List ℕ)) (line : List ℕ) (reply told : Reply) → told ≡ reply → RefusesSeat roster line reply → TurnedAway roster (line ∷ []) (told.bytes ∷ [])
+turned_away roster line reply told e r = record { line = line; reply = reply; refuses = r; came = refl; told = ap (λ (x : Reply). x.bytes ∷ []) e }
 
 pub names_none : (roster : List (List ℕ)) (line user : List ℕ) → IsUserLine line user → place_of roster user ≡ None → (place : ℕ) → NamesPlace roster line place → ⊥
 names_none roster line user u none place n =

@@ -2,20 +2,20 @@
 use Rattle.std.specs.Prelude.{◌≡◌, ◌≢◌, ℕ, ◌<◌, List, [], ◌∷◌, ◌++◌, Option, Some, None, Bool, true, ◌||◌, ◌&&◌}
 use Rattle.std.specs.Prelude.{length, codes, nat_le}
 use Rattle.std.specs.List.{AllByRecursion}
-use Rattle.nesl_session_step.specs.Response.{Response, no_user}
+use Rattle.nesl_session_step.specs.Response.{Reply, no_user}
 use Rattle.nesl_house.specs.Script.{Event}
 use Rattle.nesl_house.specs.Runs.{Account, session_of, Runs}
 use Rattle.nesl_line.specs.Lines.{with_feed}
 
 -- a to z, or 0 to 9
-abbrev pub is_name_byte : ℕ → Bool
-is_name_byte b = nat_le 97 b && nat_le b 122 || nat_le 48 b && nat_le b 57
+abbrev pub is_user_name_byte : ℕ → Bool
+is_user_name_byte b = nat_le 97 b && nat_le b 122 || nat_le 48 b && nat_le b 57
 
 -- a user line: `user`, one space, a name of letters and digits, and nothing else
 pub record IsUserLine (line name : List ℕ) : Type 0 where
   pub spelled : line ≡ codes "user " ++ name
   pub some : 0 < length name
-  pub bytes : AllByRecursion (λ b. is_name_byte b ≡ true) name
+  pub bytes : AllByRecursion (λ b. is_user_name_byte b ≡ true) name
 
 -- this is no user line
 abbrev pub NamesNobody : List ℕ → Type 0
@@ -34,7 +34,7 @@ pub data Turn (house : List Account) (who : Option (List ℕ)) (line : List ℕ)
       (name : List ℕ) → IsUserLine line name → session_of house name ≡ None → Turn house who line no_user.bytes [] None
   nobody : NamesNobody line → who ≡ None → Turn house who line no_user.bytes [] None
   says :
-      (user : List ℕ) (reply : Response) → NamesNobody line → who ≡ Some user
+      (user : List ℕ) (reply : Reply) → NamesNobody line → who ≡ Some user
       → Turn house who line reply.bytes (record { user = user; line = line; reply = reply } ∷ []) (Some user)
 
 -- Lines that come one after another while `who` is selected: what is told of each, what was said to sessions for them,
@@ -49,7 +49,8 @@ pub data Conversation (house : List Account)
 
 -- At first nobody is selected. These lines were told of so, `who` is selected then, and the house answered what was
 -- said to it so, and has become `house'`.
-pub record Talked (house : List Account) (lines texts : List (List ℕ)) (who : Option (List ℕ)) (house' : List Account)
+pub record HouseConversation (house : List Account) (lines texts : List (List ℕ)) (who : Option (List ℕ))
+    (house' : List Account)
     : Type 0 where
   pub events : List Event
   pub said : Conversation house None lines texts events who

@@ -5,7 +5,7 @@ use Rattle.std.specs.Io.KnownBytes.{Consumes, Appends, IsAtEnd}
 use Rattle.nesl_line.specs.declared.exchange.End.{End}
 use Rattle.nesl_line.specs.declared.exchange.End.TheVariants.{Input, ReadFault, WriteFault, NoMemory}
 use Rattle.nesl_line.specs.Lines.{AllLines, WholeLines}
-use Rattle.nesl_line.specs.Tally.{ReadTally, WriteTally, Rose, Blames, counted, flushed_by}
+use Rattle.nesl_line.specs.Tally.{ReadTally, WriteTally, Rose, WriteFailed, risen_by, flushed_by}
 
 -- these lines were heard, and told of by these texts
 abbrev pub Hearing : Type 1
@@ -68,18 +68,18 @@ pub record IsExchange
   pub counted : count ≡ length lines
 
 -- By how it ended: how many reads were made, at most 2^32, and whether one failed.
-abbrev pub ReadsOf : End → ReadTally → ReadTally → Type 0
-ReadsOf Input old new = (new.made ≤ old.made + 2 ^ 32) × (new.failed ≡ old.failed)
+abbrev pub ReadsTallied : End → ReadTally → ReadTally → Type 0
+ReadsTallied Input old new = (new.made ≤ old.made + 2 ^ 32) × (new.failed ≡ old.failed)
 -- a read failed, or as many as may be were made
-ReadsOf ReadFault old new =
+ReadsTallied ReadFault old new =
     (new.made ≤ old.made + 2 ^ 32) × (Rose old.failed new.failed ⊎ (new.made ≡ counted (2 ^ 32) old.made))
-ReadsOf WriteFault old new = (new.made ≤ old.made + 2 ^ 32) × (new.failed ≡ old.failed)
-ReadsOf NoMemory old new = new ≡ old
+ReadsTallied WriteFault old new = (new.made ≤ old.made + 2 ^ 32) × (new.failed ≡ old.failed)
+ReadsTallied NoMemory old new = new ≡ old
 
 -- By how it ended after `count` answers: each was flushed and nothing of them is behind, or what failed.
-abbrev pub WritesOf : End → ℕ → WriteTally → WriteTally → Type 0
-WritesOf Input count old new = new ≡ flushed_by count old
-WritesOf ReadFault count old new = new ≡ flushed_by count old
+abbrev pub WritesTallied : End → ℕ → WriteTally → WriteTally → Type 0
+WritesTallied Input count old new = new ≡ flushed_by count old
+WritesTallied ReadFault count old new = new ≡ flushed_by count old
 -- a write or a flush failed, or a write took no byte
-WritesOf WriteFault count old new = Blames old new
-WritesOf NoMemory count old new = new ≡ old
+WritesTallied WriteFault count old new = WriteFailed old new
+WritesTallied NoMemory count old new = new ≡ old

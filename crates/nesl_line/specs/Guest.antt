@@ -2,11 +2,11 @@
 use Rattle.std.specs.Prelude.{◌≡◌, ℕ, ◌+◌, List, [], ◌∷◌, Option, Some, true, map, sum_by, if◌then◌else◌}
 use Rattle.std.specs.List.{AllByRecursion}
 use Rattle.nesl_session_step.specs.declared.limits.Limits.{Limits}
-use Rattle.nesl_session_step.specs.State.{Log, told_lines}
-use Rattle.nesl_session_step.specs.Response.{Response, no_memory, no_user, busy, is_memory}
-use Rattle.nesl_session_step.specs.Solo.{Alone}
+use Rattle.nesl_session_step.specs.State.{Log, recorded_lines}
+use Rattle.nesl_session_step.specs.Response.{Reply, no_memory, no_user, busy, is_memory}
+use Rattle.nesl_session_step.specs.Solo.{SessionAnswers}
 use Rattle.nesl_house.specs.Roster.{place_of}
-use Rattle.nesl_house.specs.Script.{Event, lines_of, replies_of, kept}
+use Rattle.nesl_house.specs.Script.{Event, lines_of, replies_of, kept_events}
 use Rattle.nesl_line.specs.Lines.{with_feed}
 use Rattle.nesl_line.specs.Conversation.{IsUserLine}
 use Rattle.nesl_line.specs.Exchange.{Hearing}
@@ -22,20 +22,20 @@ abbrev pub NothingCame : Hearing
 NothingCame lines texts = (lines ≡ []) × (texts ≡ [])
 
 -- what who isn't seated is told of the first line: `fault user` where it names no user of the roster, else `fault busy`
-pub data Refuses (roster : List (List ℕ)) (line : List ℕ) : Response → Type 0 where
-  stranger : ((place : ℕ) → ¬ NamesPlace roster line place) → Refuses roster line no_user
-  away : (place : ℕ) → NamesPlace roster line place → Refuses roster line busy
+pub data RefusesSeat (roster : List (List ℕ)) (line : List ℕ) : Reply → Type 0 where
+  stranger : ((place : ℕ) → ¬ NamesPlace roster line place) → RefusesSeat roster line no_user
+  away : (place : ℕ) → NamesPlace roster line place → RefusesSeat roster line busy
 
 -- one line came, and nobody was seated
 pub record TurnedAway (roster : List (List ℕ)) (lines texts : List (List ℕ)) : Type 0 where
   pub line : List ℕ
-  pub reply : Response
-  pub refuses : Refuses roster line reply
+  pub reply : Reply
+  pub refuses : RefusesSeat roster line reply
   pub came : lines ≡ line ∷ []
   pub told : texts ≡ reply.bytes ∷ []
 
 -- how many of these are replies to recorded lines
-abbrev pub recorded_among : List Response → ℕ
+abbrev pub recorded_among : List Reply → ℕ
 recorded_among replies = sum_by (λ reply. if reply.recorded then 1 else 0) replies
 
 -- A user was seated, whose session was `had` then. The first line names the user and is told back. The others are a
@@ -52,6 +52,7 @@ pub record Visits
   pub own : AllByRecursion (λ e. e.user ≡ names.user) script
   pub memory : AllByRecursion (λ e. is_memory e.reply ≡ true → e.reply ≡ no_memory) script
   pub limits_are : had.limits ≡ limits
-  pub alone : Alone had (lines_of (kept names.user script)) (replies_of (kept names.user script)) has
+  pub alone : SessionAnswers had (lines_of (kept_events names.user script))
+      (replies_of (kept_events names.user script)) has
   pub recorded_are : recorded ≡ recorded_among (replies_of script)
-  pub grown : told_lines has ≡ told_lines had + recorded
+  pub grown : recorded_lines has ≡ recorded_lines had + recorded

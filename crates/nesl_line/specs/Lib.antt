@@ -2,6 +2,7 @@ pub mod Lines
 pub mod Conversation
 pub mod Tally
 pub mod Told
+pub mod Hinted
 pub mod Exchange
 pub mod Batch
 pub mod Guest

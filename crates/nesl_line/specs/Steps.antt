@@ -12,7 +12,7 @@ use Rattle.nesl_line.specs.declared.talk.Flow.TheVariants.{On, Over, Broken}
 use Rattle.nesl_line.specs.declared.talk.Talk.{Talk}
 use Rattle.nesl_line.specs.Lines.{Splits, handed, most_handed, AllLines, WholeLines}
 use Rattle.nesl_line.specs.Conversation.{Turn}
-use Rattle.nesl_line.specs.Tally.{WriteTally, Blames, flushed_by, written_by}
+use Rattle.nesl_line.specs.Tally.{WriteTally, WriteFailed, flushed_by, written_by}
 use Rattle.nesl_line.specs.Exchange.{Hearing, text_of, WrittenWhole, WrittenInPart}
 
 -- a front of the bytes was written, and where it went well all of them
@@ -25,11 +25,11 @@ pub record Sent (held held' : Option (List ℕ)) (bytes : List ℕ) (well : Bool
 
 -- where it went well, k bytes were written and nothing else, and else something failed
 abbrev pub Wrote : Bool → ℕ → WriteTally → WriteTally → Type 0
-Wrote well k old new = MatchBool well (new ≡ written_by k old) (Blames old new)
+Wrote well k old new = MatchBool well (new ≡ written_by k old) (WriteFailed old new)
 
 -- where it went well, n answers were written, each was flushed, and nothing of them is behind; else something failed
 abbrev pub Flushed : Bool → ℕ → WriteTally → WriteTally → Type 0
-Flushed well n old new = MatchBool well (new ≡ flushed_by n old) (Blames old new)
+Flushed well n old new = MatchBool well (new ≡ flushed_by n old) (WriteFailed old new)
 
 -- what holds by what becomes of an exchange
 abbrev pub By : Flow → (on over broken : Type 0) → Type 0
@@ -53,7 +53,7 @@ abbrev pub NamesFit : ℕ → List Account → Type 0
 NamesFit room house = AllByRecursion (λ account. length account.name ≤ room) house
 
 -- a house heard one line while `who` was selected, and this is told of it
-pub record Turns (house house' : List Account) (who who' : Option (List ℕ)) (line text : List ℕ) : Type 0 where
+pub record TurnsHouse (house house' : List Account) (who who' : Option (List ℕ)) (line text : List ℕ) : Type 0 where
   pub events : List Event
   pub turn : Turn house who line text events who'
   pub runs : (start : List Account) (before : List Event) → Runs start before house →
@@ -67,8 +67,8 @@ pub record Answered
   pub sent : Sent held held' text well
 
 -- What has come of a line: its first bytes, and whether there were more.
-abbrev pub Holds : Line → List ℕ → Type 0
-Holds line raw = (line.bytes.items ≡ take most_handed raw) × (line.is_longer ≡ nat_lt most_handed (length raw))
+abbrev pub HasFront : Line → List ℕ → Type 0
+HasFront line raw = (line.bytes.items ≡ take most_handed raw) × (line.is_longer ≡ nat_lt most_handed (length raw))
 
 -- So far this was read, of which `count` lines were answered and the answers sent.
 pub record Progress
@@ -77,7 +77,7 @@ pub record Progress
   pub raw : List ℕ
   pub texts : List (List ℕ)
   pub splits : Splits read whole raw
-  pub holds : Holds line raw
+  pub holds : HasFront line raw
   pub heard : Heard (map handed whole) texts
   pub appended : Appends held held' (text_of texts)
   pub counted : count ≡ length whole
@@ -125,7 +125,7 @@ Done Heard talk read held held' = Finished Heard read held held' talk.lines
 
 -- nothing has come of a line, and no line was answered
 pub record IsFresh (talk : Talk) : Type 0 where
-  pub empty : Holds talk.line []
+  pub empty : HasFront talk.line []
   pub none : talk.lines ≡ 0
 
 -- what was read so far was answered as far as its lines go

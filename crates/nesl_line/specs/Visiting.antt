@@ -3,8 +3,8 @@ use Rattle.std.specs.Prelude.{◌≡◌, ℕ, ◌+◌, List, Option, Some, None,
 use Rattle.std.specs.Fn.{Shared}
 use denote.Ref.{Bor}
 use Rattle.nesl_session_step.specs.declared.limits.Limits.{Limits}
-use Rattle.nesl_session_step.specs.State.{Log, told_lines}
-use Rattle.nesl_session_step.specs.Response.{Response}
+use Rattle.nesl_session_step.specs.State.{Log, recorded_lines}
+use Rattle.nesl_session_step.specs.Response.{Reply}
 use Rattle.nesl_session_step.specs.Solo.{Responds}
 use Rattle.nesl_house.specs.declared.lease.Receipt.{Receipt}
 use Rattle.nesl_house.specs.Register.{Leased}
@@ -16,7 +16,7 @@ use Rattle.nesl_line.specs.Guest.{NothingCame, TurnedAway, Visits}
 -- a user was seated, and this was heard since
 abbrev pub IsSeated : (roster : List (List ℕ)) → Limits → Leased → Hearing
 IsSeated roster limits lease lines texts =
-    (had : Log) × (recorded : ℕ) × (lease.counted ≡ told_lines had)
+    (had : Log) × (recorded : ℕ) × (lease.counted ≡ recorded_lines had)
     × Visits roster limits lease.seat.place recorded had lease.seat.session lines texts
 
 -- by where a guest is: what was heard
@@ -32,23 +32,23 @@ is_over (Seated lease) = false
 is_over Over = true
 
 -- a line was said to a session that is out: what that session is then, and what it answered
-pub record Says (lease : Leased) (line : List ℕ) (after : Leased × Response) : Type 0 where
+pub record SessionAnswersLine (lease : Leased) (line : List ℕ) (after : Leased × Reply) : Type 0 where
   pub answers : Responds lease.seat.session line after.1 after.0.seat.session
   pub place : after.0.seat.place ≡ lease.seat.place
   pub counted : after.0.counted ≡ lease.counted
 
 -- by calls of `f` lines are said to sessions that are out
 pub record Speaks
-    {F : Type 0} (calls : Shared F (Leased × (Bor (List ℕ) × Unit {0})) (Leased × Response)) (f : F) : Type 0 where
+    {F : Type 0} (calls : Shared F (Leased × (Bor (List ℕ) × Unit {0})) (Leased × Reply)) (f : F) : Type 0 where
   pub may : (lease : Leased) (line : Bor (List ℕ)) → calls.pre f (lease, (line, tt))
   pub says :
-      (lease : Leased) (line : Bor (List ℕ)) (after : Leased × Response)
-      → calls.post f (lease, (line, tt)) after → Says lease line.now after
+      (lease : Leased) (line : Bor (List ℕ)) (after : Leased × Reply)
+      → calls.post f (lease, (line, tt)) after → SessionAnswersLine lease line.now after
 
 -- who was seated has the receipt
-abbrev pub Gives : Stage → Option Receipt → Type 0
-Gives (Seated lease) (Some receipt) =
-    (receipt.place ≡ lease.seat.place) × (receipt.recorded + lease.counted ≡ told_lines lease.seat.session)
-Gives (Seated lease) None = ⊥
-Gives Waiting receipt = receipt ≡ None
-Gives Over receipt = receipt ≡ None
+abbrev pub HasReceipt : Stage → Option Receipt → Type 0
+HasReceipt (Seated lease) (Some receipt) =
+    (receipt.place ≡ lease.seat.place) × (receipt.recorded + lease.counted ≡ recorded_lines lease.seat.session)
+HasReceipt (Seated lease) None = ⊥
+HasReceipt Waiting receipt = receipt ≡ None
+HasReceipt Over receipt = receipt ≡ None

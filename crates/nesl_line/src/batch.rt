@@ -1,7 +1,7 @@
 //! The lines of a reader, answered by a house.
 ghost use Rattle.nesl_line.specs.Steps.{NamesFit};
 ghost use Rattle.nesl_line.specs.Batch.{IsBatch};
-ghost use Rattle.nesl_line.specs.Exchange.{ReadsOf, WritesOf};
+ghost use Rattle.nesl_line.specs.Exchange.{ReadsTallied, WritesTallied};
 
 use crate::device::{Sink, Source};
 use crate::exchange::{End, Ran, exchange};
@@ -20,8 +20,8 @@ pub fn batch<S: Source, W: Sink>(
 ) -> Ran
     ensures batch { IsBatch result.end result.lines (S.left reader.old) (S.left reader.new) (W.held writer.old)
         (W.held writer.new) house.old house.new }
-    ensures reads { ReadsOf result.end (S.tally reader.old) (S.tally reader.new) }
-    ensures writes { WritesOf result.end result.lines (W.tally writer.old) (W.tally writer.new) }
+    ensures reads { ReadsTallied result.end (S.tally reader.old) (S.tally reader.new) }
+    ensures writes { WritesTallied result.end result.lines (W.tally writer.old) (W.tally writer.new) }
 {
     batch_by(alloc, reader, writer, house, &Plainly)
 }
@@ -36,8 +36,8 @@ pub fn batch_in<S: Source, W: Sink, A: Allocator + Copy>(
 ) -> Ran
     ensures batch { IsBatch result.end result.lines (S.left reader.old) (S.left reader.new) (W.held writer.old)
         (W.held writer.new) house.old house.new }
-    ensures reads { ReadsOf result.end (S.tally reader.old) (S.tally reader.new) }
-    ensures writes { WritesOf result.end result.lines (W.tally writer.old) (W.tally writer.new) }
+    ensures reads { ReadsTallied result.end (S.tally reader.old) (S.tally reader.new) }
+    ensures writes { WritesTallied result.end result.lines (W.tally writer.old) (W.tally writer.new) }
 {
     batch_by(alloc, reader, writer, house, &InHeap(heap))
 }
@@ -52,8 +52,8 @@ pub fn batch_by<S: Source, W: Sink, M: Manner>(
 ) -> Ran
     ensures batch { IsBatch result.end result.lines (S.left reader.old) (S.left reader.new) (W.held writer.old)
         (W.held writer.new) house.old house.new }
-    ensures reads { ReadsOf result.end (S.tally reader.old) (S.tally reader.new) }
-    ensures writes { WritesOf result.end result.lines (W.tally writer.old) (W.tally writer.new) }
+    ensures reads { ReadsTallied result.end (S.tally reader.old) (S.tally reader.new) }
+    ensures writes { WritesTallied result.end result.lines (W.tally writer.old) (W.tally writer.new) }
 {
     let room = longest_name(house.users());
     let Ok(mut chooser) = Chooser::new(alloc, manner, room) else {
@@ -66,7 +66,7 @@ pub fn batch_by<S: Source, W: Sink, M: Manner>(
 }
 
 // The length of the longest name.
-fn longest_name(users: &[User]) -> usize
+pub(crate) fn longest_name(users: &[User]) -> usize
     ensures { NamesFit result users.now }
 {
     let mut longest = 0;

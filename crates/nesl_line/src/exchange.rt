@@ -1,6 +1,6 @@
 //! The lines of a reader, heard and told of one by one.
 ghost use Rattle.std.specs.Prelude.{◌≡◌, []};
-ghost use Rattle.nesl_line.specs.Exchange.{IsExchange, ReadsOf, WritesOf};
+ghost use Rattle.nesl_line.specs.Exchange.{IsExchange, ReadsTallied, WritesTallied};
 ghost use Rattle.nesl_line.specs.Steps.{IsFresh};
 
 use crate::device::{Sink, Source};
@@ -48,8 +48,8 @@ pub fn exchange<S: Source, W: Sink, H: Hearer>(
     ensures exchange { IsExchange (H.heard hearer.old world.old hearer.new world.new)
         (H.over hearer.new) result.end result.lines
         (S.left reader.old) (S.left reader.new) (W.held writer.old) (W.held writer.new) }
-    ensures reads { ReadsOf result.end (S.tally reader.old) (S.tally reader.new) }
-    ensures writes { WritesOf result.end result.lines (W.tally writer.old) (W.tally writer.new) }
+    ensures reads { ReadsTallied result.end (S.tally reader.old) (S.tally reader.new) }
+    ensures writes { WritesTallied result.end result.lines (W.tally writer.old) (W.tally writer.new) }
 {
     let Ok(mut talk) = Talk::new(alloc) else {
         return Ran {
@@ -79,8 +79,8 @@ fn converse<S: Source, W: Sink, H: Hearer>(
     ensures exchange { IsExchange (H.heard hearer.old world.old hearer.new world.new)
         (H.over hearer.new) result talk.new.lines
         (S.left reader.old) (S.left reader.new) (W.held writer.old) (W.held writer.new) }
-    ensures reads { ReadsOf result (S.tally reader.old) (S.tally reader.new) }
-    ensures writes { WritesOf result talk.new.lines (W.tally writer.old) (W.tally writer.new) }
+    ensures reads { ReadsTallied result (S.tally reader.old) (S.tally reader.new) }
+    ensures writes { WritesTallied result talk.new.lines (W.tally writer.old) (W.tally writer.new) }
 {
     let mut chunk = [0u8; CHUNK];
     'reads: for read_count in 0..MOST_READS {

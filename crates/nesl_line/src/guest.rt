@@ -1,14 +1,14 @@
 //! Who speaks on a connection.
 ghost use Rattle.std.specs.Prelude.{◌≡◌, [], ◌∷◌, false};
 ghost use Rattle.nesl_line.specs.Told.{text_told};
-ghost use Rattle.nesl_line.specs.Visiting.{Gives, HeardAt, Speaks, is_over};
+ghost use Rattle.nesl_line.specs.Visiting.{HasReceipt, HeardAt, Speaks, is_over};
 
 use crate::hearer::{Hearer, Told};
 use crate::turn::user_named;
 use nesl_house::lease::{Lease, Receipt};
 use nesl_house::table::{Table, TakeFault};
 use nesl_session::answer::Answer;
-use nesl_session::laws::{goes_on, told_lines_grow};
+use nesl_session::laws::{goes_on, recorded_lines_grow};
 use std::alloc::Global;
 use std::mem;
 use std::sync::Wait;
@@ -65,7 +65,7 @@ impl<'t, R: Wait, F> Guest<'t, R, F> {
 impl<R: Wait, F: Drop> Guest<'_, R, F> {
     // Gives the session back, if one is out.
     pub fn leave(self) -> Option<Receipt>
-        ensures { Gives self.entry.stage result }
+        ensures { HasReceipt self.entry.stage result }
     {
         let Guest {
             rt,
@@ -116,7 +116,7 @@ impl<R: Wait, F: Fn(Lease, &[u8]) -> (Lease, Answer)> Hearer for Guest<'_, R, F>
             }
             Stage::Seated(lease) => {
                 goes_on();
-                told_lines_grow();
+                recorded_lines_grow();
                 let (lease, answer) = (self.speak)(lease, line);
                 self.go_on(Stage::Seated(lease));
                 Told::By(answer)

@@ -13,6 +13,10 @@ pub enum Told {
     Back,
     /// What someone answers.
     By(Answer),
+    /// These bytes.
+    Text(Vec<u8>),
+    /// What someone answers, and behind it these bytes.
+    With(Answer, Vec<u8>),
 }
 
 /// Hears the lines that come in, one after another, and says what is told of each.

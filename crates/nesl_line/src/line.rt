@@ -19,11 +19,11 @@ pub struct Line {
 }
 
 impl Line {
-    ghost use Rattle.nesl_line.specs.Steps.{Holds};
+    ghost use Rattle.nesl_line.specs.Steps.{HasFront};
 
     // An empty line, with room for all that is kept.
     pub fn new(alloc: Global) -> Result<Line, AllocError>
-        ensures { IfOk result (λ line. Holds line []) }
+        ensures { IfOk result (λ line. HasFront line []) }
     {
         let bytes = Vec::with_capacity(alloc, MOST_HANDED)?;
         Ok(Line {
@@ -41,7 +41,7 @@ impl Line {
 
     // More of a line.
     pub fn add(&mut self, more: &[u8])
-        ensures { (raw : List ℕ) → Holds self.old raw → Holds self.new (raw ++ more.now) }
+        ensures { (raw : List ℕ) → HasFront self.old raw → HasFront self.new (raw ++ more.now) }
     {
         let kept = more.len().min(MOST_HANDED - self.bytes.len());
         if self.bytes.extend_from_slice(&more[..kept]).is_err() {
@@ -54,7 +54,7 @@ impl Line {
 
     // The LF comes: what is kept then is handed on.
     pub fn end(&mut self)
-        ensures { (raw : List ℕ) → Holds self.old raw → self.new.bytes.items ≡ handed raw }
+        ensures { (raw : List ℕ) → HasFront self.old raw → self.new.bytes.items ≡ handed raw }
     {
         let n = self.bytes.len();
         if !self.is_longer && n > 0 && self.bytes[n - 1] == b'\r' {
@@ -64,7 +64,7 @@ impl Line {
 
     // Another line begins.
     pub fn clear(&mut self)
-        ensures { Holds self.new [] }
+        ensures { HasFront self.new [] }
     {
         self.bytes.clear();
         self.is_longer = false;

@@ -1,7 +1,7 @@
 //! The lines of one connection, answered by the session of one user.
 ghost use Rattle.nesl_line.specs.Serve.{IsServed};
-ghost use Rattle.nesl_line.specs.Exchange.{ReadsOf, WritesOf};
-ghost use Rattle.nesl_line.specs.Visiting.{Says};
+ghost use Rattle.nesl_line.specs.Exchange.{ReadsTallied, WritesTallied};
+ghost use Rattle.nesl_line.specs.Visiting.{SessionAnswersLine};
 
 use crate::device::{Sink, Source};
 use crate::exchange::{End, exchange};
@@ -37,11 +37,11 @@ pub fn serve<'t, S: Source, W: Sink, R: Threads + Wait + Sync, H: Helpers + Sync
 ) -> Served
     ensures served { IsServed table.now.roster table.now.limits result.receipt result.end result.lines
         (S.left reader.old) (S.left reader.new) (W.held writer.old) (W.held writer.new) }
-    ensures reads { ReadsOf result.end (S.tally reader.old) (S.tally reader.new) }
-    ensures writes { WritesOf result.end result.lines (W.tally writer.old) (W.tally writer.new) }
+    ensures reads { ReadsTallied result.end (S.tally reader.old) (S.tally reader.new) }
+    ensures writes { WritesTallied result.end result.lines (W.tally writer.old) (W.tally writer.new) }
 {
     let speak = |lease: Lease, line: &[u8]| -> (Lease, Answer)
-        ensures { Says lease line.now result }
+        ensures { SessionAnswersLine lease line.now result }
     { said(rt, alloc, lease, line, helpers, gate) };
     let mut guest = Guest::new(rt, table, speak);
     let ran = exchange(alloc, reader, writer, &mut guest, &mut ());
@@ -61,7 +61,7 @@ fn said<R: Threads + Wait + Sync, H: Helpers + Sync, G: Gate + Sync>(
     helpers: &H,
     gate: &G,
 ) -> (Lease, Answer)
-    ensures { Says lease line.now result }
+    ensures { SessionAnswersLine lease line.now result }
 {
     let mut lease = lease;
     gate.enter(Place::Line(lease.place()));

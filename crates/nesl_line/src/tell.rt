@@ -1,5 +1,5 @@
 //! One line, heard and told of.
-ghost use Rattle.std.specs.Prelude.{◌≡◌, ℕ, ◌+◌, false, length};
+ghost use Rattle.std.specs.Prelude.{◌≡◌, ℕ, ◌+◌, ◌++◌, false, length};
 ghost use Rattle.nesl_line.specs.Told.{text_told};
 ghost use Rattle.nesl_line.specs.Steps.{Answered, Sent, Wrote, Flushed};
 
@@ -25,24 +25,32 @@ pub fn answer<H: Hearer, W: Sink>(
     tell(writer, line, &told)
 }
 
-// Sends what is told of a line, and flushes; or says that something failed.
-fn tell<W: Sink>(writer: &mut W, line: &[u8], told: &Told) -> bool
+/// Sends what is told of a line, and flushes; or says that something failed.
+pub fn tell<W: Sink>(writer: &mut W, line: &[u8], told: &Told) -> bool
     ensures sent { Sent (W.held writer.old) (W.held writer.new) (text_told line.now told.now) result }
     ensures tally { Flushed result 1 (W.tally writer.old) (W.tally writer.new) }
 {
     match told {
-        Told::Back => {
-            if !send(writer, line) {
-                return false;
-            }
-            say(writer, b"\n")
-        }
+        Told::Back => say_both(writer, line, b"\n"),
         Told::By(answer) => say(writer, answer.bytes()),
+        Told::Text(text) => say(writer, text.as_slice()),
+        Told::With(answer, more) => say_both(writer, answer.bytes(), more.as_slice()),
     }
 }
 
-// Sends the bytes, and flushes.
-fn say<W: Sink>(writer: &mut W, bytes: &[u8]) -> bool
+// Sends the one and then the other, and flushes.
+fn say_both<W: Sink>(writer: &mut W, first: &[u8], second: &[u8]) -> bool
+    ensures sent { Sent (W.held writer.old) (W.held writer.new) (first.now ++ second.now) result }
+    ensures tally { Flushed result 1 (W.tally writer.old) (W.tally writer.new) }
+{
+    if !send(writer, first) {
+        return false;
+    }
+    say(writer, second)
+}
+
+/// Sends the bytes, and flushes; or says that something failed.
+pub fn say<W: Sink>(writer: &mut W, bytes: &[u8]) -> bool
     ensures sent { Sent (W.held writer.old) (W.held writer.new) bytes.now result }
     ensures tally { Flushed result 1 (W.tally writer.old) (W.tally writer.new) }
 {

@@ -1,15 +1,16 @@
 //! One line of a batch, as a house hears it.
 ghost use Rattle.std.specs.Prelude.{◌≡◌, ℕ, ◌≤◌, [], IfOk, IfSome, IfNone, false, length};
 ghost use Rattle.std.specs.Vec.{vec_capacity};
-ghost use Rattle.nesl_line.specs.Conversation.{IsUserLine, NamesNobody, is_name_byte, Talked};
+ghost use Rattle.nesl_line.specs.Conversation.{IsUserLine, NamesNobody, is_user_name_byte, HouseConversation};
 ghost use Rattle.nesl_line.specs.Told.{text_told};
-ghost use Rattle.nesl_line.specs.Steps.{chosen, NamesFit, Turns};
+ghost use Rattle.nesl_line.specs.Steps.{chosen, NamesFit, TurnsHouse};
 
 use crate::hearer::{Hearer, Told};
 use nesl_house::house::House;
 use nesl_house::laws::scripts_follow;
 use nesl_house::manner::Manner;
 use nesl_session::answer::Answer;
+use nesl_session::session::Session;
 use std::alloc::{AllocError, Global};
 
 // Who is selected, which is nobody where the name is empty; and how lines are said to sessions.
@@ -29,11 +30,16 @@ impl<'m, M: Manner> Chooser<'m, M> {
         Ok(Chooser { who, manner })
     }
 
+    // The session of who is selected.
+    pub fn session<'h>(&self, house: &'h House) -> Option<&'h Session> {
+        house.session(self.who.as_slice())
+    }
+
     // Selects a user of the house; a stranger leaves nobody selected.
     fn select(&mut self, house: &House, line: &[u8], name: &[u8]) -> Told
         requires fit { NamesFit (vec_capacity self.old.who) house.now }
         requires named { IsUserLine line.now name.now }
-        ensures turn { Turns house.now house.now (chosen self.old.who.items) (chosen self.new.who.items) line.now
+        ensures turn { TurnsHouse house.now house.now (chosen self.old.who.items) (chosen self.new.who.items) line.now
             (text_told line.now result) }
         ensures fit { NamesFit (vec_capacity self.new.who) house.now }
     {
@@ -49,7 +55,7 @@ impl<'m, M: Manner> Chooser<'m, M> {
     fn say(&self, alloc: Global, house: &mut House, line: &[u8]) -> Told
         requires named { NamesNobody line.now }
         requires fit { NamesFit (vec_capacity self.now.who) house.old }
-        ensures turn { Turns house.old house.new (chosen self.now.who.items) (chosen self.now.who.items) line.now
+        ensures turn { TurnsHouse house.old house.new (chosen self.now.who.items) (chosen self.now.who.items) line.now
             (text_told line.now result) }
         ensures fit { NamesFit (vec_capacity self.now.who) house.new }
     {
@@ -65,7 +71,8 @@ impl<'m, M: Manner> Chooser<'m, M> {
 impl<M: Manner> Hearer for Chooser<'_, M> {
     type World = House;
 
-    ghost heard = { λ first start now house lines texts. Talked start lines texts (chosen now.who.items) house };
+    ghost heard = { λ first start now house lines texts. HouseConversation start lines texts
+        (chosen now.who.items) house };
 
     ghost over = { λ chooser. false };
 
@@ -112,7 +119,7 @@ pub fn user_named(line: &[u8]) -> Option<&[u8]>
 }
 
 fn is_name_byte(b: u8) -> bool
-    ensures { result ≡ is_name_byte b }
+    ensures { result ≡ is_user_name_byte b }
 {
     b'a' <= b && b <= b'z' || b'0' <= b && b <= b'9'
 }

@@ -9,14 +9,14 @@ use Rattle.std.proofs.lemmas.List.{take_more}
 use Rattle.std.proofs.lemmas.Bool.Decides.{nat_tests}
 use Rattle.std.proofs.lemmas.Grind.{flat_map-append}
 use Rattle.std.proofs.lemmas.Option.{slice_get_within, get_or_from_slice_get}
-use Rattle.nesl_values.specs.Tree.{Tree, int, boolean, character, seq, trees_of}
+use Rattle.nesl_values.specs.Tree.{ValueTree, int, boolean, character, seq, trees_of}
 use Rattle.nesl_types_bank.specs.Term.{Term}
 use Rattle.nesl_reply.specs.declared.value.Task.{Task}
-use Rattle.nesl_reply.specs.Values.{Datatypes, value_text, others_text, is_quotable, code_of, is_text_type, element_type}
+use Rattle.nesl_reply.specs.Values.{DatatypesByTag, value_text, later_elements_text, is_quotable, code_of, is_text_type, element_type}
 use Rattle.nesl_reply.specs.Replies.{names_text}
 use Rattle.nesl_reply.specs.Tasks.{IsNext, task_text, tasks_text, task_work, tasks_work, leaf_text, other_leaves, list_text, empty_text}
 
-pub tasks_text_push : (known : Datatypes) (xs : List Task) (x : Task) → tasks_text known (xs ++ x ∷ []) ≡ task_text known x ++ tasks_text known xs
+pub tasks_text_push : (known : DatatypesByTag) (xs : List Task) (x : Task) → tasks_text known (xs ++ x ∷ []) ≡ task_text known x ++ tasks_text known xs
 tasks_text_push known [] x = simp append-nil
 tasks_text_push known (y ∷ ys) x = simp (tasks_text_push known ys x, append_assoc)
 
@@ -24,23 +24,23 @@ pub tasks_work_push : (xs : List Task) (x : Task) → tasks_work (xs ++ x ∷ []
 tasks_work_push [] x = refl
 tasks_work_push (y ∷ ys) x = omega (arith, tasks_work_push ys x)
 
-pub others_text_push : (known : Datatypes) (t : Term) (ts : List Tree) (v : Tree) → others_text known t (trees_of (ts ++ v ∷ [])) ≡ others_text known t (trees_of ts) ++ (codes ", " ++ value_text known true t v)
+pub others_text_push : (known : DatatypesByTag) (t : Term) (ts : List ValueTree) (v : ValueTree) → later_elements_text known t (trees_of (ts ++ v ∷ [])) ≡ later_elements_text known t (trees_of ts) ++ (codes ", " ++ value_text known true t v)
 others_text_push known t [] v = simp append-nil
 others_text_push known t (u ∷ us) v = simp (others_text_push known t us v, append_assoc)
 
-pub list_of_trees_of : (ts : List Tree) → list_of (trees_of ts) ≡ ts
+pub list_of_trees_of : (ts : List ValueTree) → list_of (trees_of ts) ≡ ts
 list_of_trees_of [] = refl
 list_of_trees_of (t ∷ ts) = ap (λ us. t ∷ us) (list_of_trees_of ts)
 
-integers : (known : Datatypes) (t : Term) (ns : List ℤ) → others_text known t (trees_of (map int ns)) ≡ other_leaves (map int ns)
+integers : (known : DatatypesByTag) (t : Term) (ns : List ℤ) → later_elements_text known t (trees_of (map int ns)) ≡ other_leaves (map int ns)
 integers known t [] = refl
 integers known t (n ∷ ns) = simp (integers known t ns, append_assoc)
 
-truths : (known : Datatypes) (t : Term) (bs : List Bool) → others_text known t (trees_of (map boolean bs)) ≡ other_leaves (map boolean bs)
+truths : (known : DatatypesByTag) (t : Term) (bs : List Bool) → later_elements_text known t (trees_of (map boolean bs)) ≡ other_leaves (map boolean bs)
 truths known t [] = refl
 truths known t (b ∷ bs) = simp (truths known t bs, append_assoc)
 
-characters : (known : Datatypes) (t : Term) (cs : List ℕ) → others_text known t (trees_of (map character cs)) ≡ other_leaves (map character cs)
+characters : (known : DatatypesByTag) (t : Term) (cs : List ℕ) → later_elements_text known t (trees_of (map character cs)) ≡ other_leaves (map character cs)
 characters known t [] = refl
 characters known t (c ∷ cs) = simp (characters known t cs, append_assoc)
 
@@ -80,19 +80,19 @@ no_elements : (t : Term) (b : Bool) → is_text_type t ≡ b → (if b && true t
 no_elements t true e = sym (whenever (is_text_type t) _ _ e)
 no_elements t false e = sym (unless (is_text_type t) _ _ e)
 
-pub integers_text : (known : Datatypes) (brackets : Bool) (t : Term) (ns : List ℤ) → list_text t (map int ns) ≡ value_text known brackets t (seq (trees_of (map int ns)))
+pub integers_text : (known : DatatypesByTag) (brackets : Bool) (t : Term) (ns : List ℤ) → list_text t (map int ns) ≡ value_text known brackets t (seq (trees_of (map int ns)))
 integers_text known brackets t [] = sym (no_elements t (is_text_type t) refl)
 integers_text known brackets t (n ∷ ns) = sym (unless (is_text_type t && false) _ _ (never (is_text_type t)) ∙ ap (λ z. codes "[" ++ leaf_text (int n) ++ z ++ codes "]") (integers known (element_type t) ns))
 
-pub truths_text : (known : Datatypes) (brackets : Bool) (t : Term) (bs : List Bool) → list_text t (map boolean bs) ≡ value_text known brackets t (seq (trees_of (map boolean bs)))
+pub truths_text : (known : DatatypesByTag) (brackets : Bool) (t : Term) (bs : List Bool) → list_text t (map boolean bs) ≡ value_text known brackets t (seq (trees_of (map boolean bs)))
 truths_text known brackets t [] = sym (no_elements t (is_text_type t) refl)
 truths_text known brackets t (b ∷ bs) = sym (unless (is_text_type t && false) _ _ (never (is_text_type t)) ∙ ap (λ z. codes "[" ++ leaf_text (boolean b) ++ z ++ codes "]") (truths known (element_type t) bs))
 
-pub characters_text : (known : Datatypes) (brackets : Bool) (t : Term) (cs : List ℕ) → (is_text_type t && list_all is_quotable (list_of (trees_of (map character cs)))) ≡ false → list_text t (map character cs) ≡ value_text known brackets t (seq (trees_of (map character cs)))
+pub characters_text : (known : DatatypesByTag) (brackets : Bool) (t : Term) (cs : List ℕ) → (is_text_type t && list_all is_quotable (list_of (trees_of (map character cs)))) ≡ false → list_text t (map character cs) ≡ value_text known brackets t (seq (trees_of (map character cs)))
 characters_text known brackets t [] h = sym (no_elements t (is_text_type t) refl)
 characters_text known brackets t (c ∷ cs) h = sym (unless (is_text_type t && list_all is_quotable (list_of (trees_of (map character (c ∷ cs))))) _ _ h ∙ ap (λ z. codes "[" ++ leaf_text (character c) ++ z ++ codes "]") (characters known (element_type t) cs))
 
-pub quoted_text : (known : Datatypes) (brackets : Bool) (t : Term) (cs : List ℕ) → (is_text_type t && list_all is_quotable (list_of (trees_of (map character cs)))) ≡ true → codes "\"" ++ cs ++ codes "\"" ≡ value_text known brackets t (seq (trees_of (map character cs)))
+pub quoted_text : (known : DatatypesByTag) (brackets : Bool) (t : Term) (cs : List ℕ) → (is_text_type t && list_all is_quotable (list_of (trees_of (map character cs)))) ≡ true → codes "\"" ++ cs ++ codes "\"" ≡ value_text known brackets t (seq (trees_of (map character cs)))
 quoted_text known brackets t cs h = sym (whenever (is_text_type t && list_all is_quotable (list_of (trees_of (map character cs)))) _ _ h ∙ ap (λ z. codes "\"" ++ z ++ codes "\"") (codes_of cs))
 
 pub between : (o p q r bs : List ℕ) → p ≡ o ++ 34 ∷ [] → q ≡ p ++ bs → r ≡ q ++ 34 ∷ [] → r ≡ o ++ 34 ∷ (bs ++ 34 ∷ [])
@@ -121,7 +121,7 @@ pub four_written : (o p q r s a b c d : List ℕ) → p ≡ o ++ a → q ≡ p +
 four_written o p q r s a b c d e f g h = simp (h, g, f, e, append_assoc)
 
 -- a value was written, and the rest is to follow
-pub front_written : (o p : List ℕ) (known : Datatypes) (brackets : Bool) (t : Term) (u v : Tree) (ts : List ℕ) → u ≡ v → p ≡ o ++ value_text known brackets t u → p ++ ts ≡ o ++ (value_text known brackets t v ++ ts)
+pub front_written : (o p : List ℕ) (known : DatatypesByTag) (brackets : Bool) (t : Term) (u v : ValueTree) (ts : List ℕ) → u ≡ v → p ≡ o ++ value_text known brackets t u → p ++ ts ≡ o ++ (value_text known brackets t v ++ ts)
 front_written o p known brackets t u v ts e f = ap (λ x. x ++ ts) (f ∙ ap (λ w. o ++ value_text known brackets t w) e) ∙ append_assoc o (value_text known brackets t v) ts
 
 -- a task comes before others, which are few enough

@@ -55,36 +55,36 @@ abbrev pub stop_text : Stop → List ℕ
 stop_text stop = span_text stop.span ++ work_text stop.work
 
 -- the word of a fault, where it lies, and the work that was spent; a fault that belongs to no session tells no work
-abbrev pub told : Fault → List ℕ
-told Long = codes "long" ++ no_work
-told (Lexical at) = codes "lexical at " ++ decimal at ++ no_work
-told Syntax = codes "syntax" ++ no_work
-told Nested = codes "nested" ++ no_work
-told (Unknown span) = codes "unknown" ++ span_text span ++ no_work
-told IllTyped = codes "type" ++ no_work
-told Ambiguous = codes "ambiguous" ++ no_work
-told Retype = codes "retype" ++ no_work
-told Taken = codes "taken" ++ no_work
-told (Overflow stop) = codes "overflow" ++ stop_text stop
-told (Division stop) = codes "division" ++ stop_text stop
-told (Range stop) = codes "range" ++ stop_text stop
-told (Code stop) = codes "code" ++ stop_text stop
-told (Length stop) = codes "length" ++ stop_text stop
-told (Empty stop) = codes "empty" ++ stop_text stop
-told (Permutation stop) = codes "permutation" ++ stop_text stop
-told (Count stop) = codes "count" ++ stop_text stop
-told (Stride stop) = codes "stride" ++ stop_text stop
-told (Deep stop) = codes "deep" ++ stop_text stop
-told (Large stop) = codes "large" ++ stop_text stop
-told (Work work) = codes "work" ++ work_text work
-told (Elements work) = codes "elements" ++ work_text work
-told Transcript = codes "transcript" ++ no_work
-told Memory = codes "memory" ++ no_work
-told User = codes "user"
-told Busy = codes "busy"
+abbrev pub fault_words : Fault → List ℕ
+fault_words Long = codes "long" ++ no_work
+fault_words (Lexical at) = codes "lexical at " ++ decimal at ++ no_work
+fault_words Syntax = codes "syntax" ++ no_work
+fault_words Nested = codes "nested" ++ no_work
+fault_words (Unknown span) = codes "unknown" ++ span_text span ++ no_work
+fault_words IllTyped = codes "type" ++ no_work
+fault_words Ambiguous = codes "ambiguous" ++ no_work
+fault_words Retype = codes "retype" ++ no_work
+fault_words Taken = codes "taken" ++ no_work
+fault_words (Overflow stop) = codes "overflow" ++ stop_text stop
+fault_words (Division stop) = codes "division" ++ stop_text stop
+fault_words (Range stop) = codes "range" ++ stop_text stop
+fault_words (Code stop) = codes "code" ++ stop_text stop
+fault_words (Length stop) = codes "length" ++ stop_text stop
+fault_words (Empty stop) = codes "empty" ++ stop_text stop
+fault_words (Permutation stop) = codes "permutation" ++ stop_text stop
+fault_words (Count stop) = codes "count" ++ stop_text stop
+fault_words (Stride stop) = codes "stride" ++ stop_text stop
+fault_words (Deep stop) = codes "deep" ++ stop_text stop
+fault_words (Large stop) = codes "large" ++ stop_text stop
+fault_words (Work work) = codes "work" ++ work_text work
+fault_words (Elements work) = codes "elements" ++ work_text work
+fault_words Transcript = codes "transcript" ++ no_work
+fault_words Memory = codes "memory" ++ no_work
+fault_words User = codes "user"
+fault_words Busy = codes "busy"
 
 abbrev pub fault_text : Fault → List ℕ
-fault_text fault = codes "fault " ++ told fault
+fault_text fault = codes "fault " ++ fault_words fault
 
 -- the fault of an evaluation that has no value
 abbrev pub fault_of : Trap → Stop → Fault

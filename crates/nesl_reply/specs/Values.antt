@@ -4,15 +4,16 @@ use Rattle.std.specs.Prelude.{map, List, [], ◌∷◌, ◌++◌, Option, None, 
 use Rattle.std.specs.Fmt.{signed_decimal}
 use Rattle.std.specs.List.{list_all}
 use Rattle.nesl_values.specs.Parts.{list_of}
-use Rattle.nesl_values.specs.Tree.{Tree, Trees, int, boolean, character, pair, seq, tagged, no_trees, tree_then}
-use Rattle.nesl_types_bank.specs.Term.{Term, char, seq_of, both}
+use Rattle.nesl_values.specs.Tree.{ValueTree, ValueTrees, int, boolean, character, pair, seq, tagged, no_trees}
+use Rattle.nesl_values.specs.Tree.{tree_then}
+use Rattle.nesl_types_bank.specs.Term.{Term, char, seq_of, pair_of}
 use Rattle.nesl_types.specs.Names.{datatype_at}
 use Rattle.nesl_types.specs.Texts.{name_at}
 use Rattle.nesl_types.specs.declared.bindings.Top.{Top}
 use Rattle.nesl_types.specs.declared.bindings.Top.TheVariants as top
 
 -- what is known of the datatypes: the name of each tag, and the type that its records hold
-pub record Datatypes : Type 0 where
+pub record DatatypesByTag : Type 0 where
   pub name : ℕ → List ℕ
   pub held : ℕ → Option Term
 
@@ -25,17 +26,17 @@ held_by (Some b) = held_in b.1
     held_in (top.Datatype tag ty) = Some ty
     held_in other = None
 
-abbrev pub datatypes : {P : Type 0} → List (List ℕ × Top × P) → Datatypes
+abbrev pub datatypes : {P : Type 0} → List (List ℕ × Top × P) → DatatypesByTag
 datatypes names = record { name = name_at names; held = λ tag. held_by (datatype_at names tag) }
 
 -- the types of a pair's parts, of a sequence's elements, of what a record holds. A value has its type, so the last case
 -- of each never comes up.
 abbrev pub left_type : Term → Term
-left_type (both t u) = t
+left_type (pair_of t u) = t
 left_type t = t
 
 abbrev pub right_type : Term → Term
-right_type (both t u) = u
+right_type (pair_of t u) = u
 right_type t = t
 
 abbrev pub element_type : Term → Term
@@ -56,17 +57,17 @@ abbrev pub character_text : ℕ → List ℕ
 character_text c = if is_printable c then 96 ∷ c ∷ [] else codes "code_char(" ++ decimal c ++ codes ")"
 
 -- whether it is a character that can stand between double quotes
-abbrev pub is_quotable : Tree → Bool
+abbrev pub is_quotable : ValueTree → Bool
 is_quotable (character c) = is_printable c && not (c == 34)
 is_quotable t = false
 
 -- the code of a character
-abbrev pub code_of : Tree → ℕ
+abbrev pub code_of : ValueTree → ℕ
 code_of (character c) = c
 code_of t = 0
 
 -- these characters between double quotes
-abbrev pub quoted : List Tree → List ℕ
+abbrev pub quoted : List ValueTree → List ℕ
 quoted ts = codes "\"" ++ map code_of ts ++ codes "\""
 
 abbrev pub bracketed : Bool → List ℕ → List ℕ
@@ -75,7 +76,7 @@ bracketed brackets text = if brackets then codes "(" ++ text ++ codes ")" else t
 -- A value of a type. A pair has brackets unless it is the right part of a pair or what a record holds. A text stands
 -- between double quotes where its bytes allow it.
 abbrev mutual
-  pub value_text : Datatypes → Bool → Term → Tree → List ℕ
+  pub value_text : DatatypesByTag → Bool → Term → ValueTree → List ℕ
   value_text known brackets t (int n) = signed_decimal n
   value_text known brackets t (boolean b) = if b then codes "T" else codes "F"
   value_text known brackets t (character c) = character_text c
@@ -89,11 +90,12 @@ abbrev mutual
       then quoted (list_of vs)
       else codes "[" ++ elements_text known (element_type t) vs ++ codes "]"
 
-  pub elements_text : Datatypes → Term → Trees → List ℕ
+  pub elements_text : DatatypesByTag → Term → ValueTrees → List ℕ
   elements_text known t no_trees = []
-  elements_text known t (tree_then v vs) = value_text known true t v ++ others_text known t vs
+  elements_text known t (tree_then v vs) = value_text known true t v ++ later_elements_text known t vs
 
   -- each with a comma before it
-  pub others_text : Datatypes → Term → Trees → List ℕ
-  others_text known t no_trees = []
-  others_text known t (tree_then v vs) = codes ", " ++ value_text known true t v ++ others_text known t vs
+  pub later_elements_text : DatatypesByTag → Term → ValueTrees → List ℕ
+  later_elements_text known t no_trees = []
+  later_elements_text known t (tree_then v vs) =
+      codes ", " ++ value_text known true t v ++ later_elements_text known t vs

@@ -1,7 +1,7 @@
 //! Why a line is refused.
 
 ghost use Rattle.std.specs.Prelude.{◌≡◌, ◌++◌, OnOk};
-ghost use Rattle.nesl_reply.specs.Faults.{number_of, fault_of, told, work_text, no_work, span_text, stop_text};
+ghost use Rattle.nesl_reply.specs.Faults.{number_of, fault_of, fault_words, work_text, no_work, span_text, stop_text};
 ghost use Rattle.nesl_reply.specs.Faults.{fault_text};
 
 use crate::writing::{write_bytes, write_number};
@@ -153,7 +153,7 @@ fn write_span(out: &mut Vec<u8>, span: Span) -> Result<(), AllocError>
 
 // Writes the place of a byte that no token begins with.
 fn write_lexical(out: &mut Vec<u8>, at: usize) -> Result<(), AllocError>
-    ensures { OnOk result (out.new.items ≡ out.old.items ++ told (Fault.Lexical at)) }
+    ensures { OnOk result (out.new.items ≡ out.old.items ++ fault_words (Fault.Lexical at)) }
 {
     write_bytes(out, b"lexical at ")?;
     write_number(out, at as u64)?;
@@ -162,7 +162,7 @@ fn write_lexical(out: &mut Vec<u8>, at: usize) -> Result<(), AllocError>
 
 // Writes the place of a name that isn't known.
 fn write_unknown(out: &mut Vec<u8>, span: Span) -> Result<(), AllocError>
-    ensures { OnOk result (out.new.items ≡ out.old.items ++ told (Fault.Unknown span)) }
+    ensures { OnOk result (out.new.items ≡ out.old.items ++ fault_words (Fault.Unknown span)) }
 {
     write_bytes(out, b"unknown")?;
     write_span(out, span)?;
@@ -171,7 +171,7 @@ fn write_unknown(out: &mut Vec<u8>, span: Span) -> Result<(), AllocError>
 
 // Writes all of a fault but its first word.
 fn write_told(out: &mut Vec<u8>, fault: Fault) -> Result<(), AllocError>
-    ensures { OnOk result (out.new.items ≡ out.old.items ++ told fault) }
+    ensures { OnOk result (out.new.items ≡ out.old.items ++ fault_words fault) }
 {
     match fault {
         Fault::Long => write_plain(out, b"long"),

@@ -1,7 +1,7 @@
 //! The texts of numbers, truth values and characters.
 
 ghost use Rattle.std.specs.Prelude.{◌≡◌, ◌++◌, codes, if◌then◌else◌, OnOk, map};
-ghost use Rattle.nesl_values.specs.Tree.{Tree, int, boolean, character};
+ghost use Rattle.nesl_values.specs.Tree.{ValueTree, int, boolean, character};
 ghost use Rattle.nesl_reply.specs.Values.{character_text, is_printable};
 ghost use Rattle.nesl_reply.specs.Tasks.{leaf_text, other_leaves};
 
@@ -10,7 +10,7 @@ use std::alloc::AllocError;
 
 /// A kind of leaf.
 pub(crate) trait Leaf: Copy {
-    ghost leaf: { Self → Tree };
+    ghost leaf: { Self → ValueTree };
 
     fn write(self, out: &mut Vec<u8>) -> Result<(), AllocError>
         ensures { OnOk result (out.new.items ≡ out.old.items ++ leaf_text (leaf self)) };

@@ -8,8 +8,9 @@ ghost use Rattle.nesl_values.specs.Parts.{list_of};
 ghost use Rattle.nesl_values.specs.View.{tree_of, trees_view, item_trees};
 ghost use Rattle.nesl_types.specs.Names.{datatype_at};
 ghost use Rattle.nesl_types.specs.Texts.{name_at};
-ghost use Rattle.nesl_reply.specs.Values.{Datatypes, datatypes, value_text as text_of_value, is_quotable, code_of};
-ghost use Rattle.nesl_reply.specs.Values.{quoted, is_text_type, elements_text, others_text, bracketed, left_type};
+ghost use Rattle.nesl_reply.specs.Values.{DatatypesByTag, datatypes, value_text as text_of_value, is_quotable, code_of};
+ghost use Rattle.nesl_reply.specs.Values.{quoted, is_text_type, elements_text, later_elements_text, bracketed};
+ghost use Rattle.nesl_reply.specs.Values.{left_type};
 ghost use Rattle.nesl_reply.specs.Values.{right_type, element_type, held_by};
 ghost use Rattle.nesl_reply.specs.Tasks.{task_text, tasks_text, task_work, tasks_work, IsNext, empty_text, leaves_text};
 ghost use Rattle.nesl_reply.specs.Tasks.{list_text};
@@ -68,7 +69,7 @@ pub(crate) fn write_value<P: Drop>(
 #[tactic(auto, using(crate::proofs::Lists::tasks_text_push, crate::proofs::Lists::tasks_work_push))]
 fn next_task<'a>(tasks: &mut Vec<Task<'a>>) -> Option<Task<'a>>
     ensures { MatchOption result
-        ((known : Datatypes) → tasks_text known tasks.old.items ≡ [])
+        ((known : DatatypesByTag) → tasks_text known tasks.old.items ≡ [])
         (λ task. IsNext task tasks.old.items tasks.new.items) }
 {
     tasks.pop()
@@ -137,7 +138,7 @@ fn write_items<'a>(
     items: Items<'a>,
     ty: &Part<'a>,
 ) -> Result<(), AllocError>
-    ensures text { OnOk result ((known : Datatypes) (brackets : Bool)
+    ensures text { OnOk result ((known : DatatypesByTag) (brackets : Bool)
         → out.new.items ++ tasks_text known tasks.new.items
         ≡ out.old.items ++ (text_of_value known brackets ty.now (sequence (item_trees items.entry))
         ++ tasks_text known tasks.old.items)) }
@@ -172,7 +173,7 @@ fn write_pair<'a>(
     ty: &Part<'a>,
     brackets: bool,
 ) -> Result<(), AllocError>
-    ensures text { OnOk result ((known : Datatypes) → out.new.items ++ tasks_text known tasks.new.items
+    ensures text { OnOk result ((known : DatatypesByTag) → out.new.items ++ tasks_text known tasks.new.items
         ≡ out.old.items ++ (bracketed brackets
         (text_of_value known true (left_type ty.now) (tree_of left.now) ++ codes ", "
         ++ text_of_value known false (right_type ty.now) (tree_of right.now)) ++ tasks_text known tasks.old.items)) }
@@ -218,7 +219,7 @@ fn write_sequence<'a>(
     items: &'a [Value],
     ty: &Part<'a>,
 ) -> Result<(), AllocError>
-    ensures text { OnOk result ((known : Datatypes) → out.new.items ++ tasks_text known tasks.new.items
+    ensures text { OnOk result ((known : DatatypesByTag) → out.new.items ++ tasks_text known tasks.new.items
         ≡ out.old.items ++ (text_of_value known true ty.now (seq (trees_view items.now))
         ++ tasks_text known tasks.old.items)) }
     ensures less_work { OnOk result (tasks_work tasks.new.items
@@ -237,7 +238,7 @@ fn write_list<'a>(
     items: &'a [Value],
     ty: &Part<'a>,
 ) -> Result<(), AllocError>
-    ensures text { OnOk result ((known : Datatypes) → out.new.items ++ tasks_text known tasks.new.items
+    ensures text { OnOk result ((known : DatatypesByTag) → out.new.items ++ tasks_text known tasks.new.items
         ≡ out.old.items ++ ((codes "[" ++ elements_text known ty.now (trees_view items.now) ++ codes "]")
         ++ tasks_text known tasks.old.items)) }
     ensures less_work { OnOk result (tasks_work tasks.new.items
@@ -260,8 +261,9 @@ fn write_others<'a>(
     items: &'a [Value],
     ty: &Part<'a>,
 ) -> Result<(), AllocError>
-    ensures text { OnOk result ((known : Datatypes) → out.new.items ++ tasks_text known tasks.new.items
-        ≡ out.old.items ++ (others_text known ty.now (trees_view items.now) ++ tasks_text known tasks.old.items)) }
+    ensures text { OnOk result ((known : DatatypesByTag) → out.new.items ++ tasks_text known tasks.new.items
+        ≡ out.old.items
+        ++ (later_elements_text known ty.now (trees_view items.now) ++ tasks_text known tasks.old.items)) }
     ensures less_work { OnOk result (tasks_work tasks.new.items
         < 4 * sizes (trees_view items.now) + 1 + tasks_work tasks.old.items) }
 {
@@ -307,7 +309,7 @@ fn write_first<L: Leaf>(out: &mut Vec<u8>, first: L, others: &[L]) -> Result<(),
 
 // Writes a packed sequence of numbers.
 fn write_integers(out: &mut Vec<u8>, items: &[i64], ty: &Part<'_>) -> Result<(), AllocError>
-    ensures { OnOk result ((known : Datatypes) (brackets : Bool)
+    ensures { OnOk result ((known : DatatypesByTag) (brackets : Bool)
         → out.new.items ≡ out.old.items ++ text_of_value known brackets ty.now (seq (trees_of (map int items.now)))) }
 {
     write_leaves(out, items, ty)?;
@@ -316,7 +318,7 @@ fn write_integers(out: &mut Vec<u8>, items: &[i64], ty: &Part<'_>) -> Result<(),
 
 // Writes a packed sequence of truth values.
 fn write_truths(out: &mut Vec<u8>, items: &[bool], ty: &Part<'_>) -> Result<(), AllocError>
-    ensures { OnOk result ((known : Datatypes) (brackets : Bool)
+    ensures { OnOk result ((known : DatatypesByTag) (brackets : Bool)
         → out.new.items ≡ out.old.items ++ text_of_value known brackets ty.now
         (seq (trees_of (map boolean items.now)))) }
 {
@@ -326,7 +328,7 @@ fn write_truths(out: &mut Vec<u8>, items: &[bool], ty: &Part<'_>) -> Result<(), 
 
 // Writes a packed sequence of characters: as a text where its type and its bytes allow it.
 fn write_characters(out: &mut Vec<u8>, bytes: &[u8], ty: &Part<'_>) -> Result<(), AllocError>
-    ensures { OnOk result ((known : Datatypes) (brackets : Bool)
+    ensures { OnOk result ((known : DatatypesByTag) (brackets : Bool)
         → out.new.items ≡ out.old.items ++ text_of_value known brackets ty.now
         (seq (trees_of (map character bytes.now)))) }
 {
@@ -375,7 +377,7 @@ fn is_text(items: &[Value], ty: &Part<'_>) -> bool
     is_text_type(ty) && can_be_quoted(items)
 }
 
-// The same, of packed characters.
+// Whether a sequence of packed characters is written as a text.
 #[tactic(auto, using(crate::proofs::Lists::all_of))]
 fn is_packed_text(bytes: &[u8], ty: &Part<'_>) -> bool
     ensures { result ≡ (is_text_type ty.now && list_all is_quotable (list_of (trees_of (map character bytes.now)))) }

@@ -1,17 +1,17 @@
 -- What a function has for its argument, and what a call tells of it.
 use Rattle.std.specs.Prelude.{◌≡◌, ◌⊎◌, Result, Ok, Err}
-use Rattle.nesl_values.specs.Tree.{Tree}
+use Rattle.nesl_values.specs.Tree.{ValueTree}
 use Rattle.nesl_values.specs.View.{tree_of}
 use Rattle.nesl_values.specs.declared.value.Value.{Value}
 use Rattle.nesl_scalars.specs.declared.trap.Trap.{Trap}
 
 -- a value, or why there is none; neither where the argument isn't of the function's type
 pub data Outcome : Type 0 where
-  gives : Tree → Outcome
+  gives : ValueTree → Outcome
   traps : Trap → Outcome
   undefined : Outcome
 
 -- the answer of a call: some trap where the function isn't defined
-abbrev pub Answers : {A : Type 0} → Result (Value A) Trap → Outcome → Type 0
-Answers (Ok v) o = o ≡ gives (tree_of v)
-Answers (Err t) o = (o ≡ traps t) ⊎ (o ≡ undefined)
+abbrev pub ResultIsOutcome : {A : Type 0} → Result (Value A) Trap → Outcome → Type 0
+ResultIsOutcome (Ok v) o = o ≡ gives (tree_of v)
+ResultIsOutcome (Err t) o = (o ≡ traps t) ⊎ (o ≡ undefined)

@@ -3,7 +3,7 @@
 use Rattle.std.specs.Prelude.{ℕ, ◌^◌, ◌%◌, ℤ, pos, ◌+ℤ◌, ◌-ℤ◌, ◌*ℤ◌, neg_ℤ, Bool, not, ◌&&◌, ◌||◌, ◌==◌}
 use Rattle.std.specs.Prelude.{nat_lt, nat_le, max, min, int_lt, int_le, int_div, unsigned_abs, if◌then◌else◌}
 use Rattle.std.specs.Int.{w64, int_min, int_max, int_bit_and, int_bit_or, int_bit_xor, int_bit_not}
-use Rattle.nesl_values.specs.Tree.{Tree, int, boolean, character}
+use Rattle.nesl_values.specs.Tree.{ValueTree, int, boolean, character}
 use Rattle.nesl_scalars.specs.declared.trap.Trap.TheVariants as trap
 use Rattle.nesl_scalars.specs.declared.unary.Unary.{Unary}
 use Rattle.nesl_scalars.specs.declared.unary.Unary.TheVariants as one
@@ -56,7 +56,7 @@ of_char one.CharCode c = gives (int (pos c))
 of_char f c = undefined
 
 -- what a function of one argument has for it
-abbrev pub unary : Unary → Tree → Outcome
+abbrev pub unary : Unary → ValueTree → Outcome
 unary f (int a) = of_int f a
 unary f (boolean b) = of_bool f b
 unary f (character c) = of_char f c
@@ -107,7 +107,7 @@ of_chars two.Min c d = gives (character (min c d))
 of_chars f c d = undefined
 
 -- what a function of two arguments has for them
-abbrev pub binary : Binary → Tree → Tree → Outcome
+abbrev pub binary : Binary → ValueTree → ValueTree → Outcome
 binary f (int a) (int b) = of_ints f a b
 binary f (boolean a) (boolean b) = of_bools f a b
 binary f (character c) (character d) = of_chars f c d

@@ -4,7 +4,7 @@ ghost use Rattle.std.specs.Prelude.{◌<◌, ◌^◌, ◌*ℤ◌, pos, FitsSigne
 ghost use Rattle.std.specs.Int.{w64};
 ghost use Rattle.std.specs.Option.{SomeIff};
 ghost use Rattle.nesl_values.specs.View.{tree_of};
-ghost use Rattle.nesl_scalars.specs.Outcomes.{Answers};
+ghost use Rattle.nesl_scalars.specs.Outcomes.{ResultIsOutcome};
 ghost use Rattle.nesl_scalars.specs.Scalars.{of_ints, of_bools, of_chars, binary};
 
 use crate::number::number;
@@ -47,7 +47,7 @@ impl Binary {
         left: &Value<A>,
         right: &Value<B>,
     ) -> Result<Value<C>, Trap>
-        ensures { Answers result (binary self (tree_of left.now) (tree_of right.now)) }
+        ensures { ResultIsOutcome result (binary self (tree_of left.now) (tree_of right.now)) }
     {
         match left.shape() {
             Shape::Int(a) => match right.as_int() {
@@ -67,7 +67,7 @@ impl Binary {
     }
 
     fn of_ints<C: Allocator>(self, a: i64, b: i64) -> Result<Value<C>, Trap>
-        ensures { Answers result (of_ints self a b) }
+        ensures { ResultIsOutcome result (of_ints self a b) }
     {
         match self {
             Binary::And => Ok(Value::Int(a & b)),
@@ -94,7 +94,7 @@ impl Binary {
     }
 
     fn of_bools<C: Allocator>(self, a: bool, b: bool) -> Result<Value<C>, Trap>
-        ensures { Answers result (of_bools self a b) }
+        ensures { ResultIsOutcome result (of_bools self a b) }
     {
         match self {
             Binary::And => Ok(Value::Bool(a && b)),
@@ -107,7 +107,7 @@ impl Binary {
     }
 
     fn of_chars<C: Allocator>(self, c: u8, d: u8) -> Result<Value<C>, Trap>
-        ensures { Answers result (of_chars self c d) }
+        ensures { ResultIsOutcome result (of_chars self c d) }
     {
         match self {
             Binary::Equal => Ok(Value::Bool(c == d)),
@@ -124,7 +124,7 @@ impl Binary {
 }
 
 fn quotient<C: Allocator>(a: i64, b: i64) -> Result<Value<C>, Trap>
-    ensures { Answers result (of_ints Binary.Divide a b) }
+    ensures { ResultIsOutcome result (of_ints Binary.Divide a b) }
 {
     if b == 0 {
         return Err(Trap::Division);
@@ -134,7 +134,7 @@ fn quotient<C: Allocator>(a: i64, b: i64) -> Result<Value<C>, Trap>
 
 // `wrapping_rem`, since the quotient of the least number by -1 does not fit, and its remainder is 0.
 fn remainder_of<C: Allocator>(a: i64, b: i64) -> Result<Value<C>, Trap>
-    ensures { Answers result (of_ints Binary.Rem a b) }
+    ensures { ResultIsOutcome result (of_ints Binary.Rem a b) }
 {
     if b == 0 {
         return Err(Trap::Division);
@@ -143,7 +143,7 @@ fn remainder_of<C: Allocator>(a: i64, b: i64) -> Result<Value<C>, Trap>
 }
 
 fn shifted_left<C: Allocator>(a: i64, n: i64) -> Result<Value<C>, Trap>
-    ensures { Answers result (of_ints Binary.Lshift a n) }
+    ensures { ResultIsOutcome result (of_ints Binary.Lshift a n) }
 {
     if n < 0 || 63 < n {
         return Err(Trap::Range);
@@ -152,7 +152,7 @@ fn shifted_left<C: Allocator>(a: i64, n: i64) -> Result<Value<C>, Trap>
 }
 
 fn shifted_right<C: Allocator>(a: i64, n: i64) -> Result<Value<C>, Trap>
-    ensures { Answers result (of_ints Binary.Rshift a n) }
+    ensures { ResultIsOutcome result (of_ints Binary.Rshift a n) }
 {
     if n < 0 || 63 < n {
         return Err(Trap::Range);

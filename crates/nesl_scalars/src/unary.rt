@@ -3,7 +3,7 @@
 ghost use Rattle.std.specs.Prelude.{◌≡◌, ◌≤ℤ◌, pos, unsigned_abs};
 ghost use Rattle.nesl_scalars.specs.Integers.{root};
 ghost use Rattle.nesl_values.specs.View.{tree_of};
-ghost use Rattle.nesl_scalars.specs.Outcomes.{Answers};
+ghost use Rattle.nesl_scalars.specs.Outcomes.{ResultIsOutcome};
 ghost use Rattle.nesl_scalars.specs.Scalars.{of_int, of_bool, of_char, unary};
 
 use crate::number::number;
@@ -34,7 +34,7 @@ impl Unary {
     /// What the function has for the argument: a leaf, which takes no memory. An argument that isn't of the
     /// function's type is answered by some refusal.
     pub fn apply<A: Allocator, B: Allocator>(self, argument: &Value<A>) -> Result<Value<B>, Trap>
-        ensures { Answers result (unary self (tree_of argument.now)) }
+        ensures { ResultIsOutcome result (unary self (tree_of argument.now)) }
     {
         match argument.shape() {
             Shape::Int(a) => self.of_int(a),
@@ -45,7 +45,7 @@ impl Unary {
     }
 
     fn of_int<B: Allocator>(self, a: i64) -> Result<Value<B>, Trap>
-        ensures { Answers result (of_int self a) }
+        ensures { ResultIsOutcome result (of_int self a) }
     {
         match self {
             Unary::Not => Ok(Value::Int(!a)),
@@ -63,7 +63,7 @@ impl Unary {
     }
 
     fn of_bool<B: Allocator>(self, b: bool) -> Result<Value<B>, Trap>
-        ensures { Answers result (of_bool self b) }
+        ensures { ResultIsOutcome result (of_bool self b) }
     {
         match self {
             Unary::Not => Ok(Value::Bool(!b)),
@@ -73,7 +73,7 @@ impl Unary {
     }
 
     fn of_char<B: Allocator>(self, c: u8) -> Result<Value<B>, Trap>
-        ensures { Answers result (of_char self c) }
+        ensures { ResultIsOutcome result (of_char self c) }
     {
         match self {
             Unary::CharCode => Ok(Value::Int(i64::from(c))),
@@ -83,7 +83,7 @@ impl Unary {
 }
 
 fn root_of<B: Allocator>(a: i64) -> Result<Value<B>, Trap>
-    ensures { Answers result (of_int Unary.Isqrt a) }
+    ensures { ResultIsOutcome result (of_int Unary.Isqrt a) }
 {
     if a < 0 {
         return Err(Trap::Range);
@@ -99,7 +99,7 @@ fn root(a: i64) -> i64
 }
 
 fn char_of<B: Allocator>(a: i64) -> Result<Value<B>, Trap>
-    ensures { Answers result (of_int Unary.CodeChar a) }
+    ensures { ResultIsOutcome result (of_int Unary.CodeChar a) }
 {
     match u8::try_from(a) {
         Ok(code) => Ok(Value::Char(code)),

@@ -6,5 +6,6 @@ pub mod Few
 pub mod Forms
 pub mod Moves
 pub mod PlaceBounds
+pub mod Planned
 pub mod ScanBounds
 pub mod Standing

@@ -7,7 +7,7 @@ use Rattle.std.proofs.Math.Nat.{add-mod-mod, add-mod_right, mod-eq_of_lt, mod-lt
 use Rattle.std.proofs.lemmas.Int.{ints, int_rem_euclid_is}
 use Rattle.std.proofs.lemmas.Bool.Decides.{nat_tests}
 use Rattle.std.proofs.lemmas.List.{length-append, length-drop, length-take-le}
-use Rattle.nesl_values.specs.Tree.{Tree, int, sequence, trees_of}
+use Rattle.nesl_values.specs.Tree.{ValueTree, int, sequence, trees_of}
 use Rattle.nesl_values.specs.Parts.{list_of}
 use Rattle.nesl_seqs_base.specs.Outcome.{gives}
 use Rattle.nesl_seqs_base.specs.Pieces.{places_on, rotated}
@@ -32,48 +32,48 @@ step_is_below s e d j h =
     let below = below_gap s e (j * d) in
     (λ p. below.0 (within.0 p), λ p. within.1 (below.1 p))
 
-get_number : (f : ℕ → Tree) (a n j : ℕ) → j < n → slice_get (map f (range_with_len a n)) j ≡ Some (f (a + j))
+get_number : (f : ℕ → ValueTree) (a n j : ℕ) → j < n → slice_get (map f (range_with_len a n)) j ≡ Some (f (a + j))
 get_number f a zero j h = absurd (omega arith)
 get_number f a (suc n) zero h = ap (λ k. Some (f k)) (omega arith)
 get_number f a (suc n) (suc j) h =
     let next : a + 1 + j ≡ a + suc j = omega arith in
     get_number f (a + 1) n j (omega arith) ∙ ap (λ k. Some (f k)) next
 
-get_no_number : (f : ℕ → Tree) (a n j : ℕ) → n ≤ j → slice_get (map f (range_with_len a n)) j ≡ None
+get_no_number : (f : ℕ → ValueTree) (a n j : ℕ) → n ≤ j → slice_get (map f (range_with_len a n)) j ≡ None
 get_no_number f a zero j h = refl
 get_no_number f a (suc n) zero h = absurd (omega arith)
 get_no_number f a (suc n) (suc j) h = get_no_number f (a + 1) n j (omega arith)
 
-pub list_back : (ts : List Tree) → list_of (trees_of ts) ≡ ts
+pub list_back : (ts : List ValueTree) → list_of (trees_of ts) ≡ ts
 list_back [] = refl
 list_back (t ∷ ts) = ap (λ us. t ∷ us) (list_back ts)
 
-pub same_elements : (ts us : List Tree) → gives (sequence ts) ≡ gives (sequence us) → ts ≡ us
+pub same_elements : (ts us : List ValueTree) → gives (sequence ts) ≡ gives (sequence us) → ts ≡ us
 same_elements ts us h =
     let trees : trees_of ts ≡ trees_of us = cc h in
     sym (list_back ts) ∙ ap list_of trees ∙ list_back us
 
-get_in_take : (s j : ℕ) (ts : List Tree) → j < s → slice_get (take s ts) j ≡ slice_get ts j
+get_in_take : (s j : ℕ) (ts : List ValueTree) → j < s → slice_get (take s ts) j ≡ slice_get ts j
 get_in_take zero j ts h = absurd (omega arith)
 get_in_take (suc s) j [] h = refl
 get_in_take (suc s) zero (t ∷ ts) h = refl
 get_in_take (suc s) (suc j) (t ∷ ts) h = get_in_take s j ts (omega arith)
 
-get_in_drop : (s p : ℕ) (ts : List Tree) → slice_get (drop s ts) p ≡ slice_get ts (s + p)
+get_in_drop : (s p : ℕ) (ts : List ValueTree) → slice_get (drop s ts) p ≡ slice_get ts (s + p)
 get_in_drop zero p ts = ap (slice_get ts) (omega arith)
 get_in_drop (suc s) p [] = refl
 get_in_drop (suc s) p (t ∷ ts) =
     let next : suc s + p ≡ suc (s + p) = omega arith in
     get_in_drop s p ts ∙ ap (slice_get (t ∷ ts)) (sym next)
 
-get_second : (us vs : List Tree) (p : ℕ) → slice_get (us ++ vs) (length us + p) ≡ slice_get vs p
+get_second : (us vs : List ValueTree) (p : ℕ) → slice_get (us ++ vs) (length us + p) ≡ slice_get vs p
 get_second [] vs p = ap (slice_get vs) (omega arith)
 get_second (u ∷ us) vs p =
     let next : suc (length us) + p ≡ suc (length us + p) = omega arith in
     ap (slice_get (u ∷ us ++ vs)) next ∙ get_second us vs p
 
 -- element j of what is turned by r places
-turned_at : (ts : List Tree) (r j : ℕ) → r < length ts → j < length ts → slice_get (drop (length ts - r) ts ++ take (length ts - r) ts) ((j + r) % length ts) ≡ slice_get ts j
+turned_at : (ts : List ValueTree) (r j : ℕ) → r < length ts → j < length ts → slice_get (drop (length ts - r) ts ++ take (length ts - r) ts) ((j + r) % length ts) ≡ slice_get ts j
 turned_at ts r j h k = by (nat_lt (j + r) n) refl
   where
     n : ℕ
@@ -82,7 +82,7 @@ turned_at ts r j h k = by (nat_lt (j + r) n) refl
     start : ℕ
     start = n - r
 
-    front : List Tree
+    front : List ValueTree
     front = drop start ts
 
     size : length front ≡ r
@@ -151,7 +151,7 @@ pub numbers_of_range : NumbersOfRange
 numbers_of_range s e zero j us is = absurd (cc is)
 numbers_of_range s e (suc d) j us is = (below, beyond)
   where
-    f : ℕ → Tree
+    f : ℕ → ValueTree
     f i = int (s +ℤ pos (i * suc d))
 
     n : ℕ

@@ -7,9 +7,9 @@ use Rattle.std.proofs.lemmas.Bool.Decides.{Decides-eqb, Decides-ltb}
 use Rattle.std.proofs.lemmas.List.{map-id}
 use Rattle.std.proofs.lemmas.List.FromFn.{length-range_with_len, get_or-range_with_len}
 use Rattle.std.proofs.lemmas.Option.{slice_get-get_or}
-use Rattle.nesl_values.specs.Tree.{Tree, int, sequence}
+use Rattle.nesl_values.specs.Tree.{ValueTree, int, sequence}
 use Rattle.nesl_values.specs.Parts.{as_int}
-use Rattle.nesl_seqs_base.specs.Outcome.{gives, given, IsGiven}
+use Rattle.nesl_seqs_base.specs.Outcome.{gives, if_there, IsGiven}
 use Rattle.nesl_seqs_base.specs.Reductions.{all_of}
 use Rattle.nesl_seqs_base.specs.Permute.{all_differ, rearranged, permuted}
 use Rattle.nesl_seqs_base.specs.Places.{arrival, place_in, place_of, places_of}
@@ -33,7 +33,7 @@ stands_in c (k ∷ ks) zero at =
     ap (λ b. b || list_any (nat_eq c) ks) ((Decides-eqb c k).1 (sym same))
 stands_in c (k ∷ ks) (suc j) at = ap (λ b. nat_eq c k || b) (stands_in c ks j at) ∙ or-true (nat_eq c k)
 
-arrives_to : (ks : List ℕ) (ts : List Tree) (j k : ℕ) (t : Tree) → all_differ ks ≡ true → slice_get ks j ≡ Some k → slice_get ts j ≡ Some t → arrival (zip ks ts) k ≡ Some t
+arrives_to : (ks : List ℕ) (ts : List ValueTree) (j k : ℕ) (t : ValueTree) → all_differ ks ≡ true → slice_get ks j ≡ Some k → slice_get ts j ≡ Some t → arrival (zip ks ts) k ≡ Some t
 arrives_to [] ts j k t differ at there = absurd (cc at)
 arrives_to (c ∷ ks) [] j k t differ at there = absurd (cc there)
 arrives_to (c ∷ ks) (u ∷ ts) zero k t differ at there =
@@ -57,7 +57,7 @@ found_at {Y = Y} f (u ∷ xs) h i x at = by_first (f u) refl h i at (λ e k p. f
         sym e ∙ ap f same
     by_first (Some y) e p (suc k) q rest = rest (omega (arith, p)) k q
 
-stands_at : (ts : List Tree) (ks : List ℕ) (j k : ℕ) (t : Tree) → length ks ≡ length ts → list_all (λ i. nat_lt i (length ts)) ks ≡ true → all_differ ks ≡ true → slice_get ks j ≡ Some k → slice_get ts j ≡ Some t → slice_get (rearranged ts ks) k ≡ Some t
+stands_at : (ts : List ValueTree) (ks : List ℕ) (j k : ℕ) (t : ValueTree) → length ks ≡ length ts → list_all (λ i. nat_lt i (length ts)) ks ≡ true → all_differ ks ≡ true → slice_get ks j ≡ Some k → slice_get ts j ≡ Some t → slice_get (rearranged ts ks) k ≡ Some t
 stands_at ts ks j k t same below differ at there =
     let n = length ts in
     let all : length (rearranged ts ks) ≡ length (range_with_len 0 (length ts)) = sym (weights_one (rearranged ts ks)) ∙ weights_arrive (λ u. 1) (length ts) ks ts same below differ ∙ weights_one ts ∙ sym (length-range_with_len 0 (length ts)) in
@@ -88,7 +88,7 @@ place_below n (Some (pos i)) k h = by_test (nat_lt i n) refl h
         sym (ap (λ j. nat_lt j n) same) ∙ e
     by_test false e p = absurd (cc p)
 
-all_below : (n : ℕ) (js : List Tree) → list_all (λ k. nat_lt k n) (places_of n js) ≡ true
+all_below : (n : ℕ) (js : List ValueTree) → list_all (λ k. nat_lt k n) (places_of n js) ≡ true
 all_below n [] = refl
 all_below n (j ∷ js) = one_below (place_of n j) n (places_of n js) (λ k e. place_below n (as_int j) k e) (all_below n js)
 
@@ -100,10 +100,10 @@ named_place n k h = by_test (nat_lt k n) h
     by_test false e = absurd (false≢true e)
 
 -- each element stands where its index says, in what `permute` gives
-pub stands_where_told : (ts us vs : List Tree) (j k : ℕ) (t : Tree) → given (all_of as_int us) (permuted ts) ≡ gives (sequence vs) → slice_get us j ≡ Some (int (pos k)) → slice_get ts j ≡ Some t → slice_get vs k ≡ Some t
+pub stands_where_told : (ts us vs : List ValueTree) (j k : ℕ) (t : ValueTree) → if_there (all_of as_int us) (permuted ts) ≡ gives (sequence vs) → slice_get us j ≡ Some (int (pos k)) → slice_get ts j ≡ Some t → slice_get vs k ≡ Some t
 stands_where_told ts us vs j k t is at there =
-    let there_is : IsGiven (given (all_of as_int us) (permuted ts)) = subst IsGiven (sym is) tt in
-    let a : IsArranged ts us = subst (λ js. IsArranged ts js) (map-id us) (is_arranged (λ u. u) us ts (subst (λ js. IsGiven (given (all_of as_int js) (permuted ts))) (sym (map-id us)) there_is)) in
+    let there_is : IsGiven (if_there (all_of as_int us) (permuted ts)) = subst IsGiven (sym is) tt in
+    let a : IsArranged ts us = subst (λ js. IsArranged ts js) (map-id us) (is_arranged (λ u. u) us ts (subst (λ js. IsGiven (if_there (all_of as_int js) (permuted ts))) (sym (map-id us)) there_is)) in
     let same : rearranged ts (places_of (length ts) us) ≡ vs = same_elements _ _ (sym a.is ∙ is) in
     let all : length (places_of (length ts) us) ≡ length us = all_found (place_of (length ts)) us a.named in
     let place : slice_get (places_of (length ts) us) j ≡ Some k = found_at (place_of (length ts)) us all j (int (pos k)) at ∙ named_place (length ts) k (all_at (λ u. is_some (place_of (length ts) u)) us j (int (pos k)) a.named at) in

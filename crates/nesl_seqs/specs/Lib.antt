@@ -1,3 +1,4 @@
 pub mod Few
 pub mod Laws
+pub mod Plans
 pub mod Worked

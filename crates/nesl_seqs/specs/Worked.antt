@@ -1,8 +1,8 @@
 -- Calls that are worked by hand.
 use Rattle.std.specs.Prelude.{◌≡◌, ℕ, ℤ, pos, negsuc, true, List, [], ◌∷◌, map}
-use Rattle.nesl_values.specs.Tree.{Tree, int, boolean, pair, sequence, size}
+use Rattle.nesl_values.specs.Tree.{ValueTree, int, boolean, pair, sequence, size}
 use Rattle.nesl_seqs_base.specs.Outcome.{gives, traps}
-use Rattle.nesl_seqs_base.specs.Meaning.{meaning}
+use Rattle.nesl_seqs_base.specs.Meaning.{outcome_of}
 use Rattle.nesl_seqs_base.specs.Prices.{reads, depth_of, price}
 use Rattle.nesl_seqs_base.specs.declared.price.Price.{Price}
 use Rattle.nesl_seqs_base.specs.declared.seq_fn.SeqFn.{SeqFn}
@@ -10,7 +10,7 @@ use Rattle.nesl_seqs_base.specs.declared.seq_fn.SeqFn.TheVariants as function
 use Rattle.nesl_scalars.specs.declared.trap.Trap.TheVariants as trap
 
 -- the sequence of these numbers
-abbrev pub ints : List ℤ → Tree
+abbrev pub ints : List ℤ → ValueTree
 ints zs = sequence (map int zs)
 
 -- what a price says of work, depth and nodes
@@ -18,24 +18,24 @@ abbrev pub price_of : ℕ → ℕ → ℕ → Price
 price_of work depth nodes = record { work = work; depth = depth; nodes = nodes }
 
 -- at t the function comes to u, for that work and depth
-abbrev pub ComesTo : SeqFn → Tree → Tree → ℕ → ℕ → Type 0
+abbrev pub ComesTo : SeqFn → ValueTree → ValueTree → ℕ → ℕ → Type 0
 ComesTo f t u work depth =
-    (meaning f t ≡ gives u) × (price (reads f t) (depth_of f (reads f t)) u ≡ price_of work depth (size u))
+    (outcome_of f t ≡ gives u) × (price (reads f t) (depth_of f (reads f t)) u ≡ price_of work depth (size u))
 
 -- `[1:8:3]`, `[3:3]`, and steps of 0
 abbrev pub Steps : Type 0
 Steps = ComesTo function.RangeBy (pair (int (pos 1)) (pair (int (pos 8)) (int (pos 3))))
     (ints (pos 1 ∷ pos 4 ∷ pos 7 ∷ [])) 4 1
     × ComesTo function.Range (pair (int (pos 3)) (int (pos 3))) (ints []) 1 1
-    × (meaning function.RangeBy (pair (int (pos 1)) (pair (int (pos 8)) (int (pos 0)))) ≡ traps trap.Stride)
+    × (outcome_of function.RangeBy (pair (int (pos 1)) (pair (int (pos 8)) (int (pos 0)))) ≡ traps trap.Stride)
 
 -- pieces of 1, 0 and 2 elements; counts that are too few, and one below 0
 abbrev pub Pieces : Type 0
 Pieces = ComesTo function.Partition
     (pair (ints (pos 5 ∷ pos 6 ∷ pos 7 ∷ [])) (ints (pos 1 ∷ pos 0 ∷ pos 2 ∷ [])))
     (sequence (ints (pos 5 ∷ []) ∷ ints [] ∷ ints (pos 6 ∷ pos 7 ∷ []) ∷ [])) 13 1
-    × (meaning function.Partition (pair (ints (pos 5 ∷ pos 6 ∷ [])) (ints (pos 1 ∷ []))) ≡ traps trap.Count)
-    × (meaning function.Partition (pair (ints (pos 5 ∷ [])) (ints (pos 2 ∷ negsuc 0 ∷ []))) ≡ traps trap.Count)
+    × (outcome_of function.Partition (pair (ints (pos 5 ∷ pos 6 ∷ [])) (ints (pos 1 ∷ []))) ≡ traps trap.Count)
+    × (outcome_of function.Partition (pair (ints (pos 5 ∷ [])) (ints (pos 2 ∷ negsuc 0 ∷ []))) ≡ traps trap.Count)
 
 -- the last of two that are written at one place wins; a place behind the end
 abbrev pub Writes : Type 0
@@ -43,7 +43,7 @@ Writes = ComesTo function.Write
     (pair (ints (pos 5 ∷ pos 6 ∷ pos 7 ∷ []))
     (sequence (pair (int (pos 1)) (int (pos 8)) ∷ pair (int (pos 1)) (int (pos 9)) ∷ [])))
     (ints (pos 5 ∷ pos 9 ∷ pos 7 ∷ [])) 9 1
-    × (meaning function.Write (pair (ints (pos 5 ∷ [])) (sequence (pair (int (pos 1)) (int (pos 8)) ∷ [])))
+    × (outcome_of function.Write (pair (ints (pos 5 ∷ [])) (sequence (pair (int (pos 1)) (int (pos 8)) ∷ [])))
     ≡ traps trap.Range)
 
 -- elements go to their indices; refused are first another length, then an index that is no place, and then one twice
@@ -51,9 +51,9 @@ abbrev pub Permutes : Type 0
 Permutes = ComesTo function.Permute
     (pair (ints (pos 5 ∷ pos 6 ∷ pos 7 ∷ [])) (ints (pos 1 ∷ pos 2 ∷ pos 0 ∷ [])))
     (ints (pos 7 ∷ pos 5 ∷ pos 6 ∷ [])) 10 1
-    × (meaning function.Permute (pair (ints (pos 5 ∷ [])) (ints (pos 2 ∷ pos 2 ∷ []))) ≡ traps trap.Length)
-    × (meaning function.Permute (pair (ints (pos 5 ∷ pos 6 ∷ [])) (ints (pos 2 ∷ pos 2 ∷ []))) ≡ traps trap.Range)
-    × (meaning function.Permute (pair (ints (pos 5 ∷ pos 6 ∷ [])) (ints (pos 1 ∷ pos 1 ∷ [])))
+    × (outcome_of function.Permute (pair (ints (pos 5 ∷ [])) (ints (pos 2 ∷ pos 2 ∷ []))) ≡ traps trap.Length)
+    × (outcome_of function.Permute (pair (ints (pos 5 ∷ pos 6 ∷ [])) (ints (pos 2 ∷ pos 2 ∷ []))) ≡ traps trap.Range)
+    × (outcome_of function.Permute (pair (ints (pos 5 ∷ pos 6 ∷ [])) (ints (pos 1 ∷ pos 1 ∷ [])))
     ≡ traps trap.Permutation)
 
 -- all six nodes of two sequences of two are read
@@ -65,12 +65,12 @@ abbrev pub Sums : Type 0
 Sums = ComesTo function.PlusScan (ints (pos 3 ∷ negsuc 0 ∷ pos 2 ∷ pos 5 ∷ []))
     (ints (pos 0 ∷ pos 3 ∷ pos 2 ∷ pos 4 ∷ [])) 9 4
     × ComesTo function.PlusScan (ints []) (ints []) 1 1
-    × (meaning function.Sum (ints (pos 9223372036854775807 ∷ pos 1 ∷ [])) ≡ traps trap.Overflow)
+    × (outcome_of function.Sum (ints (pos 9223372036854775807 ∷ pos 1 ∷ [])) ≡ traps trap.Overflow)
 
 -- the first of two greatest; of no element there is none
 abbrev pub Greatest : Type 0
 Greatest = ComesTo function.MaxIndex (ints (pos 3 ∷ pos 7 ∷ pos 7 ∷ [])) (int (pos 1)) 4 3
-    × (meaning function.MaxIndex (ints []) ≡ traps trap.Empty)
+    × (outcome_of function.MaxIndex (ints []) ≡ traps trap.Empty)
 
 -- `rotate` by 1 and by -1, and the last two elements
 abbrev pub Turns : Type 0

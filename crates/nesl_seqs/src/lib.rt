@@ -3,8 +3,9 @@
 
 mod functions;
 mod laws;
+mod plans;
 
-pub use functions::{apply, cost_and_size, price_within};
+pub use functions::{apply, cost_and_size, plan, price_within};
 pub use laws::{
     counts_digits, cuts_the_whole, numbers_of_range, places_of_rotate, takes_and_drops,
     takes_every_other, tells_equality, tells_places, weaves, worked_calls, zips,
@@ -12,3 +13,4 @@ pub use laws::{
 pub use nesl_seqs_base::argument::Argument;
 pub use nesl_seqs_base::price::Price;
 pub use nesl_seqs_base::seq_fn::SeqFn;
+pub use plans::Plan;

@@ -5,11 +5,11 @@ use Rattle.std.proofs.lemmas.List.{drop_more, drop_all, take_rest, drop-drop, ap
 use Rattle.nesl_values.specs.declared.value.Value.{Value}
 use Rattle.nesl_values.specs.View.{item_trees}
 use Rattle.nesl_values.specs.declared.items.Items.{Items}
-use Rattle.nesl_values.specs.Tree.{Tree, int, boolean, character, sequence, size, sizes, trees_of}
+use Rattle.nesl_values.specs.Tree.{ValueTree, int, boolean, character, sequence, size, sizes, trees_of}
 use Rattle.nesl_seqs_base.proofs.Totals.{sizes_append}
 use Rattle.nesl_seqs_base.specs.Woven.{evens, odds, woven}
 
-pub even_places : (ts : List Tree) (j : ℕ) → slice_get (evens ts) j ≡ slice_get ts (2 * j)
+pub even_places : (ts : List ValueTree) (j : ℕ) → slice_get (evens ts) j ≡ slice_get ts (2 * j)
 even_places [] j = refl
 even_places (t ∷ []) zero = refl
 even_places (t ∷ []) (suc j) =
@@ -20,25 +20,25 @@ even_places (t ∷ u ∷ ts) (suc j) =
     let next : 2 * suc j ≡ suc (suc (2 * j)) = omega arith in
     rw next (even_places ts j)
 
-pub odd_places : (ts : List Tree) (j : ℕ) → slice_get (odds ts) j ≡ slice_get ts (2 * j + 1)
+pub odd_places : (ts : List ValueTree) (j : ℕ) → slice_get (odds ts) j ≡ slice_get ts (2 * j + 1)
 odd_places [] j = refl
 odd_places (t ∷ ts) j =
     let next : 2 * j + 1 ≡ suc (2 * j) = omega arith in
     rw next (even_places ts j)
 
-sizes_woven : (ts us : List Tree) → sizes (trees_of (woven ts us)) ≡ sizes (trees_of ts) + sizes (trees_of us)
+sizes_woven : (ts us : List ValueTree) → sizes (trees_of (woven ts us)) ≡ sizes (trees_of ts) + sizes (trees_of us)
 sizes_woven [] us = omega arith
 sizes_woven (t ∷ ts) [] = omega arith
 sizes_woven (t ∷ ts) (u ∷ us) = omega (arith, sizes_woven ts us)
 
-pub size_woven : (ts us : List Tree) → size (sequence (woven ts us)) ≡ size (sequence (ts ++ us))
+pub size_woven : (ts us : List ValueTree) → size (sequence (woven ts us)) ≡ size (sequence (ts ++ us))
 size_woven ts us = omega (arith, sizes_woven ts us, sizes_append ts us)
 
 pub evens_more : {X : Type 0} (x : X) (xs : List X) → evens (x ∷ xs) ≡ x ∷ odds xs
 evens_more x [] = refl
 evens_more x (y ∷ ys) = refl
 
-unwoven : (ts us : List Tree) → length us ≤ length ts → length ts ≤ length us + 1 → (evens (woven ts us) ≡ ts) × (odds (woven ts us) ≡ us)
+unwoven : (ts us : List ValueTree) → length us ≤ length ts → length ts ≤ length us + 1 → (evens (woven ts us) ≡ ts) × (odds (woven ts us) ≡ us)
 unwoven [] [] h k = (refl, refl)
 unwoven [] (u ∷ us) h k = absurd (omega arith)
 unwoven (t ∷ []) [] h k = (refl, refl)
@@ -51,7 +51,7 @@ near : (m n : ℕ) → (m ≡ n) ⊎ (m ≡ n + 1) → (n ≤ m) × (m ≤ n + 1
 near m n (inl h) = (omega arith, omega arith)
 near m n (inr h) = (omega arith, omega arith)
 
-pub woven_apart : (ts us : List Tree) → (length ts ≡ length us) ⊎ (length ts ≡ length us + 1) → (evens (woven ts us) ≡ ts) × (odds (woven ts us) ≡ us)
+pub woven_apart : (ts us : List ValueTree) → (length ts ≡ length us) ⊎ (length ts ≡ length us + 1) → (evens (woven ts us) ≡ ts) × (odds (woven ts us) ≡ us)
 woven_apart ts us h = let n = near (length ts) (length us) h in unwoven ts us n.0 n.1
 
 evens_from : {X : Type 0} (xs : List X) (i : ℕ) (x : X) → i < length xs → x ≡ get_or xs i x → evens (drop i xs) ≡ x ∷ evens (drop (i + 2) xs)
@@ -78,10 +78,10 @@ pub seen_at : {X Y : Type 0} (f : X → Y) (xs : List X) (i : ℕ) (x : X) (y : 
 seen_at f xs i x y h at is = is ∙ ap f at ∙ sym (get_or-map f xs i x y h)
 
 -- the nodes of every other item that is left
-pub sizes_next : (ts : List Tree) (p : ℕ) (t : Tree) → 2 * p < length ts → t ≡ get_or ts (2 * p) t → sizes (trees_of (evens (drop (2 * p) ts))) ≡ size t + sizes (trees_of (evens (drop (2 * (p + 1)) ts)))
+pub sizes_next : (ts : List ValueTree) (p : ℕ) (t : ValueTree) → 2 * p < length ts → t ≡ get_or ts (2 * p) t → sizes (trees_of (evens (drop (2 * p) ts))) ≡ size t + sizes (trees_of (evens (drop (2 * (p + 1)) ts)))
 sizes_next ts p t h at = ap (λ us. sizes (trees_of us)) (evens_next ts p t h at)
 
-pub sizes_end : (ts : List Tree) (p : ℕ) → length ts ≤ 2 * p → sizes (trees_of (evens (drop (2 * p) ts))) ≡ 0
+pub sizes_end : (ts : List ValueTree) (p : ℕ) → length ts ≤ 2 * p → sizes (trees_of (evens (drop (2 * p) ts))) ≡ 0
 sizes_end ts p h = ap (λ us. sizes (trees_of (evens us))) (drop_all (2 * p) ts h)
 
 pub map_evens : {X Y : Type 0} (f : X → Y) (xs : List X) → map f (evens xs) ≡ evens (map f xs)
@@ -113,7 +113,7 @@ pub woven_end : {X : Type 0} (xs ys made now more : List X) (i : ℕ) → length
 woven_end xs ys made now more i h rest push so_far =
     push ∙ ap (λ zs. made ++ zs) (rest ∙ sym (woven_none (drop i xs)) ∙ ap (woven (drop i xs)) (sym (drop_all i ys h))) ∙ so_far
 
-leaves_of_evens : {X : Type 0} (leaf : X → Tree) → ((x : X) → size (leaf x) ≡ 1) → (xs : List X) → let n = length (map leaf xs) in sizes (trees_of (evens (map leaf xs))) ≡ n / 2 + min 1 (n % 2)
+leaves_of_evens : {X : Type 0} (leaf : X → ValueTree) → ((x : X) → size (leaf x) ≡ 1) → (xs : List X) → let n = length (map leaf xs) in sizes (trees_of (evens (map leaf xs))) ≡ n / 2 + min 1 (n % 2)
 leaves_of_evens leaf one [] = omega arith
 leaves_of_evens leaf one (x ∷ []) = omega (arith, one x)
 leaves_of_evens leaf one (x ∷ y ∷ xs) = omega (arith, one x, leaves_of_evens leaf one xs)
@@ -125,7 +125,7 @@ packed_evens (Items.Bools s) other = leaves_of_evens boolean (λ _. refl) s.now
 packed_evens (Items.Chars s) other = leaves_of_evens character (λ _. refl) s.now
 packed_evens (Items.Values s) other = absurd (other s refl)
 
-pub woven_turn_of : (xs ys made half now : List Tree) (i : ℕ) (x y : Tree) → slice_get xs i ≡ Some x → slice_get ys i ≡ Some y → half ≡ made ++ x ∷ [] → now ≡ half ++ y ∷ [] → made ++ woven (drop i xs) (drop i ys) ≡ woven xs ys
+pub woven_turn_of : (xs ys made half now : List ValueTree) (i : ℕ) (x y : ValueTree) → slice_get xs i ≡ Some x → slice_get ys i ≡ Some y → half ≡ made ++ x ∷ [] → now ≡ half ++ y ∷ [] → made ++ woven (drop i xs) (drop i ys) ≡ woven xs ys
     → now ++ woven (drop (i + 1) xs) (drop (i + 1) ys) ≡ woven xs ys
 woven_turn_of xs ys made half now i x y at_x at_y =
     woven_turn xs ys made half now i x y (slice_get_within xs i x at_x) (slice_get_within ys i y at_y) (sym (get_or_from_slice_get xs i x x at_x)) (sym (get_or_from_slice_get ys i y y at_y))

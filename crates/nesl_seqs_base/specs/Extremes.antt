@@ -3,9 +3,9 @@ use Rattle.std.specs.Prelude.{ℕ, ℤ, pos, Bool, List, Option, Some, None, opt
 use Rattle.std.specs.Prelude.{slice_get, int_le}
 use Rattle.std.specs.List.{list_all, position}
 use Rattle.nesl_scalars.specs.declared.trap.Trap.TheVariants.{Empty}
-use Rattle.nesl_values.specs.Tree.{Tree, int, character}
+use Rattle.nesl_values.specs.Tree.{ValueTree, int, character}
 use Rattle.nesl_values.specs.Parts.{as_int, as_char, as_sequence}
-use Rattle.nesl_seqs_base.specs.Outcome.{Outcome, gives, traps, given, given_first}
+use Rattle.nesl_seqs_base.specs.Outcome.{Outcome, gives, traps, if_there, if_there_or}
 use Rattle.nesl_seqs_base.specs.Reductions.{all_of}
 use Rattle.nesl_seqs_base.specs.declared.order.Order.{Order}
 use Rattle.nesl_seqs_base.specs.declared.order.Order.TheVariants.{Greatest, Least}
@@ -13,12 +13,12 @@ use Rattle.nesl_seqs_base.specs.declared.order.Kind.{Kind}
 use Rattle.nesl_seqs_base.specs.declared.order.Kind.TheVariants.{Numbers, Codes}
 
 -- the number by which an element is ordered: itself, or a character's code
-abbrev pub key : Kind → Tree → Option ℤ
+abbrev pub key : Kind → ValueTree → Option ℤ
 key Numbers t = as_int t
 key Codes t = option_map pos (as_char t)
 
 -- the element with that number
-abbrev pub element_of : Kind → ℤ → Tree
+abbrev pub element_of : Kind → ℤ → ValueTree
 element_of Numbers z = int z
 element_of Codes z = character (unsigned_abs z)
 
@@ -33,20 +33,20 @@ best o zs =
     option_and_then (λ i. option_map (λ z. (i, z)) (slice_get zs i)) (position (λ z. list_all (leads o z) zs) zs)
 
 -- what is told of the best, where there is one
-abbrev pub chosen : {X : Type 0} → (X → Tree) → Option X → Outcome
-chosen f (Some x) = gives (f x)
-chosen f None = traps Empty
+abbrev pub or_empty : {X : Type 0} → (X → ValueTree) → Option X → Outcome
+or_empty f (Some x) = gives (f x)
+or_empty f None = traps Empty
 
 -- what is told of the best of numbers, or of characters
-abbrev pub from_best : Order → (Kind → ℕ × ℤ → Tree) → Tree → Outcome
-from_best o f t =
-    given_first (option_and_then (all_of (key Numbers)) (as_sequence t)) (λ zs. chosen (f Numbers) (best o zs))
-    (given (option_and_then (all_of (key Codes)) (as_sequence t)) (λ zs. chosen (f Codes) (best o zs)))
+abbrev pub of_best : Order → (Kind → ℕ × ℤ → ValueTree) → ValueTree → Outcome
+of_best o f t =
+    if_there_or (option_and_then (all_of (key Numbers)) (as_sequence t)) (λ zs. or_empty (f Numbers) (best o zs))
+    (if_there (option_and_then (all_of (key Codes)) (as_sequence t)) (λ zs. or_empty (f Codes) (best o zs)))
 
 -- `max_val(v)` and `min_val(v)`
-abbrev pub best_element : Order → Tree → Outcome
-best_element o t = from_best o (λ k b. element_of k b.1) t
+abbrev pub best_element : Order → ValueTree → Outcome
+best_element o t = of_best o (λ k b. element_of k b.1) t
 
 -- `max_index(v)` and `min_index(v)`
-abbrev pub best_place : Order → Tree → Outcome
-best_place o t = from_best o (λ k b. int (pos b.0)) t
+abbrev pub best_place : Order → ValueTree → Outcome
+best_place o t = of_best o (λ k b. int (pos b.0)) t

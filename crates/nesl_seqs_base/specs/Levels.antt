@@ -5,23 +5,23 @@ use Rattle.std.specs.List.{flat_map, list_all}
 use Rattle.std.specs.Ordering.{int_eq}
 use Rattle.nesl_scalars.specs.declared.trap.Trap.{Trap}
 use Rattle.nesl_scalars.specs.declared.trap.Trap.TheVariants.{Count}
-use Rattle.nesl_values.specs.Tree.{Tree, sequence}
+use Rattle.nesl_values.specs.Tree.{ValueTree, sequence}
 use Rattle.nesl_values.specs.Parts.{as_pair, as_sequence}
 use Rattle.nesl_seqs_base.specs.Outcome.{Outcome, gives, traps}
-use Rattle.nesl_seqs_base.specs.Arguments.{both, numbers}
+use Rattle.nesl_seqs_base.specs.Arguments.{both_parts, numbers}
 use Rattle.nesl_seqs_base.specs.Reductions.{all_of, total}
 
 -- a sequence of sequences
-abbrev pub sequences : Tree → Option (List (List Tree))
+abbrev pub sequences : ValueTree → Option (List (List ValueTree))
 sequences t = option_and_then (all_of as_sequence) (as_sequence t)
 
 -- `flatten(v)`: the elements of the inner sequences, one sequence after the other
-abbrev pub flattened : List (List Tree) → Outcome
+abbrev pub flattened : List (List ValueTree) → Outcome
 flattened tss = gives (sequence (flat_map (λ ts. ts) tss))
 
 -- a sequence and numbers
-abbrev pub sequence_and_numbers : Tree → Option (List Tree × List ℤ)
-sequence_and_numbers t = option_and_then (λ p. both (as_sequence p.0) (numbers p.1)) (as_pair t)
+abbrev pub sequence_and_numbers : ValueTree → Option (List ValueTree × List ℤ)
+sequence_and_numbers t = option_and_then (λ p. both_parts (as_sequence p.0) (numbers p.1)) (as_pair t)
 
 -- whether a number is 0 or more
 abbrev pub is_natural : ℤ → Bool
@@ -38,7 +38,7 @@ pieces xs [] = []
 pieces xs (z ∷ zs) = take (unsigned_abs z) xs ∷ pieces (drop (unsigned_abs z) xs) zs
 
 -- `partition(v, c)`
-abbrev pub partitioned : List Tree → List ℤ → Outcome
+abbrev pub partitioned : List ValueTree → List ℤ → Outcome
 partitioned ts zs = cond (are_lengths (length ts) zs) (gives (sequence (map sequence (pieces ts zs)))) (traps Count)
 
 -- a check of counts passes where they are lengths, and fails with `count` where they are none; where some are no

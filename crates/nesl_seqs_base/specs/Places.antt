@@ -3,7 +3,7 @@ use Rattle.std.specs.Prelude.{ℕ, ℤ, pos, negsuc, Bool, List, cond, nat_lt, n
 use Rattle.std.specs.Prelude.{option_map, option_and_then, slice_get}
 use Rattle.std.specs.List.{list_all, filter_map, find}
 use Rattle.nesl_scalars.specs.declared.trap.Trap.TheVariants.{Range}
-use Rattle.nesl_values.specs.Tree.{Tree}
+use Rattle.nesl_values.specs.Tree.{ValueTree}
 use Rattle.nesl_values.specs.Parts.{as_int}
 use Rattle.nesl_seqs_base.specs.Outcome.{Outcome, traps}
 
@@ -13,29 +13,29 @@ place_in n (pos k) = cond (nat_lt k n) (Some k) None
 place_in n (negsuc k) = None
 
 -- whether each number names a place
-abbrev pub all_name : ℕ → List ℤ → Bool
-all_name n zs = list_all (λ z. is_some (place_in n z)) zs
+abbrev pub all_name_places : ℕ → List ℤ → Bool
+all_name_places n zs = list_all (λ z. is_some (place_in n z)) zs
 
 -- the places that the numbers name
-abbrev pub places : ℕ → List ℤ → List ℕ
-places n zs = filter_map (place_in n) zs
+abbrev pub places_named : ℕ → List ℤ → List ℕ
+places_named n zs = filter_map (place_in n) zs
 
 -- the outcome that depends on the places, where each number names one
 abbrev pub at_places : ℕ → List ℤ → (List ℕ → Outcome) → Outcome
-at_places n zs f = cond (all_name n zs) (f (places n zs)) (traps Range)
+at_places n zs f = cond (all_name_places n zs) (f (places_named n zs)) (traps Range)
 
 -- the elements at places
 abbrev pub elements_at : {X : Type 0} → List X → List ℕ → List X
 elements_at xs ks = filter_map (slice_get xs) ks
 
 -- the place that an element names, where it is a number
-abbrev pub place_of : ℕ → Tree → Option ℕ
+abbrev pub place_of : ℕ → ValueTree → Option ℕ
 place_of n t = option_and_then (place_in n) (as_int t)
 
 -- the places that elements name
-abbrev pub places_of : ℕ → List Tree → List ℕ
+abbrev pub places_of : ℕ → List ValueTree → List ℕ
 places_of n ts = filter_map (place_of n) ts
 
 -- the first of the elements that are put at a place
-abbrev pub arrival : List (ℕ × Tree) → ℕ → Option Tree
+abbrev pub arrival : List (ℕ × ValueTree) → ℕ → Option ValueTree
 arrival ws k = option_map (λ w. w.1) (find (λ w. nat_eq k w.0) ws)

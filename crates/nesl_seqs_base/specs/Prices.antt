@@ -2,9 +2,9 @@
 use Rattle.std.specs.Prelude.{◌≡◌, ℕ, zero, suc, ◌+◌, ◌-◌, ◌^◌, ◌≤◌, cond, nat_le, length, Option, option_map}
 use Rattle.std.specs.Prelude.{unwrap_or, SomeIff, Result}
 use Rattle.nesl_scalars.specs.declared.trap.Trap.{Trap}
-use Rattle.nesl_values.specs.Tree.{Tree, size}
+use Rattle.nesl_values.specs.Tree.{ValueTree, size}
 use Rattle.nesl_values.specs.Parts.{as_pair, as_sequence}
-use Rattle.nesl_seqs_base.specs.Outcome.{Outcome, Answers}
+use Rattle.nesl_seqs_base.specs.Outcome.{Outcome, OutcomeGives}
 use Rattle.nesl_seqs_base.specs.Arguments.{sequence_and_int, two_sequences, sequence_item_place}
 use Rattle.nesl_seqs_base.specs.declared.price.Price.{Price}
 use Rattle.nesl_seqs_base.specs.declared.seq_fn.SeqFn.{SeqFn}
@@ -16,12 +16,12 @@ use Rattle.nesl_seqs_base.specs.declared.seq_fn.SeqFn.TheVariants.{Flatten, Unzi
 use Rattle.nesl_seqs_base.specs.declared.seq_fn.SeqFn.TheVariants.{Gather, Permute, Split, Partition, Write}
 
 -- the length of a sequence
-abbrev pub length_of : Tree → ℕ
+abbrev pub length_of : ValueTree → ℕ
 length_of t = unwrap_or (option_map length (as_sequence t)) 0
 
 -- how many elements the function reads: the lengths of its arguments that are sequences by its type; none for `#v`
 -- and `v[i]`, and all nodes for `eql`
-abbrev pub reads : SeqFn → Tree → ℕ
+abbrev pub reads : SeqFn → ValueTree → ℕ
 reads Length t = 0
 reads ElementAt t = 0
 reads Append t = unwrap_or (option_map (λ p. length p.0 + length p.1) (two_sequences t)) 0
@@ -85,14 +85,14 @@ depth_of AndScan n = 1 + digits n
 depth_of _ n = 1
 
 -- the price of a result: 1, the elements read and the nodes below the result's root
-abbrev pub price : ℕ → ℕ → Tree → Price
+abbrev pub price : ℕ → ℕ → ValueTree → Price
 price read depth t = record { work = 1 + read + (size t - 1); depth = depth; nodes = size t }
 
 -- what an outcome is priced as: a result within the limit by its price, one beyond it by none, a refusal by itself
 abbrev pub Prices : Outcome → ℕ → ℕ → ℕ → Result (Option Price) Trap → Type 0
 Prices o read depth limit r =
-    Answers (λ t p. SomeIff p (1 + read + (size t - 1) ≤ limit) (price read depth t)) o r
+    OutcomeGives (λ t p. SomeIff p (1 + read + (size t - 1) ≤ limit) (price read depth t)) o r
 
 -- the same where there is no limit
 abbrev pub PricesAll : Outcome → ℕ → ℕ → Result Price Trap → Type 0
-PricesAll o read depth r = Answers (λ t p. p ≡ price read depth t) o r
+PricesAll o read depth r = OutcomeGives (λ t p. p ≡ price read depth t) o r

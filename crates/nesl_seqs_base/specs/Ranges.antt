@@ -3,16 +3,16 @@ use Rattle.std.specs.Prelude.{ℕ, zero, suc, ◌+◌, ◌-◌, ◌*◌, ◌/◌
 use Rattle.std.specs.List.{range_with_len}
 use Rattle.std.specs.Int.{int_gap}
 use Rattle.nesl_scalars.specs.declared.trap.Trap.TheVariants.{Length, Stride}
-use Rattle.nesl_values.specs.Tree.{Tree, int, sequence}
+use Rattle.nesl_values.specs.Tree.{ValueTree, int, sequence}
 use Rattle.nesl_seqs_base.specs.Outcome.{Outcome, gives, traps}
 
 -- `dist(x, k)`: k times x
-abbrev pub repeated : Tree → ℤ → Outcome
+abbrev pub repeated : ValueTree → ℤ → Outcome
 repeated t (pos k) = gives (sequence (replicate k t))
 repeated t (negsuc k) = traps Length
 
 -- the n numbers from s on, each d above the one before it
-abbrev pub progression : ℤ → ℕ → ℕ → List Tree
+abbrev pub progression : ℤ → ℕ → ℕ → List ValueTree
 progression s d n = map (λ j. int (s +ℤ pos (j * d))) (range_with_len 0 n)
 
 -- how many of s, s + d, s + 2d and so on are below e: the distance from s to e in steps of d, rounded up

@@ -3,8 +3,8 @@ use Rattle.std.specs.Prelude.{ℤ, pos, negsuc, Bool, List, length, map, take, c
 use Rattle.std.specs.List.{range_with_len, list_any, list_all, fold}
 use Rattle.std.specs.Int.{w64, int_bit_and, int_bit_or}
 use Rattle.nesl_scalars.specs.declared.trap.Trap.TheVariants.{Overflow}
-use Rattle.nesl_values.specs.Tree.{Tree, int, boolean, sequence}
-use Rattle.nesl_seqs_base.specs.Outcome.{Outcome, gives, traps, given, given_first, fits}
+use Rattle.nesl_values.specs.Tree.{ValueTree, int, boolean, sequence}
+use Rattle.nesl_seqs_base.specs.Outcome.{Outcome, gives, traps, if_there, if_there_or, fits}
 use Rattle.nesl_seqs_base.specs.Arguments.{numbers, truths}
 use Rattle.nesl_seqs_base.specs.Reductions.{total}
 use Rattle.nesl_seqs_base.specs.declared.joint.Joint.{Joint}
@@ -44,6 +44,6 @@ abbrev pub joined_bits : Joint → List ℤ → ℤ
 joined_bits j zs = fold (join_bits j) (no_bits_joined j) zs
 
 -- `or_scan(v)` and `and_scan(v)`: of truth values, or of numbers
-abbrev pub logic_scanned : Joint → Tree → Outcome
-logic_scanned j t = given_first (truths t) (λ bs. gives (sequence (map boolean (before_each (joined_truths j) bs))))
-    (given (numbers t) (λ zs. gives (sequence (map int (before_each (joined_bits j) zs)))))
+abbrev pub logic_scanned : Joint → ValueTree → Outcome
+logic_scanned j t = if_there_or (truths t) (λ bs. gives (sequence (map boolean (before_each (joined_truths j) bs))))
+    (if_there (numbers t) (λ zs. gives (sequence (map int (before_each (joined_bits j) zs)))))

@@ -1,6 +1,6 @@
 // The elements of sequences, packed or not, as slices.
 ghost use Rattle.std.specs.Prelude.{◌≡◌, ◌<◌, Some, None, IfSome, map};
-ghost use Rattle.nesl_values.specs.Tree.{Tree, int, boolean, character};
+ghost use Rattle.nesl_values.specs.Tree.{ValueTree, int, boolean, character};
 ghost use Rattle.nesl_values.specs.Parts.{as_int, as_bool, as_char, as_pair, as_sequence};
 ghost use Rattle.nesl_values.specs.View.{tree_of, item_trees};
 ghost use Rattle.nesl_seqs_base.specs.Reductions.{all_of};
@@ -22,7 +22,7 @@ pub fn unpacked<A: Allocator>(items: Items<'_, A>) -> Option<&[Value<A>]>
 
 /// An element as a slice holds it.
 pub trait Item {
-    ghost tree: { Self → Tree };
+    ghost tree: { Self → ValueTree };
 
     fn as_int(&self) -> Option<i64>
         ensures { result ≡ as_int (tree self.now) };

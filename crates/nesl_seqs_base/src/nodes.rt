@@ -1,8 +1,8 @@
 // How many nodes there are, within a limit.
 ghost use Rattle.std.specs.Prelude.{◌≡◌, ◌≤◌, ◌<◌, ◌+◌, ◌-◌, ◌++◌, length, map, true, SomeIff};
-ghost use Rattle.nesl_values.specs.Tree.{Tree, boolean, size, sizes, sequence, trees_of};
+ghost use Rattle.nesl_values.specs.Tree.{ValueTree, boolean, size, sizes, sequence, trees_of};
 ghost use Rattle.nesl_values.specs.View.{tree_of, trees_view, element_tree, item_trees};
-ghost use Rattle.nesl_seqs_base.specs.Pieces.{two};
+ghost use Rattle.nesl_seqs_base.specs.Pieces.{sequence_of_two};
 ghost use Rattle.nesl_seqs_base.specs.Prices.{price};
 
 use crate::price::Price;
@@ -145,8 +145,8 @@ pub fn price_of_two<A: Allocator>(
     limit: u128,
 ) -> Option<Price>
     ensures { SomeIff result
-        (1 + read + (size (two (item_trees one.entry) (item_trees other.entry)) - 1) ≤ limit)
-        (price read 1 (two (item_trees one.entry) (item_trees other.entry))) }
+        (1 + read + (size (sequence_of_two (item_trees one.entry) (item_trees other.entry)) - 1) ≤ limit)
+        (price read 1 (sequence_of_two (item_trees one.entry) (item_trees other.entry))) }
 {
     if limit <= read || limit - read < 3 {
         return None;
@@ -168,7 +168,7 @@ pub fn price_without_roots<A: Allocator>(
     limit: u128,
 ) -> Option<Price>
     requires { 1 ≤ more }
-    ensures { (t : Tree)
+    ensures { (t : ValueTree)
         → size t + length values.now ≡ more + sizes (trees_of (map tree_of values.now))
         → SomeIff result
         (1 + length values.now + (size t - 1) ≤ limit) (price (length values.now) 1 t) }
@@ -193,7 +193,7 @@ pub fn price_of_more<A: Allocator>(
     limit: u128,
 ) -> Option<Price>
     requires { 1 ≤ more }
-    ensures { (t : Tree) → size t ≡ more + sizes (trees_of (item_trees items.entry))
+    ensures { (t : ValueTree) → size t ≡ more + sizes (trees_of (item_trees items.entry))
         → SomeIff result (1 + read + (size t - 1) ≤ limit) (price read 1 t) }
 {
     if limit < read || limit - read < more {

@@ -2,18 +2,16 @@
 use Rattle.nesl_scalars.specs.declared.trap.Trap.TheVariants.{Count}
 use Rattle.nesl_values.specs.Parts.{as_int}
 use Rattle.nesl_seqs_base.specs.Reductions.{all_of}
-use Rattle.nesl_seqs_base.specs.Prices.{Prices, price}
-use Rattle.nesl_seqs_base.specs.declared.price.Price.{Price}
-use Rattle.std.proofs.Common.{◌≡◌, SomeIff, Option, Some, None, option_map, option_and_then, get_or, Err, Ok, ◌<ℤ◌, ◌⊎◌, inl, inr, ℕ, ℤ, pos, negsuc, ◌+◌, ◌-◌, ◌<◌, ◌≤◌, ◌+ℤ◌, ◌≤ℤ◌, Bool, true, false, ◌&&◌, List, [], ◌∷◌, ◌++◌, length, map, take, drop, unsigned_abs, refl, ap, sym, ◌∙◌, subst, arith}
+use Rattle.std.proofs.Common.{◌≡◌, IsSome, Option, Some, None, option_map, option_and_then, get_or, Err, Ok, ◌<ℤ◌, ◌⊎◌, inl, inr, ℕ, ℤ, pos, negsuc, ◌+◌, ◌-◌, ◌<◌, ◌≤◌, ◌+ℤ◌, ◌≤ℤ◌, Bool, true, false, ◌&&◌, List, [], ◌∷◌, ◌++◌, length, map, take, drop, unsigned_abs, refl, ap, sym, ◌∙◌, subst, arith}
 use Rattle.std.specs.List.{flat_map, list_all}
 use Rattle.std.specs.Ordering.{int_eq}
 use Rattle.std.proofs.lemmas.Bool.{cases_lt}
 use Rattle.std.proofs.lemmas.Bool.Decides.{Decides-int_eq, Decides-like, same_from_decides}
 use Rattle.std.proofs.lemmas.Int.{ints}
 use Rattle.std.proofs.lemmas.List.{drop_more, append_assoc, append-nil, drop_all, length-drop, length-take-le, take-append-drop, nil_from_length}
-use Rattle.nesl_values.specs.Tree.{Tree, sequence, size, sizes, trees_of}
+use Rattle.nesl_values.specs.Tree.{ValueTree, sequence, size, sizes, trees_of}
 use Rattle.nesl_seqs_base.specs.Reductions.{total}
-use Rattle.nesl_seqs_base.specs.Levels.{is_natural, are_lengths, pieces, partitioned, Checks}
+use Rattle.nesl_seqs_base.specs.Levels.{is_natural, are_lengths, pieces, Checks}
 use Rattle.nesl_seqs_base.proofs.Totals.{sizes_append}
 use Rattle.nesl_seqs_base.proofs.Shapes.{and_left, and_right, false_if_not}
 
@@ -49,24 +47,24 @@ no_lengths n h = let is = (Decides-int_eq (pos 0) (pos n)).0 h in omega (arith, 
 pub lengths_end : (n : ℕ) → 0 < n → are_lengths n [] ≡ false
 lengths_end n h = false_if_not (are_lengths n []) (λ e. absurd (omega (arith, no_lengths n e)))
 
-rest_lengths : (ts : List Tree) (k : ℕ) (zs : List ℤ) → are_lengths (length ts - k) zs ≡ true → are_lengths (length (drop k ts)) zs ≡ true
+rest_lengths : (ts : List ValueTree) (k : ℕ) (zs : List ℤ) → are_lengths (length ts - k) zs ≡ true → are_lengths (length (drop k ts)) zs ≡ true
 rest_lengths ts k zs h = ap (λ n. are_lengths n zs) (length-drop k ts) ∙ h
 
-pub pieces_joined : (ts : List Tree) (zs : List ℤ) → are_lengths (length ts) zs ≡ true → flat_map (λ us. us) (pieces ts zs) ≡ ts
+pub pieces_joined : (ts : List ValueTree) (zs : List ℤ) → are_lengths (length ts) zs ≡ true → flat_map (λ us. us) (pieces ts zs) ≡ ts
 pieces_joined ts [] h = sym (nil_from_length ts (no_lengths (length ts) h))
 pieces_joined ts (pos k ∷ zs) h =
     let p = within (length ts) k zs h in
     ap (λ us. take k ts ++ us) (pieces_joined (drop k ts) zs (rest_lengths ts k zs p.1)) ∙ take-append-drop k ts
 pieces_joined ts (negsuc k ∷ zs) h = absurd (cc h)
 
-pub pieces_lengths : (ts : List Tree) (zs : List ℤ) → are_lengths (length ts) zs ≡ true → map (λ us. pos (length us)) (pieces ts zs) ≡ zs
+pub pieces_lengths : (ts : List ValueTree) (zs : List ℤ) → are_lengths (length ts) zs ≡ true → map (λ us. pos (length us)) (pieces ts zs) ≡ zs
 pieces_lengths ts [] h = refl
 pieces_lengths ts (pos k ∷ zs) h =
     let p = within (length ts) k zs h in
-    ap (λ n. pos n ∷ map (λ (us : List Tree). pos (length us)) (pieces (drop k ts) zs)) (length-take-le k ts p.0) ∙ ap (λ ys. pos k ∷ ys) (pieces_lengths (drop k ts) zs (rest_lengths ts k zs p.1))
+    ap (λ n. pos n ∷ map (λ (us : List ValueTree). pos (length us)) (pieces (drop k ts) zs)) (length-take-le k ts p.0) ∙ ap (λ ys. pos k ∷ ys) (pieces_lengths (drop k ts) zs (rest_lengths ts k zs p.1))
 pieces_lengths ts (negsuc k ∷ zs) h = absurd (cc h)
 
-sizes_pieces : (ts : List Tree) (zs : List ℤ) → are_lengths (length ts) zs ≡ true → sizes (trees_of (map sequence (pieces ts zs))) ≡ length zs + sizes (trees_of ts)
+sizes_pieces : (ts : List ValueTree) (zs : List ℤ) → are_lengths (length ts) zs ≡ true → sizes (trees_of (map sequence (pieces ts zs))) ≡ length zs + sizes (trees_of ts)
 sizes_pieces ts [] h = ap (λ us. sizes (trees_of us)) (sym (nil_from_length ts (no_lengths (length ts) h))) ∙ omega arith
 sizes_pieces ts (pos k ∷ zs) h =
     let p = within (length ts) k zs h in
@@ -74,11 +72,11 @@ sizes_pieces ts (pos k ∷ zs) h =
     omega (arith, sizes_pieces (drop k ts) zs (rest_lengths ts k zs p.1), sizes_append (take k ts) (drop k ts), whole)
 sizes_pieces ts (negsuc k ∷ zs) h = absurd (cc h)
 
-pub size_pieces : (ts : List Tree) (zs : List ℤ) → are_lengths (length ts) zs ≡ true → size (sequence (map sequence (pieces ts zs))) ≡ 1 + length zs + sizes (trees_of ts)
+pub size_pieces : (ts : List ValueTree) (zs : List ℤ) → are_lengths (length ts) zs ≡ true → size (sequence (map sequence (pieces ts zs))) ≡ 1 + length zs + sizes (trees_of ts)
 size_pieces ts zs h = omega (arith, sizes_pieces ts zs h)
 
 -- the verdict on the counts that are left, and on those after the next
-pub next_count : {I : Type 0} (f : I → Tree) (is : List I) (k : ℕ) (i : I) (z : ℤ) (n : ℕ) → k < length is → i ≡ get_or is k i → Some z ≡ as_int (f i)
+pub next_count : {I : Type 0} (f : I → ValueTree) (is : List I) (k : ℕ) (i : I) (z : ℤ) (n : ℕ) → k < length is → i ≡ get_or is k i → Some z ≡ as_int (f i)
     → option_map (are_lengths n) (all_of as_int (map f (drop k is))) ≡ option_map (λ zs. are_lengths n (z ∷ zs)) (all_of as_int (map f (drop (k + 1) is)))
 next_count f is k i z n h at here =
     ap (λ js. option_map (are_lengths n) (all_of as_int (map f js))) (drop_more is k i h ∙ ap (λ j. j ∷ drop (k + 1) is) (sym at)) ∙ ap (λ o. option_map (are_lengths n) (option_and_then (λ y. option_map (λ ys. y ∷ ys) (all_of as_int (map f (drop (k + 1) is)))) o)) (sym here) ∙ twice (all_of as_int (map f (drop (k + 1) is)))
@@ -87,7 +85,7 @@ next_count f is k i z n h at here =
     twice None = refl
     twice (Some ys) = refl
 
-pub no_count : {I : Type 0} (f : I → Tree) (is : List I) (k : ℕ) (i : I) (n : ℕ) → k < length is → i ≡ get_or is k i → None ≡ as_int (f i) → option_map (are_lengths n) (all_of as_int (map f (drop k is))) ≡ None
+pub no_count : {I : Type 0} (f : I → ValueTree) (is : List I) (k : ℕ) (i : I) (n : ℕ) → k < length is → i ≡ get_or is k i → None ≡ as_int (f i) → option_map (are_lengths n) (all_of as_int (map f (drop k is))) ≡ None
 no_count f is k i n h at here =
     ap (λ js. option_map (are_lengths n) (all_of as_int (map f js))) (drop_more is k i h ∙ ap (λ j. j ∷ drop (k + 1) is) (sym at)) ∙ ap (λ o. option_map (are_lengths n) (option_and_then (λ y. option_map (λ ys. y ∷ ys) (all_of as_int (map f (drop (k + 1) is)))) o)) (sym here)
 
@@ -113,15 +111,15 @@ taken_off (pos k) n m o h l e =
     let less : m ≡ n - k = omega (arith, ints, l, e) in
     same_verdict (are_lengths m) (λ zs. are_lengths n (pos k ∷ zs)) (λ zs. ap (λ j. are_lengths j zs) less ∙ sym (lengths_more n k zs (omega (arith, ints, l)))) o
 
-pub none_counted : {I : Type 0} (f : I → Tree) (is : List I) (k n : ℕ) → length is ≤ k → option_map (are_lengths n) (all_of as_int (map f (drop k is))) ≡ Some (are_lengths n [])
+pub none_counted : {I : Type 0} (f : I → ValueTree) (is : List I) (k n : ℕ) → length is ≤ k → option_map (are_lengths n) (all_of as_int (map f (drop k is))) ≡ Some (are_lengths n [])
 none_counted f is k n h = ap (λ js. option_map (are_lengths n) (all_of as_int (map f js))) (drop_all k is h)
 
-pub pieces_end : (made whole : List Tree) (ts : List Tree) (zs : List ℤ) (i : ℕ) → length zs ≤ i → made ++ map sequence (pieces ts (drop i zs)) ≡ whole → made ≡ whole
+pub pieces_end : (made whole : List ValueTree) (ts : List ValueTree) (zs : List ℤ) (i : ℕ) → length zs ≤ i → made ++ map sequence (pieces ts (drop i zs)) ≡ whole → made ≡ whole
 pieces_end made whole ts zs i h so_far =
     sym (append-nil made) ∙ ap (λ ys. made ++ map sequence (pieces ts ys)) (sym (drop_all i zs h)) ∙ so_far
 
 -- one more turn of a loop that adds the next piece
-pub piece_pushed : (made now whole ts : List Tree) (zs : List ℤ) (i start end : ℕ) (z d : ℤ) (part : List Tree) → i < length zs → z ≡ get_or zs i d → part ≡ take (unsigned_abs z) (drop start ts) → drop end ts ≡ drop (unsigned_abs z) (drop start ts) → now ≡ made ++ sequence part ∷ []
+pub piece_pushed : (made now whole ts : List ValueTree) (zs : List ℤ) (i start end : ℕ) (z d : ℤ) (part : List ValueTree) → i < length zs → z ≡ get_or zs i d → part ≡ take (unsigned_abs z) (drop start ts) → drop end ts ≡ drop (unsigned_abs z) (drop start ts) → now ≡ made ++ sequence part ∷ []
     → made ++ map sequence (pieces (drop start ts) (drop i zs)) ≡ whole → now ++ map sequence (pieces (drop end ts) (drop (i + 1) zs)) ≡ whole
 piece_pushed made now whole ts zs i start end z d part h at is rest push so_far =
     let us = drop start ts in
@@ -136,9 +134,6 @@ passed false u h = absurd h
 pub checked : (o : Option (List ℤ)) (n : ℕ) (zs : List ℤ) (u : Unit {0}) → Checks (option_map (are_lengths n) o) (Ok u) → o ≡ Some zs → are_lengths n zs ≡ true
 checked o n zs u h is = passed (are_lengths n zs) u (subst (λ p. Checks (option_map (are_lengths n) p) (Ok u)) is h)
 
-pub checked_some : (o : Option (List ℤ)) (n : ℕ) (u : Unit {0}) → Checks (option_map (are_lengths n) o) (Ok u) → o ≡ None → ⊥
-checked_some o n u h is = subst (λ p. Checks (option_map (are_lengths n) p) (Ok u)) is h
-
-pub partition_priced : (ts : List Tree) (zs : List ℤ) (n limit : ℕ) (r : Option Price) → are_lengths (length ts) zs ≡ true → SomeIff r (1 + n + (size (sequence (map sequence (pieces ts zs))) - 1) ≤ limit) (price n 1 (sequence (map sequence (pieces ts zs))))
-    → Prices (partitioned ts zs) n 1 limit (Ok r)
-partition_priced ts zs n limit r h k = rw h k
+pub checked_read : (o : Option (List ℤ)) (n : ℕ) (u : Unit {0}) → Checks (option_map (are_lengths n) o) (Ok u) → IsSome o
+checked_read (Some zs) n u h = refl
+checked_read None n u h = absurd h

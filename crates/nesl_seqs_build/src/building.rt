@@ -1,7 +1,7 @@
 // Sequences that are put together in a builder. What fills one has it lent, so that it is let go at one
 // place alone where memory is short.
 ghost use Rattle.std.specs.Prelude.{◌≡◌, ◌++◌, ◌∷◌, List, [], IfOk, OnOk};
-ghost use Rattle.nesl_values.specs.Tree.{Tree, sequence};
+ghost use Rattle.nesl_values.specs.Tree.{ValueTree, sequence};
 ghost use Rattle.nesl_values.specs.View.{tree_of, item_trees};
 ghost use Rattle.nesl_values_builder.specs.Elements.{elements_of};
 
@@ -15,7 +15,7 @@ pub fn finished<A: Allocator + Copy>(
     builder: SequenceBuilder<A>,
     outcome: Result<(), AllocError>,
 ) -> Result<Value<A>, AllocError>
-    ensures { (ts : List Tree) → OnOk outcome (elements_of builder ≡ ts)
+    ensures { (ts : List ValueTree) → OnOk outcome (elements_of builder ≡ ts)
         → IfOk result (λ v. tree_of v ≡ sequence ts) }
 {
     match outcome {

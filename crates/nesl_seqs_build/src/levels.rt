@@ -1,18 +1,19 @@
 // Sequences of sequences.
 ghost use Rattle.std.specs.Prelude.{◌≡◌, ◌+◌, ◌-◌, ◌≤◌, ℤ, pos, List, Some, None, length, map, take, drop, slice_range};
-ghost use Rattle.std.specs.Prelude.{is_some, option_map, unwrap_or, unsigned_abs, IfOk, IfSome, IsSome};
+ghost use Rattle.std.specs.Prelude.{is_some, option_map, unwrap_or, unsigned_abs, true, IfOk, IfSome, IsSome, SomeIff};
 ghost use Rattle.std.specs.List.{flat_map, list_all};
-ghost use Rattle.nesl_values.specs.Tree.{sequence};
+ghost use Rattle.nesl_values.specs.Tree.{sequence, size};
 ghost use Rattle.nesl_values.specs.Parts.{as_int, as_sequence, elements};
 ghost use Rattle.nesl_values.specs.View.{tree_of, item_trees};
 ghost use Rattle.nesl_seqs_base.specs.Lent.{argument_tree};
 ghost use Rattle.nesl_seqs_base.specs.Levels.{sequences, are_lengths, pieces, Checks};
-ghost use Rattle.nesl_seqs_base.specs.Outcome.{IsGiven, gives};
 ghost use Rattle.nesl_seqs_base.specs.Reductions.{all_of};
-ghost use Rattle.nesl_seqs_base.specs.Meaning.{meaning};
-ghost use Rattle.nesl_seqs_base.specs.Prices.{Prices, reads, price};
+ghost use Rattle.nesl_seqs_base.specs.Meaning.{outcome_of};
+ghost use Rattle.nesl_seqs_base.specs.Prices.{reads, price};
+ghost use Rattle.nesl_seqs_build.specs.Plans.{Plans, counts_in};
 ghost use Rattle.nesl_seqs_base.specs.declared.seq_fn.SeqFn.TheVariants.{Flatten, Partition};
 
+use crate::plan::Plan;
 use nesl_scalars::Trap;
 use nesl_seqs_base::argument::Argument;
 use nesl_seqs_base::arguments::{WRONG_SHAPE, sequence, two_sequences};
@@ -45,30 +46,25 @@ fn sequences<A: Allocator>(argument: Argument<'_, A>) -> Option<&[Value<A>]>
     }
 }
 
-pub fn price_flatten<A: Allocator>(
-    argument: Argument<'_, A>,
-    limit: u128,
-) -> Result<Option<Price>, Trap>
-    ensures { Prices (meaning Flatten (argument_tree argument.entry))
-        (reads Flatten (argument_tree argument.entry)) 1 limit result }
+/// The plan of `flatten`.
+pub fn plan_flatten<A: Allocator>(argument: Argument<'_, A>) -> Result<Plan<'_, A>, Trap>
+    ensures { Plans (outcome_of Flatten (argument_tree argument.entry))
+        (reads Flatten (argument_tree argument.entry)) result }
 {
     match sequences(argument) {
-        Some(values) => Ok(price_without_roots(values, 1, limit)),
+        Some(values) => Ok(Plan::Flattened(values)),
         None => Err(WRONG_SHAPE),
     }
 }
 
-pub fn apply_flatten<A: Allocator + Copy>(
-    alloc: A,
-    argument: Argument<'_, A>,
-) -> Result<Value<A>, AllocError>
-    requires { IsGiven (meaning Flatten (argument_tree argument)) }
-    ensures { IfOk result (λ v. meaning Flatten (argument_tree argument.entry) ≡ gives (tree_of v)) }
+/// The price of the elements of these sequences, one after the other.
+pub(crate) fn price_of_flattened<A: Allocator>(values: &[Value<A>], limit: u128) -> Option<Price>
+    requires { IsSome (all_of as_sequence (map tree_of values.now)) }
+    ensures { SomeIff result
+        (1 + length values.now + (size (sequence (flat_map (λ v. elements (tree_of v)) values.now)) - 1) ≤ limit)
+        (price (length values.now) 1 (sequence (flat_map (λ v. elements (tree_of v)) values.now))) }
 {
-    match sequences(argument) {
-        Some(values) => all_elements(alloc, values),
-        None => unreachable!(),
-    }
+    price_without_roots(values, 1, limit)
 }
 
 // How many elements all of them have.
@@ -81,7 +77,10 @@ fn length_of_all<A: Allocator>(values: &[Value<A>]) -> usize {
 }
 
 // The elements of all of them.
-fn all_elements<A: Allocator + Copy>(alloc: A, values: &[Value<A>]) -> Result<Value<A>, AllocError>
+pub(crate) fn all_elements<A: Allocator + Copy>(
+    alloc: A,
+    values: &[Value<A>],
+) -> Result<Value<A>, AllocError>
     ensures { IfOk result (λ v. tree_of v
         ≡ sequence (flat_map (λ v. elements (tree_of v)) values.now)) }
 {
@@ -123,37 +122,36 @@ fn check<T: Item>(counts: &[T], len: usize) -> Result<(), Trap>
     Ok(())
 }
 
-pub fn price_partition<A: Allocator>(
-    argument: Argument<'_, A>,
-    limit: u128,
-) -> Result<Option<Price>, Trap>
-    ensures { Prices (meaning Partition (argument_tree argument.entry))
-        (reads Partition (argument_tree argument.entry)) 1 limit result }
+/// The plan of `partition`.
+pub fn plan_partition<A: Allocator>(argument: Argument<'_, A>) -> Result<Plan<'_, A>, Trap>
+    ensures { Plans (outcome_of Partition (argument_tree argument.entry))
+        (reads Partition (argument_tree argument.entry)) result }
 {
     let Some((items, counts)) = two_sequences(argument) else {
         return Err(WRONG_SHAPE);
     };
     check_counts(counts, items.len())?;
-    let pieces = counts.len() as u128;
-    let read = items.len() as u128 + pieces;
-    Ok(price_of_more(items, 1 + pieces, read, limit))
+    Ok(Plan::Pieces(items, counts))
 }
 
-pub fn apply_partition<A: Allocator + Copy>(
-    alloc: A,
-    argument: Argument<'_, A>,
-) -> Result<Value<A>, AllocError>
-    requires { IsGiven (meaning Partition (argument_tree argument)) }
-    ensures { IfOk result (λ v. meaning Partition (argument_tree argument.entry) ≡ gives (tree_of v)) }
+/// The price of pieces of these lengths.
+pub(crate) fn price_of_pieces<A: Allocator>(
+    items: Items<'_, A>,
+    counts: Items<'_, A>,
+    limit: u128,
+) -> Option<Price>
+    requires counts { IsSome (all_of as_int (item_trees counts)) }
+    requires lengths { are_lengths (length (item_trees items)) (counts_in (item_trees counts)) ≡ true }
+    ensures { let t = sequence (map sequence (pieces (item_trees items.entry) (counts_in (item_trees counts.entry)))) in
+        let read = length (item_trees items.entry) + length (item_trees counts.entry) in
+        SomeIff result (1 + read + (size t - 1) ≤ limit) (price read 1 t) }
 {
-    match two_sequences(argument) {
-        Some((items, counts)) => partition_by(alloc, items, counts),
-        None => unreachable!(),
-    }
+    let pieces = counts.len() as u128;
+    price_of_more(items, 1 + pieces, items.len() as u128 + pieces, limit)
 }
 
 // The pieces of these lengths. Counts that are not packed are packed first.
-fn partition_by<A: Allocator + Copy>(
+pub(crate) fn partition_by<A: Allocator + Copy>(
     alloc: A,
     items: Items<'_, A>,
     counts: Items<'_, A>,

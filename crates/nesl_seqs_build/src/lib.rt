@@ -5,6 +5,7 @@ mod building;
 pub mod levels;
 pub mod pairs;
 pub mod pieces;
+pub mod plan;
 pub mod ranges;
 pub mod replace;
 pub mod sides;

@@ -3,12 +3,13 @@ ghost use Rattle.std.specs.Prelude.{◌≡◌, ◌+◌, ◌-◌, ◌≤◌, leng
 ghost use Rattle.nesl_values.specs.Tree.{pair, size, sequence};
 ghost use Rattle.nesl_values.specs.View.{tree_of, item_trees};
 ghost use Rattle.nesl_seqs_base.specs.Lent.{argument_tree};
-ghost use Rattle.nesl_seqs_base.specs.Outcome.{IsGiven, gives};
-ghost use Rattle.nesl_seqs_base.specs.Meaning.{meaning};
+ghost use Rattle.nesl_seqs_base.specs.Meaning.{outcome_of};
 ghost use Rattle.nesl_seqs_base.specs.Pairs.{pairs};
-ghost use Rattle.nesl_seqs_base.specs.Prices.{Prices, reads, price};
+ghost use Rattle.nesl_seqs_base.specs.Prices.{reads, price};
+ghost use Rattle.nesl_seqs_build.specs.Plans.{Plans};
 ghost use Rattle.nesl_seqs_base.specs.declared.seq_fn.SeqFn.TheVariants.{Zip};
 
+use crate::plan::Plan;
 use nesl_scalars::Trap;
 use nesl_seqs_base::argument::Argument;
 use nesl_seqs_base::arguments::{WRONG_SHAPE, two_sequences};
@@ -17,12 +18,10 @@ use nesl_seqs_base::price::Price;
 use nesl_values::{Items, Value};
 use std::alloc::{AllocError, Allocator};
 
-pub fn price_zip<A: Allocator>(
-    argument: Argument<'_, A>,
-    limit: u128,
-) -> Result<Option<Price>, Trap>
-    ensures { Prices (meaning Zip (argument_tree argument.entry))
-        (reads Zip (argument_tree argument.entry)) 1 limit result }
+/// The plan of `zip`.
+pub fn plan_zip<A: Allocator>(argument: Argument<'_, A>) -> Result<Plan<'_, A>, Trap>
+    ensures { Plans (outcome_of Zip (argument_tree argument.entry))
+        (reads Zip (argument_tree argument.entry)) result }
 {
     let Some((one, other)) = two_sequences(argument) else {
         return Err(WRONG_SHAPE);
@@ -30,11 +29,11 @@ pub fn price_zip<A: Allocator>(
     if one.len() != other.len() {
         return Err(Trap::Length);
     }
-    Ok(price_of_pairs(one, other, limit))
+    Ok(Plan::Pairs(one, other))
 }
 
 #[tactic(auto, using(crate::proofs::Pairing::size_pairs))]
-fn price_of_pairs<A: Allocator>(
+pub(crate) fn price_of_pairs<A: Allocator>(
     one: Items<'_, A>,
     other: Items<'_, A>,
     limit: u128,
@@ -58,26 +57,8 @@ fn price_of_pairs<A: Allocator>(
     })
 }
 
-pub fn apply_zip<A: Allocator + Copy>(
-    alloc: A,
-    argument: Argument<'_, A>,
-) -> Result<Value<A>, AllocError>
-    requires { IsGiven (meaning Zip (argument_tree argument)) }
-    ensures { IfOk result (λ v. meaning Zip (argument_tree argument.entry) ≡ gives (tree_of v)) }
-{
-    match two_sequences(argument) {
-        Some((one, other)) => {
-            if one.len() != other.len() {
-                unreachable!()
-            }
-            Value::sequence(alloc, pairs_of(alloc, one, other)?)
-        }
-        None => unreachable!(),
-    }
-}
-
 // The pairs of items at the same place.
-fn pairs_of<A: Allocator + Copy>(
+pub(crate) fn pairs_of<A: Allocator + Copy>(
     alloc: A,
     one: Items<'_, A>,
     other: Items<'_, A>,

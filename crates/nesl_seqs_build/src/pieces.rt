@@ -1,47 +1,35 @@
 // Sequences that are parts of others, or that are put together from them.
-ghost use Rattle.std.specs.Prelude.{◌≡◌, ◌+◌, ◌/◌, ◌<◌, ◌≤◌, ◌^◌, length, MatchResult, IfOk};
-ghost use Rattle.nesl_values.specs.Tree.{sequence};
+ghost use Rattle.std.specs.Prelude.{◌≡◌, ◌+◌, ◌-◌, ◌/◌, ◌<◌, ◌≤◌, ◌^◌, length, reverse, MatchResult, IfOk, SomeIff};
+ghost use Rattle.nesl_values.specs.Tree.{sequence, size};
 ghost use Rattle.nesl_values.specs.View.{tree_of, element_tree, item_trees};
 ghost use Rattle.nesl_seqs_base.specs.Lent.{argument_tree};
-ghost use Rattle.nesl_seqs_base.specs.Outcome.{IsGiven, gives, traps};
-ghost use Rattle.nesl_seqs_base.specs.Pieces.{element_at, halves, taken, dropped, places_on, rotated};
-ghost use Rattle.nesl_seqs_base.specs.Meaning.{meaning};
-ghost use Rattle.nesl_seqs_base.specs.Prices.{Prices, reads};
+ghost use Rattle.nesl_seqs_base.specs.Outcome.{gives, traps};
+ghost use Rattle.nesl_seqs_base.specs.Pieces.{element_at, taken, dropped, places_on, sequence_of_two};
+ghost use Rattle.nesl_seqs_base.specs.Meaning.{outcome_of};
+ghost use Rattle.nesl_seqs_base.specs.Prices.{reads, price};
+ghost use Rattle.nesl_seqs_build.specs.Plans.{Plans};
 ghost use Rattle.nesl_seqs_base.specs.declared.seq_fn.SeqFn.TheVariants.{Length, ElementAt, Append, Bottop, Take, Drop};
 ghost use Rattle.nesl_seqs_base.specs.declared.seq_fn.SeqFn.TheVariants.{Reverse, Rotate};
 
-use crate::building::{joined_copy, sequence_of_two};
+use crate::building::sequence_of_two;
+use crate::plan::Plan;
 use nesl_scalars::Trap;
 use nesl_seqs_base::argument::Argument;
 use nesl_seqs_base::arguments::{WRONG_SHAPE, sequence, sequence_and_int, two_sequences};
-use nesl_seqs_base::copies::{copy_of, reversed_copy};
-use nesl_seqs_base::nodes::{
-    price_of_element, price_of_items, price_of_joined, price_of_leaf, price_of_two,
-};
+use nesl_seqs_base::copies::copy_of;
+use nesl_seqs_base::nodes::price_of_items;
 use nesl_seqs_base::price::Price;
 use nesl_values::{Element, Items, Value};
 use std::alloc::{AllocError, Allocator};
 
-pub fn price_length<A: Allocator>(
-    argument: Argument<'_, A>,
-    limit: u128,
-) -> Result<Option<Price>, Trap>
-    ensures { Prices (meaning Length (argument_tree argument.entry))
-        (reads Length (argument_tree argument.entry)) 1 limit result }
+/// The plan of `#v`.
+pub fn plan_length<A: Allocator>(argument: Argument<'_, A>) -> Result<Plan<'_, A>, Trap>
+    ensures { Plans (outcome_of Length (argument_tree argument.entry))
+        (reads Length (argument_tree argument.entry)) result }
 {
     match sequence(argument) {
-        Some(_) => Ok(price_of_leaf(0, 1, limit)),
+        Some(items) => Ok(Plan::Length(items.len() as i64)),
         None => Err(WRONG_SHAPE),
-    }
-}
-
-pub fn apply_length<A: Allocator>(argument: Argument<'_, A>) -> Value<A>
-    requires { IsGiven (meaning Length (argument_tree argument)) }
-    ensures { meaning Length (argument_tree argument.entry) ≡ gives (tree_of result) }
-{
-    match sequence(argument) {
-        Some(items) => Value::Int(items.len() as i64),
-        None => unreachable!(),
     }
 }
 
@@ -57,60 +45,26 @@ fn element_at<A: Allocator>(items: Items<'_, A>, place: i64) -> Result<Element<'
     Ok(items.at(place as usize))
 }
 
-pub fn price_element_at<A: Allocator>(
-    argument: Argument<'_, A>,
-    limit: u128,
-) -> Result<Option<Price>, Trap>
-    ensures { Prices (meaning ElementAt (argument_tree argument.entry))
-        (reads ElementAt (argument_tree argument.entry)) 1 limit result }
+/// The plan of `v[i]`.
+pub fn plan_element_at<A: Allocator>(argument: Argument<'_, A>) -> Result<Plan<'_, A>, Trap>
+    ensures { Plans (outcome_of ElementAt (argument_tree argument.entry))
+        (reads ElementAt (argument_tree argument.entry)) result }
 {
     let Some((items, place)) = sequence_and_int(argument) else {
         return Err(WRONG_SHAPE);
     };
     let element = element_at(items, place)?;
-    Ok(price_of_element(element, limit))
+    Ok(Plan::Element(element))
 }
 
-pub fn apply_element_at<A: Allocator + Copy>(
-    alloc: A,
-    argument: Argument<'_, A>,
-) -> Result<Value<A>, AllocError>
-    requires { IsGiven (meaning ElementAt (argument_tree argument)) }
-    ensures { IfOk result (λ v. meaning ElementAt (argument_tree argument.entry) ≡ gives (tree_of v)) }
-{
-    match sequence_and_int(argument) {
-        Some((items, place)) => match element_at(items, place) {
-            Ok(element) => element.share(),
-            Err(_) => unreachable!(),
-        },
-        None => unreachable!(),
-    }
-}
-
-pub fn price_append<A: Allocator>(
-    argument: Argument<'_, A>,
-    limit: u128,
-) -> Result<Option<Price>, Trap>
-    ensures { Prices (meaning Append (argument_tree argument.entry))
-        (reads Append (argument_tree argument.entry)) 1 limit result }
-{
-    let Some((one, other)) = two_sequences(argument) else {
-        return Err(WRONG_SHAPE);
-    };
-    let read = one.len() as u128 + other.len() as u128;
-    Ok(price_of_joined(one, other, read, limit))
-}
-
-pub fn apply_append<A: Allocator + Copy>(
-    alloc: A,
-    argument: Argument<'_, A>,
-) -> Result<Value<A>, AllocError>
-    requires { IsGiven (meaning Append (argument_tree argument)) }
-    ensures { IfOk result (λ v. meaning Append (argument_tree argument.entry) ≡ gives (tree_of v)) }
+/// The plan of `v ++ w`.
+pub fn plan_append<A: Allocator>(argument: Argument<'_, A>) -> Result<Plan<'_, A>, Trap>
+    ensures { Plans (outcome_of Append (argument_tree argument.entry))
+        (reads Append (argument_tree argument.entry)) result }
 {
     match two_sequences(argument) {
-        Some((one, other)) => joined_copy(alloc, one, other),
-        None => unreachable!(),
+        Some((one, other)) => Ok(Plan::Joined(one, other)),
+        None => Err(WRONG_SHAPE),
     }
 }
 
@@ -122,51 +76,29 @@ fn half_of(len: usize) -> usize
     len / 2 + len % 2
 }
 
-pub fn price_bottop<A: Allocator>(
-    argument: Argument<'_, A>,
-    limit: u128,
-) -> Result<Option<Price>, Trap>
-    ensures { Prices (meaning Bottop (argument_tree argument.entry))
-        (reads Bottop (argument_tree argument.entry)) 1 limit result }
+/// The plan of `bottop`.
+pub fn plan_bottop<A: Allocator>(argument: Argument<'_, A>) -> Result<Plan<'_, A>, Trap>
+    ensures { Plans (outcome_of Bottop (argument_tree argument.entry))
+        (reads Bottop (argument_tree argument.entry)) result }
 {
     let Some(items) = sequence(argument) else {
         return Err(WRONG_SHAPE);
     };
     let len = items.len();
     let half = half_of(len);
-    Ok(price_of_two(
-        items.part(0, half),
-        items.part(half, len),
-        len as u128,
-        limit,
-    ))
+    Ok(Plan::Two(items.part(0, half), items.part(half, len)))
 }
 
-pub fn apply_bottop<A: Allocator + Copy>(
+/// The sequence of the sequences of the items of both.
+pub(crate) fn two_copies<A: Allocator + Copy>(
     alloc: A,
-    argument: Argument<'_, A>,
+    one: Items<'_, A>,
+    other: Items<'_, A>,
 ) -> Result<Value<A>, AllocError>
-    requires { IsGiven (meaning Bottop (argument_tree argument)) }
-    ensures { IfOk result (λ v. meaning Bottop (argument_tree argument.entry) ≡ gives (tree_of v)) }
+    ensures { IfOk result (λ v. tree_of v ≡ sequence_of_two (item_trees one.entry) (item_trees other.entry)) }
 {
-    match sequence(argument) {
-        Some(items) => copy_of_halves(alloc, items),
-        None => unreachable!(),
-    }
-}
-
-// The sequence of both halves.
-fn copy_of_halves<A: Allocator + Copy>(
-    alloc: A,
-    items: Items<'_, A>,
-) -> Result<Value<A>, AllocError>
-    requires { length (item_trees items) < 2 ^ 63 }
-    ensures { IfOk result (λ v. halves (item_trees items.entry) ≡ gives (tree_of v)) }
-{
-    let len = items.len();
-    let half = half_of(len);
-    let first = copy_of(alloc, items.part(0, half))?;
-    let second = copy_of(alloc, items.part(half, len))?;
+    let first = copy_of(alloc, one)?;
+    let second = copy_of(alloc, other)?;
     sequence_of_two(alloc, first, second)
 }
 
@@ -187,34 +119,16 @@ fn taken<A: Allocator>(items: Items<'_, A>, count: i64) -> Result<Items<'_, A>, 
     Ok(items.part(0, kept))
 }
 
-pub fn price_take<A: Allocator>(
-    argument: Argument<'_, A>,
-    limit: u128,
-) -> Result<Option<Price>, Trap>
-    ensures { Prices (meaning Take (argument_tree argument.entry))
-        (reads Take (argument_tree argument.entry)) 1 limit result }
+/// The plan of `take`.
+pub fn plan_take<A: Allocator>(argument: Argument<'_, A>) -> Result<Plan<'_, A>, Trap>
+    ensures { Plans (outcome_of Take (argument_tree argument.entry))
+        (reads Take (argument_tree argument.entry)) result }
 {
     let Some((items, count)) = sequence_and_int(argument) else {
         return Err(WRONG_SHAPE);
     };
     let part = taken(items, count)?;
-    Ok(price_of_items(part, items.len() as u128, limit))
-}
-
-pub fn apply_take<A: Allocator + Copy>(
-    alloc: A,
-    argument: Argument<'_, A>,
-) -> Result<Value<A>, AllocError>
-    requires { IsGiven (meaning Take (argument_tree argument)) }
-    ensures { IfOk result (λ v. meaning Take (argument_tree argument.entry) ≡ gives (tree_of v)) }
-{
-    match sequence_and_int(argument) {
-        Some((items, count)) => match taken(items, count) {
-            Ok(part) => copy_of(alloc, part),
-            Err(_) => unreachable!(),
-        },
-        None => unreachable!(),
-    }
+    Ok(Plan::Part(part, items.len()))
 }
 
 /// `drop`: all but the first items, or all but the last ones where the count is below 0.
@@ -234,61 +148,37 @@ fn dropped<A: Allocator>(items: Items<'_, A>, count: i64) -> Result<Items<'_, A>
     Ok(items.part(left, len))
 }
 
-pub fn price_drop<A: Allocator>(
-    argument: Argument<'_, A>,
-    limit: u128,
-) -> Result<Option<Price>, Trap>
-    ensures { Prices (meaning Drop (argument_tree argument.entry))
-        (reads Drop (argument_tree argument.entry)) 1 limit result }
+/// The plan of `drop`.
+pub fn plan_drop<A: Allocator>(argument: Argument<'_, A>) -> Result<Plan<'_, A>, Trap>
+    ensures { Plans (outcome_of Drop (argument_tree argument.entry))
+        (reads Drop (argument_tree argument.entry)) result }
 {
     let Some((items, count)) = sequence_and_int(argument) else {
         return Err(WRONG_SHAPE);
     };
     let part = dropped(items, count)?;
-    Ok(price_of_items(part, items.len() as u128, limit))
+    Ok(Plan::Part(part, items.len()))
 }
 
-pub fn apply_drop<A: Allocator + Copy>(
-    alloc: A,
-    argument: Argument<'_, A>,
-) -> Result<Value<A>, AllocError>
-    requires { IsGiven (meaning Drop (argument_tree argument)) }
-    ensures { IfOk result (λ v. meaning Drop (argument_tree argument.entry) ≡ gives (tree_of v)) }
-{
-    match sequence_and_int(argument) {
-        Some((items, count)) => match dropped(items, count) {
-            Ok(part) => copy_of(alloc, part),
-            Err(_) => unreachable!(),
-        },
-        None => unreachable!(),
-    }
-}
-
-#[tactic(auto, using(nesl_seqs_base::proofs::Totals::sizes_reverse))]
-pub fn price_reverse<A: Allocator>(
-    argument: Argument<'_, A>,
-    limit: u128,
-) -> Result<Option<Price>, Trap>
-    ensures { Prices (meaning Reverse (argument_tree argument.entry))
-        (reads Reverse (argument_tree argument.entry)) 1 limit result }
-{
-    let Some(items) = sequence(argument) else {
-        return Err(WRONG_SHAPE);
-    };
-    Ok(price_of_items(items, items.len() as u128, limit))
-}
-
-pub fn apply_reverse<A: Allocator + Copy>(
-    alloc: A,
-    argument: Argument<'_, A>,
-) -> Result<Value<A>, AllocError>
-    requires { IsGiven (meaning Reverse (argument_tree argument)) }
-    ensures { IfOk result (λ v. meaning Reverse (argument_tree argument.entry) ≡ gives (tree_of v)) }
+/// The plan of `reverse`.
+pub fn plan_reverse<A: Allocator>(argument: Argument<'_, A>) -> Result<Plan<'_, A>, Trap>
+    ensures { Plans (outcome_of Reverse (argument_tree argument.entry))
+        (reads Reverse (argument_tree argument.entry)) result }
 {
     match sequence(argument) {
-        Some(items) => reversed_copy(alloc, items),
-        None => unreachable!(),
+        Some(items) => Ok(Plan::Reversed(items)),
+        None => Err(WRONG_SHAPE),
     }
+}
+
+/// The price of the items from the last to the first.
+#[tactic(auto, using(nesl_seqs_base::proofs::Totals::sizes_reverse))]
+pub(crate) fn price_of_reversed<A: Allocator>(items: Items<'_, A>, limit: u128) -> Option<Price>
+    ensures { SomeIff result
+        (1 + length (item_trees items.entry) + (size (sequence (reverse (item_trees items.entry))) - 1) ≤ limit)
+        (price (length (item_trees items.entry)) 1 (sequence (reverse (item_trees items.entry)))) }
+{
+    price_of_items(items, items.len() as u128, limit)
 }
 
 // How many places `rotate` moves the items on.
@@ -303,48 +193,15 @@ fn turn(len: usize, count: i64) -> usize
     count.rem_euclid(len as i64) as usize
 }
 
-pub fn price_rotate<A: Allocator>(
-    argument: Argument<'_, A>,
-    limit: u128,
-) -> Result<Option<Price>, Trap>
-    ensures { Prices (meaning Rotate (argument_tree argument.entry))
-        (reads Rotate (argument_tree argument.entry)) 1 limit result }
+/// The plan of `rotate`.
+pub fn plan_rotate<A: Allocator>(argument: Argument<'_, A>) -> Result<Plan<'_, A>, Trap>
+    ensures { Plans (outcome_of Rotate (argument_tree argument.entry))
+        (reads Rotate (argument_tree argument.entry)) result }
 {
     let Some((items, count)) = sequence_and_int(argument) else {
         return Err(WRONG_SHAPE);
     };
     let len = items.len();
     let start = len - turn(len, count);
-    Ok(price_of_joined(
-        items.part(start, len),
-        items.part(0, start),
-        len as u128,
-        limit,
-    ))
-}
-
-pub fn apply_rotate<A: Allocator + Copy>(
-    alloc: A,
-    argument: Argument<'_, A>,
-) -> Result<Value<A>, AllocError>
-    requires { IsGiven (meaning Rotate (argument_tree argument)) }
-    ensures { IfOk result (λ v. meaning Rotate (argument_tree argument.entry) ≡ gives (tree_of v)) }
-{
-    match sequence_and_int(argument) {
-        Some((items, count)) => rotated_copy(alloc, items, count),
-        None => unreachable!(),
-    }
-}
-
-fn rotated_copy<A: Allocator + Copy>(
-    alloc: A,
-    items: Items<'_, A>,
-    count: i64,
-) -> Result<Value<A>, AllocError>
-    requires { length (item_trees items) < 2 ^ 63 }
-    ensures { IfOk result (λ v. rotated (item_trees items.entry) count ≡ gives (tree_of v)) }
-{
-    let len = items.len();
-    let start = len - turn(len, count);
-    joined_copy(alloc, items.part(start, len), items.part(0, start))
+    Ok(Plan::Joined(items.part(start, len), items.part(0, start)))
 }

@@ -1,17 +1,19 @@
 // Sequences from numbers.
 ghost use Rattle.std.specs.Prelude.{◌≡◌, ◌+◌, ◌-◌, ◌*◌, ◌<◌, ◌≤◌, ◌^◌, ℕ, ◌+ℤ◌, ◌<ℤ◌, pos, map, replicate, IfOk};
-ghost use Rattle.std.specs.Prelude.{IsSome, MatchResult, SomeIff};
+ghost use Rattle.std.specs.Prelude.{MatchResult, SomeIff};
 ghost use Rattle.std.specs.Int.{int_gap};
 ghost use Rattle.nesl_values.specs.Tree.{size, sequence};
 ghost use Rattle.nesl_values.specs.View.{tree_of};
 ghost use Rattle.nesl_seqs_base.specs.Lent.{argument_tree};
-ghost use Rattle.nesl_seqs_base.specs.Outcome.{IsGiven, gives, traps};
+ghost use Rattle.nesl_seqs_base.specs.Outcome.{gives, traps};
 ghost use Rattle.nesl_seqs_base.specs.Ranges.{progression, ranged, first_numbers, steps_below};
 ghost use Rattle.nesl_seqs_build.specs.Steps.{IsInRange};
-ghost use Rattle.nesl_seqs_base.specs.Meaning.{meaning};
-ghost use Rattle.nesl_seqs_base.specs.Prices.{Prices, reads, price};
+ghost use Rattle.nesl_seqs_base.specs.Meaning.{outcome_of};
+ghost use Rattle.nesl_seqs_base.specs.Prices.{reads, price};
+ghost use Rattle.nesl_seqs_build.specs.Plans.{Plans, built};
 ghost use Rattle.nesl_seqs_base.specs.declared.seq_fn.SeqFn.TheVariants.{Dist, Range, RangeBy, Index};
 
+use crate::plan::Plan;
 use nesl_scalars::Trap;
 use nesl_seqs_base::argument::Argument;
 use nesl_seqs_base::arguments::{WRONG_SHAPE, three_ints, tree_and_int, two_ints};
@@ -84,9 +86,8 @@ fn first_numbers(count: i64) -> Result<Progression, Trap>
 }
 
 #[tactic(auto, using(crate::proofs::Numbers::size_progression))]
-fn price_of_progression(numbers: Progression, limit: u128) -> Option<Price>
-    ensures always { limit ≡ 2 ^ 128 - 1 → IsSome result }
-    ensures price { SomeIff result
+pub(crate) fn price_of_progression(numbers: Progression, limit: u128) -> Option<Price>
+    ensures { SomeIff result
         (1 + 0 + (size (sequence (progression numbers.first numbers.step numbers.count)) - 1) ≤ limit)
         (price 0 1 (sequence (progression numbers.first numbers.step numbers.count))) }
 {
@@ -102,7 +103,7 @@ fn price_of_progression(numbers: Progression, limit: u128) -> Option<Price>
 }
 
 // The sequence of the numbers.
-fn sequence_of_steps<A: Allocator + Copy>(
+pub(crate) fn sequence_of_steps<A: Allocator + Copy>(
     alloc: A,
     numbers: Progression,
 ) -> Result<Value<A>, AllocError>
@@ -126,104 +127,55 @@ fn number_at(numbers: Progression, place: u64) -> i64
     (numbers.first as i128 + ahead as i128) as i64
 }
 
-pub fn price_range<A: Allocator>(
-    argument: Argument<'_, A>,
-    limit: u128,
-) -> Result<Option<Price>, Trap>
-    ensures always { limit ≡ 2 ^ 128 - 1 → IfOk result (λ p. IsSome p) }
-    ensures price { Prices (meaning Range (argument_tree argument.entry))
-        (reads Range (argument_tree argument.entry)) 1 limit result }
+/// The plan of `[s:e]`.
+#[tactic(auto, using(crate::proofs::Numbers::size_progression))]
+pub fn plan_range<A: Allocator>(argument: Argument<'_, A>) -> Result<Plan<'_, A>, Trap>
+    ensures few { IfOk result (λ p. size (built p) < 2 ^ 65) }
+    ensures plan { Plans (outcome_of Range (argument_tree argument.entry))
+        (reads Range (argument_tree argument.entry)) result }
 {
     let Some((start, end)) = two_ints(argument) else {
         return Err(WRONG_SHAPE);
     };
     let numbers = ranged(start, end, 1)?;
-    Ok(price_of_progression(numbers, limit))
+    Ok(Plan::Steps(numbers))
 }
 
-pub fn apply_range<A: Allocator + Copy>(
-    alloc: A,
-    argument: Argument<'_, A>,
-) -> Result<Value<A>, AllocError>
-    requires { IsGiven (meaning Range (argument_tree argument)) }
-    ensures { IfOk result (λ v. meaning Range (argument_tree argument.entry) ≡ gives (tree_of v)) }
-{
-    match two_ints(argument) {
-        Some((start, end)) => match ranged(start, end, 1) {
-            Ok(numbers) => sequence_of_steps(alloc, numbers),
-            Err(_) => unreachable!(),
-        },
-        None => unreachable!(),
-    }
-}
-
-pub fn price_range_by<A: Allocator>(
-    argument: Argument<'_, A>,
-    limit: u128,
-) -> Result<Option<Price>, Trap>
-    ensures always { limit ≡ 2 ^ 128 - 1 → IfOk result (λ p. IsSome p) }
-    ensures price { Prices (meaning RangeBy (argument_tree argument.entry))
-        (reads RangeBy (argument_tree argument.entry)) 1 limit result }
+/// The plan of `[s:e:d]`.
+#[tactic(auto, using(crate::proofs::Numbers::size_progression))]
+pub fn plan_range_by<A: Allocator>(argument: Argument<'_, A>) -> Result<Plan<'_, A>, Trap>
+    ensures few { IfOk result (λ p. size (built p) < 2 ^ 65) }
+    ensures plan { Plans (outcome_of RangeBy (argument_tree argument.entry))
+        (reads RangeBy (argument_tree argument.entry)) result }
 {
     let Some((start, (end, step))) = three_ints(argument) else {
         return Err(WRONG_SHAPE);
     };
     let numbers = ranged(start, end, step)?;
-    Ok(price_of_progression(numbers, limit))
+    Ok(Plan::Steps(numbers))
 }
 
-pub fn apply_range_by<A: Allocator + Copy>(
-    alloc: A,
-    argument: Argument<'_, A>,
-) -> Result<Value<A>, AllocError>
-    requires { IsGiven (meaning RangeBy (argument_tree argument)) }
-    ensures { IfOk result (λ v. meaning RangeBy (argument_tree argument.entry) ≡ gives (tree_of v)) }
-{
-    match three_ints(argument) {
-        Some((start, (end, step))) => match ranged(start, end, step) {
-            Ok(numbers) => sequence_of_steps(alloc, numbers),
-            Err(_) => unreachable!(),
-        },
-        None => unreachable!(),
-    }
-}
-
-pub fn price_index<A: Allocator>(
-    argument: Argument<'_, A>,
-    limit: u128,
-) -> Result<Option<Price>, Trap>
-    ensures always { limit ≡ 2 ^ 128 - 1 → IfOk result (λ p. IsSome p) }
-    ensures price { Prices (meaning Index (argument_tree argument.entry))
-        (reads Index (argument_tree argument.entry)) 1 limit result }
+/// The plan of `index`.
+#[tactic(auto, using(crate::proofs::Numbers::size_progression))]
+pub fn plan_index<A: Allocator>(argument: Argument<'_, A>) -> Result<Plan<'_, A>, Trap>
+    ensures few { IfOk result (λ p. size (built p) < 2 ^ 65) }
+    ensures plan { Plans (outcome_of Index (argument_tree argument.entry))
+        (reads Index (argument_tree argument.entry)) result }
 {
     let Some(count) = argument.as_int() else {
         return Err(WRONG_SHAPE);
     };
     let numbers = first_numbers(count)?;
-    Ok(price_of_progression(numbers, limit))
-}
-
-pub fn apply_index<A: Allocator + Copy>(
-    alloc: A,
-    argument: Argument<'_, A>,
-) -> Result<Value<A>, AllocError>
-    requires { IsGiven (meaning Index (argument_tree argument)) }
-    ensures { IfOk result (λ v. meaning Index (argument_tree argument.entry) ≡ gives (tree_of v)) }
-{
-    match argument.as_int() {
-        Some(count) => match first_numbers(count) {
-            Ok(numbers) => sequence_of_steps(alloc, numbers),
-            Err(_) => unreachable!(),
-        },
-        None => unreachable!(),
-    }
+    Ok(Plan::Steps(numbers))
 }
 
 #[tactic(auto, using(crate::proofs::Numbers::sizes_replicate, crate::proofs::Numbers::copies_within))]
-fn price_of_copies<A: Allocator>(item: &Value<A>, count: u64, limit: u128) -> Option<Price>
-    ensures always { size (tree_of item.now) < 2 ^ 65 → count < 2 ^ 63 → limit ≡ 2 ^ 128 - 1
-        → IsSome result }
-    ensures price { SomeIff result
+pub(crate) fn price_of_copies<A: Allocator>(
+    item: &Value<A>,
+    count: u64,
+    limit: u128,
+) -> Option<Price>
+    ensures { SomeIff result
         (1 + 0 + (size (sequence (replicate count (tree_of item.now))) - 1) ≤ limit)
         (price 0 1 (sequence (replicate count (tree_of item.now)))) }
 {
@@ -240,9 +192,7 @@ fn price_of_copies<A: Allocator>(item: &Value<A>, count: u64, limit: u128) -> Op
 
 // The nodes of so many copies: the item is walked no further than its share of the limit.
 fn nodes_of_copies<A: Allocator>(item: &Value<A>, count: u64, limit: u128) -> Option<u128>
-    ensures always { size (tree_of item.now) < 2 ^ 65 → count < 2 ^ 63 → limit ≡ 2 ^ 128 - 2
-        → IsSome result }
-    ensures nodes { SomeIff result
+    ensures { SomeIff result
         (count * size (tree_of item.now) ≤ limit) (count * size (tree_of item.now)) }
 {
     if count == 0 {
@@ -253,14 +203,11 @@ fn nodes_of_copies<A: Allocator>(item: &Value<A>, count: u64, limit: u128) -> Op
     Some(count * nodes)
 }
 
-pub fn price_dist<A: Allocator>(
-    argument: Argument<'_, A>,
-    limit: u128,
-) -> Result<Option<Price>, Trap>
-    ensures always { size (argument_tree argument.entry) < 2 ^ 65 → limit ≡ 2 ^ 128 - 1
-        → IfOk result (λ p. IsSome p) }
-    ensures price { Prices (meaning Dist (argument_tree argument.entry))
-        (reads Dist (argument_tree argument.entry)) 1 limit result }
+/// The plan of `dist`.
+pub fn plan_dist<A: Allocator>(argument: Argument<'_, A>) -> Result<Plan<'_, A>, Trap>
+    ensures few { size (argument_tree argument.entry) < 2 ^ 65 → IfOk result (λ p. size (built p) < 2 ^ 128) }
+    ensures plan { Plans (outcome_of Dist (argument_tree argument.entry))
+        (reads Dist (argument_tree argument.entry)) result }
 {
     let Some((item, count)) = tree_and_int(argument) else {
         return Err(WRONG_SHAPE);
@@ -268,29 +215,11 @@ pub fn price_dist<A: Allocator>(
     if count < 0 {
         return Err(Trap::Length);
     }
-    Ok(price_of_copies(item, count as u64, limit))
-}
-
-pub fn apply_dist<A: Allocator + Copy>(
-    alloc: A,
-    argument: Argument<'_, A>,
-) -> Result<Value<A>, AllocError>
-    requires { IsGiven (meaning Dist (argument_tree argument)) }
-    ensures { IfOk result (λ v. meaning Dist (argument_tree argument.entry) ≡ gives (tree_of v)) }
-{
-    match tree_and_int(argument) {
-        Some((item, count)) => {
-            if count < 0 {
-                unreachable!()
-            }
-            copies(alloc, item, count as usize)
-        }
-        None => unreachable!(),
-    }
+    Ok(Plan::Copies(item, count as u64))
 }
 
 /// So many copies of a value.
-fn copies<A: Allocator + Copy>(
+pub(crate) fn copies<A: Allocator + Copy>(
     alloc: A,
     item: &Value<A>,
     count: usize,

@@ -1,17 +1,19 @@
 // A sequence with another element at a place.
 ghost use Rattle.std.specs.Prelude.{◌≡◌, ◌+◌, ◌-◌, ◌<◌, ◌≤◌, ◌++◌, List, pos, length, take, drop, slice_set, IfOk};
 ghost use Rattle.std.specs.Prelude.{MatchResult, OnOk, SomeIff};
-ghost use Rattle.nesl_values.specs.Tree.{Tree, size, sizes, trees_of, sequence};
+ghost use Rattle.nesl_values.specs.Tree.{ValueTree, size, sizes, trees_of, sequence};
 ghost use Rattle.nesl_values.specs.View.{tree_of, item_trees};
 ghost use Rattle.nesl_values_builder.specs.Elements.{elements_of};
 ghost use Rattle.nesl_seqs_base.specs.Lent.{argument_tree};
-ghost use Rattle.nesl_seqs_base.specs.Outcome.{IsGiven, gives, traps};
+ghost use Rattle.nesl_seqs_base.specs.Outcome.{traps};
 ghost use Rattle.nesl_seqs_base.specs.Pieces.{replaced};
-ghost use Rattle.nesl_seqs_base.specs.Meaning.{meaning};
-ghost use Rattle.nesl_seqs_base.specs.Prices.{Prices, reads, price};
+ghost use Rattle.nesl_seqs_base.specs.Meaning.{outcome_of};
+ghost use Rattle.nesl_seqs_base.specs.Prices.{reads, price};
+ghost use Rattle.nesl_seqs_build.specs.Plans.{Plans};
 ghost use Rattle.nesl_seqs_base.specs.declared.seq_fn.SeqFn.TheVariants.{Rep};
 
 use crate::building::finished;
+use crate::plan::Plan;
 use nesl_scalars::Trap;
 use nesl_seqs_base::argument::Argument;
 use nesl_seqs_base::arguments::{WRONG_SHAPE, sequence_item_place};
@@ -26,7 +28,7 @@ use std::alloc::{AllocError, Allocator};
 fn place_in(len: usize, place: i64) -> Result<usize, Trap>
     ensures { MatchResult result
         (λ i. (i < len) × (place ≡ pos i))
-        (λ trap. (ts : List Tree) (x : Tree) → length ts ≡ len → replaced ts x place ≡ traps trap) }
+        (λ trap. (ts : List ValueTree) (x : ValueTree) → length ts ≡ len → replaced ts x place ≡ traps trap) }
 {
     if place < 0 || place as usize >= len {
         return Err(Trap::Range);
@@ -75,7 +77,7 @@ fn from_place<A: Allocator>(items: Items<'_, A>, start: usize) -> Items<'_, A>
 }
 
 #[tactic(auto, using(nesl_seqs_base::proofs::Totals::size_replaced))]
-fn price_of_replaced<A: Allocator>(
+pub(crate) fn price_of_replaced<A: Allocator>(
     items: Items<'_, A>,
     item: &Value<A>,
     place: usize,
@@ -100,37 +102,19 @@ fn price_of_replaced<A: Allocator>(
     })
 }
 
-pub fn price_rep<A: Allocator>(
-    argument: Argument<'_, A>,
-    limit: u128,
-) -> Result<Option<Price>, Trap>
-    ensures { Prices (meaning Rep (argument_tree argument.entry))
-        (reads Rep (argument_tree argument.entry)) 1 limit result }
+/// The plan of `rep`.
+pub fn plan_rep<A: Allocator>(argument: Argument<'_, A>) -> Result<Plan<'_, A>, Trap>
+    ensures { Plans (outcome_of Rep (argument_tree argument.entry))
+        (reads Rep (argument_tree argument.entry)) result }
 {
     let Some((items, (item, place))) = sequence_item_place(argument) else {
         return Err(WRONG_SHAPE);
     };
     let place = place_in(items.len(), place)?;
-    Ok(price_of_replaced(items, item, place, limit))
+    Ok(Plan::Replaced(items, item, place))
 }
 
-pub fn apply_rep<A: Allocator + Copy>(
-    alloc: A,
-    argument: Argument<'_, A>,
-) -> Result<Value<A>, AllocError>
-    requires { IsGiven (meaning Rep (argument_tree argument)) }
-    ensures { IfOk result (λ v. meaning Rep (argument_tree argument.entry) ≡ gives (tree_of v)) }
-{
-    match sequence_item_place(argument) {
-        Some((items, (item, place))) => match place_in(items.len(), place) {
-            Ok(place) => replaced_copy(alloc, items, item, place),
-            Err(_) => unreachable!(),
-        },
-        None => unreachable!(),
-    }
-}
-
-fn replaced_copy<A: Allocator + Copy>(
+pub(crate) fn replaced_copy<A: Allocator + Copy>(
     alloc: A,
     items: Items<'_, A>,
     item: &Value<A>,

@@ -1,21 +1,22 @@
 // Sequences that are taken apart in two.
-ghost use Rattle.std.specs.Prelude.{◌≡◌, ◌++◌, ◌∷◌, Bool, true, false, List, [], Some, None, map, is_some, unwrap_or};
-ghost use Rattle.std.specs.Prelude.{IfOk, IfSome, IsSome, OnOk};
+ghost use Rattle.std.specs.Prelude.{◌≡◌, ◌+◌, ◌-◌, ◌≤◌, ◌++◌, ◌∷◌, Bool, true, false, List, [], Some, None, length};
+ghost use Rattle.std.specs.Prelude.{is_some, map, unwrap_or, IfOk, IfSome, IsSome, OnOk, SomeIff};
 ghost use Rattle.std.specs.List.{list_all};
-ghost use Rattle.nesl_values.specs.Tree.{Tree, pair, sequence};
+ghost use Rattle.nesl_values.specs.Tree.{ValueTree, pair, sequence, size};
 ghost use Rattle.nesl_values.specs.Parts.{as_bool, as_pair, as_sequence};
 ghost use Rattle.nesl_values.specs.View.{tree_of, item_trees};
 ghost use Rattle.nesl_values_builder.specs.Elements.{elements_of};
 ghost use Rattle.nesl_seqs_base.specs.Lent.{argument_tree};
-ghost use Rattle.nesl_seqs_base.specs.Outcome.{IsGiven, gives};
 ghost use Rattle.nesl_seqs_base.specs.Reductions.{all_of};
-ghost use Rattle.nesl_seqs_base.specs.Pieces.{two};
-ghost use Rattle.nesl_seqs_base.specs.Sides.{sequence_of_pairs, beside};
-ghost use Rattle.nesl_seqs_base.specs.Meaning.{meaning};
-ghost use Rattle.nesl_seqs_base.specs.Prices.{Prices, reads};
+ghost use Rattle.nesl_seqs_base.specs.Pieces.{sequence_of_two};
+ghost use Rattle.nesl_seqs_base.specs.Sides.{sequence_of_pairs, marked};
+ghost use Rattle.nesl_seqs_base.specs.Meaning.{outcome_of};
+ghost use Rattle.nesl_seqs_base.specs.Prices.{reads, price};
+ghost use Rattle.nesl_seqs_build.specs.Plans.{Plans, flags_in, pairs_in, sides};
 ghost use Rattle.nesl_seqs_base.specs.declared.seq_fn.SeqFn.TheVariants.{Unzip, Split};
 
 use crate::building::{finished, sequence_of_two};
+use crate::plan::Plan;
 use nesl_scalars::Trap;
 use nesl_seqs_base::argument::Argument;
 use nesl_seqs_base::arguments::{WRONG_SHAPE, sequence, two_sequences};
@@ -62,35 +63,33 @@ fn sequence_of_pairs<A: Allocator>(argument: Argument<'_, A>) -> Option<&[Value<
     }
 }
 
-pub fn price_unzip<A: Allocator>(
-    argument: Argument<'_, A>,
-    limit: u128,
-) -> Result<Option<Price>, Trap>
-    ensures { Prices (meaning Unzip (argument_tree argument.entry))
-        (reads Unzip (argument_tree argument.entry)) 1 limit result }
+/// The plan of `unzip`.
+pub fn plan_unzip<A: Allocator>(argument: Argument<'_, A>) -> Result<Plan<'_, A>, Trap>
+    ensures { Plans (outcome_of Unzip (argument_tree argument.entry))
+        (reads Unzip (argument_tree argument.entry)) result }
 {
     match sequence_of_pairs(argument) {
-        Some(values) => Ok(price_without_roots(values, 3, limit)),
+        Some(values) => Ok(Plan::Unzipped(values)),
         None => Err(WRONG_SHAPE),
     }
 }
 
-pub fn apply_unzip<A: Allocator + Copy>(
-    alloc: A,
-    argument: Argument<'_, A>,
-) -> Result<Value<A>, AllocError>
-    requires { IsGiven (meaning Unzip (argument_tree argument)) }
-    ensures { IfOk result (λ v. meaning Unzip (argument_tree argument.entry) ≡ gives (tree_of v)) }
+/// The price of the two sides of these pairs.
+pub(crate) fn price_of_unzipped<A: Allocator>(values: &[Value<A>], limit: u128) -> Option<Price>
+    requires { IsSome (all_of as_pair (map tree_of values.now)) }
+    ensures { SomeIff result
+        (1 + length values.now + (size (sides (pairs_in (map tree_of values.now))) - 1) ≤ limit)
+        (price (length values.now) 1 (sides (pairs_in (map tree_of values.now)))) }
 {
-    match sequence_of_values(argument) {
-        Some(values) => both_sides(alloc, values),
-        None => unreachable!(),
-    }
+    price_without_roots(values, 3, limit)
 }
 
 // The left parts and the right ones.
-fn both_sides<A: Allocator + Copy>(alloc: A, values: &[Value<A>]) -> Result<Value<A>, AllocError>
-    ensures { IfOk result (λ v. (ps : List (Tree × Tree)) → all_of as_pair (map tree_of values.now) ≡ Some ps
+pub(crate) fn both_sides<A: Allocator + Copy>(
+    alloc: A,
+    values: &[Value<A>],
+) -> Result<Value<A>, AllocError>
+    ensures { IfOk result (λ v. (ps : List (ValueTree × ValueTree)) → all_of as_pair (map tree_of values.now) ≡ Some ps
         → tree_of v ≡ pair (sequence (map (λ p. p.0) ps)) (sequence (map (λ p. p.1) ps))) }
 {
     let mut lefts = SequenceBuilder::with_room(alloc, values.len());
@@ -107,7 +106,7 @@ fn pair_of_made<A: Allocator + Copy>(
     lefts: Result<Value<A>, AllocError>,
     rights: Result<Value<A>, AllocError>,
 ) -> Result<Value<A>, AllocError>
-    ensures { (a : Tree) (b : Tree) → IfOk lefts (λ v. tree_of v ≡ a)
+    ensures { (a : ValueTree) (b : ValueTree) → IfOk lefts (λ v. tree_of v ≡ a)
         → IfOk rights (λ v. tree_of v ≡ b) → IfOk result (λ v. tree_of v ≡ pair a b) }
 {
     match (lefts, rights) {
@@ -121,9 +120,9 @@ fn push_sides<A: Allocator + Copy>(
     rights: &mut SequenceBuilder<A>,
     values: &[Value<A>],
 ) -> Result<(), AllocError>
-    ensures lefts { (ps : List (Tree × Tree)) → all_of as_pair (map tree_of values.now) ≡ Some ps
+    ensures lefts { (ps : List (ValueTree × ValueTree)) → all_of as_pair (map tree_of values.now) ≡ Some ps
         → OnOk result (elements_of lefts.new ≡ elements_of lefts.old ++ map (λ p. p.0) ps) }
-    ensures rights { (ps : List (Tree × Tree)) → all_of as_pair (map tree_of values.now) ≡ Some ps
+    ensures rights { (ps : List (ValueTree × ValueTree)) → all_of as_pair (map tree_of values.now) ≡ Some ps
         → OnOk result (elements_of rights.new ≡ elements_of rights.old ++ map (λ p. p.1) ps) }
 {
     for value in values {
@@ -165,12 +164,10 @@ fn are_all_truths<A: Allocator>(values: &[Value<A>]) -> bool
     values.iter().all(|value| value.as_bool().is_some())
 }
 
-pub fn price_split<A: Allocator>(
-    argument: Argument<'_, A>,
-    limit: u128,
-) -> Result<Option<Price>, Trap>
-    ensures { Prices (meaning Split (argument_tree argument.entry))
-        (reads Split (argument_tree argument.entry)) 1 limit result }
+/// The plan of `split`.
+pub fn plan_split<A: Allocator>(argument: Argument<'_, A>) -> Result<Plan<'_, A>, Trap>
+    ensures { Plans (outcome_of Split (argument_tree argument.entry))
+        (reads Split (argument_tree argument.entry)) result }
 {
     let Some((items, flags)) = two_sequences(argument) else {
         return Err(WRONG_SHAPE);
@@ -181,31 +178,35 @@ pub fn price_split<A: Allocator>(
     if items.len() != flags.len() {
         return Err(Trap::Length);
     }
-    let read = items.len() as u128 + flags.len() as u128;
-    Ok(price_of_more(items, 3, read, limit))
+    Ok(Plan::Split(items, flags))
 }
 
-pub fn apply_split<A: Allocator + Copy>(
-    alloc: A,
-    argument: Argument<'_, A>,
-) -> Result<Value<A>, AllocError>
-    requires { IsGiven (meaning Split (argument_tree argument)) }
-    ensures { IfOk result (λ v. meaning Split (argument_tree argument.entry) ≡ gives (tree_of v)) }
+/// The price of the items with `F` and those with `T`.
+pub(crate) fn price_of_sides<A: Allocator>(
+    items: Items<'_, A>,
+    flags: Items<'_, A>,
+    limit: u128,
+) -> Option<Price>
+    requires flags { IsSome (all_of as_bool (item_trees flags)) }
+    requires lengths { length (item_trees items) ≡ length (item_trees flags) }
+    ensures { let bs = flags_in (item_trees flags.entry) in
+        let t = sequence_of_two (marked false (item_trees items.entry) bs) (marked true (item_trees items.entry) bs) in
+        let read = length (item_trees items.entry) + length (item_trees flags.entry) in
+        SomeIff result (1 + read + (size t - 1) ≤ limit) (price read 1 t) }
 {
-    match two_sequences(argument) {
-        Some((items, flags)) => split_by(alloc, items, flags),
-        None => unreachable!(),
-    }
+    let read = items.len() as u128 + flags.len() as u128;
+    price_of_more(items, 3, read, limit)
 }
 
 // The items with `F` and those with `T`. Flags that are not packed are packed first.
-fn split_by<A: Allocator + Copy>(
+pub(crate) fn split_by<A: Allocator + Copy>(
     alloc: A,
     items: Items<'_, A>,
     flags: Items<'_, A>,
 ) -> Result<Value<A>, AllocError>
     ensures { IfOk result (λ v. (bs : List Bool) → all_of as_bool (item_trees flags.entry) ≡ Some bs
-        → tree_of v ≡ two (beside false (item_trees items.entry) bs) (beside true (item_trees items.entry) bs)) }
+        → tree_of v
+        ≡ sequence_of_two (marked false (item_trees items.entry) bs) (marked true (item_trees items.entry) bs)) }
 {
     match flags {
         Items::Bools(bools) => both_pieces(alloc, items, bools),
@@ -234,7 +235,8 @@ fn both_pieces<A: Allocator + Copy>(
     flags: &[bool],
 ) -> Result<Value<A>, AllocError>
     ensures { IfOk result (λ v. tree_of v
-        ≡ two (beside false (item_trees items.entry) flags.now) (beside true (item_trees items.entry) flags.now)) }
+        ≡ sequence_of_two (marked false (item_trees items.entry) flags.now)
+        (marked true (item_trees items.entry) flags.now)) }
 {
     let apart = items_beside(alloc, items, flags, false)?;
     let chosen = items_beside(alloc, items, flags, true)?;
@@ -249,7 +251,7 @@ fn items_beside<A: Allocator + Copy>(
     wanted: bool,
 ) -> Result<Value<A>, AllocError>
     ensures { IfOk result (λ v. tree_of v
-        ≡ sequence (beside wanted (item_trees items.entry) flags.now)) }
+        ≡ sequence (marked wanted (item_trees items.entry) flags.now)) }
 {
     match items {
         Items::Ints(ints) => Value::ints(alloc, beside(alloc, ints, flags, wanted)?),
@@ -272,7 +274,7 @@ fn beside<T: Copy, A: Allocator>(
     flags: &[bool],
     wanted: bool,
 ) -> Result<Vec<T, A>, AllocError>
-    ensures { IfOk result (λ v. v.items ≡ beside wanted items.now flags.now) }
+    ensures { IfOk result (λ v. v.items ≡ marked wanted items.now flags.now) }
 {
     let mut kept = Vec::with_capacity(alloc, count_equal(flags, wanted))?;
     for place in 0..items.len().min(flags.len()) {
@@ -289,7 +291,7 @@ fn values_beside<A: Allocator + Copy>(
     flags: &[bool],
     wanted: bool,
 ) -> Result<Vec<Value<A>, A>, AllocError>
-    ensures { IfOk result (λ v. map tree_of v.items ≡ beside wanted (map tree_of values.now) flags.now) }
+    ensures { IfOk result (λ v. map tree_of v.items ≡ marked wanted (map tree_of values.now) flags.now) }
 {
     let mut kept = Vec::with_capacity(alloc, count_equal(flags, wanted))?;
     for place in 0..values.len().min(flags.len()) {

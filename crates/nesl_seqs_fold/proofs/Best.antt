@@ -5,11 +5,11 @@ use Rattle.std.proofs.lemmas.Int.{ints}
 use Rattle.std.proofs.lemmas.List.{append-nil, length-append}
 use Rattle.std.proofs.lemmas.Bool.{and_from, and_parts}
 use Rattle.std.proofs.lemmas.Bool.Decides.{Decides-ltb}
-use Rattle.nesl_values.specs.Tree.{Tree}
+use Rattle.nesl_values.specs.Tree.{ValueTree}
 use Rattle.nesl_seqs_base.specs.Reductions.{all_of}
 use Rattle.nesl_seqs_base.specs.Extremes.{leads, best}
 use Rattle.nesl_seqs_fold.specs.Better.{better}
-use Rattle.nesl_seqs_fold.specs.Scalar.{Tells, Finds}
+use Rattle.nesl_seqs_fold.specs.Scalar.{ScalarIs, ResultIs}
 use Rattle.nesl_seqs_base.specs.Outcome.{Outcome, gives, traps, undefined}
 use Rattle.nesl_scalars.specs.declared.trap.Trap.{Trap}
 use Rattle.nesl_seqs_base.specs.declared.order.Order.{Order}
@@ -120,7 +120,7 @@ best_is o zs (Some (i, b)) h =
     let place : position (λ z. list_all (leads o z) zs) zs ≡ Some i = position_at (λ z. list_all (leads o z) zs) zs i b h.0 h.1 (λ k c l at. contrary (list_all (leads o c) zs) (λ all. differ (leads o c b) (all_at (leads o c) zs i b all h.0) (h.2 k c l at))) in
     sym (ap (λ p. option_and_then (λ j. option_map (λ z. (j, z)) (slice_get zs j)) p) place ∙ ap (option_map (λ z. (i, z))) h.0)
 
-pub folded_best : (o : Order) (read : Tree → Option ℤ) (ts : List Tree) → option_map (λ s. s.0) (folded (turn o) read (None, 0) ts) ≡ option_map (best o) (all_of read ts)
+pub folded_best : (o : Order) (read : ValueTree → Option ℤ) (ts : List ValueTree) → option_map (λ s. s.0) (folded (turn o) read (None, 0) ts) ≡ option_map (best o) (all_of read ts)
 folded_best o read ts =
     ap (option_map (λ s. s.0)) (folded_is (turn o) read (fold (turn o)) (λ s. refl) (λ s x xs. refl) (None, 0) ts) ∙ told (all_of read ts)
   where
@@ -128,7 +128,7 @@ folded_best o read ts =
     told None = refl
     told (Some zs) = ap Some (best_is o zs (fold (turn o) (None, 0) zs).0 (best_so_far o [] zs None refl))
 
-pub refused : {X : Type 0} (f : X → Tree) (o : Outcome) (e : Trap) → Finds f o (Err e) → Tells o (Err e)
+pub refused : {X : Type 0} (f : X → ValueTree) (o : Outcome) (e : Trap) → ResultIs f o (Err e) → ScalarIs o (Err e)
 refused f (gives t) e h = h
 refused f (traps d) e h = h
 refused f undefined e h = h

@@ -3,4 +3,5 @@ pub mod Best
 pub mod Digits
 pub mod Folds
 pub mod Leaves
+pub mod Planned
 pub mod Sums

@@ -1,14 +1,15 @@
 // Whether two values are the same.
-ghost use Rattle.std.specs.Prelude.{◌≡◌, ◌+◌, ◌≤◌, IfOk, SomeIff};
-ghost use Rattle.nesl_values.specs.Tree.{size, pair};
+ghost use Rattle.std.specs.Prelude.{◌≡◌, ◌+◌, ◌-◌, ◌≤◌, IfOk, SomeIff};
+ghost use Rattle.nesl_values.specs.Tree.{ValueTree, size, pair};
 ghost use Rattle.nesl_values.specs.View.{tree_of};
 ghost use Rattle.nesl_seqs_base.specs.Lent.{argument_tree};
 ghost use Rattle.nesl_seqs_base.specs.Equal.{tree_eq};
-ghost use Rattle.nesl_seqs_base.specs.Outcome.{IsGiven, gives};
-ghost use Rattle.nesl_seqs_base.specs.Meaning.{meaning};
-ghost use Rattle.nesl_seqs_base.specs.Prices.{Prices, reads};
+ghost use Rattle.nesl_seqs_base.specs.Meaning.{outcome_of};
+ghost use Rattle.nesl_seqs_base.specs.Prices.{reads, price};
+ghost use Rattle.nesl_seqs_fold.specs.Plans.{Plans};
 ghost use Rattle.nesl_seqs_base.specs.declared.seq_fn.SeqFn.TheVariants.{Eql};
 
+use crate::plan::Plan;
 use nesl_scalars::Trap;
 use nesl_seqs_base::argument::Argument;
 use nesl_seqs_base::arguments::WRONG_SHAPE;
@@ -17,27 +18,36 @@ use nesl_seqs_base::price::Price;
 use nesl_values::Value;
 use std::alloc::{AllocError, Allocator};
 
-pub fn price_eql<A: Allocator>(
-    argument: Argument<'_, A>,
-    limit: u128,
-) -> Result<Option<Price>, Trap>
-    ensures { Prices (meaning Eql (argument_tree argument.entry))
-        (reads Eql (argument_tree argument.entry)) 1 limit result }
+/// The plan of `eql`.
+pub fn plan_eql<A: Allocator>(argument: Argument<'_, A>) -> Result<Plan<'_, A>, Trap>
+    ensures { Plans (outcome_of Eql (argument_tree argument.entry))
+        (reads Eql (argument_tree argument.entry)) 1 result }
 {
-    let Some((one, other)) = argument.as_pair() else {
-        return Err(WRONG_SHAPE);
-    };
-    if limit == 0 {
-        return Ok(None);
+    match argument.as_pair() {
+        Some((one, other)) => Ok(Plan::Equality(one, other)),
+        None => Err(WRONG_SHAPE),
     }
-    let Some(read) = nodes_of_both(one, other, limit - 1) else {
-        return Ok(None);
-    };
-    Ok(Some(Price {
+}
+
+// The price of telling whether the one is the other, of which all nodes are read.
+pub(crate) fn price_of_equality<A: Allocator>(
+    one: &Value<A>,
+    other: Argument<'_, A>,
+    limit: u128,
+) -> Option<Price>
+    ensures { (t : ValueTree) → size t ≡ 1
+        → SomeIff result (1 + (size (tree_of one.now) + size (argument_tree other.entry)) + (size t - 1) ≤ limit)
+        (price (size (tree_of one.now) + size (argument_tree other.entry)) 1 t) }
+{
+    if limit == 0 {
+        return None;
+    }
+    let read = nodes_of_both(one, other, limit - 1)?;
+    Some(Price {
         work: 1 + read,
         depth: 1,
         nodes: 1,
-    }))
+    })
 }
 
 // The nodes of both.
@@ -51,20 +61,7 @@ fn nodes_of_both<A: Allocator>(one: &Value<A>, other: Argument<'_, A>, limit: u1
     Some(first + second)
 }
 
-pub fn apply_eql<A: Allocator + Copy>(
-    alloc: A,
-    argument: Argument<'_, A>,
-) -> Result<Value<A>, AllocError>
-    requires { IsGiven (meaning Eql (argument_tree argument)) }
-    ensures { IfOk result (λ v. meaning Eql (argument_tree argument.entry) ≡ gives (tree_of v)) }
-{
-    match argument.as_pair() {
-        Some((one, other)) => Ok(Value::Bool(equal(alloc, one, other)?)),
-        None => unreachable!(),
-    }
-}
-
-fn equal<A: Allocator + Copy>(
+pub(crate) fn equal<A: Allocator + Copy>(
     alloc: A,
     one: &Value<A>,
     other: Argument<'_, A>,

@@ -1,12 +1,12 @@
 // The greatest and the least element.
 ghost use Rattle.std.specs.Prelude.{◌≡◌, ◌<◌, ◌^◌, ℕ, ℤ, length, map, option_map, IfSome, IfOk};
-ghost use Rattle.nesl_values.specs.Tree.{Tree};
+ghost use Rattle.nesl_values.specs.Tree.{ValueTree};
 ghost use Rattle.nesl_seqs_base.specs.Lent.{argument_tree};
 ghost use Rattle.nesl_values.specs.View.{item_trees};
 ghost use Rattle.nesl_seqs_base.specs.Reductions.{all_of};
-ghost use Rattle.nesl_seqs_base.specs.Meaning.{meaning};
-ghost use Rattle.nesl_seqs_fold.specs.Scalar.{Tells, Finds, scalar_tree};
-ghost use Rattle.nesl_seqs_base.specs.Extremes.{key, element_of, leads, best, from_best, best_element, best_place};
+ghost use Rattle.nesl_seqs_base.specs.Meaning.{outcome_of};
+ghost use Rattle.nesl_seqs_fold.specs.Scalar.{ScalarIs, ResultIs, scalar_tree};
+ghost use Rattle.nesl_seqs_base.specs.Extremes.{key, element_of, leads, best, of_best, best_element, best_place};
 ghost use Rattle.nesl_seqs_fold.specs.Better.{better, IsKey};
 ghost use Rattle.nesl_seqs_base.specs.declared.seq_fn.SeqFn.TheVariants.{MaxVal, MinVal, MaxIndex, MinIndex};
 
@@ -20,38 +20,38 @@ use nesl_values::Items;
 use std::alloc::Allocator;
 
 pub fn max_val<A: Allocator>(argument: Argument<'_, A>) -> Result<Scalar, Trap>
-    ensures { Tells (meaning MaxVal (argument_tree argument.entry)) result }
+    ensures { ScalarIs (outcome_of MaxVal (argument_tree argument.entry)) result }
 {
     best_element(argument, Order::Greatest)
 }
 
 pub fn min_val<A: Allocator>(argument: Argument<'_, A>) -> Result<Scalar, Trap>
-    ensures { Tells (meaning MinVal (argument_tree argument.entry)) result }
+    ensures { ScalarIs (outcome_of MinVal (argument_tree argument.entry)) result }
 {
     best_element(argument, Order::Least)
 }
 
 pub fn max_index<A: Allocator>(argument: Argument<'_, A>) -> Result<Scalar, Trap>
-    ensures { Tells (meaning MaxIndex (argument_tree argument.entry)) result }
+    ensures { ScalarIs (outcome_of MaxIndex (argument_tree argument.entry)) result }
 {
     best_place(argument, Order::Greatest)
 }
 
 pub fn min_index<A: Allocator>(argument: Argument<'_, A>) -> Result<Scalar, Trap>
-    ensures { Tells (meaning MinIndex (argument_tree argument.entry)) result }
+    ensures { ScalarIs (outcome_of MinIndex (argument_tree argument.entry)) result }
 {
     best_place(argument, Order::Least)
 }
 
 fn best_element<A: Allocator>(argument: Argument<'_, A>, order: Order) -> Result<Scalar, Trap>
-    ensures { Tells (best_element order (argument_tree argument.entry)) result }
+    ensures { ScalarIs (best_element order (argument_tree argument.entry)) result }
 {
     let (kind, (_, key)) = best(argument, order)?;
     Ok(element_of(kind, key))
 }
 
 fn best_place<A: Allocator>(argument: Argument<'_, A>, order: Order) -> Result<Scalar, Trap>
-    ensures { Tells (best_place order (argument_tree argument.entry)) result }
+    ensures { ScalarIs (best_place order (argument_tree argument.entry)) result }
 {
     let (_, (place, _)) = best(argument, order)?;
     Ok(Scalar::Int(place as i64))
@@ -70,8 +70,8 @@ fn element_of(kind: Kind, key: i64) -> Scalar
 
 // The place of the best element and its number.
 fn best<A: Allocator>(argument: Argument<'_, A>, order: Order) -> Result<(Kind, (usize, i64)), Trap>
-    ensures found { (f : Kind → ℕ × ℤ → Tree)
-        → Finds (λ p. f p.0 p.1) (from_best order f (argument_tree argument.entry)) result }
+    ensures found { (f : Kind → ℕ × ℤ → ValueTree)
+        → ResultIs (λ p. f p.0 p.1) (of_best order f (argument_tree argument.entry)) result }
     ensures small { IfOk result (λ p. (p.1.0 < 2 ^ 63) × IsKey p.0 p.1.1) }
 {
     let Some(items) = sequence(argument) else {

@@ -1,23 +1,24 @@
 // Reductions: one leaf from all elements.
-ghost use Rattle.std.specs.Prelude.{◌≡◌, ◌+◌, ◌≤◌, ◌<◌, ◌^◌, length, map, count_by, option_map, IfSome, IsOk, IsTrue};
+ghost use Rattle.std.specs.Prelude.{◌≡◌, ◌+◌, ◌≤◌, ◌<◌, ◌^◌, length, map, count_by, option_map, IfSome, IsTrue};
 ghost use Rattle.std.specs.List.{list_any, list_all};
 ghost use Rattle.nesl_values.specs.Parts.{as_int, as_bool};
 ghost use Rattle.nesl_values.specs.View.{tree_of};
 ghost use Rattle.nesl_seqs_base.specs.Lent.{argument_tree};
-ghost use Rattle.nesl_seqs_base.specs.Outcome.{Outcome, IsGiven, fits, gives, number};
+ghost use Rattle.nesl_seqs_base.specs.Outcome.{Outcome, number};
 ghost use Rattle.nesl_seqs_base.specs.Reductions.{all_of, total};
-ghost use Rattle.nesl_seqs_base.specs.Meaning.{meaning};
-ghost use Rattle.nesl_seqs_base.specs.Prices.{Prices, length_of, digits};
+ghost use Rattle.nesl_seqs_base.specs.Meaning.{outcome_of};
+ghost use Rattle.nesl_seqs_base.specs.Prices.{length_of, digits};
+ghost use Rattle.nesl_seqs_fold.specs.Elements.{wrapped_total};
 ghost use Rattle.nesl_seqs_fold.specs.Leaves.{is_short};
-ghost use Rattle.nesl_seqs_fold.specs.Scalar.{Tells, scalar_tree};
+ghost use Rattle.nesl_seqs_fold.specs.Plans.{Plans};
+ghost use Rattle.nesl_seqs_fold.specs.Scalar.{ScalarIs, scalar_tree};
 ghost use Rattle.nesl_seqs_base.specs.declared.seq_fn.SeqFn.TheVariants.{Sum, Any, All, Count};
 
+use crate::plan::Plan;
 use nesl_scalars::Trap;
 use nesl_seqs_base::argument::Argument;
 use nesl_seqs_base::arguments::{WRONG_SHAPE, sequence};
 use nesl_seqs_base::item::Item;
-use nesl_seqs_base::nodes::price_of_leaf;
-use nesl_seqs_base::price::Price;
 use nesl_values::{Items, Value};
 use std::alloc::Allocator;
 
@@ -41,30 +42,17 @@ impl Scalar {
     }
 }
 
-/// The price of a reduction that comes to that.
-pub fn price_of_reduction<A: Allocator>(
+/// The plan of a leaf that comes to that.
+pub fn plan_of_leaf<A: Allocator>(
     argument: Argument<'_, A>,
     outcome: Result<Scalar, Trap>,
-    limit: u128,
-) -> Result<Option<Price>, Trap>
-    ensures { (o : Outcome) → Tells o outcome
-        → Prices o (length_of (argument_tree argument.entry))
-        (1 + digits (length_of (argument_tree argument.entry))) limit result }
+) -> Result<Plan<'_, A>, Trap>
+    ensures { (o : Outcome) → ScalarIs o outcome
+        → Plans o (length_of (argument_tree argument.entry))
+        (1 + digits (length_of (argument_tree argument.entry))) result }
 {
-    outcome?;
-    let len = argument.sequence_len().unwrap_or(0);
-    Ok(price_of_leaf(len, 1 + digits(len), limit))
-}
-
-/// The result of a reduction that has one.
-pub fn value_of<A: Allocator>(outcome: Result<Scalar, Trap>) -> Value<A>
-    requires { IsOk outcome }
-    ensures { (o : Outcome) → Tells o outcome → o ≡ gives (tree_of result) }
-{
-    match outcome {
-        Ok(scalar) => scalar.into_value(),
-        Err(_) => unreachable!(),
-    }
+    let leaf = outcome?;
+    Ok(Plan::Leaf(leaf, argument.sequence_len().unwrap_or(0)))
 }
 
 /// How many binary digits a number has.
@@ -76,8 +64,8 @@ pub fn digits(n: usize) -> u64
     if n == 0 { 0 } else { n.ilog2() as u64 + 1 }
 }
 
-pub fn sum<A: Allocator>(argument: Argument<'_, A>) -> Result<Scalar, Trap>
-    ensures { Tells (meaning Sum (argument_tree argument.entry)) result }
+fn sum<A: Allocator>(argument: Argument<'_, A>) -> Result<Scalar, Trap>
+    ensures { ScalarIs (outcome_of Sum (argument_tree argument.entry)) result }
 {
     let total = match sequence(argument) {
         Some(Items::Ints(ints)) => sum_of(ints),
@@ -92,38 +80,22 @@ pub fn sum<A: Allocator>(argument: Argument<'_, A>) -> Result<Scalar, Trap>
     }
 }
 
-/// The price of a sum. Of fewer than 2^32 numbers of 32 bits it is told without adding them.
-pub fn price_sum<A: Allocator>(
-    argument: Argument<'_, A>,
-    limit: u128,
-) -> Result<Option<Price>, Trap>
-    ensures { Prices (meaning Sum (argument_tree argument.entry)) (length_of (argument_tree argument.entry))
-        (1 + digits (length_of (argument_tree argument.entry))) limit result }
+/// The plan of a sum. Of fewer than 2^32 numbers of 32 bits it is made without adding them.
+pub fn plan_sum<A: Allocator>(argument: Argument<'_, A>) -> Result<Plan<'_, A>, Trap>
+    ensures { Plans (outcome_of Sum (argument_tree argument.entry)) (length_of (argument_tree argument.entry))
+        (1 + digits (length_of (argument_tree argument.entry))) result }
 {
     if let Some(Items::Ints(ints)) = sequence(argument) {
         if are_few_and_short(ints) {
-            let len = ints.len();
-            return Ok(price_of_leaf(len, 1 + digits(len), limit));
+            return Ok(Plan::Sum(ints));
         }
     }
-    price_of_reduction(argument, sum(argument), limit)
+    plan_of_leaf(argument, sum(argument))
 }
 
-/// The value of a sum that has one.
-pub fn apply_sum<A: Allocator>(argument: Argument<'_, A>) -> Value<A>
-    requires { IsGiven (meaning Sum (argument_tree argument)) }
-    ensures { meaning Sum (argument_tree argument.entry) ≡ gives (tree_of result) }
-{
-    match sequence(argument) {
-        Some(Items::Ints(ints)) => Value::Int(known_sum(ints)),
-        _ => value_of(sum(argument)),
-    }
-}
-
-// The sum of numbers that is known to be one of 64 bits, whatever the sums on the way are.
-fn known_sum(ints: &[i64]) -> i64
-    requires { IsTrue (fits (total ints.now)) }
-    ensures { result ≡ total ints.now }
+// The sum as 64 bits have it, whatever the sums on the way are.
+pub(crate) fn wrapped_sum(ints: &[i64]) -> i64
+    ensures { result ≡ wrapped_total ints.now }
 {
     let mut total: i64 = 0;
     for number in ints {
@@ -134,7 +106,7 @@ fn known_sum(ints: &[i64]) -> i64
 
 // A whole number, where it is one of 64 bits.
 fn number(total: i128) -> Result<Scalar, Trap>
-    ensures { Tells (number total) result }
+    ensures { ScalarIs (number total) result }
 {
     if total < i64::MIN as i128 || total > i64::MAX as i128 {
         return Err(Trap::Overflow);
@@ -166,7 +138,7 @@ fn sum_of<T: Item>(items: &[T]) -> Option<i128>
 }
 
 pub fn any<A: Allocator>(argument: Argument<'_, A>) -> Result<Scalar, Trap>
-    ensures { Tells (meaning Any (argument_tree argument.entry)) result }
+    ensures { ScalarIs (outcome_of Any (argument_tree argument.entry)) result }
 {
     let some = match sequence(argument) {
         Some(Items::Ints(ints)) => any_of(ints),
@@ -192,7 +164,7 @@ fn any_of<T: Item>(items: &[T]) -> Option<bool>
 }
 
 pub fn all<A: Allocator>(argument: Argument<'_, A>) -> Result<Scalar, Trap>
-    ensures { Tells (meaning All (argument_tree argument.entry)) result }
+    ensures { ScalarIs (outcome_of All (argument_tree argument.entry)) result }
 {
     let every = match sequence(argument) {
         Some(Items::Ints(ints)) => all_of(ints),
@@ -218,7 +190,7 @@ fn all_of<T: Item>(items: &[T]) -> Option<bool>
 }
 
 pub fn count<A: Allocator>(argument: Argument<'_, A>) -> Result<Scalar, Trap>
-    ensures { Tells (meaning Count (argument_tree argument.entry)) result }
+    ensures { ScalarIs (outcome_of Count (argument_tree argument.entry)) result }
 {
     let count = match sequence(argument) {
         Some(Items::Ints(ints)) => count_of(ints),

@@ -7,8 +7,8 @@ use Rattle.std.proofs.lemmas.Bool.Decides.{Decides-eqb, Decides-ltb}
 use Rattle.std.proofs.lemmas.List.{append-nil}
 use Rattle.std.proofs.lemmas.List.Folds.{list_any-append}
 use Rattle.std.proofs.Math.Bool.{or-true}
-use Rattle.nesl_values.specs.Tree.{Tree}
-use Rattle.nesl_seqs_index.specs.Marks.{is_marked, is_new, are_new, Holds}
+use Rattle.nesl_values.specs.Tree.{ValueTree}
+use Rattle.nesl_seqs_index.specs.Marks.{is_marked, is_new, are_new, MarksSeen}
 use Rattle.nesl_seqs_base.specs.Permute.{all_differ}
 use Rattle.nesl_seqs_base.specs.Places.{place_in, place_of, places_of}
 use Rattle.nesl_seqs_base.proofs.Equality.{left_true, right_true, both_true}
@@ -26,12 +26,12 @@ same_test a b c d f g = by_test (nat_eq a b) refl
     by_test true e = e ∙ sym ((Decides-eqb c d).1 (f (are_equal a b e)))
     by_test false e = e ∙ sym (test_apart c d (λ h. are_apart a b e (g h)))
 
-pub held_outside : (m : List ℕ) (window : ℕ) (seen : List ℕ) (place : ℕ) → place / 524288 ≢ window → Holds m window seen → Holds m window (seen ++ place ∷ [])
+pub held_outside : (m : List ℕ) (window : ℕ) (seen : List ℕ) (place : ℕ) → place / 524288 ≢ window → MarksSeen m window seen → MarksSeen m window (seen ++ place ∷ [])
 held_outside m window seen place out holds k here =
     let apart : nat_eq k place ≡ false = test_apart k place (λ e. out (ap (λ n. n / 524288) (sym e) ∙ here)) in
     holds k here ∙ sym (seen_more k seen place ∙ or_false (list_any (nat_eq k) seen) (nat_eq k place) apart)
 
-pub held_inside : (m new : List ℕ) (window : ℕ) (seen : List ℕ) (place : ℕ) → place / 524288 ≡ window → ((q : ℕ) → is_marked new q ≡ (is_marked m q || nat_eq (place % 524288) q)) → Holds m window seen → Holds new window (seen ++ place ∷ [])
+pub held_inside : (m new : List ℕ) (window : ℕ) (seen : List ℕ) (place : ℕ) → place / 524288 ≡ window → ((q : ℕ) → is_marked new q ≡ (is_marked m q || nat_eq (place % 524288) q)) → MarksSeen m window seen → MarksSeen new window (seen ++ place ∷ [])
 held_inside m new window seen place inside marked holds k here =
     let same : nat_eq (place % 524288) (k % 524288) ≡ nat_eq k place = same_test (place % 524288) (k % 524288) k place (λ e. omega (arith, inside, here)) (λ e. ap (λ n. n % 524288) (sym e)) in
     marked (k % 524288) ∙ ap (λ b. b || nat_eq (place % 524288) (k % 524288)) (holds k here) ∙ ap (λ b. list_any (nat_eq k) seen || b) same ∙ sym (seen_more k seen place)
@@ -39,7 +39,7 @@ held_inside m new window seen place inside marked holds k here =
 pub new_outside : (window : ℕ) (seen : List ℕ) (place : ℕ) → place / 524288 ≢ window → is_new window seen place ≡ true
 new_outside window seen place out = ap (λ b. not b || not (list_any (nat_eq place) seen)) (test_apart (place / 524288) window out)
 
-pub new_inside : (m : List ℕ) (window : ℕ) (seen : List ℕ) (place : ℕ) → place / 524288 ≡ window → Holds m window seen → is_new window seen place ≡ not (is_marked m (place % 524288))
+pub new_inside : (m : List ℕ) (window : ℕ) (seen : List ℕ) (place : ℕ) → place / 524288 ≡ window → MarksSeen m window seen → is_new window seen place ≡ not (is_marked m (place % 524288))
 new_inside m window seen place inside holds =
     ap (λ b. not b || not (list_any (nat_eq place) seen)) ((Decides-eqb (place / 524288) window).1 inside) ∙ ap not (sym (holds place inside))
 
@@ -53,42 +53,42 @@ place_elsewhere n k window (pos i) out names = by_test (nat_lt i n) names
         λ e. out (ap (λ m. m / 524288) (sym same) ∙ e)
     by_test false p = absurd (cc p)
 
-pub is_elsewhere : (n k window : ℕ) (t : Tree) (z : ℤ) → Some z ≡ as_int t → cast_unsigned w64 z / 524288 ≢ window → Some k ≡ place_of n t → k / 524288 ≢ window
+pub is_elsewhere : (n k window : ℕ) (t : ValueTree) (z : ℤ) → Some z ≡ as_int t → cast_unsigned w64 z / 524288 ≢ window → Some k ≡ place_of n t → k / 524288 ≢ window
 is_elsewhere n k window t z is out names = place_elsewhere n k window z out (subst (λ o. Some k ≡ option_and_then (place_in n) o) (sym is) names)
 
 -- one more turn of the loop over one window
-pub held_turn : {I : Type 0} (f : I → Tree) (m : List ℕ) (n window : ℕ) (is : List I) (j : ℕ) (i : I) (k : ℕ) → j < length is → i ≡ get_or is j i → Some k ≡ place_of n (f i) → Holds m window (places_of n (map f (take j is)) ++ k ∷ []) → Holds m window (places_of n (map f (take (j + 1) is)))
+pub held_turn : {I : Type 0} (f : I → ValueTree) (m : List ℕ) (n window : ℕ) (is : List I) (j : ℕ) (i : I) (k : ℕ) → j < length is → i ≡ get_or is j i → Some k ≡ place_of n (f i) → MarksSeen m window (places_of n (map f (take j is)) ++ k ∷ []) → MarksSeen m window (places_of n (map f (take (j + 1) is)))
 held_turn f m n window is j i k h at names holds = rw (places_more f n is j i (Some k) h at names) holds
 
-pub new_turn : {I : Type 0} (f : I → Tree) (n window : ℕ) (is : List I) (j : ℕ) (i : I) (k : ℕ) (all : Bool) → j < length is → i ≡ get_or is j i → Some k ≡ place_of n (f i) → is_new window (places_of n (map f (take j is))) k ≡ true
+pub new_turn : {I : Type 0} (f : I → ValueTree) (n window : ℕ) (is : List I) (j : ℕ) (i : I) (k : ℕ) (all : Bool) → j < length is → i ≡ get_or is j i → Some k ≡ place_of n (f i) → is_new window (places_of n (map f (take j is))) k ≡ true
     → are_new window (places_of n (map f (take j is))) (places_of n (map f (drop j is))) ≡ all → are_new window (places_of n (map f (take (j + 1) is))) (places_of n (map f (drop (j + 1) is))) ≡ all
 new_turn f n window is j i k all h at names new before =
     let seen = places_of n (map f (take j is)) in
     let rest = places_of n (map f (drop (j + 1) is)) in
     ap (λ ks. are_new window ks rest) (places_more f n is j i (Some k) h at names) ∙ ap (λ b. b && are_new window (seen ++ k ∷ []) rest) (sym new) ∙ ap (are_new window seen) (sym (rest_places f n is j i (Some k) h at names)) ∙ before
 
-pub held_same : {I : Type 0} (f : I → Tree) (m : List ℕ) (n window : ℕ) (is : List I) (j : ℕ) (i : I) → j < length is → i ≡ get_or is j i → None ≡ place_of n (f i) → Holds m window (places_of n (map f (take j is))) → Holds m window (places_of n (map f (take (j + 1) is)))
+pub held_same : {I : Type 0} (f : I → ValueTree) (m : List ℕ) (n window : ℕ) (is : List I) (j : ℕ) (i : I) → j < length is → i ≡ get_or is j i → None ≡ place_of n (f i) → MarksSeen m window (places_of n (map f (take j is))) → MarksSeen m window (places_of n (map f (take (j + 1) is)))
 held_same f m n window is j i h at names holds = rw (places_more f n is j i None h at names ∙ append-nil (places_of n (map f (take j is)))) holds
 
-pub new_same : {I : Type 0} (f : I → Tree) (n window : ℕ) (is : List I) (j : ℕ) (i : I) (all : Bool) → j < length is → i ≡ get_or is j i → None ≡ place_of n (f i)
+pub new_same : {I : Type 0} (f : I → ValueTree) (n window : ℕ) (is : List I) (j : ℕ) (i : I) (all : Bool) → j < length is → i ≡ get_or is j i → None ≡ place_of n (f i)
     → are_new window (places_of n (map f (take j is))) (places_of n (map f (drop j is))) ≡ all → are_new window (places_of n (map f (take (j + 1) is))) (places_of n (map f (drop (j + 1) is))) ≡ all
 new_same f n window is j i all h at names before =
     let seen = places_of n (map f (take j is)) in
     ap (λ ks. are_new window ks (places_of n (map f (drop (j + 1) is)))) (places_more f n is j i None h at names ∙ append-nil seen) ∙ ap (are_new window seen) (sym (rest_places f n is j i None h at names)) ∙ before
 
 -- one more turn of the loop over one window, at an index of another one
-turn_elsewhere : {I : Type 0} (f : I → Tree) (m : List ℕ) (n window : ℕ) (is : List I) (j : ℕ) (i : I) (all : Bool) (o : Option ℕ) → j < length is → i ≡ get_or is j i → o ≡ place_of n (f i) → ((k : ℕ) → Some k ≡ o → k / 524288 ≢ window)
-    → (Holds m window (places_of n (map f (take j is))) × (are_new window (places_of n (map f (take j is))) (places_of n (map f (drop j is))) ≡ all))
-    → Holds m window (places_of n (map f (take (j + 1) is))) × (are_new window (places_of n (map f (take (j + 1) is))) (places_of n (map f (drop (j + 1) is))) ≡ all)
+turn_elsewhere : {I : Type 0} (f : I → ValueTree) (m : List ℕ) (n window : ℕ) (is : List I) (j : ℕ) (i : I) (all : Bool) (o : Option ℕ) → j < length is → i ≡ get_or is j i → o ≡ place_of n (f i) → ((k : ℕ) → Some k ≡ o → k / 524288 ≢ window)
+    → (MarksSeen m window (places_of n (map f (take j is))) × (are_new window (places_of n (map f (take j is))) (places_of n (map f (drop j is))) ≡ all))
+    → MarksSeen m window (places_of n (map f (take (j + 1) is))) × (are_new window (places_of n (map f (take (j + 1) is))) (places_of n (map f (drop (j + 1) is))) ≡ all)
 turn_elsewhere f m n window is j i all None h at names out before =
     (held_same f m n window is j i h at names before.0, new_same f n window is j i all h at names before.1)
 turn_elsewhere f m n window is j i all (Some k) h at names out before =
     let seen = places_of n (map f (take j is)) in
     (held_turn f m n window is j i k h at names (held_outside m window seen k (out k refl) before.0), new_turn f n window is j i k all h at names (new_outside window seen k (out k refl)) before.1)
 
-pub elsewhere_turn : {I : Type 0} (f : I → Tree) (m : List ℕ) (n window : ℕ) (is : List I) (j : ℕ) (i : I) (all : Bool) → j < length is → i ≡ get_or is j i → ((k : ℕ) → Some k ≡ place_of n (f i) → k / 524288 ≢ window)
-    → (Holds m window (places_of n (map f (take j is))) × (are_new window (places_of n (map f (take j is))) (places_of n (map f (drop j is))) ≡ all))
-    → Holds m window (places_of n (map f (take (j + 1) is))) × (are_new window (places_of n (map f (take (j + 1) is))) (places_of n (map f (drop (j + 1) is))) ≡ all)
+pub elsewhere_turn : {I : Type 0} (f : I → ValueTree) (m : List ℕ) (n window : ℕ) (is : List I) (j : ℕ) (i : I) (all : Bool) → j < length is → i ≡ get_or is j i → ((k : ℕ) → Some k ≡ place_of n (f i) → k / 524288 ≢ window)
+    → (MarksSeen m window (places_of n (map f (take j is))) × (are_new window (places_of n (map f (take j is))) (places_of n (map f (drop j is))) ≡ all))
+    → MarksSeen m window (places_of n (map f (take (j + 1) is))) × (are_new window (places_of n (map f (take (j + 1) is))) (places_of n (map f (drop (j + 1) is))) ≡ all)
 elsewhere_turn f m n window is j i all h at out before = turn_elsewhere f m n window is j i all (place_of n (f i)) h at refl out before
 
 -- all differ where in each window all differ
@@ -140,7 +140,7 @@ all_from_windows count seen (k ∷ ks) new below h =
     let none : list_any (nat_eq k) seen ≡ false = not_true (list_any (nat_eq k) seen) (ap (λ b. not b || not (list_any (nat_eq k) seen)) (sym ((Decides-eqb (k / 524288) (k / 524288)).1 refl)) ∙ here) in
     ap all_differ (sym (append_assoc seen (k ∷ []) ks)) ∙ all_from_windows count (seen ++ k ∷ []) ks (λ w p. right_true (is_new w seen k) _ (new w p)) (right_true (nat_lt (k / 524288) count) _ below) (differ_more seen k h none)
 
-below_windows : (n : ℕ) (ts : List Tree) → list_all (λ k. nat_lt (k / 524288) (n / 524288 + 1)) (places_of n ts) ≡ true
+below_windows : (n : ℕ) (ts : List ValueTree) → list_all (λ k. nat_lt (k / 524288) (n / 524288 + 1)) (places_of n ts) ≡ true
 below_windows n [] = refl
 below_windows n (t ∷ ts) = one_more (place_of n t) (places_of n ts) (λ k e. omega (arith, place_of_within n t k e)) (below_windows n ts) refl
   where
@@ -148,5 +148,5 @@ below_windows n (t ∷ ts) = one_more (place_of n t) (places_of n ts) (λ k e. o
     one_more None ks le h e = h
     one_more (Some k) ks le h e = both_true (nat_lt (k / 524288) (n / 524288 + 1)) _ ((Decides-ltb (k / 524288) (n / 524288 + 1)).1 (le k e)) h
 
-pub all_windows : (n : ℕ) (ts : List Tree) → ((w : ℕ) → w < n / 524288 + 1 → are_new w [] (places_of n ts) ≡ true) → true ≡ all_differ (places_of n ts)
+pub all_windows : (n : ℕ) (ts : List ValueTree) → ((w : ℕ) → w < n / 524288 + 1 → are_new w [] (places_of n ts) ≡ true) → true ≡ all_differ (places_of n ts)
 all_windows n ts new = sym (all_from_windows (n / 524288 + 1) [] (places_of n ts) new (below_windows n ts) refl)

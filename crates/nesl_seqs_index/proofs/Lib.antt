@@ -3,6 +3,7 @@ pub mod Marking
 pub mod Naming
 pub mod Permuting
 pub mod Picking
+pub mod Planned
 pub mod Tables
 pub mod Writing
 pub mod WrittenLeaves

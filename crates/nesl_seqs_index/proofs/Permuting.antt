@@ -4,14 +4,14 @@ use Rattle.std.specs.List.{list_any, list_all, filter_map, cons_option, find, ra
 use Rattle.std.proofs.lemmas.Bool.{false≢true}
 use Rattle.std.proofs.lemmas.Bool.Decides.{Decides-eqb, Decides-ltb}
 use Rattle.std.proofs.Math.Bool.{or-true}
-use Rattle.std.proofs.lemmas.List.{length-map}
+use Rattle.std.proofs.lemmas.List.{length-map, map-id}
 use Rattle.std.proofs.lemmas.List.FromFn.{length-range_with_len}
 use Rattle.std.proofs.lemmas.Option.{slice_get_within, slice_get-map}
 use Rattle.nesl_scalars.specs.declared.trap.Trap.{Trap}
 use Rattle.nesl_scalars.specs.declared.trap.Trap.TheVariants.{Length, Range, Permutation}
-use Rattle.nesl_values.specs.Tree.{Tree, int, size, sizes, sequence, trees_of}
+use Rattle.nesl_values.specs.Tree.{ValueTree, int, size, sizes, sequence, trees_of}
 use Rattle.nesl_values.specs.Parts.{as_int}
-use Rattle.nesl_seqs_base.specs.Outcome.{Outcome, gives, traps, given, IsGiven}
+use Rattle.nesl_seqs_base.specs.Outcome.{Outcome, gives, traps, if_there, IsGiven}
 use Rattle.nesl_seqs_base.specs.Permute.{all_differ, rearranged, permuted, Inverts}
 use Rattle.nesl_seqs_base.specs.Places.{place_in, place_of, places_of, elements_at, at_places, arrival}
 use Rattle.nesl_seqs_base.specs.Prices.{Prices}
@@ -23,15 +23,15 @@ use Rattle.nesl_seqs_index.proofs.Marking.{are_equal, are_apart, test_apart, not
 use Rattle.nesl_seqs_index.proofs.Picking.{not_given, list_all_map, are_ints, given_all, refused, length_found, place_of_within}
 
 -- the weight of trees
-abbrev pub weights : (Tree → ℕ) → List Tree → ℕ
+abbrev pub weights : (ValueTree → ℕ) → List ValueTree → ℕ
 weights w [] = 0
 weights w (t ∷ ts) = w t + weights w ts
 
-weights_size : (ts : List Tree) → weights size ts ≡ sizes (trees_of ts)
+weights_size : (ts : List ValueTree) → weights size ts ≡ sizes (trees_of ts)
 weights_size [] = refl
 weights_size (t ∷ ts) = ap (λ n. size t + n) (weights_size ts)
 
-pub weights_one : (ts : List Tree) → weights (λ t. 1) ts ≡ length ts
+pub weights_one : (ts : List ValueTree) → weights (λ t. 1) ts ≡ length ts
 weights_one [] = refl
 weights_one (t ∷ ts) = omega (arith, weights_one ts)
 
@@ -39,32 +39,32 @@ found_same : {X Y : Type 0} (f g : X → Option Y) (xs : List X) → ((x : X) �
 found_same f g [] h = refl
 found_same f g (x ∷ xs) h = ap (λ o. cons_option o (filter_map f xs)) (h x) ∙ ap (cons_option (g x)) (found_same f g xs h)
 
-abbrev pub arrival_or : ℕ → Tree → (ℕ → Option Tree) → ℕ → Option Tree
+abbrev pub arrival_or : ℕ → ValueTree → (ℕ → Option ValueTree) → ℕ → Option ValueTree
 arrival_or c t g k = cond (nat_eq k c) (Some t) (g k)
 
-pub first_arrival : (c : ℕ) (t : Tree) (ws : List (ℕ × Tree)) (k : ℕ) → arrival ((c, t) ∷ ws) k ≡ arrival_or c t (arrival ws) k
+pub first_arrival : (c : ℕ) (t : ValueTree) (ws : List (ℕ × ValueTree)) (k : ℕ) → arrival ((c, t) ∷ ws) k ≡ arrival_or c t (arrival ws) k
 first_arrival c t ws k = by_test (nat_eq k c)
   where
     by_test : (b : Bool) → option_map (λ w. w.1) (cond b (Some (c, t)) (find (λ w. nat_eq k w.0) ws)) ≡ cond b (Some t) (arrival ws k)
     by_test true = refl
     by_test false = refl
 
-before_range : (g : ℕ → Option Tree) (c : ℕ) (t : Tree) (a n : ℕ) → c < a → filter_map (arrival_or c t g) (range_with_len a n) ≡ filter_map g (range_with_len a n)
+before_range : (g : ℕ → Option ValueTree) (c : ℕ) (t : ValueTree) (a n : ℕ) → c < a → filter_map (arrival_or c t g) (range_with_len a n) ≡ filter_map g (range_with_len a n)
 before_range g c t a zero h = refl
 before_range g c t a (suc n) h =
     ap (λ b. cons_option (cond b (Some t) (g a)) (filter_map (arrival_or c t g) (range_with_len (a + 1) n))) (test_apart a c (λ e. absurd (omega (arith, e, h)))) ∙ ap (cons_option (g a)) (before_range g c t (a + 1) n (omega (arith, h)))
 
-weights_more : (w : Tree → ℕ) (o : Option Tree) (ts us : List Tree) (n : ℕ) → weights w ts ≡ n + weights w us → weights w (cons_option o ts) ≡ n + weights w (cons_option o us)
+weights_more : (w : ValueTree → ℕ) (o : Option ValueTree) (ts us : List ValueTree) (n : ℕ) → weights w ts ≡ n + weights w us → weights w (cons_option o ts) ≡ n + weights w (cons_option o us)
 weights_more w None ts us n h = h
 weights_more w (Some t) ts us n h = omega (arith, h)
 
 -- one element more weighs as much more
-one_arrival : (w : Tree → ℕ) (g : ℕ → Option Tree) (c : ℕ) (t : Tree) (a n : ℕ) → a ≤ c → c < a + n → g c ≡ None → weights w (filter_map (arrival_or c t g) (range_with_len a n)) ≡ w t + weights w (filter_map g (range_with_len a n))
+one_arrival : (w : ValueTree → ℕ) (g : ℕ → Option ValueTree) (c : ℕ) (t : ValueTree) (a n : ℕ) → a ≤ c → c < a + n → g c ≡ None → weights w (filter_map (arrival_or c t g) (range_with_len a n)) ≡ w t + weights w (filter_map g (range_with_len a n))
 one_arrival w g c t a zero h l none = absurd (omega (arith, h, l))
 one_arrival w g c t a (suc n) h l none =
     here w g c t a (filter_map (arrival_or c t g) (range_with_len (a + 1) n)) (filter_map g (range_with_len (a + 1) n)) none (λ e. before_range g c t (a + 1) n (omega (arith, e))) (λ e. one_arrival w g c t (a + 1) n (omega (arith, h, e)) (omega (arith, l)) none)
   where
-    here : (w : Tree → ℕ) (g : ℕ → Option Tree) (c : ℕ) (t : Tree) (a : ℕ) (more less : List Tree) → g c ≡ None → (a ≡ c → more ≡ less) → (a ≢ c → weights w more ≡ w t + weights w less) → weights w (cons_option (arrival_or c t g a) more) ≡ w t + weights w (cons_option (g a) less)
+    here : (w : ValueTree → ℕ) (g : ℕ → Option ValueTree) (c : ℕ) (t : ValueTree) (a : ℕ) (more less : List ValueTree) → g c ≡ None → (a ≡ c → more ≡ less) → (a ≢ c → weights w more ≡ w t + weights w less) → weights w (cons_option (arrival_or c t g a) more) ≡ w t + weights w (cons_option (g a) less)
     here w g c t a more less none same rest = by_test (nat_eq a c) refl
       where
         by_test : (b : Bool) → nat_eq a c ≡ b → weights w (cons_option (cond b (Some t) (g a)) more) ≡ w t + weights w (cons_option (g a) less)
@@ -73,11 +73,11 @@ one_arrival w g c t a (suc n) h l none =
             ap (λ us. w t + weights w us) (same is) ∙ ap (λ o. w t + weights w (cons_option o less)) (sym (ap g is ∙ none))
         by_test false e = weights_more w (g a) more less (w t) (rest (are_apart a c e))
 
-not_here : (b any : Bool) (t : Tree) (o : Option Tree) → (any ≡ false → o ≡ None) → (b || any) ≡ false → cond b (Some t) o ≡ None
+not_here : (b any : Bool) (t : ValueTree) (o : Option ValueTree) → (any ≡ false → o ≡ None) → (b || any) ≡ false → cond b (Some t) o ≡ None
 not_here true any t o rest p = absurd (cc p)
 not_here false any t o rest p = rest p
 
-no_arrival : (k : ℕ) (ks : List ℕ) (ts : List Tree) → list_any (nat_eq k) ks ≡ false → arrival (zip ks ts) k ≡ None
+no_arrival : (k : ℕ) (ks : List ℕ) (ts : List ValueTree) → list_any (nat_eq k) ks ≡ false → arrival (zip ks ts) k ≡ None
 no_arrival k [] ts h = refl
 no_arrival k (c ∷ ks) [] h = refl
 no_arrival k (c ∷ ks) (t ∷ ts) h = first_arrival c t (zip ks ts) k ∙ not_here (nat_eq k c) (list_any (nat_eq k) ks) t (arrival (zip ks ts) k) (λ p. no_arrival k ks ts p) h
@@ -87,7 +87,7 @@ none_arrive [] = refl
 none_arrive (x ∷ xs) = none_arrive xs
 
 -- all arrive
-pub weights_arrive : (w : Tree → ℕ) (m : ℕ) (ks : List ℕ) (ts : List Tree) → length ks ≡ length ts → list_all (λ k. nat_lt k m) ks ≡ true → all_differ ks ≡ true → weights w (filter_map (arrival (zip ks ts)) (range_with_len 0 m)) ≡ weights w ts
+pub weights_arrive : (w : ValueTree → ℕ) (m : ℕ) (ks : List ℕ) (ts : List ValueTree) → length ks ≡ length ts → list_all (λ k. nat_lt k m) ks ≡ true → all_differ ks ≡ true → weights w (filter_map (arrival (zip ks ts)) (range_with_len 0 m)) ≡ weights w ts
 weights_arrive w m [] [] h below differ = ap (weights w) (none_arrive (range_with_len 0 m))
 weights_arrive w m [] (t ∷ ts) h below differ = absurd (omega (arith, h))
 weights_arrive w m (k ∷ ks) [] h below differ = absurd (omega (arith, h))
@@ -99,7 +99,7 @@ weights_arrive w m (k ∷ ks) (t ∷ ts) h below differ =
     ∙ ap (λ n. w t + n) (weights_arrive w m ks ts (omega (arith, h)) (right_true (nat_lt k m) _ below) (right_true (not (list_any (nat_eq k) ks)) _ differ))
 
 -- the places that are named
-pub below_len : (n : ℕ) (ts : List Tree) → list_all (λ k. nat_lt k n) (places_of n ts) ≡ true
+pub below_len : (n : ℕ) (ts : List ValueTree) → list_all (λ k. nat_lt k n) (places_of n ts) ≡ true
 below_len n [] = refl
 below_len n (t ∷ ts) = one_more (place_of n t) (places_of n ts) (λ k e. place_of_within n t k e) (below_len n ts) refl
   where
@@ -107,10 +107,10 @@ below_len n (t ∷ ts) = one_more (place_of n t) (places_of n ts) (λ k e. place
     one_more None ks le h e = h
     one_more (Some k) ks le h e = ap (λ b. b && list_all (λ k. nat_lt k n) ks) ((Decides-ltb k n).1 (le k e)) ∙ h
 
-abbrev pub AllName : ℕ → List Tree → Type 0
+abbrev pub AllName : ℕ → List ValueTree → Type 0
 AllName n js = list_all (λ j. is_some (place_of n j)) js ≡ true
 
-pub length_named : (n : ℕ) (js : List Tree) → AllName n js → length (places_of n js) ≡ length js
+pub length_named : (n : ℕ) (js : List ValueTree) → AllName n js → length (places_of n js) ≡ length js
 length_named n [] h = refl
 length_named n (j ∷ js) h = one_more (place_of n j) (places_of n js) (length js) (left_true (is_some (place_of n j)) _ h) (length_named n js (right_true (is_some (place_of n j)) _ h))
   where
@@ -118,15 +118,15 @@ length_named n (j ∷ js) h = one_more (place_of n j) (places_of n js) (length j
     one_more None ks m p e = absurd (cc p)
     one_more (Some k) ks m p e = ap suc e
 
-weights_rearranged : (w : Tree → ℕ) (ts js : List Tree) → length js ≡ length ts → AllName (length ts) js → all_differ (places_of (length ts) js) ≡ true → weights w (rearranged ts (places_of (length ts) js)) ≡ weights w ts
+weights_rearranged : (w : ValueTree → ℕ) (ts js : List ValueTree) → length js ≡ length ts → AllName (length ts) js → all_differ (places_of (length ts) js) ≡ true → weights w (rearranged ts (places_of (length ts) js)) ≡ weights w ts
 weights_rearranged w ts js same named differ =
     weights_arrive w (length ts) (places_of (length ts) js) ts (length_named (length ts) js named ∙ same) (below_len (length ts) js) differ
 
-pub size_rearranged : (ts js : List Tree) → length js ≡ length ts → AllName (length ts) js → all_differ (places_of (length ts) js) ≡ true → size (sequence (rearranged ts (places_of (length ts) js))) ≡ size (sequence ts)
+pub size_rearranged : (ts js : List ValueTree) → length js ≡ length ts → AllName (length ts) js → all_differ (places_of (length ts) js) ≡ true → size (sequence (rearranged ts (places_of (length ts) js))) ≡ size (sequence ts)
 size_rearranged ts js same named differ =
     ap (λ n. 1 + n) (sym (weights_size (rearranged ts (places_of (length ts) js))) ∙ weights_rearranged size ts js same named differ ∙ weights_size ts)
 
-length_rearranged : (ts js : List Tree) → length js ≡ length ts → AllName (length ts) js → all_differ (places_of (length ts) js) ≡ true → length (rearranged ts (places_of (length ts) js)) ≡ length ts
+length_rearranged : (ts js : List ValueTree) → length js ≡ length ts → AllName (length ts) js → all_differ (places_of (length ts) js) ≡ true → length (rearranged ts (places_of (length ts) js)) ≡ length ts
 length_rearranged ts js same named differ =
     sym (weights_one (rearranged ts (places_of (length ts) js))) ∙ weights_rearranged (λ t. 1) ts js same named differ ∙ weights_one ts
 
@@ -143,14 +143,14 @@ all_found {Y = Y} f (u ∷ xs) h i x at = by_first (f u) refl h i at (λ e k p. 
     by_first (Some y) e p (suc k) q rest = rest (omega (arith, p)) k q
 
 -- what arrives was sent
-arrives_from : (n : ℕ) (js ts : List Tree) (k : ℕ) (u : Tree) → AllName n js → length js ≡ length ts → arrival (zip (places_of n js) ts) k ≡ Some u → (i : ℕ) × (x : Tree) × (slice_get js i ≡ Some x) × (place_of n x ≡ Some k) × (slice_get ts i ≡ Some u)
+arrives_from : (n : ℕ) (js ts : List ValueTree) (k : ℕ) (u : ValueTree) → AllName n js → length js ≡ length ts → arrival (zip (places_of n js) ts) k ≡ Some u → (i : ℕ) × (x : ValueTree) × (slice_get js i ≡ Some x) × (place_of n x ≡ Some k) × (slice_get ts i ≡ Some u)
 arrives_from n [] ts k u named same h = absurd (cc h)
 arrives_from n (j ∷ js) [] k u named same h = absurd (omega (arith, same))
 arrives_from n (j ∷ js) (t ∷ ts) k u named same h =
     by_place (place_of n j) refl (left_true (is_some (place_of n j)) _ named) h (λ e. arrives_from n js ts k u (right_true (is_some (place_of n j)) _ named) (omega (arith, same)) e)
   where
-    Sent : List Tree → List Tree → Type 0
-    Sent vs us = (i : ℕ) × (x : Tree) × (slice_get vs i ≡ Some x) × (place_of n x ≡ Some k) × (slice_get us i ≡ Some u)
+    Sent : List ValueTree → List ValueTree → Type 0
+    Sent vs us = (i : ℕ) × (x : ValueTree) × (slice_get vs i ≡ Some x) × (place_of n x ≡ Some k) × (slice_get us i ≡ Some u)
 
     by_test : (c : ℕ) → place_of n j ≡ Some c → (b : Bool) → nat_eq k c ≡ b → cond b (Some t) (arrival (zip (places_of n js) ts) k) ≡ Some u → (arrival (zip (places_of n js) ts) k ≡ Some u → Sent js ts) → Sent (j ∷ js) (t ∷ ts)
     by_test c e true p q rest =
@@ -164,11 +164,11 @@ arrives_from n (j ∷ js) (t ∷ ts) k u named same h =
     by_place None e p q rest = absurd (cc p)
     by_place (Some c) e p q rest = by_test c e (nat_eq k c) refl (sym (first_arrival c t (zip (places_of n js) ts) k) ∙ q) rest
 
-two_steps : (ts : List Tree) (n : ℕ) (zs : List ℤ) → elements_at ts (places_of n (map int zs)) ≡ filter_map (λ z. option_and_then (slice_get ts) (place_in n z)) zs
+two_steps : (ts : List ValueTree) (n : ℕ) (zs : List ℤ) → elements_at ts (places_of n (map int zs)) ≡ filter_map (λ z. option_and_then (slice_get ts) (place_in n z)) zs
 two_steps ts n [] = refl
 two_steps ts n (z ∷ zs) = one_more (place_in n z) (places_of n (map int zs)) (filter_map (λ y. option_and_then (slice_get ts) (place_in n y)) zs) (two_steps ts n zs)
   where
-    one_more : (o : Option ℕ) (ks : List ℕ) (us : List Tree) → elements_at ts ks ≡ us → elements_at ts (cons_option o ks) ≡ cons_option (option_and_then (slice_get ts) o) us
+    one_more : (o : Option ℕ) (ks : List ℕ) (us : List ValueTree) → elements_at ts ks ≡ us → elements_at ts (cons_option o ks) ≡ cons_option (option_and_then (slice_get ts) o) us
     one_more None ks us h = h
     one_more (Some k) ks us h = ap (cons_option (slice_get ts k)) h
 
@@ -190,7 +190,7 @@ place_in_pos : (n i : ℕ) → i < n → place_in n (pos i) ≡ Some i
 place_in_pos n i h = ap (λ b. cond b (Some i) None) ((Decides-ltb i n).1 h)
 
 -- so the elements at the places whence they come are the elements where they go to
-pub inverse_picks : (ts js : List Tree) (zs : List ℤ) → length js ≡ length ts → AllName (length ts) js → all_differ (places_of (length ts) js) ≡ true → Inverts zs js
+pub inverse_picks : (ts js : List ValueTree) (zs : List ℤ) → length js ≡ length ts → AllName (length ts) js → all_differ (places_of (length ts) js) ≡ true → Inverts zs js
     → elements_at ts (places_of (length ts) (map int zs)) ≡ rearranged ts (places_of (length ts) js)
 inverse_picks ts js zs same named differ inverts =
     two_steps ts (length ts) zs ∙ found_alike (λ z. option_and_then (slice_get ts) (place_in (length ts) z)) (arrival (zip (places_of (length ts) js) ts)) zs (range_with_len 0 (length ts)) (inverts.0 ∙ same ∙ sym (length-range_with_len 0 (length ts))) (λ i z k p q. at_place i z k p q)
@@ -206,79 +206,76 @@ inverse_picks ts js zs same named differ inverts =
         ap (λ y. option_and_then (slice_get ts) (place_in (length ts) y)) same_number ∙ ap (option_and_then (slice_get ts)) (place_in_pos (length ts) from.0 (slice_get_within ts from.0 found.0 from.4)) ∙ from.4 ∙ sym found.1
 
 -- what comes of indices
-abbrev arranged : List Tree → List ℕ → Outcome
+abbrev arranged : List ValueTree → List ℕ → Outcome
 arranged ts ks = cond (all_differ ks) (gives (sequence (rearranged ts ks))) (traps Permutation)
 
-by_places : {I : Type 0} (f : I → Tree) (is : List I) (ts : List Tree) → length ts ≡ length is → given (all_of as_int (map f is)) (permuted ts) ≡ given (all_of as_int (map f is)) (λ zs. at_places (length ts) zs (arranged ts))
+by_places : {I : Type 0} (f : I → ValueTree) (is : List I) (ts : List ValueTree) → length ts ≡ length is → if_there (all_of as_int (map f is)) (permuted ts) ≡ if_there (all_of as_int (map f is)) (λ zs. at_places (length ts) zs (arranged ts))
 by_places f is ts same = by_ints (all_of as_int (map f is)) refl
   where
-    by_ints : (o : Option (List ℤ)) → all_of as_int (map f is) ≡ o → given o (permuted ts) ≡ given o (λ zs. at_places (length ts) zs (arranged ts))
+    by_ints : (o : Option (List ℤ)) → all_of as_int (map f is) ≡ o → if_there o (permuted ts) ≡ if_there o (λ zs. at_places (length ts) zs (arranged ts))
     by_ints None e = refl
     by_ints (Some zs) e =
         let even : length ts ≡ length zs = same ∙ sym (length-map is f) ∙ ap length (are_ints (map f is) zs e) ∙ length-map zs int in
         ap (λ b. cond b (at_places (length ts) zs (arranged ts)) (traps Length)) ((Decides-eqb (length ts) (length zs)).1 even)
 
-pub refused_uneven : {I : Type 0} (f : I → Tree) (is : List I) (ts : List Tree) (read depth limit : ℕ) → length ts ≢ length is → Prices (given (all_of as_int (map f is)) (permuted ts)) read depth limit (Err Length)
+pub refused_uneven : {I : Type 0} (f : I → ValueTree) (is : List I) (ts : List ValueTree) (read depth limit : ℕ) → length ts ≢ length is → Prices (if_there (all_of as_int (map f is)) (permuted ts)) read depth limit (Err Length)
 refused_uneven f is ts read depth limit uneven = by_ints (all_of as_int (map f is)) refl
   where
-    by_ints : (o : Option (List ℤ)) → all_of as_int (map f is) ≡ o → Prices (given o (permuted ts)) read depth limit (Err Length)
+    by_ints : (o : Option (List ℤ)) → all_of as_int (map f is) ≡ o → Prices (if_there o (permuted ts)) read depth limit (Err Length)
     by_ints None e = tt
     by_ints (Some zs) e =
         let many : length zs ≡ length is = sym (length-map zs int) ∙ ap length (sym (are_ints (map f is) zs e)) ∙ length-map is f in
         let apart : nat_eq (length ts) (length zs) ≡ false = test_apart (length ts) (length zs) (λ same. uneven (same ∙ many)) in
         rw apart refl
 
-pub refused_beyond : {I : Type 0} (f : I → Tree) (is : List I) (ts : List Tree) (read depth limit : ℕ) → length ts ≡ length is → list_all (λ i. is_some (place_of (length ts) (f i))) is ≡ false
-    → Prices (given (all_of as_int (map f is)) (permuted ts)) read depth limit (Err Range)
+pub refused_beyond : {I : Type 0} (f : I → ValueTree) (is : List I) (ts : List ValueTree) (read depth limit : ℕ) → length ts ≡ length is → list_all (λ i. is_some (place_of (length ts) (f i))) is ≡ false
+    → Prices (if_there (all_of as_int (map f is)) (permuted ts)) read depth limit (Err Range)
 refused_beyond f is ts read depth limit same named = rw (by_places f is ts same) (refused (length ts) f is (arranged ts) read depth limit named)
 
-arranged_is : {I : Type 0} (f : I → Tree) (is : List I) (ts : List Tree) → length ts ≡ length is → list_all (λ i. is_some (place_of (length ts) (f i))) is ≡ true → given (all_of as_int (map f is)) (permuted ts) ≡ arranged ts (places_of (length ts) (map f is))
+arranged_is : {I : Type 0} (f : I → ValueTree) (is : List I) (ts : List ValueTree) → length ts ≡ length is → list_all (λ i. is_some (place_of (length ts) (f i))) is ≡ true → if_there (all_of as_int (map f is)) (permuted ts) ≡ arranged ts (places_of (length ts) (map f is))
 arranged_is f is ts same named = by_places f is ts same ∙ given_all (length ts) f is (arranged ts) named
 
-pub refused_twice : {I : Type 0} (f : I → Tree) (is : List I) (ts : List Tree) (read depth limit : ℕ) → length ts ≡ length is → list_all (λ i. is_some (place_of (length ts) (f i))) is ≡ true → all_differ (places_of (length ts) (map f is)) ≡ false
-    → Prices (given (all_of as_int (map f is)) (permuted ts)) read depth limit (Err Permutation)
+pub refused_twice : {I : Type 0} (f : I → ValueTree) (is : List I) (ts : List ValueTree) (read depth limit : ℕ) → length ts ≡ length is → list_all (λ i. is_some (place_of (length ts) (f i))) is ≡ true → all_differ (places_of (length ts) (map f is)) ≡ false
+    → Prices (if_there (all_of as_int (map f is)) (permuted ts)) read depth limit (Err Permutation)
 refused_twice f is ts read depth limit same named twice =
-    let refuses : given (all_of as_int (map f is)) (permuted ts) ≡ traps Permutation = arranged_is f is ts same named ∙ ap (λ b. cond b (gives (sequence (rearranged ts (places_of (length ts) (map f is))))) (traps Permutation)) twice in
+    let refuses : if_there (all_of as_int (map f is)) (permuted ts) ≡ traps Permutation = arranged_is f is ts same named ∙ ap (λ b. cond b (gives (sequence (rearranged ts (places_of (length ts) (map f is))))) (traps Permutation)) twice in
     rw refuses refl
 
-price_by_size : (t u : Tree) (read depth limit : ℕ) (o : Option Price) → size t ≡ size u → Prices (gives t) read depth limit (Ok o) → Prices (gives u) read depth limit (Ok o)
-price_by_size t u read depth limit o same h = subst (λ n. SomeIff o (1 + read + (n - 1) ≤ limit) (record { work = 1 + read + (n - 1); depth = depth; nodes = n })) same h
-
-pub priced_as_items : {I : Type 0} (f : I → Tree) (is : List I) (ts : List Tree) (read depth limit : ℕ) (o : Option Price) → length ts ≡ length is → list_all (λ i. is_some (place_of (length ts) (f i))) is ≡ true → all_differ (places_of (length ts) (map f is)) ≡ true
-    → Prices (gives (sequence ts)) read depth limit (Ok o) → Prices (given (all_of as_int (map f is)) (permuted ts)) read depth limit (Ok o)
-priced_as_items f is ts read depth limit o same named differ h =
-    let js = map f is in
-    let seen : AllName (length ts) js = list_all_map (λ t. is_some (place_of (length ts) t)) f is ∙ named in
-    let given_it : given (all_of as_int js) (permuted ts) ≡ gives (sequence (rearranged ts (places_of (length ts) js))) = arranged_is f is ts same named ∙ ap (λ b. cond b (gives (sequence (rearranged ts (places_of (length ts) js)))) (traps Permutation)) differ in
-    rw given_it (price_by_size (sequence ts) (sequence (rearranged ts (places_of (length ts) js))) read depth limit o (sym (size_rearranged ts js (length-map is f ∙ sym same) seen differ)) h)
+pub arranged_given : {I : Type 0} (f : I → ValueTree) (is : List I) (ts : List ValueTree) → length ts ≡ length is → list_all (λ i. is_some (place_of (length ts) (f i))) is ≡ true → all_differ (places_of (length ts) (map f is)) ≡ true
+    → if_there (all_of as_int (map f is)) (permuted ts) ≡ gives (sequence (rearranged ts (places_of (length ts) (map f is))))
+arranged_given f is ts same named differ =
+    arranged_is f is ts same named ∙ ap (λ b. cond b (gives (sequence (rearranged ts (places_of (length ts) (map f is))))) (traps Permutation)) differ
 
 -- indices that give a result
-pub record IsArranged (ts js : List Tree) : Type 0 where
+pub record IsArranged (ts js : List ValueTree) : Type 0 where
   pub same : length js ≡ length ts
   pub named : AllName (length ts) js
   pub differ : all_differ (places_of (length ts) js) ≡ true
-  pub is : given (all_of as_int js) (permuted ts) ≡ gives (sequence (rearranged ts (places_of (length ts) js)))
+  pub is : if_there (all_of as_int js) (permuted ts) ≡ gives (sequence (rearranged ts (places_of (length ts) js)))
 
 -- the indices are refused, or each element has a place of its own
-pub by_outcome : {I : Type 0} (f : I → Tree) (is : List I) (ts : List Tree) (P : Outcome → Type 0) → ((o : Outcome) (e : Trap) → Prices o 0 0 0 (Err e) → P o) → (IsArranged ts (map f is) → P (given (all_of as_int (map f is)) (permuted ts)))
-    → P (given (all_of as_int (map f is)) (permuted ts))
+pub by_outcome : {I : Type 0} (f : I → ValueTree) (is : List I) (ts : List ValueTree) (P : Outcome → Type 0) → ((o : Outcome) (e : Trap) → Prices o 0 0 0 (Err e) → P o) → (IsArranged ts (map f is) → P (if_there (all_of as_int (map f is)) (permuted ts)))
+    → P (if_there (all_of as_int (map f is)) (permuted ts))
 by_outcome f is ts P refusal result = by_len (nat_eq (length ts) (length is)) refl
   where
-    by_differ : length ts ≡ length is → list_all (λ i. is_some (place_of (length ts) (f i))) is ≡ true → (b : Bool) → all_differ (places_of (length ts) (map f is)) ≡ b → P (given (all_of as_int (map f is)) (permuted ts))
+    by_differ : length ts ≡ length is → list_all (λ i. is_some (place_of (length ts) (f i))) is ≡ true → (b : Bool) → all_differ (places_of (length ts) (map f is)) ≡ b → P (if_there (all_of as_int (map f is)) (permuted ts))
     by_differ same named true e =
         result (record { same = length-map is f ∙ sym same; named = list_all_map (λ t. is_some (place_of (length ts) t)) f is ∙ named; differ = e; is = arranged_is f is ts same named ∙ ap (λ b. cond b (gives (sequence (rearranged ts (places_of (length ts) (map f is))))) (traps Permutation)) e })
     by_differ same named false e = refusal _ Permutation (refused_twice f is ts 0 0 0 same named e)
 
-    by_names : length ts ≡ length is → (b : Bool) → list_all (λ i. is_some (place_of (length ts) (f i))) is ≡ b → P (given (all_of as_int (map f is)) (permuted ts))
+    by_names : length ts ≡ length is → (b : Bool) → list_all (λ i. is_some (place_of (length ts) (f i))) is ≡ b → P (if_there (all_of as_int (map f is)) (permuted ts))
     by_names same true e = by_differ same e (all_differ (places_of (length ts) (map f is))) refl
     by_names same false e = refusal _ Range (refused_beyond f is ts 0 0 0 same e)
 
-    by_len : (b : Bool) → nat_eq (length ts) (length is) ≡ b → P (given (all_of as_int (map f is)) (permuted ts))
+    by_len : (b : Bool) → nat_eq (length ts) (length is) ≡ b → P (if_there (all_of as_int (map f is)) (permuted ts))
     by_len true e = by_names (are_equal (length ts) (length is) e) (list_all (λ i. is_some (place_of (length ts) (f i))) is) refl
     by_len false e = refusal _ Length (refused_uneven f is ts 0 0 0 (are_apart (length ts) (length is) e))
 
-pub is_arranged : {I : Type 0} (f : I → Tree) (is : List I) (ts : List Tree) → IsGiven (given (all_of as_int (map f is)) (permuted ts)) → IsArranged ts (map f is)
+pub is_arranged : {I : Type 0} (f : I → ValueTree) (is : List I) (ts : List ValueTree) → IsGiven (if_there (all_of as_int (map f is)) (permuted ts)) → IsArranged ts (map f is)
 is_arranged f is ts there = by_outcome f is ts (λ o. IsGiven o → IsArranged ts (map f is)) (λ o e p q. absurd (not_given o e q p)) (λ a q. a) there
+
+pub is_arranged_trees : (us ts : List ValueTree) → IsGiven (if_there (all_of as_int us) (permuted ts)) → IsArranged ts us
+is_arranged_trees us ts = subst (λ js. IsGiven (if_there (all_of as_int js) (permuted ts)) → IsArranged ts js) (map-id us) (is_arranged (λ t. t) us ts)
 
 -- the turns of the loop that turns the indices round
 set_same : {X : Type 0} (xs : List X) (k : ℕ) (x : X) → k < length xs → slice_get (set xs k x) k ≡ Some x
@@ -293,7 +290,7 @@ set_other (y ∷ xs) zero (suc i) x h = refl
 set_other (y ∷ xs) (suc k) zero x h = refl
 set_other (y ∷ xs) (suc k) (suc i) x h = set_other xs k i x (λ e. h (ap suc e))
 
-named_later : (n : ℕ) (js : List Tree) (j : ℕ) (y : Tree) (k : ℕ) → slice_get js j ≡ Some y → place_of n y ≡ Some k → list_any (nat_eq k) (places_of n js) ≡ true
+named_later : (n : ℕ) (js : List ValueTree) (j : ℕ) (y : ValueTree) (k : ℕ) → slice_get js j ≡ Some y → place_of n y ≡ Some k → list_any (nat_eq k) (places_of n js) ≡ true
 named_later n [] j y k at names = absurd (cc at)
 named_later n (x ∷ js) zero y k at names =
     let same : x ≡ y = cc at in
@@ -304,7 +301,7 @@ named_later n (x ∷ js) (suc j) y k at names = one_more (place_of n x) (places_
     one_more None ks h = h
     one_more (Some c) ks h = ap (λ b. nat_eq k c || b) h ∙ or-true (nat_eq k c)
 
-differ_apart : (n : ℕ) (js : List Tree) (i j : ℕ) (x y : Tree) (k : ℕ) → all_differ (places_of n js) ≡ true → i < j → slice_get js i ≡ Some x → slice_get js j ≡ Some y → place_of n x ≡ Some k → place_of n y ≡ Some k → ⊥
+differ_apart : (n : ℕ) (js : List ValueTree) (i j : ℕ) (x y : ValueTree) (k : ℕ) → all_differ (places_of n js) ≡ true → i < j → slice_get js i ≡ Some x → slice_get js j ≡ Some y → place_of n x ≡ Some k → place_of n y ≡ Some k → ⊥
 differ_apart n [] i j x y k differ h at later p q = absurd (cc at)
 differ_apart n (u ∷ js) i zero x y k differ h at later p q = omega (arith, h)
 differ_apart n (u ∷ js) zero (suc j) x y k differ h at later p q =
@@ -318,10 +315,10 @@ differ_apart n (u ∷ js) (suc i) (suc j) x y k differ h at later p q = differ_a
     rest_differs None ks e = e
     rest_differs (Some c) ks e = right_true (not (list_any (nat_eq c) ks)) _ e
 
-abbrev pub InvertsTo : ℕ → List ℤ → List Tree → Type 0
-InvertsTo j zs js = (i k : ℕ) (t : Tree) → i < j → slice_get js i ≡ Some t → place_of (length js) t ≡ Some k → slice_get zs k ≡ Some (pos i)
+abbrev pub InvertsTo : ℕ → List ℤ → List ValueTree → Type 0
+InvertsTo j zs js = (i k : ℕ) (t : ValueTree) → i < j → slice_get js i ≡ Some t → place_of (length js) t ≡ Some k → slice_get zs k ≡ Some (pos i)
 
-pub inverse_turn : (js : List Tree) (zs : List ℤ) (j : ℕ) (t : Tree) (place : ℕ) → all_differ (places_of (length js) js) ≡ true → length zs ≡ length js → slice_get js j ≡ Some t → place_of (length js) t ≡ Some place → InvertsTo j zs js → InvertsTo (j + 1) (set zs place (pos j)) js
+pub inverse_turn : (js : List ValueTree) (zs : List ℤ) (j : ℕ) (t : ValueTree) (place : ℕ) → all_differ (places_of (length js) js) ≡ true → length zs ≡ length js → slice_get js j ≡ Some t → place_of (length js) t ≡ Some place → InvertsTo j zs js → InvertsTo (j + 1) (set zs place (pos j)) js
 inverse_turn js zs j t place differ same at names before i k u h there place_is = by_test (nat_eq i j) refl
   where
     by_test : (b : Bool) → nat_eq i j ≡ b → slice_get (set zs place (pos j)) k ≡ Some (pos i)
@@ -337,7 +334,7 @@ inverse_turn js zs j t place differ same at names before i k u h there place_is 
         let apart : k ≢ place = λ same_place. differ_apart (length js) js i j u t k differ early there at place_is (names ∙ ap Some (sym same_place)) in
         set_other zs place k (pos j) apart ∙ before i k u early there place_is
 
-pub inverse_same : (js : List Tree) (zs : List ℤ) (j : ℕ) (t : Tree) → slice_get js j ≡ Some t → place_of (length js) t ≡ None → InvertsTo j zs js → InvertsTo (j + 1) zs js
+pub inverse_same : (js : List ValueTree) (zs : List ℤ) (j : ℕ) (t : ValueTree) → slice_get js j ≡ Some t → place_of (length js) t ≡ None → InvertsTo j zs js → InvertsTo (j + 1) zs js
 inverse_same js zs j t at names before i k u h there place_is = by_test (nat_eq i j) refl
   where
     by_test : (b : Bool) → nat_eq i j ≡ b → slice_get zs k ≡ Some (pos i)
@@ -349,10 +346,10 @@ inverse_same js zs j t at names before i k u h there place_is = by_test (nat_eq 
     by_test false e = before i k u (omega (arith, h, are_apart i j e)) there place_is
 
 -- the turns of the loop that puts each element at its place
-abbrev pub ArriveTo : {X : Type 0} → ℕ → List X → List X → List Tree → Type 0
-ArriveTo j xs vs js = (i k : ℕ) (t : Tree) → i < j → slice_get js i ≡ Some t → place_of (length js) t ≡ Some k → slice_get vs k ≡ slice_get xs i
+abbrev pub ArriveTo : {X : Type 0} → ℕ → List X → List X → List ValueTree → Type 0
+ArriveTo j xs vs js = (i k : ℕ) (t : ValueTree) → i < j → slice_get js i ≡ Some t → place_of (length js) t ≡ Some k → slice_get vs k ≡ slice_get xs i
 
-pub arrive_turn : {X : Type 0} (js : List Tree) (xs vs : List X) (j : ℕ) (t : Tree) (place : ℕ) (x : X) → all_differ (places_of (length js) js) ≡ true → length vs ≡ length js → slice_get js j ≡ Some t → place_of (length js) t ≡ Some place
+pub arrive_turn : {X : Type 0} (js : List ValueTree) (xs vs : List X) (j : ℕ) (t : ValueTree) (place : ℕ) (x : X) → all_differ (places_of (length js) js) ≡ true → length vs ≡ length js → slice_get js j ≡ Some t → place_of (length js) t ≡ Some place
     → slice_get xs j ≡ Some x → ArriveTo j xs vs js → ArriveTo (j + 1) xs (set vs place x) js
 arrive_turn js xs vs j t place x differ same at names here before i k u h there place_is = by_test (nat_eq i j) refl
   where
@@ -369,7 +366,7 @@ arrive_turn js xs vs j t place x differ same at names here before i k u h there 
         let apart : k ≢ place = λ same_place. differ_apart (length js) js i j u t k differ early there at place_is (names ∙ ap Some (sym same_place)) in
         set_other vs place k x apart ∙ before i k u early there place_is
 
-pub arrive_same : {X : Type 0} (js : List Tree) (xs vs : List X) (j : ℕ) (t : Tree) → slice_get js j ≡ Some t → place_of (length js) t ≡ None → ArriveTo j xs vs js → ArriveTo (j + 1) xs vs js
+pub arrive_same : {X : Type 0} (js : List ValueTree) (xs vs : List X) (j : ℕ) (t : ValueTree) → slice_get js j ≡ Some t → place_of (length js) t ≡ None → ArriveTo j xs vs js → ArriveTo (j + 1) xs vs js
 arrive_same js xs vs j t at names before i k u h there place_is = by_test (nat_eq i j) refl
   where
     by_test : (b : Bool) → nat_eq i j ≡ b → slice_get vs k ≡ slice_get xs i
@@ -385,12 +382,12 @@ all_there f [] = refl
 all_there f (x ∷ xs) = ap (λ ys. f x ∷ ys) (all_there f xs)
 
 -- so they stand as the definition has them
-pub arrived : {X : Type 0} (f : X → Tree) (xs vs : List X) (js : List Tree) → length js ≡ length (map f xs) → AllName (length (map f xs)) js → all_differ (places_of (length (map f xs)) js) ≡ true → Arrive xs vs js
+pub arrived : {X : Type 0} (f : X → ValueTree) (xs vs : List X) (js : List ValueTree) → length js ≡ length (map f xs) → AllName (length (map f xs)) js → all_differ (places_of (length (map f xs)) js) ≡ true → Arrive xs vs js
     → map f vs ≡ rearranged (map f xs) (places_of (length (map f xs)) js)
 arrived {X = X} f xs vs js same named differ arrive =
     sym (all_there f vs) ∙ found_alike (λ v. Some (f v)) (arrival (zip (places_of (length ts) js) ts)) vs (range_with_len 0 (length ts)) (arrive.0 ∙ same ∙ sym (length-range_with_len 0 (length ts))) (λ i v k p q. at_place i v k p q)
   where
-    ts : List Tree
+    ts : List ValueTree
     ts = map f xs
 
     at_place : (i : ℕ) (v : X) (k : ℕ) → slice_get vs i ≡ Some v → slice_get (range_with_len 0 (length ts)) i ≡ Some k → Some (f v) ≡ arrival (zip (places_of (length ts) js) ts) k

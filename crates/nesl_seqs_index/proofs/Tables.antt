@@ -7,9 +7,9 @@ use Rattle.std.proofs.lemmas.List.Folds.{list_all_at, sum_by-replicate}
 use Rattle.std.proofs.lemmas.List.Sums.{sum_by-set, sum_by-cons, count_by-le-length}
 use Rattle.nesl_scalars.specs.declared.trap.Trap.{Trap}
 use Rattle.nesl_scalars.specs.declared.trap.Trap.TheVariants.{Range, Permutation}
-use Rattle.nesl_values.specs.Tree.{Tree}
+use Rattle.nesl_values.specs.Tree.{ValueTree}
 use Rattle.nesl_values.specs.Parts.{as_int}
-use Rattle.nesl_seqs_base.specs.Outcome.{given}
+use Rattle.nesl_seqs_base.specs.Outcome.{if_there}
 use Rattle.nesl_seqs_base.specs.Permute.{all_differ, permuted}
 use Rattle.nesl_seqs_base.specs.Places.{place_of, places_of}
 use Rattle.nesl_seqs_base.specs.Prices.{Prices}
@@ -154,20 +154,20 @@ abbrev pub unless_twice : Bool → Result (Unit {0}) Trap
 unless_twice b = cond b (Ok tt) (Err Permutation)
 
 -- the ends of the loop that marks
-pub own_range : {I : Type 0} (f : I → Tree) (n : ℕ) (is : List I) → list_all (λ i. is_some (place_of n (f i))) is ≡ false → Err Range ≡ own_places n (map f is)
+pub own_range : {I : Type 0} (f : I → ValueTree) (n : ℕ) (is : List I) → list_all (λ i. is_some (place_of n (f i))) is ≡ false → Err Range ≡ own_places n (map f is)
 own_range f n is none =
     ap (λ b. cond b (unless_twice (all_differ (places_of n (map f is)))) (Err Range)) (sym (list_all_map (λ t. is_some (place_of n t)) f is ∙ none))
 
-pub own_named : {I : Type 0} (f : I → Tree) (n : ℕ) (is : List I) (b : Bool) → list_all (λ i. is_some (place_of n (f i))) is ≡ true → all_differ (places_of n (map f is)) ≡ b → unless_twice b ≡ own_places n (map f is)
+pub own_named : {I : Type 0} (f : I → ValueTree) (n : ℕ) (is : List I) (b : Bool) → list_all (λ i. is_some (place_of n (f i))) is ≡ true → all_differ (places_of n (map f is)) ≡ b → unless_twice b ≡ own_places n (map f is)
 own_named f n is b named differ =
     ap unless_twice (sym differ)
     ∙ ap (λ c. cond c (unless_twice (all_differ (places_of n (map f is)))) (Err Range)) (sym (list_all_map (λ t. is_some (place_of n t)) f is ∙ named))
 
-pub names_none : {I : Type 0} (f : I → Tree) (n : ℕ) (is : List I) (j : ℕ) (i : I) → j < length is → i ≡ get_or is j i → None ≡ place_of n (f i) → Err Range ≡ own_places n (map f is)
+pub names_none : {I : Type 0} (f : I → ValueTree) (n : ℕ) (is : List I) (j : ℕ) (i : I) → j < length is → i ≡ get_or is j i → None ≡ place_of n (f i) → Err Range ≡ own_places n (map f is)
 names_none f n is j i h at names =
     own_range f n is (list_all_at (λ i. is_some (place_of n (f i))) is j i h (ap (λ x. is_some (place_of n (f x))) (sym at) ∙ ap is_some (sym names)))
 
-pub all_marked_own : {I : Type 0} (f : I → Tree) (ms : List Bool) (is : List I) (j : ℕ) (b : Bool) → length is ≤ j → list_all (λ i. is_some (place_of (length is) (f i))) (take j is) ≡ true
+pub all_marked_own : {I : Type 0} (f : I → ValueTree) (ms : List Bool) (is : List I) (j : ℕ) (b : Bool) → length is ≤ j → list_all (λ i. is_some (place_of (length is) (f i))) (take j is) ≡ true
     → marked ms (places_of (length is) (map f (drop j is))) ≡ marked (replicate (length is) false) (places_of (length is) (map f is)) → list_all (λ m. m) ms ≡ b
     → unless_twice b ≡ own_places (length is) (map f is)
 all_marked_own f ms is j b end named marks all = own_named f n is b every (sym (all_marked_differ n (places_of n (map f is)) (below_len n (map f is)) many) ∙ ap (list_all (λ m. m)) (sym last) ∙ all)
@@ -185,15 +185,15 @@ all_marked_own f ms is j b end named marks all = own_named f n is b every (sym (
     last = ap (λ js. marked ms (places_of n (map f js))) (sym (drop_all j is end)) ∙ marks
 
 -- what the refusal of the indices says of the call
-pub refused_places : {I : Type 0} (f : I → Tree) (is : List I) (ts : List Tree) (read depth limit : ℕ) (e : Trap) → length ts ≡ length is → own_places (length ts) (map f is) ≡ Err e
-    → Prices (given (all_of as_int (map f is)) (permuted ts)) read depth limit (Err e)
+pub refused_places : {I : Type 0} (f : I → ValueTree) (is : List I) (ts : List ValueTree) (read depth limit : ℕ) (e : Trap) → length ts ≡ length is → own_places (length ts) (map f is) ≡ Err e
+    → Prices (if_there (all_of as_int (map f is)) (permuted ts)) read depth limit (Err e)
 refused_places f is ts read depth limit e same wrong = by_names (list_all (λ i. is_some (place_of n (f i))) is) refl
   where
     n : ℕ
     n = length ts
 
     refusal : Trap → Type 0
-    refusal t = Prices (given (all_of as_int (map f is)) (permuted ts)) read depth limit (Err t)
+    refusal t = Prices (if_there (all_of as_int (map f is)) (permuted ts)) read depth limit (Err t)
 
     by_differ : list_all (λ i. is_some (place_of n (f i))) is ≡ true → (b : Bool) → all_differ (places_of n (map f is)) ≡ b → unless_twice b ≡ Err e → refusal e
     by_differ named true p q = absurd (cc q)
@@ -209,7 +209,7 @@ refused_places f is ts read depth limit e same wrong = by_names (list_all (λ i.
         subst refusal is_it (refused_beyond f is ts read depth limit same p)
 
 -- and what their own places say of them
-pub are_named : {I : Type 0} (f : I → Tree) (n : ℕ) (is : List I) → own_places n (map f is) ≡ Ok tt → list_all (λ i. is_some (place_of n (f i))) is ≡ true
+pub are_named : {I : Type 0} (f : I → ValueTree) (n : ℕ) (is : List I) → own_places n (map f is) ≡ Ok tt → list_all (λ i. is_some (place_of n (f i))) is ≡ true
 are_named f n is own = by_names (list_all (λ i. is_some (place_of n (f i))) is) refl
   where
     by_names : (b : Bool) → list_all (λ i. is_some (place_of n (f i))) is ≡ b → b ≡ true
@@ -218,7 +218,7 @@ are_named f n is own = by_names (list_all (λ i. is_some (place_of n (f i))) is)
         let told : Err Range ≡ Ok tt = own_range f n is p ∙ own in
         absurd (cc told)
 
-pub are_apart_all : {I : Type 0} (f : I → Tree) (n : ℕ) (is : List I) → own_places n (map f is) ≡ Ok tt → all_differ (places_of n (map f is)) ≡ true
+pub are_apart_all : {I : Type 0} (f : I → ValueTree) (n : ℕ) (is : List I) → own_places n (map f is) ≡ Ok tt → all_differ (places_of n (map f is)) ≡ true
 are_apart_all f n is own = by_differ (all_differ (places_of n (map f is))) refl
   where
     by_differ : (b : Bool) → all_differ (places_of n (map f is)) ≡ b → b ≡ true

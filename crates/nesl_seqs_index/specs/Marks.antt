@@ -5,7 +5,7 @@ use Rattle.std.specs.Int.{bit_at}
 use Rattle.std.specs.List.{list_all, list_any}
 use Rattle.nesl_scalars.specs.declared.trap.Trap.{Trap}
 use Rattle.nesl_scalars.specs.declared.trap.Trap.TheVariants.{Range, Permutation}
-use Rattle.nesl_values.specs.Tree.{Tree}
+use Rattle.nesl_values.specs.Tree.{ValueTree}
 use Rattle.nesl_seqs_base.specs.Permute.{all_differ}
 use Rattle.nesl_seqs_base.specs.Places.{place_of, places_of}
 
@@ -23,11 +23,11 @@ are_new window seen [] = true
 are_new window seen (k ∷ ks) = is_new window seen k && are_new window (seen ++ k ∷ []) ks
 
 -- the marks of a window stand just at its places that were seen
-abbrev pub Holds : List ℕ → ℕ → List ℕ → Type 0
-Holds ws window seen = (k : ℕ) → k / 524288 ≡ window → is_marked ws (k % 524288) ≡ list_any (nat_eq k) seen
+abbrev pub MarksSeen : List ℕ → ℕ → List ℕ → Type 0
+MarksSeen ws window seen = (k : ℕ) → k / 524288 ≡ window → is_marked ws (k % 524288) ≡ list_any (nat_eq k) seen
 
 -- the indices each name one of n places, and no two the same, or else what is wrong with them
-abbrev pub own_places : ℕ → List Tree → Result (Unit {0}) Trap
+abbrev pub own_places : ℕ → List ValueTree → Result (Unit {0}) Trap
 own_places n ts = cond (list_all (λ t. is_some (place_of n t)) ts)
     (cond (all_differ (places_of n ts)) (Ok tt) (Err Permutation))
     (Err Range)

@@ -6,13 +6,15 @@ ghost use Rattle.nesl_values.specs.Parts.{as_int};
 ghost use Rattle.nesl_values.specs.View.{tree_of, trees_view, item_trees};
 ghost use Rattle.nesl_seqs_base.specs.Lent.{argument_tree};
 ghost use Rattle.nesl_seqs_base.specs.Gather.{gathered};
-ghost use Rattle.nesl_seqs_base.specs.Outcome.{IsGiven, given, gives};
-ghost use Rattle.nesl_seqs_base.specs.Meaning.{meaning};
+ghost use Rattle.nesl_seqs_base.specs.Outcome.{OutcomeGives, if_there};
+ghost use Rattle.nesl_seqs_base.specs.Meaning.{outcome_of};
 ghost use Rattle.nesl_seqs_base.specs.Places.{elements_at, place_of, places_of};
-ghost use Rattle.nesl_seqs_base.specs.Prices.{Prices, reads, price};
+ghost use Rattle.nesl_seqs_base.specs.Prices.{reads, price};
+ghost use Rattle.nesl_seqs_index.specs.Plans.{Plans};
 ghost use Rattle.nesl_seqs_base.specs.Reductions.{all_of};
 ghost use Rattle.nesl_seqs_base.specs.declared.seq_fn.SeqFn.TheVariants.{Gather};
 
+use crate::plan::Plan;
 use nesl_scalars::Trap;
 use nesl_seqs_base::argument::Argument;
 use nesl_seqs_base::arguments::{WRONG_SHAPE, two_sequences};
@@ -23,20 +25,16 @@ use nesl_seqs_base::price::Price;
 use nesl_values::{Items, Value};
 use std::alloc::{AllocError, Allocator};
 
-pub fn price_gather<A: Allocator>(
-    argument: Argument<'_, A>,
-    limit: u128,
-) -> Result<Option<Price>, Trap>
-    ensures { Prices (meaning Gather (argument_tree argument.entry))
-        (reads Gather (argument_tree argument.entry)) 1 limit result }
+/// The plan of `v -> i`.
+pub fn plan_gather<A: Allocator>(argument: Argument<'_, A>) -> Result<Plan<'_, A>, Trap>
+    ensures { Plans (outcome_of Gather (argument_tree argument.entry))
+        (reads Gather (argument_tree argument.entry)) result }
 {
-    match two_sequences(argument) {
-        Some((items, Items::Ints(indices))) => price_of_gathered(items, indices, limit),
-        Some((items, Items::Bools(indices))) => price_of_gathered(items, indices, limit),
-        Some((items, Items::Chars(indices))) => price_of_gathered(items, indices, limit),
-        Some((items, Items::Values(indices))) => price_of_gathered(items, indices, limit),
-        None => Err(WRONG_SHAPE),
-    }
+    let Some((items, indices)) = two_sequences(argument) else {
+        return Err(WRONG_SHAPE);
+    };
+    check_indices(items, indices)?;
+    Ok(Plan::Gathered(items, indices))
 }
 
 /// Whether each index names a place in a sequence of that length.
@@ -50,20 +48,51 @@ pub fn all_name<I: Item>(indices: &[I], len: usize) -> bool
     all
 }
 
-// The price of the elements at the indices, where each of them is a number and names a place.
-fn price_of_gathered<A: Allocator, I: Item>(
-    items: Items<'_, A>,
-    indices: &[I],
-    limit: u128,
-) -> Result<Option<Price>, Trap>
-    ensures { Prices
-        (given (all_of as_int (map I.tree indices.now)) (gathered (item_trees items.entry)))
-        (length (item_trees items.entry) + length indices.now) 1 limit result }
+// Whether each index is a number that names a place, and else the fault.
+fn check_named<A: Allocator, I: Item>(items: Items<'_, A>, indices: &[I]) -> Result<(), Trap>
+    ensures { OutcomeGives (λ t _. (t ≡ sequence (elements_at (item_trees items.entry)
+        (places_of (length (item_trees items.entry)) (map I.tree indices.now))))
+        × IsTrue (list_all (λ t. is_some (place_of (length (item_trees items.entry)) t)) (map I.tree indices.now)))
+        (if_there (all_of as_int (map I.tree indices.now)) (gathered (item_trees items.entry))) result }
 {
     if !all_name(indices, items.len()) {
         return Err(Trap::Range);
     }
-    Ok(price_of_picked(items, indices, limit))
+    Ok(())
+}
+
+fn check_indices<A: Allocator>(items: Items<'_, A>, indices: Items<'_, A>) -> Result<(), Trap>
+    ensures { OutcomeGives (λ t _. (t ≡ sequence (elements_at (item_trees items.entry)
+        (places_of (length (item_trees items.entry)) (item_trees indices.entry))))
+        × IsTrue (list_all (λ t. is_some (place_of (length (item_trees items.entry)) t)) (item_trees indices.entry)))
+        (if_there (all_of as_int (item_trees indices.entry)) (gathered (item_trees items.entry))) result }
+{
+    match indices {
+        Items::Ints(indices) => check_named(items, indices),
+        Items::Bools(indices) => check_named(items, indices),
+        Items::Chars(indices) => check_named(items, indices),
+        Items::Values(indices) => check_named(items, indices),
+    }
+}
+
+/// The price of the elements at the indices.
+pub(crate) fn price_of_gathered<A: Allocator>(
+    items: Items<'_, A>,
+    indices: Items<'_, A>,
+    limit: u128,
+) -> Option<Price>
+    requires { IsTrue (list_all (λ t. is_some (place_of (length (item_trees items)) t)) (item_trees indices)) }
+    ensures { let t = sequence (elements_at (item_trees items.entry)
+        (places_of (length (item_trees items.entry)) (item_trees indices.entry))) in
+        let read = length (item_trees items.entry) + length (item_trees indices.entry) in
+        SomeIff result (1 + read + (size t - 1) ≤ limit) (price read 1 t) }
+{
+    match indices {
+        Items::Ints(indices) => price_of_picked(items, indices, limit),
+        Items::Bools(indices) => price_of_picked(items, indices, limit),
+        Items::Chars(indices) => price_of_picked(items, indices, limit),
+        Items::Values(indices) => price_of_picked(items, indices, limit),
+    }
 }
 
 fn price_of_picked<A: Allocator, I: Item>(
@@ -135,34 +164,21 @@ fn nodes_of_picked<A: Allocator, I: Item>(
     Some(used)
 }
 
-pub fn apply_gather<A: Allocator + Copy>(
-    alloc: A,
-    argument: Argument<'_, A>,
-) -> Result<Value<A>, AllocError>
-    requires { IsGiven (meaning Gather (argument_tree argument)) }
-    ensures { IfOk result (λ v. meaning Gather (argument_tree argument.entry) ≡ gives (tree_of v)) }
-{
-    match two_sequences(argument) {
-        Some((items, Items::Ints(indices))) => gathered_copy(alloc, items, indices),
-        Some((items, Items::Bools(indices))) => gathered_copy(alloc, items, indices),
-        Some((items, Items::Chars(indices))) => gathered_copy(alloc, items, indices),
-        Some((items, Items::Values(indices))) => gathered_copy(alloc, items, indices),
-        None => unreachable!(),
-    }
-}
-
-fn gathered_copy<A: Allocator + Copy, I: Item>(
+/// The sequence of the elements at the indices.
+pub(crate) fn copy_of_gathered<A: Allocator + Copy>(
     alloc: A,
     items: Items<'_, A>,
-    indices: &[I],
+    indices: Items<'_, A>,
 ) -> Result<Value<A>, AllocError>
-    requires { IsGiven
-        (given (all_of as_int (map I.tree indices.now)) (gathered (item_trees items))) }
-    ensures { IfOk result (λ v.
-        given (all_of as_int (map I.tree indices.now)) (gathered (item_trees items.entry))
-        ≡ gives (tree_of v)) }
+    ensures { IfOk result (λ v. tree_of v ≡ sequence (elements_at (item_trees items.entry)
+        (places_of (length (item_trees items.entry)) (item_trees indices.entry)))) }
 {
-    picked_copy(alloc, items, indices)
+    match indices {
+        Items::Ints(indices) => picked_copy(alloc, items, indices),
+        Items::Bools(indices) => picked_copy(alloc, items, indices),
+        Items::Chars(indices) => picked_copy(alloc, items, indices),
+        Items::Values(indices) => picked_copy(alloc, items, indices),
+    }
 }
 
 /// The sequence of the elements at the places that the indices name.

@@ -4,5 +4,6 @@
 pub mod gather;
 pub mod marks;
 pub mod permute;
+pub mod plan;
 pub mod woven;
 pub mod write;

@@ -1,6 +1,6 @@
 // The places of a window that are marked.
 ghost use Rattle.std.specs.Prelude.{◌≡◌, ◌<◌, ℕ, ◌||◌, false, nat_eq, List, [], ◌∷◌, ◌++◌};
-ghost use Rattle.nesl_seqs_index.specs.Marks.{is_marked, is_new, Holds};
+ghost use Rattle.nesl_seqs_index.specs.Marks.{is_marked, is_new, MarksSeen};
 
 /// How many places a window has.
 pub const WINDOW: usize = 524_288;
@@ -37,9 +37,9 @@ impl Marks {
 
     /// Marks a place, where it is one of the window. Whether it was not marked before.
     pub fn note(&mut self, window: usize, place: usize) -> bool
-        ensures new { (seen : List ℕ) → Holds self.old.words window seen → result ≡ is_new window seen place }
-        ensures holds { (seen : List ℕ) → Holds self.old.words window seen
-            → Holds self.new.words window (seen ++ place ∷ []) }
+        ensures new { (seen : List ℕ) → MarksSeen self.old.words window seen → result ≡ is_new window seen place }
+        ensures holds { (seen : List ℕ) → MarksSeen self.old.words window seen
+            → MarksSeen self.new.words window (seen ++ place ∷ []) }
     {
         if place / WINDOW != window {
             return true;

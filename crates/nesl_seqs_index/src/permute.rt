@@ -1,23 +1,25 @@
 // Sequences of which each element goes to a place of its own.
-ghost use Rattle.std.specs.Prelude.{◌≡◌, ◌≢◌, ◌+◌, ◌/◌, ◌<◌, ◌≤◌, ◌^◌, ℕ, [], Some, length, map, IfOk, IsTrue};
-ghost use Rattle.std.specs.Prelude.{false, replicate};
+ghost use Rattle.std.specs.Prelude.{◌≡◌, ◌≢◌, ◌+◌, ◌-◌, ◌/◌, ◌<◌, ◌≤◌, ◌^◌, ℕ, [], Some, length, map, IfOk, IsTrue};
+ghost use Rattle.std.specs.Prelude.{false, replicate, SomeIff};
 ghost use Rattle.std.specs.List.{list_all};
-ghost use Rattle.nesl_values.specs.Tree.{sequence};
+ghost use Rattle.nesl_values.specs.Tree.{sequence, size};
 ghost use Rattle.nesl_values.specs.Parts.{as_int};
 ghost use Rattle.nesl_values.specs.View.{tree_of, item_trees};
 ghost use Rattle.nesl_seqs_base.specs.Lent.{argument_tree};
 ghost use Rattle.nesl_seqs_index.specs.Arriving.{Arrive};
 ghost use Rattle.nesl_seqs_index.specs.Marks.{are_new, own_places};
-ghost use Rattle.nesl_seqs_base.specs.Outcome.{IsGiven, given, gives};
-ghost use Rattle.nesl_seqs_base.specs.Meaning.{meaning};
-ghost use Rattle.nesl_seqs_base.specs.Permute.{all_differ, permuted, Inverts};
+ghost use Rattle.nesl_seqs_base.specs.Outcome.{OutcomeGives, IsGiven, if_there, gives};
+ghost use Rattle.nesl_seqs_base.specs.Meaning.{outcome_of};
+ghost use Rattle.nesl_seqs_base.specs.Permute.{all_differ, permuted, rearranged, Inverts};
 ghost use Rattle.nesl_seqs_base.specs.Places.{place_of, places_of};
-ghost use Rattle.nesl_seqs_base.specs.Prices.{Prices, reads};
+ghost use Rattle.nesl_seqs_base.specs.Prices.{reads, price};
+ghost use Rattle.nesl_seqs_index.specs.Plans.{Plans};
 ghost use Rattle.nesl_seqs_base.specs.Reductions.{all_of};
 ghost use Rattle.nesl_seqs_base.specs.declared.seq_fn.SeqFn.TheVariants.{Permute};
 
 use crate::gather::{all_name, picked_copy};
 use crate::marks::{Marks, WINDOW};
+use crate::plan::Plan;
 use nesl_scalars::Trap;
 use nesl_seqs_base::argument::Argument;
 use nesl_seqs_base::arguments::{WRONG_SHAPE, two_sequences};
@@ -29,38 +31,56 @@ use nesl_seqs_base::price::Price;
 use nesl_values::{Items, Value};
 use std::alloc::{AllocError, Allocator};
 
-pub fn price_permute<A: Allocator>(
-    argument: Argument<'_, A>,
-    limit: u128,
-) -> Result<Option<Price>, Trap>
-    ensures { Prices (meaning Permute (argument_tree argument.entry))
-        (reads Permute (argument_tree argument.entry)) 1 limit result }
+/// The plan of `permute`.
+pub fn plan_permute<A: Allocator>(argument: Argument<'_, A>) -> Result<Plan<'_, A>, Trap>
+    ensures { Plans (outcome_of Permute (argument_tree argument.entry))
+        (reads Permute (argument_tree argument.entry)) result }
 {
-    match two_sequences(argument) {
-        Some((items, Items::Ints(indices))) => price_of_permuted(items, indices, limit),
-        Some((items, Items::Bools(indices))) => price_of_permuted(items, indices, limit),
-        Some((items, Items::Chars(indices))) => price_of_permuted(items, indices, limit),
-        Some((items, Items::Values(indices))) => price_of_permuted(items, indices, limit),
-        None => Err(WRONG_SHAPE),
+    let Some((items, indices)) = two_sequences(argument) else {
+        return Err(WRONG_SHAPE);
+    };
+    check_indices(items, indices)?;
+    Ok(Plan::Permuted(items, indices))
+}
+
+// Whether the indices are as many as the items and each names a place of its own, and else the fault.
+fn check_own<A: Allocator, I: Item>(items: Items<'_, A>, indices: &[I]) -> Result<(), Trap>
+    ensures { OutcomeGives (λ t _. t ≡ sequence (rearranged (item_trees items.entry)
+        (places_of (length (item_trees items.entry)) (map I.tree indices.now))))
+        (if_there (all_of as_int (map I.tree indices.now)) (permuted (item_trees items.entry))) result }
+{
+    if items.len() != indices.len() {
+        return Err(Trap::Length);
+    }
+    check_places(indices)
+}
+
+fn check_indices<A: Allocator>(items: Items<'_, A>, indices: Items<'_, A>) -> Result<(), Trap>
+    ensures { OutcomeGives (λ t _. t ≡ sequence (rearranged (item_trees items.entry)
+        (places_of (length (item_trees items.entry)) (item_trees indices.entry))))
+        (if_there (all_of as_int (item_trees indices.entry)) (permuted (item_trees items.entry))) result }
+{
+    match indices {
+        Items::Ints(indices) => check_own(items, indices),
+        Items::Bools(indices) => check_own(items, indices),
+        Items::Chars(indices) => check_own(items, indices),
+        Items::Values(indices) => check_own(items, indices),
     }
 }
 
-// The price of the items at the places that the indices name: their own, since each has one place.
-fn price_of_permuted<A: Allocator, I: Item>(
+/// The price of the items at the places that the indices name: their own, since each has one place.
+pub(crate) fn price_of_permuted<A: Allocator>(
     items: Items<'_, A>,
-    indices: &[I],
+    indices: Items<'_, A>,
     limit: u128,
-) -> Result<Option<Price>, Trap>
-    ensures { Prices
-        (given (all_of as_int (map I.tree indices.now)) (permuted (item_trees items.entry)))
-        (length (item_trees items.entry) + length indices.now) 1 limit result }
+) -> Option<Price>
+    requires { IsGiven (if_there (all_of as_int (item_trees indices)) (permuted (item_trees items))) }
+    ensures { let t = sequence (rearranged (item_trees items.entry)
+        (places_of (length (item_trees items.entry)) (item_trees indices.entry))) in
+        let read = length (item_trees items.entry) + length (item_trees indices.entry) in
+        SomeIff result (1 + read + (size t - 1) ≤ limit) (price read 1 t) }
 {
-    let len = items.len();
-    if len != indices.len() {
-        return Err(Trap::Length);
-    }
-    check_places(indices)?;
-    Ok(price_of_items(items, len as u128 + len as u128, limit))
+    price_of_items(items, items.len() as u128 + indices.len() as u128, limit)
 }
 
 // Whether each index names a place of its own, and why not, without memory. Up to 65,536 places have marks in
@@ -179,19 +199,22 @@ fn is_elsewhere<I: Item>(index: &I, window: usize) -> bool
     }
 }
 
-pub fn apply_permute<A: Allocator + Copy>(
+/// The sequence of the items, each at the place that its index names.
+pub(crate) fn copy_of_permuted<A: Allocator + Copy>(
     alloc: A,
-    argument: Argument<'_, A>,
+    items: Items<'_, A>,
+    indices: Items<'_, A>,
 ) -> Result<Value<A>, AllocError>
-    requires { IsGiven (meaning Permute (argument_tree argument)) }
-    ensures { IfOk result (λ v. meaning Permute (argument_tree argument.entry) ≡ gives (tree_of v)) }
+    requires few { length (item_trees items) < 2 ^ 63 }
+    requires given { IsGiven (if_there (all_of as_int (item_trees indices)) (permuted (item_trees items))) }
+    ensures { IfOk result (λ v. tree_of v ≡ sequence (rearranged (item_trees items.entry)
+        (places_of (length (item_trees items.entry)) (item_trees indices.entry)))) }
 {
-    match two_sequences(argument) {
-        Some((items, Items::Ints(indices))) => permuted_copy(alloc, items, indices),
-        Some((items, Items::Bools(indices))) => permuted_copy(alloc, items, indices),
-        Some((items, Items::Chars(indices))) => permuted_copy(alloc, items, indices),
-        Some((items, Items::Values(indices))) => permuted_copy(alloc, items, indices),
-        None => unreachable!(),
+    match indices {
+        Items::Ints(indices) => permuted_copy(alloc, items, indices),
+        Items::Bools(indices) => permuted_copy(alloc, items, indices),
+        Items::Chars(indices) => permuted_copy(alloc, items, indices),
+        Items::Values(indices) => permuted_copy(alloc, items, indices),
     }
 }
 
@@ -202,9 +225,9 @@ fn permuted_copy<A: Allocator + Copy, I: Item>(
 ) -> Result<Value<A>, AllocError>
     requires few { length (item_trees items) < 2 ^ 63 }
     requires given { IsGiven
-        (given (all_of as_int (map I.tree indices.now)) (permuted (item_trees items))) }
+        (if_there (all_of as_int (map I.tree indices.now)) (permuted (item_trees items))) }
     ensures { IfOk result (λ v.
-        given (all_of as_int (map I.tree indices.now)) (permuted (item_trees items.entry))
+        if_there (all_of as_int (map I.tree indices.now)) (permuted (item_trees items.entry))
         ≡ gives (tree_of v)) }
 {
     match items {
@@ -225,9 +248,9 @@ fn permuted_leaves<T: Item + Copy, A: Allocator, I: Item>(
     indices: &[I],
 ) -> Result<Vec<T, A>, AllocError>
     requires { IsGiven
-        (given (all_of as_int (map I.tree indices.now)) (permuted (map T.tree items.now))) }
+        (if_there (all_of as_int (map I.tree indices.now)) (permuted (map T.tree items.now))) }
     ensures { IfOk result (λ v.
-        given (all_of as_int (map I.tree indices.now)) (permuted (map T.tree items.now))
+        if_there (all_of as_int (map I.tree indices.now)) (permuted (map T.tree items.now))
         ≡ gives (sequence (map T.tree v.items))) }
 {
     arranged(alloc, items, indices)

@@ -3,12 +3,13 @@ ghost use Rattle.std.specs.Prelude.{◌≡◌, ◌+◌, ◌-◌, ◌*◌, ◌≤
 ghost use Rattle.nesl_values.specs.Tree.{size, sizes, sequence, trees_of};
 ghost use Rattle.nesl_values.specs.View.{tree_of, item_trees};
 ghost use Rattle.nesl_seqs_base.specs.Lent.{argument_tree};
-ghost use Rattle.nesl_seqs_base.specs.Outcome.{IsGiven, gives};
 ghost use Rattle.nesl_seqs_base.specs.Woven.{evens, woven};
-ghost use Rattle.nesl_seqs_base.specs.Meaning.{meaning};
-ghost use Rattle.nesl_seqs_base.specs.Prices.{Prices, reads, price};
+ghost use Rattle.nesl_seqs_base.specs.Meaning.{outcome_of};
+ghost use Rattle.nesl_seqs_base.specs.Prices.{reads, price};
+ghost use Rattle.nesl_seqs_index.specs.Plans.{Plans};
 ghost use Rattle.nesl_seqs_base.specs.declared.seq_fn.SeqFn.TheVariants.{OddElts, EvenElts, Interleave};
 
+use crate::plan::Plan;
 use nesl_scalars::Trap;
 use nesl_seqs_base::argument::Argument;
 use nesl_seqs_base::arguments::{WRONG_SHAPE, sequence, two_sequences};
@@ -19,55 +20,25 @@ use nesl_values::{Items, Value};
 use nesl_values_builder::SequenceBuilder;
 use std::alloc::{AllocError, Allocator};
 
-pub fn price_even_elts<A: Allocator>(
-    argument: Argument<'_, A>,
-    limit: u128,
-) -> Result<Option<Price>, Trap>
-    ensures { Prices (meaning EvenElts (argument_tree argument.entry))
-        (reads EvenElts (argument_tree argument.entry)) 1 limit result }
-{
-    let Some(items) = sequence(argument) else {
-        return Err(WRONG_SHAPE);
-    };
-    Ok(price_of_every_other(items, items.len() as u128, limit))
-}
-
-pub fn apply_even_elts<A: Allocator + Copy>(
-    alloc: A,
-    argument: Argument<'_, A>,
-) -> Result<Value<A>, AllocError>
-    requires { IsGiven (meaning EvenElts (argument_tree argument)) }
-    ensures { IfOk result (λ v. meaning EvenElts (argument_tree argument.entry) ≡ gives (tree_of v)) }
+/// The plan of `even_elts`.
+pub fn plan_even_elts<A: Allocator>(argument: Argument<'_, A>) -> Result<Plan<'_, A>, Trap>
+    ensures { Plans (outcome_of EvenElts (argument_tree argument.entry))
+        (reads EvenElts (argument_tree argument.entry)) result }
 {
     match sequence(argument) {
-        Some(items) => copy_of_every_other(alloc, items),
-        None => unreachable!(),
+        Some(items) => Ok(Plan::EveryOther(items, items.len())),
+        None => Err(WRONG_SHAPE),
     }
 }
 
-pub fn price_odd_elts<A: Allocator>(
-    argument: Argument<'_, A>,
-    limit: u128,
-) -> Result<Option<Price>, Trap>
-    ensures { Prices (meaning OddElts (argument_tree argument.entry))
-        (reads OddElts (argument_tree argument.entry)) 1 limit result }
-{
-    let Some(items) = sequence(argument) else {
-        return Err(WRONG_SHAPE);
-    };
-    Ok(price_of_every_other(all_but_first(items), items.len() as u128, limit))
-}
-
-pub fn apply_odd_elts<A: Allocator + Copy>(
-    alloc: A,
-    argument: Argument<'_, A>,
-) -> Result<Value<A>, AllocError>
-    requires { IsGiven (meaning OddElts (argument_tree argument)) }
-    ensures { IfOk result (λ v. meaning OddElts (argument_tree argument.entry) ≡ gives (tree_of v)) }
+/// The plan of `odd_elts`.
+pub fn plan_odd_elts<A: Allocator>(argument: Argument<'_, A>) -> Result<Plan<'_, A>, Trap>
+    ensures { Plans (outcome_of OddElts (argument_tree argument.entry))
+        (reads OddElts (argument_tree argument.entry)) result }
 {
     match sequence(argument) {
-        Some(items) => copy_of_every_other(alloc, all_but_first(items)),
-        None => unreachable!(),
+        Some(items) => Ok(Plan::EveryOther(all_but_first(items), items.len())),
+        None => Err(WRONG_SHAPE),
     }
 }
 
@@ -80,7 +51,11 @@ fn all_but_first<A: Allocator>(items: Items<'_, A>) -> Items<'_, A>
 }
 
 // The price of the first item, the third and so on, where the function reads `read` elements.
-fn price_of_every_other<A: Allocator>(items: Items<'_, A>, read: u128, limit: u128) -> Option<Price>
+pub(crate) fn price_of_every_other<A: Allocator>(
+    items: Items<'_, A>,
+    read: u128,
+    limit: u128,
+) -> Option<Price>
     ensures { SomeIff result
         (1 + read + (size (sequence (evens (item_trees items.entry))) - 1) ≤ limit)
         (price read 1 (sequence (evens (item_trees items.entry)))) }
@@ -119,7 +94,7 @@ fn nodes_of_every_other_value<A: Allocator>(values: &[Value<A>], limit: u128) ->
     Some(used)
 }
 
-fn copy_of_every_other<A: Allocator + Copy>(
+pub(crate) fn copy_of_every_other<A: Allocator + Copy>(
     alloc: A,
     items: Items<'_, A>,
 ) -> Result<Value<A>, AllocError>
@@ -165,12 +140,10 @@ fn can_weave(one: usize, other: usize) -> bool
     other <= one && one - other <= 1
 }
 
-pub fn price_interleave<A: Allocator>(
-    argument: Argument<'_, A>,
-    limit: u128,
-) -> Result<Option<Price>, Trap>
-    ensures { Prices (meaning Interleave (argument_tree argument.entry))
-        (reads Interleave (argument_tree argument.entry)) 1 limit result }
+/// The plan of `interleave`.
+pub fn plan_interleave<A: Allocator>(argument: Argument<'_, A>) -> Result<Plan<'_, A>, Trap>
+    ensures { Plans (outcome_of Interleave (argument_tree argument.entry))
+        (reads Interleave (argument_tree argument.entry)) result }
 {
     let Some((one, other)) = two_sequences(argument) else {
         return Err(WRONG_SHAPE);
@@ -178,11 +151,11 @@ pub fn price_interleave<A: Allocator>(
     if !can_weave(one.len(), other.len()) {
         return Err(Trap::Length);
     }
-    Ok(price_of_woven(one, other, limit))
+    Ok(Plan::Woven(one, other))
 }
 
 #[tactic(auto, using(nesl_seqs_base::proofs::Weaving::size_woven))]
-fn price_of_woven<A: Allocator>(
+pub(crate) fn price_of_woven<A: Allocator>(
     one: Items<'_, A>,
     other: Items<'_, A>,
     limit: u128,
@@ -197,25 +170,7 @@ fn price_of_woven<A: Allocator>(
     price_of_joined(one, other, read, limit)
 }
 
-pub fn apply_interleave<A: Allocator + Copy>(
-    alloc: A,
-    argument: Argument<'_, A>,
-) -> Result<Value<A>, AllocError>
-    requires { IsGiven (meaning Interleave (argument_tree argument)) }
-    ensures { IfOk result (λ v. meaning Interleave (argument_tree argument.entry) ≡ gives (tree_of v)) }
-{
-    match two_sequences(argument) {
-        Some((one, other)) => {
-            if !can_weave(one.len(), other.len()) {
-                unreachable!()
-            }
-            woven_copy(alloc, one, other)
-        }
-        None => unreachable!(),
-    }
-}
-
-fn woven_copy<A: Allocator + Copy>(
+pub(crate) fn woven_copy<A: Allocator + Copy>(
     alloc: A,
     one: Items<'_, A>,
     other: Items<'_, A>,

@@ -3,19 +3,20 @@ ghost use Rattle.std.specs.Prelude.{◌≡◌, ◌+◌, ◌-◌, ◌*◌, ◌/�
 ghost use Rattle.std.specs.Prelude.{reverse, unwrap_or, option_map, slice_index, SomeIff, IfSome, IfOk, IsTrue};
 ghost use Rattle.std.specs.List.{list_all};
 ghost use Rattle.std.specs.Option.{MatchOption};
-ghost use Rattle.nesl_values.specs.Tree.{Tree, size, sizes, sequence, trees_of, int, boolean, character};
+ghost use Rattle.nesl_values.specs.Tree.{ValueTree, size, sizes, sequence, trees_of, int, boolean, character};
 ghost use Rattle.nesl_values.specs.View.{tree_of, element_tree, item_trees};
 ghost use Rattle.nesl_values.specs.Parts.{as_pair};
 ghost use Rattle.nesl_seqs_base.specs.Lent.{argument_tree};
-ghost use Rattle.nesl_seqs_base.specs.Outcome.{IsGiven, given, gives};
-ghost use Rattle.nesl_seqs_base.specs.Meaning.{meaning};
+ghost use Rattle.nesl_seqs_base.specs.Meaning.{outcome_of};
 ghost use Rattle.nesl_seqs_base.specs.Places.{arrival};
-ghost use Rattle.nesl_seqs_base.specs.Prices.{Prices, reads, price};
+ghost use Rattle.nesl_seqs_base.specs.Prices.{reads, price};
+ghost use Rattle.nesl_seqs_index.specs.Plans.{Plans};
 ghost use Rattle.nesl_seqs_base.specs.Reductions.{all_of};
-ghost use Rattle.nesl_seqs_base.specs.Write.{int_and_tree, overwritten, written, write_of, writes_of, told_by, is_leaf};
+ghost use Rattle.nesl_seqs_base.specs.Write.{int_and_tree, overwritten, write_of, writes_of, told_by, is_leaf};
 ghost use Rattle.nesl_seqs_base.specs.Write.{writes_leaf};
 ghost use Rattle.nesl_seqs_base.specs.declared.seq_fn.SeqFn.TheVariants.{Write};
 
+use crate::plan::Plan;
 use nesl_scalars::Trap;
 use nesl_seqs_base::argument::Argument;
 use nesl_seqs_base::arguments::{WRONG_SHAPE, two_sequences};
@@ -28,20 +29,21 @@ use std::alloc::{AllocError, Allocator};
 /// How many places a table of writers has.
 const TABLE: usize = 4096;
 
-pub fn price_write<A: Allocator>(
-    argument: Argument<'_, A>,
-    limit: u128,
-) -> Result<Option<Price>, Trap>
-    ensures { Prices (meaning Write (argument_tree argument.entry))
-        (reads Write (argument_tree argument.entry)) 1 limit result }
+/// The plan of `v <- p`.
+pub fn plan_write<A: Allocator>(argument: Argument<'_, A>) -> Result<Plan<'_, A>, Trap>
+    ensures { Plans (outcome_of Write (argument_tree argument.entry))
+        (reads Write (argument_tree argument.entry)) result }
 {
     let Some((items, others)) = two_sequences(argument) else {
         return Err(WRONG_SHAPE);
     };
-    match values_in(others) {
-        Some(pairs) => price_of_written(items, pairs, limit),
-        None => Err(WRONG_SHAPE),
+    let Some(pairs) = values_in(others) else {
+        return Err(WRONG_SHAPE);
+    };
+    if !all_write(pairs, items.len()) {
+        return Err(Trap::Range);
     }
+    Ok(Plan::Written(items, pairs))
 }
 
 // The items as values, where they are held so or there are none.
@@ -94,22 +96,7 @@ fn all_write<A: Allocator>(pairs: &[Value<A>], len: usize) -> bool
     pairs.iter().all(|pair| names_place(pair, len))
 }
 
-fn price_of_written<A: Allocator>(
-    items: Items<'_, A>,
-    pairs: &[Value<A>],
-    limit: u128,
-) -> Result<Option<Price>, Trap>
-    ensures { Prices
-        (given (all_of int_and_tree (map tree_of pairs.now)) (written (item_trees items.entry)))
-        (length (item_trees items.entry) + length pairs.now) 1 limit result }
-{
-    if !all_write(pairs, items.len()) {
-        return Err(Trap::Range);
-    }
-    Ok(price_of_overwritten(items, pairs, limit))
-}
-
-fn price_of_overwritten<A: Allocator>(
+pub(crate) fn price_of_overwritten<A: Allocator>(
     items: Items<'_, A>,
     pairs: &[Value<A>],
     limit: u128,
@@ -284,38 +271,8 @@ fn nodes_at<A: Allocator>(
     }
 }
 
-pub fn apply_write<A: Allocator + Copy>(
-    alloc: A,
-    argument: Argument<'_, A>,
-) -> Result<Value<A>, AllocError>
-    requires { IsGiven (meaning Write (argument_tree argument)) }
-    ensures { IfOk result (λ v. meaning Write (argument_tree argument.entry) ≡ gives (tree_of v)) }
-{
-    let Some((items, others)) = two_sequences(argument) else {
-        unreachable!()
-    };
-    match values_in(others) {
-        Some(pairs) => written_copy(alloc, items, pairs),
-        None => unreachable!(),
-    }
-}
-
-fn written_copy<A: Allocator + Copy>(
-    alloc: A,
-    items: Items<'_, A>,
-    pairs: &[Value<A>],
-) -> Result<Value<A>, AllocError>
-    requires { IsGiven
-        (given (all_of int_and_tree (map tree_of pairs.now)) (written (item_trees items))) }
-    ensures { IfOk result (λ v.
-        given (all_of int_and_tree (map tree_of pairs.now)) (written (item_trees items.entry))
-        ≡ gives (tree_of v)) }
-{
-    overwritten_copy(alloc, items, pairs)
-}
-
 // The sequence after all writes: packed where all that is written is alike.
-fn overwritten_copy<A: Allocator + Copy>(
+pub(crate) fn overwritten_copy<A: Allocator + Copy>(
     alloc: A,
     items: Items<'_, A>,
     pairs: &[Value<A>],
@@ -358,7 +315,7 @@ fn packed_copy<A: Allocator + Copy>(
 
 /// A leaf as a packed sequence holds it.
 trait Leaf: Copy {
-    ghost leaf: { Self → Tree };
+    ghost leaf: { Self → ValueTree };
 
     fn of<A: Allocator>(value: &Value<A>) -> Option<Self>
         ensures { IfSome result (λ x. tree_of value.now ≡ leaf x) };

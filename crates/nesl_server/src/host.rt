@@ -3,8 +3,8 @@
 
 use crate::log::Log;
 use crate::stats::{Replace, Stats};
-use nesl_service::counters::Counters;
-use nesl_service::journal::{Answered, Caller, Journal, Seat, Visit};
+use nesl_service_journal::counters::Counters;
+use nesl_service_journal::journal::{Answered, Caller, Journal, Seat, Visit};
 use std::io::Print;
 use std::sync::{Arc, Wait};
 use std::time::Clock;

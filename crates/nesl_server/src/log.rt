@@ -2,7 +2,7 @@
 
 use crossbeam_channel::{Receiver, Sender, bounded};
 use jiff_core::civil::DateTime;
-use nesl_service::journal::{Caller, Seat, Visit};
+use nesl_service_journal::journal::{Caller, Seat, Visit};
 use std::alloc::{AllocError, Global};
 use std::io::Eprint;
 use std::sync::atomic::{AtomicU64, Ordering};
@@ -137,7 +137,7 @@ impl<R: Wait + Clock> Log<'_, R> {
     // A line: the time, the connection, and what is told of it.
     fn line(&self, caller: Caller, what: Result<String, AllocError>) -> Result<String, AllocError> {
         let (stamp, what) = (Stamp::now(self.rt), what?);
-        let Caller { number, port } = caller;
+        let Caller { number, port, .. } = caller;
         format!(in self.alloc; "{stamp} connection {number} port {port} {what}")
     }
 }

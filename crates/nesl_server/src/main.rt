@@ -17,7 +17,7 @@ use crate::standard::fill_standard;
 use crate::stats::Replace;
 use clap::error::ErrorKind;
 use nesl_cli::failure::{Failure, Refusal, status_after, words_status};
-use nesl_cli::run::answered;
+use nesl_cli::run::carry_out;
 use nesl_cli::words::example;
 use nesl_line::device::{Device, Sink, Source};
 use std::alloc::{AllocError, Global};
@@ -114,7 +114,7 @@ fn run<
     S: Source,
     W: Sink,
 >(rt: &R, alloc: Global, words: &[&str], reader: &mut S, writer: &mut W) -> ExitCode {
-    match answered(alloc, words, reader, writer) {
+    match carry_out(alloc, words, reader, writer) {
         Ok(None) => ExitCode::SUCCESS,
         Ok(Some(offer)) => ended(rt, keep(rt, alloc, &offer)),
         Err(Refusal::Words(error)) => refused(rt, words, &error),

@@ -1,6 +1,6 @@
 //! The file that tells how the service is doing.
 
-use nesl_service::counters::Counters;
+use nesl_service_journal::counters::Counters;
 use std::alloc::{AllocError, Global};
 use std::rt::Files;
 use std::sync::{Arc, Mutex, Wait};

@@ -3,18 +3,18 @@ ghost use Rattle.std.specs.Prelude.{◌≡◌, IfOk};
 ghost use Rattle.nesl_house.specs.Table.{IsClosed};
 
 use crate::accept::Door;
-use crate::answers::{Ear, Overheard};
-use crate::asking::Told;
 use crate::crowd::{Start, run_crowd};
-use crate::journal::{Caller, Ending, Journal, Missed, NoJournal, Visit};
 use crate::numbers::{Fault, Numbers};
 use crate::receipts::Receipts;
-use crate::watch::Watch;
 use crate::wire::{Patience, Reader, Writer, hear_out};
 use nesl_house::table::{CloseFault, Closed, Table};
 use nesl_line::device::Device;
 use nesl_line::exchange::End;
 use nesl_line::serve::{Served, serve};
+use nesl_service_journal::answers::{Ear, Overheard};
+use nesl_service_journal::asking::Told;
+use nesl_service_journal::journal::{Caller, Ending, Journal, Missed, NoJournal, Visit};
+use nesl_service_journal::watch::Watch;
 use nesl_split_helpers::sparing::Sparing;
 use nesl_split_helpers::{Free, Gate, Pool};
 use std::alloc::{AllocError, Global};
@@ -225,7 +225,14 @@ impl<
             let Some((stream, port)) = self.next_stream() else {
                 break;
             };
-            self.attend_told(Caller { number, port }, &stream);
+            self.attend_told(
+                Caller {
+                    number,
+                    port,
+                    is_web: false,
+                },
+                &stream,
+            );
         }
     }
 

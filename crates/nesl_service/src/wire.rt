@@ -2,9 +2,9 @@
 ghost use Rattle.std.specs.Prelude.{◌≡◌};
 ghost use Rattle.std.specs.Io.{ReadsAtMost, WritesAtMost};
 
-use crate::journal::Missed;
 use crate::opening::Opening;
-use crate::watch::Watch;
+use nesl_service_journal::journal::Missed;
+use nesl_service_journal::watch::Watch;
 use std::io;
 use std::io::{ErrorKind, Read, Write};
 use std::net::{Shutdown, TcpStream};

@@ -8,10 +8,10 @@ use Rattle.nesl_session_forms.specs.declared.finding.Finding.{Finding as Found}
 use Rattle.nesl_session_forms.specs.declared.finding.Finding.TheVariants as found
 use Rattle.nesl_session_step.specs.State.{State}
 use Rattle.nesl_session_step.specs.Finding.{Finding, unread, reset, part}
-use Rattle.nesl_session_step.specs.Step.{Finds, is_reset, is_full, is_part, longest, most_told, told_by_reset}
+use Rattle.nesl_session_step.specs.Step.{Finds, is_reset, is_full, is_part, longest, most_recorded, recorded_by_reset}
 use Rattle.nesl_session_forms.specs.Found.{CanCharge}
 use Rattle.nesl_session.specs.Reading.{FindsRead}
-use Rattle.nesl_session_standing.specs.Settling.{CanSettle, Fits}
+use Rattle.nesl_session_standing.specs.Settling.{CanSettle, HasRoomFor}
 
 at_true : {P : Type 0} (Q : Type 0) (b : Bool) → b ≡ true → P → MatchBool b P Q
 at_true Q true e p = p
@@ -22,7 +22,7 @@ at_false P true e q = absurd cc
 at_false P false e q = q
 
 pub finds_reset : (limits : Limits) (s : State) (line : List ℕ) (f : Finding) → is_reset line ≡ true
-    → f ≡ (if nat_lt most_told (told_by_reset s) then unread faults.Transcript else reset) → Finds limits s line f
+    → f ≡ (if nat_lt most_recorded (recorded_by_reset s) then unread faults.Transcript else reset) → Finds limits s line f
 unfolding Finds
 finds_reset limits s line f e h = at_true _ (is_reset line) e h
 
@@ -48,7 +48,7 @@ finds_read limits s line f e full long p h =
     at_false _ (is_reset line) e (at_false _ (is_full limits s line) full (at_false _ (nat_lt longest (length s.pending + length line)) long (at_false _ (is_part line) p h)))
 
 -- what was found of a line that was read can change the state, where the line fits
-pub settles_read : (s : State) (line : List ℕ) (f : Found) → Fits s line → CanCharge s f → CanSettle s line f
+pub settles_read : (s : State) (line : List ℕ) (f : Found) → HasRoomFor s line → CanCharge s f → CanSettle s line f
 settles_read s line (found.Unread fault) fits h = absurd h
 settles_read s line found.Reset fits h = absurd h
 settles_read s line found.Part fits h = absurd h

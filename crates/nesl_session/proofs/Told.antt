@@ -1,16 +1,16 @@
 -- What is told of a finding is what the step answers.
 use Rattle.std.proofs.Common.{◌≡◌, ℕ, ◌++◌, List, Bool, Option, codes, length, refl, ap, ◌∙◌, subst}
 use Rattle.nesl_reply.specs.declared.fault.Fault.{Fault}
-use Rattle.nesl_reply.specs.Replies.{Told, told_text}
+use Rattle.nesl_reply.specs.Replies.{Report, report_text}
 use Rattle.nesl_session_bindings.specs.Known.{datatypes_of}
 use Rattle.nesl_session_forms.specs.declared.finding.Finding.{Finding as Found}
 use Rattle.nesl_session_forms.specs.declared.finding.Finding.TheVariants as found
 use Rattle.nesl_session_step.specs.State.{State, names_of}
-use Rattle.nesl_session_step.specs.Response.{Response}
-use Rattle.nesl_session_step.specs.Step.{response_of}
+use Rattle.nesl_session_step.specs.Response.{Reply}
+use Rattle.nesl_session_step.specs.Step.{reply_of}
 use Rattle.nesl_session_forms.specs.Found.{finding_of, told_after, fault_in, is_recorded}
 
-plain : (s : State) (f : Found) → record { bytes = told_text (datatypes_of s.bindings) (names_of s) (told_after (length s.transcript) f) ++ codes "\n"; fault = fault_in f; recorded = is_recorded f } ≡ response_of s (finding_of f)
+plain : (s : State) (f : Found) → record { bytes = report_text (datatypes_of s.bindings) (names_of s) (told_after (length s.transcript) f) ++ codes "\n"; fault = fault_in f; recorded = is_recorded f } ≡ reply_of s (finding_of f)
 plain s (found.Unread fault) = refl
 plain s found.Reset = refl
 plain s found.Part = refl
@@ -18,9 +18,17 @@ plain s (found.Refused fault work) = refl
 plain s (found.Told t) = refl
 plain s (found.Defined d) = refl
 
-pub told_response : (s : State) (f : Found) (lines : ℕ) (t : Told) (bytes : List ℕ) (fault : Option Fault) (recorded : Bool) (r : Response) → r ≡ record { bytes = bytes; fault = fault; recorded = recorded }
-    → fault ≡ fault_in f → recorded ≡ is_recorded f → bytes ≡ told_text (datatypes_of s.bindings) (names_of s) t ++ codes "\n" → t ≡ told_after lines f → lines ≡ length s.transcript → r ≡ response_of s (finding_of f)
+pub told_response : (s : State) (f : Found) (lines : ℕ) (t : Report) (bytes : List ℕ) (fault : Option Fault) (recorded : Bool) (r : Reply) → r ≡ record { bytes = bytes; fault = fault; recorded = recorded }
+    → fault ≡ fault_in f → recorded ≡ is_recorded f → bytes ≡ report_text (datatypes_of s.bindings) (names_of s) t ++ codes "\n" → t ≡ told_after lines f → lines ≡ length s.transcript → r ≡ reply_of s (finding_of f)
 told_response s f lines t bytes fault recorded r e p q b u n =
-    let P : Told → Type 0 = λ y. bytes ≡ told_text (datatypes_of s.bindings) (names_of s) y ++ codes "\n" in
+    let P : Report → Type 0 = λ y. bytes ≡ report_text (datatypes_of s.bindings) (names_of s) y ++ codes "\n" in
     let same = subst P (u ∙ ap (λ k. told_after k f) n) b in
     e ∙ (λ i. record { bytes = same i; fault = p i; recorded = q i }) ∙ plain s f
+
+pub told_fault : (s : State) (f : Found) → fault_in f ≡ (reply_of s (finding_of f)).fault
+told_fault s (found.Unread fault) = refl
+told_fault s found.Reset = refl
+told_fault s found.Part = refl
+told_fault s (found.Refused fault work) = refl
+told_fault s (found.Told t) = refl
+told_fault s (found.Defined d) = refl

@@ -6,7 +6,7 @@ ghost use Rattle.nesl_eval_meaning.specs.Names.{outside};
 ghost use Rattle.nesl_eval_meaning.specs.Out.{within};
 ghost use Rattle.nesl_eval_meaning.specs.Outcome.{out};
 ghost use Rattle.nesl_eval_code.specs.Stored.{environment};
-ghost use Rattle.nesl_eval.specs.Tells.{Tells};
+ghost use Rattle.nesl_eval.specs.Outcomes.{OutcomeIs};
 
 use nesl_eval::{Outcome, eval_one, eval_one_in};
 use nesl_eval_code::Env;
@@ -21,7 +21,8 @@ pub(crate) trait Evaluator<A: Allocator> {
 
     fn evaluate(&self, alloc: Global, env: &Env, exp: &Exp, levels: u32, fuel: u64) -> Outcome<A>
         requires { sound self.now }
-        ensures { Tells result (within fuel (out levels (environment env.now) (outside []) (tree_of_exp exp.now))) };
+        ensures { OutcomeIs result
+            (within fuel (out levels (environment env.now) (outside []) (tree_of_exp exp.now))) };
 
     /// The value as the bindings hold it.
     fn keep(&self, alloc: Global, value: &Value<A>) -> Result<Value, AllocError>
@@ -80,7 +81,7 @@ impl<F: Fn(&Env, &Exp, u32, u64) -> Outcome<Global> + Drop> Evaluator<Global> fo
     ghost sound = { λ by. ((args : _) → F.Fn.pre by.call args)
         × ((env : _) (exp : _) (levels : _) (fuel : _) (outcome : _)
         → F.Fn.post by.call (env, (exp, (levels, (fuel, tt)))) outcome
-        → Tells outcome (within fuel (out levels (environment env.now) (outside []) (tree_of_exp exp.now)))) };
+        → OutcomeIs outcome (within fuel (out levels (environment env.now) (outside []) (tree_of_exp exp.now)))) };
 
     fn evaluate(
         &self,

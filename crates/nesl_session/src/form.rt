@@ -1,13 +1,13 @@
 //! What is found of a line by its form.
 ghost use Rattle.std.specs.Prelude.{◌≡◌, [], None, IfOk};
 ghost use Rattle.nesl_syntax_tree.specs.Views.{line_of, tree_of};
-ghost use Rattle.nesl_infer.specs.Answers.{IsTypeBy, typed};
+ghost use Rattle.nesl_infer.specs.Verdicts.{IsTypeBy, typed};
 ghost use Rattle.nesl_eval_meaning.specs.Names.{outside};
 ghost use Rattle.nesl_eval_meaning.specs.Out.{within};
 ghost use Rattle.nesl_eval_meaning.specs.Outcome.{out};
 ghost use Rattle.nesl_session_bindings.specs.Known.{known, environment};
-ghost use Rattle.nesl_session_bindings.specs.Redefinition.{Refuses, a_variable, it};
-ghost use Rattle.nesl_session_step.specs.Finding.{budget, budget_told, FindsLine, FindsVariable, Comes};
+ghost use Rattle.nesl_session_bindings.specs.Redefinition.{RefusesDefinition, a_variable, it};
+ghost use Rattle.nesl_session_step.specs.Finding.{budget, budget_report, FindsForm, FindsVariable, FindsOutcome};
 ghost use Rattle.nesl_session_forms.specs.Found.{finding_of, told_of, CanCharge};
 ghost use Rattle.nesl_session_standing.specs.Inside.{state_of, Counts};
 
@@ -16,7 +16,7 @@ use nesl_eval::Outcome;
 use nesl_reply::{Fault, Stop, Used};
 use nesl_scalars::Cost;
 use nesl_session_forms::finding::{Definition, Finding, Meaning, Shown};
-use nesl_session_forms::{find_datatype, find_function, find_type, variable_type};
+use nesl_session_forms::{WrittenFunction, find_datatype, find_function, find_type, variable_type};
 use nesl_session_standing::Standing;
 use nesl_syntax_tree::tree::{Exp, Form};
 use nesl_types::Ty;
@@ -34,7 +34,7 @@ pub fn find_form<A: Allocator, E: Evaluator<A>>(
 ) -> Result<Finding, AllocError>
     requires counts { Counts standing.now }
     requires sound { E.sound by.now }
-    ensures found { IfOk result (λ f. FindsLine standing.now.limits (state_of standing.now) (line_of form)
+    ensures found { IfOk result (λ f. FindsForm standing.now.limits (state_of standing.now) (line_of form)
         (finding_of f)) }
     ensures charges { IfOk result (CanCharge (state_of standing.now)) }
 {
@@ -45,30 +45,29 @@ pub fn find_form<A: Allocator, E: Evaluator<A>>(
             parameter,
             signature,
             body,
-        } => find_function(
-            &standing.bindings,
-            standing.limits,
-            alloc,
-            name,
-            parameter,
-            signature,
-            body,
-        ),
+        } => {
+            let written = WrittenFunction {
+                parameter,
+                signature,
+                body,
+            };
+            find_function(&standing.bindings, standing.limits, alloc, name, written)
+        }
         Form::Datatype { name, content } => {
             find_datatype(&standing.bindings, standing.limits, alloc, name, content)
         }
         Form::Bind { name, value } => find_variable(standing, alloc, name, &value, by),
         Form::Eval(exp) => find_it(standing, alloc, &exp, by),
         Form::ShowNames => Ok(Finding::Told(Shown::Names)),
-        Form::ShowBudget => Ok(Finding::Told(budget_shown(standing))),
+        Form::ShowBudget => Ok(Finding::Told(show_budget(standing))),
         Form::ShowType(exp) => find_type(&standing.bindings, alloc, exp),
     }
 }
 
 // What is left and what there may be.
-fn budget_shown(standing: &Standing) -> Shown
+fn show_budget(standing: &Standing) -> Shown
     requires { Counts standing.now }
-    ensures { told_of result ≡ budget_told standing.now.limits (state_of standing.now) }
+    ensures { told_of result ≡ budget_report standing.now.limits (state_of standing.now) }
 {
     let elements = Used {
         used: standing.bindings.elements(),
@@ -132,8 +131,8 @@ fn find_value<A: Allocator, E: Evaluator<A>>(
 ) -> Result<Finding, AllocError>
     requires sound { E.sound by.now }
     requires typed { IsTypeBy (known (state_of standing.now).bindings) (tree_of exp.now) (typed ty) }
-    requires free { Refuses (state_of standing.now).bindings name.items (a_variable ty) None }
-    ensures found { IfOk result (λ f. Comes standing.now.limits (state_of standing.now) name.items ty
+    requires free { RefusesDefinition (state_of standing.now).bindings name.items (a_variable ty) None }
+    ensures found { IfOk result (λ f. FindsOutcome standing.now.limits (state_of standing.now) name.items ty
         (within (budget standing.now.limits (state_of standing.now))
         (out 1000 (environment (state_of standing.now).bindings) (outside []) (tree_of exp.now))) (finding_of f)) }
     ensures charges { IfOk result (CanCharge (state_of standing.now)) }

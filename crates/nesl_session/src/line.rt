@@ -2,12 +2,12 @@
 ghost use Rattle.std.specs.Prelude.{◌≡◌, ◌+◌, ◌++◌, List, ℕ, IfOk, OnErr, IsFalse, nat_lt, if◌then◌else◌, length};
 ghost use Rattle.nesl_reply.specs.declared.fault.Fault.TheVariants as faults;
 ghost use Rattle.nesl_session_step.specs.Finding.{unread, reset};
-ghost use Rattle.nesl_session_step.specs.Step.{Finds, Step, is_reset, is_part, is_full, longest, most_told};
-ghost use Rattle.nesl_session_step.specs.Step.{told_by_reset, response_of};
+ghost use Rattle.nesl_session_step.specs.Step.{Finds, Step, is_reset, is_part, is_full, longest, most_recorded};
+ghost use Rattle.nesl_session_step.specs.Step.{recorded_by_reset, reply_of};
 ghost use Rattle.nesl_session_step.specs.Sense.{HasSense};
 ghost use Rattle.nesl_session_forms.specs.Found.{finding_of, seen_sense, CanCharge};
 ghost use Rattle.nesl_session.specs.Reading.{FindsRead};
-ghost use Rattle.nesl_session_standing.specs.Settling.{CanSettle, Fits};
+ghost use Rattle.nesl_session_standing.specs.Settling.{CanSettle, HasRoomFor};
 ghost use Rattle.nesl_session_standing.specs.Inside.{state_of, Counts};
 
 use crate::answer::Answer;
@@ -54,15 +54,15 @@ pub fn step<A: Allocator, E: Evaluator<A>>(
 
 // What is told of a finding.
 fn answer(standing: &Standing, alloc: Global, finding: &Finding) -> Result<Answer, AllocError>
-    ensures { IfOk result (λ a. a ≡ response_of (state_of standing.now) (finding_of finding.now)) }
+    ensures { IfOk result (λ a. a ≡ reply_of (state_of standing.now) (finding_of finding.now)) }
 {
     let reply = finding.reply(standing.transcript.len() as u64);
     let text = standing.bindings.reply_text(alloc, &reply)?;
     Ok(Answer::made(text, finding.fault(), finding.is_recorded()))
 }
 
-// What is found of a line: the first check that fails, or what the line comes to.
-fn find<A: Allocator, E: Evaluator<A>>(
+/// What is found of a line: the first check that fails, or what the line comes to.
+pub fn find<A: Allocator, E: Evaluator<A>>(
     standing: &Standing,
     alloc: Global,
     text: &[u8],
@@ -93,7 +93,8 @@ fn find<A: Allocator, E: Evaluator<A>>(
 fn find_reset(standing: &Standing) -> Finding
     requires { Counts standing.now }
     ensures found { finding_of result
-        ≡ (if nat_lt most_told (told_by_reset (state_of standing.now)) then unread faults.Transcript else reset) }
+        ≡ (if nat_lt most_recorded (recorded_by_reset (state_of standing.now)) then unread faults.Transcript
+        else reset) }
     ensures settles { (line : List ℕ) → CanSettle (state_of standing.now) line result }
 {
     let told = standing.cleared + standing.transcript.len() as u64 + 1;
@@ -108,7 +109,7 @@ fn find_reset(standing: &Standing) -> Finding
 fn is_full(standing: &Standing, text: &[u8]) -> bool
     requires { Counts standing.now }
     ensures full { result ≡ is_full standing.now.limits (state_of standing.now) text.now }
-    ensures fits { IsFalse result → Fits (state_of standing.now) text.now }
+    ensures fits { IsFalse result → HasRoomFor (state_of standing.now) text.now }
 {
     let most_bytes = standing.limits.transcript_bytes;
     if standing.limits.transcript_lines <= standing.transcript.len() as u64 {

@@ -5,16 +5,19 @@ ghost use Rattle.nesl_eval_meaning.specs.Names.{outside};
 ghost use Rattle.nesl_eval_meaning.specs.Out.{within};
 ghost use Rattle.nesl_eval_meaning.specs.Outcome.{out};
 ghost use Rattle.nesl_eval_code.specs.Stored.{environment};
-ghost use Rattle.nesl_eval.specs.Tells.{Tells};
-ghost use Rattle.nesl_session_step.specs.State.{State, names_of, remaining_of, told_lines, unsaid};
+ghost use Rattle.nesl_eval.specs.Outcomes.{OutcomeIs};
+ghost use Rattle.nesl_session_step.specs.State.{State, names_of, remaining_of, recorded_lines, empty_log};
 ghost use Rattle.nesl_session_step.specs.Solo.{Replays, Responds};
+ghost use Rattle.nesl_session_bindings.specs.Stored.{bindings_of};
+ghost use Rattle.nesl_session.specs.Asking.{AnswersWith};
 ghost use Rattle.std.specs.Iterator.{item_count, YieldsFirstRef};
 
 use crate::answer::Answer;
 use crate::evaluator::{ByCall, Evaluator, InHeap, InPlace};
-use crate::line::step;
+use crate::line::{find, step};
 use nesl_eval::Outcome;
 use nesl_eval_code::Env;
+use nesl_reply::Fault;
 use nesl_session_bindings::Bindings;
 use nesl_session_standing::Standing;
 use nesl_session_step::limits::{Limits, Remaining};
@@ -44,11 +47,11 @@ impl Model for Session {
 
     ghost Value = { Log };
 
-    ghost use Rattle.nesl_session_standing.specs.Inside.{log_of, Keeps};
+    ghost use Rattle.nesl_session_standing.specs.Inside.{log_of, IsSound};
 
     ghost view = { λ s. log_of s.standing };
 
-    ghost invariant = { λ s. Keeps s.standing };
+    ghost invariant = { λ s. IsSound s.standing };
 }
 
 /// The names that are bound, in order of their first definition.
@@ -79,12 +82,12 @@ impl<'a> Iterator for Names<'a> {
 }
 
 impl Session {
-    ghost use Rattle.nesl_session_standing.specs.Inside.{state_of, log_of, Keeps};
+    ghost use Rattle.nesl_session_standing.specs.Inside.{state_of, log_of, IsSound};
     ghost use Rattle.nesl_session.specs.Names.{names_left};
 
     /// The empty session: nothing bound, nothing recorded, all of its work left.
     pub fn new(alloc: Global, limits: Limits) -> Result<Session, AllocError>
-        ensures empty { IfOk result (λ s. s ≡ unsaid limits) }
+        ensures empty { IfOk result (λ s. s ≡ empty_log limits) }
         ensures replayed { IfOk result (λ s. (state : State) × Replays s state) }
     {
         Ok(Session {
@@ -122,8 +125,8 @@ impl Session {
     }
 
     /// The lines that it was told: those that it stored, and those that resets cleared.
-    pub fn told_lines(&self) -> u64
-        ensures { result ≡ told_lines self.now }
+    pub fn recorded_lines(&self) -> u64
+        ensures { result ≡ recorded_lines self.now }
     {
         self.standing.cleared + self.standing.transcript.len() as u64
     }
@@ -162,6 +165,24 @@ impl Session {
         }
     }
 
+    /// What the names stand for.
+    pub fn meanings(&self) -> &Bindings
+        ensures { (s : State) × Replays self.now s × (bindings_of result.now ≡ s.bindings) }
+    {
+        &self.standing.bindings
+    }
+
+    /// Why a line would be refused, if it would: for as much work as the line takes it is found out, and nothing
+    /// changes.
+    pub fn fault_of(&self, alloc: Global, text: &[u8]) -> Result<Option<Fault>, AllocError>
+        ensures { IfOk result (AnswersWith self.now text.now) }
+    {
+        let finding = find(&self.standing, alloc, text, &InPlace)?;
+        let fault = finding.fault();
+        finding.let_go();
+        Ok(fault)
+    }
+
     /// One line. The answer is the step's, or want of memory, which leaves all as it was.
     pub fn line(&mut self, alloc: Global, text: &[u8]) -> Answer
         ensures { Responds self.old text.now result self.new }
@@ -190,7 +211,7 @@ impl Session {
         ensures { Responds self.old text.now result self.new }
     {
         let call = |env: &Env, exp: &Exp, levels: u32, fuel: u64| -> Outcome<Global>
-            ensures { Tells result (within fuel (out levels (environment env.now) (outside []) (tree_of exp.now))) }
+            ensures { OutcomeIs result (within fuel (out levels (environment env.now) (outside []) (tree_of exp.now))) }
         { eval_split(rt, alloc, env, exp, levels, fuel, helpers, gate) };
         self.line_by(alloc, text, &ByCall { call })
     }

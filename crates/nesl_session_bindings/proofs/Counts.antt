@@ -10,7 +10,7 @@ use Rattle.nesl_eval_code.specs.declared.env.Payload.{Payload}
 use Rattle.nesl_eval_meaning.specs.Names.{Name}
 use Rattle.nesl_eval_code.specs.Stored.{Entry}
 use Rattle.nesl_session_bindings.specs.Beside.{elements_beside}
-use Rattle.nesl_session_bindings.specs.Known.{put}
+use Rattle.nesl_session_bindings.specs.Known.{put_binding}
 use Rattle.nesl_session_bindings.specs.Meanings.{Meaning, Binding, elements_in, elements_of}
 use Rattle.nesl_session_bindings.specs.Stored.{meaning_of, bindings_of}
 
@@ -18,15 +18,15 @@ more_elements : (b : Binding) (bs : List Binding) → elements_of (b ∷ bs) ≡
 more_elements b bs = sum_by-cons (λ (c : Binding). elements_in c.meaning) b bs
 
 -- after a put: those beside the name, and the new ones
-pub put_elements : (x : Name) (m : Meaning) (bs : List Binding) → elements_of (put x m bs) ≡ elements_beside x bs + elements_in m
+pub put_elements : (x : Name) (m : Meaning) (bs : List Binding) → elements_of (put_binding x m bs) ≡ elements_beside x bs + elements_in m
 put_elements x m [] = more_elements (record { name = x; meaning = m }) [] ∙ omega arith
 put_elements x m (b ∷ bs) = by (bytes_eq x b.name) (put_elements x m bs)
   where
-    by : (q : Bool) → elements_of (put x m bs) ≡ elements_beside x bs + elements_in m →
-        elements_of (if q then record b { meaning = m } ∷ bs else b ∷ put x m bs)
+    by : (q : Bool) → elements_of (put_binding x m bs) ≡ elements_beside x bs + elements_in m →
+        elements_of (if q then record b { meaning = m } ∷ bs else b ∷ put_binding x m bs)
         ≡ (if q then elements_of bs else elements_in b.meaning + elements_beside x bs) + elements_in m
     by true i = more_elements (record b { meaning = m }) bs ∙ omega arith
-    by false i = more_elements b (put x m bs) ∙ omega (arith, i)
+    by false i = more_elements b (put_binding x m bs) ∙ omega (arith, i)
 
 -- and those of the name with those beside it are all
 pub beside_found : (x : Name) (t : kinds.Top) (p : Payload) (es : List Entry) → Some (t, p) ≡ found x es →
@@ -57,21 +57,21 @@ beside_none x (e ∷ es) h = by (bytes_eq x e.0) (beside_none x es) h ∙ sym (m
 
 -- whether the elements are within a limit, by the room that the others leave
 module _ (x : Name) (m : Meaning) (bs : List Binding) (limit : ℕ) where
-  pub fits_not : limit < elements_beside x bs → false ≡ nat_le (elements_of (put x m bs)) limit
-  fits_not h = sym (lt-leb (elements_of (put x m bs)) limit (omega (arith, put_elements x m bs)))
+  pub fits_not : limit < elements_beside x bs → false ≡ nat_le (elements_of (put_binding x m bs)) limit
+  fits_not h = sym (lt-leb (elements_of (put_binding x m bs)) limit (omega (arith, put_elements x m bs)))
 
-  pub fits_when : (room : ℕ) → room + elements_beside x bs ≡ limit → elements_in m ≤ room → true ≡ nat_le (elements_of (put x m bs)) limit
-  fits_when room r h = sym (le-leb (elements_of (put x m bs)) limit (omega (arith, put_elements x m bs)))
+  pub fits_when : (room : ℕ) → room + elements_beside x bs ≡ limit → elements_in m ≤ room → true ≡ nat_le (elements_of (put_binding x m bs)) limit
+  fits_when room r h = sym (le-leb (elements_of (put_binding x m bs)) limit (omega (arith, put_elements x m bs)))
 
-  pub fits_unless : (room : ℕ) → room + elements_beside x bs ≡ limit → room < elements_in m → false ≡ nat_le (elements_of (put x m bs)) limit
-  fits_unless room r h = sym (lt-leb (elements_of (put x m bs)) limit (omega (arith, put_elements x m bs)))
+  pub fits_unless : (room : ℕ) → room + elements_beside x bs ≡ limit → room < elements_in m → false ≡ nat_le (elements_of (put_binding x m bs)) limit
+  fits_unless room r h = sym (lt-leb (elements_of (put_binding x m bs)) limit (omega (arith, put_elements x m bs)))
 
   pub fits_left : (room : ℕ) (left : Option ℕ) → room + elements_beside x bs ≡ limit →
-      MatchOption left (room < elements_in m) (λ l. l + elements_in m ≡ room) → is_some left ≡ nat_le (elements_of (put x m bs)) limit
+      MatchOption left (room < elements_in m) (λ l. l + elements_in m ≡ room) → is_some left ≡ nat_le (elements_of (put_binding x m bs)) limit
   fits_left room None r h = fits_unless room r h
   fits_left room (Some l) r h = fits_when room r (omega (arith, h))
 
-  pub fits_by : (room : ℕ) → room + elements_beside x bs ≡ limit → nat_le (elements_in m) room ≡ nat_le (elements_of (put x m bs)) limit
+  pub fits_by : (room : ℕ) → room + elements_beside x bs ≡ limit → nat_le (elements_in m) room ≡ nat_le (elements_of (put_binding x m bs)) limit
   fits_by room r =
       elim (cases_lt room (elements_in m)) [
         | inl h ↦ lt-leb (elements_in m) room h ∙ fits_unless room r h

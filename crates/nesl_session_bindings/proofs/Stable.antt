@@ -5,8 +5,8 @@ use Rattle.nesl_types.specs.declared.classes.Class.{Class}
 use Rattle.nesl_types.specs.declared.classes.Class.TheVariants.{Any, Ordinal, Number, Logical}
 use Rattle.nesl_types.specs.declared.schemes.Scheme.{Scheme}
 use Rattle.nesl_types.specs.Scheme.{IsSameScheme}
-use Rattle.nesl_types_bank.specs.Term.{Term, int, bool, char, variable, seq_of, both, named}
-use Rattle.nesl_builtins.specs.Table.{function_type}
+use Rattle.nesl_types_bank.specs.Term.{Term, int, bool, char, variable, seq_of, pair_of, named}
+use Rattle.nesl_builtins.specs.FunctionTypes.{function_type}
 
 pub stable_term : (t u : Term) → ((t ≡ u → ⊥) → ⊥) → t ≡ u
 stable_term int int h = refl
@@ -15,10 +15,10 @@ stable_term char char h = refl
 stable_term (variable v) (variable w) h =
     elim (cases_eq v w) [ inl e ↦ ap variable e | inr n ↦ absurd (h (λ e. n cc)) ]
 stable_term (seq_of t) (seq_of u) h = ap seq_of (stable_term t u (λ n. h (λ e. n cc)))
-stable_term (both a b) (both c d) h =
+stable_term (pair_of a b) (pair_of c d) h =
     let l = stable_term a c (λ n. h (λ e. n cc)) in
     let r = stable_term b d (λ n. h (λ e. n cc)) in
-    λ i. both (l i) (r i)
+    λ i. pair_of (l i) (r i)
 stable_term (named v) (named w) h =
     elim (cases_eq v w) [ inl e ↦ ap named e | inr n ↦ absurd (h (λ e. n cc)) ]
 stable_term _ _ h = absurd (h (λ e. cc))

@@ -9,7 +9,7 @@ use Rattle.nesl_infer_names.specs.Names as names
 use Rattle.nesl_infer_names.specs.Names.{Names, Referent, names_from}
 use Rattle.nesl_eval_meaning.specs.Names as code
 use Rattle.nesl_eval_meaning.specs.Names.{Name, Environment, variable_of, function_of, datatype_of}
-use Rattle.nesl_reply.specs.Values.{Datatypes}
+use Rattle.nesl_reply.specs.Values.{DatatypesByTag}
 use Rattle.nesl_session_bindings.specs.Meanings.{Meaning, Binding, variable, function, datatype}
 
 -- what a name stands for
@@ -51,13 +51,13 @@ abbrev pub environment : List Binding → Environment
 environment bs = map (λ b. (b.name, top_of b.meaning)) bs
 
 -- the datatype with a tag
-abbrev pub is_datatype : ℕ → Meaning → Bool
-is_datatype tag (variable t v) = false
-is_datatype tag (function f p e) = false
-is_datatype tag (datatype n t) = n == tag
+abbrev pub has_tag : ℕ → Meaning → Bool
+has_tag tag (variable t v) = false
+has_tag tag (function f p e) = false
+has_tag tag (datatype n t) = n == tag
 
 abbrev pub datatype_with : ℕ → List Binding → Option Binding
-datatype_with tag bs = find (λ b. is_datatype tag b.meaning) bs
+datatype_with tag bs = find (λ b. has_tag tag b.meaning) bs
 
 -- what records hold
 abbrev pub content_of : Meaning → Option Term
@@ -66,7 +66,7 @@ content_of (function f p e) = None
 content_of (datatype n t) = Some t
 
 -- the names of datatypes and what they hold, for replies
-abbrev pub datatypes_of : List Binding → Datatypes
+abbrev pub datatypes_of : List Binding → DatatypesByTag
 datatypes_of bs = record {
   name = λ tag. option_map_or (λ b. b.name) (datatype_with tag bs) [];
   held = λ tag. option_and_then (λ b. content_of b.meaning) (datatype_with tag bs);
@@ -78,11 +78,11 @@ is_a_datatype (variable t v) = false
 is_a_datatype (function f p e) = false
 is_a_datatype (datatype n t) = true
 
-abbrev pub datatypes : List Binding → ℕ
-datatypes [] = 0
-datatypes (b ∷ bs) = if is_a_datatype b.meaning then 1 + datatypes bs else datatypes bs
+abbrev pub datatype_count : List Binding → ℕ
+datatype_count [] = 0
+datatype_count (b ∷ bs) = if is_a_datatype b.meaning then 1 + datatype_count bs else datatype_count bs
 
 -- a name that is bound again keeps its place, and a new one goes last
-abbrev pub put : Name → Meaning → List Binding → List Binding
-put x m [] = record { name = x; meaning = m } ∷ []
-put x m (b ∷ bs) = if bytes_eq x b.name then record b { meaning = m } ∷ bs else b ∷ put x m bs
+abbrev pub put_binding : Name → Meaning → List Binding → List Binding
+put_binding x m [] = record { name = x; meaning = m } ∷ []
+put_binding x m (b ∷ bs) = if bytes_eq x b.name then record b { meaning = m } ∷ bs else b ∷ put_binding x m bs

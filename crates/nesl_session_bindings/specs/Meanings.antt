@@ -3,7 +3,7 @@ use Rattle.std.specs.Prelude.{ℕ, List, sum_by}
 use Rattle.nesl_types_bank.specs.Term.{Term, nodes}
 use Rattle.nesl_values.specs.Tree.{size}
 use Rattle.nesl_syntax_tree.specs.Trees.{PatternTree, Tree}
-use Rattle.nesl_builtins.specs.Table.{FunctionType}
+use Rattle.nesl_builtins.specs.FunctionTypes.{FunctionType}
 use Rattle.nesl_eval_meaning.specs.Names.{Name, Value}
 use Rattle.nesl_session_bindings.specs.Nodes.{expression_nodes}
 

@@ -6,8 +6,8 @@ use Rattle.nesl_types_bank.specs.Term.{Term, int}
 use Rattle.nesl_values.specs.View.{tree_of}
 use Rattle.nesl_syntax_tree.specs.Views as syntax
 use Rattle.nesl_syntax_tree.specs.Trees.{Tree}
-use Rattle.nesl_builtins.specs.Table.{function_type}
-use Rattle.nesl_infer.specs.Answers.{IsTypeBy, typed}
+use Rattle.nesl_builtins.specs.FunctionTypes.{function_type}
+use Rattle.nesl_infer.specs.Verdicts.{IsTypeBy, typed}
 use Rattle.nesl_eval_code.specs.declared.env.Payload.{Payload}
 use Rattle.nesl_eval_code.specs.declared.env.Payload.TheVariants as payload
 use Rattle.nesl_eval_meaning.specs.Names.{Value, outside}
@@ -22,11 +22,11 @@ use Rattle.nesl_session_bindings.specs.Redefinition as redefinition
 use Rattle.nesl_session_bindings.specs.Redefinition.{a_variable, a_function, a_datatype}
 
 -- a variable's type goes with a value, a function's with a parameter and a body, a datatype's tag with nothing
-abbrev pub Fits : kinds.Top → Payload → Type 0
-Fits (kind.Variable t) (payload.Variable v) = Unit {0}
-Fits (kind.Function s) (payload.Function p e) = Unit {0}
-Fits (kind.Datatype tag t) payload.Datatype = Unit {0}
-Fits _ _ = ⊥
+abbrev pub PayloadFits : kinds.Top → Payload → Type 0
+PayloadFits (kind.Variable t) (payload.Variable v) = Unit {0}
+PayloadFits (kind.Function s) (payload.Function p e) = Unit {0}
+PayloadFits (kind.Datatype tag t) payload.Datatype = Unit {0}
+PayloadFits _ _ = ⊥
 
 -- what they mean where they fit; anything where they don't
 abbrev pub meaning_of : kinds.Top → Payload → Meaning
@@ -44,7 +44,7 @@ bindings_of bs = map binding_of bs
 
 abbrev pub AllFit : List Entry → Type 0
 AllFit [] = Unit {0}
-AllFit (b ∷ bs) = Fits b.1 b.2 × AllFit bs
+AllFit (b ∷ bs) = PayloadFits b.1 b.2 × AllFit bs
 
 -- the entries fit, each name stands for what its type says, and their elements are as many
 pub record AreKept (bs : List Entry) (elements : ℕ) : Type 0 where
@@ -59,7 +59,7 @@ IsComputed bs t v =
     (out n (environment bs) (outside []) e ≡ value v w d)
 
 -- what a name is to be, as the code says it
-abbrev pub kind_of : Kind → redefinition.Kind
+abbrev pub kind_of : Kind → redefinition.Definition
 kind_of (Kind.Variable t) = a_variable t.now
 kind_of (Kind.Function s) = a_function (function_type s.now)
 kind_of Kind.Datatype = a_datatype

@@ -4,7 +4,7 @@ ghost use Rattle.std.specs.Prelude.{◌≡◌, ◌+◌, ◌<◌, ◌^◌, MatchO
 ghost use Rattle.nesl_types_bank.specs.Term.{nodes};
 ghost use Rattle.nesl_session_bindings.specs.Beside.{elements_beside};
 ghost use Rattle.nesl_session_bindings.specs.Meanings.{elements_in};
-ghost use Rattle.nesl_session_bindings.specs.Stored.{AreKept, Fits, bindings_of, meaning_of};
+ghost use Rattle.nesl_session_bindings.specs.Stored.{AreKept, PayloadFits, bindings_of, meaning_of};
 
 use crate::nodes;
 use nesl_eval_code::{Env, Payload};
@@ -12,7 +12,7 @@ use nesl_types::{Top, Ty};
 
 /// What is left of `room` after the elements of what stands there, or `None` where they are more.
 fn room_left(top: &Top, payload: &Payload, room: u64) -> Option<u64>
-    requires { Fits top.now payload.now }
+    requires { PayloadFits top.now payload.now }
     ensures { MatchOption result (room < elements_in (meaning_of top.now payload.now))
         (λ left. left + elements_in (meaning_of top.now payload.now) ≡ room) }
 {

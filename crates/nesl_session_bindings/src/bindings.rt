@@ -7,17 +7,17 @@ ghost use Rattle.nesl_types_bank.specs.Term.{Term};
 ghost use Rattle.nesl_values.specs.View.{tree_of as value_tree};
 ghost use Rattle.nesl_syntax_tree.specs.Trees.{PatternTree, SignatureTree, Tree, TypeTree};
 ghost use Rattle.nesl_syntax_tree.specs.Views.{pattern_tree, signature_tree, tree_of, type_tree};
-ghost use Rattle.nesl_builtins.specs.Table.{FunctionType, function_type};
-ghost use Rattle.nesl_infer.specs.Answers.{Answers, IsContentBy, IsFunctionBy, IsTypeBy, typed};
+ghost use Rattle.nesl_builtins.specs.FunctionTypes.{FunctionType, function_type};
+ghost use Rattle.nesl_infer.specs.Verdicts.{AnswersVerdict, IsContentBy, IsFunctionBy, IsTypeBy, typed};
 ghost use Rattle.nesl_eval_meaning.specs.Names.{outside};
 ghost use Rattle.nesl_eval_meaning.specs.Out.{stuck};
 ghost use Rattle.nesl_eval_meaning.specs.Outcome.{out};
 ghost use Rattle.nesl_eval_code.specs.Stored as stored;
-ghost use Rattle.nesl_reply.specs.Replies.{told, told_text};
+ghost use Rattle.nesl_reply.specs.Replies.{report_of, report_text};
 ghost use Rattle.nesl_session_bindings.specs.Beside.{elements_beside};
-ghost use Rattle.nesl_session_bindings.specs.Known.{datatypes, datatypes_of, environment, known, put};
+ghost use Rattle.nesl_session_bindings.specs.Known.{datatype_count, datatypes_of, environment, known, put_binding};
 ghost use Rattle.nesl_session_bindings.specs.Meanings.{datatype, elements_of, function, variable};
-ghost use Rattle.nesl_session_bindings.specs.Redefinition.{Refuses, a_datatype, a_function, a_variable};
+ghost use Rattle.nesl_session_bindings.specs.Redefinition.{RefusesDefinition, a_datatype, a_function, a_variable};
 ghost use Rattle.nesl_session_bindings.specs.Stored.{IsComputed, bindings_of, kind_of};
 
 use crate::kind::Kind;
@@ -103,7 +103,7 @@ impl Bindings {
 
     /// The tag of the next datatype.
     pub fn next_tag(&self) -> u64
-        ensures { result ≡ datatypes (bindings_of self.now) }
+        ensures { result ≡ datatype_count (bindings_of self.now) }
     {
         redefinition::datatypes(&self.env)
     }
@@ -117,7 +117,7 @@ impl Bindings {
 
     /// The type of an expression.
     pub fn infer_exp(&self, alloc: Global, exp: &Exp) -> Result<Ty, InferFault>
-        ensures { Answers (λ t. t) (IsTypeBy (known (bindings_of self.now)) (tree_of exp.now)) result }
+        ensures { AnswersVerdict (λ t. t) (IsTypeBy (known (bindings_of self.now)) (tree_of exp.now)) result }
     {
         inferred_lines_keep_types::<Payload>();
         nesl_infer::infer_exp(alloc, self.env.context(), exp)
@@ -132,7 +132,8 @@ impl Bindings {
         signature: &Option<Signature>,
         body: &Exp,
     ) -> Result<Scheme, InferFault>
-        ensures { Answers function_type (IsFunctionBy (known (bindings_of self.now)) name.now (pattern_tree pattern.now)
+        ensures { AnswersVerdict function_type
+            (IsFunctionBy (known (bindings_of self.now)) name.now (pattern_tree pattern.now)
             (option_map signature_tree signature.now) (tree_of body.now)) result }
     {
         inferred_lines_keep_types::<Payload>();
@@ -141,14 +142,14 @@ impl Bindings {
 
     /// What the records of a datatype hold, as it is written.
     pub fn infer_datatype(&self, alloc: Global, written: &TypeExp) -> Result<Ty, InferFault>
-        ensures { Answers (λ t. t) (IsContentBy (known (bindings_of self.now)) (type_tree written.now)) result }
+        ensures { AnswersVerdict (λ t. t) (IsContentBy (known (bindings_of self.now)) (type_tree written.now)) result }
     {
         nesl_infer::infer_datatype(alloc, self.env.context(), written)
     }
 
     /// Why the name may not be this, if it may not. Its type is looked at first.
     pub fn refusal(&self, name: &[u8], kind: Kind<'_>) -> Option<Refusal>
-        ensures { Refuses (bindings_of self.now) name.now (kind_of kind.entry) result }
+        ensures { RefusesDefinition (bindings_of self.now) name.now (kind_of kind.entry) result }
     {
         if redefinition::is_retyped(&self.env, name, kind) {
             return Some(Refusal::Retype);
@@ -169,7 +170,7 @@ impl Bindings {
     /// Whether all names have at most so many elements where the name is a variable with this value.
     pub fn fits_variable<A: Allocator>(&self, name: &[u8], value: &Value<A>, limit: u64) -> bool
         ensures { (t : Term) → result ≡ nat_le (elements_of
-            (put name.now (variable t (value_tree value.now)) (bindings_of self.now))) limit }
+            (put_binding name.now (variable t (value_tree value.now)) (bindings_of self.now))) limit }
     {
         match limit.checked_sub(self.elements_beside(name)) {
             Some(room) => value.nodes() <= room,
@@ -180,7 +181,8 @@ impl Bindings {
     /// Whether all names have at most so many elements where the name is a function with this body.
     pub fn fits_function(&self, name: &[u8], body: &Exp, limit: u64) -> bool
         ensures { (f : FunctionType) (p : PatternTree)
-            → result ≡ nat_le (elements_of (put name.now (function f p (tree_of body.now)) (bindings_of self.now)))
+            → result
+            ≡ nat_le (elements_of (put_binding name.now (function f p (tree_of body.now)) (bindings_of self.now)))
             limit }
     {
         match limit.checked_sub(self.elements_beside(name)) {
@@ -192,7 +194,7 @@ impl Bindings {
     /// Whether all names have at most so many elements where the name is a datatype whose records hold this.
     pub fn fits_datatype(&self, name: &[u8], content: &Ty, limit: u64) -> bool
         ensures { (tag : ℕ) → result ≡ nat_le (elements_of
-            (put name.now (datatype tag content.now) (bindings_of self.now))) limit }
+            (put_binding name.now (datatype tag content.now) (bindings_of self.now))) limit }
     {
         match limit.checked_sub(self.elements_beside(name)) {
             Some(room) => content.room_left(room).is_some(),
@@ -202,8 +204,8 @@ impl Bindings {
 
     /// The bytes of a reply, line end included.
     pub fn reply_text(&self, alloc: Global, reply: &Reply<'_>) -> Result<Vec<u8>, AllocError>
-        ensures { IfOk result (λ text. text.items ≡ told_text (datatypes_of (bindings_of self.now))
-            (map (λ b. b.name) (bindings_of self.now)) (told reply.now) ++ codes "\n") }
+        ensures { IfOk result (λ text. text.items ≡ report_text (datatypes_of (bindings_of self.now))
+            (map (λ b. b.name) (bindings_of self.now)) (report_of reply.now) ++ codes "\n") }
     {
         nesl_reply::reply_text(alloc, reply, self.env.context())
     }
@@ -226,10 +228,11 @@ impl Bindings {
         value: Value,
     ) -> Result<(), AllocError>
         requires computed { IsComputed (bindings_of self.old) ty (value_tree value) }
-        requires free { Refuses (bindings_of self.old) name.now (a_variable ty) None }
-        requires room { elements_of (put name.now (variable ty (value_tree value)) (bindings_of self.old)) < 2 ^ 64 }
+        requires free { RefusesDefinition (bindings_of self.old) name.now (a_variable ty) None }
+        requires room { elements_of (put_binding name.now (variable ty (value_tree value)) (bindings_of self.old))
+            < 2 ^ 64 }
         ensures ok { OnOk result (bindings_of self.new
-            ≡ put name.now (variable ty (value_tree value)) (bindings_of self.old)) }
+            ≡ put_binding name.now (variable ty (value_tree value)) (bindings_of self.old)) }
         ensures err { OnErr result (self.new ≡ self.old) }
     {
         inferred_lines_keep_types::<Payload>();
@@ -253,12 +256,12 @@ impl Bindings {
         requires typed { (g : Option SignatureTree) × IsFunctionBy (known (bindings_of self.old)) name.now
             (pattern_tree pattern) g
             (tree_of body) (typed (function_type scheme)) }
-        requires free { Refuses (bindings_of self.old) name.now (a_function (function_type scheme)) None }
-        requires room { elements_of (put name.now (function (function_type scheme) (pattern_tree pattern)
+        requires free { RefusesDefinition (bindings_of self.old) name.now (a_function (function_type scheme)) None }
+        requires room { elements_of (put_binding name.now (function (function_type scheme) (pattern_tree pattern)
             (tree_of body))
             (bindings_of self.old)) < 2 ^ 64 }
         ensures ok { OnOk result (bindings_of self.new
-            ≡ put name.now (function (function_type scheme) (pattern_tree pattern) (tree_of body))
+            ≡ put_binding name.now (function (function_type scheme) (pattern_tree pattern) (tree_of body))
             (bindings_of self.old)) }
         ensures err { OnErr result (self.new ≡ self.old) }
     {
@@ -279,12 +282,12 @@ impl Bindings {
         content: Ty,
     ) -> Result<(), AllocError>
         requires written { (a : TypeTree) × IsContentBy (known (bindings_of self.old)) a (typed content) }
-        requires free { Refuses (bindings_of self.old) name.now a_datatype None }
-        requires room { elements_of (put name.now (datatype (datatypes (bindings_of self.old)) content)
+        requires free { RefusesDefinition (bindings_of self.old) name.now a_datatype None }
+        requires room { elements_of (put_binding name.now (datatype (datatype_count (bindings_of self.old)) content)
             (bindings_of self.old))
             < 2 ^ 64 }
         ensures ok { OnOk result (bindings_of self.new
-            ≡ put name.now (datatype (datatypes (bindings_of self.old)) content) (bindings_of self.old)) }
+            ≡ put_binding name.now (datatype (datatype_count (bindings_of self.old)) content) (bindings_of self.old)) }
         ensures err { OnErr result (self.new ≡ self.old) }
     {
         inferred_lines_keep_types::<Payload>();

@@ -9,8 +9,8 @@ ghost use Rattle.nesl_eval_code.specs.Stored.{environment, top_of};
 ghost use Rattle.nesl_eval_sound.specs.Refers.{is_referred, top_refers};
 ghost use Rattle.nesl_eval_sound.specs.Lines.{datatypes, is_type};
 ghost use Rattle.nesl_session_bindings.specs.Known.{meaning_in};
-ghost use Rattle.nesl_session_bindings.specs.Redefinition.{IsOther, IsRetyped, is_kept, is_taken};
-ghost use Rattle.nesl_session_bindings.specs.Stored.{AllFit, Fits, bindings_of, kind_of, meaning_of};
+ghost use Rattle.nesl_session_bindings.specs.Redefinition.{ChangesType, IsRetyped, is_in_use, is_taken};
+ghost use Rattle.nesl_session_bindings.specs.Stored.{AllFit, PayloadFits, bindings_of, kind_of, meaning_of};
 
 use crate::kind::Kind;
 use nesl_builtins::named;
@@ -20,8 +20,8 @@ use nesl_types::Top;
 
 /// Whether the name would be a variable or a function of another type.
 fn is_other(top: &Top, kind: Kind<'_>) -> bool
-    ensures { (payload : Payload) → Fits top.now payload
-        → (IsTrue result ↔ IsOther (Some (meaning_of top.now payload)) (kind_of kind.entry)) }
+    ensures { (payload : Payload) → PayloadFits top.now payload
+        → (IsTrue result ↔ ChangesType (Some (meaning_of top.now payload)) (kind_of kind.entry)) }
 {
     match top {
         Top::Variable(old) => match kind {
@@ -86,7 +86,7 @@ pub fn is_retyped(env: &Env, name: &[u8], kind: Kind<'_>) -> bool
 /// Whether the name is a datatype's, or any that is bound where a datatype is to be defined.
 fn is_kept(env: &Env, name: &[u8], kind: Kind<'_>) -> bool
     requires { AllFit env.now }
-    ensures { result ≡ is_kept (meaning_in (bindings_of env.now) name.now) (kind_of kind.entry) }
+    ensures { result ≡ is_in_use (meaning_in (bindings_of env.now) name.now) (kind_of kind.entry) }
 {
     match env.get(name) {
         None => false,

@@ -6,22 +6,22 @@ use Rattle.nesl_types_bank.specs.Term.{Term}
 use Rattle.nesl_types.specs.declared.schemes.Scheme.{Scheme}
 use Rattle.nesl_syntax_tree.specs.Trees.{Tree, PatternTree, SignatureTree, TypeTree}
 use Rattle.nesl_syntax_tree.specs.Trees as trees
-use Rattle.nesl_builtins.specs.Table.{function_type}
-use Rattle.nesl_infer.specs.Answers.{Verdict, Answers, typed, unknown_at, ill_typed, ambiguous}
+use Rattle.nesl_builtins.specs.FunctionTypes.{function_type}
+use Rattle.nesl_infer.specs.Verdicts.{Verdict, AnswersVerdict, typed, unknown_at, ill_typed, ambiguous}
 use Rattle.nesl_infer.specs.declared.fault.InferFault.{InferFault}
 use Rattle.nesl_infer.specs.declared.fault.InferFault.TheVariants as untyped
 use Rattle.nesl_eval_meaning.specs.Names.{Name}
 use Rattle.nesl_reply.specs.declared.fault.Fault.TheVariants as faults
 use Rattle.nesl_reply.specs.Replies as replies
-use Rattle.nesl_reply.specs.Replies.{Told}
+use Rattle.nesl_reply.specs.Replies.{Report}
 use Rattle.nesl_session_bindings.specs.Meanings.{Meaning, Binding, function, datatype, elements_of}
-use Rattle.nesl_session_bindings.specs.Known.{datatypes, put}
-use Rattle.nesl_session_bindings.specs.Redefinition.{Kind, Refuses}
+use Rattle.nesl_session_bindings.specs.Known.{datatype_count, put_binding}
+use Rattle.nesl_session_bindings.specs.Redefinition.{Definition, RefusesDefinition}
 use Rattle.nesl_session_bindings.specs.declared.refusal.Refusal.{Refusal}
 use Rattle.nesl_session_bindings.specs.declared.refusal.Refusal.TheVariants.{Retype, Taken}
 use Rattle.nesl_session_step.specs.declared.limits.Limits.{Limits}
 use Rattle.nesl_session_step.specs.State.{State}
-use Rattle.nesl_session_step.specs.Finding.{Finding, refused, answered, bound_or_refused, Then, Unless, Defines, FindsLine}
+use Rattle.nesl_session_step.specs.Finding.{Finding, refused, answered, bound_or_refused, IfTyped, IfFree, FindsDefinition, FindsForm}
 use Rattle.nesl_session_forms.specs.declared.finding.Finding.{Finding as Found}
 use Rattle.nesl_session_forms.specs.declared.stops.Stopped.{Stopped}
 use Rattle.nesl_session_forms.specs.declared.stops.Stopped.TheVariants.{Refused, Memory}
@@ -30,29 +30,29 @@ use Rattle.nesl_session_forms.specs.Forms.{with_names, stopped_by, stopped_again
 
 -- what is found by the type that there is, or by why there is none
 abbrev pub Judged : {T : Type 0} → (State → Verdict T → Type 0) → (State → T → Finding → Type 0) → State → Finding → Type 0
-Judged {T} Is K s f = (v : Verdict T) × Is s v × Then v (K s) f
+Judged {T} Is K s f = (v : Verdict T) × Is s v × IfTyped v (K s) f
 
 -- no type was found
 untyped_at : {T X : Type 0} (bs : List Binding) (f : X → T) (Is : State → Verdict T → Type 0) (K : State → T → Finding → Type 0) (fault : InferFault)
-    → ((s : State) → Answers f (Is (with_names bs s)) (Err fault)) → Stops bs (Judged Is K) (stopped_by fault)
+    → ((s : State) → AnswersVerdict f (Is (with_names bs s)) (Err fault)) → Stops bs (Judged Is K) (stopped_by fault)
 untyped_at bs f Is K (untyped.Unknown span) a = λ s. (unknown_at span, a s, refl)
 untyped_at bs f Is K untyped.IllTyped a = λ s. (ill_typed, a s, refl)
 untyped_at bs f Is K untyped.Ambiguous a = λ s. (ambiguous, a s, refl)
 untyped_at bs f Is K untyped.Memory a = tt
 
 pub untyped_stops : {T X : Type 0} (bs : List Binding) (f : X → T) (Is : State → Verdict T → Type 0) (K : State → T → Finding → Type 0) (fault : InferFault) (r : Stopped)
-    → ((s : State) → Answers f (Is (with_names bs s)) (Err fault)) → r ≡ stopped_by fault → Stops bs (Judged Is K) r
+    → ((s : State) → AnswersVerdict f (Is (with_names bs s)) (Err fault)) → r ≡ stopped_by fault → Stops bs (Judged Is K) r
 untyped_stops bs f Is K fault r a e = subst (Stops bs (Judged Is K)) (sym e) (untyped_at bs f Is K fault a)
 
 -- something stands against the definition
-against_at : {T : Type 0} (bs : List Binding) (t : T) (Is : State → Verdict T → Type 0) (x : Name) (k : T → Kind) (K : State → T → Finding → Type 0) (refusal : Refusal)
-    → ((s : State) → Is (with_names bs s) (typed t)) → Refuses bs x (k t) (Some refusal) → Stops bs (Judged Is (λ s t. Unless s x (k t) (K s t))) (stopped_against refusal)
+against_at : {T : Type 0} (bs : List Binding) (t : T) (Is : State → Verdict T → Type 0) (x : Name) (k : T → Definition) (K : State → T → Finding → Type 0) (refusal : Refusal)
+    → ((s : State) → Is (with_names bs s) (typed t)) → RefusesDefinition bs x (k t) (Some refusal) → Stops bs (Judged Is (λ s t. IfFree s x (k t) (K s t))) (stopped_against refusal)
 against_at bs t Is x k K Retype h r = λ s. (typed t, h s, (Some Retype, r, refl))
 against_at bs t Is x k K Taken h r = λ s. (typed t, h s, (Some Taken, r, refl))
 
-pub against_stops : {T : Type 0} (bs : List Binding) (t : T) (Is : State → Verdict T → Type 0) (x : Name) (k : T → Kind) (K : State → T → Finding → Type 0) (refusal : Refusal) (r : Stopped)
-    → ((s : State) → Is (with_names bs s) (typed t)) → Refuses bs x (k t) (Some refusal) → r ≡ stopped_against refusal → Stops bs (Judged Is (λ s t. Unless s x (k t) (K s t))) r
-against_stops bs t Is x k K refusal r h a e = subst (Stops bs (Judged Is (λ s t. Unless s x (k t) (K s t)))) (sym e) (against_at bs t Is x k K refusal h a)
+pub against_stops : {T : Type 0} (bs : List Binding) (t : T) (Is : State → Verdict T → Type 0) (x : Name) (k : T → Definition) (K : State → T → Finding → Type 0) (refusal : Refusal) (r : Stopped)
+    → ((s : State) → Is (with_names bs s) (typed t)) → RefusesDefinition bs x (k t) (Some refusal) → r ≡ stopped_against refusal → Stops bs (Judged Is (λ s t. IfFree s x (k t) (K s t))) r
+against_stops bs t Is x k K refusal r h a e = subst (Stops bs (Judged Is (λ s t. IfFree s x (k t) (K s t)))) (sym e) (against_at bs t Is x k K refusal h a)
 
 cond_true : {X : Type 0} (b : Bool) (x y : X) → b ≡ true → x ≡ cond b x y
 cond_true true x y e = refl
@@ -63,39 +63,39 @@ cond_false true x y e = absurd cc
 cond_false false x y e = refl
 
 -- there are too many elements, or not
-pub many : (limits : Limits) (s : State) (t : Told) (w : ℕ) (b : Binding) → false ≡ leb (elements_of (put b.name b.meaning s.bindings)) limits.elements → refused (faults.Elements w) w ≡ bound_or_refused limits s t w b
+pub many : (limits : Limits) (s : State) (t : Report) (w : ℕ) (b : Binding) → false ≡ leb (elements_of (put_binding b.name b.meaning s.bindings)) limits.elements → refused (faults.Elements w) w ≡ bound_or_refused limits s t w b
 many limits s t w b h =
-    let over = leb-false (elements_of (put b.name b.meaning s.bindings)) limits.elements (sym h) in
-    cond_true (nat_lt limits.elements (elements_of (put b.name b.meaning s.bindings))) _ _ (lt-ltb limits.elements (elements_of (put b.name b.meaning s.bindings)) over)
+    let over = leb-false (elements_of (put_binding b.name b.meaning s.bindings)) limits.elements (sym h) in
+    cond_true (nat_lt limits.elements (elements_of (put_binding b.name b.meaning s.bindings))) _ _ (lt-ltb limits.elements (elements_of (put_binding b.name b.meaning s.bindings)) over)
 
-pub few : (limits : Limits) (s : State) (t : Told) (w : ℕ) (b : Binding) → true ≡ leb (elements_of (put b.name b.meaning s.bindings)) limits.elements → answered t w (Some b) ≡ bound_or_refused limits s t w b
+pub few : (limits : Limits) (s : State) (t : Report) (w : ℕ) (b : Binding) → true ≡ leb (elements_of (put_binding b.name b.meaning s.bindings)) limits.elements → answered t w (Some b) ≡ bound_or_refused limits s t w b
 few limits s t w b h =
-    let room = leb-true (elements_of (put b.name b.meaning s.bindings)) limits.elements (sym h) in
-    cond_false (nat_lt limits.elements (elements_of (put b.name b.meaning s.bindings))) _ _ (le-ltb limits.elements (elements_of (put b.name b.meaning s.bindings)) room)
+    let room = leb-true (elements_of (put_binding b.name b.meaning s.bindings)) limits.elements (sym h) in
+    cond_false (nat_lt limits.elements (elements_of (put_binding b.name b.meaning s.bindings))) _ _ (le-ltb limits.elements (elements_of (put_binding b.name b.meaning s.bindings)) room)
 
 pub room : (elements limit : ℕ) → limit < 2 ^ 64 → true ≡ leb elements limit → elements < 2 ^ 64
 room elements limit h e = let le = leb-true elements limit (sym e) in omega (arith, le)
 
 -- a definition has no room
-pub many_stops : {T : Type 0} (limits : Limits) (bs : List Binding) (t : T) (Is : State → Verdict T → Type 0) (x : Name) (k : T → Kind) (told : T → Told) (m : State → T → Meaning)
-    → ((s : State) → Is (with_names bs s) (typed t)) → Refuses bs x (k t) None → ((s : State) → false ≡ leb (elements_of (put x (m (with_names bs s) t) bs)) limits.elements)
-    → Stops bs (Judged Is (λ s t. Defines limits s x (k t) (told t) (m s t))) (Refused (faults.Elements 0))
+pub many_stops : {T : Type 0} (limits : Limits) (bs : List Binding) (t : T) (Is : State → Verdict T → Type 0) (x : Name) (k : T → Definition) (told : T → Report) (m : State → T → Meaning)
+    → ((s : State) → Is (with_names bs s) (typed t)) → RefusesDefinition bs x (k t) None → ((s : State) → false ≡ leb (elements_of (put_binding x (m (with_names bs s) t) bs)) limits.elements)
+    → Stops bs (Judged Is (λ s t. FindsDefinition limits s x (k t) (told t) (m s t))) (Refused (faults.Elements 0))
 many_stops limits bs t Is x k told m h free over = λ s.
     (typed t, h s, (None, free, many limits (with_names bs s) (told t) 0 (record { name = x; meaning = m (with_names bs s) t }) (over s)))
 
 -- a definition is answered
 pub function_finds : (limits : Limits) (bs : List Binding) (x : Name) (p : PatternTree) (g : Option SignatureTree) (e : Tree) (f : Scheme) → IsFunction limits bs x p g e (Ok f) → (s : State)
-    → FindsLine limits (with_names bs s) (trees.function x p g e)
+    → FindsForm limits (with_names bs s) (trees.function x p g e)
     (answered (replies.function x (function_type f).argument (function_type f).result (function_type f).classes) 0 (Some (record { name = x; meaning = function (function_type f) p e })))
 function_finds limits bs x p g e f h s =
     let t = function_type f in
     (typed t, h.0, (None, h.1, few limits (with_names bs s) (replies.function x t.argument t.result t.classes) 0 (record { name = x; meaning = function t p e }) h.2))
 
-pub datatype_finds : (limits : Limits) (bs : List Binding) (x : Name) (a : TypeTree) (t : Term) (tag : ℕ) → tag ≡ datatypes bs → IsDatatype limits bs x a (Ok t) → (s : State)
-    → FindsLine limits (with_names bs s) (trees.datatype x a) (answered (replies.datatype x t) 0 (Some (record { name = x; meaning = datatype tag t })))
+pub datatype_finds : (limits : Limits) (bs : List Binding) (x : Name) (a : TypeTree) (t : Term) (tag : ℕ) → tag ≡ datatype_count bs → IsDatatype limits bs x a (Ok t) → (s : State)
+    → FindsForm limits (with_names bs s) (trees.datatype x a) (answered (replies.datatype x t) 0 (Some (record { name = x; meaning = datatype tag t })))
 datatype_finds limits bs x a t tag e h s =
-    let P : ℕ → Type 0 = λ k. FindsLine limits (with_names bs s) (trees.datatype x a) (answered (replies.datatype x t) 0 (Some (record { name = x; meaning = datatype k t }))) in
-    subst P (sym e) (typed t, h.0, (None, h.1, few limits (with_names bs s) (replies.datatype x t) 0 (record { name = x; meaning = datatype (datatypes bs) t }) h.2))
+    let P : ℕ → Type 0 = λ k. FindsForm limits (with_names bs s) (trees.datatype x a) (answered (replies.datatype x t) 0 (Some (record { name = x; meaning = datatype k t }))) in
+    subst P (sym e) (typed t, h.0, (None, h.1, few limits (with_names bs s) (replies.datatype x t) 0 (record { name = x; meaning = datatype (datatype_count bs) t }) h.2))
 
 -- what is found where a form was stopped
 pub stopped_finds : {E : Type 0} (bs : List Binding) (K : State → Finding → Type 0) (stopped : Stopped) (r : Result Found E)

@@ -4,15 +4,15 @@ use Rattle.nesl_types_bank.specs.Term.{Term}
 use Rattle.nesl_types.specs.declared.schemes.Scheme.{Scheme}
 use Rattle.nesl_syntax_tree.specs.Trees.{Tree, PatternTree, SignatureTree, TypeTree}
 use Rattle.nesl_syntax_tree.specs.Trees as trees
-use Rattle.nesl_builtins.specs.Table.{function_type}
-use Rattle.nesl_infer.specs.Answers.{IsTypeBy, IsFunctionBy, IsContentBy, typed}
+use Rattle.nesl_builtins.specs.FunctionTypes.{function_type}
+use Rattle.nesl_infer.specs.Verdicts.{IsTypeBy, IsFunctionBy, IsContentBy, typed}
 use Rattle.nesl_infer.specs.declared.fault.InferFault.{InferFault}
 use Rattle.nesl_infer.specs.declared.fault.InferFault.TheVariants as untyped
 use Rattle.nesl_eval_meaning.specs.Names.{Name}
 use Rattle.nesl_reply.specs.declared.fault.Fault.TheVariants as faults
 use Rattle.nesl_session_bindings.specs.Meanings.{Binding, function, datatype, elements_of}
-use Rattle.nesl_session_bindings.specs.Known.{known, datatypes, put}
-use Rattle.nesl_session_bindings.specs.Redefinition.{a_variable, a_function, a_datatype, Refuses}
+use Rattle.nesl_session_bindings.specs.Known.{known, datatype_count, put_binding}
+use Rattle.nesl_session_bindings.specs.Redefinition.{a_variable, a_function, a_datatype, RefusesDefinition}
 use Rattle.nesl_session_bindings.specs.declared.refusal.Refusal.{Refusal}
 use Rattle.nesl_session_bindings.specs.declared.refusal.Refusal.TheVariants.{Retype, Taken}
 use Rattle.nesl_session_forms.specs.declared.finding.Finding.{Finding as Found}
@@ -21,7 +21,7 @@ use Rattle.nesl_session_forms.specs.declared.stops.Stopped.{Stopped}
 use Rattle.nesl_session_forms.specs.declared.stops.Stopped.TheVariants.{Refused, Memory}
 use Rattle.nesl_session_step.specs.declared.limits.Limits.{Limits}
 use Rattle.nesl_session_step.specs.State.{State}
-use Rattle.nesl_session_step.specs.Finding.{Finding, refused, FindsLine, FindsVariable}
+use Rattle.nesl_session_step.specs.Finding.{Finding, refused, FindsForm, FindsVariable}
 
 -- the state with these names
 abbrev pub with_names : List Binding → State → State
@@ -52,18 +52,19 @@ Stops bs K Memory = Unit {0}
 abbrev pub IsFunction :
     Limits → List Binding → Name → PatternTree → Option SignatureTree → Tree → Result Scheme Stopped → Type 0
 IsFunction limits bs x p g e (Ok f) =
-    IsFunctionBy (known bs) x p g e (typed (function_type f)) × Refuses bs x (a_function (function_type f)) None
-    × (true ≡ nat_le (elements_of (put x (function (function_type f) p e) bs)) limits.elements)
-IsFunction limits bs x p g e (Err stopped) = Stops bs (λ s. FindsLine limits s (trees.function x p g e)) stopped
+    IsFunctionBy (known bs) x p g e (typed (function_type f))
+    × RefusesDefinition bs x (a_function (function_type f)) None
+    × (true ≡ nat_le (elements_of (put_binding x (function (function_type f) p e) bs)) limits.elements)
+IsFunction limits bs x p g e (Err stopped) = Stops bs (λ s. FindsForm limits s (trees.function x p g e)) stopped
 
 -- the same of what the records of a datatype hold
 abbrev pub IsDatatype : Limits → List Binding → Name → TypeTree → Result Term Stopped → Type 0
 IsDatatype limits bs x a (Ok t) =
-    IsContentBy (known bs) a (typed t) × Refuses bs x a_datatype None
-    × (true ≡ nat_le (elements_of (put x (datatype (datatypes bs) t) bs)) limits.elements)
-IsDatatype limits bs x a (Err stopped) = Stops bs (λ s. FindsLine limits s (trees.datatype x a)) stopped
+    IsContentBy (known bs) a (typed t) × RefusesDefinition bs x a_datatype None
+    × (true ≡ nat_le (elements_of (put_binding x (datatype (datatype_count bs) t) bs)) limits.elements)
+IsDatatype limits bs x a (Err stopped) = Stops bs (λ s. FindsForm limits s (trees.datatype x a)) stopped
 
 -- the type of a variable that may be bound, or why it may not
 abbrev pub IsVariable : List Binding → Name → Tree → Result Term Stopped → Type 0
-IsVariable bs x e (Ok t) = IsTypeBy (known bs) e (typed t) × Refuses bs x (a_variable t) None
+IsVariable bs x e (Ok t) = IsTypeBy (known bs) e (typed t) × RefusesDefinition bs x (a_variable t) None
 IsVariable bs x e (Err stopped) = (limits : Limits) → Stops bs (λ s. FindsVariable limits s x e) stopped

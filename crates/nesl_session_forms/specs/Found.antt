@@ -4,16 +4,16 @@ use Rattle.std.specs.Prelude.{Option, Some, None}
 use Rattle.nesl_values.specs.View as values
 use Rattle.nesl_syntax_tree.specs.Trees.{SignatureTree, TypeTree}
 use Rattle.nesl_syntax_tree.specs.Views.{line_of, tree_of, pattern_tree}
-use Rattle.nesl_builtins.specs.Table.{function_type}
-use Rattle.nesl_infer.specs.Answers.{IsFunctionBy, IsContentBy, typed}
+use Rattle.nesl_builtins.specs.FunctionTypes.{function_type}
+use Rattle.nesl_infer.specs.Verdicts.{IsFunctionBy, IsContentBy, typed}
 use Rattle.nesl_eval_meaning.specs.Names.{Name}
 use Rattle.nesl_reply.specs.declared.fault.Fault.{Fault}
 use Rattle.nesl_reply.specs.Replies as replies
-use Rattle.nesl_reply.specs.Replies.{Told}
+use Rattle.nesl_reply.specs.Replies.{Report}
 use Rattle.nesl_session_bindings.specs.Meanings as meanings
 use Rattle.nesl_session_bindings.specs.Meanings.{Binding, elements_of}
-use Rattle.nesl_session_bindings.specs.Known.{known, datatypes, put}
-use Rattle.nesl_session_bindings.specs.Redefinition.{a_variable, a_function, a_datatype, Refuses}
+use Rattle.nesl_session_bindings.specs.Known.{known, datatype_count, put_binding}
+use Rattle.nesl_session_bindings.specs.Redefinition.{a_variable, a_function, a_datatype, RefusesDefinition}
 use Rattle.nesl_session_bindings.specs.Stored.{IsComputed}
 use Rattle.nesl_session_forms.specs.declared.sense.Sense.{Sense as Seen}
 use Rattle.nesl_session_forms.specs.declared.sense.Sense.TheVariants as seen
@@ -24,12 +24,12 @@ use Rattle.nesl_session_forms.specs.declared.finding.Shown.{Shown}
 use Rattle.nesl_session_forms.specs.declared.finding.Shown.TheVariants as shown
 use Rattle.nesl_session_forms.specs.declared.finding.Finding.{Finding as Found}
 use Rattle.nesl_session_forms.specs.declared.finding.Finding.TheVariants as found
-use Rattle.nesl_session_step.specs.Sense.{Sense, stuck, no_form, too_high, form}
+use Rattle.nesl_session_step.specs.Sense.{Sense, no_token, no_form, too_high, form}
 use Rattle.nesl_session_step.specs.Finding.{Finding, unread, reset, part, refused, answered}
 use Rattle.nesl_session_step.specs.State.{State}
 
 abbrev pub seen_sense : Seen → Sense
-seen_sense (seen.Stuck at) = stuck at
+seen_sense (seen.Stuck at) = no_token at
 seen_sense seen.NoForm = no_form
 seen_sense seen.TooHigh = too_high
 seen_sense (seen.Form f) = form (line_of f)
@@ -46,7 +46,7 @@ work_of (code.Function f p e) = 0
 work_of (code.Datatype tag t) = 0
 
 -- what is told of a name that is to be this
-abbrev pub told_as : Name → Meaning → Told
+abbrev pub told_as : Name → Meaning → Report
 told_as x (code.Variable t v cost) = replies.bound x (values.tree_of v) t cost
 told_as x (code.Function f p e) = replies.function x f.argument f.result f.classes.items
 told_as x (code.Datatype tag t) = replies.datatype x t
@@ -54,7 +54,7 @@ told_as x (code.Datatype tag t) = replies.datatype x t
 abbrev pub binding_of : Definition → Binding
 binding_of d = record { name = d.name.items; meaning = meaning_of d.meaning }
 
-abbrev pub told_of : Shown → Told
+abbrev pub told_of : Shown → Report
 told_of shown.Blank = replies.blank
 told_of shown.Names = replies.names
 told_of (shown.Budget work elements lines bytes) = replies.budget work elements lines bytes
@@ -69,7 +69,7 @@ finding_of (found.Told t) = answered (told_of t) 0 None
 finding_of (found.Defined d) = answered (told_as d.name.items d.meaning) (work_of d.meaning) (Some (binding_of d))
 
 -- what is told of it, where so many lines are stored
-abbrev pub told_after : (lines : ℕ) → Found → Told
+abbrev pub told_after : (lines : ℕ) → Found → Report
 told_after lines (found.Unread fault) = replies.refused fault
 told_after lines found.Reset = replies.cleared lines
 told_after lines found.Part = replies.more
@@ -95,20 +95,20 @@ is_recorded (found.Defined d) = true
 
 -- there is room for the elements of the name
 abbrev pub HasRoom : List Binding → Name → meanings.Meaning → Type 0
-HasRoom bs x m = elements_of (put x m bs) < 2 ^ 64
+HasRoom bs x m = elements_of (put_binding x m bs) < 2 ^ 64
 
 -- the name can be this: it is well typed, nothing stands against it, and there is room
 abbrev pub CanMean : List Binding → Name → Meaning → Type 0
 CanMean bs x (code.Variable t v cost) =
-    IsComputed bs t (values.tree_of v) × Refuses bs x (a_variable t) None
+    IsComputed bs t (values.tree_of v) × RefusesDefinition bs x (a_variable t) None
     × HasRoom bs x (meanings.variable t (values.tree_of v))
 CanMean bs x (code.Function f p e) =
     ((g : Option SignatureTree) × IsFunctionBy (known bs) x (pattern_tree p) g (tree_of e) (typed (function_type f)))
-    × Refuses bs x (a_function (function_type f)) None
+    × RefusesDefinition bs x (a_function (function_type f)) None
     × HasRoom bs x (meanings.function (function_type f) (pattern_tree p) (tree_of e))
 CanMean bs x (code.Datatype tag t) =
-    (tag ≡ datatypes bs) × ((a : TypeTree) × IsContentBy (known bs) a (typed t))
-    × Refuses bs x a_datatype None × HasRoom bs x (meanings.datatype (datatypes bs) t)
+    (tag ≡ datatype_count bs) × ((a : TypeTree) × IsContentBy (known bs) a (typed t))
+    × RefusesDefinition bs x a_datatype None × HasRoom bs x (meanings.datatype (datatype_count bs) t)
 
 abbrev pub CanBe : List Binding → Definition → Type 0
 CanBe bs d = CanMean bs d.name.items d.meaning

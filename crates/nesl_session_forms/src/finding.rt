@@ -72,10 +72,10 @@ impl Meaning {
 
 impl Definition {
     ghost use Rattle.nesl_session_forms.specs.Found.{told_as};
-    ghost use Rattle.nesl_reply.specs.Replies.{told};
+    ghost use Rattle.nesl_reply.specs.Replies.{report_of};
 
     fn reply(&self) -> Reply<'_>
-        ensures { told result ≡ told_as self.now.name.items self.now.meaning }
+        ensures { report_of result ≡ told_as self.now.name.items self.now.meaning }
     {
         let name = self.name.as_slice();
         match &self.meaning {
@@ -88,10 +88,10 @@ impl Definition {
 
 impl Shown {
     ghost use Rattle.nesl_session_forms.specs.Found.{told_of};
-    ghost use Rattle.nesl_reply.specs.Replies.{told};
+    ghost use Rattle.nesl_reply.specs.Replies.{report_of};
 
     fn reply(&self) -> Reply<'_>
-        ensures { told result ≡ told_of self.now }
+        ensures { report_of result ≡ told_of self.now }
     {
         match self {
             Shown::Blank => Reply::Blank,
@@ -106,11 +106,11 @@ impl Shown {
 
 impl Finding {
     ghost use Rattle.nesl_session_forms.specs.Found.{told_after, fault_in, is_recorded};
-    ghost use Rattle.nesl_reply.specs.Replies.{told};
+    ghost use Rattle.nesl_reply.specs.Replies.{report_of};
 
     /// What is told of it, where so many lines are stored.
     pub fn reply(&self, lines: u64) -> Reply<'_>
-        ensures { told result ≡ told_after lines self.now }
+        ensures { report_of result ≡ told_after lines self.now }
     {
         match self {
             Finding::Unread(fault) => Reply::Refused(*fault),

@@ -5,7 +5,7 @@ ghost use Rattle.nesl_syntax_tree.specs.Views.{tree_of, pattern_tree, signature_
 ghost use Rattle.nesl_session_bindings.specs.Stored.{bindings_of};
 ghost use Rattle.nesl_session_step.specs.declared.limits.Limits.{Limits};
 ghost use Rattle.nesl_session_step.specs.State.{State};
-ghost use Rattle.nesl_session_step.specs.Finding.{FindsLine};
+ghost use Rattle.nesl_session_step.specs.Finding.{FindsForm};
 ghost use Rattle.nesl_session_forms.specs.Found.{finding_of, CanCharge};
 ghost use Rattle.nesl_session_forms.specs.Forms.{with_names, IsFunction, IsDatatype, IsVariable};
 
@@ -21,7 +21,7 @@ use std::alloc::{AllocError, Global};
 /// What is found where the type of an expression is asked for, in every state with these names.
 pub fn find_type(bindings: &Bindings, alloc: Global, exp: Exp) -> Result<Finding, AllocError>
     ensures found { IfOk result (λ f. (limits : Limits) (s : State)
-        → FindsLine limits (with_names (bindings_of bindings.now) s) (trees.show_type (tree_of exp)) (finding_of f)) }
+        → FindsForm limits (with_names (bindings_of bindings.now) s) (trees.show_type (tree_of exp)) (finding_of f)) }
     ensures charges { IfOk result (λ f. (s : State) → CanCharge (with_names (bindings_of bindings.now) s) f) }
 {
     let known = bindings.infer_exp(alloc, &exp);
@@ -32,30 +32,37 @@ pub fn find_type(bindings: &Bindings, alloc: Global, exp: Exp) -> Result<Finding
     }
 }
 
+/// A function as a line writes it: all of its definition but the name.
+#[derive(Drop)]
+pub struct WrittenFunction {
+    /// What its argument is bound to.
+    pub parameter: Pattern,
+    /// Its signature, if there is one.
+    pub signature: Option<Signature>,
+    /// Its body.
+    pub body: Exp,
+}
+
 /// What is found where a function is defined, in every state with these names.
 pub fn find_function(
     bindings: &Bindings,
     limits: Limits,
     alloc: Global,
     name: Vec<u8>,
-    parameter: Pattern,
-    signature: Option<Signature>,
-    body: Exp,
+    written: WrittenFunction,
 ) -> Result<Finding, AllocError>
-    ensures found { IfOk result (λ f. (s : State) → FindsLine limits (with_names (bindings_of bindings.now) s)
-        (trees.function name.items (pattern_tree parameter) (option_map signature_tree signature) (tree_of body))
+    ensures found { IfOk result (λ f. (s : State) → FindsForm limits (with_names (bindings_of bindings.now) s)
+        (trees.function name.items (pattern_tree written.parameter) (option_map signature_tree written.signature)
+        (tree_of written.body))
         (finding_of f)) }
     ensures charges { IfOk result (λ f. (s : State) → CanCharge (with_names (bindings_of bindings.now) s) f) }
 {
-    let known = function_scheme(
-        bindings,
-        limits,
-        alloc,
-        name.as_slice(),
-        &parameter,
-        &signature,
-        &body,
-    );
+    let known = function_scheme(bindings, limits, alloc, name.as_slice(), &written);
+    let WrittenFunction {
+        parameter,
+        signature,
+        body,
+    } = written;
     drop(signature);
     match known {
         Ok(scheme) => {
@@ -76,13 +83,16 @@ fn function_scheme(
     limits: Limits,
     alloc: Global,
     name: &[u8],
-    parameter: &Pattern,
-    signature: &Option<Signature>,
-    body: &Exp,
+    written: &WrittenFunction,
 ) -> Result<Scheme, Stopped>
-    ensures { IsFunction limits (bindings_of bindings.now) name.now (pattern_tree parameter.now)
-        (option_map signature_tree signature.now) (tree_of body.now) result }
+    ensures { IsFunction limits (bindings_of bindings.now) name.now (pattern_tree written.now.parameter)
+        (option_map signature_tree written.now.signature) (tree_of written.now.body) result }
 {
+    let WrittenFunction {
+        parameter,
+        signature,
+        body,
+    } = written;
     let scheme = match bindings.infer_function(alloc, name, parameter, signature, body) {
         Ok(scheme) => scheme,
         Err(fault) => return Err(untyped(fault)),
@@ -109,7 +119,7 @@ pub fn find_datatype(
     name: Vec<u8>,
     written: TypeExp,
 ) -> Result<Finding, AllocError>
-    ensures found { IfOk result (λ f. (s : State) → FindsLine limits (with_names (bindings_of bindings.now) s)
+    ensures found { IfOk result (λ f. (s : State) → FindsForm limits (with_names (bindings_of bindings.now) s)
         (trees.datatype name.items (type_tree written)) (finding_of f)) }
     ensures charges { IfOk result (λ f. (s : State) → CanCharge (with_names (bindings_of bindings.now) s) f) }
 {

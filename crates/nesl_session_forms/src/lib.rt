@@ -7,6 +7,6 @@ mod forms;
 mod sense;
 mod stops;
 
-pub use forms::{find_datatype, find_function, find_type, variable_type};
+pub use forms::{WrittenFunction, find_datatype, find_function, find_type, variable_type};
 pub use sense::{Sense, sense_of};
 pub use stops::Stopped;

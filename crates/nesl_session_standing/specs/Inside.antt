@@ -4,7 +4,7 @@ use Rattle.nesl_session_bindings.specs.Stored.{bindings_of}
 use Rattle.nesl_session_step.specs.declared.limits.Limits.{Limits}
 use Rattle.nesl_session_standing.specs.declared.standing.Standing.{Standing}
 use Rattle.nesl_session_step.specs.State.{State, Log}
-use Rattle.nesl_session_step.specs.Step.{most_told}
+use Rattle.nesl_session_step.specs.Step.{most_recorded}
 use Rattle.nesl_session_step.specs.Solo.{Replays}
 
 abbrev pub state_of : Standing → State
@@ -27,9 +27,9 @@ log_of a = log_of_state a.limits (state_of a)
 -- the bytes of the transcript are counted, and no more lines were told than may be
 pub record Counts (a : Standing) : Type 0 where
   pub bytes : a.bytes ≡ sum_by length (map (λ v. v.items) a.transcript.items)
-  pub cleared : a.cleared ≤ most_told
+  pub cleared : a.cleared ≤ most_recorded
 
 -- what the fields of every session keep
-pub record Keeps (a : Standing) : Type 0 where
+pub record IsSound (a : Standing) : Type 0 where
   pub replayed : Replays (log_of a) (state_of a)
   pub counts : Counts a

@@ -1,20 +1,20 @@
 -- What a line has to be for what was found of it to change the state.
 use Rattle.std.specs.Prelude.{◌≡◌, ◌≤◌, ◌<◌, ◌+◌, ◌^◌, ℕ, true, List, length, sum_by}
 use Rattle.nesl_session_step.specs.State.{State}
-use Rattle.nesl_session_step.specs.Step.{told_by_reset, most_told, is_part}
+use Rattle.nesl_session_step.specs.Step.{recorded_by_reset, most_recorded, is_part}
 use Rattle.nesl_session_forms.specs.declared.finding.Finding.{Finding as Found}
 use Rattle.nesl_session_forms.specs.declared.finding.Finding.TheVariants as found
 use Rattle.nesl_session_forms.specs.Found.{work_of, CanBe}
 
 -- the line fits the transcript
-abbrev pub Fits : State → List ℕ → Type 0
-Fits s line = sum_by length s.transcript + length line < 2 ^ 64
+abbrev pub HasRoomFor : State → List ℕ → Type 0
+HasRoomFor s line = sum_by length s.transcript + length line < 2 ^ 64
 
 -- a line of which this was found can change the state
 abbrev pub CanSettle : State → List ℕ → Found → Type 0
 CanSettle s line (found.Unread fault) = Unit {0}
-CanSettle s line found.Reset = told_by_reset s ≤ most_told
-CanSettle s line found.Part = Fits s line × (is_part line ≡ true)
-CanSettle s line (found.Refused fault work) = Fits s line × (work ≤ s.work_left)
-CanSettle s line (found.Told t) = Fits s line
-CanSettle s line (found.Defined d) = Fits s line × (work_of d.meaning ≤ s.work_left) × CanBe s.bindings d
+CanSettle s line found.Reset = recorded_by_reset s ≤ most_recorded
+CanSettle s line found.Part = HasRoomFor s line × (is_part line ≡ true)
+CanSettle s line (found.Refused fault work) = HasRoomFor s line × (work ≤ s.work_left)
+CanSettle s line (found.Told t) = HasRoomFor s line
+CanSettle s line (found.Defined d) = HasRoomFor s line × (work_of d.meaning ≤ s.work_left) × CanBe s.bindings d

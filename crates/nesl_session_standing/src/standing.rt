@@ -1,12 +1,12 @@
 //! How a session stands, and what a line changes.
 ghost use Rattle.std.specs.Prelude.{◌≡◌, ◌+◌, ◌-◌, ◌<◌, ◌≤◌, ◌^◌, ◌++◌, ℕ, [], true, IfOk, OnOk, OnErr, codes, length};
 ghost use Rattle.std.specs.Prelude.{take, sum_by, vec_len, vec_capacity};
-ghost use Rattle.nesl_session_bindings.specs.Known.{put};
+ghost use Rattle.nesl_session_bindings.specs.Known.{put_binding};
 ghost use Rattle.nesl_session_bindings.specs.Stored.{bindings_of};
 ghost use Rattle.nesl_session_step.specs.State.{opening};
-ghost use Rattle.nesl_session_step.specs.Step.{after, stored, read, is_part, told_by_reset, most_told};
+ghost use Rattle.nesl_session_step.specs.Step.{after, with_line, charged, is_part, recorded_by_reset, most_recorded};
 ghost use Rattle.nesl_session_forms.specs.Found.{finding_of, meaning_of, work_of, binding_of, CanBe};
-ghost use Rattle.nesl_session_standing.specs.Settling.{CanSettle, Fits};
+ghost use Rattle.nesl_session_standing.specs.Settling.{CanSettle, HasRoomFor};
 
 use nesl_session_bindings::Bindings;
 use nesl_session_forms::finding::{Definition, Finding, Meaning};
@@ -52,7 +52,7 @@ impl Standing {
 
     /// As a reset leaves it: so much work left, so many lines told.
     pub fn opened(alloc: Global, limits: Limits, base: u64, cleared: u64) -> Standing
-        requires { cleared ≤ most_told }
+        requires { cleared ≤ most_recorded }
         ensures state { state_of result ≡ opening base cleared }
         ensures counts { Counts result }
         ensures limits { result.limits ≡ limits }
@@ -97,8 +97,8 @@ impl Standing {
 
     fn reset(&mut self, alloc: Global)
         requires counts { Counts self.old }
-        requires told { told_by_reset (state_of self.old) ≤ most_told }
-        ensures state { state_of self.new ≡ opening self.old.work_left (told_by_reset (state_of self.old)) }
+        requires told { recorded_by_reset (state_of self.old) ≤ most_recorded }
+        ensures state { state_of self.new ≡ opening self.old.work_left (recorded_by_reset (state_of self.old)) }
         ensures counts { Counts self.new }
         ensures limits { self.new.limits ≡ self.old.limits }
     {
@@ -114,7 +114,7 @@ impl Standing {
     // A line that is part of a form is stored, and joined to the parts before it.
     fn take_part(&mut self, alloc: Global, text: &[u8]) -> Result<(), AllocError>
         requires counts { Counts self.old }
-        requires fits { Fits (state_of self.old) text.now }
+        requires fits { HasRoomFor (state_of self.old) text.now }
         requires is_part { is_part text.now ≡ true }
         ensures ok { OnOk result (state_of self.new ≡ after text.now (state_of self.old) (finding_of Finding.Part)) }
         ensures err { OnErr result (state_of self.new ≡ state_of self.old) }
@@ -130,9 +130,9 @@ impl Standing {
     // A line that was read is stored and charged.
     fn take_read(&mut self, alloc: Global, text: &[u8], work: u64) -> Result<(), AllocError>
         requires counts { Counts self.old }
-        requires fits { Fits (state_of self.old) text.now }
+        requires fits { HasRoomFor (state_of self.old) text.now }
         requires paid { work ≤ self.old.work_left }
-        ensures ok { OnOk result (state_of self.new ≡ read text.now work (state_of self.old)) }
+        ensures ok { OnOk result (state_of self.new ≡ charged text.now work (state_of self.old)) }
         ensures err { OnErr result (state_of self.new ≡ state_of self.old) }
         ensures counts { Counts self.new }
         ensures limits { self.new.limits ≡ self.old.limits }
@@ -176,8 +176,8 @@ impl Standing {
     fn store(&mut self, line: Vec<u8>)
         requires counts { Counts self.old }
         requires room { vec_len self.old.transcript < vec_capacity self.old.transcript }
-        requires fits { Fits (state_of self.old) line.items }
-        ensures state { state_of self.new ≡ stored line.items (state_of self.old) }
+        requires fits { HasRoomFor (state_of self.old) line.items }
+        ensures state { state_of self.new ≡ with_line line.items (state_of self.old) }
         ensures counts { Counts self.new }
         ensures limits { self.new.limits ≡ self.old.limits }
     {
@@ -231,7 +231,7 @@ fn join(pending: &mut Vec<u8>, text: &[u8]) -> Result<(), AllocError>
 fn define(bindings: &mut Bindings, alloc: Global, definition: Definition) -> Result<(), AllocError>
     requires { CanBe (bindings_of bindings.old) definition }
     ensures ok { OnOk result (bindings_of bindings.new
-        ≡ put definition.name.items (meaning_of definition.meaning) (bindings_of bindings.old)) }
+        ≡ put_binding definition.name.items (meaning_of definition.meaning) (bindings_of bindings.old)) }
     ensures err { OnErr result (bindings.new ≡ bindings.old) }
 {
     let Definition { name, meaning } = definition;

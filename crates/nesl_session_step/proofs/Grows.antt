@@ -2,12 +2,12 @@
 use Rattle.std.proofs.Common.{◌≡◌, ℕ, List, [], ◌∷◌, ◌++◌, ◌+◌, length, length-append, Bool, true, false, Some, None, cond, sym, ap, ◌∙◌, arith}
 use Rattle.std.specs.Bool.{MatchBool}
 use Rattle.nesl_session_step.specs.declared.limits.Limits.{Limits}
-use Rattle.nesl_session_step.specs.State.{State, Log, told_lines}
-use Rattle.nesl_session_step.specs.Response.{Response, no_memory, is_memory}
+use Rattle.nesl_session_step.specs.State.{State, Log, recorded_lines}
+use Rattle.nesl_session_step.specs.Response.{Reply, no_memory, is_memory}
 use Rattle.nesl_session_step.specs.Finding.{Finding, unread, reset, part, refused, answered}
-use Rattle.nesl_session_step.specs.Step.{Step, after, response_of}
-use Rattle.nesl_session_step.specs.Solo.{Replays, Alone}
-use Rattle.nesl_session_step.specs.Laws.{ToldLinesGrow, LimitsStay}
+use Rattle.nesl_session_step.specs.Step.{Step, after, reply_of}
+use Rattle.nesl_session_step.specs.Solo.{Replays, SessionAnswers}
+use Rattle.nesl_session_step.specs.Laws.{RecordedLinesGrow, LimitsStay}
 
 -- one, where this is recorded
 abbrev one_if : Bool → ℕ
@@ -21,7 +21,7 @@ stored_one : (s : State) (line : List ℕ) → s.cleared + length (s.transcript 
 stored_one s line = let e = length-append s.transcript (line ∷ []) in omega (arith, e)
 
 -- what was found adds one, where it is recorded
-found_adds : (s : State) (line : List ℕ) (f : Finding) → told_in (after line s f) ≡ told_in s + one_if (response_of s f).recorded
+found_adds : (s : State) (line : List ℕ) (f : Finding) → told_in (after line s f) ≡ told_in s + one_if (reply_of s f).recorded
 found_adds s line (unread fault) = omega arith
 found_adds s line reset = omega arith
 found_adds s line part = stored_one s line
@@ -29,15 +29,15 @@ found_adds s line (refused fault work) = stored_one s line
 found_adds s line (answered told work None) = stored_one s line
 found_adds s line (answered told work (Some b)) = stored_one s line
 
-step_adds : (limits : Limits) (s t : State) (line : List ℕ) (reply : Response) → Step limits s line reply t → told_in t ≡ told_in s + one_if reply.recorded
+step_adds : (limits : Limits) (s t : State) (line : List ℕ) (reply : Reply) → Step limits s line reply t → told_in t ≡ told_in s + one_if reply.recorded
 unfolding Step
 step_adds limits s t line reply step =
-    ap told_in step.3 ∙ found_adds s line step.0 ∙ ap (λ (r : Response). told_in s + one_if r.recorded) (sym step.2)
+    ap told_in step.3 ∙ found_adds s line step.0 ∙ ap (λ (r : Reply). told_in s + one_if r.recorded) (sym step.2)
 
-told_of_state : (log : Log) (s : State) → Replays log s → told_lines log ≡ told_in s
+told_of_state : (log : Log) (s : State) → Replays log s → recorded_lines log ≡ told_in s
 told_of_state log s r = let c = r.cleared in let n = ap length r.lines in omega (arith, c, n)
 
-alone_adds : (old new : Log) (line : List ℕ) (reply : Response) → Alone old (line ∷ []) (reply ∷ []) new → told_lines new ≡ told_lines old + one_if reply.recorded
+alone_adds : (old new : Log) (line : List ℕ) (reply : Reply) → SessionAnswers old (line ∷ []) (reply ∷ []) new → recorded_lines new ≡ recorded_lines old + one_if reply.recorded
 alone_adds old new line reply a =
     let step = step_adds old.limits a.before a.run.0 line reply a.run.1 in
     let last = ap told_in a.run.2 in
@@ -45,15 +45,15 @@ alone_adds old new line reply a =
     let now = told_of_state new a.after a.ends in
     omega (arith, step, last, before, now)
 
-adds : (memory : Bool) (old new : Log) (line : List ℕ) (reply : Response) → MatchBool memory ((reply ≡ no_memory) × (new ≡ old)) (Alone old (line ∷ []) (reply ∷ []) new)
-    → told_lines new ≡ told_lines old + one_if reply.recorded
-adds true old new line reply a = let none = ap (λ (r : Response). one_if r.recorded) a.0 in let same = ap told_lines a.1 in omega (arith, none, same)
+adds : (memory : Bool) (old new : Log) (line : List ℕ) (reply : Reply) → MatchBool memory ((reply ≡ no_memory) × (new ≡ old)) (SessionAnswers old (line ∷ []) (reply ∷ []) new)
+    → recorded_lines new ≡ recorded_lines old + one_if reply.recorded
+adds true old new line reply a = let none = ap (λ (r : Reply). one_if r.recorded) a.0 in let same = ap recorded_lines a.1 in omega (arith, none, same)
 adds false old new line reply a = alone_adds old new line reply a
 
-pub grows : ToldLinesGrow
+pub grows : RecordedLinesGrow
 grows old new line reply a = adds (is_memory reply) old new line reply a
 
-stay : (memory : Bool) (old new : Log) (line : List ℕ) (reply : Response) → MatchBool memory ((reply ≡ no_memory) × (new ≡ old)) (Alone old (line ∷ []) (reply ∷ []) new) → new.limits ≡ old.limits
+stay : (memory : Bool) (old new : Log) (line : List ℕ) (reply : Reply) → MatchBool memory ((reply ≡ no_memory) × (new ≡ old)) (SessionAnswers old (line ∷ []) (reply ∷ []) new) → new.limits ≡ old.limits
 stay true old new line reply a = ap (λ (log : Log). log.limits) a.1
 stay false old new line reply a = a.limits
 

@@ -3,41 +3,41 @@ use Rattle.std.specs.Prelude.{ℕ, List, ◌++◌, Bool, true, false, Option, So
 use Rattle.nesl_reply.specs.declared.fault.Fault.{Fault}
 use Rattle.nesl_reply.specs.declared.fault.Fault.TheVariants.{Memory, User, Busy}
 use Rattle.nesl_reply.specs.Faults.{fault_text}
-use Rattle.nesl_reply.specs.Replies.{Told, told_text}
+use Rattle.nesl_reply.specs.Replies.{Report, report_text}
 use Rattle.nesl_session_step.specs.State.{State, names_of}
 use Rattle.nesl_session_bindings.specs.Known.{datatypes_of}
 
 -- the bytes with their line end, the fault if it is one, and whether the line was recorded
-pub record Response : Type 0 where
+pub record Reply : Type 0 where
   pub bytes : List ℕ
   pub fault : Option Fault
   pub recorded : Bool
 
 -- a line that is refused is told why
-abbrev pub refusal : Fault → Bool → Response
-refusal fault recorded = record { bytes = fault_text fault ++ codes "\n"; fault = Some fault; recorded = recorded }
+abbrev pub fault_reply : Fault → Bool → Reply
+fault_reply fault recorded = record { bytes = fault_text fault ++ codes "\n"; fault = Some fault; recorded = recorded }
 
 -- any other line is told this, with the names of the state before it
-abbrev pub accepted : State → Told → Response
-accepted s t = record {
-  bytes = told_text (datatypes_of s.bindings) (names_of s) t ++ codes "\n";
+abbrev pub plain_reply : State → Report → Reply
+plain_reply s t = record {
+  bytes = report_text (datatypes_of s.bindings) (names_of s) t ++ codes "\n";
   fault = None;
   recorded = true;
 }
 
 -- want of memory, which is no part of a step
-abbrev pub no_memory : Response
-no_memory = refusal Memory false
+abbrev pub no_memory : Reply
+no_memory = fault_reply Memory false
 
 -- a user who isn't in the house
-abbrev pub no_user : Response
-no_user = refusal User false
+abbrev pub no_user : Reply
+no_user = fault_reply User false
 
 -- a user whose session is away
-abbrev pub busy : Response
-busy = refusal Busy false
+abbrev pub busy : Reply
+busy = fault_reply Busy false
 
-abbrev pub is_memory : Response → Bool
+abbrev pub is_memory : Reply → Bool
 is_memory reply = is_memory_fault reply.fault
   where
     is_memory_fault : Option Fault → Bool

@@ -50,9 +50,9 @@ pub record Log : Type 0 where
   pub lines : List (List ℕ)
 
 -- a session to which nothing was said
-abbrev pub unsaid : Limits → Log
-unsaid limits = record { limits = limits; base = limits.session_work; cleared = 0; lines = [] }
+abbrev pub empty_log : Limits → Log
+empty_log limits = record { limits = limits; base = limits.session_work; cleared = 0; lines = [] }
 
 -- the lines that a session was told: those that it stored, and those that resets cleared
-abbrev pub told_lines : Log → ℕ
-told_lines log = log.cleared + length log.lines
+abbrev pub recorded_lines : Log → ℕ
+recorded_lines log = log.cleared + length log.lines

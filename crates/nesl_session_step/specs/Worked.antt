@@ -3,9 +3,9 @@ use Rattle.std.specs.Prelude.{◌≡◌, ◌<◌, ℕ, false, ◌++◌, List, []
 use Rattle.nesl_reply.specs.declared.fault.Fault.TheVariants as faults
 use Rattle.nesl_session_step.specs.declared.limits.Limits.{Limits}
 use Rattle.nesl_session_step.specs.State.{State, empty}
-use Rattle.nesl_session_step.specs.Response.{Response, refusal}
-use Rattle.nesl_session_step.specs.Step.{Step, is_reset, most_told, told_by_reset}
-use Rattle.nesl_session_step.specs.Solo.{Solo}
+use Rattle.nesl_session_step.specs.Response.{Reply, fault_reply}
+use Rattle.nesl_session_step.specs.Step.{Step, is_reset, most_recorded, recorded_by_reset}
+use Rattle.nesl_session_step.specs.Solo.{SessionRuns}
 
 -- ample limits
 abbrev pub ample : Limits
@@ -20,7 +20,7 @@ ample = record {
 -- under these limits, a fresh session answers these lines by replies with these texts, and then has this work left
 abbrev pub AreAnswered : Limits → List (List ℕ) → List (List ℕ) → ℕ → Type 0
 AreAnswered limits lines texts left =
-    (replies : List Response) × (s : State) × Solo limits (empty limits) lines replies s
+    (replies : List Reply) × (s : State) × SessionRuns limits (empty limits) lines replies s
     × (map (λ r. r.bytes) replies ≡ map (λ text. text ++ codes "\n") texts) × (s.work_left ≡ left)
 
 abbrev pub IsAnswered : Limits → List ℕ → List ℕ → ℕ → Type 0
@@ -77,4 +77,5 @@ no_room_for_a_line =
 -- a session that was told as many lines as there may be
 abbrev pub reset_at_the_limit : Type 0
 reset_at_the_limit =
-    (s : State) → most_told < told_by_reset s → Step ample s (codes ":reset") (refusal faults.Transcript false) s
+    (s : State) → most_recorded < recorded_by_reset s
+    → Step ample s (codes ":reset") (fault_reply faults.Transcript false) s

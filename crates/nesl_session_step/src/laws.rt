@@ -1,5 +1,5 @@
 //! What holds of the step, whoever calls it.
-ghost use Rattle.nesl_session_step.specs.Laws.{GoesOn, LimitsStay, OneRun, OneState, OneStep, ToldLinesGrow};
+ghost use Rattle.nesl_session_step.specs.Laws.{GoesOn, LimitsStay, OneRun, OneState, OneStep, RecordedLinesGrow};
 ghost use Rattle.nesl_session_step.specs.Worked.{budget_of_none, comment, names_of_none, no_room_for_a_line, no_token};
 ghost use Rattle.nesl_session_step.specs.Worked.{no_tree, reset_after_a_sum, reset_at_the_limit, small_sum};
 ghost use Rattle.nesl_session_step.specs.Worked.{sum_in_two_parts, sum_over_the_work_of_a_line, sum_without_room};
@@ -46,8 +46,8 @@ pub fn goes_on()
 }
 
 /// A line is one told line more where it is recorded, and none where it isn't; the limits stay.
-pub fn told_lines_grow()
-    ensures grow { ToldLinesGrow }
+pub fn recorded_lines_grow()
+    ensures grow { RecordedLinesGrow }
     ensures limits { LimitsStay }
 {}
 

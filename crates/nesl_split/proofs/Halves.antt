@@ -7,7 +7,7 @@ use Rattle.nesl_eval_nodes.specs.declared.meter.Stop.{Stop}
 use Rattle.nesl_eval_nodes.specs.declared.meter.Stop.TheVariants.{Fault, Over, Memory, Stuck}
 use Rattle.nesl_eval_nodes.specs.Meets.{Meets}
 use Rattle.nesl_split_helpers.specs.Halves.{after_cost}
-use Rattle.nesl_split.specs.Finds.{Finds}
+use Rattle.nesl_split.specs.Halves.{HalfFinds}
 
 -- the same run from another depth
 moved : {V X : Type 0} (T : V → X → Type 0) (m begun last : Meter) (r : Result V Stop) (c : Cost) (o : Out X) → m.fuel ≡ begun.fuel → begun.depth ≡ 0 → c.work ≡ begun.fuel - last.fuel → c.depth ≡ last.depth - begun.depth → Meets T begun r last o → Meets T m r (after_cost m c) o
@@ -24,5 +24,5 @@ moved T m begun last (Err Stuck) c (value x a b) e z w d h = h
 moved T m begun last (Err Stuck) c (fault k s a) e z w d h = h
 
 -- a run that began with the whole fuel, at no depth
-pub finds : {V X : Type 0} (T : V → X → Type 0) (begun last : Meter) (r : Result V Stop) (c : Cost) (o : Out X) → begun.depth ≡ 0 → last.fuel + last.depth ≤ begun.fuel + begun.depth → c.work ≡ begun.fuel - last.fuel → c.depth ≡ last.depth - begun.depth → Meets T begun r last o → Finds T begun.fuel (record { found = r; cost = c }) o
+pub finds : {V X : Type 0} (T : V → X → Type 0) (begun last : Meter) (r : Result V Stop) (c : Cost) (o : Out X) → begun.depth ≡ 0 → last.fuel + last.depth ≤ begun.fuel + begun.depth → c.work ≡ begun.fuel - last.fuel → c.depth ≡ last.depth - begun.depth → Meets T begun r last o → HalfFinds T begun.fuel (record { found = r; cost = c }) o
 finds T begun last r c o z spent w d h = λ m e. ((omega arith, omega arith), moved T m begun last r c o e z w d h)

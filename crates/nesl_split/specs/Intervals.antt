@@ -2,7 +2,7 @@
 use Rattle.std.specs.Prelude.{◌≡◌, ℕ, List, map, slice_range}
 use Rattle.std.specs.declared.vec.Vec.{Vec}
 use Rattle.nesl_values.specs.View.{tree_of}
-use Rattle.nesl_values.specs.Tree.{Tree}
+use Rattle.nesl_values.specs.Tree.{ValueTree}
 use Rattle.nesl_eval_meaning.specs.Out.{Out}
 use Rattle.nesl_eval_code.specs.Run.{Table, run, run_filters, run_bodies}
 use Rattle.nesl_eval_nodes.specs.Scopes.{frames_of}
@@ -17,7 +17,7 @@ filters_in table n i from to =
     (slice_range (places_of i.places) from to)
 
 abbrev pub bodies_in
-    : {R H G T : Type 0} → (T → Table) → ℕ → Interval R H G T → ℕ → ℕ → Out (List Tree)
+    : {R H G T : Type 0} → (T → Table) → ℕ → Interval R H G T → ℕ → ℕ → Out (List ValueTree)
 bodies_in table n i from to =
     run_bodies (run n (table i.tops.now)) (frames_of i.scope.now) (map tree_of i.values.now) i.code.now
     (slice_range (places_of i.places) from to)

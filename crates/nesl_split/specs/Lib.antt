@@ -1,2 +1,2 @@
-pub mod Finds
+pub mod Halves
 pub mod Intervals

@@ -5,17 +5,17 @@ ghost use Rattle.std.specs.Thread.{IsSync};
 ghost use Rattle.nesl_values.specs.Tree.{pair, sequence};
 ghost use Rattle.nesl_values.specs.Parts.{as_bool};
 ghost use Rattle.nesl_values.specs.View.{tree_of};
-ghost use Rattle.nesl_eval_meaning.specs.Names.{named};
-ghost use Rattle.nesl_eval_meaning.specs.Out.{then_out};
-ghost use Rattle.nesl_eval_meaning.specs.Outcome.{made, applied, branch, kept, counted};
+ghost use Rattle.nesl_eval_meaning.specs.Names.{look_up};
+ghost use Rattle.nesl_eval_meaning.specs.Out.{and_then};
+ghost use Rattle.nesl_eval_meaning.specs.Outcome.{small_enough, apply_builtin, branch, place_if_true, body_value};
 ghost use Rattle.nesl_eval_code.specs.Run.{run, run_node, run_two, run_three, run_all, run_let, run_at};
 ghost use Rattle.nesl_eval_code.specs.Run.{run_filters, run_bodies, run_over, run_called, as_result, slot_at};
 ghost use Rattle.nesl_eval_nodes.specs.Scopes.{frames_of};
-ghost use Rattle.nesl_eval_nodes.specs.Standing.{Stands};
-ghost use Rattle.nesl_eval_nodes.specs.Sides.{places_of, Keeps, IsOne, Has};
+ghost use Rattle.nesl_eval_nodes.specs.Standing.{PartStandsFor};
+ghost use Rattle.nesl_eval_nodes.specs.Sides.{places_of, IsKeptPlace, IsOne, Has};
 ghost use Rattle.nesl_eval_nodes.specs.Meets.{Meets, Is, Are};
 ghost use Rattle.nesl_split.specs.Intervals.{ArePlaces, filters_in, bodies_in};
-ghost use Rattle.nesl_split.specs.Finds.{Finds};
+ghost use Rattle.nesl_split.specs.Halves.{HalfFinds};
 
 use crate::crew::{Crew, fork};
 use nesl_builtins::Builtin;
@@ -23,11 +23,12 @@ use nesl_eval_code::Code;
 use nesl_eval_nodes::held::{Held, Tops};
 use nesl_eval_nodes::meter::{Meter, Stop};
 use nesl_eval_nodes::nodes::{
-    add, empty, finished, keep, keep_if, length_of_all, named_top, of_pair_made, of_two_made, paid,
-    paired, sequence_of, tagged, text, told_at, top, truth,
+    add, apply_to_leaves, apply_to_pair, find_top, finish, keep, keep_if, length_of_all,
+    make_empty, make_pair, make_record, make_text, named_top, pay, place_fault, read_truth,
+    sequence_of,
 };
 use nesl_eval_nodes::parts::{
-    Part, applied_to_one, applied_to_three, applied_to_two, entered_name, within_limit,
+    Part, apply_to_one, apply_to_three, apply_to_two, enter_name, within_limit,
 };
 use nesl_eval_nodes::places::Places;
 use nesl_eval_nodes::scope::{Scope, local};
@@ -35,7 +36,7 @@ use nesl_eval_plain::{Block, bodies_in_columns, filters_in_columns};
 use nesl_lex::token::Span;
 use nesl_scalars::Binary;
 use nesl_split_helpers::{
-    Gate, Half, Helpers, Place, begun_with, cost_since, joined_places, joined_values,
+    Gate, Half, Helpers, Place, begin_meter, cost_since, join_places, join_values,
 };
 use nesl_values::Value;
 use nesl_values_builder::SequenceBuilder;
@@ -164,14 +165,14 @@ fn larger<R: Threads + Sync, H: Helpers + Sync, G: Gate + Sync, T: Tops<Global> 
         Code::Number { value, .. } => Ok(Value::Int(*value)),
         Code::Truth { value, .. } => Ok(Value::Bool(*value)),
         Code::Character { value, .. } => Ok(Value::Char(*value)),
-        Code::Text { bytes, .. } => text(bytes, meter, crew.alloc),
+        Code::Text { bytes, .. } => make_text(bytes, meter, crew.alloc),
         Code::Local {
             up,
             index,
             steps,
             ..
         } => local(scope, *up, *index, steps),
-        Code::Top { place, .. } => top(tops, *place),
+        Code::Top { place, .. } => find_top(tops, *place),
         Code::Named { name, .. } => named_top(tops, name),
         Code::Pair { span, left, right } => in_pair(
             tops, scope, left, right, span, levels, meter, crew,
@@ -218,7 +219,7 @@ fn larger<R: Threads + Sync, H: Helpers + Sync, G: Gate + Sync, T: Tops<Global> 
         Code::Sequence { span, parts } => in_sequence(
             tops, scope, parts, span, levels, meter, crew,
         ),
-        Code::Empty { .. } => empty(crew.alloc),
+        Code::Empty { .. } => make_empty(crew.alloc),
         Code::Let { bindings, body, .. } => in_let(
             tops, scope, bindings, body, levels, meter, crew,
         ),
@@ -257,12 +258,12 @@ fn of_scalars<R: Threads + Sync, H: Helpers + Sync, G: Gate + Sync, T: Tops<Glob
     requires { meter.old.fuel + meter.old.depth < 2 ^ 64 }
     ensures meets { let f = run levels (T.table tops.now) in Meets Is meter.old result meter.new
         (run_two f (frames_of scope.now) left.now right.now
-        (λ x y. applied span.now (Builtin.OfTwo function) (pair x y))) }
+        (λ x y. apply_builtin span.now (Builtin.OfTwo function) (pair x y))) }
     ensures spent { meter.new.fuel + meter.new.depth ≤ meter.old.fuel + meter.old.depth }
 {
     let one = value_in(tops, scope, left, levels, meter, crew)?;
     let other = value_in(tops, scope, right, levels, meter, crew)?;
-    of_two_made(function, one, other, *span)
+    apply_to_leaves(function, one, other, *span)
 }
 
 // A function of two scalars that are written as a pair, which was entered.
@@ -283,12 +284,12 @@ fn of_scalar_pair<R: Threads + Sync, H: Helpers + Sync, G: Gate + Sync, T: Tops<
     requires { meter.old.fuel + meter.old.depth < 2 ^ 64 }
     ensures meets { let f = run levels (T.table tops.now) in Meets Is meter.old result meter.new
         (run_two f (frames_of scope.now) left.now right.now
-        (λ x y. then_out (made within.now (pair x y)) (applied span.now (Builtin.OfTwo function)))) }
+        (λ x y. and_then (small_enough within.now (pair x y)) (apply_builtin span.now (Builtin.OfTwo function)))) }
     ensures spent { meter.new.fuel + meter.new.depth ≤ meter.old.fuel + meter.old.depth }
 {
     let one = value_in(tops, scope, left, levels, meter, crew)?;
     let other = value_in(tops, scope, right, levels, meter, crew)?;
-    of_pair_made(function, one, other, *within, *span)
+    apply_to_pair(function, one, other, *within, *span)
 }
 
 // A pair of two parts.
@@ -306,12 +307,12 @@ fn in_pair<R: Threads + Sync, H: Helpers + Sync, G: Gate + Sync, T: Tops<Global>
 ) -> Result<Value<Global>, Stop>
     requires { meter.old.fuel + meter.old.depth < 2 ^ 64 }
     ensures meets { let f = run levels (T.table tops.now) in Meets Is meter.old result meter.new
-        (run_two f (frames_of scope.now) left.now right.now (λ x y. made span.now (pair x y))) }
+        (run_two f (frames_of scope.now) left.now right.now (λ x y. small_enough span.now (pair x y))) }
     ensures spent { meter.new.fuel + meter.new.depth ≤ meter.old.fuel + meter.old.depth }
 {
     let one = eval_in(tops, scope, left, levels, meter, crew)?;
     let other = eval_in(tops, scope, right, levels, meter, crew)?;
-    paired(one, other, *span, crew.alloc)
+    make_pair(one, other, *span, crew.alloc)
 }
 
 // A part, which is lent where it is a name.
@@ -327,13 +328,13 @@ fn part<R: Threads + Sync, H: Helpers + Sync, G: Gate + Sync, T: Tops<Global> + 
 ) -> Result<Part<Global>, Stop>
     requires { meter.old.fuel + meter.old.depth < 2 ^ 64 }
     ensures meets { let f = run levels (T.table tops.now) in
-        Meets (Stands (T.table tops.now) (frames_of scope.now) code.now) meter.old result meter.new
+        Meets (PartStandsFor (T.table tops.now) (frames_of scope.now) code.now) meter.old result meter.new
         (f (frames_of scope.now) code.now) }
     ensures spent { meter.new.fuel + meter.new.depth ≤ meter.old.fuel + meter.old.depth }
 {
     match code {
-        Code::Local { .. } => entered_name(tops, scope, code, levels, meter),
-        Code::Top { .. } => entered_name(tops, scope, code, levels, meter),
+        Code::Local { .. } => enter_name(tops, scope, code, levels, meter),
+        Code::Top { .. } => enter_name(tops, scope, code, levels, meter),
         _ => Ok(Part::Made(eval_in(tops, scope, code, levels, meter, crew)?)),
     }
 }
@@ -353,7 +354,7 @@ fn apply<R: Threads + Sync, H: Helpers + Sync, G: Gate + Sync, T: Tops<Global> +
 ) -> Result<Value<Global>, Stop>
     requires { meter.old.fuel + meter.old.depth < 2 ^ 64 }
     ensures meets { let f = run levels (T.table tops.now) in Meets Is meter.old result meter.new
-        (then_out (f (frames_of scope.now) argument.now) (applied span.now function)) }
+        (and_then (f (frames_of scope.now) argument.now) (apply_builtin span.now function)) }
     ensures spent { meter.new.fuel + meter.new.depth ≤ meter.old.fuel + meter.old.depth }
 {
     match argument {
@@ -375,7 +376,7 @@ fn apply<R: Threads + Sync, H: Helpers + Sync, G: Gate + Sync, T: Tops<Global> +
         }
         _ => {
             let one = part(tops, scope, argument, levels, meter, crew)?;
-            applied_to_one(
+            apply_to_one(
                 &*tops, &*scope, function, argument, &one, *span, meter, crew.alloc,
             )
         }
@@ -400,13 +401,13 @@ fn apply_pair<R: Threads + Sync, H: Helpers + Sync, G: Gate + Sync, T: Tops<Glob
     requires { meter.old.fuel + meter.old.depth < 2 ^ 64 }
     ensures meets { let f = run levels (T.table tops.now) in Meets Is meter.old result meter.new
         (run_two f (frames_of scope.now) left.now right.now
-        (λ x y. then_out (made within.now (pair x y)) (applied span.now function))) }
+        (λ x y. and_then (small_enough within.now (pair x y)) (apply_builtin span.now function))) }
     ensures spent { meter.new.fuel + meter.new.depth ≤ meter.old.fuel + meter.old.depth }
 {
     let one = part(tops, scope, left, levels, meter, crew)?;
     let other = part(tops, scope, right, levels, meter, crew)?;
     within_limit(&*tops, &*scope, left, &one, right, &other, *within)?;
-    applied_to_two(
+    apply_to_two(
         &*tops, &*scope, function, left, &one, right, &other, *span, meter, crew.alloc,
     )
 }
@@ -427,12 +428,12 @@ fn apply_two<R: Threads + Sync, H: Helpers + Sync, G: Gate + Sync, T: Tops<Globa
 ) -> Result<Value<Global>, Stop>
     requires { meter.old.fuel + meter.old.depth < 2 ^ 64 }
     ensures meets { let f = run levels (T.table tops.now) in Meets Is meter.old result meter.new
-        (run_two f (frames_of scope.now) left.now right.now (λ x y. applied span.now function (pair x y))) }
+        (run_two f (frames_of scope.now) left.now right.now (λ x y. apply_builtin span.now function (pair x y))) }
     ensures spent { meter.new.fuel + meter.new.depth ≤ meter.old.fuel + meter.old.depth }
 {
     let one = part(tops, scope, left, levels, meter, crew)?;
     let other = part(tops, scope, right, levels, meter, crew)?;
-    applied_to_two(
+    apply_to_two(
         &*tops, &*scope, function, left, &one, right, &other, *span, meter, crew.alloc,
     )
 }
@@ -455,13 +456,13 @@ fn apply_three<R: Threads + Sync, H: Helpers + Sync, G: Gate + Sync, T: Tops<Glo
     requires { meter.old.fuel + meter.old.depth < 2 ^ 64 }
     ensures meets { let f = run levels (T.table tops.now) in Meets Is meter.old result meter.new
         (run_three f (frames_of scope.now) first.now second.now third.now
-        (λ x y z. applied span.now function (pair x (pair y z)))) }
+        (λ x y z. apply_builtin span.now function (pair x (pair y z)))) }
     ensures spent { meter.new.fuel + meter.new.depth ≤ meter.old.fuel + meter.old.depth }
 {
     let one = part(tops, scope, first, levels, meter, crew)?;
     let two = part(tops, scope, second, levels, meter, crew)?;
     let three = part(tops, scope, third, levels, meter, crew)?;
-    applied_to_three(
+    apply_to_three(
         &*tops, &*scope, function, first, &one, second, &two, third, &three, *span, meter,
         crew.alloc,
     )
@@ -482,12 +483,12 @@ fn choice<R: Threads + Sync, H: Helpers + Sync, G: Gate + Sync, T: Tops<Global> 
 ) -> Result<Value<Global>, Stop>
     requires { meter.old.fuel + meter.old.depth < 2 ^ 64 }
     ensures meets { let f = run levels (T.table tops.now) in Meets Is meter.old result meter.new
-        (then_out (f (frames_of scope.now) test.now)
+        (and_then (f (frames_of scope.now) test.now)
         (λ x. branch (as_bool x) (f (frames_of scope.now) yes.now) (f (frames_of scope.now) no.now))) }
     ensures spent { meter.new.fuel + meter.new.depth ≤ meter.old.fuel + meter.old.depth }
 {
     let tested = value_in(tops, scope, test, levels, meter, crew)?;
-    if truth(tested)? {
+    if read_truth(tested)? {
         value_in(tops, scope, yes, levels, meter, crew)
     } else {
         value_in(tops, scope, no, levels, meter, crew)
@@ -509,7 +510,7 @@ fn call<R: Threads + Sync, H: Helpers + Sync, G: Gate + Sync, T: Tops<Global> + 
 ) -> Result<Value<Global>, Stop>
     requires { meter.old.fuel + meter.old.depth < 2 ^ 64 }
     ensures meets { let f = run levels (T.table tops.now) in Meets Is meter.old result meter.new
-        (then_out (f (frames_of scope.now) argument.now) (run_called f span.now (slot_at (T.table tops.now) place))) }
+        (and_then (f (frames_of scope.now) argument.now) (run_called f span.now (slot_at (T.table tops.now) place))) }
     ensures spent { meter.new.fuel + meter.new.depth ≤ meter.old.fuel + meter.old.depth }
 {
     let value = value_in(tops, scope, argument, levels, meter, crew)?;
@@ -537,9 +538,9 @@ fn called<R: Threads + Sync, H: Helpers + Sync, G: Gate + Sync, T: Tops<Global> 
         Ok(Held::Function(body)) => {
             let inner = Scope::Argument(&argument.value);
             let found = value_in(tops, &inner, body, levels, meter, crew);
-            told_at(found, span)
+            place_fault(found, span)
         }
-        Ok(Held::Datatype(tag)) => tagged(tag, argument.value, span, crew.alloc),
+        Ok(Held::Datatype(tag)) => make_record(tag, argument.value, span, crew.alloc),
         Ok(_) => Err(Stop::Stuck),
         Err(_) => Err(Stop::Memory),
     }
@@ -560,7 +561,8 @@ fn call_named<R: Threads + Sync, H: Helpers + Sync, G: Gate + Sync, T: Tops<Glob
 ) -> Result<Value<Global>, Stop>
     requires { meter.old.fuel + meter.old.depth < 2 ^ 64 }
     ensures meets { let f = run levels (T.table tops.now) in Meets Is meter.old result meter.new
-        (then_out (f (frames_of scope.now) argument.now) (run_called f span.now (named (T.table tops.now) name.now))) }
+        (and_then (f (frames_of scope.now) argument.now)
+        (run_called f span.now (look_up (T.table tops.now) name.now))) }
     ensures spent { meter.new.fuel + meter.new.depth ≤ meter.old.fuel + meter.old.depth }
 {
     match tops.place_of(name) {
@@ -586,7 +588,7 @@ fn in_sequence<R: Threads + Sync, H: Helpers + Sync, G: Gate + Sync, T: Tops<Glo
 ) -> Result<Value<Global>, Stop>
     requires { meter.old.fuel + meter.old.depth < 2 ^ 64 }
     ensures meets { let f = run levels (T.table tops.now) in Meets Is meter.old result meter.new
-        (then_out (run_all f (frames_of scope.now) [] parts.now) (λ vs. made span.now (sequence vs))) }
+        (and_then (run_all f (frames_of scope.now) [] parts.now) (λ vs. small_enough span.now (sequence vs))) }
     ensures spent { meter.new.fuel + meter.new.depth ≤ meter.old.fuel + meter.old.depth }
 {
     let values = eval_all(tops, scope, parts, levels, meter, crew)?;
@@ -637,7 +639,7 @@ fn filtered<R: Threads + Sync, H: Helpers + Sync, G: Gate + Sync, T: Tops<Global
     requires { meter.old.fuel + meter.old.depth < 2 ^ 64 }
     ensures meets { let f = run levels (T.table tops.now) in Meets Is meter.old result meter.new
         (run_over f span.now (frames_of scope.now) sources.now
-        (λ vs is. then_out (run_filters f (frames_of scope.now) vs filter.now is)
+        (λ vs is. and_then (run_filters f (frames_of scope.now) vs filter.now is)
         (λ ks. as_result (run_bodies f (frames_of scope.now) vs body.now ks)))) }
     ensures spent { meter.new.fuel + meter.new.depth ≤ meter.old.fuel + meter.old.depth }
 {
@@ -712,8 +714,9 @@ fn holds_at<R: Threads + Sync, H: Helpers + Sync, G: Gate + Sync, T: Tops<Global
 ) -> Result<bool, Stop>
     requires { meter.old.fuel + meter.old.depth < 2 ^ 64 }
     ensures meets { let i = interval.now in let f = run levels (T.table i.tops.now) in
-        Meets (Keeps place) meter.old result meter.new
-        (then_out (run_at f (frames_of i.scope.now) (map tree_of i.values.now) i.code.now place) (kept place)) }
+        Meets (IsKeptPlace place) meter.old result meter.new
+        (and_then (run_at f (frames_of i.scope.now) (map tree_of i.values.now) i.code.now place)
+        (place_if_true place)) }
     ensures spent { meter.new.fuel + meter.new.depth ≤ meter.old.fuel + meter.old.depth }
 {
     let inner = Scope::Row(&*interval.values, place, &*interval.scope);
@@ -725,7 +728,7 @@ fn holds_at<R: Threads + Sync, H: Helpers + Sync, G: Gate + Sync, T: Tops<Global
         meter,
         interval.crew,
     )?;
-    truth(value)
+    read_truth(value)
 }
 
 // The places at which a filter holds, one by one.
@@ -783,7 +786,7 @@ fn filters<R: Threads + Sync, H: Helpers + Sync, G: Gate + Sync, T: Tops<Global>
     let half = |interval: &Interval<'_, R, H, G, T>, from: usize, to: usize| -> Half<Vec<usize>>
         requires { IsSync R.row × IsSync H.row × IsSync G.row × IsSync T.row
             × (from ≤ to) × (to ≤ length (places_of interval.now.places)) }
-        ensures { Finds ArePlaces fuel result (filters_in T.table levels interval.now from to) }
+        ensures { HalfFinds ArePlaces fuel result (filters_in T.table levels interval.now from to) }
     { half_of_filters(interval, from, to, levels, fuel) };
     let (left, right) = fork(
         interval.crew.rt,
@@ -793,7 +796,7 @@ fn filters<R: Threads + Sync, H: Helpers + Sync, G: Gate + Sync, T: Tops<Global>
         (centre, to),
     );
     interval.crew.helpers.done(permit);
-    joined_places(left, right, meter)
+    join_places(left, right, meter)
 }
 
 // A half of them, which has the whole fuel.
@@ -806,10 +809,10 @@ fn half_of_filters<R: Threads + Sync, H: Helpers + Sync, G: Gate + Sync, T: Tops
     fuel: u64,
 ) -> Half<Vec<usize>>
     requires { (from ≤ to) × (to ≤ length (places_of interval.now.places)) }
-    ensures { Finds ArePlaces fuel result (filters_in T.table levels interval.now from to) }
+    ensures { HalfFinds ArePlaces fuel result (filters_in T.table levels interval.now from to) }
 {
     interval.crew.gate.enter(Place::Half(from, to));
-    let begun = begun_with(fuel);
+    let begun = begin_meter(fuel);
     let mut meter = begun;
     let found = filters(interval, from, to, levels, &mut meter);
     let cost = cost_since(begun, meter);
@@ -855,7 +858,7 @@ fn body_at<R: Threads + Sync, H: Helpers + Sync, G: Gate + Sync, T: Tops<Global>
     requires { meter.old.fuel + meter.old.depth < 2 ^ 64 }
     ensures meets { let i = interval.now in let f = run levels (T.table i.tops.now) in
         Meets IsOne meter.old result meter.new
-        (then_out (run_at f (frames_of i.scope.now) (map tree_of i.values.now) i.code.now place) counted) }
+        (and_then (run_at f (frames_of i.scope.now) (map tree_of i.values.now) i.code.now place) body_value) }
     ensures spent { meter.new.fuel + meter.new.depth ≤ meter.old.fuel + meter.old.depth }
 {
     let inner = Scope::Row(&*interval.values, place, &*interval.scope);
@@ -867,7 +870,7 @@ fn body_at<R: Threads + Sync, H: Helpers + Sync, G: Gate + Sync, T: Tops<Global>
         meter,
         interval.crew,
     )?;
-    paid(value, meter)
+    pay(value, meter)
 }
 
 // The sequence of the values of a body at places.
@@ -896,7 +899,7 @@ fn all_bodies<'x, R: Threads + Sync, H: Helpers + Sync, G: Gate + Sync, T: Tops<
         crew,
     };
     let builder = bodies(&whole, 0, places.len(), levels, meter)?;
-    finished(builder)
+    finish(builder)
 }
 
 // The values of a body, one by one.
@@ -962,7 +965,7 @@ fn bodies<R: Threads + Sync, H: Helpers + Sync, G: Gate + Sync, T: Tops<Global> 
     >
         requires { IsSync R.row × IsSync H.row × IsSync G.row × IsSync T.row
             × (from ≤ to) × (to ≤ length (places_of interval.now.places)) }
-        ensures { Finds Has fuel result (bodies_in T.table levels interval.now from to) }
+        ensures { HalfFinds Has fuel result (bodies_in T.table levels interval.now from to) }
     { half_of_bodies(interval, from, to, levels, fuel) };
     let (left, right) = fork(
         interval.crew.rt,
@@ -972,7 +975,7 @@ fn bodies<R: Threads + Sync, H: Helpers + Sync, G: Gate + Sync, T: Tops<Global> 
         (centre, to),
     );
     interval.crew.helpers.done(permit);
-    joined_values(left, right, meter)
+    join_values(left, right, meter)
 }
 
 // A half of them, which has the whole fuel.
@@ -985,10 +988,10 @@ fn half_of_bodies<R: Threads + Sync, H: Helpers + Sync, G: Gate + Sync, T: Tops<
     fuel: u64,
 ) -> Half<SequenceBuilder>
     requires { (from ≤ to) × (to ≤ length (places_of interval.now.places)) }
-    ensures { Finds Has fuel result (bodies_in T.table levels interval.now from to) }
+    ensures { HalfFinds Has fuel result (bodies_in T.table levels interval.now from to) }
 {
     interval.crew.gate.enter(Place::Half(from, to));
-    let begun = begun_with(fuel);
+    let begun = begin_meter(fuel);
     let mut meter = begun;
     let found = bodies(interval, from, to, levels, &mut meter);
     let cost = cost_since(begun, meter);

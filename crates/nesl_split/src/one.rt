@@ -6,7 +6,7 @@ ghost use Rattle.nesl_eval_meaning.specs.Out.{within};
 ghost use Rattle.nesl_eval_meaning.specs.Outcome.{out};
 ghost use Rattle.nesl_eval_code.specs.Run.{run};
 ghost use Rattle.nesl_eval_code.specs.Stored.{environment};
-ghost use Rattle.nesl_eval.specs.Tells.{Tells};
+ghost use Rattle.nesl_eval.specs.Outcomes.{OutcomeIs};
 
 use crate::crew::Crew;
 use crate::eval::eval_in;
@@ -31,7 +31,7 @@ pub fn eval_split<R: Threads + Sync, H: Helpers + Sync, G: Gate + Sync>(
     helpers: &H,
     gate: &G,
 ) -> Outcome<Global>
-    ensures { Tells result
+    ensures { OutcomeIs result
         (within fuel (out levels (environment env.now) (outside []) (tree_of exp.now))) }
 {
     runs_as_meant();
@@ -55,7 +55,7 @@ fn evaluate<R: Threads + Sync, H: Helpers + Sync, G: Gate + Sync, T: Tops<Global
     fuel: u64,
     crew: &Crew<'_, R, H, G>,
 ) -> Outcome<Global>
-    ensures { Tells result (within fuel (run levels (T.table tops.now) [] code.now)) }
+    ensures { OutcomeIs result (within fuel (run levels (T.table tops.now) [] code.now)) }
 {
     let mut meter = Meter { fuel, depth: 0 };
     let scope = Scope::Empty;

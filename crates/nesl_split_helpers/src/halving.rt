@@ -1,6 +1,6 @@
 //! What the halves of an interval come to, and the interval with them.
 ghost use Rattle.std.specs.Prelude.{◌≡◌, ℕ, ◌+◌, ◌-◌, ◌<◌, ◌≤◌, ◌^◌, List, max};
-ghost use Rattle.nesl_values.specs.Tree.{Tree};
+ghost use Rattle.nesl_values.specs.Tree.{ValueTree};
 ghost use Rattle.nesl_eval_meaning.specs.Out.{Out, beside};
 ghost use Rattle.nesl_eval_nodes.specs.Meets.{Meets};
 ghost use Rattle.nesl_eval_nodes.specs.Sides.{Has};
@@ -18,7 +18,7 @@ pub struct Half<V> {
 }
 
 /// The meter of a half: it has the whole fuel, for what the two halves took is judged when both have ended.
-pub fn begun_with(fuel: u64) -> Meter
+pub fn begin_meter(fuel: u64) -> Meter
     ensures fuel { result.fuel ≡ fuel }
     ensures depth { result.depth ≡ 0 }
 {
@@ -37,7 +37,7 @@ pub fn cost_since(begun: Meter, meter: Meter) -> Cost
 }
 
 /// The places of two halves. The first that stopped decides, and the right one's work is judged after the left one's.
-pub fn joined_places(
+pub fn join_places(
     left: Half<Vec<usize>>,
     right: Half<Vec<usize>>,
     meter: &mut Meter,
@@ -54,7 +54,7 @@ pub fn joined_places(
     let depth = deeper(left.cost, right.cost);
     meter.charge(left.cost.work)?;
     let mut places = left.found?;
-    let more = judged(right, meter)?;
+    let more = judge(right, meter)?;
     match places.extend_from_slice(more.as_slice()) {
         Ok(()) => {
             meter.depth += depth;
@@ -65,7 +65,7 @@ pub fn joined_places(
 }
 
 /// The values of two halves, likewise.
-pub fn joined_values(
+pub fn join_values(
     left: Half<SequenceBuilder>,
     right: Half<SequenceBuilder>,
     meter: &mut Meter,
@@ -73,7 +73,7 @@ pub fn joined_values(
     requires room { meter.old.fuel + meter.old.depth < 2 ^ 64 }
     requires left { IsWithin meter.old left.cost }
     requires right { IsWithin meter.old right.cost }
-    ensures meets { (o p : Out (List Tree))
+    ensures meets { (o p : Out (List ValueTree))
         → Meets Has meter.old left.found (after_cost meter.old left.cost) o
         → Meets Has meter.old right.found (after_cost meter.old right.cost) p
         → Meets Has meter.old result meter.new (beside o p) }
@@ -82,7 +82,7 @@ pub fn joined_values(
     let depth = deeper(left.cost, right.cost);
     meter.charge(left.cost.work)?;
     let mut values = left.found?;
-    let more = judged(right, meter)?;
+    let more = judge(right, meter)?;
     match values.append(more) {
         Ok(()) => {
             meter.depth += depth;
@@ -101,7 +101,7 @@ fn deeper(left: Cost, right: Cost) -> u64
 
 // What the right half found, whose work is judged after the left one's. What is over by itself is over, and want of
 // memory stays what it is.
-fn judged<V: Drop>(right: Half<V>, meter: &mut Meter) -> Result<V, Stop>
+fn judge<V: Drop>(right: Half<V>, meter: &mut Meter) -> Result<V, Stop>
     ensures judges { Judges right.found right.cost.work meter.old result meter.new }
     ensures spent { meter.new.fuel + meter.new.depth ≤ meter.old.fuel + meter.old.depth }
 {

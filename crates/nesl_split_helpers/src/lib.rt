@@ -8,7 +8,7 @@ mod permits;
 mod pool;
 pub mod sparing;
 
-pub use halving::{Half, begun_with, cost_since, joined_places, joined_values};
+pub use halving::{Half, begin_meter, cost_since, join_places, join_values};
 pub use helpers::{Free, Gate, Helpers, NoHelpers, NoPermit, Place};
 pub use permits::Permits;
 pub use pool::{Asking, Permit, Pool};

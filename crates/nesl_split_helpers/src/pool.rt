@@ -96,7 +96,7 @@ impl<L: Ledger> Pool<L> {
         }
     }
 
-    /// The same permits, for a thread that may wait.
+    /// These permits as helpers, for a thread that may wait.
     pub fn by<'a, R: Wait>(&'a self, rt: &'a R) -> Asking<'a, L, R> {
         Asking { rt, pool: self }
     }

@@ -11,7 +11,7 @@ use Rattle.nesl_lex.specs.declared.token.Token.{Token}
 use Rattle.nesl_lex.specs.declared.token.Word.{Word}
 use Rattle.nesl_lex.specs.declared.token.Word.TheVariants as word
 use Rattle.nesl_syntax_tree.specs.declared.tree.Form.{Form}
-use Rattle.nesl_syntax_tree.specs.Trees.{eval}
+use Rattle.nesl_syntax_tree.specs.Trees.{evaluate}
 use Rattle.nesl_syntax_open.specs.declared.fault.ParseFault.{ParseFault}
 use Rattle.nesl_syntax_open.specs.Machine.{expression}
 use Rattle.nesl_syntax.specs.Reading.{begun_line, line_in}
@@ -26,26 +26,26 @@ line_from (u ∷ us) t k h e j =
     ap (λ (x : Lexeme). begun_line x (placed (u ∷ us)) (placed us)) i ∙ ap (begun_line (lexeme_of k) (placed (u ∷ us))) f
 
 -- an expression's line
-plain_word : (w : Word) (all ts : List Placed) → (w ≡ word.Function → ⊥) → (w ≡ word.Datatype → ⊥) → begun_line (reserved w) all ts ≡ option_map eval (expression all)
+plain_word : (w : Word) (all ts : List Placed) → (w ≡ word.Function → ⊥) → (w ≡ word.Datatype → ⊥) → begun_line (reserved w) all ts ≡ option_map evaluate (expression all)
 plain_word word.Function all ts f d = absurd (f refl)
 plain_word word.Datatype all ts f d = absurd (d refl)
 plain_word _ all ts f d = refl
 
-plain_sign : (s : Sign) (all ts : List Placed) → (s ≡ sign.Colon → ⊥) → begun_line (symbol s) all ts ≡ option_map eval (expression all)
+plain_sign : (s : Sign) (all ts : List Placed) → (s ≡ sign.Colon → ⊥) → begun_line (symbol s) all ts ≡ option_map evaluate (expression all)
 plain_sign sign.Colon all ts f = absurd (f refl)
 plain_sign _ all ts f = refl
 
-plain_kind : (k : Kind) (all ts : List Placed) → ((x : Vec ℕ Global) → k ≡ kind.Name x → ⊥) → ((w : Word) → k ≡ kind.Reserved w → ⊥) → ((s : Sign) → k ≡ kind.Symbol s → ⊥) → begun_line (lexeme_of k) all ts ≡ option_map eval (expression all)
+plain_kind : (k : Kind) (all ts : List Placed) → ((x : Vec ℕ Global) → k ≡ kind.Name x → ⊥) → ((w : Word) → k ≡ kind.Reserved w → ⊥) → ((s : Sign) → k ≡ kind.Symbol s → ⊥) → begun_line (lexeme_of k) all ts ≡ option_map evaluate (expression all)
 plain_kind (kind.Name x) all ts f g h = absurd (f x refl)
 plain_kind (kind.Reserved w) all ts f g h = absurd (g w refl)
 plain_kind (kind.Symbol s) all ts f g h = absurd (h s refl)
 plain_kind _ all ts f g h = refl
 
-pub word_line : (r : Result Form ParseFault) (ts : List Token) (t : Token) (w : Word) → 1 ≤ length ts → t ≡ get_or ts 0 t → t.kind ≡ kind.Reserved w → (w ≡ word.Function → ⊥) → (w ≡ word.Datatype → ⊥) → GivesLine r (option_map eval (expression (placed ts))) → GivesLine r (line_in (placed ts))
+pub word_line : (r : Result Form ParseFault) (ts : List Token) (t : Token) (w : Word) → 1 ≤ length ts → t ≡ get_or ts 0 t → t.kind ≡ kind.Reserved w → (w ≡ word.Function → ⊥) → (w ≡ word.Datatype → ⊥) → GivesLine r (option_map evaluate (expression (placed ts))) → GivesLine r (line_in (placed ts))
 word_line r ts t w h e j f d g = rw (line_from ts t (kind.Reserved w) h e j ∙ plain_word w (placed ts) _ f d) g
 
-pub sign_line : (r : Result Form ParseFault) (ts : List Token) (t : Token) (s : Sign) → 1 ≤ length ts → t ≡ get_or ts 0 t → t.kind ≡ kind.Symbol s → (s ≡ sign.Colon → ⊥) → GivesLine r (option_map eval (expression (placed ts))) → GivesLine r (line_in (placed ts))
+pub sign_line : (r : Result Form ParseFault) (ts : List Token) (t : Token) (s : Sign) → 1 ≤ length ts → t ≡ get_or ts 0 t → t.kind ≡ kind.Symbol s → (s ≡ sign.Colon → ⊥) → GivesLine r (option_map evaluate (expression (placed ts))) → GivesLine r (line_in (placed ts))
 sign_line r ts t s h e j f g = rw (line_from ts t (kind.Symbol s) h e j ∙ plain_sign s (placed ts) _ f) g
 
-pub kind_line : (r : Result Form ParseFault) (ts : List Token) (t : Token) → 1 ≤ length ts → t ≡ get_or ts 0 t → ((x : Vec ℕ Global) → t.kind ≡ kind.Name x → ⊥) → ((w : Word) → t.kind ≡ kind.Reserved w → ⊥) → ((s : Sign) → t.kind ≡ kind.Symbol s → ⊥) → GivesLine r (option_map eval (expression (placed ts))) → GivesLine r (line_in (placed ts))
+pub kind_line : (r : Result Form ParseFault) (ts : List Token) (t : Token) → 1 ≤ length ts → t ≡ get_or ts 0 t → ((x : Vec ℕ Global) → t.kind ≡ kind.Name x → ⊥) → ((w : Word) → t.kind ≡ kind.Reserved w → ⊥) → ((s : Sign) → t.kind ≡ kind.Symbol s → ⊥) → GivesLine r (option_map evaluate (expression (placed ts))) → GivesLine r (line_in (placed ts))
 kind_line r ts t h e i j k g = rw (line_from ts t t.kind h e refl ∙ plain_kind t.kind (placed ts) _ i j k) g

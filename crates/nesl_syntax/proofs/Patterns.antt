@@ -2,10 +2,10 @@
 use Rattle.std.proofs.Common.{◌≡◌, ℕ, ◌≤◌, List, [], ◌∷◌, Option, Some, None, refl, ap, sym, subst, ◌∙◌, arith}
 use Rattle.nesl_lex.specs.Tokens.{Placed}
 use Rattle.nesl_lex.specs.declared.token.Span.{Span}
-use Rattle.nesl_syntax_tree.specs.Trees.{Tree, Shape, PatternTree, PatternShape, node, pattern, span_of, pattern_span, widened, widened_pattern}
+use Rattle.nesl_syntax_tree.specs.Trees.{Tree, Shape, PatternTree, PatternShape, node, pattern, span_of, pattern_span, tree_on, pattern_on}
 use Rattle.nesl_syntax_tree.specs.Trees as trees
 use Rattle.nesl_syntax_tree.specs.Grammar as grammar
-use Rattle.nesl_syntax_tree.specs.Grammar.{over, IsPattern, ArePatterns, Parses}
+use Rattle.nesl_syntax_tree.specs.Grammar.{spanning, IsPattern, ArePatterns, IsExpression}
 use Rattle.nesl_syntax_tree.specs.Patterns.{pattern_in, pattern_shape_in, shape_pair, shape_record, with_span}
 
 -- a phrase that is read as a pattern
@@ -55,9 +55,9 @@ span_kept (node s k) p h = let r = span_parts s (pattern_shape_in k) p h in ap p
 pub record NarrowOf (s : Span) (e : Tree) (p : PatternTree) : Type 0 where
   pub narrow : PatternTree
   pub reads : pattern_in e ≡ Some narrow
-  pub wide : widened_pattern s narrow ≡ p
+  pub wide : pattern_on s narrow ≡ p
 
-narrowed : (s : Span) (e : Tree) (p : PatternTree) → pattern_in (widened s e) ≡ Some p → NarrowOf s e p
+narrowed : (s : Span) (e : Tree) (p : PatternTree) → pattern_in (tree_on s e) ≡ Some p → NarrowOf s e p
 narrowed s (node t k) p h =
     let r = span_parts s (pattern_shape_in k) p h in
     record { narrow = pattern t r.shape; reads = ap (with_span t) r.is_some; wide = sym r.is_pattern }
@@ -71,24 +71,24 @@ are_as {ts = ts} a b h i = subst (λ (x : PatternTree). ArePatterns ts x) h i
 is_as : {ts : List Placed} (a b : PatternTree) → a ≡ b → IsPattern ts a → IsPattern ts b
 is_as {ts = ts} a b h i = subst (λ (x : PatternTree). IsPattern ts x) h i
 
-pub pattern_of_phrase : {n : ℕ} {ts : List Placed} {e : Tree} → Parses n ts e → 1 ≤ n → (p : PatternTree) → pattern_in e ≡ Some p → PatternOf n ts p
+pub pattern_of_phrase : {n : ℕ} {ts : List Placed} {e : Tree} → IsExpression n ts e → 1 ≤ n → (p : PatternTree) → pattern_in e ≡ Some p → PatternOf n ts p
 pattern_of_phrase (grammar.looser q) i p h = let r = pattern_of_phrase q (omega arith) p h in alone_of (r.alone (omega arith))
 pattern_of_phrase (grammar.pairs {us = us} {vs = vs} {a = a} {b = b} s q r) i p h =
-    let t = span_parts (over (span_of a) (span_of b)) (shape_pair (pattern_in a) (pattern_in b)) p h in
+    let t = span_parts (spanning (span_of a) (span_of b)) (shape_pair (pattern_in a) (pattern_in b)) p h in
     let k = pair_parts (pattern_in a) (pattern_in b) t.shape t.is_some in
     let l = pattern_of_phrase q (omega arith) k.left k.is_left in
     let m = pattern_of_phrase r (omega arith) k.right k.is_right in
-    let whole : pattern (over (pattern_span k.left) (pattern_span k.right)) (trees.pair_pattern k.left k.right) ≡ p = rw (span_kept a k.left k.is_left, span_kept b k.right k.is_right) (ap (pattern (over (span_of a) (span_of b))) (sym k.is_pair) ∙ sym t.is_pattern) in
+    let whole : pattern (spanning (pattern_span k.left) (pattern_span k.right)) (trees.pair_pattern k.left k.right) ≡ p = rw (span_kept a k.left k.is_left, span_kept b k.right k.is_right) (ap (pattern (spanning (span_of a) (span_of b))) (sym k.is_pair) ∙ sym t.is_pattern) in
     record { many = are_as _ _ whole (grammar.pattern_pairs s (l.alone (omega arith)) m.many); alone = λ j. absurd (omega arith) }
 pattern_of_phrase (grammar.names x s) i p h = name_is x s p h
 pattern_of_phrase (grammar.calls {a = a} x s t u q) i p h =
-    let r = span_parts (over s u) (shape_record x (pattern_in a)) p h in
+    let r = span_parts (spanning s u) (shape_record x (pattern_in a)) p h in
     let k = record_parts x (pattern_in a) r.shape r.is_some in
     let m = pattern_of_phrase q (omega arith) k.part k.is_part in
-    let whole : pattern (over s u) (trees.record_pattern x k.part) ≡ p = ap (pattern (over s u)) (sym k.is_record) ∙ sym r.is_pattern in
+    let whole : pattern (spanning s u) (trees.record_pattern x k.part) ≡ p = ap (pattern (spanning s u)) (sym k.is_record) ∙ sym r.is_pattern in
     alone_of (is_as _ _ whole (grammar.pattern_record x s t u m.many))
 pattern_of_phrase (grammar.rounds {a = a} s t q) i p h =
-    let r = narrowed (over s t) a p h in
+    let r = narrowed (spanning s t) a p h in
     let m = pattern_of_phrase q (omega arith) r.narrow r.reads in
     alone_of (is_as _ _ r.wide (grammar.pattern_rounds s t m.many))
 pattern_of_phrase _ i p h = cc

@@ -15,11 +15,11 @@ use Rattle.nesl_syntax_open.specs.declared.mark.Mark.{Mark}
 use Rattle.nesl_syntax_open.specs.declared.mark.Mark.TheVariants as mark
 use Rattle.nesl_syntax_open.specs.declared.mark.Follow.{Follow}
 use Rattle.nesl_syntax_open.specs.declared.mark.Follow.TheVariants as follow
-use Rattle.nesl_syntax_tree.specs.Trees.{Tree, Shape, Trees, Binders, PatternTree, TypeTree, node, span_of, widened, and_then, and_bind, none, no_binders, binder}
+use Rattle.nesl_syntax_tree.specs.Trees.{Tree, Shape, Trees, Binders, PatternTree, TypeTree, node, span_of, tree_on, with_last, with_last_binder, none, no_binders, binder}
 use Rattle.nesl_syntax_tree.specs.Trees as trees
 use Rattle.nesl_syntax_open.specs.Marks.{follow_of}
 use Rattle.nesl_syntax_tree.specs.Grammar as grammar
-use Rattle.nesl_syntax_tree.specs.Grammar.{operator_token, level_of, prefix_sign, over, token_at, sign_at, word_at, name_at, IsType, AreTypes, IsPattern, Parses, looser, Lists, Binds, Bodies, own_body}
+use Rattle.nesl_syntax_tree.specs.Grammar.{operator_token, level_of, prefix_sign, spanning, token_at, sign_at, word_at, name_at, IsType, AreTypes, IsPattern, IsExpression, looser, AreElements, AreBinders, IsBody, unwritten_body}
 use Rattle.nesl_syntax_open.specs.Machine.{Group, let_group, each_group, Opening, round, call, index_of, test, branch, list, range_from, range_to, brace, binders, value, filter, empty_at, type_list, type_round, type_comma, Waiting, open_at, comma_behind, else_behind, body_of, prefix_at, sign_behind, type_at, opening_begins, wanted_by, begun_by, rank, completed, wanted, folded, Mode, before, behind, typing, typed, State, opened, called, Turn, becomes, ends, bound, turned, taken_up, marked, separated, mark_level, followed, let_closed, emptied, begun_with, type_done, typed_with, type_separated, type_bracketed, type_pair, type_closed, typed_on, step, run, alone, tree_left_in, tree_left, expression, type_alone, type_left_in, type_left, written_type}
 use Rattle.nesl_syntax_open.proofs.Complete.{wanted_small, level_low, level_high, separator}
 use Rattle.nesl_syntax.proofs.Patterns.{pattern_of_phrase}
@@ -42,34 +42,34 @@ mark_token mark.In = reserved word.In
 pub data Opens : Group → List Placed → Type 0 where
   let_opens : (s : Span) → Opens (let_group s) (word_at word.Let s ∷ [])
   bare_opens : (s : Span) → Opens (each_group s None) (sign_at sign.OpenBrace s ∷ [])
-  body_opens : {us : List Placed} {e : Tree} (s c : Span) → Parses 2 us e → Opens (each_group s (Some e)) (sign_at sign.OpenBrace s ∷ (us ++ (sign_at sign.Colon c ∷ [])))
+  body_opens : {us : List Placed} {e : Tree} (s c : Span) → IsExpression 2 us e → Opens (each_group s (Some e)) (sign_at sign.OpenBrace s ∷ (us ++ (sign_at sign.Colon c ∷ [])))
 
 -- the binders so far, with a ; behind them
 pub data SoFar : Lexeme → List Placed → Binders → Type 0 where
   none_so_far : {x : Lexeme} → SoFar x [] no_binders
-  some_so_far : {x : Lexeme} {us : List Placed} {bs : Binders} (c : Span) → Binds x us bs → SoFar x (us ++ (sign_at sign.Semicolon c ∷ [])) bs
+  some_so_far : {x : Lexeme} {us : List Placed} {bs : Binders} (c : Span) → AreBinders x us bs → SoFar x (us ++ (sign_at sign.Semicolon c ∷ [])) bs
 
 -- the tokens of what waits, with its parts so far
 pub data Stands : Waiting → List Placed → Type 0 where
   round_stands : (s : Span) → Stands (open_at (round s)) (sign_at sign.OpenParenthesis s ∷ [])
   call_stands : (x : List ℕ) (s t : Span) → Stands (open_at (call x s)) (name_at x s ∷ (sign_at sign.OpenParenthesis t ∷ []))
-  index_stands : {us : List Placed} {a : Tree} (s : Span) → Parses 9 us a → Stands (open_at (index_of a)) (us ++ (sign_at sign.OpenBracket s ∷ []))
+  index_stands : {us : List Placed} {a : Tree} (s : Span) → IsExpression 9 us a → Stands (open_at (index_of a)) (us ++ (sign_at sign.OpenBracket s ∷ []))
   test_stands : (s : Span) → Stands (open_at (test s)) (word_at word.If s ∷ [])
-  branch_stands : {us : List Placed} {a : Tree} (s t : Span) → Parses 2 us a → Stands (open_at (branch s a)) (word_at word.If s ∷ (us ++ (word_at word.Then t ∷ [])))
+  branch_stands : {us : List Placed} {a : Tree} (s t : Span) → IsExpression 2 us a → Stands (open_at (branch s a)) (word_at word.If s ∷ (us ++ (word_at word.Then t ∷ [])))
   list_stands : (s : Span) → Stands (open_at (list s none)) (sign_at sign.OpenBracket s ∷ [])
-  lists_stand : {us : List Placed} {xs : Trees} (s c : Span) → Lists us xs → Stands (open_at (list s xs)) (sign_at sign.OpenBracket s ∷ (us ++ (sign_at sign.Comma c ∷ [])))
-  from_stands : {us : List Placed} {a : Tree} (s c : Span) → Parses 2 us a → Stands (open_at (range_from s a)) (sign_at sign.OpenBracket s ∷ (us ++ (sign_at sign.Colon c ∷ [])))
-  to_stands : {us vs : List Placed} {a b : Tree} (s c d : Span) → Parses 2 us a → Parses 2 vs b → Stands (open_at (range_to s a b)) (sign_at sign.OpenBracket s ∷ (us ++ (sign_at sign.Colon c ∷ (vs ++ (sign_at sign.Colon d ∷ [])))))
+  lists_stand : {us : List Placed} {xs : Trees} (s c : Span) → AreElements us xs → Stands (open_at (list s xs)) (sign_at sign.OpenBracket s ∷ (us ++ (sign_at sign.Comma c ∷ [])))
+  from_stands : {us : List Placed} {a : Tree} (s c : Span) → IsExpression 2 us a → Stands (open_at (range_from s a)) (sign_at sign.OpenBracket s ∷ (us ++ (sign_at sign.Colon c ∷ [])))
+  to_stands : {us vs : List Placed} {a b : Tree} (s c d : Span) → IsExpression 2 us a → IsExpression 2 vs b → Stands (open_at (range_to s a b)) (sign_at sign.OpenBracket s ∷ (us ++ (sign_at sign.Colon c ∷ (vs ++ (sign_at sign.Colon d ∷ [])))))
   brace_stands : (s : Span) → Stands (open_at (brace s)) (sign_at sign.OpenBrace s ∷ [])
   binders_stand : {g : Group} {us vs : List Placed} {bs : Binders} → Opens g us → SoFar (separator g) vs bs → Stands (open_at (binders g bs)) (us ++ vs)
   value_stands : {g : Group} {us vs ws : List Placed} {bs : Binders} {p : PatternTree} (s : Span) → Opens g us → SoFar (separator g) vs bs → IsPattern ws p → Stands (open_at (value g bs p)) (us ++ (vs ++ (ws ++ (token_at (separator g) s ∷ []))))
-  filter_stands : {s : Span} {b : Option Tree} {us vs : List Placed} {bs : Binders} (c : Span) → Opens (each_group s b) us → Binds (reserved word.In) vs bs → Stands (open_at (filter s b bs)) (us ++ (vs ++ (sign_at sign.Bar c ∷ [])))
-  comma_stands : {us : List Placed} {a : Tree} (s : Span) → Parses 2 us a → Stands (comma_behind a) (us ++ (sign_at sign.Comma s ∷ []))
-  else_stands : {us vs : List Placed} {a b : Tree} (s t l : Span) → Parses 2 us a → Parses 2 vs b → Stands (else_behind s a b) (word_at word.If s ∷ (us ++ (word_at word.Then t ∷ (vs ++ (word_at word.Else l ∷ [])))))
-  body_stands : {us : List Placed} {bs : Binders} (s t : Span) → Binds (symbol sign.Equal) us bs → Stands (body_of s bs) (word_at word.Let s ∷ (us ++ (word_at word.In t ∷ [])))
-  closed_body_stands : {us : List Placed} {bs : Binders} (s c t : Span) → Binds (symbol sign.Equal) us bs → Stands (body_of s bs) (word_at word.Let s ∷ (us ++ (sign_at sign.Semicolon c ∷ (word_at word.In t ∷ []))))
+  filter_stands : {s : Span} {b : Option Tree} {us vs : List Placed} {bs : Binders} (c : Span) → Opens (each_group s b) us → AreBinders (reserved word.In) vs bs → Stands (open_at (filter s b bs)) (us ++ (vs ++ (sign_at sign.Bar c ∷ [])))
+  comma_stands : {us : List Placed} {a : Tree} (s : Span) → IsExpression 2 us a → Stands (comma_behind a) (us ++ (sign_at sign.Comma s ∷ []))
+  else_stands : {us vs : List Placed} {a b : Tree} (s t l : Span) → IsExpression 2 us a → IsExpression 2 vs b → Stands (else_behind s a b) (word_at word.If s ∷ (us ++ (word_at word.Then t ∷ (vs ++ (word_at word.Else l ∷ [])))))
+  body_stands : {us : List Placed} {bs : Binders} (s t : Span) → AreBinders (symbol sign.Equal) us bs → Stands (body_of s bs) (word_at word.Let s ∷ (us ++ (word_at word.In t ∷ [])))
+  closed_body_stands : {us : List Placed} {bs : Binders} (s c t : Span) → AreBinders (symbol sign.Equal) us bs → Stands (body_of s bs) (word_at word.Let s ∷ (us ++ (sign_at sign.Semicolon c ∷ (word_at word.In t ∷ []))))
   prefix_stands : (o : Prefix) (s : Span) → Stands (prefix_at o s) (sign_at (prefix_sign o) s ∷ [])
-  sign_stands : {us : List Placed} {a : Tree} (o : Operator) (s : Span) → Parses (level_of o) us a → Stands (sign_behind o a) (us ++ (token_at (operator_token o) s ∷ []))
+  sign_stands : {us : List Placed} {a : Tree} (o : Operator) (s : Span) → IsExpression (level_of o) us a → Stands (sign_behind o a) (us ++ (token_at (operator_token o) s ∷ []))
   empty_stands : (s t : Span) → Stands (type_at (empty_at s)) (sign_at sign.OpenBracket s ∷ (sign_at sign.CloseBracket t ∷ []))
   type_list_stands : (s : Span) → Stands (type_at (type_list s)) (sign_at sign.OpenBracket s ∷ [])
   type_round_stands : (s : Span) → Stands (type_at (type_round s)) (sign_at sign.OpenParenthesis s ∷ [])
@@ -94,14 +94,14 @@ pub record Splits (n : ℕ) (ts : List Placed) (ws : List Waiting) (e : Tree) : 
   pub level : ℕ
   pub whole : ts ≡ first ++ rest
   pub so_far : Line_so_far ws first
-  pub phrase : Parses level rest e
+  pub phrase : IsExpression level rest e
   pub fits : wanted ws ≤ level
   pub tight : n ≤ level
 
 -- a phrase that ends in a token of its own, where it may stand
 pub record Tight (ws : List Waiting) (ts : List Placed) (e : Tree) : Type 0 where
   pub level : ℕ
-  pub phrase : Parses level ts e
+  pub phrase : IsExpression level ts e
   pub fits : wanted ws ≤ level
   pub tight : 9 ≤ level
 
@@ -117,15 +117,15 @@ none_is : {A B : Type 0} (x : A) → None ≡ Some x → B
 none_is x h = cc
 
 -- a phrase is one of each looser level
-loosened_by : (k m : ℕ) (ts : List Placed) (e : Tree) → Parses (m + k) ts e → Parses m ts e
-loosened_by zero m ts e p = let h : m + zero ≡ m = omega arith in subst (λ (n : ℕ). Parses n ts e) h p
-loosened_by (suc k) m ts e p = let h : m + suc k ≡ suc (m + k) = omega arith in loosened_by k m ts e (looser (subst (λ (n : ℕ). Parses n ts e) h p))
+loosened_by : (k m : ℕ) (ts : List Placed) (e : Tree) → IsExpression (m + k) ts e → IsExpression m ts e
+loosened_by zero m ts e p = let h : m + zero ≡ m = omega arith in subst (λ (n : ℕ). IsExpression n ts e) h p
+loosened_by (suc k) m ts e p = let h : m + suc k ≡ suc (m + k) = omega arith in loosened_by k m ts e (looser (subst (λ (n : ℕ). IsExpression n ts e) h p))
 
-pub loosened : {n : ℕ} {ts : List Placed} {e : Tree} → Parses n ts e → (m : ℕ) → m ≤ n → Parses m ts e
-loosened {n = n} {ts = ts} {e = e} p m h = let k : n ≡ m + (n - m) = omega arith in loosened_by (n - m) m ts e (subst (λ (x : ℕ). Parses x ts e) k p)
+pub loosened : {n : ℕ} {ts : List Placed} {e : Tree} → IsExpression n ts e → (m : ℕ) → m ≤ n → IsExpression m ts e
+loosened {n = n} {ts = ts} {e = e} p m h = let k : n ≡ m + (n - m) = omega arith in loosened_by (n - m) m ts e (subst (λ (x : ℕ). IsExpression x ts e) k p)
 
 -- what waits, with its last part
-put : {w : Waiting} {us : List Placed} → Stands w us → (vs : List Placed) (e : Tree) → Parses (wanted_by w) vs e → 1 ≤ rank w → Parses (rank w) (us ++ vs) (completed w e)
+put : {w : Waiting} {us : List Placed} → Stands w us → (vs : List Placed) (e : Tree) → IsExpression (wanted_by w) vs e → 1 ≤ rank w → IsExpression (rank w) (us ++ vs) (completed w e)
 put (comma_stands s q) vs e p h = simp append_assoc (grammar.pairs s q p)
 put (else_stands s t l q r) vs e p h = simp append_assoc (grammar.chooses s t l q r p)
 put (body_stands s t q) vs e p h = simp append_assoc (grammar.lets s t q p)
@@ -195,7 +195,7 @@ moved : (q : State) (us vs : List Placed) → us ≡ vs → Means q.0 q.1 us →
 moved q us vs h m = subst (λ (x : List Placed). Means q.0 q.1 x) h m
 
 -- an atom
-atom : {ws : List Waiting} {ts : List Placed} {e : Tree} → Parses 10 ts e → Tight ws ts e
+atom : {ws : List Waiting} {ts : List Placed} {e : Tree} → IsExpression 10 ts e → Tight ws ts e
 atom {ws = ws} p = record { level = 10; phrase = p; fits = wanted_small ws; tight = omega arith }
 
 let_closed_is : (i : Span) (ws : List Waiting) (bs : Binders) (q : State) → let_closed (open_at (binders (let_group i) bs) ∷ ws) ≡ Some q → (body_of i bs ∷ ws, before) ≡ q
@@ -215,11 +215,11 @@ emptied_means : {ws : List Waiting} {us : List Placed} → Line_so_far ws us →
 emptied_means (waits l (list_stands i) k) s q h = means_at q (simp append_assoc (means_typing (waits l (empty_stands i s) k))) h
 emptied_means (waits {ws = ws} l (lists_stand {xs = xs} i c e) k) s q h = absurd (no_elements i ws xs e q h)
   where
-    no_more : (i : Span) (ws : List Waiting) (xs : Trees) (a : Tree) (q : State) → emptied (open_at (list i (and_then xs a)) ∷ ws) ≡ Some q → ⊥
+    no_more : (i : Span) (ws : List Waiting) (xs : Trees) (a : Tree) (q : State) → emptied (open_at (list i (with_last xs a)) ∷ ws) ≡ Some q → ⊥
     no_more i ws none a q h = cc
     no_more i ws (trees.more b xs) a q h = cc
 
-    no_elements : {us : List Placed} (i : Span) (ws : List Waiting) (xs : Trees) → Lists us xs → (q : State) → emptied (open_at (list i xs) ∷ ws) ≡ Some q → ⊥
+    no_elements : {us : List Placed} (i : Span) (ws : List Waiting) (xs : Trees) → AreElements us xs → (q : State) → emptied (open_at (list i xs) ∷ ws) ≡ Some q → ⊥
     no_elements i ws xs (grammar.one_element p) q h = cc
     no_elements i ws xs (grammar.more_elements {xs = ys} {a = a} d p r) q h = no_more i ws ys a q h
 emptied_means _ s q h = none_is q h
@@ -242,14 +242,14 @@ begun_means ws s (symbol sign.Minus) q ts l h = opened_means (prefix_at prefix.N
 begun_means ws s _ q ts l h = none_is q h
 
 -- one more binder
-grown : {x : Lexeme} {us ps vs : List Placed} {bs : Binders} {p : PatternTree} {e : Tree} (s : Span) → SoFar x us bs → IsPattern ps p → Parses 2 vs e → Binds x (us ++ (ps ++ (token_at x s ∷ vs))) (and_bind bs p e)
+grown : {x : Lexeme} {us ps vs : List Placed} {bs : Binders} {p : PatternTree} {e : Tree} (s : Span) → SoFar x us bs → IsPattern ps p → IsExpression 2 vs e → AreBinders x (us ++ (ps ++ (token_at x s ∷ vs))) (with_last_binder bs p e)
 grown s none_so_far i q = grammar.one_binder s i q
 grown s (some_so_far c b) i q = simp append_assoc (grammar.more_binders c s b i q)
 
 -- what a turn leaves: something that stands where the opening stood, or a phrase
 pub data Turned : Opening → List Placed → Turn → Type 0 where
   becomes_so : {o : Opening} {ts : List Placed} {w : Waiting} → Stands w ts → begun_by w ≡ opening_begins o → Turned o ts (becomes w)
-  ends_so : {o : Opening} {ts : List Placed} {e : Tree} → Parses (opening_begins o) ts e → 9 ≤ opening_begins o → Turned o ts (ends e)
+  ends_so : {o : Opening} {ts : List Placed} {e : Tree} → IsExpression (opening_begins o) ts e → 9 ≤ opening_begins o → Turned o ts (ends e)
 
 turned_at : {o : Opening} {ts : List Placed} {p : Turn} (q : Turn) → Turned o ts p → Some p ≡ Some q → Turned o ts q
 turned_at {o = o} {ts = ts} {p = p} q t h = let e : p ≡ q = cc in subst (λ (x : Turn). Turned o ts x) e t
@@ -258,18 +258,18 @@ bound_is : {o : Opening} {ts : List Placed} (g : Group) (bs : Binders) (m : Opti
 bound_is g bs (Some p) q f h = turned_at q (f p refl) h
 bound_is g bs None q f h = cc
 
-no_range_more : (t s : Span) (xs : Trees) (a e : Tree) (q : Turn) → turned mark.Colon t (list s (and_then xs a)) e ≡ Some q → ⊥
+no_range_more : (t s : Span) (xs : Trees) (a e : Tree) (q : Turn) → turned mark.Colon t (list s (with_last xs a)) e ≡ Some q → ⊥
 no_range_more t s none a e q h = cc
 no_range_more t s (trees.more b xs) a e q h = cc
 
-no_range : {us : List Placed} (t s : Span) (xs : Trees) → Lists us xs → (e : Tree) (q : Turn) → turned mark.Colon t (list s xs) e ≡ Some q → ⊥
+no_range : {us : List Placed} (t s : Span) (xs : Trees) → AreElements us xs → (e : Tree) (q : Turn) → turned mark.Colon t (list s xs) e ≡ Some q → ⊥
 no_range t s xs (grammar.one_element p) e q h = cc
 no_range t s xs (grammar.more_elements {xs = ys} {a = a} d p r) e q h = no_range_more t s ys a e q h
 
-pattern_from : {vs : List Placed} {e : Tree} → Parses 2 vs e → (p : PatternTree) → pattern_in e ≡ Some p → IsPattern vs p
+pattern_from : {vs : List Placed} {e : Tree} → IsExpression 2 vs e → (p : PatternTree) → pattern_in e ≡ Some p → IsPattern vs p
 pattern_from q p h = (pattern_of_phrase q (omega arith) p h).alone (omega arith)
 
-turned_means : {o : Opening} {us : List Placed} → Stands (open_at o) us → (m : Mark) (t : Span) (vs : List Placed) (e : Tree) (q : Turn) → Parses (mark_level m) vs e → turned m t o e ≡ Some q → Turned o (us ++ (vs ++ (token_at (mark_token m) t ∷ []))) q
+turned_means : {o : Opening} {us : List Placed} → Stands (open_at o) us → (m : Mark) (t : Span) (vs : List Placed) (e : Tree) (q : Turn) → IsExpression (mark_level m) vs e → turned m t o e ≡ Some q → Turned o (us ++ (vs ++ (token_at (mark_token m) t ∷ []))) q
 turned_means (round_stands s) mark.CloseParenthesis t vs e q p h = turned_at q (ends_so (grammar.rounds s t p) (omega arith)) h
 turned_means (call_stands x s u) mark.CloseParenthesis t vs e q p h = turned_at q (ends_so (grammar.calls x s u t p) (omega arith)) h
 turned_means (index_stands s r) mark.CloseBracket t vs e q p h = turned_at q (ends_so (simp append_assoc (grammar.picks s t r p)) (omega arith)) h
@@ -305,13 +305,13 @@ took_means {o = o} (Some t) q l k f h = turn_means t q (f t refl) l k h
     turn_means (becomes w) q (becomes_so s e) l k h = means_at q (means_before (waits l s (omega arith))) h
     turn_means {o = o} (ends x) q (ends_so p i) l k h = means_at q (means_behind false l (record { level = opening_begins o; phrase = p; fits = k; tight = i }) (λ j. cc)) h
 
-marked_means : {ws : List Waiting} {us : List Placed} → Line_so_far ws us → (m : Mark) (t : Span) (vs : List Placed) (e : Tree) (q : State) → Parses (mark_level m) vs e → marked m t ws e ≡ Some q → Means q.0 q.1 ((us ++ vs) ++ (token_at (mark_token m) t ∷ []))
+marked_means : {ws : List Waiting} {us : List Placed} → Line_so_far ws us → (m : Mark) (t : Span) (vs : List Placed) (e : Tree) (q : State) → IsExpression (mark_level m) vs e → marked m t ws e ≡ Some q → Means q.0 q.1 ((us ++ vs) ++ (token_at (mark_token m) t ∷ []))
 marked_means (waits {w = open_at o} {us = us} {vs = own} l s k) m t vs e q p h =
     moved q _ _ (sym (append_assoc us own (vs ++ (token_at (mark_token m) t ∷ []))) ∙ sym (append_assoc (us ++ own) vs (token_at (mark_token m) t ∷ []))) (took_means (turned m t o e) q l k (λ x y. turned_means s m t vs e x p y) h)
 marked_means _ m t vs e q p h = none_is q h
 
 -- behind a comma
-separated_means : {ws : List Waiting} {us : List Placed} → Line_so_far ws us → (t : Span) (vs : List Placed) (e : Tree) (q : State) → Parses 2 vs e → separated ws e ≡ Some q → Means q.0 q.1 ((us ++ vs) ++ (sign_at sign.Comma t ∷ []))
+separated_means : {ws : List Waiting} {us : List Placed} → Line_so_far ws us → (t : Span) (vs : List Placed) (e : Tree) (q : State) → IsExpression 2 vs e → separated ws e ≡ Some q → Means q.0 q.1 ((us ++ vs) ++ (sign_at sign.Comma t ∷ []))
 separated_means (waits l (list_stands s) k) t vs e q p h = means_at q (simp append_assoc (means_before (waits l (lists_stand s t (grammar.one_element p)) k))) h
 separated_means (waits l (lists_stand s c r) k) t vs e q p h = means_at q (simp append_assoc (simp append_assoc at (means_before (waits l (lists_stand s t (grammar.more_elements c r p)) k)))) h
 separated_means {us = us} l t vs e q p h = moved q _ _ (sym (append_assoc us vs (sign_at sign.Comma t ∷ []))) (opened_means (comma_behind e) q l (comma_stands t p) h)
@@ -461,18 +461,18 @@ pub run_means : (ts us : List Placed) (q p : State) → Means q.0 q.1 ts → run
 run_means ts [] q p m h = let e : q ≡ p = cc in subst (λ (x : State). Means x.0 x.1 (ts ++ [])) e (moved q ts (ts ++ []) (sym (append-nil ts)) m)
 run_means ts (t ∷ us) q p m h = run_next ts us t q.0 q.1 p (step q.0 q.1 t) refl m (λ x n k. run_means (ts ++ (t ∷ [])) us x p n k) h
 
-alone_parses : {ws : List Waiting} {us : List Placed} → Line_so_far ws us → (vs : List Placed) (e x : Tree) → Parses 2 vs e → alone ws e ≡ Some x → Parses 2 (us ++ vs) x
-alone_parses nothing_waits vs e x p h = let k : e ≡ x = cc in subst (λ (y : Tree). Parses 2 vs y) k p
+alone_parses : {ws : List Waiting} {us : List Placed} → Line_so_far ws us → (vs : List Placed) (e x : Tree) → IsExpression 2 vs e → alone ws e ≡ Some x → IsExpression 2 (us ++ vs) x
+alone_parses nothing_waits vs e x p h = let k : e ≡ x = cc in subst (λ (y : Tree). IsExpression 2 vs y) k p
 alone_parses (waits l s k) vs e x p h = cc
 
-finished_parses : (ws : List Waiting) (m : Mode) (ts : List Placed) (x : Tree) → Means ws m ts → tree_left_in ws m ≡ Some x → Parses 2 ts x
+finished_parses : (ws : List Waiting) (m : Mode) (ts : List Placed) (x : Tree) → Means ws m ts → tree_left_in ws m ≡ Some x → IsExpression 2 ts x
 finished_parses ws m ts x (means_behind {us = us} {vs = vs} {e = e} b l p f) h =
     let c = split_at ws us vs e l p 2 (omega arith) (omega arith) in
-    subst (λ (y : List Placed). Parses 2 y x) (sym c.whole) (alone_parses c.so_far c.rest _ x (loosened c.phrase 2 c.tight) h)
+    subst (λ (y : List Placed). IsExpression 2 y x) (sym c.whole) (alone_parses c.so_far c.rest _ x (loosened c.phrase 2 c.tight) h)
 finished_parses ws m ts x _ h = cc
 
 -- what is read is in the grammar
-pub is_read : (ts : List Placed) (x : Tree) → expression ts ≡ Some x → Parses 2 ts x
+pub is_read : (ts : List Placed) (x : Tree) → expression ts ≡ Some x → IsExpression 2 ts x
 is_read ts x h = option_and_then_some tree_left (run ([], before) ts) x h (λ q k e. finished_parses q.0 q.1 ts x (run_means [] ts ([], before) q (means_before nothing_waits) k) e)
 
 pub is_pattern_read : (ts : List Placed) (p : PatternTree) → option_and_then pattern_in (expression ts) ≡ Some p → IsPattern ts p

@@ -17,8 +17,8 @@ use Rattle.nesl_syntax_open.specs.declared.fault.ParseFault.{ParseFault}
 use Rattle.nesl_syntax_open.specs.declared.fault.ParseFault.TheVariants.{Syntax, Nested, Memory}
 use Rattle.nesl_syntax_open.specs.Turns.{SeesTurn, Turns}
 use Rattle.nesl_syntax_open.specs.declared.types.TypePart.{TypePart}
-use Rattle.nesl_syntax_tree.specs.Trees.{Tree, TypeTree, widened_type}
-use Rattle.nesl_syntax_tree.specs.Grammar.{over}
+use Rattle.nesl_syntax_tree.specs.Trees.{Tree, TypeTree, type_on}
+use Rattle.nesl_syntax_tree.specs.Grammar.{spanning}
 use Rattle.nesl_syntax_open.specs.Machine as machine
 use Rattle.nesl_syntax_open.specs.Parts.{Sees, SeesType}
 use Rattle.nesl_syntax_open.specs.Stack.{SeesOpening, SeesEach, SeesStack}
@@ -117,16 +117,16 @@ list_follows mid new opening part r (open_at o ∷ ws) x h f p far = rw (far_com
 list_follows mid new opening part r (w ∷ ws) x h f p far = absurd h
 
 -- a ( is closed
-round_ends : (t u : Span) (mid new : List Pending) (wide : TypePart) (mode : Mode) (ws : List Waiting) (a : TypeTree) → TypePopped (Some (types.Round u)) mid (newest_type ws) → SeesType wide (widened_type (over u t) a)
+round_ends : (t u : Span) (mid new : List Pending) (wide : TypePart) (mode : Mode) (ws : List Waiting) (a : TypeTree) → TypePopped (Some (types.Round u)) mid (newest_type ws) → SeesType wide (type_on (spanning u t) a)
     → ((vs : List Waiting) (b : TypeTree) → SeesStack mid vs → SeesType wide b → SeesStack new (type_done vs b).0 × SeesMode mode (type_done vs b).1)
     → Follows (Ok mode) new (type_closed ws t a)
 round_ends t u mid new wide mode [] a h p f = absurd h
-round_ends t u mid new wide mode (type_at o ∷ ws) a h p f = rw h.0 (f ws (widened_type (over u t) a) h.1 p)
+round_ends t u mid new wide mode (type_at o ∷ ws) a h p f = rw h.0 (f ws (type_on (spanning u t) a) h.1 p)
 round_ends t u mid new wide mode (w ∷ ws) a h p f = absurd h
 
 pub round_closes : (t u : Span) (old mid new : List Pending) (part wide : TypePart) (mode : Mode) (ws : List Waiting) (a : TypeTree)
     → ((vs : List Waiting) → SeesStack old vs → TypePopped (Some (types.Round u)) mid (newest_type vs))
-    → ((b : TypeTree) → SeesType part b → SeesType wide (widened_type (over u t) b))
+    → ((b : TypeTree) → SeesType part b → SeesType wide (type_on (spanning u t) b))
     → ((vs : List Waiting) (b : TypeTree) → SeesStack mid vs → SeesType wide b → SeesStack new (type_done vs b).0 × SeesMode mode (type_done vs b).1)
     → Closes t ws a old part → Follows (Ok mode) new (type_closed ws t a)
 round_closes t u old mid new part wide mode ws a popped widen f c =

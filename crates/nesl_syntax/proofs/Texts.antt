@@ -5,7 +5,7 @@ use Rattle.std.proofs.lemmas.Bool.{eqb-true, eq-eqb}
 use Rattle.nesl_syntax_tree.specs.declared.tree.Class.{Class}
 use Rattle.nesl_syntax_tree.specs.declared.tree.Class.TheVariants as class
 use Rattle.nesl_syntax_tree.specs.Lines.{class_text}
-use Rattle.nesl_syntax_tree.specs.Trees.{Line, show_names, show_budget}
+use Rattle.nesl_syntax_tree.specs.Trees.{FormTree, show_names, show_budget}
 use Rattle.nesl_syntax_tree.specs.Views.{line_of}
 use Rattle.nesl_syntax.specs.Given.{IsCommand}
 use Rattle.nesl_syntax_tree.specs.declared.tree.Form.{Form}
@@ -75,12 +75,12 @@ class_by x (Some k) some none = sym (ap class_of some ∙ class_text_read k)
 class_by x None some none = rw (text_other x (codes "any") (none class.Any), text_other x (codes "ordinal") (none class.Ordinal), text_other x (codes "number") (none class.Number), text_other x (codes "logical") (none class.Logical)) refl
 
 -- the same of a command
-command_found : (x : List ℕ) (l : Line) → IsCommand x l → Some l ≡ command_of x
+command_found : (x : List ℕ) (l : FormTree) → IsCommand x l → Some l ≡ command_of x
 command_found x show_names h = sym (ap command_of h)
 command_found x show_budget h = sym (ap command_of h)
 command_found x _ h = absurd h
 
-pub command_by : (x : List ℕ) (r : Option Form) → IfSome r (λ f. IsCommand x (line_of f)) → IfNone r ((l : Line) → IsCommand x l → ⊥) → option_map line_of r ≡ command_of x
+pub command_by : (x : List ℕ) (r : Option Form) → IfSome r (λ f. IsCommand x (line_of f)) → IfNone r ((l : FormTree) → IsCommand x l → ⊥) → option_map line_of r ≡ command_of x
 command_by x (Some f) some none = command_found x (line_of f) some
 command_by x None some none = rw (text_other x (codes "names") (none show_names), text_other x (codes "budget") (none show_budget)) refl
 

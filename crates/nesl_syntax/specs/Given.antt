@@ -9,8 +9,8 @@ use Rattle.nesl_syntax.specs.declared.signature.SignaturePart.{SignaturePart}
 use Rattle.nesl_syntax.specs.declared.signature.SignaturePart.TheVariants as signatures
 use Rattle.nesl_syntax.specs.declared.signature.Target.{Target}
 use Rattle.nesl_syntax.specs.declared.function.Head.{Head}
-use Rattle.nesl_syntax_tree.specs.Trees.{Tree, MemberTree, SignatureTree, Line, show_names, show_budget, height}
-use Rattle.nesl_syntax_tree.specs.Trees.{signature_height, line_height}
+use Rattle.nesl_syntax_tree.specs.Trees.{Tree, MemberTree, SignatureTree, FormTree, show_names, show_budget, height}
+use Rattle.nesl_syntax_tree.specs.Trees.{signature_height, form_height}
 use Rattle.nesl_syntax_tree.specs.Views.{tree_of, member_tree, signature_tree, line_of}
 use Rattle.nesl_syntax_open.specs.Parts.{SeesType, SeesPattern}
 use Rattle.nesl_syntax.specs.Reading.{Targets, Heads, members_in}
@@ -62,16 +62,16 @@ GivesExp (Err Nested) (Some x) = 100 < height x
 GivesExp (Err Nested) None = ⊥
 GivesExp (Err Memory) x = Unit {0}
 
-abbrev pub GivesLine : Result Form ParseFault → Option Line → Type 0
-GivesLine (Ok f) (Some l) = (line_of f ≡ l) × (line_height l ≤ 100)
+abbrev pub GivesLine : Result Form ParseFault → Option FormTree → Type 0
+GivesLine (Ok f) (Some l) = (line_of f ≡ l) × (form_height l ≤ 100)
 GivesLine (Ok f) None = ⊥
 GivesLine (Err Syntax) l = l ≡ None
-GivesLine (Err Nested) (Some l) = 100 < line_height l
+GivesLine (Err Nested) (Some l) = 100 < form_height l
 GivesLine (Err Nested) None = ⊥
 GivesLine (Err Memory) l = Unit {0}
 
 -- the words of the commands that end in no ;
-abbrev pub IsCommand : List ℕ → Line → Type 0
+abbrev pub IsCommand : List ℕ → FormTree → Type 0
 IsCommand x show_names = x ≡ codes "names"
 IsCommand x show_budget = x ≡ codes "budget"
 IsCommand x _ = ⊥

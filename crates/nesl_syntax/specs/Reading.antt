@@ -11,9 +11,9 @@ use Rattle.nesl_syntax.specs.declared.signature.MemberEnd.{MemberEnd}
 use Rattle.nesl_syntax.specs.declared.signature.MemberEnd.TheVariants as end
 use Rattle.nesl_syntax_tree.specs.declared.tree.Class.{Class}
 use Rattle.nesl_syntax_tree.specs.declared.tree.Class.TheVariants as class
-use Rattle.nesl_syntax_tree.specs.Trees.{Tree, PatternTree, TypeTree, MemberTree, SignatureTree, Line, nothing}
+use Rattle.nesl_syntax_tree.specs.Trees.{Tree, PatternTree, TypeTree, MemberTree, SignatureTree, FormTree, nothing}
 use Rattle.nesl_syntax_tree.specs.Trees.{function}
-use Rattle.nesl_syntax_tree.specs.Trees.{datatype, bind, eval, show_names, show_budget, show_type}
+use Rattle.nesl_syntax_tree.specs.Trees.{datatype, bind, evaluate, show_names, show_budget, show_type}
 use Rattle.nesl_syntax_tree.specs.Patterns.{pattern_in}
 use Rattle.nesl_syntax_open.specs.Machine.{expression, written_type}
 
@@ -147,70 +147,70 @@ head_with ts (Some c) = with_both head (pattern_read c.0) (signature_in c.1)
 abbrev pub head_in : List Placed → Option Heads
 head_in ts = head_with ts (cut divider.Colon ts)
 
-abbrev pub function_of : List ℕ → Heads → Tree → Line
+abbrev pub function_of : List ℕ → Heads → Tree → FormTree
 function_of x h e = function x h.0 h.1 e
 
-abbrev pub function_with : List ℕ → Option Halves → Option Line
+abbrev pub function_with : List ℕ → Option Halves → Option FormTree
 function_with x None = None
 function_with x (Some c) = with_both (function_of x) (head_in c.0) (expression c.1)
 
-abbrev pub function_named : Lexeme → List Placed → Option Line
+abbrev pub function_named : Lexeme → List Placed → Option FormTree
 function_named (tokens.name x) ts = function_with x (cut divider.Equal ts)
 function_named _ ts = None
 
 -- behind the word function, and behind the word datatype
-abbrev pub function_in : List Placed → Option Line
+abbrev pub function_in : List Placed → Option FormTree
 function_in [] = None
 function_in (t ∷ ts) = function_named t.lexeme ts
 
-abbrev pub datatype_named : Lexeme → List Placed → Option Line
+abbrev pub datatype_named : Lexeme → List Placed → Option FormTree
 datatype_named (tokens.name x) ts = option_map (datatype x) (written_type ts)
 datatype_named _ ts = None
 
-abbrev pub datatype_in : List Placed → Option Line
+abbrev pub datatype_in : List Placed → Option FormTree
 datatype_in [] = None
 datatype_in (t ∷ ts) = datatype_named t.lexeme ts
 
 -- behind a : at the front
-abbrev pub typed_named : Lexeme → List Placed → Option Line
+abbrev pub typed_named : Lexeme → List Placed → Option FormTree
 typed_named (tokens.name x) ts = if is_text x (codes "type") then option_map show_type (expression ts) else None
 typed_named _ ts = None
 
-abbrev pub typed_in : List Placed → Option Line
+abbrev pub typed_in : List Placed → Option FormTree
 typed_in [] = None
 typed_in (t ∷ ts) = typed_named t.lexeme ts
 
 -- a name, this token and these; or an expression
-abbrev pub bound_with : List ℕ → Lexeme → List Placed → List Placed → Option Line
+abbrev pub bound_with : List ℕ → Lexeme → List Placed → List Placed → Option FormTree
 bound_with x (symbol sign.Equal) all ts = option_map (bind x) (expression ts)
-bound_with x _ all ts = option_map eval (expression all)
+bound_with x _ all ts = option_map evaluate (expression all)
 
-abbrev pub bound_in : List ℕ → List Placed → List Placed → Option Line
-bound_in x all [] = option_map eval (expression all)
+abbrev pub bound_in : List ℕ → List Placed → List Placed → Option FormTree
+bound_in x all [] = option_map evaluate (expression all)
 bound_in x all (t ∷ ts) = bound_with x t.lexeme all ts
 
-abbrev pub begun_line : Lexeme → List Placed → List Placed → Option Line
+abbrev pub begun_line : Lexeme → List Placed → List Placed → Option FormTree
 begun_line (reserved word.Function) all ts = function_in ts
 begun_line (reserved word.Datatype) all ts = datatype_in ts
 begun_line (symbol sign.Colon) all ts = typed_in ts
 begun_line (tokens.name x) all ts = bound_in x all ts
-begun_line _ all ts = option_map eval (expression all)
+begun_line _ all ts = option_map evaluate (expression all)
 
 -- a line without its last ;
-abbrev pub line_in : List Placed → Option Line
-line_in [] = option_map eval (expression [])
+abbrev pub line_in : List Placed → Option FormTree
+line_in [] = option_map evaluate (expression [])
 line_in (t ∷ ts) = begun_line t.lexeme (t ∷ ts) ts
 
 -- the lines that end in no ;
-abbrev pub command_of : List ℕ → Option Line
+abbrev pub command_of : List ℕ → Option FormTree
 command_of x =
     if is_text x (codes "names") then Some show_names else if is_text x (codes "budget") then Some show_budget else None
 
-abbrev pub command_with : Lexeme → Lexeme → Option Line
+abbrev pub command_with : Lexeme → Lexeme → Option FormTree
 command_with (symbol sign.Colon) (tokens.name x) = command_of x
 command_with _ _ = None
 
-abbrev pub command_in : List Placed → Option Line
+abbrev pub command_in : List Placed → Option FormTree
 command_in (t ∷ u ∷ []) = command_with t.lexeme u.lexeme
 command_in _ = None
 
@@ -227,11 +227,11 @@ closed_in [] = None
 closed_in (t ∷ []) = if is_semicolon t.lexeme then Some [] else None
 closed_in (t ∷ u ∷ ts) = option_map (behind_token t) (closed_in (u ∷ ts))
 
-abbrev pub form_with : Option Line → List Placed → Option Line
+abbrev pub form_with : Option FormTree → List Placed → Option FormTree
 form_with (Some l) ts = Some l
 form_with None [] = Some nothing
 form_with None (t ∷ ts) = option_and_then line_in (closed_in (t ∷ ts))
 
 -- a line
-abbrev pub form_in : List Placed → Option Line
+abbrev pub form_in : List Placed → Option FormTree
 form_in ts = form_with (command_in ts) ts

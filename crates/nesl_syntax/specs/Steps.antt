@@ -79,12 +79,12 @@ abbrev pub list_newest : List Waiting → Tree → Option State
 list_newest (open_at o ∷ ws) e = with_newest before ws (listed o e)
 list_newest _ e = None
 
-abbrev pub Gives : Result Part ParseFault → Option Tree → Type 0
-Gives (Ok p) (Some x) = Sees p x
-Gives (Ok p) None = ⊥
-Gives (Err Syntax) x = x ≡ None
-Gives (Err Nested) x = ⊥
-Gives (Err Memory) x = Unit {0}
+abbrev pub GivesTree : Result Part ParseFault → Option Tree → Type 0
+GivesTree (Ok p) (Some x) = Sees p x
+GivesTree (Ok p) None = ⊥
+GivesTree (Err Syntax) x = x ≡ None
+GivesTree (Err Nested) x = ⊥
+GivesTree (Err Memory) x = Unit {0}
 
 -- with these tokens to come, the code is where all the tokens lead from this state
 pub record Runs (ps : List Pending) (mode : Mode) (rest all : List Placed) (start : State) : Type 0 where

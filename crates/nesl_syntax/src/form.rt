@@ -1,10 +1,10 @@
 // The form of a line's tokens.
 
 ghost use Rattle.std.specs.Prelude.{◌≡◌, ◌≤◌, ◌<◌, IfOk, IfSome, IfNone, IsErrOf, IsTrue, ◌↔◌, List, codes, option_map};
-ghost use Rattle.nesl_syntax_tree.specs.Trees.{Line, line_height};
+ghost use Rattle.nesl_syntax_tree.specs.Trees.{FormTree, form_height};
 ghost use Rattle.nesl_syntax_tree.specs.Trees as trees;
 ghost use Rattle.nesl_syntax_tree.specs.Views.{line_of};
-ghost use Rattle.nesl_syntax_tree.specs.Lines.{IsLine};
+ghost use Rattle.nesl_syntax_tree.specs.Lines.{IsForm};
 ghost use Rattle.nesl_syntax.specs.Reading as reading;
 ghost use Rattle.nesl_syntax.specs.Given.{IsCommand, GivesExp, GivesLine};
 ghost use Rattle.nesl_syntax_open.specs.Machine as machine;
@@ -33,7 +33,7 @@ fn body(alloc: Global, tokens: &[Token]) -> Result<Exp, ParseFault>
 
 // An expression's line.
 fn eval(alloc: Global, tokens: &[Token]) -> Result<Form, ParseFault>
-    ensures { GivesLine result (option_map trees.eval (machine.expression (placed tokens.now))) }
+    ensures { GivesLine result (option_map trees.evaluate (machine.expression (placed tokens.now))) }
 {
     Ok(Form::Eval(body(alloc, tokens)?))
 }
@@ -149,7 +149,7 @@ fn line(alloc: Global, tokens: &[Token]) -> Result<Form, ParseFault>
 // The command of a word that no `;` stands behind.
 fn command_named(name: &[u8]) -> Option<Form>
     ensures some { IfSome result (λ form. IsCommand name.now (line_of form)) }
-    ensures none { IfNone result ((line : Line) → IsCommand name.now line → ⊥) }
+    ensures none { IfNone result ((line : FormTree) → IsCommand name.now line → ⊥) }
 {
     if is_text(name, b"names") {
         Some(Form::ShowNames)
@@ -205,16 +205,16 @@ fn is_semicolon(token: &Token) -> bool
 /// The one form of a line's tokens.
 pub fn parse_form(alloc: Global, tokens: &[Token]) -> Result<Form, ParseFault>
     // The tokens are this form, and no other tree of any height.
-    ensures tree { IfOk result (λ form. IsLine (placed tokens.now) (line_of form)) }
-    ensures only { IfOk result (λ form. (other : Line) → IsLine (placed tokens.now) other → other ≡ line_of form) }
-    ensures low { IfOk result (λ form. line_height (line_of form) ≤ 100) }
+    ensures tree { IfOk result (λ form. IsForm (placed tokens.now) (line_of form)) }
+    ensures only { IfOk result (λ form. (other : FormTree) → IsForm (placed tokens.now) other → other ≡ line_of form) }
+    ensures low { IfOk result (λ form. form_height (line_of form) ≤ 100) }
 
     // They have no tree of any height.
-    ensures syntax { IsErrOf result ParseFault.Syntax → (line : Line) → IsLine (placed tokens.now) line → ⊥ }
+    ensures syntax { IsErrOf result ParseFault.Syntax → (line : FormTree) → IsForm (placed tokens.now) line → ⊥ }
 
     // They have a tree, and it is too high.
     ensures nested { IsErrOf result ParseFault.Nested →
-        (line : Line) × IsLine (placed tokens.now) line × (100 < line_height line) }
+        (line : FormTree) × IsForm (placed tokens.now) line × (100 < form_height line) }
 {
     if let Some(form) = command(tokens) {
         return Ok(form);
@@ -230,5 +230,5 @@ pub fn parse_form(alloc: Global, tokens: &[Token]) -> Result<Form, ParseFault>
 
 /// Tokens have at most one line.
 pub fn one_form()
-    ensures { (ts : List Placed) (a b : Line) → IsLine ts a → IsLine ts b → a ≡ b }
+    ensures { (ts : List Placed) (a b : FormTree) → IsForm ts a → IsForm ts b → a ≡ b }
 {}

@@ -12,7 +12,7 @@ ghost use Rattle.nesl_syntax_open.specs.Machine as machine;
 ghost use Rattle.nesl_syntax_open.specs.Parts.{Sees, SeesType};
 ghost use Rattle.nesl_syntax_open.specs.Stack.{SeesOpening, SeesTypeOpening, SeesPending, SeesStack};
 ghost use Rattle.nesl_syntax_open.specs.Turns.{SeesTurn};
-ghost use Rattle.nesl_syntax.specs.Steps.{SeesMode, Follows, Gives, PendingGiven, TypeOpeningGiven, TypeGiven};
+ghost use Rattle.nesl_syntax.specs.Steps.{SeesMode, Follows, GivesTree, PendingGiven, TypeOpeningGiven, TypeGiven};
 ghost use Rattle.nesl_syntax.specs.Steps.{OpeningPopped, newest_opening, TypePopped, newest_type};
 ghost use Rattle.nesl_syntax.specs.declared.parse.Mode.TheVariants as mode;
 ghost use Rattle.nesl_syntax_open.specs.declared.part.Part.TheVariants as part;
@@ -656,7 +656,7 @@ fn run(
 // The expression that stands behind the last token, where nothing is open any more.
 fn finish(alloc: Global, stack: &mut Vec<Pending>, mode: Mode) -> Result<Part, ParseFault>
     ensures { (ws : List Waiting) (m : machine.Mode) → SeesStack stack.old.items ws → SeesMode mode m →
-        Gives result (machine.tree_left_in ws m) }
+        GivesTree result (machine.tree_left_in ws m) }
 {
     match mode {
         Mode::Behind { part, .. } => {
@@ -676,7 +676,7 @@ fn finish(alloc: Global, stack: &mut Vec<Pending>, mode: Mode) -> Result<Part, P
 
 /// The expression that the tokens are.
 pub fn expression(alloc: Global, tokens: &[Token]) -> Result<Part, ParseFault>
-    ensures { Gives result (machine.expression (placed tokens.now)) }
+    ensures { GivesTree result (machine.expression (placed tokens.now)) }
 {
     let mut stack = Vec::new(alloc);
     let mode = run(alloc, &mut stack, Mode::Before, tokens)?;

@@ -13,11 +13,11 @@ use Rattle.nesl_syntax_tree.specs.declared.tree.Prefix.TheVariants as prefix
 use Rattle.nesl_syntax_open.specs.declared.mark.Mark.{Mark}
 use Rattle.nesl_syntax_open.specs.declared.mark.Mark.TheVariants as mark
 use Rattle.nesl_syntax_open.specs.declared.mark.Follow.TheVariants as follow
-use Rattle.nesl_syntax_tree.specs.Trees.{Tree, Shape, Trees, Binders, PatternTree, PatternShape, TypeTree, node, pattern, written, span_of, pattern_span, widened, widened_pattern, widened_type, and_then, and_bind, none, no_binders, binder}
+use Rattle.nesl_syntax_tree.specs.Trees.{Tree, Shape, Trees, Binders, PatternTree, PatternShape, TypeTree, node, pattern, written, span_of, pattern_span, tree_on, pattern_on, type_on, with_last, with_last_binder, none, no_binders, binder}
 use Rattle.nesl_syntax_tree.specs.Trees as trees
 use Rattle.nesl_syntax_open.specs.Marks.{follow_of}
 use Rattle.nesl_syntax_tree.specs.Grammar as grammar
-use Rattle.nesl_syntax_tree.specs.Grammar.{operator_token, level_of, prefix_sign, over, token_at, sign_at, word_at, name_at, IsType, AreTypes, IsPattern, ArePatterns, Parses, Lists, Binds, Bodies, own_body}
+use Rattle.nesl_syntax_tree.specs.Grammar.{operator_token, level_of, prefix_sign, spanning, token_at, sign_at, word_at, name_at, IsType, AreTypes, IsPattern, ArePatterns, IsExpression, AreElements, AreBinders, IsBody, unwritten_body}
 use Rattle.nesl_syntax_open.specs.Machine.{Group, let_group, each_group, Opening, round, call, index_of, test, branch, list, range_from, range_to, brace, binders, value, filter, empty_at, type_list, type_round, type_comma, Waiting, open_at, comma_behind, else_behind, body_of, prefix_at, sign_behind, type_at, opening_wants, wanted_by, begun_by, rank, completed, wanted, folded, before, behind, typing, typed, State, opened, becomes, ends, bound, body_or, turned, taken_up, marked, separated, mark_level, on_both, followed, let_closed, type_done, type_separated, type_closed, step, run, alone, expression, written_type}
 use Rattle.nesl_syntax_tree.specs.Patterns.{pattern_in, pattern_shape_in, with_span}
 use Rattle.nesl_syntax_open.proofs.PatternTrees.{shape_of_pattern, tree_of_pattern}
@@ -188,7 +188,7 @@ joins_at operator.Read = refl
 step_pairs : {ns ws : List Waiting} {b : Bool} {x a : Tree} (s : Span) → folded 2 ns x ≡ (ws, a) → wanted ws ≤ 1 → Steps (ns, behind b x) (sign_at sign.Comma s) (comma_behind a ∷ ws, before)
 step_pairs {ws = ws} {a = a} s e h = record { steps = rw e (comma_opens ws a h) }
 
-step_lists : {ns ws : List Waiting} {b : Bool} {x a : Tree} {i : Span} {xs : Trees} (s : Span) → folded 2 ns x ≡ (open_at (list i xs) ∷ ws, a) → Steps (ns, behind b x) (sign_at sign.Comma s) (open_at (list i (and_then xs a)) ∷ ws, before)
+step_lists : {ns ws : List Waiting} {b : Bool} {x a : Tree} {i : Span} {xs : Trees} (s : Span) → folded 2 ns x ≡ (open_at (list i xs) ∷ ws, a) → Steps (ns, behind b x) (sign_at sign.Comma s) (open_at (list i (with_last xs a)) ∷ ws, before)
 step_lists s e = record { steps = rw e refl }
 
 step_joins : {ns ws : List Waiting} {b : Bool} {x a : Tree} (o : Operator) (s : Span) → folded (level_of o) ns x ≡ (ws, a) → wanted ws ≤ level_of o → Steps (ns, behind b x) (token_at (operator_token o) s) (sign_behind o a ∷ ws, before)
@@ -216,7 +216,7 @@ pub record Comes (ws : List Waiting) (ts : List Placed) (n : ℕ) (e : Tree) : T
 ended : {ws : List Waiting} {ts : List Placed} {e : Tree} (n : ℕ) (b : Bool) → Goes (ws, before) ts (ws, behind b e) → Comes ws ts n e
 ended {ws = ws} {e = e} n b g = record { now = ws; fresh = b; last = e; goes = g; folds = λ l k. refl }
 
-pairs_come : {ws : List Waiting} {us vs : List Placed} {a b : Tree} (s : Span) → wanted ws ≤ 1 → Comes ws us 2 a → Comes (comma_behind a ∷ ws) vs 1 b → Comes ws (us ++ (sign_at sign.Comma s ∷ vs)) 1 (node (over (span_of a) (span_of b)) (trees.pair a b))
+pairs_come : {ws : List Waiting} {us vs : List Placed} {a b : Tree} (s : Span) → wanted ws ≤ 1 → Comes ws us 2 a → Comes (comma_behind a ∷ ws) vs 1 b → Comes ws (us ++ (sign_at sign.Comma s ∷ vs)) 1 (node (spanning (span_of a) (span_of b)) (trees.pair a b))
 pairs_come {ws = ws} {a = a} {b = b} s h c d = record {
   now = d.now;
   fresh = d.fresh;
@@ -229,14 +229,14 @@ names_come : (ws : List Waiting) (x : List ℕ) (s : Span) → Comes ws (name_at
 names_come ws x s = ended 10 true (record { goes = refl })
 
 calls_come : {ws : List Waiting} {us : List Placed} {a : Tree} (x : List ℕ) (s t u : Span) → Comes (open_at (call x s) ∷ ws) us 1 a
-    → Comes ws (name_at x s ∷ (sign_at sign.OpenParenthesis t ∷ (us ++ (sign_at sign.CloseParenthesis u ∷ [])))) 10 (node (over s u) (trees.call x a))
+    → Comes ws (name_at x s ∷ (sign_at sign.OpenParenthesis t ∷ (us ++ (sign_at sign.CloseParenthesis u ∷ [])))) 10 (node (spanning s u) (trees.call x a))
 calls_come {ws = ws} {a = a} x s t u c =
     let open_it : Steps (ws, behind true (node s (trees.variable x))) (sign_at sign.OpenParenthesis t) (open_at (call x s) ∷ ws, before) = record { steps = opens (open_at (call x s)) ws (wanted_small ws) } in
     let name_it : Steps (ws, before) (name_at x s) (ws, behind true (node s (trees.variable x))) = record { steps = refl } in
     ended 10 false (Goes-cons name_it (Goes-cons open_it (Goes-append c.goes (Goes-one (step_ends mark.CloseParenthesis _ refl (c.folds 1 (omega arith)) refl)))))
 
 rounds_come : {ws : List Waiting} {us : List Placed} {a : Tree} (s t : Span) → Comes (open_at (round s) ∷ ws) us 1 a
-    → Comes ws (sign_at sign.OpenParenthesis s ∷ (us ++ (sign_at sign.CloseParenthesis t ∷ []))) 10 (widened (over s t) a)
+    → Comes ws (sign_at sign.OpenParenthesis s ∷ (us ++ (sign_at sign.CloseParenthesis t ∷ []))) 10 (tree_on (spanning s t) a)
 rounds_come {ws = ws} {a = a} s t c =
     let open_it : Steps (ws, before) (sign_at sign.OpenParenthesis s) (open_at (round s) ∷ ws, before) = record { steps = opens (open_at (round s)) ws (wanted_small ws) } in
     ended 10 false (Goes-cons open_it (Goes-append c.goes (Goes-one (step_ends mark.CloseParenthesis _ refl (c.folds 1 (omega arith)) refl))))
@@ -248,7 +248,7 @@ loosely h c = record { now = c.now; fresh = c.fresh; last = c.last; goes = c.goe
 span_of_pattern : (p : PatternTree) → span_of (tree_of_pattern p) ≡ pattern_span p
 span_of_pattern (pattern s k) = refl
 
-widened_tree : (s : Span) (p : PatternTree) → tree_of_pattern (widened_pattern s p) ≡ widened s (tree_of_pattern p)
+widened_tree : (s : Span) (p : PatternTree) → tree_of_pattern (pattern_on s p) ≡ tree_on s (tree_of_pattern p)
 widened_tree s (pattern t k) = refl
 
 come_as : {ws : List Waiting} {ts : List Placed} {n : ℕ} (a b : Tree) → a ≡ b → Comes ws ts n a → Comes ws ts n b
@@ -258,7 +258,7 @@ mutual
   pattern_comes : {us : List Placed} {p : PatternTree} → IsPattern us p → (ws : List Waiting) → Comes ws us 10 (tree_of_pattern p)
   pattern_comes (grammar.pattern_name x s) ws = names_come ws x s
   pattern_comes (grammar.pattern_record x s t u q) ws = calls_come x s t u (patterns_come q (open_at (call x s) ∷ ws) (omega arith))
-  pattern_comes (grammar.pattern_rounds {p = p} s t q) ws = come_as _ _ (sym (widened_tree (over s t) p)) (rounds_come s t (patterns_come q (open_at (round s) ∷ ws) (omega arith)))
+  pattern_comes (grammar.pattern_rounds {p = p} s t q) ws = come_as _ _ (sym (widened_tree (spanning s t) p)) (rounds_come s t (patterns_come q (open_at (round s) ∷ ws) (omega arith)))
 
   patterns_come : {us : List Placed} {p : PatternTree} → ArePatterns us p → (ws : List Waiting) → wanted ws ≤ 1 → Comes ws us 1 (tree_of_pattern p)
   patterns_come (grammar.one_pattern q) ws h = loosely (omega arith) (pattern_comes q ws)
@@ -300,12 +300,12 @@ mutual
   type_comes (grammar.type_name x s) ws = record { goes = refl }
   type_comes (grammar.type_sequence {a = a} s t q) ws =
       let open_it : Steps (ws, typing) (sign_at sign.OpenBracket s) (type_at (type_list s) ∷ ws, typing) = record { steps = refl } in
-      let close_it : Steps (type_at (type_list s) ∷ ws, typed a) (sign_at sign.CloseBracket t) (type_done ws (written (over s t) (trees.sequence_type a))) = record { steps = refl } in
+      let close_it : Steps (type_at (type_list s) ∷ ws, typed a) (sign_at sign.CloseBracket t) (type_done ws (written (spanning s t) (trees.sequence_type a))) = record { steps = refl } in
       Goes-cons open_it (Goes-append (type_comes q (type_at (type_list s) ∷ ws)) (Goes-one close_it))
   type_comes (grammar.type_rounds {a = a} s t q) ws =
       let open_it : Steps (ws, typing) (sign_at sign.OpenParenthesis s) (type_at (type_round s) ∷ ws, typing) = record { steps = refl } in
       let c = types_come q (type_at (type_round s) ∷ ws) (in_round s ws) in
-      let close_it : Steps (c.now, typed c.last) (sign_at sign.CloseParenthesis t) (type_done ws (widened_type (over s t) a)) = record { steps = c.closes t } in
+      let close_it : Steps (c.now, typed c.last) (sign_at sign.CloseParenthesis t) (type_done ws (type_on (spanning s t) a)) = record { steps = c.closes t } in
       Goes-cons open_it (Goes-append c.goes (Goes-one close_it))
 
   types_come : {us : List Placed} {a : TypeTree} → AreTypes us a → (ws : List Waiting) → InTypes ws → TypesCome ws us a
@@ -330,7 +330,7 @@ pub record ListComes (s : Span) (ws : List Waiting) (us : List Placed) (xs : Tre
   pub earlier : Trees
   pub item : Tree
   pub folds : folded 2 now last ≡ (open_at (list s earlier) ∷ ws, item)
-  pub all : and_then earlier item ≡ xs
+  pub all : with_last earlier item ≡ xs
 
 -- what stands between a pattern and what it is bound to
 abbrev pub separator : Group → Lexeme
@@ -370,7 +370,7 @@ pub record BindsCome (g : Group) (o : Opening) (ws : List Waiting) (us : List Pl
   pub bound_to : PatternTree
   pub item : Tree
   pub folds : folded 2 now last ≡ (open_at (value g earlier bound_to) ∷ ws, item)
-  pub all : and_bind earlier bound_to item ≡ bs
+  pub all : with_last_binder earlier bound_to item ≡ bs
 
 -- a pattern and its separator
 binds_at : {us : List Placed} {p : PatternTree} (g : Group) (o : Opening) (bs : Binders) (x : Lexeme) (s : Span) (ws : List Waiting) → x ≡ separator g → Begins g o bs → IsPattern us p → Goes (open_at o ∷ ws, before) (us ++ (token_at x s ∷ [])) (open_at (value g bs p) ∷ ws, before)
@@ -387,14 +387,14 @@ pub record BodyComes (s : Span) (ws : List Waiting) (us : List Placed) (bs : Bin
   pub begins : Begins (each_group s given) start no_binders
   pub is_body : body_or given bs ≡ e
 
-let_closes : (i : Span) (ws : List Waiting) (earlier : Binders) (p : PatternTree) (e : Tree) → let_closed (open_at (binders (let_group i) (and_bind earlier p e)) ∷ ws) ≡ Some (body_of i (and_bind earlier p e) ∷ ws, before)
+let_closes : (i : Span) (ws : List Waiting) (earlier : Binders) (p : PatternTree) (e : Tree) → let_closed (open_at (binders (let_group i) (with_last_binder earlier p e)) ∷ ws) ≡ Some (body_of i (with_last_binder earlier p e) ∷ ws, before)
 let_closes i ws no_binders p e = refl
 let_closes i ws (binder q d bs) p e = refl
 
 regroup : (us vs : List Placed) (t : Placed) (q p r : State) → Goes q (us ++ (t ∷ [])) p → Goes p vs r → Goes q (us ++ (t ∷ vs)) r
 regroup us vs t q p r h k = subst (λ (x : List Placed). Goes q x r) (append_assoc us (t ∷ []) vs) (Goes-append h k)
 
-prefix_comes : {ws : List Waiting} {us : List Placed} {a : Tree} (o : Prefix) (s : Span) → Steps (ws, before) (sign_at (prefix_sign o) s) (prefix_at o s ∷ ws, before) → Comes (prefix_at o s ∷ ws) us 8 a → Comes ws (sign_at (prefix_sign o) s ∷ us) 8 (node (over s (span_of a)) (trees.prefix_of o a))
+prefix_comes : {ws : List Waiting} {us : List Placed} {a : Tree} (o : Prefix) (s : Span) → Steps (ws, before) (sign_at (prefix_sign o) s) (prefix_at o s ∷ ws, before) → Comes (prefix_at o s ∷ ws) us 8 a → Comes ws (sign_at (prefix_sign o) s ∷ us) 8 (node (spanning s (span_of a)) (trees.prefix_of o a))
 prefix_comes {ws = ws} {a = a} o s t c = record {
   now = c.now;
   fresh = c.fresh;
@@ -404,7 +404,7 @@ prefix_comes {ws = ws} {a = a} o s t c = record {
 }
 
 mutual
-  pub complete : {n : ℕ} {ts : List Placed} {e : Tree} → Parses n ts e → (ws : List Waiting) → wanted ws ≤ n → Comes ws ts n e
+  pub complete : {n : ℕ} {ts : List Placed} {e : Tree} → IsExpression n ts e → (ws : List Waiting) → wanted ws ≤ n → Comes ws ts n e
   complete (grammar.looser p) ws h = loosely (omega arith) (complete p ws (omega arith))
   complete (grammar.pairs {a = a} {b = b} s p q) ws h = pairs_come s h (complete p ws (omega arith)) (complete q (comma_behind a ∷ ws) (omega arith))
   complete (grammar.lets {bs = bs} {e = e} i t p q) ws h =
@@ -471,7 +471,7 @@ mutual
   complete (grammar.sequences s t q) ws h =
       let open_it : Steps (ws, before) (sign_at sign.OpenBracket s) (open_at (list s none) ∷ ws, before) = record { steps = opens (open_at (list s none)) ws h } in
       let c = lists_come q s ws in
-      ended 10 false (Goes-cons open_it (Goes-append c.goes (Goes-one (step_ends mark.CloseBracket _ refl c.folds (ap (λ (xs : Trees). Some (ends (node (over s t) (trees.sequence xs)))) c.all)))))
+      ended 10 false (Goes-cons open_it (Goes-append c.goes (Goes-one (step_ends mark.CloseBracket _ refl c.folds (ap (λ (xs : Trees). Some (ends (node (spanning s t) (trees.sequence xs)))) c.all)))))
   complete (grammar.ranges {a = a} s x t p q) ws h =
       let open_it : Steps (ws, before) (sign_at sign.OpenBracket s) (open_at (list s none) ∷ ws, before) = record { steps = opens (open_at (list s none)) ws h } in
       let c = complete p (open_at (list s none) ∷ ws) (omega arith) in
@@ -487,7 +487,7 @@ mutual
       let open_it : Steps (ws, before) (sign_at sign.OpenBrace s) (open_at (brace s) ∷ ws, before) = record { steps = opens (open_at (brace s)) ws h } in
       let c = body_comes p s ws in
       let d = binds_come q (each_group s c.given) refl c.start c.begins ws in
-      let end_it = ap (λ (b : Binders). Some (ends (node (over s t) (trees.each (body_or c.given b) b)))) d.all ∙ ap (λ (e : Tree). Some (ends (node (over s t) (trees.each e bs)))) c.is_body in
+      let end_it = ap (λ (b : Binders). Some (ends (node (spanning s t) (trees.each (body_or c.given b) b)))) d.all ∙ ap (λ (e : Tree). Some (ends (node (spanning s t) (trees.each e bs)))) c.is_body in
       ended 10 false (Goes-cons open_it (Goes-append c.goes (Goes-append d.goes (Goes-one (step_ends mark.CloseBrace _ refl d.folds end_it)))))
   complete (grammar.filters {f = f} {bs = bs} s x t p q r) ws h =
       let open_it : Steps (ws, before) (sign_at sign.OpenBrace s) (open_at (brace s) ∷ ws, before) = record { steps = opens (open_at (brace s)) ws h } in
@@ -495,10 +495,10 @@ mutual
       let d = binds_come q (each_group s c.given) refl c.start c.begins ws in
       let g = complete r (open_at (filter s c.given bs) ∷ ws) (omega arith) in
       let bar_it : Steps (d.now, behind d.fresh d.last) (sign_at sign.Bar x) (open_at (filter s c.given bs) ∷ ws, before) = step_marks mark.Bar _ refl d.folds (ap (λ (b : Binders). Some (becomes (open_at (filter s c.given b)))) d.all) in
-      let end_it = ap (λ (e : Tree). Some (ends (node (over s t) (trees.filtered_each e bs f)))) c.is_body in
+      let end_it = ap (λ (e : Tree). Some (ends (node (spanning s t) (trees.filtered_each e bs f)))) c.is_body in
       ended 10 false (Goes-cons open_it (Goes-append c.goes (Goes-append d.goes (Goes-cons bar_it (Goes-append g.goes (Goes-one (step_ends mark.CloseBrace _ refl (g.folds 2 (omega arith)) end_it)))))))
 
-  lists_come : {us : List Placed} {xs : Trees} → Lists us xs → (s : Span) (ws : List Waiting) → ListComes s ws us xs
+  lists_come : {us : List Placed} {xs : Trees} → AreElements us xs → (s : Span) (ws : List Waiting) → ListComes s ws us xs
   lists_come (grammar.one_element {a = a} p) s ws =
       let c = complete p (open_at (list s none) ∷ ws) (omega arith) in
       record { now = c.now; fresh = c.fresh; last = c.last; goes = c.goes; earlier = none; item = a; folds = c.folds 2 (omega arith); all = refl }
@@ -508,7 +508,7 @@ mutual
       let comma : Steps (c.now, behind c.fresh c.last) (sign_at sign.Comma x) (open_at (list s xs) ∷ ws, before) = subst (λ (ys : Trees). Steps (c.now, behind c.fresh c.last) (sign_at sign.Comma x) (open_at (list s ys) ∷ ws, before)) c.all (step_lists x c.folds) in
       record { now = d.now; fresh = d.fresh; last = d.last; goes = Goes-append c.goes (Goes-cons comma d.goes); earlier = xs; item = a; folds = d.folds 2 (omega arith); all = refl }
 
-  binds_come : {x : Lexeme} {us : List Placed} {bs : Binders} → Binds x us bs → (g : Group) → x ≡ separator g → (o : Opening) → Begins g o no_binders → (ws : List Waiting) → BindsCome g o ws us bs
+  binds_come : {x : Lexeme} {us : List Placed} {bs : Binders} → AreBinders x us bs → (g : Group) → x ≡ separator g → (o : Opening) → Begins g o no_binders → (ws : List Waiting) → BindsCome g o ws us bs
   binds_come (grammar.one_binder {x = x} {us = us} {vs = vs} {p = p} {e = e} s i q) g h o b ws =
       let c = binds_at g o no_binders x s ws h b i in
       let d = complete q (open_at (value g no_binders p) ∷ ws) (omega arith) in
@@ -520,7 +520,7 @@ mutual
       let semicolon : Steps (a.now, behind a.fresh a.last) (sign_at sign.Semicolon y) (open_at (binders g bs) ∷ ws, before) = step_marks mark.Semicolon _ refl a.folds (ap (λ (cs : Binders). Some (becomes (open_at (binders g cs)))) a.all) in
       record { now = d.now; fresh = d.fresh; last = d.last; goes = Goes-append a.goes (Goes-cons semicolon (regroup us vs (token_at x s) _ _ _ c d.goes)); earlier = bs; bound_to = p; item = e; folds = d.folds 2 (omega arith); all = refl }
 
-  body_comes : {us : List Placed} {bs : Binders} {e : Tree} → Bodies us bs e → (s : Span) (ws : List Waiting) → BodyComes s ws us bs e
+  body_comes : {us : List Placed} {bs : Binders} {e : Tree} → IsBody us bs e → (s : Span) (ws : List Waiting) → BodyComes s ws us bs e
   body_comes (grammar.body {e = e} x p) s ws =
       let c = complete p (open_at (brace s) ∷ ws) (omega arith) in
       record { given = Some e; start = binders (each_group s (Some e)) no_binders; goes = Goes-append c.goes (Goes-one (step_marks mark.Colon _ refl (c.folds 2 (omega arith)) refl)); begins = binders_begin (each_group s (Some e)) no_binders; is_body = refl }
@@ -530,11 +530,11 @@ expression_from : (ts : List Placed) (e : Tree) → Comes [] ts 2 e → expressi
 expression_from ts e c = rw c.goes.goes (ap (on_both alone) (c.folds 2 (omega arith)))
 
 -- the tree that the grammar gives is the one that is read
-pub reads_it : {ts : List Placed} {e : Tree} → Parses 2 ts e → expression ts ≡ Some e
+pub reads_it : {ts : List Placed} {e : Tree} → IsExpression 2 ts e → expression ts ≡ Some e
 reads_it {ts = ts} {e = e} p = expression_from ts e (complete p [] (omega arith))
 
 -- so there is one
-pub one_tree : {ts : List Placed} {a b : Tree} → Parses 2 ts a → Parses 2 ts b → a ≡ b
+pub one_tree : {ts : List Placed} {a b : Tree} → IsExpression 2 ts a → IsExpression 2 ts b → a ≡ b
 one_tree p q = let e = reads_it p in let f = reads_it q in cc
 
 -- the same of a pattern and of a type

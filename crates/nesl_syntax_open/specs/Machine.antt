@@ -14,11 +14,12 @@ use Rattle.nesl_syntax_open.specs.declared.mark.Mark.TheVariants as mark
 use Rattle.nesl_syntax_open.specs.declared.mark.Follow.{Follow}
 use Rattle.nesl_syntax_open.specs.declared.mark.Follow.TheVariants as follow
 use Rattle.nesl_syntax_tree.specs.Trees.{Tree, Shape, Trees, Binders, PatternTree, TypeTree, node, written, span_of}
-use Rattle.nesl_syntax_tree.specs.Trees.{type_span, widened, widened_type, and_then, and_bind, none, no_binders, binder}
+use Rattle.nesl_syntax_tree.specs.Trees.{type_span, tree_on, type_on, with_last, with_last_binder, none, no_binders}
+use Rattle.nesl_syntax_tree.specs.Trees.{binder}
 use Rattle.nesl_syntax_tree.specs.Trees as trees
 use Rattle.nesl_syntax_tree.specs.Patterns.{pattern_in}
 use Rattle.nesl_syntax_open.specs.Marks.{follow_of}
-use Rattle.nesl_syntax_tree.specs.Grammar.{level_of, over, own_body}
+use Rattle.nesl_syntax_tree.specs.Grammar.{level_of, spanning, unwritten_body}
 
 -- what has binders: a let, or an apply-to-each with its body, if it has one
 pub data Group : Type 0 where
@@ -108,11 +109,11 @@ rank (type_at o) = 0
 -- the tree of it and its last part
 abbrev pub completed : Waiting → Tree → Tree
 completed (open_at o) e = e
-completed (comma_behind a) e = node (over (span_of a) (span_of e)) (trees.pair a e)
-completed (else_behind s a b) e = node (over s (span_of e)) (trees.choice a b e)
-completed (body_of s bs) e = node (over s (span_of e)) (trees.let_in bs e)
-completed (prefix_at o s) e = node (over s (span_of e)) (trees.prefix_of o e)
-completed (sign_behind o a) e = node (over (span_of a) (span_of e)) (trees.infix_of o a e)
+completed (comma_behind a) e = node (spanning (span_of a) (span_of e)) (trees.pair a e)
+completed (else_behind s a b) e = node (spanning s (span_of e)) (trees.choice a b e)
+completed (body_of s bs) e = node (spanning s (span_of e)) (trees.let_in bs e)
+completed (prefix_at o s) e = node (spanning s (span_of e)) (trees.prefix_of o e)
+completed (sign_behind o a) e = node (spanning (span_of a) (span_of e)) (trees.infix_of o a e)
 completed (type_at o) e = e
 
 -- the level of what may stand at this place; the newest that waits comes first
@@ -155,30 +156,30 @@ bound g bs None = None
 -- the body of an apply-to-each
 abbrev pub body_or : Option Tree → Binders → Tree
 body_or (Some e) bs = e
-body_or None bs = own_body bs
+body_or None bs = unwritten_body bs
 
 -- an opening with an expression and this token at t behind it
 abbrev pub turned : Mark → Span → Opening → Tree → Option Turn
-turned mark.CloseParenthesis t (round s) e = Some (ends (widened (over s t) e))
-turned mark.CloseParenthesis t (call x s) e = Some (ends (node (over s t) (trees.call x e)))
-turned mark.CloseBracket t (index_of a) e = Some (ends (node (over (span_of a) t) (trees.index a e)))
+turned mark.CloseParenthesis t (round s) e = Some (ends (tree_on (spanning s t) e))
+turned mark.CloseParenthesis t (call x s) e = Some (ends (node (spanning s t) (trees.call x e)))
+turned mark.CloseBracket t (index_of a) e = Some (ends (node (spanning (span_of a) t) (trees.index a e)))
 turned mark.Then t (test s) e = Some (becomes (open_at (branch s e)))
 turned mark.Else t (branch s a) e = Some (becomes (else_behind s a e))
-turned mark.CloseBracket t (list s xs) e = Some (ends (node (over s t) (trees.sequence (and_then xs e))))
+turned mark.CloseBracket t (list s xs) e = Some (ends (node (spanning s t) (trees.sequence (with_last xs e))))
 turned mark.Colon t (list s none) e = Some (becomes (open_at (range_from s e)))
 turned mark.Colon t (range_from s a) e = Some (becomes (open_at (range_to s a e)))
-turned mark.CloseBracket t (range_from s a) e = Some (ends (node (over s t) (trees.range a e)))
-turned mark.CloseBracket t (range_to s a b) e = Some (ends (node (over s t) (trees.strided_range a b e)))
+turned mark.CloseBracket t (range_from s a) e = Some (ends (node (spanning s t) (trees.range a e)))
+turned mark.CloseBracket t (range_to s a b) e = Some (ends (node (spanning s t) (trees.strided_range a b e)))
 turned mark.Colon t (brace s) e = Some (becomes (open_at (binders (each_group s (Some e)) no_binders)))
 turned mark.In t (brace s) e = bound (each_group s None) no_binders (pattern_in e)
 turned mark.In t (binders (each_group s b) bs) e = bound (each_group s b) bs (pattern_in e)
 turned mark.Equal t (binders (let_group s) bs) e = bound (let_group s) bs (pattern_in e)
-turned mark.Semicolon t (value g bs p) e = Some (becomes (open_at (binders g (and_bind bs p e))))
-turned mark.In t (value (let_group s) bs p) e = Some (becomes (body_of s (and_bind bs p e)))
-turned mark.Bar t (value (each_group s b) bs p) e = Some (becomes (open_at (filter s b (and_bind bs p e))))
+turned mark.Semicolon t (value g bs p) e = Some (becomes (open_at (binders g (with_last_binder bs p e))))
+turned mark.In t (value (let_group s) bs p) e = Some (becomes (body_of s (with_last_binder bs p e)))
+turned mark.Bar t (value (each_group s b) bs p) e = Some (becomes (open_at (filter s b (with_last_binder bs p e))))
 turned mark.CloseBrace t (value (each_group s b) bs p) e =
-    Some (ends (node (over s t) (trees.each (body_or b (and_bind bs p e)) (and_bind bs p e))))
-turned mark.CloseBrace t (filter s b bs) e = Some (ends (node (over s t) (trees.filtered_each (body_or b bs) bs e)))
+    Some (ends (node (spanning s t) (trees.each (body_or b (with_last_binder bs p e)) (with_last_binder bs p e))))
+turned mark.CloseBrace t (filter s b bs) e = Some (ends (node (spanning s t) (trees.filtered_each (body_or b bs) bs e)))
 turned _ t o e = None
 
 abbrev pub taken_up : List Waiting → Option Turn → Option State
@@ -192,12 +193,12 @@ marked m t _ e = None
 
 -- behind a comma
 abbrev pub separated : List Waiting → Tree → Option State
-separated (open_at (list s xs) ∷ ws) e = Some (open_at (list s (and_then xs e)) ∷ ws, before)
+separated (open_at (list s xs) ∷ ws) e = Some (open_at (list s (with_last xs e)) ∷ ws, before)
 separated ws e = opened (comma_behind e) ws
 
 -- the same of the newest alone
 abbrev pub listed : Opening → Tree → Option Waiting
-listed (list s xs) e = Some (open_at (list s (and_then xs e)))
+listed (list s xs) e = Some (open_at (list s (with_last xs e)))
 listed _ e = None
 
 -- a ) ends what has commas
@@ -271,7 +272,7 @@ empty_newest (w ∷ ws) = empty_of w
 
 -- a type that has come
 abbrev pub type_done : List Waiting → TypeTree → State
-type_done (type_at (empty_at s) ∷ ws) a = (ws, behind false (node (over s (type_span a)) (trees.empty a)))
+type_done (type_at (empty_at s) ∷ ws) a = (ws, behind false (node (spanning s (type_span a)) (trees.empty a)))
 type_done ws a = (ws, typed a)
 
 -- where a type is to come
@@ -299,7 +300,7 @@ type_separated ws a = if newest_has_commas ws then Some (type_at (type_comma a) 
 
 -- a type in brackets
 abbrev pub bracket_type : TypeOpening → Span → TypeTree → Option TypeTree
-bracket_type (type_list s) t a = Some (written (over s t) (trees.sequence_type a))
+bracket_type (type_list s) t a = Some (written (spanning s t) (trees.sequence_type a))
 bracket_type _ t a = None
 
 abbrev pub done_with : List Waiting → Option TypeTree → Option State
@@ -311,11 +312,11 @@ type_bracketed (type_at o ∷ ws) t a = done_with ws (bracket_type o t a)
 type_bracketed _ t a = None
 
 abbrev pub type_pair : TypeTree → TypeTree → TypeTree
-type_pair a b = written (over (type_span a) (type_span b)) (trees.pair_type a b)
+type_pair a b = written (spanning (type_span a) (type_span b)) (trees.pair_type a b)
 
 abbrev pub type_closed : List Waiting → Span → TypeTree → Option State
 type_closed (type_at (type_comma b) ∷ ws) t a = type_closed ws t (type_pair b a)
-type_closed (type_at (type_round s) ∷ ws) t a = Some (type_done ws (widened_type (over s t) a))
+type_closed (type_at (type_round s) ∷ ws) t a = Some (type_done ws (type_on (spanning s t) a))
 type_closed _ t a = None
 
 -- behind a type

@@ -10,7 +10,8 @@ use Rattle.nesl_syntax_open.specs.declared.pattern.PatternPart.{PatternPart}
 use Rattle.nesl_syntax_open.specs.declared.pattern.PatternPart.TheVariants as patterns
 use Rattle.nesl_syntax_open.specs.declared.types.TypePart.{TypePart}
 use Rattle.nesl_syntax_open.specs.declared.types.TypePart.TheVariants as types
-use Rattle.nesl_syntax_tree.specs.Trees.{Tree, Trees, Binders, PatternTree, TypeTree, height, greatest, greatest_bound}
+use Rattle.nesl_syntax_tree.specs.Trees.{Tree, Trees, Binders, PatternTree, TypeTree, height, greatest_height}
+use Rattle.nesl_syntax_tree.specs.Trees.{greatest_binder_height}
 use Rattle.nesl_syntax_tree.specs.Trees.{pattern_height, type_height}
 use Rattle.nesl_syntax_tree.specs.Views.{tree_of, trees_in, binders_in, pattern_tree, type_tree}
 use Rattle.nesl_syntax_tree.specs.Patterns.{is_pattern}
@@ -25,12 +26,12 @@ SeesBody None None = Unit {0}
 SeesBody _ _ = ⊥
 
 abbrev pub SeesAll : Elements → Trees → Type 0
-SeesAll (elements.Built v h) ts = (trees_in v.items ≡ ts) × (h ≡ greatest ts) × (h ≤ 100)
-SeesAll elements.High ts = 100 < greatest ts
+SeesAll (elements.Built v h) ts = (trees_in v.items ≡ ts) × (h ≡ greatest_height ts) × (h ≤ 100)
+SeesAll elements.High ts = 100 < greatest_height ts
 
 abbrev pub SeesBound : Bindings → Binders → Type 0
-SeesBound (bindings.Built v h) bs = (binders_in v.items ≡ bs) × (h ≡ greatest_bound bs) × (h ≤ 100)
-SeesBound bindings.High bs = 100 < greatest_bound bs
+SeesBound (bindings.Built v h) bs = (binders_in v.items ≡ bs) × (h ≡ greatest_binder_height bs) × (h ≤ 100)
+SeesBound bindings.High bs = 100 < greatest_binder_height bs
 
 abbrev pub SeesPattern : PatternPart → PatternTree → Type 0
 SeesPattern (patterns.Built p h) t = (pattern_tree p ≡ t) × (h ≡ pattern_height t) × (h ≤ 100)

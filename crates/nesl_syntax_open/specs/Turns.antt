@@ -9,7 +9,7 @@ use Rattle.nesl_syntax_open.specs.declared.turn.Turn.{Turn}
 use Rattle.nesl_syntax_open.specs.declared.turn.Turn.TheVariants as turns
 use Rattle.nesl_syntax_tree.specs.Trees.{Tree, Binders, node}
 use Rattle.nesl_syntax_tree.specs.Trees as trees
-use Rattle.nesl_syntax_tree.specs.Grammar.{over}
+use Rattle.nesl_syntax_tree.specs.Grammar.{spanning}
 use Rattle.nesl_syntax_open.specs.Machine as machine
 use Rattle.nesl_syntax_open.specs.Machine.{Waiting, becomes, ends, open_at, binders, body_of, filter, body_or}
 use Rattle.nesl_syntax_open.specs.Machine.{let_group}
@@ -38,5 +38,5 @@ let_turned _ s bs = None
 abbrev pub each_turned : Mark → Span → Span → Option Tree → Binders → Option machine.Turn
 each_turned mark.Semicolon t s b bs = Some (becomes (open_at (binders (each_group s b) bs)))
 each_turned mark.Bar t s b bs = Some (becomes (open_at (filter s b bs)))
-each_turned mark.CloseBrace t s b bs = Some (ends (node (over s t) (trees.each (body_or b bs) bs)))
+each_turned mark.CloseBrace t s b bs = Some (ends (node (spanning s t) (trees.each (body_or b bs) bs)))
 each_turned _ t s b bs = None

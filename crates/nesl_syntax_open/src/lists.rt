@@ -1,12 +1,12 @@
 // Lists of parts: the elements of a sequence, and binders with what they are bound to.
 
 ghost use Rattle.std.specs.Prelude.{◌≡◌, ◌≤◌, ◌<◌, max, IfOk, IfSome, MatchOption, Option};
-ghost use Rattle.nesl_syntax_tree.specs.Trees.{Tree, Trees, Binders, PatternTree, height, greatest_bound, node};
-ghost use Rattle.nesl_syntax_tree.specs.Trees.{span_of, and_then, and_bind};
+ghost use Rattle.nesl_syntax_tree.specs.Trees.{Tree, Trees, Binders, PatternTree, height, greatest_binder_height, node};
+ghost use Rattle.nesl_syntax_tree.specs.Trees.{span_of, with_last, with_last_binder};
 ghost use Rattle.nesl_syntax_tree.specs.Trees as trees;
 ghost use Rattle.nesl_syntax_open.specs.declared.lists.Bindings.TheVariants as many;
 ghost use Rattle.nesl_syntax_tree.specs.Views.{shape_of, trees_in, binders_in, tree_of};
-ghost use Rattle.nesl_syntax_tree.specs.Grammar.{over, own_body};
+ghost use Rattle.nesl_syntax_tree.specs.Grammar.{spanning, unwritten_body};
 ghost use Rattle.nesl_syntax_open.specs.Machine.{body_or};
 ghost use Rattle.nesl_syntax_open.specs.Parts.{Sees, SeesAll, SeesBound, SeesBody, SeesPattern};
 
@@ -33,7 +33,7 @@ pub enum Bindings {
 #[tactic(auto, using(nesl_syntax_tree::proofs::Rows::greatest_and_then, nesl_syntax_tree::proofs::Rows::trees_push))]
 pub fn push_part(elements: Elements, part: Part) -> Result<Elements, AllocError>
     ensures { IfOk result (λ r. (xs : Trees) (x : Tree) → SeesAll elements xs → Sees part x →
-        SeesAll r (and_then xs x)) }
+        SeesAll r (with_last xs x)) }
 {
     match elements {
         Elements::Built { items, height: m } => match part {
@@ -73,7 +73,7 @@ pub fn push_binding(
 ) -> Result<Bindings, AllocError>
     ensures { IfOk result (λ r. (bs : Binders) (p : PatternTree) (x : Tree) → SeesBound bindings bs →
         SeesPattern pattern p → Sees value x →
-        SeesBound r (and_bind bs p x)) }
+        SeesBound r (with_last_binder bs p x)) }
 {
     let Bindings::Built { items, height: m } = bindings else {
         return Ok(not_built((pattern, value)));
@@ -147,7 +147,8 @@ pub fn sequence_of(elements: Elements, span: Span) -> Part
 fn low_bindings(bindings: Bindings) -> Option<(Vec<Binding>, usize)>
     ensures low { IfSome result (λ r. r.1 < 100) }
     ensures seen { (bs : Binders) → SeesBound bindings bs →
-        MatchOption result (100 ≤ greatest_bound bs) (λ r. (binders_in r.0.items ≡ bs) × (r.1 ≡ greatest_bound bs)) }
+        MatchOption result (100 ≤ greatest_binder_height bs)
+        (λ r. (binders_in r.0.items ≡ bs) × (r.1 ≡ greatest_binder_height bs)) }
 {
     match bindings {
         Bindings::Built { items, height } if height < LIMIT => Some((items, height)),
@@ -157,7 +158,7 @@ fn low_bindings(bindings: Bindings) -> Option<(Vec<Binding>, usize)>
 
 pub fn let_of(alloc: Global, word: Span, bindings: Bindings, body: Part) -> Result<Part, AllocError>
     ensures { IfOk result (λ r. (bs : Binders) (x : Tree) → SeesBound bindings bs → Sees body x →
-        Sees r (node (over word (span_of x)) (trees.let_in bs x))) }
+        Sees r (node (spanning word (span_of x)) (trees.let_in bs x))) }
 {
     let Some((items, m)) = low_bindings(bindings) else {
         return Ok(too_high(body, false));
@@ -172,7 +173,7 @@ pub fn let_of(alloc: Global, word: Span, bindings: Bindings, body: Part) -> Resu
 
 // The body of an apply-to-each that has none.
 fn element_of(items: &[Binding]) -> Exp
-    ensures { tree_of result ≡ own_body (binders_in items.now) }
+    ensures { tree_of result ≡ unwritten_body (binders_in items.now) }
 {
     let span = match items {
         [] => Span { start: 0, end: 0 },
@@ -202,7 +203,7 @@ fn body_of(body: Option<Part>, items: &[Binding]) -> Part
 fn low_each(body: Option<Part>, bindings: Bindings) -> Option<(Exp, Vec<Binding>, usize)>
     ensures low { IfSome result (λ r. r.2 < 100) }
     ensures seen { (b : Option Tree) (bs : Binders) → SeesBody body b → SeesBound bindings bs →
-        let greater = max (height (body_or b bs)) (greatest_bound bs) in
+        let greater = max (height (body_or b bs)) (greatest_binder_height bs) in
         MatchOption result (100 ≤ greater)
         (λ r. (tree_of r.0 ≡ body_or b bs) × (binders_in r.1.items ≡ bs) × (r.2 ≡ greater)) }
 {

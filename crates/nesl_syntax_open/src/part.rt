@@ -1,11 +1,11 @@
 // Parts of a tree, built only up to height 100.
 
 ghost use Rattle.std.specs.Prelude.{◌≡◌, ◌≤◌, ◌<◌, ◌+◌, max, None, IfOk, IfSome, MatchOption};
-ghost use Rattle.nesl_syntax_tree.specs.Trees.{Tree, TypeTree, height, node, span_of, type_span, widened};
+ghost use Rattle.nesl_syntax_tree.specs.Trees.{Tree, TypeTree, height, node, span_of, type_span, tree_on};
 ghost use Rattle.nesl_syntax_tree.specs.Trees as trees;
 ghost use Rattle.nesl_syntax_open.specs.declared.part.Part.TheVariants as part;
 ghost use Rattle.nesl_syntax_tree.specs.Patterns.{is_pattern};
-ghost use Rattle.nesl_syntax_tree.specs.Grammar.{over};
+ghost use Rattle.nesl_syntax_tree.specs.Grammar.{spanning};
 ghost use Rattle.nesl_syntax_open.specs.Parts.{Sees, SeesType};
 ghost use Rattle.nesl_syntax_tree.specs.Views.{tree_of};
 
@@ -105,7 +105,7 @@ pub(crate) fn boxes<T: Drop>(
 
 /// From the first byte of one to the last of the other.
 pub fn over(from: Span, to: Span) -> Span
-    ensures { result ≡ over from to }
+    ensures { result ≡ spanning from to }
 {
     Span {
         start: from.start,
@@ -125,7 +125,7 @@ pub fn may_be_pattern(part: &Part) -> bool
 
 /// A part of these bytes in place of its own.
 pub fn widen(part: Part, span: Span) -> Part
-    ensures { (x : Tree) → Sees part x → Sees result (widened span x) }
+    ensures { (x : Tree) → Sees part x → Sees result (tree_on span x) }
 {
     match part {
         Part::Built {
@@ -157,7 +157,7 @@ pub fn call_of(alloc: Global, name: Vec<u8>, part: Part, span: Span) -> Result<P
 
 pub fn pair_of(alloc: Global, left: Part, right: Part) -> Result<Part, AllocError>
     ensures { IfOk result (λ r. (x y : Tree) → Sees left x → Sees right y →
-        Sees r (node (over (span_of x) (span_of y)) (trees.pair x y))) }
+        Sees r (node (spanning (span_of x) (span_of y)) (trees.pair x y))) }
 {
     let pattern = may_be_pattern(&left) && may_be_pattern(&right);
     let Some((left, right, height)) = both(left, right) else {
@@ -170,7 +170,7 @@ pub fn pair_of(alloc: Global, left: Part, right: Part) -> Result<Part, AllocErro
 
 pub fn prefix_of(alloc: Global, prefix: Prefix, sign: Span, part: Part) -> Result<Part, AllocError>
     ensures { IfOk result (λ r. (x : Tree) → Sees part x →
-        Sees r (node (over sign (span_of x)) (trees.prefix_of prefix x))) }
+        Sees r (node (spanning sign (span_of x)) (trees.prefix_of prefix x))) }
 {
     let Some((operand, height)) = low_enough(part) else {
         return Ok(Part::High(false));
@@ -190,7 +190,7 @@ pub fn infix_of(
     right: Part,
 ) -> Result<Part, AllocError>
     ensures { IfOk result (λ r. (x y : Tree) → Sees left x → Sees right y →
-        Sees r (node (over (span_of x) (span_of y)) (trees.infix_of operator x y))) }
+        Sees r (node (spanning (span_of x) (span_of y)) (trees.infix_of operator x y))) }
 {
     let Some((left, right, height)) = both(left, right) else {
         return Ok(Part::High(false));
@@ -207,7 +207,7 @@ pub fn infix_of(
 
 pub fn index_of(alloc: Global, base: Part, index: Part, close: Span) -> Result<Part, AllocError>
     ensures { IfOk result (λ r. (x y : Tree) → Sees base x → Sees index y →
-        Sees r (node (over (span_of x) close) (trees.index x y))) }
+        Sees r (node (spanning (span_of x) close) (trees.index x y))) }
 {
     let Some((sequence, index, height)) = both(base, index) else {
         return Ok(Part::High(false));
@@ -282,7 +282,7 @@ pub fn choice_of(
     no: Part,
 ) -> Result<Part, AllocError>
     ensures { IfOk result (λ r. (x y z : Tree) → Sees test x → Sees yes y → Sees no z →
-        Sees r (node (over word (span_of z)) (trees.choice x y z))) }
+        Sees r (node (spanning word (span_of z)) (trees.choice x y z))) }
 {
     let Some((test, yes, no, height)) = all_three(test, yes, no) else {
         return Ok(Part::High(false));
@@ -294,7 +294,7 @@ pub fn choice_of(
 
 /// An empty sequence whose `[` stands here.
 pub fn empty_of(written: TypePart, from: Span) -> Part
-    ensures { (x : TypeTree) → SeesType written x → Sees result (node (over from (type_span x)) (trees.empty x)) }
+    ensures { (x : TypeTree) → SeesType written x → Sees result (node (spanning from (type_span x)) (trees.empty x)) }
 {
     match written {
         TypePart::Built { written, height } if height < LIMIT => {

@@ -1,7 +1,8 @@
 // What comes of an opening when an expression and a token that ends a part stand behind it.
 
 ghost use Rattle.std.specs.Prelude.{◌≡◌, IfOk, Option, Some, None, Ok, Err, true};
-ghost use Rattle.nesl_syntax_tree.specs.Trees.{Tree, Trees, Binders, PatternTree, no_binders, and_then, and_bind};
+ghost use Rattle.nesl_syntax_tree.specs.Trees.{Tree, Trees, Binders, PatternTree, no_binders, with_last};
+ghost use Rattle.nesl_syntax_tree.specs.Trees.{with_last_binder};
 ghost use Rattle.nesl_syntax_tree.specs.Patterns.{pattern_in};
 ghost use Rattle.nesl_syntax_open.specs.Machine.{turned};
 ghost use Rattle.nesl_syntax_open.specs.Machine as machine;

@@ -2,7 +2,7 @@
 
 ghost use Rattle.std.specs.Prelude.{◌≡◌, ◌≤◌, ◌<◌, ◌+◌, IfOk, IfSome, MatchOption};
 ghost use Rattle.nesl_syntax_open.specs.declared.types.TypePart.TheVariants as types;
-ghost use Rattle.nesl_syntax_tree.specs.Trees.{TypeTree, type_height, written, sequence_type, widened_type};
+ghost use Rattle.nesl_syntax_tree.specs.Trees.{TypeTree, type_height, written, sequence_type, type_on};
 ghost use Rattle.nesl_syntax_tree.specs.Views.{type_tree};
 ghost use Rattle.nesl_syntax_open.specs.Machine.{type_pair};
 ghost use Rattle.nesl_syntax_open.specs.Parts.{SeesType};
@@ -47,7 +47,7 @@ pub fn leaf(span: Span, node: TypeNode) -> TypePart
 
 /// A type of these bytes in place of its own.
 pub fn widen(part: TypePart, span: Span) -> TypePart
-    ensures { (x : TypeTree) → SeesType part x → SeesType result (widened_type span x) }
+    ensures { (x : TypeTree) → SeesType part x → SeesType result (type_on span x) }
 {
     match part {
         TypePart::Built {

@@ -5,12 +5,12 @@ use Rattle.nesl_lex.specs.Places.{InOrder, none_left, more_left}
 use Rattle.nesl_lex.specs.declared.token.Span.{Span}
 use Rattle.nesl_lex.specs.declared.token.Word.TheVariants as word
 use Rattle.nesl_lex.specs.declared.token.Sign.TheVariants as sign
-use Rattle.nesl_syntax_tree.specs.Trees.{Tree, Trees, Binders, PatternTree, TypeTree, SignatureTree, MemberTree, Line, node, pattern, written, span_of, pattern_span, type_span, widened, widened_pattern, widened_type, and_then, and_bind, none, more, no_binders, binder}
+use Rattle.nesl_syntax_tree.specs.Trees.{Tree, Trees, Binders, PatternTree, TypeTree, SignatureTree, MemberTree, FormTree, node, pattern, written, span_of, pattern_span, type_span, tree_on, pattern_on, type_on, with_last, with_last_binder, none, more, no_binders, binder}
 use Rattle.nesl_syntax_tree.specs.Trees as trees
 use Rattle.nesl_syntax_tree.specs.Grammar as grammar
-use Rattle.nesl_syntax_tree.specs.Grammar.{over, token_at, sign_at, word_at, name_at, IsType, AreTypes, IsPattern, ArePatterns, Parses, Lists, Binds, Bodies}
+use Rattle.nesl_syntax_tree.specs.Grammar.{spanning, token_at, sign_at, word_at, name_at, IsType, AreTypes, IsPattern, ArePatterns, IsExpression, AreElements, AreBinders, IsBody}
 use Rattle.nesl_syntax_tree.specs.Lines as lines
-use Rattle.nesl_syntax_tree.specs.Lines.{IsSignature, IsHead, IsLine}
+use Rattle.nesl_syntax_tree.specs.Lines.{IsSignature, IsHead, IsForm}
 use Rattle.nesl_syntax_tree.specs.Spans.{Item, exp_item, pattern_item, type_item, item_span, items_of, bound_items, body_items, parts_of, Lined, none_lined, more_lined, Orderly, orderly, signature_items, line_items}
 
 -- a node between two places
@@ -50,22 +50,22 @@ one_lined s = more_lined s.low s.own (none_lined s.high)
 within : {i j : ℕ} {xs : List Item} (k l : ℕ) → k ≤ i → j ≤ l → Lined i xs j → Lined k xs l
 within k l h g r = from_place k h (to_place l g r)
 
-widen_tree : (s : Span) (a : Tree) → Orderly (exp_item a) → s.start ≤ (span_of a).start → (span_of a).end ≤ s.end → Orderly (exp_item (widened s a))
+widen_tree : (s : Span) (a : Tree) → Orderly (exp_item a) → s.start ≤ (span_of a).start → (span_of a).end ≤ s.end → Orderly (exp_item (tree_on s a))
 widen_tree s (node t k) (orderly l) h g = orderly (within s.start s.end h g l)
 
-widen_pattern : (s : Span) (a : PatternTree) → Orderly (pattern_item a) → s.start ≤ (pattern_span a).start → (pattern_span a).end ≤ s.end → Orderly (pattern_item (widened_pattern s a))
+widen_pattern : (s : Span) (a : PatternTree) → Orderly (pattern_item a) → s.start ≤ (pattern_span a).start → (pattern_span a).end ≤ s.end → Orderly (pattern_item (pattern_on s a))
 widen_pattern s (pattern t k) (orderly l) h g = orderly (within s.start s.end h g l)
 
-widen_type : (s : Span) (a : TypeTree) → Orderly (type_item a) → s.start ≤ (type_span a).start → (type_span a).end ≤ s.end → Orderly (type_item (widened_type s a))
+widen_type : (s : Span) (a : TypeTree) → Orderly (type_item a) → s.start ≤ (type_span a).start → (type_span a).end ≤ s.end → Orderly (type_item (type_on s a))
 widen_type s (written t k) (orderly l) h g = orderly (within s.start s.end h g l)
 
-wide_tree : (s : Span) (a : Tree) → item_span (exp_item (widened s a)) ≡ s
+wide_tree : (s : Span) (a : Tree) → item_span (exp_item (tree_on s a)) ≡ s
 wide_tree s (node t k) = refl
 
-wide_pattern : (s : Span) (a : PatternTree) → item_span (pattern_item (widened_pattern s a)) ≡ s
+wide_pattern : (s : Span) (a : PatternTree) → item_span (pattern_item (pattern_on s a)) ≡ s
 wide_pattern s (pattern t k) = refl
 
-wide_type : (s : Span) (a : TypeTree) → item_span (type_item (widened_type s a)) ≡ s
+wide_type : (s : Span) (a : TypeTree) → item_span (type_item (type_on s a)) ≡ s
 wide_type s (written t k) = refl
 
 -- tokens in two parts
@@ -111,9 +111,9 @@ mutual
       let p = parted us (sign_at sign.CloseParenthesis t ∷ []) f.rest in
       let g = fronted p.rest in
       let k = types_stand q p.first in
-      let e = wide_type (over s t) a in
+      let e = wide_type (spanning s t) a in
       let z = ended g.rest in
-      record { low = rw e f.low; own = widen_type (over s t) a k.own (omega arith) (omega arith); high = rw e z }
+      record { low = rw e f.low; own = widen_type (spanning s t) a k.own (omega arith) (omega arith); high = rw e z }
 
   types_stand : {us : List Placed} {a : TypeTree} {i j : ℕ} → AreTypes us a → InOrder i us j → Stands i (type_item a) j
   types_stand (grammar.one_type q) h = type_stands q h
@@ -139,9 +139,9 @@ mutual
       let p = parted us (sign_at sign.CloseParenthesis t ∷ []) f.rest in
       let g = fronted p.rest in
       let k = patterns_stand q p.first in
-      let e = wide_pattern (over s t) a in
+      let e = wide_pattern (spanning s t) a in
       let z = ended g.rest in
-      record { low = rw e f.low; own = widen_pattern (over s t) a k.own (omega arith) (omega arith); high = rw e z }
+      record { low = rw e f.low; own = widen_pattern (spanning s t) a k.own (omega arith) (omega arith); high = rw e z }
 
   patterns_stand : {us : List Placed} {p : PatternTree} {i j : ℕ} → ArePatterns us p → InOrder i us j → Stands i (pattern_item p) j
   patterns_stand (grammar.one_pattern q) h = pattern_stands q h
@@ -152,11 +152,11 @@ mutual
       let b = patterns_stand r f.rest in
       record { low = a.low; own = orderly (behind (exactly a.own) (omega arith) (exactly b.own)); high = b.high }
 
-items_and_then : (xs : Trees) (a : Tree) → items_of (and_then xs a) ≡ items_of xs ++ (exp_item a ∷ [])
+items_and_then : (xs : Trees) (a : Tree) → items_of (with_last xs a) ≡ items_of xs ++ (exp_item a ∷ [])
 items_and_then none a = refl
 items_and_then (more t ts) a = ap (λ (x : List Item). exp_item t ∷ x) (items_and_then ts a)
 
-items_and_bind : (bs : Binders) (p : PatternTree) (e : Tree) → bound_items (and_bind bs p e) ≡ bound_items bs ++ (pattern_item p ∷ (exp_item e ∷ []))
+items_and_bind : (bs : Binders) (p : PatternTree) (e : Tree) → bound_items (with_last_binder bs p e) ≡ bound_items bs ++ (pattern_item p ∷ (exp_item e ∷ []))
 items_and_bind no_binders p e = refl
 items_and_bind (binder q d bs) p e = ap (λ (x : List Item). pattern_item q ∷ (exp_item d ∷ x)) (items_and_bind bs p e)
 
@@ -175,7 +175,7 @@ leaf_stands {i = i} {j = j} {t = t} x e k h =
     record { low = low; own = orderly (subst (λ (xs : List Item). Lined (item_span x).start xs (item_span x).end) (sym k) (none_lined own)); high = high }
 
 mutual
-  stands : {n : ℕ} {ts : List Placed} {e : Tree} {i j : ℕ} → Parses n ts e → InOrder i ts j → Stands i (exp_item e) j
+  stands : {n : ℕ} {ts : List Placed} {e : Tree} {i j : ℕ} → IsExpression n ts e → InOrder i ts j → Stands i (exp_item e) j
   stands (grammar.looser p) h = stands p h
   stands (grammar.pairs {us = us} {vs = vs} s p q) h =
       let c = parted us (sign_at sign.Comma s ∷ vs) h in
@@ -243,9 +243,9 @@ mutual
       let c = parted us (sign_at sign.CloseParenthesis t ∷ []) f.rest in
       let g = fronted c.rest in
       let k = stands p c.first in
-      let e = wide_tree (over s t) x in
+      let e = wide_tree (spanning s t) x in
       let z = ended g.rest in
-      record { low = rw e f.low; own = widen_tree (over s t) x k.own (omega arith) (omega arith); high = rw e z }
+      record { low = rw e f.low; own = widen_tree (spanning s t) x k.own (omega arith) (omega arith); high = rw e z }
   stands (grammar.empties {us = us} {a = x} s t q) h =
       let f = fronted h in
       let g = fronted f.rest in
@@ -298,14 +298,14 @@ mutual
       let b = stands r m.first in
       record { low = f.low; own = orderly (within s.start t.end (omega arith) (omega arith) (behind a (omega arith) (behind l (omega arith) (one_lined b)))); high = ended g.rest }
 
-  lists_lined : {us : List Placed} {xs : Trees} {i j : ℕ} → Lists us xs → InOrder i us j → Lined i (items_of xs) j
+  lists_lined : {us : List Placed} {xs : Trees} {i j : ℕ} → AreElements us xs → InOrder i us j → Lined i (items_of xs) j
   lists_lined (grammar.one_element p) h = one_lined (stands p h)
   lists_lined {i = i} {j = j} (grammar.more_elements {us = us} {vs = vs} {xs = xs} {a = a} s p q) h =
       let c = parted us (sign_at sign.Comma s ∷ vs) h in
       let f = fronted c.rest in
       subst (λ (ys : List Item). Lined i ys j) (sym (items_and_then xs a)) (behind (lists_lined p c.first) (omega arith) (one_lined (stands q f.rest)))
 
-  binds_lined : {x : Lexeme} {us : List Placed} {bs : Binders} {i j : ℕ} → Binds x us bs → InOrder i us j → Lined i (bound_items bs) j
+  binds_lined : {x : Lexeme} {us : List Placed} {bs : Binders} {i j : ℕ} → AreBinders x us bs → InOrder i us j → Lined i (bound_items bs) j
   binds_lined (grammar.one_binder {x = x} {us = us} {vs = vs} s p q) h =
       let c = parted us (token_at x s ∷ vs) h in
       let f = fronted c.rest in
@@ -317,7 +317,7 @@ mutual
       let g = fronted d.rest in
       subst (λ (ys : List Item). Lined i ys j) (sym (items_and_bind bs p e)) (behind (binds_lined b c.first) (omega arith) (behind (one_lined (pattern_stands q d.first)) (omega arith) (one_lined (stands r g.rest))))
 
-  bodies_lined : {us : List Placed} {bs : Binders} {e : Tree} {i j : ℕ} → Bodies us bs e → InOrder i us j → Lined i (body_items e) j
+  bodies_lined : {us : List Placed} {bs : Binders} {e : Tree} {i j : ℕ} → IsBody us bs e → InOrder i us j → Lined i (body_items e) j
   bodies_lined (grammar.body {us = us} {e = e} x p) h =
       let c = parted us (sign_at sign.Colon x ∷ []) h in
       let f = fronted c.rest in
@@ -345,7 +345,7 @@ head_lined (lines.signed_head {us = us} {vs = vs} s p q) h =
     let f = fronted c.rest in
     behind (one_lined (pattern_stands p c.first)) (omega arith) (signature_lined q f.rest)
 
-pub line_lined : {ts : List Placed} {l : Line} {i j : ℕ} → IsLine ts l → InOrder i ts j → Lined i (line_items l) j
+pub line_lined : {ts : List Placed} {l : FormTree} {i j : ℕ} → IsForm ts l → InOrder i ts j → Lined i (line_items l) j
 line_lined lines.no_tokens h = none_lined (ended h)
 line_lined (lines.functions {us = us} {vs = vs} x i j t u p q) h =
     let f = fronted h in

@@ -16,8 +16,8 @@ use Rattle.nesl_syntax_tree.specs.declared.tree.Prefix.{Prefix}
 use Rattle.nesl_syntax_tree.specs.declared.tree.Prefix.TheVariants as prefix
 use Rattle.nesl_syntax_tree.specs.Trees.{Tree, Shape, Trees, Binders, PatternTree, TypeTree, node, pattern, written}
 use Rattle.nesl_syntax_tree.specs.Trees.{span_of}
-use Rattle.nesl_syntax_tree.specs.Trees.{pattern_span, type_span, widened, widened_pattern, widened_type, and_then}
-use Rattle.nesl_syntax_tree.specs.Trees.{and_bind}
+use Rattle.nesl_syntax_tree.specs.Trees.{pattern_span, type_span, tree_on, pattern_on, type_on, with_last}
+use Rattle.nesl_syntax_tree.specs.Trees.{with_last_binder}
 use Rattle.nesl_syntax_tree.specs.Trees.{none, no_binders}
 use Rattle.nesl_syntax_tree.specs.Trees as trees
 
@@ -67,8 +67,8 @@ prefix_sign prefix.Length = sign.Hash
 prefix_sign prefix.Negate = sign.Minus
 
 -- from the first byte of one to the last of the other
-abbrev pub over : Span → Span → Span
-over s t = record { start = s.start; end = t.end }
+abbrev pub spanning : Span → Span → Span
+spanning s t = record { start = s.start; end = t.end }
 
 abbrev pub token_at : Lexeme → Span → Placed
 token_at x s = record { lexeme = x; span = s }
@@ -92,11 +92,11 @@ mutual
     type_sequence : {us : List Placed} {a : TypeTree} (s t : Span)
         → IsType us a
         → IsType (sign_at sign.OpenBracket s ∷ (us ++ (sign_at sign.CloseBracket t ∷ [])))
-        (written (over s t) (trees.sequence_type a))
+        (written (spanning s t) (trees.sequence_type a))
     type_rounds : {us : List Placed} {a : TypeTree} (s t : Span)
         → AreTypes us a
         → IsType (sign_at sign.OpenParenthesis s ∷ (us ++ (sign_at sign.CloseParenthesis t ∷ [])))
-        (widened_type (over s t) a)
+        (type_on (spanning s t) a)
 
   -- types with commas between
   pub data AreTypes : List Placed → TypeTree → Type 0 where
@@ -104,7 +104,7 @@ mutual
     type_pairs : {us vs : List Placed} {a b : TypeTree} (s : Span)
         → IsType us a → AreTypes vs b
         → AreTypes (us ++ (sign_at sign.Comma s ∷ vs))
-        (written (over (type_span a) (type_span b)) (trees.pair_type a b))
+        (written (spanning (type_span a) (type_span b)) (trees.pair_type a b))
 
 -- these tokens are this pattern
 mutual
@@ -113,11 +113,11 @@ mutual
     pattern_record : {us : List Placed} {p : PatternTree} (x : List ℕ) (s t u : Span)
         → ArePatterns us p
         → IsPattern (name_at x s ∷ (sign_at sign.OpenParenthesis t ∷ (us ++ (sign_at sign.CloseParenthesis u ∷ []))))
-        (pattern (over s u) (trees.record_pattern x p))
+        (pattern (spanning s u) (trees.record_pattern x p))
     pattern_rounds : {us : List Placed} {p : PatternTree} (s t : Span)
         → ArePatterns us p
         → IsPattern (sign_at sign.OpenParenthesis s ∷ (us ++ (sign_at sign.CloseParenthesis t ∷ [])))
-        (widened_pattern (over s t) p)
+        (pattern_on (spanning s t) p)
 
   -- patterns with commas between
   pub data ArePatterns : List Placed → PatternTree → Type 0 where
@@ -125,106 +125,109 @@ mutual
     pattern_pairs : {us vs : List Placed} {p q : PatternTree} (s : Span)
         → IsPattern us p → ArePatterns vs q
         → ArePatterns (us ++ (sign_at sign.Comma s ∷ vs))
-        (pattern (over (pattern_span p) (pattern_span q)) (trees.pair_pattern p q))
+        (pattern (spanning (pattern_span p) (pattern_span q)) (trees.pair_pattern p q))
 
 -- a node for an apply-to-each without a body, whose body has the first pattern's span
-abbrev pub own_body : Binders → Tree
-own_body no_binders = node (record { start = 0; end = 0 }) trees.element
-own_body (trees.binder p e bs) = node (pattern_span p) trees.element
+abbrev pub unwritten_body : Binders → Tree
+unwritten_body no_binders = node (record { start = 0; end = 0 }) trees.element
+unwritten_body (trees.binder p e bs) = node (pattern_span p) trees.element
 
 -- at this level these tokens are this tree
 mutual
-  pub data Parses : ℕ → List Placed → Tree → Type 0 where
-    looser : {n : ℕ} {ts : List Placed} {e : Tree} → Parses (suc n) ts e → Parses n ts e
+  pub data IsExpression : ℕ → List Placed → Tree → Type 0 where
+    looser : {n : ℕ} {ts : List Placed} {e : Tree} → IsExpression (suc n) ts e → IsExpression n ts e
     pairs : {us vs : List Placed} {a b : Tree} (s : Span)
-        → Parses 2 us a → Parses 1 vs b
-        → Parses 1 (us ++ (sign_at sign.Comma s ∷ vs)) (node (over (span_of a) (span_of b)) (trees.pair a b))
+        → IsExpression 2 us a → IsExpression 1 vs b
+        → IsExpression 1 (us ++ (sign_at sign.Comma s ∷ vs)) (node (spanning (span_of a) (span_of b)) (trees.pair a b))
     lets : {us vs : List Placed} {bs : Binders} {e : Tree} (i t : Span)
-        → Binds (symbol sign.Equal) us bs → Parses 2 vs e
-        → Parses 2 (word_at word.Let i ∷ (us ++ (word_at word.In t ∷ vs)))
-        (node (over i (span_of e)) (trees.let_in bs e))
+        → AreBinders (symbol sign.Equal) us bs → IsExpression 2 vs e
+        → IsExpression 2 (word_at word.Let i ∷ (us ++ (word_at word.In t ∷ vs)))
+        (node (spanning i (span_of e)) (trees.let_in bs e))
     -- a ; may stand before in
     closed_lets : {us vs : List Placed} {bs : Binders} {e : Tree} (i s t : Span)
-        → Binds (symbol sign.Equal) us bs → Parses 2 vs e
-        → Parses 2 (word_at word.Let i ∷ (us ++ (sign_at sign.Semicolon s ∷ (word_at word.In t ∷ vs))))
-        (node (over i (span_of e)) (trees.let_in bs e))
+        → AreBinders (symbol sign.Equal) us bs → IsExpression 2 vs e
+        → IsExpression 2 (word_at word.Let i ∷ (us ++ (sign_at sign.Semicolon s ∷ (word_at word.In t ∷ vs))))
+        (node (spanning i (span_of e)) (trees.let_in bs e))
     chooses : {us vs ws : List Placed} {a b c : Tree} (i t l : Span)
-        → Parses 2 us a → Parses 2 vs b → Parses 2 ws c
-        → Parses 2 (word_at word.If i ∷ (us ++ (word_at word.Then t ∷ (vs ++ (word_at word.Else l ∷ ws)))))
-        (node (over i (span_of c)) (trees.choice a b c))
+        → IsExpression 2 us a → IsExpression 2 vs b → IsExpression 2 ws c
+        → IsExpression 2 (word_at word.If i ∷ (us ++ (word_at word.Then t ∷ (vs ++ (word_at word.Else l ∷ ws)))))
+        (node (spanning i (span_of c)) (trees.choice a b c))
     joins : {us vs : List Placed} {a b : Tree} (o : Operator) (s : Span)
-        → Parses (level_of o) us a → Parses (suc (level_of o)) vs b
-        → Parses (level_of o) (us ++ (token_at (operator_token o) s ∷ vs))
-        (node (over (span_of a) (span_of b)) (trees.infix_of o a b))
+        → IsExpression (level_of o) us a → IsExpression (suc (level_of o)) vs b
+        → IsExpression (level_of o) (us ++ (token_at (operator_token o) s ∷ vs))
+        (node (spanning (span_of a) (span_of b)) (trees.infix_of o a b))
     prefixes : {us : List Placed} {a : Tree} (o : Prefix) (s : Span)
-        → Parses 8 us a
-        → Parses 8 (sign_at (prefix_sign o) s ∷ us) (node (over s (span_of a)) (trees.prefix_of o a))
+        → IsExpression 8 us a
+        → IsExpression 8 (sign_at (prefix_sign o) s ∷ us) (node (spanning s (span_of a)) (trees.prefix_of o a))
     picks : {us vs : List Placed} {a b : Tree} (s t : Span)
-        → Parses 9 us a → Parses 2 vs b
-        → Parses 9 (us ++ (sign_at sign.OpenBracket s ∷ (vs ++ (sign_at sign.CloseBracket t ∷ []))))
-        (node (over (span_of a) t) (trees.index a b))
-    numbers : (n : ℕ) (s : Span) → Parses 10 (token_at (tokens.number n) s ∷ []) (node s (trees.number n))
-    truths : (b : Bool) (s : Span) → Parses 10 (token_at (tokens.truth b) s ∷ []) (node s (trees.truth b))
-    characters : (c : ℕ) (s : Span) → Parses 10 (token_at (tokens.character c) s ∷ []) (node s (trees.character c))
-    texts : (bytes : List ℕ) (s : Span) → Parses 10 (token_at (tokens.quoted bytes) s ∷ []) (node s (trees.text bytes))
-    names : (x : List ℕ) (s : Span) → Parses 10 (name_at x s ∷ []) (node s (trees.variable x))
+        → IsExpression 9 us a → IsExpression 2 vs b
+        → IsExpression 9 (us ++ (sign_at sign.OpenBracket s ∷ (vs ++ (sign_at sign.CloseBracket t ∷ []))))
+        (node (spanning (span_of a) t) (trees.index a b))
+    numbers : (n : ℕ) (s : Span) → IsExpression 10 (token_at (tokens.number n) s ∷ []) (node s (trees.number n))
+    truths : (b : Bool) (s : Span) → IsExpression 10 (token_at (tokens.truth b) s ∷ []) (node s (trees.truth b))
+    characters : (c : ℕ) (s : Span)
+        → IsExpression 10 (token_at (tokens.character c) s ∷ []) (node s (trees.character c))
+    texts : (bytes : List ℕ) (s : Span)
+        → IsExpression 10 (token_at (tokens.quoted bytes) s ∷ []) (node s (trees.text bytes))
+    names : (x : List ℕ) (s : Span) → IsExpression 10 (name_at x s ∷ []) (node s (trees.variable x))
     calls : {us : List Placed} {a : Tree} (x : List ℕ) (s t u : Span)
-        → Parses 1 us a
-        → Parses 10 (name_at x s ∷ (sign_at sign.OpenParenthesis t ∷ (us ++ (sign_at sign.CloseParenthesis u ∷ []))))
-        (node (over s u) (trees.call x a))
+        → IsExpression 1 us a
+        → IsExpression 10
+        (name_at x s ∷ (sign_at sign.OpenParenthesis t ∷ (us ++ (sign_at sign.CloseParenthesis u ∷ []))))
+        (node (spanning s u) (trees.call x a))
     -- parentheses round an expression widen its span
     rounds : {us : List Placed} {a : Tree} (s t : Span)
-        → Parses 1 us a
-        → Parses 10 (sign_at sign.OpenParenthesis s ∷ (us ++ (sign_at sign.CloseParenthesis t ∷ [])))
-        (widened (over s t) a)
+        → IsExpression 1 us a
+        → IsExpression 10 (sign_at sign.OpenParenthesis s ∷ (us ++ (sign_at sign.CloseParenthesis t ∷ [])))
+        (tree_on (spanning s t) a)
     empties : {us : List Placed} {a : TypeTree} (s t : Span)
         → IsType us a
-        → Parses 10 (sign_at sign.OpenBracket s ∷ (sign_at sign.CloseBracket t ∷ us))
-        (node (over s (type_span a)) (trees.empty a))
+        → IsExpression 10 (sign_at sign.OpenBracket s ∷ (sign_at sign.CloseBracket t ∷ us))
+        (node (spanning s (type_span a)) (trees.empty a))
     sequences : {us : List Placed} {xs : Trees} (s t : Span)
-        → Lists us xs
-        → Parses 10 (sign_at sign.OpenBracket s ∷ (us ++ (sign_at sign.CloseBracket t ∷ [])))
-        (node (over s t) (trees.sequence xs))
+        → AreElements us xs
+        → IsExpression 10 (sign_at sign.OpenBracket s ∷ (us ++ (sign_at sign.CloseBracket t ∷ [])))
+        (node (spanning s t) (trees.sequence xs))
     ranges : {us vs : List Placed} {a b : Tree} (s c t : Span)
-        → Parses 2 us a → Parses 2 vs b
-        → Parses 10
+        → IsExpression 2 us a → IsExpression 2 vs b
+        → IsExpression 10
         (sign_at sign.OpenBracket s ∷ (us ++ (sign_at sign.Colon c ∷ (vs ++ (sign_at sign.CloseBracket t ∷ [])))))
-        (node (over s t) (trees.range a b))
+        (node (spanning s t) (trees.range a b))
     strides : {us vs ws : List Placed} {a b e : Tree} (s c d t : Span)
-        → Parses 2 us a → Parses 2 vs b → Parses 2 ws e
-        → Parses 10
+        → IsExpression 2 us a → IsExpression 2 vs b → IsExpression 2 ws e
+        → IsExpression 10
         (sign_at sign.OpenBracket s ∷ (us ++ (sign_at sign.Colon c ∷ (vs
         ++ (sign_at sign.Colon d ∷ (ws ++ (sign_at sign.CloseBracket t ∷ [])))))))
-        (node (over s t) (trees.strided_range a b e))
+        (node (spanning s t) (trees.strided_range a b e))
     eaches : {us vs : List Placed} {e : Tree} {bs : Binders} (s t : Span)
-        → Bodies us bs e → Binds (reserved word.In) vs bs
-        → Parses 10 (sign_at sign.OpenBrace s ∷ (us ++ (vs ++ (sign_at sign.CloseBrace t ∷ []))))
-        (node (over s t) (trees.each e bs))
+        → IsBody us bs e → AreBinders (reserved word.In) vs bs
+        → IsExpression 10 (sign_at sign.OpenBrace s ∷ (us ++ (vs ++ (sign_at sign.CloseBrace t ∷ []))))
+        (node (spanning s t) (trees.each e bs))
     filters : {us vs ws : List Placed} {e f : Tree} {bs : Binders} (s b t : Span)
-        → Bodies us bs e → Binds (reserved word.In) vs bs → Parses 2 ws f
-        → Parses 10
+        → IsBody us bs e → AreBinders (reserved word.In) vs bs → IsExpression 2 ws f
+        → IsExpression 10
         (sign_at sign.OpenBrace s ∷ (us ++ (vs ++ (sign_at sign.Bar b ∷ (ws ++ (sign_at sign.CloseBrace t ∷ []))))))
-        (node (over s t) (trees.filtered_each e bs f))
+        (node (spanning s t) (trees.filtered_each e bs f))
 
   -- expressions with commas between, as a list
-  pub data Lists : List Placed → Trees → Type 0 where
-    one_element : {us : List Placed} {a : Tree} → Parses 2 us a → Lists us (trees.more a none)
+  pub data AreElements : List Placed → Trees → Type 0 where
+    one_element : {us : List Placed} {a : Tree} → IsExpression 2 us a → AreElements us (trees.more a none)
     more_elements : {us vs : List Placed} {xs : Trees} {a : Tree} (s : Span)
-        → Lists us xs → Parses 2 vs a
-        → Lists (us ++ (sign_at sign.Comma s ∷ vs)) (and_then xs a)
+        → AreElements us xs → IsExpression 2 vs a
+        → AreElements (us ++ (sign_at sign.Comma s ∷ vs)) (with_last xs a)
 
   -- patterns, each with this token and an expression behind it, and ; between
-  pub data Binds : Lexeme → List Placed → Binders → Type 0 where
+  pub data AreBinders : Lexeme → List Placed → Binders → Type 0 where
     one_binder : {x : Lexeme} {us vs : List Placed} {p : PatternTree} {e : Tree} (s : Span)
-        → IsPattern us p → Parses 2 vs e
-        → Binds x (us ++ (token_at x s ∷ vs)) (trees.binder p e no_binders)
+        → IsPattern us p → IsExpression 2 vs e
+        → AreBinders x (us ++ (token_at x s ∷ vs)) (trees.binder p e no_binders)
     more_binders : {x : Lexeme} {ts us vs : List Placed} {bs : Binders} {p : PatternTree} {e : Tree} (c s : Span)
-        → Binds x ts bs → IsPattern us p → Parses 2 vs e
-        → Binds x (ts ++ (sign_at sign.Semicolon c ∷ (us ++ (token_at x s ∷ vs)))) (and_bind bs p e)
+        → AreBinders x ts bs → IsPattern us p → IsExpression 2 vs e
+        → AreBinders x (ts ++ (sign_at sign.Semicolon c ∷ (us ++ (token_at x s ∷ vs)))) (with_last_binder bs p e)
 
   -- the body of an apply-to-each over these binders: an expression and a :, or nothing
-  pub data Bodies : List Placed → Binders → Tree → Type 0 where
+  pub data IsBody : List Placed → Binders → Tree → Type 0 where
     body : {us : List Placed} {bs : Binders} {e : Tree} (c : Span)
-        → Parses 2 us e
-        → Bodies (us ++ (sign_at sign.Colon c ∷ [])) bs e
-    bodiless : {bs : Binders} → Bodies [] bs (own_body bs)
+        → IsExpression 2 us e
+        → IsBody (us ++ (sign_at sign.Colon c ∷ [])) bs e
+    bodiless : {bs : Binders} → IsBody [] bs (unwritten_body bs)

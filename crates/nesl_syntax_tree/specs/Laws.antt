@@ -2,12 +2,12 @@
 use Rattle.std.specs.Prelude.{ℕ, List, length}
 use Rattle.nesl_lex.specs.Tokens.{Placed}
 use Rattle.nesl_lex.specs.Lexemes.{HasTokens}
-use Rattle.nesl_syntax_tree.specs.Trees.{Line}
-use Rattle.nesl_syntax_tree.specs.Lines.{IsLine}
+use Rattle.nesl_syntax_tree.specs.Trees.{FormTree}
+use Rattle.nesl_syntax_tree.specs.Lines.{IsForm}
 use Rattle.nesl_syntax_tree.specs.Spans.{Lined, line_items}
 
 -- a line's nodes stand within it, one behind another, and within each node its parts
 abbrev pub OrderlySpans : Type 0
 OrderlySpans =
-    (line : List ℕ) (ts : List Placed) (l : Line) → HasTokens line ts → IsLine ts l
+    (line : List ℕ) (ts : List Placed) (l : FormTree) → HasTokens line ts → IsForm ts l
     → Lined 0 (line_items l) (length line)

@@ -6,10 +6,10 @@ use Rattle.nesl_lex.specs.declared.token.Word.TheVariants as word
 use Rattle.nesl_lex.specs.declared.token.Sign.TheVariants as sign
 use Rattle.nesl_syntax_tree.specs.declared.tree.Class.{Class}
 use Rattle.nesl_syntax_tree.specs.declared.tree.Class.TheVariants as class
-use Rattle.nesl_syntax_tree.specs.Trees.{Tree, PatternTree, TypeTree, MemberTree, SignatureTree, Line, nothing}
+use Rattle.nesl_syntax_tree.specs.Trees.{Tree, PatternTree, TypeTree, MemberTree, SignatureTree, FormTree, nothing}
 use Rattle.nesl_syntax_tree.specs.Trees.{function}
-use Rattle.nesl_syntax_tree.specs.Trees.{datatype, bind, eval, show_names, show_budget, show_type}
-use Rattle.nesl_syntax_tree.specs.Grammar.{sign_at, word_at, name_at, IsType, IsPattern, Parses}
+use Rattle.nesl_syntax_tree.specs.Trees.{datatype, bind, evaluate, show_names, show_budget, show_type}
+use Rattle.nesl_syntax_tree.specs.Grammar.{sign_at, word_at, name_at, IsType, IsPattern, IsExpression}
 
 -- the words of classes and of commands aren't reserved
 abbrev pub class_text : Class → List ℕ
@@ -48,27 +48,27 @@ pub data IsHead : List Placed → PatternTree → Option SignatureTree → Type 
       → IsHead (us ++ (sign_at sign.Colon c ∷ vs)) p (Some s)
 
 -- these tokens are this line
-pub data IsLine : List Placed → Line → Type 0 where
-  no_tokens : IsLine [] nothing
+pub data IsForm : List Placed → FormTree → Type 0 where
+  no_tokens : IsForm [] nothing
   functions : {us vs : List Placed} {p : PatternTree} {s : Option SignatureTree} {e : Tree} (x : List ℕ)
       (i j t u : Span)
-      → IsHead us p s → Parses 2 vs e
-      → IsLine
+      → IsHead us p s → IsExpression 2 vs e
+      → IsForm
       (word_at word.Function i ∷ (name_at x j ∷ (us
       ++ (sign_at sign.Equal t ∷ (vs ++ (sign_at sign.Semicolon u ∷ []))))))
       (function x p s e)
   datatypes : {us : List Placed} {a : TypeTree} (x : List ℕ) (i j u : Span)
       → IsType us a
-      → IsLine (word_at word.Datatype i ∷ (name_at x j ∷ (us ++ (sign_at sign.Semicolon u ∷ [])))) (datatype x a)
+      → IsForm (word_at word.Datatype i ∷ (name_at x j ∷ (us ++ (sign_at sign.Semicolon u ∷ [])))) (datatype x a)
   binds : {us : List Placed} {e : Tree} (x : List ℕ) (s t u : Span)
-      → Parses 2 us e
-      → IsLine (name_at x s ∷ (sign_at sign.Equal t ∷ (us ++ (sign_at sign.Semicolon u ∷ [])))) (bind x e)
+      → IsExpression 2 us e
+      → IsForm (name_at x s ∷ (sign_at sign.Equal t ∷ (us ++ (sign_at sign.Semicolon u ∷ [])))) (bind x e)
   evaluates : {us : List Placed} {e : Tree} (u : Span)
-      → Parses 2 us e
-      → IsLine (us ++ (sign_at sign.Semicolon u ∷ [])) (eval e)
-  names_shown : (c s : Span) → IsLine (sign_at sign.Colon c ∷ (name_at (codes "names") s ∷ [])) show_names
-  budget_shown : (c s : Span) → IsLine (sign_at sign.Colon c ∷ (name_at (codes "budget") s ∷ [])) show_budget
+      → IsExpression 2 us e
+      → IsForm (us ++ (sign_at sign.Semicolon u ∷ [])) (evaluate e)
+  names_shown : (c s : Span) → IsForm (sign_at sign.Colon c ∷ (name_at (codes "names") s ∷ [])) show_names
+  budget_shown : (c s : Span) → IsForm (sign_at sign.Colon c ∷ (name_at (codes "budget") s ∷ [])) show_budget
   type_shown : {us : List Placed} {e : Tree} (c s u : Span)
-      → Parses 2 us e
-      → IsLine (sign_at sign.Colon c ∷ (name_at (codes "type") s ∷ (us ++ (sign_at sign.Semicolon u ∷ []))))
+      → IsExpression 2 us e
+      → IsForm (sign_at sign.Colon c ∷ (name_at (codes "type") s ∷ (us ++ (sign_at sign.Semicolon u ∷ []))))
       (show_type e)

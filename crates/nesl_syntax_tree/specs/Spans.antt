@@ -2,7 +2,8 @@
 use Rattle.std.specs.Prelude.{ℕ, ◌≤◌, List, [], ◌∷◌, ◌++◌, Option, Some, None}
 use Rattle.nesl_lex.specs.declared.token.Span.{Span}
 use Rattle.nesl_syntax_tree.specs.Trees.{Tree, Shape, Trees, Binders, PatternTree, PatternShape, TypeTree, TypeShape}
-use Rattle.nesl_syntax_tree.specs.Trees.{SignatureTree, Line, node, pattern, written, span_of, pattern_span, type_span}
+use Rattle.nesl_syntax_tree.specs.Trees.{SignatureTree, FormTree, node, pattern, written, span_of, pattern_span}
+use Rattle.nesl_syntax_tree.specs.Trees.{type_span}
 use Rattle.nesl_syntax_tree.specs.Trees as trees
 
 -- a node of an expression, a pattern or a type; or the token of a type's name, which parentheses don't widen
@@ -81,10 +82,10 @@ signature_items (Some s) = type_item s.from ∷ (type_item s.to ∷ [])
 signature_items None = []
 
 -- a line's nodes that are part of no other
-abbrev pub line_items : Line → List Item
+abbrev pub line_items : FormTree → List Item
 line_items (trees.function x p s e) = pattern_item p ∷ (signature_items s ++ (exp_item e ∷ []))
 line_items (trees.datatype x a) = type_item a ∷ []
 line_items (trees.bind x e) = exp_item e ∷ []
-line_items (trees.eval e) = exp_item e ∷ []
+line_items (trees.evaluate e) = exp_item e ∷ []
 line_items (trees.show_type e) = exp_item e ∷ []
 line_items _ = []

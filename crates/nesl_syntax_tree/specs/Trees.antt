@@ -73,23 +73,23 @@ abbrev pub pattern_span : PatternTree → Span
 pattern_span (pattern s k) = s
 
 -- the same node, standing in these bytes
-abbrev pub widened : Span → Tree → Tree
-widened s (node t k) = node s k
+abbrev pub tree_on : Span → Tree → Tree
+tree_on s (node t k) = node s k
 
-abbrev pub widened_type : Span → TypeTree → TypeTree
-widened_type s (written t k) = written s k
+abbrev pub type_on : Span → TypeTree → TypeTree
+type_on s (written t k) = written s k
 
-abbrev pub widened_pattern : Span → PatternTree → PatternTree
-widened_pattern s (pattern t k) = pattern s k
+abbrev pub pattern_on : Span → PatternTree → PatternTree
+pattern_on s (pattern t k) = pattern s k
 
 -- one more at the end
-abbrev pub and_then : Trees → Tree → Trees
-and_then none x = more x none
-and_then (more t ts) x = more t (and_then ts x)
+abbrev pub with_last : Trees → Tree → Trees
+with_last none x = more x none
+with_last (more t ts) x = more t (with_last ts x)
 
-abbrev pub and_bind : Binders → PatternTree → Tree → Binders
-and_bind no_binders p e = binder p e no_binders
-and_bind (binder q d bs) p e = binder q d (and_bind bs p e)
+abbrev pub with_last_binder : Binders → PatternTree → Tree → Binders
+with_last_binder no_binders p e = binder p e no_binders
+with_last_binder (binder q d bs) p e = binder q d (with_last_binder bs p e)
 
 -- a leaf is 1, any other node 1 plus the greatest of its parts
 abbrev mutual
@@ -130,22 +130,22 @@ abbrev mutual
   height_of (infix_of o a b) = max (height a) (height b) + 1
   height_of (index a b) = max (height a) (height b) + 1
   height_of (choice a b c) = max (height a) (max (height b) (height c)) + 1
-  height_of (sequence ts) = greatest ts + 1
+  height_of (sequence ts) = greatest_height ts + 1
   height_of (empty t) = type_height t + 1
   height_of (range a b) = max (height a) (height b) + 1
   height_of (strided_range a b c) = max (height a) (max (height b) (height c)) + 1
-  height_of (let_in bs e) = max (greatest_bound bs) (height e) + 1
-  height_of (each e bs) = max (height e) (greatest_bound bs) + 1
-  height_of (filtered_each e bs f) = max (height e) (max (greatest_bound bs) (height f)) + 1
+  height_of (let_in bs e) = max (greatest_binder_height bs) (height e) + 1
+  height_of (each e bs) = max (height e) (greatest_binder_height bs) + 1
+  height_of (filtered_each e bs f) = max (height e) (max (greatest_binder_height bs) (height f)) + 1
   height_of element = 1
 
-  pub greatest : Trees → ℕ
-  greatest none = 0
-  greatest (more t ts) = max (height t) (greatest ts)
+  pub greatest_height : Trees → ℕ
+  greatest_height none = 0
+  greatest_height (more t ts) = max (height t) (greatest_height ts)
 
-  pub greatest_bound : Binders → ℕ
-  greatest_bound no_binders = 0
-  greatest_bound (binder p t bs) = max (pattern_height p) (max (height t) (greatest_bound bs))
+  pub greatest_binder_height : Binders → ℕ
+  greatest_binder_height no_binders = 0
+  greatest_binder_height (binder p t bs) = max (pattern_height p) (max (height t) (greatest_binder_height bs))
 
 -- a name and the class that it is put in
 pub record MemberTree : Type 0 where
@@ -158,27 +158,27 @@ pub record SignatureTree : Type 0 where
   pub members : List MemberTree
 
 -- a line
-pub data Line : Type 0 where
-  nothing : Line
-  function : (name : List ℕ) (parameter : PatternTree) (signature : Option SignatureTree) (body : Tree) → Line
-  datatype : (name : List ℕ) (content : TypeTree) → Line
-  bind : (name : List ℕ) (value : Tree) → Line
-  eval : (value : Tree) → Line
-  show_names : Line
-  show_budget : Line
-  show_type : (value : Tree) → Line
+pub data FormTree : Type 0 where
+  nothing : FormTree
+  function : (name : List ℕ) (parameter : PatternTree) (signature : Option SignatureTree) (body : Tree) → FormTree
+  datatype : (name : List ℕ) (content : TypeTree) → FormTree
+  bind : (name : List ℕ) (value : Tree) → FormTree
+  evaluate : (value : Tree) → FormTree
+  show_names : FormTree
+  show_budget : FormTree
+  show_type : (value : Tree) → FormTree
 
 abbrev pub signature_height : Option SignatureTree → ℕ
 signature_height (Some s) = max (type_height s.from) (type_height s.to)
 signature_height None = 0
 
 -- the greatest height of a line's body, pattern and types, each measured alone
-abbrev pub line_height : Line → ℕ
-line_height nothing = 0
-line_height (function x p s e) = max (pattern_height p) (max (signature_height s) (height e))
-line_height (datatype x a) = type_height a
-line_height (bind x e) = height e
-line_height (eval e) = height e
-line_height show_names = 0
-line_height show_budget = 0
-line_height (show_type e) = height e
+abbrev pub form_height : FormTree → ℕ
+form_height nothing = 0
+form_height (function x p s e) = max (pattern_height p) (max (signature_height s) (height e))
+form_height (datatype x a) = type_height a
+form_height (bind x e) = height e
+form_height (evaluate e) = height e
+form_height show_names = 0
+form_height show_budget = 0
+form_height (show_type e) = height e

@@ -14,7 +14,7 @@ use Rattle.nesl_syntax_tree.specs.declared.tree.Signature.{Signature}
 use Rattle.nesl_syntax_tree.specs.declared.tree.Form.{Form}
 use Rattle.nesl_syntax_tree.specs.declared.tree.Form.TheVariants as forms
 use Rattle.nesl_syntax_tree.specs.Trees.{TypeTree, TypeShape, PatternTree, PatternShape, Tree, Shape, Trees, Binders}
-use Rattle.nesl_syntax_tree.specs.Trees.{MemberTree, SignatureTree, Line, written, pattern, node, none, more}
+use Rattle.nesl_syntax_tree.specs.Trees.{MemberTree, SignatureTree, FormTree, written, pattern, node, none, more}
 use Rattle.nesl_syntax_tree.specs.Trees.{no_binders}
 use Rattle.nesl_syntax_tree.specs.Trees.{binder}
 use Rattle.nesl_syntax_tree.specs.Trees as trees
@@ -89,12 +89,12 @@ member_tree m = record { name = m.name.items; class = m.class }
 abbrev pub signature_tree : Signature → SignatureTree
 signature_tree s = record { from = type_tree s.from; to = type_tree s.to; members = map member_tree s.members.items }
 
-abbrev pub line_of : Form → Line
+abbrev pub line_of : Form → FormTree
 line_of forms.Nothing = trees.nothing
 line_of (forms.Fun x p s e) = trees.function x.items (pattern_tree p) (option_map signature_tree s) (tree_of e)
 line_of (forms.Datatype x a) = trees.datatype x.items (type_tree a)
 line_of (forms.Bind x e) = trees.bind x.items (tree_of e)
-line_of (forms.Eval e) = trees.eval (tree_of e)
+line_of (forms.Eval e) = trees.evaluate (tree_of e)
 line_of forms.ShowNames = trees.show_names
 line_of forms.ShowBudget = trees.show_budget
 line_of (forms.ShowType e) = trees.show_type (tree_of e)

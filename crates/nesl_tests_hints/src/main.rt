@@ -1,18 +1,21 @@
-//! Reads lines, and writes each with the hint on it where it has no tokens or no form.
+//! Says lines to sessions, and writes each with the reply and, where this is a fault, with the hint, which is asked for
+//! before the line is said. An empty line begins a session anew. A line `== W S E L B` begins one with these limits:
+//! the work of a line and of the session, the elements, and the lines and bytes that are recorded. Behind a line `!` no
+//! hints are asked for, until the next one.
 #![tactic(auto)]
 
+mod limits;
 mod rows;
 
-use crate::rows::put_row;
-use std::io::{self, Write};
+use crate::rows::put_rows;
+use std::io::{self, Read, Write};
 
 fn main(rt: HostRuntime) -> io::Result<()> {
     let alloc = rt.alloc();
-    let text = io::read_to_string(alloc, rt.reader())?;
+    let mut text = Vec::new(alloc);
+    rt.reader().read_to_end(&mut text)?;
     let mut out = Vec::new(alloc);
-    for line in text.lines() {
-        put_row(alloc, line, &mut out)?;
-    }
+    put_rows(alloc, text.as_slice(), &mut out)?;
     let mut writer = io::writer(&rt);
     writer.write_all(out.as_slice())?;
     writer.flush()?;

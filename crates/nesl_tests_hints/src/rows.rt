@@ -1,32 +1,52 @@
-//! What is written of a line.
+//! What is written of lines.
 
-use nesl_hints_reading::{Hint, lexical, syntax};
-use nesl_lex::{LexFault, lex};
-use nesl_syntax::{ParseFault, parse_form};
+use crate::limits::{LIMITS, limits_of};
+use nesl_hints::{Hint, hint};
+use nesl_session::session::Session;
 use std::alloc::{AllocError, Global};
 
-/// Writes a line, and the hint on it where it has no tokens or no form.
-pub fn put_row(alloc: Global, line: &str, out: &mut Vec<u8>) -> Result<(), AllocError> {
-    out.extend_from_slice(b"> ")?;
-    out.extend_from_slice(line.as_bytes())?;
-    out.extend_from_slice(b"\n")?;
-    match hint_on(alloc, line.as_bytes())? {
-        Some(hint) => put_hint(alloc, &hint, out),
-        None => out.extend_from_slice(b"it has a form\n"),
+/// Writes the rows of all lines.
+pub fn put_rows(alloc: Global, text: &[u8], out: &mut Vec<u8>) -> Result<(), AllocError> {
+    let mut session = Session::new(alloc, LIMITS)?;
+    let mut hinted = true;
+    for line in text.split(|byte| *byte == b'\n') {
+        if line.is_empty() {
+            session = Session::new(alloc, LIMITS)?;
+            continue;
+        }
+        if line == b"!".as_slice() {
+            hinted = !hinted;
+            continue;
+        }
+        match limits_of(line) {
+            Some(limits) => session = Session::new(alloc, limits)?,
+            None => put_row(alloc, &mut session, line, hinted, out)?,
+        }
     }
+    Ok(())
 }
 
-// The hint on a line, if it has no tokens or no form.
-fn hint_on(alloc: Global, text: &[u8]) -> Result<Option<Hint>, AllocError> {
-    let tokens = match lex(alloc, text) {
-        Ok(tokens) => tokens,
-        Err(LexFault::Lexical { at }) => return Ok(Some(lexical(alloc, text, at)?)),
-        Err(LexFault::Memory) => return Err(AllocError),
+// Writes a line, its reply, and the hint on it, if it has one.
+fn put_row(
+    alloc: Global,
+    session: &mut Session,
+    line: &[u8],
+    hinted: bool,
+    out: &mut Vec<u8>,
+) -> Result<(), AllocError> {
+    out.extend_from_slice(b"> ")?;
+    out.extend_from_slice(line)?;
+    out.extend_from_slice(b"\n")?;
+    let found = if hinted {
+        hint(alloc, session, line)?
+    } else {
+        None
     };
-    match parse_form(alloc, tokens.as_slice()) {
-        Err(ParseFault::Syntax) => Ok(Some(syntax(alloc, text, tokens.as_slice())?)),
-        Err(ParseFault::Memory) => Err(AllocError),
-        _ => Ok(None),
+    let answer = session.line(alloc, line);
+    out.extend_from_slice(answer.bytes())?;
+    match found {
+        Some(hint) => put_hint(alloc, &hint, out),
+        None => Ok(()),
     }
 }
 

@@ -36,7 +36,12 @@ fn left_of(house: &House, user: &[u8]) -> Option<Left> {
     for _ in session.bindings() {
         bound = bound.saturating_add(1);
     }
-    Some((session.told_lines(), pending, session.remaining(), bound))
+    Some((
+        session.recorded_lines(),
+        pending,
+        session.remaining(),
+        bound,
+    ))
 }
 
 // What comes of a text in a heap of so many bytes.

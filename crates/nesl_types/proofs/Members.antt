@@ -2,7 +2,7 @@
 use Rattle.std.proofs.Common.{◌↔◌, inl, inr, ℕ}
 use Rattle.nesl_types.specs.declared.classes.Class.{Class}
 use Rattle.nesl_types.specs.declared.classes.Class.TheVariants.{Any, Ordinal, Number, Logical}
-use Rattle.nesl_types_bank.specs.Term.{Term, int, bool, char, variable, seq_of, both, named}
+use Rattle.nesl_types_bank.specs.Term.{Term, int, bool, char, variable, seq_of, pair_of, named}
 use Rattle.nesl_types_bank.specs.Substitution.{substitute}
 use Rattle.nesl_types.specs.Class.{IsMember, IsWithin, IsIn}
 
@@ -13,7 +13,7 @@ IsIn-wider of c d bool p h = p bool h
 IsIn-wider of c d char p h = p char h
 IsIn-wider of c d (variable v) p h = λ t m. p t (h t m)
 IsIn-wider of c d (seq_of t) p h = p (seq_of t) h
-IsIn-wider of c d (both t u) p h = p (both t u) h
+IsIn-wider of c d (pair_of t u) p h = p (pair_of t u) h
 IsIn-wider of c d (named n) p h = p (named n) h
 
 -- a class whose types are all in another is contained in it
@@ -27,7 +27,7 @@ IsIn-narrowed new old c bool m h = h
 IsIn-narrowed new old c char m h = h
 IsIn-narrowed new old c (variable v) m h = λ t n. h t (m v t n)
 IsIn-narrowed new old c (seq_of t) m h = h
-IsIn-narrowed new old c (both t u) m h = h
+IsIn-narrowed new old c (pair_of t u) m h = h
 IsIn-narrowed new old c (named n) m h = h
 
 -- no sequence or pair is in a class but `Any`, and there each is
@@ -37,7 +37,7 @@ member-seq_of Ordinal t u h = elim h [ inl e ↦ cc | inr e ↦ cc ]
 member-seq_of Number t u h = cc
 member-seq_of Logical t u h = elim h [ inl e ↦ cc | inr e ↦ cc ]
 
-member-both : (c : Class) (t u v w : Term) → IsMember c (both t u) → IsMember c (both v w)
+member-both : (c : Class) (t u v w : Term) → IsMember c (pair_of t u) → IsMember c (pair_of v w)
 member-both Any t u v w h = tt
 member-both Ordinal t u v w h = elim h [ inl e ↦ cc | inr e ↦ cc ]
 member-both Number t u v w h = cc
@@ -50,7 +50,7 @@ IsIn-substitute of k r c bool h m = h
 IsIn-substitute of k r c char h m = h
 IsIn-substitute of k r c (variable v) h m = IsIn-wider k (of v) c (r v) h (m v)
 IsIn-substitute of k r c (seq_of t) h m = member-seq_of c t (substitute r t) h
-IsIn-substitute of k r c (both t u) h m = member-both c t u (substitute r t) (substitute r u) h
+IsIn-substitute of k r c (pair_of t u) h m = member-both c t u (substitute r t) (substitute r u) h
 IsIn-substitute of k r c (named n) h m = h
 
 -- a type is in the class of the common members where it is in both classes
@@ -60,5 +60,5 @@ IsIn-meet of c d m bool h = h bool
 IsIn-meet of c d m char h = h char
 IsIn-meet of c d m (variable v) h = (λ g. (λ t i. ((h t).0 (g t i)).0, λ t i. ((h t).0 (g t i)).1), λ g t i. (h t).1 (g.0 t i, g.1 t i))
 IsIn-meet of c d m (seq_of t) h = h (seq_of t)
-IsIn-meet of c d m (both t u) h = h (both t u)
+IsIn-meet of c d m (pair_of t u) h = h (pair_of t u)
 IsIn-meet of c d m (named n) h = h (named n)

@@ -3,7 +3,7 @@ use Rattle.std.proofs.Common.{◌≡◌, ℕ, suc, ◌+◌, ◌<◌, Bool, true,
 use Rattle.std.proofs.lemmas.List.{take_more}
 use Rattle.nesl_types.specs.declared.classes.Class.{Class}
 use Rattle.nesl_types.specs.declared.classes.Class.TheVariants.{Any, Ordinal, Number, Logical}
-use Rattle.nesl_types.specs.Texts.{member_texts, others_text, members_text}
+use Rattle.nesl_types.specs.Texts.{member_texts, later_members_text, members_text}
 
 -- whether there is one
 abbrev pub some : List (List ℕ) → Bool
@@ -13,14 +13,14 @@ some (t ∷ ts) = true
 -- what is written once these members are
 abbrev pub written : List (List ℕ) → List ℕ
 written [] = []
-written (t ∷ ts) = codes " :: (" ++ t ++ others_text ts
+written (t ∷ ts) = codes " :: (" ++ t ++ later_members_text ts
 
 -- the closing bracket makes the text of the members
 pub written-closed : (ts : List (List ℕ)) → written ts ++ (cond (some ts) (41 ∷ []) []) ≡ members_text ts
 written-closed [] = refl
 written-closed (t ∷ ts) = refl
 
-others-push : (ts : List (List ℕ)) (t : List ℕ) → others_text (ts ++ t ∷ []) ≡ others_text ts ++ codes "; " ++ t
+others-push : (ts : List (List ℕ)) (t : List ℕ) → later_members_text (ts ++ t ∷ []) ≡ later_members_text ts ++ codes "; " ++ t
 others-push [] t = simp append-nil
 others-push (s ∷ ts) t = simp (others-push ts t, append_assoc)
 

@@ -2,7 +2,7 @@
 use Rattle.std.specs.Prelude.{◌≡◌, ◌⊎◌, ℕ, List, slice_get, unwrap_or}
 use Rattle.nesl_types.specs.declared.classes.Class.{Class}
 use Rattle.nesl_types.specs.declared.classes.Class.TheVariants.{Any, Ordinal, Number, Logical}
-use Rattle.nesl_types_bank.specs.Term.{Term, int, bool, char, variable, seq_of, both, named}
+use Rattle.nesl_types_bank.specs.Term.{Term, int, bool, char, variable, seq_of, pair_of, named}
 
 -- a class is the set of its members
 abbrev pub IsMember : Class → Term → Type 0
@@ -22,7 +22,7 @@ IsIn of c bool = IsMember c bool
 IsIn of c char = IsMember c char
 IsIn of c (variable v) = IsWithin (of v) c
 IsIn of c (seq_of t) = IsMember c (seq_of t)
-IsIn of c (both t u) = IsMember c (both t u)
+IsIn of c (pair_of t u) = IsMember c (pair_of t u)
 IsIn of c (named n) = IsMember c (named n)
 
 -- the class at place v, or `Any` past the end

@@ -7,7 +7,7 @@ use Rattle.nesl_types.specs.declared.classes.Class.TheVariants.{Any, Ordinal, Nu
 use Rattle.nesl_types.specs.declared.bindings.Top.{Top}
 use Rattle.nesl_types.specs.declared.schemes.Scheme.{Scheme}
 use Rattle.nesl_types.specs.Names.{datatype_at}
-use Rattle.nesl_types_bank.specs.Term.{Term, int, bool, char, variable, seq_of, both, named}
+use Rattle.nesl_types_bank.specs.Term.{Term, int, bool, char, variable, seq_of, pair_of, named}
 
 -- the variables are a to z, then a1 to z1, a2 and so on
 abbrev pub variable_text : ℕ → List ℕ
@@ -24,7 +24,7 @@ type_text names brackets bool = codes "bool"
 type_text names brackets char = codes "char"
 type_text names brackets (variable v) = variable_text v
 type_text names brackets (seq_of t) = codes "[" ++ type_text names true t ++ codes "]"
-type_text names brackets (both t u) =
+type_text names brackets (pair_of t u) =
     (if brackets then codes "(" else []) ++ type_text names true t ++ codes ", " ++ type_text names false u
     ++ (if brackets then codes ")" else [])
 type_text names brackets (named tag) = names tag
@@ -38,13 +38,13 @@ member_texts v (Number ∷ cs) = (variable_text v ++ codes " in number") ∷ mem
 member_texts v (Logical ∷ cs) = (variable_text v ++ codes " in logical") ∷ member_texts (suc v) cs
 
 -- each text with a semicolon before it
-abbrev pub others_text : List (List ℕ) → List ℕ
-others_text [] = []
-others_text (t ∷ ts) = codes "; " ++ t ++ others_text ts
+abbrev pub later_members_text : List (List ℕ) → List ℕ
+later_members_text [] = []
+later_members_text (t ∷ ts) = codes "; " ++ t ++ later_members_text ts
 
 abbrev pub members_text : List (List ℕ) → List ℕ
 members_text [] = []
-members_text (t ∷ ts) = codes " :: (" ++ t ++ others_text ts ++ codes ")"
+members_text (t ∷ ts) = codes " :: (" ++ t ++ later_members_text ts ++ codes ")"
 
 -- what a function takes, what it gives, and the classes of the variables
 abbrev pub function_text : (ℕ → List ℕ) → Term → Term → List Class → List ℕ

@@ -110,7 +110,7 @@ impl Scheme {
         ensures result { IsBelow (length self.now.classes.items) self.now.result }
     {}
 
-    // The same scheme, which shares the parts of types that are kept, and the numbers under which its own are.
+    // This scheme, its types shared with those that are kept, and the numbers under which these are.
     pub(crate) fn shared(
         self,
         alloc: Global,

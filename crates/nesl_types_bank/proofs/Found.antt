@@ -3,7 +3,7 @@ use Rattle.std.proofs.Common.{◌≡◌, ◌≢◌, ◌⊎◌, inl, inr, ℕ, ze
 use Rattle.std.proofs.lemmas.Bool.{cases_lt}
 use Rattle.std.proofs.lemmas.List.{get_or-set_same, get_or-set_other, length-set, get_or_read}
 use Rattle.std.proofs.lemmas.Option.{none-some}
-use Rattle.nesl_types_bank.specs.Term.{Term, seq_of, both}
+use Rattle.nesl_types_bank.specs.Term.{Term, seq_of, pair_of}
 use Rattle.nesl_types_bank.specs.Substitution.{substitute}
 use Rattle.nesl_types_bank.specs.declared.shape.Shape.{Shape}
 use Rattle.nesl_types_bank.specs.declared.shape.Shape.TheVariants.{Int, Bool, Char, Var, Named, SeqOf, Both}
@@ -62,7 +62,7 @@ module _ (s : ℕ → Term) (ts : List Term) (old : List (Option ℕ)) (p : ℕ)
     here = λ n f b i. t ∙ ap seq_of (i q a b (wanted_here old new q a inside w));
   }
 
-  pub matches_both : (mid new : List (Option ℕ)) (q r a b : ℕ) → q < length old → r < length old → a < length ts → b < length ts → type_at ts p ≡ both (type_at ts a) (type_at ts b) → IsWanted old mid r b → IsWanted mid new q a → Matches s ts old new (Both q r) p
+  pub matches_both : (mid new : List (Option ℕ)) (q r a b : ℕ) → q < length old → r < length old → a < length ts → b < length ts → type_at ts p ≡ pair_of (type_at ts a) (type_at ts b) → IsWanted old mid r b → IsWanted mid new q a → Matches s ts old new (Both q r) p
   matches_both mid new q r a b left right la lb t v w =
       let len = wanted_len old mid r b right v in
       let inside : q < length mid = omega (arith, len, left) in
@@ -74,7 +74,7 @@ module _ (s : ℕ → Term) (ts : List Term) (old : List (Option ℕ)) (p : ℕ)
         here = λ n f c i.
             let x = i q a c.0 (wanted_here mid new q a inside w) in
             let y = i r b c.1 (wanted_kept mid new q a inside w r b (wanted_here old mid r b right v)) in
-            t ∙ ap (λ u. both u (type_at ts b)) x ∙ ap (both (substitute s (f q))) y;
+            t ∙ ap (λ u. pair_of u (type_at ts b)) x ∙ ap (pair_of (substitute s (f q))) y;
       }
 
 -- from `next` on, each part is what is at the place at which it is wanted, where those before it are

@@ -3,7 +3,7 @@ use Rattle.std.proofs.Common.{◌≡◌, ◌⊎◌, inl, inr, ℕ, Bool, true, f
 use Rattle.std.proofs.lemmas.Bool.Decides.{nat_tests}
 use Rattle.std.proofs.lemmas.List.Folds.{list_any-append}
 use Rattle.std.specs.List.{list_any}
-use Rattle.nesl_types_bank.specs.Term.{Term, int, bool, char, variable, seq_of, both, named}
+use Rattle.nesl_types_bank.specs.Term.{Term, int, bool, char, variable, seq_of, pair_of, named}
 use Rattle.nesl_types_bank.specs.Lists.{is_same, with_type, with_parts}
 use Rattle.nesl_types_bank.proofs.Visited.{or_cases, or_left, or_right}
 
@@ -28,7 +28,7 @@ same_types char char h = refl
 same_types (variable v) (variable w) h = ap variable (equal_numbers v w h)
 same_types (named m) (named n) h = ap named (equal_numbers m n h)
 same_types (seq_of t) (seq_of u) h = ap seq_of (same_types t u h)
-same_types (both t u) (both v w) h =
+same_types (pair_of t u) (pair_of v w) h =
     let e = same_types t v (and_left (is_same t v) (is_same u w) h) in
     let d = same_types u w (and_right (is_same t v) (is_same u w) h) in
     cc
@@ -41,7 +41,7 @@ same_itself char = refl
 same_itself (variable v) = equal_itself v
 same_itself (named n) = equal_itself n
 same_itself (seq_of t) = same_itself t
-same_itself (both t u) = ap (λ b. b && is_same u u) (same_itself t) ∙ same_itself u
+same_itself (pair_of t u) = ap (λ b. b && is_same u u) (same_itself t) ∙ same_itself u
 
 -- a type is in a list
 abbrev pub Has : List Term → Term → Type 0
@@ -92,7 +92,7 @@ parts_stay ts bool v h = added_stays ts bool v h
 parts_stay ts char v h = added_stays ts char v h
 parts_stay ts (variable w) v h = added_stays ts (variable w) v h
 parts_stay ts (seq_of t) v h = added_stays (with_parts ts t) (seq_of t) v (parts_stay ts t v h)
-parts_stay ts (both t u) v h = added_stays (with_parts (with_parts ts t) u) (both t u) v (parts_stay (with_parts ts t) u v (parts_stay ts t v h))
+parts_stay ts (pair_of t u) v h = added_stays (with_parts (with_parts ts t) u) (pair_of t u) v (parts_stay (with_parts ts t) u v (parts_stay ts t v h))
 parts_stay ts (named n) v h = added_stays ts (named n) v h
 
 pub parts_itself : (ts : List Term) (t : Term) → Has (with_parts ts t) t
@@ -101,7 +101,7 @@ parts_itself ts bool = added_itself ts bool
 parts_itself ts char = added_itself ts char
 parts_itself ts (variable v) = added_itself ts (variable v)
 parts_itself ts (seq_of t) = added_itself (with_parts ts t) (seq_of t)
-parts_itself ts (both t u) = added_itself (with_parts (with_parts ts t) u) (both t u)
+parts_itself ts (pair_of t u) = added_itself (with_parts (with_parts ts t) u) (pair_of t u)
 parts_itself ts (named n) = added_itself ts (named n)
 
 -- what a type is made of is in a list
@@ -111,7 +111,7 @@ HasParts ts bool = Unit {0}
 HasParts ts char = Unit {0}
 HasParts ts (variable v) = Unit {0}
 HasParts ts (seq_of t) = Has ts t
-HasParts ts (both t u) = Has ts t × Has ts u
+HasParts ts (pair_of t u) = Has ts t × Has ts u
 HasParts ts (named n) = Unit {0}
 
 has_parts_wider : (ts us : List Term) (t : Term) → ((v : Term) → Has ts v → Has us v) → HasParts ts t → HasParts us t
@@ -120,7 +120,7 @@ has_parts_wider ts us bool w h = tt
 has_parts_wider ts us char w h = tt
 has_parts_wider ts us (variable v) w h = tt
 has_parts_wider ts us (seq_of t) w h = w t h
-has_parts_wider ts us (both t u) w h = (w t h.0, w u h.1)
+has_parts_wider ts us (pair_of t u) w h = (w t h.0, w u h.1)
 has_parts_wider ts us (named n) w h = tt
 
 -- with each type its parts are in the list
@@ -139,9 +139,9 @@ closed_parts ts bool c = closed_added ts bool c tt
 closed_parts ts char c = closed_added ts char c tt
 closed_parts ts (variable v) c = closed_added ts (variable v) c tt
 closed_parts ts (seq_of t) c = closed_added (with_parts ts t) (seq_of t) (closed_parts ts t c) (parts_itself ts t)
-closed_parts ts (both t u) c =
+closed_parts ts (pair_of t u) c =
     let ms = with_parts ts t in
-    closed_added (with_parts ms u) (both t u) (closed_parts ms u (closed_parts ts t c)) (parts_stay ms u t (parts_itself ts t), parts_itself ms u)
+    closed_added (with_parts ms u) (pair_of t u) (closed_parts ms u (closed_parts ts t c)) (parts_stay ms u t (parts_itself ts t), parts_itself ms u)
 closed_parts ts (named n) c = closed_added ts (named n) c tt
 
 -- a type that is there is not added
@@ -154,9 +154,9 @@ no_more ts bool c h = none_added ts bool h
 no_more ts char c h = none_added ts char h
 no_more ts (variable v) c h = none_added ts (variable v) h
 no_more ts (seq_of t) c h = ap (λ us. with_type us (seq_of t)) (no_more ts t c (c (seq_of t) h)) ∙ none_added ts (seq_of t) h
-no_more ts (both t u) c h =
-    let p = c (both t u) h in
-    ap (λ us. with_type (with_parts us u) (both t u)) (no_more ts t c p.0) ∙ ap (λ us. with_type us (both t u)) (no_more ts u c p.1) ∙ none_added ts (both t u) h
+no_more ts (pair_of t u) c h =
+    let p = c (pair_of t u) h in
+    ap (λ us. with_type (with_parts us u) (pair_of t u)) (no_more ts t c p.0) ∙ ap (λ us. with_type us (pair_of t u)) (no_more ts u c p.1) ∙ none_added ts (pair_of t u) h
 no_more ts (named n) c h = none_added ts (named n) h
 
 -- a type whose parts are there is added alone
@@ -166,7 +166,7 @@ alone ts bool c h = refl
 alone ts char c h = refl
 alone ts (variable v) c h = refl
 alone ts (seq_of t) c h = ap (λ us. with_type us (seq_of t)) (no_more ts t c h)
-alone ts (both t u) c h = ap (λ us. with_type (with_parts us u) (both t u)) (no_more ts t c h.0) ∙ ap (λ us. with_type us (both t u)) (no_more ts u c h.1)
+alone ts (pair_of t u) c h = ap (λ us. with_type (with_parts us u) (pair_of t u)) (no_more ts t c h.0) ∙ ap (λ us. with_type us (pair_of t u)) (no_more ts u c h.1)
 alone ts (named n) c h = refl
 
 pub added_last : (ts : List Term) (t : Term) → list_any (is_same t) ts ≡ false → with_type ts t ≡ ts ++ t ∷ []
@@ -176,13 +176,13 @@ added_last ts t h = ap (λ b. cond b ts (ts ++ t ∷ [])) h
 pub item_first : (ts : List Term) (t : Term) → IsClosed ts → with_parts (with_parts ts t) (seq_of t) ≡ with_parts ts (seq_of t)
 item_first ts t c = ap (λ us. with_type us (seq_of t)) (no_more (with_parts ts t) t (closed_parts ts t c) (parts_itself ts t))
 
-pub left_first : (ts : List Term) (t u : Term) → IsClosed ts → with_parts (with_parts ts t) (both t u) ≡ with_parts ts (both t u)
-left_first ts t u c = ap (λ us. with_type (with_parts us u) (both t u)) (no_more (with_parts ts t) t (closed_parts ts t c) (parts_itself ts t))
+pub left_first : (ts : List Term) (t u : Term) → IsClosed ts → with_parts (with_parts ts t) (pair_of t u) ≡ with_parts ts (pair_of t u)
+left_first ts t u c = ap (λ us. with_type (with_parts us u) (pair_of t u)) (no_more (with_parts ts t) t (closed_parts ts t c) (parts_itself ts t))
 
-pub right_first : (ts : List Term) (t u : Term) → IsClosed ts → Has ts t → with_parts (with_parts ts u) (both t u) ≡ with_parts ts (both t u)
+pub right_first : (ts : List Term) (t u : Term) → IsClosed ts → Has ts t → with_parts (with_parts ts u) (pair_of t u) ≡ with_parts ts (pair_of t u)
 right_first ts t u c h =
     let ms = with_parts ts u in
     let d = closed_parts ts u c in
-    ap (λ us. with_type (with_parts us u) (both t u)) (no_more ms t d (parts_stay ts u t h))
-    ∙ ap (λ us. with_type us (both t u)) (no_more ms u d (parts_itself ts u))
-    ∙ sym (ap (λ us. with_type (with_parts us u) (both t u)) (no_more ts t c h))
+    ap (λ us. with_type (with_parts us u) (pair_of t u)) (no_more ms t d (parts_stay ts u t h))
+    ∙ ap (λ us. with_type us (pair_of t u)) (no_more ms u d (parts_itself ts u))
+    ∙ sym (ap (λ us. with_type (with_parts us u) (pair_of t u)) (no_more ts t c h))

@@ -5,7 +5,7 @@ use Rattle.std.proofs.lemmas.Bool.{cases_lt}
 use Rattle.std.proofs.lemmas.List.{get_or_append_left, get_or_push, length_push, get_or_past, get_or_default, get_or-replicate, length-replicate, get_or-take, length-take-le}
 use Rattle.std.proofs.lemmas.List.Elements.{All-nil, All-cons, All-take}
 use Rattle.std.proofs.lemmas.Option.{slice_get_past, slice_get-get_or}
-use Rattle.nesl_types_bank.specs.Term.{Term, variable, seq_of, both, nodes}
+use Rattle.nesl_types_bank.specs.Term.{Term, variable, seq_of, pair_of, nodes}
 use Rattle.nesl_types_bank.specs.Substitution.{substitute}
 use Rattle.nesl_types_bank.proofs.Nodes.{nodes_positive}
 use Rattle.nesl_types_bank.proofs.Substitutions.{nodes-substitute}
@@ -17,8 +17,8 @@ use Rattle.nesl_types_bank.specs.declared.graph.State.TheVariants.{Unread, Begun
 use Rattle.nesl_types_bank.specs.Shapes.{shape_type}
 use Rattle.nesl_types_bank.specs.Types.{type_at, size_of}
 use Rattle.nesl_types_bank.specs.Renames.{replacement}
-use Rattle.nesl_types_bank.specs.Graph.{node_at, Describes, Fits, IsNodeBelow, IsGraph, IsRoot, IsFlat, link_or, target, AreRead}
-use Rattle.nesl_types_bank.specs.Readings.{state_at, read_place, found, IsShapeOf, IsPart, IsRead, IsReading, Keeps}
+use Rattle.nesl_types_bank.specs.Graph.{node_at, Describes, FitsGraph, IsNodeBelow, IsGraph, IsRoot, IsFlat, link_or, target, AreRead}
+use Rattle.nesl_types_bank.specs.Readings.{state_at, read_place, found, IsShapeOf, IsPart, IsRead, IsReading, KeepsRead}
 use Rattle.nesl_types_bank.proofs.Readings.{fits-target, target_below, part_below, part_smaller, found_kept, read_of, found_within}
 
 -- what stands for a place that was read, and past the end
@@ -52,7 +52,7 @@ pub record AreReadBelow (ns : List Node) (ss : List State) (ts : List Term) (pla
   pub len : length places ≡ next
   pub each : (p : ℕ) → p < next → found ns ss p ≡ Some (get_or places p 0)
 
-pub read_more : (ns : List Node) (ss new : List State) (ts us : List Term) (places more : List ℕ) (next a : ℕ) → more ≡ places ++ a ∷ [] → Keeps ss new → found ns new next ≡ Some a → IsReading ns new us [] →
+pub read_more : (ns : List Node) (ss new : List State) (ts us : List Term) (places more : List ℕ) (next a : ℕ) → more ≡ places ++ a ∷ [] → KeepsRead ss new → found ns new next ≡ Some a → IsReading ns new us [] →
     AreReadBelow ns ss ts places next → AreReadBelow ns new us more (next + 1)
 read_more ns ss new ts us places more next a e k f r i = rw e (record {
   reading = r;
@@ -126,7 +126,7 @@ module _ (ns : List Node) (g : IsGraph ns) (flat : IsFlat ns) where
         let e : found ns ss q ≡ Some (get_or places p 0) = subst (λ k. read_place (state_at ss k) ≡ Some (get_or places p 0)) (sym own) (i.each p l) in
         type_found p (get_or places p 0) l (i.each p l) ∙ sym (type_found q (get_or places p 0) (target_below ns p g l) e)
 
-    types_fit : Fits types ns
+    types_fit : FitsGraph types ns
     types_fit p = elim (cases_lt p (length ns)) [
       | inl l ↦ by_link types p (node_at ns p) (linked p l) (λ r.
           let h = read_here p l r in
@@ -155,10 +155,10 @@ module _ (ns : List Node) (g : IsGraph ns) (flat : IsFlat ns) where
   as_instance w s f t u (Both q v) r d e h k =
       let x = k q (inl refl) in
       let y = k v (inr refl) in
-      let z : both (w q) (w v) ≡ both (substitute s (f q)) (substitute s (f v)) = cc in
+      let z : pair_of (w q) (w v) ≡ pair_of (substitute s (f q)) (substitute s (f v)) = cc in
       d ∙ z ∙ ap (substitute s) (sym e)
 
-  module _ (f w s : ℕ → Term) (fits : Fits f ns) (free : (p : ℕ) → node_at ns p ≡ Free → f p ≡ variable p) (others : Fits w ns) (put : (p : ℕ) → p < length ns → node_at ns p ≡ Free → s p ≡ w p) where
+  module _ (f w s : ℕ → Term) (fits : FitsGraph f ns) (free : (p : ℕ) → node_at ns p ≡ Free → f p ≡ variable p) (others : FitsGraph w ns) (put : (p : ℕ) → p < length ns → node_at ns p ≡ Free → s p ≡ w p) where
     instance_upto : (k p : ℕ) → nodes (f p) ≤ k → p < length ns → IsRoot (node_at ns p) → w p ≡ substitute s (f p)
     instance_upto zero p b l r = absurd (omega (arith, nodes_positive (f p)))
     instance_upto (suc k) p b l r =
@@ -211,7 +211,7 @@ large_among ts most (p ∷ ps) h = elim (cases_lt most (size_of (type_at ts p)))
       (suc r.0, (omega (arith, r.1.0), r.1.1))
 ]
 
-pub too_large : (ns : List Node) (count most : ℕ) (ts : List Term) (places : List ℕ) → count ≤ length ns → AreRead ns count ts places → (All (λ p. size_of (type_at ts p) ≤ most) places → ⊥) → (w : ℕ → Term) → Fits w ns → (p : ℕ) × ((p < count) × (most < nodes (w p)))
+pub too_large : (ns : List Node) (count most : ℕ) (ts : List Term) (places : List ℕ) → count ≤ length ns → AreRead ns count ts places → (All (λ p. size_of (type_at ts p) ≤ most) places → ⊥) → (w : ℕ → Term) → FitsGraph w ns → (p : ℕ) × ((p < count) × (most < nodes (w p)))
 too_large ns count most ts places l r h w f =
     let a = large_among ts most places h in
     let inside : a.0 < count = omega (arith, r.len, a.1.0) in

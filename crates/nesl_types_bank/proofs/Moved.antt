@@ -4,7 +4,7 @@ use Rattle.std.proofs.Math.Nat.{suc-mul}
 use Rattle.std.proofs.lemmas.Bool.{cases_lt}
 use Rattle.std.proofs.lemmas.List.{get_or_append_left, get_or_push, length_push, get_or-set_same, get_or-set_other, length-set}
 use Rattle.std.specs.List.{list_any}
-use Rattle.nesl_types_bank.specs.Term.{Term, int, seq_of, both}
+use Rattle.nesl_types_bank.specs.Term.{Term, int, seq_of, pair_of}
 use Rattle.nesl_types_bank.specs.declared.shape.Shape.{Shape}
 use Rattle.nesl_types_bank.specs.declared.shape.Shape.TheVariants.{Int, Bool as Bool', Char, Var, Named, SeqOf, Both}
 use Rattle.nesl_types_bank.specs.Shapes.{shape_type, shape_at, IsShapeBelow}
@@ -84,7 +84,7 @@ module _ (from : List Term) (root : ℕ) (shapes : List Shape) (places : List (O
       by (Both q r) e =
           let h = i.moved q e.0 e.1.1.0 in
           let k = i.moved r e.1.0 e.1.1.1.0 in
-          let t : both (type_at out e.0) (type_at out e.1.0) ≡ both (type_at from q) (type_at from r) = cc in
+          let t : pair_of (type_at out e.0) (type_at out e.1.0) ≡ pair_of (type_at from q) (type_at from r) = cc in
           rw e.1.1.1.1 ((h.0, k.0), t)
 
   parts_there : (s : Shape) → IsMoved places x s → HasParts out (shape_type (type_at from) x)
@@ -247,8 +247,8 @@ module _ (from : List Term) (root : ℕ) (shapes : List Shape) (places : List (O
         by (Named n) e = absurd e
         by (SeqOf r) e = ap (λ k. with_parts (with_parts out (type_at from k)) (seq_of (type_at from r))) e.0 ∙ item_first out (type_at from r) i.closed
         by (Both r t) e = elim e [
-          | inl f ↦ ap (λ k. with_parts (with_parts out (type_at from k)) (both (type_at from r) (type_at from t))) f.0 ∙ left_first out (type_at from r) (type_at from t) i.closed
-          | inr f ↦ ap (λ k. with_parts (with_parts out (type_at from k)) (both (type_at from r) (type_at from t))) f.0 ∙ right_first out (type_at from r) (type_at from t) i.closed (found r f.1.1.0 f.1.1.1)
+          | inl f ↦ ap (λ k. with_parts (with_parts out (type_at from k)) (pair_of (type_at from r) (type_at from t))) f.0 ∙ left_first out (type_at from r) (type_at from t) i.closed
+          | inr f ↦ ap (λ k. with_parts (with_parts out (type_at from k)) (pair_of (type_at from r) (type_at from t))) f.0 ∙ right_first out (type_at from r) (type_at from t) i.closed (found r f.1.1.0 f.1.1.1)
         ]
 
     longer : length (qs ++ q ∷ []) ≡ length qs + 1

@@ -7,7 +7,7 @@ use Rattle.std.proofs.lemmas.Bool.Decides.{nat_tests}
 use Rattle.std.proofs.lemmas.List.Folds.{list_any-append}
 use Rattle.std.specs.List.{list_any, position_or_len}
 use Rattle.std.proofs.lemmas.List.Recursion.{is_position_or_len}
-use Rattle.nesl_types_bank.specs.Term.{Term, int, bool, char, variable, seq_of, both, named}
+use Rattle.nesl_types_bank.specs.Term.{Term, int, bool, char, variable, seq_of, pair_of, named}
 use Rattle.nesl_types_bank.specs.Substitution.{substitute}
 use Rattle.nesl_types_bank.specs.Numbering.{variables, with_number, first_occurrences, numbers_below, number_of, IsBelow}
 
@@ -32,7 +32,7 @@ variables-renamed f bool = refl
 variables-renamed f char = refl
 variables-renamed f (variable v) = refl
 variables-renamed f (seq_of t) = variables-renamed f t
-variables-renamed f (both t u) = let e = variables-renamed f t in let d = variables-renamed f u in rw (e, d, map-append) refl
+variables-renamed f (pair_of t u) = let e = variables-renamed f t in let d = variables-renamed f u in rw (e, d, map-append) refl
 variables-renamed f (named n) = refl
 
 -- what was noted stays in front
@@ -185,7 +185,7 @@ all-below n bool h = tt
 all-below n char h = tt
 all-below n (variable v) h = h v (same v v refl)
 all-below n (seq_of t) h = all-below n t h
-all-below n (both t u) h = (
+all-below n (pair_of t u) h = (
   all-below n t (λ v i. h v (list_any-append (nat_eq v) (variables t) (variables u) ∙ or_left _ _ i)),
   all-below n u (λ v i. h v (list_any-append (nat_eq v) (variables t) (variables u) ∙ or_right _ _ i)),
 )

@@ -11,8 +11,9 @@ use Rattle.nesl_types_bank.specs.declared.graph.State.{State}
 use Rattle.nesl_types_bank.specs.declared.graph.State.TheVariants.{Unread, Begun, Read}
 use Rattle.nesl_types_bank.specs.Shapes.{shape_type, IsShapeBelow}
 use Rattle.nesl_types_bank.specs.Types.{type_at, Extends, IsPut}
-use Rattle.nesl_types_bank.specs.Graph.{node_at, Describes, Fits, IsNodeBelow, IsGraph, IsRoot, IsFlat, link_or, target}
-use Rattle.nesl_types_bank.specs.Readings.{state_at, read_place, found, IsShapeOf, IsPart, IsBegun, IsRead, IsReading, Keeps}
+use Rattle.nesl_types_bank.specs.Graph.{node_at, Describes, FitsGraph, IsNodeBelow, IsGraph, IsRoot, IsFlat, link_or}
+use Rattle.nesl_types_bank.specs.Graph.{target}
+use Rattle.nesl_types_bank.specs.Readings.{state_at, read_place, found, IsShapeOf, IsPart, IsBegun, IsRead, IsReading, KeepsRead}
 use Rattle.nesl_types_bank.proofs.Made.{below_wider, type_same}
 
 -- 1 for a place that wasn't looked at
@@ -32,7 +33,7 @@ describes-link w p (Named m) h = refl
 describes-link w p (SeqOf q) h = refl
 describes-link w p (Both q r) h = refl
 
-pub fits-target : (w : ℕ → Term) (ns : List Node) (p : ℕ) → Fits w ns → w p ≡ w (target ns p)
+pub fits-target : (w : ℕ → Term) (ns : List Node) (p : ℕ) → FitsGraph w ns → w p ≡ w (target ns p)
 fits-target w ns p f = describes-link w p (node_at ns p) (f p)
 
 link_below : (n p : ℕ) (m : Node) → p < n → IsNodeBelow n m → link_or p m < n
@@ -91,16 +92,16 @@ begun_of Unread n e = absurd (n refl)
 begun_of Begun n e = refl
 begun_of (Read a) n e = cc
 
-pub found_kept : (ns : List Node) (ss new : List State) (q a : ℕ) → Keeps ss new → found ns ss q ≡ Some a → found ns new q ≡ Some a
+pub found_kept : (ns : List Node) (ss new : List State) (q a : ℕ) → KeepsRead ss new → found ns ss q ≡ Some a → found ns new q ≡ Some a
 found_kept ns ss new q a k e = ap read_place (k (target ns q) a (read_of (state_at ss (target ns q)) a e))
 
-pub keeps_same : (ss : List State) → Keeps ss ss
+pub keeps_same : (ss : List State) → KeepsRead ss ss
 keeps_same ss p a e = e
 
-pub keeps_more : (old mid new : List State) → Keeps old mid → Keeps mid new → Keeps old new
+pub keeps_more : (old mid new : List State) → KeepsRead old mid → KeepsRead mid new → KeepsRead old new
 keeps_more old mid new k l p a e = l p a (k p a e)
 
-pub keeps_set : (ss : List State) (p : ℕ) (s : State) → ((a : ℕ) → state_at ss p ≢ Read a) → Keeps ss (set ss p s)
+pub keeps_set : (ss : List State) (p : ℕ) (s : State) → ((a : ℕ) → state_at ss p ≢ Read a) → KeepsRead ss (set ss p s)
 keeps_set ss p s h q a e = elim (cases_eq q p) [
   | inl same ↦ absurd (h a (sym (ap (state_at ss) same) ∙ e))
   | inr other ↦ get_or-set_other ss p q s Unread other ∙ e
@@ -109,7 +110,7 @@ keeps_set ss p s h q a e = elim (cases_eq q p) [
 pub extends_same : (ts : List Term) → Extends ts ts
 extends_same ts = record { longer = omega arith; kept = λ p l. refl }
 
-shape_kept : (ns : List Node) (ss new : List State) (p : ℕ) (m : Node) (s : Shape) → Keeps ss new → IsShapeOf ns ss p m s → IsShapeOf ns new p m s
+shape_kept : (ns : List Node) (ss new : List State) (p : ℕ) (m : Node) (s : Shape) → KeepsRead ss new → IsShapeOf ns ss p m s → IsShapeOf ns new p m s
 shape_kept ns ss new p Free s k h = h
 shape_kept ns ss new p (Same q) s k h = h
 shape_kept ns ss new p Int s k h = h
@@ -119,7 +120,7 @@ shape_kept ns ss new p (Named m) s k h = h
 shape_kept ns ss new p (SeqOf q) s k h = (h.0, (found_kept ns ss new q h.0 k h.1.0, h.1.1))
 shape_kept ns ss new p (Both q r) s k h = (h.0, (h.1.0, (found_kept ns ss new q h.0 k h.1.1.0, (found_kept ns ss new r h.1.0 k h.1.1.1.0, h.1.1.1.1))))
 
-read_kept : (ns : List Node) (ss new : List State) (ts us : List Term) (p a : ℕ) → Keeps ss new → Extends ts us → IsRead ns ss ts p a → IsRead ns new us p a
+read_kept : (ns : List Node) (ss new : List State) (ts us : List Term) (p a : ℕ) → KeepsRead ss new → Extends ts us → IsRead ns ss ts p a → IsRead ns new us p a
 read_kept ns ss new ts us p a k e r = record {
   within = omega (arith, r.within, e.longer);
   shape = r.shape;
@@ -171,12 +172,12 @@ inside_states ss p h = elim (cases_lt p (length ss)) [
 
 -- a place more on the stack
 pub reading_push : (ns : List Node) (ss : List State) (ts : List Term) (ps : List ℕ) (p : ℕ) → p < length ns → IsRoot (node_at ns p) → state_at ss p ≡ Unread →
-    ((w : ℕ → Term) → Fits w ns → (i : ℕ) → i < length ps → nodes (w p) < nodes (w (get_or ps i 0))) → IsReading ns ss ts ps → IsReading ns (set ss p Begun) ts (ps ++ p ∷ [])
+    ((w : ℕ → Term) → FitsGraph w ns → (i : ℕ) → i < length ps → nodes (w p) < nodes (w (get_or ps i 0))) → IsReading ns ss ts ps → IsReading ns (set ss p Begun) ts (ps ++ p ∷ [])
 reading_push ns ss ts ps p l r u s i =
     let in_states : p < length ss = omega (arith, i.len) in
     let new = set ss p Begun in
     let here : state_at new p ≡ Begun = get_or-set_same ss p Begun Unread in_states in
-    let keeps : Keeps ss new = keeps_set ss p Begun (λ a e. let d : Unread ≡ Read a = sym u ∙ e in cc) in
+    let keeps : KeepsRead ss new = keeps_set ss p Begun (λ a e. let d : Unread ≡ Read a = sym u ∙ e in cc) in
     let apart : (k : ℕ) → k < length ps → get_or ps k 0 ≢ p = λ k m e. let d : Begun ≡ Unread = sym (i.marked k m) ∙ ap (state_at ss) e ∙ u in cc in
     record {
       len = length-set ss p Begun ∙ i.len;
@@ -205,7 +206,7 @@ reading_pop ns ss ts us ps p a s b o e v t i =
     let was : state_at ss p ≡ Begun = top_of (λ q. state_at ss q ≡ Begun) ps p i.marked in
     let in_states : p < length ss = inside_states ss p (λ h. let d : Begun ≡ Unread = sym was ∙ h in cc) in
     let here : state_at new p ≡ Read a = get_or-set_same ss p (Read a) Unread in_states in
-    let keeps : Keeps ss new = keeps_set ss p (Read a) (λ c h. let d : Begun ≡ Read c = sym was ∙ h in cc) in
+    let keeps : KeepsRead ss new = keeps_set ss p (Read a) (λ c h. let d : Begun ≡ Read c = sym was ∙ h in cc) in
     let apart = pair_top (λ c d. c ≢ d) ps p i.apart in
     let done : IsRead ns new us p a = record {
       within = v;
@@ -257,14 +258,14 @@ shape_below ns ss ts ps p (Both q r) s i h =
     subst (IsShapeBelow (length ts)) (sym h.1.1.1.1) (found_within ns ss ts ps q h.0 i h.1.1.0, found_within ns ss ts ps r h.1.0 i h.1.1.1.0)
 
 -- the type of a part of the place on top is smaller than all on the stack
-part_less : (ns : List Node) (ss : List State) (ts : List Term) (ps : List ℕ) (p q : ℕ) → IsPart q (node_at ns p) → IsReading ns ss ts (ps ++ p ∷ []) → (w : ℕ → Term) → Fits w ns → (j : ℕ) → j < length (ps ++ p ∷ []) →
+part_less : (ns : List Node) (ss : List State) (ts : List Term) (ps : List ℕ) (p q : ℕ) → IsPart q (node_at ns p) → IsReading ns ss ts (ps ++ p ∷ []) → (w : ℕ → Term) → FitsGraph w ns → (j : ℕ) → j < length (ps ++ p ∷ []) →
     nodes (w (target ns q)) < nodes (w (get_or (ps ++ p ∷ []) j 0))
 part_less ns ss ts ps p q part i w f =
     let less : nodes (w (target ns q)) < nodes (w p) = subst (λ t. nodes t < nodes (w p)) (fits-target w ns q f) (part_smaller w (w p) q (node_at ns p) (f p) part) in
     each_pushed (λ c. nodes (w (target ns q)) < nodes (w c)) ps p (λ j l. let m = pair_top (λ c d. nodes (w d) < nodes (w c)) ps p (i.smaller w f) j l in omega arith) less
 
 -- a part that is begun is on the stack: no types fit
-pub no_types : (ns : List Node) (ss : List State) (ts : List Term) (ps : List ℕ) (p q : ℕ) → IsPart q (node_at ns p) → found ns ss q ≡ None → state_at ss (target ns q) ≢ Unread → IsReading ns ss ts (ps ++ p ∷ []) → (w : ℕ → Term) → Fits w ns → ⊥
+pub no_types : (ns : List Node) (ss : List State) (ts : List Term) (ps : List ℕ) (p q : ℕ) → IsPart q (node_at ns p) → found ns ss q ≡ None → state_at ss (target ns q) ≢ Unread → IsReading ns ss ts (ps ++ p ∷ []) → (w : ℕ → Term) → FitsGraph w ns → ⊥
 no_types ns ss ts ps p q part none seen i w f =
     let b = i.begun (target ns q) (begun_of (state_at ss (target ns q)) seen none) in
     let less = part_less ns ss ts ps p q part i w f b.0 b.1.0 in
@@ -298,7 +299,7 @@ seen_set ss p q s n h e = elim (cases_eq q p) [
 -- the loop that reads a place: `old` are the states that it began with
 pub record IsUnderway (ns : List Node) (ts : List Term) (old ss : List State) (stack : List ℕ) (root : ℕ) : Type 0 where
   pub reading : IsReading ns ss ts stack
-  pub keeps : Keeps old ss
+  pub keeps : KeepsRead old ss
   pub seen : state_at ss root ≢ Unread
 
 pub underway_first : (ns : List Node) (ts : List Term) (old new : List State) (none stack : List ℕ) (root : ℕ) → none ≡ [] → root < length ns → IsRoot (node_at ns root) → IsBegun old new none stack root true → IsReading ns old ts [] → IsUnderway ns ts old new stack root
@@ -352,7 +353,7 @@ less_part ns ss new ts ps qs rs more p q e d g part b i =
     let w = ap (sum_by waiting) y.1.0 in
     omega (arith, waiting_begun ss (target ns q) l y.0, length_push rs (target ns q))
 
-pub cycle : (ns : List Node) (ss new : List State) (ts : List Term) (ps qs rs more : List ℕ) (p q : ℕ) → qs ≡ ps ++ p ∷ [] → IsPart q (node_at ns p) → found ns ss q ≡ None → IsBegun ss new rs more (target ns q) false → IsReading ns ss ts qs → (w : ℕ → Term) → Fits w ns → ⊥
+pub cycle : (ns : List Node) (ss new : List State) (ts : List Term) (ps qs rs more : List ℕ) (p q : ℕ) → qs ≡ ps ++ p ∷ [] → IsPart q (node_at ns p) → found ns ss q ≡ None → IsBegun ss new rs more (target ns q) false → IsReading ns ss ts qs → (w : ℕ → Term) → FitsGraph w ns → ⊥
 cycle ns ss new ts ps qs rs more p q e part none b i = no_types ns ss ts ps p q part none (b.no refl) (subst (IsReading ns ss ts) e i)
 
 -- all that was begun is read

@@ -1,7 +1,7 @@
 -- Equal types have equal lists.
 use Rattle.std.proofs.Common.{◌≡◌, ◌↔◌, zero, suc, ◌<◌, List, [], ◌∷◌, Some, length, refl, sym, ap, subst, ◌∙◌, arith}
 use Rattle.std.proofs.lemmas.List.{ext_get_or}
-use Rattle.nesl_types_bank.specs.Term.{Term, seq_of, both}
+use Rattle.nesl_types_bank.specs.Term.{Term, seq_of, pair_of}
 use Rattle.nesl_types_bank.specs.Term as term
 use Rattle.nesl_types_bank.specs.Substitution.{substitute}
 use Rattle.nesl_types_bank.specs.declared.shape.Shape.{Shape}
@@ -57,5 +57,5 @@ none_replaced ts term.bool = refl
 none_replaced ts term.char = refl
 none_replaced ts (term.variable v) = refl
 none_replaced ts (term.seq_of t) = ap seq_of (none_replaced ts t)
-none_replaced ts (term.both t u) = let e = none_replaced ts t in let d = none_replaced ts u in cc
+none_replaced ts (term.pair_of t u) = let e = none_replaced ts t in let d = none_replaced ts u in cc
 none_replaced ts (term.named n) = refl

@@ -1,7 +1,7 @@
 -- Laws of substitution.
 use Rattle.std.proofs.Common.{◌≡◌, ◌≢◌, ℕ, ◌≤◌, ◌⊎◌, inl, inr, Bool, true, false, ◌||◌, refl, ap, arith}
 use Rattle.std.proofs.lemmas.Bool.Decides.{nat_tests}
-use Rattle.nesl_types_bank.specs.Term.{Term, int, bool, char, variable, seq_of, both, named, nodes}
+use Rattle.nesl_types_bank.specs.Term.{Term, int, bool, char, variable, seq_of, pair_of, named, nodes}
 use Rattle.nesl_types_bank.specs.Substitution.{substitute, occurs, single}
 use Rattle.nesl_types_bank.proofs.Nodes.{nodes_positive}
 
@@ -12,7 +12,7 @@ substitute-same f g bool h = refl
 substitute-same f g char h = refl
 substitute-same f g (variable v) h = h v
 substitute-same f g (seq_of t) h = ap seq_of (substitute-same f g t h)
-substitute-same f g (both t u) h = let e = substitute-same f g t h in let d = substitute-same f g u h in cc
+substitute-same f g (pair_of t u) h = let e = substitute-same f g t h in let d = substitute-same f g u h in cc
 substitute-same f g (named n) h = refl
 
 -- one substitution after another is one
@@ -22,7 +22,7 @@ substitute-substitute f g bool = refl
 substitute-substitute f g char = refl
 substitute-substitute f g (variable v) = refl
 substitute-substitute f g (seq_of t) = ap seq_of (substitute-substitute f g t)
-substitute-substitute f g (both t u) = let e = substitute-substitute f g t in let d = substitute-substitute f g u in cc
+substitute-substitute f g (pair_of t u) = let e = substitute-substitute f g t in let d = substitute-substitute f g u in cc
 substitute-substitute f g (named n) = refl
 
 -- where s makes x and t equal, it doesn't see whether t was put in place of x
@@ -32,7 +32,7 @@ substitute-single_forced s x t bool h = refl
 substitute-single_forced s x t char h = refl
 substitute-single_forced s x t (variable v) h = grind (arith, nat_tests)
 substitute-single_forced s x t (seq_of u) h = ap seq_of (substitute-single_forced s x t u h)
-substitute-single_forced s x t (both u w) h = let e = substitute-single_forced s x t u h in let d = substitute-single_forced s x t w h in cc
+substitute-single_forced s x t (pair_of u w) h = let e = substitute-single_forced s x t u h in let d = substitute-single_forced s x t w h in cc
 substitute-single_forced s x t (named n) h = refl
 
 -- an instance never has fewer nodes
@@ -42,7 +42,7 @@ nodes-substitute s bool = omega arith
 nodes-substitute s char = omega arith
 nodes-substitute s (variable v) = omega (arith, nodes_positive (s v))
 nodes-substitute s (seq_of t) = omega (arith, nodes-substitute s t)
-nodes-substitute s (both t u) = omega (arith, nodes-substitute s t, nodes-substitute s u)
+nodes-substitute s (pair_of t u) = omega (arith, nodes-substitute s t, nodes-substitute s u)
 nodes-substitute s (named n) = omega arith
 
 or_cases : (a b : Bool) → (a || b) ≡ true → (a ≡ true) ⊎ (b ≡ true)
@@ -56,7 +56,7 @@ nodes_of_part s x bool h = cc
 nodes_of_part s x char h = cc
 nodes_of_part s x (variable v) h = grind (arith, nat_tests)
 nodes_of_part s x (seq_of t) h = omega (arith, nodes_of_part s x t h)
-nodes_of_part s x (both t u) h =
+nodes_of_part s x (pair_of t u) h =
     elim (or_cases (occurs x t) (occurs x u) h) [
       | inl p ↦ omega (arith, nodes_of_part s x t p)
       | inr q ↦ omega (arith, nodes_of_part s x u q)
@@ -70,7 +70,7 @@ occurs_check s x bool h d e = cc
 occurs_check s x char h d e = cc
 occurs_check s x (variable v) h d e = d (grind (arith, nat_tests))
 occurs_check s x (seq_of t) h d e = let g = ap nodes e in omega (arith, nodes_of_part s x t h)
-occurs_check s x (both t u) h d e =
+occurs_check s x (pair_of t u) h d e =
     let g = ap nodes e in
     elim (or_cases (occurs x t) (occurs x u) h) [
       | inl p ↦ omega (arith, nodes_of_part s x t p)
@@ -85,7 +85,7 @@ occurs-single v x t bool h = cc
 occurs-single v x t char h = cc
 occurs-single v x t (variable w) h = grind (arith, nat_tests)
 occurs-single v x t (seq_of u) h = occurs-single v x t u h
-occurs-single v x t (both u w) h =
+occurs-single v x t (pair_of u w) h =
     elim (or_cases (occurs v (substitute (single x t) u)) (occurs v (substitute (single x t) w)) h) [
       | inl p ↦ let i = occurs-single v x t u p in grind arith
       | inr q ↦ let i = occurs-single v x t w q in grind arith
@@ -99,7 +99,7 @@ substitute-single_absent x t bool h = refl
 substitute-single_absent x t char h = refl
 substitute-single_absent x t (variable v) h = grind (arith, nat_tests)
 substitute-single_absent x t (seq_of u) h = ap seq_of (substitute-single_absent x t u h)
-substitute-single_absent x t (both u w) h =
+substitute-single_absent x t (pair_of u w) h =
     let p : occurs x u ≡ false = grind arith in
     let q : occurs x w ≡ false = grind arith in
     let e = substitute-single_absent x t u p in

@@ -2,7 +2,7 @@
 use Rattle.std.specs.Prelude.{◌≡◌, List, [], ◌∷◌}
 use Rattle.std.proofs.Common.{ap, refl, ◌∙◌}
 use Rattle.std.specs.Coded.{Coded, code_by, coded_list}
-use Rattle.nesl_types_bank.specs.Term.{Term, int, bool, char, variable, seq_of, both, named}
+use Rattle.nesl_types_bank.specs.Term.{Term, int, bool, char, variable, seq_of, pair_of, named}
 use Rattle.nesl_types_bank.specs.declared.shape.Shape.{Shape}
 use Rattle.nesl_types_bank.specs.declared.shape.Shape.TheVariants.{Int, Bool, Char, Var, Named, SeqOf, Both}
 use Rattle.nesl_types_bank.specs.contracts.shape.Shape as shape
@@ -14,7 +14,7 @@ encoded bool rest = Bool ∷ rest
 encoded char rest = Char ∷ rest
 encoded (variable v) rest = Var v ∷ rest
 encoded (seq_of t) rest = encoded t (SeqOf 0 ∷ rest)
-encoded (both t u) rest = encoded t (encoded u (Both 0 0 ∷ rest))
+encoded (pair_of t u) rest = encoded t (encoded u (Both 0 0 ∷ rest))
 encoded (named n) rest = Named n ∷ rest
 
 -- the types that wait, with a node more
@@ -28,7 +28,7 @@ with_node [] (SeqOf p) = []
 with_node (t ∷ ts) (SeqOf p) = seq_of t ∷ ts
 with_node [] (Both p q) = []
 with_node (t ∷ []) (Both p q) = []
-with_node (u ∷ (t ∷ ts)) (Both p q) = both t u ∷ ts
+with_node (u ∷ (t ∷ ts)) (Both p q) = pair_of t u ∷ ts
 
 abbrev pub decoded : List Term → List Shape → List Term
 decoded ts [] = ts
@@ -41,7 +41,7 @@ decoded-encoded bool ts rest = refl
 decoded-encoded char ts rest = refl
 decoded-encoded (variable v) ts rest = refl
 decoded-encoded (seq_of t) ts rest = decoded-encoded t ts (SeqOf 0 ∷ rest)
-decoded-encoded (both t u) ts rest =
+decoded-encoded (pair_of t u) ts rest =
     decoded-encoded t ts (encoded u (Both 0 0 ∷ rest)) ∙ decoded-encoded u (t ∷ ts) (Both 0 0 ∷ rest)
 decoded-encoded (named n) ts rest = refl
 

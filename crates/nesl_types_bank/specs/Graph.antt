@@ -1,6 +1,6 @@
 -- Graphs of types: what is said of the type at each place.
 use Rattle.std.specs.Prelude.{◌≡◌, ◌<◌, ℕ, List, All, length, slice_index, slice_index_or}
-use Rattle.nesl_types_bank.specs.Term.{Term, int, bool, char, variable, seq_of, both, named}
+use Rattle.nesl_types_bank.specs.Term.{Term, int, bool, char, variable, seq_of, pair_of, named}
 use Rattle.nesl_types_bank.specs.Substitution.{substitute}
 use Rattle.nesl_types_bank.specs.declared.graph.Node.{Node}
 use Rattle.nesl_types_bank.specs.declared.graph.Node.TheVariants.{Free, Same, Int, Bool, Char, Named, SeqOf, Both}
@@ -19,11 +19,11 @@ Describes w t Bool = t ≡ bool
 Describes w t Char = t ≡ char
 Describes w t (Named n) = t ≡ named n
 Describes w t (SeqOf q) = t ≡ seq_of (w q)
-Describes w t (Both q r) = t ≡ both (w q) (w r)
+Describes w t (Both q r) = t ≡ pair_of (w q) (w r)
 
 -- the types `w p` of the places p are as the graph says
-abbrev pub Fits : (ℕ → Term) → List Node → Type 0
-Fits w ns = (p : ℕ) → Describes w (w p) (node_at ns p)
+abbrev pub FitsGraph : (ℕ → Term) → List Node → Type 0
+FitsGraph w ns = (p : ℕ) → Describes w (w p) (node_at ns p)
 
 -- the places that a node names are below n
 abbrev pub IsNodeBelow : ℕ → Node → Type 0
@@ -72,9 +72,9 @@ IsFlat ns = (p : ℕ) → IsRoot (node_at ns (target ns p))
 -- `types` gives all places types that fit, in which each free place stands for itself: other types that fit are these,
 -- with those of the free places in their place
 pub record IsMostGeneral (ns : List Node) (types : ℕ → Term) : Type 0 where
-  pub fits : Fits types ns
+  pub fits : FitsGraph types ns
   pub free : (p : ℕ) → node_at ns p ≡ Free → types p ≡ variable p
-  pub general : (w s : ℕ → Term) → Fits w ns → ((p : ℕ) → p < length ns → node_at ns p ≡ Free → s p ≡ w p) →
+  pub general : (w s : ℕ → Term) → FitsGraph w ns → ((p : ℕ) → p < length ns → node_at ns p ≡ Free → s p ≡ w p) →
       (p : ℕ) → p < length ns → w p ≡ substitute s (types p)
 
 -- the places in a bank of the types of the first `count` places, which are the most general ones that fit

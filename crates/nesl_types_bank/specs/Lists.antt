@@ -2,7 +2,7 @@
 use Rattle.std.specs.Prelude.{◌≡◌, ◌⊎◌, ℕ, ◌-◌, ◌<◌, ◌==◌, ◌&&◌, Bool as Bool', true, false, if◌then◌else◌}
 use Rattle.std.specs.Prelude.{List, [], ◌∷◌, ◌++◌, length, Option, Some, None, slice_index_or}
 use Rattle.std.specs.List.{list_any}
-use Rattle.nesl_types_bank.specs.Term.{Term, int, bool, char, variable, seq_of, both, named, nodes}
+use Rattle.nesl_types_bank.specs.Term.{Term, int, bool, char, variable, seq_of, pair_of, named, nodes}
 use Rattle.nesl_types_bank.specs.declared.shape.Shape.{Shape}
 use Rattle.nesl_types_bank.specs.declared.shape.Shape.TheVariants.{Int, Bool, Char, Var, Named, SeqOf, Both}
 use Rattle.nesl_types_bank.specs.declared.lists.Step.{Step}
@@ -18,7 +18,7 @@ is_same char char = true
 is_same (variable v) (variable w) = v == w
 is_same (named m) (named n) = m == n
 is_same (seq_of t) (seq_of u) = is_same t u
-is_same (both t u) (both v w) = is_same t v && is_same u w
+is_same (pair_of t u) (pair_of v w) = is_same t v && is_same u w
 is_same t u = false
 
 -- a type is added where it isn't yet
@@ -32,7 +32,7 @@ with_parts ts bool = with_type ts bool
 with_parts ts char = with_type ts char
 with_parts ts (variable v) = with_type ts (variable v)
 with_parts ts (seq_of t) = with_type (with_parts ts t) (seq_of t)
-with_parts ts (both t u) = with_type (with_parts (with_parts ts t) u) (both t u)
+with_parts ts (pair_of t u) = with_type (with_parts (with_parts ts t) u) (pair_of t u)
 with_parts ts (named n) = with_type ts (named n)
 
 -- the parts of a type, each once, and the type itself last

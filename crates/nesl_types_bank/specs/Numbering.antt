@@ -1,7 +1,7 @@
 -- Variables numbered from 0 in the order in which they first occur.
 use Rattle.std.specs.Prelude.{ℕ, zero, suc, List, [], ◌∷◌, ◌++◌, ◌+◌, ◌<◌, fold, nat_eq, if◌then◌else◌}
 use Rattle.std.specs.List.{list_any}
-use Rattle.nesl_types_bank.specs.Term.{Term, int, bool, char, variable, seq_of, both, named}
+use Rattle.nesl_types_bank.specs.Term.{Term, int, bool, char, variable, seq_of, pair_of, named}
 
 -- the variables of a type from left to right, each as often as it occurs
 abbrev pub variables : Term → List ℕ
@@ -10,7 +10,7 @@ variables bool = []
 variables char = []
 variables (variable v) = v ∷ []
 variables (seq_of t) = variables t
-variables (both t u) = variables t ++ variables u
+variables (pair_of t u) = variables t ++ variables u
 variables (named n) = []
 
 -- a number is added where it isn't yet
@@ -38,5 +38,5 @@ IsBelow n bool = Unit {0}
 IsBelow n char = Unit {0}
 IsBelow n (variable v) = v < n
 IsBelow n (seq_of t) = IsBelow n t
-IsBelow n (both t u) = IsBelow n t × IsBelow n u
+IsBelow n (pair_of t u) = IsBelow n t × IsBelow n u
 IsBelow n (named tag) = Unit {0}

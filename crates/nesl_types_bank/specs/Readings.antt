@@ -12,7 +12,7 @@ use Rattle.nesl_types_bank.specs.declared.graph.Step.{Step}
 use Rattle.nesl_types_bank.specs.declared.graph.Step.TheVariants.{Put, Part}
 use Rattle.nesl_types_bank.specs.Shapes.{shape_type, IsShapeBelow}
 use Rattle.nesl_types_bank.specs.Types.{type_at}
-use Rattle.nesl_types_bank.specs.Graph.{node_at, Fits, IsGraph, IsRoot, target}
+use Rattle.nesl_types_bank.specs.Graph.{node_at, FitsGraph, IsGraph, IsRoot, target}
 
 abbrev pub state_at : List State → ℕ → State
 state_at ss p = slice_index_or ss p Unread
@@ -78,12 +78,12 @@ pub record IsReading (ns : List Node) (ss : List State) (ts : List Term) (stack 
   pub roots : (i : ℕ) → i < length stack → IsRoot (node_at ns (slice_index stack i))
   pub marked : (i : ℕ) → i < length stack → state_at ss (slice_index stack i) ≡ Begun
   pub apart : (i j : ℕ) → i < j → j < length stack → slice_index stack i ≢ slice_index stack j
-  pub smaller : (w : ℕ → Term) → Fits w ns → (i j : ℕ) → i < j → j < length stack →
+  pub smaller : (w : ℕ → Term) → FitsGraph w ns → (i j : ℕ) → i < j → j < length stack →
       nodes (w (slice_index stack j)) < nodes (w (slice_index stack i))
 
 -- what is read stays
-abbrev pub Keeps : List State → List State → Type 0
-Keeps old new = (p a : ℕ) → state_at old p ≡ Read a → state_at new p ≡ Read a
+abbrev pub KeepsRead : List State → List State → Type 0
+KeepsRead old new = (p a : ℕ) → state_at old p ≡ Read a → state_at new p ≡ Read a
 
 -- a graph of n places without links
 pub record HasNoLinks (n : ℕ) (ns : List Node) : Type 0 where

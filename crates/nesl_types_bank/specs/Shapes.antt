@@ -1,6 +1,6 @@
 -- Types but for their parts.
 use Rattle.std.specs.Prelude.{ℕ, ◌+◌, ◌-◌, ◌^◌, ◌<◌, min, List, slice_index_or}
-use Rattle.nesl_types_bank.specs.Term.{Term, int, bool, char, variable, seq_of, both, named}
+use Rattle.nesl_types_bank.specs.Term.{Term, int, bool, char, variable, seq_of, pair_of, named}
 use Rattle.nesl_types_bank.specs.declared.shape.Shape.{Shape}
 use Rattle.nesl_types_bank.specs.declared.shape.Shape.TheVariants.{Int, Bool, Char, Var, Named, SeqOf, Both}
 
@@ -12,7 +12,7 @@ shape_type f Char = char
 shape_type f (Var v) = variable v
 shape_type f (Named n) = named n
 shape_type f (SeqOf p) = seq_of (f p)
-shape_type f (Both p q) = both (f p) (f q)
+shape_type f (Both p q) = pair_of (f p) (f q)
 
 -- its parts are at places below n
 abbrev pub IsShapeBelow : ℕ → Shape → Type 0

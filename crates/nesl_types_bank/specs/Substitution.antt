@@ -1,6 +1,6 @@
 -- Types put in place of variables.
 use Rattle.std.specs.Prelude.{ℕ, Bool, false, ◌||◌, ◌==◌, if◌then◌else◌}
-use Rattle.nesl_types_bank.specs.Term.{Term, int, bool, char, variable, seq_of, both, named}
+use Rattle.nesl_types_bank.specs.Term.{Term, int, bool, char, variable, seq_of, pair_of, named}
 
 -- a type with `s v` in place of each variable v
 abbrev pub substitute : (ℕ → Term) → Term → Term
@@ -9,7 +9,7 @@ substitute s bool = bool
 substitute s char = char
 substitute s (variable v) = s v
 substitute s (seq_of t) = seq_of (substitute s t)
-substitute s (both t u) = both (substitute s t) (substitute s u)
+substitute s (pair_of t u) = pair_of (substitute s t) (substitute s u)
 substitute s (named n) = named n
 
 -- whether a variable stands in a type
@@ -19,7 +19,7 @@ occurs x bool = false
 occurs x char = false
 occurs x (variable v) = v == x
 occurs x (seq_of t) = occurs x t
-occurs x (both t u) = occurs x t || occurs x u
+occurs x (pair_of t u) = occurs x t || occurs x u
 occurs x (named n) = false
 
 -- one variable replaced, all others kept

@@ -7,7 +7,7 @@ pub data Term : Type 0 where
   char : Term
   variable : ℕ → Term
   seq_of : Term → Term
-  both : Term → Term → Term
+  pair_of : Term → Term → Term
   named : ℕ → Term
 
 -- how many nodes a type has
@@ -17,5 +17,5 @@ nodes bool = 1
 nodes char = 1
 nodes (variable v) = 1
 nodes (seq_of t) = 1 + nodes t
-nodes (both t u) = 1 + nodes t + nodes u
+nodes (pair_of t u) = 1 + nodes t + nodes u
 nodes (named n) = 1

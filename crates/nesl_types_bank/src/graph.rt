@@ -4,8 +4,8 @@ ghost use Rattle.std.specs.Prelude.{◌≡◌, ◌<◌, ◌≤◌, ℕ, [], All,
 ghost use Rattle.std.specs.Prelude.{IfNone, IfOk};
 ghost use Rattle.nesl_types_bank.specs.Term.{Term, nodes};
 ghost use Rattle.nesl_types_bank.specs.Types.{type_at, size_of};
-ghost use Rattle.nesl_types_bank.specs.Graph.{node_at, target, Fits, IsGraph, IsFlat, IsRoot, AreRead};
-ghost use Rattle.nesl_types_bank.specs.Readings.{state_at, found, Keeps, IsBegun, IsStep, IsReading};
+ghost use Rattle.nesl_types_bank.specs.Graph.{node_at, target, FitsGraph, IsGraph, IsFlat, IsRoot, AreRead};
+ghost use Rattle.nesl_types_bank.specs.Readings.{state_at, found, KeepsRead, IsBegun, IsStep, IsReading};
 
 use crate::bank::Bank;
 use crate::shape::Shape;
@@ -140,10 +140,10 @@ fn read_root(
     requires within { root < length graph.now }
     requires reading { IsReading graph.now states.old bank.old [] }
     requires unread { (a : ℕ) → state_at states.old root ≡ State.Read a → ⊥ }
-    ensures keeps { IfOk result (λ done. done ≡ true → Keeps states.old states.new) }
+    ensures keeps { IfOk result (λ done. done ≡ true → KeepsRead states.old states.new) }
     ensures reading { IfOk result (λ done. done ≡ true → IsReading graph.now states.new bank.new []) }
     ensures read { IfOk result (λ done. done ≡ true → (a : ℕ) × (state_at states.new root ≡ State.Read a)) }
-    ensures none { IfOk result (λ done. done ≡ false → (w : ℕ → Term) → Fits w graph.now → ⊥) }
+    ensures none { IfOk result (λ done. done ≡ false → (w : ℕ → Term) → FitsGraph w graph.now → ⊥) }
 {
     let mut stack = Vec::new(alloc);
     if !begin(states, &mut stack, root)? {
@@ -175,10 +175,10 @@ fn read_place(
     requires flat { IsFlat graph.now }
     requires within { place < length graph.now }
     requires reading { IsReading graph.now states.old bank.old [] }
-    ensures keeps { IfOk result (λ r. IfSome r (λ at. Keeps states.old states.new)) }
+    ensures keeps { IfOk result (λ r. IfSome r (λ at. KeepsRead states.old states.new)) }
     ensures reading { IfOk result (λ r. IfSome r (λ at. IsReading graph.now states.new bank.new [])) }
     ensures found { IfOk result (λ r. IfSome r (λ at. found graph.now states.new place ≡ Some' at)) }
-    ensures none { IfOk result (λ r. IfNone r ((w : ℕ → Term) → Fits w graph.now → ⊥)) }
+    ensures none { IfOk result (λ r. IfNone r ((w : ℕ → Term) → FitsGraph w graph.now → ⊥)) }
 {
     if let Some(at) = found(graph, states, place) {
         return Ok(Some(at));
@@ -194,7 +194,7 @@ fn read_all(alloc: Global, graph: &[Node]) -> Result<Option<Read>, AllocError>
     requires graph { IsGraph graph.now }
     requires flat { IsFlat graph.now }
     ensures some { IfOk result (λ r. IfSome r (λ a. AreRead graph.now (length graph.now) a.bank a.places.items)) }
-    ensures none { IfOk result (λ r. IfNone r ((w : ℕ → Term) → Fits w graph.now → ⊥)) }
+    ensures none { IfOk result (λ r. IfNone r ((w : ℕ → Term) → FitsGraph w graph.now → ⊥)) }
 {
     let mut bank = Bank::new(alloc);
     let mut noted = vec![in alloc; State::Unread; graph.len()]?;
@@ -235,7 +235,7 @@ pub fn read_types(
     requires count { count ≤ length graph.now }
     ensures some { IfOk result (λ r. IfSome r (λ a. AreRead graph.now count a.bank a.places.items)) }
     ensures bounded { IfOk result (λ r. IfSome r (λ a. All (λ p. size_of (type_at a.bank p) ≤ most) a.places.items)) }
-    ensures none { IfOk result (λ r. IfNone r ((w : ℕ → Term) → Fits w graph.now
+    ensures none { IfOk result (λ r. IfNone r ((w : ℕ → Term) → FitsGraph w graph.now
         → (p : ℕ) × ((p < count) × (most < nodes (w p))))) }
 {
     let mut read = match read_all(alloc, graph)? {

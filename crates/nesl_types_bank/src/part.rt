@@ -64,7 +64,7 @@ impl<'a> Part<'a> {
         Part { parts, place }
     }
 
-    /// The same part once more. Copies nothing.
+    /// This part, borrowed once more. Copies nothing.
     pub fn again(&self) -> Part<'a>
         ensures { result ≡ self.now }
     {

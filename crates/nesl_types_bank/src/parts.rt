@@ -40,7 +40,7 @@ impl<'a> Parts<'a> {
         Parts { shapes }
     }
 
-    /// The same types once more. Copies nothing.
+    /// These types, borrowed once more. Copies nothing.
     pub fn again(&self) -> Parts<'a>
         ensures { result ≡ self.now }
     {

@@ -37,7 +37,7 @@ impl Model for Ty {
 
 ghost use Rattle.std.specs.Prelude.{◌≡◌, ◌+◌, ◌<◌, ◌↔◌, All, length, IsTrue, IfOk, OnOk, MatchOption, fold};
 ghost use Rattle.nesl_types_bank.specs.Term.{nodes, int, bool as boolean, char as character, variable, named, seq_of};
-ghost use Rattle.nesl_types_bank.specs.Term.{both};
+ghost use Rattle.nesl_types_bank.specs.Term.{pair_of};
 ghost use Rattle.nesl_types_bank.specs.Substitution.{substitute};
 ghost use Rattle.nesl_types_bank.specs.Numbering.{variables, with_number};
 ghost use Rattle.nesl_types_bank.specs.Shapes.{IsShapeBelow, shape_type};
@@ -120,7 +120,7 @@ impl Ty {
 
     /// The pairs of two types.
     pub fn both(alloc: Global, first: &Ty, second: &Ty) -> Result<Ty, AllocError>
-        ensures { IfOk result (λ t. t ≡ both first.now second.now) }
+        ensures { IfOk result (λ t. t ≡ pair_of first.now second.now) }
     {
         let mut bank = Bank::new(alloc);
         let first = first.copy_to(alloc, &mut bank)?;
@@ -163,7 +163,7 @@ impl Ty {
         self.whole().kind()
     }
 
-    /// The same type once more. Copies nothing: `AllocError` is for a count of owners that is full, at 2^63 - 1 of
+    /// One more owner of this type. Copies nothing: `AllocError` is for a count of owners that is full, at 2^63 - 1 of
     /// them.
     pub fn duplicate(&self, _alloc: Global) -> Result<Ty, AllocError>
         ensures { IfOk result (λ t. t ≡ self.now) }

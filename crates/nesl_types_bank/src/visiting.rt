@@ -48,7 +48,7 @@ pub fn note_variables(
     note_part_variables(alloc, &bank.parts(), place, seen)
 }
 
-/// The same for types that are borrowed.
+/// Notes the variables of the type at a place among borrowed types, as `note_variables` does in a bank.
 pub(crate) fn note_part_variables(
     alloc: Global,
     parts: &Parts<'_>,

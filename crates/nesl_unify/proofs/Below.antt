@@ -2,7 +2,7 @@
 use Rattle.std.proofs.Common.{◌≡◌, ℕ, ◌<◌, ◌++◌, ◌∷◌, [], true, false, Bool, cond, List, All, length, refl, sym, subst}
 use Rattle.std.specs.List.{list_any}
 use Rattle.std.proofs.lemmas.List.Elements.{All-nil, All-push}
-use Rattle.nesl_types_bank.specs.Term.{Term, int, bool, char, variable, seq_of, both, named}
+use Rattle.nesl_types_bank.specs.Term.{Term, int, bool, char, variable, seq_of, pair_of, named}
 use Rattle.nesl_types_bank.specs.Numbering.{IsBelow}
 use Rattle.nesl_types_bank.specs.declared.shape.Shape.{Shape}
 use Rattle.nesl_types_bank.specs.declared.shape.Shape.TheVariants.{Int, Bool as Bool', Char, Var, Named, SeqOf, Both}
@@ -24,8 +24,8 @@ with_parts_below n ts bool a h = with_type_below n ts bool a h
 with_parts_below n ts char a h = with_type_below n ts char a h
 with_parts_below n ts (variable v) a h = with_type_below n ts (variable v) a h
 with_parts_below n ts (seq_of t) a h = with_type_below n (with_parts ts t) (seq_of t) (with_parts_below n ts t a h) h
-with_parts_below n ts (both t u) a h =
-    with_type_below n (with_parts (with_parts ts t) u) (both t u) (with_parts_below n (with_parts ts t) u (with_parts_below n ts t a h.0) h.1) h
+with_parts_below n ts (pair_of t u) a h =
+    with_type_below n (with_parts (with_parts ts t) u) (pair_of t u) (with_parts_below n (with_parts ts t) u (with_parts_below n ts t a h.0) h.1) h
 with_parts_below n ts (named m) a h = with_type_below n ts (named m) a h
 
 pub part_below : (n p : ℕ) (ts : List Term) (t : Term) → ts ≡ parts_of t → p < length ts → IsBelow n t → IsBelow n (type_at ts p)

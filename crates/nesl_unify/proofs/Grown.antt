@@ -2,13 +2,13 @@
 use Rattle.std.proofs.Common.{◌≡◌, ℕ, ◌+◌, ◌<◌, ◌≤◌, ◌↔◌, inl, inr, List, length, get_or, sym, ap, ◌∙◌, subst, refl, arith}
 use Rattle.std.proofs.lemmas.Bool.{cases_lt}
 use Rattle.std.proofs.lemmas.List.{get_or_past, get_or_default}
-use Rattle.nesl_types_bank.specs.Term.{Term, int, bool, char, variable, seq_of, both, named}
+use Rattle.nesl_types_bank.specs.Term.{Term, int, bool, char, variable, seq_of, pair_of, named}
 use Rattle.nesl_types_bank.specs.Substitution.{substitute}
 use Rattle.nesl_types_bank.specs.declared.graph.Node.{Node}
 use Rattle.nesl_types_bank.specs.declared.graph.Node.TheVariants.{Free}
 use Rattle.nesl_unify.specs.declared.solve.Equation.{Equation}
 use Rattle.nesl_types_bank.specs.Numbering.{IsBelow}
-use Rattle.nesl_types_bank.specs.Graph.{Describes, Fits}
+use Rattle.nesl_types_bank.specs.Graph.{Describes, FitsGraph}
 use Rattle.nesl_unify.specs.Extends.{Extends, IsMade}
 
 pub extends_none : (ns : List Node) → Extends ns ns
@@ -29,7 +29,7 @@ extends_more old mid new a b = record {
 }
 
 -- what fits a table fits each table that it grew from
-pub fits_grown : (w : ℕ → Term) (old new : List Node) → Extends old new → Fits w new → Fits w old
+pub fits_grown : (w : ℕ → Term) (old new : List Node) → Extends old new → FitsGraph w new → FitsGraph w old
 fits_grown w old new e f p =
     elim (cases_lt p (length old)) [
       | inl l ↦ subst (Describes w (w p)) (e.kept p l) (f p)
@@ -42,7 +42,7 @@ below_more n m bool l h = tt
 below_more n m char l h = tt
 below_more n m (variable v) l h = omega arith
 below_more n m (seq_of t) l h = below_more n m t l h
-below_more n m (both t u) l h = (below_more n m t l h.0, below_more n m u l h.1)
+below_more n m (pair_of t u) l h = (below_more n m t l h.0, below_more n m u l h.1)
 below_more n m (named k) l h = tt
 
 -- the first i equations hold

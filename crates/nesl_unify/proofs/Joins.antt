@@ -10,7 +10,7 @@ use Rattle.nesl_types_bank.specs.declared.graph.Node.TheVariants.{Free, Same, In
 use Rattle.nesl_unify.specs.declared.unify.Pair.{Pair}
 use Rattle.nesl_unify.specs.declared.unify.Rest.{Rest}
 use Rattle.nesl_unify.specs.declared.unify.Rest.TheVariants.{Nothing, One, Two}
-use Rattle.nesl_types_bank.specs.Graph.{node_at, Describes, Fits, IsRoot}
+use Rattle.nesl_types_bank.specs.Graph.{node_at, Describes, FitsGraph, IsRoot}
 use Rattle.nesl_unify.specs.Table.{IsPlaced, IsTable, standing}
 use Rattle.nesl_unify.specs.Pairs.{IsPairBelow, AreEqual, merged, pairs_of}
 use Rattle.nesl_unify.proofs.Tables.{each_set, here_set, other_set}
@@ -99,13 +99,13 @@ joined_other : (P : Node → Type 0) (ns : List Node) (low high : ℕ) (n : Node
 joined_other P ns low high n q d e h = other_set P ns low n q d (other_set P (set ns low n) high (Same low) q e h)
 
 fits_joined : (w : ℕ → Term) (ns : List Node) (low high : ℕ) (rest : Rest) → low < high → high < length ns → Meets (node_at ns low) (node_at ns high) rest →
-    Fits w ns → w low ≡ w high → Fits w (joined ns low high (merged (node_at ns low) (node_at ns high))) × AreEqual w (pairs_of rest)
+    FitsGraph w ns → w low ≡ w high → FitsGraph w (joined ns low high (merged (node_at ns low) (node_at ns high))) × AreEqual w (pairs_of rest)
 fits_joined w ns low high rest order inside meets f e =
     let h = (meets w (w low)).0 (f low, subst (λ (t : Term). Describes w t (node_at ns high)) (sym e) (f high)) in
     (each_joined (λ q m. Describes w (w q) m) ns low high (merged (node_at ns low) (node_at ns high)) order inside h.0 (sym e) f, h.1)
 
 fits_unjoined : (w : ℕ → Term) (ns : List Node) (low high : ℕ) (rest : Rest) → low < high → high < length ns → Meets (node_at ns low) (node_at ns high) rest →
-    Fits w (joined ns low high (merged (node_at ns low) (node_at ns high))) → AreEqual w (pairs_of rest) → Fits w ns × (w low ≡ w high)
+    FitsGraph w (joined ns low high (merged (node_at ns low) (node_at ns high))) → AreEqual w (pairs_of rest) → FitsGraph w ns × (w low ≡ w high)
 fits_unjoined w ns low high rest order inside meets f k =
     let n = merged (node_at ns low) (node_at ns high) in
     let e : w high ≡ w low = joined_high (Describes w (w high)) ns low high n order inside (f high) in
@@ -122,7 +122,7 @@ fits_unjoined w ns low high rest order inside meets f k =
     )
 
 pub same_joined : (w : ℕ → Term) (ns : List Node) (low high : ℕ) (rest : Rest) (pending : List Pair) → low < high → high < length ns → Meets (node_at ns low) (node_at ns high) rest →
-    (Fits w (joined ns low high (merged (node_at ns low) (node_at ns high))) × AreEqual w (pending ++ pairs_of rest)) ↔ (Fits w ns × (AreEqual w pending × (w low ≡ w high)))
+    (FitsGraph w (joined ns low high (merged (node_at ns low) (node_at ns high))) × AreEqual w (pending ++ pairs_of rest)) ↔ (FitsGraph w ns × (AreEqual w pending × (w low ≡ w high)))
 same_joined w ns low high rest pending order inside meets = (
   λ h.
       let u = fits_unjoined w ns low high rest order inside meets h.0 (All_right (Equals w) pending (pairs_of rest) h.1) in
@@ -201,7 +201,7 @@ fewer_joined ns low high rest pending order inside lower higher =
 -- what stands after a join: ns is the table, n what goes to `low`, and `more` the pairs that are left then
 pub join_same : (ns : List Node) (low high : ℕ) (rest : Rest) (pending more : List Pair) (n : Node) → n ≡ merged (node_at ns low) (node_at ns high) → more ≡ pending ++ pairs_of rest →
     low < high → high < length ns → Meets (node_at ns low) (node_at ns high) rest →
-    (w : ℕ → Term) → (Fits w (joined ns low high n) × AreEqual w more) ↔ (Fits w ns × (AreEqual w pending × (w low ≡ w high)))
+    (w : ℕ → Term) → (FitsGraph w (joined ns low high n) × AreEqual w more) ↔ (FitsGraph w ns × (AreEqual w pending × (w low ≡ w high)))
 join_same ns low high rest pending more n e d order inside meets = rw (e, d) (λ w. same_joined w ns low high rest pending order inside meets)
 
 pub join_table : (ns : List Node) (low high : ℕ) (n : Node) → n ≡ merged (node_at ns low) (node_at ns high) → low < high → high < length ns → IsRoot (node_at ns high) →

@@ -6,7 +6,7 @@ use Rattle.std.proofs.lemmas.Bool.{cases_lt, cases_eq}
 use Rattle.std.proofs.lemmas.List.{get_or_append_left, get_or_push, get_or_past, get_or-set_same, get_or-set_other, length_push, length-set}
 use Rattle.std.proofs.lemmas.List.Elements.{All-nil, All-push, All-pop, All-weaker}
 use Rattle.std.proofs.lemmas.Option.{slice_get-get_or}
-use Rattle.nesl_types_bank.specs.Term.{Term, int, bool, char, variable, seq_of, both, named}
+use Rattle.nesl_types_bank.specs.Term.{Term, int, bool, char, variable, seq_of, pair_of, named}
 use Rattle.nesl_types_bank.specs.Numbering.{IsBelow}
 use Rattle.nesl_types_bank.specs.Substitution.{substitute}
 use Rattle.nesl_types_bank.proofs.Substitutions.{substitute-substitute}
@@ -16,8 +16,8 @@ use Rattle.nesl_unify.specs.declared.equations.Sides.{Sides}
 use Rattle.nesl_unify.specs.declared.equations.Equations.{Equations}
 use Rattle.nesl_unify.specs.declared.system.System.{System}
 use Rattle.nesl_unify.specs.Places.{place_for, IsAdded}
-use Rattle.nesl_unify.specs.Systems.{IsAsKnown, HoldIn, Hold, AreEquationsIn, AreEquations, Holds, IsSystem}
-use Rattle.nesl_unify.specs.Growth.{IsFreeAt, Grows, Puts, Adds, Says, Follows, ArePlacesOf, IsBegun}
+use Rattle.nesl_unify.specs.Systems.{IsAsKnown, HoldIn, Hold, AreEquationsIn, AreEquations, IsSolvedBy, IsSystem}
+use Rattle.nesl_unify.specs.Growth.{IsFreeAt, Grows, Puts, Adds, SaysEquations, Follows, ArePlacesOf, IsBegun}
 use Rattle.nesl_unify.proofs.Grown.{below_more}
 use Rattle.nesl_unify.proofs.Placed.{extends_none, extends_more, places_wider}
 use Rattle.nesl_unify.proofs.Solved.{substitute_below}
@@ -60,7 +60,7 @@ below_substitute m n r bool b h = tt
 below_substitute m n r char b h = tt
 below_substitute m n r (variable v) b h = h v b
 below_substitute m n r (seq_of t) b h = below_substitute m n r t b h
-below_substitute m n r (both t u) b h = (below_substitute m n r t b.0 h, below_substitute m n r u b.1 h)
+below_substitute m n r (pair_of t u) b h = (below_substitute m n r t b.0 h, below_substitute m n r u b.1 h)
 below_substitute m n r (named k) b h = tt
 
 pub added_equations : (old new : List Term) (ks : List (Option ℕ)) (es : List Sides) (t : Term) (p : ℕ) → AreEquationsIn old ks es → IsAdded old new t p → IsBelow (length ks) t → AreEquationsIn new ks es
@@ -165,11 +165,11 @@ grows_known s a b m g h v p e =
     let d : place_for a.known.items v ≡ Some p = ap (λ (ks : List (Option ℕ)). place_for ks v) (sym g.known) ∙ e in
     h v p d ∙ ap (substitute s) (sym (g.extends.kept p (m.places v p d)))
 
-pub says_none : (a : Equations) (P : (ℕ → Term) → Type 0) → AreEquations a → ((s : ℕ → Term) → Hold a s → P s) → Says a a P
+pub says_none : (a : Equations) (P : (ℕ → Term) → Type 0) → AreEquations a → ((s : ℕ → Term) → Hold a s → P s) → SaysEquations a a P
 says_none a P m h = record { made = m; count = refl; types = refl {A = List Term}; holds = λ s. (λ i. (i, h s i), λ i. i.0) }
 
 -- the same in other words
-pub says_as : (a b : Equations) (P Q : (ℕ → Term) → Type 0) → Says a b P → ((s : ℕ → Term) → Hold a s → P s ↔ Q s) → Says a b Q
+pub says_as : (a b : Equations) (P Q : (ℕ → Term) → Type 0) → SaysEquations a b P → ((s : ℕ → Term) → Hold a s → P s ↔ Q s) → SaysEquations a b Q
 says_as a b P Q x h = record {
   made = x.made;
   count = x.count;
@@ -177,7 +177,7 @@ says_as a b P Q x h = record {
   holds = λ s. (λ i. let j = (x.holds s).0 i in (j.0, (h s j.0).0 j.1), λ i. (x.holds s).1 (i.0, (h s i.0).1 i.1));
 }
 
-pub says_then : (a b c : Equations) (P Q : (ℕ → Term) → Type 0) → Says a b P → Says b c Q → Says a c (λ s. P s × Q s)
+pub says_then : (a b c : Equations) (P Q : (ℕ → Term) → Type 0) → SaysEquations a b P → SaysEquations b c Q → SaysEquations a c (λ s. P s × Q s)
 says_then a b c P Q x y = record {
   made = y.made;
   count = y.count ∙ x.count;
@@ -187,7 +187,7 @@ says_then a b c P Q x y = record {
 
 -- sequences are one where their items are, and pairs where their parts are
 pub says_seq : (a b : Equations) (left right item other : ℕ) → type_at a.types left ≡ seq_of (type_at a.types item) → type_at a.types right ≡ seq_of (type_at a.types other) →
-    Says a b (λ s. substitute s (type_at a.types item) ≡ substitute s (type_at a.types other)) → Says a b (λ s. substitute s (type_at a.types left) ≡ substitute s (type_at a.types right))
+    SaysEquations a b (λ s. substitute s (type_at a.types item) ≡ substitute s (type_at a.types other)) → SaysEquations a b (λ s. substitute s (type_at a.types left) ≡ substitute s (type_at a.types right))
 says_seq a b left right item other l r x =
     says_as a b _ _ x
     (λ s i. (
@@ -195,25 +195,25 @@ says_seq a b left right item other l r x =
       λ h. let d : seq_of (substitute s (type_at a.types item)) ≡ seq_of (substitute s (type_at a.types other)) = ap (substitute s) (sym l) ∙ h ∙ ap (substitute s) r in cc,
     ))
 
-pub says_both : (a b c : Equations) (left right first second third fourth : ℕ) → type_at a.types left ≡ both (type_at a.types first) (type_at a.types second) → type_at a.types right ≡ both (type_at a.types third) (type_at a.types fourth) →
-    Says a b (λ s. substitute s (type_at a.types first) ≡ substitute s (type_at a.types third)) → Says b c (λ s. substitute s (type_at b.types second) ≡ substitute s (type_at b.types fourth)) →
-    Says a c (λ s. substitute s (type_at a.types left) ≡ substitute s (type_at a.types right))
+pub says_both : (a b c : Equations) (left right first second third fourth : ℕ) → type_at a.types left ≡ pair_of (type_at a.types first) (type_at a.types second) → type_at a.types right ≡ pair_of (type_at a.types third) (type_at a.types fourth) →
+    SaysEquations a b (λ s. substitute s (type_at a.types first) ≡ substitute s (type_at a.types third)) → SaysEquations b c (λ s. substitute s (type_at b.types second) ≡ substitute s (type_at b.types fourth)) →
+    SaysEquations a c (λ s. substitute s (type_at a.types left) ≡ substitute s (type_at a.types right))
 says_both a b c left right first second third fourth l r x y =
-    let z = subst (λ (ts : List Term). Says b c (λ s. substitute s (type_at ts second) ≡ substitute s (type_at ts fourth))) x.types y in
+    let z = subst (λ (ts : List Term). SaysEquations b c (λ s. substitute s (type_at ts second) ≡ substitute s (type_at ts fourth))) x.types y in
     says_as a c _ _ (says_then a b c _ _ x z)
     (λ s i. (
       λ h. let one = h.0 in let two = h.1 in
-          let d : both (substitute s (type_at a.types first)) (substitute s (type_at a.types second)) ≡ both (substitute s (type_at a.types third)) (substitute s (type_at a.types fourth)) = cc in
+          let d : pair_of (substitute s (type_at a.types first)) (substitute s (type_at a.types second)) ≡ pair_of (substitute s (type_at a.types third)) (substitute s (type_at a.types fourth)) = cc in
           ap (substitute s) l ∙ d ∙ ap (substitute s) (sym r),
       λ h.
-          let d : both (substitute s (type_at a.types first)) (substitute s (type_at a.types second)) ≡ both (substitute s (type_at a.types third)) (substitute s (type_at a.types fourth)) = ap (substitute s) (sym l) ∙ h ∙ ap (substitute s) r in
+          let d : pair_of (substitute s (type_at a.types first)) (substitute s (type_at a.types second)) ≡ pair_of (substitute s (type_at a.types third)) (substitute s (type_at a.types fourth)) = ap (substitute s) (sym l) ∙ h ∙ ap (substitute s) r in
           (cc, cc),
     ))
 
 pub follows_none : (a : Equations) (P : (ℕ → Term) → Type 0) → AreEquations a → Follows a a P
 follows_none a P m = record { made = m; count = refl; types = refl {A = List Term}; sound = λ s h. h; complete = λ s h p. h }
 
-pub follows_says : (a b : Equations) (P Q : (ℕ → Term) → Type 0) → Says a b P → ((s : ℕ → Term) → Hold a s → Q s → P s) → Follows a b Q
+pub follows_says : (a b : Equations) (P Q : (ℕ → Term) → Type 0) → SaysEquations a b P → ((s : ℕ → Term) → Hold a s → Q s → P s) → Follows a b Q
 follows_says a b P Q x h = record { made = x.made; count = x.count; types = x.types; sound = λ s i. ((x.holds s).0 i).0; complete = λ s i q. (x.holds s).1 (i, h s i q) }
 
 pub follows_as : (a b : Equations) (P Q : (ℕ → Term) → Type 0) → Follows a b P → ((s : ℕ → Term) → Hold a s → Q s → P s) → Follows a b Q
@@ -232,7 +232,7 @@ follows_then a b c P Q R f g i j = record {
 pub joined_holds : (a b c d : Equations) (left right : ℕ) (t u : Term) → AreEquations a → Grows a b → Grows b c → (left < length b.types) →
     ((s : ℕ → Term) → IsAsKnown a.types a.known.items s → substitute s (type_at b.types left) ≡ substitute s t) →
     ((s : ℕ → Term) → IsAsKnown b.types b.known.items s → substitute s (type_at c.types right) ≡ substitute s u) →
-    Says c d (λ s. substitute s (type_at c.types left) ≡ substitute s (type_at c.types right)) →
+    SaysEquations c d (λ s. substitute s (type_at c.types left) ≡ substitute s (type_at c.types right)) →
     (s : ℕ → Term) → Hold d s ↔ (Hold a s × (substitute s t ≡ substitute s u))
 joined_holds a b c d left right t u m g f within x y z s =
     let one = grows_hold s a b m g in
@@ -246,7 +246,7 @@ joined_holds a b c d left right t u m g f within x y z s =
 
 -- a variable that is a type that was put in
 pub defined_holds : (a b c : Equations) (v right : ℕ) (u : (ℕ → Term) → Term) → AreEquations a → Grows a b → ((s : ℕ → Term) → IsAsKnown a.types a.known.items s → substitute s (type_at b.types right) ≡ u s) →
-    Says b c (λ s. s v ≡ substitute s (type_at b.types right)) → (s : ℕ → Term) → Hold c s ↔ (Hold a s × (s v ≡ u s))
+    SaysEquations b c (λ s. s v ≡ substitute s (type_at b.types right)) → (s : ℕ → Term) → Hold c s ↔ (Hold a s × (s v ≡ u s))
 defined_holds a b c v right u m g x z s =
     let one = grows_hold s a b m g in
     let h = z.holds s in (
@@ -309,7 +309,7 @@ added_grows a new t p m i b = record {
 
 -- a variable is an instance
 pub instance_holds : (a b e f : Equations) (right v : ℕ) (u : (ℕ → Term) → Term) → Follows a b (λ s. s v ≡ u s) → Grows b e →
-    ((s : ℕ → Term) → IsAsKnown b.types b.known.items s → substitute s (type_at e.types right) ≡ u s) → Says e f (λ s. s v ≡ substitute s (type_at e.types right)) → (s : ℕ → Term) → Hold f s ↔ (Hold a s × (s v ≡ u s))
+    ((s : ℕ → Term) → IsAsKnown b.types b.known.items s → substitute s (type_at e.types right) ≡ u s) → SaysEquations e f (λ s. s v ≡ substitute s (type_at e.types right)) → (s : ℕ → Term) → Hold f s ↔ (Hold a s × (s v ≡ u s))
 instance_holds a b e f right v u w p y z s =
     let h = defined_holds b e f v right u w.made p y z s in (
       λ i. let j = h.0 i in (w.sound s j.0, j.1),
@@ -343,7 +343,7 @@ puts_later a b c t p x g = record {
   here = λ s h. ap (substitute s) (g.extends.kept p x.within) ∙ x.here s h;
 }
 
-pub puts_both : (a b c d : Equations) (t u : Term) (p q r : ℕ) → AreEquations a → Puts a b t p → Puts b c u q → Puts c d (both (type_at c.types p) (type_at c.types q)) r → Puts a d (both t u) r
+pub puts_both : (a b c d : Equations) (t u : Term) (p q r : ℕ) → AreEquations a → Puts a b t p → Puts b c u q → Puts c d (pair_of (type_at c.types p) (type_at c.types q)) r → Puts a d (pair_of t u) r
 puts_both a b c d t u p q r m x y z =
     let w = puts_later a b c t p x y.grows in
     record {
@@ -351,12 +351,12 @@ puts_both a b c d t u p q r m x y z =
       within = z.within;
       here = λ s h.
           z.here s (grows_known s a c m w.grows h)
-          ∙ ap (λ k. both k (substitute s (type_at c.types q))) (w.here s h)
-          ∙ ap (both (substitute s t)) (y.here s (grows_known s a b m x.grows h));
+          ∙ ap (λ k. pair_of k (substitute s (type_at c.types q))) (w.here s h)
+          ∙ ap (pair_of (substitute s t)) (y.here s (grows_known s a b m x.grows h));
     }
 
 -- a variable is a type that was put in
-pub adds_defined : (a b c : Equations) (v p : ℕ) (t : Term) → AreEquations a → Puts a b t p → Says b c (λ s. s v ≡ substitute s (type_at b.types p)) → Adds a c (λ s. s v ≡ substitute s t)
+pub adds_defined : (a b c : Equations) (v p : ℕ) (t : Term) → AreEquations a → Puts a b t p → SaysEquations b c (λ s. s v ≡ substitute s (type_at b.types p)) → Adds a c (λ s. s v ≡ substitute s t)
 adds_defined a b c v p t m x z = record {
   made = z.made;
   count = z.count ∙ ap length x.grows.known;
@@ -364,7 +364,7 @@ adds_defined a b c v p t m x z = record {
 }
 
 -- both sides are types that were put in
-pub adds_joined : (a b c d : Equations) (t u : Term) (p q : ℕ) → AreEquations a → Puts a b t p → Puts b c u q → Says c d (λ s. substitute s (type_at c.types p) ≡ substitute s (type_at c.types q)) → Adds a d (λ s. substitute s t ≡ substitute s u)
+pub adds_joined : (a b c d : Equations) (t u : Term) (p q : ℕ) → AreEquations a → Puts a b t p → Puts b c u q → SaysEquations c d (λ s. substitute s (type_at c.types p) ≡ substitute s (type_at c.types q)) → Adds a d (λ s. substitute s t ≡ substitute s u)
 adds_joined a b c d t u p q m x y z = record {
   made = z.made;
   count = z.count ∙ ap length y.grows.known ∙ ap length x.grows.known;
@@ -379,7 +379,7 @@ begun_grows a b new v p fresh of t x l i =
     added_grows b new (substitute (replacement b.types of) t) p m i (instance_below (length b.known.items) d.types b.types d.known.items fresh of t m.below x.put.here l)
 
 pub begun_adds : (a b c : Equations) (new : List Term) (v p : ℕ) (fresh of : List ℕ) (t : Term) → IsBegun a b v fresh t of → IsBelow (length fresh) t → IsAdded b.types new (substitute (replacement b.types of) t) p →
-    Says (record b { types = new }) c (λ s. s v ≡ substitute s (type_at new p)) → Adds a c (λ s. s v ≡ substitute (λ w. s (get_or fresh w 0)) t)
+    SaysEquations (record b { types = new }) c (λ s. s v ≡ substitute s (type_at new p)) → Adds a c (λ s. s v ≡ substitute (λ w. s (get_or fresh w 0)) t)
 begun_adds a b c new v p fresh of t x l i z =
     let d = x.mid in
     let e : Equations = record b { types = new } in
@@ -392,11 +392,11 @@ begun_adds a b c new v p fresh of t x l i z =
     }
 
 -- only the types of a system's variables matter
-pub holds_below : (a : System) (s z : ℕ → Term) → IsSystem a → ((v : ℕ) → v < length a.members.items → s v ≡ z v) → Holds a s → Holds a z
+pub holds_below : (a : System) (s z : ℕ → Term) → IsSystem a → ((v : ℕ) → v < length a.members.items → s v ≡ z v) → IsSolvedBy a s → IsSolvedBy a z
 holds_below a s z i h = hold_below a.equations.types a.equations.known.items a.equations.sides.items s z i.equations (λ v l. h v (subst (λ (n : ℕ). v < n) i.count l))
 
 -- types put for the variables of a solution
-pub holds_with : (r : ℕ → Term) (a : System) (s : ℕ → Term) → Holds a s → Holds a (λ v. substitute r (s v))
+pub holds_with : (r : ℕ → Term) (a : System) (s : ℕ → Term) → IsSolvedBy a s → IsSolvedBy a (λ v. substitute r (s v))
 holds_with r a s h =
     let ts = a.equations.types in
     record {
@@ -408,7 +408,7 @@ holds_with r a s h =
 
 -- equations with two sides more
 pub says_side : (a : Equations) (b : Equations) (left right : ℕ) → AreEquations a → b.types ≡ a.types → b.known.items ≡ a.known.items → b.sides.items ≡ a.sides.items ++ record { left = left; right = right } ∷ [] → left < length a.types → right < length a.types →
-    Says a b (λ s. substitute s (type_at a.types left) ≡ substitute s (type_at a.types right))
+    SaysEquations a b (λ s. substitute s (type_at a.types left) ≡ substitute s (type_at a.types right))
 says_side a b left right m t k is l r =
     let e : Sides = record { left = left; right = right } in
     let P : List Term → List (Option ℕ) → Type 0 = λ ts ks. AreEquationsIn ts ks b.sides.items in
@@ -421,13 +421,13 @@ says_side a b left right m t k is l r =
     }
 
 -- a variable at the left side that is the right side
-pub says_defined : (a b : Equations) (left right v : ℕ) → IsFreeAt a.types a.known.items left v → Says a b (λ s. s v ≡ substitute s (type_at a.types right)) → Says a b (λ s. substitute s (type_at a.types left) ≡ substitute s (type_at a.types right))
+pub says_defined : (a b : Equations) (left right v : ℕ) → IsFreeAt a.types a.known.items left v → SaysEquations a b (λ s. s v ≡ substitute s (type_at a.types right)) → SaysEquations a b (λ s. substitute s (type_at a.types left) ≡ substitute s (type_at a.types right))
 says_defined a b left right v f x =
     says_as a b _ _ x (λ s i. (λ h. ap (substitute s) f.here ∙ h, λ h. sym (ap (substitute s) f.here) ∙ h))
 
 -- sides that were resolved
 pub says_resolved : (a b : Equations) (left right one two : ℕ) → ((s : ℕ → Term) → IsAsKnown a.types a.known.items s → substitute s (type_at a.types one) ≡ substitute s (type_at a.types left)) →
     ((s : ℕ → Term) → IsAsKnown a.types a.known.items s → substitute s (type_at a.types two) ≡ substitute s (type_at a.types right)) →
-    Says a b (λ s. substitute s (type_at a.types one) ≡ substitute s (type_at a.types two)) → Says a b (λ s. substitute s (type_at a.types left) ≡ substitute s (type_at a.types right))
+    SaysEquations a b (λ s. substitute s (type_at a.types one) ≡ substitute s (type_at a.types two)) → SaysEquations a b (λ s. substitute s (type_at a.types left) ≡ substitute s (type_at a.types right))
 says_resolved a b left right one two l r x =
     says_as a b _ _ x (λ s i. (λ h. sym (l s i.known) ∙ h ∙ r s i.known, λ h. l s i.known ∙ h ∙ sym (r s i.known)))

@@ -5,7 +5,7 @@ use Rattle.std.proofs.lemmas.List.{get_or_default}
 use Rattle.nesl_types.specs.declared.classes.Class.{Class}
 use Rattle.nesl_types.specs.declared.classes.Class.TheVariants.{Any, Ordinal, Number, Logical}
 use Rattle.nesl_types_bank.specs.Substitution.{substitute}
-use Rattle.nesl_types_bank.specs.Term.{Term, int, bool, char, variable, seq_of, both, named}
+use Rattle.nesl_types_bank.specs.Term.{Term, int, bool, char, variable, seq_of, pair_of, named}
 use Rattle.nesl_types.specs.Class.{IsMember, IsIn}
 use Rattle.nesl_types.proofs.Members.{IsIn-narrowed, IsWithin-from_types}
 use Rattle.nesl_unify.specs.declared.narrow.Member.{Member}
@@ -38,7 +38,7 @@ seq_member Ordinal t u h = elim h [ inl e ↦ cc | inr e ↦ cc ]
 seq_member Number t u h = cc
 seq_member Logical t u h = elim h [ inl e ↦ cc | inr e ↦ cc ]
 
-both_member : (c : Class) (t u x y : Term) → IsMember c (both t u) → IsMember c (both x y)
+both_member : (c : Class) (t u x y : Term) → IsMember c (pair_of t u) → IsMember c (pair_of x y)
 both_member Any t u x y h = tt
 both_member Ordinal t u x y h = elim h [ inl e ↦ cc | inr e ↦ cc ]
 both_member Number t u x y h = cc
@@ -56,7 +56,7 @@ built f p Bool = bool
 built f p Char = char
 built f p (Named m) = named m
 built f p (SeqOf q) = seq_of (f q)
-built f p (Both q r) = both (f q) (f r)
+built f p (Both q r) = pair_of (f q) (f r)
 
 pub root_built : (f : ℕ → Term) (p : ℕ) (t : Term) (n : Node) → IsRoot n → (n ≡ Free → t ≡ variable p) → Describes f t n → t ≡ built f p n
 root_built f p t Free r h d = h refl

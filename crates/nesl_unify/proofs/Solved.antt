@@ -7,11 +7,11 @@ use Rattle.std.proofs.lemmas.List.{length-replicate, get_or_past}
 use Rattle.nesl_types.specs.declared.classes.Class.{Class}
 use Rattle.nesl_types.specs.Class.{IsIn}
 use Rattle.nesl_types_bank.specs.Numbering.{IsBelow}
-use Rattle.nesl_types_bank.specs.Term.{Term, int, bool, char, variable, seq_of, both, named, nodes}
+use Rattle.nesl_types_bank.specs.Term.{Term, int, bool, char, variable, seq_of, pair_of, named, nodes}
 use Rattle.nesl_types_bank.specs.Substitution.{substitute}
 use Rattle.nesl_types_bank.specs.declared.graph.Node.{Node}
 use Rattle.nesl_types_bank.specs.declared.graph.Node.TheVariants.{Free, Same, Int, Bool, Char, Named, SeqOf, Both}
-use Rattle.nesl_types_bank.specs.Graph.{node_at, Fits, IsFlat, IsGraph, IsNodeBelow, target, AreRead}
+use Rattle.nesl_types_bank.specs.Graph.{node_at, FitsGraph, IsFlat, IsGraph, IsNodeBelow, target, AreRead}
 use Rattle.nesl_types_bank.specs.Renames.{replacement}
 use Rattle.nesl_types_bank.specs.Types.{type_at, size_of}
 use Rattle.nesl_unify.specs.declared.unify.Pair.{Pair}
@@ -33,7 +33,7 @@ substitute_below n f g bool b h = refl
 substitute_below n f g char b h = refl
 substitute_below n f g (variable v) b h = h v b
 substitute_below n f g (seq_of t) b h = ap seq_of (substitute_below n f g t b h)
-substitute_below n f g (both t u) b h = let x = substitute_below n f g t b.0 h in let y = substitute_below n f g u b.1 h in cc
+substitute_below n f g (pair_of t u) b h = let x = substitute_below n f g t b.0 h in let y = substitute_below n f g u b.1 h in cc
 substitute_below n f g (named m) b h = refl
 
 -- a table is a graph
@@ -55,13 +55,13 @@ is_graph ns t p = elim (cases_lt p (length ns)) [
 
 -- the table in which these places are one
 pub record Unified (count : ℕ) (start : List Node) (pending : List Pair) (ns : List Node) : Type 0 where
-  pub same : (w : ℕ → Term) → Fits w ns ↔ (Fits w start × AreEqual w pending)
+  pub same : (w : ℕ → Term) → FitsGraph w ns ↔ (FitsGraph w start × AreEqual w pending)
   pub table : IsTable count ns
   pub flat : IsFlat ns
   pub longer : count ≤ length ns
 
-pub same_start : (start given ns : List Node) (pending : List Pair) → given ≡ start → ((w : ℕ → Term) → Fits w ns ↔ (Fits w given × AreEqual w pending)) → (w : ℕ → Term) → Fits w ns ↔ (Fits w start × AreEqual w pending)
-same_start start given ns pending e h = subst (λ (l : List Node). (w : ℕ → Term) → Fits w ns ↔ (Fits w l × AreEqual w pending)) e h
+pub same_start : (start given ns : List Node) (pending : List Pair) → given ≡ start → ((w : ℕ → Term) → FitsGraph w ns ↔ (FitsGraph w given × AreEqual w pending)) → (w : ℕ → Term) → FitsGraph w ns ↔ (FitsGraph w start × AreEqual w pending)
+same_start start given ns pending e h = subst (λ (l : List Node). (w : ℕ → Term) → FitsGraph w ns ↔ (FitsGraph w l × AreEqual w pending)) e h
 
 pub table_start : (count c : ℕ) (start given ns : List Node) → count ≤ c → Extends (replicate count Free) start → given ≡ start → (IsTable c given → IsTable c ns) → IsTable c ns
 table_start count c start given ns le x e h = h (subst (IsTable c) (sym e) (table_built count c start le x))
@@ -69,7 +69,7 @@ table_start count c start given ns le x e h = h (subst (IsTable c) (sym e) (tabl
 pub longer : (count : ℕ) (start given ns : List Node) → Extends (replicate count Free) start → given ≡ start → length ns ≡ length given → count ≤ length ns
 longer count start given ns x e l = let d = ap length e in omega (arith, x.longer, length-replicate count Free)
 
-pub unified : (count : ℕ) (start given ns : List Node) (pending : List Pair) → Extends (replicate count Free) start → given ≡ start → ((w : ℕ → Term) → Fits w ns ↔ (Fits w given × AreEqual w pending)) →
+pub unified : (count : ℕ) (start given ns : List Node) (pending : List Pair) → Extends (replicate count Free) start → given ≡ start → ((w : ℕ → Term) → FitsGraph w ns ↔ (FitsGraph w given × AreEqual w pending)) →
     ((c : ℕ) → IsTable c given → IsTable c ns) → IsFlat ns → length ns ≡ length given → Unified count start pending ns
 unified count start given ns pending x e same table flat len = record {
   same = same_start start given ns pending e same;
@@ -138,8 +138,8 @@ module _ (count : ℕ) (start ns : List Node) (pending : List Pair) (ts : List T
       subst (IsIn of m.class) (sym (types_node m.variable (below k d l))) (from_outside of m.class r.types (target ns m.variable) (node_at ns (target ns m.variable)) (u.flat m.variable) (h k d l))
 
 -- no solutions
-pub none_read : (count : ℕ) (start ns : List Node) (pending : List Pair) → ((w : ℕ → Term) → Fits w ns ↔ (Fits w start × AreEqual w pending)) →
-    ((w : ℕ → Term) → Fits w ns → (v : ℕ) × ((v < count) × (4096 < nodes (w v)))) → (s : ℕ → Term) → IsBounded s → AreMet count start pending s → ⊥
+pub none_read : (count : ℕ) (start ns : List Node) (pending : List Pair) → ((w : ℕ → Term) → FitsGraph w ns ↔ (FitsGraph w start × AreEqual w pending)) →
+    ((w : ℕ → Term) → FitsGraph w ns → (v : ℕ) × ((v < count) × (4096 < nodes (w v)))) → (s : ℕ → Term) → IsBounded s → AreMet count start pending s → ⊥
 none_read count start ns pending same large s b x =
     let g = large x.0 ((same x.0).1 (x.1.fits, x.1.equal)) in
     let e = ap nodes (x.1.below g.0 g.1.0) in

@@ -21,7 +21,7 @@ use Rattle.nesl_unify.specs.Pairs.{IsPairBelow, AreEqual}
 use Rattle.nesl_unify.specs.Places.{place_for, ArePlaces}
 use Rattle.nesl_unify.specs.Starts.{node_of, end_of_shape, IsNodeOf, IsStart, AreSidesEqual, AreKnownEqual}
 use Rattle.nesl_unify.specs.Systems.{HoldIn, AreEquationsIn}
-use Rattle.nesl_types_bank.specs.Graph.{node_at, Describes, Fits}
+use Rattle.nesl_types_bank.specs.Graph.{node_at, Describes, FitsGraph}
 use Rattle.nesl_unify.proofs.Known.{AreSidesBelow, place_below}
 
 -- the greatest places
@@ -100,7 +100,7 @@ module _ (count : ℕ) (types : List Term) (nodes : List Node) (below : All (IsB
   shape_there s w p t (SeqOf q) g f b l h = h ∙ ap seq_of (f q b)
   shape_there s w p t (Both q r) g f b l h = let x = f q b.0 in let y = f r b.1 in cc
 
-  types_below : (s w : ℕ → Term) → Fits w nodes → ((v : ℕ) → v < count → w v ≡ s v) → (k p : ℕ) → p < k → p < length types → w (count + p) ≡ substitute s (type_at types p)
+  types_below : (s w : ℕ → Term) → FitsGraph w nodes → ((v : ℕ) → v < count → w v ≡ s v) → (k p : ℕ) → p < k → p < length types → w (count + p) ≡ substitute s (type_at types p)
   types_below s w f g zero p l i = absurd (omega arith)
   types_below s w f g (suc k) p l i =
       let n = start.at p i in
@@ -108,7 +108,7 @@ module _ (count : ℕ) (types : List Term) (nodes : List Node) (below : All (IsB
       ∙ ap (substitute s) (sym n.here)
 
   -- the types behind the variables
-  types_there : (s w : ℕ → Term) → Fits w nodes → ((v : ℕ) → v < count → w v ≡ s v) → (p : ℕ) → p < length types → w (count + p) ≡ substitute s (type_at types p)
+  types_there : (s w : ℕ → Term) → FitsGraph w nodes → ((v : ℕ) → v < count → w v ≡ s v) → (p : ℕ) → p < length types → w (count + p) ≡ substitute s (type_at types p)
   types_there s w f g p i = types_below s w f g (suc p) p (omega arith) i
 
   pub met_holds : (ks : List (Option ℕ)) (sides : List Sides) (pending : List Pair) (s : ℕ → Term) → length ks ≡ count → AreEquationsIn types ks sides →
@@ -148,7 +148,7 @@ module _ (count : ℕ) (types : List Term) (nodes : List Node) (below : All (IsB
   whole_shape s t (SeqOf p) l h = h ∙ ap seq_of (sym (whole_place s p))
   whole_shape s t (Both p q) l h = let x = whole_place s p in let y = whole_place s q in cc
 
-  whole_fits : (s : ℕ → Term) → Fits (whole s) nodes
+  whole_fits : (s : ℕ → Term) → FitsGraph (whole s) nodes
   whole_fits s p =
       let w = whole s in
       elim (cases_lt p count) [

@@ -6,7 +6,7 @@ use Rattle.std.proofs.lemmas.List.Sums.{sum_by-set}
 use Rattle.nesl_types_bank.specs.Term.{Term}
 use Rattle.nesl_types_bank.specs.declared.graph.Node.{Node}
 use Rattle.nesl_types_bank.specs.declared.graph.Node.TheVariants.{Free, Same, Int, Bool, Char, Named, SeqOf, Both}
-use Rattle.nesl_types_bank.specs.Graph.{node_at, Describes, Fits, IsRoot, IsFlat, link_or, target}
+use Rattle.nesl_types_bank.specs.Graph.{node_at, Describes, FitsGraph, IsRoot, IsFlat, link_or, target}
 use Rattle.nesl_unify.specs.Table.{IsPlaced, IsTable, standing, shortened}
 
 -- a fact of each place after a write
@@ -33,7 +33,7 @@ describes-link w p (Named m) h = refl
 describes-link w p (SeqOf q) h = refl
 describes-link w p (Both q r) h = refl
 
-pub fits-target : (w : ℕ → Term) (ns : List Node) (p : ℕ) → Fits w ns → w p ≡ w (target ns p)
+pub fits-target : (w : ℕ → Term) (ns : List Node) (p : ℕ) → FitsGraph w ns → w p ≡ w (target ns p)
 fits-target w ns p f = describes-link w p (node_at ns p) (f p)
 
 link_le : (count n p : ℕ) (m : Node) → IsPlaced count n p m → link_or p m ≤ p
@@ -50,7 +50,7 @@ pub target_le : (count : ℕ) (ns : List Node) (p : ℕ) → IsTable count ns �
 target_le count ns p t inside = link_le count (length ns) p (node_at ns p) (t p inside)
 
 -- what a link is made shorter by stays the same for types, places and counts
-describes_shortened : (w : ℕ → Term) (ns : List Node) (p : ℕ) (n : Node) → Fits w ns → Describes w (w p) n → Describes w (w p) (shortened ns n)
+describes_shortened : (w : ℕ → Term) (ns : List Node) (p : ℕ) (n : Node) → FitsGraph w ns → Describes w (w p) n → Describes w (w p) (shortened ns n)
 describes_shortened w ns p Free f h = h
 describes_shortened w ns p (Same q) f h = h ∙ fits-target w ns q f
 describes_shortened w ns p Int f h = h
@@ -103,7 +103,7 @@ standing_shortened ns (Both q r) = refl
 -- new has other links than old, and says the same
 pub record Relinks (old new : List Node) : Type 0 where
   pub len : length new ≡ length old
-  pub same : (w : ℕ → Term) → Fits w new ↔ Fits w old
+  pub same : (w : ℕ → Term) → FitsGraph w new ↔ FitsGraph w old
   pub table : (count : ℕ) → IsTable count old → IsTable count new
   pub kept : (p : ℕ) → IsRoot (node_at old p) → node_at new p ≡ node_at old p
   pub standing : sum_by standing new ≡ sum_by standing old
@@ -124,7 +124,7 @@ table_shortened ns p count inside t =
     let each = each_set (λ q m. q < length ns → IsPlaced count (length ns) q m) ns p n inside (λ l. placed_shortened ns count p (node_at ns p) t inside (t p inside)) (λ q _. t q) in
     λ q l. subst (λ (k : ℕ). IsPlaced count k q (node_at (set ns p n) q)) (sym e) (each q (omega arith))
 
-fits_before : (w : ℕ → Term) (ns : List Node) (p count : ℕ) → p < length ns → IsTable count ns → Fits w (set ns p (shortened ns (node_at ns p))) → Fits w ns
+fits_before : (w : ℕ → Term) (ns : List Node) (p count : ℕ) → p < length ns → IsTable count ns → FitsGraph w (set ns p (shortened ns (node_at ns p))) → FitsGraph w ns
 fits_before w ns p count inside t f =
     let n = shortened ns (node_at ns p) in
     let other : (q : ℕ) → q ≢ p → Describes w (w q) (node_at ns q) = λ q d. other_set (Describes w (w q)) ns p n q d (f q) in

@@ -1,5 +1,5 @@
 -- Types whose parts are variables.
-use Rattle.nesl_types_bank.specs.Term.{Term, int, bool, char, variable, seq_of, both, named}
+use Rattle.nesl_types_bank.specs.Term.{Term, int, bool, char, variable, seq_of, pair_of, named}
 use Rattle.nesl_unify.specs.declared.flat.Flat.{Flat}
 use Rattle.nesl_unify.specs.declared.flat.Flat.TheVariants.{Int, Bool, Char, Var, Named, SeqOf, Both}
 
@@ -10,4 +10,4 @@ flat_type Char = char
 flat_type (Var v) = variable v
 flat_type (Named n) = named n
 flat_type (SeqOf v) = seq_of (variable v)
-flat_type (Both v w) = both (variable v) (variable w)
+flat_type (Both v w) = pair_of (variable v) (variable w)

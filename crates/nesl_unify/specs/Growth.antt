@@ -34,7 +34,7 @@ pub record Adds (old new : Equations) (P : (ℕ → Term) → Type 0) : Type 0 w
   pub holds : (s : ℕ → Term) → Hold new s ↔ (Hold old s × P s)
 
 -- new has the types of old, and what P says more
-pub record Says (old new : Equations) (P : (ℕ → Term) → Type 0) : Type 0 where
+pub record SaysEquations (old new : Equations) (P : (ℕ → Term) → Type 0) : Type 0 where
   pub made : AreEquations new
   pub count : length new.known.items ≡ length old.known.items
   pub types : new.types ≡ old.types

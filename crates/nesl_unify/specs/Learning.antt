@@ -9,8 +9,8 @@ use Rattle.nesl_types_bank.specs.declared.shape.Shape.TheVariants.{SeqOf, Both}
 use Rattle.nesl_unify.specs.declared.learning.PartAt.{PartAt}
 
 -- the part is the type at the place, where the fresh variables stand for those of the part
-abbrev pub Stands : List Term → List Term → List ℕ → (ℕ → Term) → PartAt → Type 0
-Stands parts types fresh s e =
+abbrev pub PartIsAt : List Term → List Term → List ℕ → (ℕ → Term) → PartAt → Type 0
+PartIsAt parts types fresh s e =
     substitute (λ v. s (slice_index fresh v)) (type_at parts e.part) ≡ substitute s (type_at types e.place)
 
 -- both are there, and there is a fresh variable for each variable of the part

@@ -41,12 +41,12 @@ abbrev pub count : System → ℕ
 count a = length a.members.items
 
 -- s solves the equations of a system
-abbrev pub Holds : System → (ℕ → Term) → Type 0
-Holds a s = Hold a.equations s
+abbrev pub IsSolvedBy : System → (ℕ → Term) → Type 0
+IsSolvedBy a s = Hold a.equations s
 
 -- s and `of` solve a system
 pub record SolvesSystem (a : System) (s : ℕ → Term) (of : ℕ → Class) : Type 0 where
-  pub equal : Holds a s
+  pub equal : IsSolvedBy a s
   pub within : IsInAll s of a.members.items
 
 -- all is made of variables of the system and of what it has

@@ -1,6 +1,6 @@
 -- A table of the nodes of types, each at a place.
 use Rattle.std.specs.Prelude.{◌<◌, ◌≤◌, ℕ, List, length}
-use Rattle.nesl_types_bank.specs.Term.{Term, int, bool, char, variable, seq_of, both, named}
+use Rattle.nesl_types_bank.specs.Term.{Term, int, bool, char, variable, seq_of, pair_of, named}
 use Rattle.nesl_types_bank.specs.declared.graph.Node.{Node}
 use Rattle.nesl_types_bank.specs.declared.graph.Node.TheVariants.{Free, Same, Int, Bool, Char, Named, SeqOf, Both}
 use Rattle.nesl_types_bank.specs.Graph.{node_at, target}
@@ -51,7 +51,7 @@ outside p Bool = bool
 outside p Char = char
 outside p (Named m) = named m
 outside p (SeqOf q) = seq_of int
-outside p (Both q r) = both int int
+outside p (Both q r) = pair_of int int
 
 -- the outside of the type at each place
 abbrev pub outside_at : List Node → ℕ → Term

@@ -10,7 +10,7 @@ ghost use Rattle.nesl_types_bank.specs.Types.{type_at};
 ghost use Rattle.nesl_unify.specs.Flat.{flat_type};
 ghost use Rattle.nesl_unify.specs.Places.{place_for};
 ghost use Rattle.nesl_unify.specs.Systems.{AreEquations, Hold, IsAsKnown};
-ghost use Rattle.nesl_unify.specs.Growth.{IsFreeAt, Grows, Puts, Adds, Says, Follows, PutsAll, IsBegun};
+ghost use Rattle.nesl_unify.specs.Growth.{IsFreeAt, Grows, Puts, Adds, SaysEquations, Follows, PutsAll, IsBegun};
 
 use crate::flat::Flat;
 use crate::instance::put_part;
@@ -194,7 +194,7 @@ impl Equations {
         requires variable { variable < length self.old.known.items }
         requires free { place_for self.old.known.items variable ≡ None }
         requires place { place < length self.old.types }
-        ensures { Says self.old self.new (λ s. s variable ≡ substitute s (type_at self.old.types place)) }
+        ensures { SaysEquations self.old self.new (λ s. s variable ≡ substitute s (type_at self.old.types place)) }
     {
         self.known[variable as usize] = Some(place);
     }
@@ -204,7 +204,7 @@ impl Equations {
         requires made { AreEquations self.old }
         requires left { left < length self.old.types }
         requires right { right < length self.old.types }
-        ensures { OnOk result (Says self.old self.new (λ s. substitute s (type_at self.old.types left)
+        ensures { OnOk result (SaysEquations self.old self.new (λ s. substitute s (type_at self.old.types left)
             ≡ substitute s (type_at self.old.types right))) }
     {
         if left == right {
@@ -222,12 +222,12 @@ impl Equations {
         Ok(())
     }
 
-    /// The same, with what is known in place of a variable.
+    /// The types at two places are one; a variable that something is known of is followed to that first.
     fn add(&mut self, left: usize, right: usize) -> Result<(), AllocError>
         requires made { AreEquations self.old }
         requires left { left < length self.old.types }
         requires right { right < length self.old.types }
-        ensures { OnOk result (Says self.old self.new (λ s. substitute s (type_at self.old.types left)
+        ensures { OnOk result (SaysEquations self.old self.new (λ s. substitute s (type_at self.old.types left)
             ≡ substitute s (type_at self.old.types right))) }
     {
         let resolved = self.resolve(left);
@@ -242,7 +242,7 @@ impl Equations {
         requires made { AreEquations self.old }
         requires left { left < length self.old.types }
         requires right { right < length self.old.types }
-        ensures says { OnOk result (Says self.old self.new (λ s. substitute s (type_at self.old.types left)
+        ensures says { OnOk result (SaysEquations self.old self.new (λ s. substitute s (type_at self.old.types left)
             ≡ substitute s (type_at self.old.types right))) }
         ensures room { IfOk result (λ rest. rest ≤ room) }
     {
@@ -271,7 +271,8 @@ impl Equations {
         requires made { AreEquations self.old }
         requires variable { variable < length self.old.known.items }
         requires place { place < length self.old.types }
-        ensures { OnOk result (Says self.old self.new (λ s. s variable ≡ substitute s (type_at self.old.types place))) }
+        ensures { OnOk result
+            (SaysEquations self.old self.new (λ s. s variable ≡ substitute s (type_at self.old.types place))) }
     {
         if let Some(own) = place_for(self.known.as_slice(), variable) {
             self.join(own, place, MOST_COMPARED)?;

@@ -3,7 +3,7 @@
 ghost use Rattle.std.specs.Prelude.{◌≡◌, ◌<◌, ◌++◌, All, length, OnOk};
 ghost use Rattle.nesl_unify.specs.Systems.{AreEquations};
 ghost use Rattle.nesl_unify.specs.Growth.{Follows};
-ghost use Rattle.nesl_unify.specs.Learning.{Stands, IsPartAt, beside};
+ghost use Rattle.nesl_unify.specs.Learning.{PartIsAt, IsPartAt, beside};
 
 use crate::equations::Equations;
 use nesl_types_bank::{Parts, Shape};
@@ -53,7 +53,7 @@ pub fn learn(
     requires fresh { All (λ v. v < length equations.old.known.items) fresh.now }
     requires at { IsPartAt parts.now equations.old.types fresh.now at }
     ensures { OnOk result
-        (Follows equations.old equations.new (λ s. Stands parts.now equations.old.types fresh.now s at)) }
+        (Follows equations.old equations.new (λ s. PartIsAt parts.now equations.old.types fresh.now s at)) }
 {
     let mut stack = Vec::new(alloc);
     stack.push(at)?;

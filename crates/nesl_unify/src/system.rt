@@ -8,7 +8,7 @@ ghost use Rattle.nesl_types_bank.specs.Numbering.{IsBelow};
 ghost use Rattle.nesl_unify.specs.Bounds.{IsBounded};
 ghost use Rattle.nesl_unify.specs.Flat.{flat_type};
 ghost use Rattle.nesl_unify.specs.Solves.{IsInstance, type_of, class_of};
-ghost use Rattle.nesl_unify.specs.Systems.{count, Holds, SolvesSystem, IsSystem};
+ghost use Rattle.nesl_unify.specs.Systems.{count, IsSolvedBy, SolvesSystem, IsSystem};
 
 use crate::equations::Equations;
 use crate::fault::SolveFault;
@@ -47,7 +47,7 @@ impl System {
     pub fn new(alloc: Global) -> System
         ensures system { IsSystem result }
         ensures members { result.members.items ≡ [] }
-        ensures holds { (s : ℕ → Term) → Holds result s }
+        ensures holds { (s : ℕ → Term) → IsSolvedBy result s }
     {
         System {
             equations: Equations::new(alloc),
@@ -59,8 +59,8 @@ impl System {
     /// A law: only the types of a system's own variables decide whether it is solved.
     pub fn variables_decide(&self)
         requires { IsSystem self.now }
-        ensures { (s : ℕ → Term) → (z : ℕ → Term) → ((v : ℕ) → v < count self.now → s v ≡ z v) → Holds self.now s
-            → Holds self.now z }
+        ensures { (s : ℕ → Term) → (z : ℕ → Term) → ((v : ℕ) → v < count self.now → s v ≡ z v) → IsSolvedBy self.now s
+            → IsSolvedBy self.now z }
     {}
 
     /// How many variables there are.
@@ -77,7 +77,7 @@ impl System {
         ensures variable { IfOk result (λ v. v ≡ count self.old) }
         ensures members { IfOk result (λ v. self.new.members.items
             ≡ self.old.members.items ++ record { variable = v; class = class } ∷ []) }
-        ensures holds { OnOk result ((s : ℕ → Term) → Holds self.new s ↔ Holds self.old s) }
+        ensures holds { OnOk result ((s : ℕ → Term) → IsSolvedBy self.new s ↔ IsSolvedBy self.old s) }
     {
         let variable = self.members.len() as u64;
         self.equations.fresh()?;
@@ -92,8 +92,8 @@ impl System {
         requires right { IsBelow (count self.old) equation.now.right }
         ensures system { OnOk result (IsSystem self.new) }
         ensures members { OnOk result (self.new.members.items ≡ self.old.members.items) }
-        ensures holds { OnOk result ((s : ℕ → Term) → Holds self.new s
-            ↔ (Holds self.old s × (substitute s equation.now.left ≡ substitute s equation.now.right))) }
+        ensures holds { OnOk result ((s : ℕ → Term) → IsSolvedBy self.new s
+            ↔ (IsSolvedBy self.old s × (substitute s equation.now.left ≡ substitute s equation.now.right))) }
     {
         let alloc = *self.members.allocator();
         self.equations
@@ -109,7 +109,8 @@ impl System {
         ensures system { OnOk result (IsSystem self.new) }
         ensures members { OnOk result (self.new.members.items ≡ self.old.members.items) }
         ensures holds { OnOk result
-            ((s : ℕ → Term) → Holds self.new s ↔ (Holds self.old s × (s variable ≡ substitute s (flat_type flat)))) }
+            ((s : ℕ → Term) → IsSolvedBy self.new s
+            ↔ (IsSolvedBy self.old s × (s variable ≡ substitute s (flat_type flat)))) }
     {
         self.equations.equate_flat(variable, flat)?;
         Ok(())
@@ -132,8 +133,8 @@ impl System {
         ensures members { OnOk result (self.new.members.items ≡ self.old.members.items) }
         ensures holds { OnOk result
             ((s : ℕ → Term) →
-            Holds self.new s
-            ↔ (Holds self.old s × (s variable ≡ substitute (λ v. s (slice_index fresh.now v)) part.now))) }
+            IsSolvedBy self.new s
+            ↔ (IsSolvedBy self.old s × (s variable ≡ substitute (λ v. s (slice_index fresh.now v)) part.now))) }
     {
         match flat_instance(fresh, part) {
             Some(flat) => self.equations.equate_flat(variable, flat)?,
@@ -162,8 +163,8 @@ impl System {
         ensures members { OnOk result (self.new.members.items ≡ self.old.members.items) }
         ensures holds { OnOk result
             ((s : ℕ → Term) →
-            Holds self.new s
-            ↔ (Holds self.old s × (s variable ≡ substitute (λ v. s (slice_index fresh.now v)) part.now))) }
+            IsSolvedBy self.new s
+            ↔ (IsSolvedBy self.old s × (s variable ≡ substitute (λ v. s (slice_index fresh.now v)) part.now))) }
     {
         let of = self.equations.begin_instance(alloc, variable, fresh, part)?;
         let right = put_instance(

@@ -1,13 +1,13 @@
 -- Copies that are on their way.
 use Rattle.std.proofs.Common.{◌≡◌, ℕ, ◌+◌, List, [], ◌∷◌, ◌++◌, length, map, refl, ap, sym, ◌∙◌, arith, append_assoc}
 use Rattle.std.proofs.lemmas.List.{map-append, nil_from_length}
-use Rattle.nesl_values.specs.Tree.{Tree, sequence}
+use Rattle.nesl_values.specs.Tree.{ValueTree, sequence}
 use Rattle.nesl_values.specs.View.{tree_of}
 use Rattle.nesl_values.specs.Copying.{around, all_around, work_around, work_above}
 use Rattle.nesl_values.specs.declared.copy.Frame.{Frame}
 use Rattle.nesl_values.specs.declared.value.Value.{Value}
 
-all_around-push : {A B : Type 0} → (fs : List (Frame A B)) (f : Frame A B) (t : Tree) → all_around (fs ++ f ∷ []) t ≡ all_around fs (around f t)
+all_around-push : {A B : Type 0} → (fs : List (Frame A B)) (f : Frame A B) (t : ValueTree) → all_around (fs ++ f ∷ []) t ≡ all_around fs (around f t)
 all_around-push [] f t = refl
 all_around-push (g ∷ fs) f t = ap (around g) (all_around-push fs f t)
 
@@ -16,13 +16,13 @@ work_above-push [] f = omega arith
 work_above-push (g ∷ fs) f = omega (arith, work_above-push fs f)
 
 -- one more frame below the others
-pub framed : {A B : Type 0} → (fs gs : List (Frame A B)) (f : Frame A B) (t s : Tree) → gs ≡ fs ++ f ∷ [] → around f t ≡ s → all_around gs t ≡ all_around fs s
+pub framed : {A B : Type 0} → (fs gs : List (Frame A B)) (f : Frame A B) (t s : ValueTree) → gs ≡ fs ++ f ∷ [] → around f t ≡ s → all_around gs t ≡ all_around fs s
 framed fs gs f t s push here = ap (λ hs. all_around hs t) push ∙ all_around-push fs f t ∙ ap (all_around fs) here
 
 pub framed_work : {A B : Type 0} → (fs gs : List (Frame A B)) (f : Frame A B) → gs ≡ fs ++ f ∷ [] → work_above gs ≡ work_above fs + work_around f
 framed_work fs gs f push = ap work_above push ∙ work_above-push fs f
 
-pub sequence_of : {A B : Type 0} → (vs : List (Value A)) (x : Value A) (all others : List (Value A)) (copies : List (Value B)) (t : Tree) → t ≡ sequence (map tree_of vs) → all ≡ vs → all ≡ x ∷ others → copies ≡ []
+pub sequence_of : {A B : Type 0} → (vs : List (Value A)) (x : Value A) (all others : List (Value A)) (copies : List (Value B)) (t : ValueTree) → t ≡ sequence (map tree_of vs) → all ≡ vs → all ≡ x ∷ others → copies ≡ []
     → sequence (map tree_of copies ++ tree_of x ∷ map tree_of others) ≡ t
 sequence_of vs x all others copies t is items parts none =
     ap (λ cs. sequence (map tree_of cs ++ tree_of x ∷ map tree_of others)) none ∙ ap (λ us. sequence (map tree_of us)) (sym parts ∙ items) ∙ sym is

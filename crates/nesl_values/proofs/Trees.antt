@@ -1,9 +1,9 @@
 -- Sizes of trees, and lists of what is seen in other lists.
 use Rattle.std.proofs.Common.{◌≡◌, ℕ, zero, suc, ℤ, Bool, ◌+◌, ◌<◌, ◌≤◌, List, [], ◌∷◌, ◌++◌, length, map, take, drop, ◌-◌, refl, ap, ◌∙◌, sym, arith, get_or, slice_range}
 use Rattle.std.proofs.lemmas.List.{map-append, take-map, drop-map, take_more}
-use Rattle.nesl_values.specs.Tree.{Tree, int, boolean, character, pair, seq, tagged, trees_of, size, sizes}
+use Rattle.nesl_values.specs.Tree.{ValueTree, int, boolean, character, pair, seq, tagged, trees_of, size, sizes}
 
-pub size_positive : (t : Tree) → 0 < size t
+pub size_positive : (t : ValueTree) → 0 < size t
 size_positive (int n) = omega arith
 size_positive (boolean b) = omega arith
 size_positive (character c) = omega arith
@@ -11,7 +11,7 @@ size_positive (pair l r) = omega arith
 size_positive (seq ts) = omega arith
 size_positive (tagged n t) = omega arith
 
-sizes-leaves : {X : Type 0} (leaf : X → Tree) → ((x : X) → size (leaf x) ≡ 1) → (xs : List X) → sizes (trees_of (map leaf xs)) ≡ length xs
+sizes-leaves : {X : Type 0} (leaf : X → ValueTree) → ((x : X) → size (leaf x) ≡ 1) → (xs : List X) → sizes (trees_of (map leaf xs)) ≡ length xs
 sizes-leaves leaf one [] = refl
 sizes-leaves leaf one (x ∷ xs) = omega (arith, one x, sizes-leaves leaf one xs)
 
@@ -24,17 +24,17 @@ sizes-bools = sizes-leaves boolean (λ _. refl)
 pub sizes-chars : (xs : List ℕ) → sizes (trees_of (map character xs)) ≡ length xs
 sizes-chars = sizes-leaves character (λ _. refl)
 
-pub sizes-append : (ts us : List Tree) → sizes (trees_of (ts ++ us)) ≡ sizes (trees_of ts) + sizes (trees_of us)
+pub sizes-append : (ts us : List ValueTree) → sizes (trees_of (ts ++ us)) ≡ sizes (trees_of ts) + sizes (trees_of us)
 sizes-append [] us = omega arith
 sizes-append (t ∷ ts) us = omega (arith, sizes-append ts us)
 
 -- one more element of a list of things that are seen as trees
-pub sizes_turn : {X : Type 0} (f : X → Tree) (xs : List X) (i : ℕ) (x : X) → i < length xs → x ≡ get_or xs i x → sizes (trees_of (map f (take (i + 1) xs))) ≡ sizes (trees_of (map f (take i xs))) + size (f x)
+pub sizes_turn : {X : Type 0} (f : X → ValueTree) (xs : List X) (i : ℕ) (x : X) → i < length xs → x ≡ get_or xs i x → sizes (trees_of (map f (take (i + 1) xs))) ≡ sizes (trees_of (map f (take i xs))) + size (f x)
 sizes_turn f xs i x h at =
     let more : map f (take (i + 1) xs) ≡ map f (take i xs) ++ f x ∷ [] = ap (map f) (take_more xs i x h) ∙ map-append f (take i xs) (get_or xs i x ∷ []) ∙ ap (λ y. map f (take i xs) ++ f y ∷ []) (sym at) in
     omega (arith, ap (λ ts. sizes (trees_of ts)) more, sizes-append (map f (take i xs)) (f x ∷ []))
 
-pub sizes_up_to : {X : Type 0} (f : X → Tree) (i : ℕ) (xs : List X) → sizes (trees_of (map f (take i xs))) ≤ sizes (trees_of (map f xs))
+pub sizes_up_to : {X : Type 0} (f : X → ValueTree) (i : ℕ) (xs : List X) → sizes (trees_of (map f (take i xs))) ≤ sizes (trees_of (map f xs))
 sizes_up_to f zero xs = omega arith
 sizes_up_to f (suc i) [] = omega arith
 sizes_up_to f (suc i) (x ∷ xs) = omega (arith, sizes_up_to f i xs)

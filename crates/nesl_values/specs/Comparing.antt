@@ -5,13 +5,13 @@ use Rattle.nesl_values.specs.View.{tree_of, item_trees}
 use Rattle.nesl_values.specs.declared.listed.Question.{Question}
 
 -- the two are the same
-abbrev pub Meets : {A B : Type 0} → Question A B → Type 0
-Meets (Question.Values x y) = tree_of x.now ≡ tree_of y.now
-Meets (Question.Elements xs ys) = item_trees xs ≡ item_trees ys
+abbrev pub QuestionHolds : {A B : Type 0} → Question A B → Type 0
+QuestionHolds (Question.Values x y) = tree_of x.now ≡ tree_of y.now
+QuestionHolds (Question.Elements xs ys) = item_trees xs ≡ item_trees ys
 
 abbrev pub AllMeet : {A B : Type 0} → List (Question A B) → Type 0
 AllMeet [] = Unit {0}
-AllMeet (q ∷ qs) = Meets q × AllMeet qs
+AllMeet (q ∷ qs) = QuestionHolds q × AllMeet qs
 
 -- a bound on the steps that are left
 abbrev pub work_of : {A B : Type 0} → Question A B → ℕ
@@ -29,7 +29,7 @@ pub record Asks {A B : Type 0} (P : Type 0) (n : ℕ) (qs more : List (Question 
 
 -- the next of the questions `qs` is `q`, and the others are `rest`
 pub record IsNext {A B : Type 0} (q : Question A B) (qs rest : List (Question A B)) : Type 0 where
-  pub meets : AllMeet qs ↔ (Meets q × AllMeet rest)
+  pub meets : AllMeet qs ↔ (QuestionHolds q × AllMeet rest)
   pub work : work_of_all qs ≡ work_of q + work_of_all rest
 
 -- `P` doesn't hold, or it does where all the questions are answered by yes that `more` has beyond `qs`, in fewer than

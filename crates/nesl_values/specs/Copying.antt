@@ -1,29 +1,29 @@
 -- How far the copying of a value has come.
 use Rattle.std.specs.Prelude.{ℕ, ◌+◌, ◌*◌, ◌-◌, List, [], ◌∷◌, ◌++◌, map}
-use Rattle.nesl_values.specs.Tree.{Tree, pair, tagged, sequence, size, sizes}
+use Rattle.nesl_values.specs.Tree.{ValueTree, pair, tagged, sequence, size, sizes}
 use Rattle.nesl_values.specs.View.{tree_of, trees_view}
 use Rattle.nesl_values.specs.declared.copy.Frame.{Frame}
 use Rattle.nesl_values.specs.declared.copy.Place.{Place}
 
 -- the tree before or after which the copy is
-abbrev pub tree_at : {A B : Type 0} → Place A B → Tree
+abbrev pub tree_at : {A B : Type 0} → Place A B → ValueTree
 tree_at (Place.Before v) = tree_of v.now
 tree_at (Place.After w) = tree_of w
 
 -- the node that has that child, by what is known of its other children
-abbrev pub around : {A B : Type 0} → Frame A B → Tree → Tree
+abbrev pub around : {A B : Type 0} → Frame A B → ValueTree → ValueTree
 around (Frame.Left right) t = pair t (tree_of right.now)
 around (Frame.Right left) t = pair (tree_of left) t
 around (Frame.Tagged tag) t = tagged tag t
 around (Frame.Element copies others) t = sequence (map tree_of copies.items ++ t ∷ map tree_of others.now)
 
 -- the root that has that tree below those nodes, the root first
-abbrev pub all_around : {A B : Type 0} → List (Frame A B) → Tree → Tree
+abbrev pub all_around : {A B : Type 0} → List (Frame A B) → ValueTree → ValueTree
 all_around [] t = t
 all_around (f ∷ fs) t = around f (all_around fs t)
 
 -- bounds on the steps that are left
-abbrev pub work_below : Tree → ℕ
+abbrev pub work_below : ValueTree → ℕ
 work_below t = 3 * size t - 1
 
 abbrev pub work_at : {A B : Type 0} → Place A B → ℕ

@@ -4,7 +4,7 @@ ghost use Rattle.std.specs.Arc.{arc_value};
 ghost use Rattle.nesl_values.specs.Tree.{size};
 ghost use Rattle.nesl_values.specs.View.{tree_of, parts_tree};
 ghost use Rattle.nesl_values.specs.Weight.{weight};
-ghost use Rattle.nesl_values.specs.Dropping.{Enters, Turns};
+ghost use Rattle.nesl_values.specs.Dropping.{Enters, TurnLessens};
 
 use crate::node::{Node, Parts};
 use crate::value::Value;
@@ -41,7 +41,7 @@ pub(crate) fn entered_if_alone<A: Allocator>(
 }
 
 pub(crate) fn turned_if_alone<A: Allocator>(shared: &mut Arc<Node<A>, A>) -> Turn<A>
-    ensures { Turns result (arc_value shared.old) (arc_value shared.new) }
+    ensures { TurnLessens result (arc_value shared.old) (arc_value shared.new) }
 {
     match Arc::get_mut(shared) {
         Some(node) => node.turned(),
@@ -68,7 +68,7 @@ impl<A: Allocator> Node<A> {
 
     // Takes the next child out, or the parent where there is none.
     fn turned(&mut self) -> Turn<A>
-        ensures { Turns result self.old self.new }
+        ensures { TurnLessens result self.old self.new }
     {
         turned(&mut self.parts, &mut self.nodes)
     }
@@ -94,7 +94,7 @@ fn entered<A: Allocator>(parts: &mut Parts<A>, nodes: &mut u64, above: Value<A>)
 fn turned<A: Allocator>(parts: &mut Parts<A>, nodes: &mut u64) -> Turn<A>
     requires { nodes.old ≡ size (parts_tree parts.old) }
     ensures counted { nodes.new ≡ size (parts_tree parts.new) }
-    ensures turn { Turns result (parts_tree parts.old) (parts_tree parts.new) }
+    ensures turn { TurnLessens result (parts_tree parts.old) (parts_tree parts.new) }
 {
     let whole = *nodes;
     match parts {

@@ -3,7 +3,7 @@ ghost use Rattle.std.specs.Prelude.{◌≡◌, ◌↔◌, ◌+◌, ◌*◌, ◌-
 ghost use Rattle.nesl_values.specs.Tree.{pair, tagged, sequence, trees_of, size, sizes};
 ghost use Rattle.nesl_values.specs.Parts.{elements};
 ghost use Rattle.nesl_values.specs.View.{tree_of, item_trees};
-ghost use Rattle.nesl_values.specs.Comparing.{Meets, work_of, Asks, IsNext, Reduces};
+ghost use Rattle.nesl_values.specs.Comparing.{QuestionHolds, work_of, Asks, IsNext, Reduces};
 
 use crate::items::Items;
 use crate::same::{Comparison, compare};
@@ -68,7 +68,7 @@ fn ask<'a, 'b, A: Allocator, B: Allocator, C: Allocator>(
     question: Question<'a, 'b, A, B>,
 ) -> Result<(), AllocError>
     ensures { OnOk result
-        (Asks (Meets question.entry) (work_of question.entry) questions.old.items questions.new.items) }
+        (Asks (QuestionHolds question.entry) (work_of question.entry) questions.old.items questions.new.items) }
 {
     questions.push(question)?;
     Ok(())
@@ -80,7 +80,7 @@ fn answer<'a, 'b, A: Allocator, B: Allocator, C: Allocator>(
     question: Question<'a, 'b, A, B>,
 ) -> Result<bool, AllocError>
     ensures { IfOk result (λ yes.
-        Reduces yes (Meets question.entry) (work_of question.entry) questions.old.items questions.new.items) }
+        Reduces yes (QuestionHolds question.entry) (work_of question.entry) questions.old.items questions.new.items) }
 {
     match question {
         Question::Values(one, other) => answer_values(questions, one, other),

@@ -10,7 +10,7 @@ use std::alloc::{AllocError, Allocator};
 use std::sync::Arc;
 
 impl<A: Allocator> Value<A> {
-    /// The same value, with one more owner of what holds its parts. Copies nothing. `AllocError` is for
+    /// This value, with one more owner of what holds its parts. Copies nothing. `AllocError` is for
     /// a count of owners that is full, at 2^63 - 1 of them.
     pub fn share(&self) -> Result<Value<A>, AllocError>
         ensures { IfOk result (λ v. tree_of v ≡ tree_of self.now) }

@@ -24,10 +24,10 @@ pub enum Parts<A: Allocator> {
 
 impl<A: Allocator> Model for Node<A> {
     ghost use Rattle.std.specs.Prelude.{◌≡◌};
-    ghost use Rattle.nesl_values.specs.Tree.{Tree};
+    ghost use Rattle.nesl_values.specs.Tree.{ValueTree};
     ghost use Rattle.nesl_values.specs.Codes.{tree_code};
 
-    ghost Value = { Tree };
+    ghost Value = { ValueTree };
 
     ghost coded = { tree_code };
 

@@ -23,7 +23,7 @@ export async function showLessons() {
 }
 
 function drawLesson({ title, about, parts }, place) {
-  const head = make("summary", make("h3", `${place + 1}. ${title}`), " ", make("span.soft", about));
+  const head = make("summary", make("h3", `${place + 1}. ${title}`), " ", make("span.soft", ...worded(about)));
   const say = (forms) => put(forms, `Lesson ${place + 1}`);
   return make("details.card.lesson", head, make("div", ...parts.map(([kind, what]) => DRAWN[kind](what, say))));
 }

@@ -4,7 +4,8 @@ import { bytesOf } from "./language.js";
 const BUSY_TRIES = 5;
 const BUSY_WAIT = 300;
 
-const address = () => `${location.protocol.replace("http", "ws")}//${location.host}/session`;
+/** The user is in the address for whatever routes connections by it; the first line is what counts. */
+const address = (user) => `${location.protocol.replace("http", "ws")}//${location.host}/session?user=${user}`;
 const after = (milliseconds) => new Promise((done) => setTimeout(done, milliseconds));
 
 class Session extends EventTarget {
@@ -26,7 +27,7 @@ class Session extends EventTarget {
     this.end();
     this.opening?.close();
     return new Promise((settle) => {
-      const socket = new WebSocket(address());
+      const socket = new WebSocket(address(encodeURIComponent(user)));
       this.opening = socket;
       socket.onopen = () => socket.send(`user ${user}`);
       socket.onclose = () => settle("unreachable");

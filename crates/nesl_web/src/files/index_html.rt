@@ -121,7 +121,7 @@ pub static TEXT: &str = r##"<!doctype html>
 
 <section id="lessons" aria-labelledby="lessons-title" hidden>
   <h2 id="lessons-title">Lessons</h2>
-  <p>Twelve problems, their programs, and why their work and depth are what they are. A lesson is one session, from its
+  <p>Thirteen problems, their programs, and why their work and depth are what they are. A lesson is one session, from its
     first block to its last: say <code>:reset</code> in the notebook before you begin another.</p>
   <div id="lesson-list"></div>
 </section>

@@ -1,9 +1,9 @@
 use Rattle.std.proofs.Common.{◌≡◌, length, map}
-use Rattle.nesl_builtins.specs.Named.{entry}
+use Rattle.nesl_builtins.specs.Named.{look_up}
 use Rattle.nesl_builtins.proofs.builtin.entry.Given as goal
 
 abbrev pub invariant-loop-table : goal.invariant-loop-table
-invariant-loop-table l = entry l.name (map (λ e. (e.0.now, e.1)) l.table) ≡ entry l.name (map (λ e. (e.0.now, e.1)) l.initial.table)
+invariant-loop-table l = look_up l.name (map (λ e. (e.0.now, e.1)) l.table) ≡ look_up l.name (map (λ e. (e.0.now, e.1)) l.initial.table)
 
 abbrev pub decreases-loop-table : goal.decreases-loop-table
 decreases-loop-table l = length l.table

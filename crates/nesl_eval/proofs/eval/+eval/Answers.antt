@@ -4,20 +4,20 @@ use Rattle.std.specs.List.{range_with_len}
 use Rattle.std.proofs.lemmas.Result.{err_from_is_err_and}
 use Rattle.nesl_values.specs.Parts.{as_bool}
 use Rattle.nesl_values.specs.Tree as values
-use Rattle.nesl_values.specs.Tree.{Tree}
+use Rattle.nesl_values.specs.Tree.{ValueTree}
 use Rattle.nesl_values.specs.View.{tree_of}
 use Rattle.nesl_values_builder.specs.Elements.{elements_of}
 use Rattle.nesl_builtins.specs.declared.builtin.Builtin.TheVariants.{OfTwo}
 use Rattle.nesl_eval_code.specs.Frames.{frame, row}
-use Rattle.nesl_eval_meaning.specs.Names.{named}
-use Rattle.nesl_eval_meaning.specs.Out.{Out, value, then_out, given, all_beside}
+use Rattle.nesl_eval_meaning.specs.Names.{look_up}
+use Rattle.nesl_eval_meaning.specs.Out.{Out, value, and_then, given, all_beside}
 use Rattle.nesl_eval_meaning.specs.Outcome as outcome
-use Rattle.nesl_eval_meaning.specs.Outcome.{made, applied, counted, lengths, places}
+use Rattle.nesl_eval_meaning.specs.Outcome.{small_enough, apply_builtin, body_value, lengths, common_places}
 use Rattle.nesl_eval_code.specs.Run.{run, run_node, run_two, run_all, run_let, run_called, run_at, run_filters, run_bodies, run_over, as_result, slot_at, function_slot, datatype_slot}
 use Rattle.nesl_eval_nodes.specs.declared.meter.Stop.TheVariants.{Stuck}
 use Rattle.nesl_eval_nodes.specs.Scopes.{frames_of}
-use Rattle.nesl_eval_nodes.specs.Standing.{Stands}
-use Rattle.nesl_eval_nodes.specs.Sides.{Keeps, IsOne, Has, places_of}
+use Rattle.nesl_eval_nodes.specs.Standing.{PartStandsFor}
+use Rattle.nesl_eval_nodes.specs.Sides.{IsKeptPlace, IsOne, Has, places_of}
 use Rattle.nesl_eval_nodes.specs.Meets.{Meets, Is, Are}
 use Rattle.nesl_eval_nodes.proofs.Lookups.{frames-Let, frames-Row, frames-Argument}
 use Rattle.nesl_eval_nodes.proofs.Runs.{has_entered, not_entered, memory_any, meets_then, meets_err, meets_two}
@@ -66,8 +66,8 @@ of_scalars-returns-clause-meets g t c =
     let f = run c.args.levels tb in
     let fs = frames_of c.args.scope.now in
     let m2 = c.value_in-2.new.meter in
-    meets_two (Is {A = g.row.A.Denot}) (Is {A = g.row.A.Denot}) c.args.meter.now c.value_in.new.meter m2 m2 c.in_ok-one.one c.in_ok-other.other c.of_two_made.result (f fs c.args.left.now) (f fs c.args.right.now) (λ x y. applied c.args.span.now (OfTwo c.args.function) (values.pair x y))
-    c.in_ok-one.ensures.meets c.in_ok-other.ensures.meets (λ x y e e'. rw (← e, ← e') (c.of_two_made.ensures m2))
+    meets_two (Is {A = g.row.A.Denot}) (Is {A = g.row.A.Denot}) c.args.meter.now c.value_in.new.meter m2 m2 c.in_ok-one.one c.in_ok-other.other c.apply_to_leaves.result (f fs c.args.left.now) (f fs c.args.right.now) (λ x y. apply_builtin c.args.span.now (OfTwo c.args.function) (values.pair x y))
+    c.in_ok-one.ensures.meets c.in_ok-other.ensures.meets (λ x y e e'. rw (← e, ← e') (c.apply_to_leaves.ensures m2))
 
 pub of_scalar_pair-returns-clause-meets : goal.of_scalar_pair-returns-clause-meets
 of_scalar_pair-returns-clause-meets g t c =
@@ -75,8 +75,8 @@ of_scalar_pair-returns-clause-meets g t c =
     let f = run c.args.levels tb in
     let fs = frames_of c.args.scope.now in
     let m2 = c.value_in-2.new.meter in
-    meets_two (Is {A = g.row.A.Denot}) (Is {A = g.row.A.Denot}) c.args.meter.now c.value_in.new.meter m2 m2 c.in_ok-one.one c.in_ok-other.other c.of_pair_made.result (f fs c.args.left.now) (f fs c.args.right.now) (λ x y. then_out (made c.args.within.now (values.pair x y)) (applied c.args.span.now (OfTwo c.args.function)))
-    c.in_ok-one.ensures.meets c.in_ok-other.ensures.meets (λ x y e e'. rw (← e, ← e') (c.of_pair_made.ensures m2))
+    meets_two (Is {A = g.row.A.Denot}) (Is {A = g.row.A.Denot}) c.args.meter.now c.value_in.new.meter m2 m2 c.in_ok-one.one c.in_ok-other.other c.apply_to_pair.result (f fs c.args.left.now) (f fs c.args.right.now) (λ x y. and_then (small_enough c.args.within.now (values.pair x y)) (apply_builtin c.args.span.now (OfTwo c.args.function)))
+    c.in_ok-one.ensures.meets c.in_ok-other.ensures.meets (λ x y e e'. rw (← e, ← e') (c.apply_to_pair.ensures m2))
 
 pub in_pair-returns-clause-meets : goal.in_pair-returns-clause-meets
 in_pair-returns-clause-meets g t c =
@@ -84,28 +84,28 @@ in_pair-returns-clause-meets g t c =
     let f = run c.args.levels tb in
     let fs = frames_of c.args.scope.now in
     let m2 = c.eval_in-2.new.meter in
-    meets_two (Is {A = g.row.A.Denot}) (Is {A = g.row.A.Denot}) c.args.meter.now c.eval_in.new.meter m2 m2 c.in_ok-one.one c.in_ok-other.other c.paired.result (f fs c.args.left.now) (f fs c.args.right.now) (λ x y. made c.args.span.now (values.pair x y))
-    c.in_ok-one.ensures.meets c.in_ok-other.ensures.meets (λ x y e e'. rw (← e, ← e') (c.paired.ensures m2))
+    meets_two (Is {A = g.row.A.Denot}) (Is {A = g.row.A.Denot}) c.args.meter.now c.eval_in.new.meter m2 m2 c.in_ok-one.one c.in_ok-other.other c.make_pair.result (f fs c.args.left.now) (f fs c.args.right.now) (λ x y. small_enough c.args.span.now (values.pair x y))
+    c.in_ok-one.ensures.meets c.in_ok-other.ensures.meets (λ x y e e'. rw (← e, ← e') (c.make_pair.ensures m2))
 
 pub apply-returns-in-OfTwo-clause-meets : goal.apply-returns-in-OfTwo-clause-meets
 apply-returns-in-OfTwo-clause-meets g t c =
     let tb = g.T.Tops.table c.args.tops.now in
     let f = run c.args.levels tb in
     let fs = frames_of c.args.scope.now in
-    let k = applied c.args.span.now (OfTwo c.in-OfTwo.function) in
+    let k = apply_builtin c.args.span.now (OfTwo c.in-OfTwo.function) in
     let f' = run (c.args.levels - 1) tb in
     rw c.in-OfTwo.is (entered_then (Is {A = g.row.A.Denot}) c.args.meter.now c.enter.new.self c.of_scalar_pair.new.meter c.of_scalar_pair.result c.args.levels tb fs c.args.argument.now k c.in_ok-enter-in-Pair.ensures.0 c.in_ok-enter-in-Pair.ensures.1 c.in_ok-enter-in-Pair.ensures.2
-    (rw (c.in-Pair.is, ← c.deref.ensures, ← c.deref-in-OfTwo.ensures) (pair_then (Is {A = g.row.A.Denot}) c.enter.new.self c.of_scalar_pair.new.meter c.of_scalar_pair.result f' fs c.deref.result.now c.deref-in-OfTwo.result.now (λ x y. made c.in-Pair.within (values.pair x y)) k c.of_scalar_pair.ensures.meets)))
+    (rw (c.in-Pair.is, ← c.deref.ensures, ← c.deref-in-OfTwo.ensures) (pair_then (Is {A = g.row.A.Denot}) c.enter.new.self c.of_scalar_pair.new.meter c.of_scalar_pair.result f' fs c.deref.result.now c.deref-in-OfTwo.result.now (λ x y. small_enough c.in-Pair.within (values.pair x y)) k c.of_scalar_pair.ensures.meets)))
 
 pub apply-returns-in_default-function-clause-meets : goal.apply-returns-in_default-function-clause-meets
 apply-returns-in_default-function-clause-meets g t c =
     let tb = g.T.Tops.table c.args.tops.now in
     let f = run c.args.levels tb in
     let fs = frames_of c.args.scope.now in
-    let k = applied c.args.span.now c.args.function in
+    let k = apply_builtin c.args.span.now c.args.function in
     let f' = run (c.args.levels - 1) tb in
     entered_then (Is {A = g.row.A.Denot}) c.args.meter.now c.enter.new.self c.apply_pair.new.meter c.apply_pair.result c.args.levels tb fs c.args.argument.now k c.in_ok-enter-in-Pair.ensures.0 c.in_ok-enter-in-Pair.ensures.1 c.in_ok-enter-in-Pair.ensures.2
-    (rw (c.in-Pair.is, ← c.deref-in_default-function.ensures, ← c.deref-in_default-function-2.ensures) (pair_then (Is {A = g.row.A.Denot}) c.enter.new.self c.apply_pair.new.meter c.apply_pair.result f' fs c.deref-in_default-function.result.now c.deref-in_default-function-2.result.now (λ x y. made c.in-Pair.within (values.pair x y)) k c.apply_pair.ensures.meets))
+    (rw (c.in-Pair.is, ← c.deref-in_default-function.ensures, ← c.deref-in_default-function-2.ensures) (pair_then (Is {A = g.row.A.Denot}) c.enter.new.self c.apply_pair.new.meter c.apply_pair.result f' fs c.deref-in_default-function.result.now c.deref-in_default-function-2.result.now (λ x y. small_enough c.in-Pair.within (values.pair x y)) k c.apply_pair.ensures.meets))
 
 pub apply-returns-in_err-enter-in-Pair-clause-meets : goal.apply-returns-in_err-enter-in-Pair-clause-meets
 apply-returns-in_err-enter-in-Pair-clause-meets g t c =
@@ -113,14 +113,14 @@ apply-returns-in_err-enter-in-Pair-clause-meets g t c =
     let f = run c.args.levels tb in
     let fs = frames_of c.args.scope.now in
     let p = err_from_is_err_and c.from_residual.result c.from_residual.ensures.1 in
-    rw (p.1, p.2, c.in_err-enter-in-Pair.ensures.0) (meets_err (Is {A = g.row.A.Denot}) (Is {A = g.row.A.Denot}) c.args.meter.now c.args.meter.now c.in_err-enter-in-Pair.field-0.0 (f fs c.args.argument.now) (applied c.args.span.now c.args.function) (not_entered (Is {A = g.row.A.Denot}) c.args.meter.now c.in_err-enter-in-Pair.field-0.0 c.args.levels tb fs c.args.argument.now c.in_err-enter-in-Pair.ensures.1))
+    rw (p.1, p.2, c.in_err-enter-in-Pair.ensures.0) (meets_err (Is {A = g.row.A.Denot}) (Is {A = g.row.A.Denot}) c.args.meter.now c.args.meter.now c.in_err-enter-in-Pair.field-0.0 (f fs c.args.argument.now) (apply_builtin c.args.span.now c.args.function) (not_entered (Is {A = g.row.A.Denot}) c.args.meter.now c.in_err-enter-in-Pair.field-0.0 c.args.levels tb fs c.args.argument.now c.in_err-enter-in-Pair.ensures.1))
 
 pub apply-returns-in_ok-one-in_default-clause-meets : goal.apply-returns-in_ok-one-in_default-clause-meets
 apply-returns-in_ok-one-in_default-clause-meets g t c =
     let tb = g.T.Tops.table c.args.tops.now in
     let f = run c.args.levels tb in
     let fs = frames_of c.args.scope.now in
-    meets_then (Stands {A = g.row.A.Denot} tb fs c.args.argument.now) (Is {A = g.row.A.Denot}) c.args.meter.now c.part.new.meter c.applied_to_one.new.meter c.in_ok-one-in_default.one c.applied_to_one.result (f fs c.args.argument.now) (applied c.args.span.now c.args.function) c.in_ok-one-in_default.ensures.meets (λ x e. c.applied_to_one.ensures.meets x e)
+    meets_then (PartStandsFor {A = g.row.A.Denot} tb fs c.args.argument.now) (Is {A = g.row.A.Denot}) c.args.meter.now c.part.new.meter c.apply_to_one.new.meter c.in_ok-one-in_default.one c.apply_to_one.result (f fs c.args.argument.now) (apply_builtin c.args.span.now c.args.function) c.in_ok-one-in_default.ensures.meets (λ x e. c.apply_to_one.ensures.meets x e)
 
 pub of_scalars-returns-in_err-other-clause-meets : goal.of_scalars-returns-in_err-other-clause-meets
 of_scalars-returns-in_err-other-clause-meets g t c =
@@ -128,7 +128,7 @@ of_scalars-returns-in_err-other-clause-meets g t c =
     let f = run c.args.levels tb in
     let fs = frames_of c.args.scope.now in
     let p = err_from_is_err_and c.from_residual-in_err-other.result c.from_residual-in_err-other.ensures.1 in
-    rw (p.1, p.2) (pair_stops (Is {A = g.row.A.Denot}) (Is {A = g.row.A.Denot}) (Is {A = g.row.A.Denot}) c.args.meter.now c.value_in.new.meter c.value_in-2.new.meter c.in_ok-one.one c.in_err-other.field-0.0 (f fs c.args.left.now) (f fs c.args.right.now) (λ x y. applied c.args.span.now (OfTwo c.args.function) (values.pair x y)) c.in_ok-one.ensures.meets c.in_err-other.ensures.meets)
+    rw (p.1, p.2) (pair_stops (Is {A = g.row.A.Denot}) (Is {A = g.row.A.Denot}) (Is {A = g.row.A.Denot}) c.args.meter.now c.value_in.new.meter c.value_in-2.new.meter c.in_ok-one.one c.in_err-other.field-0.0 (f fs c.args.left.now) (f fs c.args.right.now) (λ x y. apply_builtin c.args.span.now (OfTwo c.args.function) (values.pair x y)) c.in_ok-one.ensures.meets c.in_err-other.ensures.meets)
 
 pub of_scalar_pair-returns-in_err-one-clause-meets : goal.of_scalar_pair-returns-in_err-one-clause-meets
 of_scalar_pair-returns-in_err-one-clause-meets g t c =
@@ -136,7 +136,7 @@ of_scalar_pair-returns-in_err-one-clause-meets g t c =
     let f = run c.args.levels tb in
     let fs = frames_of c.args.scope.now in
     let p = err_from_is_err_and c.from_residual.result c.from_residual.ensures.1 in
-    rw (p.1, p.2) (meets_err (Is {A = g.row.A.Denot}) (Is {A = g.row.A.Denot}) c.args.meter.now c.value_in.new.meter c.in_err-one.field-0.0 (f fs c.args.left.now) (λ x. then_out (f fs c.args.right.now) (λ y. then_out (made c.args.within.now (values.pair x y)) (applied c.args.span.now (OfTwo c.args.function)))) c.in_err-one.ensures.meets)
+    rw (p.1, p.2) (meets_err (Is {A = g.row.A.Denot}) (Is {A = g.row.A.Denot}) c.args.meter.now c.value_in.new.meter c.in_err-one.field-0.0 (f fs c.args.left.now) (λ x. and_then (f fs c.args.right.now) (λ y. and_then (small_enough c.args.within.now (values.pair x y)) (apply_builtin c.args.span.now (OfTwo c.args.function)))) c.in_err-one.ensures.meets)
 
 pub of_scalar_pair-returns-in_err-other-clause-meets : goal.of_scalar_pair-returns-in_err-other-clause-meets
 of_scalar_pair-returns-in_err-other-clause-meets g t c =
@@ -144,7 +144,7 @@ of_scalar_pair-returns-in_err-other-clause-meets g t c =
     let f = run c.args.levels tb in
     let fs = frames_of c.args.scope.now in
     let p = err_from_is_err_and c.from_residual-in_err-other.result c.from_residual-in_err-other.ensures.1 in
-    rw (p.1, p.2) (pair_stops (Is {A = g.row.A.Denot}) (Is {A = g.row.A.Denot}) (Is {A = g.row.A.Denot}) c.args.meter.now c.value_in.new.meter c.value_in-2.new.meter c.in_ok-one.one c.in_err-other.field-0.0 (f fs c.args.left.now) (f fs c.args.right.now) (λ x y. then_out (made c.args.within.now (values.pair x y)) (applied c.args.span.now (OfTwo c.args.function))) c.in_ok-one.ensures.meets c.in_err-other.ensures.meets)
+    rw (p.1, p.2) (pair_stops (Is {A = g.row.A.Denot}) (Is {A = g.row.A.Denot}) (Is {A = g.row.A.Denot}) c.args.meter.now c.value_in.new.meter c.value_in-2.new.meter c.in_ok-one.one c.in_err-other.field-0.0 (f fs c.args.left.now) (f fs c.args.right.now) (λ x y. and_then (small_enough c.args.within.now (values.pair x y)) (apply_builtin c.args.span.now (OfTwo c.args.function))) c.in_ok-one.ensures.meets c.in_err-other.ensures.meets)
 
 pub apply_two-returns-in_err-other-clause-meets : goal.apply_two-returns-in_err-other-clause-meets
 apply_two-returns-in_err-other-clause-meets g t c =
@@ -152,7 +152,7 @@ apply_two-returns-in_err-other-clause-meets g t c =
     let f = run c.args.levels tb in
     let fs = frames_of c.args.scope.now in
     let p = err_from_is_err_and c.from_residual-in_err-other.result c.from_residual-in_err-other.ensures.1 in
-    rw (p.1, p.2) (pair_stops (Stands {A = g.row.A.Denot} tb fs c.args.left.now) (Stands {A = g.row.A.Denot} tb fs c.args.right.now) (Is {A = g.row.A.Denot}) c.args.meter.now c.part.new.meter c.part-2.new.meter c.in_ok-one.one c.in_err-other.field-0.0 (f fs c.args.left.now) (f fs c.args.right.now) (λ x y. applied c.args.span.now c.args.function (values.pair x y)) c.in_ok-one.ensures.meets c.in_err-other.ensures.meets)
+    rw (p.1, p.2) (pair_stops (PartStandsFor {A = g.row.A.Denot} tb fs c.args.left.now) (PartStandsFor {A = g.row.A.Denot} tb fs c.args.right.now) (Is {A = g.row.A.Denot}) c.args.meter.now c.part.new.meter c.part-2.new.meter c.in_ok-one.one c.in_err-other.field-0.0 (f fs c.args.left.now) (f fs c.args.right.now) (λ x y. apply_builtin c.args.span.now c.args.function (values.pair x y)) c.in_ok-one.ensures.meets c.in_err-other.ensures.meets)
 
 pub apply_pair-returns-in_err-other-clause-meets : goal.apply_pair-returns-in_err-other-clause-meets
 apply_pair-returns-in_err-other-clause-meets g t c =
@@ -160,7 +160,7 @@ apply_pair-returns-in_err-other-clause-meets g t c =
     let f = run c.args.levels tb in
     let fs = frames_of c.args.scope.now in
     let p = err_from_is_err_and c.from_residual-in_err-other.result c.from_residual-in_err-other.ensures.1 in
-    rw (p.1, p.2) (pair_stops (Stands {A = g.row.A.Denot} tb fs c.args.left.now) (Stands {A = g.row.A.Denot} tb fs c.args.right.now) (Is {A = g.row.A.Denot}) c.args.meter.now c.part.new.meter c.part-2.new.meter c.in_ok-one.one c.in_err-other.field-0.0 (f fs c.args.left.now) (f fs c.args.right.now) (λ x y. then_out (made c.args.within.now (values.pair x y)) (applied c.args.span.now c.args.function)) c.in_ok-one.ensures.meets c.in_err-other.ensures.meets)
+    rw (p.1, p.2) (pair_stops (PartStandsFor {A = g.row.A.Denot} tb fs c.args.left.now) (PartStandsFor {A = g.row.A.Denot} tb fs c.args.right.now) (Is {A = g.row.A.Denot}) c.args.meter.now c.part.new.meter c.part-2.new.meter c.in_ok-one.one c.in_err-other.field-0.0 (f fs c.args.left.now) (f fs c.args.right.now) (λ x y. and_then (small_enough c.args.within.now (values.pair x y)) (apply_builtin c.args.span.now c.args.function)) c.in_ok-one.ensures.meets c.in_err-other.ensures.meets)
 
 pub apply_three-returns-in_err-two-clause-meets : goal.apply_three-returns-in_err-two-clause-meets
 apply_three-returns-in_err-two-clause-meets g t c =
@@ -168,8 +168,8 @@ apply_three-returns-in_err-two-clause-meets g t c =
     let f = run c.args.levels tb in
     let fs = frames_of c.args.scope.now in
     let p = err_from_is_err_and c.from_residual-in_err-two.result c.from_residual-in_err-two.ensures.1 in
-    let k = λ (x y z : Tree). applied c.args.span.now c.args.function (values.pair x (values.pair y z)) in
-    rw (p.1, p.2) (pair_stops (Stands {A = g.row.A.Denot} tb fs c.args.first.now) (Stands {A = g.row.A.Denot} tb fs c.args.second.now) (Is {A = g.row.A.Denot}) c.args.meter.now c.part.new.meter c.part-2.new.meter c.in_ok-one.one c.in_err-two.field-0.0 (f fs c.args.first.now) (f fs c.args.second.now) (λ x y. then_out (f fs c.args.third.now) (k x y)) c.in_ok-one.ensures.meets c.in_err-two.ensures.meets)
+    let k = λ (x y z : ValueTree). apply_builtin c.args.span.now c.args.function (values.pair x (values.pair y z)) in
+    rw (p.1, p.2) (pair_stops (PartStandsFor {A = g.row.A.Denot} tb fs c.args.first.now) (PartStandsFor {A = g.row.A.Denot} tb fs c.args.second.now) (Is {A = g.row.A.Denot}) c.args.meter.now c.part.new.meter c.part-2.new.meter c.in_ok-one.one c.in_err-two.field-0.0 (f fs c.args.first.now) (f fs c.args.second.now) (λ x y. and_then (f fs c.args.third.now) (k x y)) c.in_ok-one.ensures.meets c.in_err-two.ensures.meets)
 
 pub apply_three-returns-in_err-three-clause-meets : goal.apply_three-returns-in_err-three-clause-meets
 apply_three-returns-in_err-three-clause-meets g t c =
@@ -177,16 +177,16 @@ apply_three-returns-in_err-three-clause-meets g t c =
     let f = run c.args.levels tb in
     let fs = frames_of c.args.scope.now in
     let p = err_from_is_err_and c.from_residual-in_err-three.result c.from_residual-in_err-three.ensures.1 in
-    let k = λ (x y z : Tree). applied c.args.span.now c.args.function (values.pair x (values.pair y z)) in
-    rw (p.1, p.2) (meets_then (Stands {A = g.row.A.Denot} tb fs c.args.first.now) (Is {A = g.row.A.Denot}) c.args.meter.now c.part.new.meter c.part-3.new.meter c.in_ok-one.one (Err c.in_err-three.field-0.0) (f fs c.args.first.now) (λ x. run_two f fs c.args.second.now c.args.third.now (k x)) c.in_ok-one.ensures.meets
-    (λ x e. pair_stops (Stands {A = g.row.A.Denot} tb fs c.args.second.now) (Stands {A = g.row.A.Denot} tb fs c.args.third.now) (Is {A = g.row.A.Denot}) c.part.new.meter c.part-2.new.meter c.part-3.new.meter c.in_ok-two.two c.in_err-three.field-0.0 (f fs c.args.second.now) (f fs c.args.third.now) (k x) c.in_ok-two.ensures.meets c.in_err-three.ensures.meets))
+    let k = λ (x y z : ValueTree). apply_builtin c.args.span.now c.args.function (values.pair x (values.pair y z)) in
+    rw (p.1, p.2) (meets_then (PartStandsFor {A = g.row.A.Denot} tb fs c.args.first.now) (Is {A = g.row.A.Denot}) c.args.meter.now c.part.new.meter c.part-3.new.meter c.in_ok-one.one (Err c.in_err-three.field-0.0) (f fs c.args.first.now) (λ x. run_two f fs c.args.second.now c.args.third.now (k x)) c.in_ok-one.ensures.meets
+    (λ x e. pair_stops (PartStandsFor {A = g.row.A.Denot} tb fs c.args.second.now) (PartStandsFor {A = g.row.A.Denot} tb fs c.args.third.now) (Is {A = g.row.A.Denot}) c.part.new.meter c.part-2.new.meter c.part-3.new.meter c.in_ok-two.two c.in_err-three.field-0.0 (f fs c.args.second.now) (f fs c.args.third.now) (k x) c.in_ok-two.ensures.meets c.in_err-three.ensures.meets))
 
 pub larger-returns-in-Top-clause-meets : goal.larger-returns-in-Top-clause-meets
 larger-returns-in-Top-clause-meets g t c =
     let tb = g.T.Tops.table c.args.tops.now in
     let f = run c.args.levels tb in
     let fs = frames_of c.args.scope.now in
-    rw c.in-Top.is (c.top.ensures c.args.meter.now)
+    rw c.in-Top.is (c.find_top.ensures c.args.meter.now)
 
 pub larger-returns-in-Named-clause-meets : goal.larger-returns-in-Named-clause-meets
 larger-returns-in-Named-clause-meets g t c =
@@ -201,10 +201,10 @@ apply_pair-returns-clause-meets g t c =
     let f = run c.args.levels tb in
     let fs = frames_of c.args.scope.now in
     let m2 = c.part-2.new.meter in
-    let k = applied c.args.span.now c.args.function in
-    let U : Unit {0} → Tree → (x y : Tree) → Type 0 = λ u z x y. z ≡ values.pair x y in
-    meets_pair (Stands {A = g.row.A.Denot} tb fs c.args.left.now) (Stands {A = g.row.A.Denot} tb fs c.args.right.now) (Is {A = g.row.A.Denot}) c.args.meter.now c.part.new.meter m2 c.applied_to_two.new.meter c.in_ok-one.one c.in_ok-other.other c.applied_to_two.result (f fs c.args.left.now) (f fs c.args.right.now) (λ x y. then_out (made c.args.within.now (values.pair x y)) k)
-    c.in_ok-one.ensures.meets c.in_ok-other.ensures.meets (λ x y e e'. meets_then (λ u z. U u z x y) (Is {A = g.row.A.Denot}) m2 m2 c.applied_to_two.new.meter tt c.applied_to_two.result (made c.args.within.now (values.pair x y)) k (c.in_ok-within_limit.ensures x y e e' m2) (λ z h. rw h (c.applied_to_two.ensures.meets x y e e')))
+    let k = apply_builtin c.args.span.now c.args.function in
+    let U : Unit {0} → ValueTree → (x y : ValueTree) → Type 0 = λ u z x y. z ≡ values.pair x y in
+    meets_pair (PartStandsFor {A = g.row.A.Denot} tb fs c.args.left.now) (PartStandsFor {A = g.row.A.Denot} tb fs c.args.right.now) (Is {A = g.row.A.Denot}) c.args.meter.now c.part.new.meter m2 c.apply_to_two.new.meter c.in_ok-one.one c.in_ok-other.other c.apply_to_two.result (f fs c.args.left.now) (f fs c.args.right.now) (λ x y. and_then (small_enough c.args.within.now (values.pair x y)) k)
+    c.in_ok-one.ensures.meets c.in_ok-other.ensures.meets (λ x y e e'. meets_then (λ u z. U u z x y) (Is {A = g.row.A.Denot}) m2 m2 c.apply_to_two.new.meter tt c.apply_to_two.result (small_enough c.args.within.now (values.pair x y)) k (c.in_ok-within_limit.ensures x y e e' m2) (λ z h. rw h (c.apply_to_two.ensures.meets x y e e')))
 
 pub apply_pair-returns-in_err-within_limit-clause-meets : goal.apply_pair-returns-in_err-within_limit-clause-meets
 apply_pair-returns-in_err-within_limit-clause-meets g t c =
@@ -213,50 +213,50 @@ apply_pair-returns-in_err-within_limit-clause-meets g t c =
     let fs = frames_of c.args.scope.now in
     let p = err_from_is_err_and c.from_residual-in_err-within_limit.result c.from_residual-in_err-within_limit.ensures.1 in
     let m2 = c.part-2.new.meter in
-    let k = applied c.args.span.now c.args.function in
-    let U : Unit {0} → Tree → (x y : Tree) → Type 0 = λ u z x y. z ≡ values.pair x y in
-    rw (p.1, p.2) (meets_pair (Stands {A = g.row.A.Denot} tb fs c.args.left.now) (Stands {A = g.row.A.Denot} tb fs c.args.right.now) (Is {A = g.row.A.Denot}) c.args.meter.now c.part.new.meter m2 m2 c.in_ok-one.one c.in_ok-other.other (Err c.in_err-within_limit.field-0.0) (f fs c.args.left.now) (f fs c.args.right.now) (λ x y. then_out (made c.args.within.now (values.pair x y)) k)
-    c.in_ok-one.ensures.meets c.in_ok-other.ensures.meets (λ x y e e'. meets_err (λ u z. U u z x y) (Is {A = g.row.A.Denot}) m2 m2 c.in_err-within_limit.field-0.0 (made c.args.within.now (values.pair x y)) k (c.in_err-within_limit.ensures x y e e' m2)))
+    let k = apply_builtin c.args.span.now c.args.function in
+    let U : Unit {0} → ValueTree → (x y : ValueTree) → Type 0 = λ u z x y. z ≡ values.pair x y in
+    rw (p.1, p.2) (meets_pair (PartStandsFor {A = g.row.A.Denot} tb fs c.args.left.now) (PartStandsFor {A = g.row.A.Denot} tb fs c.args.right.now) (Is {A = g.row.A.Denot}) c.args.meter.now c.part.new.meter m2 m2 c.in_ok-one.one c.in_ok-other.other (Err c.in_err-within_limit.field-0.0) (f fs c.args.left.now) (f fs c.args.right.now) (λ x y. and_then (small_enough c.args.within.now (values.pair x y)) k)
+    c.in_ok-one.ensures.meets c.in_ok-other.ensures.meets (λ x y e e'. meets_err (λ u z. U u z x y) (Is {A = g.row.A.Denot}) m2 m2 c.in_err-within_limit.field-0.0 (small_enough c.args.within.now (values.pair x y)) k (c.in_err-within_limit.ensures x y e e' m2)))
 
 pub apply_two-returns-clause-meets : goal.apply_two-returns-clause-meets
 apply_two-returns-clause-meets g t c =
     let tb = g.T.Tops.table c.args.tops.now in
     let f = run c.args.levels tb in
     let fs = frames_of c.args.scope.now in
-    meets_pair (Stands {A = g.row.A.Denot} tb fs c.args.left.now) (Stands {A = g.row.A.Denot} tb fs c.args.right.now) (Is {A = g.row.A.Denot}) c.args.meter.now c.part.new.meter c.part-2.new.meter c.applied_to_two.new.meter c.in_ok-one.one c.in_ok-other.other c.applied_to_two.result (f fs c.args.left.now) (f fs c.args.right.now) (λ x y. applied c.args.span.now c.args.function (values.pair x y))
-    c.in_ok-one.ensures.meets c.in_ok-other.ensures.meets (λ x y e e'. c.applied_to_two.ensures.meets x y e e')
+    meets_pair (PartStandsFor {A = g.row.A.Denot} tb fs c.args.left.now) (PartStandsFor {A = g.row.A.Denot} tb fs c.args.right.now) (Is {A = g.row.A.Denot}) c.args.meter.now c.part.new.meter c.part-2.new.meter c.apply_to_two.new.meter c.in_ok-one.one c.in_ok-other.other c.apply_to_two.result (f fs c.args.left.now) (f fs c.args.right.now) (λ x y. apply_builtin c.args.span.now c.args.function (values.pair x y))
+    c.in_ok-one.ensures.meets c.in_ok-other.ensures.meets (λ x y e e'. c.apply_to_two.ensures.meets x y e e')
 
 pub apply_three-returns-clause-meets : goal.apply_three-returns-clause-meets
 apply_three-returns-clause-meets g t c =
     let tb = g.T.Tops.table c.args.tops.now in
     let f = run c.args.levels tb in
     let fs = frames_of c.args.scope.now in
-    let k = λ (x y z : Tree). applied c.args.span.now c.args.function (values.pair x (values.pair y z)) in
-    meets_then (Stands {A = g.row.A.Denot} tb fs c.args.first.now) (Is {A = g.row.A.Denot}) c.args.meter.now c.part.new.meter c.applied_to_three.new.meter c.in_ok-one.one c.applied_to_three.result (f fs c.args.first.now) (λ x. run_two f fs c.args.second.now c.args.third.now (k x)) c.in_ok-one.ensures.meets
-    (λ x e. meets_pair (Stands {A = g.row.A.Denot} tb fs c.args.second.now) (Stands {A = g.row.A.Denot} tb fs c.args.third.now) (Is {A = g.row.A.Denot}) c.part.new.meter c.part-2.new.meter c.part-3.new.meter c.applied_to_three.new.meter c.in_ok-two.two c.in_ok-three.three c.applied_to_three.result (f fs c.args.second.now) (f fs c.args.third.now) (k x)
-    c.in_ok-two.ensures.meets c.in_ok-three.ensures.meets (λ y z e' e''. c.applied_to_three.ensures.meets x y z e e' e''))
+    let k = λ (x y z : ValueTree). apply_builtin c.args.span.now c.args.function (values.pair x (values.pair y z)) in
+    meets_then (PartStandsFor {A = g.row.A.Denot} tb fs c.args.first.now) (Is {A = g.row.A.Denot}) c.args.meter.now c.part.new.meter c.apply_to_three.new.meter c.in_ok-one.one c.apply_to_three.result (f fs c.args.first.now) (λ x. run_two f fs c.args.second.now c.args.third.now (k x)) c.in_ok-one.ensures.meets
+    (λ x e. meets_pair (PartStandsFor {A = g.row.A.Denot} tb fs c.args.second.now) (PartStandsFor {A = g.row.A.Denot} tb fs c.args.third.now) (Is {A = g.row.A.Denot}) c.part.new.meter c.part-2.new.meter c.part-3.new.meter c.apply_to_three.new.meter c.in_ok-two.two c.in_ok-three.three c.apply_to_three.result (f fs c.args.second.now) (f fs c.args.third.now) (k x)
+    c.in_ok-two.ensures.meets c.in_ok-three.ensures.meets (λ y z e' e''. c.apply_to_three.ensures.meets x y z e e' e''))
 
 pub choice-returns-then-branch-clause-meets : goal.choice-returns-then-branch-clause-meets
 choice-returns-then-branch-clause-meets g t c =
     let tb = g.T.Tops.table c.args.tops.now in
     let f = run c.args.levels tb in
     let fs = frames_of c.args.scope.now in
-    branch_yes {A = g.row.A.Denot} c.args.meter.now c.value_in.new.meter c.in_ok-tested.tested (f fs c.args.test.now) (f fs c.args.yes.now) (f fs c.args.no.now) c.value_in-then-branch.new.meter c.value_in-then-branch.result c.in_ok-tested.ensures.meets (c.in_ok-truth.ensures ∙ ap Some c.if-branch.true) c.value_in-then-branch.ensures.meets
+    branch_yes {A = g.row.A.Denot} c.args.meter.now c.value_in.new.meter c.in_ok-tested.tested (f fs c.args.test.now) (f fs c.args.yes.now) (f fs c.args.no.now) c.value_in-then-branch.new.meter c.value_in-then-branch.result c.in_ok-tested.ensures.meets (c.in_ok-read_truth.ensures ∙ ap Some c.if-branch.true) c.value_in-then-branch.ensures.meets
 
 pub choice-returns-else-branch-clause-meets : goal.choice-returns-else-branch-clause-meets
 choice-returns-else-branch-clause-meets g t c =
     let tb = g.T.Tops.table c.args.tops.now in
     let f = run c.args.levels tb in
     let fs = frames_of c.args.scope.now in
-    branch_no {A = g.row.A.Denot} c.args.meter.now c.value_in.new.meter c.in_ok-tested.tested (f fs c.args.test.now) (f fs c.args.yes.now) (f fs c.args.no.now) c.value_in-else-branch.new.meter c.value_in-else-branch.result c.in_ok-tested.ensures.meets (c.in_ok-truth.ensures ∙ ap Some c.if-branch.false) c.value_in-else-branch.ensures.meets
+    branch_no {A = g.row.A.Denot} c.args.meter.now c.value_in.new.meter c.in_ok-tested.tested (f fs c.args.test.now) (f fs c.args.yes.now) (f fs c.args.no.now) c.value_in-else-branch.new.meter c.value_in-else-branch.result c.in_ok-tested.ensures.meets (c.in_ok-read_truth.ensures ∙ ap Some c.if-branch.false) c.value_in-else-branch.ensures.meets
 
-pub choice-returns-in_err-truth-clause-meets : goal.choice-returns-in_err-truth-clause-meets
-choice-returns-in_err-truth-clause-meets g t c =
+pub choice-returns-in_err-read_truth-clause-meets : goal.choice-returns-in_err-read_truth-clause-meets
+choice-returns-in_err-read_truth-clause-meets g t c =
     let tb = g.T.Tops.table c.args.tops.now in
     let f = run c.args.levels tb in
     let fs = frames_of c.args.scope.now in
-    let p = err_from_is_err_and c.from_residual-in_err-truth.result c.from_residual-in_err-truth.ensures.1 in
-    rw (p.1, p.2) (branch_none {A = g.row.A.Denot} c.args.meter.now c.value_in.new.meter c.in_ok-tested.tested (f fs c.args.test.now) (f fs c.args.yes.now) (f fs c.args.no.now) c.in_err-truth.field-0.0 c.in_ok-tested.ensures.meets c.in_err-truth.ensures)
+    let p = err_from_is_err_and c.from_residual-in_err-read_truth.result c.from_residual-in_err-read_truth.ensures.1 in
+    rw (p.1, p.2) (branch_none {A = g.row.A.Denot} c.args.meter.now c.value_in.new.meter c.in_ok-tested.tested (f fs c.args.test.now) (f fs c.args.yes.now) (f fs c.args.no.now) c.in_err-read_truth.field-0.0 c.in_ok-tested.ensures.meets c.in_err-read_truth.ensures)
 
 pub call-returns-clause-meets : goal.call-returns-clause-meets
 call-returns-clause-meets g t c =
@@ -271,8 +271,8 @@ called-returns-in-Ok-Function-clause-meets g t c =
     let f = run c.args.levels tb in
     let q = slot_at tb c.args.place in
     let v = tree_of c.args.argument in
-    subst (λ o. Meets (Is {A = g.row.A.Denot}) c.args.meter.now c.told_at.result c.value_in-found.new.meter o) (held_called f c.args.span q v (function_slot c.in-Ok-Function.body.now) (rw c.in-Ok-Function.field-0-is at c.in-Ok-Function.ensures))
-    (c.told_at.ensures (f (frame (v ∷ []) ∷ []) c.in-Ok-Function.body.now) c.args.meter.now c.value_in-found.new.meter (simp frames-Argument at c.value_in-found.ensures.meets))
+    subst (λ o. Meets (Is {A = g.row.A.Denot}) c.args.meter.now c.place_fault.result c.value_in-found.new.meter o) (held_called f c.args.span q v (function_slot c.in-Ok-Function.body.now) (rw c.in-Ok-Function.field-0-is at c.in-Ok-Function.ensures))
+    (c.place_fault.ensures (f (frame (v ∷ []) ∷ []) c.in-Ok-Function.body.now) c.args.meter.now c.value_in-found.new.meter (simp frames-Argument at c.value_in-found.ensures.meets))
 
 pub called-returns-in-Ok-Datatype-clause-meets : goal.called-returns-in-Ok-Datatype-clause-meets
 called-returns-in-Ok-Datatype-clause-meets g t c =
@@ -280,8 +280,8 @@ called-returns-in-Ok-Datatype-clause-meets g t c =
     let f = run c.args.levels tb in
     let q = slot_at tb c.args.place in
     let v = tree_of c.args.argument in
-    subst (λ o. Meets (Is {A = g.row.A.Denot}) c.args.meter.now c.tagged.result c.args.meter.now o) (held_called f c.args.span q v (datatype_slot c.in-Ok-Datatype.tag) (rw c.in-Ok-Datatype.field-0-is at c.in-Ok-Datatype.ensures))
-    (c.tagged.ensures c.args.meter.now)
+    subst (λ o. Meets (Is {A = g.row.A.Denot}) c.args.meter.now c.make_record.result c.args.meter.now o) (held_called f c.args.span q v (datatype_slot c.in-Ok-Datatype.tag) (rw c.in-Ok-Datatype.field-0-is at c.in-Ok-Datatype.ensures))
+    (c.make_record.ensures c.args.meter.now)
 
 pub call_named-returns-in-Some-clause-meets : goal.call_named-returns-in-Some-clause-meets
 call_named-returns-in-Some-clause-meets g t c =
@@ -303,7 +303,7 @@ in_sequence-returns-clause-meets g t c =
     let f = run c.args.levels tb in
     let fs = frames_of c.args.scope.now in
     let m1 = c.eval_all.new.meter in
-    meets_then (Are {A = g.row.A.Denot}) (Is {A = g.row.A.Denot}) c.args.meter.now m1 m1 c.in_ok-values.values c.sequence_of.result (run_all f fs [] c.args.parts.now) (λ vs. made c.args.span.now (values.sequence vs)) c.in_ok-values.ensures.meets (λ x e. rw (← e) (c.sequence_of.ensures m1))
+    meets_then (Are {A = g.row.A.Denot}) (Is {A = g.row.A.Denot}) c.args.meter.now m1 m1 c.in_ok-values.values c.sequence_of.result (run_all f fs [] c.args.parts.now) (λ vs. small_enough c.args.span.now (values.sequence vs)) c.in_ok-values.ensures.meets (λ x e. rw (← e) (c.sequence_of.ensures m1))
 
 pub each-returns-in_err-len-clause-meets : goal.each-returns-in_err-len-clause-meets
 each-returns-in_err-len-clause-meets g t c =
@@ -329,7 +329,7 @@ filtered-returns-in_err-len-clause-meets g t c =
     let fs = frames_of c.args.scope.now in
     let p = err_from_is_err_and c.from_residual-in_err-len.result c.from_residual-in_err-len.ensures.1 in
     let m1 = c.eval_all.new.meter in
-    rw (p.1, p.2) (over_stops {A = g.row.A.Denot} f fs c.args.sources.now c.args.span.now (λ vs is. then_out (run_filters f fs vs c.args.filter.now is) (λ ks. as_result (run_bodies f fs vs c.args.body.now ks))) c.in_ok-values.values c.args.meter.now m1 (Is {A = g.row.A.Denot}) c.in_err-len.field-0.0 c.in_ok-values.ensures.meets (simp c.deref.ensures.value at (c.in_err-len.ensures m1)))
+    rw (p.1, p.2) (over_stops {A = g.row.A.Denot} f fs c.args.sources.now c.args.span.now (λ vs is. and_then (run_filters f fs vs c.args.filter.now is) (λ ks. as_result (run_bodies f fs vs c.args.body.now ks))) c.in_ok-values.values c.args.meter.now m1 (Is {A = g.row.A.Denot}) c.in_err-len.field-0.0 c.in_ok-values.ensures.meets (simp c.deref.ensures.value at (c.in_err-len.ensures m1)))
 
 pub filtered-returns-in_err-kept-clause-meets : goal.filtered-returns-in_err-kept-clause-meets
 filtered-returns-in_err-kept-clause-meets g t c =
@@ -342,7 +342,7 @@ filtered-returns-in_err-kept-clause-meets g t c =
     let T : Vec ℕ g.row.A.Denot → List ℕ → Type 0 = λ ks is. ks.items ≡ is in
     let o = run_filters f fs us c.args.filter.now (range_with_len 0 c.in_ok-len.len) in
     let k = λ (ks : List ℕ). as_result (run_bodies f fs us c.args.body.now ks) in
-    rw (p.1, p.2) (over_runs {A = g.row.A.Denot} f fs c.args.sources.now c.args.span.now (λ vs is. then_out (run_filters f fs vs c.args.filter.now is) (λ ks. as_result (run_bodies f fs vs c.args.body.now ks))) c.in_ok-values.values c.args.meter.now m1 (Is {A = g.row.A.Denot}) c.filters.new.meter c.in_ok-len.len (Err c.in_err-kept.field-0.0) c.in_ok-values.ensures.meets (simp c.deref.ensures.value at (c.in_ok-len.ensures m1))
+    rw (p.1, p.2) (over_runs {A = g.row.A.Denot} f fs c.args.sources.now c.args.span.now (λ vs is. and_then (run_filters f fs vs c.args.filter.now is) (λ ks. as_result (run_bodies f fs vs c.args.body.now ks))) c.in_ok-values.values c.args.meter.now m1 (Is {A = g.row.A.Denot}) c.filters.new.meter c.in_ok-len.len (Err c.in_err-kept.field-0.0) c.in_ok-values.ensures.meets (simp c.deref.ensures.value at (c.in_ok-len.ensures m1))
     (meets_err T (Is {A = g.row.A.Denot}) m1 c.filters.new.meter c.in_err-kept.field-0.0 o k (simp c.deref-2.ensures.value at c.in_err-kept.ensures.meets)))
 
 pub filtered-returns-clause-meets : goal.filtered-returns-clause-meets
@@ -355,7 +355,7 @@ filtered-returns-clause-meets g t c =
     let T : Vec ℕ g.row.A.Denot → List ℕ → Type 0 = λ ks is. ks.items ≡ is in
     let o = run_filters f fs us c.args.filter.now (range_with_len 0 c.in_ok-len.len) in
     let k = λ (ks : List ℕ). as_result (run_bodies f fs us c.args.body.now ks) in
-    over_runs {A = g.row.A.Denot} f fs c.args.sources.now c.args.span.now (λ vs is. then_out (run_filters f fs vs c.args.filter.now is) (λ ks. as_result (run_bodies f fs vs c.args.body.now ks))) c.in_ok-values.values c.args.meter.now m1 (Is {A = g.row.A.Denot}) c.all_bodies.new.meter c.in_ok-len.len c.all_bodies.result c.in_ok-values.ensures.meets (simp c.deref.ensures.value at (c.in_ok-len.ensures m1))
+    over_runs {A = g.row.A.Denot} f fs c.args.sources.now c.args.span.now (λ vs is. and_then (run_filters f fs vs c.args.filter.now is) (λ ks. as_result (run_bodies f fs vs c.args.body.now ks))) c.in_ok-values.values c.args.meter.now m1 (Is {A = g.row.A.Denot}) c.all_bodies.new.meter c.in_ok-len.len c.all_bodies.result c.in_ok-values.ensures.meets (simp c.deref.ensures.value at (c.in_ok-len.ensures m1))
     (meets_then T (Is {A = g.row.A.Denot}) m1 c.filters.new.meter c.all_bodies.new.meter c.in_ok-kept.kept c.all_bodies.result o k (simp c.deref-2.ensures.value at c.in_ok-kept.ensures.meets)
     (λ ks e. rw (← e) (simp (c.deref-3.ensures.value, c.deref-4.ensures.value) at c.all_bodies.ensures.meets)))
 
@@ -366,7 +366,7 @@ holds_at-returns-in_err-value-clause-meets g t c =
     let fs = frames_of c.args.scope.now in
     let p = err_from_is_err_and c.from_residual.result c.from_residual.ensures.1 in
     let o = f (row c.args.place (map tree_of c.args.values.now) ∷ fs) c.args.filter.now in
-    rw (p.1, p.2) (meets_err (Is {A = g.row.A.Denot}) (Keeps c.args.place) c.args.meter.now c.value_in.new.meter c.in_err-value.field-0.0 o (outcome.kept c.args.place) (simp frames-Row at c.in_err-value.ensures.meets))
+    rw (p.1, p.2) (meets_err (Is {A = g.row.A.Denot}) (IsKeptPlace c.args.place) c.args.meter.now c.value_in.new.meter c.in_err-value.field-0.0 o (outcome.place_if_true c.args.place) (simp frames-Row at c.in_err-value.ensures.meets))
 
 pub holds_at-returns-clause-meets : goal.holds_at-returns-clause-meets
 holds_at-returns-clause-meets g t c =
@@ -374,7 +374,7 @@ holds_at-returns-clause-meets g t c =
     let f = run c.args.levels tb in
     let fs = frames_of c.args.scope.now in
     let o = f (row c.args.place (map tree_of c.args.values.now) ∷ fs) c.args.filter.now in
-    keeps_truth {A = g.row.A.Denot} c.args.meter.now c.value_in.new.meter c.in_ok-value.value c.truth.result c.args.place o c.truth.ensures (simp frames-Row at c.in_ok-value.ensures.meets)
+    keeps_truth {A = g.row.A.Denot} c.args.meter.now c.value_in.new.meter c.in_ok-value.value c.read_truth.result c.args.place o c.read_truth.ensures (simp frames-Row at c.in_ok-value.ensures.meets)
 
 pub all_bodies-returns-clause-meets : goal.all_bodies-returns-clause-meets
 all_bodies-returns-clause-meets g t c =
@@ -382,7 +382,7 @@ all_bodies-returns-clause-meets g t c =
     let f = run c.args.levels tb in
     let fs = frames_of c.args.scope.now in
     let m1 = c.bodies.new.meter in
-    meets_then (Has {A = g.row.A.Denot}) (Is {A = g.row.A.Denot}) c.args.meter.now m1 m1 c.in_ok-builder.builder c.finished.result (run_bodies f fs (map tree_of c.args.values.now) c.args.body.now (places_of c.args.places)) (λ us. value (values.sequence us) 0 0) c.in_ok-builder.ensures.meets (λ us e. rw (← e) (made_value m1 c.finished.result (values.sequence (elements_of c.in_ok-builder.builder)) c.finished.ensures))
+    meets_then (Has {A = g.row.A.Denot}) (Is {A = g.row.A.Denot}) c.args.meter.now m1 m1 c.in_ok-builder.builder c.finish.result (run_bodies f fs (map tree_of c.args.values.now) c.args.body.now (places_of c.args.places)) (λ us. value (values.sequence us) 0 0) c.in_ok-builder.ensures.meets (λ us e. rw (← e) (made_value m1 c.finish.result (values.sequence (elements_of c.in_ok-builder.builder)) c.finish.ensures))
 
 pub eval_all-returns-in_err-value-clause-meets : goal.eval_all-returns-in_err-value-clause-meets
 eval_all-returns-in_err-value-clause-meets g t c =
@@ -461,7 +461,7 @@ body_at-returns-in_err-value-clause-meets g t c =
     let fs = frames_of c.args.scope.now in
     let p = err_from_is_err_and c.from_residual.result c.from_residual.ensures.1 in
     let o = f (row c.args.place (map tree_of c.args.values.now) ∷ fs) c.args.body.now in
-    rw (p.1, p.2) (meets_err (Is {A = g.row.A.Denot}) (IsOne {A = g.row.A.Denot}) c.args.meter.now c.value_in.new.meter c.in_err-value.field-0.0 o counted (simp frames-Row at c.in_err-value.ensures.meets))
+    rw (p.1, p.2) (meets_err (Is {A = g.row.A.Denot}) (IsOne {A = g.row.A.Denot}) c.args.meter.now c.value_in.new.meter c.in_err-value.field-0.0 o body_value (simp frames-Row at c.in_err-value.ensures.meets))
 
 pub body_at-returns-clause-meets : goal.body_at-returns-clause-meets
 body_at-returns-clause-meets g t c =
@@ -469,7 +469,7 @@ body_at-returns-clause-meets g t c =
     let f = run c.args.levels tb in
     let fs = frames_of c.args.scope.now in
     let o = f (row c.args.place (map tree_of c.args.values.now) ∷ fs) c.args.body.now in
-    meets_then (Is {A = g.row.A.Denot}) (IsOne {A = g.row.A.Denot}) c.args.meter.now c.value_in.new.meter c.paid.new.meter c.in_ok-value.value c.paid.result o counted (simp frames-Row at c.in_ok-value.ensures.meets) (λ x e. subst (λ y. Meets (IsOne {A = g.row.A.Denot}) c.value_in.new.meter c.paid.result c.paid.new.meter (counted y)) e c.paid.ensures.meets)
+    meets_then (Is {A = g.row.A.Denot}) (IsOne {A = g.row.A.Denot}) c.args.meter.now c.value_in.new.meter c.pay.new.meter c.in_ok-value.value c.pay.result o body_value (simp frames-Row at c.in_ok-value.ensures.meets) (λ x e. subst (λ y. Meets (IsOne {A = g.row.A.Denot}) c.value_in.new.meter c.pay.result c.pay.new.meter (body_value y)) e c.pay.ensures.meets)
 
 pub filters_in_order-returns-in_err-holds-clause-meets : goal.filters_in_order-returns-in_err-holds-clause-meets
 filters_in_order-returns-in_err-holds-clause-meets g t c =
@@ -477,12 +477,12 @@ filters_in_order-returns-in_err-holds-clause-meets g t c =
     let f = run c.args.levels tb in
     let fs = frames_of c.args.scope.now in
     let p = err_from_is_err_and c.from_residual.result c.from_residual.ensures.1 in
-    let q = λ (i : ℕ). then_out (run_at f fs (map tree_of c.args.values.now) c.args.filter.now i) (outcome.kept i) in
+    let q = λ (i : ℕ). and_then (run_at f fs (map tree_of c.args.values.now) c.args.filter.now i) (outcome.place_if_true i) in
     let T : Vec ℕ g.row.A.Denot → List ℕ → Type 0 = λ ks is. ks.items ≡ is in
     let i = c.loop-place.place in
     let n = c.args.len in
     let next : range_with_len i (n - i) ≡ i ∷ range_with_len (i + 1) (n - (i + 1)) = range_next i n c.loop-place-test.true in
-    rw (p.1, p.2) (turn_stops T (Keeps i) q _ (range_with_len (i + 1) (n - (i + 1))) i c.loop-place.meter.fuel c.args.meter.now.depth c.loop-place.most c.loop-place.kept.items c.args.meter.now c.holds_at.new.meter c.in_err-holds.field-0.0 (all_beside q (range_with_len 0 n)) next c.loop-place.invariant.leads c.in_err-holds.ensures.meets)
+    rw (p.1, p.2) (turn_stops T (IsKeptPlace i) q _ (range_with_len (i + 1) (n - (i + 1))) i c.loop-place.meter.fuel c.args.meter.now.depth c.loop-place.most c.loop-place.kept.items c.args.meter.now c.holds_at.new.meter c.in_err-holds.field-0.0 (all_beside q (range_with_len 0 n)) next c.loop-place.invariant.leads c.in_err-holds.ensures.meets)
 
 pub filters_in_order-returns-in_err-keep_if-clause-meets : goal.filters_in_order-returns-in_err-keep_if-clause-meets
 filters_in_order-returns-in_err-keep_if-clause-meets g t c =
@@ -498,13 +498,13 @@ filters_in_order-loop-place-preserved g t c =
     let tb = g.T.Tops.table c.args.tops.now in
     let f = run c.args.levels tb in
     let fs = frames_of c.args.scope.now in
-    let q = λ (i : ℕ). then_out (run_at f fs (map tree_of c.args.values.now) c.args.filter.now i) (outcome.kept i) in
+    let q = λ (i : ℕ). and_then (run_at f fs (map tree_of c.args.values.now) c.args.filter.now i) (outcome.place_if_true i) in
     let T : Vec ℕ g.row.A.Denot → List ℕ → Type 0 = λ ks is. ks.items ≡ is in
     let i = c.loop-place.place in
     let n = c.args.len in
     let next : range_with_len i (n - i) ≡ i ∷ range_with_len (i + 1) (n - (i + 1)) = range_next i n c.loop-place-test.true in
     record {
-      leads = turn_next T (Keeps i) q _ (range_with_len (i + 1) (n - (i + 1))) i c.loop-place.meter.fuel c.args.meter.now.depth c.loop-place.most _ c.loop-place.kept.items c.keep_if.new.kept.items (cond c.in_ok-holds.holds (i ∷ []) []) c.args.meter.now c.holds_at.new.meter c.in_ok-holds.holds (all_beside q (range_with_len 0 n))
+      leads = turn_next T (IsKeptPlace i) q _ (range_with_len (i + 1) (n - (i + 1))) i c.loop-place.meter.fuel c.args.meter.now.depth c.loop-place.most _ c.loop-place.kept.items c.keep_if.new.kept.items (cond c.in_ok-holds.holds (i ∷ []) []) c.args.meter.now c.holds_at.new.meter c.in_ok-holds.holds (all_beside q (range_with_len 0 n))
           next (λ zs e. sym e) c.in_ok-keep_if.ensures c.deepest-most.ensures c.loop-place.invariant.leads c.in_ok-holds.ensures.meets;
       spent = omega (arith, c.deepest-most.ensures, c.loop-place.invariant.spent, c.in_ok-holds.ensures.spent);
       begun = c.loop-place.invariant.begun;
@@ -515,7 +515,7 @@ filters_in_order-returns-clause-meets g t c =
     let tb = g.T.Tops.table c.args.tops.now in
     let f = run c.args.levels tb in
     let fs = frames_of c.args.scope.now in
-    let q = λ (i : ℕ). then_out (run_at f fs (map tree_of c.args.values.now) c.args.filter.now i) (outcome.kept i) in
+    let q = λ (i : ℕ). and_then (run_at f fs (map tree_of c.args.values.now) c.args.filter.now i) (outcome.place_if_true i) in
     let T : Vec ℕ g.row.A.Denot → List ℕ → Type 0 = λ ks is. ks.items ≡ is in
     turns_done T q (range_with_len c.loop-place.place (c.args.len - c.loop-place.place)) c.loop-place.meter.fuel c.args.meter.now.depth c.loop-place.most c.loop-place.kept.items c.args.meter.now c.loop-place.kept (all_beside q (range_with_len 0 c.args.len)) (range_past c.loop-place.place c.args.len c.loop-place-test.false) c.loop-place.invariant.leads refl
 
@@ -525,7 +525,7 @@ bodies_in_order-returns-in_err-value-clause-meets g t c =
     let f = run c.args.levels tb in
     let fs = frames_of c.args.scope.now in
     let p = err_from_is_err_and c.from_residual.result c.from_residual.ensures.1 in
-    let q = λ (i : ℕ). then_out (run_at f fs (map tree_of c.args.values.now) c.args.body.now i) counted in
+    let q = λ (i : ℕ). and_then (run_at f fs (map tree_of c.args.values.now) c.args.body.now i) body_value in
     let is = places_of c.args.places in
     let k = c.loop-turn.turn in
     let next = drop_next is k c.at-place.result c.at-place.ensures in
@@ -544,7 +544,7 @@ bodies_in_order-loop-turn-preserved g t c =
     let tb = g.T.Tops.table c.args.tops.now in
     let f = run c.args.levels tb in
     let fs = frames_of c.args.scope.now in
-    let q = λ (i : ℕ). then_out (run_at f fs (map tree_of c.args.values.now) c.args.body.now i) counted in
+    let q = λ (i : ℕ). and_then (run_at f fs (map tree_of c.args.values.now) c.args.body.now i) body_value in
     let is = places_of c.args.places in
     let k = c.loop-turn.turn in
     let next = drop_next is k c.at-place.result c.at-place.ensures in
@@ -560,7 +560,7 @@ bodies_in_order-returns-clause-meets g t c =
     let tb = g.T.Tops.table c.args.tops.now in
     let f = run c.args.levels tb in
     let fs = frames_of c.args.scope.now in
-    let q = λ (i : ℕ). then_out (run_at f fs (map tree_of c.args.values.now) c.args.body.now i) counted in
+    let q = λ (i : ℕ). and_then (run_at f fs (map tree_of c.args.values.now) c.args.body.now i) body_value in
     let is = places_of c.args.places in
     turns_done (Has {A = g.row.A.Denot}) q (drop c.loop-turn.turn is) c.loop-turn.meter.fuel c.args.meter.now.depth c.loop-turn.most (elements_of c.loop-turn.builder) c.args.meter.now c.loop-turn.builder (all_beside q is) (drop_past is c.loop-turn.turn (omega (arith, c.len-turn-end.ensures))) c.loop-turn.invariant.leads refl
 

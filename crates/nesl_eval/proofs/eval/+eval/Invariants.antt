@@ -3,8 +3,8 @@ use Rattle.std.specs.List.{range_with_len}
 use Rattle.nesl_values.specs.View.{tree_of}
 use Rattle.nesl_values_builder.specs.Elements.{elements_of}
 use Rattle.nesl_eval_code.specs.Run.{run, run_all, run_let, run_at}
-use Rattle.nesl_eval_meaning.specs.Out.{then_out, all_beside}
-use Rattle.nesl_eval_meaning.specs.Outcome.{kept, counted}
+use Rattle.nesl_eval_meaning.specs.Out.{and_then, all_beside}
+use Rattle.nesl_eval_meaning.specs.Outcome.{place_if_true, body_value}
 use Rattle.nesl_eval_nodes.specs.Scopes.{frames_of}
 use Rattle.nesl_eval_nodes.specs.Sides.{places_of, Has}
 use Rattle.nesl_eval_nodes.specs.Meets.{Is, Are}
@@ -117,7 +117,7 @@ invariant-in_let-loop-code g l =
 abbrev pub invariant-filters_in_order-loop-place : goal.invariant-filters_in_order-loop-place
 invariant-filters_in_order-loop-place g l =
     let f = run l.levels (g.T.Tops.table l.tops) in
-    let p = λ (i : ℕ). then_out (run_at f (frames_of l.scope) (map tree_of l.values) l.filter i) (kept i) in
+    let p = λ (i : ℕ). and_then (run_at f (frames_of l.scope) (map tree_of l.values) l.filter i) (place_if_true i) in
     record {
       leads : LeadsTo {R = Vec ℕ g.row.A.Denot} (λ ks is. ks.items ≡ is) (meter l.meter.fuel l.start) (after l.kept.items l.most (all_beside p (range_with_len l.place (l.len - l.place)))) l.fn.meter (all_beside p (range_with_len 0 l.len));
       spent : l.meter.fuel + l.most ≤ l.fn.meter.fuel;
@@ -127,7 +127,7 @@ invariant-filters_in_order-loop-place g l =
 abbrev pub invariant-bodies_in_order-loop-turn : goal.invariant-bodies_in_order-loop-turn
 invariant-bodies_in_order-loop-turn g l =
     let f = run l.levels (g.T.Tops.table l.tops) in
-    let p = λ (i : ℕ). then_out (run_at f (frames_of l.scope) (map tree_of l.values) l.body i) counted in
+    let p = λ (i : ℕ). and_then (run_at f (frames_of l.scope) (map tree_of l.values) l.body i) body_value in
     record {
       leads : LeadsTo (Has {A = g.row.A.Denot}) (meter l.meter.fuel l.start) (after (elements_of l.builder) l.most (all_beside p (drop l.turn (places_of l.places)))) l.fn.meter (all_beside p (places_of l.places));
       spent : l.meter.fuel + l.most ≤ l.fn.meter.fuel;

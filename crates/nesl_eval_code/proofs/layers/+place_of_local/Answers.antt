@@ -2,7 +2,7 @@ use Rattle.std.proofs.Common.{◌∙◌, ap, subst, Option}
 use Rattle.nesl_syntax_tree.specs.Views.{pattern_tree, binders_in}
 use Rattle.nesl_eval_code.specs.declared.layers.LocalPlace.{LocalPlace}
 use Rattle.nesl_eval_code.specs.Means.{bindings, binders, patterns}
-use Rattle.nesl_eval_code.specs.Resolving.{layers_of, FindsIn, Finds}
+use Rattle.nesl_eval_code.specs.Resolving.{layers_of, FindsIn, FindsLocal}
 use Rattle.nesl_eval_code.proofs.Resolved.{layers-Parameter, layers-Let, layers-Row, found_in, found_out, found_none, found_only, if_ok}
 use Rattle.nesl_eval_code.proofs.layers.+place_of_local.Goals as goal
 
@@ -24,7 +24,7 @@ returns-in_ok-one_up-in-Some-2 t c =
     let x = c.args.name.now in
     let ps = patterns (binders_in c.in-Let.bindings.now) in
     let F : Option LocalPlace → Type 0 = λ o. FindsIn ps x o in
-    let G : Option LocalPlace → Type 0 = λ o. Finds (layers_of c.in-Let.outer.now) x o in
+    let G : Option LocalPlace → Type 0 = λ o. FindsLocal (layers_of c.in-Let.outer.now) x o in
     found_out (layers_of c.args.layers.now) (bindings ps) (layers_of c.in-Let.outer.now) x c.in-Some-2.place c.in_ok-one_up-in-Some-2.field-0
     (ap layers_of c.in-Let.is ∙ layers-Let c.in-Let.bindings c.in-Let.outer) (subst F c.in-None.is c.in_ok-place-in-Let.ensures)
     (subst G c.in-Some-2.is c.in_ok-place-in-None.ensures) c.in_ok-one_up-in-Some-2.ensures
@@ -34,7 +34,7 @@ returns-in-None-2 t c =
     let x = c.args.name.now in
     let ps = patterns (binders_in c.in-Let.bindings.now) in
     let F : Option LocalPlace → Type 0 = λ o. FindsIn ps x o in
-    let G : Option LocalPlace → Type 0 = λ o. Finds (layers_of c.in-Let.outer.now) x o in
+    let G : Option LocalPlace → Type 0 = λ o. FindsLocal (layers_of c.in-Let.outer.now) x o in
     found_none (layers_of c.args.layers.now) (bindings ps) (layers_of c.in-Let.outer.now) x
     (ap layers_of c.in-Let.is ∙ layers-Let c.in-Let.bindings c.in-Let.outer) (subst F c.in-None.is c.in_ok-place-in-Let.ensures)
     (subst G c.in-None-2.is c.in_ok-place-in-None.ensures)
@@ -52,7 +52,7 @@ returns-in_ok-one_up-in-Some-4 t c =
     let x = c.args.name.now in
     let ps = patterns (binders_in c.in-Row.bindings.now) in
     let F : Option LocalPlace → Type 0 = λ o. FindsIn ps x o in
-    let G : Option LocalPlace → Type 0 = λ o. Finds (layers_of c.in-Row.outer.now) x o in
+    let G : Option LocalPlace → Type 0 = λ o. FindsLocal (layers_of c.in-Row.outer.now) x o in
     found_out (layers_of c.args.layers.now) (binders ps) (layers_of c.in-Row.outer.now) x c.in-Some-4.place c.in_ok-one_up-in-Some-4.field-0
     (ap layers_of c.in-Row.is ∙ layers-Row c.in-Row.bindings c.in-Row.outer) (subst F c.in-None-3.is c.in_ok-place-in-Row.ensures)
     (subst G c.in-Some-4.is c.in_ok-place-in-None-3.ensures) c.in_ok-one_up-in-Some-4.ensures
@@ -62,7 +62,7 @@ returns-in-None-4 t c =
     let x = c.args.name.now in
     let ps = patterns (binders_in c.in-Row.bindings.now) in
     let F : Option LocalPlace → Type 0 = λ o. FindsIn ps x o in
-    let G : Option LocalPlace → Type 0 = λ o. Finds (layers_of c.in-Row.outer.now) x o in
+    let G : Option LocalPlace → Type 0 = λ o. FindsLocal (layers_of c.in-Row.outer.now) x o in
     found_none (layers_of c.args.layers.now) (binders ps) (layers_of c.in-Row.outer.now) x
     (ap layers_of c.in-Row.is ∙ layers-Row c.in-Row.bindings c.in-Row.outer) (subst F c.in-None-3.is c.in_ok-place-in-Row.ensures)
     (subst G c.in-None-4.is c.in_ok-place-in-None-3.ensures)

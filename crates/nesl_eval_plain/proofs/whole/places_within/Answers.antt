@@ -1,9 +1,10 @@
-use Rattle.std.proofs.Common.{ℕ, ◌-◌, ◌*◌, map, refl, ap, ◌∙◌, subst, sym, arith, drop, List}
-use Rattle.std.specs.Prelude.{slice_range}
+use Rattle.std.proofs.Common.{ℕ, Some, ◌-◌, ◌*◌, map, refl, ap, ◌∙◌, subst, sym, arith, drop, List}
+use Rattle.std.specs.Prelude.{slice_range, slice_get}
 use Rattle.nesl_values.specs.Tree.{boolean}
 use Rattle.nesl_values.specs.View.{tree_of}
-use Rattle.nesl_eval_meaning.specs.Out.{then_out}
-use Rattle.nesl_eval_meaning.specs.Outcome.{kept}
+use Rattle.nesl_eval_meaning.specs.Out.{and_then}
+use Rattle.nesl_eval_meaning.specs.Outcome.{place_if_true}
+use Rattle.nesl_eval_code.specs.Frames.{Frames}
 use Rattle.nesl_eval_code.specs.Run.{run, run_at}
 use Rattle.nesl_eval_nodes.specs.Scopes.{frames_of}
 use Rattle.nesl_eval_nodes.specs.Sides.{places_of}
@@ -11,7 +12,10 @@ use Rattle.nesl_eval_columns.specs.Columns.{leaves_of}
 use Rattle.nesl_eval_plain.specs.declared.block.Block.{Block}
 use Rattle.nesl_eval_meaning.specs.Names.{Value}
 use Rattle.nesl_eval_plain.specs.Comes.{Comes, chosen}
-use Rattle.nesl_eval_plain.specs.Blocks.{block_places, frames_at}
+use Rattle.nesl_eval_plain.specs.declared.scopes.Scopes.{Rows}
+use Rattle.nesl_eval_plain.specs.Blocks.{block_places}
+use Rattle.nesl_eval_plain.specs.Frames.{frames_in, AreAt}
+use Rattle.nesl_eval_plain.proofs.Places.{rows_come}
 use Rattle.nesl_eval_plain.proofs.Turns.{next_block, block_filters, flags_len}
 use Rattle.nesl_eval_plain.proofs.whole.places_within.Goals as goal
 
@@ -23,9 +27,11 @@ choose-requires-clause-len g c =
     let f = c.in_ok-column.field-0 in
     let bs = c.deref.result.now in
     let q = λ (i : ℕ). run_at (run c.args.levels (g.T.Tops.table w.tops.now)) (frames_of w.scope.now) (map tree_of w.values.now) c.args.filter.now i in
-    let F : Block g.row.A.Denot g.row.T.Denot → Type 0 = λ b. Comes (λ i. run c.args.levels (g.T.Tops.table b.tops.now) (frames_at b i) c.args.filter.now) f.nodes (block_places b) (leaves_of f.column) in
+    let p = λ (fs : Frames). run c.args.levels (g.T.Tops.table w.tops.now) fs c.args.filter.now in
+    let part : Block g.row.A.Denot g.row.T.Denot = record w { from = k.turn; to = end } in
+    let F : Block g.row.A.Denot g.row.T.Denot → Type 0 = λ b. AreAt (λ fs. run c.args.levels (g.T.Tops.table b.tops.now) fs c.args.filter.now) (frames_in b Rows) (slice_get (leaves_of f.column)) (λ i. Some f.nodes) in
     let G : List Value → Type 0 = λ vs. Comes q f.nodes (slice_range (places_of w.places) k.turn end) vs in
-    let comes = subst F c.part-block.ensures c.in_ok-column.ensures in
+    let comes = rows_come part p f.nodes (leaves_of f.column) (omega (arith, c.end_of-end.ensures.0), omega (arith, c.end_of-end.ensures.1, c.requires.1)) (cc) (subst F c.part-block.ensures c.in_ok-column.ensures) in
     let truths = subst G (sym c.in_ok-flags.ensures ∙ ap (map boolean) (sym c.deref.ensures.value)) comes in
     let len = flags_len q f.nodes (places_of w.places) k.turn end bs c.end_of-end.ensures.0 (omega (arith, c.end_of-end.ensures.1, c.requires.1)) truths in
     len
@@ -38,15 +44,17 @@ loop-turn-preserved g c =
     let f = c.in_ok-column.field-0 in
     let bs = c.deref.result.now in
     let q = λ (i : ℕ). run_at (run c.args.levels (g.T.Tops.table w.tops.now)) (frames_of w.scope.now) (map tree_of w.values.now) c.args.filter.now i in
-    let F : Block g.row.A.Denot g.row.T.Denot → Type 0 = λ b. Comes (λ i. run c.args.levels (g.T.Tops.table b.tops.now) (frames_at b i) c.args.filter.now) f.nodes (block_places b) (leaves_of f.column) in
+    let p = λ (fs : Frames). run c.args.levels (g.T.Tops.table w.tops.now) fs c.args.filter.now in
+    let part : Block g.row.A.Denot g.row.T.Denot = record w { from = k.turn; to = end } in
+    let F : Block g.row.A.Denot g.row.T.Denot → Type 0 = λ b. AreAt (λ fs. run c.args.levels (g.T.Tops.table b.tops.now) fs c.args.filter.now) (frames_in b Rows) (slice_get (leaves_of f.column)) (λ i. Some f.nodes) in
     let G : List Value → Type 0 = λ vs. Comes q f.nodes (slice_range (places_of w.places) k.turn end) vs in
-    let comes = subst F c.part-block.ensures c.in_ok-column.ensures in
+    let comes = rows_come part p f.nodes (leaves_of f.column) (omega (arith, c.end_of-end.ensures.0), omega (arith, c.end_of-end.ensures.1, c.requires.1)) (cc) (subst F c.part-block.ensures c.in_ok-column.ensures) in
     let truths = subst G (sym c.in_ok-flags.ensures ∙ ap (map boolean) (sym c.deref.ensures.value)) comes in
     let len = flags_len q f.nodes (places_of w.places) k.turn end bs c.end_of-end.ensures.0 (omega (arith, c.end_of-end.ensures.1, c.requires.1)) truths in
     let inv = k.invariant in
     let left = c.in_ok-left.left in
     record {
-      values = next_block (λ i. then_out (q i) (kept i)) (places_of w.places) w.from k.turn end c.args.fuel k.left left k.most c.max-most.result ((end - k.turn) * f.nodes) f.nodes k.places.items (chosen (drop k.turn (places_of w.places)) bs) c.choose.new.kept.items
+      values = next_block (λ i. and_then (q i) (place_if_true i)) (places_of w.places) w.from k.turn end c.args.fuel k.left left k.most c.max-most.result ((end - k.turn) * f.nodes) f.nodes k.places.items (chosen (drop k.turn (places_of w.places)) bs) c.choose.new.kept.items
           inv.turns.0 c.end_of-end.ensures.0 (omega (arith, c.end_of-end.ensures.1, c.requires.1)) (omega (arith, inv.spent)) c.in_ok-left.ensures.0 (c.if-not-choose.ensures refl) (omega (arith, c.max-most.ensures)) inv.values
           (block_filters q f.nodes (places_of w.places) k.turn end bs c.end_of-end.ensures.0 (omega (arith, c.end_of-end.ensures.1, c.requires.1)) truths len);
       spent = omega (arith, c.max-most.ensures, c.in_ok-left.ensures.0, c.in_ok-left.ensures.1, inv.spent);

@@ -1,15 +1,20 @@
-use Rattle.std.proofs.Common.{ℕ, ◌+◌, ◌-◌, ◌*◌, map, refl, ap, ◌∙◌, subst, arith}
+use Rattle.std.proofs.Common.{ℕ, Some, ◌+◌, ◌-◌, ◌*◌, map, refl, ap, ◌∙◌, subst, arith}
+use Rattle.std.specs.Prelude.{slice_get}
 use Rattle.nesl_values.specs.View.{tree_of}
 use Rattle.nesl_values_builder.specs.Elements.{elements_of}
-use Rattle.nesl_eval_meaning.specs.Out.{then_out}
-use Rattle.nesl_eval_meaning.specs.Outcome.{counted}
+use Rattle.nesl_eval_meaning.specs.Out.{and_then}
+use Rattle.nesl_eval_meaning.specs.Outcome.{body_value}
+use Rattle.nesl_eval_code.specs.Frames.{Frames}
 use Rattle.nesl_eval_code.specs.Run.{run, run_at}
 use Rattle.nesl_eval_nodes.specs.Scopes.{frames_of}
 use Rattle.nesl_eval_nodes.specs.Sides.{places_of}
 use Rattle.nesl_eval_columns.specs.Columns.{leaves_of}
 use Rattle.nesl_eval_plain.specs.declared.block.Block.{Block}
 use Rattle.nesl_eval_plain.specs.Comes.{Comes}
-use Rattle.nesl_eval_plain.specs.Blocks.{block_places, frames_at}
+use Rattle.nesl_eval_plain.specs.declared.scopes.Scopes.{Rows}
+use Rattle.nesl_eval_plain.specs.Blocks.{block_places}
+use Rattle.nesl_eval_plain.specs.Frames.{frames_in, AreAt}
+use Rattle.nesl_eval_plain.proofs.Places.{rows_come}
 use Rattle.nesl_eval_plain.proofs.Turns.{next_block, block_bodies}
 use Rattle.nesl_eval_plain.proofs.whole.values_within.Goals as goal
 
@@ -22,10 +27,12 @@ loop-turn-preserved g c =
     let f = c.in_ok-column.field-0 in
     let left = c.in_ok-left.left in
     let q = λ (i : ℕ). run_at (run c.args.levels (g.T.Tops.table w.tops.now)) (frames_of w.scope.now) (map tree_of w.values.now) c.args.body.now i in
-    let F : Block g.row.A.Denot g.row.T.Denot → Type 0 = λ b. Comes (λ i. run c.args.levels (g.T.Tops.table b.tops.now) (frames_at b i) c.args.body.now) f.nodes (block_places b) (leaves_of f.column) in
-    let comes = subst F c.part-block.ensures c.in_ok-column.ensures in
+    let p = λ (fs : Frames). run c.args.levels (g.T.Tops.table w.tops.now) fs c.args.body.now in
+    let part : Block g.row.A.Denot g.row.T.Denot = record w { from = k.turn; to = end } in
+    let F : Block g.row.A.Denot g.row.T.Denot → Type 0 = λ b. AreAt (λ fs. run c.args.levels (g.T.Tops.table b.tops.now) fs c.args.body.now) (frames_in b Rows) (slice_get (leaves_of f.column)) (λ i. Some f.nodes) in
+    let comes = rows_come part p f.nodes (leaves_of f.column) (omega (arith, c.end_of-end.ensures.0), omega (arith, c.end_of-end.ensures.1, c.requires.1)) (cc) (subst F c.part-block.ensures c.in_ok-column.ensures) in
     record {
-      values = next_block (λ i. then_out (q i) counted) (places_of w.places) w.from k.turn end c.args.fuel k.left left k.deepest c.max-deepest.result ((end - k.turn) * (f.nodes + 1)) f.nodes (elements_of k.builder) (leaves_of f.column) (elements_of c.extended.new.builder)
+      values = next_block (λ i. and_then (q i) body_value) (places_of w.places) w.from k.turn end c.args.fuel k.left left k.deepest c.max-deepest.result ((end - k.turn) * (f.nodes + 1)) f.nodes (elements_of k.builder) (leaves_of f.column) (elements_of c.extended.new.builder)
           inv.turns.0 c.end_of-end.ensures.0 (omega (arith, c.end_of-end.ensures.1, c.requires.1)) (omega (arith, inv.spent)) (c.in_ok-left.ensures.0 ∙ ap (λ e. left + (end - k.turn) * e) c.in_ok-each.ensures) (c.if-not-extended.ensures refl) (omega (arith, c.max-deepest.ensures)) inv.values
           (block_bodies q f.nodes (places_of w.places) k.turn end f.column c.end_of-end.ensures.0 (omega (arith, c.end_of-end.ensures.1, c.requires.1)) comes);
       spent = omega (arith, c.max-deepest.ensures, c.in_ok-left.ensures.0, c.in_ok-left.ensures.1, c.in_ok-each.ensures, inv.spent);

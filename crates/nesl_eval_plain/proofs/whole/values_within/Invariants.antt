@@ -2,8 +2,8 @@ use Rattle.std.proofs.Common.{◌≡◌, ℕ, ◌+◌, ◌-◌, ◌≤◌, map}
 use Rattle.std.specs.Prelude.{slice_range}
 use Rattle.nesl_values.specs.View.{tree_of}
 use Rattle.nesl_values_builder.specs.Elements.{elements_of}
-use Rattle.nesl_eval_meaning.specs.Out.{value, then_out, all_beside}
-use Rattle.nesl_eval_meaning.specs.Outcome.{counted}
+use Rattle.nesl_eval_meaning.specs.Out.{value, and_then, all_beside}
+use Rattle.nesl_eval_meaning.specs.Outcome.{body_value}
 use Rattle.nesl_eval_code.specs.Run.{run, run_at}
 use Rattle.nesl_eval_nodes.specs.Scopes.{frames_of}
 use Rattle.nesl_eval_nodes.specs.Sides.{places_of}
@@ -12,7 +12,7 @@ use Rattle.nesl_eval_plain.proofs.whole.values_within.Given as goal
 abbrev pub invariant-loop-turn : goal.invariant-loop-turn
 invariant-loop-turn g l =
     let w = l.whole in
-    let p = λ (i : ℕ). then_out (run_at (run l.levels (g.T.Tops.table w.tops.now)) (frames_of w.scope.now) (map tree_of w.values.now) l.body i) counted in
+    let p = λ (i : ℕ). and_then (run_at (run l.levels (g.T.Tops.table w.tops.now)) (frames_of w.scope.now) (map tree_of w.values.now) l.body i) body_value in
     record {
       values : all_beside p (slice_range (places_of w.places) w.from l.turn) ≡ value (elements_of l.builder) (l.fuel - l.left) l.deepest;
       spent : l.left + l.deepest ≤ l.fuel;

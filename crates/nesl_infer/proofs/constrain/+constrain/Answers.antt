@@ -3,7 +3,7 @@ use Rattle.std.specs.Prelude.{All, OnOk}
 use Rattle.std.proofs.lemmas.Result.{on_ok_weaker}
 use Rattle.std.proofs.lemmas.List.Elements.{All-nil, All-push, All-weaker}
 use Rattle.std.proofs.lemmas.Grind.{common_steps}
-use Rattle.nesl_types_bank.specs.Term.{Term, int, bool, both}
+use Rattle.nesl_types_bank.specs.Term.{Term, int, bool, pair_of}
 use Rattle.nesl_syntax_tree.specs.declared.tree.Node as declared
 use Rattle.nesl_syntax_tree.specs.Views.{type_tree, shape_of, trees_in, tree_of, binders_in, pattern_tree}
 use Rattle.nesl_syntax_tree.specs.declared.tree.Binding.{Binding}
@@ -11,11 +11,11 @@ use Rattle.nesl_syntax_tree.specs.declared.tree.Exp.{Exp}
 use Rattle.nesl_infer_rules.specs.declared.state.Local.{Local}
 use Rattle.nesl_syntax_tree.specs.Trees.{node, no_binders, Trees, Shape, Binders}
 use Rattle.nesl_syntax_tree.specs.Trees as trees
-use Rattle.nesl_infer_rules.specs.World.{Meanings, meanings_in}
-use Rattle.nesl_infer_rules.specs.Typing.{Scope, local, newest, is_element, IsVariable, IsInstanceOf}
-use Rattle.nesl_infer_rules.specs.Holds.{Adds, AreLocalsBelow, own_at, scope_at, count}
+use Rattle.nesl_infer_rules.specs.World.{TypedNames, meanings_in}
+use Rattle.nesl_infer_rules.specs.Typing.{LocalTypes, local_type, newest_type, is_element, IsVariable, IsInstanceOf}
+use Rattle.nesl_infer_rules.specs.Steps.{Adds, AreLocalsBelow, own_at, scope_at, count}
 use Rattle.nesl_builtins.specs.declared.builtin.Builtin.{Builtin}
-use Rattle.nesl_builtins.specs.Table.{builtin_type}
+use Rattle.nesl_builtins.specs.FunctionTypes.{builtin_type}
 use Rattle.nesl_infer_rules.specs.Principal.{bounded}
 use Rattle.nesl_infer_rules.proofs.Places.{fixed}
 use Rattle.nesl_infer_rules.proofs.Arms.{AllType, Types, infix_pair, arm_more, arm_sequence, retyped}
@@ -31,9 +31,9 @@ use Rattle.nesl_infer.proofs.constrain.+constrain.Goals as goal
 pub constrain_items-loop-item-preserved : goal.constrain_items-loop-item-preserved
 constrain_items-loop-item-preserved g t c = record {
   adds =
-      let N : (ℕ → Term) → Meanings = λ s. meanings_in c.args.context.now (own_at s c.args.own.now) in
+      let N : (ℕ → Term) → TypedNames = λ s. meanings_in c.args.context.now (own_at s c.args.own.now) in
       let ls = c.args.locals.now.items in
-      let S : (ℕ → Term) → Scope = λ s. scope_at s ls in
+      let S : (ℕ → Term) → LocalTypes = λ s. scope_at s ls in
       let n = count c.args.state.now in
       let i = c.loop-item.item-index in
       let e = c.item-item.result in
@@ -46,19 +46,19 @@ constrain_items-loop-item-preserved g t c = record {
 
 pub constrain_items-returns-clause-adds : goal.constrain_items-returns-clause-adds
 constrain_items-returns-clause-adds g t c =
-    let N : (ℕ → Term) → Meanings = λ s. meanings_in c.args.context.now (own_at s c.args.own.now) in
-    let S : (ℕ → Term) → Scope = λ s. scope_at s c.args.locals.now.items in
+    let N : (ℕ → Term) → TypedNames = λ s. meanings_in c.args.context.now (own_at s c.args.own.now) in
+    let S : (ℕ → Term) → LocalTypes = λ s. scope_at s c.args.locals.now.items in
     let all : take c.loop-item.item-index c.args.items.now ≡ c.args.items.now = grind (arith, common_steps) in
     subst (λ (es : List Exp). AllType c.args.state.now c.loop-item.state N S (trees_in es) c.args.target) all c.loop-item.invariant.adds
 
 pub constrain_bindings-loop-binding-init : goal.constrain_bindings-loop-binding-init
 constrain_bindings-loop-binding-init g t c =
-    let N : (ℕ → Term) → Meanings = λ s. meanings_in c.args.context.now (own_at s c.args.own.now) in
+    let N : (ℕ → Term) → TypedNames = λ s. meanings_in c.args.context.now (own_at s c.args.own.now) in
     no_bindings N c.args.locals.now.items
 
 pub constrain_bindings-loop-binding-preserved : goal.constrain_bindings-loop-binding-preserved
 constrain_bindings-loop-binding-preserved g t c =
-    let N : (ℕ → Term) → Meanings = λ s. meanings_in c.args.context.now (own_at s c.args.own.now) in
+    let N : (ℕ → Term) → TypedNames = λ s. meanings_in c.args.context.now (own_at s c.args.own.now) in
     let ls = c.args.locals.now.items in
     let i = c.loop-binding.binding-index in
     let b = c.binding-item.result in
@@ -73,14 +73,14 @@ constrain_bindings-loop-binding-preserved g t c =
 
 pub constrain_bindings-returns : goal.constrain_bindings-returns
 constrain_bindings-returns g t c =
-    let N : (ℕ → Term) → Meanings = λ s. meanings_in c.args.context.now (own_at s c.args.own.now) in
+    let N : (ℕ → Term) → TypedNames = λ s. meanings_in c.args.context.now (own_at s c.args.own.now) in
     let all : take c.loop-binding.binding-index c.args.bindings.now ≡ c.args.bindings.now = grind (arith, common_steps) in
     subst (λ (bs : List Binding). BindsOf c.args.state.now c.loop-binding.state c.args.locals.now.items c.loop-binding.locals.items N (binders_in bs)) all c.loop-binding.invariant
 
 pub constrain_values-loop-binding-init : goal.constrain_values-loop-binding-init
 constrain_values-loop-binding-init g t c =
-    let N : (ℕ → Term) → Meanings = λ s. meanings_in c.args.context.now (own_at s c.args.own.now) in
-    let S : (ℕ → Term) → Scope = λ s. scope_at s c.args.locals.now.items in
+    let N : (ℕ → Term) → TypedNames = λ s. meanings_in c.args.context.now (own_at s c.args.own.now) in
+    let S : (ℕ → Term) → LocalTypes = λ s. scope_at s c.args.locals.now.items in
     let s1 = c.args.state.now in
     let none = sym c.new-items.ensures.items in
     record {
@@ -92,9 +92,9 @@ constrain_values-loop-binding-init g t c =
 
 pub constrain_values-loop-binding-preserved : goal.constrain_values-loop-binding-preserved
 constrain_values-loop-binding-preserved g t c =
-    let N : (ℕ → Term) → Meanings = λ s. meanings_in c.args.context.now (own_at s c.args.own.now) in
+    let N : (ℕ → Term) → TypedNames = λ s. meanings_in c.args.context.now (own_at s c.args.own.now) in
     let ls = c.args.locals.now.items in
-    let S : (ℕ → Term) → Scope = λ s. scope_at s ls in
+    let S : (ℕ → Term) → LocalTypes = λ s. scope_at s ls in
     let h = c.loop-binding.invariant in
     let i = c.loop-binding.binding-index in
     let b = c.binding-item.result in
@@ -104,10 +104,10 @@ constrain_values-loop-binding-preserved g t c =
     let n = count c.constrain.new.state in
     let a1 = c.in_ok-item.ensures.gives.more in
     let a2 = c.in_ok-sequence.ensures.gives.more in
-    let a3 = c.in_ok-is_sequence.ensures.more in
+    let a3 = c.in_ok-equate_sequence.ensures.more in
     let a4 = c.in_ok-constrain.ensures.adds.more in
     let step = arm_value N S (fixed c.args.context.now (count c.args.state.now) c.args.own.now ls c.requires.own c.requires.locals) (binders_in (take i bs)) (pattern_tree b.pattern) (tree_of b.value) c.loop-binding.items.items v q
-    h.gives c.in_ok-item.ensures.gives c.in_ok-sequence.ensures.gives c.in_ok-is_sequence.ensures
+    h.gives c.in_ok-item.ensures.gives c.in_ok-sequence.ensures.gives c.in_ok-equate_sequence.ensures
     (retyped N ls c.loop-binding.locals.items b.value b.value q h.locals (λ i. b.value) c.in_ok-constrain.ensures.adds) in
     record {
       gives = subst (λ (vs : List ℕ). ElementsOf c.args.state.now c.constrain.new.state N S (binders_in (take (i + 1) bs)) vs) (sym c.in_ok-push.ensures.items)
@@ -120,16 +120,16 @@ constrain_values-loop-binding-preserved g t c =
 
 pub constrain_values-returns-clause-gives : goal.constrain_values-returns-clause-gives
 constrain_values-returns-clause-gives g t c =
-    let N : (ℕ → Term) → Meanings = λ s. meanings_in c.args.context.now (own_at s c.args.own.now) in
-    let S : (ℕ → Term) → Scope = λ s. scope_at s c.args.locals.now.items in
+    let N : (ℕ → Term) → TypedNames = λ s. meanings_in c.args.context.now (own_at s c.args.own.now) in
+    let S : (ℕ → Term) → LocalTypes = λ s. scope_at s c.args.locals.now.items in
     let all : take c.loop-binding.binding-index c.args.bindings.now ≡ c.args.bindings.now = grind (arith, common_steps) in
     subst (λ (bs : List Binding). ElementsOf c.args.state.now c.loop-binding.state N S (binders_in bs) c.loop-binding.items.items) all c.loop-binding.invariant.gives
 
 pub constrain-returns-in-Number-clause-adds : goal.constrain-returns-in-Number-clause-adds
 constrain-returns-in-Number-clause-adds g t c =
-    let N : (ℕ → Term) → Meanings = λ s. meanings_in c.args.context.now (own_at s c.args.own.now) in
+    let N : (ℕ → Term) → TypedNames = λ s. meanings_in c.args.context.now (own_at s c.args.own.now) in
     let ls = c.args.locals.now.items in
-    let S : (ℕ → Term) → Scope = λ s. scope_at s ls in
+    let S : (ℕ → Term) → LocalTypes = λ s. scope_at s ls in
     let v = c.args.target in
     let e = c.args.exp.now in
     typed _ _ N S e (declared.Number c.in-Number.field-0) (trees.number c.in-Number.field-0) v c.equate_flat.result c.in-Number.is refl
@@ -137,9 +137,9 @@ constrain-returns-in-Number-clause-adds g t c =
 
 pub constrain-returns-in-Truth-clause-adds : goal.constrain-returns-in-Truth-clause-adds
 constrain-returns-in-Truth-clause-adds g t c =
-    let N : (ℕ → Term) → Meanings = λ s. meanings_in c.args.context.now (own_at s c.args.own.now) in
+    let N : (ℕ → Term) → TypedNames = λ s. meanings_in c.args.context.now (own_at s c.args.own.now) in
     let ls = c.args.locals.now.items in
-    let S : (ℕ → Term) → Scope = λ s. scope_at s ls in
+    let S : (ℕ → Term) → LocalTypes = λ s. scope_at s ls in
     let v = c.args.target in
     let e = c.args.exp.now in
     typed _ _ N S e (declared.Truth c.in-Truth.field-0) (trees.truth c.in-Truth.field-0) v c.equate_flat-in-Truth.result c.in-Truth.is refl
@@ -147,9 +147,9 @@ constrain-returns-in-Truth-clause-adds g t c =
 
 pub constrain-returns-in-Character-clause-adds : goal.constrain-returns-in-Character-clause-adds
 constrain-returns-in-Character-clause-adds g t c =
-    let N : (ℕ → Term) → Meanings = λ s. meanings_in c.args.context.now (own_at s c.args.own.now) in
+    let N : (ℕ → Term) → TypedNames = λ s. meanings_in c.args.context.now (own_at s c.args.own.now) in
     let ls = c.args.locals.now.items in
-    let S : (ℕ → Term) → Scope = λ s. scope_at s ls in
+    let S : (ℕ → Term) → LocalTypes = λ s. scope_at s ls in
     let v = c.args.target in
     let e = c.args.exp.now in
     typed _ _ N S e (declared.Character c.in-Character.field-0) (trees.character c.in-Character.field-0) v c.equate_flat-in-Character.result c.in-Character.is refl
@@ -157,9 +157,9 @@ constrain-returns-in-Character-clause-adds g t c =
 
 pub constrain-returns-in-Text-clause-adds : goal.constrain-returns-in-Text-clause-adds
 constrain-returns-in-Text-clause-adds g t c =
-    let N : (ℕ → Term) → Meanings = λ s. meanings_in c.args.context.now (own_at s c.args.own.now) in
+    let N : (ℕ → Term) → TypedNames = λ s. meanings_in c.args.context.now (own_at s c.args.own.now) in
     let ls = c.args.locals.now.items in
-    let S : (ℕ → Term) → Scope = λ s. scope_at s ls in
+    let S : (ℕ → Term) → LocalTypes = λ s. scope_at s ls in
     let v = c.args.target in
     let e = c.args.exp.now in
     typed _ _ N S e (declared.Text c.in-Text.field-0) (trees.text c.in-Text.field-0.items) v c.is_text.result c.in-Text.is refl
@@ -167,55 +167,55 @@ constrain-returns-in-Text-clause-adds g t c =
 
 pub constrain-returns-in-Variable-clause-adds : goal.constrain-returns-in-Variable-clause-adds
 constrain-returns-in-Variable-clause-adds g t c =
-    let N : (ℕ → Term) → Meanings = λ s. meanings_in c.args.context.now (own_at s c.args.own.now) in
+    let N : (ℕ → Term) → TypedNames = λ s. meanings_in c.args.context.now (own_at s c.args.own.now) in
     let ls = c.args.locals.now.items in
-    let S : (ℕ → Term) → Scope = λ s. scope_at s ls in
+    let S : (ℕ → Term) → LocalTypes = λ s. scope_at s ls in
     let v = c.args.target in
     let e = c.args.exp.now in
-    typed _ _ N S e (declared.Variable c.in-Variable.name) (trees.variable c.in-Variable.name.items) v c.is_variable.result c.in-Variable.is refl
-    (subst (λ (x : List ℕ). OnOk c.is_variable.result (Adds c.args.state.now c.is_variable.new.state (λ s of. IsVariable (bounded (N s) of) x (local x (scope_at s ls)) (s v)))) c.as_slice-in-Variable.ensures.value
-    (subst (λ (ks : List Local). OnOk c.is_variable.result (Adds c.args.state.now c.is_variable.new.state (λ s of. IsVariable (bounded (N s) of) c.as_slice-in-Variable.result.now (local c.as_slice-in-Variable.result.now (scope_at s ks)) (s v)))) c.as_slice.ensures.value c.is_variable.ensures))
+    typed _ _ N S e (declared.Variable c.in-Variable.name) (trees.variable c.in-Variable.name.items) v c.constrain_variable.result c.in-Variable.is refl
+    (subst (λ (x : List ℕ). OnOk c.constrain_variable.result (Adds c.args.state.now c.constrain_variable.new.state (λ s of. IsVariable (bounded (N s) of) x (local_type x (scope_at s ls)) (s v)))) c.as_slice-in-Variable.ensures.value
+    (subst (λ (ks : List Local). OnOk c.constrain_variable.result (Adds c.args.state.now c.constrain_variable.new.state (λ s of. IsVariable (bounded (N s) of) c.as_slice-in-Variable.result.now (local_type c.as_slice-in-Variable.result.now (scope_at s ks)) (s v)))) c.as_slice.ensures.value c.constrain_variable.ensures))
 
 pub constrain-returns-in-Element-clause-adds : goal.constrain-returns-in-Element-clause-adds
 constrain-returns-in-Element-clause-adds g t c =
-    let N : (ℕ → Term) → Meanings = λ s. meanings_in c.args.context.now (own_at s c.args.own.now) in
+    let N : (ℕ → Term) → TypedNames = λ s. meanings_in c.args.context.now (own_at s c.args.own.now) in
     let ls = c.args.locals.now.items in
-    let S : (ℕ → Term) → Scope = λ s. scope_at s ls in
+    let S : (ℕ → Term) → LocalTypes = λ s. scope_at s ls in
     let v = c.args.target in
     let e = c.args.exp.now in
-    typed _ _ N S e declared.Element trees.element v c.is_element.result c.in-Element.is refl
-    (subst (λ (ks : List Local). OnOk c.is_element.result (Adds c.args.state.now c.is_element.new.state (λ s of. newest is_element (scope_at s ks) ≡ Some (s v)))) c.as_slice-in-Element.ensures.value c.is_element.ensures)
+    typed _ _ N S e declared.Element trees.element v c.constrain_element.result c.in-Element.is refl
+    (subst (λ (ks : List Local). OnOk c.constrain_element.result (Adds c.args.state.now c.constrain_element.new.state (λ s of. newest_type is_element (scope_at s ks) ≡ Some (s v)))) c.as_slice-in-Element.ensures.value c.constrain_element.ensures)
 
 pub constrain-returns-in-Empty-clause-adds : goal.constrain-returns-in-Empty-clause-adds
 constrain-returns-in-Empty-clause-adds g t c =
-    let N : (ℕ → Term) → Meanings = λ s. meanings_in c.args.context.now (own_at s c.args.own.now) in
+    let N : (ℕ → Term) → TypedNames = λ s. meanings_in c.args.context.now (own_at s c.args.own.now) in
     let ls = c.args.locals.now.items in
-    let S : (ℕ → Term) → Scope = λ s. scope_at s ls in
+    let S : (ℕ → Term) → LocalTypes = λ s. scope_at s ls in
     let v = c.args.target in
     let e = c.args.exp.now in
-    typed _ _ N S e (declared.Empty c.in-Empty.written) (trees.empty (type_tree c.in-Empty.written)) v c.is_empty_of.result c.in-Empty.is refl
-    c.is_empty_of.ensures
+    typed _ _ N S e (declared.Empty c.in-Empty.written) (trees.empty (type_tree c.in-Empty.written)) v c.constrain_empty.result c.in-Empty.is refl
+    c.constrain_empty.ensures
 
 pub constrain-returns-in_ok-given-in-Call-clause-adds : goal.constrain-returns-in_ok-given-in-Call-clause-adds
 constrain-returns-in_ok-given-in-Call-clause-adds g t c =
-    let N : (ℕ → Term) → Meanings = λ s. meanings_in c.args.context.now (own_at s c.args.own.now) in
+    let N : (ℕ → Term) → TypedNames = λ s. meanings_in c.args.context.now (own_at s c.args.own.now) in
     let ls = c.args.locals.now.items in
-    let S : (ℕ → Term) → Scope = λ s. scope_at s ls in
+    let S : (ℕ → Term) → LocalTypes = λ s. scope_at s ls in
     let f = fixed c.args.context.now (count c.args.state.now) c.args.own.now ls c.requires.own c.requires.locals in
     let v = c.args.target in
     let e = c.args.exp.now in
     let a = c.in-Call.argument.value in
     let u = c.in_ok-given-in-Call.given in
-    typed _ _ N S e (declared.Call c.in-Call.name c.in-Call.argument) (trees.call c.in-Call.name.items (tree_of a)) v c.applied.result c.in-Call.is refl
-    (on_ok_weaker c.applied.result (arm_call N S f v c.requires.target c.in-Call.name.items (tree_of a) u
+    typed _ _ N S e (declared.Call c.in-Call.name c.in-Call.argument) (trees.call c.in-Call.name.items (tree_of a)) v c.constrain_call.result c.in-Call.is refl
+    (on_ok_weaker c.constrain_call.result (arm_call N S f v c.requires.target c.in-Call.name.items (tree_of a) u
     (part_as N ls ls a c.deref.result.now u (λ i. ls) c.deref.ensures c.in_ok-given-in-Call.ensures.gives))
-    (subst (λ (x : List ℕ). OnOk c.applied.result (Applies c.constrain_part.new.state c.applied.new.state N x u v)) c.as_slice-in-Call.ensures.value c.applied.ensures))
+    (subst (λ (x : List ℕ). OnOk c.constrain_call.result (Applies c.constrain_part.new.state c.constrain_call.new.state N x u v)) c.as_slice-in-Call.ensures.value c.constrain_call.ensures))
 
 pub constrain-returns-in_ok-right-in-Pair-clause-adds : goal.constrain-returns-in_ok-right-in-Pair-clause-adds
 constrain-returns-in_ok-right-in-Pair-clause-adds g t c =
-    let N : (ℕ → Term) → Meanings = λ s. meanings_in c.args.context.now (own_at s c.args.own.now) in
+    let N : (ℕ → Term) → TypedNames = λ s. meanings_in c.args.context.now (own_at s c.args.own.now) in
     let ls = c.args.locals.now.items in
-    let S : (ℕ → Term) → Scope = λ s. scope_at s ls in
+    let S : (ℕ → Term) → LocalTypes = λ s. scope_at s ls in
     let f = fixed c.args.context.now (count c.args.state.now) c.args.own.now ls c.requires.own c.requires.locals in
     let v = c.args.target in
     let e = c.args.exp.now in
@@ -223,32 +223,32 @@ constrain-returns-in_ok-right-in-Pair-clause-adds g t c =
     let b = c.in-Pair.second.value in
     let l = c.in_ok-left-in-Pair.left in
     let r = c.in_ok-right-in-Pair.right in
-    typed _ _ N S e (declared.Pair c.in-Pair.first c.in-Pair.second) (trees.pair (tree_of a) (tree_of b)) v c.is_pair.result c.in-Pair.is refl
-    (on_ok_weaker c.is_pair.result (arm_pair N S f v c.requires.target (tree_of a) (tree_of b) l r
+    typed _ _ N S e (declared.Pair c.in-Pair.first c.in-Pair.second) (trees.pair (tree_of a) (tree_of b)) v c.equate_pair.result c.in-Pair.is refl
+    (on_ok_weaker c.equate_pair.result (arm_pair N S f v c.requires.target (tree_of a) (tree_of b) l r
     (part_as N ls ls a c.deref-in-Pair.result.now l (λ i. ls) c.deref-in-Pair.ensures c.in_ok-left-in-Pair.ensures.gives)
     (part_as N ls c.constrain_part-in-Pair.new.locals.items b c.deref-in-Pair-2.result.now r c.in_ok-left-in-Pair.ensures.locals c.deref-in-Pair-2.ensures c.in_ok-right-in-Pair.ensures.gives))
-    c.is_pair.ensures)
+    c.equate_pair.ensures)
 
 pub constrain-returns-in_ok-given-in-Prefix-clause-adds : goal.constrain-returns-in_ok-given-in-Prefix-clause-adds
 constrain-returns-in_ok-given-in-Prefix-clause-adds g t c =
-    let N : (ℕ → Term) → Meanings = λ s. meanings_in c.args.context.now (own_at s c.args.own.now) in
+    let N : (ℕ → Term) → TypedNames = λ s. meanings_in c.args.context.now (own_at s c.args.own.now) in
     let ls = c.args.locals.now.items in
-    let S : (ℕ → Term) → Scope = λ s. scope_at s ls in
+    let S : (ℕ → Term) → LocalTypes = λ s. scope_at s ls in
     let f = fixed c.args.context.now (count c.args.state.now) c.args.own.now ls c.requires.own c.requires.locals in
     let v = c.args.target in
     let e = c.args.exp.now in
     let a = c.in-Prefix.operand.value in
     let u = c.in_ok-given-in-Prefix.given in
-    typed _ _ N S e (declared.Prefix c.in-Prefix.prefix c.in-Prefix.operand) (trees.prefix_of c.in-Prefix.prefix (tree_of a)) v c.built_in.result c.in-Prefix.is refl
-    (on_ok_weaker c.built_in.result (arm_prefix N S f v c.requires.target c.in-Prefix.prefix (tree_of a) u
+    typed _ _ N S e (declared.Prefix c.in-Prefix.prefix c.in-Prefix.operand) (trees.prefix_of c.in-Prefix.prefix (tree_of a)) v c.constrain_builtin.result c.in-Prefix.is refl
+    (on_ok_weaker c.constrain_builtin.result (arm_prefix N S f v c.requires.target c.in-Prefix.prefix (tree_of a) u
     (part_as N ls ls a c.deref-in-Prefix.result.now u (λ i. ls) c.deref-in-Prefix.ensures c.in_ok-given-in-Prefix.ensures.gives))
-    (subst (λ (b : Builtin). OnOk c.built_in.result (Adds c.constrain_part-in-Prefix.new.state c.built_in.new.state (λ s of. IsInstanceOf (builtin_type b) of (s u) (s v)))) c.of_prefix.ensures c.built_in.ensures))
+    (subst (λ (b : Builtin). OnOk c.constrain_builtin.result (Adds c.constrain_part-in-Prefix.new.state c.constrain_builtin.new.state (λ s of. IsInstanceOf (builtin_type b) of (s u) (s v)))) c.of_prefix.ensures c.constrain_builtin.ensures))
 
 pub constrain-returns-in_ok-right-in-Infix-clause-adds : goal.constrain-returns-in_ok-right-in-Infix-clause-adds
 constrain-returns-in_ok-right-in-Infix-clause-adds g t c =
-    let N : (ℕ → Term) → Meanings = λ s. meanings_in c.args.context.now (own_at s c.args.own.now) in
+    let N : (ℕ → Term) → TypedNames = λ s. meanings_in c.args.context.now (own_at s c.args.own.now) in
     let ls = c.args.locals.now.items in
-    let S : (ℕ → Term) → Scope = λ s. scope_at s ls in
+    let S : (ℕ → Term) → LocalTypes = λ s. scope_at s ls in
     let f = fixed c.args.context.now (count c.args.state.now) c.args.own.now ls c.requires.own c.requires.locals in
     let v = c.args.target in
     let e = c.args.exp.now in
@@ -256,34 +256,34 @@ constrain-returns-in_ok-right-in-Infix-clause-adds g t c =
     let b = c.in-Infix.second.value in
     let l = c.in_ok-left-in-Infix.left in
     let r = c.in_ok-right-in-Infix.right in
-    typed _ _ N S e (declared.Infix c.in-Infix.operator c.in-Infix.first c.in-Infix.second) (trees.infix_of c.in-Infix.operator (tree_of a) (tree_of b)) v c.built_in_of_two.result c.in-Infix.is refl
-    (on_ok_weaker c.built_in_of_two.result (arm_infix N S f v c.requires.target c.in-Infix.operator (tree_of a) (tree_of b) l r
+    typed _ _ N S e (declared.Infix c.in-Infix.operator c.in-Infix.first c.in-Infix.second) (trees.infix_of c.in-Infix.operator (tree_of a) (tree_of b)) v c.constrain_operator.result c.in-Infix.is refl
+    (on_ok_weaker c.constrain_operator.result (arm_infix N S f v c.requires.target c.in-Infix.operator (tree_of a) (tree_of b) l r
     (part_as N ls ls a c.deref-in-Infix.result.now l (λ i. ls) c.deref-in-Infix.ensures c.in_ok-left-in-Infix.ensures.gives)
     (part_as N ls c.constrain_part-in-Infix.new.locals.items b c.deref-in-Infix-2.result.now r c.in_ok-left-in-Infix.ensures.locals c.deref-in-Infix-2.ensures c.in_ok-right-in-Infix.ensures.gives))
-    (subst (λ (k : Builtin). OnOk c.built_in_of_two.result (Adds c.constrain_part-in-Infix-2.new.state c.built_in_of_two.new.state (λ s of. IsInstanceOf (builtin_type k) of (both (s l) (s r)) (s v)))) c.of_infix.ensures c.built_in_of_two.ensures))
+    (subst (λ (k : Builtin). OnOk c.constrain_operator.result (Adds c.constrain_part-in-Infix-2.new.state c.constrain_operator.new.state (λ s of. IsInstanceOf (builtin_type k) of (pair_of (s l) (s r)) (s v)))) c.of_infix.ensures c.constrain_operator.ensures))
 
 pub constrain-returns-in_ok-constrain_exactly-in-Index-clause-adds : goal.constrain-returns-in_ok-constrain_exactly-in-Index-clause-adds
 constrain-returns-in_ok-constrain_exactly-in-Index-clause-adds g t c =
-    let N : (ℕ → Term) → Meanings = λ s. meanings_in c.args.context.now (own_at s c.args.own.now) in
+    let N : (ℕ → Term) → TypedNames = λ s. meanings_in c.args.context.now (own_at s c.args.own.now) in
     let ls = c.args.locals.now.items in
-    let S : (ℕ → Term) → Scope = λ s. scope_at s ls in
+    let S : (ℕ → Term) → LocalTypes = λ s. scope_at s ls in
     let f = fixed c.args.context.now (count c.args.state.now) c.args.own.now ls c.requires.own c.requires.locals in
     let v = c.args.target in
     let e = c.args.exp.now in
     let a = c.in-Index.sequence.value in
     let b = c.in-Index.place.value in
     let j = c.in_ok-items-in-Index.items in
-    typed _ _ N S e (declared.Index c.in-Index.sequence c.in-Index.place) (trees.index (tree_of a) (tree_of b)) v c.is_sequence.result c.in-Index.is refl
-    (on_ok_weaker c.is_sequence.result (arm_index N S f v c.requires.target (tree_of a) (tree_of b) j
+    typed _ _ N S e (declared.Index c.in-Index.sequence c.in-Index.place) (trees.index (tree_of a) (tree_of b)) v c.equate_sequence.result c.in-Index.is refl
+    (on_ok_weaker c.equate_sequence.result (arm_index N S f v c.requires.target (tree_of a) (tree_of b) j
     (part_as N ls ls a c.deref-in-Index.result.now j (λ i. ls) c.deref-in-Index.ensures c.in_ok-items-in-Index.ensures.gives)
     (exactly_as N ls c.constrain_part-in-Index.new.locals.items b c.deref-in-Index-2.result.now int c.in_ok-items-in-Index.ensures.locals c.deref-in-Index-2.ensures c.in_ok-constrain_exactly-in-Index.ensures.adds))
-    c.is_sequence.ensures)
+    c.equate_sequence.ensures)
 
 pub constrain-returns-in_ok-constrain-in-Choice-clause-adds : goal.constrain-returns-in_ok-constrain-in-Choice-clause-adds
 constrain-returns-in_ok-constrain-in-Choice-clause-adds g t c =
-    let N : (ℕ → Term) → Meanings = λ s. meanings_in c.args.context.now (own_at s c.args.own.now) in
+    let N : (ℕ → Term) → TypedNames = λ s. meanings_in c.args.context.now (own_at s c.args.own.now) in
     let ls = c.args.locals.now.items in
-    let S : (ℕ → Term) → Scope = λ s. scope_at s ls in
+    let S : (ℕ → Term) → LocalTypes = λ s. scope_at s ls in
     let f = fixed c.args.context.now (count c.args.state.now) c.args.own.now ls c.requires.own c.requires.locals in
     let v = c.args.target in
     let e = c.args.exp.now in
@@ -300,42 +300,42 @@ constrain-returns-in_ok-constrain-in-Choice-clause-adds g t c =
 
 pub constrain-returns-in_ok-constrain_items-in-Sequence-clause-adds : goal.constrain-returns-in_ok-constrain_items-in-Sequence-clause-adds
 constrain-returns-in_ok-constrain_items-in-Sequence-clause-adds g t c =
-    let N : (ℕ → Term) → Meanings = λ s. meanings_in c.args.context.now (own_at s c.args.own.now) in
+    let N : (ℕ → Term) → TypedNames = λ s. meanings_in c.args.context.now (own_at s c.args.own.now) in
     let ls = c.args.locals.now.items in
-    let S : (ℕ → Term) → Scope = λ s. scope_at s ls in
+    let S : (ℕ → Term) → LocalTypes = λ s. scope_at s ls in
     let f = fixed c.args.context.now (count c.args.state.now) c.args.own.now ls c.requires.own c.requires.locals in
     let v = c.args.target in
     let e = c.args.exp.now in
     let i = c.in_ok-item-in-Sequence.item in
     let es = c.in-Sequence.items.items in
     let A = c.args.state.now in
-    let C = c.is_sequence-in-Sequence.new.self in
-    subst (λ (k : Shape). OnOk c.is_sequence-in-Sequence.result (Types A C N S (node e.span k) v)) (sym (ap shape_of c.in-Sequence.is ∙ sequence_shape c.in-Sequence.items))
-    (on_ok_weaker c.is_sequence-in-Sequence.result (arm_sequence N S f e.span v c.requires.target (trees_in es) i c.in_ok-item-in-Sequence.ensures.gives
-    (subst (λ (x : List Exp). AllType c.anything.new.self c.constrain_items.new.state N S (trees_in x) i) c.as_slice-in-Sequence.ensures.value c.in_ok-constrain_items-in-Sequence.ensures.adds))
-    c.is_sequence-in-Sequence.ensures)
+    let C = c.equate_sequence-in-Sequence.new.self in
+    subst (λ (k : Shape). OnOk c.equate_sequence-in-Sequence.result (Types A C N S (node e.span k) v)) (sym (ap shape_of c.in-Sequence.is ∙ sequence_shape c.in-Sequence.items))
+    (on_ok_weaker c.equate_sequence-in-Sequence.result (arm_sequence N S f e.span v c.requires.target (trees_in es) i c.in_ok-item-in-Sequence.ensures.gives
+    (subst (λ (x : List Exp). AllType c.add_any.new.self c.constrain_items.new.state N S (trees_in x) i) c.as_slice-in-Sequence.ensures.value c.in_ok-constrain_items-in-Sequence.ensures.adds))
+    c.equate_sequence-in-Sequence.ensures)
 
 pub constrain-returns-in_ok-number-in-Range-clause-adds : goal.constrain-returns-in_ok-number-in-Range-clause-adds
 constrain-returns-in_ok-number-in-Range-clause-adds g t c =
-    let N : (ℕ → Term) → Meanings = λ s. meanings_in c.args.context.now (own_at s c.args.own.now) in
+    let N : (ℕ → Term) → TypedNames = λ s. meanings_in c.args.context.now (own_at s c.args.own.now) in
     let ls = c.args.locals.now.items in
-    let S : (ℕ → Term) → Scope = λ s. scope_at s ls in
+    let S : (ℕ → Term) → LocalTypes = λ s. scope_at s ls in
     let f = fixed c.args.context.now (count c.args.state.now) c.args.own.now ls c.requires.own c.requires.locals in
     let v = c.args.target in
     let e = c.args.exp.now in
     let a = c.in-Range.start.value in
     let b = c.in-Range.end.value in
     let n = c.in_ok-number-in-Range.number in
-    typed _ _ N S e (declared.Range c.in-Range.start c.in-Range.end) (trees.range (tree_of a) (tree_of b)) v c.is_sequence-in-Range.result c.in-Range.is refl
-    (on_ok_weaker c.is_sequence-in-Range.result (arm_range N S f v c.requires.target (tree_of a) (tree_of b) n
+    typed _ _ N S e (declared.Range c.in-Range.start c.in-Range.end) (trees.range (tree_of a) (tree_of b)) v c.equate_sequence-in-Range.result c.in-Range.is refl
+    (on_ok_weaker c.equate_sequence-in-Range.result (arm_range N S f v c.requires.target (tree_of a) (tree_of b) n
     (bounds_as N S a b c.deref-in-Range.result.now c.deref-in-Range-2.result.now n c.deref-in-Range.ensures c.deref-in-Range-2.ensures c.in_ok-number-in-Range.ensures.gives))
-    c.is_sequence-in-Range.ensures)
+    c.equate_sequence-in-Range.ensures)
 
 pub constrain-returns-in_ok-constrain-in-StridedRange-clause-adds : goal.constrain-returns-in_ok-constrain-in-StridedRange-clause-adds
 constrain-returns-in_ok-constrain-in-StridedRange-clause-adds g t c =
-    let N : (ℕ → Term) → Meanings = λ s. meanings_in c.args.context.now (own_at s c.args.own.now) in
+    let N : (ℕ → Term) → TypedNames = λ s. meanings_in c.args.context.now (own_at s c.args.own.now) in
     let ls = c.args.locals.now.items in
-    let S : (ℕ → Term) → Scope = λ s. scope_at s ls in
+    let S : (ℕ → Term) → LocalTypes = λ s. scope_at s ls in
     let f = fixed c.args.context.now (count c.args.state.now) c.args.own.now ls c.requires.own c.requires.locals in
     let v = c.args.target in
     let e = c.args.exp.now in
@@ -343,17 +343,17 @@ constrain-returns-in_ok-constrain-in-StridedRange-clause-adds g t c =
     let b = c.in-StridedRange.end.value in
     let d = c.in-StridedRange.step.value in
     let n = c.in_ok-number-in-StridedRange.number in
-    typed _ _ N S e (declared.StridedRange c.in-StridedRange.start c.in-StridedRange.end c.in-StridedRange.step) (trees.strided_range (tree_of a) (tree_of b) (tree_of d)) v c.is_sequence-in-StridedRange.result c.in-StridedRange.is refl
-    (on_ok_weaker c.is_sequence-in-StridedRange.result (arm_strided_range N S f v c.requires.target (tree_of a) (tree_of b) (tree_of d) n
+    typed _ _ N S e (declared.StridedRange c.in-StridedRange.start c.in-StridedRange.end c.in-StridedRange.step) (trees.strided_range (tree_of a) (tree_of b) (tree_of d)) v c.equate_sequence-in-StridedRange.result c.in-StridedRange.is refl
+    (on_ok_weaker c.equate_sequence-in-StridedRange.result (arm_strided_range N S f v c.requires.target (tree_of a) (tree_of b) (tree_of d) n
     (bounds_as N S a b c.deref-in-StridedRange.result.now c.deref-in-StridedRange-2.result.now n c.deref-in-StridedRange.ensures c.deref-in-StridedRange-2.ensures c.in_ok-number-in-StridedRange.ensures.gives)
     (retyped N ls c.constrain_bounds-in-StridedRange.new.locals.items d c.deref-in-StridedRange-3.result.now n c.in_ok-number-in-StridedRange.ensures.locals c.deref-in-StridedRange-3.ensures c.in_ok-constrain-in-StridedRange.ensures.adds))
-    c.is_sequence-in-StridedRange.ensures)
+    c.equate_sequence-in-StridedRange.ensures)
 
 pub constrain-returns-in-Let-clause-adds : goal.constrain-returns-in-Let-clause-adds
 constrain-returns-in-Let-clause-adds g t c =
-    let N : (ℕ → Term) → Meanings = λ s. meanings_in c.args.context.now (own_at s c.args.own.now) in
+    let N : (ℕ → Term) → TypedNames = λ s. meanings_in c.args.context.now (own_at s c.args.own.now) in
     let ls = c.args.locals.now.items in
-    let S : (ℕ → Term) → Scope = λ s. scope_at s ls in
+    let S : (ℕ → Term) → LocalTypes = λ s. scope_at s ls in
     let v = c.args.target in
     let e = c.args.exp.now in
     let bs = c.as_slice-in-Let.result.now in
@@ -364,9 +364,9 @@ constrain-returns-in-Let-clause-adds g t c =
 
 pub constrain-returns-in-Each-clause-adds : goal.constrain-returns-in-Each-clause-adds
 constrain-returns-in-Each-clause-adds g t c =
-    let N : (ℕ → Term) → Meanings = λ s. meanings_in c.args.context.now (own_at s c.args.own.now) in
+    let N : (ℕ → Term) → TypedNames = λ s. meanings_in c.args.context.now (own_at s c.args.own.now) in
     let ls = c.args.locals.now.items in
-    let S : (ℕ → Term) → Scope = λ s. scope_at s ls in
+    let S : (ℕ → Term) → LocalTypes = λ s. scope_at s ls in
     let v = c.args.target in
     let e = c.args.exp.now in
     let bs = c.as_slice-in-Each.result.now in
@@ -377,9 +377,9 @@ constrain-returns-in-Each-clause-adds g t c =
 
 pub constrain-returns-in-FilteredEach-clause-adds : goal.constrain-returns-in-FilteredEach-clause-adds
 constrain-returns-in-FilteredEach-clause-adds g t c =
-    let N : (ℕ → Term) → Meanings = λ s. meanings_in c.args.context.now (own_at s c.args.own.now) in
+    let N : (ℕ → Term) → TypedNames = λ s. meanings_in c.args.context.now (own_at s c.args.own.now) in
     let ls = c.args.locals.now.items in
-    let S : (ℕ → Term) → Scope = λ s. scope_at s ls in
+    let S : (ℕ → Term) → LocalTypes = λ s. scope_at s ls in
     let v = c.args.target in
     let e = c.args.exp.now in
     let bs = c.as_slice-in-FilteredEach.result.now in
@@ -394,25 +394,25 @@ constrain-returns-in-FilteredEach-clause-adds g t c =
 
 pub constrain_part-returns-clause-gives : goal.constrain_part-returns-clause-gives
 constrain_part-returns-clause-gives g t c =
-    let N : (ℕ → Term) → Meanings = λ s. meanings_in c.args.context.now (own_at s c.args.own.now) in
+    let N : (ℕ → Term) → TypedNames = λ s. meanings_in c.args.context.now (own_at s c.args.own.now) in
     let ls = c.args.locals.now.items in
-    let S : (ℕ → Term) → Scope = λ s. scope_at s ls in
+    let S : (ℕ → Term) → LocalTypes = λ s. scope_at s ls in
     let f = fixed c.args.context.now (count c.args.state.now) c.args.own.now ls c.requires.own c.requires.locals in
     arm_part N S f (tree_of c.args.exp.now) c.in_ok-part.part c.in_ok-part.ensures.gives c.in_ok-constrain.ensures.adds
 
 pub constrain_exactly-returns-clause-adds : goal.constrain_exactly-returns-clause-adds
 constrain_exactly-returns-clause-adds g t c =
-    let N : (ℕ → Term) → Meanings = λ s. meanings_in c.args.context.now (own_at s c.args.own.now) in
+    let N : (ℕ → Term) → TypedNames = λ s. meanings_in c.args.context.now (own_at s c.args.own.now) in
     let ls = c.args.locals.now.items in
-    let S : (ℕ → Term) → Scope = λ s. scope_at s ls in
+    let S : (ℕ → Term) → LocalTypes = λ s. scope_at s ls in
     let f = fixed c.args.context.now (count c.args.state.now) c.args.own.now ls c.requires.own c.requires.locals in
     on_ok_weaker c.constrain.result (arm_exactly N S f (tree_of c.args.exp.now) (flat_type c.args.flat) c.in_ok-part.part c.in_ok-part.ensures.gives) c.constrain.ensures.adds
 
 pub constrain_bounds-returns-clause-gives : goal.constrain_bounds-returns-clause-gives
 constrain_bounds-returns-clause-gives g t c =
-    let N : (ℕ → Term) → Meanings = λ s. meanings_in c.args.context.now (own_at s c.args.own.now) in
+    let N : (ℕ → Term) → TypedNames = λ s. meanings_in c.args.context.now (own_at s c.args.own.now) in
     let ls = c.args.locals.now.items in
-    let S : (ℕ → Term) → Scope = λ s. scope_at s ls in
+    let S : (ℕ → Term) → LocalTypes = λ s. scope_at s ls in
     let f = fixed c.args.context.now (count c.args.state.now) c.args.own.now ls c.requires.own c.requires.locals in
     let a = c.args.from.now in
     let b = c.args.to.now in
@@ -422,9 +422,9 @@ constrain_bounds-returns-clause-gives g t c =
 
 pub constrain_binders-returns : goal.constrain_binders-returns
 constrain_binders-returns g t c =
-    let N : (ℕ → Term) → Meanings = λ s. meanings_in c.args.context.now (own_at s c.args.own.now) in
+    let N : (ℕ → Term) → TypedNames = λ s. meanings_in c.args.context.now (own_at s c.args.own.now) in
     let ls = c.args.locals.now.items in
-    let S : (ℕ → Term) → Scope = λ s. scope_at s ls in
+    let S : (ℕ → Term) → LocalTypes = λ s. scope_at s ls in
     let f = fixed c.args.context.now (count c.args.state.now) c.args.own.now ls c.requires.own c.requires.locals in
     let bs = binders_in c.args.bindings.now in
     let vs = c.in_ok-items.items.items in
@@ -438,39 +438,39 @@ constrain_binders-returns g t c =
 
 pub constrain_let-returns-clause-adds : goal.constrain_let-returns-clause-adds
 constrain_let-returns-clause-adds g t c =
-    let N : (ℕ → Term) → Meanings = λ s. meanings_in c.args.context.now (own_at s c.args.own.now) in
+    let N : (ℕ → Term) → TypedNames = λ s. meanings_in c.args.context.now (own_at s c.args.own.now) in
     let ls = c.args.locals.now.items in
-    let S : (ℕ → Term) → Scope = λ s. scope_at s ls in
+    let S : (ℕ → Term) → LocalTypes = λ s. scope_at s ls in
     let f = fixed c.args.context.now (count c.args.state.now) c.args.own.now ls c.requires.own c.requires.locals in
     let v = c.args.target in
     arm_let N ls c.constrain_bindings.new.locals.items f v c.requires.target (binders_in c.args.bindings.now) (tree_of c.args.body.now) c.in_ok-constrain_bindings.ensures c.in_ok-constrain.ensures.adds
 
 pub constrain_each-returns-clause-adds : goal.constrain_each-returns-clause-adds
 constrain_each-returns-clause-adds g t c =
-    let N : (ℕ → Term) → Meanings = λ s. meanings_in c.args.context.now (own_at s c.args.own.now) in
+    let N : (ℕ → Term) → TypedNames = λ s. meanings_in c.args.context.now (own_at s c.args.own.now) in
     let ls = c.args.locals.now.items in
-    let S : (ℕ → Term) → Scope = λ s. scope_at s ls in
+    let S : (ℕ → Term) → LocalTypes = λ s. scope_at s ls in
     let f = fixed c.args.context.now (count c.args.state.now) c.args.own.now ls c.requires.own c.requires.locals in
     let v = c.args.target in
-    on_ok_weaker c.is_sequence.result (arm_each N ls c.constrain_binders.new.locals.items f v c.requires.target (tree_of c.args.body.now) (binders_in c.args.bindings.now) c.in_ok-item.item c.in_ok-constrain_binders.ensures c.in_ok-item.ensures.gives)
-    c.is_sequence.ensures
+    on_ok_weaker c.equate_sequence.result (arm_each N ls c.constrain_binders.new.locals.items f v c.requires.target (tree_of c.args.body.now) (binders_in c.args.bindings.now) c.in_ok-item.item c.in_ok-constrain_binders.ensures c.in_ok-item.ensures.gives)
+    c.equate_sequence.ensures
 
 pub constrain_filtered_each-returns-clause-adds : goal.constrain_filtered_each-returns-clause-adds
 constrain_filtered_each-returns-clause-adds g t c =
-    let N : (ℕ → Term) → Meanings = λ s. meanings_in c.args.context.now (own_at s c.args.own.now) in
+    let N : (ℕ → Term) → TypedNames = λ s. meanings_in c.args.context.now (own_at s c.args.own.now) in
     let ls = c.args.locals.now.items in
-    let S : (ℕ → Term) → Scope = λ s. scope_at s ls in
+    let S : (ℕ → Term) → LocalTypes = λ s. scope_at s ls in
     let f = fixed c.args.context.now (count c.args.state.now) c.args.own.now ls c.requires.own c.requires.locals in
     let v = c.args.target in
     let ms = c.constrain_binders.new.locals.items in
     let d = c.args.filter.now in
-    on_ok_weaker c.is_sequence.result (arm_filtered_each N ls ms f v c.requires.target (tree_of c.args.body.now) (binders_in c.args.bindings.now) (tree_of d) c.in_ok-item.item c.in_ok-constrain_binders.ensures c.in_ok-item.ensures.gives
+    on_ok_weaker c.equate_sequence.result (arm_filtered_each N ls ms f v c.requires.target (tree_of c.args.body.now) (binders_in c.args.bindings.now) (tree_of d) c.in_ok-item.item c.in_ok-constrain_binders.ensures c.in_ok-item.ensures.gives
     (exactly_as N ms c.constrain_part.new.locals.items d d bool c.in_ok-item.ensures.locals (λ i. d) c.in_ok-constrain_exactly.ensures.adds))
-    c.is_sequence.ensures
+    c.equate_sequence.ensures
 
-pub constrain-built_in_of_two-requires-clause-pair : goal.constrain-built_in_of_two-requires-clause-pair
-constrain-built_in_of_two-requires-clause-pair g t c =
-    subst (λ (b : Builtin). (x : Term) × (y : Term) × ((builtin_type b).argument ≡ both x y)) (sym c.of_infix.ensures) (infix_pair c.in-Infix.operator)
+pub constrain-constrain_operator-requires-clause-pair : goal.constrain-constrain_operator-requires-clause-pair
+constrain-constrain_operator-requires-clause-pair g t c =
+    subst (λ (b : Builtin). (x : Term) × (y : Term) × ((builtin_type b).argument ≡ pair_of x y)) (sym c.of_infix.ensures) (infix_pair c.in-Infix.operator)
 
 pub constrain_bounds-constrain-requires-2 : goal.constrain_bounds-constrain-requires-2
 constrain_bounds-constrain-requires-2 g t c =

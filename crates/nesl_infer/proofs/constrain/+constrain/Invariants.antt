@@ -2,8 +2,8 @@ use Rattle.std.proofs.Common.{◌≡◌, ◌<◌, ◌+◌, ◌*◌, ℕ, List, m
 use denote.Param.Weighed.{most}
 use Rattle.std.specs.Prelude.{All}
 use Rattle.nesl_syntax_tree.specs.Views.{trees_in, binders_in}
-use Rattle.nesl_infer_rules.specs.Holds.{Adds, AddsNames, Gives, count, scope_at, world_at}
-use Rattle.nesl_infer_rules.specs.Typing.{HaveType, Binds, HaveElements}
+use Rattle.nesl_infer_rules.specs.Steps.{Adds, AddsNames, Gives, count, scope_at, world_at}
+use Rattle.nesl_infer_rules.specs.Typing.{HaveType, BindingsAdd, HaveElements}
 use Rattle.nesl_syntax_tree.specs.declared.tree.Exp.{Exp}
 use Rattle.nesl_syntax_tree.specs.declared.tree.Binding.{Binding}
 use Rattle.nesl_syntax_tree.proofs.tree.Exp.TheLaws as exp
@@ -57,7 +57,7 @@ invariant-constrain_items-loop-item g l = record {
 
 abbrev pub invariant-constrain_bindings-loop-binding : goal.invariant-constrain_bindings-loop-binding
 invariant-constrain_bindings-loop-binding g l =
-    AddsNames l.initial.state l.state l.initial.locals.items l.locals.items (λ s of ns. Binds (world_at l.context l.own s of) (scope_at s l.initial.locals.items) (binders_in (take l.binding-index l.bindings)) ns)
+    AddsNames l.initial.state l.state l.initial.locals.items l.locals.items (λ s of ns. BindingsAdd (world_at l.context l.own s of) (scope_at s l.initial.locals.items) (binders_in (take l.binding-index l.bindings)) ns)
 
 abbrev pub invariant-constrain_values-loop-binding : goal.invariant-constrain_values-loop-binding
 invariant-constrain_values-loop-binding g l = record {

@@ -5,9 +5,9 @@ use Rattle.nesl_syntax_tree.specs.Views.{tree_of, pattern_tree, signature_tree}
 use Rattle.nesl_infer_rules.specs.declared.state.Local.{Local}
 use Rattle.nesl_infer_rules.specs.World.{meanings_in}
 use Rattle.std.specs.Prelude.{Some}
-use Rattle.nesl_infer_rules.specs.Typing.{Parts}
+use Rattle.nesl_infer_rules.specs.Typing.{PatternAdds}
 use Rattle.nesl_infer_rules.specs.Principal.{bounded, TypedFunction}
-use Rattle.nesl_infer_rules.specs.Holds.{Gives, AddsNames}
+use Rattle.nesl_infer_rules.specs.Steps.{Gives, AddsNames}
 use Rattle.nesl_infer.proofs.Functions.{arm_function}
 use Rattle.nesl_infer.proofs.infer.constrain_function.Goals as goal
 
@@ -23,6 +23,6 @@ returns g c =
     let ms = c.constrain_pattern.new.locals.items in
     subst (λ (y : List ℕ). Gives {X = Term × Term} c.args.state.now c.constrain.new.state (λ s. (s t, s u)) (λ s of k. TypedFunction context y p s1 e of k.0 k.1)) c.in_ok-name.ensures.items
     (arm_function context x p s1 e t u ms c.in_ok-takes.ensures.gives c.in_ok-gives.ensures.gives
-    (subst (λ (ks : List Local). AddsNames c.anything-2.new.self c.constrain_pattern.new.state ks ms (λ s of ns. Parts (bounded (meanings_in context (Some (x, s t, s u))) of) p (s t) ns)) c.new-locals.ensures.items c.in_ok-constrain_pattern.ensures)
+    (subst (λ (ks : List Local). AddsNames c.add_any-2.new.self c.constrain_pattern.new.state ks ms (λ s of ns. PatternAdds (bounded (meanings_in context (Some (x, s t, s u))) of) p (s t) ns)) c.new-locals.ensures.items c.in_ok-constrain_pattern.ensures)
     c.in_ok-constrain_signature.ensures
     c.in_ok-constrain.ensures.adds)

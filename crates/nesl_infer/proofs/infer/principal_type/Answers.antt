@@ -4,35 +4,35 @@ use Rattle.nesl_types_bank.specs.Substitution.{substitute}
 use Rattle.nesl_syntax_tree.specs.Views.{tree_of}
 use Rattle.nesl_unify.specs.Solves.{type_of, class_of}
 use Rattle.nesl_infer_rules.specs.declared.state.Local.{Local}
-use Rattle.nesl_infer_rules.specs.World.{Meanings, meanings_in}
+use Rattle.nesl_infer_rules.specs.World.{TypedNames, meanings_in}
 use Rattle.nesl_infer_rules.specs.declared.state.State.{State}
 use Rattle.nesl_infer_rules.specs.Typing.{HasType}
 use Rattle.nesl_infer_rules.specs.Principal.{bounded}
-use Rattle.nesl_infer_rules.specs.Holds.{Adds, scope_at}
+use Rattle.nesl_infer_rules.specs.Steps.{Adds, scope_at}
 use Rattle.nesl_infer.proofs.Wholes.{IsEmpty, solution_of_typing}
 use Rattle.nesl_infer.proofs.infer.principal_type.Goals as goal
 
 pub returns-in_err-solution-clause-ill_typed : goal.returns-in_err-solution-clause-ill_typed
 returns-in_err-solution-clause-ill_typed g c = λ f of t h.
-    let names : Meanings = meanings_in c.args.context.now None in
+    let names : TypedNames = meanings_in c.args.context.now None in
     let e = tree_of c.args.exp.now in
     let root = c.in_ok-root.root in
     let first : State = c.new-state.result in
     let empty : IsEmpty first = c.new-state.ensures in
-    let adds : Adds c.anything.new.self c.constrain.new.state (λ s of. HasType (bounded names of) [] e (s root)) =
-    subst (λ (ls : List Local). Adds c.anything.new.self c.constrain.new.state (λ s of. HasType (bounded names of) (scope_at s ls) e (s root))) c.new-locals.ensures.items c.in_ok-constrain.ensures.adds in
+    let adds : Adds c.add_any.new.self c.constrain.new.state (λ s of. HasType (bounded names of) [] e (s root)) =
+    subst (λ (ls : List Local). Adds c.add_any.new.self c.constrain.new.state (λ s of. HasType (bounded names of) (scope_at s ls) e (s root))) c.new-locals.ensures.items c.in_ok-constrain.ensures.adds in
     let z = solution_of_typing {A = first} names e root empty c.in_ok-root.ensures.below c.in_ok-root.ensures.gives adds of t h in
     c.in_err-solution.ensures.none (search rules) z.0 of z.2 z.1
 
 pub returns-clause-principal : goal.returns-clause-principal
 returns-clause-principal g c =
-    let names : Meanings = meanings_in c.args.context.now None in
+    let names : TypedNames = meanings_in c.args.context.now None in
     let e = tree_of c.args.exp.now in
     let root = c.in_ok-root.root in
     let first : State = c.new-state.result in
     let empty : IsEmpty first = c.new-state.ensures in
-    let adds : Adds c.anything.new.self c.constrain.new.state (λ s of. HasType (bounded names of) [] e (s root)) =
-    subst (λ (ls : List Local). Adds c.anything.new.self c.constrain.new.state (λ s of. HasType (bounded names of) (scope_at s ls) e (s root))) c.new-locals.ensures.items c.in_ok-constrain.ensures.adds in
+    let adds : Adds c.add_any.new.self c.constrain.new.state (λ s of. HasType (bounded names of) [] e (s root)) =
+    subst (λ (ls : List Local). Adds c.add_any.new.self c.constrain.new.state (λ s of. HasType (bounded names of) (scope_at s ls) e (s root))) c.new-locals.ensures.items c.in_ok-constrain.ensures.adds in
     let a = c.in_ok-solution.solution in
     let q = c.in_ok-solution.ensures in
     record {

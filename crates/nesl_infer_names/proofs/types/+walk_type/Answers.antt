@@ -4,7 +4,7 @@ use Rattle.nesl_syntax_tree.specs.declared.tree.TypeExp.{TypeExp}
 use Rattle.nesl_syntax_tree.specs.declared.tree.TypeNode.{TypeNode}
 use Rattle.nesl_syntax_tree.specs.Views.{type_shape, type_tree}
 use Rattle.nesl_infer_names.specs.Firsts.{first, earlier}
-use Rattle.nesl_infer_names.specs.Names.{unless, datatype_in, unknown_types, unknown_types_in}
+use Rattle.nesl_infer_names.specs.Names.{span_unless_known, datatype_in, unknown_types, unknown_types_in}
 use Rattle.nesl_infer_names.proofs.Firsts.{joined, unchanged}
 use Rattle.nesl_infer_names.proofs.types.+walk_type.Goals as goal
 
@@ -13,7 +13,7 @@ returns-in-Name g t c =
     let ds = datatype_in c.args.context.now in
     let f = c.args.found.now in
     subst (λ (k : TypeNode). c.note.new.found ≡ earlier f (first (unknown_types_in ds (type_shape k)))) (sym c.in-Name.is)
-    (c.note.ensures ∙ ap (λ (b : Bool). earlier f (first (unless b c.in-Name.span))) (c.is_datatype.ensures ∙ ap (λ (x : List ℕ). is_some (ds x)) c.as_slice.ensures.value))
+    (c.note.ensures ∙ ap (λ (b : Bool). earlier f (first (span_unless_known b c.in-Name.span))) (c.is_datatype.ensures ∙ ap (λ (x : List ℕ). is_some (ds x)) c.as_slice.ensures.value))
 
 pub returns-in-Sequence : goal.returns-in-Sequence
 returns-in-Sequence g t c =

@@ -5,14 +5,14 @@ use Rattle.nesl_types_bank.specs.Term.{Term}
 use Rattle.nesl_syntax_tree.specs.Views.{binders_in}
 use Rattle.nesl_infer_rules.specs.declared.state.Local.{Local}
 use Rattle.nesl_infer_rules.specs.declared.state.Key.TheVariants.{Element}
-use Rattle.nesl_infer_rules.specs.World.{Meanings, meanings_in}
-use Rattle.nesl_infer_rules.specs.Holds.{own_at, count}
+use Rattle.nesl_infer_rules.specs.World.{TypedNames, meanings_in}
+use Rattle.nesl_infer_rules.specs.Steps.{own_at, count}
 use Rattle.nesl_infer_rules.proofs.Eaches.{PartsOf, DrawsOf, arm_draws, no_draws, front, no_front}
 use Rattle.nesl_infer_rules.proofs.each.bind_items.Goals as goal
 
 pub returns-in_ok-bind_patterns-in-Some : goal.returns-in_ok-bind_patterns-in-Some
 returns-in_ok-bind_patterns-in-Some g c =
-    let N : (ℕ → Term) → Meanings = λ s. meanings_in c.args.context.now (own_at s c.args.own.now) in
+    let N : (ℕ → Term) → TypedNames = λ s. meanings_in c.args.context.now (own_at s c.args.own.now) in
     let A = c.args.state.now in
     let B = c.bind_patterns.new.state in
     let ls = c.args.locals.now.items in
@@ -28,10 +28,10 @@ returns-in_ok-bind_patterns-in-Some g c =
     (subst (λ (ws : List ℕ). PartsOf A B (ls ++ l ∷ []) ms N bs ws) p.1
     (subst (λ (ks : List Local). PartsOf A B ks ms N bs vs) c.in_ok-push-in-Some.ensures.items c.in_ok-bind_patterns-in-Some.ensures)))
 
-pub returns-in_ok-never-in-None : goal.returns-in_ok-never-in-None
-returns-in_ok-never-in-None g c =
-    let N : (ℕ → Term) → Meanings = λ s. meanings_in c.args.context.now (own_at s c.args.own.now) in
+pub returns-in_ok-add_contradiction-in-None : goal.returns-in_ok-add_contradiction-in-None
+returns-in_ok-add_contradiction-in-None g c =
+    let N : (ℕ → Term) → TypedNames = λ s. meanings_in c.args.context.now (own_at s c.args.own.now) in
     let ls = c.args.locals.now.items in
     let bs = binders_in c.args.bindings.now in
-    subst (λ (ws : List ℕ). DrawsOf c.args.state.now c.never.new.self ls ls N bs ws) (sym (no_front c.args.items.now c.in-None.ensures.value))
-    (no_draws N ls bs c.in_ok-never-in-None.ensures)
+    subst (λ (ws : List ℕ). DrawsOf c.args.state.now c.add_contradiction.new.self ls ls N bs ws) (sym (no_front c.args.items.now c.in-None.ensures.value))
+    (no_draws N ls bs c.in_ok-add_contradiction-in-None.ensures)

@@ -7,8 +7,8 @@ use Rattle.nesl_syntax_tree.specs.declared.tree.Binding.{Binding}
 use Rattle.nesl_syntax_tree.specs.Trees.{Binders}
 use Rattle.nesl_syntax_tree.specs.Views.{binders_in, pattern_tree, tree_of}
 use Rattle.nesl_infer_rules.specs.declared.state.Local.{Local}
-use Rattle.nesl_infer_rules.specs.World.{Meanings, meanings_in}
-use Rattle.nesl_infer_rules.specs.Holds.{own_at, count}
+use Rattle.nesl_infer_rules.specs.World.{TypedNames, meanings_in}
+use Rattle.nesl_infer_rules.specs.Steps.{own_at, count}
 use Rattle.nesl_infer_rules.proofs.Places.{fixed}
 use Rattle.nesl_infer_rules.proofs.Lets.{take-binders}
 use Rattle.nesl_infer_rules.proofs.Patterns.{NamesOf}
@@ -17,12 +17,12 @@ use Rattle.nesl_infer_rules.proofs.each.bind_patterns.Goals as goal
 
 pub loop-place-init : goal.loop-place-init
 loop-place-init g c =
-    let N : (ℕ → Term) → Meanings = λ s. meanings_in c.args.context.now (own_at s c.args.own.now) in
+    let N : (ℕ → Term) → TypedNames = λ s. meanings_in c.args.context.now (own_at s c.args.own.now) in
     no_parts N c.args.locals.now.items
 
 pub loop-place-preserved : goal.loop-place-preserved
 loop-place-preserved g c =
-    let N : (ℕ → Term) → Meanings = λ s. meanings_in c.args.context.now (own_at s c.args.own.now) in
+    let N : (ℕ → Term) → TypedNames = λ s. meanings_in c.args.context.now (own_at s c.args.own.now) in
     let n = count c.args.state.now in
     let f = fixed c.args.context.now n c.args.own.now [] c.requires.own (All-nil (λ (x : Local). x.variable < n)) in
     let ls = c.args.locals.now.items in
@@ -42,7 +42,7 @@ loop-place-preserved g c =
 
 pub returns : goal.returns
 returns g c =
-    let N : (ℕ → Term) → Meanings = λ s. meanings_in c.args.context.now (own_at s c.args.own.now) in
+    let N : (ℕ → Term) → TypedNames = λ s. meanings_in c.args.context.now (own_at s c.args.own.now) in
     let A = c.args.state.now in
     let ls = c.args.locals.now.items in
     let all : take c.loop-place.place c.args.bindings.now ≡ c.args.bindings.now = grind (arith, common_steps) in

@@ -3,7 +3,7 @@ use Rattle.nesl_types_bank.specs.Term.{Term}
 use Rattle.nesl_types_bank.specs.Numbering.{IsBelow}
 use Rattle.nesl_types_bank.specs.Substitution.{substitute}
 use Rattle.nesl_unify.specs.Flat.{flat_type}
-use Rattle.nesl_infer_rules.specs.Holds.{count}
+use Rattle.nesl_infer_rules.specs.Steps.{count}
 use Rattle.nesl_infer_rules.specs.Instances.{type_in}
 use Rattle.nesl_infer_rules.proofs.Steps.{adds_is}
 use Rattle.nesl_infer_rules.proofs.Instances.{renamed-below, renamed_is}

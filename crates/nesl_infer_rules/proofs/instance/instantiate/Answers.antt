@@ -5,7 +5,7 @@ use Rattle.std.proofs.lemmas.List.{take_more}
 use Rattle.std.proofs.lemmas.List.Elements.{All-nil, All-push, All-weaker}
 use Rattle.nesl_types.specs.declared.classes.Class.{Class}
 use Rattle.nesl_types.specs.declared.classes.Class.TheVariants.{Any}
-use Rattle.nesl_infer_rules.specs.Holds.{count}
+use Rattle.nesl_infer_rules.specs.Steps.{count}
 use Rattle.nesl_infer_rules.proofs.Instances.{fresh_none, fresh_more, Fresh}
 use Rattle.nesl_infer_rules.proofs.instance.instantiate.Goals as goal
 

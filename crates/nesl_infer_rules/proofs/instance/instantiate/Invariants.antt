@@ -1,6 +1,6 @@
 use Rattle.std.proofs.Common.{◌≡◌, ◌<◌, length, take, map}
 use Rattle.std.specs.Prelude.{All}
-use Rattle.nesl_infer_rules.specs.Holds.{Gives, count}
+use Rattle.nesl_infer_rules.specs.Steps.{Gives, count}
 use Rattle.nesl_infer_rules.specs.Instances.{AreOf}
 use Rattle.nesl_infer_rules.proofs.instance.instantiate.Given as goal
 

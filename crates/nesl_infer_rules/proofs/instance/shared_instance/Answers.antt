@@ -2,8 +2,8 @@ use Rattle.std.proofs.Common.{◌≡◌, ℕ, List, map, subst}
 use Rattle.nesl_types.specs.declared.classes.Class.{Class}
 use Rattle.nesl_types_bank.specs.Substitution.{substitute}
 use Rattle.nesl_infer_rules.specs.Instances.{type_in}
-use Rattle.nesl_infer_rules.specs.Holds.{Adds}
-use Rattle.nesl_builtins.specs.Table.{function_type}
+use Rattle.nesl_infer_rules.specs.Steps.{Adds}
+use Rattle.nesl_builtins.specs.FunctionTypes.{function_type}
 use Rattle.nesl_infer_rules.proofs.Instances.{arm_instance, Fresh}
 use Rattle.nesl_infer_rules.proofs.instance.shared_instance.Goals as goal
 

@@ -1,7 +1,7 @@
 use Rattle.std.proofs.Common.{◌≡◌, ◌<◌, ℕ, sym, ap, ◌∙◌, true, false, subst}
 use Rattle.std.specs.Prelude.{Option, option_map, MatchOption}
 use Rattle.nesl_infer_rules.specs.Typing.{is_name}
-use Rattle.nesl_infer_rules.specs.Holds.{key_of, AreLocalsBelow}
+use Rattle.nesl_infer_rules.specs.Steps.{key_of, AreLocalsBelow}
 use Rattle.nesl_infer_rules.proofs.Found.{found_here, found_before, item_below}
 use Rattle.nesl_infer_rules.proofs.names.look_up.Goals as goal
 use Rattle.nesl_infer_rules.proofs.names.look_up.Goals.{then-is_name, else-is_name}

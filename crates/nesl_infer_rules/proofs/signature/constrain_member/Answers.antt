@@ -6,8 +6,8 @@ use Rattle.nesl_types_bank.specs.Substitution.{substitute}
 use Rattle.nesl_unify.specs.Flat.{flat_type}
 use Rattle.nesl_infer_names.specs.Names.{datatype_in}
 use Rattle.nesl_infer_rules.specs.Signatures.{put_in}
-use Rattle.nesl_infer_rules.specs.Typing.{Scope, meaning, class_of}
-use Rattle.nesl_infer_rules.specs.Holds.{count, Gives, scope_at}
+use Rattle.nesl_infer_rules.specs.Typing.{LocalTypes, name_in_signature, class_of}
+use Rattle.nesl_infer_rules.specs.Steps.{count, Gives, scope_at}
 use Rattle.nesl_infer_rules.proofs.Places.{scope-fixed}
 use Rattle.nesl_infer_rules.proofs.Patterns.{locals-weaker}
 use Rattle.nesl_infer_rules.proofs.Steps.{adds_is}
@@ -22,10 +22,10 @@ returns g c =
     let x = c.args.member.now.name.items in
     let v = c.in_ok-inside.inside in
     let ty = flat_type c.name_type.result in
-    let T : (ℕ → Term) → Term = λ s. meaning (ds x) (put_in (scope_at s ks) x) in
-    let is : (s : ℕ → Term) → substitute s ty ≡ T s = λ s. c.name_type.ensures.is s ∙ ap (λ (y : List ℕ). meaning (datatype_in c.args.context.now y) (put_in (scope_at s c.args.names.now) y)) c.as_slice.ensures.value in
+    let T : (ℕ → Term) → Term = λ s. name_in_signature (ds x) (put_in (scope_at s ks) x) in
+    let is : (s : ℕ → Term) → substitute s ty ≡ T s = λ s. c.name_type.ensures.is s ∙ ap (λ (y : List ℕ). name_in_signature (datatype_in c.args.context.now y) (put_in (scope_at s c.args.names.now) y)) c.as_slice.ensures.value in
     arm_member (class_of c.args.member.now.class) v T
-    (λ s z a. ap (λ (sc : Scope). meaning (ds x) (put_in sc x)) (scope-fixed (count A) ks c.requires.names s z a))
+    (λ s z a. ap (λ (sc : LocalTypes). name_in_signature (ds x) (put_in sc x)) (scope-fixed (count A) ks c.requires.names s z a))
     (λ s b. subst (λ (t : Term). nodes t ≤ 4096) (is s) (c.name_type.ensures.small s b))
     (subst (λ (k : Class). Gives A c.fresh.new.self (λ s. s v) (λ s of u. IsIn of k u × (nodes u ≤ 4096))) c.class_of.ensures c.in_ok-inside.ensures.gives)
     (adds_is v (λ s. substitute s ty) T is c.in_ok-equate_flat.ensures)

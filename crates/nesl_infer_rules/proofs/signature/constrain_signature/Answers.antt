@@ -4,7 +4,7 @@ use Rattle.nesl_infer_names.specs.Names.{datatype_in}
 use Rattle.nesl_syntax_tree.specs.declared.tree.Signature.{Signature}
 use Rattle.nesl_syntax_tree.specs.Views.{signature_tree}
 use Rattle.nesl_infer_rules.specs.Typing.{IsSigned}
-use Rattle.nesl_infer_rules.specs.Holds.{Adds}
+use Rattle.nesl_infer_rules.specs.Steps.{Adds}
 use Rattle.nesl_infer_rules.proofs.Signatures.{nothing_said}
 use Rattle.nesl_infer_rules.proofs.signature.constrain_signature.Goals as goal
 

@@ -5,8 +5,8 @@ use Rattle.nesl_syntax_tree.specs.declared.tree.Member.{Member}
 use Rattle.nesl_syntax_tree.specs.Views.{member_tree, signature_tree, type_tree}
 use Rattle.nesl_infer_rules.specs.declared.state.Local.{Local}
 use Rattle.nesl_infer_rules.specs.Signatures.{FreeNames, put_in}
-use Rattle.nesl_infer_rules.specs.Typing.{IsMeant, signed}
-use Rattle.nesl_infer_rules.specs.Holds.{Adds, AreLocalsBelow, count, scope_at}
+use Rattle.nesl_infer_rules.specs.Typing.{IsInItsClass, signed}
+use Rattle.nesl_infer_rules.specs.Steps.{Adds, AreLocalsBelow, count, scope_at}
 use Rattle.nesl_infer_rules.proofs.Patterns.{locals-weaker}
 use Rattle.nesl_infer_rules.proofs.Signatures.{NamesIn, both_below, arm_signed}
 use Rattle.nesl_infer_rules.proofs.signature.constrain_signed.Goals as goal
@@ -28,8 +28,8 @@ returns g c =
     c.in_ok-name_types-2.ensures
     (subst (λ (ks : List Local). Adds B2 B3 (λ s of. s t ≡ signed ds (put_in (scope_at s ks)) g1.from)) c.as_slice.ensures.value c.in_ok-constrain_written.ensures)
     (subst (λ (ks : List Local). Adds B3 B4 (λ s of. s u ≡ signed ds (put_in (scope_at s ks)) g1.to)) c.as_slice-2.ensures.value c.in_ok-constrain_written-2.ensures)
-    (subst (λ (ks : List Member). Adds B4 c.constrain_members.new.state (λ s of. All (IsMeant ds of (put_in (scope_at s os))) (map member_tree ks))) c.as_slice-4.ensures.value
-    (subst (λ (ks : List Local). Adds B4 c.constrain_members.new.state (λ s of. All (IsMeant ds of (put_in (scope_at s ks))) (map member_tree c.as_slice-4.result.now))) c.as_slice-3.ensures.value c.in_ok-constrain_members.ensures))
+    (subst (λ (ks : List Member). Adds B4 c.constrain_members.new.state (λ s of. All (IsInItsClass ds of (put_in (scope_at s os))) (map member_tree ks))) c.as_slice-4.ensures.value
+    (subst (λ (ks : List Local). Adds B4 c.constrain_members.new.state (λ s of. All (IsInItsClass ds of (put_in (scope_at s ks))) (map member_tree c.as_slice-4.result.now))) c.as_slice-3.ensures.value c.in_ok-constrain_members.ensures))
 
 pub constrain_written-requires-clause-names : goal.constrain_written-requires-clause-names
 constrain_written-requires-clause-names g c =

@@ -1,6 +1,6 @@
 use Rattle.std.proofs.Common.{◌-◌, ◌^◌, Some, Ok}
 use Rattle.nesl_seqs_base.specs.Lent.{argument_tree}
-use Rattle.nesl_seqs_base.specs.Meaning.{meaning}
+use Rattle.nesl_seqs_base.specs.Meaning.{outcome_of}
 use Rattle.nesl_seqs_base.specs.Prices.{reads, depth_of}
 use Rattle.nesl_seqs.proofs.Depths.{depth_fits, deep_price}
 use Rattle.nesl_seqs.proofs.functions.cost_and_size.Goals as goal
@@ -9,4 +9,4 @@ pub returns-clause-depth : goal.returns-clause-depth
 returns-clause-depth g c =
     let f = c.args.function in
     let t = argument_tree c.args.argument in
-    deep_price (meaning f t) (reads f t) (depth_of f (reads f t)) (2 ^ 128 - 1) (Ok (Some c.in-Some.price)) (depth_fits f (reads f t)) (rw c.in-Some.is at c.in_ok-price.ensures.price)
+    deep_price (outcome_of f t) (reads f t) (depth_of f (reads f t)) (2 ^ 128 - 1) (Ok (Some c.in-Some.price)) (depth_fits f (reads f t)) (rw c.in-Some.is at c.in_ok-price.ensures.price)

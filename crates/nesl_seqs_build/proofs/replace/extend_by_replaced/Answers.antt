@@ -1,13 +1,13 @@
 use Rattle.std.proofs.Common.{◌≡◌, ◌∙◌, ◌++◌, ◌∷◌, [], List, ◌+◌, take, drop, ap, sym}
 use Rattle.std.proofs.lemmas.List.{append_assoc}
 use Rattle.std.proofs.lemmas.Result.{IfOk-equal}
-use Rattle.nesl_values.specs.Tree.{Tree}
+use Rattle.nesl_values.specs.Tree.{ValueTree}
 use Rattle.nesl_values.specs.View.{tree_of, item_trees}
 use Rattle.nesl_values_builder.specs.Elements.{elements_of}
 use Rattle.nesl_seqs_base.proofs.Totals.{replaced_parts, front_range}
 use Rattle.nesl_seqs_build.proofs.replace.extend_by_replaced.Goals as goal
 
-put_after : (old front back a b : List Tree) (x y : Tree) → a ≡ old ++ front → b ≡ a ++ x ∷ [] → x ≡ y → b ++ back ≡ old ++ (front ++ y ∷ back)
+put_after : (old front back a b : List ValueTree) (x y : ValueTree) → a ≡ old ++ front → b ≡ a ++ x ∷ [] → x ≡ y → b ++ back ≡ old ++ (front ++ y ∷ back)
 put_after old front back a b x y first push is =
     ap (λ ts. ts ++ back) push ∙ append_assoc a (x ∷ []) back ∙ ap (λ ts. ts ++ x ∷ back) first ∙ append_assoc old front (x ∷ back) ∙ ap (λ z. old ++ (front ++ z ∷ back)) is
 

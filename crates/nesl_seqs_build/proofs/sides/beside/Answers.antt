@@ -1,5 +1,5 @@
 use Rattle.std.proofs.Common.{◌<◌, ◌++◌, ◌+◌, length, drop, ap, ◌∙◌, arith}
-use Rattle.nesl_seqs_base.specs.Sides.{beside}
+use Rattle.nesl_seqs_base.specs.Sides.{marked}
 use Rattle.nesl_seqs_build.proofs.Splitting.{kept_turn, passed_turn, beside_end}
 use Rattle.nesl_seqs_build.proofs.sides.beside.Goals as goal
 use Rattle.nesl_seqs_build.proofs.sides.beside.Goals.{then-flags-place+in_ok-push, else-flags-place}
@@ -12,7 +12,7 @@ loop-place-preserved g c =
     let i = c.loop-place.place in
     let first : i < length xs = omega (arith, c.loop-place-test.true, c.min-place-end.ensures) in
     let second : i < length cs = omega (arith, c.loop-place-test.true, c.min-place-end.ensures) in
-    let rest = beside b (drop (i + 1) xs) (drop (i + 1) cs) in
+    let rest = marked b (drop (i + 1) xs) (drop (i + 1) cs) in
     elim c.if-flags-place.branch [
       | then-flags-place+in_ok-push w ↦ ap (λ v. v.items ++ rest) w.kept-is ∙ kept_turn b xs c.loop-place.kept.items _ _ cs i w.index-items-place.result first second w.index-items-place.is w.if-flags-place.true w.in_ok-push.ensures.items c.loop-place.invariant
       | else-flags-place w ↦ ap (λ v. v.items ++ rest) w.kept-is ∙ passed_turn b xs c.loop-place.kept.items _ cs i first second w.if-flags-place.false c.loop-place.invariant

@@ -1,6 +1,6 @@
 use Rattle.std.proofs.Common.{◌≡◌, ◌++◌, ◌∙◌, List, Some, map, slice_get, take, refl, ap, sym, arith}
 use Rattle.std.proofs.lemmas.List.{take_all}
-use Rattle.nesl_values.specs.Tree.{Tree}
+use Rattle.nesl_values.specs.Tree.{ValueTree}
 use Rattle.nesl_values.specs.Parts.{as_pair}
 use Rattle.nesl_values.specs.View.{tree_of}
 use Rattle.nesl_values_builder.specs.Elements.{elements_of}
@@ -18,7 +18,7 @@ loop-value-preserved g c ps h =
     let so_far = c.loop-value.invariant ps h in
     elim c.match-as_pair.branch [
       | in-Some+in_ok-push_part+in_ok-push_part-2 w ↦ (
-          let p : Tree × Tree = (tree_of w.in-Some.left.now, tree_of w.in-Some.right.now) in
+          let p : ValueTree × ValueTree = (tree_of w.in-Some.left.now, tree_of w.in-Some.right.now) in
           let at : slice_get ps i ≡ Some p = sym here ∙ sym w.in-Some.ensures in (
             ap elements_of w.lefts-is ∙ side_turn (λ q. q.0) ps i p _ (elements_of c.loop-value.lefts) _ _ at so_far.0 w.in_ok-push_part.ensures refl,
             ap elements_of w.rights-is ∙ side_turn (λ q. q.1) ps i p _ (elements_of c.loop-value.rights) _ _ at so_far.1 w.in_ok-push_part-2.ensures refl,
@@ -30,8 +30,8 @@ pub returns : goal.returns
 returns g c =
     let vs = c.args.values.now in
     let i = c.loop-value.value-index in
-    let all : (ps : List (Tree × Tree)) → all_of as_pair (map tree_of vs) ≡ Some ps → take i ps ≡ ps = λ ps h. take_all i ps (omega (arith, length_read as_pair tree_of vs ps h, c.loop-value-test.false)) in
+    let all : (ps : List (ValueTree × ValueTree)) → all_of as_pair (map tree_of vs) ≡ Some ps → take i ps ≡ ps = λ ps h. take_all i ps (omega (arith, length_read as_pair tree_of vs ps h, c.loop-value-test.false)) in
     record {
-      lefts = λ ps h. (c.loop-value.invariant ps h).0 ∙ ap (λ qs. elements_of c.args.lefts.now ++ map (λ (q : Tree × Tree). q.0) qs) (all ps h);
-      rights = λ ps h. (c.loop-value.invariant ps h).1 ∙ ap (λ qs. elements_of c.args.rights.now ++ map (λ (q : Tree × Tree). q.1) qs) (all ps h);
+      lefts = λ ps h. (c.loop-value.invariant ps h).0 ∙ ap (λ qs. elements_of c.args.lefts.now ++ map (λ (q : ValueTree × ValueTree). q.0) qs) (all ps h);
+      rights = λ ps h. (c.loop-value.invariant ps h).1 ∙ ap (λ qs. elements_of c.args.rights.now ++ map (λ (q : ValueTree × ValueTree). q.1) qs) (all ps h);
     }

@@ -1,7 +1,7 @@
 use Rattle.std.proofs.Common.{◌<◌, ◌++◌, ◌+◌, length, map, drop, ap, ◌∙◌, arith}
 use Rattle.std.proofs.lemmas.List.{length-map, map_push}
 use Rattle.nesl_values.specs.View.{tree_of}
-use Rattle.nesl_seqs_base.specs.Sides.{beside}
+use Rattle.nesl_seqs_base.specs.Sides.{marked}
 use Rattle.nesl_seqs_base.proofs.Weaving.{seen_at}
 use Rattle.nesl_seqs_build.proofs.Splitting.{kept_turn, passed_turn, beside_end}
 use Rattle.nesl_seqs_build.proofs.sides.values_beside.Goals as goal
@@ -17,7 +17,7 @@ loop-place-preserved g c =
     let first : i < length vs = omega (arith, c.loop-place-test.true, c.min-place-end.ensures) in
     let all : i < length ts = omega (arith, first, length-map vs tree_of) in
     let second : i < length cs = omega (arith, c.loop-place-test.true, c.min-place-end.ensures) in
-    let rest = beside b (drop (i + 1) ts) (drop (i + 1) cs) in
+    let rest = marked b (drop (i + 1) ts) (drop (i + 1) cs) in
     elim c.if-flags-place.branch [
       | then-flags-place+in_ok-share+in_ok-push w ↦ (
           let copy = w.in_ok-share.field-0 in

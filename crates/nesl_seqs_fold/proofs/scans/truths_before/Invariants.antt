@@ -1,11 +1,10 @@
-use Rattle.std.proofs.Common.{◌≡◌, [], drop, map}
-use Rattle.nesl_values.specs.Parts.{as_bool}
+use Rattle.std.proofs.Common.{◌≡◌, ◌≤◌, length, map, take}
 use Rattle.nesl_seqs_base.specs.Scans.{joined_truths}
-use Rattle.nesl_seqs_base.specs.Scans.{join_truths}
-use Rattle.nesl_seqs_fold.proofs.Folds.{folded}
-use Rattle.nesl_seqs_fold.proofs.Before.{push_turn}
+use Rattle.nesl_seqs_fold.specs.Elements.{truth_in}
+use Rattle.nesl_seqs_fold.proofs.Before.{first_told}
 use Rattle.nesl_seqs_fold.proofs.scans.truths_before.Given as goal
 
 abbrev pub invariant-loop-item : goal.invariant-loop-item
 invariant-loop-item g l =
-    folded (push_turn (join_truths l.joint)) as_bool (l.joined.items, l.so_far) (map g.T.Item.tree (drop l.item-index l.items)) ≡ folded (push_turn (join_truths l.joint)) as_bool ([], joined_truths l.joint []) (map g.T.Item.tree l.items)
+    (l.so_far ≡ joined_truths l.joint (take l.item-index (map truth_in (map g.T.Item.tree l.items))))
+    × (l.joined.items ≡ first_told (joined_truths l.joint) (map truth_in (map g.T.Item.tree l.items)) l.item-index) × (l.item-index ≤ length l.items)

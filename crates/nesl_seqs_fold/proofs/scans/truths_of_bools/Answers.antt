@@ -3,7 +3,7 @@ use Rattle.std.specs.List.{range_with_len}
 use Rattle.std.proofs.lemmas.List.{take_all, take_more, take_more_set, length-set}
 use Rattle.std.proofs.lemmas.List.FromFn.{map-range_with_len_more}
 use Rattle.nesl_seqs_base.specs.Scans.{joined_truths, join_truths}
-use Rattle.nesl_seqs_fold.proofs.Sums.{joined_more}
+use Rattle.nesl_seqs_fold.proofs.Before.{joined_more}
 use Rattle.nesl_seqs_fold.proofs.scans.truths_of_bools.Goals as goal
 
 pub loop-place-preserved : goal.loop-place-preserved

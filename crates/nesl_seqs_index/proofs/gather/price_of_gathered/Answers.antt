@@ -1,22 +1,26 @@
-use Rattle.std.proofs.Common.{◌≡◌, ◌+◌, length, true, false, is_some, rules}
-use Rattle.std.specs.List.{list_all}
-use Rattle.nesl_values.specs.Tree.{sequence}
-use Rattle.nesl_seqs_base.specs.Outcome.{gives}
-use Rattle.nesl_values.specs.View.{item_trees}
-use Rattle.nesl_seqs_base.specs.Places.{elements_at, place_of}
-use Rattle.nesl_seqs_index.proofs.Picking.{given_all, refused}
+use Rattle.std.proofs.Common.{◌∙◌, sym, length, is_some}
+use Rattle.nesl_values.specs.Tree.{int, boolean, character}
+use Rattle.nesl_values.specs.View.{tree_of, item_trees}
+use Rattle.nesl_seqs_base.specs.Places.{place_of}
+use Rattle.nesl_seqs_index.proofs.Picking.{list_all_map}
 use Rattle.nesl_seqs_index.proofs.gather.price_of_gathered.Goals as goal
 
-pub returns-then-not-all_name : goal.returns-then-not-all_name
-returns-then-not-all_name g c =
-    let ts = item_trees c.args.items in
-    let is = c.args.indices.now in
-    let none : list_all (λ i. is_some (place_of (length ts) (g.I.Item.tree i))) is ≡ false = search rules in
-    refused (length ts) g.I.Item.tree is (λ ks. gives (sequence (elements_at ts ks))) (length ts + length is) 1 c.args.limit none
+pub price_of_picked-requires : goal.price_of_picked-requires
+price_of_picked-requires g c =
+    let n = length (item_trees c.args.items) in
+    sym (list_all_map (λ t. is_some (place_of n t)) int c.in-Ints.indices.now) ∙ (rw c.in-Ints.is at c.requires)
 
-pub returns : goal.returns
-returns g c =
-    let ts = item_trees c.args.items in
-    let is = c.args.indices.now in
-    let all : list_all (λ i. is_some (place_of (length ts) (g.I.Item.tree i))) is ≡ true = search rules in
-    rw (given_all (length ts) g.I.Item.tree is (λ ks. gives (sequence (elements_at ts ks))) all) c.price_of_picked.ensures
+pub price_of_picked-requires-in-Bools : goal.price_of_picked-requires-in-Bools
+price_of_picked-requires-in-Bools g c =
+    let n = length (item_trees c.args.items) in
+    sym (list_all_map (λ t. is_some (place_of n t)) boolean c.in-Bools.indices.now) ∙ (rw c.in-Bools.is at c.requires)
+
+pub price_of_picked-requires-in-Chars : goal.price_of_picked-requires-in-Chars
+price_of_picked-requires-in-Chars g c =
+    let n = length (item_trees c.args.items) in
+    sym (list_all_map (λ t. is_some (place_of n t)) character c.in-Chars.indices.now) ∙ (rw c.in-Chars.is at c.requires)
+
+pub price_of_picked-requires-in-Values : goal.price_of_picked-requires-in-Values
+price_of_picked-requires-in-Values g c =
+    let n = length (item_trees c.args.items) in
+    sym (list_all_map (λ t. is_some (place_of n t)) tree_of c.in-Values.indices.now) ∙ (rw c.in-Values.is at c.requires)

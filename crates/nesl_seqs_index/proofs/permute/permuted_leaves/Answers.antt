@@ -1,7 +1,7 @@
 use Rattle.std.proofs.Common.{◌≡◌, ◌∙◌, map, ap, sym}
 use Rattle.std.proofs.lemmas.List.{length-map}
 use Rattle.nesl_values.specs.Tree.{sequence}
-use Rattle.nesl_seqs_base.specs.Outcome.{given, gives}
+use Rattle.nesl_seqs_base.specs.Outcome.{if_there, gives}
 use Rattle.nesl_seqs_base.specs.Permute.{all_differ, permuted}
 use Rattle.nesl_seqs_base.specs.Places.{places_of}
 use Rattle.nesl_seqs_base.specs.Reductions.{all_of}
@@ -27,5 +27,5 @@ returns g c =
     let xs = c.args.items.now in
     let js = map g.I.Item.tree c.args.indices.now in
     let there = is_arranged g.I.Item.tree c.args.indices.now (map f xs) c.requires in
-    ok_told (λ v. Arrive xs v.items js) (λ v. given (all_of as_int js) (permuted (map f xs)) ≡ gives (sequence (map f v.items)))
+    ok_told (λ v. Arrive xs v.items js) (λ v. if_there (all_of as_int js) (permuted (map f xs)) ≡ gives (sequence (map f v.items)))
     c.arranged.result c.arranged.ensures (λ v h. there.is ∙ ap (λ us. gives (sequence us)) (sym (arrived f xs v.items js there.same there.named there.differ h)))

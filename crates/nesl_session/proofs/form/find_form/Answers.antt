@@ -5,7 +5,7 @@ use Rattle.nesl_syntax_tree.specs.declared.tree.Form.TheVariants as forms
 use Rattle.nesl_syntax_tree.specs.Views.{line_of}
 use Rattle.nesl_session_step.specs.declared.limits.Limits.{Limits}
 use Rattle.nesl_session_step.specs.State.{State}
-use Rattle.nesl_session_step.specs.Finding.{FindsLine}
+use Rattle.nesl_session_step.specs.Finding.{FindsForm}
 use Rattle.nesl_session_forms.specs.Found.{finding_of, CanCharge}
 use Rattle.nesl_session_forms.specs.Forms.{with_names}
 use Rattle.nesl_session_forms.proofs.Verdicts.{found_answers}
@@ -17,9 +17,9 @@ returns-in-Fun-clause-found g c =
     let s = state_of c.args.standing.now in
     let l = c.args.standing.now.limits in
     let form = forms.Fun c.in-Fun.name c.in-Fun.parameter c.in-Fun.signature c.in-Fun.body in
-    let P : Form → Type 0 = λ y. IfOk c.find_function.result (λ f. FindsLine l s (line_of y) (finding_of f)) in
+    let P : Form → Type 0 = λ y. IfOk c.find_function.result (λ f. FindsForm l s (line_of y) (finding_of f)) in
     subst P (sym c.in-Fun.is)
-    (found_answers (λ f. (t : State) → FindsLine l (with_names s.bindings t) (line_of form) (finding_of f)) (λ f. FindsLine l s (line_of form) (finding_of f)) c.find_function.result (λ f h. h s) c.find_function.ensures.found)
+    (found_answers (λ f. (t : State) → FindsForm l (with_names s.bindings t) (line_of form) (finding_of f)) (λ f. FindsForm l s (line_of form) (finding_of f)) c.find_function.result (λ f h. h s) c.find_function.ensures.found)
 
 pub returns-in-Fun-clause-charges : goal.returns-in-Fun-clause-charges
 returns-in-Fun-clause-charges g c =
@@ -31,9 +31,9 @@ returns-in-Datatype-clause-found g c =
     let s = state_of c.args.standing.now in
     let l = c.args.standing.now.limits in
     let form = forms.Datatype c.in-Datatype.name c.in-Datatype.content in
-    let P : Form → Type 0 = λ y. IfOk c.find_datatype.result (λ f. FindsLine l s (line_of y) (finding_of f)) in
+    let P : Form → Type 0 = λ y. IfOk c.find_datatype.result (λ f. FindsForm l s (line_of y) (finding_of f)) in
     subst P (sym c.in-Datatype.is)
-    (found_answers (λ f. (t : State) → FindsLine l (with_names s.bindings t) (line_of form) (finding_of f)) (λ f. FindsLine l s (line_of form) (finding_of f)) c.find_datatype.result (λ f h. h s) c.find_datatype.ensures.found)
+    (found_answers (λ f. (t : State) → FindsForm l (with_names s.bindings t) (line_of form) (finding_of f)) (λ f. FindsForm l s (line_of form) (finding_of f)) c.find_datatype.result (λ f h. h s) c.find_datatype.ensures.found)
 
 pub returns-in-Datatype-clause-charges : goal.returns-in-Datatype-clause-charges
 returns-in-Datatype-clause-charges g c =
@@ -45,9 +45,9 @@ returns-in-ShowType-clause-found g c =
     let s = state_of c.args.standing.now in
     let l = c.args.standing.now.limits in
     let form = forms.ShowType c.in-ShowType.exp in
-    let P : Form → Type 0 = λ y. IfOk c.find_type.result (λ f. FindsLine l s (line_of y) (finding_of f)) in
+    let P : Form → Type 0 = λ y. IfOk c.find_type.result (λ f. FindsForm l s (line_of y) (finding_of f)) in
     subst P (sym c.in-ShowType.is)
-    (found_answers (λ f. (limits : Limits) (t : State) → FindsLine limits (with_names s.bindings t) (line_of form) (finding_of f)) (λ f. FindsLine l s (line_of form) (finding_of f)) c.find_type.result (λ f h. h l s) c.find_type.ensures.found)
+    (found_answers (λ f. (limits : Limits) (t : State) → FindsForm limits (with_names s.bindings t) (line_of form) (finding_of f)) (λ f. FindsForm l s (line_of form) (finding_of f)) c.find_type.result (λ f h. h l s) c.find_type.ensures.found)
 
 pub returns-in-ShowType-clause-charges : goal.returns-in-ShowType-clause-charges
 returns-in-ShowType-clause-charges g c =

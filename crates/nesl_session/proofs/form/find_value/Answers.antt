@@ -2,10 +2,10 @@ use Rattle.std.proofs.Common.{◌≡◌, ap, sym, ◌∙◌, subst, true, leb, a
 use Rattle.nesl_syntax_tree.specs.Views.{tree_of as tree_of_exp}
 use Rattle.nesl_values.specs.View.{tree_of}
 use Rattle.nesl_eval_meaning.specs.Names.{Value, outside}
-use Rattle.nesl_eval_meaning.specs.Out.{told, value}
+use Rattle.nesl_eval_meaning.specs.Out.{fits_budget, value}
 use Rattle.nesl_eval_meaning.specs.Outcome.{out}
 use Rattle.nesl_eval_code.specs.Stored as code
-use Rattle.nesl_session_bindings.specs.Known.{environment, put}
+use Rattle.nesl_session_bindings.specs.Known.{environment, put_binding}
 use Rattle.nesl_session_bindings.specs.Meanings.{variable, elements_of}
 use Rattle.nesl_session_standing.specs.Inside.{state_of}
 use Rattle.nesl_session_step.specs.Finding.{budget, refused}
@@ -46,8 +46,8 @@ returns-in_ok-kept-in-Done-clause-found g c =
     let o = out 1000 (environment s.bindings) (outside []) (tree_of_exp c.args.exp.now) in
     let h = outcome_told (Done c.in-Done.value c.in-Done.work c.in-Done.depth) c.min-budget.result (budget c.args.standing.now.limits (state_of c.args.standing.now)) 1000 (code.environment c.environment.result.now) (environment (state_of c.args.standing.now).bindings) (tree_of_exp c.args.exp.now) c.min-budget.ensures c.environment.ensures c.in-Done.ensures (c.typed_never_stuck.ensures (tree_of_exp c.args.exp.now) c.args.ty c.requires.typed 1000) in
     let kept = c.in_ok-kept-in-Done.ensures in
-    let P : Value → Type 0 = λ u. true ≡ leb (elements_of (put c.as_slice.result.now (variable t u) s.bindings)) l.elements in
-    comes_value l s x t o (tree_of c.in_ok-kept-in-Done.kept) c.in-Done.work c.in-Done.depth _ (h.0 ∙ ap (λ u. told (value u c.in-Done.work c.in-Done.depth)) (sym kept))
+    let P : Value → Type 0 = λ u. true ≡ leb (elements_of (put_binding c.as_slice.result.now (variable t u) s.bindings)) l.elements in
+    comes_value l s x t o (tree_of c.in_ok-kept-in-Done.kept) c.in-Done.work c.in-Done.depth _ (h.0 ∙ ap (λ u. fits_budget (value u c.in-Done.work c.in-Done.depth)) (sym kept))
     (few_named l s (replies.bound x (tree_of c.in_ok-kept-in-Done.kept) t (record { work = c.in-Done.work; depth = c.in-Done.depth })) c.in-Done.work c.as_slice.result.now x (variable t (tree_of c.in_ok-kept-in-Done.kept)) c.as_slice.ensures.value (subst P (sym kept) (c.if-not-fits_variable.ensures t)))
 
 pub returns-in_ok-kept-in-Done-clause-charges : goal.returns-in_ok-kept-in-Done-clause-charges
@@ -59,7 +59,7 @@ returns-in_ok-kept-in-Done-clause-charges g c =
     let o = out 1000 (environment s.bindings) (outside []) (tree_of_exp c.args.exp.now) in
     let h = outcome_told (Done c.in-Done.value c.in-Done.work c.in-Done.depth) c.min-budget.result (budget c.args.standing.now.limits (state_of c.args.standing.now)) 1000 (code.environment c.environment.result.now) (environment (state_of c.args.standing.now).bindings) (tree_of_exp c.args.exp.now) c.min-budget.ensures c.environment.ensures c.in-Done.ensures (c.typed_never_stuck.ensures (tree_of_exp c.args.exp.now) c.args.ty c.requires.typed 1000) in
     let kept = c.in_ok-kept-in-Done.ensures in
-    let P : Value → Type 0 = λ u. true ≡ leb (elements_of (put c.as_slice.result.now (variable t u) s.bindings)) l.elements in (
+    let P : Value → Type 0 = λ u. true ≡ leb (elements_of (put_binding c.as_slice.result.now (variable t u) s.bindings)) l.elements in (
       omega (arith, h.2, budget_left l s),
       (
         (tree_of_exp c.args.exp.now, 1000, c.in-Done.work, c.in-Done.depth, c.requires.typed, h.1 ∙ ap (λ u. value u c.in-Done.work c.in-Done.depth) (sym kept)),

@@ -4,22 +4,22 @@ use Rattle.std.specs.Fmt.{digits}
 use Rattle.nesl_lex.specs.declared.token.Span.{Span}
 use Rattle.nesl_types_bank.specs.Term.{int}
 use Rattle.nesl_values.specs.Tree as values
-use Rattle.nesl_syntax_tree.specs.Trees.{Line}
+use Rattle.nesl_syntax_tree.specs.Trees.{FormTree}
 use Rattle.nesl_syntax_tree.specs.Trees as trees
-use Rattle.nesl_builtins.specs.Named.{named_builtin}
-use Rattle.nesl_infer.specs.Answers.{unknown_at}
+use Rattle.nesl_builtins.specs.Named.{builtin_named}
+use Rattle.nesl_infer.specs.Verdicts.{unknown_at}
 use Rattle.nesl_eval_meaning.specs.Out.{value, within}
 use Rattle.nesl_reply.specs.declared.fault.Fault.TheVariants as faults
 use Rattle.nesl_reply.specs.Replies.{used_text}
 use Rattle.nesl_reply.specs.Replies as replies
 use Rattle.nesl_session_bindings.specs.Known.{known, environment}
 use Rattle.nesl_session_bindings.specs.Meanings.{Binding, variable}
-use Rattle.nesl_session_bindings.specs.Redefinition.{it, a_variable, Refuses}
+use Rattle.nesl_session_bindings.specs.Redefinition.{it, a_variable, RefusesDefinition}
 use Rattle.nesl_session_step.specs.declared.limits.Limits.{Limits}
 use Rattle.nesl_session_step.specs.State.{State, empty}
-use Rattle.nesl_session_step.specs.Sense.{stuck, no_form, form}
-use Rattle.nesl_session_step.specs.Finding.{Finding, FindsSense, Comes, budget, reset, part, refused, answered, budget_told}
-use Rattle.nesl_session_step.specs.Step.{after, response_of}
+use Rattle.nesl_session_step.specs.Sense.{no_token, no_form, form}
+use Rattle.nesl_session_step.specs.Finding.{Finding, FindsSense, FindsOutcome, budget, reset, part, refused, answered, budget_report}
+use Rattle.nesl_session_step.specs.Step.{after, reply_of}
 use Rattle.nesl_session_step.specs.Worked.{ample}
 use Rattle.nesl_session_step.proofs.Typed.{plus, plus_type, two, finds_number}
 use Rattle.nesl_session_step.proofs.Worked.{answered_so, formed, unformed, unread_at, step_reset, step_reset_refused, step_full, step_part, step_sense}
@@ -29,7 +29,7 @@ pub returns-clause-lexical : goal.returns-clause-lexical
 unfolding digits
 returns-clause-lexical c =
     answered_so ample (codes "1 @ 2;") (codes "fault lexical at 2 (work 0)") 1000 _ _
-    (step_sense ample (empty ample) (codes "1 @ 2;") (stuck 2) (refused (faults.Lexical 2) 0) refl refl refl refl (unread_at c.reading_computes.ensures (codes "1 @ 2;") 2 refl) refl) refl refl
+    (step_sense ample (empty ample) (codes "1 @ 2;") (no_token 2) (refused (faults.Lexical 2) 0) refl refl refl refl (unread_at c.reading_computes.ensures (codes "1 @ 2;") 2 refl) refl) refl refl
 
 pub returns-clause-syntax : goal.returns-clause-syntax
 returns-clause-syntax c =
@@ -52,7 +52,7 @@ pub returns-clause-budget : goal.returns-clause-budget
 unfolding digits used_text
 returns-clause-budget c =
     answered_so ample (codes ":budget") (codes "budget: work 1000, elements 0 of 100, lines 0 of 100, bytes 0 of 1000") 1000 _ _
-    (step_sense ample (empty ample) (codes ":budget") (form trees.show_budget) (answered (budget_told ample (empty ample)) 0 None) refl refl refl refl
+    (step_sense ample (empty ample) (codes ":budget") (form trees.show_budget) (answered (budget_report ample (empty ample)) 0 None) refl refl refl refl
     (formed c.reading_computes.ensures c.form_computes.ensures (codes ":budget") trees.show_budget refl refl (lit≤ tt)) refl) refl refl
 
 abbrev at : ℕ → ℕ → Span
@@ -61,14 +61,14 @@ at from to = record { start = from; end = to }
 pub returns-clause-unknown : goal.returns-clause-unknown
 unfolding digits
 returns-clause-unknown c =
-    let line : Line = trees.eval (trees.node (at 0 1) (trees.variable (codes "x"))) in
+    let line : FormTree = trees.evaluate (trees.node (at 0 1) (trees.variable (codes "x"))) in
     answered_so ample (codes "x;") (codes "fault unknown at 0..1 (work 0)") 1000 _ _
     (step_sense ample (empty ample) (codes "x;") (form line) (refused (faults.Unknown (at 0 1)) 0) refl refl refl refl
     (formed c.reading_computes.ensures c.form_computes.ensures (codes "x;") line refl refl (lit≤ tt)) (unknown_at (at 0 1), refl, refl)) refl refl
 
 -- one and one, of which `it` becomes two
-abbrev sum : Line
-sum = trees.eval (plus (at 0 5) (at 0 1) (at 4 5) 1 1)
+abbrev sum : FormTree
+sum = trees.evaluate (plus (at 0 5) (at 0 1) (at 4 5) 1 1)
 
 abbrev made : Binding
 made = record { name = it; meaning = variable int (values.int (pos 2)) }
@@ -77,10 +77,10 @@ abbrev summed : Finding
 summed = answered (replies.bound it (values.int (pos 2)) int (record { work = 3; depth = 3 })) 3 (Some made)
 
 -- where no name is bound, and the sum comes to this under the limits
-finds_sum : (limits : Limits) (s : State) (f : Finding) → s.bindings ≡ [] → Comes limits s it int (within (budget limits s) (value (values.int (pos 2)) 3 3)) f → FindsSense limits s (form sum) f
-unfolding named_builtin
+finds_sum : (limits : Limits) (s : State) (f : Finding) → s.bindings ≡ [] → FindsOutcome limits s it int (within (budget limits s) (value (values.int (pos 2)) 3 3)) f → FindsSense limits s (form sum) f
+unfolding builtin_named
 finds_sum limits s f none h =
-    let P : List Binding → Type 0 = λ bs. Refuses bs it (a_variable int) None in
+    let P : List Binding → Type 0 = λ bs. RefusesDefinition bs it (a_variable int) None in
     finds_number limits s (plus (at 0 5) (at 0 1) (at 4 5) 1 1) (value (values.int (pos 2)) 3 3) f (plus_type (known s.bindings) (at 0 5) (at 0 1) (at 4 5) 1 1)
     (subst P (sym none) ((λ h. h.1), refl)) (two (environment s.bindings) (at 0 5) (at 0 1) (at 4 5)) h
 
@@ -117,7 +117,7 @@ returns-clause-parts c =
     let second =
     step_sense ample mid (codes "1;") (form sum) summed refl refl refl refl (formed c.reading_computes.ensures c.form_computes.ensures (codes "1 + 1;") sum refl refl (lit≤ tt))
     (finds_sum ample mid summed refl refl) in
-    (response_of (empty ample) part ∷ response_of mid summed ∷ [], after (codes "1;") mid summed, (mid, first, (after (codes "1;") mid summed, second, refl)), refl, refl)
+    (reply_of (empty ample) part ∷ reply_of mid summed ∷ [], after (codes "1;") mid summed, (mid, first, (after (codes "1;") mid summed, second, refl)), refl, refl)
 
 pub returns-clause-reset : goal.returns-clause-reset
 unfolding digits
@@ -135,7 +135,7 @@ returns-clause-reset c =
     let third =
     step_sense small cleared line (form sum) (refused (faults.Work 2) 2) refl refl refl refl means
     (finds_sum small cleared (refused (faults.Work 2) 2) refl refl) in
-    (response_of (empty small) summed ∷ response_of one reset ∷ response_of cleared (refused (faults.Work 2) 2) ∷ [], last, (one, first, (cleared, second, (last, third, refl))), refl, refl)
+    (reply_of (empty small) summed ∷ reply_of one reset ∷ reply_of cleared (refused (faults.Work 2) 2) ∷ [], last, (one, first, (cleared, second, (last, third, refl))), refl, refl)
 
 pub returns-clause-transcript : goal.returns-clause-transcript
 returns-clause-transcript c = λ line other.

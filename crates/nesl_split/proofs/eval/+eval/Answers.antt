@@ -4,20 +4,20 @@ use Rattle.std.specs.List.{range_with_len}
 use Rattle.std.proofs.lemmas.List.FromFn.{length-range_with_len}
 use Rattle.std.proofs.lemmas.Result.{err_from_is_err_and}
 use Rattle.nesl_values.specs.Tree as values
-use Rattle.nesl_values.specs.Tree.{Tree}
+use Rattle.nesl_values.specs.Tree.{ValueTree}
 use Rattle.nesl_values.specs.View.{tree_of}
 use Rattle.nesl_values_builder.specs.Elements.{elements_of}
 use Rattle.nesl_builtins.specs.declared.builtin.Builtin.TheVariants.{OfTwo}
 use Rattle.nesl_eval_code.specs.Frames.{frame, row}
-use Rattle.nesl_eval_meaning.specs.Out.{value, then_out, all_beside}
+use Rattle.nesl_eval_meaning.specs.Out.{value, and_then, all_beside}
 use Rattle.nesl_eval_meaning.specs.Outcome as outcome
-use Rattle.nesl_eval_meaning.specs.Outcome.{made, applied, counted, lengths, places}
+use Rattle.nesl_eval_meaning.specs.Outcome.{small_enough, apply_builtin, body_value, lengths, common_places}
 use Rattle.nesl_eval_code.specs.Run.{run, run_two, run_all, run_let, run_called, run_at, run_filters, run_bodies, as_result, slot_at, function_slot, datatype_slot}
 use Rattle.nesl_eval_meaning.proofs.Joins.{all_halved}
 use Rattle.nesl_eval_nodes.specs.declared.meter.Stop.TheVariants.{Stuck}
 use Rattle.nesl_eval_nodes.specs.Scopes.{frames_of}
-use Rattle.nesl_eval_nodes.specs.Standing.{Stands}
-use Rattle.nesl_eval_nodes.specs.Sides.{Keeps, IsOne, Has, places_of}
+use Rattle.nesl_eval_nodes.specs.Standing.{PartStandsFor}
+use Rattle.nesl_eval_nodes.specs.Sides.{IsKeptPlace, IsOne, Has, places_of}
 use Rattle.nesl_eval_nodes.specs.Meets.{Meets, Is, Are}
 use Rattle.nesl_eval_nodes.proofs.Lookups.{frames-Let, frames-Row, frames-Argument}
 use Rattle.nesl_eval_nodes.proofs.Runs.{has_entered, not_entered, memory_any, meets_then, meets_err, meets_two}
@@ -28,7 +28,7 @@ use Rattle.nesl_eval_nodes.proofs.Arms.{over_runs, over_stops}
 use denote.Param.Send.{sendable}
 use Rattle.std.proofs.Crossing as standard
 use Rattle.nesl_split.specs.Intervals.{ArePlaces}
-use Rattle.nesl_split.specs.Finds.{Finds}
+use Rattle.nesl_split.specs.Halves.{HalfFinds}
 use Rattle.nesl_split.proofs.Ranges.{range_whole, range_first, range_none, range_cut, range_all}
 use Rattle.nesl_split.proofs.Halves.{finds}
 use Rattle.nesl_split.proofs.Crosses.{interval_sync}
@@ -69,8 +69,8 @@ of_scalars-returns-clause-meets g t c =
     let f = run c.args.levels tb in
     let fs = frames_of c.args.scope.now in
     let m2 = c.value_in-2.new.meter in
-    meets_two (Is {A = Global}) (Is {A = Global}) c.args.meter.now c.value_in.new.meter m2 m2 c.in_ok-one.one c.in_ok-other.other c.of_two_made.result (f fs c.args.left.now) (f fs c.args.right.now) (λ x y. applied c.args.span.now (OfTwo c.args.function) (values.pair x y))
-    c.in_ok-one.ensures.meets c.in_ok-other.ensures.meets (λ x y e e'. rw (← e, ← e') (c.of_two_made.ensures m2))
+    meets_two (Is {A = Global}) (Is {A = Global}) c.args.meter.now c.value_in.new.meter m2 m2 c.in_ok-one.one c.in_ok-other.other c.apply_to_leaves.result (f fs c.args.left.now) (f fs c.args.right.now) (λ x y. apply_builtin c.args.span.now (OfTwo c.args.function) (values.pair x y))
+    c.in_ok-one.ensures.meets c.in_ok-other.ensures.meets (λ x y e e'. rw (← e, ← e') (c.apply_to_leaves.ensures m2))
 
 pub of_scalar_pair-returns-clause-meets : goal.of_scalar_pair-returns-clause-meets
 of_scalar_pair-returns-clause-meets g t c =
@@ -78,8 +78,8 @@ of_scalar_pair-returns-clause-meets g t c =
     let f = run c.args.levels tb in
     let fs = frames_of c.args.scope.now in
     let m2 = c.value_in-2.new.meter in
-    meets_two (Is {A = Global}) (Is {A = Global}) c.args.meter.now c.value_in.new.meter m2 m2 c.in_ok-one.one c.in_ok-other.other c.of_pair_made.result (f fs c.args.left.now) (f fs c.args.right.now) (λ x y. then_out (made c.args.within.now (values.pair x y)) (applied c.args.span.now (OfTwo c.args.function)))
-    c.in_ok-one.ensures.meets c.in_ok-other.ensures.meets (λ x y e e'. rw (← e, ← e') (c.of_pair_made.ensures m2))
+    meets_two (Is {A = Global}) (Is {A = Global}) c.args.meter.now c.value_in.new.meter m2 m2 c.in_ok-one.one c.in_ok-other.other c.apply_to_pair.result (f fs c.args.left.now) (f fs c.args.right.now) (λ x y. and_then (small_enough c.args.within.now (values.pair x y)) (apply_builtin c.args.span.now (OfTwo c.args.function)))
+    c.in_ok-one.ensures.meets c.in_ok-other.ensures.meets (λ x y e e'. rw (← e, ← e') (c.apply_to_pair.ensures m2))
 
 pub in_pair-returns-clause-meets : goal.in_pair-returns-clause-meets
 in_pair-returns-clause-meets g t c =
@@ -87,28 +87,28 @@ in_pair-returns-clause-meets g t c =
     let f = run c.args.levels tb in
     let fs = frames_of c.args.scope.now in
     let m2 = c.eval_in-2.new.meter in
-    meets_two (Is {A = Global}) (Is {A = Global}) c.args.meter.now c.eval_in.new.meter m2 m2 c.in_ok-one.one c.in_ok-other.other c.paired.result (f fs c.args.left.now) (f fs c.args.right.now) (λ x y. made c.args.span.now (values.pair x y))
-    c.in_ok-one.ensures.meets c.in_ok-other.ensures.meets (λ x y e e'. rw (← e, ← e') (c.paired.ensures m2))
+    meets_two (Is {A = Global}) (Is {A = Global}) c.args.meter.now c.eval_in.new.meter m2 m2 c.in_ok-one.one c.in_ok-other.other c.make_pair.result (f fs c.args.left.now) (f fs c.args.right.now) (λ x y. small_enough c.args.span.now (values.pair x y))
+    c.in_ok-one.ensures.meets c.in_ok-other.ensures.meets (λ x y e e'. rw (← e, ← e') (c.make_pair.ensures m2))
 
 pub apply-returns-in-OfTwo-clause-meets : goal.apply-returns-in-OfTwo-clause-meets
 apply-returns-in-OfTwo-clause-meets g t c =
     let tb = g.T.Tops.table c.args.tops.now in
     let f = run c.args.levels tb in
     let fs = frames_of c.args.scope.now in
-    let k = applied c.args.span.now (OfTwo c.in-OfTwo.function) in
+    let k = apply_builtin c.args.span.now (OfTwo c.in-OfTwo.function) in
     let f' = run (c.args.levels - 1) tb in
     rw c.in-OfTwo.is (entered_then (Is {A = Global}) c.args.meter.now c.enter.new.self c.of_scalar_pair.new.meter c.of_scalar_pair.result c.args.levels tb fs c.args.argument.now k c.in_ok-enter-in-Pair.ensures.0 c.in_ok-enter-in-Pair.ensures.1 c.in_ok-enter-in-Pair.ensures.2
-    (rw (c.in-Pair.is, ← c.deref.ensures, ← c.deref-in-OfTwo.ensures) (pair_then (Is {A = Global}) c.enter.new.self c.of_scalar_pair.new.meter c.of_scalar_pair.result f' fs c.deref.result.now c.deref-in-OfTwo.result.now (λ x y. made c.in-Pair.within (values.pair x y)) k c.of_scalar_pair.ensures.meets)))
+    (rw (c.in-Pair.is, ← c.deref.ensures, ← c.deref-in-OfTwo.ensures) (pair_then (Is {A = Global}) c.enter.new.self c.of_scalar_pair.new.meter c.of_scalar_pair.result f' fs c.deref.result.now c.deref-in-OfTwo.result.now (λ x y. small_enough c.in-Pair.within (values.pair x y)) k c.of_scalar_pair.ensures.meets)))
 
 pub apply-returns-in_default-function-clause-meets : goal.apply-returns-in_default-function-clause-meets
 apply-returns-in_default-function-clause-meets g t c =
     let tb = g.T.Tops.table c.args.tops.now in
     let f = run c.args.levels tb in
     let fs = frames_of c.args.scope.now in
-    let k = applied c.args.span.now c.args.function in
+    let k = apply_builtin c.args.span.now c.args.function in
     let f' = run (c.args.levels - 1) tb in
     entered_then (Is {A = Global}) c.args.meter.now c.enter.new.self c.apply_pair.new.meter c.apply_pair.result c.args.levels tb fs c.args.argument.now k c.in_ok-enter-in-Pair.ensures.0 c.in_ok-enter-in-Pair.ensures.1 c.in_ok-enter-in-Pair.ensures.2
-    (rw (c.in-Pair.is, ← c.deref-in_default-function.ensures, ← c.deref-in_default-function-2.ensures) (pair_then (Is {A = Global}) c.enter.new.self c.apply_pair.new.meter c.apply_pair.result f' fs c.deref-in_default-function.result.now c.deref-in_default-function-2.result.now (λ x y. made c.in-Pair.within (values.pair x y)) k c.apply_pair.ensures.meets))
+    (rw (c.in-Pair.is, ← c.deref-in_default-function.ensures, ← c.deref-in_default-function-2.ensures) (pair_then (Is {A = Global}) c.enter.new.self c.apply_pair.new.meter c.apply_pair.result f' fs c.deref-in_default-function.result.now c.deref-in_default-function-2.result.now (λ x y. small_enough c.in-Pair.within (values.pair x y)) k c.apply_pair.ensures.meets))
 
 pub apply-returns-in_err-enter-in-Pair-clause-meets : goal.apply-returns-in_err-enter-in-Pair-clause-meets
 apply-returns-in_err-enter-in-Pair-clause-meets g t c =
@@ -116,14 +116,14 @@ apply-returns-in_err-enter-in-Pair-clause-meets g t c =
     let f = run c.args.levels tb in
     let fs = frames_of c.args.scope.now in
     let p = err_from_is_err_and c.from_residual.result c.from_residual.ensures.1 in
-    rw (p.1, p.2, c.in_err-enter-in-Pair.ensures.0) (meets_err (Is {A = Global}) (Is {A = Global}) c.args.meter.now c.args.meter.now c.in_err-enter-in-Pair.field-0.0 (f fs c.args.argument.now) (applied c.args.span.now c.args.function) (not_entered (Is {A = Global}) c.args.meter.now c.in_err-enter-in-Pair.field-0.0 c.args.levels tb fs c.args.argument.now c.in_err-enter-in-Pair.ensures.1))
+    rw (p.1, p.2, c.in_err-enter-in-Pair.ensures.0) (meets_err (Is {A = Global}) (Is {A = Global}) c.args.meter.now c.args.meter.now c.in_err-enter-in-Pair.field-0.0 (f fs c.args.argument.now) (apply_builtin c.args.span.now c.args.function) (not_entered (Is {A = Global}) c.args.meter.now c.in_err-enter-in-Pair.field-0.0 c.args.levels tb fs c.args.argument.now c.in_err-enter-in-Pair.ensures.1))
 
 pub apply-returns-in_ok-one-in_default-clause-meets : goal.apply-returns-in_ok-one-in_default-clause-meets
 apply-returns-in_ok-one-in_default-clause-meets g t c =
     let tb = g.T.Tops.table c.args.tops.now in
     let f = run c.args.levels tb in
     let fs = frames_of c.args.scope.now in
-    meets_then (Stands {A = Global} tb fs c.args.argument.now) (Is {A = Global}) c.args.meter.now c.part.new.meter c.applied_to_one.new.meter c.in_ok-one-in_default.one c.applied_to_one.result (f fs c.args.argument.now) (applied c.args.span.now c.args.function) c.in_ok-one-in_default.ensures.meets (λ x e. c.applied_to_one.ensures.meets x e)
+    meets_then (PartStandsFor {A = Global} tb fs c.args.argument.now) (Is {A = Global}) c.args.meter.now c.part.new.meter c.apply_to_one.new.meter c.in_ok-one-in_default.one c.apply_to_one.result (f fs c.args.argument.now) (apply_builtin c.args.span.now c.args.function) c.in_ok-one-in_default.ensures.meets (λ x e. c.apply_to_one.ensures.meets x e)
 
 pub of_scalars-returns-in_err-other-clause-meets : goal.of_scalars-returns-in_err-other-clause-meets
 of_scalars-returns-in_err-other-clause-meets g t c =
@@ -131,7 +131,7 @@ of_scalars-returns-in_err-other-clause-meets g t c =
     let f = run c.args.levels tb in
     let fs = frames_of c.args.scope.now in
     let p = err_from_is_err_and c.from_residual-in_err-other.result c.from_residual-in_err-other.ensures.1 in
-    rw (p.1, p.2) (pair_stops (Is {A = Global}) (Is {A = Global}) (Is {A = Global}) c.args.meter.now c.value_in.new.meter c.value_in-2.new.meter c.in_ok-one.one c.in_err-other.field-0.0 (f fs c.args.left.now) (f fs c.args.right.now) (λ x y. applied c.args.span.now (OfTwo c.args.function) (values.pair x y)) c.in_ok-one.ensures.meets c.in_err-other.ensures.meets)
+    rw (p.1, p.2) (pair_stops (Is {A = Global}) (Is {A = Global}) (Is {A = Global}) c.args.meter.now c.value_in.new.meter c.value_in-2.new.meter c.in_ok-one.one c.in_err-other.field-0.0 (f fs c.args.left.now) (f fs c.args.right.now) (λ x y. apply_builtin c.args.span.now (OfTwo c.args.function) (values.pair x y)) c.in_ok-one.ensures.meets c.in_err-other.ensures.meets)
 
 pub of_scalar_pair-returns-in_err-one-clause-meets : goal.of_scalar_pair-returns-in_err-one-clause-meets
 of_scalar_pair-returns-in_err-one-clause-meets g t c =
@@ -139,7 +139,7 @@ of_scalar_pair-returns-in_err-one-clause-meets g t c =
     let f = run c.args.levels tb in
     let fs = frames_of c.args.scope.now in
     let p = err_from_is_err_and c.from_residual.result c.from_residual.ensures.1 in
-    rw (p.1, p.2) (meets_err (Is {A = Global}) (Is {A = Global}) c.args.meter.now c.value_in.new.meter c.in_err-one.field-0.0 (f fs c.args.left.now) (λ x. then_out (f fs c.args.right.now) (λ y. then_out (made c.args.within.now (values.pair x y)) (applied c.args.span.now (OfTwo c.args.function)))) c.in_err-one.ensures.meets)
+    rw (p.1, p.2) (meets_err (Is {A = Global}) (Is {A = Global}) c.args.meter.now c.value_in.new.meter c.in_err-one.field-0.0 (f fs c.args.left.now) (λ x. and_then (f fs c.args.right.now) (λ y. and_then (small_enough c.args.within.now (values.pair x y)) (apply_builtin c.args.span.now (OfTwo c.args.function)))) c.in_err-one.ensures.meets)
 
 pub of_scalar_pair-returns-in_err-other-clause-meets : goal.of_scalar_pair-returns-in_err-other-clause-meets
 of_scalar_pair-returns-in_err-other-clause-meets g t c =
@@ -147,7 +147,7 @@ of_scalar_pair-returns-in_err-other-clause-meets g t c =
     let f = run c.args.levels tb in
     let fs = frames_of c.args.scope.now in
     let p = err_from_is_err_and c.from_residual-in_err-other.result c.from_residual-in_err-other.ensures.1 in
-    rw (p.1, p.2) (pair_stops (Is {A = Global}) (Is {A = Global}) (Is {A = Global}) c.args.meter.now c.value_in.new.meter c.value_in-2.new.meter c.in_ok-one.one c.in_err-other.field-0.0 (f fs c.args.left.now) (f fs c.args.right.now) (λ x y. then_out (made c.args.within.now (values.pair x y)) (applied c.args.span.now (OfTwo c.args.function))) c.in_ok-one.ensures.meets c.in_err-other.ensures.meets)
+    rw (p.1, p.2) (pair_stops (Is {A = Global}) (Is {A = Global}) (Is {A = Global}) c.args.meter.now c.value_in.new.meter c.value_in-2.new.meter c.in_ok-one.one c.in_err-other.field-0.0 (f fs c.args.left.now) (f fs c.args.right.now) (λ x y. and_then (small_enough c.args.within.now (values.pair x y)) (apply_builtin c.args.span.now (OfTwo c.args.function))) c.in_ok-one.ensures.meets c.in_err-other.ensures.meets)
 
 pub apply_two-returns-in_err-other-clause-meets : goal.apply_two-returns-in_err-other-clause-meets
 apply_two-returns-in_err-other-clause-meets g t c =
@@ -155,7 +155,7 @@ apply_two-returns-in_err-other-clause-meets g t c =
     let f = run c.args.levels tb in
     let fs = frames_of c.args.scope.now in
     let p = err_from_is_err_and c.from_residual-in_err-other.result c.from_residual-in_err-other.ensures.1 in
-    rw (p.1, p.2) (pair_stops (Stands {A = Global} tb fs c.args.left.now) (Stands {A = Global} tb fs c.args.right.now) (Is {A = Global}) c.args.meter.now c.part.new.meter c.part-2.new.meter c.in_ok-one.one c.in_err-other.field-0.0 (f fs c.args.left.now) (f fs c.args.right.now) (λ x y. applied c.args.span.now c.args.function (values.pair x y)) c.in_ok-one.ensures.meets c.in_err-other.ensures.meets)
+    rw (p.1, p.2) (pair_stops (PartStandsFor {A = Global} tb fs c.args.left.now) (PartStandsFor {A = Global} tb fs c.args.right.now) (Is {A = Global}) c.args.meter.now c.part.new.meter c.part-2.new.meter c.in_ok-one.one c.in_err-other.field-0.0 (f fs c.args.left.now) (f fs c.args.right.now) (λ x y. apply_builtin c.args.span.now c.args.function (values.pair x y)) c.in_ok-one.ensures.meets c.in_err-other.ensures.meets)
 
 pub apply_pair-returns-in_err-other-clause-meets : goal.apply_pair-returns-in_err-other-clause-meets
 apply_pair-returns-in_err-other-clause-meets g t c =
@@ -163,7 +163,7 @@ apply_pair-returns-in_err-other-clause-meets g t c =
     let f = run c.args.levels tb in
     let fs = frames_of c.args.scope.now in
     let p = err_from_is_err_and c.from_residual-in_err-other.result c.from_residual-in_err-other.ensures.1 in
-    rw (p.1, p.2) (pair_stops (Stands {A = Global} tb fs c.args.left.now) (Stands {A = Global} tb fs c.args.right.now) (Is {A = Global}) c.args.meter.now c.part.new.meter c.part-2.new.meter c.in_ok-one.one c.in_err-other.field-0.0 (f fs c.args.left.now) (f fs c.args.right.now) (λ x y. then_out (made c.args.within.now (values.pair x y)) (applied c.args.span.now c.args.function)) c.in_ok-one.ensures.meets c.in_err-other.ensures.meets)
+    rw (p.1, p.2) (pair_stops (PartStandsFor {A = Global} tb fs c.args.left.now) (PartStandsFor {A = Global} tb fs c.args.right.now) (Is {A = Global}) c.args.meter.now c.part.new.meter c.part-2.new.meter c.in_ok-one.one c.in_err-other.field-0.0 (f fs c.args.left.now) (f fs c.args.right.now) (λ x y. and_then (small_enough c.args.within.now (values.pair x y)) (apply_builtin c.args.span.now c.args.function)) c.in_ok-one.ensures.meets c.in_err-other.ensures.meets)
 
 pub apply_three-returns-in_err-two-clause-meets : goal.apply_three-returns-in_err-two-clause-meets
 apply_three-returns-in_err-two-clause-meets g t c =
@@ -171,8 +171,8 @@ apply_three-returns-in_err-two-clause-meets g t c =
     let f = run c.args.levels tb in
     let fs = frames_of c.args.scope.now in
     let p = err_from_is_err_and c.from_residual-in_err-two.result c.from_residual-in_err-two.ensures.1 in
-    let k = λ (x y z : Tree). applied c.args.span.now c.args.function (values.pair x (values.pair y z)) in
-    rw (p.1, p.2) (pair_stops (Stands {A = Global} tb fs c.args.first.now) (Stands {A = Global} tb fs c.args.second.now) (Is {A = Global}) c.args.meter.now c.part.new.meter c.part-2.new.meter c.in_ok-one.one c.in_err-two.field-0.0 (f fs c.args.first.now) (f fs c.args.second.now) (λ x y. then_out (f fs c.args.third.now) (k x y)) c.in_ok-one.ensures.meets c.in_err-two.ensures.meets)
+    let k = λ (x y z : ValueTree). apply_builtin c.args.span.now c.args.function (values.pair x (values.pair y z)) in
+    rw (p.1, p.2) (pair_stops (PartStandsFor {A = Global} tb fs c.args.first.now) (PartStandsFor {A = Global} tb fs c.args.second.now) (Is {A = Global}) c.args.meter.now c.part.new.meter c.part-2.new.meter c.in_ok-one.one c.in_err-two.field-0.0 (f fs c.args.first.now) (f fs c.args.second.now) (λ x y. and_then (f fs c.args.third.now) (k x y)) c.in_ok-one.ensures.meets c.in_err-two.ensures.meets)
 
 pub apply_three-returns-in_err-three-clause-meets : goal.apply_three-returns-in_err-three-clause-meets
 apply_three-returns-in_err-three-clause-meets g t c =
@@ -180,16 +180,16 @@ apply_three-returns-in_err-three-clause-meets g t c =
     let f = run c.args.levels tb in
     let fs = frames_of c.args.scope.now in
     let p = err_from_is_err_and c.from_residual-in_err-three.result c.from_residual-in_err-three.ensures.1 in
-    let k = λ (x y z : Tree). applied c.args.span.now c.args.function (values.pair x (values.pair y z)) in
-    rw (p.1, p.2) (meets_then (Stands {A = Global} tb fs c.args.first.now) (Is {A = Global}) c.args.meter.now c.part.new.meter c.part-3.new.meter c.in_ok-one.one (Err c.in_err-three.field-0.0) (f fs c.args.first.now) (λ x. run_two f fs c.args.second.now c.args.third.now (k x)) c.in_ok-one.ensures.meets
-    (λ x e. pair_stops (Stands {A = Global} tb fs c.args.second.now) (Stands {A = Global} tb fs c.args.third.now) (Is {A = Global}) c.part.new.meter c.part-2.new.meter c.part-3.new.meter c.in_ok-two.two c.in_err-three.field-0.0 (f fs c.args.second.now) (f fs c.args.third.now) (k x) c.in_ok-two.ensures.meets c.in_err-three.ensures.meets))
+    let k = λ (x y z : ValueTree). apply_builtin c.args.span.now c.args.function (values.pair x (values.pair y z)) in
+    rw (p.1, p.2) (meets_then (PartStandsFor {A = Global} tb fs c.args.first.now) (Is {A = Global}) c.args.meter.now c.part.new.meter c.part-3.new.meter c.in_ok-one.one (Err c.in_err-three.field-0.0) (f fs c.args.first.now) (λ x. run_two f fs c.args.second.now c.args.third.now (k x)) c.in_ok-one.ensures.meets
+    (λ x e. pair_stops (PartStandsFor {A = Global} tb fs c.args.second.now) (PartStandsFor {A = Global} tb fs c.args.third.now) (Is {A = Global}) c.part.new.meter c.part-2.new.meter c.part-3.new.meter c.in_ok-two.two c.in_err-three.field-0.0 (f fs c.args.second.now) (f fs c.args.third.now) (k x) c.in_ok-two.ensures.meets c.in_err-three.ensures.meets))
 
 pub larger-returns-in-Top-clause-meets : goal.larger-returns-in-Top-clause-meets
 larger-returns-in-Top-clause-meets g t c =
     let tb = g.T.Tops.table c.args.tops.now in
     let f = run c.args.levels tb in
     let fs = frames_of c.args.scope.now in
-    rw c.in-Top.is (c.top.ensures c.args.meter.now)
+    rw c.in-Top.is (c.find_top.ensures c.args.meter.now)
 
 pub larger-returns-in-Named-clause-meets : goal.larger-returns-in-Named-clause-meets
 larger-returns-in-Named-clause-meets g t c =
@@ -204,10 +204,10 @@ apply_pair-returns-clause-meets g t c =
     let f = run c.args.levels tb in
     let fs = frames_of c.args.scope.now in
     let m2 = c.part-2.new.meter in
-    let k = applied c.args.span.now c.args.function in
-    let U : Unit {0} → Tree → (x y : Tree) → Type 0 = λ u z x y. z ≡ values.pair x y in
-    meets_pair (Stands {A = Global} tb fs c.args.left.now) (Stands {A = Global} tb fs c.args.right.now) (Is {A = Global}) c.args.meter.now c.part.new.meter m2 c.applied_to_two.new.meter c.in_ok-one.one c.in_ok-other.other c.applied_to_two.result (f fs c.args.left.now) (f fs c.args.right.now) (λ x y. then_out (made c.args.within.now (values.pair x y)) k)
-    c.in_ok-one.ensures.meets c.in_ok-other.ensures.meets (λ x y e e'. meets_then (λ u z. U u z x y) (Is {A = Global}) m2 m2 c.applied_to_two.new.meter tt c.applied_to_two.result (made c.args.within.now (values.pair x y)) k (c.in_ok-within_limit.ensures x y e e' m2) (λ z h. rw h (c.applied_to_two.ensures.meets x y e e')))
+    let k = apply_builtin c.args.span.now c.args.function in
+    let U : Unit {0} → ValueTree → (x y : ValueTree) → Type 0 = λ u z x y. z ≡ values.pair x y in
+    meets_pair (PartStandsFor {A = Global} tb fs c.args.left.now) (PartStandsFor {A = Global} tb fs c.args.right.now) (Is {A = Global}) c.args.meter.now c.part.new.meter m2 c.apply_to_two.new.meter c.in_ok-one.one c.in_ok-other.other c.apply_to_two.result (f fs c.args.left.now) (f fs c.args.right.now) (λ x y. and_then (small_enough c.args.within.now (values.pair x y)) k)
+    c.in_ok-one.ensures.meets c.in_ok-other.ensures.meets (λ x y e e'. meets_then (λ u z. U u z x y) (Is {A = Global}) m2 m2 c.apply_to_two.new.meter tt c.apply_to_two.result (small_enough c.args.within.now (values.pair x y)) k (c.in_ok-within_limit.ensures x y e e' m2) (λ z h. rw h (c.apply_to_two.ensures.meets x y e e')))
 
 pub apply_pair-returns-in_err-within_limit-clause-meets : goal.apply_pair-returns-in_err-within_limit-clause-meets
 apply_pair-returns-in_err-within_limit-clause-meets g t c =
@@ -216,50 +216,50 @@ apply_pair-returns-in_err-within_limit-clause-meets g t c =
     let fs = frames_of c.args.scope.now in
     let p = err_from_is_err_and c.from_residual-in_err-within_limit.result c.from_residual-in_err-within_limit.ensures.1 in
     let m2 = c.part-2.new.meter in
-    let k = applied c.args.span.now c.args.function in
-    let U : Unit {0} → Tree → (x y : Tree) → Type 0 = λ u z x y. z ≡ values.pair x y in
-    rw (p.1, p.2) (meets_pair (Stands {A = Global} tb fs c.args.left.now) (Stands {A = Global} tb fs c.args.right.now) (Is {A = Global}) c.args.meter.now c.part.new.meter m2 m2 c.in_ok-one.one c.in_ok-other.other (Err c.in_err-within_limit.field-0.0) (f fs c.args.left.now) (f fs c.args.right.now) (λ x y. then_out (made c.args.within.now (values.pair x y)) k)
-    c.in_ok-one.ensures.meets c.in_ok-other.ensures.meets (λ x y e e'. meets_err (λ u z. U u z x y) (Is {A = Global}) m2 m2 c.in_err-within_limit.field-0.0 (made c.args.within.now (values.pair x y)) k (c.in_err-within_limit.ensures x y e e' m2)))
+    let k = apply_builtin c.args.span.now c.args.function in
+    let U : Unit {0} → ValueTree → (x y : ValueTree) → Type 0 = λ u z x y. z ≡ values.pair x y in
+    rw (p.1, p.2) (meets_pair (PartStandsFor {A = Global} tb fs c.args.left.now) (PartStandsFor {A = Global} tb fs c.args.right.now) (Is {A = Global}) c.args.meter.now c.part.new.meter m2 m2 c.in_ok-one.one c.in_ok-other.other (Err c.in_err-within_limit.field-0.0) (f fs c.args.left.now) (f fs c.args.right.now) (λ x y. and_then (small_enough c.args.within.now (values.pair x y)) k)
+    c.in_ok-one.ensures.meets c.in_ok-other.ensures.meets (λ x y e e'. meets_err (λ u z. U u z x y) (Is {A = Global}) m2 m2 c.in_err-within_limit.field-0.0 (small_enough c.args.within.now (values.pair x y)) k (c.in_err-within_limit.ensures x y e e' m2)))
 
 pub apply_two-returns-clause-meets : goal.apply_two-returns-clause-meets
 apply_two-returns-clause-meets g t c =
     let tb = g.T.Tops.table c.args.tops.now in
     let f = run c.args.levels tb in
     let fs = frames_of c.args.scope.now in
-    meets_pair (Stands {A = Global} tb fs c.args.left.now) (Stands {A = Global} tb fs c.args.right.now) (Is {A = Global}) c.args.meter.now c.part.new.meter c.part-2.new.meter c.applied_to_two.new.meter c.in_ok-one.one c.in_ok-other.other c.applied_to_two.result (f fs c.args.left.now) (f fs c.args.right.now) (λ x y. applied c.args.span.now c.args.function (values.pair x y))
-    c.in_ok-one.ensures.meets c.in_ok-other.ensures.meets (λ x y e e'. c.applied_to_two.ensures.meets x y e e')
+    meets_pair (PartStandsFor {A = Global} tb fs c.args.left.now) (PartStandsFor {A = Global} tb fs c.args.right.now) (Is {A = Global}) c.args.meter.now c.part.new.meter c.part-2.new.meter c.apply_to_two.new.meter c.in_ok-one.one c.in_ok-other.other c.apply_to_two.result (f fs c.args.left.now) (f fs c.args.right.now) (λ x y. apply_builtin c.args.span.now c.args.function (values.pair x y))
+    c.in_ok-one.ensures.meets c.in_ok-other.ensures.meets (λ x y e e'. c.apply_to_two.ensures.meets x y e e')
 
 pub apply_three-returns-clause-meets : goal.apply_three-returns-clause-meets
 apply_three-returns-clause-meets g t c =
     let tb = g.T.Tops.table c.args.tops.now in
     let f = run c.args.levels tb in
     let fs = frames_of c.args.scope.now in
-    let k = λ (x y z : Tree). applied c.args.span.now c.args.function (values.pair x (values.pair y z)) in
-    meets_then (Stands {A = Global} tb fs c.args.first.now) (Is {A = Global}) c.args.meter.now c.part.new.meter c.applied_to_three.new.meter c.in_ok-one.one c.applied_to_three.result (f fs c.args.first.now) (λ x. run_two f fs c.args.second.now c.args.third.now (k x)) c.in_ok-one.ensures.meets
-    (λ x e. meets_pair (Stands {A = Global} tb fs c.args.second.now) (Stands {A = Global} tb fs c.args.third.now) (Is {A = Global}) c.part.new.meter c.part-2.new.meter c.part-3.new.meter c.applied_to_three.new.meter c.in_ok-two.two c.in_ok-three.three c.applied_to_three.result (f fs c.args.second.now) (f fs c.args.third.now) (k x)
-    c.in_ok-two.ensures.meets c.in_ok-three.ensures.meets (λ y z e' e''. c.applied_to_three.ensures.meets x y z e e' e''))
+    let k = λ (x y z : ValueTree). apply_builtin c.args.span.now c.args.function (values.pair x (values.pair y z)) in
+    meets_then (PartStandsFor {A = Global} tb fs c.args.first.now) (Is {A = Global}) c.args.meter.now c.part.new.meter c.apply_to_three.new.meter c.in_ok-one.one c.apply_to_three.result (f fs c.args.first.now) (λ x. run_two f fs c.args.second.now c.args.third.now (k x)) c.in_ok-one.ensures.meets
+    (λ x e. meets_pair (PartStandsFor {A = Global} tb fs c.args.second.now) (PartStandsFor {A = Global} tb fs c.args.third.now) (Is {A = Global}) c.part.new.meter c.part-2.new.meter c.part-3.new.meter c.apply_to_three.new.meter c.in_ok-two.two c.in_ok-three.three c.apply_to_three.result (f fs c.args.second.now) (f fs c.args.third.now) (k x)
+    c.in_ok-two.ensures.meets c.in_ok-three.ensures.meets (λ y z e' e''. c.apply_to_three.ensures.meets x y z e e' e''))
 
 pub choice-returns-then-branch-clause-meets : goal.choice-returns-then-branch-clause-meets
 choice-returns-then-branch-clause-meets g t c =
     let tb = g.T.Tops.table c.args.tops.now in
     let f = run c.args.levels tb in
     let fs = frames_of c.args.scope.now in
-    branch_yes {A = Global} c.args.meter.now c.value_in.new.meter c.in_ok-tested.tested (f fs c.args.test.now) (f fs c.args.yes.now) (f fs c.args.no.now) c.value_in-then-branch.new.meter c.value_in-then-branch.result c.in_ok-tested.ensures.meets (c.in_ok-truth.ensures ∙ ap Some c.if-branch.true) c.value_in-then-branch.ensures.meets
+    branch_yes {A = Global} c.args.meter.now c.value_in.new.meter c.in_ok-tested.tested (f fs c.args.test.now) (f fs c.args.yes.now) (f fs c.args.no.now) c.value_in-then-branch.new.meter c.value_in-then-branch.result c.in_ok-tested.ensures.meets (c.in_ok-read_truth.ensures ∙ ap Some c.if-branch.true) c.value_in-then-branch.ensures.meets
 
 pub choice-returns-else-branch-clause-meets : goal.choice-returns-else-branch-clause-meets
 choice-returns-else-branch-clause-meets g t c =
     let tb = g.T.Tops.table c.args.tops.now in
     let f = run c.args.levels tb in
     let fs = frames_of c.args.scope.now in
-    branch_no {A = Global} c.args.meter.now c.value_in.new.meter c.in_ok-tested.tested (f fs c.args.test.now) (f fs c.args.yes.now) (f fs c.args.no.now) c.value_in-else-branch.new.meter c.value_in-else-branch.result c.in_ok-tested.ensures.meets (c.in_ok-truth.ensures ∙ ap Some c.if-branch.false) c.value_in-else-branch.ensures.meets
+    branch_no {A = Global} c.args.meter.now c.value_in.new.meter c.in_ok-tested.tested (f fs c.args.test.now) (f fs c.args.yes.now) (f fs c.args.no.now) c.value_in-else-branch.new.meter c.value_in-else-branch.result c.in_ok-tested.ensures.meets (c.in_ok-read_truth.ensures ∙ ap Some c.if-branch.false) c.value_in-else-branch.ensures.meets
 
-pub choice-returns-in_err-truth-clause-meets : goal.choice-returns-in_err-truth-clause-meets
-choice-returns-in_err-truth-clause-meets g t c =
+pub choice-returns-in_err-read_truth-clause-meets : goal.choice-returns-in_err-read_truth-clause-meets
+choice-returns-in_err-read_truth-clause-meets g t c =
     let tb = g.T.Tops.table c.args.tops.now in
     let f = run c.args.levels tb in
     let fs = frames_of c.args.scope.now in
-    let p = err_from_is_err_and c.from_residual-in_err-truth.result c.from_residual-in_err-truth.ensures.1 in
-    rw (p.1, p.2) (branch_none {A = Global} c.args.meter.now c.value_in.new.meter c.in_ok-tested.tested (f fs c.args.test.now) (f fs c.args.yes.now) (f fs c.args.no.now) c.in_err-truth.field-0.0 c.in_ok-tested.ensures.meets c.in_err-truth.ensures)
+    let p = err_from_is_err_and c.from_residual-in_err-read_truth.result c.from_residual-in_err-read_truth.ensures.1 in
+    rw (p.1, p.2) (branch_none {A = Global} c.args.meter.now c.value_in.new.meter c.in_ok-tested.tested (f fs c.args.test.now) (f fs c.args.yes.now) (f fs c.args.no.now) c.in_err-read_truth.field-0.0 c.in_ok-tested.ensures.meets c.in_err-read_truth.ensures)
 
 pub call-returns-clause-meets : goal.call-returns-clause-meets
 call-returns-clause-meets g t c =
@@ -274,8 +274,8 @@ called-returns-in-Ok-Function-clause-meets g t c =
     let f = run c.args.levels tb in
     let q = slot_at tb c.args.place in
     let v = tree_of c.args.argument.value in
-    subst (λ o. Meets (Is {A = Global}) c.args.meter.now c.told_at.result c.value_in-found.new.meter o) (held_called f c.args.span q v (function_slot c.in-Ok-Function.body.now) (rw c.in-Ok-Function.field-0-is at c.in-Ok-Function.ensures))
-    (c.told_at.ensures (f (frame (v ∷ []) ∷ []) c.in-Ok-Function.body.now) c.args.meter.now c.value_in-found.new.meter (simp frames-Argument at c.value_in-found.ensures.meets))
+    subst (λ o. Meets (Is {A = Global}) c.args.meter.now c.place_fault.result c.value_in-found.new.meter o) (held_called f c.args.span q v (function_slot c.in-Ok-Function.body.now) (rw c.in-Ok-Function.field-0-is at c.in-Ok-Function.ensures))
+    (c.place_fault.ensures (f (frame (v ∷ []) ∷ []) c.in-Ok-Function.body.now) c.args.meter.now c.value_in-found.new.meter (simp frames-Argument at c.value_in-found.ensures.meets))
 
 pub called-returns-in-Ok-Datatype-clause-meets : goal.called-returns-in-Ok-Datatype-clause-meets
 called-returns-in-Ok-Datatype-clause-meets g t c =
@@ -283,8 +283,8 @@ called-returns-in-Ok-Datatype-clause-meets g t c =
     let f = run c.args.levels tb in
     let q = slot_at tb c.args.place in
     let v = tree_of c.args.argument.value in
-    subst (λ o. Meets (Is {A = Global}) c.args.meter.now c.tagged.result c.args.meter.now o) (held_called f c.args.span q v (datatype_slot c.in-Ok-Datatype.tag) (rw c.in-Ok-Datatype.field-0-is at c.in-Ok-Datatype.ensures))
-    (c.tagged.ensures c.args.meter.now)
+    subst (λ o. Meets (Is {A = Global}) c.args.meter.now c.make_record.result c.args.meter.now o) (held_called f c.args.span q v (datatype_slot c.in-Ok-Datatype.tag) (rw c.in-Ok-Datatype.field-0-is at c.in-Ok-Datatype.ensures))
+    (c.make_record.ensures c.args.meter.now)
 
 pub call_named-returns-in-Some-clause-meets : goal.call_named-returns-in-Some-clause-meets
 call_named-returns-in-Some-clause-meets g t c =
@@ -306,7 +306,7 @@ in_sequence-returns-clause-meets g t c =
     let f = run c.args.levels tb in
     let fs = frames_of c.args.scope.now in
     let m1 = c.eval_all.new.meter in
-    meets_then (Are {A = Global}) (Is {A = Global}) c.args.meter.now m1 m1 c.in_ok-values.values c.sequence_of.result (run_all f fs [] c.args.parts.now) (λ vs. made c.args.span.now (values.sequence vs)) c.in_ok-values.ensures.meets (λ x e. rw (← e) (c.sequence_of.ensures m1))
+    meets_then (Are {A = Global}) (Is {A = Global}) c.args.meter.now m1 m1 c.in_ok-values.values c.sequence_of.result (run_all f fs [] c.args.parts.now) (λ vs. small_enough c.args.span.now (values.sequence vs)) c.in_ok-values.ensures.meets (λ x e. rw (← e) (c.sequence_of.ensures m1))
 
 pub eval_all-returns-in_err-value-clause-meets : goal.eval_all-returns-in_err-value-clause-meets
 eval_all-returns-in_err-value-clause-meets g t c =
@@ -402,7 +402,7 @@ filtered-returns-in_err-len-clause-meets g t c =
     let fs = frames_of c.args.scope.now in
     let p = err_from_is_err_and c.from_residual-in_err-len.result c.from_residual-in_err-len.ensures.1 in
     let m1 = c.eval_all.new.meter in
-    rw (p.1, p.2) (over_stops {A = Global} f fs c.args.sources.now c.args.span.now (λ vs is. then_out (run_filters f fs vs c.args.filter.now is) (λ ks. as_result (run_bodies f fs vs c.args.body.now ks))) c.in_ok-values.values c.args.meter.now m1 (Is {A = Global}) c.in_err-len.field-0.0 c.in_ok-values.ensures.meets (simp c.deref.ensures.value at (c.in_err-len.ensures m1)))
+    rw (p.1, p.2) (over_stops {A = Global} f fs c.args.sources.now c.args.span.now (λ vs is. and_then (run_filters f fs vs c.args.filter.now is) (λ ks. as_result (run_bodies f fs vs c.args.body.now ks))) c.in_ok-values.values c.args.meter.now m1 (Is {A = Global}) c.in_err-len.field-0.0 c.in_ok-values.ensures.meets (simp c.deref.ensures.value at (c.in_err-len.ensures m1)))
 
 pub filtered-returns-in_err-kept-clause-meets : goal.filtered-returns-in_err-kept-clause-meets
 filtered-returns-in_err-kept-clause-meets g t c =
@@ -415,7 +415,7 @@ filtered-returns-in_err-kept-clause-meets g t c =
     let T = ArePlaces {A = Global} in
     let o = run_filters f fs us c.args.filter.now (range_with_len 0 c.in_ok-len.len) in
     let k = λ (ks : List ℕ). as_result (run_bodies f fs us c.args.body.now ks) in
-    rw (p.1, p.2) (over_runs {A = Global} f fs c.args.sources.now c.args.span.now (λ vs is. then_out (run_filters f fs vs c.args.filter.now is) (λ ks. as_result (run_bodies f fs vs c.args.body.now ks))) c.in_ok-values.values c.args.meter.now m1 (Is {A = Global}) c.all_filters.new.meter c.in_ok-len.len (Err c.in_err-kept.field-0.0) c.in_ok-values.ensures.meets (simp c.deref.ensures.value at (c.in_ok-len.ensures m1))
+    rw (p.1, p.2) (over_runs {A = Global} f fs c.args.sources.now c.args.span.now (λ vs is. and_then (run_filters f fs vs c.args.filter.now is) (λ ks. as_result (run_bodies f fs vs c.args.body.now ks))) c.in_ok-values.values c.args.meter.now m1 (Is {A = Global}) c.all_filters.new.meter c.in_ok-len.len (Err c.in_err-kept.field-0.0) c.in_ok-values.ensures.meets (simp c.deref.ensures.value at (c.in_ok-len.ensures m1))
     (meets_err T (Is {A = Global}) m1 c.all_filters.new.meter c.in_err-kept.field-0.0 o k (simp c.deref-2.ensures.value at c.in_err-kept.ensures.meets)))
 
 pub filtered-returns-clause-meets : goal.filtered-returns-clause-meets
@@ -428,7 +428,7 @@ filtered-returns-clause-meets g t c =
     let T = ArePlaces {A = Global} in
     let o = run_filters f fs us c.args.filter.now (range_with_len 0 c.in_ok-len.len) in
     let k = λ (ks : List ℕ). as_result (run_bodies f fs us c.args.body.now ks) in
-    over_runs {A = Global} f fs c.args.sources.now c.args.span.now (λ vs is. then_out (run_filters f fs vs c.args.filter.now is) (λ ks. as_result (run_bodies f fs vs c.args.body.now ks))) c.in_ok-values.values c.args.meter.now m1 (Is {A = Global}) c.all_bodies.new.meter c.in_ok-len.len c.all_bodies.result c.in_ok-values.ensures.meets (simp c.deref.ensures.value at (c.in_ok-len.ensures m1))
+    over_runs {A = Global} f fs c.args.sources.now c.args.span.now (λ vs is. and_then (run_filters f fs vs c.args.filter.now is) (λ ks. as_result (run_bodies f fs vs c.args.body.now ks))) c.in_ok-values.values c.args.meter.now m1 (Is {A = Global}) c.all_bodies.new.meter c.in_ok-len.len c.all_bodies.result c.in_ok-values.ensures.meets (simp c.deref.ensures.value at (c.in_ok-len.ensures m1))
     (meets_then T (Is {A = Global}) m1 c.all_filters.new.meter c.all_bodies.new.meter c.in_ok-kept.kept c.all_bodies.result o k (simp c.deref-2.ensures.value at c.in_ok-kept.ensures.meets)
     (λ ks e. rw (← e) (simp (c.deref-3.ensures.value, c.deref-4.ensures.value) at c.all_bodies.ensures.meets)))
 
@@ -440,7 +440,7 @@ holds_at-returns-in_err-value-clause-meets g t c =
     let fs = frames_of s.scope.now in
     let p = err_from_is_err_and c.from_residual.result c.from_residual.ensures.1 in
     let o = f (row c.args.place (map tree_of s.values.now) ∷ fs) s.code.now in
-    rw (p.1, p.2) (meets_err (Is {A = Global}) (Keeps c.args.place) c.args.meter.now c.value_in.new.meter c.in_err-value.field-0.0 o (outcome.kept c.args.place) (simp frames-Row at c.in_err-value.ensures.meets))
+    rw (p.1, p.2) (meets_err (Is {A = Global}) (IsKeptPlace c.args.place) c.args.meter.now c.value_in.new.meter c.in_err-value.field-0.0 o (outcome.place_if_true c.args.place) (simp frames-Row at c.in_err-value.ensures.meets))
 
 pub holds_at-returns-clause-meets : goal.holds_at-returns-clause-meets
 holds_at-returns-clause-meets g t c =
@@ -449,7 +449,7 @@ holds_at-returns-clause-meets g t c =
     let f = run c.args.levels tb in
     let fs = frames_of s.scope.now in
     let o = f (row c.args.place (map tree_of s.values.now) ∷ fs) s.code.now in
-    keeps_truth {A = Global} c.args.meter.now c.value_in.new.meter c.in_ok-value.value c.truth.result c.args.place o c.truth.ensures (simp frames-Row at c.in_ok-value.ensures.meets)
+    keeps_truth {A = Global} c.args.meter.now c.value_in.new.meter c.in_ok-value.value c.read_truth.result c.args.place o c.read_truth.ensures (simp frames-Row at c.in_ok-value.ensures.meets)
 
 pub body_at-returns-in_err-value-clause-meets : goal.body_at-returns-in_err-value-clause-meets
 body_at-returns-in_err-value-clause-meets g t c =
@@ -459,7 +459,7 @@ body_at-returns-in_err-value-clause-meets g t c =
     let fs = frames_of s.scope.now in
     let p = err_from_is_err_and c.from_residual.result c.from_residual.ensures.1 in
     let o = f (row c.args.place (map tree_of s.values.now) ∷ fs) s.code.now in
-    rw (p.1, p.2) (meets_err (Is {A = Global}) (IsOne {A = Global}) c.args.meter.now c.value_in.new.meter c.in_err-value.field-0.0 o counted (simp frames-Row at c.in_err-value.ensures.meets))
+    rw (p.1, p.2) (meets_err (Is {A = Global}) (IsOne {A = Global}) c.args.meter.now c.value_in.new.meter c.in_err-value.field-0.0 o body_value (simp frames-Row at c.in_err-value.ensures.meets))
 
 pub body_at-returns-clause-meets : goal.body_at-returns-clause-meets
 body_at-returns-clause-meets g t c =
@@ -468,7 +468,7 @@ body_at-returns-clause-meets g t c =
     let f = run c.args.levels tb in
     let fs = frames_of s.scope.now in
     let o = f (row c.args.place (map tree_of s.values.now) ∷ fs) s.code.now in
-    meets_then (Is {A = Global}) (IsOne {A = Global}) c.args.meter.now c.value_in.new.meter c.paid.new.meter c.in_ok-value.value c.paid.result o counted (simp frames-Row at c.in_ok-value.ensures.meets) (λ x e. subst (λ y. Meets (IsOne {A = Global}) c.value_in.new.meter c.paid.result c.paid.new.meter (counted y)) e c.paid.ensures.meets)
+    meets_then (Is {A = Global}) (IsOne {A = Global}) c.args.meter.now c.value_in.new.meter c.pay.new.meter c.in_ok-value.value c.pay.result o body_value (simp frames-Row at c.in_ok-value.ensures.meets) (λ x e. subst (λ y. Meets (IsOne {A = Global}) c.value_in.new.meter c.pay.result c.pay.new.meter (body_value y)) e c.pay.ensures.meets)
 
 pub all_bodies-returns-clause-meets : goal.all_bodies-returns-clause-meets
 all_bodies-returns-clause-meets g t c =
@@ -478,7 +478,7 @@ all_bodies-returns-clause-meets g t c =
     let o = λ (ks : List ℕ). run_bodies f fs (map tree_of c.args.values.now) c.args.body.now ks in
     let whole = range_whole is c.len.result c.len.ensures in
     let m1 = c.bodies.new.meter in
-    meets_then (Has {A = Global}) (Is {A = Global}) c.args.meter.now m1 m1 c.in_ok-builder.builder c.finished.result (o is) (λ us. value (values.sequence us) 0 0) (subst (λ ks. Meets (Has {A = Global}) c.args.meter.now (Ok c.in_ok-builder.builder) m1 (o ks)) whole c.in_ok-builder.ensures.meets) (λ us e. rw (← e) (made_value m1 c.finished.result (values.sequence (elements_of c.in_ok-builder.builder)) c.finished.ensures))
+    meets_then (Has {A = Global}) (Is {A = Global}) c.args.meter.now m1 m1 c.in_ok-builder.builder c.finish.result (o is) (λ us. value (values.sequence us) 0 0) (subst (λ ks. Meets (Has {A = Global}) c.args.meter.now (Ok c.in_ok-builder.builder) m1 (o ks)) whole c.in_ok-builder.ensures.meets) (λ us e. rw (← e) (made_value m1 c.finish.result (values.sequence (elements_of c.in_ok-builder.builder)) c.finish.ensures))
 
 pub all_bodies-returns-in_err-builder-clause-meets : goal.all_bodies-returns-in_err-builder-clause-meets
 all_bodies-returns-in_err-builder-clause-meets g t c =
@@ -505,19 +505,19 @@ all_filters-returns-clause-meets g t c =
 pub filters_one_by_one-returns-in_err-holds-clause-meets : goal.filters_one_by_one-returns-in_err-holds-clause-meets
 filters_one_by_one-returns-in_err-holds-clause-meets g t c =
     let s = c.args.interval.now in
-    let q = λ (k : ℕ). then_out (run_at (run c.args.levels (g.T.Tops.table s.tops.now)) (frames_of s.scope.now) (map tree_of s.values.now) s.code.now k) (outcome.kept k) in
+    let q = λ (k : ℕ). and_then (run_at (run c.args.levels (g.T.Tops.table s.tops.now)) (frames_of s.scope.now) (map tree_of s.values.now) s.code.now k) (outcome.place_if_true k) in
     let is = places_of s.places in
     let n = c.args.to in
     let k = c.loop-turn.turn in
     let i = c.at-place.result in
     let next = range_first is k n i c.loop-turn-test.true c.at-place.ensures in
     let p = err_from_is_err_and c.from_residual.result c.from_residual.ensures.1 in
-    rw (p.1, p.2) (turn_stops (ArePlaces {A = Global}) (Keeps i) q (slice_range is k n) (slice_range is (k + 1) n) i c.loop-turn.meter.fuel c.args.meter.now.depth c.loop-turn.most c.loop-turn.kept.items c.args.meter.now c.holds_at.new.meter c.in_err-holds.field-0.0 (all_beside q (slice_range is c.args.from n)) next c.loop-turn.invariant.leads c.in_err-holds.ensures.meets)
+    rw (p.1, p.2) (turn_stops (ArePlaces {A = Global}) (IsKeptPlace i) q (slice_range is k n) (slice_range is (k + 1) n) i c.loop-turn.meter.fuel c.args.meter.now.depth c.loop-turn.most c.loop-turn.kept.items c.args.meter.now c.holds_at.new.meter c.in_err-holds.field-0.0 (all_beside q (slice_range is c.args.from n)) next c.loop-turn.invariant.leads c.in_err-holds.ensures.meets)
 
 pub filters_one_by_one-returns-in_err-keep_if-clause-meets : goal.filters_one_by_one-returns-in_err-keep_if-clause-meets
 filters_one_by_one-returns-in_err-keep_if-clause-meets g t c =
     let s = c.args.interval.now in
-    let q = λ (k : ℕ). then_out (run_at (run c.args.levels (g.T.Tops.table s.tops.now)) (frames_of s.scope.now) (map tree_of s.values.now) s.code.now k) (outcome.kept k) in
+    let q = λ (k : ℕ). and_then (run_at (run c.args.levels (g.T.Tops.table s.tops.now)) (frames_of s.scope.now) (map tree_of s.values.now) s.code.now k) (outcome.place_if_true k) in
     let is = places_of s.places in
     let n = c.args.to in
     let p = err_from_is_err_and c.from_residual-in_err-keep_if.result c.from_residual-in_err-keep_if.ensures.1 in
@@ -526,14 +526,14 @@ filters_one_by_one-returns-in_err-keep_if-clause-meets g t c =
 pub filters_one_by_one-loop-turn-preserved : goal.filters_one_by_one-loop-turn-preserved
 filters_one_by_one-loop-turn-preserved g t c =
     let s = c.args.interval.now in
-    let q = λ (k : ℕ). then_out (run_at (run c.args.levels (g.T.Tops.table s.tops.now)) (frames_of s.scope.now) (map tree_of s.values.now) s.code.now k) (outcome.kept k) in
+    let q = λ (k : ℕ). and_then (run_at (run c.args.levels (g.T.Tops.table s.tops.now)) (frames_of s.scope.now) (map tree_of s.values.now) s.code.now k) (outcome.place_if_true k) in
     let is = places_of s.places in
     let n = c.args.to in
     let k = c.loop-turn.turn in
     let i = c.at-place.result in
     let next = range_first is k n i c.loop-turn-test.true c.at-place.ensures in
     record {
-      leads = turn_next (ArePlaces {A = Global}) (Keeps i) q (slice_range is k n) (slice_range is (k + 1) n) i c.loop-turn.meter.fuel c.args.meter.now.depth c.loop-turn.most _ c.loop-turn.kept.items c.keep_if.new.kept.items (cond c.in_ok-holds.holds (i ∷ []) []) c.args.meter.now c.holds_at.new.meter c.in_ok-holds.holds (all_beside q (slice_range is c.args.from n))
+      leads = turn_next (ArePlaces {A = Global}) (IsKeptPlace i) q (slice_range is k n) (slice_range is (k + 1) n) i c.loop-turn.meter.fuel c.args.meter.now.depth c.loop-turn.most _ c.loop-turn.kept.items c.keep_if.new.kept.items (cond c.in_ok-holds.holds (i ∷ []) []) c.args.meter.now c.holds_at.new.meter c.in_ok-holds.holds (all_beside q (slice_range is c.args.from n))
           next (λ zs e. sym e) c.in_ok-keep_if.ensures c.deepest-most.ensures c.loop-turn.invariant.leads c.in_ok-holds.ensures.meets;
       spent = omega (arith, c.deepest-most.ensures, c.loop-turn.invariant.spent, c.in_ok-holds.ensures.spent);
       begun = c.loop-turn.invariant.begun;
@@ -542,7 +542,7 @@ filters_one_by_one-loop-turn-preserved g t c =
 pub filters_one_by_one-returns-clause-meets : goal.filters_one_by_one-returns-clause-meets
 filters_one_by_one-returns-clause-meets g t c =
     let s = c.args.interval.now in
-    let q = λ (k : ℕ). then_out (run_at (run c.args.levels (g.T.Tops.table s.tops.now)) (frames_of s.scope.now) (map tree_of s.values.now) s.code.now k) (outcome.kept k) in
+    let q = λ (k : ℕ). and_then (run_at (run c.args.levels (g.T.Tops.table s.tops.now)) (frames_of s.scope.now) (map tree_of s.values.now) s.code.now k) (outcome.place_if_true k) in
     let is = places_of s.places in
     let n = c.args.to in
     turns_done (ArePlaces {A = Global}) q (slice_range is c.loop-turn.turn n) c.loop-turn.meter.fuel c.args.meter.now.depth c.loop-turn.most c.loop-turn.kept.items c.args.meter.now c.loop-turn.kept (all_beside q (slice_range is c.args.from n)) (range_none is c.loop-turn.turn n c.loop-turn-test.false) c.loop-turn.invariant.leads refl
@@ -553,22 +553,22 @@ filters-fork-left-requires-sync-S g t c = λ κs lives. search (sendable, standa
 pub half_of_filters-returns : goal.half_of_filters-returns
 half_of_filters-returns g t c =
     let s = c.args.interval.now in
-    let q = λ (k : ℕ). then_out (run_at (run c.args.levels (g.T.Tops.table s.tops.now)) (frames_of s.scope.now) (map tree_of s.values.now) s.code.now k) (outcome.kept k) in
+    let q = λ (k : ℕ). and_then (run_at (run c.args.levels (g.T.Tops.table s.tops.now)) (frames_of s.scope.now) (map tree_of s.values.now) s.code.now k) (outcome.place_if_true k) in
     let is = places_of s.places in
-    let begun = c.begun_with-begun in
-    subst (λ (fuel : ℕ). Finds (ArePlaces {A = Global}) fuel (record { found = c.filters-found.result; cost = c.cost_since-cost.result }) (all_beside q (slice_range is c.args.from c.args.to))) begun.ensures.fuel
+    let begun = c.begin_meter-begun in
+    subst (λ (fuel : ℕ). HalfFinds (ArePlaces {A = Global}) fuel (record { found = c.filters-found.result; cost = c.cost_since-cost.result }) (all_beside q (slice_range is c.args.from c.args.to))) begun.ensures.fuel
     (finds (ArePlaces {A = Global}) begun.result c.filters-found.new.meter c.filters-found.result c.cost_since-cost.result (all_beside q (slice_range is c.args.from c.args.to)) begun.ensures.depth c.filters-found.ensures.spent c.cost_since-cost.ensures.work c.cost_since-cost.ensures.depth c.filters-found.ensures.meets)
 
-pub filters-joined_places-requires-clause-left : goal.filters-joined_places-requires-clause-left
-filters-joined_places-requires-clause-left g t c = (c.fork-left.ensures.left c.args.meter.now refl).0
+pub filters-join_places-requires-clause-left : goal.filters-join_places-requires-clause-left
+filters-join_places-requires-clause-left g t c = (c.fork-left.ensures.left c.args.meter.now refl).0
 
-pub filters-joined_places-requires-clause-right : goal.filters-joined_places-requires-clause-right
-filters-joined_places-requires-clause-right g t c = (c.fork-left.ensures.right c.args.meter.now refl).0
+pub filters-join_places-requires-clause-right : goal.filters-join_places-requires-clause-right
+filters-join_places-requires-clause-right g t c = (c.fork-left.ensures.right c.args.meter.now refl).0
 
 pub filters-returns-clause-meets : goal.filters-returns-clause-meets
 filters-returns-clause-meets g t c =
     let s = c.args.interval.now in
-    let q = λ (k : ℕ). then_out (run_at (run c.args.levels (g.T.Tops.table s.tops.now)) (frames_of s.scope.now) (map tree_of s.values.now) s.code.now k) (outcome.kept k) in
+    let q = λ (k : ℕ). and_then (run_at (run c.args.levels (g.T.Tops.table s.tops.now)) (frames_of s.scope.now) (map tree_of s.values.now) s.code.now k) (outcome.place_if_true k) in
     let is = places_of s.places in
     let from = c.args.from in
     let to = c.args.to in
@@ -576,13 +576,13 @@ filters-returns-clause-meets g t c =
     let left = slice_range is from centre in
     let right = slice_range is centre to in
     let cut = ap (all_beside q) (range_cut is from centre to (omega arith) (omega arith)) ∙ all_halved q left right in
-    subst (λ o. Meets (ArePlaces {A = Global}) c.args.meter.now c.joined_places.result c.joined_places.new.meter o) (sym cut)
-    (c.joined_places.ensures.meets (all_beside q left) (all_beside q right) (c.fork-left.ensures.left c.args.meter.now refl).1 (c.fork-left.ensures.right c.args.meter.now refl).1)
+    subst (λ o. Meets (ArePlaces {A = Global}) c.args.meter.now c.join_places.result c.join_places.new.meter o) (sym cut)
+    (c.join_places.ensures.meets (all_beside q left) (all_beside q right) (c.fork-left.ensures.left c.args.meter.now refl).1 (c.fork-left.ensures.right c.args.meter.now refl).1)
 
 pub bodies_one_by_one-returns-in_err-value-clause-meets : goal.bodies_one_by_one-returns-in_err-value-clause-meets
 bodies_one_by_one-returns-in_err-value-clause-meets g t c =
     let s = c.args.interval.now in
-    let q = λ (k : ℕ). then_out (run_at (run c.args.levels (g.T.Tops.table s.tops.now)) (frames_of s.scope.now) (map tree_of s.values.now) s.code.now k) counted in
+    let q = λ (k : ℕ). and_then (run_at (run c.args.levels (g.T.Tops.table s.tops.now)) (frames_of s.scope.now) (map tree_of s.values.now) s.code.now k) body_value in
     let is = places_of s.places in
     let n = c.args.to in
     let k = c.loop-turn.turn in
@@ -594,7 +594,7 @@ bodies_one_by_one-returns-in_err-value-clause-meets g t c =
 pub bodies_one_by_one-returns-in_err-add-clause-meets : goal.bodies_one_by_one-returns-in_err-add-clause-meets
 bodies_one_by_one-returns-in_err-add-clause-meets g t c =
     let s = c.args.interval.now in
-    let q = λ (k : ℕ). then_out (run_at (run c.args.levels (g.T.Tops.table s.tops.now)) (frames_of s.scope.now) (map tree_of s.values.now) s.code.now k) counted in
+    let q = λ (k : ℕ). and_then (run_at (run c.args.levels (g.T.Tops.table s.tops.now)) (frames_of s.scope.now) (map tree_of s.values.now) s.code.now k) body_value in
     let is = places_of s.places in
     let n = c.args.to in
     let p = err_from_is_err_and c.from_residual-in_err-add.result c.from_residual-in_err-add.ensures.1 in
@@ -603,7 +603,7 @@ bodies_one_by_one-returns-in_err-add-clause-meets g t c =
 pub bodies_one_by_one-loop-turn-preserved : goal.bodies_one_by_one-loop-turn-preserved
 bodies_one_by_one-loop-turn-preserved g t c =
     let s = c.args.interval.now in
-    let q = λ (k : ℕ). then_out (run_at (run c.args.levels (g.T.Tops.table s.tops.now)) (frames_of s.scope.now) (map tree_of s.values.now) s.code.now k) counted in
+    let q = λ (k : ℕ). and_then (run_at (run c.args.levels (g.T.Tops.table s.tops.now)) (frames_of s.scope.now) (map tree_of s.values.now) s.code.now k) body_value in
     let is = places_of s.places in
     let n = c.args.to in
     let k = c.loop-turn.turn in
@@ -619,7 +619,7 @@ bodies_one_by_one-loop-turn-preserved g t c =
 pub bodies_one_by_one-returns-clause-meets : goal.bodies_one_by_one-returns-clause-meets
 bodies_one_by_one-returns-clause-meets g t c =
     let s = c.args.interval.now in
-    let q = λ (k : ℕ). then_out (run_at (run c.args.levels (g.T.Tops.table s.tops.now)) (frames_of s.scope.now) (map tree_of s.values.now) s.code.now k) counted in
+    let q = λ (k : ℕ). and_then (run_at (run c.args.levels (g.T.Tops.table s.tops.now)) (frames_of s.scope.now) (map tree_of s.values.now) s.code.now k) body_value in
     let is = places_of s.places in
     let n = c.args.to in
     turns_done (Has {A = Global}) q (slice_range is c.loop-turn.turn n) c.loop-turn.meter.fuel c.args.meter.now.depth c.loop-turn.most (elements_of c.loop-turn.builder) c.args.meter.now c.loop-turn.builder (all_beside q (slice_range is c.args.from n)) (range_none is c.loop-turn.turn n c.loop-turn-test.false) c.loop-turn.invariant.leads refl
@@ -630,22 +630,22 @@ bodies-fork-left-requires-sync-S g t c = λ κs lives. search (sendable, standar
 pub half_of_bodies-returns : goal.half_of_bodies-returns
 half_of_bodies-returns g t c =
     let s = c.args.interval.now in
-    let q = λ (k : ℕ). then_out (run_at (run c.args.levels (g.T.Tops.table s.tops.now)) (frames_of s.scope.now) (map tree_of s.values.now) s.code.now k) counted in
+    let q = λ (k : ℕ). and_then (run_at (run c.args.levels (g.T.Tops.table s.tops.now)) (frames_of s.scope.now) (map tree_of s.values.now) s.code.now k) body_value in
     let is = places_of s.places in
-    let begun = c.begun_with-begun in
-    subst (λ (fuel : ℕ). Finds (Has {A = Global}) fuel (record { found = c.bodies-found.result; cost = c.cost_since-cost.result }) (all_beside q (slice_range is c.args.from c.args.to))) begun.ensures.fuel
+    let begun = c.begin_meter-begun in
+    subst (λ (fuel : ℕ). HalfFinds (Has {A = Global}) fuel (record { found = c.bodies-found.result; cost = c.cost_since-cost.result }) (all_beside q (slice_range is c.args.from c.args.to))) begun.ensures.fuel
     (finds (Has {A = Global}) begun.result c.bodies-found.new.meter c.bodies-found.result c.cost_since-cost.result (all_beside q (slice_range is c.args.from c.args.to)) begun.ensures.depth c.bodies-found.ensures.spent c.cost_since-cost.ensures.work c.cost_since-cost.ensures.depth c.bodies-found.ensures.meets)
 
-pub bodies-joined_values-requires-clause-left : goal.bodies-joined_values-requires-clause-left
-bodies-joined_values-requires-clause-left g t c = (c.fork-left.ensures.left c.args.meter.now refl).0
+pub bodies-join_values-requires-clause-left : goal.bodies-join_values-requires-clause-left
+bodies-join_values-requires-clause-left g t c = (c.fork-left.ensures.left c.args.meter.now refl).0
 
-pub bodies-joined_values-requires-clause-right : goal.bodies-joined_values-requires-clause-right
-bodies-joined_values-requires-clause-right g t c = (c.fork-left.ensures.right c.args.meter.now refl).0
+pub bodies-join_values-requires-clause-right : goal.bodies-join_values-requires-clause-right
+bodies-join_values-requires-clause-right g t c = (c.fork-left.ensures.right c.args.meter.now refl).0
 
 pub bodies-returns-clause-meets : goal.bodies-returns-clause-meets
 bodies-returns-clause-meets g t c =
     let s = c.args.interval.now in
-    let q = λ (k : ℕ). then_out (run_at (run c.args.levels (g.T.Tops.table s.tops.now)) (frames_of s.scope.now) (map tree_of s.values.now) s.code.now k) counted in
+    let q = λ (k : ℕ). and_then (run_at (run c.args.levels (g.T.Tops.table s.tops.now)) (frames_of s.scope.now) (map tree_of s.values.now) s.code.now k) body_value in
     let is = places_of s.places in
     let from = c.args.from in
     let to = c.args.to in
@@ -653,5 +653,5 @@ bodies-returns-clause-meets g t c =
     let left = slice_range is from centre in
     let right = slice_range is centre to in
     let cut = ap (all_beside q) (range_cut is from centre to (omega arith) (omega arith)) ∙ all_halved q left right in
-    subst (λ o. Meets (Has {A = Global}) c.args.meter.now c.joined_values.result c.joined_values.new.meter o) (sym cut)
-    (c.joined_values.ensures.meets (all_beside q left) (all_beside q right) (c.fork-left.ensures.left c.args.meter.now refl).1 (c.fork-left.ensures.right c.args.meter.now refl).1)
+    subst (λ o. Meets (Has {A = Global}) c.args.meter.now c.join_values.result c.join_values.new.meter o) (sym cut)
+    (c.join_values.ensures.meets (all_beside q left) (all_beside q right) (c.fork-left.ensures.left c.args.meter.now refl).1 (c.fork-left.ensures.right c.args.meter.now refl).1)

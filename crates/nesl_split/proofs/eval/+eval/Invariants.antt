@@ -3,8 +3,8 @@ use Rattle.std.specs.Prelude.{slice_range}
 use Rattle.nesl_values.specs.View.{tree_of}
 use Rattle.nesl_values_builder.specs.Elements.{elements_of}
 use Rattle.nesl_eval_code.specs.Run.{run, run_all, run_let, run_at}
-use Rattle.nesl_eval_meaning.specs.Out.{then_out, all_beside}
-use Rattle.nesl_eval_meaning.specs.Outcome.{kept, counted}
+use Rattle.nesl_eval_meaning.specs.Out.{and_then, all_beside}
+use Rattle.nesl_eval_meaning.specs.Outcome.{place_if_true, body_value}
 use Rattle.nesl_eval_nodes.specs.Scopes.{frames_of}
 use Rattle.nesl_eval_nodes.specs.Sides.{places_of, Has}
 use Rattle.nesl_eval_nodes.specs.Meets.{Is, Are}
@@ -139,7 +139,7 @@ invariant-in_let-loop-code g l =
 abbrev pub invariant-filters_one_by_one-loop-turn : goal.invariant-filters_one_by_one-loop-turn
 invariant-filters_one_by_one-loop-turn g l =
     let s = l.interval in
-    let p = λ (i : ℕ). then_out (run_at (run l.levels (g.T.Tops.table s.tops.now)) (frames_of s.scope.now) (map tree_of s.values.now) s.code.now i) (kept i) in
+    let p = λ (i : ℕ). and_then (run_at (run l.levels (g.T.Tops.table s.tops.now)) (frames_of s.scope.now) (map tree_of s.values.now) s.code.now i) (place_if_true i) in
     let is = places_of s.places in
     record {
       leads : LeadsTo (ArePlaces {A = Global}) (meter l.meter.fuel l.start) (after l.kept.items l.most (all_beside p (slice_range is l.turn l.to))) l.fn.meter (all_beside p (slice_range is l.from l.to));
@@ -150,7 +150,7 @@ invariant-filters_one_by_one-loop-turn g l =
 abbrev pub invariant-bodies_one_by_one-loop-turn : goal.invariant-bodies_one_by_one-loop-turn
 invariant-bodies_one_by_one-loop-turn g l =
     let s = l.interval in
-    let p = λ (i : ℕ). then_out (run_at (run l.levels (g.T.Tops.table s.tops.now)) (frames_of s.scope.now) (map tree_of s.values.now) s.code.now i) counted in
+    let p = λ (i : ℕ). and_then (run_at (run l.levels (g.T.Tops.table s.tops.now)) (frames_of s.scope.now) (map tree_of s.values.now) s.code.now i) body_value in
     let is = places_of s.places in
     record {
       leads : LeadsTo (Has {A = Global}) (meter l.meter.fuel l.start) (after (elements_of l.builder) l.most (all_beside p (slice_range is l.turn l.to))) l.fn.meter (all_beside p (slice_range is l.from l.to));

@@ -1,5 +1,5 @@
 use Rattle.std.proofs.Common.{◌≡◌, ℕ, [], Option, Some, IfSome, length, subst, arith}
-use Rattle.nesl_types_bank.specs.Readings.{found, Keeps, IsReading}
+use Rattle.nesl_types_bank.specs.Readings.{found, KeepsRead, IsReading}
 use Rattle.nesl_types_bank.proofs.MostGeneral.{AreReadBelow, read_more, all_read}
 use Rattle.nesl_types_bank.proofs.graph.read_all.Goals as goal
 
@@ -9,7 +9,7 @@ loop-place-preserved c =
     let old = c.loop-place.states in
     let new = c.read_place.new.states in
     let r = c.in_ok-at.ensures in
-    let keeps = subst (λ (o : Option ℕ). IfSome o (λ at. Keeps old new)) c.in-Some.is r.keeps in
+    let keeps = subst (λ (o : Option ℕ). IfSome o (λ at. KeepsRead old new)) c.in-Some.is r.keeps in
     let reading = subst (λ (o : Option ℕ). IfSome o (λ at. IsReading ns new c.read_place.new.bank [])) c.in-Some.is r.reading in
     let at_found = subst (λ (o : Option ℕ). IfSome o (λ at. found ns new c.loop-place.place ≡ Some at)) c.in-Some.is r.found in
     read_more ns old new c.loop-place.bank c.read_place.new.bank c.loop-place.places.items c.push.new.self.items c.loop-place.place c.in-Some.at c.in_ok-push-in-Some.ensures.items keeps at_found reading c.loop-place.invariant

@@ -6,7 +6,7 @@ use Rattle.nesl_types_bank.specs.Term.{Term, nodes}
 use Rattle.nesl_types_bank.specs.Substitution.{substitute}
 use Rattle.nesl_types_bank.specs.declared.graph.Node.{Node}
 use Rattle.nesl_types_bank.specs.declared.graph.Read.{Read}
-use Rattle.nesl_types_bank.specs.Graph.{Fits, IsFlat, IsGraph, AreRead}
+use Rattle.nesl_types_bank.specs.Graph.{FitsGraph, IsFlat, IsGraph, AreRead}
 use Rattle.nesl_types_bank.specs.Types.{type_at, size_of}
 use Rattle.nesl_unify.specs.Members.{IsInAll}
 use Rattle.nesl_unify.specs.Pairs.{AreEqual}
@@ -17,7 +17,7 @@ use Rattle.nesl_unify.proofs.solve.solve_table.Goals as goal
 pub returns-in_err-unify-clause-none : goal.returns-in_err-unify-clause-none
 returns-in_err-unify-clause-none c = λ e s of b m h.
     let p = c.args.pending.items in
-    (subst (λ (l : List Node). (w : ℕ → Term) → Fits w l → AreEqual w p → ⊥) c.as_mut_slice.ensures.value (c.in_err-unify.ensures.none (search rules))) m.0 m.1.fits m.1.equal
+    (subst (λ (l : List Node). (w : ℕ → Term) → FitsGraph w l → AreEqual w p → ⊥) c.as_mut_slice.ensures.value (c.in_err-unify.ensures.none (search rules))) m.0 m.1.fits m.1.equal
 
 pub read_types-requires-clause-graph : goal.read_types-requires-clause-graph
 read_types-requires-clause-graph c =
@@ -58,8 +58,8 @@ returns-in-None-clause-none c = λ i s of b m h.
     let k = c.in_ok-unify.ensures in
     let at : c.as_slice.result.now ≡ ns = c.as_slice.ensures.value ∙ e in
     let same = same_start start given ns p c.as_mut_slice.ensures.value k.same in
-    let none = subst (λ (o : Option Read). IfNone o ((w : ℕ → Term) → Fits w c.as_slice.result.now → (v : ℕ) × ((v < n) × (4096 < nodes (w v))))) c.in-None.is c.in_ok-read.ensures.none in
-    none_read n start ns p same (subst (λ (l : List Node). (w : ℕ → Term) → Fits w l → (v : ℕ) × ((v < n) × (4096 < nodes (w v)))) at none) s b m
+    let none = subst (λ (o : Option Read). IfNone o ((w : ℕ → Term) → FitsGraph w c.as_slice.result.now → (v : ℕ) × ((v < n) × (4096 < nodes (w v))))) c.in-None.is c.in_ok-read.ensures.none in
+    none_read n start ns p same (subst (λ (l : List Node). (w : ℕ → Term) → FitsGraph w l → (v : ℕ) × ((v < n) × (4096 < nodes (w v)))) at none) s b m
 
 pub returns-in_err-classes-clause-none : goal.returns-in_err-classes-clause-none
 returns-in_err-classes-clause-none c = λ i s of b m h.

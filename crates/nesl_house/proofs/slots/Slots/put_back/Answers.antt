@@ -1,5 +1,5 @@
 use Rattle.std.proofs.Common.{◌≡◌, ◌∙◌, sym, ap, rules, arith, length-set, ◌<◌, length}
-use Rattle.nesl_session_step.specs.State.{told_lines}
+use Rattle.nesl_session_step.specs.State.{recorded_lines}
 use Rattle.nesl_house.specs.declared.slots.Slot.TheVariants.{Home}
 use Rattle.nesl_house.specs.Register.{Seat}
 use Rattle.nesl_house.specs.Slots.{counted}
@@ -21,9 +21,9 @@ pub invariant_of-self-clause-counted_all : goal.invariant_of-self-clause-counted
 invariant_of-self-clause-counted_all c =
     let inside : c.place.result < length c.args.self.now.slots.items = omega (arith, c.place.ensures.in_range, c.args.self.now.places) in
     other_count c.args.self.now.slots.items c.place.result c.args.self.now.booked c.from.result c.from-2.result (Home c.args.seat) c.index_mut-slot.result.now inside c.args.self.now.counted_all
-    (c.from.ensures ∙ c.counted-had.ensures ∙ ap counted c.index_mut-slot.ensures.value) (c.from-2.ensures ∙ c.told_lines-has.ensures ∙ ap told_lines c.session.ensures)
+    (c.from.ensures ∙ c.counted-had.ensures ∙ ap counted c.index_mut-slot.ensures.value) (c.from-2.ensures ∙ c.recorded_lines-has.ensures ∙ ap recorded_lines c.session.ensures)
 
 pub invariant_of-self-clause-small : goal.invariant_of-self-clause-small
 invariant_of-self-clause-small c =
-    let same = c.told_lines-has.ensures ∙ ap told_lines c.session.ensures in
-    small_set c.args.self.now.slots.items c.place.result (Home c.args.seat) (omega (arith, same, c.told_lines-has.type_inv)) c.args.self.now.small
+    let same = c.recorded_lines-has.ensures ∙ ap recorded_lines c.session.ensures in
+    small_set c.args.self.now.slots.items c.place.result (Home c.args.seat) (omega (arith, same, c.recorded_lines-has.type_inv)) c.args.self.now.small

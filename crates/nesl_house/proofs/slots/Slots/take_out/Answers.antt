@@ -1,6 +1,6 @@
 use Rattle.std.proofs.Common.{◌≡◌, ◌∙◌, sym, ap, Some, arith, length-set, ◌<◌, length}
 use Rattle.std.proofs.lemmas.Option.{slice_get-get_or}
-use Rattle.nesl_session_step.specs.State.{told_lines}
+use Rattle.nesl_session_step.specs.State.{recorded_lines}
 use Rattle.nesl_house.specs.declared.slots.Slot.TheVariants.{Home, Away}
 use Rattle.nesl_house.specs.Slots.{counted}
 use Rattle.nesl_house.proofs.Boards.{same_count, small_set, in_place_set}
@@ -11,18 +11,18 @@ invariant_of-self-in-Home-clause-places c = length-set c.args.self.now.slots.ite
 
 pub invariant_of-self-in-Home-clause-in_place : goal.invariant_of-self-in-Home-clause-in_place
 invariant_of-self-in-Home-clause-in_place c =
-    in_place_set c.args.self.now.slots.items c.args.place c.replace.new.dest (λ seat e. let no' : Away c.told_lines.result ≡ Home seat = sym c.replace.ensures.after ∙ e in absurd (cc)) c.args.self.now.in_place
+    in_place_set c.args.self.now.slots.items c.args.place c.replace.new.dest (λ seat e. let no' : Away c.recorded_lines.result ≡ Home seat = sym c.replace.ensures.after ∙ e in absurd (cc)) c.args.self.now.in_place
 
 pub invariant_of-self-in-Home-clause-counted_all : goal.invariant_of-self-in-Home-clause-counted_all
 invariant_of-self-in-Home-clause-counted_all c =
     let inside : c.args.place < length c.args.self.now.slots.items = omega (arith, c.requires, c.args.self.now.places) in
-    let same : counted c.replace.new.dest ≡ counted c.index_mut-slot.result.now = ap counted c.replace.ensures.after ∙ c.told_lines.ensures ∙ ap told_lines c.session.ensures ∙ sym (ap counted c.in-Home.is) in
+    let same : counted c.replace.new.dest ≡ counted c.index_mut-slot.result.now = ap counted c.replace.ensures.after ∙ c.recorded_lines.ensures ∙ ap recorded_lines c.session.ensures ∙ sym (ap counted c.in-Home.is) in
     same_count c.args.self.now.slots.items c.args.place c.args.self.now.booked c.replace.new.dest c.index_mut-slot.result.now inside c.args.self.now.counted_all (same ∙ ap counted c.index_mut-slot.ensures.value)
 
 pub invariant_of-self-in-Home-clause-small : goal.invariant_of-self-in-Home-clause-small
 invariant_of-self-in-Home-clause-small c =
-    let same : counted c.replace.new.dest ≡ c.told_lines.result = ap counted c.replace.ensures.after in
-    small_set c.args.self.now.slots.items c.args.place c.replace.new.dest (omega (arith, same, c.told_lines.type_inv)) c.args.self.now.small
+    let same : counted c.replace.new.dest ≡ c.recorded_lines.result = ap counted c.replace.ensures.after in
+    small_set c.args.self.now.slots.items c.args.place c.replace.new.dest (omega (arith, same, c.recorded_lines.type_inv)) c.args.self.now.small
 
 pub returns-in-Away-clause-away : goal.returns-in-Away-clause-away
 returns-in-Away-clause-away c =

@@ -1,5 +1,5 @@
 use Rattle.std.proofs.Common.{subst}
-use Rattle.nesl_infer_rules.specs.Holds.{HoldsIn}
+use Rattle.nesl_infer_rules.specs.Steps.{HoldsIn}
 use Rattle.nesl_infer_rules.proofs.state.State.solve.Goals as goal
 
 pub returns-in-Some-clause-none : goal.returns-in-Some-clause-none

@@ -16,5 +16,5 @@ returns-in-Seated-clause-heard g c = λ first start lines texts t.
     let was : c.args.self.now.stage ≡ Seated lease = sym c.in-Seated.ensures.value in (
       c.go_on-in-Seated.ensures.table ∙ t.0,
       subst Q (sym c.go_on-in-Seated.ensures.stage)
-          (seated_more roster limits lease after lines texts c.args.line.now c.goes_on.ensures c.told_lines_grow.ensures.grow (subst P was t.1) (c.requires.1.says lease _ after c.speak-lease.ensures)),
+          (seated_more roster limits lease after lines texts c.args.line.now c.goes_on.ensures c.recorded_lines_grow.ensures.grow (subst P was t.1) (c.requires.1.says lease _ after c.speak-lease.ensures)),
     )

@@ -1,7 +1,7 @@
 use Rattle.std.proofs.Common.{List, sym, subst}
 use Rattle.nesl_syntax_tree.specs.Views.{tree_of}
-use Rattle.nesl_infer_names.specs.Names.{Names, Own}
-use Rattle.nesl_infer.specs.Answers.{Answers, IsTypeBy}
+use Rattle.nesl_infer_names.specs.Names.{Names, OwnName}
+use Rattle.nesl_infer.specs.Verdicts.{AnswersVerdict, IsTypeBy}
 use Rattle.nesl_infer_rules.specs.Contexts.{AreClosed}
 use Rattle.nesl_eval_code.specs.Stored.{Entry, top_of}
 use Rattle.nesl_session_bindings.proofs.Readers.{known_there}
@@ -13,5 +13,5 @@ infer_exp-requires c =
 
 pub returns : goal.returns
 returns c =
-    subst (λ (k : Own → Names). Answers (λ t. t) (IsTypeBy k (tree_of c.args.exp.now)) c.infer_exp.result)
+    subst (λ (k : OwnName → Names). AnswersVerdict (λ t. t) (IsTypeBy k (tree_of c.args.exp.now)) c.infer_exp.result)
     (known_there c.context.result.now c.self.inside.env c.args.self.now c.self.invariant.fit c.context.ensures c.self.view_is) c.infer_exp.ensures

@@ -1,8 +1,8 @@
 use Rattle.std.proofs.Common.{List, option_map, sym, subst}
 use Rattle.nesl_syntax_tree.specs.Views.{pattern_tree, signature_tree, tree_of}
-use Rattle.nesl_builtins.specs.Table.{function_type}
-use Rattle.nesl_infer_names.specs.Names.{Names, Own}
-use Rattle.nesl_infer.specs.Answers.{Answers, IsFunctionBy}
+use Rattle.nesl_builtins.specs.FunctionTypes.{function_type}
+use Rattle.nesl_infer_names.specs.Names.{Names, OwnName}
+use Rattle.nesl_infer.specs.Verdicts.{AnswersVerdict, IsFunctionBy}
 use Rattle.nesl_infer_rules.specs.Contexts.{AreClosed}
 use Rattle.nesl_eval_code.specs.Stored.{Entry, top_of}
 use Rattle.nesl_session_bindings.proofs.Readers.{known_there}
@@ -14,6 +14,6 @@ infer_function-requires c =
 
 pub returns : goal.returns
 returns c =
-    subst (λ (k : Own → Names).
-    Answers function_type (IsFunctionBy k c.args.name.now (pattern_tree c.args.pattern.now) (option_map signature_tree c.args.signature.now) (tree_of c.args.body.now)) c.infer_function.result)
+    subst (λ (k : OwnName → Names).
+    AnswersVerdict function_type (IsFunctionBy k c.args.name.now (pattern_tree c.args.pattern.now) (option_map signature_tree c.args.signature.now) (tree_of c.args.body.now)) c.infer_function.result)
     (known_there c.context.result.now c.self.inside.env c.args.self.now c.self.invariant.fit c.context.ensures c.self.view_is) c.infer_function.ensures

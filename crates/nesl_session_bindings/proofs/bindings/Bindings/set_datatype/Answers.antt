@@ -2,7 +2,7 @@ use Rattle.std.proofs.Common.{ℕ, ◌+◌, ◌<◌, ◌^◌, ◌∙◌, ap, ari
 use Rattle.nesl_types.specs.declared.bindings.Top.TheVariants as kind
 use Rattle.nesl_eval_code.specs.declared.env.Payload.TheVariants as payload
 use Rattle.nesl_eval_code.specs.Stored.{top_of}
-use Rattle.nesl_session_bindings.specs.Known.{datatypes, put}
+use Rattle.nesl_session_bindings.specs.Known.{datatype_count, put_binding}
 use Rattle.nesl_session_bindings.specs.Meanings.{datatype}
 use Rattle.nesl_session_bindings.specs.Stored.{bindings_of}
 use Rattle.nesl_session_bindings.proofs.Kept.{set_is, few_enough, datatype_set, tag_is_next}
@@ -11,7 +11,7 @@ use Rattle.nesl_session_bindings.proofs.bindings.Bindings.set_datatype.Goals as 
 pub overflow_add-elements : goal.overflow_add-elements
 overflow_add-elements c =
     let few : c.elements_beside-beside.result + c.nodes_of.result < 2 ^ 64 =
-    few_enough c.self.inside.env c.args.self.now c.self.inside.env c.args.name.now c.self.view_is (datatype (datatypes (bindings_of c.args.self.now)) c.args.content) (2 ^ 64)
+    few_enough c.self.inside.env c.args.self.now c.self.inside.env c.args.name.now c.self.view_is (datatype (datatype_count (bindings_of c.args.self.now)) c.args.content) (2 ^ 64)
     c.elements_beside-beside.result c.nodes_of.result c.elements_beside-beside.ensures c.nodes_of.ensures c.requires.room in
     omega (arith, few)
 
@@ -23,6 +23,6 @@ invariant_of-self-2 c =
 pub returns-clause-ok : goal.returns-clause-ok
 returns-clause-ok c =
     set_is c.self.inside.env c.args.self.now c.set.new.self c.args.name.now c.self.view_is (kind.Datatype c.datatypes-tag.result c.args.content) payload.Datatype c.in_ok-set.ensures.ok
-    ∙ ap (λ (k : ℕ). put c.args.name.now (datatype k c.args.content) (bindings_of c.args.self.now))
+    ∙ ap (λ (k : ℕ). put_binding c.args.name.now (datatype k c.args.content) (bindings_of c.args.self.now))
     (tag_is_next c.self.inside.env c.args.self.now c.set.new.self c.args.name.now c.self.view_is c.self.inside.elements c.elements_beside-beside.result c.nodes_of.result c.self.invariant c.elements_beside-beside.ensures
     c.datatypes-tag.result c.datatypes-tag.ensures)

@@ -1,7 +1,7 @@
 use Rattle.std.proofs.Common.{◌+◌, ◌<◌, ◌^◌, arith}
 use Rattle.nesl_types.specs.declared.bindings.Top.TheVariants as kind
 use Rattle.nesl_syntax_tree.specs.Views.{pattern_tree, tree_of}
-use Rattle.nesl_builtins.specs.Table.{function_type}
+use Rattle.nesl_builtins.specs.FunctionTypes.{function_type}
 use Rattle.nesl_eval_code.specs.declared.env.Payload.TheVariants as payload
 use Rattle.nesl_eval_code.specs.Stored.{top_of}
 use Rattle.nesl_session_bindings.specs.Nodes.{expression_nodes}

@@ -1,7 +1,0 @@
-use Rattle.std.proofs.Common.{subst}
-use Rattle.nesl_eval_meaning.specs.Outcome.{made}
-use Rattle.nesl_eval_nodes.specs.Meets.{Meets, Is}
-use Rattle.nesl_eval_nodes.proofs.nodes.tagged.Goals as goal
-
-pub returns-in-Ok : goal.returns-in-Ok
-returns-in-Ok g c = λ m. subst (λ t. Meets (Is {A = g.row.A.Denot}) m c.within_limit.result m (made c.args.span t)) c.in-Ok.ensures (c.within_limit.ensures m)

@@ -1,0 +1,53 @@
+use Rattle.std.proofs.Common.{◌≡◌, ◌+◌, ◌*◌, ◌-◌, ◌^◌, ◌∷◌, drop, length}
+use Rattle.std.specs.Prelude.{option_map}
+use Rattle.nesl_eval_blocks.specs.Flat.{pushing, flat, forgetting, room}
+use Rattle.nesl_eval_ops.specs.View.{block_of, sizes_of}
+use Rattle.nesl_eval_ops.specs.Lists.{parts_on, binding_on}
+use Rattle.nesl_eval_ops.proofs.laying.+laying.Given as goal
+
+abbrev pub decreases-laid : goal.decreases-laid
+decreases-laid l = (2 ^ 32 - l.at.now.height) * 4 + 4
+
+abbrev pub decreases-of_call : goal.decreases-of_call
+decreases-of_call l = (2 ^ 32 - l.at.now.height) * 4 + 3
+
+abbrev pub decreases-of_choice : goal.decreases-of_choice
+decreases-of_choice l = (2 ^ 32 - l.at.now.height) * 4 + 3
+
+abbrev pub decreases-of_each : goal.decreases-of_each
+decreases-of_each l = (2 ^ 32 - l.at.now.height) * 4 + 3
+
+abbrev pub decreases-of_filtered : goal.decreases-of_filtered
+decreases-of_filtered l = (2 ^ 32 - l.at.now.height) * 4 + 3
+
+abbrev pub decreases-inside : goal.decreases-inside
+decreases-inside l = (2 ^ 32 - l.at.now.height) * 4 + 5
+
+abbrev pub decreases-pushed : goal.decreases-pushed
+decreases-pushed l = (2 ^ 32 - l.at.now.height) * 4 + 5
+
+abbrev pub decreases-of_two : goal.decreases-of_two
+decreases-of_two l = (2 ^ 32 - l.at.now.height) * 4 + 6
+
+abbrev pub decreases-of_three : goal.decreases-of_three
+decreases-of_three l = (2 ^ 32 - l.at.now.height) * 4 + 6
+
+abbrev pub decreases-applying : goal.decreases-applying
+decreases-applying l = (2 ^ 32 - l.at.now.height) * 4 + 6
+
+abbrev pub decreases-of_sequence : goal.decreases-of_sequence
+decreases-of_sequence l = (2 ^ 32 - l.at.now.height) * 4 + 6
+
+abbrev pub decreases-of_let : goal.decreases-of_let
+decreases-of_let l = (2 ^ 32 - l.at.now.height) * 4 + 6
+
+abbrev pub invariant-pushed-loop-turn : goal.invariant-pushed-loop-turn
+invariant-pushed-loop-turn l =
+    block_of l.made ≡ pushing (parts_on l.at.height (sizes_of l.at.sizes.now) (drop (length l.codes - l.turn) l.codes)) (block_of l.fn.next)
+
+abbrev pub invariant-of_let-loop-turn : goal.invariant-of_let-loop-turn
+invariant-of_let-loop-turn l =
+    let h = l.at.height in
+    let ks = sizes_of l.at.sizes.now in
+    block_of l.made ≡ binding_on h ks (length l.bindings - l.turn) (drop (length l.bindings - l.turn) l.bindings)
+    (λ k. flat h (k ∷ ks) l.body (forgetting (room ks) (option_map block_of l.fn.next)))

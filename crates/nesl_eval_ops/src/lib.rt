@@ -1,0 +1,11 @@
+//! Code laid out in the order of evaluation: operations, each with those after it.
+#![tactic(auto)]
+
+mod laying;
+pub mod ops;
+mod sizes;
+#[cfg(test)]
+mod tests;
+
+pub use laying::{body_ops, expression_ops};
+pub use ops::{Callee, Leaf, Many, ManyNode, OneNode, Ops, Two, TwoNode, What};

@@ -1,0 +1,169 @@
+-- What is found for a node, from what is found for its parts.
+use Rattle.std.proofs.Common.{◌≡◌, ℕ, zero, suc, ◌+◌, ◌-◌, ◌<◌, pos, List, [], ◌∷◌, ◌++◌, map, length, replicate, get_or, Option, Some, refl, sym, ap, ◌∙◌, subst, arith}
+use Rattle.std.specs.Prelude.{slice_get}
+use Rattle.std.proofs.lemmas.List.{get_or-replicate, map-append, length-replicate}
+use Rattle.std.proofs.lemmas.Option.{same_Some, none-some, slice_get-get_or}
+use Rattle.nesl_lex.specs.declared.token.Span.{Span}
+use Rattle.nesl_values.specs.Tree.{pair}
+use Rattle.nesl_scalars.specs.declared.unary.Unary.{Unary}
+use Rattle.nesl_scalars.specs.declared.binary.Binary.{Binary}
+use Rattle.nesl_scalars.specs.Outcomes.{gives}
+use Rattle.nesl_scalars.specs.Scalars.{unary, binary}
+use Rattle.nesl_values.specs.Parts.{as_sequence}
+use Rattle.nesl_builtins.specs.declared.builtin.Builtin.TheVariants.{OfOne, OfTwo, OfSequences}
+use Rattle.nesl_seqs_base.specs.declared.seq_fn.SeqFn.TheVariants.{Length, ElementAt}
+use Rattle.nesl_values.specs.Tree as values
+use Rattle.nesl_eval_code.specs.declared.code.Code.{Code}
+use Rattle.nesl_eval_meaning.specs.Names.{Value}
+use Rattle.nesl_eval_code.specs.Frames.{Frames, frame}
+use Rattle.nesl_eval_meaning.specs.Out.{Out, value, fault, stuck, after_cost, and_then}
+use Rattle.nesl_eval_meaning.specs.Outcome.{small_enough, apply_builtin}
+use Rattle.nesl_eval_code.specs.Run.{Runs, Table, run, run_node, run_two, run_let}
+use Rattle.nesl_eval_columns.specs.declared.column.Column.{Column}
+use Rattle.nesl_eval_columns.specs.Each.{EachTwo, EachThree}
+use Rattle.nesl_eval_columns.specs.Columns.{leaves_of, Makes, MapsColumn}
+use Rattle.nesl_eval_plain.specs.Picked.{Picks}
+use Rattle.nesl_eval_plain.specs.Frames.{bound_at, IsAt, AreAt, AllAre}
+use Rattle.nesl_eval_plain.proofs.Comes.{entered_at, then_entered_at, one_at, two_at, pair_at, added_added}
+use Rattle.nesl_eval_plain.proofs.Elements.{element_at, length_at}
+
+-- what stands at a turn of lists that are related
+pub each_at : {X Y : Type 0} (P : X → Y → Type 0) (xs : List X) (ys : List Y) (k : ℕ) (x : X) → EachTwo P xs ys → slice_get xs k ≡ Some x → (y : Y) × (slice_get ys k ≡ Some y) × P x y
+each_at P [] ys k x h e = absurd (none-some x e)
+each_at P (a ∷ xs) [] k x h e = absurd h
+each_at P (a ∷ xs) (b ∷ ys) zero x h e = (b, refl, subst (λ z. P z b) (same_Some a x e) h.0)
+each_at P (a ∷ xs) (b ∷ ys) (suc k) x h e = each_at P xs ys k x h.1 e
+
+pub three_at : {X Y Z : Type 0} (P : X → Y → Z → Type 0) (xs : List X) (ys : List Y) (zs : List Z) (k : ℕ) (x : X) (y : Y) → EachThree P xs ys zs → slice_get xs k ≡ Some x → slice_get ys k ≡ Some y → (z : Z) × (slice_get zs k ≡ Some z) × P x y z
+three_at P [] ys zs k x y h e f = absurd (none-some x e)
+three_at P (a ∷ xs) [] zs k x y h e f = absurd (none-some y f)
+three_at P (a ∷ xs) (b ∷ ys) [] k x y h e f = absurd h
+three_at P (a ∷ xs) (b ∷ ys) (c ∷ zs) zero x y h e f = (c, refl, subst (λ u. P u y c) (same_Some a x e) (subst (λ v. P a v c) (same_Some b y f) h.0))
+three_at P (a ∷ xs) (b ∷ ys) (c ∷ zs) (suc k) x y h e f = three_at P xs ys zs k x y h.1 e f
+
+-- and the other way round
+pub two_from : {X Y : Type 0} (P : X → Y → Type 0) (xs : List X) (ys : List Y) → length ys ≡ length xs → ((k : ℕ) (x : X) → slice_get xs k ≡ Some x → (y : Y) × (slice_get ys k ≡ Some y) × P x y) → EachTwo P xs ys
+two_from P [] [] l h = tt
+two_from P [] (y ∷ ys) l h = absurd (omega arith)
+two_from P (x ∷ xs) [] l h = absurd (omega arith)
+two_from P (x ∷ xs) (y ∷ ys) l h =
+    let w = h 0 x refl in
+    (subst (λ z. P x z) (sym (same_Some y w.0 w.1)) w.2, two_from P xs ys (omega arith) (λ k z e. h (suc k) z e))
+
+-- the same outcomes
+pub at_so : (p q : Frames → Out Value) (at : ℕ → Option Frames) (vs : ℕ → Option Value) (ns : ℕ → Option ℕ) → ((fs : Frames) → p fs ≡ q fs) → AreAt q at vs ns → AreAt p at vs ns
+at_so p q at vs ns law h = λ k fs e. subst (IsAt vs ns k) (sym (law fs)) (h k fs e)
+
+-- the sums of costs
+abbrev pub Sums : (ℕ → Option ℕ) → (ℕ → Option ℕ) → (ℕ → Option ℕ) → Type 0
+Sums ms ns os = (k m n : ℕ) → ms k ≡ Some m → ns k ≡ Some n → os k ≡ Some (m + n)
+
+pub sums_same : (m n o : ℕ) → o ≡ m + n → Sums (λ k. Some m) (λ k. Some n) (λ k. Some o)
+sums_same m n o e = λ k i j f h. ap Some (omega (arith, same_Some m i f, same_Some n j h))
+
+-- one leaf at all turns
+replicated : (n k : ℕ) (v : Value) → k < n → slice_get (replicate n v) k ≡ Some v
+replicated n k v h = slice_get-get_or (replicate n v) k v (omega (arith, length-replicate n v)) ∙ ap Some (get_or-replicate n k v v h)
+
+pub everywhere : (p : Frames → Out Value) (at : ℕ → Option Frames) (count : ℕ) (v : Value) (vs : List Value) → ((k : ℕ) (fs : Frames) → at k ≡ Some fs → k < count) → vs ≡ replicate count v → AllAre p at (value v 0 0) → AreAt p at (slice_get vs) (λ k. Some 0)
+everywhere p at count v vs within e law = λ k fs h. (v, 0, ap (λ ws. slice_get ws k) e ∙ replicated count k v (within k fs h), refl, law k fs h)
+
+-- a node that is entered
+pub entered_finds : (n : ℕ) (t : Table) (c : Code) (at : ℕ → Option Frames) (vs ws : ℕ → Option Value) (ms ns : ℕ → Option ℕ) → 0 < n → ws ≡ vs → Sums ms (λ k. Some 1) ns → AreAt (λ fs. run_node (run (n - 1) t) t fs c) at vs ms → AreAt (λ fs. run n t fs c) at ws ns
+entered_finds n t c at vs ws ms ns some e sums h = λ k fs q.
+    let x = h k fs q in
+    (x.0, x.1 + 1, ap (λ us. us k) e ∙ x.2, sums k x.1 1 x.3 refl, entered_at n x.1 t fs c x.0 some x.4)
+
+pub then_entered_finds : (n : ℕ) (t : Table) (c : Code) (j : Value → Out Value) (at : ℕ → Option Frames) (vs ws : ℕ → Option Value) (ms ns : ℕ → Option ℕ) → 0 < n → ws ≡ vs → Sums ms (λ k. Some 1) ns → AreAt (λ fs. and_then (run_node (run (n - 1) t) t fs c) j) at vs ms → AreAt (λ fs. and_then (run n t fs c) j) at ws ns
+then_entered_finds n t c j at vs ws ms ns some e sums h = λ k fs q.
+    let x = h k fs q in
+    (x.0, x.1 + 1, ap (λ us. us k) e ∙ x.2, sums k x.1 1 x.3 refl, then_entered_at n x.1 t fs c j x.0 some x.4)
+
+-- functions of scalars
+pub two_finds : (f : Runs) (at : ℕ → Option Frames) (a b : Code) (s : Span) (g : Binary) (ms ns os : ℕ → Option ℕ) (xs ys zs : List Value) → AreAt (λ fs. f fs a) at (slice_get xs) ms → AreAt (λ fs. f fs b) at (slice_get ys) ns → Makes g xs ys zs → Sums ms ns os → AreAt (λ fs. run_two f fs a b (λ x y. apply_builtin s (OfTwo g) (pair x y))) at (slice_get zs) os
+two_finds f at a b s g ms ns os xs ys zs h i e sums = λ k fs q.
+    let x = h k fs q in
+    let y = i k fs q in
+    let z = three_at (λ x y z. binary g x y ≡ gives z) xs ys zs k x.0 y.0 e x.2 y.2 in
+    (z.0, x.1 + y.1, z.1, sums k x.1 y.1 x.3 y.3, two_at f fs a b s g x.0 y.0 z.0 x.1 y.1 x.4 y.4 z.2)
+
+pub pair_finds : (f : Runs) (at : ℕ → Option Frames) (a b : Code) (s s' : Span) (g : Binary) (ms ns os : ℕ → Option ℕ) (xs ys zs : List Value) → AreAt (λ fs. f fs a) at (slice_get xs) ms → AreAt (λ fs. f fs b) at (slice_get ys) ns → Makes g xs ys zs → Sums ms ns os → AreAt (λ fs. and_then (run_two f fs a b (λ x y. small_enough s' (pair x y))) (apply_builtin s (OfTwo g))) at (slice_get zs) os
+pair_finds f at a b s s' g ms ns os xs ys zs h i e sums = λ k fs q.
+    let x = h k fs q in
+    let y = i k fs q in
+    let z = three_at (λ x y z. binary g x y ≡ gives z) xs ys zs k x.0 y.0 e x.2 y.2 in
+    (z.0, x.1 + y.1, z.1, sums k x.1 y.1 x.3 y.3, pair_at f fs a b s s' g x.0 y.0 z.0 x.1 y.1 x.4 y.4 z.2)
+
+pub one_finds : (p : Frames → Out Value) (at : ℕ → Option Frames) (s : Span) (g : Unary) (ms : ℕ → Option ℕ) (xs zs : List Value) → AreAt p at (slice_get xs) ms → MapsColumn g xs zs → AreAt (λ fs. and_then (p fs) (apply_builtin s (OfOne g))) at (slice_get zs) ms
+one_finds p at s g ms xs zs h e = λ k fs q.
+    let x = h k fs q in
+    let z = each_at (λ x z. unary g x ≡ gives z) xs zs k x.0 e x.2 in
+    (z.0, x.1, z.1, x.3, one_at (p fs) s g x.0 z.0 x.1 x.4 z.2)
+
+-- elements and lengths of a sequence that is the same at all turns
+pub element_finds : (f : Runs) (at : ℕ → Option Frames) (a b : Code) (s : Span) (v : Value) (ms ns : ℕ → Option ℕ) (xs zs : List Value) → AllAre (λ fs. f fs a) at (value v 1 1) → AreAt (λ fs. f fs b) at (slice_get xs) ms → EachTwo (Picks v) xs zs → Sums ms (λ k. Some 1) ns → AreAt (λ fs. run_two f fs a b (λ x y. apply_builtin s (OfSequences ElementAt) (pair x y))) at (slice_get zs) ns
+element_finds f at a b s v ms ns xs zs h i e sums = λ k fs q.
+    let x = i k fs q in
+    let z = each_at (Picks v) xs zs k x.0 e x.2 in
+    (z.0, x.1 + 1, z.1, sums k x.1 1 x.3 refl, element_at f fs a b s v x.0 z.0 x.1 (h k fs q) x.4 z.2)
+
+pub length_finds : (f : Runs) (at : ℕ → Option Frames) (a : Code) (s : Span) (v : Value) (ts : List Value) (ys : ℕ → Option Value) (ms : ℕ → Option ℕ) → AllAre (λ fs. f fs a) at (value v 1 1) → as_sequence v ≡ Some ts → AreAt (λ fs. value (values.int (pos (length ts))) 0 0) at ys ms → AreAt (λ fs. and_then (f fs a) (apply_builtin s (OfSequences Length))) at ys (λ k. Some 1)
+length_finds f at a s v ts ys ms h is i = λ k fs q.
+    let y = i k fs q in
+    (y.0, 1, y.2, refl, length_at f fs a s v ts y.0 y.1 (h k fs q) is y.4)
+
+-- the bindings of a `let`, of which some have been evaluated
+abbrev pub let_from : Runs → Frames → List (Option Value) → List Code → Code → Out Value
+let_from f fs os [] e = f (os ∷ fs) e
+let_from f fs os (c ∷ cs) e = and_then (f (os ∷ fs) c) (λ v. let_from f fs (os ++ Some v ∷ []) cs e)
+
+then_so : {X Y : Type 0} (o : Out X) (j k : X → Out Y) → ((x : X) → j x ≡ k x) → and_then o j ≡ and_then o k
+then_so (value x w d) j k law = ap (after_cost w d) (law x)
+then_so (fault t s w) j k law = refl
+then_so stuck j k law = refl
+
+let_is : (f : Runs) (fs : Frames) (vs : List Value) (cs : List Code) (e : Code) → run_let f fs vs cs e ≡ let_from f fs (frame vs) cs e
+let_is f fs vs [] e = refl
+let_is f fs vs (c ∷ cs) e =
+    then_so (f (frame vs ∷ fs) c) (λ v. run_let f fs (vs ++ v ∷ []) cs e) (λ v. let_from f fs (frame vs ++ Some v ∷ []) cs e)
+    (λ v. let_is f fs (vs ++ v ∷ []) cs e ∙ ap (λ os. let_from f fs os cs e) (map-append Some vs (v ∷ [])))
+
+-- so far the bindings have come to these columns, at these costs
+abbrev pub Along : {A : Type 0} → Runs → (ℕ → Option Frames) → List Code → Code → List (Column A) → List Code → (ℕ → Option ℕ) → Type 0
+Along f at cs e us rest ns = (k : ℕ) (fs : Frames) → at k ≡ Some fs → (n : ℕ) × (ns k ≡ Some n) × (let_from f fs [] cs e ≡ after_cost n n (let_from f fs (bound_at us k) rest e))
+
+added_none : {X : Type 0} (o : Out X) → o ≡ after_cost 0 0 o
+added_none (value x w d) = cost_so x w (0 + w) d (0 + d) (omega arith) (omega arith)
+  where
+    cost_so : {X : Type 0} (x : X) (m n i j : ℕ) → m ≡ n → i ≡ j → value x m i ≡ value x n j
+    cost_so x m n i j e f = cc
+added_none (fault t s w) = ap (λ v. fault t s v) (omega arith)
+added_none stuck = refl
+
+pub along_begun : {A : Type 0} (f : Runs) (at : ℕ → Option Frames) (cs : List Code) (e : Code) (us : List (Column A)) → us ≡ [] → Along f at cs e us cs (λ k. Some 0)
+along_begun f at cs e us none = λ k fs q. (0, refl, added_none (let_from f fs [] cs e) ∙ ap (λ ws. after_cost 0 0 (let_from f fs (bound_at ws k) cs e)) (sym none))
+
+pub along_next : {A : Type 0} (f : Runs) (at inner : ℕ → Option Frames) (cs : List Code) (e c : Code) (us ws : List (Column A)) (u : Column A) (rest more : List Code) (ns ms os : ℕ → Option ℕ) → more ≡ c ∷ rest → Along f at cs e us more ns → AreAt (λ fs. f fs c) inner (slice_get (leaves_of u)) ms → ((k : ℕ) (fs : Frames) → at k ≡ Some fs → inner k ≡ Some (bound_at us k ∷ fs)) → ws ≡ us ++ u ∷ [] → Sums ns ms os → Along f at cs e ws rest os
+along_next f at inner cs e c us ws u rest more ns ms os splits so h under is sums = λ k fs q.
+    let x = so k fs q in
+    let y = h k (bound_at us k ∷ fs) (under k fs q) in
+    let its : bound_at ws k ≡ bound_at us k ++ Some y.0 ∷ [] =
+    ap (λ ds. bound_at ds k) is ∙ map-append (λ d. slice_get (leaves_of d) k) us (u ∷ []) ∙ ap (λ o. bound_at us k ++ o ∷ []) y.2 in (
+      x.0 + y.1,
+      sums k x.0 y.1 x.1 y.3,
+      x.2 ∙ ap (λ ds. after_cost x.0 x.0 (let_from f fs (bound_at us k) ds e)) splits
+          ∙ ap (λ o. after_cost x.0 x.0 (and_then o (λ v. let_from f fs (bound_at us k ++ Some v ∷ []) rest e))) y.4
+          ∙ sym (added_added x.0 x.0 y.1 y.1 (let_from f fs (bound_at us k ++ Some y.0 ∷ []) rest e))
+          ∙ ap (λ ps. after_cost (x.0 + y.1) (x.0 + y.1) (let_from f fs ps rest e)) (sym its),
+    )
+
+pub along_done : {A : Type 0} (f : Runs) (at inner : ℕ → Option Frames) (cs : List Code) (e : Code) (us : List (Column A)) (rest : List Code) (vs : ℕ → Option Value) (ns ms os : ℕ → Option ℕ) → rest ≡ [] → Along f at cs e us rest ns → AreAt (λ fs. f fs e) inner vs ms → ((k : ℕ) (fs : Frames) → at k ≡ Some fs → inner k ≡ Some (bound_at us k ∷ fs)) → Sums ns ms os → AreAt (λ fs. run_let f fs [] cs e) at vs os
+along_done f at inner cs e us rest vs ns ms os none so h under sums = λ k fs q.
+    let x = so k fs q in
+    let y = h k (bound_at us k ∷ fs) (under k fs q) in (
+      y.0,
+      x.0 + y.1,
+      y.2,
+      sums k x.0 y.1 x.1 y.3,
+      let_is f fs [] cs e ∙ x.2 ∙ ap (λ ds. after_cost x.0 x.0 (let_from f fs (bound_at us k) ds e)) none ∙ ap (after_cost x.0 x.0) y.4,
+    )

@@ -1,0 +1,48 @@
+-- The frames at the turns of a block, and what is found there.
+use Rattle.std.specs.Prelude.{◌≡◌, ℕ, ◌+◌, List, ◌∷◌, map, slice_get, Option, Some, option_map}
+use Rattle.nesl_eval_meaning.specs.Names.{Value}
+use Rattle.nesl_eval_code.specs.Frames.{Frames}
+use Rattle.nesl_eval_meaning.specs.Out.{Out, value}
+use Rattle.nesl_eval_columns.specs.declared.column.Column.{Column}
+use Rattle.nesl_eval_columns.specs.Columns.{leaves_of}
+use Rattle.nesl_eval_plain.specs.declared.block.Block.{Block}
+use Rattle.nesl_eval_plain.specs.declared.found.Found.{Found}
+use Rattle.nesl_eval_plain.specs.declared.scopes.Scopes.{Scopes, fold-Scopes}
+use Rattle.nesl_eval_plain.specs.declared.scopes.Scopes.TheOpen.{Scopes-F}
+use Rattle.nesl_eval_plain.specs.Blocks.{block_places, frames_at}
+
+-- the values of bindings at a turn
+abbrev pub bound_at : {A : Type 0} → List (Column A) → ℕ → List (Option Value)
+bound_at cs k = map (λ c. slice_get (leaves_of c) k) cs
+
+-- the frames at a turn, if there is such a turn
+abbrev pub scopes_step : {A T : Type 0} → Block A T → Scopes-F A (ℕ → Option Frames) → ℕ → Option Frames
+scopes_step b Scopes-F.Rows k = option_map (frames_at b) (slice_get (block_places b) k)
+scopes_step b (Scopes-F.Let cs rest) k = option_map (λ fs. bound_at cs.now k ∷ fs) (rest.now k)
+
+abbrev pub frames_in : {A T : Type 0} → Block A T → Scopes A → ℕ → Option Frames
+frames_in {A} b = fold-Scopes A (ℕ → Option Frames) (scopes_step b)
+
+-- the outcome is the leaf at a turn, and both the work and the depth are the cost there
+abbrev pub IsAt : (ℕ → Option Value) → (ℕ → Option ℕ) → ℕ → Out Value → Type 0
+IsAt vs ns k o = (v : Value) × (n : ℕ) × (vs k ≡ Some v) × (ns k ≡ Some n) × (o ≡ value v n n)
+
+-- so it is at each turn
+abbrev pub AreAt : (Frames → Out Value) → (ℕ → Option Frames) → (ℕ → Option Value) → (ℕ → Option ℕ) → Type 0
+AreAt p at vs ns = (k : ℕ) (fs : Frames) → at k ≡ Some fs → IsAt vs ns k (p fs)
+
+-- the leaf at a turn
+abbrev pub leaf_at : {A : Type 0} → Found A → ℕ → Option Value
+leaf_at r = slice_get (leaves_of r.column)
+
+-- the cost at a turn
+abbrev pub cost_at : {A : Type 0} → Found A → ℕ → Option ℕ
+cost_at r k = Some r.nodes
+
+-- what was found at the turns
+abbrev pub Finds : {A : Type 0} → (Frames → Out Value) → (ℕ → Option Frames) → Found A → Type 0
+Finds p at r = AreAt p at (leaf_at r) (cost_at r)
+
+-- the outcome is the same at all turns
+abbrev pub AllAre : (Frames → Out Value) → (ℕ → Option Frames) → Out Value → Type 0
+AllAre p at o = (k : ℕ) (fs : Frames) → at k ≡ Some fs → p fs ≡ o

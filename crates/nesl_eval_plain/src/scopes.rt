@@ -1,0 +1,39 @@
+//! What local names stand for at the turns of a block.
+ghost use Rattle.std.specs.Prelude.{◌≡◌, ◌<◌, ⊤, ℕ, Some};
+ghost use Rattle.nesl_eval_code.specs.Frames.{Frames};
+ghost use Rattle.nesl_eval_plain.specs.Blocks.{IsWithin};
+ghost use Rattle.nesl_eval_plain.specs.Frames.{frames_in};
+
+use crate::block::Block;
+use nesl_eval_columns::Column;
+use std::alloc::{AllocError, Allocator};
+
+/// What local names stand for, the newest frame first, at all turns of a block side by side.
+#[derive_where(Copy)]
+pub enum Scopes<'a, A: Allocator> {
+    /// The rows of the apply-to-each at the places of the block.
+    Rows,
+    /// The bindings of a `let` so far, each at all turns.
+    Let(&'a [Column<A>], &'a Scopes<'a, A>),
+}
+
+impl<A: Allocator> Clone for Scopes<'_, A> {
+    ghost is_clone = { λ one other. other ≡ one };
+
+    ghost is_infallible = { λ _. ⊤ };
+
+    fn clone(&self) -> Result<Self, AllocError> {
+        Ok(*self)
+    }
+}
+
+/// How many turns there are at the most.
+pub fn count<A: Allocator, T>(block: &Block<'_, A, T>, scopes: &Scopes<'_, A>) -> usize
+    requires { IsWithin block.now }
+    ensures { (k : ℕ) (fs : Frames) → frames_in block.now scopes.now k ≡ Some fs → k < result }
+{
+    match scopes {
+        Scopes::Rows => block.to - block.from,
+        Scopes::Let(_, rest) => count(block, *rest),
+    }
+}

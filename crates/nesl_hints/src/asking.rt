@@ -1,0 +1,53 @@
+//! The hint on a line of a session.
+ghost use Rattle.std.specs.Prelude.{◌≡◌, ◌+◌, Option, IfOk, IfSome, length, vec_len};
+ghost use Rattle.std.specs.Option.{is_some};
+ghost use Rattle.nesl_reply.specs.declared.fault.Fault.{Fault};
+ghost use Rattle.nesl_session_step.specs.State.{State};
+ghost use Rattle.nesl_session_step.specs.Solo.{Replays};
+ghost use Rattle.nesl_session.specs.Asking.{AnswersWith};
+ghost use Rattle.nesl_hints_reading.specs.Within.{IsWithin};
+
+use crate::asked::Asked;
+use crate::faults::hint_on_fault;
+use nesl_hints_reading::Hint;
+use nesl_session::session::Session;
+use std::alloc::{AllocError, Global};
+
+/// What a person is told of a line, beside its reply, where the session as it is would refuse it; `None` where it
+/// would not. Nothing changes, and no evaluation is charged.
+///
+/// Places are bytes of the whole form: of the parts that the session holds, and the line behind them. Before the line
+/// is said, `text` is that line. After it was answered by a fault the session holds no parts any more, so `text` is
+/// then the whole form, as it was before: [`Session::pending`] and the line.
+///
+/// # Errors
+/// Memory ran out, in the evaluation or for the sentence.
+pub fn hint(alloc: Global, session: &Session, text: &[u8]) -> Result<Option<Hint>, AllocError>
+    ensures only { IfOk result (λ hint. (fault : Option Fault) × AnswersWith session.now text.now fault
+        × (is_some hint ≡ is_some fault)) }
+    ensures inside { IfOk result (λ hint. (s : State) × Replays session.now s
+        × IfSome hint (IsWithin (length s.pending + length text.now))) }
+{
+    let pending = session.pending();
+    let fault = match session.fault_of(alloc, text)? {
+        Some(fault) => fault,
+        None => return Ok(None),
+    };
+    let form = joined(alloc, pending, text)?;
+    let asked = Asked {
+        alloc,
+        session,
+        text: form.as_slice(),
+    };
+    let hint = hint_on_fault(&asked, fault)?;
+    Ok(Some(hint.within(form.len())))
+}
+
+// The parts of a form, and the line behind them.
+fn joined(alloc: Global, pending: &[u8], text: &[u8]) -> Result<Vec<u8>, AllocError>
+    ensures { IfOk result (λ form. vec_len form ≡ length pending.now + length text.now) }
+{
+    let mut form = Vec::from_slice(alloc, pending)?;
+    form.extend_from_slice(text)?;
+    Ok(form)
+}

@@ -1,0 +1,114 @@
+//! The text of a function's definition.
+
+use crate::asked::Asked;
+use nesl_eval_code::Payload;
+use nesl_lex::lex;
+use nesl_lex::token::Span;
+use nesl_syntax::parse_form;
+use nesl_syntax_tree::tree::Form;
+use std::alloc::{AllocError, Global};
+
+/// The text of a function's definition, and where its parameter and its body stand.
+#[derive(Drop)]
+pub(crate) struct Source {
+    pub(crate) text: Vec<u8>,
+    pub(crate) parameter: Span,
+    pub(crate) body: Span,
+}
+
+/// The last definition of a function of the session, or `None` where the name is none.
+pub(crate) fn source_of(asked: &Asked<'_>, name: &[u8]) -> Result<Option<Source>, AllocError> {
+    let Some((_, payload)) = asked.environment().get(name) else {
+        return Ok(None);
+    };
+    let (parameter, body) = match payload {
+        Payload::Function { pattern, body } => (pattern.span, body.span),
+        _ => return Ok(None),
+    };
+    let text = last_definition(asked, name)?;
+    if is_definition(asked.alloc, text.as_slice(), name, parameter, body)? {
+        return Ok(Some(Source {
+            text,
+            parameter,
+            body,
+        }));
+    }
+    Ok(None)
+}
+
+// The last form among the lines of the session that begins as a definition of the function does.
+fn last_definition(asked: &Asked<'_>, name: &[u8]) -> Result<Vec<u8>, AllocError> {
+    let alloc = asked.alloc;
+    let mut last = Vec::new(alloc);
+    let mut form = Vec::new(alloc);
+    for line in asked.session.lines() {
+        if let [front @ .., b'\\'] = line.as_slice() {
+            form.extend_from_slice(front)?;
+            form.extend_from_slice(b" ")?;
+            continue;
+        }
+        form.extend_from_slice(line.as_slice())?;
+        if defines(form.as_slice(), name) {
+            last = form;
+            form = Vec::new(alloc);
+        } else {
+            form.clear();
+        }
+    }
+    Ok(last)
+}
+
+// Whether a form begins with `function` and the name.
+fn defines(form: &[u8], name: &[u8]) -> bool {
+    let Some(behind) = behind_word(form, b"function") else {
+        return false;
+    };
+    match behind_word(behind, name) {
+        Some(rest) => match rest.first() {
+            Some(next) => !next.is_ascii_alphanumeric() && *next != b'_',
+            None => false,
+        },
+        None => false,
+    }
+}
+
+// What stands behind a word of small letters, blanks before it left out.
+fn behind_word<'t>(text: &'t [u8], word: &[u8]) -> Option<&'t [u8]> {
+    let blanks = text
+        .iter()
+        .take_while(|byte| **byte == b' ' || **byte == b'\t')
+        .count();
+    let start = blanks.min(text.len());
+    let rest = &text[start..];
+    let (front, behind) = rest.split_at_checked(word.len())?;
+    if front.eq_ignore_ascii_case(word) {
+        Some(behind)
+    } else {
+        None
+    }
+}
+
+// Whether the text is the definition of the function, with its parameter and its body at these places.
+fn is_definition(
+    alloc: Global,
+    text: &[u8],
+    name: &[u8],
+    parameter: Span,
+    body: Span,
+) -> Result<bool, AllocError> {
+    let Ok(tokens) = lex(alloc, text) else {
+        return Ok(false);
+    };
+    let Ok(form) = parse_form(alloc, tokens.as_slice()) else {
+        return Ok(false);
+    };
+    match &form {
+        Form::Fun {
+            name: own,
+            parameter: pattern,
+            body: exp,
+            ..
+        } => Ok(own.as_slice() == name && pattern.span == parameter && exp.span == body),
+        _ => Ok(false),
+    }
+}

@@ -1,0 +1,82 @@
+//! Types of names that are known, among those that are being found.
+
+use crate::clash::Halt;
+use crate::guesses::{Guess, Guesses};
+use nesl_builtins::{Builtin, classes, gives, takes};
+use nesl_types::{Part, Scheme};
+use nesl_types_bank::Shape;
+
+/// What a function takes and gives.
+#[derive(Clone, Copy)]
+pub(crate) struct Ends {
+    pub(crate) takes: usize,
+    pub(crate) gives: usize,
+}
+
+// The place that stands at a place.
+fn at(places: &[usize], place: usize) -> usize {
+    match places.get(place) {
+        Some(found) => *found,
+        None => 0,
+    }
+}
+
+impl Guesses {
+    /// A copy of a type, in which the types at these places stand for its variables.
+    pub(crate) fn copy(&mut self, part: &Part<'_>, variables: &[usize]) -> Result<usize, Halt> {
+        let (parts, last) = part.place();
+        let mut places = Vec::new(self.alloc);
+        for place in 0..parts.len() {
+            let made = self.copy_shape(parts.shape(place), places.as_slice(), variables)?;
+            places.push(made)?;
+            if place == last {
+                return Ok(made);
+            }
+        }
+        self.open()
+    }
+
+    fn copy_shape(
+        &mut self,
+        shape: Shape,
+        places: &[usize],
+        variables: &[usize],
+    ) -> Result<usize, Halt> {
+        match shape {
+            Shape::Int => self.add(Guess::Int),
+            Shape::Bool => self.add(Guess::Bool),
+            Shape::Char => self.add(Guess::Char),
+            Shape::Named(tag) => self.add(Guess::Named(tag)),
+            Shape::SeqOf(item) => self.add(Guess::Sequence(at(places, item))),
+            Shape::Both(first, second) => {
+                self.add(Guess::Pair(at(places, first), at(places, second)))
+            }
+            Shape::Var(variable) => match variables.get(variable as usize) {
+                Some(place) => Ok(*place),
+                None => self.open(),
+            },
+        }
+    }
+
+    /// What a built-in function takes and gives.
+    pub(crate) fn builtin(&mut self, builtin: Builtin) -> Result<Ends, Halt> {
+        let variables = self.open_all(classes(builtin))?;
+        let taken = self.copy(&takes(builtin), variables.as_slice())?;
+        let given = self.copy(&gives(builtin), variables.as_slice())?;
+        Ok(Ends {
+            takes: taken,
+            gives: given,
+        })
+    }
+
+    /// What a defined function takes and gives.
+    pub(crate) fn scheme(&mut self, scheme: &Scheme) -> Result<Ends, Halt> {
+        let variables = self.open_all(scheme.classes.as_slice())?;
+        let taken = self.copy(&scheme.argument.whole(), variables.as_slice())?;
+        let given = self.copy(&scheme.result.whole(), variables.as_slice())?;
+        Ok(Ends {
+            takes: taken,
+            gives: given,
+        })
+    }
+}

@@ -1,0 +1,108 @@
+//! Whole forms.
+
+use crate::clash::{Clash, Halt, Role};
+use crate::copies::Ends;
+use crate::guesses::of_class;
+use crate::walk::{Own, Walk};
+use nesl_lex::token::Span;
+use nesl_syntax_tree::tree as syntax;
+use nesl_syntax_tree::tree::{Exp, Form, Pattern, Signature};
+use nesl_types::Class;
+
+/// The class of types that a written class is.
+fn class_of(class: syntax::Class) -> Class {
+    match class {
+        syntax::Class::Any => Class::Any,
+        syntax::Class::Ordinal => Class::Ordinal,
+        syntax::Class::Number => Class::Number,
+        syntax::Class::Logical => Class::Logical,
+    }
+}
+
+impl<'a> Walk<'a> {
+    /// Walks over a form, and gives the place of the type of its expression, and where that stands. A definition has no
+    /// expression of its own.
+    pub(crate) fn form(&mut self, form: &Form) -> Result<Option<(Span, usize)>, Halt> {
+        match form {
+            Form::Eval(exp) | Form::ShowType(exp) => {
+                let place = self.check(exp)?;
+                Ok(Some((exp.span, place)))
+            }
+            Form::Bind { value, .. } => {
+                let place = self.check(value)?;
+                Ok(Some((value.span, place)))
+            }
+            Form::Fun {
+                name,
+                parameter,
+                signature,
+                body,
+            } => {
+                let name = Vec::from_slice(self.alloc, name.as_slice())?;
+                self.function(name, parameter, signature, body)?;
+                Ok(None)
+            }
+            _ => Ok(None),
+        }
+    }
+
+    fn function(
+        &mut self,
+        name: Vec<u8>,
+        parameter: &Pattern,
+        signature: &Option<Signature>,
+        body: &Exp,
+    ) -> Result<(), Halt> {
+        let takes = self.guesses.open()?;
+        let gives = self.guesses.open()?;
+        self.own = Some(Own {
+            name,
+            ends: Ends { takes, gives },
+        });
+        self.bind(parameter, takes)?;
+        let signed = match signature {
+            Some(signature) => Some(self.sign(parameter, signature, takes)?),
+            None => None,
+        };
+        let found = self.check(body)?;
+        if let Some((span, wanted)) = signed {
+            self.same(Role::Body, (span, wanted), (body.span, found))?;
+        }
+        self.join(Clash {
+            role: Role::OwnBody,
+            place: body.span,
+            second: None,
+            found,
+            wanted: gives,
+        })
+    }
+
+    // What a signature says of the parameter; gives where it says what the body is, and the place of that type.
+    fn sign(
+        &mut self,
+        parameter: &Pattern,
+        signature: &Signature,
+        takes: usize,
+    ) -> Result<(Span, usize), Halt> {
+        let mut names = Vec::new(self.alloc);
+        let from = self.written(&signature.from, &mut names)?;
+        let to = self.written(&signature.to, &mut names)?;
+        for member in &signature.members {
+            let wanted = self.guesses.add(of_class(class_of(member.class)))?;
+            let found = self.named_type(member.name.as_slice(), &mut names)?;
+            self.join(Clash {
+                role: Role::Parameter,
+                place: signature.from.span,
+                second: None,
+                found,
+                wanted,
+            })?;
+        }
+        self.same(
+            Role::Parameter,
+            (signature.from.span, from),
+            (parameter.span, takes),
+        )?;
+        Ok((signature.to.span, to))
+    }
+}

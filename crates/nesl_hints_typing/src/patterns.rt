@@ -1,0 +1,102 @@
+//! Patterns, and types as they are written.
+
+use crate::clash::{Clash, Halt, Role};
+use crate::guesses::Guess;
+use crate::walk::{Local, Walk};
+use nesl_syntax_tree::tree::{Pattern, PatternNode, TypeExp, TypeNode};
+use nesl_types::Top;
+
+impl<'a> Walk<'a> {
+    /// The names of a pattern that stands for something of the type at a place.
+    pub(crate) fn bind(&mut self, pattern: &Pattern, place: usize) -> Result<(), Halt> {
+        match &pattern.node {
+            PatternNode::Name(name) => {
+                let name = Vec::from_slice(self.alloc, name.as_slice())?;
+                self.locals.push(Local { name, place })?;
+                Ok(())
+            }
+            PatternNode::Pair { left, right } => {
+                let (first, second) = self.parts(pattern, place)?;
+                self.bind(left, first)?;
+                self.bind(right, second)
+            }
+            PatternNode::Record { name, part } => {
+                let content = self.content(pattern, name.as_slice(), place)?;
+                self.bind(part, content)
+            }
+        }
+    }
+
+    // The parts of the type at a place, which has to be a pair.
+    fn parts(&mut self, pattern: &Pattern, place: usize) -> Result<(usize, usize), Halt> {
+        if let Guess::Pair(first, second) = self.guesses.guess(place) {
+            return Ok((first, second));
+        }
+        let first = self.guesses.open()?;
+        let second = self.guesses.open()?;
+        self.expect(Guess::Pair(first, second), Role::Pair, pattern.span, place)?;
+        Ok((first, second))
+    }
+
+    // What a record of the type at a place holds, which has to be the datatype with this name.
+    fn content(&mut self, pattern: &Pattern, name: &[u8], place: usize) -> Result<usize, Halt> {
+        let context = self.context;
+        let Some((Top::Datatype(tag, content), _)) = context.get(name) else {
+            return self.guesses.open();
+        };
+        let wanted = self.guesses.add(Guess::Named(*tag))?;
+        let role = Role::Record(Vec::from_slice(self.alloc, name)?);
+        self.join(Clash {
+            role,
+            place: pattern.span,
+            second: None,
+            found: place,
+            wanted,
+        })?;
+        self.guesses.copy(&content.whole(), &[])
+    }
+
+    /// The place of a type that is written. Names that are no datatypes stand for one type each, and are noted.
+    pub(crate) fn written(
+        &mut self,
+        written: &TypeExp,
+        names: &mut Vec<Local>,
+    ) -> Result<usize, Halt> {
+        match &written.node {
+            TypeNode::Int => self.guesses.add(Guess::Int),
+            TypeNode::Bool => self.guesses.add(Guess::Bool),
+            TypeNode::Char => self.guesses.add(Guess::Char),
+            TypeNode::Name { name, .. } => self.named_type(name.as_slice(), names),
+            TypeNode::Sequence(item) => {
+                let item = self.written(item, names)?;
+                self.guesses.add(Guess::Sequence(item))
+            }
+            TypeNode::Pair { left, right } => {
+                let first = self.written(left, names)?;
+                let second = self.written(right, names)?;
+                self.guesses.add(Guess::Pair(first, second))
+            }
+        }
+    }
+
+    /// The place of the type that a name stands for.
+    pub(crate) fn named_type(
+        &mut self,
+        name: &[u8],
+        names: &mut Vec<Local>,
+    ) -> Result<usize, Halt> {
+        let context = self.context;
+        if let Some((Top::Datatype(tag, _), _)) = context.get(name) {
+            return self.guesses.add(Guess::Named(*tag));
+        }
+        for known in names.iter() {
+            if known.name.as_slice() == name {
+                return Ok(known.place);
+            }
+        }
+        let place = self.guesses.open()?;
+        let name = Vec::from_slice(self.alloc, name)?;
+        names.push(Local { name, place })?;
+        Ok(place)
+    }
+}

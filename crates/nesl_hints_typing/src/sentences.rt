@@ -1,0 +1,207 @@
+//! What is said of parts that don't fit.
+
+use crate::clash::{Clash, Role};
+use crate::guesses::{Guess, Guesses};
+use crate::words::Words;
+use nesl_eval_code::Payload;
+use nesl_hints_reading::{Hint, Sentence};
+use nesl_syntax_tree::tree::{Operator, Prefix};
+use nesl_types::Context;
+use std::alloc::{AllocError, Global};
+
+/// A sentence but for its two types: the first stands behind `is`, and `must_be` stands before the second.
+#[derive(Clone, Copy)]
+struct Said<'a> {
+    front: &'static [u8],
+    name: &'a [u8],
+    is: &'static [u8],
+    must_be: &'static [u8],
+}
+
+const MUST_BE: &[u8] = b", and must be ";
+
+/// The sign or word of an operator.
+pub fn sign_of(operator: Operator) -> &'static [u8] {
+    match operator {
+        Operator::Or => b"or",
+        Operator::Nor => b"nor",
+        Operator::Xor => b"xor",
+        Operator::And => b"and",
+        Operator::Nand => b"nand",
+        Operator::Equal => b"==",
+        Operator::NotEqual => b"/=",
+        Operator::Less => b"<",
+        Operator::Greater => b">",
+        Operator::LessOrEqual => b"<=",
+        Operator::GreaterOrEqual => b">=",
+        Operator::Plus => b"+",
+        Operator::Minus => b"-",
+        Operator::Append => b"++",
+        Operator::Write => b"<-",
+        Operator::Times => b"*",
+        Operator::Divide => b"/",
+        Operator::Read => b"->",
+    }
+}
+
+// A sentence without a name.
+fn plain(front: &'static [u8], must_be: &'static [u8]) -> Said<'static> {
+    Said {
+        front,
+        name: b"",
+        is: b"",
+        must_be,
+    }
+}
+
+// A sentence with a name or a sign between backquotes.
+fn named<'a>(front: &'static [u8], name: &'a [u8], must_be: &'static [u8]) -> Said<'a> {
+    Said {
+        front,
+        name,
+        is: b"` is ",
+        must_be,
+    }
+}
+
+// What is said of the right side of an operator.
+fn said_of_right(operator: Operator) -> Said<'static> {
+    let must_be = match operator {
+        Operator::Write | Operator::Read => MUST_BE,
+        _ => b", the left side ",
+    };
+    named(b"the right side of `", sign_of(operator), must_be)
+}
+
+// How an argument is called that stands behind so many.
+fn ordinal(before: u64) -> &'static [u8] {
+    match before {
+        0 => b"the first argument of `",
+        1 => b"the second argument of `",
+        2 => b"the third argument of `",
+        _ => b"a later argument of `",
+    }
+}
+
+// What is said of a part.
+fn said_of(role: &Role) -> Said<'_> {
+    match role {
+        Role::Left(operator) => named(b"the left side of `", sign_of(*operator), MUST_BE),
+        Role::Right(operator) => said_of_right(*operator),
+        Role::Operand(Prefix::Length) => plain(b"what stands behind `#` is ", MUST_BE),
+        Role::Operand(Prefix::Negate) => plain(b"what stands behind `-` is ", MUST_BE),
+        Role::Argument(name) => named(b"the argument of `", name.as_slice(), MUST_BE),
+        Role::OneArgument(name, before) => named(ordinal(*before), name.as_slice(), MUST_BE),
+        Role::Indexed => plain(b"what stands before `[` is ", MUST_BE),
+        Role::Index => plain(b"the number in brackets is ", MUST_BE),
+        Role::Test => plain(b"the test behind `if` is ", MUST_BE),
+        Role::Otherwise => plain(
+            b"what stands behind `else` is ",
+            b", what stands behind `then` ",
+        ),
+        Role::Element => plain(b"this element is ", b", the first one "),
+        Role::Bound => plain(b"this part of a range is ", MUST_BE),
+        Role::Drawn => plain(b"what stands behind `in` is ", MUST_BE),
+        Role::Filter => plain(b"the filter is ", MUST_BE),
+        Role::Pair => plain(b"what these names stand for is ", MUST_BE),
+        Role::Record(name) => named(b"what is matched with `", name.as_slice(), MUST_BE),
+        Role::Parameter => plain(b"the parameter is ", b", and the signature says "),
+        Role::Body => plain(b"the body is ", b", and the signature says "),
+        Role::OwnBody => plain(
+            b"the body is ",
+            b", and where the function calls itself it must be ",
+        ),
+    }
+}
+
+// What else is said of an operator's side of this type.
+fn advice_on_side(operator: Operator, found: Guess, item: Option<Guess>) -> &'static [u8] {
+    match operator {
+        Operator::Plus | Operator::Minus | Operator::Times | Operator::Divide => {
+            match (found, item) {
+                (Guess::Sequence(_), Some(Guess::Char)) => b": `++` joins two texts",
+                (Guess::Sequence(_), _) => b": `{a + 1 : a in v}` does it for each element",
+                (Guess::Bool, _) => b": `btoi(b)` is 1 or 0",
+                (Guess::Char, _) => b": `char_code(c)` is its number",
+                _ => b"",
+            }
+        }
+        Operator::Equal
+        | Operator::NotEqual
+        | Operator::Less
+        | Operator::Greater
+        | Operator::LessOrEqual
+        | Operator::GreaterOrEqual => match found {
+            Guess::Int | Guess::Char | Guess::Open(_) => b"",
+            _ => b": `eql(a, b)` tells whether two values of any type are the same",
+        },
+        Operator::Append => match found {
+            Guess::Sequence(_) => b"",
+            _ => b": `v ++ [x]` appends one element",
+        },
+        _ => b"",
+    }
+}
+
+// What else is said of a part, by the types.
+fn advice_on(guesses: &Guesses, clash: &Clash) -> &'static [u8] {
+    let found = guesses.guess(clash.found);
+    let wanted = guesses.guess(clash.wanted);
+    let item = match found {
+        Guess::Sequence(place) => Some(guesses.guess(place)),
+        _ => None,
+    };
+    match &clash.role {
+        Role::Left(operator) | Role::Right(operator) => advice_on_side(*operator, found, item),
+        Role::Operand(Prefix::Negate) => advice_on_side(Operator::Minus, found, item),
+        Role::Argument(_) => match (found, wanted) {
+            (Guess::Pair(_, _), Guess::Pair(_, _)) => b"",
+            (Guess::Pair(_, _), _) => b": it has one argument",
+            (_, Guess::Pair(_, _)) => b": it has more arguments, with commas between",
+            (Guess::Sequence(_), Guess::Int | Guess::Char | Guess::Bool) => {
+                b": `{g(a) : a in v}` calls `g` for each element"
+            }
+            _ => b"",
+        },
+        Role::Test | Role::Filter => match found {
+            Guess::Int => b": `x /= 0` is a truth value",
+            _ => b"",
+        },
+        Role::Drawn => match found {
+            Guess::Int => b": `index(n)` has the numbers from 0 to n - 1",
+            _ => b"",
+        },
+        Role::Element => b": a sequence has elements of one type",
+        Role::Index => match found {
+            Guess::Sequence(_) => b": `v -> w` has the elements at the places in `w`",
+            _ => b"",
+        },
+        _ => b"",
+    }
+}
+
+/// What a person is told of a part that doesn't fit.
+pub(crate) fn hint_of(
+    alloc: Global,
+    guesses: &Guesses,
+    context: &Context<Payload>,
+    clash: &Clash,
+) -> Result<Hint, AllocError> {
+    let mut words = Words::new(alloc, guesses, context);
+    let found = words.of(alloc, clash.found)?;
+    let wanted = words.of(alloc, clash.wanted)?;
+    let said = said_of(&clash.role);
+    let sentence = Sentence::of(alloc, said.front)?
+        .and(said.name)?
+        .and(said.is)?
+        .and(found.as_slice())?
+        .and(said.must_be)?
+        .and(wanted.as_slice())?
+        .and(advice_on(guesses, clash))?
+        .done();
+    Ok(Hint {
+        place: clash.place,
+        second: clash.second,
+        sentence,
+    })
+}

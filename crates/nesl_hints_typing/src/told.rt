@@ -1,0 +1,86 @@
+//! Forms that have no type, and forms that have more than one.
+ghost use Rattle.std.specs.Prelude.{IfOk, IfSome};
+ghost use Rattle.nesl_hints_reading.specs.Within.{IsWithin};
+
+use crate::clash::Halt;
+use crate::sentences::hint_of;
+use crate::walk::Walk;
+use crate::words::Words;
+use nesl_eval_code::Payload;
+use nesl_hints_reading::{Hint, Sentence};
+use nesl_lex::token::Span;
+use nesl_syntax_tree::tree::Form;
+use nesl_types::Context;
+use std::alloc::{AllocError, Global};
+
+/// The first part of a form, by parts, whose type is not what the rest of the form wants, or `None` where none was
+/// found. Places are cut off behind so many bytes.
+pub fn ill_typed(
+    alloc: Global,
+    context: &Context<Payload>,
+    form: &Form,
+    len: usize,
+) -> Result<Option<Hint>, AllocError>
+    ensures { IfOk result (λ hint. IfSome hint (IsWithin len)) }
+{
+    let mut walk = Walk::new(alloc, context);
+    match walk.form(form) {
+        Err(Halt::Found(clash)) => {
+            let hint = hint_of(alloc, &walk.guesses, context, &clash)?;
+            Ok(Some(hint.within(len)))
+        }
+        Err(Halt::Memory) => Err(AllocError),
+        Err(Halt::Tired) => Ok(None),
+        Ok(_) => Ok(None),
+    }
+}
+
+/// The first call in a form whose type nothing decides, or `None` where none was found. Places are cut off behind so
+/// many bytes.
+pub fn ambiguous(
+    alloc: Global,
+    context: &Context<Payload>,
+    form: &Form,
+    len: usize,
+) -> Result<Option<Hint>, AllocError>
+    ensures { IfOk result (λ hint. IfSome hint (IsWithin len)) }
+{
+    let mut walk = Walk::new(alloc, context);
+    match walk.form(form) {
+        Err(Halt::Memory) => Err(AllocError),
+        Ok(Some(whole)) => {
+            let (span, place) = first_open(&walk, whole)?;
+            let hint = undecided(&walk, span, place)?;
+            Ok(Some(hint.within(len)))
+        }
+        _ => Ok(None),
+    }
+}
+
+// The first call whose type is open, or the whole where there is none.
+fn first_open(walk: &Walk<'_>, whole: (Span, usize)) -> Result<(Span, usize), AllocError> {
+    for (span, place) in &walk.calls {
+        if walk.guesses.is_open(*place)? {
+            return Ok((*span, *place));
+        }
+    }
+    Ok(whole)
+}
+
+// What is said of a part whose type is open.
+fn undecided(walk: &Walk<'_>, place: Span, ty: usize) -> Result<Hint, AllocError> {
+    let alloc = walk.alloc;
+    let mut words = Words::new(alloc, &walk.guesses, walk.context);
+    let text = words.of(alloc, ty)?;
+    let sentence = Sentence::of(alloc, b"the type of this is ")?
+        .and(text.as_slice())?
+        .and(
+            b", and nothing decides it: use it beside something whose type is known, as in `[] int ++ ..`",
+        )?
+        .done();
+    Ok(Hint {
+        place,
+        second: None,
+        sentence,
+    })
+}

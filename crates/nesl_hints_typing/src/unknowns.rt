@@ -1,0 +1,237 @@
+//! Names that stand for nothing.
+ghost use Rattle.std.specs.Prelude.{IfOk};
+ghost use Rattle.nesl_hints_reading.specs.Within.{IsWithin};
+
+use crate::elsewhere::{known_elsewhere, type_elsewhere};
+use crate::names::{bound_names, is_called, near_binding, near_builtin, near_local};
+use nesl_builtins::named;
+use nesl_eval_code::Payload;
+use nesl_hints_reading::{Hint, Sentence};
+use nesl_lex::token::{Kind, Sign, Span, Token};
+use nesl_syntax_tree::tree::Form;
+use nesl_types::Context;
+use std::alloc::{AllocError, Global};
+
+/// A name that stands for nothing.
+#[derive(Clone, Copy)]
+struct Sought<'a> {
+    name: &'a [u8],
+    place: Span,
+    /// Whether it stands before `(`.
+    called: bool,
+}
+
+/// A name that stands for nothing, in a form: the first one in its tokens from a place on. Places are cut off behind
+/// so many bytes.
+pub fn unknown(
+    alloc: Global,
+    context: &Context<Payload>,
+    form: &Form,
+    tokens: &[Token],
+    from: usize,
+    len: usize,
+) -> Result<Hint, AllocError>
+    ensures { IfOk result (IsWithin len) }
+{
+    let sought = match name_from(tokens, from) {
+        Some(sought) => sought,
+        None => Sought {
+            name: b"",
+            place: Span {
+                start: from,
+                end: from,
+            },
+            called: false,
+        },
+    };
+    let sentence = match form {
+        Form::Datatype { name, .. } => said_of_type(alloc, name.as_slice(), sought)?,
+        _ => said_of_value(alloc, context, form, sought)?,
+    };
+    let hint = Hint {
+        place: sought.place,
+        second: None,
+        sentence,
+    };
+    Ok(hint.within(len))
+}
+
+// The first name in the tokens from a place on.
+fn name_from(tokens: &[Token], from: usize) -> Option<Sought<'_>> {
+    for (place, token) in tokens.iter().enumerate() {
+        if token.span.start < from {
+            continue;
+        }
+        if let Kind::Name(name) = &token.kind {
+            return Some(Sought {
+                name: name.as_slice(),
+                place: token.span,
+                called: is_opening(tokens.get(place.saturating_add(1))),
+            });
+        }
+    }
+    None
+}
+
+// Whether the token is `(`.
+fn is_opening(token: Option<&Token>) -> bool {
+    match token {
+        Some(token) => match &token.kind {
+            Kind::Symbol(sign) => *sign == Sign::OpenParenthesis,
+            _ => false,
+        },
+        None => false,
+    }
+}
+
+// A sentence with a name between two parts of it.
+fn about(alloc: Global, front: &[u8], name: &[u8], back: &[u8]) -> Result<Vec<u8>, AllocError> {
+    Ok(Sentence::of(alloc, front)?.and(name)?.and(back)?.done())
+}
+
+// A sentence with a name that is near.
+fn near_to(alloc: Global, sought: Sought<'_>, known: &[u8]) -> Result<Vec<u8>, AllocError> {
+    let sentence = Sentence::of(alloc, b"nothing is called `")?
+        .and(sought.name)?
+        .and(b"`; there is `")?
+        .and(known)?
+        .and(b"`")?
+        .done();
+    Ok(sentence)
+}
+
+// What is said of a name in what a datatype is to hold.
+fn said_of_type(alloc: Global, own: &[u8], sought: Sought<'_>) -> Result<Vec<u8>, AllocError> {
+    if sought.name == own {
+        return about(
+            alloc,
+            b"a datatype can't hold itself: all types in `",
+            own,
+            b"` are defined before it",
+        );
+    }
+    if let Some(said) = type_elsewhere(sought.name) {
+        return Ok(Sentence::of(alloc, said)?.done());
+    }
+    about(
+        alloc,
+        b"no type is called `",
+        sought.name,
+        b"`: there are `int`, `bool`, `char`, `[int]`, `(int, int)` and datatypes",
+    )
+}
+
+// What is said of a name in an expression.
+fn said_of_value(
+    alloc: Global,
+    context: &Context<Payload>,
+    form: &Form,
+    sought: Sought<'_>,
+) -> Result<Vec<u8>, AllocError> {
+    let bound = bound_names(alloc, form)?;
+    let is_bound = bound.iter().any(|name| name.as_slice() == sought.name);
+    if sought.called {
+        return said_of_function(alloc, context, bound.as_slice(), is_bound, sought);
+    }
+    if is_function(context, form, sought.name) {
+        return about(
+            alloc,
+            b"`",
+            sought.name,
+            b"` is a function: its argument stands behind it in parentheses",
+        );
+    }
+    if is_bound {
+        return about(
+            alloc,
+            b"`",
+            sought.name,
+            b"` is known only within the `let` or the braces that bind it, and not in the values that are bound",
+        );
+    }
+    said_of_variable(alloc, context, form, bound.as_slice(), sought)
+}
+
+// Whether the name is a function's or a datatype's.
+fn is_function(context: &Context<Payload>, form: &Form, name: &[u8]) -> bool {
+    if named(name).is_some() {
+        return true;
+    }
+    if let Form::Fun { name: own, .. } = form {
+        if own.as_slice() == name {
+            return true;
+        }
+    }
+    match context.get(name) {
+        Some((top, _)) => is_called(top),
+        None => false,
+    }
+}
+
+// What is said of a name before `(`.
+fn said_of_function(
+    alloc: Global,
+    context: &Context<Payload>,
+    bound: &[Vec<u8>],
+    is_bound: bool,
+    sought: Sought<'_>,
+) -> Result<Vec<u8>, AllocError> {
+    if is_bound || context.get(sought.name).is_some() {
+        return about(
+            alloc,
+            b"`",
+            sought.name,
+            b"` is a variable and no function: an element is `v[i]`, and a product has its `*`",
+        );
+    }
+    if let Some(said) = known_elsewhere(sought.name) {
+        return Ok(Sentence::of(alloc, said)?.done());
+    }
+    if let Some(known) = near_builtin(sought.name) {
+        return near_to(alloc, sought, known);
+    }
+    if let Some(known) = near_binding(context, sought.name, true) {
+        return near_to(alloc, sought, known);
+    }
+    let _ = bound;
+    about(
+        alloc,
+        b"no function is called `",
+        sought.name,
+        b"`: define it first, as in `function g(x) = x + 1;`",
+    )
+}
+
+// What is said of a name that stands for no function and is bound nowhere.
+fn said_of_variable(
+    alloc: Global,
+    context: &Context<Payload>,
+    form: &Form,
+    bound: &[Vec<u8>],
+    sought: Sought<'_>,
+) -> Result<Vec<u8>, AllocError> {
+    if sought.name == b"it".as_slice() {
+        let said: &[u8] = match form {
+            Form::Fun { .. } => b"the body of a function doesn't know `it`: give it as an argument",
+            _ => b"`it` is the value of the last expression, and there was none yet",
+        };
+        return Ok(Sentence::of(alloc, said)?.done());
+    }
+    if let Some(known) = near_local(bound, sought.name) {
+        return near_to(alloc, sought, known);
+    }
+    if let Some(known) = near_binding(context, sought.name, false) {
+        return near_to(alloc, sought, known);
+    }
+    if let Some(said) = type_elsewhere(sought.name) {
+        return Ok(Sentence::of(alloc, said)?.done());
+    }
+    if let Some(said) = known_elsewhere(sought.name) {
+        return Ok(Sentence::of(alloc, said)?.done());
+    }
+    let back: &[u8] = match form {
+        Form::Fun { .. } => b"`: a body knows its parameter, and the variables of the session",
+        _ => b"`: bind it first, as in `x = 3;`",
+    };
+    about(alloc, b"nothing is called `", sought.name, back)
+}

@@ -1,5 +1,0 @@
-use Rattle.nesl_infer_rules.proofs.Steps.{gives_anything}
-use Rattle.nesl_infer_rules.proofs.state.State.anything.Goals as goal
-
-pub returns-clause-gives : goal.returns-clause-gives
-returns-clause-gives c = gives_anything c.in_ok-fresh.field-0 c.in_ok-fresh.ensures.gives

@@ -1,0 +1,22 @@
+use Rattle.std.proofs.Common.{ℕ, List, [], None, false, refl, subst, sym}
+use Rattle.nesl_house.specs.Runs.{Account}
+use Rattle.nesl_line.specs.Hinted.{TalkedWithHints}
+use Rattle.nesl_line.specs.Steps.{NamesFit, chosen}
+use Rattle.nesl_line.proofs.Exchanges.{no_memory_exchange}
+use Rattle.nesl_line.proofs.Hints.{hints_none}
+use Rattle.nesl_line.proofs.hinted.batch_with_hints.Goals as goal
+
+pub returns-in_default-clause-batch : goal.returns-in_default-clause-batch
+returns-in_default-clause-batch g c = (None, no_memory_exchange _ _ (λ lines texts. TalkedWithHints c.args.house.now lines texts None c.args.house.now) false (hints_none c.args.house.now [] c.users.ensures.replayed refl))
+
+pub exchange-requires-clause-ready : goal.exchange-requires-clause-ready
+exchange-requires-clause-ready g c =
+    let P : List Account → Type 0 = NamesFit c.longest_name-room.result in
+    let Q : ℕ → Type 0 = λ n. NamesFit n c.args.house.now in
+    subst Q (sym c.in-Ok.ensures.room) (subst P c.users.ensures.users c.longest_name-room.ensures)
+
+pub exchange-requires-clause-untold : goal.exchange-requires-clause-untold
+exchange-requires-clause-untold g c = hints_none c.args.house.now _ c.users.ensures.replayed c.in-Ok.ensures.nobody
+
+pub returns-clause-batch : goal.returns-clause-batch
+returns-clause-batch g c = (chosen c.exchange.new.hearer.chooser.who.items, c.exchange.ensures.exchange)

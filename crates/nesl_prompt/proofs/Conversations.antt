@@ -1,0 +1,121 @@
+-- What is said at a prompt, line by line.
+use Rattle.std.proofs.Common.{◌≡◌, ◌≢◌, ℕ, ◌<◌, ◌==◌, length, arith, List, [], ◌∷◌, ◌++◌, Bool, true, false, not, ◌&&◌, Option, refl, sym, ap, ◌∙◌, subst}
+use Rattle.std.proofs.lemmas.Bool.{eqb-true}
+use Rattle.nesl_session_step.specs.State.{Log}
+use Rattle.nesl_session_step.specs.Response.{Reply}
+use Rattle.nesl_session_step.specs.Solo.{Responds}
+use Rattle.nesl_line.specs.declared.exchange.End.{End}
+use Rattle.nesl_line.specs.Exchange.{Hearing, IsExchange}
+use Rattle.nesl_prompt.specs.declared.style.Style.{Style}
+use Rattle.nesl_prompt.specs.Points.{Point, Said, Says, Spoke, Obeyed, joined, is_plain}
+use Rattle.nesl_prompt.specs.Conversation.{IsTold, Takes, gathers, says, wants, Turn, own, waits, takes, Conversed, Rests}
+
+pub says_then : (a b c : Log) (xs ys : List Said) → Says a xs b → Says b ys c → Says a (xs ++ ys) c
+says_then a b c [] ys p q = let P : Log → Type 0 = λ x. Says x ys c in subst P p q
+says_then a b c (x ∷ xs) ys p q = (p.0, p.1, says_then p.0 b c xs ys p.2 q)
+
+-- nothing was said
+pub spoke_none : (a b : Log) → b ≡ a → Spoke a b
+spoke_none a b e = record { lines = []; says = e }
+
+-- one was said after the other
+pub spoke_then : (a b c : Log) → Spoke a b → Spoke b c → Spoke a c
+spoke_then a b c p q = record { lines = p.lines ++ q.lines; says = says_then a b c p.lines q.lines p.says q.says }
+
+-- one line was said
+pub spoke_one : (a b : Log) (line : List ℕ) (reply : Reply) → Responds a line reply b → Spoke a b
+spoke_one a b line reply r = record { lines = record { line = line; reply = reply } ∷ []; says = (b, r, refl) }
+
+-- a line of a form was taken
+pub takes_spoke : (plain : Bool) (point point' : Point) (line text : List ℕ) → Takes plain point line text point' → Spoke point.log point'.log
+takes_spoke plain point point' line text (gathers g f l p) = spoke_none point.log point'.log l
+takes_spoke plain point point' line text (says reply r f t) = spoke_one point.log point'.log (joined point.form line) reply r
+takes_spoke plain point point' line text (wants f l t) = spoke_none point.log point'.log l
+
+pub obeyed_none : (any : Bool) (a b : Log) → b ≡ a → Obeyed any a b
+obeyed_none any a b e = record { lines = []; none = λ f. refl; says = e }
+
+pub obeyed_some : (any : Bool) (a b : Log) → any ≡ true → Spoke a b → Obeyed any a b
+obeyed_some true a b e s = record { lines = s.lines; none = λ f. absurd (cc); says = s.says }
+obeyed_some false a b e s = absurd (cc)
+
+-- one line more
+pub conversed_more : (plain : Bool) (point mid last : Point) (lines texts : List (List ℕ)) (line text : List ℕ) → Conversed plain point lines texts mid → Turn plain mid line text last
+    → Conversed plain point (lines ++ line ∷ []) (texts ++ text ∷ []) last
+conversed_more plain point mid last [] [] line text c t = let P : Point → Type 0 = λ x. Turn plain x line text last in (last, subst P c t, refl)
+conversed_more plain point mid last [] (s ∷ ss) line text c t = absurd c
+conversed_more plain point mid last (l ∷ ls) [] line text c t = absurd c
+conversed_more plain point mid last (l ∷ ls) (s ∷ ss) line text c t = (c.0, c.1, conversed_more plain c.0 mid last ls ss line text c.2 t)
+
+-- what is told where all may be told is told where less may be
+pub told_plainly : (a b : Bool) (reply : Reply) (text : List ℕ) → (a ≡ true → b ≡ true) → IsTold b reply text → IsTold a reply text
+told_plainly a b reply text h t = record { more = t.more; spelled = t.spelled; alone = λ e. t.alone (h e) }
+
+no_hints : (p h : Bool) → (not p && not h) ≡ true → (p ≡ false) × (h ≡ false)
+no_hints true h e = absurd (cc)
+no_hints false true e = absurd (cc)
+no_hints false false e = (refl, refl)
+
+-- a plain style has neither
+pub plain_parts : (style : Style) → is_plain style ≡ true → (style.prompts ≡ false) × (style.hints ≡ false)
+plain_parts style e = no_hints style.prompts style.hints e
+
+pub plain_of : (style : Style) → style.prompts ≡ false → style.hints ≡ false → is_plain style ≡ true
+plain_of style p h = ap (λ x. not x && not style.hints) p ∙ ap (λ x. not false && not x) h
+
+-- the first line of a form, and one behind others
+pub joined_first : (form line : List ℕ) → form ≡ [] → joined form line ≡ line
+joined_first [] line e = refl
+joined_first (b ∷ bs) line e = absurd (cc)
+
+pub joined_more : (form line : List ℕ) → 0 < length form → joined form line ≡ form ++ 32 ∷ line
+joined_more [] line h = absurd (omega (arith, h))
+joined_more (b ∷ bs) line h = refl
+
+-- what was said is the form
+pub responds_to : (old new : Log) (said form : List ℕ) (reply : Reply) → said ≡ form → Responds old said reply new → Responds old form reply new
+responds_to old new said form reply e r = let P : List ℕ → Type 0 = λ x. Responds old x reply new in subst P e r
+
+-- a form that goes on is begun
+pub begun : (items : List ℕ) (n : ℕ) (b : Bool) → n ≡ length items → b ≡ (n == 0) → items ≢ [] → not b ≡ true
+begun [] n b l e ne = absurd (ne refl)
+begun (x ∷ xs) n true l e ne = let z : n ≡ 0 = eqb-true n 0 (sym e) in absurd (omega (arith, l, z))
+begun (x ∷ xs) n false l e ne = refl
+
+-- a turn in the style that was there at first
+pub turn_at : (a b : Style) (point point' : Point) (line text : List ℕ) → a ≡ b → Turn (is_plain a) point line text point' → Turn (is_plain b) point line text point'
+turn_at a b point point' line text e t = let P : Style → Type 0 = λ x. Turn (is_plain x) point line text point' in subst P e t
+
+-- no form goes on
+pub emptied : (items : List ℕ) (n : ℕ) (b : Bool) → n ≡ length items → b ≡ (n == 0) → b ≡ true → items ≡ []
+emptied [] n b l e t = refl
+emptied (x ∷ xs) n b l e t = let z : n ≡ 0 = eqb-true n 0 (sym e ∙ t) in absurd (omega (arith, l, z))
+
+-- one does
+pub filled : (items : List ℕ) (n : ℕ) (b : Bool) → n ≡ length items → b ≡ (n == 0) → b ≡ false → items ≢ []
+filled [] n b l e t = let z : (n == 0) ≡ true = ap (λ k. k == 0) l in let no' : true ≡ false = sym z ∙ sym e ∙ t in absurd (cc)
+filled (x ∷ xs) n b l e t = λ e'. absurd (cc)
+
+-- a conversation from its beginning, in a style
+pub conversed_from : (a b : Style) (form : List ℕ) (log : Log) (point : Point) (lines texts : List (List ℕ)) → a ≡ b → form ≡ [] → Conversed (is_plain a) (record { form = form; log = log }) lines texts point → Conversed (is_plain b) (record { form = []; log = log }) lines texts point
+conversed_from a b form log point lines texts e f c =
+    let P : Style → Type 0 = λ x. Conversed (is_plain x) (record { form = []; log = log }) lines texts point in
+    let Q : List ℕ → Type 0 = λ x. Conversed (is_plain a) (record { form = x; log = log }) lines texts point in
+    subst P e (subst Q f c)
+
+-- an exchange of which more is known is one of which less is
+pub exchange_as : (Heard Other : Hearing) (over : Bool) (end : End) (count : ℕ) (left left' held held' : Option (List ℕ)) → ((lines texts : List (List ℕ)) → Heard lines texts → Other lines texts) → IsExchange Heard over end count left left' held held' → IsExchange Other over end count left left' held held'
+exchange_as Heard Other over end count left left' held held' f e = record {
+  read = e.read;
+  lines = e.lines;
+  texts = e.texts;
+  written = e.written;
+  consumed = e.consumed;
+  appended = e.appended;
+  heard = f e.lines e.texts e.heard;
+  ended = e.ended;
+  counted = e.counted;
+}
+
+pub rests_in : (a b : Style) (end : End) (point : Point) (log : Log) (held held' : Option (List ℕ)) (well : Bool) → a ≡ b → Rests (is_plain a) end point log held held' well → Rests (is_plain b) end point log held held' well
+rests_in a b end point log held held' well e r = let P : Style → Type 0 = λ x. Rests (is_plain x) end point log held held' well in subst P e r

@@ -1,0 +1,10 @@
+use Rattle.std.proofs.Common.{refl}
+use Rattle.nesl_prompt.proofs.Conversations.{responds_to}
+use Rattle.nesl_prompt.proofs.desk.Desk.say_form.Goals as goal
+
+pub returns-clause-said : goal.returns-clause-said
+returns-clause-said g c = (
+  c.line-answer.result,
+  responds_to _ _ _ _ _ (cc) c.line-answer.ensures,
+  λ line. record { more = c.below-more.result.items; spelled = refl; alone = c.below-more.ensures.plain },
+)

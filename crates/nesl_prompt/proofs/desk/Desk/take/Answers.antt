@@ -1,0 +1,28 @@
+use Rattle.std.proofs.Common.{◌++◌, ◌∙◌, ◌≤◌, ℕ, List, ap, refl, subst, sym, length}
+use Rattle.nesl_session_step.specs.Step.{longest}
+use Rattle.nesl_prompt.specs.Conversation.{gathers, says, wants}
+use Rattle.nesl_prompt.proofs.Conversations.{begun, responds_to}
+use Rattle.nesl_prompt.proofs.desk.Desk.take.Goals as goal
+
+pub returns-in-Err-clause-takes : goal.returns-in-Err-clause-takes
+returns-in-Err-clause-takes g c = λ any. wants c.in-Err.ensures.err refl (record {
+  more = c.prompt-more.result.items;
+  spelled = ap (λ r. r.bytes ++ c.prompt-more.result.items) c.no_memory.ensures;
+  alone = c.prompt-more.ensures;
+})
+
+pub returns-then-is_whole-clause-takes : goal.returns-then-is_whole-clause-takes
+returns-then-is_whole-clause-takes g c = λ any.
+    let s = c.say_form.ensures.said in
+    says s.0 (responds_to _ _ _ _ _ (ap (λ f. f.items) c.is_whole.ensures.form ∙ c.in-Ok.ensures.ok) s.1) c.say_form.ensures.form (s.2 any)
+
+pub returns-else-is_whole-clause-takes : goal.returns-else-is_whole-clause-takes
+returns-else-is_whole-clause-takes g c = λ any.
+    let P : List ℕ → Type 0 = λ x. length x ≤ longest in
+    gathers
+    (record {
+      unblank = λ some. c.is_whole.ensures.blank c.if-is_whole.false (begun c.args.self.now.form.items _ c.is_empty-is_begun.result c.args.self.now.form.ok.0 c.is_empty-is_begun.ensures some);
+      no_part = c.is_whole.ensures.part c.if-is_whole.false;
+      short = subst P c.in-Ok.ensures.ok (c.is_whole.ensures.short c.if-is_whole.false);
+    })
+    (ap (λ f. f.items) c.go_on.ensures.form ∙ ap (λ f. f.items) c.is_whole.ensures.form ∙ c.in-Ok.ensures.ok) refl c.go_on.ensures.plain

@@ -1,0 +1,90 @@
+-- What is told at a prompt.
+use Rattle.std.specs.Prelude.{◌≡◌, ◌≢◌, ℕ, ◌≤◌, length, List, [], ◌∷◌, ◌++◌, Option, Bool, true, false, if◌then◌else◌}
+use Rattle.std.specs.Io.KnownBytes.{Appends}
+use Rattle.nesl_session_step.specs.State.{Log}
+use Rattle.nesl_session_step.specs.Step.{longest}
+use Rattle.nesl_session_step.specs.Response.{Reply, no_memory}
+use Rattle.nesl_session_step.specs.Solo.{Responds}
+use Rattle.nesl_line.specs.declared.exchange.End.{End}
+use Rattle.nesl_line.specs.declared.exchange.End.TheVariants.{Input, WriteFault}
+use Rattle.nesl_line.specs.Exchange.{IsExchange}
+use Rattle.nesl_line.specs.Steps.{Sent}
+use Rattle.nesl_prompt.specs.Points.{Point, Obeyed, joined}
+use Rattle.nesl_prompt.specs.Words.{IsBlank, is_own, is_part, says_lines}
+
+-- This is told where this is the reply: where it is plain, the reply alone.
+pub record IsTold (plain : Bool) (reply : Reply) (text : List ℕ) : Type 0 where
+  pub more : List ℕ
+  pub spelled : text ≡ reply.bytes ++ more
+  pub alone : plain ≡ true → more ≡ []
+
+-- A form may go on behind this line: the line isn't blank where it isn't the first, it is no part of a form by its last
+-- byte, and the form isn't longer than one may be.
+pub record GoesOn (form line : List ℕ) : Type 0 where
+  pub unblank : form ≢ [] → ¬ IsBlank line
+  pub no_part : is_part line ≡ false
+  pub short : length (joined form line) ≤ longest
+
+-- What becomes of a line of a form: the form goes on, and nothing is told but a prompt; or it ends, is said to the
+-- session, and its reply is told; or there is no memory for the line, which is as if it hadn't come.
+pub data Takes (plain : Bool) (point : Point) (line text : List ℕ) (point' : Point) : Type 0 where
+  gathers :
+      GoesOn point.form line → point'.form ≡ joined point.form line → point'.log ≡ point.log
+      → (plain ≡ true → text ≡ []) → Takes plain point line text point'
+  says :
+      (reply : Reply) → Responds point.log (joined point.form line) reply point'.log → point'.form ≡ []
+      → IsTold plain reply text → Takes plain point line text point'
+  wants :
+      point'.form ≡ point.form → point'.log ≡ point.log → IsTold plain no_memory text
+      → Takes plain point line text point'
+
+-- One line at the prompt. While no form goes on it may be one of the prompt's own words, of which only `:load` and
+-- `:type` say lines to the session, or blank, and then nothing is told but a prompt. Any other line is one of a form.
+pub data Turn (plain : Bool) (point : Point) (line text : List ℕ) (point' : Point) : Type 0 where
+  own :
+      point.form ≡ [] → is_own line ≡ true → Obeyed (says_lines line) point.log point'.log → point'.form ≡ []
+      → Turn plain point line text point'
+  waits :
+      point.form ≡ [] → IsBlank line → point'.form ≡ [] → point'.log ≡ point.log → (plain ≡ true → text ≡ [])
+      → Turn plain point line text point'
+  takes :
+      (point.form ≡ [] → is_own line ≡ false) → Takes plain point line text point'
+      → Turn plain point line text point'
+
+-- these lines came one after another, and these texts were told of them
+abbrev pub Conversed : Bool → Point → (lines texts : List (List ℕ)) → Point → Type 0
+Conversed plain point [] [] point' = point' ≡ point
+Conversed plain point (line ∷ lines) (text ∷ texts) point' =
+    (mid : Point) × Turn plain point line text mid × Conversed plain mid lines texts point'
+Conversed plain point [] (text ∷ texts) point' = ⊥
+Conversed plain point (line ∷ lines) [] point' = ⊥
+
+-- After the last line: at the end of input a form that still goes on is said, and its reply is told. `well` says
+-- whether what was to be written could be.
+pub data Rests
+    (plain : Bool) (end : End) (point : Point) (log : Log) (held held' : Option (List ℕ)) (well : Bool) : Type 0 where
+  silence :
+      (tail : List ℕ) → (end ≡ Input → point.form ≡ []) → log ≡ point.log → Sent held held' tail true → well ≡ true
+      → (plain ≡ true → tail ≡ []) → Rests plain end point log held held' well
+  cut_off :
+      (tail : List ℕ) → log ≡ point.log → Sent held held' tail false → well ≡ false → (plain ≡ true → tail ≡ [])
+      → Rests plain end point log held held' well
+  last_form :
+      (mid : Option (List ℕ)) (tail text : List ℕ) (reply : Reply) → Sent held mid tail true
+      → (plain ≡ true → tail ≡ []) → Responds point.log point.form reply log → IsTold plain reply text
+      → Sent mid held' text well → Rests plain end point log held held' well
+
+-- A prompt at which `count` lines were heard, and which ended so: a reader had `left` and then `left'`, a writer held
+-- `held` and then `held'`, and the session was `log` and then `log'`. Before the first line a greeting is written.
+pub data IsPrompt
+    (plain : Bool) (end : End) (count : ℕ) (left left' held held' : Option (List ℕ)) (log log' : Log) : Type 0 where
+  unheard :
+      (greeting : List ℕ) → end ≡ WriteFault → count ≡ 0 → left' ≡ left → log' ≡ log → Sent held held' greeting false
+      → (plain ≡ true → greeting ≡ []) → IsPrompt plain end count left left' held held' log log'
+  heard :
+      (greeting : List ℕ) (begun sent : Option (List ℕ)) (over : Bool) (ended : End) (point : Point) (well : Bool)
+      → Sent held begun greeting true → (plain ≡ true → greeting ≡ [])
+      → IsExchange (λ lines texts. Conversed plain (record { form = []; log = log }) lines texts point) over ended count
+      left left' begun sent
+      → Rests plain ended point log' sent held' well → end ≡ (if well then ended else WriteFault)
+      → IsPrompt plain end count left left' held held' log log'

@@ -1,0 +1,4 @@
+pub mod Words
+pub mod Points
+pub mod Conversation
+pub mod Laws

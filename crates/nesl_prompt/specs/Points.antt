@@ -1,0 +1,41 @@
+-- Where a conversation is, and what is said on the way.
+use Rattle.std.specs.Prelude.{◌≡◌, ℕ, List, [], ◌∷◌, ◌++◌, Bool, false, not, ◌&&◌}
+use Rattle.nesl_session_step.specs.State.{Log}
+use Rattle.nesl_session_step.specs.Response.{Reply}
+use Rattle.nesl_session_step.specs.Solo.{Responds}
+use Rattle.nesl_prompt.specs.declared.style.Style.{Style}
+
+-- the lines of a form that goes on, joined, and the session
+pub record Point : Type 0 where
+  pub form : List ℕ
+  pub log : Log
+
+-- a line that the session was told, and its reply
+pub record Said : Type 0 where
+  pub line : List ℕ
+  pub reply : Reply
+
+-- the session was told these lines, one after another, and answered so
+abbrev pub Says : Log → List Said → Log → Type 0
+Says log [] log' = log' ≡ log
+Says log (said ∷ more) log' = (mid : Log) × Responds log said.line said.reply mid × Says mid more log'
+
+-- it was told some lines
+pub record Spoke (log log' : Log) : Type 0 where
+  pub lines : List Said
+  pub says : Says log lines log'
+
+-- it was told some lines, and none where `says_any` is false
+pub record Obeyed (says_any : Bool) (log log' : Log) : Type 0 where
+  pub lines : List Said
+  pub none : says_any ≡ false → lines ≡ []
+  pub says : Says log lines log'
+
+-- a line of a form behind the lines before it, with a blank between
+abbrev pub joined : (form line : List ℕ) → List ℕ
+joined [] line = line
+joined (b ∷ bs) line = b ∷ bs ++ 32 ∷ line
+
+-- neither prompts nor hints are written
+abbrev pub is_plain : Style → Bool
+is_plain style = not style.prompts && not style.hints

@@ -1,0 +1,44 @@
+-- Which lines are the prompt's own.
+use Rattle.std.specs.Prelude.{ℕ, List, Bool, true, false, not, nat_eq, ◌&&◌, ◌||◌, ◌==◌, codes}
+use Rattle.std.specs.List.{AllByRecursion, ends_with, list_any, starts_with}
+use Rattle.std.specs.Prelude.{◌≡◌}
+use Rattle.nesl_prompt.specs.declared.word.Word.{Word}
+use Rattle.nesl_prompt.specs.declared.word.Word.TheVariants.{Help, TypeOf, Kept, Load, Save, Quit}
+
+abbrev pub begins : (line head : List ℕ) → Bool
+begins line head = starts_with nat_eq line head
+
+-- a line that a session takes for a part of a form, since it ends so
+abbrev pub is_part : List ℕ → Bool
+is_part line = ends_with nat_eq line (codes "\\")
+
+-- the type of something is asked for, without the `;` of a session's own command, and in one line
+abbrev pub asks_type : List ℕ → Bool
+asks_type line =
+    begins line (codes ":type") && not (list_any (λ b. b == 59) line) && not (is_part line)
+
+-- a word that has a session say lines: `:load`, or `:type` without a `;`
+abbrev pub says_lines : List ℕ → Bool
+says_lines line = begins line (codes ":load") || asks_type line
+
+-- a line that is the prompt's own while no form goes on
+abbrev pub is_own : List ℕ → Bool
+is_own line =
+    begins line (codes ":help") || begins line (codes ":list") || begins line (codes ":save")
+    || begins line (codes ":quit") || says_lines line
+
+-- whether a word has a session say lines
+abbrev pub word_says : Word → Bool
+word_says (Help name) = false
+word_says (TypeOf name) = true
+word_says Kept = false
+word_says (Load file) = true
+word_says (Save file) = false
+word_says Quit = false
+
+-- a space, a tab or a CR
+abbrev pub is_blank_byte : ℕ → Bool
+is_blank_byte b = b == 32 || b == 9 || b == 13
+
+abbrev pub IsBlank : List ℕ → Type 0
+IsBlank line = AllByRecursion (λ b. is_blank_byte b ≡ true) line

@@ -1,0 +1,99 @@
+//! A prompt, from its greeting to its end.
+ghost use Rattle.std.specs.Prelude.{◌≡◌, ◌≢◌, [], false, true};
+ghost use Rattle.nesl_line.specs.declared.exchange.End.{End};
+ghost use Rattle.nesl_prompt.specs.Conversation.{IsPrompt, Rests};
+ghost use Rattle.nesl_prompt.specs.Points.{is_plain};
+
+use crate::desk::Desk;
+use crate::help::GREETING;
+use crate::shelf::Shelf;
+use crate::style::Style;
+use nesl_line::device::{Sink, Source};
+use nesl_line::exchange::{End, Ran, exchange};
+use nesl_line::hearer::Hearer;
+use nesl_line::tell::{say, tell};
+use nesl_session::session::Session;
+use std::alloc::Global;
+
+/// Answers the lines of a reader by a session: each form as the session does, and each of the prompt's own words by
+/// what it asks for, in this style, and with these files. It ends at the end of input, or at `:quit`.
+pub fn converse<S: Source, W: Sink, F: Shelf>(
+    alloc: Global,
+    reader: &mut S,
+    writer: &mut W,
+    session: &mut Session,
+    shelf: &F,
+    style: Style,
+) -> Ran
+    ensures { IsPrompt (is_plain style) result.end result.lines (S.left reader.old) (S.left reader.new)
+        (W.held writer.old) (W.held writer.new) session.old session.new }
+{
+    if !say(writer, greeting(style)) {
+        return Ran {
+            lines: 0,
+            end: End::WriteFault,
+        };
+    }
+    let mut desk = Desk::new(alloc, shelf, style);
+    let ran = exchange(alloc, reader, writer, &mut desk, session);
+    if rest(alloc, writer, &mut desk, session, ran.end) {
+        return ran;
+    }
+    Ran {
+        lines: ran.lines,
+        end: End::WriteFault,
+    }
+}
+
+// What is told before the first line.
+fn greeting(style: Style) -> &'static [u8]
+    ensures { is_plain style ≡ true → result.now ≡ [] }
+{
+    if style.prompts { GREETING } else { b"" }
+}
+
+// What is told where nothing more comes.
+fn parting(style: Style, is_over: bool) -> &'static [u8]
+    ensures { is_plain style ≡ true → result.now ≡ [] }
+{
+    if style.prompts && !is_over {
+        b"\n"
+    } else {
+        b""
+    }
+}
+
+// What is told after the last line: at the end of input the reply to a form that still goes on.
+fn rest<W: Sink, F: Shelf>(
+    alloc: Global,
+    writer: &mut W,
+    desk: &mut Desk<'_, F>,
+    session: &mut Session,
+    end: End,
+) -> bool
+    ensures { Rests (is_plain desk.old.style) end (record { form = desk.old.form.items; log = session.old })
+        session.new (W.held writer.old) (W.held writer.new) result }
+{
+    let style = desk.style();
+    if !say(writer, parting(style, desk.is_over())) {
+        return false;
+    }
+    if !is_input(end) {
+        return true;
+    }
+    if !desk.has_form() {
+        return true;
+    }
+    let told = desk.say_form(alloc, session, style.without_prompts());
+    tell(writer, b"", &told)
+}
+
+// Whether the input has ended.
+fn is_input(end: End) -> bool
+    ensures { result ≡ false → end ≢ End.Input }
+{
+    match end {
+        End::Input => true,
+        End::ReadFault | End::WriteFault | End::NoMemory => false,
+    }
+}

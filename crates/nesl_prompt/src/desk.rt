@@ -1,0 +1,589 @@
+//! Who hears the lines of a prompt.
+ghost use Rattle.std.specs.Prelude.{◌≡◌, ℕ, ◌<◌, ◌≤◌, List, [], false, true, ⊤, IfSome, OnOk, OnErr, length};
+ghost use Rattle.nesl_session_step.specs.Solo.{Responds};
+ghost use Rattle.nesl_session_step.specs.Response.{Reply};
+ghost use Rattle.nesl_line.specs.Told.{text_told};
+ghost use Rattle.nesl_prompt.specs.Conversation.{Conversed, IsTold, Takes, Turn};
+ghost use Rattle.nesl_prompt.specs.Points.{Obeyed, Spoke, is_plain, joined};
+ghost use Rattle.nesl_prompt.specs.Words.{IsBlank, is_part, word_says};
+
+use crate::caret::put_hint;
+use crate::functions::put_types;
+use crate::help::{GOES_ON, lower, put_help};
+use crate::hints::hint_on;
+use crate::kept::Kept;
+use crate::open::Open;
+use crate::shelf::{Shelf, ShelfFault};
+use crate::style::Style;
+use crate::word::{Word, is_blank, is_part, word_in};
+use memchr::memchr;
+use nesl_line::hearer::{Hearer, Told};
+use nesl_session::LONGEST;
+use nesl_session::answer::Answer;
+use nesl_session::session::Session;
+use std::alloc::{AllocError, Global};
+use std::mem;
+
+/// What a prompt has besides the session.
+#[derive(Drop)]
+pub struct Desk<'x, F> {
+    shelf: &'x F,
+    style: Style,
+    /// The lines of a form that goes on, joined.
+    form: Vec<u8>,
+    open: Open,
+    kept: Kept,
+    is_over: bool,
+    /// Whether it was told that a form goes on.
+    is_told: bool,
+}
+
+impl<'x, F: Shelf> Desk<'x, F> {
+    /// Nothing was heard.
+    pub fn new(alloc: Global, shelf: &'x F, style: Style) -> Desk<'x, F>
+        ensures form { result.form.items ≡ [] }
+        ensures style { result.style ≡ style }
+    {
+        Desk {
+            shelf,
+            style,
+            form: Vec::new(alloc),
+            open: Open::new(alloc),
+            kept: Kept::new(alloc),
+            is_over: false,
+            is_told: false,
+        }
+    }
+
+    /// How it looks.
+    pub fn style(&self) -> Style
+        ensures { result ≡ self.now.style }
+    {
+        self.style
+    }
+
+    /// Whether a form goes on.
+    pub fn has_form(&self) -> bool
+        ensures { result ≡ false → self.now.form.items ≡ [] }
+    {
+        !self.form.is_empty()
+    }
+
+    /// Says the form that goes on.
+    pub fn say_form(&mut self, alloc: Global, session: &mut Session, style: Style) -> Told
+        ensures said { (reply : Reply) × Responds session.old self.old.form.items reply session.new
+            × ((line : List ℕ) → IsTold (is_plain style) reply (text_told line result)) }
+        ensures form { self.new.form.items ≡ [] }
+        ensures style { self.new.style ≡ self.old.style }
+    {
+        self.open.clear();
+        let form = mem::replace(&mut self.form, Vec::new(alloc));
+        let before = Vec::from_slice(alloc, session.pending());
+        let answer = session.line(alloc, form.as_slice());
+        let more = self.below(alloc, session, style, whole(before, form), &answer);
+        Told::With(answer, more)
+    }
+
+    // What is written below an answer to a form: a hint and a prompt, as far as they are wanted. The form is kept where
+    // it bound a name; it is missing where there was no memory for it.
+    fn below(
+        &mut self,
+        alloc: Global,
+        session: &Session,
+        style: Style,
+        form: Result<Vec<u8>, AllocError>,
+        answer: &Answer,
+    ) -> Vec<u8>
+        ensures plain { is_plain style ≡ true → result.items ≡ [] }
+        ensures form { self.new.form ≡ self.old.form }
+        ensures style { self.new.style ≡ self.old.style }
+    {
+        let hint = hint_below(alloc, session, style, &form, answer);
+        if let Ok(form) = form {
+            let _ = self.kept.note(alloc, form, answer).is_ok();
+        }
+        with_prompt(style, !session.pending().is_empty(), hint)
+    }
+
+    // Takes a line of a form.
+    fn take(&mut self, alloc: Global, session: &mut Session, line: &[u8], style: Style) -> Told
+        ensures takes { (any : List ℕ) → Takes (is_plain style)
+            (record { form = self.old.form.items; log = session.old }) line.now (text_told any result)
+            (record { form = self.new.form.items; log = session.new }) }
+        ensures style { self.new.style ≡ self.old.style }
+    {
+        let is_begun = !self.form.is_empty();
+        match self.gather(line) {
+            Err(_) => {
+                let more = prompt(alloc, style, is_begun);
+                Told::With(Answer::no_memory(), more)
+            }
+            Ok(()) => {
+                if self.is_whole(alloc, line, is_begun) {
+                    return self.say_form(alloc, session, style);
+                }
+                Told::Text(self.go_on(alloc, style))
+            }
+        }
+    }
+
+    // Puts a line behind those that came, with a blank between.
+    #[tactic(auto, using(crate::proofs::Conversations::joined_first, crate::proofs::Conversations::joined_more))]
+    fn gather(&mut self, line: &[u8]) -> Result<(), AllocError>
+        ensures ok { OnOk result (self.new.form.items ≡ joined self.old.form.items line.now) }
+        ensures err { OnErr result (self.new.form.items ≡ self.old.form.items) }
+        ensures style { self.new.style ≡ self.old.style }
+    {
+        if self.form.is_empty() {
+            self.form.extend_from_slice(line)?;
+            return Ok(());
+        }
+        self.form.reserve(line.len() + 1)?;
+        self.form.push_reserved(b' ');
+        if self.form.extend_from_slice(line).is_err() {
+            unreachable!();
+        }
+        Ok(())
+    }
+
+    // Whether the form ends with this line, which is its last one so far: also where it is longer than a session
+    // takes, or where memory is wanting.
+    fn is_whole(&mut self, alloc: Global, line: &[u8], is_begun: bool) -> bool
+        ensures short { result ≡ false → length self.old.form.items ≤ LONGEST }
+        ensures blank { result ≡ false → is_begun ≡ true → ¬ IsBlank line.now }
+        ensures part { result ≡ false → is_part line.now ≡ false }
+        ensures form { self.new.form ≡ self.old.form }
+        ensures style { self.new.style ≡ self.old.style }
+    {
+        if self.form.len() > LONGEST || is_part(line) {
+            return true;
+        }
+        if is_begun && is_blank(line) {
+            return true;
+        }
+        self.open.ends_with(alloc, line).unwrap_or(true)
+    }
+
+    // What is told where a form goes on.
+    fn go_on(&mut self, alloc: Global, style: Style) -> Vec<u8>
+        ensures plain { is_plain style ≡ true → result.items ≡ [] }
+        ensures form { self.new.form ≡ self.old.form }
+        ensures style { self.new.style ≡ self.old.style }
+    {
+        let is_first = !self.is_told;
+        self.is_told = true;
+        with_prompt(style, true, note_on_forms(alloc, style, is_first))
+    }
+
+    // Does what a word of the prompt says.
+    #[tactic(auto, using(crate::proofs::Conversations::obeyed_none, crate::proofs::Conversations::obeyed_some))]
+    fn obey(
+        &mut self,
+        alloc: Global,
+        session: &mut Session,
+        word: Word<'_>,
+        out: &mut Vec<u8>,
+    ) -> Result<(), AllocError>
+        requires form { self.old.form.items ≡ [] }
+        ensures said { Obeyed (word_says word.entry) session.old session.new }
+        ensures form { self.new.form.items ≡ [] }
+        ensures style { self.new.style ≡ self.old.style }
+    {
+        match word {
+            Word::Help(name) => put_help(alloc, out, &self.kept, name),
+            Word::Kept => self.kept.put(out),
+            Word::Save(path) => self.save(alloc, path, out),
+            Word::Quit => {
+                self.is_over = true;
+                Ok(())
+            }
+            Word::Load(path) => self.load(alloc, session, path, out),
+            Word::TypeOf(name) => self.tell_type(alloc, session, name, out),
+        }
+    }
+
+    // Writes what was kept into a file.
+    fn save(&self, alloc: Global, path: &[u8], out: &mut Vec<u8>) -> Result<(), AllocError> {
+        let mut text = Vec::new(alloc);
+        self.kept.put(&mut text)?;
+        let saved = match path_of(path) {
+            Some(path) => self.shelf.write(path, text.as_slice()),
+            None => Err(ShelfFault::Absent),
+        };
+        match saved {
+            Ok(()) => put_count(alloc, out, self.kept.len()),
+            Err(fault) => put_fault(alloc, out, "save", path, fault),
+        }
+    }
+
+    // Tells the type of a function, or has the session tell that of an expression.
+    #[tactic(auto, using(crate::proofs::Conversations::spoke_none))]
+    fn tell_type(
+        &mut self,
+        alloc: Global,
+        session: &mut Session,
+        name: &[u8],
+        out: &mut Vec<u8>,
+    ) -> Result<(), AllocError>
+        requires form { self.old.form.items ≡ [] }
+        ensures said { Spoke session.old session.new }
+        ensures form { self.new.form.items ≡ [] }
+        ensures style { self.new.style ≡ self.old.style }
+    {
+        match put_callable(alloc, &self.kept, name, out) {
+            Err(error) => Err(error),
+            Ok(true) => Ok(()),
+            Ok(false) => self.ask_type(alloc, session, name, out),
+        }
+    }
+
+    // Has the session tell the type of an expression.
+    #[tactic(auto, using(crate::proofs::Conversations::spoke_none))]
+    fn ask_type(
+        &mut self,
+        alloc: Global,
+        session: &mut Session,
+        exp: &[u8],
+        out: &mut Vec<u8>,
+    ) -> Result<(), AllocError>
+        requires form { self.old.form.items ≡ [] }
+        ensures said { Spoke session.old session.new }
+        ensures form { self.new.form.items ≡ [] }
+        ensures style { self.new.style ≡ self.old.style }
+    {
+        let command = match type_command(alloc, exp) {
+            Ok(command) => command,
+            Err(error) => return Err(error),
+        };
+        match self.gather(command.as_slice()) {
+            Err(error) => Err(error),
+            Ok(()) => {
+                let told = self.say_form(alloc, session, self.style.without_prompts());
+                put_told(out, &told)
+            }
+        }
+    }
+
+    // Says the lines of a file.
+    #[tactic(auto, using(crate::proofs::Conversations::spoke_none))]
+    fn load(
+        &mut self,
+        alloc: Global,
+        session: &mut Session,
+        path: &[u8],
+        out: &mut Vec<u8>,
+    ) -> Result<(), AllocError>
+        requires form { self.old.form.items ≡ [] }
+        ensures said { Spoke session.old session.new }
+        ensures form { self.new.form.items ≡ [] }
+        ensures style { self.new.style ≡ self.old.style }
+    {
+        let read = match path_of(path) {
+            Some(path) => self.shelf.read(alloc, path),
+            None => Err(ShelfFault::Absent),
+        };
+        match read {
+            Ok(text) => self.say_text(alloc, session, text.as_slice(), out),
+            Err(fault) => put_fault(alloc, out, "load", path, fault),
+        }
+    }
+
+    // Says the lines of a text, at the end of which a form ends.
+    fn say_text(
+        &mut self,
+        alloc: Global,
+        session: &mut Session,
+        text: &[u8],
+        out: &mut Vec<u8>,
+    ) -> Result<(), AllocError>
+        ensures said { Spoke session.old session.new }
+        ensures form { self.new.form.items ≡ [] }
+        ensures style { self.new.style ≡ self.old.style }
+    {
+        let put = self.say_lines(alloc, session, text, out);
+        if !self.has_form() {
+            return put;
+        }
+        let told = self.say_form(alloc, session, self.style.without_prompts());
+        put?;
+        put_told(out, &told)
+    }
+
+    // Says the lines of a text.
+    fn say_lines(
+        &mut self,
+        alloc: Global,
+        session: &mut Session,
+        text: &[u8],
+        out: &mut Vec<u8>,
+    ) -> Result<(), AllocError>
+        ensures said { Spoke session.old session.new }
+        ensures style { self.new.style ≡ self.old.style }
+    {
+        let mut rest = text;
+        'lines: while let Some((line, behind)) = cut_line(rest) {
+            self.say_line(alloc, session, line, out)?;
+            rest = behind;
+        }
+        self.say_line(alloc, session, rest, out)
+    }
+
+    // Says a line of a text.
+    #[tactic(auto, using(crate::proofs::Conversations::spoke_none))]
+    fn say_line(
+        &mut self,
+        alloc: Global,
+        session: &mut Session,
+        line: &[u8],
+        out: &mut Vec<u8>,
+    ) -> Result<(), AllocError>
+        ensures said { Spoke session.old session.new }
+        ensures style { self.new.style ≡ self.old.style }
+    {
+        let line = line.strip_suffix(b"\r".as_slice()).unwrap_or(line);
+        if is_blank(line) && !self.has_form() {
+            return Ok(());
+        }
+        let told = self.take(alloc, session, line, self.style.without_prompts());
+        put_told(out, &told)
+    }
+
+    // Hears a line while no form goes on.
+    fn hear_first(&mut self, alloc: Global, session: &mut Session, line: &[u8]) -> Told
+        requires form { self.old.form.items ≡ [] }
+        ensures turn { Turn (is_plain self.old.style) (record { form = self.old.form.items; log = session.old })
+            line.now (text_told line.now result) (record { form = self.new.form.items; log = session.new }) }
+        ensures style { self.new.style ≡ self.old.style }
+    {
+        match word_in(line) {
+            Some(word) => self.hear_word(alloc, session, word),
+            None => {
+                if is_pause(session, line) {
+                    return Told::Text(prompt(alloc, self.style, false));
+                }
+                self.take(alloc, session, line, self.style)
+            }
+        }
+    }
+
+    // Hears a word of the prompt's own.
+    fn hear_word(&mut self, alloc: Global, session: &mut Session, word: Word<'_>) -> Told
+        requires form { self.old.form.items ≡ [] }
+        ensures said { Obeyed (word_says word.entry) session.old session.new }
+        ensures form { self.new.form.items ≡ [] }
+        ensures style { self.new.style ≡ self.old.style }
+    {
+        let mut out = Vec::new(alloc);
+        let obeyed = self.obey(alloc, session, word, &mut out);
+        if self.is_over {
+            return Told::Text(out);
+        }
+        let is_open = !session.pending().is_empty();
+        match obeyed {
+            Ok(()) => Told::Text(with_prompt(self.style, is_open, out)),
+            Err(_) => {
+                let more = prompt(alloc, self.style, is_open);
+                Told::With(Answer::no_memory(), more)
+            }
+        }
+    }
+}
+
+impl<F: Shelf> Hearer for Desk<'_, F> {
+    type World = Session;
+
+    ghost heard = { λ first start now session lines texts. (now.style ≡ first.style)
+        × Conversed (is_plain first.style) (record { form = first.form.items; log = start }) lines texts
+        (record { form = now.form.items; log = session }) };
+
+    ghost over = { λ desk. desk.is_over };
+
+    ghost ready = { λ desk session. ⊤ };
+
+    fn hear(&mut self, alloc: Global, world: &mut Session, line: &[u8]) -> Told {
+        if self.form.is_empty() {
+            self.hear_first(alloc, world, line)
+        } else {
+            self.take(alloc, world, line, self.style)
+        }
+    }
+
+    fn is_over(&self) -> bool {
+        self.is_over
+    }
+}
+
+// Writes the types of the functions of this name, and says whether there are any.
+fn put_callable(
+    alloc: Global,
+    kept: &Kept,
+    name: &[u8],
+    out: &mut Vec<u8>,
+) -> Result<bool, AllocError> {
+    let small = lower(alloc, name)?;
+    if let Ok(text) = str::from_utf8(small.as_slice()) {
+        if put_types(alloc, out, text)? {
+            return Ok(true);
+        }
+    }
+    let Some(text) = kept.callable(small.as_slice()) else {
+        return Ok(false);
+    };
+    out.extend_from_slice(text)?;
+    out.push(b'\n')?;
+    Ok(true)
+}
+
+// A form with the parts before it.
+fn whole(before: Result<Vec<u8>, AllocError>, form: Vec<u8>) -> Result<Vec<u8>, AllocError> {
+    let mut whole = before?;
+    if whole.is_empty() {
+        return Ok(form);
+    }
+    whole.extend_from_slice(form.as_slice())?;
+    Ok(whole)
+}
+
+// The hint below an answer to a form, where hints are wanted and there is one.
+fn hint_below(
+    alloc: Global,
+    session: &Session,
+    style: Style,
+    form: &Result<Vec<u8>, AllocError>,
+    answer: &Answer,
+) -> Vec<u8>
+    ensures { style.hints ≡ false → result.items ≡ [] }
+{
+    if !style.hints || answer.fault().is_none() {
+        return Vec::new(alloc);
+    }
+    let Ok(form) = form else {
+        return Vec::new(alloc);
+    };
+    hint_text(alloc, session, form.as_slice(), answer).unwrap_or(Vec::new(alloc))
+}
+
+// The hint on a form that was answered so, below its place.
+fn hint_text(
+    alloc: Global,
+    session: &Session,
+    form: &[u8],
+    answer: &Answer,
+) -> Result<Vec<u8>, AllocError> {
+    let mut out = Vec::new(alloc);
+    if let Some(hint) = hint_on(alloc, session, form, answer)? {
+        put_hint(&mut out, form, &hint)?;
+    }
+    Ok(out)
+}
+
+// Whether a line says nothing to a session.
+fn is_pause(session: &Session, line: &[u8]) -> bool
+    ensures { result ≡ true → IsBlank line.now }
+{
+    session.pending().is_empty() && is_blank(line)
+}
+
+// A prompt, where prompts are wanted.
+fn prompt(alloc: Global, style: Style, is_open: bool) -> Vec<u8>
+    ensures { is_plain style ≡ true → result.items ≡ [] }
+{
+    with_prompt(style, is_open, Vec::new(alloc))
+}
+
+// A text with a prompt behind it, where prompts are wanted.
+fn with_prompt(style: Style, is_open: bool, text: Vec<u8>) -> Vec<u8>
+    ensures { style.prompts ≡ false → result.items ≡ text.items }
+{
+    if !style.prompts {
+        return text;
+    }
+    let mut text = text;
+    let prompt = if is_open {
+        b". ".as_slice()
+    } else {
+        b"> ".as_slice()
+    };
+    let _ = text.extend_from_slice(prompt).is_ok();
+    text
+}
+
+// What is told the first time that a form goes on.
+fn note_on_forms(alloc: Global, style: Style, is_first: bool) -> Vec<u8>
+    ensures { style.prompts ≡ false → result.items ≡ [] }
+{
+    if style.prompts && style.hints && is_first {
+        return Vec::from_slice(alloc, GOES_ON).unwrap_or(Vec::new(alloc));
+    }
+    Vec::new(alloc)
+}
+
+// The command that asks for the type of an expression.
+fn type_command(alloc: Global, exp: &[u8]) -> Result<Vec<u8>, AllocError> {
+    let mut line = Vec::from_slice(alloc, b":type ")?;
+    line.extend_from_slice(exp)?;
+    line.push(b';')?;
+    Ok(line)
+}
+
+// Writes what is told.
+fn put_told(out: &mut Vec<u8>, told: &Told) -> Result<(), AllocError> {
+    match told {
+        Told::Back => Ok(()),
+        Told::By(answer) => out.extend_from_slice(answer.bytes()),
+        Told::Text(text) => out.extend_from_slice(text.as_slice()),
+        Told::With(answer, more) => {
+            out.extend_from_slice(answer.bytes())?;
+            out.extend_from_slice(more.as_slice())
+        }
+    }
+}
+
+// The first line of a text without its LF, and what stands behind it; or nothing where no LF is there.
+fn cut_line(text: &[u8]) -> Option<(&[u8], &[u8])>
+    ensures { IfSome result (λ parts. length parts.1.now < length text.now) }
+{
+    match feed_in(text) {
+        Some(place) => Some((&text[..place], &text[place + 1..])),
+        None => None,
+    }
+}
+
+// The place of the first LF.
+fn feed_in(bytes: &[u8]) -> Option<usize>
+    ensures { IfSome result (λ place. place < length bytes.now) }
+{
+    memchr(b'\n', bytes)
+}
+
+// The name of a file, which is a text.
+fn path_of(path: &[u8]) -> Option<&str> {
+    if path.is_empty() {
+        return None;
+    }
+    match str::from_utf8(path) {
+        Ok(path) => Some(path),
+        Err(_) => None,
+    }
+}
+
+// Tells how many forms were saved.
+fn put_count(alloc: Global, out: &mut Vec<u8>, count: usize) -> Result<(), AllocError> {
+    let text = format!(in alloc; "saved: forms {count}\n")?;
+    out.extend_from_slice(text.as_bytes())
+}
+
+// Tells why a file can't be loaded or saved.
+fn put_fault(
+    alloc: Global,
+    out: &mut Vec<u8>,
+    word: &str,
+    path: &[u8],
+    fault: ShelfFault,
+) -> Result<(), AllocError> {
+    let text = format!(in alloc; "{word}: {fault}: ")?;
+    out.extend_from_slice(text.as_bytes())?;
+    out.extend_from_slice(path)?;
+    out.push(b'\n')?;
+    Ok(())
+}

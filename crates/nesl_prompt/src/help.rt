@@ -1,0 +1,149 @@
+//! What `:help` tells.
+
+use crate::functions::{put_functions, put_names};
+use crate::kept::Kept;
+use std::alloc::{AllocError, Global};
+
+/// What is told at first, and the first prompt.
+pub const GREETING: &[u8] =
+    b"Pazkindu: NESL, with the work and the depth of each line. `:help` tells what\n\
+there is, and `:quit` ends. A form ends in `;`, as in `2 * 3 + 1;`.\n> ";
+
+/// What is told the first time that a form goes on.
+pub const GOES_ON: &[u8] = b"  (the form goes on until its `;`, and an empty line ends it)\n";
+
+const OVERVIEW: &[u8] = b"\
+A form ends in `;`, and may go on over several lines; an empty line ends it too.
+
+  exp;                          evaluates, and binds the value to `it`
+  name = exp;                   evaluates, and binds the value to the name
+  function name(a, b) = exp;    defines a function
+  datatype name (type, type);   defines a datatype
+  :type exp;                    tells the type that the expression would have
+  :names  :budget  :reset       tell what is bound, and what is left; forget all
+
+  {exp : a in v; b in w | exp}  let a = exp; b = exp in exp
+  if exp then exp else exp      [1, 2]  [] int  [1:9:2]  v[i]  \"text\"  `c  T  F
+
+Words of this prompt, which no session hears:
+  :help NAME   tells of a function or a sign, as `:help take` and `:help ++`
+  :type NAME   tells the type of a function, too
+  :list        lists what was said and kept
+  :save FILE   writes that into a file
+  :load FILE   says the lines of a file
+  :quit        ends, as the end of input does
+
+Functions and signs:
+";
+
+/// What is told of an apply-to-each.
+const EACH: &[u8] = b"\
+{e : p in e; q in e; .. | e}
+  evaluates the body for each place that the filter keeps, all in step
+  work 1 + the nodes of each value, depth 1 + the deepest filter and body
+";
+
+/// The forms that `:help` tells of by a name.
+const FORMS: [(&[u8], &[u8]); 9] = [
+    (
+        b"let",
+        b"\
+let p = e; q = e; .. in e
+  binds in order, each seen by those behind it
+  work 1 and depth 1, besides the parts
+",
+    ),
+    (
+        b"if",
+        b"\
+if e then e else e
+  only the branch that is taken is evaluated
+  work 1 and depth 1, besides the parts
+",
+    ),
+    (
+        b"function",
+        b"\
+function name pattern [: type -> type [:: (name in class; ..)]] = exp;
+  defines a function
+  a call costs work 1 and depth 1, besides the argument and the body
+",
+    ),
+    (
+        b"datatype",
+        b"\
+datatype name type;
+  defines a datatype, which wraps one value: `name(e)` makes one
+  a record costs work 1 and depth 1, besides its part
+",
+    ),
+    (b"in", EACH),
+    (b"{", EACH),
+    (
+        b"names",
+        b":names\n  tells the names in order of first definition\n",
+    ),
+    (
+        b"budget",
+        b":budget\n  tells the work that is left, and what is used of the rest\n",
+    ),
+    (
+        b"reset",
+        b":reset\n  forgets all but the work that was used\n",
+    ),
+];
+
+/// Writes what there is, or what a name is.
+pub fn put_help(
+    alloc: Global,
+    out: &mut Vec<u8>,
+    kept: &Kept,
+    name: &[u8],
+) -> Result<(), AllocError> {
+    if name.is_empty() {
+        out.extend_from_slice(OVERVIEW)?;
+        return put_names(out);
+    }
+    let name = lower(alloc, name)?;
+    if let Ok(text) = str::from_utf8(name.as_slice()) {
+        if put_functions(alloc, out, text)? {
+            return Ok(());
+        }
+    }
+    if put_form(out, name.as_slice())? {
+        return Ok(());
+    }
+    if let Some(text) = kept.callable(name.as_slice()) {
+        out.extend_from_slice(text)?;
+        out.push(b'\n')?;
+        return Ok(());
+    }
+    put_unknown(out, name.as_slice())
+}
+
+// Tells of a form, and says whether there is one of this name.
+fn put_form(out: &mut Vec<u8>, name: &[u8]) -> Result<bool, AllocError> {
+    let name = name.strip_prefix(b":".as_slice()).unwrap_or(name);
+    for (known, text) in &FORMS {
+        if *known == name {
+            out.extend_from_slice(text)?;
+            return Ok(true);
+        }
+    }
+    Ok(false)
+}
+
+fn put_unknown(out: &mut Vec<u8>, name: &[u8]) -> Result<(), AllocError> {
+    out.extend_from_slice(b"nothing is known of `")?;
+    out.extend_from_slice(name)?;
+    out.extend_from_slice(b"`; `:help` tells what there is\n")
+}
+
+/// A text in small letters.
+pub fn lower(alloc: Global, text: &[u8]) -> Result<Vec<u8>, AllocError> {
+    let mut small = Vec::with_capacity(alloc, text.len())?;
+    for byte in text {
+        small.push(byte.to_ascii_lowercase())?;
+    }
+    Ok(small)
+}

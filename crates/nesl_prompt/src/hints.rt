@@ -1,0 +1,62 @@
+//! The hints on forms that were answered by a fault.
+
+use nesl_hints_reading::{Hint, lexical, syntax};
+use nesl_lex::{LexFault, lex};
+use nesl_line::hinted::Hinter;
+use nesl_session::Fault;
+use nesl_session::answer::Answer;
+use nesl_session::session::Session;
+use std::alloc::{AllocError, Global};
+
+/// The hints of a batch, each of which begins with its place.
+#[derive(Clone, Copy, PartialEq, Eq, Debug)]
+pub struct Hints;
+
+impl Hinter for Hints {
+    fn hint(
+        &self,
+        alloc: Global,
+        session: &Session,
+        form: &[u8],
+        answer: &Answer,
+    ) -> Option<Vec<u8>> {
+        match placed_sentence(alloc, session, form, answer) {
+            Ok(sentence) => sentence,
+            Err(_) => None,
+        }
+    }
+}
+
+// The sentence of a hint, with its place before it.
+fn placed_sentence(
+    alloc: Global,
+    session: &Session,
+    form: &[u8],
+    answer: &Answer,
+) -> Result<Option<Vec<u8>>, AllocError> {
+    let Some(hint) = hint_on(alloc, session, form, answer)? else {
+        return Ok(None);
+    };
+    let place = format!(in alloc; "at {}..{}: ", hint.place.start, hint.place.end)?;
+    let mut text = Vec::from_slice(alloc, place.as_bytes())?;
+    text.extend_from_slice(hint.sentence.as_slice())?;
+    Ok(Some(text))
+}
+
+/// A hint on a form that the session has just answered so.
+pub(crate) fn hint_on(
+    alloc: Global,
+    _session: &Session,
+    form: &[u8],
+    answer: &Answer,
+) -> Result<Option<Hint>, AllocError> {
+    match answer.fault() {
+        Some(Fault::Lexical(at)) => Ok(Some(lexical(alloc, form, at)?)),
+        Some(Fault::Syntax) => match lex(alloc, form) {
+            Ok(tokens) => Ok(Some(syntax(alloc, form, tokens.as_slice())?)),
+            Err(LexFault::Lexical { .. }) => Ok(None),
+            Err(LexFault::Memory) => Err(AllocError),
+        },
+        _ => Ok(None),
+    }
+}

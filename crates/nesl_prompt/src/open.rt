@@ -1,0 +1,101 @@
+//! Where a form ends that goes on over several lines.
+
+use nesl_lex::token::{Kind, Sign, Token, Word};
+use nesl_lex::{LexFault, lex};
+use std::alloc::{AllocError, Global};
+
+/// What is still to be closed.
+#[derive(Clone, Copy, PartialEq, Eq, Debug)]
+enum Mark {
+    /// A bracket of any kind, by one of any kind.
+    Bracket,
+    /// A `let`, by its `in`.
+    Let,
+}
+
+/// What is open behind the lines of a form.
+#[derive(Drop)]
+pub struct Open {
+    marks: Vec<Mark>,
+    is_begun: bool,
+}
+
+impl Open {
+    /// No line came.
+    pub fn new(alloc: Global) -> Open {
+        Open {
+            marks: Vec::new(alloc),
+            is_begun: false,
+        }
+    }
+
+    /// Another form begins.
+    pub fn clear(&mut self) {
+        self.marks.clear();
+        self.is_begun = false;
+    }
+
+    /// Takes in a line that isn't blank, and says whether the form ends with it: where its last token is a `;` and
+    /// nothing is open, where the form is a command or a comment, and where the line has no
+    /// tokens by a fault.
+    pub fn ends_with(&mut self, alloc: Global, line: &[u8]) -> Result<bool, AllocError> {
+        let tokens = match lex(alloc, line) {
+            Ok(tokens) => tokens,
+            Err(LexFault::Lexical { .. }) => return Ok(true),
+            Err(_) => return Err(AllocError),
+        };
+        let is_first = !self.is_begun;
+        self.is_begun = true;
+        let (Some(first), Some(last)) = (tokens.first(), tokens.last()) else {
+            return Ok(is_first);
+        };
+        if is_first && is_sign(first, Sign::Colon) {
+            return Ok(true);
+        }
+        for token in &tokens {
+            self.note(token)?;
+        }
+        Ok(self.marks.is_empty() && is_sign(last, Sign::Semicolon))
+    }
+
+    // Opens and closes what a token does.
+    fn note(&mut self, token: &Token) -> Result<(), AllocError> {
+        match &token.kind {
+            Kind::Symbol(Sign::OpenParenthesis | Sign::OpenBracket | Sign::OpenBrace) => {
+                self.marks.push(Mark::Bracket)?;
+                Ok(())
+            }
+            Kind::Reserved(Word::Let) => {
+                self.marks.push(Mark::Let)?;
+                Ok(())
+            }
+            Kind::Reserved(Word::In) => {
+                if self.marks.last() == Some(&Mark::Let) {
+                    let _ = self.marks.pop();
+                }
+                Ok(())
+            }
+            Kind::Symbol(Sign::CloseParenthesis | Sign::CloseBracket | Sign::CloseBrace) => {
+                self.close();
+                Ok(())
+            }
+            _ => Ok(()),
+        }
+    }
+
+    // Closes the newest bracket, and each `let` in it.
+    fn close(&mut self) {
+        let count = match self.marks.iter().rposition(|mark| *mark == Mark::Bracket) {
+            Some(place) => place,
+            None => 0,
+        };
+        self.marks.truncate(count);
+    }
+}
+
+fn is_sign(token: &Token, sign: Sign) -> bool {
+    match &token.kind {
+        Kind::Symbol(found) => *found == sign,
+        _ => false,
+    }
+}

@@ -1,0 +1,86 @@
+//! The prompt's own words.
+ghost use Rattle.std.specs.Prelude.{◌≡◌, false, true, IfNone, IfSome};
+ghost use Rattle.nesl_prompt.specs.Words.{IsBlank, asks_type, is_blank_byte, is_own, is_part, says_lines, word_says};
+
+/// A word of the prompt's own, and what stands behind it.
+#[derive(Clone, Copy, PartialEq, Eq, Debug)]
+pub enum Word<'a> {
+    /// What there is, or what this name is.
+    Help(&'a [u8]),
+    /// The type of an expression, or of a function.
+    TypeOf(&'a [u8]),
+    /// What was said and kept.
+    Kept,
+    /// Says the lines of this file.
+    Load(&'a [u8]),
+    /// Writes what was said and kept into this file.
+    Save(&'a [u8]),
+    /// Ends.
+    Quit,
+}
+
+/// How many bytes the words have.
+const WORD_BYTES: usize = 5;
+
+/// The word that a line begins with, if it is the prompt's own. `:type` is so where no `;` is in the line, and the line
+/// doesn't end in `\`: with a `;` it is a session's command.
+pub fn word_in(line: &[u8]) -> Option<Word<'_>>
+    ensures own { IfSome result (λ word. is_own line.now ≡ true) }
+    ensures said { IfSome result (λ word. word_says word ≡ says_lines line.now) }
+    ensures none { IfNone result (is_own line.now ≡ false) }
+{
+    if line.starts_with(b":help") {
+        return Some(Word::Help(behind(line)));
+    }
+    if line.starts_with(b":list") {
+        return Some(Word::Kept);
+    }
+    if line.starts_with(b":save") {
+        return Some(Word::Save(behind(line)));
+    }
+    if line.starts_with(b":quit") {
+        return Some(Word::Quit);
+    }
+    if line.starts_with(b":load") {
+        return Some(Word::Load(behind(line)));
+    }
+    if is_type(line) {
+        return Some(Word::TypeOf(behind(line)));
+    }
+    None
+}
+
+fn is_type(line: &[u8]) -> bool
+    ensures { result ≡ asks_type line.now }
+{
+    line.starts_with(b":type") && !line.contains(&b';') && !is_part(line)
+}
+
+/// Whether a session takes a line for a part of a form.
+pub fn is_part(line: &[u8]) -> bool
+    ensures { result ≡ is_part line.now }
+{
+    line.ends_with(b"\\")
+}
+
+// What stands behind a word, without the blanks around it, and without a `;` at its end.
+fn behind(line: &[u8]) -> &[u8] {
+    let rest = line.get(WORD_BYTES..).unwrap_or(&[]);
+    let rest = rest.trim_ascii();
+    let rest = rest.strip_suffix(b";".as_slice()).unwrap_or(rest);
+    rest.trim_ascii()
+}
+
+/// Whether a line has nothing but blanks.
+pub fn is_blank(line: &[u8]) -> bool
+    ensures yes { result ≡ true → IsBlank line.now }
+    ensures no { result ≡ false → ¬ IsBlank line.now }
+{
+    line.iter().all(|byte| is_blank_byte(*byte))
+}
+
+fn is_blank_byte(byte: u8) -> bool
+    ensures { result ≡ is_blank_byte byte }
+{
+    byte == b' ' || byte == b'\t' || byte == b'\r'
+}

@@ -1,0 +1,254 @@
+//! The answers of a connection, as they are written.
+ghost use Rattle.std.specs.Prelude.{◌≡◌};
+
+use crate::journal::{Answered, Caller, Journal, Seat};
+use crate::watch::Watch;
+use memchr::memchr;
+use std::io;
+use std::io::Write;
+use std::time::{Clock, Duration};
+
+/// The words of the faults, in the order of their numbers.
+pub const FAULTS: [&str; 26] = [
+    "long",
+    "lexical",
+    "syntax",
+    "nested",
+    "unknown",
+    "type",
+    "ambiguous",
+    "retype",
+    "taken",
+    "overflow",
+    "division",
+    "range",
+    "code",
+    "length",
+    "empty",
+    "permutation",
+    "count",
+    "stride",
+    "deep",
+    "large",
+    "work",
+    "elements",
+    "transcript",
+    "memory",
+    "user",
+    "busy",
+];
+
+/// The bytes of an answer's front that are kept: `user ` and a name, or `fault ` and its word.
+const FRONT_BYTES: usize = 24;
+
+/// The bytes that are looked at of the end of what is written at once: ` (work W, depth D)` has fewer.
+const END_BYTES: usize = 64;
+
+// The front of an answer.
+#[derive(Clone, Copy)]
+struct Front {
+    bytes: [u8; FRONT_BYTES],
+    length: usize,
+}
+
+impl Front {
+    fn new() -> Front {
+        Front {
+            bytes: [0; FRONT_BYTES],
+            length: 0,
+        }
+    }
+
+    // Adds the bytes that there is room for.
+    fn add(&mut self, bytes: &[u8]) {
+        for byte in bytes {
+            let Some(place) = self.bytes.get_mut(self.length) else {
+                return;
+            };
+            *place = *byte;
+            self.length = self.length.saturating_add(1);
+        }
+    }
+
+    fn bytes(&self) -> &[u8] {
+        self.bytes.get(..self.length).unwrap_or(&[])
+    }
+}
+
+/// What has come of the work that the end of an answer tells.
+#[derive(Clone, Copy, PartialEq, Eq, Debug)]
+enum Work {
+    /// Nothing of it.
+    Before,
+    /// So many bytes of `(work `.
+    Word(usize),
+    /// That, and a number.
+    Number(u64),
+    /// All of it.
+    Told(u64),
+}
+
+impl Work {
+    fn after(self, byte: u8) -> Work {
+        let word = b"(work ";
+        match self {
+            _ if byte == b'(' => Work::Word(1),
+            Work::Word(length) => match word.get(length) {
+                Some(wanted) if *wanted != byte => Work::Before,
+                Some(_) if length.saturating_add(1) < word.len() => Work::Word(
+                    length.saturating_add(1),
+                ),
+                _ => Work::Number(0),
+            },
+            Work::Number(number) if byte.is_ascii_digit() => {
+                let digit = u64::from(byte.saturating_sub(b'0'));
+                Work::Number(number.saturating_mul(10).saturating_add(digit))
+            }
+            Work::Number(number) if byte == b',' || byte == b')' => Work::Told(number),
+            Work::Told(work) => Work::Told(work),
+            Work::Before | Work::Number(_) => Work::Before,
+        }
+    }
+}
+
+/// What an answer tells.
+#[derive(Clone, Copy)]
+struct Heard {
+    front: Front,
+    work: Work,
+}
+
+impl Heard {
+    fn nothing() -> Heard {
+        Heard {
+            front: Front::new(),
+            work: Work::Before,
+        }
+    }
+
+    // After some bytes more. Of many the last ones are looked at for the work.
+    fn add(&mut self, bytes: &[u8]) {
+        self.front.add(bytes);
+        let skipped = bytes.len().saturating_sub(END_BYTES);
+        if skipped > 0 {
+            self.work = Work::Before;
+        }
+        for byte in bytes.get(skipped..).unwrap_or(&[]) {
+            self.work = self.work.after(*byte);
+        }
+    }
+
+    // What a first line was answered.
+    fn seat(&self) -> Seat<'_> {
+        match self.front.bytes() {
+            [b'u', b's', b'e', b'r', b' ', name @ ..] => Seat::User(name),
+            b"fault busy" => Seat::Busy,
+            _ => Seat::Unknown,
+        }
+    }
+
+    fn fault(&self) -> Option<usize> {
+        let word = self.front.bytes().strip_prefix(b"fault ".as_slice())?;
+        let end = word
+            .iter()
+            .position(|byte| *byte == b' ')
+            .unwrap_or(word.len());
+        let word = word.get(..end).unwrap_or(word);
+        FAULTS.iter().position(|fault| fault.as_bytes() == word)
+    }
+
+    fn work(&self) -> u64 {
+        match self.work {
+            Work::Told(work) => work,
+            _ => 0,
+        }
+    }
+}
+
+/// Tells a journal of answers: of the first whom it seats, and of each one where the journal counts.
+#[derive(Drop)]
+pub struct Ear<'x, R, J> {
+    watch: &'x Watch<'x, R>,
+    journal: &'x J,
+    caller: Caller,
+    is_first: bool,
+    is_counting: bool,
+    heard: Heard,
+    took: Option<Duration>,
+}
+
+impl<'x, R: Clock, J: Journal> Ear<'x, R, J> {
+    /// Nothing was heard yet; the watch runs since the last line was there.
+    pub fn new(watch: &'x Watch<'x, R>, journal: &'x J, caller: Caller) -> Ear<'x, R, J> {
+        Ear {
+            watch,
+            journal,
+            caller,
+            is_first: true,
+            is_counting: journal.is_counting(),
+            heard: Heard::nothing(),
+            took: None,
+        }
+    }
+
+    // Something is about to be written: an answer's first bytes are there so long after its line.
+    fn begin(&mut self) {
+        if self.is_counting && self.heard.front.length == 0 {
+            self.took = self.watch.passed();
+        }
+    }
+
+    // These bytes were written.
+    fn hear(&mut self, bytes: &[u8]) {
+        if !self.is_first && !self.is_counting {
+            return;
+        }
+        let mut rest = bytes;
+        for _ in 0..bytes.len() {
+            let Some(end) = memchr(b'\n', rest) else {
+                break;
+            };
+            self.heard.add(rest.get(..end).unwrap_or(rest));
+            self.tell();
+            rest = rest.get(end.saturating_add(1)..).unwrap_or(&[]);
+        }
+        self.heard.add(rest);
+    }
+
+    // An answer was written whole.
+    fn tell(&mut self) {
+        if self.is_first {
+            self.journal.seated(self.caller, self.heard.seat());
+            self.is_first = false;
+        }
+        if self.is_counting {
+            self.journal.answered(&Answered {
+                fault: self.heard.fault(),
+                work: self.heard.work(),
+                took: self.took,
+            });
+            self.watch.begin();
+        }
+        self.heard = Heard::nothing();
+    }
+}
+
+/// A writer of answers of which a journal is told, once their bytes were written.
+#[derive(Drop)]
+pub struct Overheard<'x, W, R, J> {
+    pub writer: W,
+    pub ear: Ear<'x, R, J>,
+}
+
+impl<W: Write, R: Clock, J: Journal> Write for Overheard<'_, W, R, J> {
+    fn write(&mut self, buf: &[u8]) -> io::Result<usize> {
+        self.ear.begin();
+        let taken = self.writer.write(buf)?;
+        self.ear.hear(&buf[..taken]);
+        Ok(taken)
+    }
+
+    fn flush(&mut self) -> io::Result<()> {
+        self.writer.flush()
+    }
+}

@@ -1,0 +1,27 @@
+//! Asks for helpers of which a journal is told.
+
+use crate::journal::Journal;
+use nesl_split_helpers::Helpers;
+
+/// Asks others for helpers, and tells a journal what came of it.
+#[derive(Drop)]
+pub struct Told<'x, H, J> {
+    pub helpers: H,
+    pub journal: &'x J,
+}
+
+impl<H: Helpers, J: Journal> Helpers for Told<'_, H, J> {
+    type Permit = H::Permit;
+
+    fn ask(&self) -> Option<H::Permit> {
+        let permit = self.helpers.ask();
+        if self.journal.is_counting() {
+            self.journal.asked(permit.is_some());
+        }
+        permit
+    }
+
+    fn done(&self, permit: H::Permit) {
+        self.helpers.done(permit);
+    }
+}
