@@ -72,7 +72,7 @@ abbrev pub ReadsTallied : End → ReadTally → ReadTally → Type 0
 ReadsTallied Input old new = (new.made ≤ old.made + 2 ^ 32) × (new.failed ≡ old.failed)
 -- a read failed, or as many as may be were made
 ReadsTallied ReadFault old new =
-    (new.made ≤ old.made + 2 ^ 32) × (Rose old.failed new.failed ⊎ (new.made ≡ counted (2 ^ 32) old.made))
+    (new.made ≤ old.made + 2 ^ 32) × (Rose old.failed new.failed ⊎ (new.made ≡ risen_by (2 ^ 32) old.made))
 ReadsTallied WriteFault old new = (new.made ≤ old.made + 2 ^ 32) × (new.failed ≡ old.failed)
 ReadsTallied NoMemory old new = new ≡ old
 
