@@ -2,10 +2,11 @@
 
 use crate::asked::Asked;
 use crate::definitions::{retyped, taken};
+use crate::finding::is_value;
 use crate::limits::{no_lines_left, no_room, over_budget, too_long};
 use crate::refusals::refused;
 use nesl_hints_reading::{Hint, lexical, syntax};
-use nesl_hints_typing::{ambiguous, ill_typed, unknown};
+use nesl_hints_typing::{Unknown, ambiguous, ill_typed, unknown_name};
 use nesl_lex::lex;
 use nesl_lex::token::Token;
 use nesl_session::Fault;
@@ -49,7 +50,14 @@ fn hint_on_form(
     let len = asked.text.len();
     let context = asked.environment().context();
     match fault {
-        Fault::Unknown(span) => unknown(alloc, context, form, tokens, span.start, len),
+        Fault::Unknown(span) => {
+            let at = Unknown {
+                tokens,
+                from: span.start,
+                is_value: is_value(form, span),
+            };
+            unknown_name(alloc, context, form, at, len)
+        }
         Fault::IllTyped => match ill_typed(alloc, context, form, len)? {
             Some(hint) => Ok(hint),
             None => asked.whole(b"one of the types would have more than 4,096 nodes"),

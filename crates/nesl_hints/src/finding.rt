@@ -12,6 +12,20 @@ pub(crate) fn expression_of(form: &Form) -> Option<&Exp> {
     }
 }
 
+/// Whether an expression stands in these bytes of a form, and no type or pattern.
+pub(crate) fn is_value(form: &Form, span: Span) -> bool {
+    let whole = match form {
+        Form::Eval(exp) | Form::ShowType(exp) => exp,
+        Form::Bind { value, .. } => value,
+        Form::Fun { body, .. } => body,
+        _ => return false,
+    };
+    match node_at(whole, span) {
+        Some(found) => !matches!(&found.node, Node::Element),
+        None => false,
+    }
+}
+
 /// The part of an expression that stands in these bytes: the outermost one.
 #[cycle(node_at)]
 pub(crate) fn node_at<'e>(exp: &'e Exp, span: Span) -> Option<&'e Exp> {

@@ -4,6 +4,7 @@ use crate::asked::{Asked, bytes_of};
 use crate::finding::{expression_of, node_at};
 use crate::inside::{Unfolded, unfold_calls};
 use crate::values::value_of;
+use nesl_builtins::named;
 use nesl_hints_reading::{Hint, Sentence, quoted};
 use nesl_hints_typing::sign_of;
 use nesl_session::{Fault, Stop};
@@ -117,6 +118,9 @@ fn said_of(sentence: Sentence, fault: Fault, node: &Exp) -> Result<Sentence, All
             };
             sentence.and(b"`")?.and(sign)?.and(b"`: ")?.and(said(fault))
         }
+        (_, Node::Call { name, .. }) if named(name.as_slice()).is_none() => {
+            sentence.and(said(fault))
+        }
         (_, Node::Call { name, .. }) => sentence
             .and(b"`")?
             .and(name.as_slice())?
@@ -173,7 +177,7 @@ fn said(fault: Fault) -> &'static [u8] {
         Fault::Overflow(_) => {
             b"the value would be no number from -9223372036854775808 to 9223372036854775807"
         }
-        Fault::Division(_) => b"nothing is divided by 0",
+        Fault::Division(_) => b"a number can't be divided by 0",
         Fault::Range(_) => b"a number is outside of what is allowed here",
         Fault::Code(_) => b"the codes of characters are 0 to 255",
         Fault::Length(_) => b"two sequences have to be of the same length",
@@ -184,7 +188,7 @@ fn said(fault: Fault) -> &'static [u8] {
         }
         Fault::Stride(_) => b"the step of a range is 1 or more",
         Fault::Deep(_) => {
-            b"this goes more than 1,000 levels deep: does a function call itself without an end?"
+            b"this goes more than 1,000 levels deep: does a function call itself without an end, or too often?"
         }
         Fault::Large(_) =>
             b"a pair, a sequence or a record here would have more than 1,048,576 nodes",

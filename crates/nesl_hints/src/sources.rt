@@ -8,6 +8,9 @@ use nesl_syntax::parse_form;
 use nesl_syntax_tree::tree::Form;
 use std::alloc::{AllocError, Global};
 
+/// The most lines of a session among which a definition is sought: the last ones.
+const MOST_LINES: usize = 1_000;
+
 /// The text of a function's definition, and where its parameter and its body stand.
 #[derive(Drop)]
 pub(crate) struct Source {
@@ -38,24 +41,30 @@ pub(crate) fn source_of(asked: &Asked<'_>, name: &[u8]) -> Result<Option<Source>
 
 // The last form among the lines of the session that begins as a definition of the function does.
 fn last_definition(asked: &Asked<'_>, name: &[u8]) -> Result<Vec<u8>, AllocError> {
-    let alloc = asked.alloc;
-    let mut last = Vec::new(alloc);
-    let mut form = Vec::new(alloc);
-    for line in asked.session.lines() {
-        if let [front @ .., b'\\'] = line.as_slice() {
-            form.extend_from_slice(front)?;
-            form.extend_from_slice(b" ")?;
-            continue;
-        }
-        form.extend_from_slice(line.as_slice())?;
-        if defines(form.as_slice(), name) {
-            last = form;
-            form = Vec::new(alloc);
-        } else {
-            form.clear();
+    let lines = asked.session.lines();
+    let mut form = Vec::new(asked.alloc);
+    let mut found = None;
+    for (place, line) in lines.iter().enumerate() {
+        if place.saturating_add(MOST_LINES) >= lines.len() && defines(line.as_slice(), name) {
+            found = Some(place);
         }
     }
-    Ok(last)
+    let Some(first) = found else {
+        return Ok(form);
+    };
+    for line in lines.iter().skip(first) {
+        match line.as_slice() {
+            [front @ .., b'\\'] => {
+                form.extend_from_slice(front)?;
+                form.extend_from_slice(b" ")?;
+            }
+            whole => {
+                form.extend_from_slice(whole)?;
+                return Ok(form);
+            }
+        }
+    }
+    Ok(form)
 }
 
 // Whether a form begins with `function` and the name.

@@ -79,6 +79,10 @@ impl Sentence {
 
 /// Whether two names differ by one byte more, one less, another one, or two neighbours that changed places.
 pub fn near(first: &[u8], second: &[u8]) -> bool {
+    let longest = first.len().max(second.len());
+    if first.len().min(second.len()).saturating_add(1) < longest {
+        return false;
+    }
     let front = first
         .iter()
         .zip(second.iter())

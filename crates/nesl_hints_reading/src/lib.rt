@@ -9,6 +9,7 @@ mod line;
 mod machine;
 mod marks;
 mod openings;
+mod patterns;
 mod problems;
 mod signs;
 mod source;

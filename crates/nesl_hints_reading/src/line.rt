@@ -135,22 +135,70 @@ fn read_named(alloc: Global, name: &[u8], tokens: &[Token], rest: &[Token]) -> R
                 return stop(Problem::Elsewhere(said), over(next.span, sign.span));
             }
         }
-        return read_body(alloc, behind, next.span);
+        return match read_body(alloc, behind, next.span) {
+            Err(Halt::Wrong(found)) if found.problem == Problem::InAlone => {
+                stop_with(Problem::NoLet, first_of(tokens), found.place)
+            }
+            other => other,
+        };
     }
     match read_body(alloc, tokens, next.span) {
         Err(Halt::Wrong(found)) => {
             for (foreign, said) in &FOREIGN {
                 if name == *foreign {
-                    let place = match tokens.first() {
-                        Some(first) => first.span,
-                        None => next.span,
-                    };
-                    return stop(Problem::Elsewhere(said), place);
+                    return stop(Problem::Elsewhere(said), first_of(tokens));
                 }
             }
-            Err(Halt::Wrong(found))
+            named_wrongly(alloc, tokens, rest, found)
         }
         other => other,
+    }
+}
+
+// Where the first of the tokens stands.
+fn first_of(tokens: &[Token]) -> Span {
+    match tokens.first() {
+        Some(first) => first.span,
+        None => Span { start: 0, end: 0 },
+    }
+}
+
+// What is wrong with a line that begins with a name: its first word is missing, or what was found.
+fn named_wrongly(
+    alloc: Global,
+    tokens: &[Token],
+    rest: &[Token],
+    found: Wrong,
+) -> Result<(), Halt> {
+    let first = first_of(tokens);
+    if let Some(problem) = missing_before(tokens) {
+        return stop_with(problem, first, found.place);
+    }
+    match (found.problem, rest.split_last()) {
+        (Problem::TypeHere, Some((last, front))) if is_sign(last, Sign::Semicolon) => {
+            match read_type(alloc, front, last.span) {
+                Ok(()) => stop(Problem::NoDatatype, first),
+                Err(Halt::Memory) => Err(Halt::Memory),
+                Err(Halt::Wrong(_)) => Err(Halt::Wrong(found)),
+            }
+        }
+        _ => Err(Halt::Wrong(found)),
+    }
+}
+
+// What is missing before a pattern behind which no form goes on.
+fn missing_before(tokens: &[Token]) -> Option<Problem> {
+    let len = pattern_len(tokens);
+    let next = tokens.get(len)?;
+    match &next.kind {
+        Kind::Reserved(Word::In) => Some(Problem::NoBraces),
+        Kind::Symbol(Sign::Equal) if len > 1 => Some(Problem::NoFunction),
+        Kind::Symbol(Sign::Colon) => match tokens.get(len.saturating_add(2)) {
+            Some(token) if is_word(token, Word::In) => Some(Problem::NoBraces),
+            _ if len > 1 => Some(Problem::NoFunction),
+            _ => None,
+        },
+        _ => None,
     }
 }
 
@@ -159,11 +207,27 @@ pub(crate) fn read_body(alloc: Global, tokens: &[Token], before: Span) -> Result
     let Some((last, front)) = tokens.split_last() else {
         return stop(Problem::GoesOn, before);
     };
-    if is_sign(last, Sign::Semicolon) {
-        return read_expression(alloc, front, last.span);
+    if !is_sign(last, Sign::Semicolon) {
+        read_expression(alloc, tokens, last.span)?;
+        return match &last.kind {
+            Kind::Character(b';') => stop(Problem::SemicolonQuoted, last.span),
+            _ => stop(Problem::NoSemicolon, last.span),
+        };
     }
-    read_expression(alloc, tokens, last.span)?;
-    stop(Problem::NoSemicolon, last.span)
+    match read_expression(alloc, front, last.span) {
+        Err(Halt::Wrong(found)) if found.problem == Problem::GoesOn => nothing_before(front, last),
+        other => other,
+    }
+}
+
+// An expression should stand before the `;` of a form, where these tokens stand.
+fn nothing_before(front: &[Token], end: &Token) -> Result<(), Halt> {
+    if let Some(before) = front.last() {
+        if let Some(said) = pair_said(before, end) {
+            return stop(Problem::Elsewhere(said), over(before.span, end.span));
+        }
+    }
+    stop(Problem::NoExpression, end.span)
 }
 
 // The name of a definition.
@@ -181,62 +245,104 @@ fn place_of(tokens: &[Token], sign: Sign) -> Option<usize> {
     tokens.iter().position(|token| is_sign(token, sign))
 }
 
+// How many tokens at the front are a name, names in parentheses, or a name with names in parentheses behind it; 0 where
+// they aren't.
+fn pattern_len(tokens: &[Token]) -> usize {
+    let named = match tokens.first() {
+        Some(first) if name_in(first).is_some() => 1usize,
+        _ => 0,
+    };
+    let mut depth = 0u64;
+    for (place, token) in tokens.iter().enumerate() {
+        if place < named {
+            continue;
+        }
+        match &token.kind {
+            Kind::Symbol(Sign::OpenParenthesis) => depth = depth.saturating_add(1),
+            Kind::Symbol(Sign::CloseParenthesis) if depth == 1 => return place.saturating_add(1),
+            Kind::Symbol(Sign::CloseParenthesis) if depth > 1 => depth -= 1,
+            Kind::Symbol(Sign::Comma) | Kind::Name(_) if depth > 0 => {}
+            _ if depth == 0 => return named,
+            _ => return 0,
+        }
+    }
+    if depth == 0 { named } else { 0 }
+}
+
 // Reads a function's line behind its first word.
 fn read_function(alloc: Global, word: Span, rest: &[Token]) -> Result<(), Halt> {
     let [name, behind @ ..] = rest else {
         return stop(Problem::NoName, word);
     };
     read_name(name)?;
+    let len = pattern_len(behind);
+    if len > 0 {
+        check_behind_parameter(name.span, behind.get(len..).unwrap_or(&[]))?;
+    }
     let Some(cut) = place_of(behind, Sign::Equal) else {
-        return no_equal(alloc, name.span, behind);
+        return no_equal(alloc, name.span, len, behind);
     };
     let (head, body) = behind.split_at(cut.min(behind.len()));
     let equal = body.first().map_or(name.span, |token| token.span);
-    read_head(alloc, name.span, head, equal)?;
+    read_head(alloc, head, equal)?;
     let tail = body.get(1..).unwrap_or(&[]);
     read_body(alloc, tail, equal)
 }
 
-// A function's line that has no `=`.
-fn no_equal(alloc: Global, name: Span, behind: &[Token]) -> Result<(), Halt> {
-    if let Some(place) = place_of(behind, Sign::DoubleEqual) {
-        if let Some(token) = behind.get(place) {
-            return stop(Problem::DoubleEqual, token.span);
-        }
-    }
-    let [first, next @ ..] = behind else {
-        return stop(Problem::NoParameter, name);
+// Whether a function's line may go on with the first of these tokens, behind its parameter.
+fn check_behind_parameter(name: Span, behind: &[Token]) -> Result<(), Halt> {
+    let Some(next) = behind.first() else {
+        return Ok(());
     };
-    check_names(behind, true)?;
-    let _ = alloc;
-    if name_in(first).is_some() {
-        return match next.first() {
-            Some(token) => stop_with(Problem::NoEqual, token.span, first.span),
-            None => stop(Problem::NoEqual, first.span),
-        };
+    let names = behind
+        .iter()
+        .take_while(|token| name_in(*token).is_some())
+        .count();
+    match &next.kind {
+        Kind::Symbol(Sign::Equal | Sign::Colon) => Ok(()),
+        Kind::Symbol(Sign::DoubleEqual) => stop(Problem::DoubleEqual, next.span),
+        Kind::Symbol(Sign::RightArrow | Sign::DoubleColon) => stop(Problem::NoColon, next.span),
+        Kind::Name(_) => match behind.get(names) {
+            Some(token) if is_sign(token, Sign::Equal) => {
+                stop_with(Problem::SecondParameter, next.span, name)
+            }
+            _ => stop(Problem::NoEqual, next.span),
+        },
+        _ => stop(Problem::NoEqual, next.span),
     }
-    let mut depth = 0u64;
-    for token in behind {
-        if is_sign(token, Sign::OpenParenthesis) {
-            depth = depth.saturating_add(1);
-        } else if is_sign(token, Sign::CloseParenthesis) {
-            depth = depth.saturating_sub(1);
-        } else if depth == 0 {
-            return stop(Problem::NoEqual, token.span);
-        }
-    }
-    stop(Problem::NoEqual, name)
 }
 
-// The first truth value among the names of a parameter, up to the first token of another kind, or anything else there
-// where `only_truths` doesn't say otherwise.
-fn check_names(tokens: &[Token], only_truths: bool) -> Result<(), Halt> {
+// A function's line that has no `=`, with so many tokens of its parameter.
+fn no_equal(alloc: Global, name: Span, len: usize, behind: &[Token]) -> Result<(), Halt> {
+    let Some((last, front)) = behind.split_last() else {
+        return stop(Problem::NoParameter, name);
+    };
+    if front.is_empty() && is_sign(last, Sign::Semicolon) {
+        return stop(Problem::NoParameter, last.span);
+    }
+    if len == 0 {
+        read_parameter(alloc, behind, last.span)?;
+    }
+    let Some(signature) = behind.get(len.saturating_add(1)..) else {
+        return stop(Problem::NoEqual, last.span);
+    };
+    match read_signature(alloc, signature, last.span) {
+        Err(Halt::Wrong(found)) => match found.problem {
+            Problem::BehindType => stop(Problem::NoEqual, found.place),
+            _ => Err(Halt::Wrong(found)),
+        },
+        Err(Halt::Memory) => Err(Halt::Memory),
+        Ok(()) => stop(Problem::NoEqual, last.span),
+    }
+}
+
+// The first token that is none of a parameter.
+fn check_names(tokens: &[Token]) -> Result<(), Halt> {
     for token in tokens {
         match &token.kind {
             Kind::Truth(_) => return stop(Problem::TruthAsName, token.span),
             Kind::Name(_)
             | Kind::Symbol(Sign::OpenParenthesis | Sign::CloseParenthesis | Sign::Comma) => {}
-            _ if only_truths => return Ok(()),
             Kind::Reserved(_) => return stop(Problem::WordAsName, token.span),
             _ => return stop(Problem::NoPattern, token.span),
         }
@@ -245,27 +351,24 @@ fn check_names(tokens: &[Token], only_truths: bool) -> Result<(), Halt> {
 }
 
 // Reads a parameter, and a signature behind a `:`, if there is one.
-fn read_head(alloc: Global, name: Span, head: &[Token], equal: Span) -> Result<(), Halt> {
+fn read_head(alloc: Global, head: &[Token], equal: Span) -> Result<(), Halt> {
     let Some(cut) = place_of(head, Sign::Colon) else {
-        return read_parameter(alloc, name, head, equal);
+        return read_parameter(alloc, head, equal);
     };
     let (parameter, behind) = head.split_at(cut.min(head.len()));
     let colon = behind.first().map_or(equal, |token| token.span);
-    read_parameter(alloc, name, parameter, colon)?;
+    read_parameter(alloc, parameter, colon)?;
     read_signature(alloc, behind.get(1..).unwrap_or(&[]), equal)
 }
 
-fn read_parameter(alloc: Global, name: Span, tokens: &[Token], end: Span) -> Result<(), Halt> {
-    let [_, rest @ ..] = tokens else {
+fn read_parameter(alloc: Global, tokens: &[Token], end: Span) -> Result<(), Halt> {
+    if tokens.is_empty() {
         return stop(Problem::NoParameter, end);
-    };
-    check_names(tokens, false)?;
+    }
+    check_names(tokens)?;
     match read_expression(alloc, tokens, end) {
         Err(Halt::Wrong(found)) => match found.problem {
-            Problem::NoParentheses => match rest.first() {
-                Some(token) => stop_with(Problem::SecondParameter, token.span, name),
-                None => Err(Halt::Wrong(found)),
-            },
+            Problem::NoParentheses => stop(Problem::NoPattern, found.place),
             _ => Err(Halt::Wrong(found)),
         },
         other => other,
@@ -274,8 +377,13 @@ fn read_parameter(alloc: Global, name: Span, tokens: &[Token], end: Span) -> Res
 
 fn read_signature(alloc: Global, tokens: &[Token], end: Span) -> Result<(), Halt> {
     let Some(cut) = place_of(tokens, Sign::RightArrow) else {
-        let place = tokens.first().map_or(end, |token| token.span);
-        return stop(Problem::NoArrow, place);
+        return match read_type(alloc, tokens, end) {
+            Err(Halt::Wrong(found)) if found.problem == Problem::BehindType => {
+                stop(Problem::NoArrow, found.place)
+            }
+            Ok(()) => stop(Problem::NoArrow, end),
+            other => other,
+        };
     };
     let (front, behind) = tokens.split_at(cut.min(tokens.len()));
     let arrow = behind.first().map_or(end, |token| token.span);
@@ -294,7 +402,12 @@ fn read_signature(alloc: Global, tokens: &[Token], end: Span) -> Result<(), Halt
 
 // Reads the classes of names, in parentheses.
 fn read_members(tokens: &[Token], end: Span) -> Result<(), Halt> {
+    let mut ended = false;
     for (place, token) in tokens.iter().enumerate() {
+        if ended {
+            return stop(Problem::BehindType, token.span);
+        }
+        ended = is_sign(token, Sign::CloseParenthesis);
         let fits = match place % 4 {
             0 if place == 0 => is_sign(token, Sign::OpenParenthesis),
             0 => is_sign(token, Sign::Semicolon) || is_sign(token, Sign::CloseParenthesis),

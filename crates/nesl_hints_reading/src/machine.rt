@@ -1,7 +1,7 @@
 //! A walk over the tokens of an expression or a type, up to the first at which no form can go on.
 
 use crate::halt::{Halt, stop, stop_with};
-use crate::marks::pair_said;
+use crate::marks::{over, pair_said, unclosed};
 use crate::openings::{Open, Opening};
 use crate::problems::Problem;
 use crate::source::{is_sign, is_word};
@@ -32,7 +32,9 @@ pub(crate) struct Machine<'a> {
     pub(crate) ended: bool,
     pub(crate) opens: Vec<Open>,
     /// The brackets of a type that are open.
-    pub(crate) types: Vec<(Sign, Span)>,
+    pub(crate) types: Vec<Open>,
+    /// The last `[]`.
+    empty: Span,
     /// Whether the tokens are to be a type.
     only_type: bool,
 }
@@ -60,6 +62,7 @@ impl<'a> Machine<'a> {
             ended: false,
             opens: Vec::new(alloc),
             types: Vec::new(alloc),
+            empty: Span { start: 0, end: 0 },
             only_type: mode == Mode::Type,
         }
     }
@@ -67,10 +70,11 @@ impl<'a> Machine<'a> {
     fn run(&mut self) -> Result<(), Halt> {
         let tokens = self.tokens;
         for (place, token) in tokens.iter().enumerate() {
+            self.check_names(token)?;
             match self.mode {
                 Mode::Before => self.begin(place, token)?,
                 Mode::Behind => self.follow(place, token)?,
-                Mode::Type => self.begin_type(token)?,
+                Mode::Type => self.begin_type(place, token)?,
                 Mode::BehindType => self.follow_type(token)?,
             }
         }
@@ -85,8 +89,12 @@ impl<'a> Machine<'a> {
 
     // Opens something behind a token, in which an expression stands first.
     pub(crate) fn open(&mut self, opening: Opening, at: Span, place: usize) -> Result<(), Halt> {
-        self.opens
-            .push(Open::new(opening, at, place.saturating_add(1)))?;
+        let from = place.saturating_add(1);
+        let open = match self.opens.last() {
+            Some(outer) => outer.inner(opening, at, from),
+            None => Open::new(opening, at, from),
+        };
+        self.opens.push(open)?;
         self.expect();
         Ok(())
     }
@@ -145,7 +153,9 @@ impl<'a> Machine<'a> {
                 Ok(())
             }
             Sign::CloseBracket if self.is_empty(place, Opening::Square) => {
-                self.opens.pop();
+                if let Some(open) = self.opens.pop() {
+                    self.empty = over(open.at, token.span);
+                }
                 self.mode = Mode::Type;
                 Ok(())
             }
@@ -165,38 +175,37 @@ impl<'a> Machine<'a> {
     fn no_expression<T>(&self, place: usize, token: &Token) -> Result<T, Halt> {
         if let Some(before) = self.before(place) {
             if let Some(said) = pair_said(before, token) {
-                let span = Span {
-                    start: before.span.start,
-                    end: token.span.end,
-                };
-                return stop(Problem::Elsewhere(said), span);
+                return stop(Problem::Elsewhere(said), over(before.span, token.span));
             }
         }
-        if is_sign(token, Sign::CloseParenthesis) && self.is_empty(place, Opening::Call) {
-            return stop(Problem::NothingInside, token.span);
-        }
-        if is_sign(token, Sign::CloseParenthesis) && self.is_empty(place, Opening::Round) {
-            return stop(Problem::NothingInside, token.span);
-        }
-        if is_sign(token, Sign::CloseBrace) && self.is_empty(place, Opening::Brace) {
-            return stop(Problem::NoSequence, token.span);
+        if let Some(open) = self.opens.last() {
+            if open.from == place {
+                return nothing_inside(*open, token);
+            }
         }
         stop(Problem::NoExpression, token.span)
     }
 
     // A token where a type begins.
-    fn begin_type(&mut self, token: &Token) -> Result<(), Halt> {
+    fn begin_type(&mut self, place: usize, token: &Token) -> Result<(), Halt> {
+        let behind = place.saturating_add(1);
         match &token.kind {
             Kind::Reserved(Word::Int | Word::Bool | Word::Char) | Kind::Name(_) => {
                 self.end_type();
                 Ok(())
             }
-            Kind::Symbol(sign) if *sign == Sign::OpenBracket || *sign == Sign::OpenParenthesis => {
-                self.types.push((*sign, token.span))?;
+            Kind::Symbol(Sign::OpenBracket) => {
+                self.types
+                    .push(Open::new(Opening::Square, token.span, behind))?;
+                Ok(())
+            }
+            Kind::Symbol(Sign::OpenParenthesis) => {
+                self.types
+                    .push(Open::new(Opening::Round, token.span, behind))?;
                 Ok(())
             }
             _ if self.only_type => self.no_type(token),
-            _ if self.types.is_empty() => stop(Problem::NoElementType, token.span),
+            _ if self.types.is_empty() => stop(Problem::NoElementType, self.empty),
             _ => self.no_type(token),
         }
     }
@@ -219,24 +228,24 @@ impl<'a> Machine<'a> {
 
     // A token behind a type in brackets.
     fn follow_type(&mut self, token: &Token) -> Result<(), Halt> {
-        let Some((open, at)) = self.types.pop() else {
+        let Some(open) = self.types.pop() else {
             return stop(Problem::BehindType, token.span);
         };
-        match &token.kind {
-            Kind::Symbol(Sign::Comma) if open == Sign::OpenParenthesis => {
-                self.types.push((open, at))?;
+        match (open.opening, &token.kind) {
+            (Opening::Round, Kind::Symbol(Sign::Comma)) => {
+                self.types.push(open)?;
                 self.mode = Mode::Type;
                 Ok(())
             }
-            Kind::Symbol(Sign::CloseParenthesis) if open == Sign::OpenParenthesis => {
+            (Opening::Round, Kind::Symbol(Sign::CloseParenthesis)) => {
                 self.end_type();
                 Ok(())
             }
-            Kind::Symbol(Sign::CloseBracket) if open == Sign::OpenBracket => {
+            (Opening::Square, Kind::Symbol(Sign::CloseBracket)) => {
                 self.end_type();
                 Ok(())
             }
-            _ => stop_with(Problem::StillOpen, token.span, at),
+            _ => self.still_open(open, token.span),
         }
     }
 
@@ -250,9 +259,9 @@ impl<'a> Machine<'a> {
         match self.mode {
             Mode::Before => self.unfinished(end, Problem::GoesOn),
             Mode::Type if self.only_type => stop(Problem::NoType, end),
-            Mode::Type => stop(Problem::NoElementType, end),
+            Mode::Type => stop(Problem::NoElementType, self.empty),
             Mode::BehindType => match self.types.last() {
-                Some((_, at)) => stop_with(Problem::StillOpen, end, *at),
+                Some(open) => self.still_open(*open, end),
                 None => Ok(()),
             },
             Mode::Behind => {
@@ -270,14 +279,29 @@ impl<'a> Machine<'a> {
             Some(open) if otherwise == Problem::GoesOn && !open.is_bracket() => stop(
                 otherwise, end,
             ),
-            Some(open) => match open.opening {
-                Opening::Test => stop_with(Problem::NoThen, end, open.at),
-                Opening::Branch => stop_with(Problem::NoElse, end, open.at),
-                Opening::LetPattern => stop_with(Problem::NoLetEqual, end, open.at),
-                Opening::LetValue => stop_with(Problem::NoIn, end, open.at),
-                Opening::LetBody | Opening::OtherBranch => stop(Problem::GoesOn, end),
-                _ => stop_with(Problem::StillOpen, end, open.at),
+            Some(open) if open.ends_by_itself() => stop(Problem::GoesOn, end),
+            Some(open) if open.is_bracket() => self.still_open(*open, end),
+            Some(open) => unclosed(*open, end),
+        }
+    }
+
+    /// A bracket is open where it should have been closed. Where the same one stands behind it, one of both may be too
+    /// much.
+    pub(crate) fn still_open<T>(&self, open: Open, at: Span) -> Result<T, Halt> {
+        if self.is_doubled(open.from) {
+            return stop_with(Problem::NotClosed, open.at, at);
+        }
+        stop_with(Problem::StillOpen, at, open.at)
+    }
+
+    /// Whether the same sign stands at a place and before it.
+    pub(crate) fn is_doubled(&self, place: usize) -> bool {
+        match (self.before(place), self.tokens.get(place)) {
+            (Some(first), Some(second)) => match (&first.kind, &second.kind) {
+                (Kind::Symbol(one), Kind::Symbol(other)) => *one == *other,
+                _ => false,
             },
+            _ => false,
         }
     }
 
@@ -293,12 +317,26 @@ impl<'a> Machine<'a> {
         }
     }
 
-    // Whether the token is one that begins an expression.
+    /// Whether the token is one that begins an expression.
     pub(crate) fn begins(token: &Token) -> bool {
         match &token.kind {
             Kind::Reserved(_) => is_word(token, Word::Let) || is_word(token, Word::If),
             Kind::Symbol(_) => is_sign(token, Sign::OpenBrace) || is_sign(token, Sign::Hash),
             _ => true,
         }
+    }
+}
+
+// No expression begins with the first token behind something that was opened.
+fn nothing_inside<T>(open: Open, token: &Token) -> Result<T, Halt> {
+    match (open.opening, &token.kind) {
+        (Opening::Round | Opening::Call, Kind::Symbol(Sign::CloseParenthesis)) => {
+            stop(Problem::NothingInside, token.span)
+        }
+        (Opening::Brace, Kind::Symbol(Sign::CloseBrace)) => stop(Problem::NoSequence, token.span),
+        (Opening::Index, Kind::Symbol(Sign::CloseBracket)) => {
+            stop(Problem::NoIndex, over(open.at, token.span))
+        }
+        _ => stop(Problem::NoExpression, token.span),
     }
 }

@@ -4,7 +4,7 @@ use crate::halt::{Halt, stop, stop_with};
 use crate::machine::{Machine, Mode};
 use crate::openings::{Open, Opening};
 use crate::problems::Problem;
-use crate::source::{is_sign, name_in};
+use crate::source::{is_sign, is_word, name_in};
 use nesl_lex::token::{Kind, Sign, Span, Token, Word};
 
 /// Two neighbouring signs that another language has for one, and what is said of them.
@@ -139,6 +139,7 @@ impl<'a> Machine<'a> {
             }
             Word::In => self.inside(place, token),
             Word::Function | Word::Datatype => stop(Problem::FormInside, token.span),
+            Word::Int | Word::Bool | Word::Char => stop(Problem::TypeHere, token.span),
             _ => self.no_operator(place, token),
         }
     }
@@ -155,17 +156,15 @@ impl<'a> Machine<'a> {
         let Some(before) = self.before(place) else {
             return stop(Problem::NoOperator, token.span);
         };
-        if let Some(open) = self.opens.last() {
-            match open.opening {
-                Opening::EachPattern => return stop_with(Problem::NoEachIn, token.span, open.at),
-                Opening::LetPattern => return stop_with(Problem::NoLetEqual, token.span, open.at),
-                _ => {}
+        match self.opens.last() {
+            Some(open) if self.binds_behind(place.saturating_sub(1), *open) => {
+                stop(Problem::NoSemicolonBetween, token.span)
             }
+            _ if name_in(before).is_some() && Machine::begins(token) => {
+                stop_with(Problem::NoParentheses, token.span, before.span)
+            }
+            _ => stop(Problem::NoOperator, token.span),
         }
-        if name_in(before).is_some() && Machine::begins(token) {
-            return stop_with(Problem::NoParentheses, token.span, before.span);
-        }
-        stop(Problem::NoOperator, token.span)
     }
 
     // A `(` behind an expression.
@@ -195,6 +194,9 @@ impl<'a> Machine<'a> {
             _ => return unclosed(open, token.span),
         };
         if sign != wanted {
+            if self.is_doubled(open.from) {
+                return stop_with(Problem::NotClosed, open.at, token.span);
+            }
             return stop_with(Problem::OtherBracket, token.span, open.at);
         }
         match open.opening {
@@ -223,8 +225,9 @@ impl<'a> Machine<'a> {
                 self.expect();
                 Ok(())
             }
-            Some(open) if open.is_bracket() => {
-                stop_with(Problem::StillOpen, token.span, open.at)
+            Some(open) if open.is_bracket() => self.still_open(open, token.span),
+            Some(open) if open.opening == Opening::Test => {
+                stop_with(Problem::NoThen, token.span, open.at)
             }
             Some(open) => unclosed(open, token.span),
             None => stop(alone, token.span),
@@ -240,21 +243,39 @@ impl<'a> Machine<'a> {
                     open.commas = true;
                     self.go_on(open)
                 }
-                Opening::Index => {
-                    let called = self.before(open.from.saturating_sub(1));
-                    match called {
-                        Some(before) if name_in(before).is_some() => {
-                            let _ = place;
-                            stop_with(Problem::NoParentheses, open.at, before.span)
-                        }
-                        _ => stop(Problem::CommaHere, token.span),
-                    }
-                }
+                Opening::Index => self.comma_in_index(open, token),
                 Opening::Brace => stop_with(Problem::Elements, token.span, open.at),
-                Opening::Test | Opening::Branch | Opening::LetPattern => unclosed(open, token.span),
+                Opening::Test | Opening::Branch => unclosed(open, token.span),
+                _ if self.binds_behind(place, open) => stop(
+                    Problem::NoSemicolonBetween,
+                    token.span,
+                ),
                 _ => stop(Problem::CommaHere, token.span),
             },
             None => stop(Problem::CommaHere, token.span),
+        }
+    }
+
+    // A comma behind the `[` of an index, before which the name of a function may stand with a blank between.
+    fn comma_in_index(&self, open: Open, token: &Token) -> Result<(), Halt> {
+        match self.before(open.from.saturating_sub(1)) {
+            Some(before) if name_in(before).is_some() && before.span.end < open.at.start => {
+                stop_with(Problem::NoParentheses, open.at, before.span)
+            }
+            _ => stop_with(Problem::CommaInIndex, open.at, token.span),
+        }
+    }
+
+    // Whether a binding begins behind the token at a place, as behind the `;` of a `let` or of an apply-to-each.
+    fn binds_behind(&self, place: usize, open: Open) -> bool {
+        let tokens = self.tokens;
+        match tokens.get(place.saturating_add(2)) {
+            Some(next) => match open.opening {
+                Opening::LetValue => is_sign(next, Sign::Equal),
+                Opening::EachValue => is_word(next, Word::In),
+                _ => false,
+            },
+            None => false,
         }
     }
 
@@ -277,7 +298,7 @@ impl<'a> Machine<'a> {
                 Opening::EachValue => {
                     self.go_on(open.turned(Opening::EachPattern, place.saturating_add(1)))
                 }
-                _ if open.is_bracket() => stop_with(Problem::StillOpen, token.span, open.at),
+                _ if open.is_bracket() => self.still_open(open, token.span),
                 _ => unclosed(open, token.span),
             },
             None => {
@@ -298,11 +319,19 @@ impl<'a> Machine<'a> {
                 Opening::Brace => {
                     self.go_on(open.turned(Opening::EachPattern, place.saturating_add(1)))
                 }
-                Opening::Square if open.colons < 2 && !open.commas => {
-                    open.colons += 1;
+                Opening::Square if open.takes_colon() => {
+                    open.colons = open.colons.saturating_add(1);
                     self.go_on(open)
                 }
-                _ => stop(Problem::ColonHere, token.span),
+                _ => match self.opens.last() {
+                    Some(outer) if open.is_bracket() && outer.takes_colon() => {
+                        self.still_open(open, token.span)
+                    }
+                    _ if open.opening == Opening::Index => {
+                        stop_with(Problem::ColonInIndex, token.span, open.at)
+                    }
+                    _ => stop(Problem::ColonHere, token.span),
+                },
             },
             None => match next {
                 Some(next) if is_sign(next, Sign::Equal) => stop(Problem::BoundByEqual, token.span),
@@ -330,7 +359,6 @@ impl<'a> Machine<'a> {
     fn equal(&mut self, place: usize, token: &Token) -> Result<(), Halt> {
         match self.opens.pop() {
             Some(open) if open.opening == Opening::LetPattern => {
-                self.check_pattern(open.from, place)?;
                 self.go_on(open.turned(Opening::LetValue, place.saturating_add(1)))
             }
             _ => match self.tokens.get(place.saturating_add(1)) {
@@ -356,8 +384,7 @@ impl<'a> Machine<'a> {
                     self.check_pattern(open.from, place)?;
                     self.go_on(open.turned(Opening::EachValue, place.saturating_add(1)))
                 }
-                Opening::LetPattern => stop_with(Problem::NoLetEqual, token.span, open.at),
-                _ if open.is_bracket() => stop_with(Problem::StillOpen, token.span, open.at),
+                _ if open.is_bracket() => self.still_open(open, token.span),
                 _ => unclosed(open, token.span),
             },
             None => stop(Problem::InAlone, token.span),
@@ -387,10 +414,10 @@ pub(crate) fn over(from: Span, to: Span) -> Span {
     }
 }
 
-// Something is open that is no bracket, and isn't what the token ends.
-fn unclosed<T>(open: Open, at: Span) -> Result<T, Halt> {
+/// Something is open that is no bracket, and isn't what the token ends.
+pub(crate) fn unclosed<T>(open: Open, at: Span) -> Result<T, Halt> {
     match open.opening {
-        Opening::Test => stop_with(Problem::NoThen, at, open.at),
+        Opening::Test => stop_with(Problem::NoThen, open.at, at),
         Opening::Branch => stop_with(Problem::NoElse, at, open.at),
         Opening::LetPattern => stop_with(Problem::NoLetEqual, at, open.at),
         Opening::LetValue => stop_with(Problem::NoIn, at, open.at),

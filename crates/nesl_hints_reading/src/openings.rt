@@ -32,6 +32,13 @@ pub(crate) enum Opening {
     OtherBranch,
 }
 
+impl Opening {
+    /// Whether it is a pattern.
+    fn is_pattern(self) -> bool {
+        matches!(self, Opening::EachPattern | Opening::LetPattern)
+    }
+}
+
 /// Something that is open.
 #[derive(Clone, Copy)]
 pub(crate) struct Open {
@@ -43,6 +50,8 @@ pub(crate) struct Open {
     /// The colons of a range, and the commas of a list, so far.
     pub(crate) colons: u8,
     pub(crate) commas: bool,
+    /// Whether it is a pattern or a part of one, which has names only.
+    pub(crate) names: bool,
 }
 
 impl Open {
@@ -53,6 +62,16 @@ impl Open {
             from,
             colons: 0,
             commas: false,
+            names: opening.is_pattern(),
+        }
+    }
+
+    /// What is opened within this.
+    pub(crate) fn inner(self, opening: Opening, at: Span, from: usize) -> Open {
+        let part = self.names && matches!(opening, Opening::Round | Opening::Call);
+        Open {
+            names: part || opening.is_pattern(),
+            ..Open::new(opening, at, from)
         }
     }
 
@@ -61,6 +80,7 @@ impl Open {
         Open {
             opening,
             from,
+            names: opening.is_pattern(),
             ..self
         }
     }
@@ -76,6 +96,15 @@ impl Open {
                 | Opening::Branch
                 | Opening::OtherBranch
         )
+    }
+
+    /// Whether a `:` may stand behind what stands in it so far.
+    pub(crate) fn takes_colon(self) -> bool {
+        match self.opening {
+            Opening::Brace => true,
+            Opening::Square => self.colons < 2 && !self.commas,
+            _ => false,
+        }
     }
 
     /// Whether it ends where what is around it does.

@@ -13,6 +13,8 @@ pub(crate) enum Problem {
     NoSemicolon,
     /// The last token, behind which more should stand.
     GoesOn,
+    /// A character that is a `;`, where the form should have ended.
+    SemicolonQuoted,
     /// What stands behind a form's `;`.
     TwoForms,
     BehindCommand,
@@ -26,6 +28,15 @@ pub(crate) enum Problem {
     NoName,
     NoPattern,
     NoEqual,
+    /// A name that is defined [behind which no form goes on].
+    NoFunction,
+    /// A name that is defined.
+    NoDatatype,
+    /// A name that is bound [the `in`].
+    NoLet,
+    /// What should stand in braces [behind which no form goes on].
+    NoBraces,
+    NoColon,
     NoParameter,
     SecondParameter,
     DoubleEqual,
@@ -59,15 +70,23 @@ pub(crate) enum Problem {
     TypeHere,
     /// [the bracket]
     StillOpen,
+    /// A bracket [where it should have been closed].
+    NotClosed,
     NotOpen,
     /// [the bracket]
     OtherBracket,
     CommaHere,
+    NoSemicolonBetween,
+    /// The `[` [the comma].
+    CommaInIndex,
     ColonHere,
+    /// [the `[`]
+    ColonInIndex,
     BarHere,
     InOperand,
     FormInside,
     NothingInside,
+    NoIndex,
     NoSequence,
     /// What another language writes.
     Elsewhere(&'static [u8]),
@@ -107,6 +126,9 @@ fn said_of(problem: Problem) -> (&'static [u8], Quote, &'static [u8]) {
         Problem::GoesOn => plain(
             b"something is missing at the end; a line whose form goes on in the next one ends in `\\`",
         ),
+        Problem::SemicolonQuoted => plain(
+            b"a `;` behind a backquote is a character: the `;` that ends the form is missing",
+        ),
         Problem::TwoForms => plain(
             b"a line has one form, which ends in `;`: say the rest as another line",
         ),
@@ -126,12 +148,12 @@ fn said_of(problem: Problem) -> (&'static [u8], Quote, &'static [u8]) {
         Problem::TruthAsName => (
             b"`",
             Quote::Place,
-            b"` is a truth value and no name, as `t`, `f`, `true` and `false` all are: take another name",
+            b"` is a truth value, as are `t`, `f`, `true` and `false`, small or capital: take another name",
         ),
         Problem::TruthCalled => (
             b"`",
             Quote::Place,
-            b"` is a truth value and no function, as `t`, `f`, `true` and `false` all are: take another name",
+            b"` is a truth value and no function: an operator is missing behind it, or the function has another name",
         ),
         Problem::WordAsName => (
             b"`",
@@ -153,6 +175,13 @@ fn said_of_definition(problem: Problem) -> (&'static [u8], Quote, &'static [u8])
     match problem {
         Problem::NoEqual => plain(
             b"the body of a function stands behind `=`, as in `function g(x) = x + 1;`",
+        ),
+        Problem::NoFunction => plain(
+            b"a function is defined by `function g(x) = x + 1;`, and `==` compares",
+        ),
+        Problem::NoDatatype => plain(b"a datatype is defined by `datatype point (int, int);`"),
+        Problem::NoColon => plain(
+            b"a signature stands behind a `:`, as in `function g(x) : int -> int = x;`",
         ),
         Problem::NoParameter => plain(
             b"a function has a parameter, as in `function g(x) = x + 1;`",
@@ -194,7 +223,7 @@ fn said_of_expression(problem: Problem) -> (&'static [u8], Quote, &'static [u8])
         Problem::NoParentheses => (
             b"an argument stands in parentheses: `",
             Quote::Second,
-            b"(..)`",
+            b"(..)`; between two values an operator stands",
         ),
         Problem::NoOperator => (
             b"an operator is missing before `",
@@ -209,6 +238,10 @@ fn said_of_expression(problem: Problem) -> (&'static [u8], Quote, &'static [u8])
         Problem::NoIn => plain(
             b"a `let` has a body behind `in`, as in `let y = 1 in y + 1;`; a name of the session needs none: `y = 1;`",
         ),
+        Problem::NoLet => plain(
+            b"an `in` has a `let` before its bindings, as in `let y = 1 in y + 1;`",
+        ),
+        Problem::NoBraces => plain(b"an apply-to-each stands in braces, as in `{a in v | a > 0}`"),
         Problem::NoThen => plain(b"an `if` has a `then` and an `else`: `if .. then .. else ..`"),
         Problem::NoElse => plain(
             b"an `if` has an `else` too, since it always has a value: `if .. then .. else ..`",
@@ -232,6 +265,7 @@ fn said_of_expression(problem: Problem) -> (&'static [u8], Quote, &'static [u8])
         Problem::NothingInside => plain(
             b"nothing stands in these parentheses: a call has an argument",
         ),
+        Problem::NoIndex => plain(b"an index is missing between the brackets, as in `v[0]`"),
         Problem::NoSequence => plain(
             b"nothing stands in these braces: `[] int` is the empty sequence of numbers",
         ),
@@ -243,6 +277,11 @@ fn said_of_expression(problem: Problem) -> (&'static [u8], Quote, &'static [u8])
 fn said_of_bracket(problem: Problem) -> (&'static [u8], Quote, &'static [u8]) {
     match problem {
         Problem::StillOpen => (b"the `", Quote::Second, b"` before it is still open"),
+        Problem::NotClosed => (
+            b"this `",
+            Quote::Place,
+            b"` is closed nowhere: close it, or leave it out",
+        ),
         Problem::NotOpen => (b"no bracket is open that `", Quote::Place, b"` would close"),
         Problem::OtherBracket => (
             b"the `",
@@ -251,6 +290,15 @@ fn said_of_bracket(problem: Problem) -> (&'static [u8], Quote, &'static [u8]) {
         ),
         Problem::CommaHere => plain(
             b"a comma stands between arguments, elements and parts of a pair, within brackets",
+        ),
+        Problem::NoSemicolonBetween => plain(
+            b"a `;` stands between bindings, as in `let y = 1; z = 2 in y + z` and `{a + b : a in v; b in w}`",
+        ),
+        Problem::CommaInIndex => plain(
+            b"an index is one number, as in `m[i][j]`, and a function's arguments stand in parentheses",
+        ),
+        Problem::ColonInIndex => plain(
+            b"an index is one number; the elements at the places 1 and 2 are `v -> [1 : 3]`",
         ),
         Problem::ColonHere => plain(
             b"a `:` stands in an apply-to-each, in a range as `[1 : 6]`, or behind a function's parameter",

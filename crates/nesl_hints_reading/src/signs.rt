@@ -22,7 +22,7 @@ pub(crate) const SIGNS: [(&[u8], &[u8]); 41] = [
     ),
     (
         b".",
-        b"`.` is no sign: numbers have no fractions, and a function stands before its argument, as `f(x)`",
+        b"`.` is no sign: numbers have no fractions, and a function stands before its argument, as `g(x)`",
     ),
     (
         b"''",

@@ -19,4 +19,4 @@ mod words;
 pub use names::bound_names;
 pub use sentences::sign_of;
 pub use told::{ambiguous, ill_typed};
-pub use unknowns::unknown;
+pub use unknowns::{Unknown, unknown_name};

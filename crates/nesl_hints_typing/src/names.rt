@@ -60,7 +60,7 @@ const BUILTINS: [&[u8]; 46] = [
 const FEWEST: usize = 3;
 
 /// The most names that are compared with one that is unknown.
-const MOST_COMPARED: usize = 20_000;
+const MOST_COMPARED: usize = 1_000;
 
 /// The built-in function whose name is near to this one.
 pub(crate) fn near_builtin(name: &[u8]) -> Option<&'static [u8]> {

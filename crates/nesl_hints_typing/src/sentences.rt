@@ -20,6 +20,10 @@ struct Said<'a> {
 
 const MUST_BE: &[u8] = b", and must be ";
 
+const MUST_BE_SEQUENCE: &[u8] = b", and must be a sequence, ";
+
+const MUST_BE_PAIR: &[u8] = b", and must be a pair, ";
+
 /// The sign or word of an operator.
 pub fn sign_of(operator: Operator) -> &'static [u8] {
     match operator {
@@ -88,11 +92,11 @@ fn said_of(role: &Role) -> Said<'_> {
     match role {
         Role::Left(operator) => named(b"the left side of `", sign_of(*operator), MUST_BE),
         Role::Right(operator) => said_of_right(*operator),
-        Role::Operand(Prefix::Length) => plain(b"what stands behind `#` is ", MUST_BE),
+        Role::Operand(Prefix::Length) => plain(b"what stands behind `#` is ", MUST_BE_SEQUENCE),
         Role::Operand(Prefix::Negate) => plain(b"what stands behind `-` is ", MUST_BE),
         Role::Argument(name) => named(b"the argument of `", name.as_slice(), MUST_BE),
         Role::OneArgument(name, before) => named(ordinal(*before), name.as_slice(), MUST_BE),
-        Role::Indexed => plain(b"what stands before `[` is ", MUST_BE),
+        Role::Indexed => plain(b"what stands before `[` is ", MUST_BE_SEQUENCE),
         Role::Index => plain(b"the number in brackets is ", MUST_BE),
         Role::Test => plain(b"the test behind `if` is ", MUST_BE),
         Role::Otherwise => plain(
@@ -101,9 +105,9 @@ fn said_of(role: &Role) -> Said<'_> {
         ),
         Role::Element => plain(b"this element is ", b", the first one "),
         Role::Bound => plain(b"this part of a range is ", MUST_BE),
-        Role::Drawn => plain(b"what stands behind `in` is ", MUST_BE),
+        Role::Drawn => plain(b"what stands behind `in` is ", MUST_BE_SEQUENCE),
         Role::Filter => plain(b"the filter is ", MUST_BE),
-        Role::Pair => plain(b"what these names stand for is ", MUST_BE),
+        Role::Pair => plain(b"what these names stand for is ", MUST_BE_PAIR),
         Role::Record(name) => named(b"what is matched with `", name.as_slice(), MUST_BE),
         Role::Parameter => plain(b"the parameter is ", b", and the signature says "),
         Role::Body => plain(b"the body is ", b", and the signature says "),
@@ -153,13 +157,17 @@ fn advice_on(guesses: &Guesses, clash: &Clash) -> &'static [u8] {
     };
     match &clash.role {
         Role::Left(operator) | Role::Right(operator) => advice_on_side(*operator, found, item),
-        Role::Operand(Prefix::Negate) => advice_on_side(Operator::Minus, found, item),
+        Role::Operand(Prefix::Negate) => match (found, item) {
+            (Guess::Sequence(_), Some(Guess::Char)) => b"",
+            (Guess::Sequence(_), _) => b": `{-a : a in v}` does it for each number",
+            _ => advice_on_side(Operator::Minus, found, item),
+        },
         Role::Argument(_) => match (found, wanted) {
             (Guess::Pair(_, _), Guess::Pair(_, _)) => b"",
             (Guess::Pair(_, _), _) => b": it has one argument",
             (_, Guess::Pair(_, _)) => b": it has more arguments, with commas between",
             (Guess::Sequence(_), Guess::Int | Guess::Char | Guess::Bool) => {
-                b": `{g(a) : a in v}` calls `g` for each element"
+                b": `{g(a) : a in v}` calls a function `g` for each element"
             }
             _ => b"",
         },

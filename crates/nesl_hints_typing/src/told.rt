@@ -72,11 +72,9 @@ fn undecided(walk: &Walk<'_>, place: Span, ty: usize) -> Result<Hint, AllocError
     let alloc = walk.alloc;
     let mut words = Words::new(alloc, &walk.guesses, walk.context);
     let text = words.of(alloc, ty)?;
-    let sentence = Sentence::of(alloc, b"the type of this is ")?
+    let sentence = Sentence::of(alloc, b"nothing decides the type of this, which is `")?
         .and(text.as_slice())?
-        .and(
-            b", and nothing decides it: use it beside something whose type is known, as in `[] int ++ ..`",
-        )?
+        .and(b"`: use it beside something whose type is known, as in `[] int ++ ..`")?
         .done();
     Ok(Hint {
         place,

@@ -21,32 +21,43 @@ struct Sought<'a> {
     called: bool,
 }
 
-/// A name that stands for nothing, in a form: the first one in its tokens from a place on. Places are cut off behind
-/// so many bytes.
-pub fn unknown(
+/// Where a form has a name that stands for nothing.
+#[derive(Clone, Copy)]
+pub struct Unknown<'a> {
+    /// The tokens of the form.
+    pub tokens: &'a [Token],
+    /// The name is the first one from here on.
+    pub from: usize,
+    /// Whether an expression begins here, and not a pattern or a type.
+    pub is_value: bool,
+}
+
+/// A name that stands for nothing, in a form. Places are cut off behind so many bytes.
+pub fn unknown_name(
     alloc: Global,
     context: &Context<Payload>,
     form: &Form,
-    tokens: &[Token],
-    from: usize,
+    at: Unknown<'_>,
     len: usize,
 ) -> Result<Hint, AllocError>
     ensures { IfOk result (IsWithin len) }
 {
-    let sought = match name_from(tokens, from) {
+    let sought = match name_from(at.tokens, at.from) {
         Some(sought) => sought,
         None => Sought {
             name: b"",
             place: Span {
-                start: from,
-                end: from,
+                start: at.from,
+                end: at.from,
             },
             called: false,
         },
     };
     let sentence = match form {
         Form::Datatype { name, .. } => said_of_type(alloc, name.as_slice(), sought)?,
-        _ => said_of_value(alloc, context, form, sought)?,
+        _ if at.is_value => said_of_value(alloc, context, form, sought)?,
+        _ if sought.called => said_of_record(alloc, sought)?,
+        _ => said_of_type(alloc, b"", sought)?,
     };
     let hint = Hint {
         place: sought.place,
@@ -121,6 +132,16 @@ fn said_of_type(alloc: Global, own: &[u8], sought: Sought<'_>) -> Result<Vec<u8>
     )
 }
 
+// What is said of a name before the parentheses of a pattern.
+fn said_of_record(alloc: Global, sought: Sought<'_>) -> Result<Vec<u8>, AllocError> {
+    about(
+        alloc,
+        b"no datatype is called `",
+        sought.name,
+        b"`: a name before the parentheses of a pattern is a datatype, as in `datatype point (int, int);`",
+    )
+}
+
 // What is said of a name in an expression.
 fn said_of_value(
     alloc: Global,
@@ -146,7 +167,7 @@ fn said_of_value(
             alloc,
             b"`",
             sought.name,
-            b"` is known only within the `let` or the braces that bind it, and not in the values that are bound",
+            b"` is bound, but not known here: a `let` knows it behind its binding, and braces in their body and filter",
         );
     }
     said_of_variable(alloc, context, form, bound.as_slice(), sought)

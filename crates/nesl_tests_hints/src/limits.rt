@@ -31,6 +31,14 @@ pub fn limits_of(line: &[u8]) -> Option<Limits> {
     Some(limits)
 }
 
+/// How many blanks a line is short for, which begins with `.. `.
+pub fn blanks_of(line: &[u8]) -> Option<u64> {
+    match line {
+        [b'.', b'.', b' ', rest @ ..] => Some(number_of(rest).min(100_000)),
+        _ => None,
+    }
+}
+
 // The number that these digits are.
 fn number_of(word: &[u8]) -> u64 {
     let mut number = 0u64;

@@ -1,6 +1,6 @@
 //! What is written of lines.
 
-use crate::limits::{LIMITS, limits_of};
+use crate::limits::{LIMITS, blanks_of, limits_of};
 use nesl_hints::{Hint, hint};
 use nesl_session::session::Session;
 use std::alloc::{AllocError, Global};
@@ -20,23 +20,40 @@ pub fn put_rows(alloc: Global, text: &[u8], out: &mut Vec<u8>) -> Result<(), All
         }
         match limits_of(line) {
             Some(limits) => session = Session::new(alloc, limits)?,
-            None => put_row(alloc, &mut session, line, hinted, out)?,
+            None => {
+                out.extend_from_slice(b"> ")?;
+                out.extend_from_slice(line)?;
+                out.extend_from_slice(b"\n")?;
+                let whole = written_out(alloc, line)?;
+                put_answer(alloc, &mut session, whole.as_slice(), hinted, out)?;
+            }
         }
     }
     Ok(())
 }
 
-// Writes a line, its reply, and the hint on it, if it has one.
-fn put_row(
+// The line, or the blanks that it is short for.
+fn written_out(alloc: Global, line: &[u8]) -> Result<Vec<u8>, AllocError> {
+    match blanks_of(line) {
+        Some(count) => {
+            let mut blanks = Vec::new(alloc);
+            for _ in 0..count {
+                blanks.push(b' ')?;
+            }
+            Ok(blanks)
+        }
+        None => Vec::from_slice(alloc, line),
+    }
+}
+
+// Writes the reply to a line, and the hint on it, if it has one.
+fn put_answer(
     alloc: Global,
     session: &mut Session,
     line: &[u8],
     hinted: bool,
     out: &mut Vec<u8>,
 ) -> Result<(), AllocError> {
-    out.extend_from_slice(b"> ")?;
-    out.extend_from_slice(line)?;
-    out.extend_from_slice(b"\n")?;
     let found = if hinted {
         hint(alloc, session, line)?
     } else {
