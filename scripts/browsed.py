@@ -92,19 +92,19 @@ return told;
 """
 
 
-class Bridge:
-    """The page over scripts/page_bridge.py, which starts the program for these users."""
+class Server:
+    """The program with its page, for these users."""
 
     def __init__(self, program, users):
-        words = [sys.executable, os.path.join(HERE, "page_bridge.py"), "--port", "0", "--program", program, *users]
+        words = [program, "serve", "--port", "0", "--workers", "0", "--web", "0", *users]
         self.run = subprocess.Popen(words, stdout=subprocess.PIPE)
-        first = self.run.stdout.readline().decode()
-        demand(first.startswith("page at http://"), f"the bridge doesn't start: {short(first)}")
-        self.host, port = first.split("//")[1].strip().strip("/").split(":")
+        lines = [self.run.stdout.readline().decode() for _ in range(2)]
+        demand(lines[1].startswith("page at http://"), f"no page is told: {short(''.join(lines))}")
+        self.host, port = lines[1].split("//")[1].strip().strip("/").split(":")
         self.port = int(port)
 
     def end(self):
-        self.run.terminate()
+        self.run.kill()
         self.run.wait()
 
 

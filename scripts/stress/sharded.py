@@ -79,7 +79,7 @@ class Front(Process):
     def __init__(self, path, folder, old=None):
         text, config = (folder / "haproxy.cfg").read_text(encoding="ascii"), folder / "tried.cfg"
         config.write_text(text if os.geteuid() == 0 else re.sub("    (user|group) haproxy\n", "", text), encoding="ascii")
-        self.port = int(re.search(r"bind 127\.0\.0\.1:([0-9]+)", text)[1])
+        self.port, self.web = [int(port) for port in [*re.findall(r"bind 127\.0\.0\.1:([0-9]+)", text), 0][:2]]
         self.errors = tempfile.TemporaryFile()
         more = ["-sf", str(old.run.pid)] if old else []
         self.run = started([path, "-db", "-f", config, *more], stderr=self.errors)

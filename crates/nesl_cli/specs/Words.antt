@@ -59,11 +59,19 @@ workers_rule = record (number_rule (codes "WORKERS") (codes "workers") 0 64) { r
 abbrev pub connections_rule : Rule
 connections_rule = number_rule (codes "CONNECTIONS") (codes "connections") 1 1000000
 
+-- `--web PORT`: a number from 0 to 65535, at most once; help has a name for its value, which isn't its id, as below
+abbrev pub web_rule : Rule
+web_rule = record (number_rule (codes "WEB") (codes "web") 0 65535) { value_names = 1 }
+
+-- `--web-host NAME`: a text, at most once
+abbrev pub web_host_rule : Rule
+web_host_rule = record (text_rule (codes "HOST") (codes "web-host")) { value_names = 1 }
+
 -- `--idle SECONDS`: a number from 1 to 86400, at most once
 abbrev pub idle_rule : Rule
 idle_rule = number_rule (codes "SECONDS") (codes "idle") 1 86400
 
--- `--first-line SECONDS`: a number from 1 to 86400, at most once; help has a name for its value, which isn't its id
+-- `--first-line SECONDS`: a number from 1 to 86400, at most once
 abbrev pub first_line_rule : Rule
 first_line_rule = record (number_rule (codes "FIRST") (codes "first-line") 1 86400) { value_names = 1 }
 
@@ -78,13 +86,17 @@ log_rule = record (new_rule (codes "LOG")) {
 abbrev pub stats_rule : Rule
 stats_rule = text_rule (codes "FILE") (codes "stats")
 
--- the subcommand `serve --port P --workers W [--connections N] [--idle SECONDS] [--first-line SECONDS] [--log]
--- [--stats FILE] USER..`: first its port and its counts, then its seconds, then what it tells
+-- the subcommand `serve --port P --workers W [--connections N] [--web PORT] [--web-host NAME] [--idle SECONDS]
+-- [--first-line SECONDS] [--log] [--stats FILE] USER..`: first its port and its counts, then its page, then its
+-- seconds, then what it tells
 abbrev pub serve_counts : Shape
 serve_counts = record (new_shape (codes "serve")) { rules = port_rule ∷ workers_rule ∷ connections_rule ∷ [] }
 
+abbrev pub serve_page : Shape
+serve_page = record serve_counts { rules = serve_counts.rules ++ web_rule ∷ web_host_rule ∷ [] }
+
 abbrev pub serve_seconds : Shape
-serve_seconds = record serve_counts { rules = serve_counts.rules ++ idle_rule ∷ first_line_rule ∷ [] }
+serve_seconds = record serve_page { rules = serve_page.rules ++ idle_rule ∷ first_line_rule ∷ [] }
 
 abbrev pub serve_told : Shape
 serve_told = record serve_seconds { rules = serve_seconds.rules ++ log_rule ∷ stats_rule ∷ [] }
@@ -143,13 +155,16 @@ pub record Costs : Type 0 where
   pub values : List ℕ
   pub heap : Option ℕ
 
--- a service: its port, how many helpers its threads may have in all, how many connections it serves, if it ends, how
--- many seconds a line has to come whole and an answer to be taken, how many the first line has, if these are told,
--- whether each connection is told of, and the file for its counters, if there is one
+-- a service: its port, how many helpers its threads may have in all, how many connections it serves, if it ends, the
+-- port of its page and a name by which that may be asked for, if there are any, how many seconds a line has to come
+-- whole and an answer to be taken, how many the first line has, if these are told, whether each connection is told of,
+-- and the file for its counters, if there is one
 pub record Service : Type 0 where
   pub port : Option ℕ
   pub workers : Option ℕ
   pub connections : Option ℕ
+  pub web : Option ℕ
+  pub web_host : Option (List ℕ)
   pub idle : Option ℕ
   pub first_line : Option ℕ
   pub is_logged : Bool
@@ -171,6 +186,8 @@ service_among rows = record {
   port = number_among (codes "PORT") rows;
   workers = number_among (codes "WORKERS") rows;
   connections = number_among (codes "CONNECTIONS") rows;
+  web = number_among (codes "WEB") rows;
+  web_host = text_among (codes "HOST") rows;
   idle = number_among (codes "SECONDS") rows;
   first_line = number_among (codes "FIRST") rows;
   is_logged = is_among (codes "LOG") rows;
@@ -259,6 +276,8 @@ served_twice :
       port = Some 0;
       workers = Some 4;
       connections = Some 2;
+      web = None;
+      web_host = None;
       idle = None;
       first_line = None;
       is_logged = false;
@@ -270,11 +289,14 @@ served_twice = refl
 served_on :
     task_of
     (asked (codes "serve" ∷ codes "--workers=0" ∷ codes "--idle=60" ∷ codes "ann" ∷ codes "--log" ∷ codes "--port=4000"
-    ∷ codes "--first-line=5" ∷ codes "--stats" ∷ codes "counters" ∷ []))
+    ∷ codes "--web=8080" ∷ codes "--web-host" ∷ codes "nesl.example" ∷ codes "--first-line=5" ∷ codes "--stats"
+    ∷ codes "counters" ∷ []))
     ≡ a_service (record {
       port = Some 4000;
       workers = Some 0;
       connections = None;
+      web = Some 8080;
+      web_host = Some (codes "nesl.example");
       idle = Some 60;
       first_line = Some 5;
       is_logged = true;

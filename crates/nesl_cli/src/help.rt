@@ -25,6 +25,12 @@ pub(crate) const WORKERS: &str =
 
 pub(crate) const CONNECTIONS: &str = "Ends after so many connections: 1 to 1000000";
 
+pub(crate) const WEB: &str = "Shows a page to browsers on this port, too, \
+    and serves users there: 0 to 65535, where 0 is any that is free";
+
+pub(crate) const WEB_HOST: &str =
+    "A name by which browsers may ask for the page, beside localhost and this machine's addresses";
+
 pub(crate) const IDLE: &str =
     "Ends a connection whose line has not come whole after so many seconds, \
     or that takes nothing of an answer for so long: 1 to 86400";
@@ -71,6 +77,8 @@ names its user and is told back; each line behind it is answered by one line, as
     user ann
     2 * 3 + 1;
     it = 7 : int (work 5, depth 5)
+
+With --web it prints `page at http://127.0.0.1:8080/` below that: open this in a browser.
 
 A user has one connection at a time, and the session waits for the next. There are no passwords, so
 only this machine is listened to; docs/OPERATING.md says how others are let in, and what it costs.

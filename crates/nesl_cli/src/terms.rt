@@ -11,6 +11,19 @@ use nesl_service::wire::Patience;
 use std::net::{IpAddr, Ipv4Addr, SocketAddr};
 use std::time::Duration;
 
+/// This port, for this machine alone. There is none above 65,535.
+pub fn local_address(port: usize) -> Option<SocketAddr>
+    ensures loopback { IfSome result
+        (λ address. IsV4And (socket_ip address) (λ ip. ipv4_octets ip ≡ 127 ∷ 0 ∷ 0 ∷ 1 ∷ [])) }
+    ensures port { IfSome result (λ address. socket_port address ≡ port) }
+    ensures none { IfNone result (2 ^ 16 ≤ port) }
+{
+    match u16::try_from(port) {
+        Ok(port) => Some(SocketAddr::new(IpAddr::V4(Ipv4Addr::LOCALHOST), port)),
+        Err(_) => None,
+    }
+}
+
 impl Offer<'_> {
     /// Where the service listens: at the port that was told, or at one that is free, and for this machine alone. There
     /// is no port above 65,535.
@@ -20,10 +33,14 @@ impl Offer<'_> {
         ensures port { IfSome result (λ address. socket_port address ≡ unwrap_or self.now.service.port 0) }
         ensures none { IfNone result (2 ^ 16 ≤ unwrap_or self.now.service.port 0) }
     {
-        match u16::try_from(self.service.port.unwrap_or(0)) {
-            Ok(port) => Some(SocketAddr::new(IpAddr::V4(Ipv4Addr::LOCALHOST), port)),
-            Err(_) => None,
-        }
+        local_address(self.service.port.unwrap_or(0))
+    }
+
+    /// How many threads serve browsers: as many as there are users, and four more for those who ask for the page.
+    pub fn page_threads(&self) -> usize
+        ensures { result ≡ length self.now.users.items + 4 }
+    {
+        self.users.len() + 4
     }
 
     /// By what terms the service is kept: as many threads as there are users, and one more, serve.

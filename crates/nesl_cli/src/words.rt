@@ -8,7 +8,8 @@ ghost use Rattle.clap.specs.Simple.{with_subcommand};
 ghost use Rattle.clap.specs.Words.{app_of, fault_of, FailsBy, shape_of, subcommand_rows_of};
 ghost use Rattle.nesl_cli.specs.Words.{batch, connections_rule, csv_rule, first_line_rule, heap_rule, idle_rule};
 ghost use Rattle.nesl_cli.specs.Words.{is_among, log_rule, number_among, number_rule, port_rule, program, serve};
-ghost use Rattle.nesl_cli.specs.Words.{serve_counts, serve_seconds, serve_told, service_among, stats_rule, task_among};
+ghost use Rattle.nesl_cli.specs.Words.{serve_counts, serve_page, serve_seconds, serve_told, service_among};
+ghost use Rattle.nesl_cli.specs.Words.{stats_rule, task_among, web_host_rule, web_rule};
 ghost use Rattle.nesl_cli.specs.Words.{batch_among, task_in, task_of, text_among, text_rule, users_among, users_in};
 ghost use Rattle.nesl_cli.specs.Words.{users_of, users_rule, without_subcommands, workers_rule};
 ghost use Rattle.nesl_cli.specs.Wanted.{service_wanted, task_wanted, users_wanted};
@@ -54,15 +55,20 @@ pub enum Task<'a> {
     Service(Service<'a>),
 }
 
-/// A service on this port, with so many helpers, which ends after so many connections, if it is to end. Where they are
-/// told, a line has so many `idle` seconds to come whole, and as many may pass while nothing of an answer is taken; the
-/// first line of a connection has so many `first_line` seconds. A connection that takes longer is ended. Where the
-/// service is logged, each connection is told of; where there is a file for `stats`, its counters are written there.
+/// A service on this port, with so many helpers, which ends after so many connections, if it is to end. Where there is
+/// one, its page is at the port `web`, and may be asked for by the name `web_host` too.
+///
+/// Where they are told, a line has so many `idle` seconds to come whole, and as many may pass while nothing of an
+/// answer is taken; the first line of a connection has so many `first_line` seconds. A connection that takes longer is
+/// ended. Where the service is logged, each connection is told of; where there is a file for `stats`, its counters are
+/// written there.
 #[derive(Clone, Copy, PartialEq, Eq, Debug)]
 pub struct Service<'a> {
     pub port: Option<usize>,
     pub workers: Option<usize>,
     pub connections: Option<usize>,
+    pub web: Option<usize>,
+    pub web_host: Option<&'a str>,
     pub idle: Option<usize>,
     pub first_line: Option<usize>,
     pub is_logged: bool,
@@ -156,9 +162,15 @@ fn serve_seconds<'a>(alloc: Global) -> Result<Command<'a>, AllocError>
     ensures shape { IfOk result (λ command. shape_of command ≡ serve_seconds) }
     ensures local { IfOk result (λ command. (fields_of command).has_globals ≡ false) }
 {
-    serve_counts(alloc)?
-        .arg(idle(alloc))?
-        .arg(first_line(alloc))
+    serve_page(alloc)?.arg(idle(alloc))?.arg(first_line(alloc))
+}
+
+// The subcommand as far as its page goes.
+fn serve_page<'a>(alloc: Global) -> Result<Command<'a>, AllocError>
+    ensures shape { IfOk result (λ command. shape_of command ≡ serve_page) }
+    ensures local { IfOk result (λ command. (fields_of command).has_globals ≡ false) }
+{
+    serve_counts(alloc)?.arg(web(alloc))?.arg(web_host(alloc))
 }
 
 // The subcommand as far as its port and its counts go.
@@ -199,6 +211,20 @@ fn connections<'a>(alloc: Global) -> Arg<'a>
         1,
         MOST_CONNECTIONS,
     )
+}
+
+fn web<'a>(alloc: Global) -> Arg<'a>
+    ensures rule { rule_of result ≡ web_rule }
+    ensures local { result.global ≡ false }
+{
+    number(alloc, "WEB", "web", help::WEB, 0, MOST_PORT).value_name("PORT")
+}
+
+fn web_host<'a>(alloc: Global) -> Arg<'a>
+    ensures rule { rule_of result ≡ web_host_rule }
+    ensures local { result.global ≡ false }
+{
+    text(alloc, "HOST", "web-host", help::WEB_HOST).value_name("NAME")
 }
 
 fn idle<'a>(alloc: Global) -> Arg<'a>
@@ -341,6 +367,8 @@ fn service_behind<'a>(matches: &ArgMatches<'a>) -> Service<'a>
         port: number_behind(matches, "PORT"),
         workers: number_behind(matches, "WORKERS"),
         connections: number_behind(matches, "CONNECTIONS"),
+        web: number_behind(matches, "WEB"),
+        web_host: text_behind(matches, "HOST"),
         idle: number_behind(matches, "SECONDS"),
         first_line: number_behind(matches, "FIRST"),
         is_logged: is_behind(matches, "LOG"),

@@ -1,18 +1,20 @@
-//! Who tells of a service: on standard output where it listens, of connections on standard error, and in numbers in a
-//! file.
+//! Who tells of a service: on standard output where it listens and where its page is, of connections on standard error,
+//! and in numbers in a file.
 
 use crate::log::Log;
 use crate::stats::{Replace, Stats};
 use nesl_service_journal::counters::Counters;
 use nesl_service_journal::journal::{Answered, Caller, Journal, Seat, Visit};
+use std::io;
 use std::io::Print;
 use std::sync::{Arc, Wait};
 use std::time::Clock;
 
-/// Tells on which port is listened, of connections where there is a log, and counts where there is a file for that.
+/// Tells on which ports is listened, of connections where there is a log, and counts where there is a file for that.
 pub struct Host<'x, R> {
     pub rt: &'x R,
     pub port: u16,
+    pub page_port: Option<u16>,
     pub log: Option<Log<'x, R>>,
     pub stats: Option<Stats<'x, R>>,
     pub counters: Arc<Counters>,
@@ -24,6 +26,7 @@ impl<R: Wait + Clock + Replace> Host<'_, R> {
         let Host {
             rt: _,
             port: _,
+            page_port: _,
             log,
             stats,
             counters: _,
@@ -37,9 +40,20 @@ impl<R: Wait + Clock + Replace> Host<'_, R> {
     }
 }
 
+impl<R: Print> Host<'_, R> {
+    // Where the service listens, and where its page is.
+    fn tell_ports(&self) -> io::Result<()> {
+        println!(self.rt; "listening on 127.0.0.1:{}", self.port)?;
+        match self.page_port {
+            Some(port) => println!(self.rt; "page at http://127.0.0.1:{port}/"),
+            None => Ok(()),
+        }
+    }
+}
+
 impl<R: Print + Wait + Clock> Journal for Host<'_, R> {
     fn opened(&self) -> bool {
-        println!(self.rt; "listening on 127.0.0.1:{}", self.port).is_ok()
+        self.tell_ports().is_ok()
     }
 
     fn begun(&self, caller: Caller) {

@@ -137,8 +137,13 @@ impl<R: Wait + Clock> Log<'_, R> {
     // A line: the time, the connection, and what is told of it.
     fn line(&self, caller: Caller, what: Result<String, AllocError>) -> Result<String, AllocError> {
         let (stamp, what) = (Stamp::now(self.rt), what?);
-        let Caller { number, port, .. } = caller;
-        format!(in self.alloc; "{stamp} connection {number} port {port} {what}")
+        let Caller {
+            number,
+            port,
+            is_web,
+        } = caller;
+        let web = if is_web { "web " } else { "" };
+        format!(in self.alloc; "{stamp} connection {web}{number} port {port} {what}")
     }
 }
 

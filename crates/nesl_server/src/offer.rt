@@ -1,4 +1,4 @@
-//! A service that is offered on a port.
+//! A service that is offered on a port, and on another to browsers.
 ghost use Rattle.std.specs.Prelude.{◌≡◌, Err, IfErr, IfOk, OnOk, map};
 ghost use Rattle.nesl_house.specs.Roster.{IsRoster};
 ghost use Rattle.nesl_cli.specs.Program.{limits};
@@ -9,15 +9,17 @@ use crate::log::Log;
 use crate::stats::{Replace, Stats};
 use nesl_cli::failure::Failure;
 use nesl_cli::run::{LIMITS, Offer, roster};
+use nesl_cli::terms::local_address;
 use nesl_house::roster::NewFault;
 use nesl_house::table::{Closed, Table};
-use nesl_service::service::{Observers, ServeFault, serve_through};
+use nesl_service::browse::Page;
+use nesl_service::service::{Observers, ServeFault, Site, serve_at};
 use nesl_service_journal::counters::Counters;
 use nesl_split_helpers::Free;
 use std::alloc::{AllocError, Global};
 use std::io;
 use std::io::{Eprint, Print};
-use std::net::{Net, TcpListener, TcpStream};
+use std::net::{Net, SocketAddr, TcpListener, TcpStream};
 use std::sync::{Arc, Wait};
 use std::thread::Threads;
 use std::time::Clock;
@@ -39,18 +41,55 @@ pub fn keep<
         + 'static,
 >(rt: &R, alloc: Global, offer: &Offer<'a>) -> Result<(), Failure<'a>> {
     let table = table(alloc, offer.users.as_slice())?;
-    let (listener, port) = match listener(rt, offer) {
-        Ok(listening) => listening,
-        Err(error) => return Err(unheard(offer, &error)),
+    let (listener, port) = listening(rt, offer.address())?;
+    let page = page_listening(rt, offer)?;
+    let page_port = match &page {
+        Some((_, port)) => Some(*port),
+        None => None,
     };
-    let host = host(rt, alloc, offer, port)?;
-    let observers = Observers {
-        gate: &Free,
-        journal: &host,
-    };
-    let served = serve_through(rt, alloc, &listener, table, offer.terms(), observers);
+    let host = host(rt, alloc, offer, (port, page_port))?;
+    let doors = Doors { listener, page };
+    let served = serve_offer(rt, alloc, &*offer, &doors, table, &host);
     host.close();
     ending(rt, offer, served)
+}
+
+/// Where a service listens.
+#[derive(Drop)]
+struct Doors {
+    listener: TcpListener,
+    /// Where browsers connect, and on which port, if there is a page.
+    page: Option<(TcpListener, u16)>,
+}
+
+// Serves an offer where it listens, and tells the host of it.
+fn serve_offer<
+    'x,
+    R: Threads + Wait + Clock + Print + Eprint + Replace + Clone + Drop + Send + Sync + 'static,
+>(
+    rt: &R,
+    alloc: Global,
+    offer: &'x Offer<'_>,
+    doors: &'x Doors,
+    table: Table,
+    host: &Host<'_, R>,
+) -> Result<Closed, ServeFault> {
+    let observers = Observers {
+        gate: &Free,
+        journal: host,
+    };
+    let site = Site {
+        rt,
+        alloc,
+        listener: &doors.listener,
+    };
+    serve_at(
+        site,
+        page_of(offer, &doors.page),
+        table,
+        offer.terms(),
+        observers,
+    )
 }
 
 // What came of a service, which says what it served where it ended well.
@@ -85,24 +124,63 @@ fn table<'a>(alloc: Global, users: &[&'a str]) -> Result<Table, Failure<'a>>
     }
 }
 
-// Listens where the service is offered, and answers on which port.
+// Listens at an address, and answers on which port.
+fn listening<'a, R: Net<Stream = TcpStream, Listener = TcpListener>>(
+    rt: &R,
+    address: Option<SocketAddr>,
+) -> Result<(TcpListener, u16), Failure<'a>> {
+    let Some(address) = address else {
+        return Err(Failure::Serve(ServeFault::Socket));
+    };
+    match listener(rt, address) {
+        Ok(listening) => Ok(listening),
+        Err(error) if error.kind() == io::ErrorKind::AddrInUse => {
+            Err(Failure::Taken(address.port()))
+        }
+        Err(_) => Err(Failure::Serve(ServeFault::Socket)),
+    }
+}
+
 fn listener<R: Net<Stream = TcpStream, Listener = TcpListener>>(
     rt: &R,
-    offer: &Offer<'_>,
+    address: SocketAddr,
 ) -> io::Result<(TcpListener, u16)> {
-    let Some(address) = offer.address() else {
-        return Err(io::Error::from(io::ErrorKind::InvalidInput));
-    };
     let listener = TcpListener::bind(rt, address)?;
     let port = listener.local_addr()?.port();
     Ok((listener, port))
 }
 
-// Why the port can't be had.
-fn unheard<'a>(offer: &Offer<'a>, error: &io::Error) -> Failure<'a> {
-    match offer.address() {
-        Some(address) if error.kind() == io::ErrorKind::AddrInUse => Failure::Taken(address.port()),
-        _ => Failure::Serve(ServeFault::Socket),
+// Listens where the page is, if one is offered.
+fn page_listening<'a, R: Net<Stream = TcpStream, Listener = TcpListener>>(
+    rt: &R,
+    offer: &Offer<'a>,
+) -> Result<Option<(TcpListener, u16)>, Failure<'a>> {
+    match offer.service.web {
+        Some(port) => Ok(Some(listening(rt, local_address(port))?)),
+        None => Ok(None),
+    }
+}
+
+// The page, if one is offered.
+fn page_of<'x>(
+    offer: &'x Offer<'_>,
+    listening: &'x Option<(TcpListener, u16)>,
+) -> Option<Page<'x>> {
+    match listening {
+        Some((listener, _)) => Some(Page {
+            listener,
+            host: host_of(offer),
+            threads: offer.page_threads(),
+        }),
+        None => None,
+    }
+}
+
+// The name by which the page may be asked for beside those of each machine.
+fn host_of<'x>(offer: &'x Offer<'_>) -> Option<&'x [u8]> {
+    match &offer.service.web_host {
+        Some(name) => Some(name.as_bytes()),
+        None => None,
     }
 }
 
@@ -111,7 +189,7 @@ fn host<'x, 'a, R: Threads + Wait + Clock + Eprint + Replace + Clone + Send + Dr
     rt: &'x R,
     alloc: Global,
     offer: &Offer<'a>,
-    port: u16,
+    (port, page_port): (u16, Option<u16>),
 ) -> Result<Host<'x, R>, Failure<'a>> {
     let Ok(counters) = shared_counters(alloc) else {
         return Err(Failure::Serve(ServeFault::Memory));
@@ -123,6 +201,7 @@ fn host<'x, 'a, R: Threads + Wait + Clock + Eprint + Replace + Clone + Send + Dr
     Ok(Host {
         rt,
         port,
+        page_port,
         log,
         stats,
         counters,

@@ -1,7 +1,8 @@
-//! The service: connections over sockets, each the lines of one user, served by a few threads.
+//! The service: connections over sockets and WebSockets, each the lines of one user, served by a few threads.
 #![tactic(auto)]
 
 mod accept;
+pub mod browse;
 pub mod crowd;
 pub mod numbers;
 mod opening;

@@ -3,12 +3,13 @@ ghost use Rattle.std.specs.Prelude.{◌≡◌, IfOk};
 ghost use Rattle.nesl_house.specs.Table.{IsClosed};
 
 use crate::accept::Door;
+use crate::browse::{Lobby, Page};
 use crate::crowd::{Start, run_crowd};
 use crate::numbers::{Fault, Numbers};
 use crate::receipts::Receipts;
 use crate::wire::{Patience, Reader, Writer, hear_out};
 use nesl_house::table::{CloseFault, Closed, Table};
-use nesl_line::device::Device;
+use nesl_line::device::{Device, Sink, Source};
 use nesl_line::exchange::End;
 use nesl_line::serve::{Served, serve};
 use nesl_service_journal::answers::{Ear, Overheard};
@@ -18,6 +19,7 @@ use nesl_service_journal::watch::Watch;
 use nesl_split_helpers::sparing::Sparing;
 use nesl_split_helpers::{Free, Gate, Pool};
 use std::alloc::{AllocError, Global};
+use std::io;
 use std::io::BufWriter;
 use std::marker::Brand;
 use std::net::{TcpListener, TcpStream};
@@ -82,17 +84,18 @@ pub struct Observers<'x, G, J> {
 /// What the threads of a service share.
 #[derive_where(Clone, Copy)]
 pub(crate) struct Service<'x, R, L: Ledger, G, J> {
-    rt: &'x R,
-    alloc: Global,
+    pub(crate) rt: &'x R,
+    pub(crate) alloc: Global,
     door: &'x Door<'x>,
+    lobby: Option<&'x Lobby<'x>>,
     table: &'x Table,
     numbers: &'x Mutex<Numbers>,
     receipts: &'x Mutex<Receipts>,
     pool: &'x Pool<L>,
     start: &'x Start,
-    terms: Terms,
+    pub(crate) terms: Terms,
     gate: &'x G,
-    journal: &'x J,
+    pub(crate) journal: &'x J,
 }
 
 impl<
@@ -102,14 +105,17 @@ impl<
     G: Gate + Sync,
     J: Journal + Sync,
 > Service<'x, R, L, G, J> {
-    // No further number is given out, and who waits for a connection waits no longer.
-    fn end(&self, fault: Fault) {
+    /// No further number is given out, and who waits for a connection waits no longer.
+    pub(crate) fn end(&self, fault: Fault) {
         self.numbers.lock(self.rt).end(fault);
         self.door.close();
+        if let Some(lobby) = self.lobby {
+            lobby.close();
+        }
     }
 
-    // Whether a fault ended the numbers.
-    fn has_ended(&self) -> bool {
+    /// Whether a fault ended the numbers.
+    pub(crate) fn has_ended(&self) -> bool {
         self.numbers.lock(self.rt).fault.is_some()
     }
 
@@ -139,11 +145,8 @@ impl<
         (served, missed.or(overheard.writer.missed()))
     }
 
-    fn serve(
-        &self,
-        reader: &mut Device<Reader<'_, R>>,
-        writer: &mut Device<BufWriter<Overheard<'_, Writer<'_, R>, R, J>>>,
-    ) -> Served {
+    /// The lines of one connection, served by the session of the user whom the first one names.
+    pub(crate) fn serve<S: Source, W: Sink>(&self, reader: &mut S, writer: &mut W) -> Served {
         let helpers = Told {
             helpers: self.pool.by(self.rt),
             journal: self.journal,
@@ -154,7 +157,7 @@ impl<
         )
     }
 
-    // Serves a connection, and tells the journal when it begins and ends. What the user's session was told is taken in.
+    // Serves a connection, and tells the journal when it begins and ends.
     fn attend_told(&self, caller: Caller, stream: &TcpStream) {
         self.journal.begun(caller);
         let since = Instant::now(self.rt).ok();
@@ -164,13 +167,24 @@ impl<
         if was_turned_away(&served) {
             let _ = hear_out(self.rt, stream).is_ok();
         }
+        self.settle(caller, since, &served, missed);
+    }
+
+    /// Tells the journal of a connection that has ended, and takes in what the user's session was told.
+    pub(crate) fn settle(
+        &self,
+        caller: Caller,
+        since: Option<Instant>,
+        served: &Served,
+        missed: Option<Missed>,
+    ) {
         let took = match since {
             Some(since) => since.elapsed(self.rt).ok(),
             None => None,
         };
         let visit = Visit {
             took,
-            ..self.visit(&served, missed)
+            ..self.visit(served, missed)
         };
         self.journal.ended(caller, &visit);
         if let Some(receipt) = served.receipt {
@@ -213,11 +227,24 @@ impl<
         }
     }
 
-    // Serves connections, once all threads are there, until no number is left.
+    // Serves connections or browsers, once all threads are there.
     fn work(&self) {
         let room = room_of_one(self.alloc);
         self.start.wait(self.rt, room.is_ok());
         drop(room);
+        let lines = self.terms.threads;
+        match self.lobby {
+            Some(lobby) if lobby.has_next(lines) => self.receive_all(lobby),
+            Some(lobby) => {
+                self.attend_all();
+                lobby.leave(lines);
+            }
+            None => self.attend_all(),
+        }
+    }
+
+    // Serves connections until no number is left.
+    fn attend_all(&self) {
         for _ in self.rt.forever() {
             let Some(number) = self.numbers.lock(self.rt).next() else {
                 break;
@@ -239,7 +266,7 @@ impl<
     // Has so many threads begin, if they are all that were wanted and all are ready; else the service has ended.
     fn open(&self, made: usize) {
         let are_ready = self.start.are_ready(self.rt, made);
-        if made < self.terms.threads || !are_ready {
+        if made < self.threads() || !are_ready {
             self.end(Fault::Memory);
         } else if !self.journal.opened() {
             self.end(Fault::Socket);
@@ -247,11 +274,19 @@ impl<
         self.start.begin(made);
     }
 
+    // How many threads are wanted.
+    fn threads(&self) -> usize {
+        match self.lobby {
+            Some(lobby) => self.terms.threads.saturating_add(lobby.threads()),
+            None => self.terms.threads,
+        }
+    }
+
     // Runs the threads that serve, and joins them.
     fn run_all(&self) {
         let work = |it: &Service<R, L, G, J>| it.work();
         let lead = |it: &Service<R, L, G, J>, made: usize| it.open(made);
-        run_crowd(self.rt, self, self.terms.threads, &work, &lead);
+        run_crowd(self.rt, self, self.threads(), &work, &lead);
     }
 }
 
@@ -267,12 +302,20 @@ fn room_of_one(alloc: Global) -> Result<(Vec<u8>, Vec<u8>), AllocError> {
     Ok((line, answer))
 }
 
-// Where a service is kept.
+/// Where a service is kept.
 #[derive_where(Clone, Copy)]
-struct Site<'x, R> {
-    rt: &'x R,
-    alloc: Global,
-    listener: &'x TcpListener,
+pub struct Site<'x, R> {
+    pub rt: &'x R,
+    pub alloc: Global,
+    pub listener: &'x TcpListener,
+}
+
+// Where browsers are received, where there is a page for them.
+fn lobby_of(page: Option<Page<'_>>) -> io::Result<Option<Lobby<'_>>> {
+    match page {
+        Some(page) => Ok(Some(Lobby::new(page)?)),
+        None => Ok(None),
+    }
 }
 
 // The service over a pool of its own.
@@ -283,6 +326,7 @@ fn serve_in<
     J: Journal + Sync,
 >(
     site: Site<'_, R>,
+    page: Option<Page<'_>>,
     table: Table,
     terms: Terms,
     observers: Observers<'_, G, J>,
@@ -299,6 +343,9 @@ fn serve_in<
     let Ok(door) = Door::new(listener) else {
         return Err(ServeFault::Socket);
     };
+    let Ok(lobby) = lobby_of(page) else {
+        return Err(ServeFault::Socket);
+    };
     let start = Start::new();
     let Ok(receipts) = Receipts::new(alloc) else {
         return Err(ServeFault::Memory);
@@ -310,6 +357,7 @@ fn serve_in<
         rt,
         alloc,
         door: &door,
+        lobby: lobby.as_ref(),
         table: &table,
         numbers: &numbers,
         receipts: &receipts,
@@ -376,11 +424,26 @@ pub fn serve_through<R: Threads + Wait + Clock + Sync, G: Gate + Sync, J: Journa
 ) -> Result<Closed, ServeFault>
     ensures { IfOk result (λ c. IsClosed table.roster c.house c.lines) }
 {
-    let blank = Blank::new(u64::from(terms.workers));
     let site = Site {
         rt,
         alloc,
         listener,
     };
-    serve_in::<Brand, R, G, J>(site, table, terms, observers, blank)
+    serve_at(site, None, table, terms, observers)
+}
+
+/// The same, and beside that serves browsers where there is a page for them: each file of it, and users over
+/// WebSockets. These come on top of the connections that the terms count; once those have ended no browser is let in
+/// any more, and the service ends with the last that was.
+pub fn serve_at<R: Threads + Wait + Clock + Sync, G: Gate + Sync, J: Journal + Sync>(
+    site: Site<'_, R>,
+    page: Option<Page<'_>>,
+    table: Table,
+    terms: Terms,
+    observers: Observers<'_, G, J>,
+) -> Result<Closed, ServeFault>
+    ensures { IfOk result (λ c. IsClosed table.roster c.house c.lines) }
+{
+    let blank = Blank::new(u64::from(terms.workers));
+    serve_in::<Brand, R, G, J>(site, page, table, terms, observers, blank)
 }

@@ -5,20 +5,11 @@ ghost use Rattle.std.specs.Io.{ReadsAtMost, WritesAtMost};
 use crate::opening::Opening;
 use nesl_service_journal::journal::Missed;
 use nesl_service_journal::watch::Watch;
+pub use nesl_web::lines::Patience;
 use std::io;
 use std::io::{ErrorKind, Read, Write};
 use std::net::{Shutdown, TcpStream};
 use std::time::{Clock, Duration, Instant};
-
-/// How long a connection is waited for.
-#[derive(Clone, Copy, PartialEq, Eq, Debug)]
-pub struct Patience {
-    /// Until its first line has come whole.
-    pub first_line: Duration,
-    /// Until each line after that has come whole, and until each piece of an answer is taken; without bound where there
-    /// is none.
-    pub idle: Option<Duration>,
-}
 
 /// The bytes of a piece of an answer, which has a time of its own.
 const PIECE_BYTES: usize = 16_384;

@@ -3,7 +3,6 @@
 use crate::answer::{Refusal, file_head, refused, upgrade};
 use crate::files::File;
 use crate::head::{HeadFault, read_head};
-use crate::messages::Messages;
 use crate::route::{Route, route_for};
 use crate::wire::Wire;
 use std::alloc::Global;
@@ -17,11 +16,11 @@ const HEAD_SECONDS: u64 = 10;
 
 /// What became of a connection.
 #[derive(Drop)]
-pub enum Greeted<'s, R> {
+pub enum Greeted {
     /// It asked for a file of the page or was refused, was answered with this status, and has ended.
     Answered(u16),
-    /// It is a WebSocket.
-    Session(Messages<'s, R>),
+    /// It is a WebSocket, and these bytes came behind its head.
+    Session(Vec<u8>),
 }
 
 /// Reads what a browser asks for, and answers it. The names of the host that were `given` are let in beside those by
@@ -32,7 +31,7 @@ pub fn greet<'s, R: Clock>(
     stream: &'s TcpStream,
     given: &[&[u8]],
     idle: Option<Duration>,
-) -> io::Result<Greeted<'s, R>> {
+) -> io::Result<Greeted> {
     let time = Some(Duration::from_secs(HEAD_SECONDS));
     let mut wire = Wire::new(rt, stream, time);
     wire.wait(time)?;
@@ -56,11 +55,7 @@ fn lost() -> io::Error {
 }
 
 // Sends a file of the page, and ends.
-fn page<'s, R: Clock>(
-    alloc: Global,
-    mut wire: Wire<'s, R>,
-    file: File,
-) -> io::Result<Greeted<'s, R>> {
+fn page<R: Clock>(alloc: Global, mut wire: Wire<'_, R>, file: File) -> io::Result<Greeted> {
     let Ok(head) = file_head(alloc, file) else {
         return Err(lost());
     };
@@ -71,11 +66,7 @@ fn page<'s, R: Clock>(
 }
 
 // Says why a request is refused, and ends.
-fn refuse<'s, R: Clock>(
-    alloc: Global,
-    mut wire: Wire<'s, R>,
-    refusal: Refusal,
-) -> io::Result<Greeted<'s, R>> {
+fn refuse<R: Clock>(alloc: Global, mut wire: Wire<'_, R>, refusal: Refusal) -> io::Result<Greeted> {
     let Ok(answer) = refused(alloc, refusal) else {
         return Err(lost());
     };
@@ -85,17 +76,17 @@ fn refuse<'s, R: Clock>(
 }
 
 // Accepts a WebSocket whose head ends at this place.
-fn session<'s, R: Clock>(
+fn session<R: Clock>(
     alloc: Global,
-    mut wire: Wire<'s, R>,
+    mut wire: Wire<'_, R>,
     key: &[u8; 28],
     bytes: Vec<u8>,
     end: usize,
-) -> io::Result<Greeted<'s, R>> {
+) -> io::Result<Greeted> {
     let Ok(answer) = upgrade(alloc, key) else {
         return Err(lost());
     };
     let first = Vec::from_slice(alloc, bytes.get(end..).unwrap_or(&[]))?;
     wire.write_all(answer.as_slice())?;
-    Ok(Greeted::Session(Messages::new(alloc, wire, first)))
+    Ok(Greeted::Session(first))
 }

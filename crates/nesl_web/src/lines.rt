@@ -1,9 +1,10 @@
 //! Lines and answers, a message for each.
 
-use crate::messages::Messages;
+use crate::messages::{Incoming, Outgoing};
 use crate::rest::Rest;
 use std::alloc::Global;
 use std::io::{ErrorKind, Read, Write};
+use std::net::TcpStream;
 use std::time::{Clock, Duration};
 use std::{io, mem};
 
@@ -16,10 +17,10 @@ pub struct Patience {
     pub idle: Option<Duration>,
 }
 
-/// The lines of a connection, as bytes to read: each message is one, and its line end is put behind it.
+/// The lines of a WebSocket, as bytes to read: each message is one, and its line end is put behind it.
 #[derive(Drop)]
-pub struct Ears<'m, 's, R> {
-    messages: &'m Messages<'s, R>,
+pub struct Ears<'s, R> {
+    messages: Incoming<'s, R>,
     alloc: Global,
     patience: Patience,
     is_first: bool,
@@ -29,21 +30,36 @@ pub struct Ears<'m, 's, R> {
     rest: Rest,
 }
 
-impl<'m, 's, R: Clock> Ears<'m, 's, R> {
-    /// Nothing was read yet.
+impl<'s, R: Clock> Ears<'s, R> {
+    /// Those of a connection whose first bytes have come.
     pub fn new(
+        rt: &'s R,
         alloc: Global,
-        messages: &'m Messages<'s, R>,
+        stream: &'s TcpStream,
+        first: Vec<u8>,
         patience: Patience,
-    ) -> Ears<'m, 's, R> {
+    ) -> Ears<'s, R> {
         Ears {
-            messages,
+            messages: Incoming::new(rt, alloc, stream, first, patience.idle),
             alloc,
             patience,
             is_first: true,
             is_late: false,
             rest: Rest::new(alloc),
         }
+    }
+
+    /// Ends the connection.
+    pub fn end(self) {
+        let Ears {
+            messages,
+            alloc: _,
+            patience: _,
+            is_first: _,
+            is_late: _,
+            rest: _,
+        } = self;
+        messages.end();
     }
 
     /// Whether no line has come yet.
@@ -67,7 +83,8 @@ impl<'m, 's, R: Clock> Ears<'m, 's, R> {
 
     // Waits for a line. False where no more comes.
     fn hear(&mut self) -> io::Result<bool> {
-        match self.messages.next(self.allowed()) {
+        let allowed = self.allowed();
+        match self.messages.next(allowed) {
             Ok(Some(line)) => {
                 self.is_first = false;
                 self.rest = Rest::of(self.alloc, line.as_str().as_bytes())?;
@@ -82,7 +99,7 @@ impl<'m, 's, R: Clock> Ears<'m, 's, R> {
     }
 }
 
-impl<R: Clock> Read for Ears<'_, '_, R> {
+impl<R: Clock> Read for Ears<'_, R> {
     fn read(&mut self, buf: &mut [u8]) -> io::Result<usize> {
         if self.rest.is_empty() && !self.hear()? {
             return Ok(0);
@@ -91,21 +108,26 @@ impl<R: Clock> Read for Ears<'_, '_, R> {
     }
 }
 
-/// The answers of a connection: what is written until a flush is one message, without its line end.
+/// The answers on a WebSocket: what is written until a flush is one message, without its line end.
 #[derive(Drop)]
-pub struct Mouth<'m, 's, R> {
-    messages: &'m Messages<'s, R>,
+pub struct Mouth<'s, R> {
+    messages: Outgoing<'s, R>,
     alloc: Global,
     text: Vec<u8>,
     /// Whether an answer wasn't taken in time.
     is_late: bool,
 }
 
-impl<'m, 's, R: Clock> Mouth<'m, 's, R> {
+impl<'s, R: Clock> Mouth<'s, R> {
     /// Nothing was written yet.
-    pub fn new(alloc: Global, messages: &'m Messages<'s, R>) -> Mouth<'m, 's, R> {
+    pub fn new(
+        rt: &'s R,
+        alloc: Global,
+        stream: &'s TcpStream,
+        patience: Patience,
+    ) -> Mouth<'s, R> {
         Mouth {
-            messages,
+            messages: Outgoing::new(rt, alloc, stream, patience.idle),
             alloc,
             text: Vec::new(alloc),
             is_late: false,
@@ -129,7 +151,7 @@ impl<'m, 's, R: Clock> Mouth<'m, 's, R> {
     }
 }
 
-impl<R: Clock> Write for Mouth<'_, '_, R> {
+impl<R: Clock> Write for Mouth<'_, R> {
     fn write(&mut self, buf: &[u8]) -> io::Result<usize> {
         self.text.extend_from_slice(buf)?;
         Ok(buf.len())

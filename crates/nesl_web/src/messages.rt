@@ -4,9 +4,9 @@ ghost use Rattle.nesl_web.specs.Messages.{IfLine};
 
 use crate::wire::Wire;
 use std::alloc::Global;
-use std::cell::{Cell, RefCell};
 use std::io;
 use std::io::ErrorKind;
+use std::net::TcpStream;
 use std::time::{Clock, Duration};
 use tungstenite::{
     CloseCode, CloseFrame, Error, Message, NoMask, Role, Utf8Bytes, WebSocket, WebSocketConfig,
@@ -52,22 +52,28 @@ impl Heard {
     }
 }
 
-/// A WebSocket whose lines are read and whose answers are written in turn.
+/// The messages that come in on a WebSocket.
 #[derive(Drop)]
-pub struct Messages<'s, R> {
-    alloc: Global,
-    socket: RefCell<WebSocket<Wire<'s, R>, NoMask>>,
-    /// Whether an answer could not be sent whole.
-    is_broken: Cell<bool>,
+pub struct Incoming<'s, R> {
+    rt: &'s R,
+    socket: WebSocket<Wire<'s, R>, NoMask>,
 }
 
-impl<'s, R: Clock> Messages<'s, R> {
-    /// The messages of a connection whose first bytes have come.
-    pub fn new(alloc: Global, wire: Wire<'s, R>, first: Vec<u8>) -> Messages<'s, R> {
+impl<'s, R: Clock> Incoming<'s, R> {
+    /// Those of a connection whose first bytes have come. What is asked for besides, as by a ping, is answered, and a
+    /// piece of that may take as long as `idle`.
+    pub fn new(
+        rt: &'s R,
+        alloc: Global,
+        stream: &'s TcpStream,
+        first: Vec<u8>,
+        idle: Option<Duration>,
+    ) -> Incoming<'s, R> {
         let config = WebSocketConfig::default()
             .read_buffer_size(READ_BYTES)
             .max_message_size(Some(MOST_BYTES))
             .max_frame_size(Some(MOST_BYTES));
+        let wire = Wire::new(rt, stream, idle);
         let socket = WebSocket::from_partially_read(
             alloc,
             wire,
@@ -76,26 +82,19 @@ impl<'s, R: Clock> Messages<'s, R> {
             Role::Server,
             Some(config),
         );
-        Messages {
-            alloc,
-            socket: RefCell::new(socket),
-            is_broken: Cell::new(false),
-        }
+        Incoming { rt, socket }
     }
 
     /// The next line, which may take so long; none after the peer's farewell. What can't be a line ends the connection.
-    pub fn next(&self, time: Option<Duration>) -> io::Result<Option<Utf8Bytes>> {
-        let Ok(mut socket) = self.socket.try_borrow_mut() else {
-            return Err(lost());
-        };
-        socket.get_mut().wait(time)?;
+    pub fn next(&mut self, time: Option<Duration>) -> io::Result<Option<Utf8Bytes>> {
+        self.socket.get_mut().wait(time)?;
         for _ in 0..u64::MAX {
-            match Heard::of(socket.read()) {
+            match Heard::of(self.socket.read()) {
                 Heard::Line(line) => return Ok(Some(line)),
                 Heard::Aside => {}
                 Heard::Farewell => return Ok(None),
                 Heard::Unfit(code) => {
-                    let _ = socket.close(Some(farewell(code))).is_ok();
+                    let _ = self.socket.close(Some(farewell(code))).is_ok();
                     return Err(lost());
                 }
                 Heard::Lost(error) => return Err(error),
@@ -104,38 +103,45 @@ impl<'s, R: Clock> Messages<'s, R> {
         Err(lost())
     }
 
-    /// Sends one message.
-    pub fn tell(&self, text: String) -> io::Result<()> {
-        let Ok(text) = Utf8Bytes::from_string(text) else {
-            return Err(lost());
-        };
-        let Ok(mut socket) = self.socket.try_borrow_mut() else {
-            return Err(lost());
-        };
-        match socket.send(Message::Text(text)) {
-            Ok(()) => Ok(()),
-            Err(error) => {
-                self.is_broken.set(true);
-                Err(failure_of(error))
-            }
-        }
-    }
-
     /// Ends the connection: says so, if that wasn't said, and hears the peer out.
     pub fn end(self) {
-        let Messages {
-            alloc: _,
-            socket,
-            is_broken,
-        } = self;
-        let mut socket = socket.into_inner();
-        if is_broken.get() {
-            return;
-        }
+        let Incoming { rt: _, mut socket } = self;
         if socket.can_write() {
             let _ = socket.close(Some(farewell(CloseCode::Normal))).is_ok();
         }
         let _ = socket.get_mut().hear_out().is_ok();
+    }
+}
+
+/// The messages that go out on a WebSocket, which `Incoming` reads.
+#[derive(Drop)]
+pub struct Outgoing<'s, R> {
+    rt: &'s R,
+    socket: WebSocket<Wire<'s, R>, NoMask>,
+}
+
+impl<'s, R: Clock> Outgoing<'s, R> {
+    /// Those of a connection that has begun. A piece of one may take as long as `idle`.
+    pub fn new(
+        rt: &'s R,
+        alloc: Global,
+        stream: &'s TcpStream,
+        idle: Option<Duration>,
+    ) -> Outgoing<'s, R> {
+        let wire = Wire::new(rt, stream, idle);
+        let socket = WebSocket::from_raw_socket(alloc, wire, NoMask, Role::Server, None);
+        Outgoing { rt, socket }
+    }
+
+    /// Sends one message.
+    pub fn tell(&mut self, text: String) -> io::Result<()> {
+        let Ok(text) = Utf8Bytes::from_string(text) else {
+            return Err(lost());
+        };
+        match self.socket.send(Message::Text(text)) {
+            Ok(()) => Ok(()),
+            Err(error) => Err(failure_of(error)),
+        }
     }
 }
 

@@ -24,7 +24,7 @@ pub struct Wire<'s, R> {
     until: Option<Instant>,
     /// Until when the rest of a piece may take of which not all was taken yet.
     piece_until: Option<Instant>,
-    /// Whether the socket's reads are bounded in time.
+    /// Whether the socket's reads may be bounded in time.
     is_timed: bool,
 }
 
@@ -36,7 +36,7 @@ impl<'s, R: Clock> Wire<'s, R> {
             idle,
             until: None,
             piece_until: None,
-            is_timed: false,
+            is_timed: true,
         }
     }
 

@@ -1,0 +1,152 @@
+"""The page's port of the program, as scripts/test tries it."""
+import contextlib
+import io
+import random
+import socket
+import time
+
+from lib import ONE, PATIENCE, TOP, Process, Service, demand, loaded, names, seated, short, sockets_end
+from web import BINARY, TEXT, WebClient, asked, page_port, request, upgrade
+
+PAGE = TOP / "crates" / "nesl_web" / "page"
+HEADERS = {"content-security-policy": "default-src 'none'; script-src 'self'; style-src 'self'; connect-src 'self'; "
+                                      "base-uri 'none'; form-action 'none'; frame-ancestors 'none'",
+           "x-content-type-options": "nosniff", "cache-control": "no-store", "referrer-policy": "no-referrer"}
+LOAD = loaded("stress/load_service")
+PAGES = {}
+
+
+def check(name):
+    def add(function):
+        PAGES[name] = function
+        return function
+    return add
+
+
+def same(what, mine, wanted):
+    demand(mine == wanted, f"{what}: expected {short(repr(wanted))}, and there came {short(repr(mine))}")
+
+
+@contextlib.contextmanager
+def shown(program, *words, **how):
+    """A service with a page, and the page's port."""
+    with Service(program, "--web", "0", *words, **how) as service:
+        yield service, page_port(service)
+
+
+@check("files and who may have them")
+def files_and_guests(program):
+    """Each file as it stands in the repository, to whom asks for it by a name of this machine, from no other page."""
+    evil, name = "http://evil.example", "nesl.example"
+    with shown(program, "--web-host", name) as (_, port):
+        here = f"127.0.0.1:{port}"
+        cases = [(request("/", host=f"{name}:80"), 200), (request("/index.html", host="[::1]"), 200),
+                 (request("/style.css?x", host="LOCALHOST"), 200), (request("/nothing"), 404),
+                 (request("/../src/lib.rt"), 404), (request("/", "POST"), 405), (request("/", "HEAD"), 405),
+                 (request("/", host="localhost.evil.example"), 403), (request("/", host=""), 403),
+                 (request("/", host=here, Origin=evil), 403), (request("/", host=here, Origin=f"http://{here}"), 200),
+                 (request("/", host=here, Origin=f"http://127.0.0.1:{port + 1}"), 403),
+                 (request("/", host=here, Origin="null"), 403), (upgrade(host=here, Origin=evil), 403),
+                 (request("/session", host=here), 400), ("GET / HTTP/1.1\r\n\r\n", 403), ("user ann\r\n\r\n", 400),
+                 (request("/", x="a" * 9000), 431), (request("/", **{f"x{place}": "" for place in range(70)}), 431)]
+        for text, wanted in cases:
+            status, headers, _ = asked(port, text)
+            same(f"the status of {short(text)}", status, wanted)
+            same(f"the headers of {short(text)}", {name: headers.get(name) for name in HEADERS}, HEADERS)
+        for file in sorted(PAGE.iterdir()):
+            if file.suffix != ".md":
+                status, headers, data = asked(port, request(f"/{file.name}"))
+                same(file.name, (status, int(headers["content-length"])), (200, file.stat().st_size))
+                demand(data == file.read_bytes(), f"{file.name} isn't the file of the repository")
+    return f"{len(cases)} requests"
+
+
+@check("a conversation over a WebSocket")
+def conversation(program):
+    """Lines, parts and a reset are answered as over a socket. What is no line ends the connection, and frees the seat.
+    """
+    line = "a" * 65537
+    with shown(program, users=["ann", "bob"]) as (service, port):
+        with WebClient(port, "ann") as ann, WebClient(port, "bob") as bob:
+            ann.must("x = 2 * 3 + 1;", "x = 7 : int (work 5, depth 5)")
+            ann.must("{a * a :\\", "more")
+            ann.must(" a in [1, 2]};", "it = [1, 4] : [int] (work 12, depth 7)")
+            bob.must("x;", "fault unknown at 0..1 (work 0)")
+            ann.must(line, "fault long (work 0)")
+            ann.must(":reset", "reset: lines 3")
+            ann.must("x = 3;", "x = 3 : int (work 1, depth 1)")
+            for other in (service.client(), WebClient(port)):
+                other.must("user ann", "fault busy")
+                other.leave()
+            with WebClient(port) as stranger:
+                stranger.must("user zed", "fault user")
+                stranger.is_ended(1000)
+            bob.leave()
+            ann.leave()
+        for kind, data, code in ((BINARY, b"x;", 1003), (TEXT, b"1;\n2;", 1003), (TEXT, b"\xff", 1007),
+                                 (TEXT, line.encode() + b"a", 1009)):
+            client = WebClient(port, "ann")
+            client.say(kind, data)
+            client.is_ended(code)
+        WebClient(port, "ann").reset()
+        client, _ = seated(service, "ann", PATIENCE)
+        client.must("x;", "it = 3 : int (work 1, depth 1)")
+        client.leave()
+
+
+@check("browsers that say nothing")
+def mute_browsers(program):
+    """A head has ten seconds, and as many that don't come as there are threads keep nobody waiting for longer. A user
+    over a WebSocket has the times of --first-line and --idle."""
+    with shown(program, "--first-line", "1", "--idle", "2") as (service, port):
+        mute = [socket.create_connection(("127.0.0.1", port)) for _ in range(5)]
+        begun = time.monotonic()
+        with WebClient(port, "ann") as client:
+            waited = time.monotonic() - begun
+            client.must(*ONE)
+            rest, took = sockets_end(client)
+            demand(rest == "" and 1 < took < 10, f"who says no other line is told {short(rest)} after {took:.1f} s")
+        demand(9 < waited < 15, f"behind five who say nothing a user waited {waited:.1f} s")
+        for line in mute:
+            demand(line.recv(100).startswith(b"HTTP/1.1 408 "), "who is slow isn't told so")
+            line.close()
+        with WebClient(port) as client:
+            rest, took = sockets_end(client)
+            demand(rest == "" and took < 8, f"who says no first line is told {short(rest)} after {took:.1f} s")
+        service.must_live()
+    return f"a user waited {waited:.1f} s"
+
+
+@check("users on sockets and on WebSockets")
+def both_ways(program):
+    """32 over each, of one service at the same time, and then the other way round: each is told what is told alone."""
+    rng, said = random.Random(3), []
+    for user in names(64):
+        lines = LOAD.texts_of(rng, 10)
+        said.append((user, lines, LOAD.alone(program, user, lines)))
+    with contextlib.redirect_stdout(io.StringIO()) as told:
+        demand(not LOAD.told_both_ways(program, said, []), told.getvalue())
+    return "2 times 64 users"
+
+
+@check("the log and the ports of a page")
+def log_and_ports(program):
+    """Connections over WebSockets are told of as others are; a port that is taken is told as such."""
+    with shown(program, "--log", "--connections", "1", may_end=True) as (service, port):
+        with WebClient(port, "ann") as client:
+            client.must(*ONE)
+            client.leave()
+        asked(port, request("/"))
+        with service.client("ann") as client:
+            client.leave()
+        same("its end", service.ended(), (0, "served 1 connections, 1 lines"))
+        rows = [line.split(" ", 1)[1].split(" port ") for line in service.complaint().split("\n")]
+    for who, lines in (("connection web 1", 2), ("connection 1", 1)):
+        told = [rest.split(" ", 1)[1].rsplit(",", 1)[0] for front, rest in rows if front == who]
+        same(f"the log of {who}", told, ["began", "seated ann", f"ended: ann, {lines} lines, end of input"])
+    same("lines of the log", len(rows), 6)
+    with socket.create_server(("127.0.0.1", 0)) as taken:
+        port = taken.getsockname()[1]
+        with Process(program, "--web", str(port)) as process:
+            same("its status where the port is taken", process.ended()[0], 1)
+            same("what it says", process.complaint(), f"serve: socket fault\nport {port} is taken")
