@@ -1,5 +1,6 @@
 -- What is said at a prompt, line by line.
-use Rattle.std.proofs.Common.{◌≡◌, ◌≢◌, ℕ, ◌<◌, ◌==◌, length, arith, List, [], ◌∷◌, ◌++◌, Bool, true, false, not, ◌&&◌, Option, refl, sym, ap, ◌∙◌, subst}
+use Rattle.std.proofs.Common.{◌≡◌, ◌≢◌, ℕ, ◌<◌, ◌==◌, length, arith, List, [], ◌∷◌, ◌++◌, Bool, true, false, not, ◌&&◌, cond, Option, None, refl, append-nil, sym, ap, ◌∙◌, subst}
+use Rattle.std.specs.Prelude.{codes}
 use Rattle.std.proofs.lemmas.Bool.{eqb-true}
 use Rattle.nesl_session_step.specs.State.{Log}
 use Rattle.nesl_session_step.specs.Response.{Reply}
@@ -8,7 +9,8 @@ use Rattle.nesl_line.specs.declared.exchange.End.{End}
 use Rattle.nesl_line.specs.Exchange.{Hearing, IsExchange}
 use Rattle.nesl_prompt.specs.declared.style.Style.{Style}
 use Rattle.nesl_prompt.specs.Points.{Point, Said, Says, Spoke, Obeyed, joined, is_plain}
-use Rattle.nesl_prompt.specs.Conversation.{IsTold, Takes, gathers, says, wants, Turn, own, waits, takes, Conversed, Rests}
+use Rattle.nesl_reply.specs.declared.fault.Fault.{Fault}
+use Rattle.nesl_prompt.specs.Conversation.{IsSign, missing, begins, goes_on, IsBelow, IsTold, Takes, gathers, says, wants, Turn, own, waits, takes, Conversed, Rests}
 
 pub says_then : (a b c : Log) (xs ys : List Said) → Says a xs b → Says b ys c → Says a (xs ++ ys) c
 says_then a b c [] ys p q = let P : Log → Type 0 = λ x. Says x ys c in subst P p q
@@ -49,7 +51,18 @@ conversed_more plain point mid last (l ∷ ls) (s ∷ ss) line text c t = (c.0, 
 
 -- what is told where all may be told is told where less may be
 pub told_plainly : (a b : Bool) (reply : Reply) (text : List ℕ) → (a ≡ true → b ≡ true) → IsTold b reply text → IsTold a reply text
-told_plainly a b reply text h t = record { more = t.more; spelled = t.spelled; alone = λ e. t.alone (h e) }
+told_plainly a b reply text h t = record {
+  more = t.more;
+  spelled = t.spelled;
+  below = record {
+    hint = t.below.hint;
+    sign = t.below.sign;
+    spelled = t.below.spelled;
+    on_faults = t.below.on_faults;
+    prompted = t.below.prompted;
+    alone = λ e. t.below.alone (h e);
+  };
+}
 
 no_hints : (p h : Bool) → (not p && not h) ≡ true → (p ≡ false) × (h ≡ false)
 no_hints true h e = absurd (cc)
@@ -62,6 +75,32 @@ plain_parts style e = no_hints style.prompts style.hints e
 
 pub plain_of : (style : Style) → style.prompts ≡ false → style.hints ≡ false → is_plain style ≡ true
 plain_of style p h = ap (λ x. not x && not style.hints) p ∙ ap (λ x. not false && not x) h
+
+-- a hint, where one is wanted and there is a fault, and a prompt
+pub below_of : (style : Style) (fault : Option Fault) (hint more sign : List ℕ) → (style.hints ≡ false → hint ≡ []) → (fault ≡ None → hint ≡ []) → (style.prompts ≡ false → more ≡ hint) → IsSign sign → more ≡ hint ++ sign → IsBelow (is_plain style) fault more
+below_of style fault hint more sign w f u p e = record {
+  hint = hint;
+  sign = sign;
+  spelled = e;
+  on_faults = f;
+  prompted = p;
+  alone = λ t. let parts = plain_parts style t in u parts.0 ∙ w parts.1;
+}
+
+-- the same behind nothing
+pub below_none : (style : Style) (fault : Option Fault) (text more sign : List ℕ) → text ≡ [] → (style.prompts ≡ false → more ≡ text) → IsSign sign → more ≡ text ++ sign → IsBelow (is_plain style) fault more
+below_none style fault text more sign n u p e = below_of style fault text more sign (λ _. n) (λ _. n) u p e
+
+is_sign : (is_open : Bool) → IsSign (cond is_open (codes ". ") (codes "> "))
+is_sign true = goes_on refl
+is_sign false = begins refl
+
+-- a text with a prompt behind it, and one without
+pub signed : (text more sign : List ℕ) (is_open : Bool) → sign ≡ cond is_open (codes ". ") (codes "> ") → more ≡ text ++ sign → (s : List ℕ) × IsSign s × (more ≡ text ++ s)
+signed text more sign is_open e m = let P : List ℕ → Type 0 = IsSign in (sign, subst P (sym e) (is_sign is_open), m)
+
+pub unsigned : (text more : List ℕ) → more ≡ text → (s : List ℕ) × IsSign s × (more ≡ text ++ s)
+unsigned text more e = ([], missing refl, e ∙ sym (append-nil text))
 
 -- the first line of a form, and one behind others
 pub joined_first : (form line : List ℕ) → form ≡ [] → joined form line ≡ line

@@ -22,7 +22,7 @@ one_said : (log log' : Log) (line text : List ℕ) (reply : Reply) → Responds 
 one_said log log' line text reply r t = record {
   said = record { line = line; reply = reply } ∷ [];
   says = (log', r, refl);
-  replies = t.spelled ∙ ap (λ m. reply.bytes ++ m) (t.alone refl);
+  replies = t.spelled ∙ ap (λ m. reply.bytes ++ m) (t.below.alone refl);
 }
 
 takes_session : (point point' : Point) (line text : List ℕ) → Takes true point line text point' → IsTheSessions point.log text point'.log

@@ -1,6 +1,8 @@
 -- What is told at a prompt.
-use Rattle.std.specs.Prelude.{◌≡◌, ◌≢◌, ℕ, ◌≤◌, length, List, [], ◌∷◌, ◌++◌, Option, Bool, true, false, if◌then◌else◌}
+use Rattle.std.specs.Prelude.{◌≡◌, ◌≢◌, ℕ, ◌≤◌, length, List, [], ◌∷◌, ◌++◌, Option, None, Bool, true, false, codes}
+use Rattle.std.specs.Prelude.{if◌then◌else◌}
 use Rattle.std.specs.Io.KnownBytes.{Appends}
+use Rattle.nesl_reply.specs.declared.fault.Fault.{Fault}
 use Rattle.nesl_session_step.specs.State.{Log}
 use Rattle.nesl_session_step.specs.Step.{longest}
 use Rattle.nesl_session_step.specs.Response.{Reply, no_memory}
@@ -12,11 +14,26 @@ use Rattle.nesl_line.specs.Steps.{Sent}
 use Rattle.nesl_prompt.specs.Points.{Point, Obeyed, joined}
 use Rattle.nesl_prompt.specs.Words.{IsBlank, is_own, is_part, says_lines}
 
--- This is told where this is the reply: where it is plain, the reply alone.
+-- a prompt, where no form goes on and where one does; or none
+pub data IsSign (sign : List ℕ) : Type 0 where
+  missing : sign ≡ [] → IsSign sign
+  begins : sign ≡ codes "> " → IsSign sign
+  goes_on : sign ≡ codes ". " → IsSign sign
+
+-- what may stand below a reply with this fault: a hint where there is a fault, and a prompt; where it is plain, neither
+pub record IsBelow (plain : Bool) (fault : Option Fault) (more : List ℕ) : Type 0 where
+  pub hint : List ℕ
+  pub sign : List ℕ
+  pub spelled : more ≡ hint ++ sign
+  pub on_faults : fault ≡ None → hint ≡ []
+  pub prompted : IsSign sign
+  pub alone : plain ≡ true → more ≡ []
+
+-- This is told where this is the reply: the reply, and what may stand below it.
 pub record IsTold (plain : Bool) (reply : Reply) (text : List ℕ) : Type 0 where
   pub more : List ℕ
   pub spelled : text ≡ reply.bytes ++ more
-  pub alone : plain ≡ true → more ≡ []
+  pub below : IsBelow plain reply.fault more
 
 -- A form may go on behind this line: the line isn't blank where it isn't the first, it is no part of a form by its last
 -- byte, and the form isn't longer than one may be.

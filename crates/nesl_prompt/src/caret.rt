@@ -1,6 +1,7 @@
 //! A hint below the form that it is on.
 
-use nesl_hints_reading::Hint;
+use crate::wrapped::{put_wrapped, shown};
+use nesl_hints::Hint;
 use nesl_lex::token::Span;
 use std::alloc::AllocError;
 
@@ -10,14 +11,14 @@ const MOST_SHOWN: usize = 74;
 /// How many bytes are shown before the place, where the form is longer.
 const SHOWN_BEFORE: usize = 40;
 
-/// The most columns of a line of a hint.
-const MOST_COLUMNS: usize = 78;
-
 /// What stands before each line.
 const INDENT: &[u8] = b"  ";
 
-/// What stands before the first line of a hint, and how many columns the other lines are indented by.
-const HINT: &[u8] = b"  hint:";
+/// What stands before the first line of a hint.
+const HINT: &[u8] = b"  hint: ";
+
+/// What stands before each other line of a hint.
+const BELOW_HINT: &[u8] = b"        ";
 
 /// Writes the part of the form that has the place of the hint, carets below that place, and the hint.
 pub fn put_hint(out: &mut Vec<u8>, form: &[u8], hint: &Hint) -> Result<(), AllocError> {
@@ -40,15 +41,6 @@ fn first_shown(len: usize, place: usize) -> usize {
     place
         .saturating_sub(SHOWN_BEFORE)
         .min(len.saturating_sub(MOST_SHOWN))
-}
-
-// What a byte is shown as: one that isn't printed, as a question mark.
-fn shown(byte: u8) -> u8 {
-    match byte {
-        32..=126 => byte,
-        b'\t' => b' ',
-        _ => b'?',
-    }
 }
 
 // Writes carets below the place, and dashes below the second one.
@@ -85,27 +77,8 @@ fn end_of(span: Span) -> usize {
     span.end.max(span.start.saturating_add(1))
 }
 
-// Writes the sentence of a hint in lines of at most so many columns, broken at spaces.
+// Writes the sentence of a hint.
 fn put_sentence(out: &mut Vec<u8>, sentence: &[u8]) -> Result<(), AllocError> {
     out.extend_from_slice(HINT)?;
-    out.push(b' ')?;
-    let mut column = HINT.len().saturating_add(1);
-    for (place, byte) in sentence.iter().enumerate() {
-        let len = word_len(sentence, place.saturating_add(1));
-        if *byte == b' ' && column.saturating_add(len) >= MOST_COLUMNS {
-            out.extend_from_slice(b"\n        ")?;
-            column = HINT.len().saturating_add(1);
-        } else {
-            out.push(shown(*byte))?;
-            column = column.saturating_add(1);
-        }
-    }
-    out.push(b'\n')?;
-    Ok(())
-}
-
-// How many bytes stand from this place on before a space.
-fn word_len(sentence: &[u8], place: usize) -> usize {
-    let rest = sentence.get(place..).unwrap_or(&[]);
-    rest.iter().take_while(|byte| **byte != b' ').count()
+    put_wrapped(out, sentence, HINT.len(), BELOW_HINT)
 }

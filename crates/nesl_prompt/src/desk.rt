@@ -1,9 +1,11 @@
 //! Who hears the lines of a prompt.
-ghost use Rattle.std.specs.Prelude.{◌≡◌, ℕ, ◌<◌, ◌≤◌, List, [], false, true, ⊤, IfSome, OnOk, OnErr, length};
+ghost use Rattle.std.specs.Prelude.{◌≡◌, ℕ, ◌<◌, ◌≤◌, ◌++◌, List, Option, [], None, false, true, ⊤, codes, length};
+ghost use Rattle.std.specs.Prelude.{IfSome, OnOk, OnErr, if◌then◌else◌};
+ghost use Rattle.nesl_reply.specs.declared.fault.Fault.{Fault};
 ghost use Rattle.nesl_session_step.specs.Solo.{Responds};
 ghost use Rattle.nesl_session_step.specs.Response.{Reply};
 ghost use Rattle.nesl_line.specs.Told.{text_told};
-ghost use Rattle.nesl_prompt.specs.Conversation.{Conversed, IsTold, Takes, Turn};
+ghost use Rattle.nesl_prompt.specs.Conversation.{Conversed, IsBelow, IsSign, IsTold, Takes, Turn};
 ghost use Rattle.nesl_prompt.specs.Points.{Obeyed, Spoke, is_plain, joined};
 ghost use Rattle.nesl_prompt.specs.Words.{IsBlank, is_part, word_says};
 
@@ -94,7 +96,7 @@ impl<'x, F: Shelf> Desk<'x, F> {
         form: Result<Vec<u8>, AllocError>,
         answer: &Answer,
     ) -> Vec<u8>
-        ensures plain { is_plain style ≡ true → result.items ≡ [] }
+        ensures below { IsBelow (is_plain style) answer.now.fault result.items }
         ensures form { self.new.form ≡ self.old.form }
         ensures style { self.new.style ≡ self.old.style }
     {
@@ -207,7 +209,7 @@ impl<'x, F: Shelf> Desk<'x, F> {
         let mut text = Vec::new(alloc);
         self.kept.put(&mut text)?;
         let saved = match path_of(path) {
-            Some(path) => self.shelf.write(path, text.as_slice()),
+            Some(path) => self.shelf.write(alloc, path, text.as_slice()),
             None => Err(ShelfFault::Absent),
         };
         match saved {
@@ -452,7 +454,8 @@ fn hint_below(
     form: &Result<Vec<u8>, AllocError>,
     answer: &Answer,
 ) -> Vec<u8>
-    ensures { style.hints ≡ false → result.items ≡ [] }
+    ensures wanted { style.hints ≡ false → result.items ≡ [] }
+    ensures faulted { answer.now.fault ≡ None → result.items ≡ [] }
 {
     if !style.hints || answer.fault().is_none() {
         return Vec::new(alloc);
@@ -486,26 +489,33 @@ fn is_pause(session: &Session, line: &[u8]) -> bool
 
 // A prompt, where prompts are wanted.
 fn prompt(alloc: Global, style: Style, is_open: bool) -> Vec<u8>
-    ensures { is_plain style ≡ true → result.items ≡ [] }
+    ensures plain { is_plain style ≡ true → result.items ≡ [] }
+    ensures below { (fault : Option Fault) → IsBelow (is_plain style) fault result.items }
 {
     with_prompt(style, is_open, Vec::new(alloc))
 }
 
 // A text with a prompt behind it, where prompts are wanted.
+#[tactic(auto, using(crate::proofs::Conversations::signed, crate::proofs::Conversations::unsigned))]
 fn with_prompt(style: Style, is_open: bool, text: Vec<u8>) -> Vec<u8>
-    ensures { style.prompts ≡ false → result.items ≡ text.items }
+    ensures unwanted { style.prompts ≡ false → result.items ≡ text.items }
+    ensures prompted { (sign : List ℕ) × IsSign sign × (result.items ≡ text.items ++ sign) }
 {
     if !style.prompts {
         return text;
     }
     let mut text = text;
-    let prompt = if is_open {
-        b". ".as_slice()
-    } else {
-        b"> ".as_slice()
-    };
-    let _ = text.extend_from_slice(prompt).is_ok();
-    text
+    match text.extend_from_slice(sign(is_open)) {
+        Ok(()) => text,
+        Err(_) => text,
+    }
+}
+
+// The prompt where a form goes on, and where none does.
+fn sign(is_open: bool) -> &'static [u8]
+    ensures { result.now ≡ (if is_open then codes ". " else codes "> ") }
+{
+    if is_open { b". " } else { b"> " }
 }
 
 // What is told the first time that a form goes on.

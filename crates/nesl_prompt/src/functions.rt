@@ -1,12 +1,16 @@
 //! What is told of the built-in functions. Their types are those of nesl_builtins.
 
 use crate::rows::{Row, SCALARS, SEQUENCES, builtin_of, row_of};
+use crate::wrapped::{MOST_COLUMNS, put_wrapped};
 use nesl_builtins::{Builtin, scheme};
 use nesl_types::{Context, scheme_text};
 use std::alloc::{AllocError, Global};
 
-/// The most columns of a line of names.
-const MOST_COLUMNS: usize = 78;
+/// What stands before each line below a type.
+const INDENT: &[u8] = b"  ";
+
+/// What stands before each line that goes on.
+const BELOW: &[u8] = b"    ";
 
 /// Tells of the functions of this name or sign, and says whether there are any.
 pub fn put_functions(alloc: Global, out: &mut Vec<u8>, name: &str) -> Result<bool, AllocError> {
@@ -14,13 +18,11 @@ pub fn put_functions(alloc: Global, out: &mut Vec<u8>, name: &str) -> Result<boo
         return Ok(false);
     };
     put_type(alloc, out, name, builtin)?;
-    match row_with(SCALARS, name) {
-        Some(row) => put_row(out, row)?,
-        None => {}
+    if let Some(row) = row_with(SCALARS, name) {
+        put_row(alloc, out, row)?;
     }
-    match row_with(SEQUENCES, name) {
-        Some(row) => put_row(out, row)?,
-        None => {}
+    if let Some(row) = row_with(SEQUENCES, name) {
+        put_row(alloc, out, row)?;
     }
     Ok(true)
 }
@@ -107,32 +109,32 @@ fn put_type(
     Ok(())
 }
 
-fn put_row(out: &mut Vec<u8>, row: Row<'_>) -> Result<(), AllocError> {
-    out.extend_from_slice(b"  ")?;
-    out.extend_from_slice(row.called.as_bytes())?;
+fn put_row(alloc: Global, out: &mut Vec<u8>, row: Row<'_>) -> Result<(), AllocError> {
+    let mut text = Vec::from_slice(alloc, row.called.as_bytes())?;
     if !row.what.is_empty() && !row.what.as_bytes().starts_with(b";") {
-        out.extend_from_slice(b": ")?;
+        text.extend_from_slice(b": ")?;
     }
-    out.extend_from_slice(row.what.as_bytes())?;
-    out.push(b'\n')?;
+    text.extend_from_slice(row.what.as_bytes())?;
+    out.extend_from_slice(INDENT)?;
+    put_wrapped(out, text.as_slice(), INDENT.len(), BELOW)?;
     put_cost(out, row.lengths)
 }
 
 fn put_cost(out: &mut Vec<u8>, lengths: &str) -> Result<(), AllocError> {
     if lengths.is_empty() {
-        return out.extend_from_slice(b"  work 1, depth 1, besides the arguments\n");
+        return out.extend_from_slice(b"  work 1 and depth 1, besides the arguments\n");
     }
     match lengths.split_once("R ") {
         Some((_, lengths)) => {
             put_work(out, lengths)?;
-            out.extend_from_slice(b"depth 1 + the binary digits of ")?;
+            out.extend_from_slice(b"  depth 1 + the binary digits of ")?;
             out.extend_from_slice(lengths.as_bytes())?;
             out.push(b'\n')?;
             put_lengths(out, lengths)
         }
         None => {
             put_work(out, lengths)?;
-            out.extend_from_slice(b"depth 1\n")?;
+            out.extend_from_slice(b"  depth 1\n")?;
             put_lengths(out, lengths)
         }
     }
@@ -145,7 +147,7 @@ fn put_work(out: &mut Vec<u8>, lengths: &str) -> Result<(), AllocError> {
         out.extend_from_slice(lengths.as_bytes())?;
         out.extend_from_slice(b" + ")?;
     }
-    out.extend_from_slice(b"the nodes of the result below its root, ")
+    out.extend_from_slice(b"the nodes of the result below its root\n")
 }
 
 // What the lengths are called.

@@ -1,9 +1,7 @@
 //! The hints on forms that were answered by a fault.
 
-use nesl_hints_reading::{Hint, lexical, syntax};
-use nesl_lex::{LexFault, lex};
+use nesl_hints::{Hint, hint};
 use nesl_line::hinted::Hinter;
-use nesl_session::Fault;
 use nesl_session::answer::Answer;
 use nesl_session::session::Session;
 use std::alloc::{AllocError, Global};
@@ -43,20 +41,21 @@ fn placed_sentence(
     Ok(Some(text))
 }
 
-/// A hint on a form that the session has just answered so.
+/// A hint on a form that the session has just answered so. There is none where the session, as it is now, would refuse
+/// the form for another reason: the form may have used up its work, or the last of its lines.
 pub(crate) fn hint_on(
     alloc: Global,
-    _session: &Session,
+    session: &Session,
     form: &[u8],
     answer: &Answer,
 ) -> Result<Option<Hint>, AllocError> {
-    match answer.fault() {
-        Some(Fault::Lexical(at)) => Ok(Some(lexical(alloc, form, at)?)),
-        Some(Fault::Syntax) => match lex(alloc, form) {
-            Ok(tokens) => Ok(Some(syntax(alloc, form, tokens.as_slice())?)),
-            Err(LexFault::Lexical { .. }) => Ok(None),
-            Err(LexFault::Memory) => Err(AllocError),
-        },
-        _ => Ok(None),
+    let Some(fault) = answer.fault() else {
+        return Ok(None);
+    };
+    // A fault that leaves the session as it was leaves it the parts of the form, too.
+    let line = form.strip_prefix(session.pending()).unwrap_or(form);
+    if session.fault_of(alloc, line)? != Some(fault) {
+        return Ok(None);
     }
+    hint(alloc, session, line)
 }

@@ -14,3 +14,4 @@ mod rows;
 pub mod shelf;
 pub mod style;
 mod word;
+mod wrapped;

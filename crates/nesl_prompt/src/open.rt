@@ -7,8 +7,10 @@ use std::alloc::{AllocError, Global};
 /// What is still to be closed.
 #[derive(Clone, Copy, PartialEq, Eq, Debug)]
 enum Mark {
-    /// A bracket of any kind, by one of any kind.
+    /// A parenthesis or a bracket, by one of any kind. No `;` stands in it.
     Bracket,
+    /// A brace, by one of any kind.
+    Brace,
     /// A `let`, by its `in`.
     Let,
 }
@@ -35,9 +37,8 @@ impl Open {
         self.is_begun = false;
     }
 
-    /// Takes in a line that isn't blank, and says whether the form ends with it: where its last token is a `;` and
-    /// nothing is open, where the form is a command or a comment, and where the line has no
-    /// tokens by a fault.
+    /// Takes in a line that isn't blank, and says whether the form ends with it: where its last token is a `;` behind
+    /// which no form goes on, where the form is a command or a comment, and where the line has no tokens by a fault.
     pub fn ends_with(&mut self, alloc: Global, line: &[u8]) -> Result<bool, AllocError> {
         let tokens = match lex(alloc, line) {
             Ok(tokens) => tokens,
@@ -55,14 +56,26 @@ impl Open {
         for token in &tokens {
             self.note(token)?;
         }
-        Ok(self.marks.is_empty() && is_sign(last, Sign::Semicolon))
+        Ok(is_sign(last, Sign::Semicolon) && !self.takes_semicolon())
+    }
+
+    // Whether a form may go on behind a `;`.
+    fn takes_semicolon(&self) -> bool {
+        match self.marks.last() {
+            Some(Mark::Brace | Mark::Let) => true,
+            Some(Mark::Bracket) | None => false,
+        }
     }
 
     // Opens and closes what a token does.
     fn note(&mut self, token: &Token) -> Result<(), AllocError> {
         match &token.kind {
-            Kind::Symbol(Sign::OpenParenthesis | Sign::OpenBracket | Sign::OpenBrace) => {
+            Kind::Symbol(Sign::OpenParenthesis | Sign::OpenBracket) => {
                 self.marks.push(Mark::Bracket)?;
+                Ok(())
+            }
+            Kind::Symbol(Sign::OpenBrace) => {
+                self.marks.push(Mark::Brace)?;
                 Ok(())
             }
             Kind::Reserved(Word::Let) => {
@@ -85,7 +98,7 @@ impl Open {
 
     // Closes the newest bracket, and each `let` in it.
     fn close(&mut self) {
-        let count = match self.marks.iter().rposition(|mark| *mark == Mark::Bracket) {
+        let count = match self.marks.iter().rposition(|mark| *mark != Mark::Let) {
             Some(place) => place,
             None => 0,
         };

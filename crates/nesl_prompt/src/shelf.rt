@@ -17,6 +17,12 @@ pub enum ShelfFault {
     Large,
     #[error("there is no memory for it")]
     Memory,
+    #[error("there is no room for it")]
+    Full,
+    #[error("it is a folder")]
+    Folder,
+    #[error("a file of this name with `.new` behind it is in the way")]
+    Beside,
     #[error("the system refuses it")]
     Other,
 }
@@ -26,6 +32,7 @@ pub trait Shelf {
     /// The bytes of a file, which are at most `MOST_BYTES`.
     fn read(&self, alloc: Global, path: &str) -> Result<Vec<u8>, ShelfFault>;
 
-    /// Writes the bytes of a file, which is made where there is none, and else loses what it had.
-    fn write(&self, path: &str, bytes: &[u8]) -> Result<(), ShelfFault>;
+    /// Writes the bytes of a file, which is made where there is none. One that is there loses what it had, once the new
+    /// bytes are written.
+    fn write(&self, alloc: Global, path: &str, bytes: &[u8]) -> Result<(), ShelfFault>;
 }

@@ -9,7 +9,7 @@ returns-in-Some-clause-turn g c =
     own c.requires.form c.in-Some.ensures.own (subst P c.in-Some.ensures.said c.hear_word.ensures.said) c.hear_word.ensures.form
 
 pub returns-then-is_pause-clause-turn : goal.returns-then-is_pause-clause-turn
-returns-then-is_pause-clause-turn g c = waits c.requires.form (c.is_pause.ensures c.if-is_pause.true) c.requires.form refl c.prompt.ensures
+returns-then-is_pause-clause-turn g c = waits c.requires.form (c.is_pause.ensures c.if-is_pause.true) c.requires.form refl c.prompt.ensures.plain
 
 pub returns-else-is_pause-clause-turn : goal.returns-else-is_pause-clause-turn
 returns-else-is_pause-clause-turn g c = takes (λ e. c.in-None.ensures.none) (c.take.ensures.takes c.args.line.now)

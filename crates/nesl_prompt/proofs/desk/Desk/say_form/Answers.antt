@@ -6,5 +6,5 @@ pub returns-clause-said : goal.returns-clause-said
 returns-clause-said g c = (
   c.line-answer.result,
   responds_to _ _ _ _ _ (cc) c.line-answer.ensures,
-  λ line. record { more = c.below-more.result.items; spelled = refl; alone = c.below-more.ensures.plain },
+  λ line. record { more = c.below-more.result.items; spelled = refl; below = c.below-more.ensures.below },
 )

@@ -8,7 +8,7 @@ pub returns-in-Err-clause-takes : goal.returns-in-Err-clause-takes
 returns-in-Err-clause-takes g c = λ any. wants c.in-Err.ensures.err refl (record {
   more = c.prompt-more.result.items;
   spelled = ap (λ r. r.bytes ++ c.prompt-more.result.items) c.no_memory.ensures;
-  alone = c.prompt-more.ensures;
+  below = c.prompt-more.ensures.below _;
 })
 
 pub returns-then-is_whole-clause-takes : goal.returns-then-is_whole-clause-takes
