@@ -1,10 +1,12 @@
 use Rattle.std.proofs.Common.{[], None, refl, sym, subst, ◌∙◌}
+use Rattle.nesl_types.specs.declared.classes.Class.TheVariants.{Any}
 use Rattle.nesl_types_bank.specs.Numbering.{IsBelow}
 use Rattle.nesl_types_bank.specs.Term.{Term, int}
 use Rattle.nesl_syntax_tree.specs.Views.{tree_of}
 use Rattle.nesl_infer_names.specs.Names.{names_in, unknown_names}
 use Rattle.nesl_infer_rules.specs.Principal.{IsPrincipalType, Typed}
 use Rattle.nesl_infer.proofs.Integers.{only_principal}
+use Rattle.nesl_infer.proofs.AllKnown.{known_in_typed}
 use Rattle.nesl_infer.proofs.Known.{none_first}
 use Rattle.nesl_infer.proofs.infer.infer_exp.Goals as goal
 
@@ -12,7 +14,7 @@ pub returns-then-is_integer : goal.returns-then-is_integer
 returns-then-is_integer g c =
     let context = c.args.context.now in
     let e = tree_of c.args.exp.now in (
-      none_first (unknown_names (names_in context None) [] e) (sym c.in_default.is ∙ c.in_ok-span.ensures),
+      known_in_typed context e (λ v. Any) int ((c.is_integer.ensures c.if-is_integer.true).fits (λ v. Any)),
       subst (λ (t : Term). IsPrincipalType (Typed context e) t) (sym c.in_ok-int.ensures) (only_principal context e int (λ put. refl) (c.is_integer.ensures c.if-is_integer.true)),
       subst (λ (t : Term). IsBelow 0 t) (sym c.in_ok-int.ensures) tt,
     )
