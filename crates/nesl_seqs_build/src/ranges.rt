@@ -215,7 +215,8 @@ pub fn plan_dist<A: Allocator>(argument: Argument<'_, A>) -> Result<Plan<'_, A>,
     if count < 0 {
         return Err(Trap::Length);
     }
-    Ok(Plan::Copies(item, count as u64))
+    let count = count as u64;
+    Ok(Plan::Copies { item, count })
 }
 
 /// So many copies of a value.

@@ -111,7 +111,7 @@ pub fn plan_rep<A: Allocator>(argument: Argument<'_, A>) -> Result<Plan<'_, A>, 
         return Err(WRONG_SHAPE);
     };
     let place = place_in(items.len(), place)?;
-    Ok(Plan::Replaced(items, item, place))
+    Ok(Plan::Replaced { items, item, place })
 }
 
 pub(crate) fn replaced_copy<A: Allocator + Copy>(
