@@ -1,15 +1,12 @@
 -- What is planned, and its price.
-use Rattle.std.proofs.Common.{◌≡◌, ◌∙◌, ℕ, ◌+◌, ◌-◌, ◌^◌, ◌<◌, ◌≤◌, Option, Some, None, Result, Ok, Err, IfOk, IsSome, SomeIff, refl, ap, sym, subst, arith}
+use Rattle.std.proofs.Common.{◌≡◌, ℕ, ◌+◌, ◌-◌, ◌^◌, ◌<◌, ◌≤◌, Result, Ok, Err, IfOk, sym, subst, arith}
 use Rattle.nesl_scalars.specs.declared.trap.Trap.{Trap}
 use Rattle.nesl_values.specs.Tree.{ValueTree, size}
-use Rattle.nesl_values.specs.View.{tree_of}
-use Rattle.nesl_values.specs.declared.value.Value.{Value}
 use Rattle.nesl_seqs_base.specs.Lent.{argument_tree}
 use Rattle.nesl_seqs_base.specs.Meaning.{outcome_of}
-use Rattle.nesl_seqs_base.specs.Outcome.{Outcome, IsGiven, gives, traps, undefined}
-use Rattle.nesl_seqs_base.specs.Prices.{Prices, price, depth_of}
+use Rattle.nesl_seqs_base.specs.Outcome.{Outcome, gives}
+use Rattle.nesl_seqs_base.specs.Prices.{depth_of}
 use Rattle.nesl_seqs_base.specs.declared.argument.Argument.{Argument}
-use Rattle.nesl_seqs_base.specs.declared.price.Price.{Price}
 use Rattle.nesl_seqs_base.specs.declared.seq_fn.SeqFn.{SeqFn}
 use Rattle.nesl_seqs_base.specs.declared.seq_fn.SeqFn.TheVariants.{Dist}
 use Rattle.nesl_seqs_base.proofs.Sizes.{size_positive}
@@ -19,26 +16,9 @@ use Rattle.nesl_seqs.specs.declared.plans.Plan.{Plan}
 use Rattle.nesl_seqs.proofs.Bounds.{Fits}
 use Rattle.nesl_seqs.proofs.Depths.{depth_fits}
 
--- what is planned has the plan's price
-pub plan_priced : {A : Type 0} (o : Outcome) (read depth limit : ℕ) (p : Plan A) (r : Option Price) → Plans o read depth (Ok p)
-    → SomeIff r (1 + read_by p + (size (built p) - 1) ≤ limit) (price (read_by p) (depth_by p) (built p)) → Prices o read depth limit (Ok r)
-plan_priced o read depth limit p r h priced =
-    let tree : Outcome → Type 0 = λ q. Prices q read depth limit (Ok r) in
-    let from : ℕ → Type 0 = λ n. SomeIff r (1 + n + (size (built p) - 1) ≤ limit) (price n depth (built p)) in
-    let steps : ℕ → Type 0 = λ d. SomeIff r (1 + read_by p + (size (built p) - 1) ≤ limit) (price (read_by p) d (built p)) in
-    subst tree (sym h.0) (subst from h.1 (subst steps h.2 priced))
-
-pub plan_built : {A E : Type 0} (o : Outcome) (read depth : ℕ) (p : Plan A) (r : Result (Value A) E) → Plans o read depth (Ok p) → IfOk r (λ v. tree_of v ≡ built p) → IfOk r (λ v. o ≡ gives (tree_of v))
-plan_built o read depth p (Ok v) h made = h.0 ∙ ap gives (sym made)
-plan_built o read depth p (Err e) h made = tt
-
 -- a plan whose work fits has a price where there is no limit
 abbrev pub HasRoom : {A : Type 0} → Plan A → Type 0
 HasRoom p = 1 + read_by p + (size (built p) - 1) < 2 ^ 128
-
-pub always_priced : {A : Type 0} (p : Plan A) (limit : ℕ) (r : Option Price) → HasRoom p → limit ≡ 2 ^ 128 - 1 → SomeIff r (1 + read_by p + (size (built p) - 1) ≤ limit) (price (read_by p) (depth_by p) (built p)) → IsSome r
-always_priced p limit (Some x) room is h = refl
-always_priced p limit None room is h = absurd (h (omega arith))
 
 fits_gives : (o : Outcome) (t : ValueTree) (read n : ℕ) → o ≡ gives t → n ≡ read → Fits o read → 1 + n + (size t - 1) < 2 ^ 128
 fits_gives o t read n is same fits =

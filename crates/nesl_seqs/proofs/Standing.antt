@@ -9,7 +9,8 @@ use Rattle.std.proofs.lemmas.List.FromFn.{length-range_with_len, get_or-range_wi
 use Rattle.std.proofs.lemmas.Option.{slice_get-get_or}
 use Rattle.nesl_values.specs.Tree.{ValueTree, int, sequence}
 use Rattle.nesl_values.specs.Parts.{as_int}
-use Rattle.nesl_seqs_base.specs.Outcome.{gives, if_there, IsGiven}
+use Rattle.nesl_seqs_base.specs.Outcome.{gives, if_there}
+use Rattle.nesl_seqs_index.specs.Answers.{IsGiven}
 use Rattle.nesl_seqs_base.specs.Reductions.{all_of}
 use Rattle.nesl_seqs_base.specs.Permute.{all_differ, rearranged, permuted}
 use Rattle.nesl_seqs_base.specs.Places.{arrival, place_in, place_of, places_of}

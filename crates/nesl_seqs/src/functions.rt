@@ -1,12 +1,10 @@
-// All functions: their plans, prices and results.
-ghost use Rattle.std.specs.Prelude.{◌≡◌, ◌+◌, ◌-◌, ◌≤◌, ◌<◌, ◌^◌, ℕ, IfOk, IfSome, IsSome, OnOk};
+// The plans of all functions.
+ghost use Rattle.std.specs.Prelude.{◌+◌, ◌-◌, ◌≤◌, ◌<◌, ◌^◌, ℕ, IfOk};
 ghost use Rattle.nesl_values.specs.Tree.{size};
-ghost use Rattle.nesl_values.specs.View.{tree_of};
 ghost use Rattle.nesl_seqs_base.specs.Lent.{argument_tree};
-ghost use Rattle.nesl_seqs_base.specs.Outcome.{Outcome, IsGiven, gives};
+ghost use Rattle.nesl_seqs_base.specs.Outcome.{Outcome};
 ghost use Rattle.nesl_seqs_base.specs.Meaning.{outcome_of};
-ghost use Rattle.nesl_seqs_base.specs.Prices.{Prices, reads, depth_of};
-ghost use Rattle.nesl_seqs_base.specs.Prices.{PricesAll};
+ghost use Rattle.nesl_seqs_base.specs.Prices.{reads, depth_of};
 ghost use Rattle.nesl_seqs_fold.specs.Plans as folds;
 ghost use Rattle.nesl_seqs_build.specs.Plans as builds;
 ghost use Rattle.nesl_seqs_index.specs.Plans as indexes;
@@ -17,102 +15,12 @@ use crate::plans::Plan;
 use nesl_scalars::Trap;
 use nesl_seqs_base::argument::Argument;
 use nesl_seqs_base::joint::Joint;
-use nesl_seqs_base::price::Price;
 use nesl_seqs_base::seq_fn::SeqFn;
 use nesl_seqs_build::{levels, pairs, pieces, ranges, replace, sides};
 use nesl_seqs_fold::reductions::{self, plan_of_leaf};
 use nesl_seqs_fold::{equal, extremes, scans};
 use nesl_seqs_index::{gather, permute, woven, write};
-use nesl_values::Value;
-use std::alloc::{AllocError, Allocator};
-
-/// The price of a function at an argument, where the work is at most the limit: known before anything
-/// is built, without memory, in a time that grows with the argument's length and the limit.
-#[tactic(auto, using(crate::proofs::Bounds::given_where_priced))]
-pub fn price_within<A: Allocator>(
-    function: SeqFn,
-    argument: Argument<'_, A>,
-    limit: u128,
-) -> Result<Option<Price>, Trap>
-    ensures given { IfOk result (λ o. IfSome o
-        (λ _. IsGiven (outcome_of function (argument_tree argument.entry)))) }
-    ensures price { Prices (outcome_of function (argument_tree argument.entry))
-        (reads function (argument_tree argument.entry))
-        (depth_of function (reads function (argument_tree argument.entry))) limit result }
-    ensures depth { IfOk result (λ o. IfSome o (λ p. (1 ≤ p.depth) × (p.depth ≤ p.work))) }
-{
-    price(function, argument, limit)
-}
-
-/// The price of a function at an argument, known before anything is built and without memory.
-#[tactic(auto, using(crate::proofs::Bounds::given_where_priced))]
-pub fn cost_and_size<A: Allocator>(
-    function: SeqFn,
-    argument: Argument<'_, A>,
-) -> Result<Price, Trap>
-    ensures given { OnOk result (IsGiven (outcome_of function (argument_tree argument.entry))) }
-    ensures price { PricesAll (outcome_of function (argument_tree argument.entry))
-        (reads function (argument_tree argument.entry))
-        (depth_of function (reads function (argument_tree argument.entry))) result }
-    ensures depth { IfOk result (λ p. (1 ≤ p.depth) × (p.depth ≤ p.work)) }
-{
-    has_few_nodes(argument);
-    match price(function, argument, u128::MAX)? {
-        Some(price) => Ok(price),
-        None => unreachable!(),
-    }
-}
-
-// What the values know of themselves.
-fn has_few_nodes<A: Allocator>(argument: Argument<'_, A>)
-    ensures { HasFewNodes argument.entry }
-{
-    match argument {
-        Argument::One(value) => {
-            value.nodes();
-        }
-        Argument::Two(first, second) => {
-            first.nodes();
-            second.nodes();
-        }
-        Argument::Three(first, second, third) => {
-            first.nodes();
-            second.nodes();
-            third.nodes();
-        }
-    }
-}
-
-// The price of what is planned.
-fn price<A: Allocator>(
-    function: SeqFn,
-    argument: Argument<'_, A>,
-    limit: u128,
-) -> Result<Option<Price>, Trap>
-    ensures always { HasFewNodes argument.entry → limit ≡ 2 ^ 128 - 1
-        → IfOk result (λ p. IsSome p) }
-    ensures price { Prices (outcome_of function (argument_tree argument.entry))
-        (reads function (argument_tree argument.entry))
-        (depth_of function (reads function (argument_tree argument.entry))) limit result }
-{
-    let plan = plan(function, argument)?;
-    Ok(plan.price(limit))
-}
-
-/// The result of a function at an argument.
-pub fn apply<A: Allocator + Copy>(
-    alloc: A,
-    function: SeqFn,
-    argument: Argument<'_, A>,
-) -> Result<Value<A>, AllocError>
-    requires { IsGiven (outcome_of function (argument_tree argument)) }
-    ensures { IfOk result (λ v. outcome_of function (argument_tree argument.entry) ≡ gives (tree_of v)) }
-{
-    match plan(function, argument) {
-        Ok(plan) => plan.build(alloc),
-        Err(_) => unreachable!(),
-    }
-}
+use std::alloc::Allocator;
 
 fn from_fold<'a, A: Allocator>(
     plan: Result<nesl_seqs_fold::plan::Plan<'a, A>, Trap>,

@@ -1,10 +1,8 @@
 -- What a function costs, from its argument and its result alone.
-use Rattle.std.specs.Prelude.{◌≡◌, ℕ, zero, suc, ◌+◌, ◌-◌, ◌^◌, ◌≤◌, cond, nat_le, length, Option, option_map}
-use Rattle.std.specs.Prelude.{unwrap_or, SomeIff, Result}
-use Rattle.nesl_scalars.specs.declared.trap.Trap.{Trap}
+use Rattle.std.specs.Prelude.{ℕ, zero, suc, ◌+◌, ◌-◌, ◌^◌, cond, nat_le, length, option_map}
+use Rattle.std.specs.Prelude.{unwrap_or}
 use Rattle.nesl_values.specs.Tree.{ValueTree, size}
 use Rattle.nesl_values.specs.Parts.{as_pair, as_sequence}
-use Rattle.nesl_seqs_base.specs.Outcome.{Outcome, OutcomeGives}
 use Rattle.nesl_seqs_base.specs.Arguments.{sequence_and_int, two_sequences, sequence_item_place}
 use Rattle.nesl_seqs_base.specs.declared.price.Price.{Price}
 use Rattle.nesl_seqs_base.specs.declared.seq_fn.SeqFn.{SeqFn}
@@ -87,12 +85,3 @@ depth_of _ n = 1
 -- the price of a result: 1, the elements read and the nodes below the result's root
 abbrev pub price : ℕ → ℕ → ValueTree → Price
 price read depth t = record { work = 1 + read + (size t - 1); depth = depth; nodes = size t }
-
--- what an outcome is priced as: a result within the limit by its price, one beyond it by none, a refusal by itself
-abbrev pub Prices : Outcome → ℕ → ℕ → ℕ → Result (Option Price) Trap → Type 0
-Prices o read depth limit r =
-    OutcomeGives (λ t p. SomeIff p (1 + read + (size t - 1) ≤ limit) (price read depth t)) o r
-
--- the same where there is no limit
-abbrev pub PricesAll : Outcome → ℕ → ℕ → Result Price Trap → Type 0
-PricesAll o read depth r = OutcomeGives (λ t p. p ≡ price read depth t) o r

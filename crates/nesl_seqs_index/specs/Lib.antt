@@ -1,3 +1,4 @@
+pub mod Answers
 pub mod Arriving
 pub mod Marks
 pub mod Plans

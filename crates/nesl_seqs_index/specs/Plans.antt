@@ -5,7 +5,8 @@ use Rattle.nesl_scalars.specs.declared.trap.Trap.{Trap}
 use Rattle.nesl_values.specs.Tree.{ValueTree, sequence}
 use Rattle.nesl_values.specs.Parts.{as_int}
 use Rattle.nesl_values.specs.View.{tree_of, item_trees}
-use Rattle.nesl_seqs_base.specs.Outcome.{Outcome, IsGiven, if_there, gives, traps, undefined}
+use Rattle.nesl_seqs_base.specs.Outcome.{Outcome, if_there, gives, traps, undefined}
+use Rattle.nesl_seqs_index.specs.Answers.{IsGiven}
 use Rattle.nesl_seqs_base.specs.Permute.{permuted, rearranged}
 use Rattle.nesl_seqs_base.specs.Places.{elements_at, place_of, places_of}
 use Rattle.nesl_seqs_base.specs.Reductions.{all_of}

@@ -6,7 +6,8 @@ ghost use Rattle.nesl_values.specs.Parts.{as_int};
 ghost use Rattle.nesl_values.specs.View.{tree_of, trees_view, item_trees};
 ghost use Rattle.nesl_seqs_base.specs.Lent.{argument_tree};
 ghost use Rattle.nesl_seqs_base.specs.Gather.{gathered};
-ghost use Rattle.nesl_seqs_base.specs.Outcome.{OutcomeGives, if_there};
+ghost use Rattle.nesl_seqs_base.specs.Outcome.{if_there};
+ghost use Rattle.nesl_seqs_index.specs.Answers.{OutcomeGives};
 ghost use Rattle.nesl_seqs_base.specs.Meaning.{outcome_of};
 ghost use Rattle.nesl_seqs_base.specs.Places.{elements_at, place_of, places_of};
 ghost use Rattle.nesl_seqs_base.specs.Prices.{reads, price};
@@ -34,7 +35,7 @@ pub fn plan_gather<A: Allocator>(argument: Argument<'_, A>) -> Result<Plan<'_, A
         return Err(WRONG_SHAPE);
     };
     check_indices(items, indices)?;
-    Ok(Plan::Gathered(items, indices))
+    Ok(Plan::Gathered { items, indices })
 }
 
 /// Whether each index names a place in a sequence of that length.

@@ -8,7 +8,8 @@ ghost use Rattle.nesl_values.specs.View.{tree_of, item_trees};
 ghost use Rattle.nesl_seqs_base.specs.Lent.{argument_tree};
 ghost use Rattle.nesl_seqs_index.specs.Arriving.{Arrive};
 ghost use Rattle.nesl_seqs_index.specs.Marks.{are_new, own_places};
-ghost use Rattle.nesl_seqs_base.specs.Outcome.{OutcomeGives, IsGiven, if_there, gives};
+ghost use Rattle.nesl_seqs_base.specs.Outcome.{if_there, gives};
+ghost use Rattle.nesl_seqs_index.specs.Answers.{OutcomeGives, IsGiven};
 ghost use Rattle.nesl_seqs_base.specs.Meaning.{outcome_of};
 ghost use Rattle.nesl_seqs_base.specs.Permute.{all_differ, permuted, rearranged, Inverts};
 ghost use Rattle.nesl_seqs_base.specs.Places.{place_of, places_of};
@@ -40,7 +41,7 @@ pub fn plan_permute<A: Allocator>(argument: Argument<'_, A>) -> Result<Plan<'_, 
         return Err(WRONG_SHAPE);
     };
     check_indices(items, indices)?;
-    Ok(Plan::Permuted(items, indices))
+    Ok(Plan::Permuted { items, indices })
 }
 
 // Whether the indices are as many as the items and each names a place of its own, and else the fault.
