@@ -14,6 +14,9 @@ pub(crate) const CSV: &str =
     "Writes n, work and depth of the last line for each of these values of n, as 1,2,4,8; \
     the lines of standard input are said anew for each";
 
+pub(crate) const HINTS: &str = "Tells below a fault what is wrong and where, \
+    in one line that begins with `hint: `";
+
 pub(crate) const SERVE: &str = "Answers the lines of connections to 127.0.0.1, each of one user; \
     the first line of each is `user NAME`";
 
@@ -44,10 +47,17 @@ pub(crate) const LOG: &str =
 pub(crate) const STATS: &str = "Writes how the service is doing into this file, \
     as one line of JSON, every ten seconds and at the end";
 
+pub(crate) const REPL: &str =
+    "Opens a session of one's own, with a prompt, help, and hints below faults";
+
+pub(crate) const REPL_HINTS: &str = "Tells hints also where standard output is no terminal";
+
 pub(crate) const BATCH_EXAMPLE: &str = "For example: pazkindu batch ann bob < lines";
 
 pub(crate) const SERVE_EXAMPLE: &str =
     "For example: pazkindu serve --port 7000 --workers 4 ann bob";
+
+pub(crate) const REPL_EXAMPLE: &str = "For example: pazkindu repl";
 
 pub(crate) const BATCH_AFTER: &str = "\
 A line `user NAME` selects the user that the lines behind it are for. Each other line goes to that
@@ -86,10 +96,31 @@ only this machine is listened to; docs/OPERATING.md says how others are let in, 
 Exit status: 0 after the last of the connections, 1 where a socket or memory failed, 2 where the
 words or the users' names are wrong.";
 
+pub(crate) const REPL_AFTER: &str = "\
+A form may go on over several lines, until its `;` or an empty line. It is answered by one line, as
+in a batch, and below a fault stands what is wrong, and where:
+
+    > sum 3;
+    fault syntax (work 0)
+      sum 3;
+      --- ^
+      hint: an argument stands in parentheses: `sum(..)`; between two values an
+            operator stands
+
+:help tells what there is, and :help take what take is, and what it costs; :type NAME tells a type,
+:list what was said and kept. :save FILE and :load FILE keep that in a file, and :quit ends.
+
+There is no line editor: `rlwrap pazkindu repl` has one, and keeps a history. Where standard input
+or standard output is no terminal, there are no prompts.
+
+Exit status: 0 at :quit and at the end of input, 1 where a device or memory failed, 2 where the
+words are wrong.";
+
 pub(crate) const PROGRAM_AFTER: &str = "\
-For instance, with one user whose name is ann,
+`pazkindu repl` opens a session to try things in. For others, with one user whose name is ann,
 
     printf 'user ann\\n2 * 3 + 1;\\n' | pazkindu batch ann
 
-prints `user ann` and `it = 7 : int (work 5, depth 5)`. `pazkindu batch --help` and `pazkindu serve
---help` say more; README.md is where the guide begins, and docs/LANGUAGE.md has the language.";
+prints `user ann` and `it = 7 : int (work 5, depth 5)`. `pazkindu repl --help`, `pazkindu batch
+--help` and `pazkindu serve --help` say more; README.md is where the guide begins, and
+docs/LANGUAGE.md has the language.";

@@ -49,7 +49,7 @@ pub fn keep<
     };
     let host = host(rt, alloc, offer, (port, page_port))?;
     let doors = Doors { listener, page };
-    let served = serve_offer(rt, alloc, &*offer, &doors, table, &host);
+    let served = serve_offer(rt, alloc, offer, &doors, table, &host);
     host.close();
     ending(rt, offer, served)
 }
