@@ -7,4 +7,5 @@ pub mod Lent
 pub mod Lookups
 pub mod Names
 pub mod Making
+pub mod Planned
 pub mod Rows

@@ -5,7 +5,7 @@ use Rattle.std.proofs.lemmas.Option.{slice_get-map}
 use Rattle.std.proofs.Common.{Bor, rules}
 use Rattle.nesl_values.specs.declared.value.Value as code
 use Rattle.nesl_values.specs.View.{tree_of}
-use Rattle.nesl_eval_nodes.specs.declared.scope.Scope.{Scope, Let, Row, Argument, Empty, the_lemmas}
+use Rattle.nesl_eval_nodes.specs.declared.scope.Scope.{Scope, Let, Row, Argument, the_lemmas}
 use Rattle.nesl_values.specs.Parts.{elements}
 use Rattle.nesl_eval_meaning.specs.Names.{Value}
 use Rattle.nesl_eval_code.specs.Frames.{Frames, place_in, frame, row}
@@ -29,9 +29,6 @@ frames-Row vs i rest = search (rules, the_lemmas)
 
 pub frames-Argument : {A : Type 0} → (v : Bor (code.Value A)) → frames_of (Argument v) ≡ frame (tree_of v.now ∷ []) ∷ []
 frames-Argument v = search (rules, the_lemmas)
-
-pub frames-Empty : (A : Type 0) → frames_of {A = A} Empty ≡ []
-frames-Empty A = search (rules, the_lemmas)
 
 pub seen_let : (fs rest : Frames) (vs : List Value) (up i : ℕ) (x : Option Value) → fs ≡ frame vs ∷ rest → up ≡ 0 → x ≡ slice_get vs i → x ≡ place_in fs up i
 seen_let fs rest vs up i x e z h = rw (e, z) (h ∙ sym (in_frame vs rest i))

@@ -14,8 +14,7 @@ use Rattle.nesl_eval_code.specs.Run.{Slot, variable_slot, function_slot, datatyp
 use Rattle.nesl_eval_nodes.specs.declared.meter.Meter.{Meter}
 use Rattle.nesl_eval_nodes.specs.declared.meter.Stop.{Stop}
 use Rattle.nesl_eval_nodes.specs.declared.meter.Stop.TheVariants.{Memory, Stuck}
-use Rattle.nesl_eval_nodes.specs.declared.parts.Part.TheVariants.{Made}
-use Rattle.nesl_eval_nodes.specs.Standing.{named_tree, PartStandsFor, IsName}
+use Rattle.nesl_eval_nodes.specs.Standing.{named_tree, IsName}
 use Rattle.nesl_eval_nodes.specs.Sides.{IsKeptPlace}
 use Rattle.nesl_eval_nodes.specs.Meets.{Meets, Is}
 use Rattle.nesl_eval_nodes.proofs.Runs.{meets_added, meets_then, meets_err}
@@ -79,12 +78,6 @@ meets_pair T V U m0 m1 m2 m3 v w r o p k h g f =
 pub pair_stops : {R S Q X Z Y : Type 0} (T : R → X → Type 0) (V : S → Z → Type 0) (U : Q → Y → Type 0) (m0 m1 m2 : Meter) (v : R) (e : Stop) (o : Out X) (p : Out Z) (k : X → Z → Out Y) → Meets T m0 (Ok v) m1 o → Meets V m1 (Err e) m2 p → Meets U m0 (Err e) m2 (and_then o (λ a. and_then p (k a)))
 pair_stops T V U m0 m1 m2 v e o p k h g =
     meets_then T U m0 m1 m2 v (Err e) o (λ a. and_then p (k a)) h (λ a s. meets_err V U m1 m2 e p (k a) g)
-
--- a made value stands for itself
-pub made_stands : {A : Type 0} (m n : Meter) (v : code.Value A) (t : Table) (fs : Frames) (c : Code) (o : Out Value) → Meets (Is {A = A}) m (Ok v) n o → Meets (PartStandsFor {A = A} t fs c) m (Ok (Made v)) n o
-made_stands m n v t fs c (value x w d) h = (ap Some h.0, h.1, h.2)
-made_stands m n v t fs c (fault k s w) h = h
-made_stands m n v t fs c stuck h = tt
 
 pub name_node : (f : Runs) (t : Table) (fs : Frames) (c : Code) → IsName c → told_of (named_tree t fs c) ≡ run_node f t fs c
 name_node f t fs (Local s up i steps) h = refl

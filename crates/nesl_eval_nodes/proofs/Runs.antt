@@ -1,5 +1,5 @@
 -- Runs under a meter, one after the other.
-use Rattle.std.proofs.Common.{◌≡◌, ℕ, ◌+◌, ◌-◌, ◌<◌, Result, Ok, Err, sym, arith, zero, suc, subst}
+use Rattle.std.proofs.Common.{◌≡◌, ℕ, ◌+◌, ◌-◌, ◌<◌, Result, Ok, Err, arith, zero, suc, subst}
 use Rattle.nesl_eval_code.specs.declared.code.Code.{Code}
 use Rattle.nesl_eval_nodes.specs.declared.meter.Meter.{Meter}
 use Rattle.nesl_eval_nodes.specs.declared.meter.Stop.{Stop}
@@ -78,10 +78,3 @@ meets_two T U m0 m1 m2 m3 v w r o p k h g f =
 -- whatever meets the one outcome from the one meter on meets the other from the other
 abbrev pub LeadsTo : {R X : Type 0} → (R → X → Type 0) → Meter → Out X → Meter → Out X → Type 0
 LeadsTo {R} T n p m o = (r : Result R Stop) (l : Meter) → Meets T n r l p → Meets T m r l o
-
--- a run, and then what is left
-pub leads_then : {R S X Y : Type 0} (T : R → X → Type 0) (U : S → Y → Type 0) (m0 m1 : Meter) (v : R) (x : X) (o : Out X) (k : X → Out Y) → ((y : X) → T v y → y ≡ x) → Meets T m0 (Ok v) m1 o → LeadsTo U m1 (k x) m0 (and_then o k)
-leads_then T U m0 m1 v x o k only h = λ r l q. meets_then T U m0 m1 l v r o k h (λ y s. subst (λ z. Meets U m1 r l (k z)) (sym (only y s)) q)
-
-pub leads_on : {R X : Type 0} (T : R → X → Type 0) (m0 m1 m2 : Meter) (o p q : Out X) → LeadsTo T m1 p m0 o → LeadsTo T m2 q m1 p → LeadsTo T m2 q m0 o
-leads_on T m0 m1 m2 o p q f g = λ r l h. f r l (g r l h)

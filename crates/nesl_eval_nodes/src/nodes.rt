@@ -15,7 +15,7 @@ ghost use Rattle.nesl_eval_meaning.specs.Outcome.{small_enough, apply_builtin, o
 ghost use Rattle.nesl_eval_meaning.specs.Outcome.{lengths, common_places};
 ghost use Rattle.nesl_eval_code.specs.Run.{run_top, slot_at, code_span};
 ghost use Rattle.nesl_eval_nodes.specs.declared.meter.Meter.{Meter};
-ghost use Rattle.nesl_eval_nodes.specs.Sides.{IsOne, Has};
+ghost use Rattle.nesl_eval_nodes.specs.Sides.{IsOne};
 ghost use Rattle.nesl_eval_nodes.specs.Meets.{Meets, Is};
 
 use crate::held::{Held, Tops};
@@ -24,7 +24,7 @@ use nesl_builtins::Builtin;
 use nesl_eval_code::Code;
 use nesl_lex::token::Span;
 use nesl_scalars::{Binary, Trap, Unary};
-use nesl_seqs::{Argument, SeqFn, apply, price_within};
+use nesl_seqs::{Argument, SeqFn, plan};
 use nesl_values::Value;
 use nesl_values_builder::SequenceBuilder;
 use std::alloc::{AllocError, Allocator};
@@ -259,6 +259,7 @@ pub fn apply_unary<A: Allocator>(
 
 /// A function on sequences, priced before it is built.
 #[inline(never)]
+#[tactic(auto, using(crate::proofs::Planned::plans))]
 fn on_sequences<A: Allocator + Copy>(
     function: SeqFn,
     argument: Argument<'_, A>,
@@ -271,18 +272,19 @@ fn on_sequences<A: Allocator + Copy>(
         (argument_tree argument.entry) (outcome_of function (argument_tree argument.entry))) }
     ensures spent { meter.new.fuel + meter.new.depth ≤ meter.old.fuel + meter.old.depth }
 {
-    match price_within(function, argument, meter.fuel as u128 + 1) {
-        Err(trap) => Err(Stop::Fault(trap, span)),
-        Ok(None) => Err(Stop::Over),
-        Ok(Some(price)) => {
-            let work = (price.work - 1) as u64;
-            meter.charge(work)?;
-            meter.depth += price.depth - 1;
-            match apply(alloc, function, argument) {
-                Ok(value) => Ok(value),
-                Err(_) => Err(Stop::Memory),
-            }
-        }
+    let plan = match plan(function, argument) {
+        Ok(plan) => plan,
+        Err(trap) => return Err(Stop::Fault(trap, span)),
+    };
+    let Some(price) = plan.price(meter.fuel as u128 + 1) else {
+        return Err(Stop::Over);
+    };
+    let work = (price.work - 1) as u64;
+    meter.charge(work)?;
+    meter.depth += price.depth - 1;
+    match plan.build(alloc) {
+        Ok(value) => Ok(value),
+        Err(_) => Err(Stop::Memory),
     }
 }
 

@@ -1,17 +1,16 @@
 -- No price is above what its numbers hold, where the argument has fewer than 2^66 nodes.
-use Rattle.std.proofs.Common.{◌≡◌, ℕ, ℤ, zero, suc, pos, negsuc, ◌+◌, ◌-◌, ◌/◌, ◌^◌, ◌<◌, ◌≤◌, Bool, true, false, cond, List, [], ◌∷◌, length, take, drop, arith, Option, Some, None, option_map, unwrap_or, Result, Ok, Err, nat_le, nat_lt, nat_eq, set, IfOk, IfSome, IsSome, subst, rules}
+use Rattle.std.proofs.Common.{ℕ, ℤ, zero, suc, pos, negsuc, ◌+◌, ◌-◌, ◌/◌, ◌^◌, ◌<◌, ◌≤◌, Bool, true, false, cond, List, [], ◌∷◌, length, take, drop, arith, Option, Some, None, option_map, unwrap_or, nat_le, nat_lt, nat_eq, set}
 use Rattle.nesl_scalars.specs.declared.trap.Trap.{Trap}
 use Rattle.nesl_values.specs.Tree.{ValueTree, int, boolean, character, pair, seq, tagged, trees_of, sequence, size}
 use Rattle.nesl_values.specs.Tree.{sizes}
 use Rattle.nesl_values.specs.Parts.{list_of, as_sequence}
-use Rattle.nesl_seqs_base.specs.Outcome.{Outcome, gives, traps, undefined, if_there, number, fits, IsGiven}
+use Rattle.nesl_seqs_base.specs.Outcome.{Outcome, gives, traps, undefined, if_there, number, fits}
 use Rattle.nesl_seqs_base.specs.Arguments.{sequence_and_int, two_sequences, numbers, truths}
 use Rattle.nesl_seqs_base.specs.Pieces.{element_at, appended, halves, taken, dropped, reversed, rotated, places_on, replaced}
 use Rattle.nesl_seqs_base.specs.Pairs.{pairs, zipped}
 use Rattle.nesl_seqs_base.specs.Reductions.{summed, some_true, all_true, count_of_true, total}
-use Rattle.nesl_seqs_base.specs.Prices.{Prices, reads, length_of}
+use Rattle.nesl_seqs_base.specs.Prices.{reads, length_of}
 use Rattle.nesl_seqs_base.specs.Meaning.{outcome_of}
-use Rattle.nesl_seqs_base.specs.declared.price.Price.{Price}
 use Rattle.nesl_seqs_base.specs.declared.seq_fn.SeqFn.{SeqFn}
 use Rattle.nesl_seqs_base.specs.declared.seq_fn.SeqFn.TheVariants.{Length, ElementAt, Append, Sum, Any, All, Count, Bottop, Take, Drop, Reverse, Rotate, Zip, Rep, Eql}
 use Rattle.nesl_seqs_base.proofs.Sizes.{sizes_list, length_le, sizes_take, sizes_drop, sizes_set}
@@ -156,25 +155,3 @@ fits_replaced ts x (negsuc i) h l = tt
 pub bounded_rep : IsBounded Rep
 bounded_rep (pair (seq ts) (pair x (int z))) h = fits_replaced (list_of ts) x z (omega (arith, sizes_list ts)) (omega (arith, sizes_list ts, length_le (list_of ts)))
 bounded_rep t h = tt
-
--- so a price without a limit is always found
-pub never_over : (o : Outcome) (read depth : ℕ) → Fits o read → Prices o read depth (2 ^ 128 - 1) (Ok None) → ⊥
-never_over (gives t) read depth h p = p (omega arith)
-never_over (traps e) read depth h p = p
-never_over undefined read depth h p = p
-
-pub always : (o : Outcome) (read depth limit : ℕ) (r : Result (Option Price) Trap) → Fits o read → limit ≡ 2 ^ 128 - 1 → Prices o read depth limit r → IfOk r (λ p. IsSome p)
-always o read depth limit (Ok (Some p)) h is prices = search rules
-always o read depth limit (Ok None) h is prices = absurd (never_over o read depth h (subst (λ n. Prices o read depth n (Ok None)) is prices))
-always o read depth limit (Err e) h is prices = tt
-
--- what has a price has a result
-pub given_if_priced : (o : Outcome) (read depth limit : ℕ) (p : Price) → Prices o read depth limit (Ok (Some p)) → IsGiven o
-given_if_priced (gives t) read depth limit p h = tt
-given_if_priced (traps e) read depth limit p h = h
-given_if_priced undefined read depth limit p h = h
-
-pub given_where_priced : (o : Outcome) (read depth limit : ℕ) (r : Result (Option Price) Trap) → Prices o read depth limit r → IfOk r (λ p. IfSome p (λ _. IsGiven o))
-given_where_priced o read depth limit (Ok (Some p)) prices = given_if_priced o read depth limit p prices
-given_where_priced o read depth limit (Ok None) prices = tt
-given_where_priced o read depth limit (Err e) prices = tt

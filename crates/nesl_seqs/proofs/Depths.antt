@@ -1,10 +1,6 @@
 -- A price's depth is at least 1, and at most its work.
-use Rattle.std.proofs.Common.{ℕ, zero, suc, ◌+◌, ◌^◌, ◌≤◌, Bool, true, false, cond, nat_le, sym, subst, arith}
-use Rattle.std.proofs.Common.{Option, Some, None, Result, Ok, Err, IfOk, IfSome}
-use Rattle.nesl_scalars.specs.declared.trap.Trap.{Trap}
-use Rattle.nesl_seqs_base.specs.Outcome.{Outcome, gives, traps, undefined}
-use Rattle.nesl_seqs_base.specs.Prices.{Prices, powers_within, digits, depth_of}
-use Rattle.nesl_seqs_base.specs.declared.price.Price.{Price}
+use Rattle.std.proofs.Common.{ℕ, zero, suc, ◌+◌, ◌^◌, ◌≤◌, Bool, true, false, cond, nat_le, arith}
+use Rattle.nesl_seqs_base.specs.Prices.{powers_within, digits, depth_of}
 use Rattle.nesl_seqs_base.specs.declared.seq_fn.SeqFn.{SeqFn}
 use Rattle.nesl_seqs_base.specs.declared.seq_fn.SeqFn.TheVariants.{Length, ElementAt, Append, Dist, Range, RangeBy, Index, Sum, Any, All, Count, Bottop, Take, Drop, Reverse, Rotate, Zip, Rep, Eql, MaxVal, MinVal, MaxIndex, MinIndex, PlusScan, OrScan, AndScan, Flatten, Unzip, OddElts, EvenElts, Interleave, Gather, Permute, Split, Partition, Write}
 
@@ -57,14 +53,3 @@ depth_fits Permute n = (omega arith, omega arith)
 depth_fits Split n = (omega arith, omega arith)
 depth_fits Partition n = (omega arith, omega arith)
 depth_fits Write n = (omega arith, omega arith)
-
--- what is said of the depth of a price
-abbrev pub HasDepth : Price → Type 0
-HasDepth p = (1 ≤ p.depth) × (p.depth ≤ p.work)
-
-pub deep_price : (o : Outcome) (read depth limit : ℕ) (r : Result (Option Price) Trap) → (1 ≤ depth) × (depth ≤ 1 + read) → Prices o read depth limit r → IfOk r (λ o. IfSome o HasDepth)
-deep_price (gives t) read depth limit (Ok (Some p)) h k = subst HasDepth (sym k.1) (h.0, omega (arith, h.1))
-deep_price (traps d) read depth limit (Ok (Some p)) h k = absurd k
-deep_price undefined read depth limit (Ok (Some p)) h k = absurd k
-deep_price o read depth limit (Ok None) h k = tt
-deep_price o read depth limit (Err e) h k = tt

@@ -6,8 +6,8 @@ use Rattle.nesl_values.specs.View.{tree_of}
 use Rattle.nesl_values.specs.declared.value.Value.{Value}
 use Rattle.nesl_seqs_base.specs.Lent.{argument_tree}
 use Rattle.nesl_seqs_base.specs.Meaning.{outcome_of}
-use Rattle.nesl_seqs_base.specs.Outcome.{Outcome, IsGiven, gives, traps, undefined}
-use Rattle.nesl_seqs_base.specs.Prices.{Prices, price, depth_of}
+use Rattle.nesl_seqs_base.specs.Outcome.{Outcome, IsGiven, gives}
+use Rattle.nesl_seqs_base.specs.Prices.{PricesAll, price, depth_of}
 use Rattle.nesl_seqs_base.specs.declared.argument.Argument.{Argument}
 use Rattle.nesl_seqs_base.specs.declared.price.Price.{Price}
 use Rattle.nesl_seqs_base.specs.declared.seq_fn.SeqFn.{SeqFn}
@@ -19,14 +19,30 @@ use Rattle.nesl_seqs.specs.declared.plans.Plan.{Plan}
 use Rattle.nesl_seqs.proofs.Bounds.{Fits}
 use Rattle.nesl_seqs.proofs.Depths.{depth_fits}
 
--- what is planned has the plan's price
-pub plan_priced : {A : Type 0} (o : Outcome) (read depth limit : ℕ) (p : Plan A) (r : Option Price) → Plans o read depth (Ok p)
-    → SomeIff r (1 + read_by p + (size (built p) - 1) ≤ limit) (price (read_by p) (depth_by p) (built p)) → Prices o read depth limit (Ok r)
-plan_priced o read depth limit p r h priced =
-    let tree : Outcome → Type 0 = λ q. Prices q read depth limit (Ok r) in
-    let from : ℕ → Type 0 = λ n. SomeIff r (1 + n + (size (built p) - 1) ≤ limit) (price n depth (built p)) in
-    let steps : ℕ → Type 0 = λ d. SomeIff r (1 + read_by p + (size (built p) - 1) ≤ limit) (price (read_by p) d (built p)) in
-    subst tree (sym h.0) (subst from h.1 (subst steps h.2 priced))
+-- what has a plan has a result
+pub plan_given : {A : Type 0} (o : Outcome) (read depth : ℕ) (p : Plan A) → Plans o read depth (Ok p) → IsGiven o
+plan_given o read depth p h = subst IsGiven (sym h.0) tt
+
+-- what is told of the price of a plan
+abbrev pub IsTold : {A : Type 0} → Plan A → ℕ → Option Price → Type 0
+IsTold p limit r = SomeIff r (1 + read_by p + (size (built p) - 1) ≤ limit) (price (read_by p) (depth_by p) (built p))
+
+price_told : {A : Type 0} (p : Plan A) (limit : ℕ) (r : Option Price) (q : Price) → r ≡ Some q → IsTold p limit r → q ≡ price (read_by p) (depth_by p) (built p)
+price_told p limit r q is told =
+    let within : IsTold p limit (Some q) = subst (IsTold p limit) is told in
+    within.1
+
+-- it is the price of the outcome
+pub plan_priced : {A : Type 0} (o : Outcome) (read depth limit : ℕ) (p : Plan A) (r : Option Price) (q : Price) → Plans o read depth (Ok p) → r ≡ Some q → IsTold p limit r → PricesAll o read depth (Ok q)
+plan_priced o read depth limit p r q h is told =
+    let steps : q ≡ price (read_by p) depth (built p) = subst (λ d. q ≡ price (read_by p) d (built p)) h.2 (price_told p limit r q is told) in
+    let same : q ≡ price read depth (built p) = subst (λ n. q ≡ price n depth (built p)) h.1 steps in
+    subst (λ u. PricesAll u read depth (Ok q)) (sym h.0) same
+
+-- its depth is at least 1, and at most its work
+pub plan_deep : {A : Type 0} (p : Plan A) (limit : ℕ) (r : Option Price) (q : Price) → (1 ≤ depth_by p) × (depth_by p ≤ 1 + read_by p) → r ≡ Some q → IsTold p limit r → (1 ≤ q.depth) × (q.depth ≤ q.work)
+plan_deep p limit r q h is told =
+    subst (λ (x : Price). (1 ≤ x.depth) × (x.depth ≤ x.work)) (sym (price_told p limit r q is told)) (h.0, omega (arith, h.1))
 
 pub plan_built : {A E : Type 0} (o : Outcome) (read depth : ℕ) (p : Plan A) (r : Result (Value A) E) → Plans o read depth (Ok p) → IfOk r (λ v. tree_of v ≡ built p) → IfOk r (λ v. o ≡ gives (tree_of v))
 plan_built o read depth p (Ok v) h made = h.0 ∙ ap gives (sym made)
@@ -36,7 +52,7 @@ plan_built o read depth p (Err e) h made = tt
 abbrev pub HasRoom : {A : Type 0} → Plan A → Type 0
 HasRoom p = 1 + read_by p + (size (built p) - 1) < 2 ^ 128
 
-pub always_priced : {A : Type 0} (p : Plan A) (limit : ℕ) (r : Option Price) → HasRoom p → limit ≡ 2 ^ 128 - 1 → SomeIff r (1 + read_by p + (size (built p) - 1) ≤ limit) (price (read_by p) (depth_by p) (built p)) → IsSome r
+pub always_priced : {A : Type 0} (p : Plan A) (limit : ℕ) (r : Option Price) → HasRoom p → limit ≡ 2 ^ 128 - 1 → IsTold p limit r → IsSome r
 always_priced p limit (Some x) room is h = refl
 always_priced p limit None room is h = absurd (h (omega arith))
 

@@ -1,12 +1,11 @@
-// All functions: their plans, prices and results.
-ghost use Rattle.std.specs.Prelude.{◌≡◌, ◌+◌, ◌-◌, ◌≤◌, ◌<◌, ◌^◌, ℕ, IfOk, IfSome, IsSome, OnOk};
+// The plans of all functions, and their prices and results.
+ghost use Rattle.std.specs.Prelude.{◌≡◌, ◌+◌, ◌-◌, ◌≤◌, ◌<◌, ◌^◌, ℕ, IfOk, OnOk};
 ghost use Rattle.nesl_values.specs.Tree.{size};
 ghost use Rattle.nesl_values.specs.View.{tree_of};
 ghost use Rattle.nesl_seqs_base.specs.Lent.{argument_tree};
 ghost use Rattle.nesl_seqs_base.specs.Outcome.{Outcome, IsGiven, gives};
 ghost use Rattle.nesl_seqs_base.specs.Meaning.{outcome_of};
-ghost use Rattle.nesl_seqs_base.specs.Prices.{Prices, reads, depth_of};
-ghost use Rattle.nesl_seqs_base.specs.Prices.{PricesAll};
+ghost use Rattle.nesl_seqs_base.specs.Prices.{PricesAll, reads, depth_of};
 ghost use Rattle.nesl_seqs_fold.specs.Plans as folds;
 ghost use Rattle.nesl_seqs_build.specs.Plans as builds;
 ghost use Rattle.nesl_seqs_index.specs.Plans as indexes;
@@ -26,26 +25,8 @@ use nesl_seqs_index::{gather, permute, woven, write};
 use nesl_values::Value;
 use std::alloc::{AllocError, Allocator};
 
-/// The price of a function at an argument, where the work is at most the limit: known before anything
-/// is built, without memory, in a time that grows with the argument's length and the limit.
-#[tactic(auto, using(crate::proofs::Bounds::given_where_priced))]
-pub fn price_within<A: Allocator>(
-    function: SeqFn,
-    argument: Argument<'_, A>,
-    limit: u128,
-) -> Result<Option<Price>, Trap>
-    ensures given { IfOk result (λ o. IfSome o
-        (λ _. IsGiven (outcome_of function (argument_tree argument.entry)))) }
-    ensures price { Prices (outcome_of function (argument_tree argument.entry))
-        (reads function (argument_tree argument.entry))
-        (depth_of function (reads function (argument_tree argument.entry))) limit result }
-    ensures depth { IfOk result (λ o. IfSome o (λ p. (1 ≤ p.depth) × (p.depth ≤ p.work))) }
-{
-    price(function, argument, limit)
-}
-
-/// The price of a function at an argument, known before anything is built and without memory.
-#[tactic(auto, using(crate::proofs::Bounds::given_where_priced))]
+/// The price of a function at an argument, without a limit: `plan` and `Plan::price` in one call. It takes no memory.
+#[tactic(auto, using(crate::proofs::Planned::always_priced, crate::proofs::Planned::plan_given))]
 pub fn cost_and_size<A: Allocator>(
     function: SeqFn,
     argument: Argument<'_, A>,
@@ -57,7 +38,8 @@ pub fn cost_and_size<A: Allocator>(
     ensures depth { IfOk result (λ p. (1 ≤ p.depth) × (p.depth ≤ p.work)) }
 {
     has_few_nodes(argument);
-    match price(function, argument, u128::MAX)? {
+    let plan = plan(function, argument)?;
+    match plan.price(u128::MAX) {
         Some(price) => Ok(price),
         None => unreachable!(),
     }
@@ -83,23 +65,7 @@ fn has_few_nodes<A: Allocator>(argument: Argument<'_, A>)
     }
 }
 
-// The price of what is planned.
-fn price<A: Allocator>(
-    function: SeqFn,
-    argument: Argument<'_, A>,
-    limit: u128,
-) -> Result<Option<Price>, Trap>
-    ensures always { HasFewNodes argument.entry → limit ≡ 2 ^ 128 - 1
-        → IfOk result (λ p. IsSome p) }
-    ensures price { Prices (outcome_of function (argument_tree argument.entry))
-        (reads function (argument_tree argument.entry))
-        (depth_of function (reads function (argument_tree argument.entry))) limit result }
-{
-    let plan = plan(function, argument)?;
-    Ok(plan.price(limit))
-}
-
-/// The result of a function at an argument.
+/// The result of a function at an argument that has one: `plan` and `Plan::build` in one call.
 pub fn apply<A: Allocator + Copy>(
     alloc: A,
     function: SeqFn,

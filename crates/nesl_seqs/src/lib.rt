@@ -1,11 +1,11 @@
-//! The functions on sequences, priced before they are built.
+//! The functions on sequences: planned, priced within a limit, and only then built.
 #![tactic(auto)]
 
 mod functions;
 mod laws;
 mod plans;
 
-pub use functions::{apply, cost_and_size, plan, price_within};
+pub use functions::{apply, cost_and_size, plan};
 pub use laws::{
     counts_digits, cuts_the_whole, numbers_of_range, places_of_rotate, takes_and_drops,
     takes_every_other, tells_equality, tells_places, weaves, worked_calls, zips,

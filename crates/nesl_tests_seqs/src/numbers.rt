@@ -1,6 +1,6 @@
 //! Sequences from numbers.
-use crate::told::price_of;
-use nesl_seqs::{Argument, SeqFn, price_within};
+use crate::told::{price_of, price_within};
+use nesl_seqs::{Argument, SeqFn};
 use nesl_values::Value;
 use std::test::Fail;
 

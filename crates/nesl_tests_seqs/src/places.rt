@@ -1,8 +1,8 @@
 //! Elements at places that numbers tell.
 use crate::reading::{unpacked, value_of};
-use crate::told::{gives, price_of, traps};
+use crate::told::{gives, price_of, price_within, traps};
 use nesl_scalars::Trap;
-use nesl_seqs::{Argument, Price, SeqFn, price_within};
+use nesl_seqs::{Argument, Price, SeqFn};
 use nesl_values::Value;
 use std::alloc::{AllocError, Global};
 use std::test::Fail;

@@ -1,6 +1,6 @@
 //! Elements that are shared, and not copied.
-use crate::told::{ENOUGH, applied};
-use nesl_seqs::{Argument, SeqFn, price_within};
+use crate::told::{ENOUGH, applied, price_within};
+use nesl_seqs::{Argument, SeqFn};
 use nesl_values::Value;
 use std::alloc::{AllocError, Global};
 use std::test::Fail;

@@ -1,7 +1,7 @@
 //! What functions come to, and what the rows say of it.
 use crate::reading::{function_of, value_of};
 use nesl_scalars::Trap;
-use nesl_seqs::{Argument, Price, SeqFn, apply, cost_and_size, price_within};
+use nesl_seqs::{Argument, Price, SeqFn, apply, cost_and_size, plan};
 use nesl_values::Value;
 use std::alloc::{AllocError, Allocator, Global};
 use std::test::Fail;
@@ -11,6 +11,16 @@ pub const ENOUGH: u128 = 1 << 100;
 
 pub fn price_of(work: u128, depth: u64, nodes: u128) -> Price {
     Price { work, depth, nodes }
+}
+
+/// The price of the function at the argument, if its work is at most the limit.
+pub fn price_within<A: Allocator>(
+    function: SeqFn,
+    argument: Argument<'_, A>,
+    limit: u128,
+) -> Result<Option<Price>, Trap> {
+    let plan = plan(function, argument)?;
+    Ok(plan.price(limit))
 }
 
 // Whether the function comes to that result at that price, at the argument and at its parts.
@@ -45,21 +55,21 @@ fn gives_at(
     expected: &Value,
     price: Price,
 ) -> Result<bool, AllocError> {
-    match price_within(function, argument, 2_000_000) {
-        Ok(Some(told)) => Ok(told == price && apply(alloc, function, argument)?.same(expected)),
-        Ok(None) | Err(_) => Ok(false),
+    match plan(function, argument) {
+        Ok(plan) => Ok(plan.price(2_000_000) == Some(price) && plan.build(alloc)?.same(expected)),
+        Err(_) => Ok(false),
     }
 }
 
-/// What the function comes to, if it has a price.
+/// What the function comes to, unless it refuses the argument.
 pub fn applied<A: Allocator + Copy>(
     home: A,
     function: SeqFn,
     argument: Argument<'_, A>,
 ) -> Result<Option<Value<A>>, AllocError> {
-    match price_within(function, argument, ENOUGH) {
-        Ok(Some(_)) => Ok(Some(apply(home, function, argument)?)),
-        Ok(None) | Err(_) => Ok(None),
+    match cost_and_size(function, argument) {
+        Ok(_) => Ok(Some(apply(home, function, argument)?)),
+        Err(_) => Ok(None),
     }
 }
 
@@ -104,14 +114,6 @@ fn stops_below(function: SeqFn, argument: &Value, work: u128) -> bool {
         && price_within(function, argument, less) == Ok(None)
 }
 
-// The price where there is no limit. The arguments of the tables are small.
-fn whole_price(function: SeqFn, argument: &Value) -> Result<Option<Price>, Trap> {
-    match argument.nodes_up_to(1_000_000) {
-        Some(_) => Ok(Some(cost_and_size(function, Argument::One(argument))?)),
-        None => Ok(None),
-    }
-}
-
 // Whether a price is the one that a row has: the work, the depth and the nodes.
 fn is_price(alloc: Global, price: Price, wanted: &str) -> Result<bool, AllocError> {
     let (work, depth, nodes) = (price.work, price.depth, price.nodes);
@@ -126,7 +128,7 @@ fn comes_to(
     expected: &Value,
     wanted: &str,
 ) -> Result<bool, AllocError> {
-    let Ok(Some(price)) = whole_price(function, argument) else {
+    let Ok(price) = cost_and_size(function, Argument::One(argument)) else {
         return Ok(false);
     };
     Ok(
@@ -148,7 +150,7 @@ fn is_refused(
     argument: &Value,
     name: &str,
 ) -> Result<bool, AllocError> {
-    let Err(trap) = whole_price(function, argument) else {
+    let Err(trap) = cost_and_size(function, Argument::One(argument)) else {
         return Ok(false);
     };
     Ok(

@@ -23,8 +23,8 @@ use Rattle.nesl_eval_nodes.proofs.Lookups.{frames-Let, frames-Row, frames-Argume
 use Rattle.nesl_eval_nodes.proofs.Runs.{has_entered, not_entered, memory_any, meets_then, meets_err, meets_two}
 use Rattle.nesl_eval_nodes.proofs.Loops.{kept, next_part, part_stops, all_done}
 use Rattle.nesl_eval_nodes.proofs.Names.{same_stop}
-use Rattle.nesl_eval_nodes.proofs.Making.{keeps_truth, branch_yes, branch_no, branch_none, entered_then, pair_then, meets_pair, pair_stops, made_stands, held_called, made_value}
-use Rattle.nesl_eval_nodes.proofs.Rows.{node-Sequence, node-Let, node-Each, node-FilteredEach}
+use Rattle.nesl_eval_nodes.proofs.Making.{keeps_truth, branch_yes, branch_no, branch_none, entered_then, pair_then, meets_pair, pair_stops, held_called, made_value}
+use Rattle.nesl_eval_nodes.proofs.Rows.{node-Let}
 use Rattle.nesl_eval_nodes.proofs.Sides.{turn_stops, turn_next, turns_done}
 use Rattle.nesl_eval_nodes.proofs.Arms.{drop_next, drop_past, range_next, range_past, over_runs, over_stops, LenIs}
 use Rattle.std.proofs.lemmas.List.FromFn.{length-range_with_len}
