@@ -1,5 +1,4 @@
 -- The functions on sequences keep types.
-use Rattle.nesl_types_bank.specs.Term.{Term}
 use Rattle.nesl_seqs_base.specs.Meaning.{outcome_of}
 use Rattle.nesl_seqs_base.specs.declared.seq_fn.SeqFn.TheVariants as f
 use Rattle.nesl_seqs_base.specs.declared.order.Order.TheVariants.{Greatest, Least}

@@ -172,7 +172,7 @@ module _ {P : Type 0} (old new : List (List ℕ × Top × P)) (held : ℕ → Op
           given = typed_map s w w' maps e (λ y. binds y p) h.parts b hides (λ y q. own_maps limit f a b y (λ n. still y n q)) h.given;
         }
 
-  -- the same types
+  -- a body still has the types that it had
   body_same : (of : ℕ → Class) (f : Name) (p : PatternTree) (e : Tree) (a b : Term)
       → ((y : Name) (d : ℕ × Term) → as_datatype (top_in old y) ≡ Some d → as_datatype (top_in new y) ≡ Some d)
       → ((y : Name) → bytes_eq y f ≡ false → body_refers y p e ≡ true → StillMeans (top_in old y) (top_in new y))

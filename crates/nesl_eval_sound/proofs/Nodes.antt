@@ -19,7 +19,7 @@ use Rattle.nesl_types_bank.specs.Term as type
 use Rattle.nesl_scalars.specs.declared.trap.Trap.TheVariants as trap
 use Rattle.nesl_seqs_base.specs.declared.seq_fn.SeqFn.TheVariants as seq
 use Rattle.nesl_seqs_base.specs.Meaning.{outcome_of}
-use Rattle.nesl_syntax_tree.specs.Trees.{PatternTree, Tree, Trees, Shape, Binders, node, none, more, no_binders, binder}
+use Rattle.nesl_syntax_tree.specs.Trees.{Tree, Trees, Shape, Binders, node, none, more, no_binders, binder}
 use Rattle.nesl_syntax_tree.specs.Trees as trees
 use Rattle.nesl_builtins.specs.declared.builtin.Builtin.{Builtin}
 use Rattle.nesl_builtins.specs.declared.builtin.Builtin.TheVariants.{OfSequences}
@@ -67,7 +67,7 @@ module _ (P : Type 0) (context : List (List ℕ × Top × P)) (held : ℕ → Op
   KeepTypes f = (of : ℕ → Class) (limit : Option ℕ) (own : OwnFunction) → IsKnown of own → (vs : evaluated.Scope) (ts : LocalTypes) → Fits held vs.names vs.element ts
       → (e : Tree) (t : Term) → typing.HasType (world context of limit own) ts e t → IsFine (Of t) (f vs e)
 
-  -- the same, of an equal type
+  -- what is fine at a type is fine at an equal one
   at_type : (t u : Term) → t ≡ u → (o : Out Value) → IsFine (Of u) o → IsFine (Of t) o
   at_type t u e o h = subst (λ t. IsFine (Of t) o) (sym e) h
 

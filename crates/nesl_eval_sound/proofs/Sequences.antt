@@ -26,6 +26,7 @@ use Rattle.nesl_seqs_base.specs.Permute.{permuted, rearranged, all_differ}
 use Rattle.nesl_seqs_base.specs.Places.{all_name_places, places_named, elements_at, at_places, arrival}
 use Rattle.nesl_seqs_base.specs.Write.{int_and_tree, written, overwritten}
 use Rattle.nesl_seqs_base.specs.Meaning.{outcome_of}
+use Rattle.nesl_seqs_base.specs.declared.order.Best.{Best}
 use Rattle.nesl_seqs_base.specs.declared.order.Order.{Order}
 use Rattle.nesl_seqs_base.specs.declared.order.Kind.{Kind}
 use Rattle.nesl_seqs_base.specs.declared.order.Kind.TheVariants.{Numbers, Codes}
@@ -288,22 +289,22 @@ module _ (held : ℕ → Option Term) where
   chooses f (Some x) t h = h x
 
   -- of numbers, and of characters: whatever the first reading has, it is of the type
-  numbers_first : (o : Order) (k : Kind → ℕ × ℤ → ValueTree) (u : Term) (v : ValueTree) (zs : Option (List ℤ)) → Reads zs (Each Any) → ((b : ℕ × ℤ) → HasType held (k Numbers b) u)
+  numbers_first : (o : Order) (k : Kind → Best → ValueTree) (u : Term) (v : ValueTree) (zs : Option (List ℤ)) → Reads zs (Each Any) → ((b : Best) → HasType held (k Numbers b) u)
       → OutcomeHasType held (if_there_or zs (λ zs. or_empty (k Numbers) (best o zs)) (if_there (option_and_then (all_of (key Codes)) (as_sequence v)) (λ zs. or_empty (k Codes) (best o zs)))) u
   numbers_first o k u v None r j = absurd r
   numbers_first o k u v (Some zs) r j = chooses (k Numbers) (best o zs) u j
 
   best_int : (o : Order) (v : ValueTree) → HasType held v (type.seq_of type.int) → OutcomeHasType held (best_element o v) type.int
   best_int o v h =
-      numbers_first o (λ k b. element_of k b.1) type.int v (option_and_then (all_of (key Numbers)) (as_sequence v)) (reads_elements held Any type.int (key Numbers) v (reads_int held) h) (λ b. tt)
+      numbers_first o (λ k b. element_of k b.key) type.int v (option_and_then (all_of (key Numbers)) (as_sequence v)) (reads_elements held Any type.int (key Numbers) v (reads_int held) h) (λ b. tt)
 
   place_int : (o : Order) (v : ValueTree) → HasType held v (type.seq_of type.int) → OutcomeHasType held (best_place o v) type.int
   place_int o v h =
-      numbers_first o (λ k b. int (pos b.0)) type.int v (option_and_then (all_of (key Numbers)) (as_sequence v)) (reads_elements held Any type.int (key Numbers) v (reads_int held) h) (λ b. tt)
+      numbers_first o (λ k b. int (pos b.place)) type.int v (option_and_then (all_of (key Numbers)) (as_sequence v)) (reads_elements held Any type.int (key Numbers) v (reads_int held) h) (λ b. tt)
 
   -- a sequence of characters has no numbers, or is empty
-  codes_only : (vs : ValueTrees) → EachHasType held vs type.char → (o : Order) (u : Term) (k : Kind → ℕ × ℤ → ValueTree)
-      → ((b : ℕ × ℤ) → HasType held (k Codes b) u) → OutcomeHasType held (of_best o k (seq vs)) u
+  codes_only : (vs : ValueTrees) → EachHasType held vs type.char → (o : Order) (u : Term) (k : Kind → Best → ValueTree)
+      → ((b : Best) → HasType held (k Codes b) u) → OutcomeHasType held (of_best o k (seq vs)) u
   codes_only no_trees h o u k j = tt
   codes_only (tree_then (character c) vs) h o u k j =
       read_given held (Each Any) (all_of (key Codes) (character c ∷ list_of vs)) (λ zs. or_empty (k Codes) (best o zs)) u
@@ -316,11 +317,11 @@ module _ (held : ℕ → Option Term) where
   codes_only (tree_then v vs) h o u k j = absurd h.0
 
   best_char : (o : Order) (v : ValueTree) → HasType held v (type.seq_of type.char) → OutcomeHasType held (best_element o v) type.char
-  best_char o (seq vs) h = codes_only vs h o type.char (λ k b. element_of k b.1) (λ b. tt)
+  best_char o (seq vs) h = codes_only vs h o type.char (λ k b. element_of k b.key) (λ b. tt)
   best_char o v h = absurd h
 
   place_char : (o : Order) (v : ValueTree) → HasType held v (type.seq_of type.char) → OutcomeHasType held (best_place o v) type.int
-  place_char o (seq vs) h = codes_only vs h o type.int (λ k b. int (pos b.0)) (λ b. tt)
+  place_char o (seq vs) h = codes_only vs h o type.int (λ k b. int (pos b.place)) (λ b. tt)
   place_char o v h = absurd h
 
   pub keeps_best : (o : Order) (a : Term) → ((a ≡ type.int) ⊎ (a ≡ type.char)) → (v : ValueTree) → HasType held v (type.seq_of a) → OutcomeHasType held (best_element o v) a

@@ -4,14 +4,14 @@
 use Rattle.std.specs.Prelude.{◌≡◌, ℕ, zero, suc, true, List, [], ◌∷◌, codes}
 use Rattle.nesl_lex.specs.declared.token.Span.{Span}
 use Rattle.nesl_syntax_tree.specs.declared.tree.Operator.TheVariants as sign
-use Rattle.nesl_syntax_tree.specs.Trees.{PatternTree, Tree, Shape, Binders, pattern, node}
+use Rattle.nesl_syntax_tree.specs.Trees.{PatternTree, Tree, Binders, pattern, node}
 use Rattle.nesl_syntax_tree.specs.Trees as trees
 use Rattle.nesl_types.specs.declared.bindings.Top.{Top}
 use Rattle.nesl_types.specs.declared.bindings.Top.TheVariants as top
 use Rattle.nesl_types.specs.declared.classes.Class.TheVariants.{Any}
 use Rattle.nesl_types.specs.declared.schemes.Scheme.{Scheme}
 use Rattle.nesl_types_bank.specs.Term.{Term, int, bool, char, variable, seq_of, pair_of, nodes}
-use Rattle.nesl_eval_meaning.specs.Names.{Environment, function_of, outside, datatype_of}
+use Rattle.nesl_eval_meaning.specs.Names.{function_of, outside, datatype_of}
 use Rattle.nesl_eval_meaning.specs.Names as evaluated
 use Rattle.nesl_eval_meaning.specs.Outcome.{out}
 use Rattle.nesl_eval_sound.specs.HasType.{HasType}

@@ -1,6 +1,6 @@
 -- No price of a function on places is above what its numbers hold, where lent values have fewer than 2^64
 -- nodes each.
-use Rattle.std.proofs.Common.{◌≡◌, ℕ, ℤ, zero, suc, ◌+◌, ◌-◌, ◌*◌, ◌^◌, ◌<◌, ◌≤◌, Bool, true, false, nat_le, List, [], ◌∷◌, length, map, refl, ap, sym, ◌∙◌, arith, Option, Some, None, is_some, slice_get, Err, subst}
+use Rattle.std.proofs.Common.{◌≡◌, ℕ, ℤ, zero, suc, ◌+◌, ◌-◌, ◌*◌, ◌^◌, ◌<◌, ◌≤◌, Bool, true, false, nat_le, List, [], ◌∷◌, length, map, refl, ap, sym, ◌∙◌, arith, Option, Some, None, is_some, slice_get, subst}
 use Rattle.std.specs.List.{list_all, cons_option}
 use Rattle.std.proofs.Math.Nat.{mul_comm, mul-add, mul-le-mul_left}
 use Rattle.std.proofs.lemmas.Bool.Decides.{nat_tests}
@@ -14,7 +14,7 @@ use Rattle.nesl_seqs_base.specs.Reductions.{all_of}
 use Rattle.nesl_seqs_base.specs.Places.{place_in, all_name_places, places_named, elements_at}
 use Rattle.nesl_seqs_base.specs.Gather.{gathered}
 use Rattle.nesl_seqs_base.specs.Permute.{permuted}
-use Rattle.nesl_seqs_base.specs.Prices.{Prices, reads}
+use Rattle.nesl_seqs_base.specs.Prices.{reads}
 use Rattle.nesl_seqs_base.specs.Meaning.{outcome_of}
 use Rattle.nesl_seqs_base.specs.Lent.{argument_tree}
 use Rattle.nesl_seqs_base.specs.declared.argument.Argument.{Argument}
@@ -26,7 +26,7 @@ use Rattle.nesl_seqs.proofs.Bounds.{Fits, IsBounded, fits_if}
 use Rattle.nesl_seqs_base.proofs.Sizes.{sizes_list, length_le}
 use Rattle.nesl_seqs_index.proofs.Permuting.{by_outcome, size_rearranged}
 use Rattle.nesl_seqs_index.proofs.Writing.{given_written, refused_write, sizes_overwritten}
-use Rattle.nesl_seqs_index.proofs.Picking.{are_ints, length_found}
+use Rattle.nesl_seqs_index.proofs.Picking.{IsRefused, are_ints, length_found}
 
 -- the product of two numbers is at most the square of their mean
 product_le : (m s d k : ℕ) → k ≡ m + d → s ≤ k + d → m * s ≤ k * k
@@ -88,7 +88,7 @@ bounded_gather (Argument.One x) h = few_gathered (tree_of x.now) (omega (arith, 
 bounded_gather (Argument.Two x y) h = few_gathered (pair (tree_of x.now) (tree_of y.now)) (omega (arith, h.0, h.1))
 bounded_gather (Argument.Three x y z) h = none_gathered (tree_of x.now) (tree_of y.now) (tree_of z.now)
 
-fits_refused : (o : Outcome) (e : Trap) (read : ℕ) → Prices o 0 0 0 (Err e) → Fits o read
+fits_refused : (o : Outcome) (e : Trap) (read : ℕ) → IsRefused o e → Fits o read
 fits_refused (gives t) e read p = absurd p
 fits_refused (traps d) e read p = tt
 fits_refused undefined e read p = tt
@@ -107,7 +107,7 @@ fits_written ts us h = subst (λ js. Fits (if_there (all_of int_and_tree js) (wr
     by_test : (b : Bool) → list_all (λ p. is_some (write_of (length ts) p)) us ≡ b → Fits (if_there (all_of int_and_tree (map (λ t. t) us)) (written ts)) (length ts + length us)
     by_test true e =
         rw (given_written (λ t. t) us ts e) (omega (arith, h, length_le ts, length_le us, sizes_overwritten ts (length ts) (map (λ t. t) us), ap (λ js. sizes (trees_of js)) (map-id us)))
-    by_test false e = fits_refused (if_there (all_of int_and_tree (map (λ t. t) us)) (written ts)) Range (length ts + length us) (refused_write (λ t. t) us ts 0 0 0 e)
+    by_test false e = fits_refused (if_there (all_of int_and_tree (map (λ t. t) us)) (written ts)) Range (length ts + length us) (refused_write (λ t. t) us ts e)
 
 pub bounded_write : IsBounded Write
 bounded_write (pair (seq ts) (seq us)) h = fits_written (list_of ts) (list_of us) (omega (arith, sizes_list ts, sizes_list us))

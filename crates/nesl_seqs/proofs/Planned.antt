@@ -7,7 +7,7 @@ use Rattle.nesl_values.specs.declared.value.Value.{Value}
 use Rattle.nesl_seqs_base.specs.Lent.{argument_tree}
 use Rattle.nesl_seqs_base.specs.Meaning.{outcome_of}
 use Rattle.nesl_seqs_base.specs.Outcome.{Outcome, IsGiven, gives}
-use Rattle.nesl_seqs_base.specs.Prices.{PricesAll, price, depth_of}
+use Rattle.nesl_seqs_base.specs.Prices.{Prices, price, depth_of}
 use Rattle.nesl_seqs_base.specs.declared.argument.Argument.{Argument}
 use Rattle.nesl_seqs_base.specs.declared.price.Price.{Price}
 use Rattle.nesl_seqs_base.specs.declared.seq_fn.SeqFn.{SeqFn}
@@ -33,11 +33,11 @@ price_told p limit r q is told =
     within.1
 
 -- it is the price of the outcome
-pub plan_priced : {A : Type 0} (o : Outcome) (read depth limit : ℕ) (p : Plan A) (r : Option Price) (q : Price) → Plans o read depth (Ok p) → r ≡ Some q → IsTold p limit r → PricesAll o read depth (Ok q)
+pub plan_priced : {A : Type 0} (o : Outcome) (read depth limit : ℕ) (p : Plan A) (r : Option Price) (q : Price) → Plans o read depth (Ok p) → r ≡ Some q → IsTold p limit r → Prices o read depth (Ok q)
 plan_priced o read depth limit p r q h is told =
     let steps : q ≡ price (read_by p) depth (built p) = subst (λ d. q ≡ price (read_by p) d (built p)) h.2 (price_told p limit r q is told) in
     let same : q ≡ price read depth (built p) = subst (λ n. q ≡ price n depth (built p)) h.1 steps in
-    subst (λ u. PricesAll u read depth (Ok q)) (sym h.0) same
+    subst (λ u. Prices u read depth (Ok q)) (sym h.0) same
 
 -- its depth is at least 1, and at most its work
 pub plan_deep : {A : Type 0} (p : Plan A) (limit : ℕ) (r : Option Price) (q : Price) → (1 ≤ depth_by p) × (depth_by p ≤ 1 + read_by p) → r ≡ Some q → IsTold p limit r → (1 ≤ q.depth) × (q.depth ≤ q.work)

@@ -10,6 +10,7 @@ use Rattle.nesl_seqs_base.specs.Prices.{length_of}
 use Rattle.nesl_seqs_base.specs.Extremes.{key, element_of, best, or_empty, of_best}
 use Rattle.nesl_seqs_base.specs.Scans.{before_each, plus_scanned, joined_truths, joined_bits, logic_scanned}
 use Rattle.nesl_seqs_fold.specs.Leaves.{logic_of}
+use Rattle.nesl_seqs_base.specs.declared.order.Best.{Best}
 use Rattle.nesl_seqs_base.specs.declared.order.Order.{Order}
 use Rattle.nesl_seqs_base.specs.declared.order.Order.TheVariants.{Greatest, Least}
 use Rattle.nesl_seqs_base.specs.declared.order.Kind.{Kind}
@@ -32,7 +33,7 @@ fits_chosen : {X : Type 0} (f : X → ValueTree) (o : Option X) (n : ℕ) → n 
 fits_chosen f None n h leaf = tt
 fits_chosen f (Some x) n h leaf = omega (arith, leaf x)
 
-fits_best : (o : Order) (f : Kind → ℕ × ℤ → ValueTree) (t : ValueTree) (n : ℕ) → n < 2 ^ 66 → ((k : Kind) (b : ℕ × ℤ) → size (f k b) ≡ 1) → Fits (of_best o f t) n
+fits_best : (o : Order) (f : Kind → Best → ValueTree) (t : ValueTree) (n : ℕ) → n < 2 ^ 66 → ((k : Kind) (b : Best) → size (f k b) ≡ 1) → Fits (of_best o f t) n
 fits_best o f t n h leaf =
     fits_first (option_and_then (all_of (key Numbers)) (as_sequence t)) (λ zs. or_empty (f Numbers) (best o zs)) _ n (λ zs. fits_chosen (f Numbers) (best o zs) n h (leaf Numbers)) (fits_given (option_and_then (all_of (key Codes)) (as_sequence t)) (λ zs. or_empty (f Codes) (best o zs)) n (λ zs. fits_chosen (f Codes) (best o zs) n h (leaf Codes)))
 
@@ -41,16 +42,16 @@ element_leaf Numbers z = refl
 element_leaf Codes z = refl
 
 pub bounded_max_val : IsBounded MaxVal
-bounded_max_val t h = fits_best Greatest (λ k b. element_of k b.1) t (length_of t) (length_below t h) (λ k b. element_leaf k b.1)
+bounded_max_val t h = fits_best Greatest (λ k b. element_of k b.key) t (length_of t) (length_below t h) (λ k b. element_leaf k b.key)
 
 pub bounded_min_val : IsBounded MinVal
-bounded_min_val t h = fits_best Least (λ k b. element_of k b.1) t (length_of t) (length_below t h) (λ k b. element_leaf k b.1)
+bounded_min_val t h = fits_best Least (λ k b. element_of k b.key) t (length_of t) (length_below t h) (λ k b. element_leaf k b.key)
 
 pub bounded_max_index : IsBounded MaxIndex
-bounded_max_index t h = fits_best Greatest (λ k b. int (pos b.0)) t (length_of t) (length_below t h) (λ k b. refl)
+bounded_max_index t h = fits_best Greatest (λ k b. int (pos b.place)) t (length_of t) (length_below t h) (λ k b. refl)
 
 pub bounded_min_index : IsBounded MinIndex
-bounded_min_index t h = fits_best Least (λ k b. int (pos b.0)) t (length_of t) (length_below t h) (λ k b. refl)
+bounded_min_index t h = fits_best Least (λ k b. int (pos b.place)) t (length_of t) (length_below t h) (λ k b. refl)
 
 fits_sums : (ts : List ValueTree) → length ts < 2 ^ 66 → Fits (if_there (all_of as_int ts) plus_scanned) (length ts)
 fits_sums ts h = by (all_of as_int ts) refl

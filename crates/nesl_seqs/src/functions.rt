@@ -5,7 +5,7 @@ ghost use Rattle.nesl_values.specs.View.{tree_of};
 ghost use Rattle.nesl_seqs_base.specs.Lent.{argument_tree};
 ghost use Rattle.nesl_seqs_base.specs.Outcome.{Outcome, IsGiven, gives};
 ghost use Rattle.nesl_seqs_base.specs.Meaning.{outcome_of};
-ghost use Rattle.nesl_seqs_base.specs.Prices.{PricesAll, reads, depth_of};
+ghost use Rattle.nesl_seqs_base.specs.Prices.{Prices, reads, depth_of};
 ghost use Rattle.nesl_seqs_fold.specs.Plans as folds;
 ghost use Rattle.nesl_seqs_build.specs.Plans as builds;
 ghost use Rattle.nesl_seqs_index.specs.Plans as indexes;
@@ -32,7 +32,7 @@ pub fn cost_and_size<A: Allocator>(
     argument: Argument<'_, A>,
 ) -> Result<Price, Trap>
     ensures given { OnOk result (IsGiven (outcome_of function (argument_tree argument.entry))) }
-    ensures price { PricesAll (outcome_of function (argument_tree argument.entry))
+    ensures price { Prices (outcome_of function (argument_tree argument.entry))
         (reads function (argument_tree argument.entry))
         (depth_of function (reads function (argument_tree argument.entry))) result }
     ensures depth { IfOk result (λ p. (1 ≤ p.depth) × (p.depth ≤ p.work)) }

@@ -4,5 +4,4 @@ pub mod Priced
 pub mod Shapes
 pub mod Sizes
 pub mod Totals
-pub mod Turns
 pub mod Weaving

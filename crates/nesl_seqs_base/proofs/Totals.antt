@@ -1,15 +1,7 @@
 -- Sums of nodes.
-use Rattle.std.proofs.Common.{◌≡◌, ℕ, suc, ◌+◌, ◌-◌, ◌<◌, ◌≤◌, set, List, [], ◌∷◌, ◌++◌, length, map, take, drop, reverse, refl, ap, sym, ◌∙◌, arith, Option, Some, None, SomeIff, slice_range, append_assoc}
-use Rattle.std.proofs.lemmas.List.{take-map, drop-map, map-append, reverse-append, set_split}
+use Rattle.std.proofs.Common.{◌≡◌, ℕ, suc, ◌+◌, ◌-◌, ◌<◌, set, List, [], ◌∷◌, ◌++◌, length, map, take, drop, reverse, refl, ap, sym, ◌∙◌, arith, slice_range}
+use Rattle.std.proofs.lemmas.List.{map-append, reverse-append, set_split}
 use Rattle.nesl_values.specs.Tree.{ValueTree, size, sizes, trees_of, sequence}
-
--- what is below a root that is counted
-pub below_within : (s n limit : ℕ) (o : Option ℕ) → s ≡ 1 + n → SomeIff o (n ≤ limit) n → SomeIff o (s ≤ limit + 1) (s - 1)
-below_within s n limit (Some x) is h = (omega (arith, h.0), omega (arith, h.1))
-below_within s n limit None is h = λ p. h (omega arith)
-
-pub slice_range-map : {X : Type 0} (leaf : X → ValueTree) (xs : List X) (start end : ℕ) → map leaf (slice_range xs start end) ≡ slice_range (map leaf xs) start end
-slice_range-map leaf xs start end = sym (ap (take (end - start)) (drop-map leaf start xs) ∙ take-map leaf (end - start) (drop start xs))
 
 pub sizes_append : (xs ys : List ValueTree) → sizes (trees_of (xs ++ ys)) ≡ sizes (trees_of xs) + sizes (trees_of ys)
 sizes_append [] ys = omega arith
@@ -32,11 +24,6 @@ replaced_parts ts i x h =
 
 pub size_replaced : (ts : List ValueTree) (i : ℕ) (x : ValueTree) → i < length ts → size (sequence (set ts i x)) ≡ 1 + ((sizes (trees_of (take i ts)) + sizes (trees_of (drop (i + 1) ts))) + size x)
 size_replaced ts i x h = ap (λ us. size (sequence us)) (replaced_parts ts i x h) ∙ omega (arith, sizes_append (take i ts) (x ∷ drop (i + 1) ts))
-
-pub put_together : (a b d front back none : List ValueTree) (x y : ValueTree) → none ≡ [] → a ≡ none ++ front → b ≡ a ++ x ∷ [] → d ≡ b ++ back → x ≡ y → d ≡ front ++ y ∷ back
-put_together a b d front back none x y e p q r is =
-    let first : a ≡ front = p ∙ ap (λ v. v ++ front) e in
-    r ∙ ap (λ v. v ++ back) q ∙ append_assoc a (x ∷ []) back ∙ ap (λ v. v ++ x ∷ back) first ∙ ap (λ z. front ++ z ∷ back) is
 
 pub front_range : (n : ℕ) (ts : List ValueTree) → slice_range ts 0 n ≡ take n ts
 front_range n ts =

@@ -81,9 +81,6 @@ seen_at f xs i x y h at is = is ∙ ap f at ∙ sym (get_or-map f xs i x y h)
 pub sizes_next : (ts : List ValueTree) (p : ℕ) (t : ValueTree) → 2 * p < length ts → t ≡ get_or ts (2 * p) t → sizes (trees_of (evens (drop (2 * p) ts))) ≡ size t + sizes (trees_of (evens (drop (2 * (p + 1)) ts)))
 sizes_next ts p t h at = ap (λ us. sizes (trees_of us)) (evens_next ts p t h at)
 
-pub sizes_end : (ts : List ValueTree) (p : ℕ) → length ts ≤ 2 * p → sizes (trees_of (evens (drop (2 * p) ts))) ≡ 0
-sizes_end ts p h = ap (λ us. sizes (trees_of (evens us))) (drop_all (2 * p) ts h)
-
 pub map_evens : {X Y : Type 0} (f : X → Y) (xs : List X) → map f (evens xs) ≡ evens (map f xs)
 map_evens f [] = refl
 map_evens f (x ∷ []) = refl

@@ -7,6 +7,7 @@ use Rattle.nesl_values.specs.Tree.{ValueTree, int, character}
 use Rattle.nesl_values.specs.Parts.{as_int, as_char, as_sequence}
 use Rattle.nesl_seqs_base.specs.Outcome.{Outcome, gives, traps, if_there, if_there_or}
 use Rattle.nesl_seqs_base.specs.Reductions.{all_of}
+use Rattle.nesl_seqs_base.specs.declared.order.Best.{Best}
 use Rattle.nesl_seqs_base.specs.declared.order.Order.{Order}
 use Rattle.nesl_seqs_base.specs.declared.order.Order.TheVariants.{Greatest, Least}
 use Rattle.nesl_seqs_base.specs.declared.order.Kind.{Kind}
@@ -27,10 +28,14 @@ abbrev pub leads : Order → ℤ → ℤ → Bool
 leads Greatest y z = int_le z y
 leads Least y z = int_le y z
 
--- the first place whose number no other exceeds, and this number; for the least alike
-abbrev pub best : Order → List ℤ → Option (ℕ × ℤ)
+-- the element at a place, with its number
+abbrev pub element_with : ℕ → ℤ → Best
+element_with i z = record { place = i; key = z }
+
+-- the first element whose number no other exceeds; for the least alike
+abbrev pub best : Order → List ℤ → Option Best
 best o zs =
-    option_and_then (λ i. option_map (λ z. (i, z)) (slice_get zs i)) (position (λ z. list_all (leads o z) zs) zs)
+    option_and_then (λ i. option_map (element_with i) (slice_get zs i)) (position (λ z. list_all (leads o z) zs) zs)
 
 -- what is told of the best, where there is one
 abbrev pub or_empty : {X : Type 0} → (X → ValueTree) → Option X → Outcome
@@ -38,15 +43,15 @@ or_empty f (Some x) = gives (f x)
 or_empty f None = traps Empty
 
 -- what is told of the best of numbers, or of characters
-abbrev pub of_best : Order → (Kind → ℕ × ℤ → ValueTree) → ValueTree → Outcome
+abbrev pub of_best : Order → (Kind → Best → ValueTree) → ValueTree → Outcome
 of_best o f t =
     if_there_or (option_and_then (all_of (key Numbers)) (as_sequence t)) (λ zs. or_empty (f Numbers) (best o zs))
     (if_there (option_and_then (all_of (key Codes)) (as_sequence t)) (λ zs. or_empty (f Codes) (best o zs)))
 
 -- `max_val(v)` and `min_val(v)`
 abbrev pub best_element : Order → ValueTree → Outcome
-best_element o t = of_best o (λ k b. element_of k b.1) t
+best_element o t = of_best o (λ k b. element_of k b.key) t
 
 -- `max_index(v)` and `min_index(v)`
 abbrev pub best_place : Order → ValueTree → Outcome
-best_place o t = of_best o (λ k b. int (pos b.0)) t
+best_place o t = of_best o (λ k b. int (pos b.place)) t

@@ -1,6 +1,6 @@
 -- What a function costs, from its argument and its result alone.
-use Rattle.std.specs.Prelude.{◌≡◌, ℕ, zero, suc, ◌+◌, ◌-◌, ◌^◌, ◌≤◌, cond, nat_le, length, Option, option_map}
-use Rattle.std.specs.Prelude.{unwrap_or, SomeIff, Result}
+use Rattle.std.specs.Prelude.{◌≡◌, ℕ, zero, suc, ◌+◌, ◌-◌, ◌^◌, cond, nat_le, length, option_map}
+use Rattle.std.specs.Prelude.{unwrap_or, Result}
 use Rattle.nesl_scalars.specs.declared.trap.Trap.{Trap}
 use Rattle.nesl_values.specs.Tree.{ValueTree, size}
 use Rattle.nesl_values.specs.Parts.{as_pair, as_sequence}
@@ -88,11 +88,6 @@ depth_of _ n = 1
 abbrev pub price : ℕ → ℕ → ValueTree → Price
 price read depth t = record { work = 1 + read + (size t - 1); depth = depth; nodes = size t }
 
--- what an outcome is priced as: a result within the limit by its price, one beyond it by none, a refusal by itself
-abbrev pub Prices : Outcome → ℕ → ℕ → ℕ → Result (Option Price) Trap → Type 0
-Prices o read depth limit r =
-    OutcomeGives (λ t p. SomeIff p (1 + read + (size t - 1) ≤ limit) (price read depth t)) o r
-
--- the same where there is no limit
-abbrev pub PricesAll : Outcome → ℕ → ℕ → Result Price Trap → Type 0
-PricesAll o read depth r = OutcomeGives (λ t p. p ≡ price read depth t) o r
+-- what an outcome is priced as: a result by its price, a refusal by itself
+abbrev pub Prices : Outcome → ℕ → ℕ → Result Price Trap → Type 0
+Prices o read depth r = OutcomeGives (λ t p. p ≡ price read depth t) o r

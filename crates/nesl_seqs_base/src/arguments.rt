@@ -14,6 +14,21 @@ use std::alloc::Allocator;
 /// What stands for the fault of an argument of a wrong shape, of which nothing is said.
 pub const WRONG_SHAPE: Trap = Trap::Range;
 
+/// The numbers of `[start:end:step]`.
+#[derive(Clone, Copy)]
+pub struct SteppedRange {
+    pub start: i64,
+    pub end: i64,
+    pub step: i64,
+}
+
+/// The arguments of `rep`: the items, and what comes in place of one of them.
+pub struct Replacement<'a, A: Allocator> {
+    pub items: Items<'a, A>,
+    pub item: &'a Value<A>,
+    pub place: i64,
+}
+
 /// A sequence.
 pub fn sequence<A: Allocator>(argument: Argument<'_, A>) -> Option<Items<'_, A>>
     ensures len { IfSome result (λ items. length (item_trees items) < 2 ^ 63) }
@@ -81,24 +96,23 @@ pub fn two_ints<A: Allocator>(argument: Argument<'_, A>) -> Option<(i64, i64)>
 }
 
 /// Three numbers.
-pub fn three_ints<A: Allocator>(argument: Argument<'_, A>) -> Option<(i64, (i64, i64))>
-    ensures { result ≡ three_ints (argument_tree argument.entry) }
+pub fn as_stepped_range<A: Allocator>(argument: Argument<'_, A>) -> Option<SteppedRange>
+    ensures { option_map (λ r. (r.start, (r.end, r.step))) result
+        ≡ three_ints (argument_tree argument.entry) }
 {
     let (first, rest) = argument.as_pair()?;
-    let one = first.as_int()?;
-    let others = two_ints(rest)?;
-    Some((one, others))
+    let start = first.as_int()?;
+    let (end, step) = two_ints(rest)?;
+    Some(SteppedRange { start, end, step })
 }
 
 /// A sequence, anything and a number.
-pub fn sequence_item_place<A: Allocator>(
-    argument: Argument<'_, A>,
-) -> Option<(Items<'_, A>, (&Value<A>, i64))>
-    ensures { option_map (λ p. (item_trees p.0, (tree_of p.1.0.now, p.1.1))) result
+pub fn as_replacement<A: Allocator>(argument: Argument<'_, A>) -> Option<Replacement<'_, A>>
+    ensures { option_map (λ r. (item_trees r.items, (tree_of r.item.now, r.place))) result
         ≡ sequence_item_place (argument_tree argument.entry) }
 {
     let (first, rest) = argument.as_pair()?;
     let items = elements(first)?;
-    let others = tree_and_int(rest)?;
-    Some((items, others))
+    let (item, place) = tree_and_int(rest)?;
+    Some(Replacement { items, item, place })
 }

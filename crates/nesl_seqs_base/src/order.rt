@@ -1,4 +1,4 @@
-// By what the best element is chosen.
+//! By what the best element is chosen.
 
 /// Which element is looked for.
 #[derive(Clone, Copy)]
@@ -12,4 +12,12 @@ pub enum Order {
 pub enum Kind {
     Numbers,
     Codes,
+}
+
+/// The best element.
+#[derive(Clone, Copy)]
+pub struct Best {
+    pub place: usize,
+    /// The number by which it is ordered.
+    pub key: i64,
 }

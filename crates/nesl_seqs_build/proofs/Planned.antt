@@ -1,11 +1,9 @@
 -- What plans come to.
-use Rattle.std.proofs.Common.{◌≡◌, ◌∙◌, ℕ, ◌+◌, ◌<◌, ◌^◌, ℤ, arith, List, [], length, Option, Some, None, option_map, option_and_then, unwrap_or, IsSome, Result, Ok, Err, IfOk, ap, sym, subst, refl}
+use Rattle.std.proofs.Common.{◌≡◌, ◌∙◌, ℕ, ◌+◌, ◌<◌, ◌^◌, ℤ, arith, List, [], length, Option, Some, None, option_map, option_and_then, unwrap_or, IsSome, Ok, Err, ap, sym, subst, refl}
 use Rattle.std.proofs.lemmas.Option.{some_pair_parts}
 use Rattle.nesl_scalars.specs.declared.trap.Trap.{Trap}
 use Rattle.nesl_values.specs.Tree.{ValueTree, int, pair, size}
 use Rattle.nesl_values.specs.Parts.{as_pair, as_sequence}
-use Rattle.nesl_values.specs.View.{tree_of}
-use Rattle.nesl_values.specs.declared.value.Value.{Value}
 use Rattle.nesl_seqs_base.specs.Arguments.{both_parts, two_sequences, tree_and_int}
 use Rattle.nesl_seqs_base.specs.Outcome.{Outcome, if_there, gives, traps}
 use Rattle.nesl_seqs_base.specs.Prices.{length_of}
@@ -56,12 +54,6 @@ pub second_refused : (A : Type 0) {X : Type 0} (read : ValueTree → Option X) (
 second_refused A {X} read g t ts us n e h k =
     let plans : Option (List ValueTree × List X) → Type 0 = λ o. Plans {A = A} (if_there {X = List ValueTree × List X} o (λ q. g q.0 q.1)) n (Err e) in
     subst plans (sym (second_read read t ts us h)) (refused_after A (all_of read us) g ts n e k)
-
--- what is made of all that is read
-pub made_in : {A E X : Type 0} (r : Result (Value A) E) (o : Option (List X)) (f : List X → ValueTree) → IsSome o → IfOk r (λ v. (xs : List X) → o ≡ Some xs → tree_of v ≡ f xs) → IfOk r (λ v. tree_of v ≡ f (unwrap_or o []))
-made_in (Ok v) (Some xs) f some h = h xs refl
-made_in (Ok v) None f some h = absurd (cc some)
-made_in (Err e) o f some h = tt
 
 pub read_in : {X : Type 0} (o : Option (List X)) → IsSome o → o ≡ Some (unwrap_or o [])
 read_in (Some xs) some = refl

@@ -6,8 +6,6 @@ use Rattle.nesl_scalars.specs.declared.trap.Trap.{Trap}
 use Rattle.nesl_values.specs.Tree.{ValueTree, int, pair, sequence}
 use Rattle.nesl_values.specs.Parts.{as_int, as_bool, as_pair, as_sequence, elements}
 use Rattle.nesl_values.specs.View.{tree_of, element_tree, item_trees}
-use Rattle.nesl_values.specs.declared.items.Items.{Items}
-use Rattle.nesl_values.specs.declared.value.Value.{Value}
 use Rattle.nesl_seqs_base.specs.Levels.{are_lengths, pieces}
 use Rattle.nesl_seqs_base.specs.Outcome.{Outcome, gives, traps, undefined}
 use Rattle.nesl_seqs_base.specs.Pairs.{pairs}

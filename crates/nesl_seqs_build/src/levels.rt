@@ -131,7 +131,7 @@ pub fn plan_partition<A: Allocator>(argument: Argument<'_, A>) -> Result<Plan<'_
         return Err(WRONG_SHAPE);
     };
     check_counts(counts, items.len())?;
-    Ok(Plan::Pieces(items, counts))
+    Ok(Plan::Pieces { items, counts })
 }
 
 /// The price of pieces of these lengths.

@@ -128,7 +128,10 @@ pub fn plan_take<A: Allocator>(argument: Argument<'_, A>) -> Result<Plan<'_, A>,
         return Err(WRONG_SHAPE);
     };
     let part = taken(items, count)?;
-    Ok(Plan::Part(part, items.len()))
+    Ok(Plan::Part {
+        items: part,
+        read: items.len(),
+    })
 }
 
 /// `drop`: all but the first items, or all but the last ones where the count is below 0.
@@ -157,7 +160,10 @@ pub fn plan_drop<A: Allocator>(argument: Argument<'_, A>) -> Result<Plan<'_, A>,
         return Err(WRONG_SHAPE);
     };
     let part = dropped(items, count)?;
-    Ok(Plan::Part(part, items.len()))
+    Ok(Plan::Part {
+        items: part,
+        read: items.len(),
+    })
 }
 
 /// The plan of `reverse`.

@@ -31,8 +31,11 @@ pub enum Plan<'a, A: Allocator = Global> {
     Element(Element<'a, A>),
     /// The items of the one and then of the other.
     Joined(Items<'a, A>, Items<'a, A>),
-    /// Some of so many items.
-    Part(Items<'a, A>, usize),
+    /// Some of as many items as are read.
+    Part {
+        items: Items<'a, A>,
+        read: usize,
+    },
     /// The sequence of two sequences.
     Two(Items<'a, A>, Items<'a, A>),
     /// The items from the last to the first.
@@ -40,19 +43,32 @@ pub enum Plan<'a, A: Allocator = Global> {
     /// Numbers in equal steps.
     Steps(Progression),
     /// So many of one value.
-    Copies(&'a Value<A>, u64),
+    Copies {
+        item: &'a Value<A>,
+        count: u64,
+    },
     /// The pairs of the items of both.
     Pairs(Items<'a, A>, Items<'a, A>),
     /// The items with another one at a place.
-    Replaced(Items<'a, A>, &'a Value<A>, usize),
+    Replaced {
+        items: Items<'a, A>,
+        item: &'a Value<A>,
+        place: usize,
+    },
     /// The elements of sequences.
     Flattened(&'a [Value<A>]),
     /// The left parts of pairs and the right ones.
     Unzipped(&'a [Value<A>]),
-    /// The items, and how many each piece has.
-    Pieces(Items<'a, A>, Items<'a, A>),
-    /// The items, and beside which one the flag is `T`.
-    Split(Items<'a, A>, Items<'a, A>),
+    /// The items in pieces, and how many each piece has.
+    Pieces {
+        items: Items<'a, A>,
+        counts: Items<'a, A>,
+    },
+    /// The items beside which the flag is `F`, and those beside which it is `T`.
+    Split {
+        items: Items<'a, A>,
+        flags: Items<'a, A>,
+    },
 }
 
 impl<A: Allocator> Clone for Plan<'_, A> {
@@ -81,17 +97,17 @@ impl<A: Allocator> Plan<'_, A> {
                 length_of_both(one, other),
                 limit,
             ),
-            Plan::Part(items, read) => price_of_items(items, read as u128, limit),
+            Plan::Part { items, read } => price_of_items(items, read as u128, limit),
             Plan::Two(one, other) => price_of_two(one, other, length_of_both(one, other), limit),
             Plan::Reversed(items) => price_of_reversed(items, limit),
             Plan::Steps(numbers) => price_of_progression(numbers, limit),
-            Plan::Copies(item, count) => price_of_copies(item, count, limit),
+            Plan::Copies { item, count } => price_of_copies(item, count, limit),
             Plan::Pairs(one, other) => price_of_pairs(one, other, limit),
-            Plan::Replaced(items, item, place) => price_of_replaced(items, item, place, limit),
+            Plan::Replaced { items, item, place } => price_of_replaced(items, item, place, limit),
             Plan::Flattened(values) => price_of_flattened(values, limit),
             Plan::Unzipped(values) => price_of_unzipped(values, limit),
-            Plan::Pieces(items, counts) => price_of_pieces(items, counts, limit),
-            Plan::Split(items, flags) => price_of_sides(items, flags, limit),
+            Plan::Pieces { items, counts } => price_of_pieces(items, counts, limit),
+            Plan::Split { items, flags } => price_of_sides(items, flags, limit),
         }
     }
 }
@@ -106,17 +122,17 @@ impl<A: Allocator + Copy> Plan<'_, A> {
             Plan::Length(len) => Ok(Value::Int(len)),
             Plan::Element(element) => element.share(),
             Plan::Joined(one, other) => joined_copy(alloc, one, other),
-            Plan::Part(items, _) => copy_of(alloc, items),
+            Plan::Part { items, .. } => copy_of(alloc, items),
             Plan::Two(one, other) => two_copies(alloc, one, other),
             Plan::Reversed(items) => reversed_copy(alloc, items),
             Plan::Steps(numbers) => sequence_of_steps(alloc, numbers),
-            Plan::Copies(item, count) => copies(alloc, item, count as usize),
+            Plan::Copies { item, count } => copies(alloc, item, count as usize),
             Plan::Pairs(one, other) => Value::sequence(alloc, pairs_of(alloc, one, other)?),
-            Plan::Replaced(items, item, place) => replaced_copy(alloc, items, item, place),
+            Plan::Replaced { items, item, place } => replaced_copy(alloc, items, item, place),
             Plan::Flattened(values) => all_elements(alloc, values),
             Plan::Unzipped(values) => both_sides(alloc, values),
-            Plan::Pieces(items, counts) => partition_by(alloc, items, counts),
-            Plan::Split(items, flags) => split_by(alloc, items, flags),
+            Plan::Pieces { items, counts } => partition_by(alloc, items, counts),
+            Plan::Split { items, flags } => split_by(alloc, items, flags),
         }
     }
 }

@@ -16,7 +16,9 @@ ghost use Rattle.nesl_seqs_base.specs.declared.seq_fn.SeqFn.TheVariants.{Dist, R
 use crate::plan::Plan;
 use nesl_scalars::Trap;
 use nesl_seqs_base::argument::Argument;
-use nesl_seqs_base::arguments::{WRONG_SHAPE, three_ints, tree_and_int, two_ints};
+use nesl_seqs_base::arguments::{
+    SteppedRange, WRONG_SHAPE, as_stepped_range, tree_and_int, two_ints,
+};
 use nesl_seqs_base::copies::repeated;
 use nesl_seqs_base::nodes::value_nodes;
 use nesl_seqs_base::price::Price;
@@ -148,7 +150,7 @@ pub fn plan_range_by<A: Allocator>(argument: Argument<'_, A>) -> Result<Plan<'_,
     ensures plan { Plans (outcome_of RangeBy (argument_tree argument.entry))
         (reads RangeBy (argument_tree argument.entry)) result }
 {
-    let Some((start, (end, step))) = three_ints(argument) else {
+    let Some(SteppedRange { start, end, step }) = as_stepped_range(argument) else {
         return Err(WRONG_SHAPE);
     };
     let numbers = ranged(start, end, step)?;
@@ -215,7 +217,8 @@ pub fn plan_dist<A: Allocator>(argument: Argument<'_, A>) -> Result<Plan<'_, A>,
     if count < 0 {
         return Err(Trap::Length);
     }
-    Ok(Plan::Copies(item, count as u64))
+    let count = count as u64;
+    Ok(Plan::Copies { item, count })
 }
 
 /// So many copies of a value.

@@ -16,7 +16,7 @@ use crate::building::finished;
 use crate::plan::Plan;
 use nesl_scalars::Trap;
 use nesl_seqs_base::argument::Argument;
-use nesl_seqs_base::arguments::{WRONG_SHAPE, sequence_item_place};
+use nesl_seqs_base::arguments::{Replacement, WRONG_SHAPE, as_replacement};
 use nesl_seqs_base::copies::extend;
 use nesl_seqs_base::nodes::{nodes_of_both, value_nodes};
 use nesl_seqs_base::price::Price;
@@ -107,11 +107,11 @@ pub fn plan_rep<A: Allocator>(argument: Argument<'_, A>) -> Result<Plan<'_, A>, 
     ensures { Plans (outcome_of Rep (argument_tree argument.entry))
         (reads Rep (argument_tree argument.entry)) result }
 {
-    let Some((items, (item, place))) = sequence_item_place(argument) else {
+    let Some(Replacement { items, item, place }) = as_replacement(argument) else {
         return Err(WRONG_SHAPE);
     };
     let place = place_in(items.len(), place)?;
-    Ok(Plan::Replaced(items, item, place))
+    Ok(Plan::Replaced { items, item, place })
 }
 
 pub(crate) fn replaced_copy<A: Allocator + Copy>(

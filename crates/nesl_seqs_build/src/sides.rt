@@ -178,7 +178,7 @@ pub fn plan_split<A: Allocator>(argument: Argument<'_, A>) -> Result<Plan<'_, A>
     if items.len() != flags.len() {
         return Err(Trap::Length);
     }
-    Ok(Plan::Split(items, flags))
+    Ok(Plan::Split { items, flags })
 }
 
 /// The price of the items with `F` and those with `T`.

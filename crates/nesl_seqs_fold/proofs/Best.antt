@@ -7,11 +7,12 @@ use Rattle.std.proofs.lemmas.Bool.{and_from, and_parts}
 use Rattle.std.proofs.lemmas.Bool.Decides.{Decides-ltb}
 use Rattle.nesl_values.specs.Tree.{ValueTree}
 use Rattle.nesl_seqs_base.specs.Reductions.{all_of}
-use Rattle.nesl_seqs_base.specs.Extremes.{leads, best}
+use Rattle.nesl_seqs_base.specs.Extremes.{leads, element_with, best}
 use Rattle.nesl_seqs_fold.specs.Better.{better}
 use Rattle.nesl_seqs_fold.specs.Scalar.{ScalarIs, ResultIs}
 use Rattle.nesl_seqs_base.specs.Outcome.{Outcome, gives, traps, undefined}
 use Rattle.nesl_scalars.specs.declared.trap.Trap.{Trap}
+use Rattle.nesl_seqs_base.specs.declared.order.Best.{Best}
 use Rattle.nesl_seqs_base.specs.declared.order.Order.{Order}
 use Rattle.nesl_seqs_base.specs.declared.order.Order.TheVariants.{Greatest, Least}
 use Rattle.nesl_seqs_fold.proofs.Folds.{folded, folded_is}
@@ -73,9 +74,9 @@ get_end [] z = refl
 get_end (y ∷ ys) z = get_end ys z
 
 -- the best of a list: none is better, and none before it is as good
-abbrev IsBest : Order → List ℤ → Option (ℕ × ℤ) → Type 0
+abbrev IsBest : Order → List ℤ → Option Best → Type 0
 IsBest o zs None = zs ≡ []
-IsBest o zs (Some b) = (slice_get zs b.0 ≡ Some b.1) × (list_all (leads o b.1) zs ≡ true) × ((k : ℕ) (c : ℤ) → k < b.0 → slice_get zs k ≡ Some c → leads o c b.1 ≡ false)
+IsBest o zs (Some b) = (slice_get zs b.place ≡ Some b.key) × (list_all (leads o b.key) zs ≡ true) × ((k : ℕ) (c : ℤ) → k < b.place → slice_get zs k ≡ Some c → leads o c b.key ≡ false)
 
 contrary : (t : Bool) → (t ≡ true → ⊥) → t ≡ false
 contrary true h = absurd (h refl)
@@ -84,41 +85,41 @@ contrary false h = refl
 differ : (t : Bool) → t ≡ true → t ≡ false → ⊥
 differ t h k = cc (sym h ∙ k)
 
-best_kept : (o : Order) (zs : List ℤ) (b : Option (ℕ × ℤ)) (z : ℤ) → IsBest o zs b → IsBest o (zs ++ z ∷ []) (Some (better o b (length zs, z)))
+best_kept : (o : Order) (zs : List ℤ) (b : Option Best) (z : ℤ) → IsBest o zs b → IsBest o (zs ++ z ∷ []) (Some (better o b (element_with (length zs) z)))
 best_kept o [] None z h = (refl, all_pushed (leads o z) [] z refl (leads_itself o z), λ k c l at. absurd (omega arith))
 best_kept o (y ∷ ys) None z h = absurd (cc h)
-best_kept o zs (Some (i, b)) z h = by (leads o b z) refl
+best_kept o zs (Some it) z h = by (leads o it.key z) refl
   where
-    by : (t : Bool) → leads o b z ≡ t → IsBest o (zs ++ z ∷ []) (Some (cond t (i, b) (length zs, z)))
+    by : (t : Bool) → leads o it.key z ≡ t → IsBest o (zs ++ z ∷ []) (Some (cond t it (element_with (length zs) z)))
     by true is =
-        let within : i < length zs = is_within zs i b h.0 in (
-          get_front zs (z ∷ []) i within ∙ h.0,
-          all_pushed (leads o b) zs z h.1 is,
+        let within : it.place < length zs = is_within zs it.place it.key h.0 in (
+          get_front zs (z ∷ []) it.place within ∙ h.0,
+          all_pushed (leads o it.key) zs z h.1 is,
           λ k c l at. h.2 k c l (sym (get_front zs (z ∷ []) k (omega arith)) ∙ at),
         )
     by false is =
-        let back : leads o z b ≡ true = leads_back o b z is in (
+        let back : leads o z it.key ≡ true = leads_back o it.key z is in (
           get_end zs z,
-          all_pushed (leads o z) zs z (all_through o z b back zs h.1) (leads_itself o z),
-          λ k c l at. contrary (leads o c z) (λ passes. differ (leads o b z) (leads_through o b c z (all_at (leads o b) zs k c h.1 (sym (get_front zs (z ∷ []) k l) ∙ at)) passes) is),
+          all_pushed (leads o z) zs z (all_through o z it.key back zs h.1) (leads_itself o z),
+          λ k c l at. contrary (leads o c z) (λ passes. differ (leads o it.key z) (leads_through o it.key c z (all_at (leads o it.key) zs k c h.1 (sym (get_front zs (z ∷ []) k l) ∙ at)) passes) is),
         )
 
 -- one turn of the loop
-abbrev pub turn : Order → Option (ℕ × ℤ) × ℕ → ℤ → Option (ℕ × ℤ) × ℕ
-turn o s z = (Some (better o s.0 (s.1, z)), s.1 + 1)
+abbrev pub turn : Order → Option Best × ℕ → ℤ → Option Best × ℕ
+turn o s z = (Some (better o s.0 (element_with s.1 z)), s.1 + 1)
 
-best_so_far : (o : Order) (zs us : List ℤ) (b : Option (ℕ × ℤ)) → IsBest o zs b → IsBest o (zs ++ us) (fold (turn o) (b, length zs) us).0
+best_so_far : (o : Order) (zs us : List ℤ) (b : Option Best) → IsBest o zs b → IsBest o (zs ++ us) (fold (turn o) (b, length zs) us).0
 best_so_far o zs [] b h = rw (append-nil zs) h
 best_so_far o zs (u ∷ us) b h =
-    let next = Some (better o b (length zs, u)) in
+    let next = Some (better o b (element_with (length zs) u)) in
     subst (λ vs. IsBest o vs (fold (turn o) (next, length zs + 1) us).0) (append_assoc zs (u ∷ []) us) (subst (λ n. IsBest o ((zs ++ u ∷ []) ++ us) (fold (turn o) (next, n) us).0) (length-append zs (u ∷ [])) (best_so_far o (zs ++ u ∷ []) us next (best_kept o zs b u h)))
 
-best_is : (o : Order) (zs : List ℤ) (b : Option (ℕ × ℤ)) → IsBest o zs b → b ≡ best o zs
+best_is : (o : Order) (zs : List ℤ) (b : Option Best) → IsBest o zs b → b ≡ best o zs
 best_is o [] None h = refl
 best_is o (z ∷ zs) None h = absurd (cc h)
-best_is o zs (Some (i, b)) h =
-    let place : position (λ z. list_all (leads o z) zs) zs ≡ Some i = position_at (λ z. list_all (leads o z) zs) zs i b h.0 h.1 (λ k c l at. contrary (list_all (leads o c) zs) (λ all. differ (leads o c b) (all_at (leads o c) zs i b all h.0) (h.2 k c l at))) in
-    sym (ap (λ p. option_and_then (λ j. option_map (λ z. (j, z)) (slice_get zs j)) p) place ∙ ap (option_map (λ z. (i, z))) h.0)
+best_is o zs (Some it) h =
+    let place : position (λ z. list_all (leads o z) zs) zs ≡ Some it.place = position_at (λ z. list_all (leads o z) zs) zs it.place it.key h.0 h.1 (λ k c l at. contrary (list_all (leads o c) zs) (λ all. differ (leads o c it.key) (all_at (leads o c) zs it.place it.key all h.0) (h.2 k c l at))) in
+    sym (ap (λ p. option_and_then (λ j. option_map (element_with j) (slice_get zs j)) p) place ∙ ap (option_map (element_with it.place)) h.0)
 
 pub folded_best : (o : Order) (read : ValueTree → Option ℤ) (ts : List ValueTree) → option_map (λ s. s.0) (folded (turn o) read (None, 0) ts) ≡ option_map (best o) (all_of read ts)
 folded_best o read ts =

@@ -6,16 +6,14 @@ use Rattle.std.specs.List.{list_all}
 use Rattle.nesl_scalars.specs.declared.trap.Trap.TheVariants.{Overflow}
 use Rattle.nesl_values.specs.Tree.{ValueTree, int, boolean, sequence, size}
 use Rattle.nesl_values.specs.Parts.{as_int, as_bool}
-use Rattle.nesl_seqs_base.specs.Outcome.{Outcome, gives, traps, if_there, if_there_or, fits}
+use Rattle.nesl_seqs_base.specs.Outcome.{gives, traps, if_there, if_there_or, fits}
 use Rattle.nesl_seqs_base.specs.Prices.{price, digits}
 use Rattle.nesl_seqs_base.specs.Reductions.{all_of, total}
 use Rattle.nesl_seqs_base.specs.Scans.{before_each, plus_scanned, joined_truths, joined_bits}
 use Rattle.nesl_seqs_base.specs.declared.joint.Joint.{Joint}
 use Rattle.nesl_seqs_base.specs.declared.price.Price.{Price}
-use Rattle.nesl_seqs_fold.specs.Elements.{number_in, truth_in, wrapped_total}
+use Rattle.nesl_seqs_fold.specs.Elements.{number_in, wrapped_total}
 use Rattle.nesl_seqs_fold.specs.Leaves.{logic_of}
-use Rattle.nesl_seqs_fold.specs.Scalar.{scalar_tree}
-use Rattle.nesl_seqs_fold.specs.declared.reductions.Scalar.{Scalar}
 use Rattle.nesl_seqs_base.proofs.Shapes.{all_is_some, read_or, empty_if_read, none_if_read}
 use Rattle.nesl_seqs_fold.proofs.Before.{sums_same}
 
@@ -40,20 +38,11 @@ pub numbers_packed : (zs : List ℤ) → map number_in (map int zs) ≡ zs
 numbers_packed [] = refl
 numbers_packed (z ∷ zs) = ap (λ ys. z ∷ ys) (numbers_packed zs)
 
-pub leaf_size : (s : Scalar) → size (scalar_tree s) ≡ 1
-leaf_size (Scalar.Int n) = refl
-leaf_size (Scalar.Bool b) = refl
-leaf_size (Scalar.Char c) = refl
-
 -- the sums, where they fit
 pub sums_planned : (o : Option (List ℤ)) (zs : List ℤ) → Some zs ≡ o → list_all fits (before_each total zs) ≡ true → if_there o plus_scanned ≡ gives (sequence (map int (before_each wrapped_total zs)))
 sums_planned o zs e fit =
     ap (λ p. if_there p plus_scanned) (sym e) ∙ ap (λ b. cond b (gives (sequence (map int (before_each total zs)))) (traps Overflow)) fit
     ∙ ap (λ ys. gives (sequence (map int ys))) (sym (sums_same zs fit))
-
-pub sums_refused : (o : Option (List ℤ)) (zs : List ℤ) → Some zs ≡ o → list_all fits (before_each total zs) ≡ false → if_there o plus_scanned ≡ traps Overflow
-sums_refused o zs e over =
-    ap (λ p. if_there p plus_scanned) (sym e) ∙ ap (λ b. cond b (gives (sequence (map int (before_each total zs)))) (traps Overflow)) over
 
 pub truths_planned : (j : Joint) (ts : List ValueTree) (bs : List Bool) → Some bs ≡ all_of as_bool ts → logic_of j ts ≡ gives (sequence (map boolean (before_each (joined_truths j) bs)))
 truths_planned j ts bs e =

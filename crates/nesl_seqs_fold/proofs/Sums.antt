@@ -1,5 +1,5 @@
 -- The sums of few short numbers.
-use Rattle.std.proofs.Common.{◌≡◌, ℕ, zero, suc, ◌+◌, ◌*◌, ◌^◌, ◌<◌, ℤ, pos, negsuc, neg_ℤ, ◌+ℤ◌, ◌≤ℤ◌, ◌<ℤ◌, Bool, true, cond, List, [], ◌∷◌, length, map, take, refl, ap, sym, ◌∙◌, arith, Some, option_and_then, ◌%◌, of_z, w64, FitsSigned}
+use Rattle.std.proofs.Common.{◌≡◌, ℕ, zero, suc, ◌+◌, ◌*◌, ◌^◌, ◌<◌, ℤ, pos, negsuc, neg_ℤ, ◌≤ℤ◌, ◌<ℤ◌, true, cond, List, [], ◌∷◌, length, map, take, refl, ap, sym, ◌∙◌, arith, Some, option_and_then, ◌%◌, of_z, w64, FitsSigned}
 use Rattle.std.specs.List.{list_all, range_with_len}
 use Rattle.std.proofs.lemmas.Int.{ints}
 use Rattle.std.proofs.lemmas.List.{take_all}

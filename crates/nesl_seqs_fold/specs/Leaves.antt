@@ -1,5 +1,5 @@
 -- Sequences of leaves as results.
-use Rattle.std.specs.Prelude.{ℕ, ◌^◌, ℤ, pos, negsuc, Bool, nat_lt, List, map}
+use Rattle.std.specs.Prelude.{◌^◌, ℤ, pos, negsuc, Bool, nat_lt, List, map}
 use Rattle.nesl_values.specs.Tree.{ValueTree, int, boolean, sequence}
 use Rattle.nesl_values.specs.Parts.{as_int, as_bool}
 use Rattle.nesl_seqs_base.specs.Outcome.{Outcome, gives, if_there, if_there_or}

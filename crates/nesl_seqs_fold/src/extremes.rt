@@ -1,5 +1,5 @@
 // The greatest and the least element.
-ghost use Rattle.std.specs.Prelude.{◌≡◌, ◌<◌, ◌^◌, ℕ, ℤ, length, map, option_map, IfSome, IfOk};
+ghost use Rattle.std.specs.Prelude.{◌≡◌, ◌<◌, ◌^◌, length, map, option_map, IfSome, IfOk};
 ghost use Rattle.nesl_values.specs.Tree.{ValueTree};
 ghost use Rattle.nesl_seqs_base.specs.Lent.{argument_tree};
 ghost use Rattle.nesl_values.specs.View.{item_trees};
@@ -8,6 +8,8 @@ ghost use Rattle.nesl_seqs_base.specs.Meaning.{outcome_of};
 ghost use Rattle.nesl_seqs_fold.specs.Scalar.{ScalarIs, ResultIs, scalar_tree};
 ghost use Rattle.nesl_seqs_base.specs.Extremes.{key, element_of, leads, best, of_best, best_element, best_place};
 ghost use Rattle.nesl_seqs_fold.specs.Better.{better, IsKey};
+ghost use Rattle.nesl_seqs_base.specs.declared.order.Best.{Best};
+ghost use Rattle.nesl_seqs_base.specs.declared.order.Kind.{Kind};
 ghost use Rattle.nesl_seqs_base.specs.declared.seq_fn.SeqFn.TheVariants.{MaxVal, MinVal, MaxIndex, MinIndex};
 
 use crate::reductions::Scalar;
@@ -15,7 +17,7 @@ use nesl_scalars::Trap;
 use nesl_seqs_base::argument::Argument;
 use nesl_seqs_base::arguments::{WRONG_SHAPE, sequence};
 use nesl_seqs_base::item::Item;
-use nesl_seqs_base::order::{Kind, Order};
+use nesl_seqs_base::order::{Best, Kind, Order};
 use nesl_values::Items;
 use std::alloc::Allocator;
 
@@ -46,15 +48,15 @@ pub fn min_index<A: Allocator>(argument: Argument<'_, A>) -> Result<Scalar, Trap
 fn best_element<A: Allocator>(argument: Argument<'_, A>, order: Order) -> Result<Scalar, Trap>
     ensures { ScalarIs (best_element order (argument_tree argument.entry)) result }
 {
-    let (kind, (_, key)) = best(argument, order)?;
-    Ok(element_of(kind, key))
+    let (kind, best) = best(argument, order)?;
+    Ok(element_of(kind, best.key))
 }
 
 fn best_place<A: Allocator>(argument: Argument<'_, A>, order: Order) -> Result<Scalar, Trap>
     ensures { ScalarIs (best_place order (argument_tree argument.entry)) result }
 {
-    let (_, (place, _)) = best(argument, order)?;
-    Ok(Scalar::Int(place as i64))
+    let (_, best) = best(argument, order)?;
+    Ok(Scalar::Int(best.place as i64))
 }
 
 // The element with that number.
@@ -68,11 +70,11 @@ fn element_of(kind: Kind, key: i64) -> Scalar
     }
 }
 
-// The place of the best element and its number.
-fn best<A: Allocator>(argument: Argument<'_, A>, order: Order) -> Result<(Kind, (usize, i64)), Trap>
-    ensures found { (f : Kind → ℕ × ℤ → ValueTree)
+// The best element, and the kind of all of them.
+fn best<A: Allocator>(argument: Argument<'_, A>, order: Order) -> Result<(Kind, Best), Trap>
+    ensures found { (f : Kind → Best → ValueTree)
         → ResultIs (λ p. f p.0 p.1) (of_best order f (argument_tree argument.entry)) result }
-    ensures small { IfOk result (λ p. (p.1.0 < 2 ^ 63) × IsKey p.0 p.1.1) }
+    ensures small { IfOk result (λ p. (p.1.place < 2 ^ 63) × IsKey p.0 p.1.key) }
 {
     let Some(items) = sequence(argument) else {
         return Err(WRONG_SHAPE);
@@ -94,10 +96,10 @@ fn best_of_items<A: Allocator>(
     items: Items<'_, A>,
     kind: Kind,
     order: Order,
-) -> Option<Option<(usize, i64)>>
+) -> Option<Option<Best>>
     requires { length (item_trees items) < 2 ^ 63 }
     ensures best { result ≡ option_map (best order) (all_of (key kind) (item_trees items.entry)) }
-    ensures small { IfSome result (λ b. IfSome b (λ p. (p.0 < 2 ^ 63) × IsKey kind p.1)) }
+    ensures small { IfSome result (λ o. IfSome o (λ b. (b.place < 2 ^ 63) × IsKey kind b.key)) }
 {
     match items {
         Items::Ints(ints) => best_of(ints, kind, order),
@@ -107,26 +109,27 @@ fn best_of_items<A: Allocator>(
     }
 }
 
-fn best_of<T: Item>(items: &[T], kind: Kind, order: Order) -> Option<Option<(usize, i64)>>
+fn best_of<T: Item>(items: &[T], kind: Kind, order: Order) -> Option<Option<Best>>
     requires { length items.now < 2 ^ 63 }
     ensures best { result ≡ option_map (best order) (all_of (key kind) (map T.tree items.now)) }
-    ensures small { IfSome result (λ b. IfSome b (λ p. (p.0 < 2 ^ 63) × IsKey kind p.1)) }
+    ensures small { IfSome result (λ o. IfSome o (λ b. (b.place < 2 ^ 63) × IsKey kind b.key)) }
 {
     let mut best = None;
     let mut place = 0;
     for item in items {
-        best = Some(better(order, best, (place, key(item, kind)?)));
+        let key = key(item, kind)?;
+        best = Some(better(order, best, Best { place, key }));
         place += 1;
     }
     Some(best)
 }
 
 // The better of the best so far and the next.
-fn better(order: Order, best: Option<(usize, i64)>, next: (usize, i64)) -> (usize, i64)
+fn better(order: Order, best: Option<Best>, next: Best) -> Best
     ensures { result ≡ better order best next }
 {
     match best {
-        Some(best) if leads(order, best.1, next.1) => best,
+        Some(best) if leads(order, best.key, next.key) => best,
         _ => next,
     }
 }

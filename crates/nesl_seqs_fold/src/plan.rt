@@ -20,7 +20,10 @@ use std::alloc::{AllocError, Allocator, Global};
 #[derive_where(Copy)]
 pub enum Plan<'a, A: Allocator = Global> {
     /// A leaf, and how many elements it was told from.
-    Leaf(Scalar, usize),
+    Leaf {
+        leaf: Scalar,
+        read: usize,
+    },
     /// The sum of numbers, which is one of 64 bits.
     Sum(&'a [i64]),
     /// Whether the one is the other.
@@ -28,9 +31,15 @@ pub enum Plan<'a, A: Allocator = Global> {
     /// The sums of the numbers before each, which are all of 64 bits.
     Sums(Numbers<'a, A>),
     /// The truth values before each, joined.
-    JoinedTruths(Joint, Truths<'a, A>),
+    JoinedTruths {
+        joint: Joint,
+        truths: Truths<'a, A>,
+    },
     /// The numbers before each, joined bit by bit.
-    JoinedNumbers(Joint, Numbers<'a, A>),
+    JoinedNumbers {
+        joint: Joint,
+        numbers: Numbers<'a, A>,
+    },
 }
 
 impl<A: Allocator> Clone for Plan<'_, A> {
@@ -50,12 +59,12 @@ impl<A: Allocator> Plan<'_, A> {
             (price (read_by self.entry) (depth_by self.entry) (built self.entry)) }
     {
         match self {
-            Plan::Leaf(_, read) => price_of_leaf(read, 1 + digits(read), limit),
+            Plan::Leaf { read, .. } => price_of_leaf(read, 1 + digits(read), limit),
             Plan::Sum(ints) => price_of_leaf(ints.len(), 1 + digits(ints.len()), limit),
             Plan::Equality(one, other) => price_of_equality(one, other, limit),
             Plan::Sums(numbers) => price_of_scan(numbers.len(), limit),
-            Plan::JoinedTruths(_, truths) => price_of_scan(truths.len(), limit),
-            Plan::JoinedNumbers(_, numbers) => price_of_scan(numbers.len(), limit),
+            Plan::JoinedTruths { truths, .. } => price_of_scan(truths.len(), limit),
+            Plan::JoinedNumbers { numbers, .. } => price_of_scan(numbers.len(), limit),
         }
     }
 }
@@ -66,14 +75,14 @@ impl<A: Allocator + Copy> Plan<'_, A> {
         ensures { IfOk result (λ v. tree_of v ≡ built self.entry) }
     {
         match self {
-            Plan::Leaf(leaf, _) => Ok(leaf.into_value()),
+            Plan::Leaf { leaf, .. } => Ok(leaf.into_value()),
             Plan::Sum(ints) => Ok(Value::Int(wrapped_sum(ints))),
             Plan::Equality(one, other) => Ok(Value::Bool(equal(alloc, one, other)?)),
             Plan::Sums(numbers) => Value::ints(alloc, sums_before_each(alloc, numbers)?),
-            Plan::JoinedTruths(joint, truths) => {
+            Plan::JoinedTruths { joint, truths } => {
                 Value::bools(alloc, truths_before_each(alloc, truths, joint)?)
             }
-            Plan::JoinedNumbers(joint, numbers) => {
+            Plan::JoinedNumbers { joint, numbers } => {
                 Value::ints(alloc, bits_before_each(alloc, numbers, joint)?)
             }
         }

@@ -52,7 +52,8 @@ pub fn plan_of_leaf<A: Allocator>(
         (1 + digits (length_of (argument_tree argument.entry))) result }
 {
     let leaf = outcome?;
-    Ok(Plan::Leaf(leaf, argument.sequence_len().unwrap_or(0)))
+    let read = argument.sequence_len().unwrap_or(0);
+    Ok(Plan::Leaf { leaf, read })
 }
 
 /// How many binary digits a number has.

@@ -100,10 +100,10 @@ fn plan_logic<A: Allocator>(items: Items<'_, A>, joint: Joint) -> Result<Plan<'_
         (1 + digits (length (item_trees items.entry))) result }
 {
     if let Some(truths) = Truths::read(items) {
-        return Ok(Plan::JoinedTruths(joint, truths));
+        return Ok(Plan::JoinedTruths { joint, truths });
     }
     match Numbers::read(items) {
-        Some(numbers) => Ok(Plan::JoinedNumbers(joint, numbers)),
+        Some(numbers) => Ok(Plan::JoinedNumbers { joint, numbers }),
         None => Err(WRONG_SHAPE),
     }
 }

@@ -1,5 +1,5 @@
 -- Places that differ from those before them.
-use Rattle.std.proofs.Common.{◌≡◌, ◌≢◌, ℕ, ℤ, pos, negsuc, ◌+◌, ◌/◌, ◌%◌, ◌<◌, Bool, true, false, not, ◌||◌, ◌&&◌, cond, nat_eq, nat_lt, List, [], ◌∷◌, ◌++◌, length, map, take, drop, get_or, refl, ap, sym, subst, ◌∙◌, arith, append_assoc, Option, Some, None, option_and_then, w64}
+use Rattle.std.proofs.Common.{◌≡◌, ◌≢◌, ℕ, ℤ, pos, negsuc, ◌+◌, ◌/◌, ◌<◌, Bool, true, false, not, ◌||◌, ◌&&◌, cond, nat_eq, nat_lt, List, [], ◌∷◌, ◌++◌, length, map, take, drop, get_or, refl, ap, sym, subst, ◌∙◌, arith, append_assoc, Option, Some, None, option_and_then, w64}
 use Rattle.std.specs.Int.{cast_unsigned}
 use Rattle.nesl_values.specs.Parts.{as_int}
 use Rattle.std.specs.List.{list_any, list_all, cons_option}
@@ -8,40 +8,24 @@ use Rattle.std.proofs.lemmas.List.{append-nil}
 use Rattle.std.proofs.lemmas.List.Folds.{list_any-append}
 use Rattle.std.proofs.Math.Bool.{or-true}
 use Rattle.nesl_values.specs.Tree.{ValueTree}
-use Rattle.nesl_seqs_index.specs.Marks.{is_marked, is_new, are_new, MarksSeen}
+use Rattle.nesl_seqs_index.specs.Marks.{is_new, are_new, MarksSeen}
 use Rattle.nesl_seqs_base.specs.Permute.{all_differ}
 use Rattle.nesl_seqs_base.specs.Places.{place_in, place_of, places_of}
 use Rattle.nesl_seqs_base.proofs.Equality.{left_true, right_true, both_true}
-use Rattle.nesl_seqs_index.proofs.Marking.{are_equal, are_apart, test_apart, or_false, not_true}
+use Rattle.nesl_seqs_index.proofs.Marking.{are_apart, test_apart, or_false, not_true}
 use Rattle.nesl_seqs_index.proofs.Picking.{places_more, rest_places, place_of_within}
 
 -- one more that was seen
 pub seen_more : (k : ℕ) (seen : List ℕ) (place : ℕ) → list_any (nat_eq k) (seen ++ place ∷ []) ≡ (list_any (nat_eq k) seen || nat_eq k place)
 seen_more k seen place = list_any-append (nat_eq k) seen (place ∷ []) ∙ ap (λ b. list_any (nat_eq k) seen || b) (or_false (nat_eq k place) false refl)
 
-same_test : (a b c d : ℕ) → (a ≡ b → c ≡ d) → (c ≡ d → a ≡ b) → nat_eq a b ≡ nat_eq c d
-same_test a b c d f g = by_test (nat_eq a b) refl
-  where
-    by_test : (t : Bool) → nat_eq a b ≡ t → nat_eq a b ≡ nat_eq c d
-    by_test true e = e ∙ sym ((Decides-eqb c d).1 (f (are_equal a b e)))
-    by_test false e = e ∙ sym (test_apart c d (λ h. are_apart a b e (g h)))
-
 pub held_outside : (m : List ℕ) (window : ℕ) (seen : List ℕ) (place : ℕ) → place / 524288 ≢ window → MarksSeen m window seen → MarksSeen m window (seen ++ place ∷ [])
 held_outside m window seen place out holds k here =
     let apart : nat_eq k place ≡ false = test_apart k place (λ e. out (ap (λ n. n / 524288) (sym e) ∙ here)) in
     holds k here ∙ sym (seen_more k seen place ∙ or_false (list_any (nat_eq k) seen) (nat_eq k place) apart)
 
-pub held_inside : (m new : List ℕ) (window : ℕ) (seen : List ℕ) (place : ℕ) → place / 524288 ≡ window → ((q : ℕ) → is_marked new q ≡ (is_marked m q || nat_eq (place % 524288) q)) → MarksSeen m window seen → MarksSeen new window (seen ++ place ∷ [])
-held_inside m new window seen place inside marked holds k here =
-    let same : nat_eq (place % 524288) (k % 524288) ≡ nat_eq k place = same_test (place % 524288) (k % 524288) k place (λ e. omega (arith, inside, here)) (λ e. ap (λ n. n % 524288) (sym e)) in
-    marked (k % 524288) ∙ ap (λ b. b || nat_eq (place % 524288) (k % 524288)) (holds k here) ∙ ap (λ b. list_any (nat_eq k) seen || b) same ∙ sym (seen_more k seen place)
-
 pub new_outside : (window : ℕ) (seen : List ℕ) (place : ℕ) → place / 524288 ≢ window → is_new window seen place ≡ true
 new_outside window seen place out = ap (λ b. not b || not (list_any (nat_eq place) seen)) (test_apart (place / 524288) window out)
-
-pub new_inside : (m : List ℕ) (window : ℕ) (seen : List ℕ) (place : ℕ) → place / 524288 ≡ window → MarksSeen m window seen → is_new window seen place ≡ not (is_marked m (place % 524288))
-new_inside m window seen place inside holds =
-    ap (λ b. not b || not (list_any (nat_eq place) seen)) ((Decides-eqb (place / 524288) window).1 inside) ∙ ap not (sym (holds place inside))
 
 place_elsewhere : (n k window : ℕ) (z : ℤ) → cast_unsigned w64 z / 524288 ≢ window → Some k ≡ option_and_then (place_in n) (Some z) → k / 524288 ≢ window
 place_elsewhere n k window (negsuc i) out names = absurd (cc names)

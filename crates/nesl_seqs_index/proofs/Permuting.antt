@@ -1,5 +1,5 @@
 -- Elements that go to places of their own.
-use Rattle.std.proofs.Common.{◌≡◌, ◌≢◌, ℕ, ℤ, zero, suc, pos, ◌+◌, ◌-◌, ◌<◌, ◌≤◌, Bool, true, false, not, ◌||◌, ◌&&◌, cond, nat_eq, nat_lt, List, [], ◌∷◌, length, map, zip, set, refl, ap, sym, ◌∙◌, arith, Option, Some, None, is_some, option_map, option_and_then, slice_get, SomeIff, Result, Ok, Err, IfOk, subst}
+use Rattle.std.proofs.Common.{◌≡◌, ◌≢◌, ℕ, ℤ, zero, suc, pos, ◌+◌, ◌-◌, ◌<◌, ◌≤◌, Bool, true, false, not, ◌||◌, ◌&&◌, cond, nat_eq, nat_lt, List, [], ◌∷◌, length, map, zip, set, refl, ap, sym, ◌∙◌, arith, Option, Some, None, is_some, option_map, option_and_then, slice_get, Result, Ok, Err, IfOk, subst}
 use Rattle.std.specs.List.{list_any, list_all, filter_map, cons_option, find, range_with_len}
 use Rattle.std.proofs.lemmas.Bool.{false≢true}
 use Rattle.std.proofs.lemmas.Bool.Decides.{Decides-eqb, Decides-ltb}
@@ -14,13 +14,11 @@ use Rattle.nesl_values.specs.Parts.{as_int}
 use Rattle.nesl_seqs_base.specs.Outcome.{Outcome, gives, traps, if_there, IsGiven}
 use Rattle.nesl_seqs_base.specs.Permute.{all_differ, rearranged, permuted, Inverts}
 use Rattle.nesl_seqs_base.specs.Places.{place_in, place_of, places_of, elements_at, at_places, arrival}
-use Rattle.nesl_seqs_base.specs.Prices.{Prices}
 use Rattle.nesl_seqs_base.specs.Reductions.{all_of}
-use Rattle.nesl_seqs_base.specs.declared.price.Price.{Price}
 use Rattle.nesl_seqs_index.specs.Arriving.{Arrive}
 use Rattle.nesl_seqs_base.proofs.Equality.{left_true, right_true}
 use Rattle.nesl_seqs_index.proofs.Marking.{are_equal, are_apart, test_apart, not_true}
-use Rattle.nesl_seqs_index.proofs.Picking.{not_given, list_all_map, are_ints, given_all, refused, length_found, place_of_within}
+use Rattle.nesl_seqs_index.proofs.Picking.{IsRefused, not_given, list_all_map, are_ints, given_all, refused, length_found, place_of_within}
 
 -- the weight of trees
 abbrev pub weights : (ValueTree → ℕ) → List ValueTree → ℕ
@@ -218,26 +216,26 @@ by_places f is ts same = by_ints (all_of as_int (map f is)) refl
         let even : length ts ≡ length zs = same ∙ sym (length-map is f) ∙ ap length (are_ints (map f is) zs e) ∙ length-map zs int in
         ap (λ b. cond b (at_places (length ts) zs (arranged ts)) (traps Length)) ((Decides-eqb (length ts) (length zs)).1 even)
 
-pub refused_uneven : {I : Type 0} (f : I → ValueTree) (is : List I) (ts : List ValueTree) (read depth limit : ℕ) → length ts ≢ length is → Prices (if_there (all_of as_int (map f is)) (permuted ts)) read depth limit (Err Length)
-refused_uneven f is ts read depth limit uneven = by_ints (all_of as_int (map f is)) refl
+pub refused_uneven : {I : Type 0} (f : I → ValueTree) (is : List I) (ts : List ValueTree) → length ts ≢ length is → IsRefused (if_there (all_of as_int (map f is)) (permuted ts)) Length
+refused_uneven f is ts uneven = by_ints (all_of as_int (map f is)) refl
   where
-    by_ints : (o : Option (List ℤ)) → all_of as_int (map f is) ≡ o → Prices (if_there o (permuted ts)) read depth limit (Err Length)
+    by_ints : (o : Option (List ℤ)) → all_of as_int (map f is) ≡ o → IsRefused (if_there o (permuted ts)) Length
     by_ints None e = tt
     by_ints (Some zs) e =
         let many : length zs ≡ length is = sym (length-map zs int) ∙ ap length (sym (are_ints (map f is) zs e)) ∙ length-map is f in
         let apart : nat_eq (length ts) (length zs) ≡ false = test_apart (length ts) (length zs) (λ same. uneven (same ∙ many)) in
         rw apart refl
 
-pub refused_beyond : {I : Type 0} (f : I → ValueTree) (is : List I) (ts : List ValueTree) (read depth limit : ℕ) → length ts ≡ length is → list_all (λ i. is_some (place_of (length ts) (f i))) is ≡ false
-    → Prices (if_there (all_of as_int (map f is)) (permuted ts)) read depth limit (Err Range)
-refused_beyond f is ts read depth limit same named = rw (by_places f is ts same) (refused (length ts) f is (arranged ts) read depth limit named)
+pub refused_beyond : {I : Type 0} (f : I → ValueTree) (is : List I) (ts : List ValueTree) → length ts ≡ length is → list_all (λ i. is_some (place_of (length ts) (f i))) is ≡ false
+    → IsRefused (if_there (all_of as_int (map f is)) (permuted ts)) Range
+refused_beyond f is ts same named = rw (by_places f is ts same) (refused (length ts) f is (arranged ts) named)
 
 arranged_is : {I : Type 0} (f : I → ValueTree) (is : List I) (ts : List ValueTree) → length ts ≡ length is → list_all (λ i. is_some (place_of (length ts) (f i))) is ≡ true → if_there (all_of as_int (map f is)) (permuted ts) ≡ arranged ts (places_of (length ts) (map f is))
 arranged_is f is ts same named = by_places f is ts same ∙ given_all (length ts) f is (arranged ts) named
 
-pub refused_twice : {I : Type 0} (f : I → ValueTree) (is : List I) (ts : List ValueTree) (read depth limit : ℕ) → length ts ≡ length is → list_all (λ i. is_some (place_of (length ts) (f i))) is ≡ true → all_differ (places_of (length ts) (map f is)) ≡ false
-    → Prices (if_there (all_of as_int (map f is)) (permuted ts)) read depth limit (Err Permutation)
-refused_twice f is ts read depth limit same named twice =
+pub refused_twice : {I : Type 0} (f : I → ValueTree) (is : List I) (ts : List ValueTree) → length ts ≡ length is → list_all (λ i. is_some (place_of (length ts) (f i))) is ≡ true → all_differ (places_of (length ts) (map f is)) ≡ false
+    → IsRefused (if_there (all_of as_int (map f is)) (permuted ts)) Permutation
+refused_twice f is ts same named twice =
     let refuses : if_there (all_of as_int (map f is)) (permuted ts) ≡ traps Permutation = arranged_is f is ts same named ∙ ap (λ b. cond b (gives (sequence (rearranged ts (places_of (length ts) (map f is))))) (traps Permutation)) twice in
     rw refuses refl
 
@@ -254,22 +252,22 @@ pub record IsArranged (ts js : List ValueTree) : Type 0 where
   pub is : if_there (all_of as_int js) (permuted ts) ≡ gives (sequence (rearranged ts (places_of (length ts) js)))
 
 -- the indices are refused, or each element has a place of its own
-pub by_outcome : {I : Type 0} (f : I → ValueTree) (is : List I) (ts : List ValueTree) (P : Outcome → Type 0) → ((o : Outcome) (e : Trap) → Prices o 0 0 0 (Err e) → P o) → (IsArranged ts (map f is) → P (if_there (all_of as_int (map f is)) (permuted ts)))
+pub by_outcome : {I : Type 0} (f : I → ValueTree) (is : List I) (ts : List ValueTree) (P : Outcome → Type 0) → ((o : Outcome) (e : Trap) → IsRefused o e → P o) → (IsArranged ts (map f is) → P (if_there (all_of as_int (map f is)) (permuted ts)))
     → P (if_there (all_of as_int (map f is)) (permuted ts))
 by_outcome f is ts P refusal result = by_len (nat_eq (length ts) (length is)) refl
   where
     by_differ : length ts ≡ length is → list_all (λ i. is_some (place_of (length ts) (f i))) is ≡ true → (b : Bool) → all_differ (places_of (length ts) (map f is)) ≡ b → P (if_there (all_of as_int (map f is)) (permuted ts))
     by_differ same named true e =
         result (record { same = length-map is f ∙ sym same; named = list_all_map (λ t. is_some (place_of (length ts) t)) f is ∙ named; differ = e; is = arranged_is f is ts same named ∙ ap (λ b. cond b (gives (sequence (rearranged ts (places_of (length ts) (map f is))))) (traps Permutation)) e })
-    by_differ same named false e = refusal _ Permutation (refused_twice f is ts 0 0 0 same named e)
+    by_differ same named false e = refusal _ Permutation (refused_twice f is ts same named e)
 
     by_names : length ts ≡ length is → (b : Bool) → list_all (λ i. is_some (place_of (length ts) (f i))) is ≡ b → P (if_there (all_of as_int (map f is)) (permuted ts))
     by_names same true e = by_differ same e (all_differ (places_of (length ts) (map f is))) refl
-    by_names same false e = refusal _ Range (refused_beyond f is ts 0 0 0 same e)
+    by_names same false e = refusal _ Range (refused_beyond f is ts same e)
 
     by_len : (b : Bool) → nat_eq (length ts) (length is) ≡ b → P (if_there (all_of as_int (map f is)) (permuted ts))
     by_len true e = by_names (are_equal (length ts) (length is) e) (list_all (λ i. is_some (place_of (length ts) (f i))) is) refl
-    by_len false e = refusal _ Length (refused_uneven f is ts 0 0 0 (are_apart (length ts) (length is) e))
+    by_len false e = refusal _ Length (refused_uneven f is ts (are_apart (length ts) (length is) e))
 
 pub is_arranged : {I : Type 0} (f : I → ValueTree) (is : List I) (ts : List ValueTree) → IsGiven (if_there (all_of as_int (map f is)) (permuted ts)) → IsArranged ts (map f is)
 is_arranged f is ts there = by_outcome f is ts (λ o. IsGiven o → IsArranged ts (map f is)) (λ o e p q. absurd (not_given o e q p)) (λ a q. a) there

@@ -13,7 +13,6 @@ use Rattle.nesl_values.specs.View.{tree_of}
 use Rattle.nesl_values.specs.declared.value.Value.{Value}
 use Rattle.nesl_seqs_base.specs.Outcome.{Outcome, gives, traps, undefined, if_there, IsGiven}
 use Rattle.nesl_seqs_base.specs.Reductions.{all_of}
-use Rattle.nesl_seqs_base.specs.Prices.{Prices}
 use Rattle.nesl_seqs_base.specs.Places.{place_in, all_name_places, places_named, at_places, place_of, places_of}
 use Rattle.nesl_seqs_base.specs.Places.{elements_at}
 use Rattle.nesl_seqs_base.proofs.Equality.{left_true, right_true}
@@ -154,29 +153,27 @@ given_all n f is h named =
     let all : all_name_places n zs ≡ true = sym (names_seen n zs) ∙ ap (list_all (λ t. is_some (place_of n t))) (sym same) ∙ seen in
     ap (λ o. if_there o (λ ys. at_places n ys h)) ints ∙ ap (λ b. cond b (h (places_named n zs)) (traps Range)) all ∙ ap h (sym (places_seen n zs) ∙ ap (places_of n) (sym same))
 
-pub refused : {I : Type 0} (n : ℕ) (f : I → ValueTree) (is : List I) (h : List ℕ → Outcome) (read depth limit : ℕ) → list_all (λ i. is_some (place_of n (f i))) is ≡ false
-    → Prices (if_there (all_of as_int (map f is)) (λ zs. at_places n zs h)) read depth limit (Err Range)
-refused n f is h read depth limit named = by_ints (all_of as_int (map f is)) refl
+-- the fault is the outcome, or there is some fault since the outcome is undefined
+abbrev pub IsRefused : Outcome → Trap → Type 0
+IsRefused (gives t) e = ⊥
+IsRefused (traps d) e = e ≡ d
+IsRefused undefined e = Unit {0}
+
+pub refused : {I : Type 0} (n : ℕ) (f : I → ValueTree) (is : List I) (h : List ℕ → Outcome) → list_all (λ i. is_some (place_of n (f i))) is ≡ false
+    → IsRefused (if_there (all_of as_int (map f is)) (λ zs. at_places n zs h)) Range
+refused n f is h named = by_ints (all_of as_int (map f is)) refl
   where
-    by_ints : (o : Option (List ℤ)) → all_of as_int (map f is) ≡ o → Prices (if_there o (λ zs. at_places n zs h)) read depth limit (Err Range)
+    by_ints : (o : Option (List ℤ)) → all_of as_int (map f is) ≡ o → IsRefused (if_there o (λ zs. at_places n zs h)) Range
     by_ints None e = tt
     by_ints (Some zs) e =
         let some : all_name_places n zs ≡ false = sym (names_seen n zs) ∙ ap (list_all (λ t. is_some (place_of n t))) (sym (are_ints (map f is) zs e)) ∙ list_all_map (λ t. is_some (place_of n t)) f is ∙ named in
         rw some refl
 
 -- what is given is not refused
-pub not_given : (o : Outcome) (e : Trap) → IsGiven o → Prices o 0 0 0 (Err e) → ⊥
+pub not_given : (o : Outcome) (e : Trap) → IsGiven o → IsRefused o e → ⊥
 not_given (gives t) e p q = q
 not_given (traps d) e p q = p
 not_given undefined e p q = p
-
--- what comes of indices that each name a place
-pub given_is : {I : Type 0} (n : ℕ) (f : I → ValueTree) (is : List I) (h : List ℕ → Outcome) → IsGiven (if_there (all_of as_int (map f is)) (λ zs. at_places n zs h)) → if_there (all_of as_int (map f is)) (λ zs. at_places n zs h) ≡ h (places_of n (map f is))
-given_is n f is h there = by_test (list_all (λ i. is_some (place_of n (f i))) is) refl
-  where
-    by_test : (b : Bool) → list_all (λ i. is_some (place_of n (f i))) is ≡ b → if_there (all_of as_int (map f is)) (λ zs. at_places n zs h) ≡ h (places_of n (map f is))
-    by_test true e = given_all n f is h e
-    by_test false e = absurd (not_given (if_there (all_of as_int (map f is)) (λ zs. at_places n zs h)) Range there (refused n f is h 0 0 0 e))
 
 pub length_found : {X Y : Type 0} (f : X → Option Y) (xs : List X) → length (filter_map f xs) ≤ length xs
 length_found f [] = omega arith

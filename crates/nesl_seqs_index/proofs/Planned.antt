@@ -1,5 +1,5 @@
 -- What plans come to.
-use Rattle.std.proofs.Common.{◌≡◌, ◌∙◌, ℕ, ◌+◌, Bool, true, false, List, length, map, is_some, Option, Some, option_map, option_and_then, unwrap_or, Result, Ok, Err, IfOk, ap, refl, sym, subst}
+use Rattle.std.proofs.Common.{◌≡◌, ◌∙◌, ℕ, ◌+◌, true, false, List, length, map, is_some, Option, Some, option_map, unwrap_or, Result, Ok, Err, IfOk, ap, refl, sym, subst}
 use Rattle.std.specs.List.{list_all}
 use Rattle.std.proofs.lemmas.List.{length-map}
 use Rattle.nesl_scalars.specs.declared.trap.Trap.{Trap}
@@ -11,18 +11,18 @@ use Rattle.nesl_values.specs.declared.value.Value.{Value}
 use Rattle.nesl_seqs_base.specs.Outcome.{Outcome, OutcomeGives, IsGiven, if_there, gives, traps, undefined}
 use Rattle.nesl_seqs_base.specs.Permute.{permuted, rearranged}
 use Rattle.nesl_seqs_base.specs.Places.{places_of}
-use Rattle.nesl_seqs_base.specs.Prices.{Prices}
 use Rattle.nesl_seqs_base.specs.Reductions.{all_of}
 use Rattle.nesl_seqs_base.specs.Write.{int_and_tree, overwritten, written, write_of, writes_of}
 use Rattle.nesl_seqs_index.specs.Marks.{own_places}
 use Rattle.nesl_seqs_index.specs.Plans.{Plans, built, read_by, IsSound}
 use Rattle.nesl_seqs_index.specs.declared.plan.Plan.{Plan}
+use Rattle.nesl_seqs_index.proofs.Picking.{IsRefused}
 use Rattle.nesl_seqs_index.proofs.Permuting.{arranged_given, is_arranged}
 use Rattle.nesl_seqs_index.proofs.Writing.{given_written, refused_write}
 use Rattle.nesl_seqs_index.proofs.Tables.{refused_places, are_named, are_apart_all}
 
--- a refusal of a price is one of every answer
-pub refusal : {X : Type 0} (R : ValueTree → X → Type 0) (o : Outcome) (e : Trap) → Prices o 0 0 0 (Err e) → OutcomeGives R o (Err e)
+-- a refusal of an outcome is one of every answer
+pub refusal : {X : Type 0} (R : ValueTree → X → Type 0) (o : Outcome) (e : Trap) → IsRefused o e → OutcomeGives R o (Err e)
 refusal R (gives t) e h = h
 refusal R (traps d) e h = h
 refusal R undefined e h = h
@@ -32,6 +32,11 @@ pub refused_plan : (A : Type 0) {X : Type 0} (R : ValueTree → X → Type 0) (o
 refused_plan A R (gives t) read e h = h
 refused_plan A R (traps d) read e h = h
 refused_plan A R undefined read e h = h
+
+pub refusal_planned : (A : Type 0) (o : Outcome) (read : ℕ) (e : Trap) → IsRefused o e → Plans {A = A} o read (Err e)
+refusal_planned A (gives t) read e h = h
+refusal_planned A (traps d) read e h = h
+refusal_planned A undefined read e h = h
 
 -- what an answer says that there is
 pub answered : {X : Type 0} (R : ValueTree → X → Type 0) (o : Outcome) (x : X) → OutcomeGives R o (Ok x) → (t : ValueTree) × (o ≡ gives t) × R t x
@@ -47,7 +52,7 @@ answered_given R undefined x h = absurd h
 -- indices that each have a place of their own, or the fault
 pub own_planned : {I : Type 0} (f : I → ValueTree) (is : List I) (ts : List ValueTree) (r : Result (Unit {0}) Trap) → length ts ≡ length is → own_places (length ts) (map f is) ≡ r
     → OutcomeGives (λ t u. t ≡ sequence (rearranged ts (places_of (length ts) (map f is)))) (if_there (all_of as_int (map f is)) (permuted ts)) r
-own_planned f is ts (Err e) same own = refusal _ _ e (refused_places f is ts 0 0 0 e same own)
+own_planned f is ts (Err e) same own = refusal _ _ e (refused_places f is ts e same own)
 own_planned f is ts (Ok u) same own =
     let R : ValueTree → Unit {0} → Type 0 = λ t v. t ≡ sequence (rearranged ts (places_of (length ts) (map f is))) in
     subst (λ o. OutcomeGives R o (Ok u)) (sym (arranged_given f is ts same (are_named f (length ts) is own) (are_apart_all f (length ts) is own))) refl
@@ -86,4 +91,4 @@ pub written_refused : {A : Type 0} (o : Option (List ValueTree × List ValueTree
     → Plans {A = A} (if_there o (λ q. if_there (all_of int_and_tree q.1) (written q.0))) n (Err Range)
 written_refused {A = A} o ts us ps n e same none =
     subst (λ q. Plans {A = A} (if_there q (λ w. if_there (all_of int_and_tree w.1) (written w.0))) n (Err Range)) e
-    (subst (λ vs. Plans {A = A} (if_there (all_of int_and_tree vs) (written ts)) n (Err Range)) same (refused_plan A _ (if_there (all_of int_and_tree (map tree_of ps)) (written ts)) n Range (refused_write tree_of ps ts 0 0 0 none)))
+    (subst (λ vs. Plans {A = A} (if_there (all_of int_and_tree vs) (written ts)) n (Err Range)) same (refusal_planned A (if_there (all_of int_and_tree (map tree_of ps)) (written ts)) n Range (refused_write tree_of ps ts none)))

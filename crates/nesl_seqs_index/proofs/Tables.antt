@@ -12,14 +12,13 @@ use Rattle.nesl_values.specs.Parts.{as_int}
 use Rattle.nesl_seqs_base.specs.Outcome.{if_there}
 use Rattle.nesl_seqs_base.specs.Permute.{all_differ, permuted}
 use Rattle.nesl_seqs_base.specs.Places.{place_of, places_of}
-use Rattle.nesl_seqs_base.specs.Prices.{Prices}
 use Rattle.nesl_seqs_base.specs.Reductions.{all_of}
 use Rattle.nesl_seqs_base.proofs.Equality.{left_true, right_true, both_true}
 use Rattle.nesl_seqs_index.specs.Marks.{own_places}
 use Rattle.nesl_seqs_index.proofs.Differing.{seen_more, differ_split, differ_more}
 use Rattle.nesl_seqs_index.proofs.Marking.{are_equal, are_apart, or_false, not_true}
 use Rattle.nesl_seqs_index.proofs.Permuting.{below_len, length_named, refused_beyond, refused_twice}
-use Rattle.nesl_seqs_index.proofs.Picking.{list_all_map}
+use Rattle.nesl_seqs_index.proofs.Picking.{IsRefused, list_all_map}
 
 -- the marks, once these places are marked too
 abbrev pub marked : List Bool → List ℕ → List Bool
@@ -185,28 +184,28 @@ all_marked_own f ms is j b end named marks all = own_named f n is b every (sym (
     last = ap (λ js. marked ms (places_of n (map f js))) (sym (drop_all j is end)) ∙ marks
 
 -- what the refusal of the indices says of the call
-pub refused_places : {I : Type 0} (f : I → ValueTree) (is : List I) (ts : List ValueTree) (read depth limit : ℕ) (e : Trap) → length ts ≡ length is → own_places (length ts) (map f is) ≡ Err e
-    → Prices (if_there (all_of as_int (map f is)) (permuted ts)) read depth limit (Err e)
-refused_places f is ts read depth limit e same wrong = by_names (list_all (λ i. is_some (place_of n (f i))) is) refl
+pub refused_places : {I : Type 0} (f : I → ValueTree) (is : List I) (ts : List ValueTree) (e : Trap) → length ts ≡ length is → own_places (length ts) (map f is) ≡ Err e
+    → IsRefused (if_there (all_of as_int (map f is)) (permuted ts)) e
+refused_places f is ts e same wrong = by_names (list_all (λ i. is_some (place_of n (f i))) is) refl
   where
     n : ℕ
     n = length ts
 
     refusal : Trap → Type 0
-    refusal t = Prices (if_there (all_of as_int (map f is)) (permuted ts)) read depth limit (Err t)
+    refusal t = IsRefused (if_there (all_of as_int (map f is)) (permuted ts)) t
 
     by_differ : list_all (λ i. is_some (place_of n (f i))) is ≡ true → (b : Bool) → all_differ (places_of n (map f is)) ≡ b → unless_twice b ≡ Err e → refusal e
     by_differ named true p q = absurd (cc q)
     by_differ named false p q =
         let is_it : Permutation ≡ e = cc q in
-        subst refusal is_it (refused_twice f is ts read depth limit same named p)
+        subst refusal is_it (refused_twice f is ts same named p)
 
     by_names : (b : Bool) → list_all (λ i. is_some (place_of n (f i))) is ≡ b → refusal e
     by_names true p = by_differ p (all_differ (places_of n (map f is))) refl (own_named f n is _ p refl ∙ wrong)
     by_names false p =
         let told : Err Range ≡ Err e = own_range f n is p ∙ wrong in
         let is_it : Range ≡ e = cc told in
-        subst refusal is_it (refused_beyond f is ts read depth limit same p)
+        subst refusal is_it (refused_beyond f is ts same p)
 
 -- and what their own places say of them
 pub are_named : {I : Type 0} (f : I → ValueTree) (n : ℕ) (is : List I) → own_places n (map f is) ≡ Ok tt → list_all (λ i. is_some (place_of n (f i))) is ≡ true

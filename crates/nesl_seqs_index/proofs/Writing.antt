@@ -1,21 +1,20 @@
 -- Writes to places.
-use Rattle.std.proofs.Common.{◌≡◌, ◌≢◌, ℕ, ℤ, zero, suc, ◌+◌, ◌-◌, ◌*◌, ◌/◌, ◌%◌, ◌<◌, ◌≤◌, Bool, true, false, ◌&&◌, cond, nat_eq, List, [], ◌∷◌, ◌++◌, length, map, zip, take, drop, reverse, set, get_or, min, refl, ap, sym, ◌∙◌, arith, Option, Some, None, is_some, option_map, option_and_then, unwrap_or, slice_get, Err}
+use Rattle.std.proofs.Common.{◌≡◌, ◌≢◌, ℕ, ℤ, zero, suc, ◌+◌, ◌-◌, ◌*◌, ◌/◌, ◌%◌, ◌<◌, ◌≤◌, Bool, true, false, ◌&&◌, cond, nat_eq, List, [], ◌∷◌, ◌++◌, length, map, zip, take, drop, reverse, set, get_or, min, refl, ap, sym, ◌∙◌, arith, Option, Some, None, is_some, option_map, option_and_then, unwrap_or, slice_get}
 use Rattle.std.specs.List.{list_all, cons_option, enumerate_from}
 use Rattle.std.proofs.lemmas.List.{append-nil, take_more, map-append, length-map, reverse-append, take-append-drop, drop-drop, drop_all, length-take, length-drop, get_or-set_same, get_or-set_other}
 use Rattle.std.proofs.lemmas.Bool.Decides.{Decides-eqb}
-use Rattle.std.proofs.lemmas.Option.{slice_get-map, slice_get_read, slice_get_past}
+use Rattle.std.proofs.lemmas.Option.{slice_get-map, slice_get_read}
 use Rattle.std.proofs.lemmas.List.Elements.{filter_map-append}
 use Rattle.nesl_scalars.specs.declared.trap.Trap.TheVariants.{Range}
 use Rattle.nesl_values.specs.Tree.{ValueTree, int, pair, size, sizes, sequence, trees_of}
 use Rattle.nesl_values.specs.Parts.{as_pair}
-use Rattle.nesl_seqs_base.specs.Outcome.{gives, traps, if_there, IsGiven}
+use Rattle.nesl_seqs_base.specs.Outcome.{gives, traps, if_there}
 use Rattle.nesl_seqs_base.specs.Reductions.{all_of}
-use Rattle.nesl_seqs_base.specs.Prices.{Prices}
 use Rattle.nesl_seqs_base.specs.Places.{place_in, place_of, all_name_places, places_named, arrival}
 use Rattle.nesl_seqs_base.specs.Write.{int_and_tree, overwritten, written, write_of, writes_of, told_by}
 use Rattle.nesl_seqs_base.proofs.Equality.{left_true, right_true}
 use Rattle.nesl_seqs_index.proofs.Marking.{are_equal, are_apart, test_apart}
-use Rattle.nesl_seqs_index.proofs.Picking.{list_all_map, not_given}
+use Rattle.nesl_seqs_index.proofs.Picking.{IsRefused, list_all_map}
 use Rattle.nesl_seqs_index.proofs.Permuting.{arrival_or, first_arrival}
 use Rattle.nesl_seqs_base.proofs.Totals.{sizes_append}
 use Rattle.nesl_seqs_base.proofs.Sizes.{sizes_set}
@@ -73,21 +72,14 @@ given_written f ps ts named =
     let ws : zip (places_named (length ts) (map (λ q. q.0) qs)) (map (λ q. q.1) qs) ≡ writes_of (length ts) (map f ps) = zipped_writes (length ts) qs all ∙ ap (writes_of (length ts)) (sym same) in
     ap (λ o. if_there o (written ts)) found.1 ∙ ap (λ b. cond b (gives (sequence (overwritten ts (zip (places_named (length ts) (map (λ q. q.0) qs)) (map (λ q. q.1) qs))))) (traps Range)) all ∙ ap (λ vs. gives (sequence (overwritten ts vs))) ws
 
-pub refused_write : {P : Type 0} (f : P → ValueTree) (ps : List P) (ts : List ValueTree) (read depth limit : ℕ) → list_all (λ p. is_some (write_of (length ts) (f p))) ps ≡ false → Prices (if_there (all_of int_and_tree (map f ps)) (written ts)) read depth limit (Err Range)
-refused_write f ps ts read depth limit named = by_pairs (all_of int_and_tree (map f ps)) refl
+pub refused_write : {P : Type 0} (f : P → ValueTree) (ps : List P) (ts : List ValueTree) → list_all (λ p. is_some (write_of (length ts) (f p))) ps ≡ false → IsRefused (if_there (all_of int_and_tree (map f ps)) (written ts)) Range
+refused_write f ps ts named = by_pairs (all_of int_and_tree (map f ps)) refl
   where
-    by_pairs : (o : Option (List (ℤ × ValueTree))) → all_of int_and_tree (map f ps) ≡ o → Prices (if_there o (written ts)) read depth limit (Err Range)
+    by_pairs : (o : Option (List (ℤ × ValueTree))) → all_of int_and_tree (map f ps) ≡ o → IsRefused (if_there o (written ts)) Range
     by_pairs None e = tt
     by_pairs (Some qs) e =
         let some : all_name_places (length ts) (map (λ q. q.0) qs) ≡ false = sym (names_written (length ts) qs) ∙ ap (list_all (λ t. is_some (write_of (length ts) t))) (sym (are_pairs (map f ps) qs e)) ∙ list_all_map (λ t. is_some (write_of (length ts) t)) f ps ∙ named in
         rw some refl
-
-pub written_is : {P : Type 0} (f : P → ValueTree) (ps : List P) (ts : List ValueTree) → IsGiven (if_there (all_of int_and_tree (map f ps)) (written ts)) → if_there (all_of int_and_tree (map f ps)) (written ts) ≡ gives (sequence (overwritten ts (writes_of (length ts) (map f ps))))
-written_is f ps ts there = by_test (list_all (λ p. is_some (write_of (length ts) (f p))) ps) refl
-  where
-    by_test : (b : Bool) → list_all (λ p. is_some (write_of (length ts) (f p))) ps ≡ b → if_there (all_of int_and_tree (map f ps)) (written ts) ≡ gives (sequence (overwritten ts (writes_of (length ts) (map f ps))))
-    by_test true e = given_written f ps ts e
-    by_test false e = absurd (not_given (if_there (all_of int_and_tree (map f ps)) (written ts)) Range there (refused_write f ps ts 0 0 0 e))
 
 -- one more pair
 writes_more : {P : Type 0} (f : P → ValueTree) (n : ℕ) (ps : List P) (j : ℕ) (p : P) (o : Option (ℕ × ValueTree)) → j < length ps → p ≡ get_or ps j p → o ≡ write_of n (f p)
@@ -260,11 +252,6 @@ told_at f ps zero p some h at = absurd (some refl)
 told_at f ps (suc k) p some h at =
     let before : suc k - 1 ≡ k = omega arith in
     ap (option_and_then (λ t. option_map (λ q. q.1) (as_pair t))) (slice_get-map f ps k ∙ ap (option_map f) (slice_get_read ps (length ps) k p refl (omega (arith, h)) (at ∙ ap (λ i. get_or ps i p) before)))
-
-pub told_none : {P : Type 0} (f : P → ValueTree) (ps : List P) (k : ℕ) → (k ≢ 0 → length ps < k) → None ≡ told_by (map f ps) k
-told_none f ps zero h = refl
-told_none f ps (suc k) h =
-    sym (ap (option_and_then (λ t. option_map (λ q. q.1) (as_pair t))) (slice_get_past (map f ps) k (omega (arith, h (λ e. absurd (omega (arith, e))), length-map ps f))))
 
 take_get : (xs : List ValueTree) (i m : ℕ) (x : ValueTree) → m ≡ suc i → slice_get xs i ≡ Some x → take m xs ≡ take i xs ++ x ∷ []
 take_get [] i m x is h = absurd (cc h)

@@ -34,7 +34,7 @@ pub fn plan_gather<A: Allocator>(argument: Argument<'_, A>) -> Result<Plan<'_, A
         return Err(WRONG_SHAPE);
     };
     check_indices(items, indices)?;
-    Ok(Plan::Gathered(items, indices))
+    Ok(Plan::Gathered { items, indices })
 }
 
 /// Whether each index names a place in a sequence of that length.

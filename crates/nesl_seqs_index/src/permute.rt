@@ -40,7 +40,7 @@ pub fn plan_permute<A: Allocator>(argument: Argument<'_, A>) -> Result<Plan<'_, 
         return Err(WRONG_SHAPE);
     };
     check_indices(items, indices)?;
-    Ok(Plan::Permuted(items, indices))
+    Ok(Plan::Permuted { items, indices })
 }
 
 // Whether the indices are as many as the items and each names a place of its own, and else the fault.

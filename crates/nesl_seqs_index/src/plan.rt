@@ -17,15 +17,27 @@ use std::alloc::{AllocError, Allocator, Global};
 #[derive_where(Copy)]
 pub enum Plan<'a, A: Allocator = Global> {
     /// Every other of these items, from the first on, where so many were read.
-    EveryOther(Items<'a, A>, usize),
+    EveryOther {
+        items: Items<'a, A>,
+        read: usize,
+    },
     /// One item of each in turn.
     Woven(Items<'a, A>, Items<'a, A>),
-    /// The items at the places that the others name.
-    Gathered(Items<'a, A>, Items<'a, A>),
+    /// The items at the places that the indices name.
+    Gathered {
+        items: Items<'a, A>,
+        indices: Items<'a, A>,
+    },
     /// Each of the items at the place that its index names.
-    Permuted(Items<'a, A>, Items<'a, A>),
+    Permuted {
+        items: Items<'a, A>,
+        indices: Items<'a, A>,
+    },
     /// The items after the pairs of a place and an element were written in order.
-    Written(Items<'a, A>, &'a [Value<A>]),
+    Written {
+        items: Items<'a, A>,
+        pairs: &'a [Value<A>],
+    },
 }
 
 impl<A: Allocator> Clone for Plan<'_, A> {
@@ -46,11 +58,11 @@ impl<A: Allocator> Plan<'_, A> {
             (price (read_by self.entry) 1 (built self.entry)) }
     {
         match self {
-            Plan::EveryOther(items, read) => price_of_every_other(items, read as u128, limit),
+            Plan::EveryOther { items, read } => price_of_every_other(items, read as u128, limit),
             Plan::Woven(one, other) => price_of_woven(one, other, limit),
-            Plan::Gathered(items, indices) => price_of_gathered(items, indices, limit),
-            Plan::Permuted(items, indices) => price_of_permuted(items, indices, limit),
-            Plan::Written(items, pairs) => price_of_overwritten(items, pairs, limit),
+            Plan::Gathered { items, indices } => price_of_gathered(items, indices, limit),
+            Plan::Permuted { items, indices } => price_of_permuted(items, indices, limit),
+            Plan::Written { items, pairs } => price_of_overwritten(items, pairs, limit),
         }
     }
 }
@@ -62,11 +74,11 @@ impl<A: Allocator + Copy> Plan<'_, A> {
         ensures { IfOk result (λ v. tree_of v ≡ built self.entry) }
     {
         match self {
-            Plan::EveryOther(items, _) => copy_of_every_other(alloc, items),
+            Plan::EveryOther { items, .. } => copy_of_every_other(alloc, items),
             Plan::Woven(one, other) => woven_copy(alloc, one, other),
-            Plan::Gathered(items, indices) => copy_of_gathered(alloc, items, indices),
-            Plan::Permuted(items, indices) => copy_of_permuted(alloc, items, indices),
-            Plan::Written(items, pairs) => overwritten_copy(alloc, items, pairs),
+            Plan::Gathered { items, indices } => copy_of_gathered(alloc, items, indices),
+            Plan::Permuted { items, indices } => copy_of_permuted(alloc, items, indices),
+            Plan::Written { items, pairs } => overwritten_copy(alloc, items, pairs),
         }
     }
 }

@@ -26,7 +26,10 @@ pub fn plan_even_elts<A: Allocator>(argument: Argument<'_, A>) -> Result<Plan<'_
         (reads EvenElts (argument_tree argument.entry)) result }
 {
     match sequence(argument) {
-        Some(items) => Ok(Plan::EveryOther(items, items.len())),
+        Some(items) => Ok(Plan::EveryOther {
+            items,
+            read: items.len(),
+        }),
         None => Err(WRONG_SHAPE),
     }
 }
@@ -37,7 +40,10 @@ pub fn plan_odd_elts<A: Allocator>(argument: Argument<'_, A>) -> Result<Plan<'_,
         (reads OddElts (argument_tree argument.entry)) result }
 {
     match sequence(argument) {
-        Some(items) => Ok(Plan::EveryOther(all_but_first(items), items.len())),
+        Some(items) => Ok(Plan::EveryOther {
+            items: all_but_first(items),
+            read: items.len(),
+        }),
         None => Err(WRONG_SHAPE),
     }
 }

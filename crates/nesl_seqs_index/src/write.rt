@@ -43,7 +43,7 @@ pub fn plan_write<A: Allocator>(argument: Argument<'_, A>) -> Result<Plan<'_, A>
     if !all_write(pairs, items.len()) {
         return Err(Trap::Range);
     }
-    Ok(Plan::Written(items, pairs))
+    Ok(Plan::Written { items, pairs })
 }
 
 // The items as values, where they are held so or there are none.

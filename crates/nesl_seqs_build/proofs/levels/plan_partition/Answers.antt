@@ -1,4 +1,4 @@
-use Rattle.std.proofs.Common.{◌≡◌, ◌∙◌, ◌+◌, Some, None, true, cond, [], map, length, unwrap_or, ap, sym, refl, arith, IsSome}
+use Rattle.std.proofs.Common.{◌≡◌, ◌∙◌, true, cond, [], map, length, unwrap_or, ap, sym, refl, IsSome}
 use Rattle.nesl_scalars.specs.declared.trap.Trap.TheVariants.{Count}
 use Rattle.nesl_values.specs.Tree.{sequence}
 use Rattle.nesl_values.specs.Parts.{as_int}

@@ -1,4 +1,4 @@
-use Rattle.std.proofs.Common.{◌∙◌, ap, sym, refl, length}
+use Rattle.std.proofs.Common.{ap, sym, refl, length}
 use Rattle.nesl_values.specs.Tree.{sequence}
 use Rattle.nesl_values.specs.Parts.{as_sequence}
 use Rattle.nesl_values.specs.View.{item_trees}

@@ -1,4 +1,4 @@
-use Rattle.std.proofs.Common.{◌∙◌, ap, sym, length, to_z, of_z, w64, FitsSigned, rules}
+use Rattle.std.proofs.Common.{◌∙◌, ap, sym, length, w64, FitsSigned, rules}
 use Rattle.std.proofs.lemmas.Int.{to_z-of_z}
 use Rattle.nesl_values.specs.View.{item_trees}
 use Rattle.nesl_seqs_base.specs.Arguments.{sequence_and_int}

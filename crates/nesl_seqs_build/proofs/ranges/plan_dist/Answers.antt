@@ -1,6 +1,5 @@
-use Rattle.std.proofs.Common.{◌≡◌, ◌^◌, ◌<◌, ℤ, pos, arith, w64, FitsSigned, rules, unsigned_abs, to_z, of_z}
+use Rattle.std.proofs.Common.{arith, w64, FitsSigned, rules}
 use Rattle.std.proofs.lemmas.Int.{ints}
-use Rattle.nesl_values.specs.Tree.{size}
 use Rattle.nesl_values.specs.View.{tree_of}
 use Rattle.nesl_seqs_base.specs.Lent.{argument_tree}
 use Rattle.nesl_seqs_build.proofs.Numbers.{copies_small}

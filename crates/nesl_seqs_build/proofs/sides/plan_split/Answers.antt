@@ -1,9 +1,8 @@
-use Rattle.std.proofs.Common.{◌≡◌, ◌∙◌, ◌+◌, Some, [], true, false, is_some, IsSome, length, unwrap_or, ap, sym, refl, arith}
+use Rattle.std.proofs.Common.{◌≡◌, ◌∙◌, [], true, false, IsSome, length, unwrap_or, ap, sym, refl, arith}
 use Rattle.nesl_scalars.specs.declared.trap.Trap.TheVariants.{Length}
 use Rattle.nesl_values.specs.Parts.{as_bool}
 use Rattle.nesl_values.specs.View.{item_trees}
 use Rattle.nesl_seqs_base.specs.Lent.{argument_tree}
-use Rattle.nesl_seqs_base.specs.Outcome.{gives}
 use Rattle.nesl_seqs_base.specs.Reductions.{all_of}
 use Rattle.nesl_seqs_base.specs.Sides.{split_apart}
 use Rattle.nesl_seqs_base.proofs.Shapes.{length_all}

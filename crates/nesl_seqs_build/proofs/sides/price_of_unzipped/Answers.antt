@@ -1,6 +1,5 @@
-use Rattle.std.proofs.Common.{[], map, unwrap_or, length, ap, arith}
+use Rattle.std.proofs.Common.{map, arith}
 use Rattle.std.proofs.lemmas.List.{length-map}
-use Rattle.nesl_values.specs.Tree.{size}
 use Rattle.nesl_values.specs.Parts.{as_pair}
 use Rattle.nesl_values.specs.View.{tree_of}
 use Rattle.nesl_seqs_base.specs.Reductions.{all_of}

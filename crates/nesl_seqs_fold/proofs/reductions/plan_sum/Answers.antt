@@ -5,11 +5,7 @@ use Rattle.nesl_values.specs.Tree.{int}
 use Rattle.nesl_values.specs.Parts.{as_sequence}
 use Rattle.nesl_values.specs.View.{item_trees}
 use Rattle.nesl_seqs_base.specs.Lent.{argument_tree}
-use Rattle.nesl_seqs_base.specs.Outcome.{if_there, gives}
-use Rattle.nesl_seqs_base.specs.Arguments.{numbers}
-use Rattle.nesl_seqs_base.specs.Meaning.{outcome_of}
 use Rattle.nesl_seqs_base.specs.Prices.{length_of, digits}
-use Rattle.nesl_seqs_base.specs.declared.seq_fn.SeqFn.TheVariants.{Sum}
 use Rattle.nesl_seqs_fold.proofs.Sums.{short_sum_fits, sum_planned}
 use Rattle.nesl_seqs_fold.proofs.reductions.plan_sum.Goals as goal
 

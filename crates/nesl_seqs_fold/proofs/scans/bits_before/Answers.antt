@@ -1,4 +1,4 @@
-use Rattle.std.proofs.Common.{◌≡◌, ◌∙◌, ◌+◌, pos, ap, sym, map, take, unwrap_or, length, arith, to_z, of_z, w64, FitsSigned, rules}
+use Rattle.std.proofs.Common.{◌≡◌, ◌∙◌, ◌+◌, pos, ap, sym, map, take, unwrap_or, arith, to_z, of_z, w64, FitsSigned, rules}
 use Rattle.std.proofs.lemmas.Int.{to_z-of_z}
 use Rattle.nesl_seqs_base.specs.Scans.{joined_bits, join_bits}
 use Rattle.nesl_seqs_fold.specs.Elements.{number_in}

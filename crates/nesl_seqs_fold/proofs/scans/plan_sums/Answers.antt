@@ -5,7 +5,7 @@ use Rattle.nesl_seqs_base.specs.Prices.{digits}
 use Rattle.nesl_seqs_base.specs.Reductions.{all_of}
 use Rattle.nesl_seqs_base.proofs.Shapes.{length_all}
 use Rattle.nesl_seqs_fold.specs.Elements.{numbers_of}
-use Rattle.nesl_seqs_fold.proofs.Planned.{sums_planned, sums_refused}
+use Rattle.nesl_seqs_fold.proofs.Planned.{sums_planned}
 use Rattle.nesl_seqs_fold.proofs.scans.plan_sums.Goals as goal
 
 pub all_sums_fit-requires : goal.all_sums_fit-requires

@@ -1,6 +1,6 @@
-use Rattle.std.proofs.Common.{◌≡◌, ◌∙◌, ◌+ℤ◌, ◌+◌, ◌++◌, ◌∷◌, [], pos, ap, sym, map, take, unwrap_or, length, arith, to_z, of_z, w64, rules, FitsSigned}
+use Rattle.std.proofs.Common.{◌≡◌, ◌∙◌, ◌+ℤ◌, ◌+◌, pos, ap, sym, map, take, unwrap_or, arith, to_z, w64, rules, FitsSigned}
 use Rattle.std.specs.Int.{int_wrap}
-use Rattle.std.proofs.lemmas.Int.{wrapping_add_onto, to_z-of_z}
+use Rattle.std.proofs.lemmas.Int.{wrapping_add_onto}
 use Rattle.nesl_seqs_fold.specs.Elements.{number_in, wrapped_total}
 use Rattle.nesl_seqs_fold.proofs.Before.{read_more, pushed_more, pushed_all, wrapped_more}
 use Rattle.nesl_seqs_fold.proofs.scans.sums_before.Goals as goal

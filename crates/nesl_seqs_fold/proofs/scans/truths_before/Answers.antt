@@ -1,4 +1,4 @@
-use Rattle.std.proofs.Common.{◌≡◌, ◌∙◌, ◌+◌, false, ap, sym, map, take, unwrap_or, length, arith}
+use Rattle.std.proofs.Common.{◌≡◌, ◌∙◌, ◌+◌, false, ap, sym, map, take, unwrap_or, arith}
 use Rattle.nesl_seqs_base.specs.Scans.{joined_truths, join_truths}
 use Rattle.nesl_seqs_fold.specs.Elements.{truth_in}
 use Rattle.nesl_seqs_fold.proofs.Before.{read_more, pushed_more, pushed_all, joined_more}

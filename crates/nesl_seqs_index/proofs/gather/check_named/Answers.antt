@@ -1,4 +1,4 @@
-use Rattle.std.proofs.Common.{◌≡◌, ◌∙◌, Bool, true, false, ap, refl, length, map, is_some, rules}
+use Rattle.std.proofs.Common.{◌≡◌, ◌∙◌, true, false, refl, length, is_some, rules}
 use Rattle.std.specs.List.{list_all}
 use Rattle.nesl_scalars.specs.declared.trap.Trap.TheVariants.{Range}
 use Rattle.nesl_values.specs.Tree.{sequence}
@@ -14,7 +14,7 @@ returns-then-not-all_name g c =
     let ts = item_trees c.args.items in
     let is = c.args.indices.now in
     let none : list_all (λ i. is_some (place_of (length ts) (g.I.Item.tree i))) is ≡ false = search rules in
-    refusal _ _ Range (refused (length ts) g.I.Item.tree is (λ ks. gives (sequence (elements_at ts ks))) 0 0 0 none)
+    refusal _ _ Range (refused (length ts) g.I.Item.tree is (λ ks. gives (sequence (elements_at ts ks))) none)
 
 pub returns : goal.returns
 returns g c =

@@ -1,4 +1,4 @@
-use Rattle.std.proofs.Common.{◌≡◌, ◌≢◌, ◌∙◌, ap, sym, refl, length, map, Ok, Err, rules}
+use Rattle.std.proofs.Common.{◌≡◌, ◌≢◌, ◌∙◌, ap, sym, length, map, rules}
 use Rattle.nesl_scalars.specs.declared.trap.Trap.TheVariants.{Length}
 use Rattle.nesl_values.specs.View.{item_trees}
 use Rattle.nesl_seqs_index.specs.Marks.{own_places}
@@ -11,7 +11,7 @@ returns-then-len-indices g c =
     let ts = item_trees c.args.items in
     let is = c.args.indices.now in
     let uneven : length ts ≢ length is = search rules in
-    refusal _ _ Length (refused_uneven g.I.Item.tree is ts 0 0 0 uneven)
+    refusal _ _ Length (refused_uneven g.I.Item.tree is ts uneven)
 
 pub returns : goal.returns
 returns g c =

@@ -1,5 +1,4 @@
-use Rattle.std.proofs.Common.{List, map}
-use Rattle.nesl_values.specs.Tree.{ValueTree, int, boolean, character}
+use Rattle.nesl_values.specs.Tree.{int, boolean, character}
 use Rattle.nesl_values.specs.View.{tree_of, item_trees}
 use Rattle.nesl_seqs_index.proofs.Planned.{permuted_made}
 use Rattle.nesl_seqs_index.proofs.permute.copy_of_permuted.Goals as goal

@@ -1,7 +1,5 @@
-use Rattle.std.proofs.Common.{◌≡◌, ◌∙◌, true, false, map, length, is_some, ap, sym, rules, refl}
+use Rattle.std.proofs.Common.{◌≡◌, true, false, length, is_some, rules, refl}
 use Rattle.std.specs.List.{list_all}
-use Rattle.std.proofs.lemmas.List.{length-map}
-use Rattle.nesl_scalars.specs.declared.trap.Trap.TheVariants.{Range}
 use Rattle.nesl_values.specs.View.{tree_of, item_trees}
 use Rattle.nesl_seqs_base.specs.Arguments.{two_sequences}
 use Rattle.nesl_seqs_base.specs.Lent.{argument_tree}

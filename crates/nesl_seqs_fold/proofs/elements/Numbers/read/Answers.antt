@@ -1,4 +1,4 @@
-use Rattle.std.proofs.Common.{◌≡◌, Some, None, ap, sym, refl, ◌∙◌, pos}
+use Rattle.std.proofs.Common.{sym, refl, pos}
 use Rattle.nesl_values.specs.Tree.{int, boolean, character}
 use Rattle.nesl_values.specs.Parts.{as_int}
 use Rattle.nesl_values.specs.View.{tree_of}

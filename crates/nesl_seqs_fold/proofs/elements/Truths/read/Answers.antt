@@ -1,4 +1,4 @@
-use Rattle.std.proofs.Common.{◌≡◌, Some, None, ap, sym, refl, ◌∙◌, false}
+use Rattle.std.proofs.Common.{sym, refl, false}
 use Rattle.nesl_values.specs.Tree.{int, boolean, character}
 use Rattle.nesl_values.specs.Parts.{as_bool}
 use Rattle.nesl_values.specs.View.{tree_of}

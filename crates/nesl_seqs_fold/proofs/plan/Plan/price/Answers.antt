@@ -14,11 +14,11 @@ returns-in-Sums g c =
 pub returns-in-JoinedTruths : goal.returns-in-JoinedTruths
 returns-in-JoinedTruths g c =
     let bs = truths_of c.in-JoinedTruths.truths in
-    let f = joined_truths c.in-JoinedTruths.field-0 in
+    let f = joined_truths c.in-JoinedTruths.joint in
     rw c.in-JoinedTruths.is (scan_priced c.price_of_scan-in-JoinedTruths.result (sequence (map boolean (before_each f bs))) c.len-in-JoinedTruths.result (length bs) c.args.limit c.len-in-JoinedTruths.ensures (size_before boolean (λ b. refl) f bs) c.price_of_scan-in-JoinedTruths.ensures)
 
 pub returns-in-JoinedNumbers : goal.returns-in-JoinedNumbers
 returns-in-JoinedNumbers g c =
     let zs = numbers_of c.in-JoinedNumbers.numbers in
-    let f = joined_bits c.in-JoinedNumbers.field-0 in
+    let f = joined_bits c.in-JoinedNumbers.joint in
     rw c.in-JoinedNumbers.is (scan_priced c.price_of_scan-in-JoinedNumbers.result (sequence (map int (before_each f zs))) c.len-in-JoinedNumbers.result (length zs) c.args.limit c.len-in-JoinedNumbers.ensures (size_before int (λ z. refl) f zs) c.price_of_scan-in-JoinedNumbers.ensures)
