@@ -1,5 +1,5 @@
 -- Why a run fails.
-use Rattle.std.proofs.Common.{◌≡◌, ℕ, List, [], ◌∷◌, ◌++◌, Option, Some, None, length, map, slice_get, option_map, refl, sym, ap, ◌∙◌, subst}
+use Rattle.std.proofs.Common.{◌≡◌, ℕ, Bool, true, false, List, [], ◌∷◌, ◌++◌, Option, Some, None, length, map, slice_get, option_map, refl, sym, ap, ◌∙◌, subst}
 use Rattle.std.specs.Prelude.{IfSome}
 use Rattle.std.proofs.lemmas.Option.{slice_get-map}
 use Rattle.std.specs.Io.KnownBytes.{Consumes, Appends}
@@ -8,11 +8,10 @@ use Rattle.nesl_house.specs.Roster.{IsRoster, IsRefused, bad_name, stands_twice,
 use Rattle.nesl_house.specs.Runs.{Account}
 use Rattle.nesl_line.specs.declared.exchange.End.{End}
 use Rattle.nesl_line.specs.declared.exchange.End.TheVariants.{Input, ReadFault, WriteFault, NoMemory}
-use Rattle.nesl_line.specs.Batch.{IsBatch}
 use Rattle.nesl_line.proofs.Bytes.{consumes_none, appends_none}
 use Rattle.nesl_cli.specs.declared.failure.Failure.{Failure}
 use Rattle.nesl_cli.specs.Failures.{failure_of}
-use Rattle.nesl_cli.specs.Program.{limits, Served, Untouched, IsBlamed, Fails}
+use Rattle.nesl_cli.specs.Program.{limits, Batched, Served, Untouched, IsBlamed, Fails}
 
 pub untouched : (left held : Option (List ℕ)) → Untouched left left held held
 untouched left held = (consumes_none left, appends_none held)
@@ -42,25 +41,30 @@ nothing_done left left' held held' read written c a r w =
     (subst P r c, subst Q w a)
 
 -- a batch ran to its end
-pub served : (end : End) (count : ℕ) (users : List (List ℕ)) (left left' held held' : Option (List ℕ)) (house house' : List Account) → IsRoster users → house ≡ new_house limits users → IsBatch end count left left' held held' house house' → None ≡ failure_of end
-    → Served Input users left left' held held'
-served Input count users left left' held held' house house' r o b e = let P : List Account → Type 0 = λ x. IsBatch Input count left left' held held' x house' in (r, (count, (house', subst P o b)))
-served ReadFault count users left left' held held' house house' r o b e = absurd (cc)
-served WriteFault count users left left' held held' house house' r o b e = absurd (cc)
-served NoMemory count users left left' held held' house house' r o b e = absurd (cc)
+pub served : (is_hinted : Bool) (end : End) (count : ℕ) (users : List (List ℕ)) (left left' held held' : Option (List ℕ)) (house house' : List Account) → IsRoster users → house ≡ new_house limits users → Batched is_hinted end count left left' held held' house house'
+    → None ≡ failure_of end → Served is_hinted Input users left left' held held'
+served is_hinted Input count users left left' held held' house house' r o b e = let P : List Account → Type 0 = λ x. Batched is_hinted Input count left left' held held' x house' in (r, (count, (house', subst P o b)))
+served is_hinted ReadFault count users left left' held held' house house' r o b e = absurd (cc)
+served is_hinted WriteFault count users left left' held held' house house' r o b e = absurd (cc)
+served is_hinted NoMemory count users left left' held held' house house' r o b e = absurd (cc)
 
-failed_as : (failure other : Failure) (users : List (List ℕ)) (left left' held held' : Option (List ℕ)) → Some failure ≡ Some other → Fails other users left left' held held' → Fails failure users left left' held held'
-failed_as failure other users left left' held held' e f =
+failed_as : (is_hinted : Bool) (failure other : Failure) (users : List (List ℕ)) (left left' held held' : Option (List ℕ)) → Some failure ≡ Some other → Fails other is_hinted users left left' held held' → Fails failure is_hinted users left left' held held'
+failed_as is_hinted failure other users left left' held held' e f =
     let same : failure ≡ other = cc in
-    let P : Failure → Type 0 = λ x. Fails x users left left' held held' in
+    let P : Failure → Type 0 = λ x. Fails x is_hinted users left left' held held' in
     subst P (sym same) f
 
+-- a batch for which there was no memory
+unread : (is_hinted : Bool) (count : ℕ) (left left' held held' : Option (List ℕ)) (house house' : List Account) → Batched is_hinted NoMemory count left left' held held' house house' → Untouched left left' held held'
+unread false count left left' held held' house house' b = nothing_done left left' held held' b.1.read b.1.written b.1.consumed b.1.appended b.1.ended.0 b.1.ended.2
+unread true count left left' held held' house house' b = nothing_done left left' held held' b.1.read b.1.written b.1.consumed b.1.appended b.1.ended.0 b.1.ended.2
+
 -- a batch failed
-pub failed : (end : End) (failure : Failure) (count : ℕ) (users : List (List ℕ)) (left left' held held' : Option (List ℕ)) (house house' : List Account) → IsRoster users → house ≡ new_house limits users → IsBatch end count left left' held held' house house' → Some failure ≡ failure_of end
-    → Fails failure users left left' held held'
-failed Input failure count users left left' held held' house house' r o b e = absurd (cc)
-failed ReadFault failure count users left left' held held' house house' r o b e =
-    let P : List Account → Type 0 = λ x. IsBatch ReadFault count left left' held held' x house' in failed_as failure _ users left left' held held' e (r, (count, (house', subst P o b)))
-failed WriteFault failure count users left left' held held' house house' r o b e =
-    let P : List Account → Type 0 = λ x. IsBatch WriteFault count left left' held held' x house' in failed_as failure _ users left left' held held' e (r, (count, (house', subst P o b)))
-failed NoMemory failure count users left left' held held' house house' r o b e = failed_as failure _ users left left' held held' e (nothing_done left left' held held' b.1.read b.1.written b.1.consumed b.1.appended b.1.ended.0 b.1.ended.2)
+pub failed : (is_hinted : Bool) (end : End) (failure : Failure) (count : ℕ) (users : List (List ℕ)) (left left' held held' : Option (List ℕ)) (house house' : List Account) → IsRoster users → house ≡ new_house limits users → Batched is_hinted end count left left' held held' house house'
+    → Some failure ≡ failure_of end → Fails failure is_hinted users left left' held held'
+failed is_hinted Input failure count users left left' held held' house house' r o b e = absurd (cc)
+failed is_hinted ReadFault failure count users left left' held held' house house' r o b e =
+    let P : List Account → Type 0 = λ x. Batched is_hinted ReadFault count left left' held held' x house' in failed_as is_hinted failure _ users left left' held held' e (r, (count, (house', subst P o b)))
+failed is_hinted WriteFault failure count users left left' held held' house house' r o b e =
+    let P : List Account → Type 0 = λ x. Batched is_hinted WriteFault count left left' held held' x house' in failed_as is_hinted failure _ users left left' held held' e (r, (count, (house', subst P o b)))
+failed is_hinted NoMemory failure count users left left' held held' house house' r o b e = failed_as is_hinted failure _ users left left' held held' e (unread is_hinted count left left' held held' house house' b)

@@ -2,3 +2,5 @@ pub mod Flags
 pub mod Numbers
 pub mod Tasks
 pub mod Failed
+pub mod Done
+pub mod Ends

@@ -1,5 +1,5 @@
 -- How a run of the program fails, and with which exit status.
-use Rattle.std.specs.Prelude.{ℕ, List, Bool, false, Option, Some, None, Result, Ok, Err, slice_get, codes}
+use Rattle.std.specs.Prelude.{ℕ, List, Option, Some, None, Result, Ok, Err, slice_get, codes}
 use Rattle.std.specs.Prelude.{if◌then◌else◌}
 use Rattle.std.specs.Str.{bytes_eq}
 use Rattle.clap.specs.declared.error.kind.ErrorKind.{ErrorKind}
@@ -10,7 +10,9 @@ use Rattle.nesl_service.specs.declared.service.ServeFault.TheVariants as serve_f
 use Rattle.nesl_cli.specs.declared.failure.Failure.{Failure}
 use Rattle.nesl_cli.specs.declared.failure.Failure.TheVariants.{Read, Write, Memory, Serve}
 use Rattle.nesl_cli.specs.declared.failure.Failure.TheVariants.{Count, Name, Twice, Encoding}
-use Rattle.nesl_cli.specs.declared.failure.Failure.TheVariants.{Costs, Value, Taken, Stats}
+use Rattle.nesl_cli.specs.declared.failure.Failure.TheVariants.{Costs, Value, Taken, Stats, Prompt}
+use Rattle.nesl_cli.specs.declared.prompt.PromptFault.TheVariants as prompt_fault
+use Rattle.nesl_cli.specs.declared.prompt.PromptFault.{PromptFault}
 
 -- 1 for a device or memory, 2 for the words
 abbrev pub status_of : Failure → ℕ
@@ -26,6 +28,7 @@ status_of (Costs fault) = 1
 status_of (Value text) = 2
 status_of (Taken port) = 1
 status_of (Stats file) = 1
+status_of (Prompt fault) = 1
 
 -- 0 where a service that was offered ended well
 abbrev pub status_after : Result (Unit {0}) Failure → ℕ
@@ -46,11 +49,24 @@ failure_of ReadFault = Some Read
 failure_of WriteFault = Some Write
 failure_of NoMemory = Some Memory
 
--- whether a word is there, and is `serve`
-abbrev pub is_serve : Option (List ℕ) → Bool
-is_serve None = false
-is_serve (Some word) = bytes_eq word (codes "serve")
+-- how a prompt fails by its end
+abbrev pub prompt_failure_of : End → Option PromptFault
+prompt_failure_of Input = None
+prompt_failure_of ReadFault = Some prompt_fault.Read
+prompt_failure_of WriteFault = Some prompt_fault.Write
+prompt_failure_of NoMemory = Some prompt_fault.Memory
 
--- how want of memory is told before a run has begun: the service's, where the word behind the program's name is `serve`
+-- how want of memory is told before a run has begun, by the word behind the program's name: the service's for `serve`,
+-- the prompt's for `repl`
+abbrev pub memory_failure_by : List ℕ → Failure
+memory_failure_by word =
+    if bytes_eq word (codes "serve") then Serve serve_fault.Memory
+    else if bytes_eq word (codes "repl") then Prompt prompt_fault.Memory
+    else Memory
+
+abbrev pub memory_failure_at : Option (List ℕ) → Failure
+memory_failure_at None = Memory
+memory_failure_at (Some word) = memory_failure_by word
+
 abbrev pub memory_failure_of : List (List ℕ) → Failure
-memory_failure_of words = if is_serve (slice_get words 1) then Serve serve_fault.Memory else Memory
+memory_failure_of words = memory_failure_at (slice_get words 1)

@@ -2,4 +2,5 @@ pub mod Words
 pub mod Wanted
 pub mod Failures
 pub mod Offered
+pub mod Prompted
 pub mod Program

@@ -1,21 +1,29 @@
 -- What the program does.
-use Rattle.std.specs.Prelude.{◌≡◌, ◌⊎◌, ℕ, List, [], Option, Some, None, slice_get}
+use Rattle.std.specs.Prelude.{◌≡◌, ℕ, List, [], Option, Some, None, Bool, true, false, slice_get, option_map}
 use Rattle.std.specs.Io.KnownBytes.{Consumes, Appends}
 use Rattle.nesl_session_step.specs.declared.limits.Limits.{Limits}
+use Rattle.nesl_session_step.specs.State.{Log, empty_log}
 use Rattle.nesl_house.specs.declared.roster.NewFault.TheVariants as refusal
 use Rattle.nesl_house.specs.Roster.{IsRoster, IsRefused, new_house}
 use Rattle.nesl_house.specs.Runs.{Account}
 use Rattle.nesl_line.specs.Batch.{IsBatch}
+use Rattle.nesl_line.specs.Hinted.{IsHintedBatch}
 use Rattle.nesl_line.specs.declared.exchange.End.{End}
 use Rattle.nesl_line.specs.declared.exchange.End.TheVariants.{Input, ReadFault, WriteFault}
-use Rattle.nesl_cli.specs.Words.{Task, a_batch, some_costs, a_service, Batch, Service, users_of, task_of}
-use Rattle.nesl_cli.specs.Words.{Costs as CostsOf}
+use Rattle.nesl_prompt.specs.Conversation.{IsPrompt}
+use Rattle.nesl_prompt.specs.Points.{is_plain}
+use Rattle.nesl_cli.specs.Words.{Task, a_batch, some_costs, a_service, a_prompt, Prompt, users_of, task_of}
 use Rattle.nesl_cli.specs.Offered.{service_offered, users_offered}
+use Rattle.nesl_cli.specs.Prompted.{style_for}
+use Rattle.nesl_cli.specs.declared.prompt.Terminals.{Terminals}
 use Rattle.nesl_cli.specs.declared.run.Offer.{Offer}
 use Rattle.nesl_cli.specs.declared.failure.Failure.{Failure}
 use Rattle.nesl_cli.specs.declared.failure.Failure.TheVariants.{Read, Write, Memory, Serve}
 use Rattle.nesl_cli.specs.declared.failure.Failure.TheVariants.{Count, Name, Twice, Encoding}
 use Rattle.nesl_cli.specs.declared.failure.Failure.TheVariants.{Costs, Value, Taken, Stats}
+use Rattle.nesl_cli.specs.declared.failure.Failure.TheVariants as failed_as
+use Rattle.nesl_cli.specs.declared.prompt.PromptFault.TheVariants as prompt_fault
+use Rattle.nesl_cli.specs.Failures.{prompt_failure_of}
 
 -- the limits of each session
 abbrev pub limits : Limits
@@ -27,12 +35,25 @@ limits = record {
   transcript_bytes = 1048576;
 }
 
+-- a batch, with hints below its answers where they are wanted
+abbrev pub Batched
+    : (is_hinted : Bool) → End → ℕ → (left left' held held' : Option (List ℕ)) → (house house' : List Account) → Type 0
+Batched false end count left left' held held' house house' = IsBatch end count left left' held held' house house'
+Batched true end count left left' held held' house house' = IsHintedBatch end count left left' held held' house house'
+
 -- These names are a roster, and the lines read were answered by a house in which each of these users has an empty
 -- session, till it ended so.
-abbrev pub Served : End → List (List ℕ) → Option (List ℕ) → Option (List ℕ) → Option (List ℕ) → Option (List ℕ) → Type 0
-Served end users left left' held held' =
+abbrev pub Served
+    : (is_hinted : Bool) → End → (users : List (List ℕ)) → (left left' held held' : Option (List ℕ)) → Type 0
+Served is_hinted end users left left' held held' =
     IsRoster users
-    × ((count : ℕ) × ((house : List Account) × IsBatch end count left left' held held' (new_house limits users) house))
+    × ((count : ℕ) × ((house : List Account)
+    × Batched is_hinted end count left left' held held' (new_house limits users) house))
+
+-- the lines read were heard at a prompt over an empty session, till it ended so
+abbrev pub Prompted : (plain : Bool) → End → (left left' held held' : Option (List ℕ)) → Type 0
+Prompted plain end left left' held held' =
+    (count : ℕ) × ((log : Log) × IsPrompt plain end count left left' held held' (empty_log limits) log)
 
 -- nothing was read or written
 abbrev pub Untouched : Option (List ℕ) → Option (List ℕ) → Option (List ℕ) → Option (List ℕ) → Type 0
@@ -45,29 +66,65 @@ IsBlamed RefusedAt users name = (place : ℕ) × RefusedAt place × (slice_get u
 -- Why a batch for these users failed, and what it had read and written; words that are not UTF-8 never come to a batch.
 -- Of costs that failed nothing is said.
 abbrev pub Fails
-    : Failure → List (List ℕ) → Option (List ℕ) → Option (List ℕ) → Option (List ℕ) → Option (List ℕ) → Type 0
-Fails Read users left left' held held' = Served ReadFault users left left' held held'
-Fails Write users left left' held held' = Served WriteFault users left left' held held'
-Fails Memory users left left' held held' = Untouched left left' held held'
-Fails (Serve fault) users left left' held held' = ⊥
-Fails Encoding users left left' held held' = ⊥
-Fails (Taken port) users left left' held held' = ⊥
-Fails (Stats file) users left left' held held' = ⊥
-Fails (Costs fault) users left left' held held' = Unit {0}
-Fails (Value text) users left left' held held' = Untouched left left' held held'
-Fails Count users left left' held held' = IsRefused users refusal.Count × Untouched left left' held held'
-Fails (Name name) users left left' held held' =
+    : Failure → (is_hinted : Bool) → (users : List (List ℕ)) → (left left' held held' : Option (List ℕ)) → Type 0
+Fails Read is_hinted users left left' held held' = Served is_hinted ReadFault users left left' held held'
+Fails Write is_hinted users left left' held held' = Served is_hinted WriteFault users left left' held held'
+Fails Memory is_hinted users left left' held held' = Untouched left left' held held'
+Fails (Serve fault) is_hinted users left left' held held' = ⊥
+Fails Encoding is_hinted users left left' held held' = ⊥
+Fails (Taken port) is_hinted users left left' held held' = ⊥
+Fails (Stats file) is_hinted users left left' held held' = ⊥
+Fails (failed_as.Prompt fault) is_hinted users left left' held held' = ⊥
+Fails (Costs fault) is_hinted users left left' held held' = Unit {0}
+Fails (Value text) is_hinted users left left' held held' = Untouched left left' held held'
+Fails Count is_hinted users left left' held held' =
+    IsRefused users refusal.Count × Untouched left left' held held'
+Fails (Name name) is_hinted users left left' held held' =
     IsBlamed (λ place. IsRefused users (refusal.Name place)) users name.now × Untouched left left' held held'
-Fails (Twice name) users left left' held held' =
+Fails (Twice name) is_hinted users left left' held held' =
     IsBlamed (λ place. IsRefused users (refusal.Twice place)) users name.now × Untouched left left' held held'
 
--- What came of words that aren't refused: they ask for a batch, which was served to its end, or for costs, of which
--- nothing is said here, or for the service that is left to be offered, and then nothing was read or written.
+-- Why a prompt failed: it ended so, or there was no memory for its session, and nothing was read or written.
+pub data PromptFails (plain : Bool) (failure : Failure) (left left' held held' : Option (List ℕ)) : Type 0 where
+  ended :
+      (end : End) → Prompted plain end left left' held held'
+      → option_map (λ fault. failed_as.Prompt fault) (prompt_failure_of end) ≡ Some failure
+      → PromptFails plain failure left left' held held'
+  unopened :
+      Untouched left left' held held' → failure ≡ failed_as.Prompt prompt_fault.Memory
+      → PromptFails plain failure left left' held held'
+
+-- whether the prompt that is asked for is plain, with these terminals
+abbrev pub is_plain_at : Terminals → Prompt → Bool
+is_plain_at terminals prompt = is_plain (style_for terminals prompt.is_hinted)
+
+-- why what was asked for failed, before there was anything to be offered
+abbrev pub TaskFails
+    : Terminals → Task → Failure → (users : List (List ℕ)) → (left left' held held' : Option (List ℕ)) → Type 0
+TaskFails terminals (a_batch batch) failure users left left' held held' =
+    Fails failure batch.is_hinted users left left' held held'
+TaskFails terminals (some_costs costs) failure users left left' held held' =
+    Fails failure false users left left' held held'
+TaskFails terminals (a_prompt prompt) failure users left left' held held' =
+    PromptFails (is_plain_at terminals prompt) failure left left' held held'
+TaskFails terminals (a_service service) failure users left left' held held' = ⊥
+
+-- What came of what was asked for, where nothing is left to be offered: a batch was served to its end, or a prompt came
+-- to its end. Of costs nothing is said here.
+abbrev pub TaskDone : Terminals → Task → (users : List (List ℕ)) → (left left' held held' : Option (List ℕ)) → Type 0
+TaskDone terminals (a_batch batch) users left left' held held' =
+    Served batch.is_hinted Input users left left' held held'
+TaskDone terminals (some_costs costs) users left left' held held' = Unit {0}
+TaskDone terminals (a_prompt prompt) users left left' held held' =
+    Prompted (is_plain_at terminals prompt) Input left left' held held'
+TaskDone terminals (a_service service) users left left' held held' = ⊥
+
+-- What came of words that aren't refused: what they ask for is done, or they ask for the service that is left to be
+-- offered, and then nothing was read or written.
 abbrev pub Comes
-    : Option Offer → List (List ℕ) → Option (List ℕ) → Option (List ℕ) → Option (List ℕ) → Option (List ℕ) → Type 0
-Comes None words left left' held held' =
-    ((batch : Batch) × (task_of words ≡ a_batch batch) × Served Input (users_of words) left left' held held')
-    ⊎ ((costs : CostsOf) × (task_of words ≡ some_costs costs))
-Comes (Some offer) words left left' held held' =
+    : Terminals → Option Offer → (words : List (List ℕ)) → (left left' held held' : Option (List ℕ)) → Type 0
+Comes terminals None words left left' held held' =
+    TaskDone terminals (task_of words) (users_of words) left left' held held'
+Comes terminals (Some offer) words left left' held held' =
     (users_offered offer ≡ users_of words) × (a_service (service_offered offer) ≡ task_of words)
     × Untouched left left' held held'

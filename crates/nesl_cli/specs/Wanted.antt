@@ -4,7 +4,7 @@ use Rattle.nesl_cli.specs.declared.words.Task.{Task as Code}
 use Rattle.nesl_cli.specs.declared.words.Task.TheVariants as code
 use Rattle.nesl_cli.specs.declared.words.Service.{Service as ServiceCode}
 use Rattle.nesl_cli.specs.declared.words.Wanted.{Wanted}
-use Rattle.nesl_cli.specs.Words.{Task, Service, a_batch, some_costs, a_service}
+use Rattle.nesl_cli.specs.Words.{Task, Service, a_batch, some_costs, a_service, a_prompt}
 
 -- the service
 abbrev pub service_wanted : ServiceCode → Service
@@ -22,9 +22,10 @@ service_wanted service = record {
 
 -- what is to be done
 abbrev pub task_wanted : Code → Task
-task_wanted (code.Batch heap) = a_batch (record { heap = heap })
+task_wanted (code.Batch heap is_hinted) = a_batch (record { heap = heap; is_hinted = is_hinted })
 task_wanted (code.Costs values heap) = some_costs (record { values = values.now; heap = heap })
 task_wanted (code.Service service) = a_service (service_wanted service)
+task_wanted (code.Prompt is_hinted) = a_prompt (record { is_hinted = is_hinted })
 
 -- the users, in order
 abbrev pub users_wanted : Wanted → List (List ℕ)

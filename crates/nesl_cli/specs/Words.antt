@@ -43,9 +43,23 @@ users_rule = record (new_rule (codes "USER")) {
 abbrev pub csv_rule : Rule
 csv_rule = text_rule (codes "VALUES") (codes "csv")
 
--- the subcommand `batch [--heap BYTES] [--csv VALUES] USER..`
+-- `--hints`, at most once
+abbrev pub hints_rule : Rule
+hints_rule = record (new_rule (codes "HINTS")) {
+  long = Some (codes "hints");
+  action = Some SetTrue;
+}
+
+-- the subcommand `batch [--heap BYTES] [--csv VALUES] [--hints] USER..`: first its options
+abbrev pub batch_options : Shape
+batch_options = record (new_shape (codes "batch")) { rules = heap_rule ∷ csv_rule ∷ hints_rule ∷ [] }
+
 abbrev pub batch : Shape
-batch = record (new_shape (codes "batch")) { rules = heap_rule ∷ csv_rule ∷ users_rule ∷ [] }
+batch = record batch_options { rules = batch_options.rules ++ users_rule ∷ [] }
+
+-- the subcommand `repl [--hints]`
+abbrev pub repl : Shape
+repl = record (new_shape (codes "repl")) { rules = hints_rule ∷ [] }
 
 -- `--port P`: a number from 0 to 65535, once
 abbrev pub port_rule : Rule
@@ -112,7 +126,7 @@ without_subcommands = on_top
 
 -- the program
 abbrev pub program : App
-program = with_subcommand (with_subcommand without_subcommands batch) serve
+program = with_subcommand (with_subcommand (with_subcommand without_subcommands batch) serve) repl
 
 -- the users among what was found, and those behind the subcommand
 abbrev pub users_among : List Row → List (List ℕ)
@@ -146,9 +160,14 @@ is_true (Some text) = bytes_eq text (codes "true")
 abbrev pub is_among : List ℕ → List Row → Bool
 is_among name rows = is_true (slice_get (unwrap_or (all_of name rows) []) 0)
 
--- a batch, with the bytes of its heap, if there is one
+-- a batch, with the bytes of its heap, if there is one, and whether hints are told below faults
 pub record Batch : Type 0 where
   pub heap : Option ℕ
+  pub is_hinted : Bool
+
+-- a prompt, and whether hints are told wherever it writes to
+pub record Prompt : Type 0 where
+  pub is_hinted : Bool
 
 -- the costs of a batch, for the values of `n` in this text, with the bytes of its heap, if there is one
 pub record Costs : Type 0 where
@@ -175,11 +194,15 @@ pub data Task : Type 0 where
   a_batch : Batch → Task
   some_costs : Costs → Task
   a_service : Service → Task
+  a_prompt : Prompt → Task
 
 -- a batch, or its costs where there are values for them
-abbrev pub batch_among : (values : Option (List ℕ)) → (heap : Option ℕ) → Task
-batch_among None heap = a_batch (record { heap = heap })
-batch_among (Some values) heap = some_costs (record { values = values; heap = heap })
+abbrev pub batch_among : (values : Option (List ℕ)) → (heap : Option ℕ) → (is_hinted : Bool) → Task
+batch_among None heap is_hinted = a_batch (record { heap = heap; is_hinted = is_hinted })
+batch_among (Some values) heap is_hinted = some_costs (record { values = values; heap = heap })
+
+abbrev pub prompt_among : List Row → Prompt
+prompt_among rows = record { is_hinted = is_among (codes "HINTS") rows }
 
 abbrev pub service_among : List Row → Service
 service_among rows = record {
@@ -198,10 +221,13 @@ service_among rows = record {
 abbrev pub task_among : (name : List ℕ) → List Row → Task
 task_among name rows =
     if bytes_eq name (codes "serve") then a_service (service_among rows)
-    else batch_among (text_among (codes "VALUES") rows) (number_among (codes "BYTES") rows)
+    else if bytes_eq name (codes "repl") then a_prompt (prompt_among rows)
+    else
+    batch_among (text_among (codes "VALUES") rows) (number_among (codes "BYTES") rows)
+    (is_among (codes "HINTS") rows)
 
 abbrev pub task_in : Option (List ℕ × List Row) → Task
-task_in None = a_batch (record { heap = None })
+task_in None = a_batch (record { heap = None; is_hinted = false })
 task_in (Some p) = task_among p.0 p.1
 
 abbrev pub task_of : List (List ℕ) → Task
@@ -211,9 +237,10 @@ task_of words = task_in (subcommand_of program words)
 pub program_is_simple : is_simple_and_free program ≡ true
 program_is_simple = refl
 
--- worked: two users; no heap, a heap, and one that is too small; costs, and twice; users behind `--`; a service that
--- ends and one that doesn't, without a port, with too many workers, and with no second for the first line; no word, no
--- user, an unknown subcommand, and calls for help and for the version
+-- worked: two users; no heap, a heap, and one that is too small; costs, and twice; hints; users behind `--`; a service
+-- that ends and one that doesn't, without a port, with too many workers, and with no second for the first line; a
+-- prompt, with hints, and with a user, whom it doesn't take; no word, no user, an unknown subcommand, and calls for
+-- help and for the version
 abbrev pub asked : List (List ℕ) → List (List ℕ)
 asked words = codes "pazkindu" ∷ words
 
@@ -225,13 +252,13 @@ no_fault : fault_of program (asked (codes "batch" ∷ codes "ann" ∷ codes "bob
 unfolding walked walk_fault defaults_fault
 no_fault = refl
 
-no_heap : task_of (asked (codes "batch" ∷ codes "ann" ∷ [])) ≡ a_batch (record { heap = None })
+no_heap : task_of (asked (codes "batch" ∷ codes "ann" ∷ [])) ≡ a_batch (record { heap = None; is_hinted = false })
 unfolding walked
 no_heap = refl
 
 with_heap :
     task_of (asked (codes "batch" ∷ codes "--heap" ∷ codes "65536" ∷ codes "ann" ∷ []))
-    ≡ a_batch (record { heap = Some 65536 })
+    ≡ a_batch (record { heap = Some 65536; is_hinted = false })
 unfolding walked
 with_heap = refl
 
@@ -256,6 +283,12 @@ values_twice :
     ≡ kind.ArgumentConflict ∷ []
 unfolding walked walk_fault defaults_fault
 values_twice = refl
+
+with_hints :
+    task_of (asked (codes "batch" ∷ codes "--hints" ∷ codes "ann" ∷ []))
+    ≡ a_batch (record { heap = None; is_hinted = true })
+unfolding walked
+with_hints = refl
 
 behind_dashes : users_of (asked (codes "batch" ∷ codes "--" ∷ codes "-x" ∷ [])) ≡ codes "-x" ∷ []
 unfolding walked
@@ -324,6 +357,20 @@ no_second :
     ≡ kind.ValueValidation ∷ []
 unfolding walked walk_fault defaults_fault
 no_second = refl
+
+at_prompt : task_of (asked (codes "repl" ∷ [])) ≡ a_prompt (record { is_hinted = false })
+unfolding walked
+at_prompt = refl
+
+prompt_with_hints :
+    task_of (asked (codes "repl" ∷ codes "--hints" ∷ [])) ≡ a_prompt (record { is_hinted = true })
+unfolding walked
+prompt_with_hints = refl
+
+prompt_for_user :
+    fault_of program (asked (codes "repl" ∷ codes "ann" ∷ [])) ≡ kind.UnknownArgument ∷ []
+unfolding walked walk_fault defaults_fault
+prompt_for_user = refl
 
 unknown : fault_of program (asked (codes "listen" ∷ [])) ≡ kind.UnknownArgument ∷ kind.InvalidSubcommand ∷ []
 unfolding walked walk_fault defaults_fault

@@ -1,5 +1,5 @@
 //! What the last line of a batch costs, for each of several values of `n`.
-ghost use Rattle.std.specs.Prelude.{◌≡◌, ℕ, List, Option, IfErr, map};
+ghost use Rattle.std.specs.Prelude.{◌≡◌, ℕ, Bool, List, Option, IfErr, false, map};
 ghost use Rattle.nesl_cli.specs.Program.{Fails};
 
 use crate::failure::Failure;
@@ -55,7 +55,7 @@ pub(crate) fn write_costs<'a, S: Source, W: Sink>(
     reader: &mut S,
     writer: &mut W,
 ) -> Result<(), Failure<'a>>
-    ensures failed { IfErr result (λ failure. Fails failure (map (λ user. user.now) users.now)
+    ensures failed { IfErr result (λ failure. Fails failure false (map (λ user. user.now) users.now)
         (S.left reader.old) (S.left reader.new) (W.held writer.old) (W.held writer.new)) }
 {
     let values = values_in(alloc, values)?;
@@ -91,8 +91,8 @@ fn read_and_write<S: Source, W: Sink>(
 
 // The values that a text has between commas, each of 1 to 18 digits.
 fn values_in<'a>(alloc: Global, text: &'a str) -> Result<Vec<&'a str>, Failure<'a>>
-    ensures { IfErr result (λ failure. (users : List (List ℕ)) (left held : Option (List ℕ))
-        → Fails failure users left left held held) }
+    ensures { IfErr result (λ failure. (is_hinted : Bool) (users : List (List ℕ)) (left held : Option (List ℕ))
+        → Fails failure is_hinted users left left held held) }
 {
     let mut values = Vec::new(alloc);
     for value in text.split(',') {
@@ -179,7 +179,14 @@ fn script_for(alloc: Global, said: &Said<'_>, value: &str) -> Result<Vec<u8>, Al
 fn replies_to(alloc: Global, said: &Said<'_>, script: &[u8]) -> Result<Vec<u8>, CostsFault> {
     let mut reader = Device::new(script);
     let mut writer = Device::new(Vec::new(alloc));
-    match run(alloc, said.users, said.heap, &mut reader, &mut writer) {
+    match run(
+        alloc,
+        said.users,
+        said.heap,
+        false,
+        &mut reader,
+        &mut writer,
+    ) {
         Ok(()) => Ok(writer.into_inner()),
         Err(_) => Err(CostsFault::Memory),
     }

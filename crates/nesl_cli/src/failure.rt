@@ -1,11 +1,12 @@
 //! How a run of the program fails.
-ghost use Rattle.std.specs.Prelude.{◌≡◌, ℕ, List, Option, IfSome, map, slice_get};
+ghost use Rattle.std.specs.Prelude.{◌≡◌, ℕ, Bool, List, Option, IfSome, map, slice_get};
 ghost use Rattle.nesl_house.specs.Roster.{IsRefused};
 ghost use Rattle.clap.specs.Values.{kind_of};
 ghost use Rattle.nesl_cli.specs.Failures.{failure_of, memory_failure_of, status_after, status_of, words_status_of};
 ghost use Rattle.nesl_cli.specs.Program.{Fails};
 
 use crate::costs::CostsFault;
+use crate::prompt::PromptFault;
 use clap::error::ErrorKind;
 use nesl_house::roster::NewFault;
 use nesl_line::exchange::End;
@@ -43,6 +44,9 @@ pub enum Failure<'a> {
     /// The counters of a service can't be written into this file.
     #[error("serve: can't write {0}")]
     Stats(&'a str),
+    /// A prompt ended before its input did.
+    #[error("{0}")]
+    Prompt(PromptFault),
 }
 
 /// Why the words came to no whole run.
@@ -60,7 +64,8 @@ impl<'a> Failure<'a> {
     /// What a refusal of the roster of these users is told as; nothing was read or written then.
     pub fn of_roster(fault: NewFault, users: &[&'a str]) -> Failure<'a>
         requires { IsRefused (map (λ user. user.now) users.now) fault }
-        ensures { (left held : Option (List ℕ)) → Fails result (map (λ user. user.now) users.now) left left held held }
+        ensures { (is_hinted : Bool) (left held : Option (List ℕ))
+            → Fails result is_hinted (map (λ user. user.now) users.now) left left held held }
     {
         match fault {
             NewFault::Count => Failure::Count,
@@ -76,6 +81,7 @@ impl<'a> Failure<'a> {
     {
         match words.get(1) {
             Some(word) if *word == "serve" => Failure::Serve(ServeFault::Memory),
+            Some(word) if *word == "repl" => Failure::Prompt(PromptFault::Memory),
             _ => Failure::Memory,
         }
     }
@@ -99,7 +105,7 @@ impl<'a> Failure<'a> {
         match self {
             Failure::Read | Failure::Write | Failure::Memory | Failure::Serve(_) => 1,
             Failure::Encoding | Failure::Count | Failure::Name(_) | Failure::Twice(_) => 2,
-            Failure::Costs(_) | Failure::Taken(_) | Failure::Stats(_) => 1,
+            Failure::Costs(_) | Failure::Taken(_) | Failure::Stats(_) | Failure::Prompt(_) => 1,
             Failure::Value(_) => 2,
         }
     }

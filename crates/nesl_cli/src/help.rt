@@ -1,58 +1,87 @@
-//! The help texts.
+//! The help texts. Their lines are broken so that what is printed has less than 80 columns; beside the options of
+//! `batch` there are 57 columns left, and 44 beside those of `serve`.
 
 pub(crate) const ABOUT: &str = "NESL sessions for many users, every reply of which is proved";
 
 pub(crate) const BATCH: &str = "Answers the lines of standard input on standard output";
 
-pub(crate) const USERS: &str =
-    "A user's name: a letter a to z, then letters and digits, at most 16 in all; \
-    1 to 64 users, each named once";
+pub(crate) const USERS: &str = "\
+A user's name: a letter a to z, then letters and digits, at most
+16 in all; 1 to 64 users, each named once";
 
 pub(crate) const HEAP: &str = "Evaluates in one heap of so many bytes: 16 to 1073741824";
 
-pub(crate) const CSV: &str =
-    "Writes n, work and depth of the last line for each of these values of n, as 1,2,4,8; \
-    the lines of standard input are said anew for each";
+pub(crate) const CSV: &str = "\
+Writes n, work and depth of the last line for each of
+these values of n, as 1,2,4,8; the lines of standard
+input are said anew for each";
 
-pub(crate) const SERVE: &str = "Answers the lines of connections to 127.0.0.1, each of one user; \
-    the first line of each is `user NAME`";
+pub(crate) const HINTS: &str = "\
+Tells below a fault what is wrong and where, in one line
+that begins with `hint: `";
 
-pub(crate) const PORT: &str =
-    "The port that is listened on: 0 to 65535, where 0 is any that is free";
+pub(crate) const SERVE: &str = "\
+Answers the lines of connections to 127.0.0.1, each of one user;
+the first line of each is `user NAME`";
 
-pub(crate) const WORKERS: &str =
-    "How many threads may help those that serve, all together: 0 to 64";
+pub(crate) const PORT: &str = "\
+The port that is listened on: 0 to 65535,
+where 0 is any that is free";
 
-pub(crate) const CONNECTIONS: &str = "Ends after so many connections: 1 to 1000000";
+pub(crate) const WORKERS: &str = "\
+How many threads may help those that serve,
+all together: 0 to 64";
 
-pub(crate) const WEB: &str = "Shows a page to browsers on this port, too, \
-    and serves users there: 0 to 65535, where 0 is any that is free";
+pub(crate) const CONNECTIONS: &str = "\
+Ends after so many connections:
+1 to 1000000";
 
-pub(crate) const WEB_HOST: &str =
-    "A name by which browsers may ask for the page, beside localhost and this machine's addresses";
+pub(crate) const WEB: &str = "\
+Shows a page to browsers on this port, too,
+and serves users there: 0 to 65535, where 0
+is any that is free";
 
-pub(crate) const IDLE: &str =
-    "Ends a connection whose line has not come whole after so many seconds, \
-    or that takes nothing of an answer for so long: 1 to 86400";
+pub(crate) const WEB_HOST: &str = "\
+A name by which browsers may ask for the
+page, beside localhost and this machine's
+addresses";
 
-pub(crate) const FIRST_LINE: &str = "Ends a connection whose first line has not come whole \
-    after so many seconds: 1 to 86400, 10 without it";
+pub(crate) const IDLE: &str = "\
+Ends a connection whose line has not come
+whole after so many seconds, or that takes
+nothing of an answer for so long: 1 to 86400";
 
-pub(crate) const LOG: &str =
-    "Tells on standard error of each connection's begin, user and end, and why it ended";
+pub(crate) const FIRST_LINE: &str = "\
+Ends a connection whose first line has not
+come whole after so many seconds: 1 to
+86400, 10 without it";
 
-pub(crate) const STATS: &str = "Writes how the service is doing into this file, \
-    as one line of JSON, every ten seconds and at the end";
+pub(crate) const LOG: &str = "\
+Tells on standard error of each connection's
+begin, user and end, and why it ended";
+
+pub(crate) const STATS: &str = "\
+Writes how the service is doing into this
+file, as one line of JSON, every ten seconds
+and at the end";
+
+pub(crate) const REPL: &str = "\
+Opens a session of one's own, with a prompt, help, and hints below
+faults";
+
+pub(crate) const REPL_HINTS: &str = "Tells hints also where standard output is no terminal";
 
 pub(crate) const BATCH_EXAMPLE: &str = "For example: pazkindu batch ann bob < lines";
 
 pub(crate) const SERVE_EXAMPLE: &str =
     "For example: pazkindu serve --port 7000 --workers 4 ann bob";
 
+pub(crate) const REPL_EXAMPLE: &str = "For example: pazkindu repl";
+
 pub(crate) const BATCH_AFTER: &str = "\
-A line `user NAME` selects the user that the lines behind it are for. Each other line goes to that
-user's own session and is answered by one line: a value with its type, work and depth, what else was
-defined, or a fault. So
+A line `user NAME` selects the user that the lines behind it are for. Each
+other line goes to that user's own session and is answered by one line: a value
+with its type, work and depth, what else was defined, or a fault. So
 
     user ann
     {a * a : a in [1, 2]};
@@ -62,15 +91,16 @@ is answered by
     user ann
     it = [1, 4] : [int] (work 12, depth 7)
 
-A line that ends in a backslash goes on in the user's next one. :names, :budget and :type tell of
-the session, and :reset clears it.
+A line that ends in a backslash goes on in the user's next one. :names, :budget
+and :type tell of the session, and :reset clears it.
 
-Exit status: 0 at the end of input, 1 where a device or memory failed, 2 where the words or the
-users' names are wrong.";
+Exit status: 0 at the end of input, 1 where a device or memory failed, 2 where
+the words or the users' names are wrong.";
 
 pub(crate) const SERVE_AFTER: &str = "\
-It prints `listening on 127.0.0.1:7000` once it listens on that port. The first line of a connection
-names its user and is told back; each line behind it is answered by one line, as in
+It prints `listening on 127.0.0.1:7000` once it listens on that port. The first
+line of a connection names its user and is told back; each line behind it is
+answered by one line, as in
 
     rlwrap nc -N 127.0.0.1 7000
     user ann
@@ -78,18 +108,44 @@ names its user and is told back; each line behind it is answered by one line, as
     2 * 3 + 1;
     it = 7 : int (work 5, depth 5)
 
-With --web it prints `page at http://127.0.0.1:8080/` below that: open this in a browser.
+With --web it prints `page at http://127.0.0.1:8080/` below that: open this in
+a browser.
 
-A user has one connection at a time, and the session waits for the next. There are no passwords, so
-only this machine is listened to; docs/OPERATING.md says how others are let in, and what it costs.
+A user has one connection at a time, and the session waits for the next. There
+are no passwords, so only this machine is listened to; docs/OPERATING.md says
+how others are let in, and what it costs.
 
-Exit status: 0 after the last of the connections, 1 where a socket or memory failed, 2 where the
-words or the users' names are wrong.";
+Exit status: 0 after the last of the connections, 1 where a socket or memory
+failed, 2 where the words or the users' names are wrong.";
+
+pub(crate) const REPL_AFTER: &str = "\
+A form may go on over several lines, until its `;` or an empty line. It is
+answered by one line, as in a batch, and below a fault stands what is wrong,
+and where:
+
+    > sum 3;
+    fault syntax (work 0)
+      sum 3;
+      --- ^
+      hint: an argument stands in parentheses: `sum(..)`; between two values an
+            operator stands
+
+:help tells what there is, and :help take what take is, and what it costs;
+:type NAME tells a type, :list what was said and kept. :save FILE and
+:load FILE keep that in a file, and :quit ends.
+
+There is no line editor: `rlwrap pazkindu repl` has one, and keeps a history.
+Where standard input or standard output is no terminal, there are no prompts.
+
+Exit status: 0 at :quit and at the end of input, 1 where a device or memory
+failed, 2 where the words are wrong.";
 
 pub(crate) const PROGRAM_AFTER: &str = "\
-For instance, with one user whose name is ann,
+`pazkindu repl` opens a session to try things in. For others, with one user
+whose name is ann,
 
     printf 'user ann\\n2 * 3 + 1;\\n' | pazkindu batch ann
 
-prints `user ann` and `it = 7 : int (work 5, depth 5)`. `pazkindu batch --help` and `pazkindu serve
---help` say more; README.md is where the guide begins, and docs/LANGUAGE.md has the language.";
+prints `user ann` and `it = 7 : int (work 5, depth 5)`. `pazkindu repl --help`,
+`pazkindu batch --help` and `pazkindu serve --help` say more; README.md is
+where the guide begins, and docs/LANGUAGE.md has the language.";

@@ -1,23 +1,27 @@
 //! What the words come to.
-ghost use Rattle.std.specs.Prelude.{◌≡◌, ℕ, List, Option, IfOk, OnOk, OnErr, IfErr, Err, map};
+ghost use Rattle.std.specs.Prelude.{◌≡◌, ℕ, Bool, List, Option, IfOk, OnOk, OnErr, IfErr, Err, map};
 ghost use Rattle.clap.specs.Words.{fault_of, HasKind};
 ghost use Rattle.clap.specs.declared.error.Error as clap;
 ghost use Rattle.nesl_house.specs.Roster.{IsRoster, new_house};
 ghost use Rattle.nesl_line.specs.declared.exchange.End.TheVariants as end;
-ghost use Rattle.nesl_line.specs.Batch.{IsBatch};
-ghost use Rattle.nesl_cli.specs.Words.{program, users_of};
-ghost use Rattle.nesl_cli.specs.Program.{limits, Comes, Fails, Served, Untouched};
+ghost use Rattle.nesl_cli.specs.Words.{program, task_of, users_of};
+ghost use Rattle.nesl_cli.specs.Program.{limits, Batched, Comes, Fails, Served, TaskFails, Untouched};
 ghost use Rattle.nesl_cli.specs.declared.failure.Failure.{Failure};
 ghost use Rattle.nesl_cli.specs.declared.failure.Refusal.TheVariants as refusal;
 
 use crate::costs::write_costs;
 use crate::failure::{Failure, Refusal};
+use crate::prompt::{Room, prompt};
 use crate::words::{self, Service, Task};
 use linked_list_allocator::LocalHeap;
 use nesl_house::house::House;
-use nesl_line::batch::{batch, batch_in};
+use nesl_house::manner::{InHeap, Manner, Plainly};
+use nesl_line::batch::batch_by;
 use nesl_line::device::{Sink, Source};
 use nesl_line::exchange::Ran;
+use nesl_line::hinted::batch_with_hints;
+use nesl_prompt::hints::Hints;
+use nesl_prompt::shelf::Shelf;
 use nesl_session::limits::Limits;
 use std::alloc::{AllocError, Global};
 
@@ -37,18 +41,20 @@ pub struct Offer<'a> {
     pub service: Service<'a>,
 }
 
-/// What the words ask for: a batch for the users that they name, or its costs, which is run, or a service that is to be
-/// offered to them.
-pub fn carry_out<'a, S: Source, W: Sink>(
+/// What the words ask for: a batch for the users that they name, its costs, or a prompt, which is run, or a service
+/// that is to be offered to them.
+pub fn carry_out<'a, S: Source, W: Sink, F: Shelf>(
     alloc: Global,
     words: &'a [&'a str],
+    room: &Room<'_, F>,
     reader: &mut S,
     writer: &mut W,
 ) -> Result<Option<Offer<'a>>, Refusal<'a>>
-    ensures comes { IfOk result (λ offer. Comes offer (map (λ word. word.now) words.entry.now)
+    ensures comes { IfOk result (λ offer. Comes room.now.terminals offer (map (λ word. word.now) words.entry.now)
         (S.left reader.old) (S.left reader.new) (W.held writer.old) (W.held writer.new)) }
     ensures failed { (failure : Failure) → result ≡ Err (refusal.Run failure)
-        → Fails failure (users_of (map (λ word. word.now) words.entry.now))
+        → TaskFails room.now.terminals (task_of (map (λ word. word.now) words.entry.now)) failure
+        (users_of (map (λ word. word.now) words.entry.now))
         (S.left reader.old) (S.left reader.new) (W.held writer.old) (W.held writer.new) }
     ensures words { (error : clap.Error) → result ≡ Err (refusal.Words error)
         → HasKind (fault_of program (map (λ word. word.now) words.entry.now)) error
@@ -60,12 +66,21 @@ pub fn carry_out<'a, S: Source, W: Sink>(
     };
     let users = wanted.users;
     match wanted.task {
-        Task::Batch { heap } => match run(alloc, users.as_slice(), heap, reader, writer) {
-            Ok(()) => Ok(None),
-            Err(failure) => Err(Refusal::Run(failure)),
-        },
+        Task::Batch { heap, is_hinted } => {
+            match run(alloc, users.as_slice(), heap, is_hinted, reader, writer) {
+                Ok(()) => Ok(None),
+                Err(failure) => Err(Refusal::Run(failure)),
+            }
+        }
         Task::Costs { values, heap } => {
             match write_costs(alloc, users.as_slice(), values, heap, reader, writer) {
+                Ok(()) => Ok(None),
+                Err(failure) => Err(Refusal::Run(failure)),
+            }
+        }
+        Task::Prompt { is_hinted } => {
+            let style = room.terminals.style(is_hinted);
+            match prompt(alloc, room.shelf, style, reader, writer) {
                 Ok(()) => Ok(None),
                 Err(failure) => Err(Refusal::Run(failure)),
             }
@@ -74,21 +89,23 @@ pub fn carry_out<'a, S: Source, W: Sink>(
     }
 }
 
-// A house for these users, and a batch of its lines, evaluated in a heap where one is wanted.
+// A house for these users, and a batch of its lines, evaluated in a heap where one is wanted, with hints where these
+// are.
 pub(crate) fn run<'a, S: Source, W: Sink>(
     alloc: Global,
     users: &[&'a str],
     heap: Option<usize>,
+    is_hinted: bool,
     reader: &mut S,
     writer: &mut W,
 ) -> Result<(), Failure<'a>>
-    ensures served { OnOk result (Served end.Input (map (λ user. user.now) users.now)
+    ensures served { OnOk result (Served is_hinted end.Input (map (λ user. user.now) users.now)
         (S.left reader.old) (S.left reader.new) (W.held writer.old) (W.held writer.new)) }
-    ensures failed { IfErr result (λ failure. Fails failure (map (λ user. user.now) users.now)
+    ensures failed { IfErr result (λ failure. Fails failure is_hinted (map (λ user. user.now) users.now)
         (S.left reader.old) (S.left reader.new) (W.held writer.old) (W.held writer.new)) }
 {
     let mut house = house_of(alloc, users)?;
-    let Ok(ran) = ran(alloc, reader, writer, &mut house, heap) else {
+    let Ok(ran) = ran(alloc, reader, writer, &mut house, heap, is_hinted) else {
         return Err(Failure::Memory);
     };
     match Failure::of_end(ran.end) {
@@ -101,8 +118,8 @@ pub(crate) fn run<'a, S: Source, W: Sink>(
 pub(crate) fn house_of<'a>(alloc: Global, users: &[&'a str]) -> Result<House, Failure<'a>>
     ensures roster { OnOk result (IsRoster (map (λ user. user.now) users.now)) }
     ensures opened { IfOk result (λ house. house ≡ new_house limits (map (λ user. user.now) users.now)) }
-    ensures failed { IfErr result (λ failure. (left held : Option (List ℕ))
-        → Fails failure (map (λ user. user.now) users.now) left left held held) }
+    ensures failed { IfErr result (λ failure. (is_hinted : Bool) (left held : Option (List ℕ))
+        → Fails failure is_hinted (map (λ user. user.now) users.now) left left held held) }
 {
     let Ok(roster) = roster(alloc, users) else {
         return Err(Failure::Memory);
@@ -113,25 +130,45 @@ pub(crate) fn house_of<'a>(alloc: Global, users: &[&'a str]) -> Result<House, Fa
     }
 }
 
-// A batch of a house, evaluated in one heap of this size where there is to be one.
+// A batch of a house, evaluated in one heap of this size where there is to be one, with hints where they are wanted.
 fn ran<S: Source, W: Sink>(
     alloc: Global,
     reader: &mut S,
     writer: &mut W,
     house: &mut House,
     heap: Option<usize>,
+    is_hinted: bool,
 ) -> Result<Ran, AllocError>
-    ensures batch { IfOk result (λ ran. IsBatch ran.end ran.lines
+    ensures batch { IfOk result (λ ran. Batched is_hinted ran.end ran.lines
         (S.left reader.old) (S.left reader.new) (W.held writer.old) (W.held writer.new) house.old house.new) }
     ensures err { OnErr result (Untouched (S.left reader.old) (S.left reader.new) (W.held writer.old)
         (W.held writer.new)) }
 {
     match heap {
-        None => Ok(batch(alloc, reader, writer, house)),
+        None => Ok(answered(alloc, reader, writer, house, &Plainly, is_hinted)),
         Some(size) => {
             let heap = LocalHeap::new(alloc, size)?;
-            Ok(batch_in(alloc, reader, writer, house, &heap))
+            Ok(answered(alloc, reader, writer, house, &InHeap(&heap), is_hinted))
         }
+    }
+}
+
+// A batch of a house, each line of which is said in this manner.
+fn answered<S: Source, W: Sink, M: Manner>(
+    alloc: Global,
+    reader: &mut S,
+    writer: &mut W,
+    house: &mut House,
+    manner: &M,
+    is_hinted: bool,
+) -> Ran
+    ensures { Batched is_hinted result.end result.lines
+        (S.left reader.old) (S.left reader.new) (W.held writer.old) (W.held writer.new) house.old house.new }
+{
+    if is_hinted {
+        batch_with_hints(alloc, reader, writer, house, manner, &Hints)
+    } else {
+        batch_by(alloc, reader, writer, house, manner)
     }
 }
 

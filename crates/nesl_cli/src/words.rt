@@ -6,6 +6,7 @@ ghost use Rattle.clap.specs.Matches.{found_of};
 ghost use Rattle.clap.specs.declared.builder.command.Command.TheViews.{out-Command as fields_of};
 ghost use Rattle.clap.specs.Simple.{with_subcommand};
 ghost use Rattle.clap.specs.Words.{app_of, fault_of, FailsBy, shape_of, subcommand_rows_of};
+ghost use Rattle.nesl_cli.specs.Words.{batch_options, hints_rule, repl};
 ghost use Rattle.nesl_cli.specs.Words.{batch, connections_rule, csv_rule, first_line_rule, heap_rule, idle_rule};
 ghost use Rattle.nesl_cli.specs.Words.{is_among, log_rule, number_among, number_rule, port_rule, program, serve};
 ghost use Rattle.nesl_cli.specs.Words.{serve_counts, serve_page, serve_seconds, serve_told, service_among};
@@ -46,6 +47,8 @@ pub enum Task<'a> {
     /// A batch, evaluated in a heap of so many bytes, if there is to be one.
     Batch {
         heap: Option<usize>,
+        /// Whether hints are told below faults.
+        is_hinted: bool,
     },
     /// The costs of a batch for each of these values of `n`, as CSV; evaluated in a heap likewise.
     Costs {
@@ -53,6 +56,11 @@ pub enum Task<'a> {
         heap: Option<usize>,
     },
     Service(Service<'a>),
+    /// A prompt.
+    Prompt {
+        /// Whether hints are told wherever it writes to.
+        is_hinted: bool,
+    },
 }
 
 /// A service on this port, with so many helpers, which ends after so many connections, if it is to end. Where there is
@@ -96,6 +104,7 @@ pub fn read<'a>(alloc: Global, words: &'a [&'a str]) -> Result<Wanted<'a>, Error
 pub fn example(words: &[&str]) -> &'static str {
     match words.get(1) {
         Some(word) if *word == "serve" => help::SERVE_EXAMPLE,
+        Some(word) if *word == "repl" => help::REPL_EXAMPLE,
         _ => help::BATCH_EXAMPLE,
     }
 }
@@ -103,6 +112,15 @@ pub fn example(words: &[&str]) -> &'static str {
 // The program's words: a subcommand and the users behind it.
 fn command<'a>(alloc: Global) -> Result<Command<'a>, AllocError>
     ensures { IfOk result (λ command. app_of command ≡ program) }
+{
+    let repl = repl(alloc)?;
+    with_serve(alloc)?.subcommand(repl)
+}
+
+// The program as far as the second of its subcommands goes.
+fn with_serve<'a>(alloc: Global) -> Result<Command<'a>, AllocError>
+    ensures { IfOk result (λ command. app_of command
+        ≡ with_subcommand (with_subcommand without_subcommands batch) serve) }
 {
     let serve = serve(alloc)?;
     with_batch(alloc)?.subcommand(serve)
@@ -132,12 +150,31 @@ fn batch<'a>(alloc: Global) -> Result<Command<'a>, AllocError>
     ensures shape { IfOk result (λ command. shape_of command ≡ batch) }
     ensures local { IfOk result (λ command. (fields_of command).has_globals ≡ false) }
 {
+    batch_options(alloc)?
+        .after_help(help::BATCH_AFTER)
+        .arg(user(alloc))
+}
+
+// The subcommand as far as its options go.
+fn batch_options<'a>(alloc: Global) -> Result<Command<'a>, AllocError>
+    ensures shape { IfOk result (λ command. shape_of command ≡ batch_options) }
+    ensures local { IfOk result (λ command. (fields_of command).has_globals ≡ false) }
+{
     Command::new(alloc, "batch")
         .about(help::BATCH)
-        .after_help(help::BATCH_AFTER)
         .arg(heap(alloc))?
         .arg(csv(alloc))?
-        .arg(user(alloc))
+        .arg(hints(alloc, help::HINTS))
+}
+
+fn repl<'a>(alloc: Global) -> Result<Command<'a>, AllocError>
+    ensures shape { IfOk result (λ command. shape_of command ≡ repl) }
+    ensures local { IfOk result (λ command. (fields_of command).has_globals ≡ false) }
+{
+    Command::new(alloc, "repl")
+        .about(help::REPL)
+        .after_help(help::REPL_AFTER)
+        .arg(hints(alloc, help::REPL_HINTS))
 }
 
 fn serve<'a>(alloc: Global) -> Result<Command<'a>, AllocError>
@@ -280,6 +317,16 @@ fn heap<'a>(alloc: Global) -> Arg<'a>
     number(alloc, "BYTES", "heap", help::HEAP, LEAST_HEAP, MOST_HEAP)
 }
 
+fn hints<'a>(alloc: Global, help: &'a str) -> Arg<'a>
+    ensures rule { rule_of result ≡ hints_rule }
+    ensures local { result.global ≡ false }
+{
+    Arg::new(alloc, "HINTS")
+        .long("hints")
+        .help(help)
+        .action(ArgAction::SetTrue)
+}
+
 fn user<'a>(alloc: Global) -> Arg<'a>
     ensures rule { rule_of result ≡ users_rule }
     ensures local { result.global ≡ false }
@@ -334,7 +381,10 @@ fn found<'a>(alloc: Global, matches: &ArgMatches<'a>) -> Result<Wanted<'a>, Allo
         }
         None => Ok(Wanted {
             users: Vec::new(alloc),
-            task: Task::Batch { heap: None },
+            task: Task::Batch {
+                heap: None,
+                is_hinted: false,
+            },
         }),
     }
 }
@@ -344,6 +394,10 @@ fn task_behind<'a>(name: &str, matches: &ArgMatches<'a>) -> Task<'a>
 {
     if name == "serve" {
         Task::Service(service_behind(matches))
+    } else if name == "repl" {
+        Task::Prompt {
+            is_hinted: is_behind(matches, "HINTS"),
+        }
     } else {
         batch_behind(matches)
     }
@@ -351,12 +405,14 @@ fn task_behind<'a>(name: &str, matches: &ArgMatches<'a>) -> Task<'a>
 
 fn batch_behind<'a>(matches: &ArgMatches<'a>) -> Task<'a>
     ensures { task_wanted result ≡ batch_among (text_among (codes "VALUES") (rows_of (found_of matches.now)))
-        (number_among (codes "BYTES") (rows_of (found_of matches.now))) }
+        (number_among (codes "BYTES") (rows_of (found_of matches.now)))
+        (is_among (codes "HINTS") (rows_of (found_of matches.now))) }
 {
     let heap = number_behind(matches, "BYTES");
+    let is_hinted = is_behind(matches, "HINTS");
     match text_behind(matches, "VALUES") {
         Some(values) => Task::Costs { values, heap },
-        None => Task::Batch { heap },
+        None => Task::Batch { heap, is_hinted },
     }
 }
 

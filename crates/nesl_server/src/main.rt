@@ -6,22 +6,26 @@ ghost use Rattle.std.specs.Process.{exit_status};
 ghost use Rattle.clap.specs.Values.{kind_of};
 ghost use Rattle.nesl_cli.specs.Failures.{status_after, status_of, words_status_of};
 
+mod disk;
 mod host;
 mod log;
 mod offer;
 mod standard;
 mod stats;
 
+use crate::disk::Disk;
 use crate::offer::keep;
 use crate::standard::fill_standard;
 use crate::stats::Replace;
 use clap::error::ErrorKind;
 use nesl_cli::failure::{Failure, Refusal, status_after, words_status};
+use nesl_cli::prompt::{Room, Terminals};
 use nesl_cli::run::carry_out;
 use nesl_cli::words::example;
 use nesl_line::device::{Device, Sink, Source};
+use nesl_prompt::shelf::Shelf;
 use std::alloc::{AllocError, Global};
-use std::io::{self, BufWriter, Eprint, Print};
+use std::io::{self, BufWriter, Eprint, IsTerminal, Print};
 use std::net::{Net, TcpListener, TcpStream};
 use std::process::ExitCode;
 use std::sync::Wait;
@@ -55,7 +59,12 @@ fn main(rt: HostRuntime) -> ExitCode {
             };
             let mut reader = Device::new(rt.stdin());
             let mut writer = Device::new(writer);
-            run(&rt, alloc, words, &mut reader, &mut writer)
+            let disk = Disk { rt: &rt };
+            let room = Room {
+                terminals: terminals(&rt),
+                shelf: &disk,
+            };
+            run(&rt, alloc, words, &room, &mut reader, &mut writer)
         };
         let builder = Builder::new().stack_size(STACK_BYTES);
         match builder.spawn_scoped(scope, work) {
@@ -63,6 +72,14 @@ fn main(rt: HostRuntime) -> ExitCode {
             Err(_) => without_thread(&rt),
         }
     })
+}
+
+// Which of standard input and output are terminals.
+fn terminals(rt: &HostRuntime) -> Terminals {
+    Terminals {
+        input: rt.stdin().is_terminal(),
+        output: rt.stdout().is_terminal(),
+    }
 }
 
 // The thread of a run can't be made, which is told as want of memory.
@@ -111,10 +128,18 @@ fn run<
         + Send
         + Sync
         + 'static,
+    F: Shelf,
     S: Source,
     W: Sink,
->(rt: &R, alloc: Global, words: &[&str], reader: &mut S, writer: &mut W) -> ExitCode {
-    match carry_out(alloc, words, reader, writer) {
+>(
+    rt: &R,
+    alloc: Global,
+    words: &[&str],
+    room: &Room<'_, F>,
+    reader: &mut S,
+    writer: &mut W,
+) -> ExitCode {
+    match carry_out(alloc, words, room, reader, writer) {
         Ok(None) => ExitCode::SUCCESS,
         Ok(Some(offer)) => ended(rt, keep(rt, alloc, &offer)),
         Err(Refusal::Words(error)) => refused(rt, words, &error),

@@ -1,0 +1,32 @@
+-- How a prompt ends.
+use Rattle.std.proofs.Common.{◌≡◌, ℕ, List, Bool, Option, Some, None, option_map, refl, sym, ap, ◌∙◌, subst}
+use Rattle.nesl_session_step.specs.State.{Log, empty_log}
+use Rattle.nesl_line.specs.declared.exchange.End.{End}
+use Rattle.nesl_line.specs.declared.exchange.End.TheVariants.{Input, ReadFault, WriteFault, NoMemory}
+use Rattle.nesl_prompt.specs.Conversation.{IsPrompt}
+use Rattle.nesl_cli.specs.declared.failure.Failure.TheVariants.{Prompt}
+use Rattle.nesl_cli.specs.declared.prompt.PromptFault.{PromptFault}
+use Rattle.nesl_cli.specs.declared.prompt.PromptFault.TheVariants.{Memory}
+use Rattle.nesl_cli.specs.Failures.{prompt_failure_of}
+use Rattle.nesl_cli.specs.Program.{limits, Prompted, PromptFails, ended, unopened}
+use Rattle.nesl_cli.proofs.Failed.{untouched}
+
+-- it ended so, over a new session
+pub prompted : (plain : Bool) (end : End) (count : ℕ) (left left' held held' : Option (List ℕ)) (log log' : Log) → log ≡ empty_log limits → IsPrompt plain end count left left' held held' log log' → Prompted plain end left left' held held'
+prompted plain end count left left' held held' log log' e p = let P : Log → Type 0 = λ x. IsPrompt plain end count left left' held held' x log' in (count, (log', subst P e p))
+
+-- at the end of input
+pub heard : (plain : Bool) (end : End) (count : ℕ) (left left' held held' : Option (List ℕ)) (log log' : Log) → log ≡ empty_log limits → IsPrompt plain end count left left' held held' log log' → None ≡ prompt_failure_of end → Prompted plain Input left left' held held'
+heard plain Input count left left' held held' log log' e p n = prompted plain Input count left left' held held' log log' e p
+heard plain ReadFault count left left' held held' log log' e p n = absurd (cc)
+heard plain WriteFault count left left' held held' log log' e p n = absurd (cc)
+heard plain NoMemory count left left' held held' log log' e p n = absurd (cc)
+
+-- before it
+pub broken : (plain : Bool) (end : End) (fault : PromptFault) (count : ℕ) (left left' held held' : Option (List ℕ)) (log log' : Log) → log ≡ empty_log limits → IsPrompt plain end count left left' held held' log log' → Some fault ≡ prompt_failure_of end
+    → PromptFails plain (Prompt fault) left left' held held'
+broken plain end fault count left left' held held' log log' e p f = ended end (prompted plain end count left left' held held' log log' e p) (sym (ap (option_map (λ x. Prompt x)) f))
+
+-- or it was never opened
+pub unmade : (plain : Bool) (left held : Option (List ℕ)) → PromptFails plain (Prompt Memory) left left held held
+unmade plain left held = unopened (untouched left held) refl

@@ -1,0 +1,94 @@
+//! A prompt for whoever runs the program.
+ghost use Rattle.std.specs.Prelude.{◌≡◌, IfErr, OnOk};
+ghost use Rattle.nesl_line.specs.declared.exchange.End.TheVariants as end;
+ghost use Rattle.nesl_prompt.specs.Points.{is_plain};
+ghost use Rattle.nesl_cli.specs.Failures.{prompt_failure_of};
+ghost use Rattle.nesl_cli.specs.Program.{PromptFails, Prompted};
+ghost use Rattle.nesl_cli.specs.Prompted.{style_for};
+
+use crate::failure::Failure;
+use crate::run::LIMITS;
+use nesl_line::device::{Sink, Source};
+use nesl_line::exchange::End;
+use nesl_prompt::converse::converse;
+use nesl_prompt::shelf::Shelf;
+use nesl_prompt::style::Style;
+use nesl_session::session::Session;
+use std::alloc::Global;
+use thiserror::Error;
+
+/// Why a prompt ended before its input did.
+#[derive(Clone, Copy, PartialEq, Eq, Debug, Error)]
+pub enum PromptFault {
+    #[error("repl: read fault")]
+    Read,
+    #[error("repl: write fault")]
+    Write,
+    #[error("repl: no memory")]
+    Memory,
+}
+
+impl PromptFault {
+    /// What an end of a prompt is told as; the end of input is no failure.
+    pub fn of_end(end: End) -> Option<PromptFault>
+        ensures { result ≡ prompt_failure_of end }
+    {
+        match end {
+            End::Input => None,
+            End::ReadFault => Some(PromptFault::Read),
+            End::WriteFault => Some(PromptFault::Write),
+            End::NoMemory => Some(PromptFault::Memory),
+        }
+    }
+}
+
+/// Which of standard input and output are terminals.
+#[derive(Clone, Copy, PartialEq, Eq, Debug)]
+pub struct Terminals {
+    pub input: bool,
+    pub output: bool,
+}
+
+impl Terminals {
+    /// How a prompt looks, for which hints may be asked.
+    pub fn style(self, is_hinted: bool) -> Style
+        ensures { result ≡ style_for self is_hinted }
+    {
+        Style {
+            prompts: self.input && self.output,
+            hints: self.output || is_hinted,
+        }
+    }
+}
+
+/// What the program has besides its reader and its writer.
+#[derive(Drop)]
+pub struct Room<'x, F> {
+    pub terminals: Terminals,
+    /// The files that a prompt loads and saves.
+    pub shelf: &'x F,
+}
+
+/// Hears the lines of the reader at a prompt over an empty session.
+#[tactic(auto, using(crate::proofs::Ends::heard, crate::proofs::Ends::broken, crate::proofs::Ends::unmade))]
+pub(crate) fn prompt<'a, S: Source, W: Sink, F: Shelf>(
+    alloc: Global,
+    shelf: &F,
+    style: Style,
+    reader: &mut S,
+    writer: &mut W,
+) -> Result<(), Failure<'a>>
+    ensures prompted { OnOk result (Prompted (is_plain style) end.Input
+        (S.left reader.old) (S.left reader.new) (W.held writer.old) (W.held writer.new)) }
+    ensures failed { IfErr result (λ failure. PromptFails (is_plain style) failure
+        (S.left reader.old) (S.left reader.new) (W.held writer.old) (W.held writer.new)) }
+{
+    let Ok(mut session) = Session::new(alloc, LIMITS) else {
+        return Err(Failure::Prompt(PromptFault::Memory));
+    };
+    let ran = converse(alloc, reader, writer, &mut session, shelf, style);
+    match PromptFault::of_end(ran.end) {
+        None => Ok(()),
+        Some(fault) => Err(Failure::Prompt(fault)),
+    }
+}
