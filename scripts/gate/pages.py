@@ -119,14 +119,14 @@ def mute_browsers(program):
 
 @check("users on sockets and on WebSockets")
 def both_ways(program):
-    """32 over each, of one service at the same time, and then the other way round: each is told what is told alone."""
+    """64 over sockets, the same 64 over WebSockets, then 32 over each: each is told what is told alone."""
     rng, said = random.Random(3), []
     for user in names(64):
-        lines = LOAD.texts_of(rng, 10)
+        lines = LOAD.texts_of(rng, 12)
         said.append((user, lines, LOAD.alone(program, user, lines)))
     with contextlib.redirect_stdout(io.StringIO()) as told:
         demand(not LOAD.told_both_ways(program, said, []), told.getvalue())
-    return "2 times 64 users"
+    return "3 times 64 users, in one service"
 
 
 @check("the log and the ports of a page")
