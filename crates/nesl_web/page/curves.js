@@ -61,10 +61,11 @@ function drawAxes(across, up, width) {
     shape("line", { x1: EDGE.left, x2: width - EDGE.right }),
     shape("text", { x: EDGE.left - 10, dy: "0.32em", "text-anchor": "end" }, short(tick))));
   const columns = across.ticks.map((tick) => shape("g", { transform: `translate(${across.at(tick)} 0)` },
-    shape("line", { y1: foot, y2: foot + 5 }),
+    shape("line", { class: "foot", y1: foot, y2: foot + 5 }),
     shape("text", { y: foot + 19, "text-anchor": "middle" }, short(tick))));
+  const base = shape("line", { class: "foot", x1: EDGE.left, x2: width - EDGE.right, y1: foot, y2: foot });
   const name = shape("text", { x: width - 1, y: foot, dy: "0.32em", "text-anchor": "end" }, "n");
-  return shape("g", { class: "axes" }, ...rows, ...columns, name);
+  return shape("g", { class: "axes" }, ...rows, base, ...columns, name);
 }
 
 function drawCurve({ name, points }, across, up) {

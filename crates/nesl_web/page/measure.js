@@ -94,6 +94,7 @@ async function start() {
   const why = obstacle();
   tellFault(why);
   if (why) return;
+  find("copied").textContent = "";
   keep({ measure: Object.fromEntries(Object.keys(AT_FIRST).map((name) => [name, find(name).value])) });
   measured = expressions().map(([name, expression]) => ({ name, expression, told: new Map() }));
   const numbers = values();
@@ -162,7 +163,7 @@ function slopes(what) {
 function slope([one, other], logarithmic) {
   if (!other) return "";
   const [right, up] = logarithmic.map((log, at) => (log ? Math.log2(other[at] / one[at]) : other[at] - one[at]));
-  return String(Number((up / right).toFixed(3)));
+  return Number((up / right).toFixed(3)).toLocaleString("en");
 }
 
 /** The rows of the table: each n with the work and depth, or the fault, of each series. */

@@ -213,13 +213,16 @@ function drawFault({ word }) {
   return make("p.told", make("b.code.wrong", `fault ${word}`), ` ${FAULTS[word] ?? ""}`);
 }
 
+/** The beginning of a value, without a number that is cut in it. */
+const beginning = (value) => value.slice(0, FOLDED).replace(/-?\b\d{1,19}$/, "").trimEnd();
+
 /** A value, of which only the beginning is shown where it is long. */
 function drawValue(name, value) {
   const code = make("code");
   const line = make("p", make("span.code.soft", name), code);
   const more = button("button.quiet", "", () => show(more.ariaExpanded === "false"));
   const show = (whole) => {
-    code.textContent = whole || value.length <= FOLDED ? value : `${value.slice(0, FOLDED)} …`;
+    code.textContent = whole || value.length <= FOLDED ? value : `${beginning(value)} …`;
     more.textContent = whole ? "Show less" : `Show all ${grouped(value.length)} characters`;
     more.ariaExpanded = String(whole);
     line.className = whole ? "value whole" : "value";

@@ -224,6 +224,7 @@ figure { min-width: 0; }
 svg { display: block; max-width: 100%; }
 svg text { fill: var(--soft); font: .78rem system-ui, sans-serif; }
 svg line { stroke: var(--line); }
+svg .foot { stroke: var(--edge); }
 .curve { stroke: var(--accent); stroke-width: 2; fill: var(--accent); }
 .curve.second { stroke: var(--second); fill: none; }
 .curve polyline { fill: none; }
