@@ -220,7 +220,7 @@ legend { float: left; font-size: .92rem; }
 }
 .legend .second::before { border-top: 3px dashed var(--second); }
 .curves { display: grid; grid-template-columns: repeat(auto-fit, minmax(min(19rem, 100%), 1fr)); gap: 1rem; }
-figure { min-width: 0; }
+figure { min-width: 0; align-content: space-between; }
 svg { display: block; max-width: 100%; }
 svg text { fill: var(--soft); font: .78rem system-ui, sans-serif; }
 svg line { stroke: var(--line); }
