@@ -4,6 +4,7 @@ A script in a folder puts this folder on the path first. Modules that stand in f
 name, so that each is one module. What a script starts is killed by whoever runs it, so nothing here waits for a program
 that doesn't end.
 """
+import concurrent.futures
 import contextlib
 import functools
 import importlib.machinery
@@ -127,30 +128,36 @@ def tried(crate, folder, cases):
     return output(["rt", "try", "--steps", "1", "--cases", written(Path(folder, "cases"), cases)], crate).split("\n")
 
 
-def refusing(crate, cases, request, *words):
-    """What becomes of each case, by its name, where its program is refused the request for memory of this number: the
-    status and the lines of output. The status is `None` where a run has no answer; one that isn't over in time is
-    missing."""
-    with tempfile.TemporaryDirectory() as folder:
-        words = ["rt", "try", "--steps", "1", *words, "--fail-alloc", str(request), "--cases", written(folder, cases)]
-        ran = subprocess.run(words, cwd=TOP / "crates" / crate, stdin=subprocess.DEVNULL, stdout=subprocess.PIPE,
-                             stderr=subprocess.STDOUT, encoding="latin-1", check=False)
-    parts, lines = {}, None
-    for line in ran.stdout.removesuffix("\n").split("\n"):
-        if line.startswith("== ") and line[3:] in cases:
-            lines = parts[line[3:]] = []
-        elif lines is not None:
-            lines.append(line)
-    if not parts:
-        sys.exit(ran.stdout[-TOLD:])
-    return {name: ended(lines) for name, lines in parts.items()}
+class Refusing:
+    """The program of a crate of tests, as it was built last, of which each run is refused the request for memory of
+    this number, if it makes so many. `refused_request.c` is loaded before it, which `cc` compiles."""
 
+    def __init__(self, crate, request, seconds):
+        self.program, self.seconds = TOP / "crates" / crate / "out" / crate, seconds
+        if not self.program.is_file():
+            sys.exit(f"{crate} isn't built: `rt ci` proves and builds all")
+        self.folder = tempfile.TemporaryDirectory()
+        shim = Path(self.folder.name, "refused_request.so")
+        source = SCRIPTS / "stress" / "refused_request.c"
+        subprocess.run(["cc", "-O2", "-shared", "-fPIC", "-o", shim, source], check=True)
+        self.environment = {"LD_PRELOAD": str(shim), "REFUSED_REQUEST": str(request)}
 
-def ended(lines):
-    """The status of a run of `rt try`, and its lines of output, which stand before the count of allocations."""
-    rows = [line.split("run=ended status=")[1] for line in lines if line.startswith("case=") and "run=ended" in line]
-    count = next((place for place, line in enumerate(lines) if line.startswith("allocations: ")), len(lines))
-    return int(rows[0].split()[0]) if rows else None, lines[:count]
+    def run(self, text):
+        """The status of a run and the lines that it writes, or `None` where it isn't over in time. A run that a signal
+        ends, ends the script."""
+        try:
+            ran = subprocess.run([self.program], input=text.encode(), env=self.environment, stdout=subprocess.PIPE,
+                                 stderr=subprocess.DEVNULL, timeout=self.seconds, check=False)
+        except subprocess.TimeoutExpired:
+            return None
+        if ran.returncode < 0:
+            sys.exit(f"signal {-ran.returncode} ended a run of:\n{text[:TOLD]}")
+        return ran.returncode, ran.stdout.decode("latin-1").removesuffix("\n").split("\n")
+
+    def runs(self, cases):
+        """What becomes of each case, by its name, with as many runs at a time as there are processors."""
+        with concurrent.futures.ThreadPoolExecutor(os.cpu_count()) as pool:
+            return dict(zip(cases, pool.map(self.run, cases.values())))
 
 
 # The rows of nesl_tests_runs.
