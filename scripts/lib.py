@@ -499,11 +499,13 @@ def sockets_end(client, seconds=PATIENCE):
     return rest, time.monotonic() - begun
 
 
-def seated(service, user, seconds=5):
-    """A connection with this user's seat, once that is free, and after how many seconds."""
+def seated(service, user, seconds=5, connect=None):
+    """A connection with this user's seat, once that is free, and after how many seconds. Who had it sees the end of that
+    connection a moment before it is."""
+    connect = connect or service.client
     begun = time.monotonic()
     while time.monotonic() < begun + seconds:
-        client = service.client()
+        client = connect()
         mine = client.ask(f"user {user}")
         if mine == f"user {user}":
             return client, time.monotonic() - begun

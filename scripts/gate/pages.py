@@ -85,10 +85,10 @@ def conversation(program):
             ann.leave()
         for kind, data, code in ((BINARY, b"x;", 1003), (TEXT, b"1;\n2;", 1003), (TEXT, b"\xff", 1007),
                                  (TEXT, line.encode() + b"a", 1009)):
-            client = WebClient(port, "ann")
+            client, _ = seated(service, "ann", PATIENCE, lambda: WebClient(port))
             client.say(kind, data)
             client.is_ended(code)
-        WebClient(port, "ann").reset()
+        seated(service, "ann", PATIENCE, lambda: WebClient(port))[0].reset()
         client, _ = seated(service, "ann", PATIENCE)
         client.must("x;", "it = 3 : int (work 1, depth 1)")
         client.leave()
