@@ -418,7 +418,8 @@ def gate(program):
     with Checkout(program, released=False) as it:
         (it.top / ".ci").mkdir()
         shutil.copy(TOP / ".ci" / "run", it.top / ".ci" / "run")
-        for name in ("check_definitions", "check_examples", "page_lessons", "page_files", "test"):
+        refusing = [f"stress/refuse_memory_{where}" for where in ("beyond_sessions", "in_sessions", "in_halves")]
+        for name in ("check_definitions", "check_examples", "page_lessons", "page_files", "test", *refusing):
             it.write(f"scripts/{name}", "#!/bin/sh\n" + ("echo 5 passed, 0 failed\n" if name == "test" else ""))
             (it.top / "scripts" / name).chmod(0o755)
 
@@ -440,6 +441,11 @@ def gate(program):
         ends("8 passed, 1 failed")
         it.write("scripts/test", "#!/bin/sh\nexit 3\n")
         ends("4 passed, 1 failed")
+        it.write("scripts/test", "#!/bin/sh\n")
+        if shutil.which("cc"):
+            it.write("scripts/stress/refuse_memory_in_halves", "#!/bin/sh\nexit 1\n")
+            ends("4 passed, 1 failed")
+            it.write("scripts/stress/refuse_memory_in_halves", "#!/bin/sh\n")
         (it.kit / "rt").write_text(KIT + "echo new >>crates/nesl_cli/src/lib.rt\n")
         ends("2 passed, 1 failed", "the sources have changed while the gate ran", without=["byte for byte"])
         (it.kit / "rt").write_text(KIT)
