@@ -1,0 +1,13 @@
+pub mod Laws
+pub mod Unwinding
+pub mod Stepping
+pub mod Operands
+pub mod Taking
+pub mod Entering
+pub mod Binding
+pub mod Calling
+pub mod Ending
+pub mod Rows
+pub mod Gathering
+pub mod Turns
+pub mod Whole

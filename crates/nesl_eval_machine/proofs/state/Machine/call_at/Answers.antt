@@ -1,0 +1,31 @@
+use Rattle.std.proofs.Common.{◌≡◌, ap, sym, Err, ◌-◌, suc, ◌∷◌}
+use Rattle.std.specs.Prelude.{unwrap_or}
+use Rattle.nesl_values.specs.Tree.{tagged}
+use Rattle.nesl_values.specs.View.{tree_of}
+use Rattle.nesl_eval_meaning.specs.Names.{Value}
+use Rattle.nesl_eval_meaning.specs.Out.{Out, and_then}
+use Rattle.nesl_eval_meaning.specs.Outcome.{small_enough}
+use Rattle.nesl_eval_code.specs.Run.{run, run_called, slot_at, datatype_slot}
+use Rattle.nesl_eval_blocks.specs.Exec.{exec}
+use Rattle.nesl_eval_ops.specs.View.{block_of}
+use Rattle.nesl_eval_nodes.specs.declared.meter.Stop.TheVariants.{Stuck}
+use Rattle.nesl_eval_nodes.proofs.Making.{held_called}
+use Rattle.nesl_eval_machine.specs.State.{env_of, local_of, left_with}
+use Rattle.nesl_eval_machine.proofs.Stepping.{steps_from, stuck_steps}
+use Rattle.nesl_eval_machine.proofs.Calling.{function_there}
+use Rattle.nesl_eval_machine.proofs.state.Machine.call_at.Goals as goal
+
+pub returns-in-Ok-Function-clause-steps : goal.returns-in-Ok-Function-clause-steps
+returns-in-Ok-Function-clause-steps g c = ?
+
+pub returns-in-Ok-Datatype-clause-steps : goal.returns-in-Ok-Datatype-clause-steps
+returns-in-Ok-Datatype-clause-steps g c = λ fits.
+    let t = g.T.Tops.table c.args.tops.now in
+    let m = c.args.self.now in
+    let n = c.put_before.new.self in
+    let f = run (m.levels - suc c.args.height) t in
+    let x = tree_of c.args.argument in
+    let k : Value → Out Value = λ v. exec t m.levels (env_of m) (block_of c.args.next.now) (v ∷ local_of m) in
+    steps_from t m n (block_of n.code.now) c.put_before.result _ _
+    (ap (λ o. left_with t m (and_then o k)) (sym (held_called f c.args.span (slot_at t c.args.place) x (datatype_slot c.in-Ok-Datatype.tag) (rw c.in-Ok-Datatype.field-0-is at c.in-Ok-Datatype.ensures))))
+    (c.put_before.ensures.steps t (small_enough c.args.span (tagged c.in-Ok-Datatype.tag x)) m.meter (c.make_record-found.ensures m.meter) fits)

@@ -1,0 +1,51 @@
+use Rattle.std.proofs.Common.{◌≡◌, None, refl, sym, ap, ◌∙◌, inr, arith, ◌∷◌, ◌+◌}
+use Rattle.std.proofs.lemmas.Result.{err_from_is_err_and}
+use Rattle.nesl_values.specs.Tree.{sequence}
+use Rattle.nesl_values.specs.View.{tree_of}
+use Rattle.nesl_values_builder.specs.Elements.{elements_of}
+use Rattle.nesl_eval_meaning.specs.Out.{after_cost}
+use Rattle.nesl_eval_blocks.specs.Exec.{exec}
+use Rattle.nesl_eval_ops.specs.View.{block_of}
+use Rattle.nesl_eval_machine.specs.State.{between, env_of, local_of, frames_of}
+use Rattle.nesl_eval_machine.proofs.Stepping.{memory_any}
+use Rattle.nesl_eval_machine.proofs.Gathering.{round_done, none_there}
+use Rattle.nesl_eval_machine.proofs.Turns.{put_on}
+use Rattle.nesl_eval_machine.proofs.state.Machine.end_round.Goals as goal
+
+pub returns-clause-steps : goal.returns-clause-steps
+returns-clause-steps g c = λ t fits none_left.
+    let m = c.args.self.now in
+    let r = c.args.round.value in
+    let w = c.into_inner-start.result in
+    let same : w ≡ r = c.into_inner-start.ensures in
+    let b = block_of c.args.next.now in
+    let d : c.in_ok-depth.depth ≡ r.start + r.most = c.in_ok-depth.ensures.0 ∙ ap (λ x. x.start + x.most) same in
+    let v : tree_of c.in_ok-value.value ≡ sequence (elements_of r.values) = c.in_ok-value.ensures ∙ ap (λ x. sequence (elements_of x.values)) same in
+    let none : r.body ≡ None = ap (λ x. x.body) (sym same) ∙ none_there w.body (sym c.is_some.ensures ∙ c.if-is_some.false) in
+    inr (put_on t m b c.keep.new.values (record { fuel = m.meter.fuel; depth = c.in_ok-depth.depth }) c.in_ok-value.value
+    (between t m.levels b (env_of m) (local_of m) r) c.in_ok-keep.ensures refl fits
+    (round_done t m.levels b (env_of m) (local_of m) r c.in_ok-depth.depth none none_left d
+    ∙ ap (λ x. after_cost 0 c.in_ok-depth.depth (exec t m.levels (env_of m) b (x ∷ local_of m))) (sym v)))
+
+pub returns-then-is_some-clause-steps : goal.returns-then-is_some-clause-steps
+returns-then-is_some-clause-steps g c = λ t fits none_left.
+    let m = c.args.self.now in
+    memory_any (frames_of m) m.meter.fuel m.meter.fuel _
+
+pub returns-in_err-depth-clause-steps : goal.returns-in_err-depth-clause-steps
+returns-in_err-depth-clause-steps g c = λ t fits none_left.
+    let m = c.args.self.now in
+    let p = err_from_is_err_and c.from_residual.result c.from_residual.ensures.1 in
+    rw (p.1, p.2, c.in_err-depth.ensures) (memory_any (frames_of m) m.meter.fuel m.meter.fuel _)
+
+pub returns-in_err-value-clause-steps : goal.returns-in_err-value-clause-steps
+returns-in_err-value-clause-steps g c = λ t fits none_left.
+    let m = c.args.self.now in
+    let p = err_from_is_err_and c.from_residual-in_err-value.result c.from_residual-in_err-value.ensures.1 in
+    rw (p.1, p.2, c.in_err-value.ensures) (memory_any (frames_of m) m.meter.fuel m.meter.fuel _)
+
+pub returns-in_err-keep-clause-steps : goal.returns-in_err-keep-clause-steps
+returns-in_err-keep-clause-steps g c = λ t fits none_left.
+    let m = c.args.self.now in
+    let p = err_from_is_err_and c.from_residual-in_err-keep.result c.from_residual-in_err-keep.ensures.1 in
+    rw (p.1, p.2, c.in_err-keep.ensures) (memory_any (frames_of m) m.meter.fuel m.meter.fuel _)

@@ -1,0 +1,124 @@
+-- What a step does to what is left.
+use Rattle.std.specs.Prelude.{◌≡◌, ℕ, ◌+◌, ◌<◌, List, [], ◌∷◌, ◌++◌, length, Result, Ok, Err, Option, Some, None, ◌⊎◌}
+use Rattle.std.specs.declared.vec.Vec.{Vec}
+use Rattle.nesl_lex.specs.declared.token.Span.{Span}
+use Rattle.nesl_values.specs.View.{tree_of}
+use Rattle.nesl_values.specs.declared.value.Value as code
+use Rattle.nesl_eval_meaning.specs.Names.{Value}
+use Rattle.nesl_eval_meaning.specs.Out.{Out, value, fault, stuck, after_cost}
+use Rattle.nesl_eval_code.specs.Run.{Table}
+use Rattle.nesl_eval_blocks.specs.Block.{Block}
+use Rattle.nesl_eval_ops.specs.View.{block_of}
+use Rattle.nesl_eval_nodes.specs.declared.meter.Stop.{Stop}
+use Rattle.nesl_eval_nodes.specs.declared.meter.Stop.TheVariants.{Fault, Over, Memory, Stuck}
+use Rattle.nesl_eval_machine.specs.declared.state.Purpose.{Purpose}
+use Rattle.nesl_eval_machine.specs.declared.state.Purpose.TheVariants.{Push, Return, Turn}
+use Rattle.nesl_eval_machine.specs.declared.state.Frame.{Frame}
+use Rattle.nesl_eval_machine.specs.declared.state.Round.{Round}
+use Rattle.nesl_eval_machine.specs.declared.state.Machine.{Machine}
+use Rattle.nesl_eval_machine.specs.State.{unwound, between, frames_of, slots_of, stack_of, env_of, local_of, left_at, Fits}
+
+-- nothing is asked of what is found
+abbrev pub Anything : {R X : Type 0} → R → X → Type 0
+Anything r x = Unit {0}
+
+-- so much work was taken off the fuel, the outcome is another one after that work, and something holds then
+pub record Leads (fuel fuel' : ℕ) (o p : Out Value) (Then : Type 0) : Type 0 where
+  pub work : ℕ
+  pub spent : fuel ≡ fuel' + work
+  pub same : o ≡ after_cost work 0 p
+  pub fits : Then
+
+-- the outcome is what is left for a machine at a block, after what was done for it
+abbrev pub Goes : {A : Type 0} → Table → ℕ → Machine A → Block → Out Value → Type 0
+Goes t fuel n b o = Leads fuel n.meter.fuel o (left_at t n b) (Fits t n)
+
+-- a fault is told with the span of the outermost call
+abbrev pub placed_once : {A : Type 0} → Purpose A → Span → Span
+placed_once Push s = s
+placed_once (Return s') s = s'
+placed_once (Turn r) s = s
+
+abbrev pub placed : {A : Type 0} → List (Frame A) → Span → Span
+placed [] s = s
+placed (f ∷ fs) s = placed fs (placed_once f.purpose s)
+
+-- why a machine stopped that had so much fuel and has so much left; nothing is said where the outcome is stuck, or
+-- memory was wanting
+abbrev pub Stops : {A : Type 0} → List (Frame A) → ℕ → Stop → ℕ → Out Value → Type 0
+Stops fs f e f' stuck = Unit {0}
+Stops fs f (Fault k s) f' (value x w d) = ⊥
+Stops fs f (Fault k s) f' (fault k' s' w) = (k ≡ k') × (placed fs s ≡ s') × (f ≡ f' + w)
+Stops fs f Over f' (value x w d) = f < w
+Stops fs f Over f' (fault k s w) = f < w
+Stops fs f Memory f' o = Unit {0}
+Stops fs f Stuck f' (value x w d) = ⊥
+Stops fs f Stuck f' (fault k s w) = ⊥
+
+-- one step, after which a block is next
+abbrev pub Steps : {A U : Type 0} → Table → Machine A → Result U Stop → Machine A → Block → Out Value → Type 0
+Steps t m (Ok u) n b o = (o ≡ stuck) ⊎ Goes t m.meter.fuel n b o
+Steps t m (Err e) n b o = Stops (frames_of n) m.meter.fuel e n.meter.fuel o
+
+-- so many values were taken off a stack, or there are fewer
+abbrev pub TakesOff :
+    {A : Type 0} → List (code.Value A) → List (code.Value A) → ℕ → Result (Option (Vec (code.Value A) A)) Stop
+    → Type 0
+TakesOff old new count (Ok (Some taken)) = (old ≡ new ++ taken.items) × (length taken.items ≡ count)
+TakesOff old new count (Ok None) = length old < count
+TakesOff old new count (Err e) = e ≡ Memory
+
+-- how many slots the frames have
+abbrev pub slots_below : {A : Type 0} → List (Frame A) → ℕ
+slots_below [] = 0
+slots_below (f ∷ fs) = f.len
+
+-- the last value
+abbrev pub Gives : {A : Type 0} → Machine A → code.Value A → Machine A → Out Value → Type 0
+Gives m v n stuck = Unit {0}
+Gives m v n (value x w d) = (tree_of v ≡ x) × (m.meter.fuel ≡ n.meter.fuel + w) × (n.meter.depth ≡ d)
+Gives m v n (fault k s w) = ⊥
+
+-- a step that may be the last
+abbrev pub Comes :
+    {A : Type 0} → Table → Machine A → Result (Option (code.Value A)) Stop → Machine A → Out Value → Type 0
+Comes t m (Ok None) n o = (o ≡ stuck) ⊎ Goes t m.meter.fuel n (block_of n.code.now) o
+Comes t m (Ok (Some v)) n o = Gives m v n o
+Comes t m (Err e) n o = Stops (frames_of n) m.meter.fuel e n.meter.fuel o
+
+-- a step that is not
+abbrev pub going_on : {A U : Type 0} → Result U Stop → Result (Option (code.Value A)) Stop
+going_on (Ok u) = Ok None
+going_on (Err e) = Err e
+
+-- a turn that ended
+abbrev pub Gave : {U : Type 0} → ℕ → Result U Stop → ℕ → Out Value → Out Value → Type 0
+Gave f (Ok u) f' o p = Leads f f' o p (Unit {0})
+Gave f (Err (Fault k s)) f' o p = ⊥
+Gave f (Err Over) f' o p = (w : ℕ) × (q : Out Value) × (o ≡ after_cost w 0 q) × (f < w)
+Gave f (Err Memory) f' o p = Unit {0}
+Gave f (Err Stuck) f' o p = o ≡ stuck
+
+-- the span of the first call from the bottom, or else this one
+abbrev pub first_call : {A : Type 0} → List (Frame A) → Span → Span
+first_call [] s = s
+first_call (f ∷ fs) s = placed_once f.purpose (first_call fs s)
+
+abbrev pub placed_stop : {A : Type 0} → List (Frame A) → Stop → Stop
+placed_stop fs (Fault k s) = Fault k (placed fs s)
+placed_stop fs Over = Over
+placed_stop fs Memory = Memory
+placed_stop fs Stuck = Stuck
+
+-- a whole run
+abbrev pub Ends : {A : Type 0} → Machine A → Result (code.Value A) Stop → Machine A → Out Value → Type 0
+Ends m (Ok v) n o = Gives m v n o
+Ends {A} m (Err e) n o = Stops {A = A} [] m.meter.fuel e n.meter.fuel o
+
+-- a machine whose round is between two turns, after what was done for it
+abbrev pub Rests : {A U : Type 0} → Table → ℕ → Result U Stop → Machine A → Block → Round A → Out Value → Type 0
+Rests t f (Ok u) n b r o =
+    (o ≡ stuck)
+    ⊎ Leads f n.meter.fuel o
+      (unwound t (frames_of n) (slots_of n) (stack_of n) (between t n.levels b (env_of n) (local_of n) r)) (Fits t n)
+Rests t f (Err e) n b r o = Stops (frames_of n) f e n.meter.fuel o

@@ -1,0 +1,14 @@
+//! A machine that runs code in the order of evaluation, with a stack of its own.
+#![tactic(auto)]
+
+mod blocks;
+mod calls;
+mod ends;
+mod leaves;
+mod making;
+mod moves;
+mod rounds;
+mod run;
+pub mod state;
+
+pub use run::evaluate_ops;

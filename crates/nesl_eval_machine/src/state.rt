@@ -1,0 +1,75 @@
+//! The state of a machine.
+
+use nesl_eval_nodes::meter::Meter;
+use nesl_eval_ops::Ops;
+use nesl_lex::token::Span;
+use nesl_values::Value;
+use nesl_values_builder::SequenceBuilder;
+use std::alloc::Allocator;
+
+/// The places at which a round of an apply-to-each has its turns: all of so many, or those that a filter kept.
+#[derive(Drop)]
+pub enum Chosen<A: Allocator> {
+    All(usize),
+    These(Vec<usize, A>),
+}
+
+/// A round of an apply-to-each: a filter or a body, with a turn at each place.
+#[derive(Drop)]
+pub struct Round<'a, A: Allocator> {
+    pub block: &'a Ops,
+    /// The body whose round comes after that of a filter.
+    pub body: Option<&'a Ops>,
+    pub sources: Vec<Value<A>, A>,
+    pub chosen: Chosen<A>,
+    /// How many turns were begun and ended.
+    pub turns: usize,
+    /// The place of the turn that is on.
+    pub place: usize,
+    /// The depth before the round, and the greatest depth of its turns so far.
+    pub start: u64,
+    pub most: u64,
+    /// The places where a filter holds, so far, and the values of a body.
+    pub kept: Vec<usize, A>,
+    pub values: SequenceBuilder<A>,
+}
+
+/// What the value of a block is for.
+#[derive(Drop)]
+pub enum Purpose<'a, A: Allocator> {
+    /// It goes on the stack.
+    Push,
+    /// It is that of a function, which is called with this span, and goes on the stack.
+    Return(Span),
+    /// It ends a turn.
+    Turn(Box<Round<'a, A>, A>),
+}
+
+/// Where a machine goes on after a block: its local names have the slots from `base` to `len`, and its stack has this
+/// height.
+#[derive(Drop)]
+pub struct Frame<'a, A: Allocator> {
+    pub next: &'a Ops,
+    pub base: usize,
+    pub len: usize,
+    pub height: usize,
+    pub levels: u32,
+    pub purpose: Purpose<'a, A>,
+}
+
+/// A machine: what it does next, the values of local names, the values that wait on the stack, and where it goes on
+/// after the block that it is in.
+#[derive(Drop)]
+pub struct Machine<'a, A: Allocator> {
+    /// The bodies of functions, by place; one may be wanting.
+    pub bodies: &'a [Option<Ops>],
+    pub code: &'a Ops,
+    pub slots: Vec<Value<A>, A>,
+    pub stack: Vec<Value<A>, A>,
+    pub frames: Vec<Frame<'a, A>, A>,
+    /// Where the slots of the local names begin that the block sees.
+    pub base: usize,
+    pub levels: u32,
+    pub meter: Meter,
+    pub alloc: A,
+}
