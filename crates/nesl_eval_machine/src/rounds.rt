@@ -34,7 +34,10 @@ impl<A: Allocator> Chosen<A> {
     {
         match self {
             Chosen::All(count) => { if turn < *count { Some(turn) } else { None } }
-            Chosen::These(places) => places.get(turn).copied(),
+            Chosen::These(places) => match places.get(turn) {
+                Some(place) => Some(*place),
+                None => None,
+            },
         }
     }
 }

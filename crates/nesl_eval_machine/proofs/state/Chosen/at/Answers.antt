@@ -6,6 +6,3 @@ returns-then-turn-count g c = rw (c.in-All.is) (range_at c.in-All.count c.args.t
 
 pub returns-else-turn-count : goal.returns-else-turn-count
 returns-else-turn-count g c = rw (c.in-All.is) (range_past c.in-All.count c.args.turn c.if-turn-count.false)
-
-pub returns-in-These : goal.returns-in-These
-returns-in-These g c = rw (c.in-These.is) ?

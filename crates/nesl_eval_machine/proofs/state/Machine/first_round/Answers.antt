@@ -1,4 +1,5 @@
 use Rattle.std.proofs.Common.{◌≡◌, ℕ, refl, sym, ap, ◌∙◌, inl, inr, subst, map, List, ◌∷◌, Ok, Err, Result, ◌⊎◌, Box}
+use Rattle.nesl_eval_machine.specs.declared.state.Chosen.TheVariants.{All}
 use Rattle.nesl_eval_machine.specs.declared.state.Round.{Round}
 use Rattle.std.specs.Prelude.{MatchResult}
 use Rattle.std.specs.List.{range_with_len}
@@ -42,13 +43,14 @@ returns g c = λ t next.
     let T : ℕ → List ℕ → Type 0 = λ k is. range_with_len 0 k ≡ is in
     let found : Meets T m.meter (Ok c.in_ok-count.count) m.meter P =
     subst (λ xs. Meets T m.meter (Ok c.in_ok-count.count) m.meter (given (lengths (map tree_of xs)) (common_places s))) c.deref.ensures.value (c.in_ok-count.ensures m.meter) in
-    boxed_round m (λ (b : Box (Round g.row.A.Denot) g.row.A.Denot). b.value) _ c.in_box.result (left_with t m (and_then (at_places s vs R) K)) (λ r. unwound t (frames_of m) (slots_of m) (stack_of m) (between t m.levels next (env_of m) (local_of m) r))
+    let r : Round g.row.A.Denot = record { block = c.args.block; body = c.args.body; sources = c.args.sources; chosen = All c.in_ok-count.count; turns = 0; place = 0; start = m.meter.depth; most = 0; kept = c.new.result; values = c.with_room.result } in
+    boxed_round m (λ (b : Box (Round g.row.A.Denot) g.row.A.Denot). b.value) r c.in_box.result (left_with t m (and_then (at_places s vs R) K)) (λ r. unwound t (frames_of m) (slots_of m) (stack_of m) (between t m.levels next (env_of m) (local_of m) r))
     (elim (found_first T t m c.in_ok-count.count P (λ is. and_then (R is) K) found) [
       | inl x ↦ inl (ap (left_with t m) (places_first s vs R K) ∙ x)
       | inr x ↦ inr
           (ap (left_with t m) (places_first s vs R K) ∙ x.2
           ∙ ap (unwound t (frames_of m) (slots_of m) (stack_of m))
-          (first_between t m.levels next (env_of m) (local_of m) _ vs (block_of c.args.block.now) c.args.body x.0 m.meter.depth
+          (first_between t m.levels next (env_of m) (local_of m) r vs (block_of c.args.block.now) c.args.body x.0 m.meter.depth
           refl refl refl x.1 refl refl refl c.new.ensures.items c.with_room.ensures))
     ])
     c.in_box.ensures
