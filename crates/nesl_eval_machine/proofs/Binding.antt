@@ -1,5 +1,5 @@
 -- Local names that come and go.
-use Rattle.std.proofs.Common.{◌≡◌, ℕ, zero, suc, ◌+◌, ◌<◌, ◌≤◌, refl, sym, ◌∙◌, ap, arith, inl, inr, ◌⊎◌, List, [], ◌∷◌, ◌++◌, length, take, drop, reverse, ◌-◌, Some, None, Vec}
+use Rattle.std.proofs.Common.{◌≡◌, ℕ, zero, suc, ◌+◌, ◌≤◌, refl, sym, ◌∙◌, ap, arith, inl, inr, ◌⊎◌, List, [], ◌∷◌, ◌++◌, length, take, drop, reverse, ◌-◌, Some, None, Vec}
 use Rattle.std.specs.Prelude.{slice_get}
 use Rattle.std.proofs.lemmas.List.{take-append-le, drop-append-le, take-append-drop, reverse-append}
 use Rattle.std.proofs.Math.ListN.{length-append}
@@ -13,7 +13,7 @@ use Rattle.nesl_eval_blocks.specs.Exec.{Places, exec}
 use Rattle.nesl_eval_nodes.proofs.Arms.{drop_next, drop_past}
 use Rattle.nesl_eval_machine.specs.declared.state.Frame.{Frame}
 use Rattle.nesl_eval_machine.specs.declared.state.Machine.{Machine}
-use Rattle.nesl_eval_machine.specs.State.{places_of, Ordered, frames_of, slots_of, stack_of, env_of, local_of, left_with, left_at, Fits}
+use Rattle.nesl_eval_machine.specs.State.{places_of, frames_of, slots_of, stack_of, env_of, local_of, left_with, left_at, Fits}
 use Rattle.nesl_eval_machine.specs.Steps.{Goes, slots_below}
 use Rattle.nesl_eval_machine.proofs.Laws.{after_none}
 use Rattle.nesl_eval_machine.proofs.Unwinding.{unwound_stuck, unwound_slots, ordered_more, ordered_slots, slots_within}
@@ -45,8 +45,8 @@ bound {A} t m slots v b is fits =
 
 cut_behind : {X : Type 0} (b k : ℕ) (xs : List X) → take k (drop b xs) ≡ drop b (take (b + k) xs)
 cut_behind zero k xs = let e : k ≡ 0 + k = omega arith in ap (λ j. take j xs) e
-cut_behind (suc b) zero [] = refl
-cut_behind (suc b) (suc k) [] = refl
+cut_behind {X} (suc b) zero [] = let e : suc b + zero ≡ suc (b + zero) = omega arith in ap (λ j. drop (suc b) (take {A = X} j [])) (sym e)
+cut_behind {X} (suc b) (suc k) [] = let e : suc b + suc k ≡ suc (b + suc k) = omega arith in ap (λ j. drop (suc b) (take {A = X} j [])) (sym e)
 cut_behind (suc b) k (x ∷ xs) = let e : suc b + k ≡ suc (b + k) = omega arith in cut_behind b k xs ∙ ap (λ j. drop (suc b) (take j (x ∷ xs))) (sym e)
 
 cut_twice : {X : Type 0} (j k : ℕ) (xs : List X) → j ≤ k → take j (take k xs) ≡ take j xs

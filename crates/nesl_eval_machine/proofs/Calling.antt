@@ -1,5 +1,5 @@
 -- Calls of functions.
-use Rattle.std.proofs.Common.{◌≡◌, ℕ, zero, suc, ◌+◌, ◌-◌, ◌<◌, ◌≤◌, refl, sym, ◌∙◌, ap, arith, List, [], ◌∷◌, ◌++◌, map, length, drop, Option, Some, None}
+use Rattle.std.proofs.Common.{◌≡◌, ℕ, sym, ◌∙◌, ap, List, [], ◌∷◌, ◌++◌, length, drop, Option, Some, None}
 use Rattle.std.specs.Prelude.{unwrap_or}
 use Rattle.std.proofs.Math.Seq.{drop-append_seam}
 use Rattle.nesl_lex.specs.declared.token.Span.{Span}
@@ -9,8 +9,7 @@ use Rattle.nesl_eval_meaning.specs.Names.{Value}
 use Rattle.nesl_eval_meaning.specs.Out.{Out, after_cost, and_then, at_call}
 use Rattle.nesl_eval_code.specs.declared.code.Code.{Code}
 use Rattle.nesl_eval_code.specs.Frames.{frame}
-use Rattle.nesl_eval_code.specs.Run.{Slot, Table, run, variable_slot, function_slot, datatype_slot, nothing_slot}
-use Rattle.nesl_eval_blocks.specs.Block.{Block}
+use Rattle.nesl_eval_code.specs.Run.{Slot, Table, run, function_slot, nothing_slot}
 use Rattle.nesl_eval_blocks.specs.Exec.{exec}
 use Rattle.nesl_eval_blocks.specs.Flat.{block}
 use Rattle.nesl_eval_blocks.proofs.Runs.{runs_as_code}

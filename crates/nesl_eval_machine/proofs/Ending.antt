@@ -1,15 +1,13 @@
 -- Blocks that end.
 use Rattle.std.specs.Prelude.{vec_len}
-use Rattle.std.proofs.Common.{◌≡◌, ℕ, zero, suc, ◌+◌, ◌<◌, ◌≤◌, refl, sym, ◌∙◌, ap, subst, arith, inl, inr, ◌⊎◌, List, [], ◌∷◌, ◌++◌, map, length, take, drop, reverse, Vec, Result, Ok, Err}
+use Rattle.std.proofs.Common.{◌≡◌, ℕ, ◌≤◌, refl, sym, ◌∙◌, ap, subst, arith, inl, inr, ◌⊎◌, List, [], ◌∷◌, ◌++◌, map, length, take, drop, reverse, Vec, Result, Ok, Err}
 use Rattle.std.proofs.lemmas.List.{take-append-le, take-append-drop, reverse-append, reverse-reverse, length-map, length-take-le}
-use Rattle.std.proofs.Math.Seq.{take-append_seam, drop-append_seam}
-use Rattle.std.proofs.Math.ListN.{length-append}
 use Rattle.nesl_values.specs.View.{tree_of}
 use Rattle.nesl_values.specs.declared.value.Value as code
 use Rattle.nesl_eval_meaning.specs.Names.{Value}
 use Rattle.nesl_eval_meaning.specs.Out.{Out, value, stuck, after_cost}
 use Rattle.nesl_eval_code.specs.Run.{Table}
-use Rattle.nesl_eval_blocks.specs.Block.{Block, finish}
+use Rattle.nesl_eval_blocks.specs.Block.{finish}
 use Rattle.nesl_eval_blocks.specs.Exec.{Places, exec}
 use Rattle.nesl_eval_ops.specs.View.{block_of}
 use Rattle.nesl_eval_machine.specs.declared.state.Frame.{Frame}

@@ -1,6 +1,6 @@
 -- Blocks that are entered.
-use Rattle.std.proofs.Common.{◌≡◌, ℕ, zero, suc, ◌+◌, ◌<◌, ◌≤◌, refl, sym, ◌∙◌, ap, subst, arith, List, [], ◌∷◌, ◌++◌, map, length, take, drop, reverse, Some, Vec}
-use Rattle.std.proofs.lemmas.List.{reverse-append, map-append, length-map, take-map, drop-append-le}
+use Rattle.std.proofs.Common.{◌≡◌, ℕ, ◌+◌, ◌≤◌, sym, ◌∙◌, ap, subst, arith, List, [], ◌∷◌, ◌++◌, map, length, take, drop, reverse, Some, Vec}
+use Rattle.std.proofs.lemmas.List.{reverse-append, map-append, length-map, take-map}
 use Rattle.std.proofs.Math.Seq.{take-append_seam, take-length}
 use Rattle.std.proofs.Math.ListN.{length-append}
 use Rattle.nesl_values.specs.View.{tree_of}

@@ -1,24 +1,17 @@
 -- Rounds of an apply-to-each.
-use Rattle.std.proofs.Common.{◌≡◌, ℕ, zero, suc, ◌+◌, ◌<◌, ◌≤◌, refl, sym, ◌∙◌, ap, subst, arith, inl, inr, ◌⊎◌, add-one, Bool, true, false, cond, List, [], ◌∷◌, ◌++◌, map, length, take, drop, reverse, Result, Ok, Err, Option, Some, None, Vec, Bor}
+use Rattle.std.proofs.Common.{◌≡◌, ℕ, zero, suc, ◌+◌, ◌<◌, refl, sym, ◌∙◌, ap, subst, arith, Bool, true, false, cond, List, [], ◌∷◌, ◌++◌, map, drop, Result, Ok, Err, Option, Some, None, Vec, Bor}
 use Rattle.std.specs.Prelude.{max, slice_get, is_some, MatchResult}
-use Rattle.std.specs.List.{range_with_len}
-use Rattle.std.proofs.lemmas.List.{length-map, length-take-le}
-use Rattle.std.proofs.Math.Seq.{take-append_seam, drop-append_seam}
-use Rattle.std.proofs.Math.ListN.{length-append}
-use Rattle.nesl_lex.specs.declared.token.Span.{Span}
 use Rattle.nesl_values.specs.Tree as values
 use Rattle.nesl_values.specs.Tree.{size}
 use Rattle.nesl_values.specs.Parts.{as_bool}
 use Rattle.nesl_values.specs.View.{tree_of}
-use Rattle.nesl_values.specs.declared.value.Value as code
 use Rattle.nesl_values_builder.specs.Elements.{elements_of}
 use Rattle.nesl_values_builder.specs.declared.builder.SequenceBuilder.{SequenceBuilder}
 use Rattle.nesl_eval_meaning.specs.Names.{Value}
-use Rattle.nesl_eval_meaning.specs.Out.{Out, value, fault, stuck, after_cost, and_then, given, beside, all_beside}
+use Rattle.nesl_eval_meaning.specs.Out.{Out, value, stuck, after_cost, and_then, given, beside}
 use Rattle.nesl_eval_meaning.specs.Outcome.{place_if_true, body_value}
-use Rattle.nesl_eval_code.specs.Frames.{row}
 use Rattle.nesl_eval_code.specs.Run.{Table}
-use Rattle.nesl_eval_blocks.specs.Block.{Block, finish}
+use Rattle.nesl_eval_blocks.specs.Block.{Block}
 use Rattle.nesl_eval_blocks.specs.Exec.{Places, exec, kept_of, values_of}
 use Rattle.nesl_eval_blocks.proofs.Outs.{then_assoc, then_same}
 use Rattle.nesl_eval_ops.specs.declared.ops.Ops.{Ops}
@@ -30,16 +23,9 @@ use Rattle.nesl_eval_nodes.specs.Meets.{Meets}
 use Rattle.nesl_eval_nodes.specs.Sides.{IsOne}
 use Rattle.nesl_eval_machine.specs.declared.state.Chosen.TheVariants.{These}
 use Rattle.nesl_eval_machine.specs.declared.state.Round.{Round}
-use Rattle.nesl_eval_machine.specs.declared.state.Purpose.TheVariants.{Turn}
-use Rattle.nesl_eval_machine.specs.declared.state.Frame.{Frame}
-use Rattle.nesl_eval_machine.specs.declared.state.Machine.{Machine}
-use Rattle.nesl_eval_machine.specs.State.{places_of, above, floor, chosen_places, at_place, gathering, gathered_as, all_values, turn_of, places_left, between, in_turn, resumed, resumed_as, unwound, Ordered, frames_of, slots_of, stack_of, env_of, local_of, left_with, left_at, Fits}
-use Rattle.nesl_eval_machine.specs.Steps.{Leads, Goes, Gave, Stops, Steps}
-use Rattle.nesl_eval_machine.proofs.Laws.{after_none, after_after, then_after, swapped, gathering_more, gathering_done, gathering_first}
-use Rattle.nesl_eval_machine.proofs.Unwinding.{unwound_stuck, unwound_after, floor_within, ordered_more}
-use Rattle.nesl_eval_machine.proofs.Stepping.{mapped, one_longer, steps_from, steps_stuck, steps_after, over_any, memory_any}
-use Rattle.nesl_eval_machine.proofs.Entering.{places_cut}
-use Rattle.nesl_eval_machine.proofs.Ending.{Ended, block_ended, pushed_local}
+use Rattle.nesl_eval_machine.specs.State.{chosen_places, at_place, gathering, gathered_as, all_values, turn_of, places_left, between, in_turn}
+use Rattle.nesl_eval_machine.specs.Steps.{Leads, Gave}
+use Rattle.nesl_eval_machine.proofs.Laws.{after_none, gathering_more, gathering_done, gathering_first}
 
 nothing : 0 + 0 ≡ 0
 nothing = omega arith

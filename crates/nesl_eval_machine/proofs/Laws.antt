@@ -1,5 +1,5 @@
 -- Laws of outcomes.
-use Rattle.std.proofs.Common.{◌≡◌, ℕ, ◌+◌, refl, sym, ◌∙◌, ap, arith, List, [], ◌∷◌, ◌++◌, append_assoc, append-nil}
+use Rattle.std.proofs.Common.{◌≡◌, ℕ, ◌+◌, refl, sym, ◌∙◌, ap, arith, List, [], ◌++◌, append_assoc, append-nil}
 use Rattle.std.specs.Prelude.{max}
 use Rattle.nesl_lex.specs.declared.token.Span.{Span}
 use Rattle.nesl_scalars.specs.declared.trap.Trap.{Trap}

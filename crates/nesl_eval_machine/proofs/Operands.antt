@@ -1,5 +1,5 @@
 -- Leaves, and operations on them.
-use Rattle.std.proofs.Common.{◌≡◌, ℕ, zero, suc, ◌+◌, ◌≤◌, ◌<◌, subst, Ok, refl, sym, ◌∙◌, ap, arith, inl, inr, ◌⊎◌, List, [], ◌∷◌, ◌++◌, map, drop, length, Option, Some, None, Result}
+use Rattle.std.proofs.Common.{◌≡◌, ℕ, zero, suc, ◌+◌, ◌≤◌, subst, Ok, refl, sym, ◌∙◌, ap, arith, inl, inr, ◌⊎◌, List, [], ◌∷◌, ◌++◌, map, drop, length, Option, Some, None, Result}
 use Rattle.std.specs.Prelude.{slice_get, option_map, option_and_then}
 use Rattle.std.proofs.lemmas.List.{length-map}
 use Rattle.std.proofs.lemmas.Option.{slice_get_past}
@@ -84,21 +84,21 @@ leaf_then t m n c r h s f k l ls b next =
 
 -- one more leaf, of which so many have been pushed
 pub leaf_next : {A U : Type 0} (t : Table) (m m1 n : Machine A) (u : Result U Stop) (h : ℕ) (s : Span) (f : Maker) (k i : ℕ) (l : Leaf) (ls rest : List Leaf) (b : Block) (o : Out Value) →
-    ls ≡ l ∷ rest → Steps t m (Ok tt) m1 (make h s f (k + i) ls b) o →
+    ls ≡ l ∷ rest → Steps t m (Ok (tt {0})) m1 (make h s f (k + i) ls b) o →
     ((c : Block) → Fits t m1 → Steps t m1 u n c (left_at t m1 (push h l c))) →
     Steps t m u n (make h s f (k + (i + 1)) rest b) o
 leaf_next t m m1 n u h s f k i l ls rest b o is so_far put =
     let over : suc (k + i) ≡ k + (i + 1) = omega arith in
-    then_steps t m m1 n (make h s f (k + i) ls b) (make h s f (k + (i + 1)) rest b) tt u o so_far
+    then_steps t m m1 n (make h s f (k + i) ls b) (make h s f (k + (i + 1)) rest b) (tt {0}) u o so_far
     (λ fits. subst (λ j. Steps t m1 u n (make h s f j rest b) (left_at t m1 (make h s f (k + i) ls b))) over
     (subst (λ xs. Steps t m1 u n (make h s f (suc (k + i)) rest b) (left_at t m1 (make h s f (k + i) xs b))) (sym is)
     (leaf_then t m1 n (make h s f (suc (k + i)) rest b) u h s f (k + i) l rest b (put (make h s f (suc (k + i)) rest b) fits))))
 
 pub leaves_begin : {A : Type 0} (t : Table) (m : Machine A) (h : ℕ) (s : Span) (f : Maker) (k : ℕ) (ls : List Leaf) (b : Block) → Fits t m →
-    Steps t m (Ok tt) m (make h s f (k + 0) ls b) (left_at t m (make h s f k ls b))
+    Steps t m (Ok (tt {0})) m (make h s f (k + 0) ls b) (left_at t m (make h s f k ls b))
 leaves_begin t m h s f k ls b fits =
     let none : k + 0 ≡ k = omega arith in
-    subst (λ j. Steps t m (Ok tt) m (make h s f j ls b) (left_at t m (make h s f k ls b))) (sym none)
+    subst (λ j. Steps t m (Ok (tt {0})) m (make h s f j ls b) (left_at t m (make h s f k ls b))) (sym none)
     (inr (record {
       work = 0;
       spent = omega arith;

@@ -1,9 +1,8 @@
 -- Single steps.
 use Rattle.std.proofs.lemmas.Bool.Decides.{nat_tests}
 use Rattle.std.specs.Prelude.{nat_le, vec_len, MatchResult}
-use Rattle.std.proofs.Common.{Bool, true, false, ◌≡◌, ℕ, zero, suc, ◌+◌, ◌<◌, ◌≤◌, refl, sym, ◌∙◌, ap, subst, arith, inl, inr, List, [], ◌∷◌, ◌++◌, map, length, take, drop, reverse, Result, Ok, Err, Option, Some, None, Vec, Bor, ◌⊎◌}
-use Rattle.std.proofs.lemmas.List.{take-append-le, drop-append-le, reverse-append, map-append, length-map}
-use Rattle.std.proofs.Math.Seq.{take-append_seam, take-length}
+use Rattle.std.proofs.Common.{Bool, true, false, ◌≡◌, ℕ, ◌+◌, ◌<◌, ◌≤◌, refl, sym, ◌∙◌, ap, subst, arith, inl, inr, List, [], ◌∷◌, ◌++◌, map, length, take, reverse, Result, Ok, Err, Vec, ◌⊎◌}
+use Rattle.std.proofs.lemmas.List.{take-append-le, map-append, length-map}
 use Rattle.std.proofs.Math.ListN.{length-append, drop_of_length-le}
 use Rattle.nesl_lex.specs.declared.token.Span.{Span}
 use Rattle.nesl_scalars.specs.declared.trap.Trap.{Trap}
@@ -11,20 +10,18 @@ use Rattle.nesl_values.specs.View.{tree_of}
 use Rattle.nesl_values.specs.declared.value.Value as code
 use Rattle.nesl_eval_meaning.specs.Names.{Value}
 use Rattle.nesl_eval_meaning.specs.Out.{Out, value, fault, stuck, after_cost, and_then}
-use Rattle.nesl_eval_code.specs.Frames.{frame}
 use Rattle.nesl_eval_code.specs.Run.{Table}
 use Rattle.nesl_eval_blocks.specs.Block.{Block}
 use Rattle.nesl_eval_blocks.specs.Exec.{Places, exec}
-use Rattle.nesl_eval_ops.specs.View.{block_of}
 use Rattle.nesl_eval_nodes.specs.declared.meter.Meter.{Meter}
 use Rattle.nesl_eval_nodes.specs.declared.meter.Stop.{Stop}
 use Rattle.nesl_eval_nodes.specs.declared.meter.Stop.TheVariants.{Fault, Over, Memory, Stuck}
 use Rattle.nesl_eval_nodes.specs.Meets.{Meets, Is}
 use Rattle.nesl_eval_machine.specs.declared.state.Frame.{Frame}
 use Rattle.nesl_eval_machine.specs.declared.state.Machine.{Machine}
-use Rattle.nesl_eval_machine.specs.State.{places_of, above, floor, resumed, unwound, Ordered, frames_of, slots_of, stack_of, env_of, local_of, left_with, left_at, HasBodies, Fits}
-use Rattle.nesl_eval_machine.specs.Steps.{Leads, Goes, placed, Stops, Steps}
-use Rattle.nesl_eval_machine.proofs.Laws.{after_none, after_after, moved}
+use Rattle.nesl_eval_machine.specs.State.{above, floor, unwound, Ordered, frames_of, slots_of, stack_of, env_of, local_of, left_with, left_at, Fits}
+use Rattle.nesl_eval_machine.specs.Steps.{Goes, placed, Stops, Steps}
+use Rattle.nesl_eval_machine.proofs.Laws.{after_after, moved}
 use Rattle.nesl_eval_machine.proofs.Unwinding.{unwound_stuck, unwound_fault, unwound_after, unwound_stack, floor_within, ordered_more, ordered_less, above_more}
 
 -- an outcome that is stuck

@@ -1,13 +1,13 @@
 -- Values that are taken off the stack together.
 use Rattle.std.proofs.lemmas.Bool.Decides.{nat_tests}
 use Rattle.std.specs.Prelude.{nat_le}
-use Rattle.std.proofs.Common.{Bool, true, false, ◌≡◌, ℕ, zero, suc, ◌+◌, ◌<◌, ◌≤◌, refl, sym, ◌∙◌, ap, arith, List, [], ◌∷◌, ◌++◌, map, length, take, drop, reverse, Result, Option, Some, None, Vec}
+use Rattle.std.proofs.Common.{Bool, true, false, ◌≡◌, ℕ, zero, suc, ◌+◌, ◌<◌, ◌≤◌, refl, ◌∙◌, ap, arith, List, [], ◌∷◌, ◌++◌, map, length, take, drop, reverse, Result, Some, None, Vec}
 use Rattle.std.proofs.lemmas.List.{take-append-le, drop-append-le, reverse-append, reverse-reverse, length-reverse, map-append, length-map}
 use Rattle.std.proofs.Math.ListN.{length-append}
 use Rattle.nesl_values.specs.View.{tree_of}
 use Rattle.nesl_values.specs.declared.value.Value as code
 use Rattle.nesl_eval_meaning.specs.Names.{Value}
-use Rattle.nesl_eval_meaning.specs.Out.{Out, given, stuck}
+use Rattle.nesl_eval_meaning.specs.Out.{Out, given}
 use Rattle.nesl_eval_code.specs.Run.{Table}
 use Rattle.nesl_eval_blocks.specs.Block.{Block}
 use Rattle.nesl_eval_blocks.specs.Exec.{taken}

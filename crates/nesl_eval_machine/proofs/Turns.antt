@@ -1,11 +1,10 @@
 -- How an apply-to-each begins, and how its turns end.
-use Rattle.std.proofs.Common.{◌≡◌, ℕ, zero, suc, ◌+◌, ◌<◌, ◌≤◌, refl, sym, ◌∙◌, ap, subst, arith, inl, inr, ◌⊎◌, List, [], ◌∷◌, ◌++◌, map, length, take, drop, reverse, Result, Ok, Err, Option, Some, None, Vec, Bor, Box}
+use Rattle.std.proofs.Common.{◌≡◌, ℕ, ◌+◌, ◌≤◌, refl, sym, ◌∙◌, ap, subst, arith, inl, inr, ◌⊎◌, List, [], ◌∷◌, ◌++◌, map, length, take, drop, Result, Ok, Err, Option, Some, None, Vec, Bor}
 use Rattle.std.specs.Prelude.{MatchResult}
 use Rattle.std.proofs.lemmas.List.{length-map, length-take-le}
 use Rattle.std.proofs.Math.Seq.{take-append_seam, drop-append_seam}
 use Rattle.std.proofs.Math.ListN.{length-append}
 use Rattle.nesl_lex.specs.declared.token.Span.{Span}
-use Rattle.nesl_values.specs.Tree as values
 use Rattle.nesl_values.specs.View.{tree_of}
 use Rattle.nesl_values.specs.declared.value.Value as code
 use Rattle.nesl_values_builder.specs.Elements.{elements_of}
@@ -27,11 +26,11 @@ use Rattle.nesl_eval_machine.specs.declared.state.Frame.{Frame}
 use Rattle.nesl_eval_machine.specs.declared.state.Machine.{Machine}
 use Rattle.nesl_eval_machine.specs.State.{places_of, above, floor, chosen_places, at_place, gathered_as, all_values, turn_of, in_rounds, between, in_turn, resumed, resumed_as, unwound, Ordered, frames_of, slots_of, stack_of, env_of, local_of, left_with, left_at, Fits}
 use Rattle.nesl_eval_nodes.specs.declared.meter.Stop.TheVariants.{Fault, Over, Memory, Stuck}
-use Rattle.nesl_eval_machine.specs.Steps.{Leads, Goes, Gave, Stops, Steps}
+use Rattle.nesl_eval_machine.specs.Steps.{Goes, Gave, Stops}
 use Rattle.nesl_eval_machine.proofs.Laws.{after_none, gathering_first}
 use Rattle.nesl_eval_machine.proofs.Unwinding.{unwound_stuck, unwound_after, floor_within, ordered_more}
 use Rattle.nesl_eval_machine.proofs.Stepping.{mapped, one_longer, over_any, memory_any}
-use Rattle.nesl_eval_machine.proofs.Entering.{places_cut, places_long}
+use Rattle.nesl_eval_machine.proofs.Entering.{places_cut}
 use Rattle.nesl_eval_machine.proofs.Ending.{Ended, block_ended, pushed_local}
 use Rattle.nesl_eval_machine.proofs.Gathering.{after_places, after_values, then_result}
 

@@ -1,13 +1,13 @@
 -- What frames make of outcomes.
-use Rattle.std.proofs.Common.{◌≡◌, ℕ, zero, suc, ◌+◌, ◌<◌, ◌≤◌, refl, sym, ◌∙◌, ap, arith, List, [], ◌∷◌, ◌++◌, map, length, take, drop, reverse, Option, Some, None, Bor}
-use Rattle.std.proofs.lemmas.List.{take-append-le, drop-append-le, reverse-append}
+use Rattle.std.proofs.Common.{◌≡◌, ℕ, suc, ◌≤◌, refl, ◌∙◌, ap, arith, List, [], ◌∷◌, ◌++◌, map, length, take, drop, reverse, Option, Some, None, Bor}
+use Rattle.std.proofs.lemmas.List.{drop-append-le, reverse-append}
 use Rattle.nesl_lex.specs.declared.token.Span.{Span}
 use Rattle.nesl_scalars.specs.declared.trap.Trap.{Trap}
 use Rattle.nesl_values.specs.Tree as values
 use Rattle.nesl_values.specs.View.{tree_of}
 use Rattle.nesl_values_builder.specs.Elements.{elements_of}
 use Rattle.nesl_eval_meaning.specs.Names.{Value}
-use Rattle.nesl_eval_meaning.specs.Out.{Out, value, fault, stuck, after_cost, and_then, at_call, beside}
+use Rattle.nesl_eval_meaning.specs.Out.{Out, fault, stuck, after_cost, and_then, at_call, beside}
 use Rattle.nesl_eval_meaning.specs.Outcome.{place_if_true, body_value}
 use Rattle.nesl_eval_code.specs.Run.{Table}
 use Rattle.nesl_eval_blocks.specs.Block.{Block}
@@ -18,7 +18,7 @@ use Rattle.nesl_eval_machine.specs.declared.state.Round.{Round}
 use Rattle.nesl_eval_machine.specs.declared.state.Purpose.{Purpose}
 use Rattle.nesl_eval_machine.specs.declared.state.Purpose.TheVariants.{Push, Return, Turn}
 use Rattle.nesl_eval_machine.specs.declared.state.Frame.{Frame}
-use Rattle.nesl_eval_machine.specs.State.{above, floor, chosen_places, at_place, gathering, gathered_as, all_values, turn_of, places_left, in_turn, resumed_as, resumed, unwound, Ordered}
+use Rattle.nesl_eval_machine.specs.State.{above, floor, at_place, gathering, gathered_as, all_values, turn_of, places_left, resumed_as, resumed, unwound, Ordered}
 use Rattle.nesl_eval_machine.specs.Steps.{placed_once, placed, slots_below}
 use Rattle.nesl_eval_machine.proofs.Laws.{then_after, at_call_after, gathering_after, fault_twice}
 

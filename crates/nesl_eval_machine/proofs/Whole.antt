@@ -1,5 +1,5 @@
 -- Whole runs.
-use Rattle.std.proofs.Common.{◌≡◌, ℕ, zero, suc, ◌+◌, ◌<◌, ◌≤◌, refl, sym, ◌∙◌, ap, subst, arith, inl, inr, ◌⊎◌, List, [], ◌∷◌, ◌++◌, map, drop, length, reverse, Result, Ok, Err, Option, Some, None}
+use Rattle.std.proofs.Common.{◌≡◌, ℕ, ◌+◌, refl, sym, ◌∙◌, ap, subst, arith, inl, inr, ◌⊎◌, List, [], ◌∷◌, ◌++◌, map, drop, length, reverse, Result, Ok, Err, Option, Some, None}
 use Rattle.std.proofs.lemmas.List.{reverse-append}
 use Rattle.nesl_lex.specs.declared.token.Span.{Span}
 use Rattle.nesl_values.specs.View.{tree_of}
@@ -15,12 +15,10 @@ use Rattle.nesl_eval_ops.specs.View.{block_of}
 use Rattle.nesl_eval_nodes.specs.declared.meter.Stop.{Stop}
 use Rattle.nesl_eval_nodes.specs.declared.meter.Stop.TheVariants.{Fault, Over, Memory, Stuck}
 use Rattle.nesl_eval_nodes.specs.Meets.{Meets, Is}
-use Rattle.nesl_eval_machine.specs.declared.state.Purpose.{Purpose}
-use Rattle.nesl_eval_machine.specs.declared.state.Purpose.TheVariants.{Push, Return, Turn}
 use Rattle.nesl_eval_machine.specs.declared.state.Frame.{Frame}
 use Rattle.nesl_eval_machine.specs.declared.state.Machine.{Machine}
-use Rattle.nesl_eval_machine.specs.State.{places_of, above, floor, unwound, Ordered, frames_of, slots_of, left, left_at, HasBodies, Fits}
-use Rattle.nesl_eval_machine.specs.Steps.{Leads, Goes, placed, placed_once, Stops, Gives, Comes, Ends, first_call, placed_stop}
+use Rattle.nesl_eval_machine.specs.State.{places_of, above, floor, unwound, Ordered, frames_of, slots_of, left, HasBodies, Fits}
+use Rattle.nesl_eval_machine.specs.Steps.{Goes, placed, placed_once, Stops, Gives, Comes, Ends, first_call, placed_stop}
 use Rattle.nesl_eval_machine.proofs.Laws.{after_none, after_after}
 use Rattle.nesl_eval_machine.proofs.Stepping.{stops_after}
 

@@ -16,7 +16,8 @@ use Rattle.nesl_eval_machine.specs.declared.state.Purpose.TheVariants.{Push, Ret
 use Rattle.nesl_eval_machine.specs.declared.state.Frame.{Frame}
 use Rattle.nesl_eval_machine.specs.declared.state.Round.{Round}
 use Rattle.nesl_eval_machine.specs.declared.state.Machine.{Machine}
-use Rattle.nesl_eval_machine.specs.State.{unwound, between, frames_of, slots_of, stack_of, env_of, local_of, left_at, Fits}
+use Rattle.nesl_eval_machine.specs.State.{unwound, between, frames_of, slots_of, stack_of, env_of, local_of, left_at}
+use Rattle.nesl_eval_machine.specs.State.{Fits}
 
 -- nothing is asked of what is found
 abbrev pub Anything : {R X : Type 0} → R → X → Type 0
@@ -120,5 +121,5 @@ abbrev pub Rests : {A U : Type 0} → Table → ℕ → Result U Stop → Machin
 Rests t f (Ok u) n b r o =
     (o ≡ stuck)
     ⊎ Leads f n.meter.fuel o
-      (unwound t (frames_of n) (slots_of n) (stack_of n) (between t n.levels b (env_of n) (local_of n) r)) (Fits t n)
+    (unwound t (frames_of n) (slots_of n) (stack_of n) (between t n.levels b (env_of n) (local_of n) r)) (Fits t n)
 Rests t f (Err e) n b r o = Stops (frames_of n) f e n.meter.fuel o

@@ -109,7 +109,8 @@ impl<'a, A: Allocator + Copy> Machine<'a, A> {
                 let found = make_record(tag, argument, span, self.alloc);
                 self.put_before(found, next)
             }
-            Ok(_) => Err(Stop::Stuck),
+            Ok(Held::Variable(_)) => Err(Stop::Stuck),
+            Ok(Held::Nothing) => Err(Stop::Stuck),
             Err(_) => Err(Stop::Memory),
         }
     }

@@ -1,5 +1,6 @@
 //! The rounds of an apply-to-each.
-ghost use Rattle.std.specs.Prelude.{◌≡◌, ℕ, ◌+◌, ◌<◌, ◌≤◌, ◌^◌, ◌∷◌, ◌++◌, [], Some, None, is_some, true, MatchResult, suc, max, List, map, slice_get, ◌⊎◌};
+ghost use Rattle.std.specs.Prelude.{◌≡◌, ℕ, ◌+◌, ◌<◌, ◌≤◌, ◌^◌, ◌∷◌, ◌++◌, ◌⊎◌, [], Some, None, is_some, true};
+ghost use Rattle.std.specs.Prelude.{MatchResult, suc, max, List, map, slice_get};
 ghost use Rattle.std.specs.declared.vec.Vec.{Vec};
 ghost use Rattle.nesl_values.specs.Tree.{ValueTree};
 ghost use Rattle.nesl_values.specs.View.{tree_of, element_tree};
@@ -461,7 +462,8 @@ impl<'a, A: Allocator + Copy> Machine<'a, A> {
             → let m = record self.old { frames = before } in
             before.items ≡ self.old.frames.items ++ f ∷ [] → f.base ≡ base → f.len ≡ len → f.levels ≡ levels
             → f.purpose ≡ Purpose.Turn round.old
-            → Fits t m → Rests t m.meter.fuel result self.new (block_of f.next.now) round.new.value (left_at t m finish) }
+            → Fits t m
+            → Rests t m.meter.fuel result self.new (block_of f.next.now) round.new.value (left_at t m finish) }
         ensures bounded { self.new.meter.fuel + self.new.meter.depth < 2 ^ 64 }
     {
         match self.stack.pop() {

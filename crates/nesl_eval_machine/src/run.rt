@@ -46,7 +46,8 @@ impl<'a, A: Allocator + Copy> Machine<'a, A> {
     #[inline(always)]
     fn step<T: Tops<A>>(&mut self, tops: &T) -> Result<Option<Value<A>>, Stop>
         requires { self.old.meter.fuel + self.old.meter.depth < 2 ^ 64 }
-        ensures comes { let t = T.table tops.now in Fits t self.old → Comes t self.old result self.new (left t self.old) }
+        ensures comes { let t = T.table tops.now in Fits t self.old
+            → Comes t self.old result self.new (left t self.old) }
         ensures bounded { self.new.meter.fuel + self.new.meter.depth < 2 ^ 64 }
     {
         let code = self.code;

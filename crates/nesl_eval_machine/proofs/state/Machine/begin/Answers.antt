@@ -1,4 +1,4 @@
-use Rattle.std.proofs.Common.{◌≡◌, inl, inr, map}
+use Rattle.std.proofs.Common.{inl, inr}
 use Rattle.std.proofs.lemmas.Result.{err_from_is_err_and}
 use Rattle.nesl_eval_ops.specs.View.{block_of}
 use Rattle.nesl_eval_machine.proofs.Stepping.{steps_stuck, steps_from}

@@ -1,4 +1,4 @@
-use Rattle.std.proofs.Common.{◌≡◌, ap, sym, Err, ◌-◌, suc, ◌∷◌}
+use Rattle.std.proofs.Common.{ap, sym, Err, ◌-◌, suc, ◌∷◌}
 use Rattle.nesl_values.specs.View.{tree_of}
 use Rattle.nesl_eval_meaning.specs.Names.{Value}
 use Rattle.nesl_eval_meaning.specs.Out.{Out, and_then}

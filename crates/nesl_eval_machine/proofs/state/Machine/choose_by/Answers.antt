@@ -1,4 +1,4 @@
-use Rattle.std.proofs.Common.{◌≡◌, ap, ◌∙◌, sym, Some, Err, Option, Bool, ◌∷◌, []}
+use Rattle.std.proofs.Common.{ap, ◌∙◌, Some, Err, Option, Bool, ◌∷◌, []}
 use Rattle.std.proofs.lemmas.Result.{err_from_is_err_and}
 use Rattle.nesl_values.specs.Parts.{as_bool}
 use Rattle.nesl_values.specs.View.{tree_of}

@@ -1,4 +1,4 @@
-use Rattle.std.proofs.Common.{Ok, Err, Some, None, Option, Bor, List, ◌∷◌, subst, ◌≡◌}
+use Rattle.std.proofs.Common.{Ok, Err, None, List, ◌∷◌, subst}
 use Rattle.nesl_eval_meaning.specs.Names.{Value}
 use Rattle.nesl_eval_meaning.specs.Out.{Out, and_then}
 use Rattle.nesl_eval_blocks.specs.Exec.{exec, at_places}

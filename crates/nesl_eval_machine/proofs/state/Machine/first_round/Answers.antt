@@ -1,18 +1,16 @@
-use Rattle.std.proofs.Common.{◌≡◌, ℕ, refl, sym, ap, ◌∙◌, inl, inr, subst, map, List, ◌∷◌, Ok, Err, Result, ◌⊎◌, Box}
+use Rattle.std.proofs.Common.{◌≡◌, ℕ, refl, sym, ap, ◌∙◌, inl, inr, subst, map, List, ◌∷◌, Ok, Err, Box}
 use Rattle.nesl_eval_machine.specs.declared.state.Chosen.TheVariants.{All}
 use Rattle.nesl_eval_machine.specs.declared.state.Round.{Round}
-use Rattle.std.specs.Prelude.{MatchResult}
 use Rattle.std.specs.List.{range_with_len}
 use Rattle.std.proofs.lemmas.Result.{err_from_is_err_and}
 use Rattle.nesl_values.specs.View.{tree_of}
-use Rattle.nesl_values_builder.specs.Elements.{elements_of}
 use Rattle.nesl_eval_meaning.specs.Names.{Value}
 use Rattle.nesl_eval_meaning.specs.Out.{Out, and_then, given}
 use Rattle.nesl_eval_meaning.specs.Outcome.{lengths, common_places}
 use Rattle.nesl_eval_blocks.specs.Exec.{exec, at_places}
 use Rattle.nesl_eval_ops.specs.View.{block_of}
 use Rattle.nesl_eval_nodes.specs.Meets.{Meets}
-use Rattle.nesl_eval_machine.specs.State.{chosen_places, in_rounds, frames_of, slots_of, stack_of, env_of, local_of, left_with, unwound, between}
+use Rattle.nesl_eval_machine.specs.State.{in_rounds, frames_of, slots_of, stack_of, env_of, local_of, left_with, unwound, between}
 use Rattle.nesl_eval_machine.specs.Steps.{Stops}
 use Rattle.nesl_eval_machine.proofs.Stepping.{run_stops}
 use Rattle.nesl_eval_machine.proofs.Turns.{places_first, found_first, first_between, boxed_round}

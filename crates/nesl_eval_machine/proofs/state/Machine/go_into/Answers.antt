@@ -1,4 +1,4 @@
-use Rattle.std.proofs.Common.{refl, sym, inr, arith, ◌∷◌, [], ◌++◌}
+use Rattle.std.proofs.Common.{refl, sym, inr, arith, ◌∷◌, []}
 use Rattle.std.proofs.lemmas.List.{append-nil}
 use Rattle.nesl_eval_meaning.specs.Names.{Value}
 use Rattle.nesl_eval_meaning.specs.Out.{Out, after_cost, and_then}

@@ -1,16 +1,16 @@
-use Rattle.std.proofs.Common.{◌≡◌, refl, sym, ap, ◌∙◌, inl, inr, Err, subst, map, drop, take, List, arith, ◌≤◌, length}
+use Rattle.std.proofs.Common.{refl, sym, ap, ◌∙◌, inl, inr, Err, subst, map, drop, take, List, ◌≤◌, length}
 use Rattle.std.proofs.lemmas.Result.{err_from_is_err_and}
 use Rattle.nesl_values.specs.View.{tree_of}
 use Rattle.nesl_eval_meaning.specs.Names.{Value}
 use Rattle.nesl_eval_meaning.specs.Out.{Out, value}
 use Rattle.nesl_eval_blocks.specs.Block.{finish}
-use Rattle.nesl_eval_blocks.specs.Exec.{Places, exec}
+use Rattle.nesl_eval_blocks.specs.Exec.{exec}
 use Rattle.nesl_eval_ops.specs.View.{block_of}
 use Rattle.nesl_eval_nodes.specs.declared.meter.Stop.TheVariants.{Stuck}
 use Rattle.nesl_eval_machine.specs.State.{places_of, above, floor, in_turn, frames_of, env_of, unwound}
 use Rattle.nesl_eval_machine.specs.Steps.{Stops}
 use Rattle.nesl_eval_machine.proofs.Unwinding.{unwound_after}
-use Rattle.nesl_eval_machine.proofs.Stepping.{nothing_popped, memory_any}
+use Rattle.nesl_eval_machine.proofs.Stepping.{nothing_popped}
 use Rattle.nesl_eval_machine.proofs.Turns.{turn_ended, gave_stops}
 use Rattle.nesl_eval_machine.proofs.state.Machine.leave_turn.Goals as goal
 
@@ -28,15 +28,15 @@ returns-in_ok-gather-in-Some-clause-rests g c = λ t before f is base len levels
     elim (turn_ended t m f before c.args.round.now s sl.items v is fits purpose c.in-Some.ensures.items cut) [
       | inl e ↦ inl e
       | inr e ↦ inr (record {
-          work = gave.work;
-          spent = gave.spent;
-          same =
-              e.left
-              ∙ ap (λ n. unwound t fs (places_of sl.items) st (in_turn t n b (drop f.base (places_of sl.items)) (above (floor fs) st) c.args.round.now.value (value (tree_of v) 0 m.meter.depth))) levels
-              ∙ ap (λ k. unwound t fs (places_of sl.items) st (in_turn t c.args.levels b (drop k (places_of sl.items)) (above (floor fs) st) c.args.round.now.value (value (tree_of v) 0 m.meter.depth))) base
-              ∙ ap (unwound t fs (places_of sl.items) st) gave.same ∙ unwound_after t fs (places_of sl.items) st gave.work _;
-          fits = (fits.0, e.ordered, subst (λ k. k ≤ length sl.items) base e.base);
-        })
+        work = gave.work;
+        spent = gave.spent;
+        same =
+            e.left
+            ∙ ap (λ n. unwound t fs (places_of sl.items) st (in_turn t n b (drop f.base (places_of sl.items)) (above (floor fs) st) c.args.round.now.value (value (tree_of v) 0 m.meter.depth))) levels
+            ∙ ap (λ k. unwound t fs (places_of sl.items) st (in_turn t c.args.levels b (drop k (places_of sl.items)) (above (floor fs) st) c.args.round.now.value (value (tree_of v) 0 m.meter.depth))) base
+            ∙ ap (unwound t fs (places_of sl.items) st) gave.same ∙ unwound_after t fs (places_of sl.items) st gave.work _;
+        fits = (fits.0, e.ordered, subst (λ k. k ≤ length sl.items) base e.base);
+      })
     ]
 
 pub returns-in_err-gather-in-Some-clause-rests : goal.returns-in_err-gather-in-Some-clause-rests

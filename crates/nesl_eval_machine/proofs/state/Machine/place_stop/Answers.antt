@@ -1,4 +1,4 @@
-use Rattle.std.proofs.Common.{ap, sym, ◌∙◌, ◌≡◌}
+use Rattle.std.proofs.Common.{ap, sym, ◌∙◌}
 use Rattle.nesl_eval_nodes.specs.declared.meter.Stop.TheVariants.{Fault}
 use Rattle.nesl_eval_machine.specs.State.{frames_of}
 use Rattle.nesl_eval_machine.specs.Steps.{placed_stop, first_call}

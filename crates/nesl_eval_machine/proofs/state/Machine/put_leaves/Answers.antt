@@ -1,4 +1,4 @@
-use Rattle.std.proofs.Common.{◌≡◌, ap, ◌∙◌, sym, subst, arith, map, drop, Ok, Err, ◌+◌, ◌∷◌, [], length}
+use Rattle.std.proofs.Common.{◌≡◌, ap, sym, subst, arith, map, drop, Ok, Err, ◌+◌, [], length}
 use Rattle.std.proofs.lemmas.Result.{err_from_is_err_and}
 use Rattle.nesl_eval_blocks.specs.Block.{make}
 use Rattle.nesl_eval_ops.specs.View.{leaf_is}
@@ -25,7 +25,7 @@ loop-leaf-preserved g c =
     record {
       bounded = c.in_ok-put_leaf.ensures.bounded;
       so_far = λ s f k b fits.
-          leaf_next t m c.loop-leaf.self c.put_leaf.new.self (Ok tt) c.args.height s f k i (leaf_is x) (map leaf_is (drop i ls)) (map leaf_is (drop (i + 1) ls)) b _
+          leaf_next t m c.loop-leaf.self c.put_leaf.new.self (Ok (tt {0})) c.args.height s f k i (leaf_is x) (map leaf_is (drop i ls)) (map leaf_is (drop (i + 1) ls)) b _
           (ap (map leaf_is) (next_item ls x i c.loop-leaf-test.true c.leaf-item.is)) (c.loop-leaf.invariant.so_far s f k b fits) (λ d h. c.in_ok-put_leaf.ensures.steps d h);
     }
 
@@ -47,6 +47,6 @@ returns-clause-steps g c = λ s f k b fits.
     let i = c.loop-leaf.leaf-index in
     let m = c.args.self.now in
     let all : length ls ≡ i = omega arith in
-    subst (λ j. Steps t m (Ok tt) c.loop-leaf.self (make c.args.height s f (k + j) [] b) (left_at t m (make c.args.height s f k (map leaf_is ls) b))) (sym all)
-    (subst (λ l. Steps t m (Ok tt) c.loop-leaf.self (make c.args.height s f (k + i) (map leaf_is l) b) (left_at t m (make c.args.height s f k (map leaf_is ls) b))) (drop_past ls i all)
+    subst (λ j. Steps t m (Ok (tt {0})) c.loop-leaf.self (make c.args.height s f (k + j) [] b) (left_at t m (make c.args.height s f k (map leaf_is ls) b))) (sym all)
+    (subst (λ l. Steps t m (Ok (tt {0})) c.loop-leaf.self (make c.args.height s f (k + i) (map leaf_is l) b) (left_at t m (make c.args.height s f k (map leaf_is ls) b))) (drop_past ls i all)
     (c.loop-leaf.invariant.so_far s f k b fits))

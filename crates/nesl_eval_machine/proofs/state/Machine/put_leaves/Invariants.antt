@@ -1,4 +1,4 @@
-use Rattle.std.proofs.Common.{◌≡◌, ℕ, ◌+◌, ◌<◌, ◌^◌, Ok, drop, map}
+use Rattle.std.proofs.Common.{ℕ, ◌+◌, ◌<◌, ◌^◌, Ok, drop, map}
 use Rattle.nesl_lex.specs.declared.token.Span.{Span}
 use Rattle.nesl_eval_blocks.specs.Block.{Block, Maker, make}
 use Rattle.nesl_eval_ops.specs.View.{leaf_is}
@@ -13,6 +13,6 @@ invariant-loop-leaf g l =
       bounded : l.self.meter.fuel + l.self.meter.depth < 2 ^ 64;
       so_far :
           (s : Span) (f : Maker) (k : ℕ) (b : Block) → Fits t l.fn.self →
-          Steps t l.fn.self (Ok tt) l.self (make l.height s f (k + l.leaf-index) (map leaf_is (drop l.leaf-index l.leaves)) b)
+          Steps t l.fn.self (Ok (tt {0})) l.self (make l.height s f (k + l.leaf-index) (map leaf_is (drop l.leaf-index l.leaves)) b)
           (left_at t l.fn.self (make l.height s f k (map leaf_is l.leaves) b));
     }

@@ -8,7 +8,6 @@ use Rattle.nesl_eval_blocks.specs.Exec.{Places, exec}
 use Rattle.nesl_eval_ops.specs.View.{block_of}
 use Rattle.nesl_eval_machine.specs.declared.state.Purpose.{Purpose}
 use Rattle.nesl_eval_machine.specs.declared.state.Purpose.TheVariants.{Push, Return}
-use Rattle.nesl_eval_machine.specs.declared.state.Frame.{Frame}
 use Rattle.nesl_eval_machine.specs.State.{resumed_as, left_at}
 use Rattle.nesl_eval_machine.specs.Steps.{Comes}
 use Rattle.nesl_eval_machine.proofs.Ending.{resumed_block, steps_come}

@@ -1,5 +1,5 @@
-use Rattle.std.proofs.Common.{Ok, Err, Some, None, sym, subst, ap, ◌∙◌, ◌≡◌, []}
-use Rattle.nesl_eval_machine.specs.State.{Fits, left}
+use Rattle.std.proofs.Common.{Ok, Err, Some, None, sym, subst, ap, ◌∙◌, []}
+use Rattle.nesl_eval_machine.specs.State.{left}
 use Rattle.nesl_eval_machine.specs.Steps.{Comes, Ends}
 use Rattle.nesl_eval_machine.proofs.Stepping.{memory_any}
 use Rattle.nesl_eval_machine.proofs.Whole.{on_comes, ends_stopped, begun}
