@@ -13,7 +13,7 @@ use std::alloc::Allocator;
 
 /// A step that is not the last.
 #[inline(always)]
-pub(crate) fn going_on<A: Allocator>(done: Result<(), Stop>) -> Result<Option<Value<A>>, Stop>
+pub fn going_on<A: Allocator>(done: Result<(), Stop>) -> Result<Option<Value<A>>, Stop>
     ensures { result ≡ going_on done }
 {
     match done {
@@ -36,8 +36,8 @@ impl<'a, A: Allocator + Copy> Machine<'a, A> {
         }
     }
 
-    // The last value.
-    fn last_value(&mut self) -> Result<Option<Value<A>>, Stop>
+    /// The last value.
+    pub fn last_value(&mut self) -> Result<Option<Value<A>>, Stop>
         ensures comes { (t : Table) → vec_len self.old.frames ≡ 0
             → Comes t self.old result self.new (left_at t self.old finish) }
         ensures meter { self.new.meter ≡ self.old.meter }
@@ -48,9 +48,9 @@ impl<'a, A: Allocator + Copy> Machine<'a, A> {
         }
     }
 
-    // Goes on after a block with the frame that waited for it.
+    /// Goes on after a block with the frame that waited for it.
     #[inline(always)]
-    fn resume(&mut self, frame: Frame<'a, A>) -> Result<Option<Value<A>>, Stop>
+    pub fn resume(&mut self, frame: Frame<'a, A>) -> Result<Option<Value<A>>, Stop>
         requires { self.old.meter.fuel + self.old.meter.depth < 2 ^ 64 }
         ensures comes { (t : Table) (before : Vec (Frame A.row.Denot) A.row.Denot)
             → let m = record self.old { frames = before } in

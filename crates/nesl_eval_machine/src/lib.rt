@@ -11,4 +11,7 @@ mod rounds;
 mod run;
 pub mod state;
 
+pub use ends::going_on;
+pub use moves::take_off;
+pub use rounds::{go_to_body, push_row};
 pub use run::evaluate_ops;

@@ -10,6 +10,7 @@ ghost use Rattle.nesl_eval_code.specs.Run.{Table};
 ghost use Rattle.nesl_eval_blocks.specs.Block.{Block, finish, each, filtered};
 ghost use Rattle.nesl_eval_blocks.specs.Exec.{Places, exec, at_places};
 ghost use Rattle.nesl_eval_ops.specs.View.{block_of};
+ghost use Rattle.nesl_eval_nodes.specs.Sides.{places_of as places_in};
 ghost use Rattle.nesl_eval_machine.specs.State.{Fits, places_of, chosen_places, between, in_turn, in_rounds, unwound};
 ghost use Rattle.nesl_eval_machine.specs.State.{frames_of, slots_of, stack_of, env_of, local_of, left_with, left_at};
 ghost use Rattle.nesl_eval_machine.specs.Steps.{Steps, Stops, Gave, Rests};
@@ -19,6 +20,7 @@ use crate::moves::take_off;
 use crate::state::{Chosen, Frame, Machine, Purpose, Round};
 use nesl_eval_nodes::meter::{Meter, Stop};
 use nesl_eval_nodes::nodes::{add, finish, keep, keep_if, length_of_all, pay, read_truth, share};
+use nesl_eval_nodes::places::Places;
 use nesl_eval_nodes::scope::{Scope, place_in};
 use nesl_eval_ops::Ops;
 use nesl_lex::token::Span;
@@ -28,6 +30,16 @@ use std::alloc::Allocator;
 use std::mem;
 
 impl<A: Allocator> Chosen<A> {
+    /// All of them.
+    pub fn places(&self) -> Places<'_>
+        ensures { places_in result ≡ chosen_places self.now }
+    {
+        match self {
+            Chosen::All(count) => Places::All(*count),
+            Chosen::These(places) => Places::These(places),
+        }
+    }
+
     // The place of a turn, if there is one.
     #[inline(always)]
     fn at(&self, turn: usize) -> Option<usize>
@@ -73,8 +85,8 @@ fn element_at<A: Allocator>(
     }
 }
 
-// The elements of sequences at a place, as local names.
-fn push_row<A: Allocator>(
+/// The elements of sequences at a place, as local names.
+pub fn push_row<A: Allocator>(
     slots: &mut Vec<Value<A>, A>,
     sources: &[Value<A>],
     place: usize,
@@ -219,8 +231,9 @@ fn gather<'a, A: Allocator + Copy>(
     (**round).gather(made, meter)
 }
 
+/// After a filter's last turn, the round of its body; else nothing.
 #[inline(always)]
-fn go_to_body<'a, A: Allocator + Copy>(
+pub fn go_to_body<'a, A: Allocator + Copy>(
     round: &mut Box<Round<'a, A>, A>,
     fuel: u64,
     alloc: A,

@@ -30,8 +30,8 @@ fn outermost<A: Allocator>(frames: &[Frame<'_, A>], span: Span) -> Span
 }
 
 impl<'a, A: Allocator + Copy> Machine<'a, A> {
-    // A fault is told with the span of the outermost call.
-    fn place_stop(&self, stop: Stop) -> Stop
+    /// A fault is told with the span of the outermost call.
+    pub fn place_stop(&self, stop: Stop) -> Stop
         ensures { result ≡ placed_stop (frames_of self.now) stop }
     {
         match stop {
@@ -42,9 +42,9 @@ impl<'a, A: Allocator + Copy> Machine<'a, A> {
         }
     }
 
-    // One operation.
+    /// One operation.
     #[inline(always)]
-    fn step<T: Tops<A>>(&mut self, tops: &T) -> Result<Option<Value<A>>, Stop>
+    pub fn step<T: Tops<A>>(&mut self, tops: &T) -> Result<Option<Value<A>>, Stop>
         requires { self.old.meter.fuel + self.old.meter.depth < 2 ^ 64 }
         ensures comes { let t = T.table tops.now in Fits t self.old
             → Comes t self.old result self.new (left t self.old) }
