@@ -43,8 +43,7 @@ is any that is free";
 
 pub(crate) const WEB_HOST: &str = "\
 A name by which browsers may ask for the
-page, beside localhost and this machine's
-addresses";
+page, beside localhost, 127.0.0.1 and [::1]";
 
 pub(crate) const IDLE: &str = "\
 Ends a connection whose line has not come
