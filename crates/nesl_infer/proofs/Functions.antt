@@ -1,6 +1,6 @@
 -- From the equations of a function to its scheme.
 use Rattle.std.proofs.Common.{◌≡◌, ◌<◌, ◌≤◌, ◌+◌, ℕ, zero, suc, Bool, true, false, cond, inl, inr, List, [], ◌∷◌, ◌++◌, length, map, get_or, refl, sym, ap, ◌∙◌, subst, arith}
-use Rattle.std.specs.Prelude.{Option, Some, None, nat_lt, nat_eq}
+use Rattle.std.specs.Prelude.{Option, Some, nat_lt, nat_eq}
 use Rattle.std.proofs.lemmas.Bool.{cases_lt}
 use Rattle.std.proofs.lemmas.Bool.Decides.{nat_tests}
 use Rattle.std.proofs.lemmas.List.Elements.{All-weaker}
@@ -18,7 +18,6 @@ use Rattle.nesl_syntax_tree.specs.Trees.{PatternTree, Tree, SignatureTree}
 use Rattle.nesl_unify.specs.Bounds.{IsBounded}
 use Rattle.nesl_unify.specs.Solves.{IsInstance}
 use Rattle.nesl_unify.proofs.Known.{holds_with}
-use Rattle.nesl_infer_rules.specs.declared.table.Table.{Table}
 use Rattle.nesl_unify.specs.declared.narrow.Member.{Member}
 use Rattle.nesl_infer_rules.specs.declared.state.State.{State}
 use Rattle.nesl_infer_rules.specs.declared.state.Local.{Local}
@@ -26,7 +25,7 @@ use Rattle.nesl_infer_names.specs.Names.{datatype_in}
 use Rattle.nesl_infer_rules.specs.World.{TypedNames, meanings_in}
 use Rattle.nesl_infer_rules.specs.Typing.{HasType, PatternAdds, IsSigned}
 use Rattle.nesl_infer_rules.specs.Principal.{bounded, TypedFunction, IsPrincipalScheme}
-use Rattle.nesl_infer_rules.specs.Steps.{IsSolution, HoldsIn, Gives, Adds, AddsNames, scope_at}
+use Rattle.nesl_infer_rules.specs.Steps.{IsSolution, Gives, Adds, AddsNames, scope_at}
 use Rattle.nesl_infer_rules.proofs.Places.{small}
 use Rattle.nesl_infer_rules.proofs.Steps.{gives_then, gives_and, gives_as, adds_as, in_any}
 use Rattle.nesl_infer_rules.proofs.Arms.{AnyTerm}
@@ -122,17 +121,16 @@ put-in of k vs put h n =
       | inr g ↦ subst (λ (c : Class). IsIn k c (put (get_or vs n 0))) (sym (class-past of vs n g)) (in_any k (put (get_or vs n 0)))
     ]
 
-numbered_in : (o : Option Table) (s : ℕ → Term) (of : ℕ → Class) (vs : List ℕ) → HoldsIn s of o → HoldsIn (λ v. substitute (numbered vs) (s v)) (class_at (map of vs)) o
-numbered_in None s of vs h = h
-numbered_in (Some t) s of vs h = record {
-  equal = holds_with (numbered vs) t.system s h.equal;
-  within = All-weaker (λ (m : Member). IsIn of m.class (s m.variable)) (λ (m : Member). IsIn (class_at (map of vs)) m.class (substitute (numbered vs) (s m.variable)))
-      (λ m k. IsIn-substitute of (class_at (map of vs)) (numbered vs) m.class (s m.variable) k (numbered-in of vs)) t.system.members.items h.within;
-}
-
 -- a solution with the numbers in place of its variables
 holds_numbered : (C : State) (s : ℕ → Term) (of : ℕ → Class) (vs : List ℕ) → IsSolution s of C → IsSolution (λ v. substitute (numbered vs) (s v)) (class_at (map of vs)) C
-holds_numbered C s of vs h = numbered_in C.table s of vs h
+holds_numbered C s of vs h = record {
+  whole = h.whole;
+  solves = record {
+    equal = holds_with (numbered vs) C.system s h.solves.equal;
+    within = All-weaker (λ (m : Member). IsIn of m.class (s m.variable)) (λ (m : Member). IsIn (class_at (map of vs)) m.class (substitute (numbered vs) (s m.variable)))
+        (λ m k. IsIn-substitute of (class_at (map of vs)) (numbered vs) m.class (s m.variable) k (numbered-in of vs)) C.system.members.items h.solves.within;
+  };
+}
 
 bounded_numbered : (s : ℕ → Term) (vs : List ℕ) → IsBounded s → IsBounded (λ v. substitute (numbered vs) (s v))
 bounded_numbered s vs b v = subst (λ (n : ℕ). n ≤ 4096) (sym (same_nodes (numbered vs) (s v) (numbered-node vs))) (b v)

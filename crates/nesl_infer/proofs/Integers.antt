@@ -16,7 +16,7 @@ use Rattle.nesl_builtins.specs.Named.{infix_builtin}
 use Rattle.nesl_builtins.specs.FunctionTypes.{FunctionType, a, builtin_type, in_class}
 use Rattle.nesl_infer_rules.specs.World.{meanings_in}
 use Rattle.nesl_infer_rules.specs.Typing.{IsInstanceOf, HasShapeType}
-use Rattle.nesl_infer_rules.specs.Principal.{bounded, IsPrincipal, IsPrincipalType, Typed}
+use Rattle.nesl_infer_rules.specs.Principal.{bounded, IsPrincipalType, Typed}
 use Rattle.nesl_infer.specs.Only.{IsOnlyType}
 
 -- the one type is a principal one

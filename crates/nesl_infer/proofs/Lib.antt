@@ -3,9 +3,12 @@ pub mod Integers
 pub mod Functions
 pub mod Instanced
 pub mod Known
+pub mod AllKnown
 pub mod Meant
 pub mod Referred
 pub mod Unique
 pub mod Verdicts
 pub mod Shapes
 pub mod Parts
+pub mod Closed
+pub mod Sizes

@@ -1,6 +1,6 @@
 -- What each kind of node adds, from what its parts add.
-use Rattle.std.proofs.Common.{◌≡◌, ◌<◌, ◌≤◌, ℕ, List, ◌++◌, map, refl, sym, ap, ◌∙◌, subst}
-use Rattle.std.specs.Prelude.{Result, OnOk}
+use Rattle.std.proofs.Common.{◌≡◌, ◌<◌, ◌≤◌, ℕ, List, ◌++◌, map, refl, sym, ap, ◌∙◌, subst, arith}
+use Rattle.std.specs.Prelude.{Result, OnOk, Option, Some}
 use Rattle.std.proofs.lemmas.Result.{on_ok_weaker}
 use Rattle.nesl_types.specs.declared.classes.Class.{Class}
 use Rattle.nesl_types_bank.specs.Term.{Term, int, bool, seq_of, pair_of, nodes}
@@ -16,8 +16,9 @@ use Rattle.nesl_builtins.specs.Named.{infix_builtin, prefix_builtin}
 use Rattle.nesl_infer_rules.specs.declared.state.State.{State}
 use Rattle.nesl_infer_rules.specs.declared.state.Local.{Local}
 use Rattle.nesl_infer_rules.specs.World.{TypedNames}
-use Rattle.nesl_infer_rules.specs.Typing.{LocalTypes, HasType, HasShapeType, HaveElements, BindersAdd, BindingsAdd, IsInstanceOf, NameTakes}
+use Rattle.nesl_infer_rules.specs.Typing.{LocalTypes, HasType, HasShapeType, HaveElements, BindersAdd, BindingsAdd, IsInstanceOf, IsVariable, NameTakes, local_type}
 use Rattle.nesl_infer_rules.specs.Principal.{bounded}
+use Rattle.nesl_infer.specs.Items.{HaveItemType}
 use Rattle.nesl_infer_rules.specs.Steps.{count, Gives, Adds, AddsNames, scope_at}
 use Rattle.nesl_infer_rules.proofs.Places.{IsFixed, typed-moves, small}
 use Rattle.nesl_infer_rules.proofs.Steps.{gives_then, gives_and, gives_as, adds_as}
@@ -64,6 +65,21 @@ exactly_as {A = A} {B = B} N ls ms e d t p q h =
 pub bounds_as : {A B : State} (N : (ℕ → Term) → TypedNames) (S : (ℕ → Term) → LocalTypes) (a b c d : Exp) (v : ℕ) → c ≡ a → d ≡ b → BoundsOf A B N S (tree_of c) (tree_of d) v → BoundsOf A B N S (tree_of a) (tree_of b) v
 bounds_as {A = A} {B = B} N S a b c d v p q h =
     subst (λ (x : Exp). BoundsOf A B N S (tree_of x) (tree_of b) v) p (subst (λ (x : Exp). BoundsOf A B N S (tree_of c) (tree_of x) v) q h)
+
+-- a local name's own variable is one for its type
+pub part_local : {A : State} (N : (ℕ → Term) → TypedNames) (S : (ℕ → Term) → LocalTypes) (e : Exp) (x : List ℕ) (v : ℕ) → shape_of e.node ≡ trees.variable x →
+    ((s : ℕ → Term) → local_type x (S s) ≡ Some (s v)) → v < count A → PartOf A A N S (tree_of e) v
+part_local N S e x v is found inside = record {
+  more = omega arith;
+  fixed = λ s z a. a v inside;
+  sound = λ s of b o.
+      let w = bounded (N s) of in
+      (o, (b v, subst (λ (k : Shape). HasShapeType w (S s) k (s v)) (sym is) (subst (λ (t : Option Term). IsVariable w x t (s v)) (sym (found s)) refl)));
+  complete = λ s of b o y c.
+      let w = bounded (N s) of in
+      let same : y ≡ s v = subst (λ (t : Option Term). IsVariable w x t y) (found s) (subst (λ (k : Shape). HasShapeType w (S s) k y) is c.1) in
+      (s, λ _ _. refl, o, b, sym same);
+}
 
 module _ {A : State} (N : (ℕ → Term) → TypedNames) (S : (ℕ → Term) → LocalTypes) (f : IsFixed (count A) N S) where
   pub arm_part : {B C : State} (e : Tree) (v : ℕ) → AnyTerm A B v → Types B C N S e v → PartOf A C N S e v
@@ -171,6 +187,10 @@ module _ {A : State} (N : (ℕ → Term) → TypedNames) (S : (ℕ → Term) →
         (at_int a h.0.0.1, at_int b h.0.0.2, at_int c h.0.1, h.1 ∙ ap seq_of h.0.0.0))
         (λ s of h. (int, (((refl, h.0, h.1), h.2), h.3)))
 
+-- a step that gives a variable for a type of the items of an apply-to-each with a filter
+abbrev pub ItemsOf : State → State → ((ℕ → Term) → TypedNames) → ((ℕ → Term) → LocalTypes) → Tree → Binders → Tree → ℕ → Type 0
+ItemsOf A B N S e bs d i = Gives A B (λ s. s i) (λ s of u. HaveItemType (bounded (N s) of) (S s) e bs d u)
+
 -- the names of the binders of an apply-to-each
 abbrev pub BindersOf : State → State → List Local → List Local → ((ℕ → Term) → TypedNames) → Binders → Type 0
 BindersOf A B ls ms N bs =
@@ -208,6 +228,18 @@ module _ {A : State} (N : (ℕ → Term) → TypedNames) (ls ms : List Local) (f
         (λ s of ns h. ((h.0, ns), (h.1, h.2), λ z a e. ap (λ x. x.1) e));
   }
 
+  pub arm_filtered_items : {B C D : State} (e : Tree) (bs : Binders) (d : Tree) (i : ℕ) → BindersOf A B ls ms N bs → PartOf B C N (λ s. scope_at s ms) e i →
+      IsAt C D N (λ s. scope_at s ms) d bool → ItemsOf A D N (λ s. scope_at s ls) e bs d i
+  arm_filtered_items e bs d i p1 p2 p3 =
+      let q2 = gives_then (λ s of ns. (is : List Term) × HaveElements (bounded (N s) of) (scope_at s ls) bs is × BindersAdd (bounded (N s) of) bs is ns)
+      (λ ns s of t. HasType (bounded (N s) of) (ns ++ scope_at s ls) e t) p1.gives (part_under N ls ms p1.added e i p1.after_is p2)
+      (λ x s z of y g k. under-moves (count A) N (λ s. scope_at s ls) f x e s z of y g k) in
+      let q3 = gives_and _ (λ x s of. HasType (bounded (N s) of) (x.0 ++ scope_at s ls) d bool) q2 (exactly_under N ls ms p1.added d bool p1.after_is p3)
+      (λ x s z of g k. under-moves (count A) N (λ s. scope_at s ls) f x.0 d s z of bool g k) in
+      gives_as (λ s. s i) _ (λ s of u. HaveItemType (bounded (N s) of) (scope_at s ls) e bs d u) q3 (λ s z a. ap (λ x. x.1) (q3.fixed s z a))
+      (λ s of b h. (h.0.0.0, scope_at s p1.added, h.0.0.1, h.0.0.2, h.0.1, h.1))
+      (λ s of u k. ((k.1, u), (((k.0, k.2, k.3), k.4), k.5), λ z a q. ap (λ x. x.1) q))
+
   module _ (v : ℕ) (inside : v < count A) where
     pub arm_let : {B C : State} (bs : Binders) (e : Tree) → BindsOf A B ls ms N bs → Types B C N (λ s. scope_at s ms) e v → Shapes A C N (λ s. scope_at s ls) (trees.let_in bs e) v
     arm_let bs e p h =
@@ -228,15 +260,11 @@ module _ {A : State} (N : (ℕ → Term) → TypedNames) (ls ms : List Local) (f
         (λ s of b h. (h.0.0.0, scope_at s p1.added, s i, h.0.0.1, h.0.0.2, h.0.1, h.1))
         (λ s of k. ((k.1, k.2), (((k.0, k.3, k.4), k.5), k.6)))
 
-    pub arm_filtered_each : {B C D E : State} (e : Tree) (bs : Binders) (d : Tree) (i : ℕ) → BindersOf A B ls ms N bs → PartOf B C N (λ s. scope_at s ms) e i →
-        IsAt C D N (λ s. scope_at s ms) d bool → Adds D E (λ s of. s v ≡ seq_of (s i)) → Shapes A E N (λ s. scope_at s ls) (trees.filtered_each e bs d) v
-    arm_filtered_each e bs d i p1 p2 p3 p4 =
-        let q2 = gives_then (λ s of ns. (is : List Term) × HaveElements (bounded (N s) of) (scope_at s ls) bs is × BindersAdd (bounded (N s) of) bs is ns)
-        (λ ns s of t. HasType (bounded (N s) of) (ns ++ scope_at s ls) e t) p1.gives (part_under N ls ms p1.added e i p1.after_is p2)
-        (λ x s z of y g k. under-moves (count A) N (λ s. scope_at s ls) f x e s z of y g k) in
-        let q3 = gives_and _ (λ x s of. HasType (bounded (N s) of) (x.0 ++ scope_at s ls) d bool) q2 (exactly_under N ls ms p1.added d bool p1.after_is p3)
-        (λ x s z of g k. under-moves (count A) N (λ s. scope_at s ls) f x.0 d s z of bool g k) in
-        let q4 = gives_and _ (λ x s of. s v ≡ seq_of x.1) q3 p4 (λ x s z of g h. sym (g v inside) ∙ h) in
-        adds_as _ (λ s of. HasShapeType (bounded (N s) of) (scope_at s ls) (trees.filtered_each e bs d) (s v)) q4
-        (λ s of b h. (h.0.0.0.0, scope_at s p1.added, s i, h.0.0.0.1, h.0.0.0.2, h.0.0.1, h.0.1, h.1))
-        (λ s of k. ((k.1, k.2), ((((k.0, k.3, k.4), k.5), k.6), k.7)))
+-- an apply-to-each with a filter, from its items
+pub arm_filtered_each : {A B C : State} (N : (ℕ → Term) → TypedNames) (S : (ℕ → Term) → LocalTypes) (v : ℕ) → v < count A → (e : Tree) (bs : Binders) (d : Tree) (i : ℕ) →
+    ItemsOf A B N S e bs d i → Adds B C (λ s of. s v ≡ seq_of (s i)) → Shapes A C N S (trees.filtered_each e bs d) v
+arm_filtered_each N S v inside e bs d i p1 p2 =
+    let q = gives_and (λ s of u. HaveItemType (bounded (N s) of) (S s) e bs d u) (λ x s of. s v ≡ seq_of x) p1 p2 (λ x s z of g h. sym (g v inside) ∙ h) in
+    adds_as _ (λ s of. HasShapeType (bounded (N s) of) (S s) (trees.filtered_each e bs d) (s v)) q
+    (λ s of b h. (h.0.0, h.0.1, s i, h.0.2, h.0.3, h.0.4, h.0.5, h.1))
+    (λ s of k. (k.2, ((k.0, k.1, k.3, k.4, k.5, k.6), k.7)))

@@ -21,7 +21,7 @@ names-append : (ns ms : LocalTypes) → names_of (ns ++ ms) ≡ names_of ns ++ n
 names-append [] ms = refl
 names-append (b ∷ ns) ms = ap (with_key b.0) (names-append ns ms) ∙ with_key-append b.0 (names_of ns) (names_of ms)
 
-names-under : (ns sc : LocalTypes) (ls ms : List (List ℕ)) → names_of ns ≡ ls → names_of sc ≡ ms → names_of (ns ++ sc) ≡ ls ++ ms
+pub names-under : (ns sc : LocalTypes) (ls ms : List (List ℕ)) → names_of ns ≡ ls → names_of sc ≡ ms → names_of (ns ++ sc) ≡ ls ++ ms
 names-under ns sc ls ms e d = names-append ns sc ∙ ap (λ (l : List (List ℕ)). l ++ names_of sc) e ∙ ap (λ (l : List (List ℕ)). ls ++ l) d
 
 -- what has no local type is no local name
@@ -69,7 +69,7 @@ module _ (N M : TypedNames) (of : ℕ → Class) (limit : Option ℕ) where
         (h.0, (d.0, sym g.0 ∙ d.1, d.2, d.3), parts-same p h.0 ns g.1 h.2)
 
   mutual
-    parts-names : (p : PatternTree) (t : Term) (ns : LocalTypes) → PatternAdds W p t ns → names_of ns ≡ names_bound p
+    pub parts-names : (p : PatternTree) (t : Term) (ns : LocalTypes) → PatternAdds W p t ns → names_of ns ≡ names_bound p
     parts-names (pattern s q) t ns h = parts_in-names s q t ns h.1
 
     parts_in-names : (s : Span) (q : PatternShape) (t : Term) (ns : LocalTypes) → PatternShapeAdds W q t ns → names_of ns ≡ names_bound (pattern s q)
@@ -93,11 +93,11 @@ module _ (N M : TypedNames) (of : ℕ → Class) (limit : Option ℕ) where
   draws-same bs ls [] ns g h = absurd h
   draws-same bs ls (i ∷ is) ns g h = (h.0, all_parts-same bs ls (i ∷ is) h.0 g h.1, h.2)
 
-  draws-names : (bs : Binders) (is : List Term) (ns : LocalTypes) → BindersAdd W bs is ns → names_of ns ≡ all_names_bound bs
+  pub draws-names : (bs : Binders) (is : List Term) (ns : LocalTypes) → BindersAdd W bs is ns → names_of ns ≡ all_names_bound bs
   draws-names bs [] ns h = absurd h
   draws-names bs (i ∷ is) ns h = ap names_of h.2 ∙ names-append h.0 ((element, i) ∷ []) ∙ append-nil (names_of h.0) ∙ all_parts-names bs (i ∷ is) h.0 h.1
 
-  binds-names : (bs : Binders) (sc ns : LocalTypes) → BindingsAdd W sc bs ns → names_of ns ≡ all_names_bound bs
+  pub binds-names : (bs : Binders) (sc ns : LocalTypes) → BindingsAdd W sc bs ns → names_of ns ≡ all_names_bound bs
   binds-names no_binders sc ns h = ap names_of h
   binds-names (binder p e bs) sc ns h = ap names_of h.6 ∙ names-under h.2 h.1 (all_names_bound bs) (names_bound p) (binds-names bs (h.1 ++ sc) h.2 h.5) (parts-names p h.0 h.1 h.4)
 

@@ -2,3 +2,4 @@ pub mod Verdicts
 pub mod Laws
 pub mod References
 pub mod Only
+pub mod Items

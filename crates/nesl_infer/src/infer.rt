@@ -16,7 +16,9 @@ ghost use Rattle.nesl_infer_rules.specs.Principal.{TypedFunction};
 use crate::constrain::constrain;
 use crate::fault::InferFault;
 use crate::integer::is_integer;
+use crate::scheme::scheme_of;
 use nesl_infer_names::{unknown_in_exp, unknown_in_function, unknown_in_type};
+use nesl_infer_rules::outer::Outer;
 use nesl_infer_rules::pattern::constrain_pattern;
 use nesl_infer_rules::signature::constrain_signature;
 use nesl_infer_rules::state::{OwnName, State};
@@ -49,8 +51,9 @@ fn principal_type<P: Drop>(
     let mut state = State::new(alloc);
     let root = state.add_any()?;
     let mut locals = Vec::new(alloc);
-    constrain(alloc, &mut state, context, &None, &mut locals, exp, root)?;
-    let solution = state.solve(alloc)?;
+    let outer = Outer { context, own: None };
+    constrain(&mut state, &outer, &mut locals, exp, root)?;
+    let solution = state.solve()?;
     let ty = solution.variable(alloc, root)?;
     Ok(PrincipalType {
         ty,
@@ -67,7 +70,6 @@ struct Ends {
 
 /// Adds what makes the types of two new variables those that a function takes and gives.
 fn constrain_function<P: Drop>(
-    alloc: Global,
     state: &mut State,
     context: &Context<P>,
     name: &[u8],
@@ -83,12 +85,13 @@ fn constrain_function<P: Drop>(
 {
     let takes = state.add_any()?;
     let gives = state.add_any()?;
-    let name = Vec::from_slice(alloc, name)?;
+    let name = Vec::from_slice(state.alloc, name)?;
     let own = Some(OwnName { name, takes, gives });
-    let mut locals = Vec::new(alloc);
-    constrain_pattern(alloc, state, context, &own, &mut locals, pattern, takes)?;
-    constrain_signature(alloc, state, context, signature, takes, gives)?;
-    constrain(alloc, state, context, &own, &mut locals, body, gives)?;
+    let outer = Outer { context, own };
+    let mut locals = Vec::new(state.alloc);
+    constrain_pattern(state, &outer, &mut locals, pattern, takes)?;
+    constrain_signature(state, context, signature, takes, gives)?;
+    constrain(state, &outer, &mut locals, body, gives)?;
     Ok(Ends { takes, gives })
 }
 
@@ -110,11 +113,11 @@ fn principal_scheme<P: Drop>(
         (option_map signature_tree signature.now) (tree_of body.now)) }
 {
     let mut state = State::new(alloc);
-    let ends = constrain_function(alloc, &mut state, context, name, pattern, signature, body)?;
-    let solution = state.solve(alloc)?;
+    let ends = constrain_function(&mut state, context, name, pattern, signature, body)?;
+    let solution = state.solve()?;
     let takes = solution.variable(alloc, ends.takes)?;
     let gives = solution.variable(alloc, ends.gives)?;
-    let scheme = Scheme::new(alloc, &takes, &gives, solution.classes.as_slice())?;
+    let scheme = scheme_of(alloc, takes, gives, solution.classes.as_slice())?;
     scheme.variables_have_classes();
     Ok(scheme)
 }
@@ -127,9 +130,6 @@ pub fn infer_exp<P: Drop>(alloc: Global, context: &Context<P>, exp: &Exp) -> Res
     requires { AreClosed context.now }
     ensures { IsTypeOf context.now (tree_of exp.now) result }
 {
-    if let Some(span) = unknown_in_exp(alloc, context, exp)? {
-        return Err(InferFault::Unknown { span });
-    }
     if is_integer(context, exp) {
         return Ok(Ty::int(alloc)?);
     }
@@ -141,7 +141,10 @@ pub fn infer_exp<P: Drop>(alloc: Global, context: &Context<P>, exp: &Exp) -> Res
                 Err(InferFault::Ambiguous)
             }
         }
-        Err(SolveFault::NoSolution) => Err(InferFault::IllTyped),
+        Err(SolveFault::NoSolution) => match unknown_in_exp(alloc, context, exp)? {
+            Some(span) => Err(InferFault::Unknown { span }),
+            None => Err(InferFault::IllTyped),
+        },
         Err(SolveFault::Memory) => Err(InferFault::Memory),
     }
 }
@@ -162,12 +165,14 @@ pub fn infer_function<P: Drop>(
     ensures { IsSchemeFor context.now name.now (pattern_tree pattern.now) (option_map signature_tree signature.now)
         (tree_of body.now) result }
 {
-    if let Some(span) = unknown_in_function(alloc, context, name, pattern, body)? {
-        return Err(InferFault::Unknown { span });
-    }
     match principal_scheme(alloc, context, name, pattern, signature, body) {
         Ok(scheme) => Ok(scheme),
-        Err(SolveFault::NoSolution) => Err(InferFault::IllTyped),
+        Err(SolveFault::NoSolution) => {
+            match unknown_in_function(alloc, context, name, pattern, body)? {
+                Some(span) => Err(InferFault::Unknown { span }),
+                None => Err(InferFault::IllTyped),
+            }
+        }
         Err(SolveFault::Memory) => Err(InferFault::Memory),
     }
 }

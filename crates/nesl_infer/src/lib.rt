@@ -7,6 +7,7 @@ mod infer;
 mod integer;
 pub mod laws;
 mod leaf;
+mod scheme;
 
 pub use fault::InferFault;
 pub use infer::{infer_datatype, infer_exp, infer_function};

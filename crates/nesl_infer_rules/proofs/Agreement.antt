@@ -2,7 +2,7 @@
 use Rattle.std.proofs.Common.{◌≡◌, ◌≤◌, ℕ, inl, inr, cond, get_or, refl, sym, ap, ◌∙◌, subst, arith}
 use Rattle.std.proofs.lemmas.Bool.{cases_eq}
 use Rattle.std.proofs.lemmas.Bool.Decides.{nat_tests}
-use Rattle.std.specs.Prelude.{nat_eq, Option, Some, None}
+use Rattle.std.specs.Prelude.{nat_eq}
 use Rattle.nesl_types.specs.declared.classes.Class.{Class}
 use Rattle.nesl_types_bank.specs.Term.{Term, int, bool, char, variable, seq_of, pair_of, named, nodes}
 use Rattle.nesl_types_bank.specs.Substitution.{substitute}
@@ -11,8 +11,7 @@ use Rattle.nesl_types.specs.Class.{IsIn}
 use Rattle.nesl_unify.specs.Bounds.{IsBounded}
 use Rattle.nesl_unify.proofs.Known.{holds_below}
 use Rattle.nesl_infer_rules.specs.declared.state.State.{State}
-use Rattle.nesl_infer_rules.specs.declared.table.Table.{Table}
-use Rattle.nesl_infer_rules.specs.Steps.{Agrees, count, count_of, IsSolution, HoldsIn}
+use Rattle.nesl_infer_rules.specs.Steps.{Agrees, count, IsSolution}
 
 pub substitute-below : (n : ℕ) (s z : ℕ → Term) (t : Term) → Agrees n s z → IsBelow n t → substitute s t ≡ substitute z t
 substitute-below n s z int a b = refl
@@ -36,17 +35,18 @@ below-weaker m n (pair_of t u) l b = (below-weaker m n t l b.0, below-weaker m n
 below-weaker m n (named k) l b = tt
 
 -- a solution may change beyond the variables of its state
-agrees_in : (o : Option Table) (s z : ℕ → Term) (of : ℕ → Class) → Agrees (count_of o) s z → HoldsIn s of o → HoldsIn z of o
-agrees_in None s z of a h = h
-agrees_in (Some t) s z of a h = record {
-  equal = holds_below t.system s z t.made a h.equal;
-  within = λ k d l.
-      let e = get_or t.system.members.items k d in
-      subst (λ (u : Term). IsIn of e.class u) (a e.variable (t.made.members k d l)) (h.within k d l);
-}
-
 pub holds-agrees : (state : State) (s z : ℕ → Term) (of : ℕ → Class) → Agrees (count state) s z → IsSolution s of state → IsSolution z of state
-holds-agrees state s z of a h = agrees_in state.table s z of a h
+holds-agrees state s z of a h =
+    let made = state.made h.whole in
+    record {
+      whole = h.whole;
+      solves = record {
+        equal = holds_below state.system s z made a h.solves.equal;
+        within = λ k d l.
+            let e = get_or state.system.members.items k d in
+            subst (λ (u : Term). IsIn of e.class u) (a e.variable (made.members k d l)) (h.solves.within k d l);
+      };
+    }
 
 pub Agrees-trans : (m n : ℕ) (s z y : ℕ → Term) → m ≤ n → Agrees m s z → Agrees n z y → Agrees m s y
 Agrees-trans m n s z y l a b = λ v h. a v h ∙ b v (omega arith)

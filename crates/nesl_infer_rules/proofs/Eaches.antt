@@ -47,23 +47,24 @@ abbrev pub ElementsOf : State → State → ((ℕ → Term) → TypedNames) → 
 ElementsOf A B N S bs vs = Gives A B (λ s. map s vs) (λ s of is. HaveElements (bounded (N s) of) (S s) bs is)
 
 -- one sequence more
-pub arm_value : {A B B1 B2 B3 C : State} (N : (ℕ → Term) → TypedNames) (S : (ℕ → Term) → LocalTypes) → IsFixed (count A) N S → (bs : Binders) (p : PatternTree) (e : Tree) (vs : List ℕ) (i q : ℕ) →
-    ElementsOf A B N S bs vs → AnyTerm B B1 i → AnyTerm B1 B2 q → Adds B2 B3 (λ s of. s q ≡ seq_of (s i)) → Types B3 C N S e q → ElementsOf A C N S (with_last_binder bs p e) (vs ++ i ∷ [])
-arm_value {A = A} N S f bs p e vs i q p1 p2 p3 p4 p5 =
-    let q2 = gives_then (λ s of is. HaveElements (bounded (N s) of) (S s) bs is) (λ x s of t. nodes t ≤ 4096) p1 p2 (λ x s z of y g h. h) in
+pub arm_value : {A B B1 B2 C : State} (N : (ℕ → Term) → TypedNames) (S : (ℕ → Term) → LocalTypes) → IsFixed (count A) N S → (bs : Binders) (p : PatternTree) (e : Tree) (vs : List ℕ) (i q : ℕ) →
+    ElementsOf A B N S bs vs → Gives B B1 (λ s. s q) (λ s of t. HasType (bounded (N s) of) (S s) e t) → AnyTerm B1 B2 i → Adds B2 C (λ s of. s q ≡ seq_of (s i)) →
+    ElementsOf A C N S (with_last_binder bs p e) (vs ++ i ∷ [])
+arm_value {A = A} N S f bs p e vs i q p1 p2 p3 p4 =
+    let q2 = gives_then (λ s of is. HaveElements (bounded (N s) of) (S s) bs is) (λ x s of t. HasType (bounded (N s) of) (S s) e t) p1 p2
+    (λ x s z of y g h. typed-moves (count A) N S f e s z of y g h) in
     let q3 = gives_then _ (λ x s of t. nodes t ≤ 4096) q2 p3 (λ x s z of y g h. h) in
-    let q4 = gives_then _ (λ x s of y. x.1 ≡ seq_of x.0.1) q3 p4 (λ x s z of y g h. h) in
-    let q5 = gives_then _ (λ x s of y. HasType (bounded (N s) of) (S s) e x.0.1) q4 p5 (λ x s z of y g h. typed-moves (count A) N S f e s z of x.0.1 g h) in
-    gives_as (λ s. map s (vs ++ i ∷ [])) _ (λ s of is. HaveElements (bounded (N s) of) (S s) (with_last_binder bs p e) is) q5
-    (λ s z a. map-push s vs i ∙ ap (λ x. x.0.0.0.0 ++ x.0.0.0.1 ∷ []) (q5.fixed s z a) ∙ sym (map-push z vs i))
+    let q4 = gives_and _ (λ x s of. x.0.1 ≡ seq_of x.1) q3 p4 (λ x s z of g h. h) in
+    gives_as (λ s. map s (vs ++ i ∷ [])) _ (λ s of is. HaveElements (bounded (N s) of) (S s) (with_last_binder bs p e) is) q4
+    (λ s z a. map-push s vs i ∙ ap (λ x. x.0.0 ++ x.1 ∷ []) (q4.fixed s z a) ∙ sym (map-push z vs i))
     (λ s of b h. subst (λ (is : List Term). HaveElements (bounded (N s) of) (S s) (with_last_binder bs p e) is) (sym (map-push s vs i))
-    (elements-push (bounded (N s) of) (S s) bs (map s vs) p e (s i) h.0.0.0.0 (subst (λ (t : Term). HasType (bounded (N s) of) (S s) e t) h.0.1 h.1)))
+    (elements-push (bounded (N s) of) (S s) bs (map s vs) p e (s i) h.0.0.0 (subst (λ (t : Term). HasType (bounded (N s) of) (S s) e t) h.1 h.0.0.1)))
     (λ s of all h.
     let k = elements-pop (bounded (N s) of) (S s) bs p e all h in
     let l = small (bounded (N s) of) (S s) e (seq_of k.i) 4096 k.typed in (
-      ((((k.is, k.i), seq_of k.i), tt), tt),
-      ((((k.before, omega arith), l), refl), k.typed),
-      λ z a e. map-push z vs i ∙ ap (λ x. x.0.0.0.0 ++ x.0.0.0.1 ∷ []) e ∙ sym k.whole,
+      ((k.is, seq_of k.i), k.i),
+      (((k.before, k.typed), omega arith), refl),
+      λ z a e. map-push z vs i ∙ ap (λ x. x.0.0 ++ x.1 ∷ []) e ∙ sym k.whole,
     ))
 
 abbrev pub DrawsOf : State → State → List Local → List Local → ((ℕ → Term) → TypedNames) → Binders → List ℕ → Type 0

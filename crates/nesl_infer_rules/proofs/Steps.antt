@@ -1,5 +1,5 @@
 -- Steps, one after another.
-use Rattle.std.proofs.Common.{◌≡◌, ◌+◌, ◌≤◌, ℕ, [], ◌∷◌, ◌++◌, length, refl, sym, ap, ◌∙◌, subst, arith, length-append}
+use Rattle.std.proofs.Common.{◌≡◌, ◌+◌, ◌≤◌, ℕ, true, [], ◌∷◌, ◌++◌, length, refl, sym, ap, ◌∙◌, subst, arith, length-append}
 use Rattle.std.specs.Prelude.{Some, ◌↔◌}
 use Rattle.std.proofs.lemmas.List.Elements.{All-push, All-pop}
 use Rattle.nesl_types.specs.declared.classes.Class.{Class}
@@ -12,8 +12,7 @@ use Rattle.nesl_unify.specs.declared.narrow.Member.{Member}
 use Rattle.nesl_unify.specs.Members.{IsInAll}
 use Rattle.nesl_unify.specs.Systems as system
 use Rattle.nesl_infer_rules.specs.declared.state.State.{State}
-use Rattle.nesl_infer_rules.specs.declared.table.Table.{Table}
-use Rattle.nesl_infer_rules.specs.Steps.{Agrees, count, count_of, IsSolution, HoldsIn, Gives, Adds}
+use Rattle.nesl_infer_rules.specs.Steps.{Agrees, count, IsSolution, Gives, Adds}
 use Rattle.nesl_infer_rules.proofs.Agreement.{holds-agrees, Agrees-trans, with_at, with_at-agrees, with_at-same, with_at-bounded}
 
 -- one step after another, where what the second says of x speaks of the variables of the first state alone
@@ -104,43 +103,39 @@ gives_and {X = X} {A = A} {r = r} P Q p h m =
     gives_as r _ (λ s of x. P s of x × Q x s of) q (λ s z a. ap (λ x. x.0) (q.fixed s z a)) (λ s of b k. k) (λ s of x k. ((x, tt), k, λ z a e. ap (λ x. x.0) e))
 
 -- one equation
-pub adds_equation : (A B : State) (a b : Table) → A.table ≡ Some a → B.table ≡ Some b → (Q : (ℕ → Term) → Type 0) →
-    b.system.members.items ≡ a.system.members.items → ((s : ℕ → Term) → system.IsSolvedBy b.system s ↔ (system.IsSolvedBy a.system s × Q s)) → Adds A B (λ s of. Q s)
-adds_equation A B a b i j Q m q =
-    let same : count B ≡ count A = ap count_of j ∙ ap length m ∙ sym (ap count_of i) in
+pub adds_equation : (A B : State) → A.is_whole ≡ true → B.is_whole ≡ true → (Q : (ℕ → Term) → Type 0) → B.system.members.items ≡ A.system.members.items →
+    ((s : ℕ → Term) → system.IsSolvedBy B.system s ↔ (system.IsSolvedBy A.system s × Q s)) → Adds A B (λ s of. Q s)
+adds_equation A B i j Q m q =
+    let same : count B ≡ count A = ap length m in
     record {
       more = omega arith;
       fixed = λ s z g. refl;
       sound = λ s of l h.
-          let k = subst (HoldsIn s of) j h in
-          let p = (q s).0 k.equal in
-          (subst (HoldsIn s of) (sym i) (record { equal = p.0; within = subst (IsInAll s of) m k.within }), p.1);
+          let p = (q s).0 h.solves.equal in
+          (record { whole = i; solves = record { equal = p.0; within = subst (IsInAll s of) m h.solves.within } }, p.1);
       complete = λ s of l h x c.
-          let k = subst (HoldsIn s of) i h in
-          (s, λ _ _. refl, subst (HoldsIn s of) (sym j) (record { equal = (q s).1 (k.equal, c); within = subst (IsInAll s of) (sym m) k.within }), l, refl);
+          (s, λ _ _. refl, record { whole = j; solves = record { equal = (q s).1 (h.solves.equal, c); within = subst (IsInAll s of) (sym m) h.solves.within } }, l, refl);
     }
 
 -- one variable, for some type of its class
-pub gives_fresh : (A B : State) (a b : Table) → A.table ≡ Some a → B.table ≡ Some b → (c : Class) (v : ℕ) → v ≡ system.count a.system →
-    b.system.members.items ≡ a.system.members.items ++ record { variable = v; class = c } ∷ [] → ((s : ℕ → Term) → system.IsSolvedBy b.system s ↔ system.IsSolvedBy a.system s) →
+pub gives_fresh : (A B : State) → A.is_whole ≡ true → B.is_whole ≡ true → (c : Class) (v : ℕ) → v ≡ count A →
+    B.system.members.items ≡ A.system.members.items ++ record { variable = v; class = c } ∷ [] → ((s : ℕ → Term) → system.IsSolvedBy B.system s ↔ system.IsSolvedBy A.system s) →
     Gives A B (λ s. s v) (λ s of u. IsIn of c u × (nodes u ≤ 4096))
-gives_fresh A B a b i j c v is m q =
+gives_fresh A B i j c v is m q =
     let fresh : Member = record { variable = v; class = c } in
-    let grown : count B ≡ count A + 1 = ap count_of j ∙ ap length m ∙ length-append a.system.members.items (fresh ∷ []) ∙ ap (λ (n : ℕ). n + 1) (sym (ap count_of i)) in
-    let here : v ≡ count A = is ∙ sym (ap count_of i) in
+    let grown : count B ≡ count A + 1 = ap length m ∙ length-append A.system.members.items (fresh ∷ []) in
     record {
       more = omega arith;
       fixed = λ s z g. g v (omega arith);
       sound = λ s of l h.
-          let k = subst (HoldsIn s of) j h in
-          let w = All-pop (λ (x : Member). IsIn of x.class (s x.variable)) b.system.members.items a.system.members.items (Some fresh) m k.within in
-          (subst (HoldsIn s of) (sym i) (record { equal = (q s).0 k.equal; within = w.0 }), (w.1, l v));
+          let w = All-pop (λ (x : Member). IsIn of x.class (s x.variable)) B.system.members.items A.system.members.items (Some fresh) m h.solves.within in
+          (record { whole = i; solves = record { equal = (q s).0 h.solves.equal; within = w.0 } }, (w.1, l v));
       complete = λ s of l h u e.
           let y = with_at s v u in
-          let g : Agrees (count A) s y = subst (λ (n : ℕ). Agrees n s y) here (with_at-agrees s v u) in
-          let k = subst (HoldsIn y of) i (holds-agrees A s y of g h) in
-          let all = All-push (λ (x : Member). IsIn of x.class (y x.variable)) a.system.members.items fresh k.within (subst (λ (t : Term). IsIn of c t) (sym (with_at-same s v u)) e.0) in
-          let on : IsSolution y of B = subst (HoldsIn y of) (sym j) (record { equal = (q y).1 k.equal; within = subst (IsInAll y of) (sym m) all }) in
+          let g : Agrees (count A) s y = subst (λ (n : ℕ). Agrees n s y) is (with_at-agrees s v u) in
+          let k = (holds-agrees A s y of g h).solves in
+          let all = All-push (λ (x : Member). IsIn of x.class (y x.variable)) A.system.members.items fresh k.within (subst (λ (t : Term). IsIn of c t) (sym (with_at-same s v u)) e.0) in
+          let on : IsSolution y of B = record { whole = j; solves = record { equal = (q y).1 k.equal; within = subst (IsInAll y of) (sym m) all } } in
           (y, g, on, with_at-bounded s v u l e.1, with_at-same s v u);
     }
 

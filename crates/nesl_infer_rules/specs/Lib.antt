@@ -6,4 +6,5 @@ pub mod Steps
 pub mod Instances
 pub mod Contexts
 pub mod Closed
+pub mod Outers
 pub mod Signatures

@@ -1,5 +1,5 @@
 -- Steps that add variables and equations.
-use Rattle.std.specs.Prelude.{◌≡◌, ◌<◌, ◌≤◌, ℕ, List, [], ◌∷◌, ◌++◌, Option, Some, None, All}
+use Rattle.std.specs.Prelude.{◌≡◌, ◌<◌, ◌≤◌, ℕ, true, List, [], ◌∷◌, ◌++◌, Option, Some, None, All}
 use Rattle.nesl_types.specs.declared.classes.Class.{Class}
 use Rattle.nesl_types.specs.declared.bindings.Top.{Top}
 use Rattle.nesl_types_bank.specs.Term.{Term}
@@ -7,7 +7,6 @@ use Rattle.nesl_unify.specs.Bounds.{IsBounded}
 use Rattle.nesl_unify.specs.Systems.{SolvesSystem}
 use Rattle.nesl_unify.specs.Systems as system
 use Rattle.nesl_infer_rules.specs.declared.state.State.{State}
-use Rattle.nesl_infer_rules.specs.declared.table.Table.{Table}
 use Rattle.nesl_infer_rules.specs.declared.state.Local.{Local}
 use Rattle.nesl_infer_rules.specs.declared.state.OwnName.{OwnName}
 use Rattle.nesl_infer_rules.specs.World.{Assumptions, OwnFunction, meanings_in}
@@ -22,20 +21,13 @@ abbrev pub Agrees : ℕ → (ℕ → Term) → (ℕ → Term) → Type 0
 Agrees n s z = (v : ℕ) → v < n → s v ≡ z v
 
 -- the variables are the numbers below this
-abbrev pub count_of : Option Table → ℕ
-count_of None = 0
-count_of (Some t) = system.count t.system
-
 abbrev pub count : State → ℕ
-count state = count_of state.table
+count state = system.count state.system
 
 -- s and `of` solve the equations and the classes; nothing does after want of memory
-abbrev pub HoldsIn : (ℕ → Term) → (ℕ → Class) → Option Table → Type 0
-HoldsIn s of None = ⊥
-HoldsIn s of (Some t) = SolvesSystem t.system s of
-
-abbrev pub IsSolution : (ℕ → Term) → (ℕ → Class) → State → Type 0
-IsSolution s of state = HoldsIn s of state.table
+pub record IsSolution (s : ℕ → Term) (of : ℕ → Class) (state : State) : Type 0 where
+  pub whole : state.is_whole ≡ true
+  pub solves : SolvesSystem state.system s of
 
 -- a step from one state to a later one: each solution of the later one solves the earlier one, and P holds of what is
 -- read of it;

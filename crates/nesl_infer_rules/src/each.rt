@@ -2,63 +2,49 @@
 
 ghost use Rattle.std.specs.Prelude.{◌≡◌, ◌<◌, ℕ, All, map, length, OnOk};
 ghost use Rattle.nesl_syntax_tree.specs.Views.{binders_in};
-ghost use Rattle.nesl_infer_rules.specs.Steps.{AddsNames, count, world_at, IsOwnBelow};
-ghost use Rattle.nesl_infer_rules.specs.Contexts.{AreClosed};
+ghost use Rattle.nesl_infer_rules.specs.Steps.{AddsNames, count, IsOwnBelow};
+ghost use Rattle.nesl_infer_rules.specs.Outers.{assumed_at};
 ghost use Rattle.nesl_infer_rules.specs.Typing.{PatternsAdd, BindersAdd};
 
+use crate::outer::Outer;
 use crate::pattern::constrain_pattern;
-use crate::state::{Key, Local, OwnName, State};
+use crate::state::{Key, Local, State};
 use nesl_syntax_tree::tree::Binding;
-use nesl_types::Context;
-use std::alloc::{AllocError, Global};
+use std::alloc::AllocError;
 
 /// Adds the names of the patterns, which take elements of the types of the variables apart.
 pub fn bind_patterns<P: Drop>(
-    alloc: Global,
     state: &mut State,
-    context: &Context<P>,
-    own: &Option<OwnName>,
+    outer: &Outer<'_, P>,
     locals: &mut Vec<Local>,
     bindings: &[Binding],
     items: &[u64],
 ) -> Result<(), AllocError>
     requires items { All (λ v. v < count state.old) items.now }
-    requires own { IsOwnBelow (count state.old) own.now }
-    requires closed { AreClosed context.now }
+    requires own { IsOwnBelow (count state.old) outer.now.own }
     requires len { length items.now ≡ length bindings.now }
     ensures { OnOk result (AddsNames state.old state.new locals.old.items locals.new.items
-        (λ s of ns. PatternsAdd (world_at context.now own.now s of) (binders_in bindings.now) (map s items.now) ns)) }
+        (λ s of ns. PatternsAdd (assumed_at outer.now s of) (binders_in bindings.now) (map s items.now) ns)) }
 {
     for place in 0..bindings.len() {
-        constrain_pattern(
-            alloc,
-            state,
-            context,
-            own,
-            locals,
-            &bindings[place].pattern,
-            items[place],
-        )?;
+        constrain_pattern(state, outer, locals, &bindings[place].pattern, items[place])?;
     }
     Ok(())
 }
 
 /// Adds the names that the binders of an apply-to-each add, over the first one's element.
 pub fn bind_items<P: Drop>(
-    alloc: Global,
     state: &mut State,
-    context: &Context<P>,
-    own: &Option<OwnName>,
+    outer: &Outer<'_, P>,
     locals: &mut Vec<Local>,
     bindings: &[Binding],
     items: &[u64],
 ) -> Result<(), AllocError>
     requires items { All (λ v. v < count state.old) items.now }
-    requires own { IsOwnBelow (count state.old) own.now }
-    requires closed { AreClosed context.now }
+    requires own { IsOwnBelow (count state.old) outer.now.own }
     requires len { length items.now ≡ length bindings.now }
     ensures { OnOk result (AddsNames state.old state.new locals.old.items locals.new.items
-        (λ s of ns. BindersAdd (world_at context.now own.now s of) (binders_in bindings.now) (map s items.now) ns)) }
+        (λ s of ns. BindersAdd (assumed_at outer.now s of) (binders_in bindings.now) (map s items.now) ns)) }
 {
     match items.first() {
         Some(first) => {
@@ -66,7 +52,7 @@ pub fn bind_items<P: Drop>(
                 key: Key::Element,
                 variable: *first,
             })?;
-            bind_patterns(alloc, state, context, own, locals, bindings, items)?;
+            bind_patterns(state, outer, locals, bindings, items)?;
             Ok(())
         }
         None => {

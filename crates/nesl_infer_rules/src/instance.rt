@@ -13,20 +13,16 @@ ghost use Rattle.nesl_builtins.specs.FunctionTypes.{function_type};
 use crate::state::State;
 use nesl_types::{Class, Kind, Part, Scheme};
 use nesl_unify::Flat;
-use std::alloc::{AllocError, Global};
+use std::alloc::AllocError;
 
 /// A variable for each class.
-pub fn instantiate(
-    state: &mut State,
-    alloc: Global,
-    classes: &[Class],
-) -> Result<Vec<u64>, AllocError>
+pub fn instantiate(state: &mut State, classes: &[Class]) -> Result<Vec<u64>, AllocError>
     ensures gives { IfOk result (λ vs. Gives state.old state.new (λ s. map s vs.items)
         (λ s of us. AreOf of classes.now us)) }
     ensures below { IfOk result (λ vs. All (λ v. v < count state.new) vs.items) }
     ensures len { IfOk result (λ vs. length vs.items ≡ length classes.now) }
 {
-    let mut fresh = Vec::new(alloc);
+    let mut fresh = Vec::new(state.alloc);
     for class in classes {
         let variable = state.fresh(*class)?;
         fresh.push(variable)?;
@@ -68,7 +64,6 @@ fn flat_of(fresh: &[u64], part: &Part<'_>) -> Option<Flat>
 /// nothing for a type whose parts are variables.
 pub fn equate_part(
     state: &mut State,
-    alloc: Global,
     variable: u64,
     fresh: &[u64],
     part: &Part<'_>,
@@ -85,7 +80,7 @@ pub fn equate_part(
             Ok(())
         }
         None => {
-            state.equate_instance(alloc, variable, fresh, part)?;
+            state.equate_instance(variable, fresh, part)?;
             Ok(())
         }
     }
@@ -95,7 +90,6 @@ pub fn equate_part(
 /// types are put in once a line.
 pub fn shared_instance(
     state: &mut State,
-    alloc: Global,
     name: &[u8],
     scheme: &Scheme,
     given: u64,
@@ -107,8 +101,8 @@ pub fn shared_instance(
         (λ s of. IsInstanceOf (function_type scheme.now) of (s given) (s target))) }
 {
     scheme.variables_have_classes();
-    let fresh = instantiate(state, alloc, scheme.classes.as_slice())?;
-    state.equate_shared(alloc, name, 0, given, fresh.as_slice(), &scheme.argument)?;
-    state.equate_shared(alloc, name, 1, target, fresh.as_slice(), &scheme.result)?;
+    let fresh = instantiate(state, scheme.classes.as_slice())?;
+    state.equate_shared(name, 0, given, fresh.as_slice(), &scheme.argument)?;
+    state.equate_shared(name, 1, target, fresh.as_slice(), &scheme.result)?;
     Ok(())
 }

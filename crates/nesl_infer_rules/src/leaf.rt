@@ -3,36 +3,34 @@
 ghost use Rattle.std.specs.Prelude.{◌≡◌, ◌<◌, ℕ, Option, Some, OnOk};
 ghost use Rattle.nesl_types_bank.specs.Term.{Term, seq_of};
 ghost use Rattle.nesl_syntax_tree.specs.Views.{type_tree};
-ghost use Rattle.nesl_infer_rules.specs.Steps.{count, Adds, scope_at, world_at, AreLocalsBelow};
-ghost use Rattle.nesl_infer_rules.specs.Contexts.{AreClosed};
+ghost use Rattle.nesl_infer_rules.specs.Steps.{count, Adds, scope_at, AreLocalsBelow};
+ghost use Rattle.nesl_infer_rules.specs.Outers.{assumed_at};
 ghost use Rattle.nesl_infer_rules.specs.Typing.{IsVariable, IsWritten, local_type, newest_type, is_element};
 ghost use Rattle.nesl_infer_names.specs.Names.{datatype_in};
 
 use crate::names::{look_up, look_up_element};
+use crate::outer::Outer;
 use crate::record::constrain_top_variable;
-use crate::state::{Local, OwnName, State};
+use crate::state::{Local, State};
 use crate::written::written_type;
 use nesl_syntax_tree::tree::TypeExp;
 use nesl_types::Context;
 use nesl_types_bank::Bank;
 use nesl_unify::Flat;
-use std::alloc::{AllocError, Global};
+use std::alloc::AllocError;
 
 /// Adds what makes `target` the type of a variable.
 pub fn constrain_variable<P: Drop>(
-    alloc: Global,
     state: &mut State,
-    context: &Context<P>,
-    own: &Option<OwnName>,
+    outer: &Outer<'_, P>,
     locals: &[Local],
     name: &[u8],
     target: u64,
 ) -> Result<(), AllocError>
     requires target { target < count state.old }
     requires locals { AreLocalsBelow (count state.old) locals.now }
-    requires closed { AreClosed context.now }
     ensures { OnOk result (Adds state.old state.new
-        (λ s of. IsVariable (world_at context.now own.now s of) name.now (local_type name.now (scope_at s locals.now))
+        (λ s of. IsVariable (assumed_at outer.now s of) name.now (local_type name.now (scope_at s locals.now))
         (s target))) }
 {
     match look_up(locals, name) {
@@ -41,7 +39,7 @@ pub fn constrain_variable<P: Drop>(
             Ok(())
         }
         None => {
-            constrain_top_variable(alloc, state, context, own, name, target)?;
+            constrain_top_variable(state, outer, name, target)?;
             Ok(())
         }
     }
@@ -68,7 +66,6 @@ pub fn constrain_element(state: &mut State, locals: &[Local], target: u64) -> Re
 
 /// Adds what makes `target` the sequences of the type that is written.
 pub fn constrain_empty<P: Drop>(
-    alloc: Global,
     state: &mut State,
     context: &Context<P>,
     written: &TypeExp,
@@ -78,13 +75,12 @@ pub fn constrain_empty<P: Drop>(
     ensures { OnOk result (Adds state.old state.new (λ s of. (u : Term)
         × IsWritten (datatype_in context.now) (type_tree written.now) u × (s target ≡ seq_of u))) }
 {
-    let mut bank = Bank::new(alloc);
-    constrain_empty_in(alloc, state, context, &mut bank, written, target)
+    let mut bank = Bank::new(state.alloc);
+    constrain_empty_in(state, context, &mut bank, written, target)
 }
 
 /// Adds that over a bank that is lent for the type.
 fn constrain_empty_in<P: Drop>(
-    alloc: Global,
     state: &mut State,
     context: &Context<P>,
     bank: &mut Bank,
@@ -102,7 +98,7 @@ fn constrain_empty_in<P: Drop>(
         Some(place) => {
             let item = state.add_any()?;
             let none: [u64; 0] = [];
-            state.equate_instance(alloc, item, &none, &bank.part(place))?;
+            state.equate_instance(item, &none, &bank.part(place))?;
             state.equate_sequence(target, item)?;
             Ok(())
         }

@@ -2,35 +2,32 @@
 
 ghost use Rattle.std.specs.Prelude.{◌≡◌, ◌<◌, ℕ, OnOk};
 ghost use Rattle.nesl_syntax_tree.specs.Views.{pattern_tree};
-ghost use Rattle.nesl_infer_rules.specs.Steps.{AddsNames, count, world_at, IsOwnBelow};
-ghost use Rattle.nesl_infer_rules.specs.Contexts.{AreClosed};
+ghost use Rattle.nesl_infer_rules.specs.Steps.{AddsNames, count, IsOwnBelow};
+ghost use Rattle.nesl_infer_rules.specs.Outers.{assumed_at};
 ghost use Rattle.nesl_infer_rules.specs.Typing.{PatternAdds};
 
+use crate::outer::Outer;
 use crate::record::constrain_record;
-use crate::state::{Key, Local, OwnName, State};
+use crate::state::{Key, Local, State};
 use nesl_syntax_tree::tree::{Pattern, PatternNode};
-use nesl_types::Context;
-use std::alloc::{AllocError, Global};
+use std::alloc::AllocError;
 
 /// Adds what makes `target` a type of the pattern, and the pattern's names.
 pub fn constrain_pattern<P: Drop>(
-    alloc: Global,
     state: &mut State,
-    context: &Context<P>,
-    own: &Option<OwnName>,
+    outer: &Outer<'_, P>,
     locals: &mut Vec<Local>,
     pattern: &Pattern,
     target: u64,
 ) -> Result<(), AllocError>
     requires target { target < count state.old }
-    requires own { IsOwnBelow (count state.old) own.now }
-    requires closed { AreClosed context.now }
+    requires own { IsOwnBelow (count state.old) outer.now.own }
     ensures { OnOk result (AddsNames state.old state.new locals.old.items locals.new.items
-        (λ s of ns. PatternAdds (world_at context.now own.now s of) (pattern_tree pattern.now) (s target) ns)) }
+        (λ s of ns. PatternAdds (assumed_at outer.now s of) (pattern_tree pattern.now) (s target) ns)) }
 {
     match &pattern.node {
         PatternNode::Name(name) => {
-            let name = Vec::from_slice(alloc, name.as_slice())?;
+            let name = Vec::from_slice(state.alloc, name.as_slice())?;
             locals.push(Local {
                 key: Key::Name(name),
                 variable: target,
@@ -43,15 +40,15 @@ pub fn constrain_pattern<P: Drop>(
         } => {
             let left = state.add_any()?;
             let right = state.add_any()?;
-            constrain_pattern(alloc, state, context, own, locals, first, left)?;
-            constrain_pattern(alloc, state, context, own, locals, second, right)?;
+            constrain_pattern(state, outer, locals, first, left)?;
+            constrain_pattern(state, outer, locals, second, right)?;
             state.equate_pair(target, left, right)?;
             Ok(())
         }
         PatternNode::Record { name, part: inner } => {
             let held = state.add_any()?;
-            constrain_record(alloc, state, context, name.as_slice(), target, held)?;
-            constrain_pattern(alloc, state, context, own, locals, inner, held)?;
+            constrain_record(state, outer, name.as_slice(), target, held)?;
+            constrain_pattern(state, outer, locals, inner, held)?;
             Ok(())
         }
     }

@@ -3,35 +3,34 @@
 ghost use Rattle.std.specs.Prelude.{◌≡◌, ◌<◌, ℕ, Option, Some, OnOk};
 ghost use Rattle.nesl_types_bank.specs.Term.{Term};
 ghost use Rattle.nesl_infer_rules.specs.Steps.{count, Adds, own_at};
-ghost use Rattle.nesl_infer_rules.specs.Contexts.{AreClosed};
+ghost use Rattle.nesl_infer_rules.specs.Outers.{meant_at};
 ghost use Rattle.nesl_infer_rules.specs.Typing.{IsRecord};
 ghost use Rattle.nesl_infer_names.specs.Names.{datatype_in, hides};
-ghost use Rattle.nesl_infer_rules.specs.World.{own_name, meanings_in};
+ghost use Rattle.nesl_infer_rules.specs.World.{own_name};
 
+use crate::outer::Outer;
 use crate::state::{OwnName, State};
-use nesl_types::{Context, Top};
+use nesl_types::Top;
 use nesl_unify::Flat;
-use std::alloc::{AllocError, Global};
+use std::alloc::AllocError;
 
 /// Adds what makes `target` the type of the name's records, and `held` the type that they hold.
 pub fn constrain_record<P: Drop>(
-    alloc: Global,
     state: &mut State,
-    context: &Context<P>,
+    outer: &Outer<'_, P>,
     name: &[u8],
     target: u64,
     held: u64,
 ) -> Result<(), AllocError>
     requires target { target < count state.old }
     requires held { held < count state.old }
-    requires closed { AreClosed context.now }
     ensures { OnOk result (Adds state.old state.new
-        (λ s of. IsRecord (datatype_in context.now) name.now (s target) (s held))) }
+        (λ s of. IsRecord (datatype_in outer.now.context.now) name.now (s target) (s held))) }
 {
-    match context.get(name) {
+    match outer.context.get(name) {
         Some((Top::Datatype(tag, ty), _)) => {
             state.equate_flat(target, Flat::Named(*tag))?;
-            state.equate_closed(alloc, name, held, ty)?;
+            state.equate_closed(name, held, ty)?;
             Ok(())
         }
         Some((Top::Variable(_), _)) => {
@@ -61,25 +60,22 @@ fn is_hidden(own: &Option<OwnName>, name: &[u8]) -> bool
 
 /// Adds what makes `target` the type of the top-level variable of the name.
 pub fn constrain_top_variable<P: Drop>(
-    alloc: Global,
     state: &mut State,
-    context: &Context<P>,
-    own: &Option<OwnName>,
+    outer: &Outer<'_, P>,
     name: &[u8],
     target: u64,
 ) -> Result<(), AllocError>
     requires target { target < count state.old }
-    requires closed { AreClosed context.now }
     ensures { OnOk result (Adds state.old state.new
-        (λ s of. (meanings_in context.now (own_at s own.now)).variables name.now ≡ Some (s target))) }
+        (λ s of. (meant_at outer.now s).variables name.now ≡ Some (s target))) }
 {
-    if is_hidden(own, name) {
+    if is_hidden(&outer.own, name) {
         state.add_contradiction()?;
         return Ok(());
     }
-    match context.get(name) {
+    match outer.context.get(name) {
         Some((Top::Variable(ty), _)) => {
-            state.equate_closed(alloc, name, target, ty)?;
+            state.equate_closed(name, target, ty)?;
             Ok(())
         }
         Some((Top::Function(_), _)) => {

@@ -19,11 +19,10 @@ use nesl_syntax_tree::tree as syntax;
 use nesl_syntax_tree::tree::{Member, Signature, TypeExp, TypeNode};
 use nesl_types::{Class, Context, Top};
 use nesl_unify::Flat;
-use std::alloc::{AllocError, Global};
+use std::alloc::AllocError;
 
 /// Adds a variable for each name of a written type.
 fn name_types(
-    alloc: Global,
     state: &mut State,
     names: &mut Vec<Local>,
     written: &TypeExp,
@@ -37,7 +36,7 @@ fn name_types(
         TypeNode::Char => Ok(()),
         TypeNode::Name { name, .. } => {
             let variable = state.add_any()?;
-            let name = Vec::from_slice(alloc, name.as_slice())?;
+            let name = Vec::from_slice(state.alloc, name.as_slice())?;
             names.push(Local {
                 key: Key::Name(name),
                 variable,
@@ -45,15 +44,15 @@ fn name_types(
             Ok(())
         }
         TypeNode::Sequence(item) => {
-            name_types(alloc, state, names, item)?;
+            name_types(state, names, item)?;
             Ok(())
         }
         TypeNode::Pair {
             left: first,
             right: second,
         } => {
-            name_types(alloc, state, names, first)?;
-            name_types(alloc, state, names, second)?;
+            name_types(state, names, first)?;
+            name_types(state, names, second)?;
             Ok(())
         }
     }
@@ -185,7 +184,6 @@ fn constrain_members<P: Drop>(
 
 /// Adds what a signature says of what a function takes and gives.
 fn constrain_signed<P: Drop>(
-    alloc: Global,
     state: &mut State,
     context: &Context<P>,
     signature: &Signature,
@@ -197,9 +195,9 @@ fn constrain_signed<P: Drop>(
     ensures { OnOk result (Adds state.old state.new (λ s of. (put : List ℕ → Term)
         × FitsSignature (datatype_in context.now) of (signature_tree signature.now) put (s takes) (s gives))) }
 {
-    let mut names = Vec::new(alloc);
-    name_types(alloc, state, &mut names, &signature.from)?;
-    name_types(alloc, state, &mut names, &signature.to)?;
+    let mut names = Vec::new(state.alloc);
+    name_types(state, &mut names, &signature.from)?;
+    name_types(state, &mut names, &signature.to)?;
     constrain_written(state, context, names.as_slice(), &signature.from, takes)?;
     constrain_written(state, context, names.as_slice(), &signature.to, gives)?;
     constrain_members(
@@ -213,7 +211,6 @@ fn constrain_signed<P: Drop>(
 
 /// Adds what a signature says, where there is one.
 pub fn constrain_signature<P: Drop>(
-    alloc: Global,
     state: &mut State,
     context: &Context<P>,
     signature: &Option<Signature>,
@@ -227,7 +224,7 @@ pub fn constrain_signature<P: Drop>(
 {
     match signature {
         Some(signature) => {
-            constrain_signed(alloc, state, context, signature, takes, gives)?;
+            constrain_signed(state, context, signature, takes, gives)?;
             Ok(())
         }
         None => Ok(()),

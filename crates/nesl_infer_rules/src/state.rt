@@ -1,27 +1,26 @@
 //! The equations and the variables so far.
 
-ghost use Rattle.std.specs.Prelude.{◌≡◌, ◌<◌, ◌≤◌, ℕ, Some, All, length, map, IfOk, OnOk, IsErrOf};
-ghost use Rattle.nesl_types.specs.declared.classes.Class.{Class};
-ghost use Rattle.nesl_types_bank.specs.Term.{Term, nodes, pair_of, seq_of};
-ghost use Rattle.nesl_types_bank.specs.Numbering.{IsBelow};
-ghost use Rattle.nesl_types.specs.Class.{IsIn};
-ghost use Rattle.nesl_types_bank.specs.Substitution.{substitute};
-ghost use Rattle.nesl_unify.specs.Bounds.{IsBounded};
-ghost use Rattle.nesl_unify.specs.Flat.{flat_type};
-ghost use Rattle.nesl_unify.specs.Solves.{IsInstance, type_of, class_of};
-ghost use Rattle.nesl_infer_rules.specs.Steps.{count, IsSolution, Gives, Adds};
-ghost use Rattle.nesl_infer_rules.specs.Instances.{type_in};
+ghost use Rattle.std.specs.Prelude.{◌≡◌, true};
+ghost use Rattle.nesl_unify.specs.Systems.{IsSystem};
+ghost use Rattle.nesl_infer_rules.specs.Facts.{facts};
 
-use crate::table::Table;
+use crate::numbers::number_of;
 use nesl_types::{Class, Part, Ty};
 use nesl_unify::solve::Solution;
-use nesl_unify::{Flat, SolveFault};
+use nesl_unify::{Flat, SolveFault, System};
 use std::alloc::{AllocError, Global};
+use std::collections::BTreeMap;
 
-/// The equations, and the class of each variable: none any more after want of memory.
+/// The equations, the class of each variable, and a number for each top-level name whose types were used.
 #[derive(Drop)]
 pub struct State {
-    pub table: Option<Table>,
+    /// What makes the lists of a line.
+    pub alloc: Global,
+    pub system: System,
+    numbers: BTreeMap<Vec<u8>, usize>,
+    /// Whether all equations are there: after want of memory they aren't, and nothing more is added.
+    pub is_whole: bool,
+    pub ghost made: { is_whole ≡ true → IsSystem system } by { Prim.hlevel facts },
 }
 
 /// What has a local type.
@@ -48,21 +47,28 @@ pub struct OwnName {
 }
 
 impl State {
+    ghost use Rattle.std.specs.Prelude.{◌≡◌, ◌<◌, ◌≤◌, ℕ, All, length, map, IfOk, OnOk, IsErrOf};
+    ghost use Rattle.nesl_types.specs.declared.classes.Class.{Class};
+    ghost use Rattle.nesl_types_bank.specs.Term.{Term, nodes, pair_of, seq_of};
+    ghost use Rattle.nesl_types_bank.specs.Numbering.{IsBelow};
+    ghost use Rattle.nesl_types.specs.Class.{IsIn};
+    ghost use Rattle.nesl_types_bank.specs.Substitution.{substitute};
+    ghost use Rattle.nesl_unify.specs.Bounds.{IsBounded};
+    ghost use Rattle.nesl_unify.specs.Flat.{flat_type};
+    ghost use Rattle.nesl_unify.specs.Solves.{IsInstance, type_of, class_of};
+    ghost use Rattle.nesl_infer_rules.specs.Steps.{count, IsSolution, Gives, Adds};
+    ghost use Rattle.nesl_infer_rules.specs.Instances.{type_in};
+
     /// No equations, and no variables.
     pub fn new(alloc: Global) -> State
         ensures { (s : ℕ → Term) → (of : ℕ → Class) → IsSolution s of result }
     {
         State {
-            table: Some(Table::new(alloc)),
+            alloc,
+            system: System::new(alloc),
+            numbers: BTreeMap::new(alloc),
+            is_whole: true,
         }
-    }
-
-    /// Puts a table in.
-    #[inline(always)]
-    fn put(&mut self, table: Table)
-        ensures { self.new.table ≡ Some table }
-    {
-        self.table = Some(table);
     }
 
     /// A variable that nothing speaks of yet.
@@ -71,14 +77,13 @@ impl State {
             × (nodes u ≤ 4096))) }
         ensures below { IfOk result (λ v. v < count self.new) }
     {
-        match self.table.take() {
-            Some(table) => {
-                let (table, variable) = table.fresh(class)?;
-                self.put(table);
-                Ok(variable)
-            }
-            None => Err(AllocError),
+        if !self.is_whole {
+            return Err(AllocError);
         }
+        self.is_whole = false;
+        let variable = self.system.fresh(class)?;
+        self.is_whole = true;
+        Ok(variable)
     }
 
     /// A variable for any type.
@@ -107,14 +112,13 @@ impl State {
         requires flat { IsBelow (count self.old) (flat_type flat) }
         ensures { OnOk result (Adds self.old self.new (λ s of. s variable ≡ substitute s (flat_type flat))) }
     {
-        match self.table.take() {
-            Some(table) => {
-                let table = table.equate_flat(variable, flat)?;
-                self.put(table);
-                Ok(())
-            }
-            None => Err(AllocError),
+        if !self.is_whole {
+            return Err(AllocError);
         }
+        self.is_whole = false;
+        self.system.equate_flat(variable, flat)?;
+        self.is_whole = true;
+        Ok(())
     }
 
     /// What never holds: a type that is two.
@@ -130,7 +134,6 @@ impl State {
     /// The variable stands for a type with what the fresh variables stand for in place of its variables.
     pub fn equate_instance(
         &mut self,
-        alloc: Global,
         variable: u64,
         fresh: &[u64],
         part: &Part<'_>,
@@ -141,21 +144,20 @@ impl State {
         ensures { OnOk result (Adds self.old self.new (λ s of. s variable
             ≡ substitute (type_in (map s fresh.now)) part.now)) }
     {
-        match self.table.take() {
-            Some(table) => {
-                let table = table.equate_instance(alloc, variable, fresh, part)?;
-                self.put(table);
-                Ok(())
-            }
-            None => Err(AllocError),
+        if !self.is_whole {
+            return Err(AllocError);
         }
+        self.is_whole = false;
+        self.system
+            .equate_instance(self.alloc, variable, fresh, part)?;
+        self.is_whole = true;
+        Ok(())
     }
 
     /// The variable stands for a type of a top-level name with what the fresh variables stand for in place of its
     /// variables. The type is put in once a line; `part` tells the types of one name apart.
     pub fn equate_shared(
         &mut self,
-        alloc: Global,
         name: &[u8],
         part: usize,
         variable: u64,
@@ -168,30 +170,25 @@ impl State {
         ensures { OnOk result (Adds self.old self.new (λ s of. s variable
             ≡ substitute (type_in (map s fresh.now)) ty.now)) }
     {
-        match self.table.take() {
-            Some(table) => {
-                let table = table.equate_shared(alloc, name, part, variable, fresh, ty)?;
-                self.put(table);
-                Ok(())
-            }
-            None => Err(AllocError),
+        if !self.is_whole {
+            return Err(AllocError);
         }
+        let number = number_of(self.alloc, &mut self.numbers, name, part)?;
+        self.is_whole = false;
+        self.system
+            .equate_noted_instance(self.alloc, variable, fresh, &ty.whole(), number)?;
+        self.is_whole = true;
+        Ok(())
     }
 
     /// The same for a type without variables.
-    pub fn equate_closed(
-        &mut self,
-        alloc: Global,
-        name: &[u8],
-        variable: u64,
-        ty: &Ty,
-    ) -> Result<(), AllocError>
+    pub fn equate_closed(&mut self, name: &[u8], variable: u64, ty: &Ty) -> Result<(), AllocError>
         requires variable { variable < count self.old }
         requires ty { IsBelow 0 ty.now }
         ensures { OnOk result (Adds self.old self.new (λ s of. s variable ≡ ty.now)) }
     {
         let none: [u64; 0] = [];
-        self.equate_shared(alloc, name, 0, variable, &none, ty)?;
+        self.equate_shared(name, 0, variable, &none, ty)?;
         Ok(())
     }
 
@@ -217,7 +214,7 @@ impl State {
     }
 
     /// A most general solution of the equations in which each variable has a type of its class.
-    pub fn solve(self, alloc: Global) -> Result<Solution, SolveFault>
+    pub fn solve(self) -> Result<Solution, SolveFault>
         ensures solves { IfOk result (λ a. IsSolution (type_of a) (class_of a) self) }
         ensures general { IfOk result (λ a. (s : ℕ → Term) → (of : ℕ → Class) → IsSolution s of self
             → IsInstance (type_of a) (class_of a) s of) }
@@ -225,10 +222,15 @@ impl State {
         ensures none { IsErrOf result SolveFault.NoSolution → (s : ℕ → Term) → (of : ℕ → Class) → IsBounded s
             → IsSolution s of self → ⊥ }
     {
-        let State { table } = self;
-        match table {
-            Some(table) => table.solve(alloc),
-            None => Err(SolveFault::Memory),
+        let State {
+            alloc,
+            system,
+            is_whole,
+            ..
+        } = self;
+        if !is_whole {
+            return Err(SolveFault::Memory);
         }
+        system.solve(alloc)
     }
 }

@@ -21,17 +21,19 @@ use Rattle.nesl_infer_rules.proofs.Places.{fixed}
 use Rattle.nesl_infer_rules.proofs.Arms.{AllType, Types, infix_pair, arm_more, arm_sequence, retyped}
 use Rattle.nesl_infer.proofs.Shapes.{sequence_shape, let_shape, each_shape, filtered_shape, take-trees}
 use Rattle.nesl_unify.specs.Flat.{flat_type}
-use Rattle.nesl_infer.proofs.Parts.{typed, part_as, exactly_as, bounds_as, arm_part, arm_exactly, arm_bounds, arm_pair, arm_infix, arm_prefix, arm_call, arm_index, arm_choice, arm_range, arm_strided_range, arm_binders, arm_let, arm_each, arm_filtered_each}
+use Rattle.nesl_infer.proofs.Sizes.{filtered_falls, deepest_binding}
+use Rattle.nesl_infer.proofs.Parts.{typed, part_local, part_as, exactly_as, bounds_as, arm_part, arm_exactly, arm_bounds, arm_pair, arm_infix, arm_prefix, arm_call, arm_index, arm_choice, arm_range, arm_strided_range, arm_binders, arm_let, arm_each, arm_filtered_items, arm_filtered_each}
 use Rattle.nesl_infer_rules.proofs.Applied.{Applies}
 use Rattle.nesl_infer_rules.proofs.Patterns.{NamesOf, added_below, locals-weaker}
 use Rattle.nesl_infer_rules.proofs.Lets.{BindsOf, arm_binding, no_bindings, take-binders}
 use Rattle.nesl_infer_rules.proofs.Eaches.{ElementsOf, DrawsOf, no_elements, arm_value}
+use Rattle.nesl_syntax_tree.proofs.tree.Exp.TheLaws as exp
 use Rattle.nesl_infer.proofs.constrain.+constrain.Goals as goal
 
 pub constrain_items-loop-item-preserved : goal.constrain_items-loop-item-preserved
 constrain_items-loop-item-preserved g t c = record {
   adds =
-      let N : (ℕ → Term) → TypedNames = λ s. meanings_in c.args.context.now (own_at s c.args.own.now) in
+      let N : (ℕ → Term) → TypedNames = λ s. meanings_in c.args.outer.now.context.now (own_at s c.args.outer.now.own) in
       let ls = c.args.locals.now.items in
       let S : (ℕ → Term) → LocalTypes = λ s. scope_at s ls in
       let n = count c.args.state.now in
@@ -40,25 +42,25 @@ constrain_items-loop-item-preserved g t c = record {
       let es = c.args.items.now in
       let one = retyped N ls c.loop-item.locals.items e e c.args.target c.loop-item.invariant.locals (λ i. e) c.in_ok-constrain.ensures.adds in
       subst (λ (ts : Trees). AllType c.args.state.now c.constrain.new.state N S ts c.args.target) (sym (take-trees es i e c.loop-item-test.true c.item-item.is))
-      (arm_more N S (fixed c.args.context.now n c.args.own.now ls c.requires.own c.requires.locals) c.args.target c.requires.target (trees_in (take i es)) (tree_of e) c.loop-item.invariant.adds one);
+      (arm_more N S (fixed c.args.outer.now.context.now n c.args.outer.now.own ls c.requires.own c.requires.locals) c.args.target c.requires.target (trees_in (take i es)) (tree_of e) c.loop-item.invariant.adds one);
   locals = c.in_ok-constrain.ensures.locals ∙ c.loop-item.invariant.locals;
 }
 
 pub constrain_items-returns-clause-adds : goal.constrain_items-returns-clause-adds
 constrain_items-returns-clause-adds g t c =
-    let N : (ℕ → Term) → TypedNames = λ s. meanings_in c.args.context.now (own_at s c.args.own.now) in
+    let N : (ℕ → Term) → TypedNames = λ s. meanings_in c.args.outer.now.context.now (own_at s c.args.outer.now.own) in
     let S : (ℕ → Term) → LocalTypes = λ s. scope_at s c.args.locals.now.items in
     let all : take c.loop-item.item-index c.args.items.now ≡ c.args.items.now = grind (arith, common_steps) in
     subst (λ (es : List Exp). AllType c.args.state.now c.loop-item.state N S (trees_in es) c.args.target) all c.loop-item.invariant.adds
 
 pub constrain_bindings-loop-binding-init : goal.constrain_bindings-loop-binding-init
 constrain_bindings-loop-binding-init g t c =
-    let N : (ℕ → Term) → TypedNames = λ s. meanings_in c.args.context.now (own_at s c.args.own.now) in
+    let N : (ℕ → Term) → TypedNames = λ s. meanings_in c.args.outer.now.context.now (own_at s c.args.outer.now.own) in
     no_bindings N c.args.locals.now.items
 
 pub constrain_bindings-loop-binding-preserved : goal.constrain_bindings-loop-binding-preserved
 constrain_bindings-loop-binding-preserved g t c =
-    let N : (ℕ → Term) → TypedNames = λ s. meanings_in c.args.context.now (own_at s c.args.own.now) in
+    let N : (ℕ → Term) → TypedNames = λ s. meanings_in c.args.outer.now.context.now (own_at s c.args.outer.now.own) in
     let ls = c.args.locals.now.items in
     let i = c.loop-binding.binding-index in
     let b = c.binding-item.result in
@@ -67,19 +69,19 @@ constrain_bindings-loop-binding-preserved g t c =
     let ms = c.loop-binding.locals.items in
     let os = c.constrain_pattern.new.locals.items in
     subst (λ (k : Binders). BindsOf c.args.state.now c.constrain_pattern.new.state ls os N k) (sym (take-binders bs i b c.loop-binding-test.true c.binding-item.is))
-    (arm_binding N ls ms os (fixed c.args.context.now (count c.args.state.now) c.args.own.now ls c.requires.own c.requires.locals) (binders_in (take i bs)) (pattern_tree b.pattern) (tree_of b.value) u
+    (arm_binding N ls ms os (fixed c.args.outer.now.context.now (count c.args.state.now) c.args.outer.now.own ls c.requires.own c.requires.locals) (binders_in (take i bs)) (pattern_tree b.pattern) (tree_of b.value) u
     c.loop-binding.invariant c.in_ok-bound.ensures.gives c.in_ok-constrain.ensures.adds
     (subst (λ (k : List Local). NamesOf c.constrain.new.state c.constrain_pattern.new.state k os N (pattern_tree b.pattern) u) c.in_ok-constrain.ensures.locals c.in_ok-constrain_pattern.ensures))
 
 pub constrain_bindings-returns : goal.constrain_bindings-returns
 constrain_bindings-returns g t c =
-    let N : (ℕ → Term) → TypedNames = λ s. meanings_in c.args.context.now (own_at s c.args.own.now) in
+    let N : (ℕ → Term) → TypedNames = λ s. meanings_in c.args.outer.now.context.now (own_at s c.args.outer.now.own) in
     let all : take c.loop-binding.binding-index c.args.bindings.now ≡ c.args.bindings.now = grind (arith, common_steps) in
     subst (λ (bs : List Binding). BindsOf c.args.state.now c.loop-binding.state c.args.locals.now.items c.loop-binding.locals.items N (binders_in bs)) all c.loop-binding.invariant
 
 pub constrain_values-loop-binding-init : goal.constrain_values-loop-binding-init
 constrain_values-loop-binding-init g t c =
-    let N : (ℕ → Term) → TypedNames = λ s. meanings_in c.args.context.now (own_at s c.args.own.now) in
+    let N : (ℕ → Term) → TypedNames = λ s. meanings_in c.args.outer.now.context.now (own_at s c.args.outer.now.own) in
     let S : (ℕ → Term) → LocalTypes = λ s. scope_at s c.args.locals.now.items in
     let s1 = c.args.state.now in
     let none = sym c.new-items.ensures.items in
@@ -92,7 +94,7 @@ constrain_values-loop-binding-init g t c =
 
 pub constrain_values-loop-binding-preserved : goal.constrain_values-loop-binding-preserved
 constrain_values-loop-binding-preserved g t c =
-    let N : (ℕ → Term) → TypedNames = λ s. meanings_in c.args.context.now (own_at s c.args.own.now) in
+    let N : (ℕ → Term) → TypedNames = λ s. meanings_in c.args.outer.now.context.now (own_at s c.args.outer.now.own) in
     let ls = c.args.locals.now.items in
     let S : (ℕ → Term) → LocalTypes = λ s. scope_at s ls in
     let h = c.loop-binding.invariant in
@@ -101,33 +103,31 @@ constrain_values-loop-binding-preserved g t c =
     let bs = c.args.bindings.now in
     let v = c.in_ok-item.item in
     let q = c.in_ok-sequence.sequence in
-    let n = count c.constrain.new.state in
-    let a1 = c.in_ok-item.ensures.gives.more in
-    let a2 = c.in_ok-sequence.ensures.gives.more in
+    let n = count c.equate_sequence.new.self in
+    let a1 = c.in_ok-sequence.ensures.gives.more in
+    let a2 = c.in_ok-item.ensures.gives.more in
     let a3 = c.in_ok-equate_sequence.ensures.more in
-    let a4 = c.in_ok-constrain.ensures.adds.more in
-    let step = arm_value N S (fixed c.args.context.now (count c.args.state.now) c.args.own.now ls c.requires.own c.requires.locals) (binders_in (take i bs)) (pattern_tree b.pattern) (tree_of b.value) c.loop-binding.items.items v q
-    h.gives c.in_ok-item.ensures.gives c.in_ok-sequence.ensures.gives c.in_ok-equate_sequence.ensures
-    (retyped N ls c.loop-binding.locals.items b.value b.value q h.locals (λ i. b.value) c.in_ok-constrain.ensures.adds) in
+    let step = arm_value N S (fixed c.args.outer.now.context.now (count c.args.state.now) c.args.outer.now.own ls c.requires.own c.requires.locals) (binders_in (take i bs)) (pattern_tree b.pattern) (tree_of b.value) c.loop-binding.items.items v q
+    h.gives (part_as N ls c.loop-binding.locals.items b.value b.value q h.locals (λ i. b.value) c.in_ok-sequence.ensures.gives) c.in_ok-item.ensures.gives c.in_ok-equate_sequence.ensures in
     record {
-      gives = subst (λ (vs : List ℕ). ElementsOf c.args.state.now c.constrain.new.state N S (binders_in (take (i + 1) bs)) vs) (sym c.in_ok-push.ensures.items)
-          (subst (λ (k : Binders). ElementsOf c.args.state.now c.constrain.new.state N S k (c.loop-binding.items.items ++ v ∷ [])) (sym (take-binders bs i b c.loop-binding-test.true c.binding-item.is)) step);
+      gives = subst (λ (vs : List ℕ). ElementsOf c.args.state.now c.equate_sequence.new.self N S (binders_in (take (i + 1) bs)) vs) (sym c.in_ok-push.ensures.items)
+          (subst (λ (k : Binders). ElementsOf c.args.state.now c.equate_sequence.new.self N S k (c.loop-binding.items.items ++ v ∷ [])) (sym (take-binders bs i b c.loop-binding-test.true c.binding-item.is)) step);
       below = subst (λ (vs : List ℕ). All (λ (w : ℕ). w < n) vs) (sym c.in_ok-push.ensures.items)
           (All-push (λ (w : ℕ). w < n) c.loop-binding.items.items v (All-weaker (λ (w : ℕ). w < count c.loop-binding.state) (λ (w : ℕ). w < n) (λ w k. omega arith) c.loop-binding.items.items h.below) (let l = c.in_ok-item.ensures.below in omega arith));
       len = ap length c.in_ok-push.ensures.items ∙ length-append c.loop-binding.items.items (v ∷ []) ∙ ap (λ (k : ℕ). k + 1) h.len;
-      locals = c.in_ok-constrain.ensures.locals ∙ h.locals;
+      locals = c.in_ok-sequence.ensures.locals ∙ h.locals;
     }
 
 pub constrain_values-returns-clause-gives : goal.constrain_values-returns-clause-gives
 constrain_values-returns-clause-gives g t c =
-    let N : (ℕ → Term) → TypedNames = λ s. meanings_in c.args.context.now (own_at s c.args.own.now) in
+    let N : (ℕ → Term) → TypedNames = λ s. meanings_in c.args.outer.now.context.now (own_at s c.args.outer.now.own) in
     let S : (ℕ → Term) → LocalTypes = λ s. scope_at s c.args.locals.now.items in
     let all : take c.loop-binding.binding-index c.args.bindings.now ≡ c.args.bindings.now = grind (arith, common_steps) in
     subst (λ (bs : List Binding). ElementsOf c.args.state.now c.loop-binding.state N S (binders_in bs) c.loop-binding.items.items) all c.loop-binding.invariant.gives
 
 pub constrain-returns-in-Number-clause-adds : goal.constrain-returns-in-Number-clause-adds
 constrain-returns-in-Number-clause-adds g t c =
-    let N : (ℕ → Term) → TypedNames = λ s. meanings_in c.args.context.now (own_at s c.args.own.now) in
+    let N : (ℕ → Term) → TypedNames = λ s. meanings_in c.args.outer.now.context.now (own_at s c.args.outer.now.own) in
     let ls = c.args.locals.now.items in
     let S : (ℕ → Term) → LocalTypes = λ s. scope_at s ls in
     let v = c.args.target in
@@ -137,7 +137,7 @@ constrain-returns-in-Number-clause-adds g t c =
 
 pub constrain-returns-in-Truth-clause-adds : goal.constrain-returns-in-Truth-clause-adds
 constrain-returns-in-Truth-clause-adds g t c =
-    let N : (ℕ → Term) → TypedNames = λ s. meanings_in c.args.context.now (own_at s c.args.own.now) in
+    let N : (ℕ → Term) → TypedNames = λ s. meanings_in c.args.outer.now.context.now (own_at s c.args.outer.now.own) in
     let ls = c.args.locals.now.items in
     let S : (ℕ → Term) → LocalTypes = λ s. scope_at s ls in
     let v = c.args.target in
@@ -147,7 +147,7 @@ constrain-returns-in-Truth-clause-adds g t c =
 
 pub constrain-returns-in-Character-clause-adds : goal.constrain-returns-in-Character-clause-adds
 constrain-returns-in-Character-clause-adds g t c =
-    let N : (ℕ → Term) → TypedNames = λ s. meanings_in c.args.context.now (own_at s c.args.own.now) in
+    let N : (ℕ → Term) → TypedNames = λ s. meanings_in c.args.outer.now.context.now (own_at s c.args.outer.now.own) in
     let ls = c.args.locals.now.items in
     let S : (ℕ → Term) → LocalTypes = λ s. scope_at s ls in
     let v = c.args.target in
@@ -157,7 +157,7 @@ constrain-returns-in-Character-clause-adds g t c =
 
 pub constrain-returns-in-Text-clause-adds : goal.constrain-returns-in-Text-clause-adds
 constrain-returns-in-Text-clause-adds g t c =
-    let N : (ℕ → Term) → TypedNames = λ s. meanings_in c.args.context.now (own_at s c.args.own.now) in
+    let N : (ℕ → Term) → TypedNames = λ s. meanings_in c.args.outer.now.context.now (own_at s c.args.outer.now.own) in
     let ls = c.args.locals.now.items in
     let S : (ℕ → Term) → LocalTypes = λ s. scope_at s ls in
     let v = c.args.target in
@@ -167,7 +167,7 @@ constrain-returns-in-Text-clause-adds g t c =
 
 pub constrain-returns-in-Variable-clause-adds : goal.constrain-returns-in-Variable-clause-adds
 constrain-returns-in-Variable-clause-adds g t c =
-    let N : (ℕ → Term) → TypedNames = λ s. meanings_in c.args.context.now (own_at s c.args.own.now) in
+    let N : (ℕ → Term) → TypedNames = λ s. meanings_in c.args.outer.now.context.now (own_at s c.args.outer.now.own) in
     let ls = c.args.locals.now.items in
     let S : (ℕ → Term) → LocalTypes = λ s. scope_at s ls in
     let v = c.args.target in
@@ -178,7 +178,7 @@ constrain-returns-in-Variable-clause-adds g t c =
 
 pub constrain-returns-in-Element-clause-adds : goal.constrain-returns-in-Element-clause-adds
 constrain-returns-in-Element-clause-adds g t c =
-    let N : (ℕ → Term) → TypedNames = λ s. meanings_in c.args.context.now (own_at s c.args.own.now) in
+    let N : (ℕ → Term) → TypedNames = λ s. meanings_in c.args.outer.now.context.now (own_at s c.args.outer.now.own) in
     let ls = c.args.locals.now.items in
     let S : (ℕ → Term) → LocalTypes = λ s. scope_at s ls in
     let v = c.args.target in
@@ -188,7 +188,7 @@ constrain-returns-in-Element-clause-adds g t c =
 
 pub constrain-returns-in-Empty-clause-adds : goal.constrain-returns-in-Empty-clause-adds
 constrain-returns-in-Empty-clause-adds g t c =
-    let N : (ℕ → Term) → TypedNames = λ s. meanings_in c.args.context.now (own_at s c.args.own.now) in
+    let N : (ℕ → Term) → TypedNames = λ s. meanings_in c.args.outer.now.context.now (own_at s c.args.outer.now.own) in
     let ls = c.args.locals.now.items in
     let S : (ℕ → Term) → LocalTypes = λ s. scope_at s ls in
     let v = c.args.target in
@@ -198,10 +198,10 @@ constrain-returns-in-Empty-clause-adds g t c =
 
 pub constrain-returns-in_ok-given-in-Call-clause-adds : goal.constrain-returns-in_ok-given-in-Call-clause-adds
 constrain-returns-in_ok-given-in-Call-clause-adds g t c =
-    let N : (ℕ → Term) → TypedNames = λ s. meanings_in c.args.context.now (own_at s c.args.own.now) in
+    let N : (ℕ → Term) → TypedNames = λ s. meanings_in c.args.outer.now.context.now (own_at s c.args.outer.now.own) in
     let ls = c.args.locals.now.items in
     let S : (ℕ → Term) → LocalTypes = λ s. scope_at s ls in
-    let f = fixed c.args.context.now (count c.args.state.now) c.args.own.now ls c.requires.own c.requires.locals in
+    let f = fixed c.args.outer.now.context.now (count c.args.state.now) c.args.outer.now.own ls c.requires.own c.requires.locals in
     let v = c.args.target in
     let e = c.args.exp.now in
     let a = c.in-Call.argument.value in
@@ -213,10 +213,10 @@ constrain-returns-in_ok-given-in-Call-clause-adds g t c =
 
 pub constrain-returns-in_ok-right-in-Pair-clause-adds : goal.constrain-returns-in_ok-right-in-Pair-clause-adds
 constrain-returns-in_ok-right-in-Pair-clause-adds g t c =
-    let N : (ℕ → Term) → TypedNames = λ s. meanings_in c.args.context.now (own_at s c.args.own.now) in
+    let N : (ℕ → Term) → TypedNames = λ s. meanings_in c.args.outer.now.context.now (own_at s c.args.outer.now.own) in
     let ls = c.args.locals.now.items in
     let S : (ℕ → Term) → LocalTypes = λ s. scope_at s ls in
-    let f = fixed c.args.context.now (count c.args.state.now) c.args.own.now ls c.requires.own c.requires.locals in
+    let f = fixed c.args.outer.now.context.now (count c.args.state.now) c.args.outer.now.own ls c.requires.own c.requires.locals in
     let v = c.args.target in
     let e = c.args.exp.now in
     let a = c.in-Pair.first.value in
@@ -231,10 +231,10 @@ constrain-returns-in_ok-right-in-Pair-clause-adds g t c =
 
 pub constrain-returns-in_ok-given-in-Prefix-clause-adds : goal.constrain-returns-in_ok-given-in-Prefix-clause-adds
 constrain-returns-in_ok-given-in-Prefix-clause-adds g t c =
-    let N : (ℕ → Term) → TypedNames = λ s. meanings_in c.args.context.now (own_at s c.args.own.now) in
+    let N : (ℕ → Term) → TypedNames = λ s. meanings_in c.args.outer.now.context.now (own_at s c.args.outer.now.own) in
     let ls = c.args.locals.now.items in
     let S : (ℕ → Term) → LocalTypes = λ s. scope_at s ls in
-    let f = fixed c.args.context.now (count c.args.state.now) c.args.own.now ls c.requires.own c.requires.locals in
+    let f = fixed c.args.outer.now.context.now (count c.args.state.now) c.args.outer.now.own ls c.requires.own c.requires.locals in
     let v = c.args.target in
     let e = c.args.exp.now in
     let a = c.in-Prefix.operand.value in
@@ -246,10 +246,10 @@ constrain-returns-in_ok-given-in-Prefix-clause-adds g t c =
 
 pub constrain-returns-in_ok-right-in-Infix-clause-adds : goal.constrain-returns-in_ok-right-in-Infix-clause-adds
 constrain-returns-in_ok-right-in-Infix-clause-adds g t c =
-    let N : (ℕ → Term) → TypedNames = λ s. meanings_in c.args.context.now (own_at s c.args.own.now) in
+    let N : (ℕ → Term) → TypedNames = λ s. meanings_in c.args.outer.now.context.now (own_at s c.args.outer.now.own) in
     let ls = c.args.locals.now.items in
     let S : (ℕ → Term) → LocalTypes = λ s. scope_at s ls in
-    let f = fixed c.args.context.now (count c.args.state.now) c.args.own.now ls c.requires.own c.requires.locals in
+    let f = fixed c.args.outer.now.context.now (count c.args.state.now) c.args.outer.now.own ls c.requires.own c.requires.locals in
     let v = c.args.target in
     let e = c.args.exp.now in
     let a = c.in-Infix.first.value in
@@ -264,10 +264,10 @@ constrain-returns-in_ok-right-in-Infix-clause-adds g t c =
 
 pub constrain-returns-in_ok-constrain_exactly-in-Index-clause-adds : goal.constrain-returns-in_ok-constrain_exactly-in-Index-clause-adds
 constrain-returns-in_ok-constrain_exactly-in-Index-clause-adds g t c =
-    let N : (ℕ → Term) → TypedNames = λ s. meanings_in c.args.context.now (own_at s c.args.own.now) in
+    let N : (ℕ → Term) → TypedNames = λ s. meanings_in c.args.outer.now.context.now (own_at s c.args.outer.now.own) in
     let ls = c.args.locals.now.items in
     let S : (ℕ → Term) → LocalTypes = λ s. scope_at s ls in
-    let f = fixed c.args.context.now (count c.args.state.now) c.args.own.now ls c.requires.own c.requires.locals in
+    let f = fixed c.args.outer.now.context.now (count c.args.state.now) c.args.outer.now.own ls c.requires.own c.requires.locals in
     let v = c.args.target in
     let e = c.args.exp.now in
     let a = c.in-Index.sequence.value in
@@ -281,10 +281,10 @@ constrain-returns-in_ok-constrain_exactly-in-Index-clause-adds g t c =
 
 pub constrain-returns-in_ok-constrain-in-Choice-clause-adds : goal.constrain-returns-in_ok-constrain-in-Choice-clause-adds
 constrain-returns-in_ok-constrain-in-Choice-clause-adds g t c =
-    let N : (ℕ → Term) → TypedNames = λ s. meanings_in c.args.context.now (own_at s c.args.own.now) in
+    let N : (ℕ → Term) → TypedNames = λ s. meanings_in c.args.outer.now.context.now (own_at s c.args.outer.now.own) in
     let ls = c.args.locals.now.items in
     let S : (ℕ → Term) → LocalTypes = λ s. scope_at s ls in
-    let f = fixed c.args.context.now (count c.args.state.now) c.args.own.now ls c.requires.own c.requires.locals in
+    let f = fixed c.args.outer.now.context.now (count c.args.state.now) c.args.outer.now.own ls c.requires.own c.requires.locals in
     let v = c.args.target in
     let e = c.args.exp.now in
     let a = c.in-Choice.test.value in
@@ -300,10 +300,10 @@ constrain-returns-in_ok-constrain-in-Choice-clause-adds g t c =
 
 pub constrain-returns-in_ok-constrain_items-in-Sequence-clause-adds : goal.constrain-returns-in_ok-constrain_items-in-Sequence-clause-adds
 constrain-returns-in_ok-constrain_items-in-Sequence-clause-adds g t c =
-    let N : (ℕ → Term) → TypedNames = λ s. meanings_in c.args.context.now (own_at s c.args.own.now) in
+    let N : (ℕ → Term) → TypedNames = λ s. meanings_in c.args.outer.now.context.now (own_at s c.args.outer.now.own) in
     let ls = c.args.locals.now.items in
     let S : (ℕ → Term) → LocalTypes = λ s. scope_at s ls in
-    let f = fixed c.args.context.now (count c.args.state.now) c.args.own.now ls c.requires.own c.requires.locals in
+    let f = fixed c.args.outer.now.context.now (count c.args.state.now) c.args.outer.now.own ls c.requires.own c.requires.locals in
     let v = c.args.target in
     let e = c.args.exp.now in
     let i = c.in_ok-item-in-Sequence.item in
@@ -317,10 +317,10 @@ constrain-returns-in_ok-constrain_items-in-Sequence-clause-adds g t c =
 
 pub constrain-returns-in_ok-number-in-Range-clause-adds : goal.constrain-returns-in_ok-number-in-Range-clause-adds
 constrain-returns-in_ok-number-in-Range-clause-adds g t c =
-    let N : (ℕ → Term) → TypedNames = λ s. meanings_in c.args.context.now (own_at s c.args.own.now) in
+    let N : (ℕ → Term) → TypedNames = λ s. meanings_in c.args.outer.now.context.now (own_at s c.args.outer.now.own) in
     let ls = c.args.locals.now.items in
     let S : (ℕ → Term) → LocalTypes = λ s. scope_at s ls in
-    let f = fixed c.args.context.now (count c.args.state.now) c.args.own.now ls c.requires.own c.requires.locals in
+    let f = fixed c.args.outer.now.context.now (count c.args.state.now) c.args.outer.now.own ls c.requires.own c.requires.locals in
     let v = c.args.target in
     let e = c.args.exp.now in
     let a = c.in-Range.start.value in
@@ -333,10 +333,10 @@ constrain-returns-in_ok-number-in-Range-clause-adds g t c =
 
 pub constrain-returns-in_ok-constrain-in-StridedRange-clause-adds : goal.constrain-returns-in_ok-constrain-in-StridedRange-clause-adds
 constrain-returns-in_ok-constrain-in-StridedRange-clause-adds g t c =
-    let N : (ℕ → Term) → TypedNames = λ s. meanings_in c.args.context.now (own_at s c.args.own.now) in
+    let N : (ℕ → Term) → TypedNames = λ s. meanings_in c.args.outer.now.context.now (own_at s c.args.outer.now.own) in
     let ls = c.args.locals.now.items in
     let S : (ℕ → Term) → LocalTypes = λ s. scope_at s ls in
-    let f = fixed c.args.context.now (count c.args.state.now) c.args.own.now ls c.requires.own c.requires.locals in
+    let f = fixed c.args.outer.now.context.now (count c.args.state.now) c.args.outer.now.own ls c.requires.own c.requires.locals in
     let v = c.args.target in
     let e = c.args.exp.now in
     let a = c.in-StridedRange.start.value in
@@ -351,7 +351,7 @@ constrain-returns-in_ok-constrain-in-StridedRange-clause-adds g t c =
 
 pub constrain-returns-in-Let-clause-adds : goal.constrain-returns-in-Let-clause-adds
 constrain-returns-in-Let-clause-adds g t c =
-    let N : (ℕ → Term) → TypedNames = λ s. meanings_in c.args.context.now (own_at s c.args.own.now) in
+    let N : (ℕ → Term) → TypedNames = λ s. meanings_in c.args.outer.now.context.now (own_at s c.args.outer.now.own) in
     let ls = c.args.locals.now.items in
     let S : (ℕ → Term) → LocalTypes = λ s. scope_at s ls in
     let v = c.args.target in
@@ -364,7 +364,7 @@ constrain-returns-in-Let-clause-adds g t c =
 
 pub constrain-returns-in-Each-clause-adds : goal.constrain-returns-in-Each-clause-adds
 constrain-returns-in-Each-clause-adds g t c =
-    let N : (ℕ → Term) → TypedNames = λ s. meanings_in c.args.context.now (own_at s c.args.own.now) in
+    let N : (ℕ → Term) → TypedNames = λ s. meanings_in c.args.outer.now.context.now (own_at s c.args.outer.now.own) in
     let ls = c.args.locals.now.items in
     let S : (ℕ → Term) → LocalTypes = λ s. scope_at s ls in
     let v = c.args.target in
@@ -375,9 +375,9 @@ constrain-returns-in-Each-clause-adds g t c =
     (each_shape c.in-Each.body c.in-Each.bindings ∙ ap (λ (k : List Binding). trees.each (tree_of c.in-Each.body.value) (binders_in k)) (sym c.as_slice-in-Each.ensures.value) ∙ ap (λ (k : Exp). trees.each (tree_of k) (binders_in bs)) (sym c.deref-in-Each.ensures))
     c.constrain_each.ensures.adds
 
-pub constrain-returns-in-FilteredEach-clause-adds : goal.constrain-returns-in-FilteredEach-clause-adds
-constrain-returns-in-FilteredEach-clause-adds g t c =
-    let N : (ℕ → Term) → TypedNames = λ s. meanings_in c.args.context.now (own_at s c.args.own.now) in
+pub constrain-returns-in_ok-item-in-FilteredEach-clause-adds : goal.constrain-returns-in_ok-item-in-FilteredEach-clause-adds
+constrain-returns-in_ok-item-in-FilteredEach-clause-adds g t c =
+    let N : (ℕ → Term) → TypedNames = λ s. meanings_in c.args.outer.now.context.now (own_at s c.args.outer.now.own) in
     let ls = c.args.locals.now.items in
     let S : (ℕ → Term) → LocalTypes = λ s. scope_at s ls in
     let v = c.args.target in
@@ -385,35 +385,50 @@ constrain-returns-in-FilteredEach-clause-adds g t c =
     let bs = c.as_slice-in-FilteredEach.result.now in
     let d = c.deref-in-FilteredEach.result.now in
     let h = c.deref-in-FilteredEach-2.result.now in
-    typed _ _ N S e (declared.FilteredEach c.in-FilteredEach.body c.in-FilteredEach.bindings c.in-FilteredEach.filter) (trees.filtered_each (tree_of d) (binders_in bs) (tree_of h)) v c.constrain_filtered_each.result c.in-FilteredEach.is
+    typed _ _ N S e (declared.FilteredEach c.in-FilteredEach.body c.in-FilteredEach.bindings c.in-FilteredEach.filter) (trees.filtered_each (tree_of d) (binders_in bs) (tree_of h)) v c.equate_sequence-in-FilteredEach.result c.in-FilteredEach.is
     (filtered_shape c.in-FilteredEach.body c.in-FilteredEach.bindings c.in-FilteredEach.filter
     ∙ ap (λ (k : List Binding). trees.filtered_each (tree_of c.in-FilteredEach.body.value) (binders_in k) (tree_of c.in-FilteredEach.filter.value)) (sym c.as_slice-in-FilteredEach.ensures.value)
     ∙ ap (λ (k : Exp). trees.filtered_each (tree_of k) (binders_in bs) (tree_of c.in-FilteredEach.filter.value)) (sym c.deref-in-FilteredEach.ensures)
     ∙ ap (λ (k : Exp). trees.filtered_each (tree_of d) (binders_in bs) (tree_of k)) (sym c.deref-in-FilteredEach-2.ensures))
-    c.constrain_filtered_each.ensures.adds
+    (on_ok_weaker c.equate_sequence-in-FilteredEach.result (arm_filtered_each N S v c.requires.target (tree_of d) (binders_in bs) (tree_of h) c.in_ok-item-in-FilteredEach.item c.in_ok-item-in-FilteredEach.ensures.gives)
+    c.equate_sequence-in-FilteredEach.ensures)
+
+pub constrain_part-returns-in-Some-clause-gives : goal.constrain_part-returns-in-Some-clause-gives
+constrain_part-returns-in-Some-clause-gives g t c =
+    let N : (ℕ → Term) → TypedNames = λ s. meanings_in c.args.outer.now.context.now (own_at s c.args.outer.now.own) in
+    let ls = c.args.locals.now.items in
+    let h = c.in-Some.ensures in
+    let found = subst (λ (ks : List Local). (s : ℕ → Term) → local_type h.found.0 (scope_at s ks) ≡ Some (s c.in-Some.variable)) c.as_slice.ensures.value h.found.2 in
+    let below = subst (λ (ks : List Local). (n : ℕ) → AreLocalsBelow n ks → c.in-Some.variable < n) c.as_slice.ensures.value h.below in
+    part_local N (λ s. scope_at s ls) c.args.exp.now h.found.0 c.in-Some.variable h.found.1 found (below (count c.args.state.now) c.requires.locals)
+
+pub constrain_part-returns-in-Some-clause-below : goal.constrain_part-returns-in-Some-clause-below
+constrain_part-returns-in-Some-clause-below g t c =
+    let below = subst (λ (ks : List Local). (n : ℕ) → AreLocalsBelow n ks → c.in-Some.variable < n) c.as_slice.ensures.value c.in-Some.ensures.below in
+    below (count c.args.state.now) c.requires.locals
 
 pub constrain_part-returns-clause-gives : goal.constrain_part-returns-clause-gives
 constrain_part-returns-clause-gives g t c =
-    let N : (ℕ → Term) → TypedNames = λ s. meanings_in c.args.context.now (own_at s c.args.own.now) in
+    let N : (ℕ → Term) → TypedNames = λ s. meanings_in c.args.outer.now.context.now (own_at s c.args.outer.now.own) in
     let ls = c.args.locals.now.items in
     let S : (ℕ → Term) → LocalTypes = λ s. scope_at s ls in
-    let f = fixed c.args.context.now (count c.args.state.now) c.args.own.now ls c.requires.own c.requires.locals in
+    let f = fixed c.args.outer.now.context.now (count c.args.state.now) c.args.outer.now.own ls c.requires.own c.requires.locals in
     arm_part N S f (tree_of c.args.exp.now) c.in_ok-part.part c.in_ok-part.ensures.gives c.in_ok-constrain.ensures.adds
 
 pub constrain_exactly-returns-clause-adds : goal.constrain_exactly-returns-clause-adds
 constrain_exactly-returns-clause-adds g t c =
-    let N : (ℕ → Term) → TypedNames = λ s. meanings_in c.args.context.now (own_at s c.args.own.now) in
+    let N : (ℕ → Term) → TypedNames = λ s. meanings_in c.args.outer.now.context.now (own_at s c.args.outer.now.own) in
     let ls = c.args.locals.now.items in
     let S : (ℕ → Term) → LocalTypes = λ s. scope_at s ls in
-    let f = fixed c.args.context.now (count c.args.state.now) c.args.own.now ls c.requires.own c.requires.locals in
+    let f = fixed c.args.outer.now.context.now (count c.args.state.now) c.args.outer.now.own ls c.requires.own c.requires.locals in
     on_ok_weaker c.constrain.result (arm_exactly N S f (tree_of c.args.exp.now) (flat_type c.args.flat) c.in_ok-part.part c.in_ok-part.ensures.gives) c.constrain.ensures.adds
 
 pub constrain_bounds-returns-clause-gives : goal.constrain_bounds-returns-clause-gives
 constrain_bounds-returns-clause-gives g t c =
-    let N : (ℕ → Term) → TypedNames = λ s. meanings_in c.args.context.now (own_at s c.args.own.now) in
+    let N : (ℕ → Term) → TypedNames = λ s. meanings_in c.args.outer.now.context.now (own_at s c.args.outer.now.own) in
     let ls = c.args.locals.now.items in
     let S : (ℕ → Term) → LocalTypes = λ s. scope_at s ls in
-    let f = fixed c.args.context.now (count c.args.state.now) c.args.own.now ls c.requires.own c.requires.locals in
+    let f = fixed c.args.outer.now.context.now (count c.args.state.now) c.args.outer.now.own ls c.requires.own c.requires.locals in
     let a = c.args.from.now in
     let b = c.args.to.now in
     let n = c.in_ok-number.number in
@@ -422,10 +437,10 @@ constrain_bounds-returns-clause-gives g t c =
 
 pub constrain_binders-returns : goal.constrain_binders-returns
 constrain_binders-returns g t c =
-    let N : (ℕ → Term) → TypedNames = λ s. meanings_in c.args.context.now (own_at s c.args.own.now) in
+    let N : (ℕ → Term) → TypedNames = λ s. meanings_in c.args.outer.now.context.now (own_at s c.args.outer.now.own) in
     let ls = c.args.locals.now.items in
     let S : (ℕ → Term) → LocalTypes = λ s. scope_at s ls in
-    let f = fixed c.args.context.now (count c.args.state.now) c.args.own.now ls c.requires.own c.requires.locals in
+    let f = fixed c.args.outer.now.context.now (count c.args.state.now) c.args.outer.now.own ls c.requires.own c.requires.locals in
     let bs = binders_in c.args.bindings.now in
     let vs = c.in_ok-items.items.items in
     let r = c.bind_items.result in
@@ -438,47 +453,48 @@ constrain_binders-returns g t c =
 
 pub constrain_let-returns-clause-adds : goal.constrain_let-returns-clause-adds
 constrain_let-returns-clause-adds g t c =
-    let N : (ℕ → Term) → TypedNames = λ s. meanings_in c.args.context.now (own_at s c.args.own.now) in
+    let N : (ℕ → Term) → TypedNames = λ s. meanings_in c.args.outer.now.context.now (own_at s c.args.outer.now.own) in
     let ls = c.args.locals.now.items in
     let S : (ℕ → Term) → LocalTypes = λ s. scope_at s ls in
-    let f = fixed c.args.context.now (count c.args.state.now) c.args.own.now ls c.requires.own c.requires.locals in
+    let f = fixed c.args.outer.now.context.now (count c.args.state.now) c.args.outer.now.own ls c.requires.own c.requires.locals in
     let v = c.args.target in
     arm_let N ls c.constrain_bindings.new.locals.items f v c.requires.target (binders_in c.args.bindings.now) (tree_of c.args.body.now) c.in_ok-constrain_bindings.ensures c.in_ok-constrain.ensures.adds
 
 pub constrain_each-returns-clause-adds : goal.constrain_each-returns-clause-adds
 constrain_each-returns-clause-adds g t c =
-    let N : (ℕ → Term) → TypedNames = λ s. meanings_in c.args.context.now (own_at s c.args.own.now) in
+    let N : (ℕ → Term) → TypedNames = λ s. meanings_in c.args.outer.now.context.now (own_at s c.args.outer.now.own) in
     let ls = c.args.locals.now.items in
     let S : (ℕ → Term) → LocalTypes = λ s. scope_at s ls in
-    let f = fixed c.args.context.now (count c.args.state.now) c.args.own.now ls c.requires.own c.requires.locals in
+    let f = fixed c.args.outer.now.context.now (count c.args.state.now) c.args.outer.now.own ls c.requires.own c.requires.locals in
     let v = c.args.target in
     on_ok_weaker c.equate_sequence.result (arm_each N ls c.constrain_binders.new.locals.items f v c.requires.target (tree_of c.args.body.now) (binders_in c.args.bindings.now) c.in_ok-item.item c.in_ok-constrain_binders.ensures c.in_ok-item.ensures.gives)
     c.equate_sequence.ensures
 
-pub constrain_filtered_each-returns-clause-adds : goal.constrain_filtered_each-returns-clause-adds
-constrain_filtered_each-returns-clause-adds g t c =
-    let N : (ℕ → Term) → TypedNames = λ s. meanings_in c.args.context.now (own_at s c.args.own.now) in
+pub constrain_filtered_items-returns-clause-gives : goal.constrain_filtered_items-returns-clause-gives
+constrain_filtered_items-returns-clause-gives g t c =
+    let N : (ℕ → Term) → TypedNames = λ s. meanings_in c.args.outer.now.context.now (own_at s c.args.outer.now.own) in
     let ls = c.args.locals.now.items in
-    let S : (ℕ → Term) → LocalTypes = λ s. scope_at s ls in
-    let f = fixed c.args.context.now (count c.args.state.now) c.args.own.now ls c.requires.own c.requires.locals in
-    let v = c.args.target in
+    let f = fixed c.args.outer.now.context.now (count c.args.state.now) c.args.outer.now.own ls c.requires.own c.requires.locals in
     let ms = c.constrain_binders.new.locals.items in
     let d = c.args.filter.now in
-    on_ok_weaker c.equate_sequence.result (arm_filtered_each N ls ms f v c.requires.target (tree_of c.args.body.now) (binders_in c.args.bindings.now) (tree_of d) c.in_ok-item.item c.in_ok-constrain_binders.ensures c.in_ok-item.ensures.gives
-    (exactly_as N ms c.constrain_part.new.locals.items d d bool c.in_ok-item.ensures.locals (λ i. d) c.in_ok-constrain_exactly.ensures.adds))
-    c.equate_sequence.ensures
+    arm_filtered_items N ls ms f (tree_of c.args.body.now) (binders_in c.args.bindings.now) (tree_of d) c.in_ok-item.item c.in_ok-constrain_binders.ensures c.in_ok-item.ensures.gives
+    (exactly_as N ms c.constrain_part.new.locals.items d d bool c.in_ok-item.ensures.locals (λ i. d) c.in_ok-constrain_exactly.ensures.adds)
 
 pub constrain-constrain_operator-requires-clause-pair : goal.constrain-constrain_operator-requires-clause-pair
 constrain-constrain_operator-requires-clause-pair g t c =
     subst (λ (b : Builtin). (x : Term) × (y : Term) × ((builtin_type b).argument ≡ pair_of x y)) (sym c.of_infix.ensures) (infix_pair c.in-Infix.operator)
 
-pub constrain_bounds-constrain-requires-2 : goal.constrain_bounds-constrain-requires-2
-constrain_bounds-constrain-requires-2 g t c =
-    λ κs l. (omega (arith, c.decreases), search rules)
+pub constrain-constrain_filtered_items-requires : goal.constrain-constrain_filtered_items-requires
+constrain-constrain_filtered_items-requires g t c =
+    let falls = filtered_falls c.args.exp.now c.in-FilteredEach.body c.in-FilteredEach.bindings c.in-FilteredEach.filter c.in-FilteredEach.is in
+    let body = ap exp.the_size c.deref-in-FilteredEach.ensures in
+    let binders = ap deepest_binding c.as_slice-in-FilteredEach.ensures.value in
+    let filter = ap exp.the_size c.deref-in-FilteredEach-2.ensures in
+    λ κs l. (omega (arith, c.decreases, falls, body, binders, filter), (search rules, (c.requires.locals, c.requires.own)))
 
 pub constrain_each-constrain_binders-requires : goal.constrain_each-constrain_binders-requires
 constrain_each-constrain_binders-requires g t c =
-    λ κs l. (omega (arith, c.decreases), (search rules, (c.requires.locals, (c.requires.own, c.requires.closed))))
+    λ κs l. (omega (arith, c.decreases), (search rules, (c.requires.locals, c.requires.own)))
 
 pub constrain_each-constrain_part-requires : goal.constrain_each-constrain_part-requires
 constrain_each-constrain_part-requires g t c =
@@ -486,22 +502,22 @@ constrain_each-constrain_part-requires g t c =
     let B = c.constrain_binders.new.state in
     let ms = c.constrain_binders.new.locals.items in
     let below : AreLocalsBelow (count B) ms = added_below ls ms _ c.requires.locals c.in_ok-constrain_binders.ensures in
-    λ κs l. (omega (arith, c.decreases), (search rules, (below, (search rules, c.requires.closed))))
+    λ κs l. (omega (arith, c.decreases), (search rules, (below, search rules)))
 
-pub constrain_filtered_each-constrain_binders-requires : goal.constrain_filtered_each-constrain_binders-requires
-constrain_filtered_each-constrain_binders-requires g t c =
-    λ κs l. (omega (arith, c.decreases), (search rules, (c.requires.locals, (c.requires.own, c.requires.closed))))
+pub constrain_filtered_items-constrain_binders-requires : goal.constrain_filtered_items-constrain_binders-requires
+constrain_filtered_items-constrain_binders-requires g t c =
+    λ κs l. (omega (arith, c.decreases), (search rules, (c.requires.locals, c.requires.own)))
 
-pub constrain_filtered_each-constrain_part-requires : goal.constrain_filtered_each-constrain_part-requires
-constrain_filtered_each-constrain_part-requires g t c =
+pub constrain_filtered_items-constrain_part-requires : goal.constrain_filtered_items-constrain_part-requires
+constrain_filtered_items-constrain_part-requires g t c =
     let ls = c.args.locals.now.items in
     let B = c.constrain_binders.new.state in
     let ms = c.constrain_binders.new.locals.items in
     let below : AreLocalsBelow (count B) ms = added_below ls ms _ c.requires.locals c.in_ok-constrain_binders.ensures in
-    λ κs l. (omega (arith, c.decreases), (search rules, (below, (search rules, c.requires.closed))))
+    λ κs l. (omega (arith, c.decreases), (search rules, (below, search rules)))
 
-pub constrain_filtered_each-constrain_exactly-requires : goal.constrain_filtered_each-constrain_exactly-requires
-constrain_filtered_each-constrain_exactly-requires g t c =
+pub constrain_filtered_items-constrain_exactly-requires : goal.constrain_filtered_items-constrain_exactly-requires
+constrain_filtered_items-constrain_exactly-requires g t c =
     let ls = c.args.locals.now.items in
     let B = c.constrain_binders.new.state in
     let ms = c.constrain_binders.new.locals.items in
@@ -510,7 +526,7 @@ constrain_filtered_each-constrain_exactly-requires g t c =
     let n = count c.constrain_part.new.state in
     let here : AreLocalsBelow n c.constrain_part.new.locals.items =
     subst (λ (xs : List Local). AreLocalsBelow n xs) (sym c.in_ok-item.ensures.locals) (locals-weaker (count B) n ms m below) in
-    λ κs l. (omega (arith, c.decreases), (search rules, (search rules, (search rules, (here, (search rules, c.requires.closed))))))
+    λ κs l. (omega (arith, c.decreases), (search rules, (search rules, (search rules, (here, search rules)))))
 
 pub constrain_let-constrain-requires : goal.constrain_let-constrain-requires
 constrain_let-constrain-requires g t c =
@@ -518,4 +534,4 @@ constrain_let-constrain-requires g t c =
     let B = c.constrain_bindings.new.state in
     let ms = c.constrain_bindings.new.locals.items in
     let below : AreLocalsBelow (count B) ms = added_below ls ms _ c.requires.locals c.in_ok-constrain_bindings.ensures in
-    λ κs l. (omega (arith, c.decreases), (search rules, (search rules, (below, (search rules, c.requires.closed)))))
+    λ κs l. (omega (arith, c.decreases), (search rules, (search rules, (below, search rules))))

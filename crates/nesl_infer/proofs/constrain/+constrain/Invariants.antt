@@ -46,22 +46,22 @@ decreases-constrain_let g l = 4 * max (most_of l.bindings.now) (size l.body.now)
 abbrev pub decreases-constrain_each : goal.decreases-constrain_each
 decreases-constrain_each g l = 4 * max (size l.body.now) (most_of l.bindings.now) + 3
 
-abbrev pub decreases-constrain_filtered_each : goal.decreases-constrain_filtered_each
-decreases-constrain_filtered_each g l = 4 * max (size l.body.now) (max (most_of l.bindings.now) (size l.filter.now)) + 3
+abbrev pub decreases-constrain_filtered_items : goal.decreases-constrain_filtered_items
+decreases-constrain_filtered_items g l = 4 * max (size l.body.now) (max (most_of l.bindings.now) (size l.filter.now)) + 3
 
 abbrev pub invariant-constrain_items-loop-item : goal.invariant-constrain_items-loop-item
 invariant-constrain_items-loop-item g l = record {
-  adds : Adds l.initial.state l.state (λ s of. HaveType (world_at l.context l.own s of) (scope_at s l.initial.locals.items) (trees_in (take l.item-index l.items)) (s l.target));
+  adds : Adds l.initial.state l.state (λ s of. HaveType (world_at l.outer.context.now l.outer.own s of) (scope_at s l.initial.locals.items) (trees_in (take l.item-index l.items)) (s l.target));
   locals : l.locals.items ≡ l.initial.locals.items;
 }
 
 abbrev pub invariant-constrain_bindings-loop-binding : goal.invariant-constrain_bindings-loop-binding
 invariant-constrain_bindings-loop-binding g l =
-    AddsNames l.initial.state l.state l.initial.locals.items l.locals.items (λ s of ns. BindingsAdd (world_at l.context l.own s of) (scope_at s l.initial.locals.items) (binders_in (take l.binding-index l.bindings)) ns)
+    AddsNames l.initial.state l.state l.initial.locals.items l.locals.items (λ s of ns. BindingsAdd (world_at l.outer.context.now l.outer.own s of) (scope_at s l.initial.locals.items) (binders_in (take l.binding-index l.bindings)) ns)
 
 abbrev pub invariant-constrain_values-loop-binding : goal.invariant-constrain_values-loop-binding
 invariant-constrain_values-loop-binding g l = record {
-  gives : Gives l.initial.state l.state (λ s. map s l.items.items) (λ s of is. HaveElements (world_at l.context l.own s of) (scope_at s l.initial.locals.items) (binders_in (take l.binding-index l.bindings)) is);
+  gives : Gives l.initial.state l.state (λ s. map s l.items.items) (λ s of is. HaveElements (world_at l.outer.context.now l.outer.own s of) (scope_at s l.initial.locals.items) (binders_in (take l.binding-index l.bindings)) is);
   below : All (λ v. v < count l.state) l.items.items;
   len : length l.items.items ≡ l.binding-index;
   locals : l.locals.items ≡ l.initial.locals.items;

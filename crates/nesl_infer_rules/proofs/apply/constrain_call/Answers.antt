@@ -8,8 +8,8 @@ use Rattle.nesl_infer_rules.proofs.apply.constrain_call.Goals as goal
 
 pub returns-then-eq : goal.returns-then-eq
 returns-then-eq g c =
-    let context = c.args.context.now in
-    let own = c.args.own.now in
+    let context = c.args.outer.now.context.now in
+    let own = c.args.outer.now.own in
     let N : (ℕ → Term) → TypedNames = λ s. meanings_in context (own_at s own) in
     let o = c.in-Some.own in
     let x = c.args.name.now in

@@ -11,8 +11,8 @@ use Rattle.nesl_infer_rules.proofs.apply.constrain_other_call.Goals as goal
 
 pub returns-in-Some : goal.returns-in-Some
 returns-in-Some g c =
-    let context = c.args.context.now in
-    let own = c.args.own.now in
+    let context = c.args.outer.now.context.now in
+    let own = c.args.outer.now.own in
     let N : (ℕ → Term) → TypedNames = λ s. meanings_in context (own_at s own) in
     let b = c.in-Some.builtin in
     let found = c.in-Some.ensures in
@@ -22,13 +22,13 @@ returns-in-Some g c =
 pub equate_closed-requires-clause-ty : goal.equate_closed-requires-clause-ty
 equate_closed-requires-clause-ty g c =
     let d = c.in-Some-Datatype-default in
-    let closed = c.requires.closed c.args.name.now d.field-0-0.now d.field-0-1.now (sym d.ensures) in
+    let closed = c.args.outer.now.closed c.args.name.now d.field-0-0.now d.field-0-1.now (sym d.ensures) in
     subst (λ (t : Top). IsClosed t) d.field-0-0-is closed
 
 pub returns-in_ok-shared_instance-in-Some-Function-default : goal.returns-in_ok-shared_instance-in-Some-Function-default
 returns-in_ok-shared_instance-in-Some-Function-default g c =
-    let context = c.args.context.now in
-    let own = c.args.own.now in
+    let context = c.args.outer.now.context.now in
+    let own = c.args.outer.now.own in
     let x = c.args.name.now in
     let N : (ℕ → Term) → TypedNames = λ s. meanings_in context (own_at s own) in
     let none = c.in_default.ensures in
@@ -39,8 +39,8 @@ returns-in_ok-shared_instance-in-Some-Function-default g c =
 
 pub returns-in_ok-equate_flat-in-Some-Datatype-default : goal.returns-in_ok-equate_flat-in-Some-Datatype-default
 returns-in_ok-equate_flat-in-Some-Datatype-default g c =
-    let context = c.args.context.now in
-    let own = c.args.own.now in
+    let context = c.args.outer.now.context.now in
+    let own = c.args.outer.now.own in
     let x = c.args.name.now in
     let N : (ℕ → Term) → TypedNames = λ s. meanings_in context (own_at s own) in
     let none = c.in_default.ensures in
@@ -52,8 +52,8 @@ returns-in_ok-equate_flat-in-Some-Datatype-default g c =
 
 pub returns-in_ok-add_contradiction-in-Some-Variable-default : goal.returns-in_ok-add_contradiction-in-Some-Variable-default
 returns-in_ok-add_contradiction-in-Some-Variable-default g c =
-    let context = c.args.context.now in
-    let own = c.args.own.now in
+    let context = c.args.outer.now.context.now in
+    let own = c.args.outer.now.own in
     let x = c.args.name.now in
     let N : (ℕ → Term) → TypedNames = λ s. meanings_in context (own_at s own) in
     let none = c.in_default.ensures in
@@ -64,8 +64,8 @@ returns-in_ok-add_contradiction-in-Some-Variable-default g c =
 
 pub returns-in_ok-add_contradiction-in-None : goal.returns-in_ok-add_contradiction-in-None
 returns-in_ok-add_contradiction-in-None g c =
-    let context = c.args.context.now in
-    let own = c.args.own.now in
+    let context = c.args.outer.now.context.now in
+    let own = c.args.outer.now.own in
     let x = c.args.name.now in
     let N : (ℕ → Term) → TypedNames = λ s. meanings_in context (own_at s own) in
     let none = c.in_default.ensures in

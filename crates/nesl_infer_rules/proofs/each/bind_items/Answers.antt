@@ -12,7 +12,7 @@ use Rattle.nesl_infer_rules.proofs.each.bind_items.Goals as goal
 
 pub returns-in_ok-bind_patterns-in-Some : goal.returns-in_ok-bind_patterns-in-Some
 returns-in_ok-bind_patterns-in-Some g c =
-    let N : (ℕ → Term) → TypedNames = λ s. meanings_in c.args.context.now (own_at s c.args.own.now) in
+    let N : (ℕ → Term) → TypedNames = λ s. meanings_in c.args.outer.now.context.now (own_at s c.args.outer.now.own) in
     let A = c.args.state.now in
     let B = c.bind_patterns.new.state in
     let ls = c.args.locals.now.items in
@@ -30,7 +30,7 @@ returns-in_ok-bind_patterns-in-Some g c =
 
 pub returns-in_ok-add_contradiction-in-None : goal.returns-in_ok-add_contradiction-in-None
 returns-in_ok-add_contradiction-in-None g c =
-    let N : (ℕ → Term) → TypedNames = λ s. meanings_in c.args.context.now (own_at s c.args.own.now) in
+    let N : (ℕ → Term) → TypedNames = λ s. meanings_in c.args.outer.now.context.now (own_at s c.args.outer.now.own) in
     let ls = c.args.locals.now.items in
     let bs = binders_in c.args.bindings.now in
     subst (λ (ws : List ℕ). DrawsOf c.args.state.now c.add_contradiction.new.self ls ls N bs ws) (sym (no_front c.args.items.now c.in-None.ensures.value))

@@ -17,14 +17,14 @@ use Rattle.nesl_infer_rules.proofs.each.bind_patterns.Goals as goal
 
 pub loop-place-init : goal.loop-place-init
 loop-place-init g c =
-    let N : (ℕ → Term) → TypedNames = λ s. meanings_in c.args.context.now (own_at s c.args.own.now) in
+    let N : (ℕ → Term) → TypedNames = λ s. meanings_in c.args.outer.now.context.now (own_at s c.args.outer.now.own) in
     no_parts N c.args.locals.now.items
 
 pub loop-place-preserved : goal.loop-place-preserved
 loop-place-preserved g c =
-    let N : (ℕ → Term) → TypedNames = λ s. meanings_in c.args.context.now (own_at s c.args.own.now) in
+    let N : (ℕ → Term) → TypedNames = λ s. meanings_in c.args.outer.now.context.now (own_at s c.args.outer.now.own) in
     let n = count c.args.state.now in
-    let f = fixed c.args.context.now n c.args.own.now [] c.requires.own (All-nil (λ (x : Local). x.variable < n)) in
+    let f = fixed c.args.outer.now.context.now n c.args.outer.now.own [] c.requires.own (All-nil (λ (x : Local). x.variable < n)) in
     let ls = c.args.locals.now.items in
     let i = c.loop-place.place in
     let b = c.index-bindings-place.result in
@@ -42,7 +42,7 @@ loop-place-preserved g c =
 
 pub returns : goal.returns
 returns g c =
-    let N : (ℕ → Term) → TypedNames = λ s. meanings_in c.args.context.now (own_at s c.args.own.now) in
+    let N : (ℕ → Term) → TypedNames = λ s. meanings_in c.args.outer.now.context.now (own_at s c.args.outer.now.own) in
     let A = c.args.state.now in
     let ls = c.args.locals.now.items in
     let all : take c.loop-place.place c.args.bindings.now ≡ c.args.bindings.now = grind (arith, common_steps) in

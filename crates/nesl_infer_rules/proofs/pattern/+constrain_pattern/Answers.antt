@@ -16,7 +16,7 @@ use Rattle.nesl_infer_rules.proofs.pattern.+constrain_pattern.Goals as goal
 
 pub returns-in_ok-push-in-Name : goal.returns-in_ok-push-in-Name
 returns-in_ok-push-in-Name g t c =
-    let N : (ℕ → Term) → TypedNames = λ s. meanings_in c.args.context.now (own_at s c.args.own.now) in
+    let N : (ℕ → Term) → TypedNames = λ s. meanings_in c.args.outer.now.context.now (own_at s c.args.outer.now.own) in
     let l : Local = record { key = Name c.in_ok-name-in-Name.name; variable = c.args.target } in
     subst (λ (k : PatternNode). NamesOf c.args.state.now c.args.state.now c.args.locals.now.items c.push.new.self.items N (pattern c.args.pattern.now.span (pattern_shape k)) c.args.target) (sym c.in-Name.is)
     (arm_name N c.args.pattern.now.span c.in-Name.name.items c.args.target c.args.locals.now.items c.push.new.self.items l c.requires.target c.in_ok-push-in-Name.ensures.items
@@ -24,9 +24,9 @@ returns-in_ok-push-in-Name g t c =
 
 pub returns-in_ok-equate_pair-in-Pair : goal.returns-in_ok-equate_pair-in-Pair
 returns-in_ok-equate_pair-in-Pair g t c =
-    let N : (ℕ → Term) → TypedNames = λ s. meanings_in c.args.context.now (own_at s c.args.own.now) in
+    let N : (ℕ → Term) → TypedNames = λ s. meanings_in c.args.outer.now.context.now (own_at s c.args.outer.now.own) in
     let n = count c.args.state.now in
-    let f = fixed c.args.context.now n c.args.own.now [] c.requires.own (All-nil (λ (x : Local). x.variable < n)) in
+    let f = fixed c.args.outer.now.context.now n c.args.outer.now.own [] c.requires.own (All-nil (λ (x : Local). x.variable < n)) in
     let p = c.in-Pair.first.value in
     let q = c.in-Pair.second.value in
     subst (λ (k : PatternNode). NamesOf c.args.state.now c.equate_pair.new.self c.args.locals.now.items c.constrain_pattern-in-Pair.new.locals.items N (pattern c.args.pattern.now.span (pattern_shape k)) c.args.target) (sym c.in-Pair.is)
@@ -39,9 +39,9 @@ returns-in_ok-equate_pair-in-Pair g t c =
 
 pub returns-in_ok-constrain_pattern-in-Record : goal.returns-in_ok-constrain_pattern-in-Record
 returns-in_ok-constrain_pattern-in-Record g t c =
-    let N : (ℕ → Term) → TypedNames = λ s. meanings_in c.args.context.now (own_at s c.args.own.now) in
+    let N : (ℕ → Term) → TypedNames = λ s. meanings_in c.args.outer.now.context.now (own_at s c.args.outer.now.own) in
     let n = count c.args.state.now in
-    let f = fixed c.args.context.now n c.args.own.now [] c.requires.own (All-nil (λ (x : Local). x.variable < n)) in
+    let f = fixed c.args.outer.now.context.now n c.args.outer.now.own [] c.requires.own (All-nil (λ (x : Local). x.variable < n)) in
     let p = c.in-Record.inner.value in
     let x = c.in-Record.name.items in
     let h = c.in_ok-held-in-Record.held in

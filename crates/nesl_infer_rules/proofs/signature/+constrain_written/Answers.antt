@@ -1,4 +1,4 @@
-use Rattle.std.proofs.Common.{◌≡◌, ℕ, List, sym, ap, subst, refl, ◌∙◌}
+use Rattle.std.proofs.Common.{◌≡◌, ℕ, List, sym, ap, subst, ◌∙◌}
 use Rattle.nesl_types_bank.specs.Term.{Term}
 use Rattle.nesl_types_bank.specs.Substitution.{substitute}
 use Rattle.nesl_infer_names.specs.Names.{datatype_in}
@@ -10,7 +10,6 @@ use Rattle.nesl_infer_rules.specs.Signatures.{put_in}
 use Rattle.nesl_infer_rules.specs.Typing.{LocalTypes, name_in_signature, signed, signed_shape}
 use Rattle.nesl_infer_rules.specs.Steps.{Adds, Agrees, count, scope_at}
 use Rattle.nesl_infer_rules.proofs.Places.{scope-fixed}
-use Rattle.nesl_infer_rules.proofs.Patterns.{locals-weaker}
 use Rattle.nesl_infer_rules.proofs.Steps.{adds_is}
 use Rattle.nesl_infer_rules.proofs.Signatures.{arm_written_sequence, arm_written_pair}
 use Rattle.nesl_infer_rules.proofs.signature.+constrain_written.Goals as goal

@@ -1,8 +1,8 @@
-use Rattle.std.proofs.Common.{◌≡◌, ◌<◌, List, [], map, sym, ap, subst, ◌∙◌, arith}
+use Rattle.std.proofs.Common.{◌≡◌, List, map, sym, subst, arith}
 use Rattle.std.specs.Prelude.{All}
 use Rattle.nesl_infer_names.specs.Names.{datatype_in}
 use Rattle.nesl_syntax_tree.specs.declared.tree.Member.{Member}
-use Rattle.nesl_syntax_tree.specs.Views.{member_tree, signature_tree, type_tree}
+use Rattle.nesl_syntax_tree.specs.Views.{member_tree, signature_tree}
 use Rattle.nesl_infer_rules.specs.declared.state.Local.{Local}
 use Rattle.nesl_infer_rules.specs.Signatures.{FreeNames, put_in}
 use Rattle.nesl_infer_rules.specs.Typing.{IsInItsClass, signed}

@@ -1,0 +1,15 @@
+//! What stands outside of an expression.
+
+ghost use Rattle.nesl_infer_rules.specs.Contexts.{AreClosed};
+ghost use Rattle.nesl_infer_rules.specs.Closed.{closed-prop};
+
+use crate::state::OwnName;
+use nesl_types::Context;
+
+/// The top-level names, and the function in whose body an expression stands, if it stands in one.
+#[derive(Drop)]
+pub struct Outer<'a, P> {
+    pub context: &'a Context<P>,
+    pub own: Option<OwnName>,
+    pub ghost closed: { AreClosed context.now } by { closed-prop context.now },
+}
