@@ -10,6 +10,9 @@ use crate::scan::{Piece, next_piece};
 use crate::token::{Span, Token};
 use std::alloc::Global;
 
+// How many tokens room is taken for at first, where the line has as many bytes. More room is taken as more tokens come.
+const FIRST_ROOM: usize = 64;
+
 /// The tokens of a line.
 pub fn lex(alloc: Global, line: &[u8]) -> Result<Vec<Token>, LexFault>
     // The line has these tokens, and no others.
@@ -20,7 +23,7 @@ pub fn lex(alloc: Global, line: &[u8]) -> Result<Vec<Token>, LexFault>
     ensures stuck { OnLexical result (λ at. HasNoTokenAt line.now at) }
     ensures none { OnLexical result (λ at. (others : List Placed) → HasTokens line.now others → ⊥) }
 {
-    let mut tokens = Vec::new(alloc);
+    let mut tokens = Vec::with_capacity(alloc, line.len().min(FIRST_ROOM))?;
     let mut at = 0;
     while at < line.len() {
         match next_piece(alloc, &line[at..])? {
