@@ -117,20 +117,20 @@ list_follows mid new opening part r (open_at o ∷ ws) x h f p far = rw (far_com
 list_follows mid new opening part r (w ∷ ws) x h f p far = absurd h
 
 -- a ( is closed
-round_ends : (t u : Span) (mid new : List Pending) (wide : TypePart) (mode : Mode) (ws : List Waiting) (a : TypeTree) → TypePopped (Some (types.Round u)) mid (newest_type ws) → SeesType wide (type_on (spanning u t) a)
-    → ((vs : List Waiting) (b : TypeTree) → SeesStack mid vs → SeesType wide b → SeesStack new (type_done vs b).0 × SeesMode mode (type_done vs b).1)
-    → Follows (Ok mode) new (type_closed ws t a)
-round_ends t u mid new wide mode [] a h p f = absurd h
-round_ends t u mid new wide mode (type_at o ∷ ws) a h p f = rw h.0 (f ws (type_on (spanning u t) a) h.1 p)
-round_ends t u mid new wide mode (w ∷ ws) a h p f = absurd h
+round_ends : (t u : Span) (mid new : List Pending) (wide : TypePart) (given : Result Mode ParseFault) (ws : List Waiting) (a : TypeTree) → TypePopped (Some (types.Round u)) mid (newest_type ws) → SeesType wide (type_on (spanning u t) a)
+    → ((vs : List Waiting) (b : TypeTree) → SeesStack mid vs → SeesType wide b → Follows given new (Some (type_done vs b)))
+    → Follows given new (type_closed ws t a)
+round_ends t u mid new wide given [] a h p f = absurd h
+round_ends t u mid new wide given (type_at o ∷ ws) a h p f = rw h.0 (f ws (type_on (spanning u t) a) h.1 p)
+round_ends t u mid new wide given (w ∷ ws) a h p f = absurd h
 
-pub round_closes : (t u : Span) (old mid new : List Pending) (part wide : TypePart) (mode : Mode) (ws : List Waiting) (a : TypeTree)
+pub round_closes : (t u : Span) (old mid new : List Pending) (part wide : TypePart) (given : Result Mode ParseFault) (ws : List Waiting) (a : TypeTree)
     → ((vs : List Waiting) → SeesStack old vs → TypePopped (Some (types.Round u)) mid (newest_type vs))
     → ((b : TypeTree) → SeesType part b → SeesType wide (type_on (spanning u t) b))
-    → ((vs : List Waiting) (b : TypeTree) → SeesStack mid vs → SeesType wide b → SeesStack new (type_done vs b).0 × SeesMode mode (type_done vs b).1)
-    → Closes t ws a old part → Follows (Ok mode) new (type_closed ws t a)
-round_closes t u old mid new part wide mode ws a popped widen f c =
-    subst (λ (z : Option State). Follows (Ok mode) new z) c.same (round_ends t u mid new wide mode c.now c.last (popped c.now c.stack) (widen c.last c.sees) f)
+    → ((vs : List Waiting) (b : TypeTree) → SeesStack mid vs → SeesType wide b → Follows given new (Some (type_done vs b)))
+    → Closes t ws a old part → Follows given new (type_closed ws t a)
+round_closes t u old mid new part wide given ws a popped widen f c =
+    subst (λ (z : Option State). Follows given new z) c.same (round_ends t u mid new wide given c.now c.last (popped c.now c.stack) (widen c.last c.sees) f)
 
 -- nothing else is
 no_close : (t : Span) (mid : List Pending) (p : TypeOpening) (ws : List Waiting) (a : TypeTree) → TypePopped (Some p) mid (newest_type ws) → ((u : Span) → p ≡ types.Round u → ⊥) → ((q : TypePart) → p ≡ types.Comma q → ⊥) → type_closed ws t a ≡ None

@@ -26,7 +26,7 @@ fn body(alloc: Global, tokens: &[Token]) -> Result<Exp, ParseFault>
     ensures { GivesExp result (machine.expression (placed tokens.now)) }
 {
     match expression(alloc, tokens)? {
-        Part::Built { exp, .. } => Ok(exp),
+        Part::Built { exp, .. } => Ok(Box::into_inner(exp)),
         Part::High(_) => Err(ParseFault::Nested),
     }
 }

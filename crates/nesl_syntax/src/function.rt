@@ -106,7 +106,10 @@ fn function_of(name: Vec<u8>, head: Head, body: Part) -> Result<Form, ParseFault
     let Head { pattern, signature } = head;
     match pattern {
         PatternPart::Built { pattern, .. } => match body {
-            Part::Built { exp: body, .. } => function_with(name, pattern, signature, body),
+            Part::Built { exp, .. } => {
+                let pattern = Box::into_inner(pattern);
+                function_with(name, pattern, signature, Box::into_inner(exp))
+            }
             Part::High(_) => too_high((name, pattern, signature)),
         },
         PatternPart::High => too_high((name, signature, body)),

@@ -22,7 +22,7 @@ use nesl_lex::token::{Kind, Sign, Span, Token, Word};
 use nesl_syntax_open::ParseFault;
 use nesl_syntax_open::lists::{Elements, push_part};
 use nesl_syntax_open::mark::{Follow, Mark, follow_of};
-use nesl_syntax_open::part::{Part, empty_of, over};
+use nesl_syntax_open::part::{Part, empty_of, make_node, over};
 use nesl_syntax_open::pending::{
     Group, Opening, Pending, TypeOpening, fold, level_begun, level_of, newest, wanted,
 };
@@ -131,6 +131,7 @@ fn take(stack: &mut Vec<Pending>, turn: Turn) -> Result<Mode, ParseFault>
 }
 
 // Behind a token that ends a part.
+#[inline(never)]
 fn end_part(
     alloc: Global,
     stack: &mut Vec<Pending>,
@@ -169,6 +170,7 @@ fn list(stack: &mut Vec<Pending>, opening: Opening, part: Part) -> Result<Mode, 
 }
 
 // Behind a comma.
+#[inline(never)]
 #[tactic(auto, using(crate::proofs::StepLemmas::near_comma))]
 fn separate(stack: &mut Vec<Pending>, part: Part) -> Result<Mode, ParseFault>
     ensures { (ws : List Waiting) (x : Tree) → SeesStack stack.old.items ws → Sees part x →
@@ -184,6 +186,7 @@ fn separate(stack: &mut Vec<Pending>, part: Part) -> Result<Mode, ParseFault>
 }
 
 // Behind a `(` that follows an expression.
+#[inline(never)]
 fn call(stack: &mut Vec<Pending>, fresh: bool, part: Part) -> Result<Mode, ParseFault>
     ensures { (ws : List Waiting) (x : Tree) → SeesStack stack.old.items ws → Sees part x →
         Follows result stack.new.items (if fresh then called ws x else None) }
@@ -193,7 +196,7 @@ fn call(stack: &mut Vec<Pending>, fresh: bool, part: Part) -> Result<Mode, Parse
     }
     match part {
         Part::Built { exp, .. } => {
-            let (span, node) = exp.into_parts();
+            let (span, node) = Box::into_inner(exp).into_parts();
             match node {
                 Node::Variable(name) => open(
                     stack,
@@ -320,13 +323,13 @@ fn begin_type(stack: &mut Vec<Pending>) -> Result<Mode, ParseFault>
 }
 
 // A leaf of a tree.
-fn leaf(span: Span, node: Node, fresh: bool) -> Mode
-    ensures { result ≡ mode.Behind fresh (part.Built (record { span = span; node = node }) 1 fresh) }
+fn leaf(exp: Box<Exp>, fresh: bool) -> Mode
+    ensures { result ≡ mode.Behind fresh (part.Built exp 1 fresh) }
 {
     Mode::Behind {
         fresh,
         part: Part::Built {
-            exp: Exp { span, node },
+            exp,
             height: 1,
             pattern: fresh,
         },
@@ -334,6 +337,7 @@ fn leaf(span: Span, node: Node, fresh: bool) -> Mode
 }
 
 // A sign where an expression is to come.
+#[inline(never)]
 fn begin_sign(
     alloc: Global,
     stack: &mut Vec<Pending>,
@@ -380,6 +384,7 @@ fn begin_sign(
 }
 
 // A reserved word where an expression is to come.
+#[inline(never)]
 fn begin_word(
     alloc: Global,
     stack: &mut Vec<Pending>,
@@ -414,11 +419,17 @@ fn begin(alloc: Global, stack: &mut Vec<Pending>, token: &Token) -> Result<Mode,
 {
     let span = token.span;
     match &token.kind {
-        Kind::Number(n) => Ok(leaf(span, Node::Number(*n), false)),
-        Kind::Truth(value) => Ok(leaf(span, Node::Truth(*value), false)),
-        Kind::Character(c) => Ok(leaf(span, Node::Character(*c), false)),
-        Kind::Text(text) => Ok(leaf(span, Node::Text(text.clone()?), false)),
-        Kind::Name(name) => Ok(leaf(span, Node::Variable(name.clone()?), true)),
+        Kind::Number(n) => Ok(leaf(make_node(alloc, span, Node::Number(*n))?, false)),
+        Kind::Truth(value) => Ok(leaf(make_node(alloc, span, Node::Truth(*value))?, false)),
+        Kind::Character(c) => Ok(leaf(make_node(alloc, span, Node::Character(*c))?, false)),
+        Kind::Text(text) => {
+            let text = Node::Text(text.clone()?);
+            Ok(leaf(make_node(alloc, span, text)?, false))
+        }
+        Kind::Name(name) => {
+            let name = Node::Variable(name.clone()?);
+            Ok(leaf(make_node(alloc, span, name)?, true))
+        }
         Kind::Reserved(word) => begin_word(alloc, stack, *word, span),
         Kind::Symbol(sign) => begin_sign(alloc, stack, *sign, span),
     }
@@ -448,33 +459,32 @@ fn empty_from(stack: &[Pending]) -> Option<Span>
 }
 
 // A type that has come.
-fn end_type(stack: &mut Vec<Pending>, part: TypePart) -> Mode
+fn end_type(alloc: Global, stack: &mut Vec<Pending>, part: TypePart) -> Result<Mode, ParseFault>
     ensures { (ws : List Waiting) (a : TypeTree) → SeesStack stack.old.items ws → SeesType part a →
-        SeesStack stack.new.items (type_done ws a).0 × SeesMode result (type_done ws a).1 }
+        Follows result stack.new.items (Some (type_done ws a)) }
 {
     match empty_from(stack.as_slice()) {
         Some(from) => {
             drop(pop_type(stack));
-            Mode::Behind {
-                fresh: false,
-                part: empty_of(part, from),
-            }
+            let part = empty_of(alloc, part, from)?;
+            Ok(Mode::Behind { fresh: false, part })
         }
-        None => Mode::Typed(part),
+        None => Ok(Mode::Typed(part)),
     }
 }
 
 // A token where a type is to come.
-fn begin_written(stack: &mut Vec<Pending>, token: &Token) -> Result<Mode, ParseFault>
+#[inline(never)]
+fn begin_written(alloc: Global, stack: &mut Vec<Pending>, token: &Token) -> Result<Mode, ParseFault>
     ensures { (ws : List Waiting) → SeesStack stack.old.items ws →
         Follows result stack.new.items (typed_with ws token.now.span (lexeme_of token.now.kind)) }
 {
     let span = token.span;
     match &token.kind {
         Kind::Reserved(word) => match word {
-            Word::Int => Ok(end_type(stack, types::leaf(span, TypeNode::Int))),
-            Word::Bool => Ok(end_type(stack, types::leaf(span, TypeNode::Bool))),
-            Word::Char => Ok(end_type(stack, types::leaf(span, TypeNode::Char))),
+            Word::Int => end_type(alloc, stack, types::leaf(span, TypeNode::Int)),
+            Word::Bool => end_type(alloc, stack, types::leaf(span, TypeNode::Bool)),
+            Word::Char => end_type(alloc, stack, types::leaf(span, TypeNode::Char)),
             _ => Err(ParseFault::Syntax),
         },
         Kind::Name(name) => {
@@ -482,7 +492,7 @@ fn begin_written(stack: &mut Vec<Pending>, token: &Token) -> Result<Mode, ParseF
                 name: name.clone()?,
                 token: span,
             };
-            Ok(end_type(stack, types::leaf(span, name)))
+            end_type(alloc, stack, types::leaf(span, name))
         }
         Kind::Symbol(sign) => match sign {
             Sign::OpenBracket => wait_for_type(stack, TypeOpening::List(span)),
@@ -559,7 +569,7 @@ fn bracket(
         return refuse(part);
     };
     let part = bracketed(alloc, opening, part, at)?;
-    Ok(end_type(stack, part))
+    end_type(alloc, stack, part)
 }
 
 // A `)` behind a type.
@@ -581,7 +591,7 @@ fn close_types(
             TypeOpening::Comma(left) => part = pair_of(alloc, left, part)?,
             TypeOpening::Round(from) => {
                 let part = types::widen(part, over(from, at));
-                return Ok(end_type(stack, part));
+                return end_type(alloc, stack, part);
             }
             other => return refuse((other, part)),
         }
@@ -589,6 +599,7 @@ fn close_types(
 }
 
 // A token behind a type.
+#[inline(never)]
 fn follow_type(
     alloc: Global,
     stack: &mut Vec<Pending>,
@@ -631,7 +642,7 @@ fn step(
                 token.span,
             )
         }
-        Mode::Typing => begin_written(stack, token),
+        Mode::Typing => begin_written(alloc, stack, token),
         Mode::Typed(part) => follow_type(alloc, stack, part, token),
     }
 }

@@ -17,7 +17,7 @@ use Rattle.nesl_syntax_tree.specs.Views.{tree_of, trees_in, binders_in, pattern_
 use Rattle.nesl_syntax_tree.specs.Patterns.{is_pattern}
 
 abbrev pub Sees : Part → Tree → Type 0
-Sees (part.Built e h b) t = (tree_of e ≡ t) × (h ≡ height t) × (h ≤ 100) × (b ≡ is_pattern t)
+Sees (part.Built e h b) t = (tree_of e.value ≡ t) × (h ≡ height t) × (h ≤ 100) × (b ≡ is_pattern t)
 Sees (part.High b) t = (100 < height t) × (b ≡ is_pattern t)
 
 abbrev pub SeesBody : Option Part → Option Tree → Type 0
@@ -34,7 +34,7 @@ SeesBound (bindings.Built v h) bs = (binders_in v.items ≡ bs) × (h ≡ greate
 SeesBound bindings.High bs = 100 < greatest_binder_height bs
 
 abbrev pub SeesPattern : PatternPart → PatternTree → Type 0
-SeesPattern (patterns.Built p h) t = (pattern_tree p ≡ t) × (h ≡ pattern_height t) × (h ≤ 100)
+SeesPattern (patterns.Built p h) t = (pattern_tree p.value ≡ t) × (h ≡ pattern_height t) × (h ≤ 100)
 SeesPattern patterns.High t = 100 < pattern_height t
 
 abbrev pub SeesType : TypePart → TypeTree → Type 0

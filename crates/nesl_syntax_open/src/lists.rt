@@ -10,7 +10,7 @@ ghost use Rattle.nesl_syntax_tree.specs.Grammar.{spanning, unwritten_body};
 ghost use Rattle.nesl_syntax_open.specs.Machine.{body_or};
 ghost use Rattle.nesl_syntax_open.specs.Parts.{Sees, SeesAll, SeesBound, SeesBody, SeesPattern};
 
-use crate::part::{LIMIT, Part, boxed, boxes, built, low_enough, none, over, too_high};
+use crate::part::{LIMIT, Part, boxed, built, low_enough, make_node, none, over, too_high};
 use crate::pattern::PatternPart;
 use nesl_lex::token::Span;
 use nesl_syntax_tree::tree::{Binding, Exp, Node};
@@ -39,7 +39,7 @@ pub fn push_part(elements: Elements, part: Part) -> Result<Elements, AllocError>
         Elements::Built { items, height: m } => match part {
             Part::Built { exp, height: n, .. } => {
                 let mut items = items;
-                items.push(exp)?;
+                items.push(Box::into_inner(exp))?;
                 Ok(Elements::Built {
                     items,
                     height: m.max(n),
@@ -90,6 +90,8 @@ pub fn push_binding(
         return Ok(not_built((items, pattern)));
     };
     let mut items = items;
+    let pattern = Box::into_inner(pattern);
+    let value = Box::into_inner(value);
     items.push(Binding { pattern, value })?;
     Ok(Bindings::Built {
         items,
@@ -132,14 +134,14 @@ fn filtered_node(body: Box<Exp>, items: Vec<Binding>, filter: Box<Exp>) -> Node
     }
 }
 
-pub fn sequence_of(elements: Elements, span: Span) -> Part
-    ensures { (xs : Trees) → SeesAll elements xs → Sees result (node span (trees.sequence xs)) }
+pub fn sequence_of(alloc: Global, elements: Elements, span: Span) -> Result<Part, AllocError>
+    ensures { IfOk result (λ r. (xs : Trees) → SeesAll elements xs → Sees r (node span (trees.sequence xs))) }
 {
     match elements {
         Elements::Built { items, height } if height < LIMIT => {
-            built(span, sequence_node(items), height, false)
+            Ok(built(make_node(alloc, span, sequence_node(items))?, height, false))
         }
-        other => too_high(other, false),
+        other => Ok(too_high(other, false)),
     }
 }
 
@@ -156,6 +158,7 @@ fn low_bindings(bindings: Bindings) -> Option<(Vec<Binding>, usize)>
     }
 }
 
+#[inline(never)]
 pub fn let_of(alloc: Global, word: Span, bindings: Bindings, body: Part) -> Result<Part, AllocError>
     ensures { IfOk result (λ r. (bs : Binders) (x : Tree) → SeesBound bindings bs → Sees body x →
         Sees r (node (spanning word (span_of x)) (trees.let_in bs x))) }
@@ -167,8 +170,8 @@ pub fn let_of(alloc: Global, word: Span, bindings: Bindings, body: Part) -> Resu
         return Ok(too_high(items, false));
     };
     let span = over(word, body.span);
-    let node = let_node(items, boxed(alloc, body)?);
-    Ok(built(span, node, m.max(n), false))
+    let exp = make_node(alloc, span, let_node(items, body))?;
+    Ok(built(exp, m.max(n), false))
 }
 
 // The body of an apply-to-each that has none.
@@ -186,34 +189,38 @@ fn element_of(items: &[Binding]) -> Exp
 }
 
 // The body of an apply-to-each.
-fn body_of(body: Option<Part>, items: &[Binding]) -> Part
-    ensures { (b : Option Tree) → SeesBody body b → Sees result (body_or b (binders_in items.now)) }
+fn body_of(alloc: Global, body: Option<Part>, items: &[Binding]) -> Result<Part, AllocError>
+    ensures { IfOk result (λ r. (b : Option Tree) → SeesBody body b → Sees r (body_or b (binders_in items.now))) }
 {
     match body {
-        Some(part) => part,
-        None => Part::Built {
-            exp: element_of(items),
+        Some(part) => Ok(part),
+        None => Ok(Part::Built {
+            exp: boxed(alloc, element_of(items))?,
             height: 1,
             pattern: false,
-        },
+        }),
     }
 }
 
+/// The body and the binders of an apply-to-each with their greater height, where a node may stand over them.
+type LowEach = Option<(Box<Exp>, Vec<Binding>, usize)>;
+
 // The body and the binders of an apply-to-each with their greater height, where a node may stand over them.
-fn low_each(body: Option<Part>, bindings: Bindings) -> Option<(Exp, Vec<Binding>, usize)>
-    ensures low { IfSome result (λ r. r.2 < 100) }
-    ensures seen { (b : Option Tree) (bs : Binders) → SeesBody body b → SeesBound bindings bs →
+fn low_each(alloc: Global, body: Option<Part>, bindings: Bindings) -> Result<LowEach, AllocError>
+    ensures low { IfOk result (λ found. IfSome found (λ r. r.2 < 100)) }
+    ensures seen { IfOk result (λ found. (b : Option Tree) (bs : Binders) → SeesBody body b → SeesBound bindings bs →
         let greater = max (height (body_or b bs)) (greatest_binder_height bs) in
-        MatchOption result (100 ≤ greater)
-        (λ r. (tree_of r.0 ≡ body_or b bs) × (binders_in r.1.items ≡ bs) × (r.2 ≡ greater)) }
+        MatchOption found (100 ≤ greater)
+        (λ r. (tree_of r.0.value ≡ body_or b bs) × (binders_in r.1.items ≡ bs) × (r.2 ≡ greater))) }
 {
     let Some((items, m)) = low_bindings(bindings) else {
-        return none(body);
+        return Ok(none(body));
     };
-    let Some((body, n)) = low_enough(body_of(body, items.as_slice())) else {
-        return none(items);
+    let body = body_of(alloc, body, items.as_slice())?;
+    let Some((body, n)) = low_enough(body) else {
+        return Ok(none(items));
     };
-    Some((body, items, n.max(m)))
+    Ok(Some((body, items, n.max(m))))
 }
 
 pub fn each_of(
@@ -225,11 +232,11 @@ pub fn each_of(
     ensures { IfOk result (λ r. (b : Option Tree) (bs : Binders) → SeesBody body b → SeesBound bindings bs →
         Sees r (node span (trees.each (body_or b bs) bs))) }
 {
-    let Some((body, items, height)) = low_each(body, bindings) else {
+    let Some((body, items, height)) = low_each(alloc, body, bindings)? else {
         return Ok(Part::High(false));
     };
-    let node = each_node(boxed(alloc, body)?, items);
-    Ok(built(span, node, height, false))
+    let exp = make_node(alloc, span, each_node(body, items))?;
+    Ok(built(exp, height, false))
 }
 
 pub fn filtered_each_of(
@@ -243,12 +250,12 @@ pub fn filtered_each_of(
         SeesBound bindings bs → Sees filter x →
         Sees r (node span (trees.filtered_each (body_or b bs) bs x))) }
 {
-    let Some((body, items, m)) = low_each(body, bindings) else {
+    let Some((body, items, m)) = low_each(alloc, body, bindings)? else {
         return Ok(too_high(filter, false));
     };
     let Some((filter, n)) = low_enough(filter) else {
         return Ok(too_high((body, items), false));
     };
-    let (body, filter) = boxes(alloc, body, filter)?;
-    Ok(built(span, filtered_node(body, items, filter), m.max(n), false))
+    let exp = make_node(alloc, span, filtered_node(body, items, filter))?;
+    Ok(built(exp, m.max(n), false))
 }

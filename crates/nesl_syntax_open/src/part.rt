@@ -18,10 +18,11 @@ use std::alloc::{AllocError, Global};
 pub const LIMIT: usize = 100;
 
 /// An expression with its height, or one that is too high and isn't built; and whether its tokens could be a pattern.
+/// The expression lies on the heap from the first: what is open stays small, and the node over it takes it as it is.
 #[derive(Drop)]
 pub enum Part {
     Built {
-        exp: Exp,
+        exp: Box<Exp>,
         height: usize,
         pattern: bool,
     },
@@ -44,23 +45,30 @@ pub(crate) fn none<T: Drop, U>(parts: T) -> Option<U>
     None
 }
 
-/// A node in these bytes over parts of at most this height.
-pub(crate) fn built(span: Span, node: Node, height: usize, pattern: bool) -> Part
+/// A node in these bytes, on the heap.
+pub fn make_node(alloc: Global, span: Span, node: Node) -> Result<Box<Exp>, AllocError>
+    ensures { IfOk result (λ r. r.value ≡ record { span = span; node = node }) }
+{
+    boxed(alloc, Exp { span, node })
+}
+
+/// A node over parts of at most this height.
+pub(crate) fn built(exp: Box<Exp>, height: usize, pattern: bool) -> Part
     requires { height < 100 }
-    ensures { result ≡ part.Built (record { span = span; node = node }) (height + 1) pattern }
+    ensures { result ≡ part.Built exp (height + 1) pattern }
 {
     Part::Built {
-        exp: Exp { span, node },
+        exp,
         height: height + 1,
         pattern,
     }
 }
 
 /// An expression with its height, where a node may stand over it.
-pub(crate) fn low_enough(part: Part) -> Option<(Exp, usize)>
+pub(crate) fn low_enough(part: Part) -> Option<(Box<Exp>, usize)>
     ensures low { IfSome result (λ r. r.1 < 100) }
     ensures seen { (x : Tree) → Sees part x →
-        MatchOption result (100 ≤ height x) (λ r. (tree_of r.0 ≡ x) × (r.1 ≡ height x)) }
+        MatchOption result (100 ≤ height x) (λ r. (tree_of r.0.value ≡ x) × (r.1 ≡ height x)) }
 {
     match part {
         Part::Built { exp, height, .. } if height < LIMIT => Some((exp, height)),
@@ -69,10 +77,11 @@ pub(crate) fn low_enough(part: Part) -> Option<(Exp, usize)>
 }
 
 // Two expressions with their greater height, where a node may stand over them.
-fn both(left: Part, right: Part) -> Option<(Exp, Exp, usize)>
+fn both(left: Part, right: Part) -> Option<(Box<Exp>, Box<Exp>, usize)>
     ensures low { IfSome result (λ r. r.2 < 100) }
     ensures seen { (x y : Tree) → Sees left x → Sees right y → let greater = max (height x) (height y) in
-        MatchOption result (100 ≤ greater) (λ r. (tree_of r.0 ≡ x) × (tree_of r.1 ≡ y) × (r.2 ≡ greater)) }
+        MatchOption result (100 ≤ greater)
+        (λ r. (tree_of r.0.value ≡ x) × (tree_of r.1.value ≡ y) × (r.2 ≡ greater)) }
 {
     let Some((left, m)) = low_enough(left) else {
         return none(right);
@@ -151,8 +160,8 @@ pub fn call_of(alloc: Global, name: Vec<u8>, part: Part, span: Span) -> Result<P
     let Some((argument, height)) = low_enough(part) else {
         return Ok(Part::High(pattern));
     };
-    let argument = boxed(alloc, argument)?;
-    Ok(built(span, Node::Call { name, argument }, height, pattern))
+    let exp = make_node(alloc, span, Node::Call { name, argument })?;
+    Ok(built(exp, height, pattern))
 }
 
 pub fn pair_of(alloc: Global, left: Part, right: Part) -> Result<Part, AllocError>
@@ -164,8 +173,8 @@ pub fn pair_of(alloc: Global, left: Part, right: Part) -> Result<Part, AllocErro
         return Ok(Part::High(pattern));
     };
     let span = over(left.span, right.span);
-    let (left, right) = boxes(alloc, left, right)?;
-    Ok(built(span, Node::Pair { left, right }, height, pattern))
+    let exp = make_node(alloc, span, Node::Pair { left, right })?;
+    Ok(built(exp, height, pattern))
 }
 
 pub fn prefix_of(alloc: Global, prefix: Prefix, sign: Span, part: Part) -> Result<Part, AllocError>
@@ -178,9 +187,9 @@ pub fn prefix_of(alloc: Global, prefix: Prefix, sign: Span, part: Part) -> Resul
     let span = over(sign, operand.span);
     let node = Node::Prefix {
         operator: prefix,
-        operand: boxed(alloc, operand)?,
+        operand,
     };
-    Ok(built(span, node, height, false))
+    Ok(built(make_node(alloc, span, node)?, height, false))
 }
 
 pub fn infix_of(
@@ -196,13 +205,12 @@ pub fn infix_of(
         return Ok(Part::High(false));
     };
     let span = over(left.span, right.span);
-    let (left, right) = boxes(alloc, left, right)?;
     let node = Node::Infix {
         operator,
         left,
         right,
     };
-    Ok(built(span, node, height, false))
+    Ok(built(make_node(alloc, span, node)?, height, false))
 }
 
 pub fn index_of(alloc: Global, base: Part, index: Part, close: Span) -> Result<Part, AllocError>
@@ -213,8 +221,8 @@ pub fn index_of(alloc: Global, base: Part, index: Part, close: Span) -> Result<P
         return Ok(Part::High(false));
     };
     let span = over(sequence.span, close);
-    let (sequence, index) = boxes(alloc, sequence, index)?;
-    Ok(built(span, Node::Index { sequence, index }, height, false))
+    let exp = make_node(alloc, span, Node::Index { sequence, index })?;
+    Ok(built(exp, height, false))
 }
 
 pub fn range_of(alloc: Global, from: Part, to: Part, span: Span) -> Result<Part, AllocError>
@@ -223,17 +231,21 @@ pub fn range_of(alloc: Global, from: Part, to: Part, span: Span) -> Result<Part,
     let Some((from, to, height)) = both(from, to) else {
         return Ok(Part::High(false));
     };
-    let (from, to) = boxes(alloc, from, to)?;
-    Ok(built(span, Node::Range { from, to }, height, false))
+    let exp = make_node(alloc, span, Node::Range { from, to })?;
+    Ok(built(exp, height, false))
 }
 
 // Three expressions with their greatest height, where a node may stand over them.
-fn all_three(first: Part, second: Part, third: Part) -> Option<(Exp, Exp, Exp, usize)>
+fn all_three(
+    first: Part,
+    second: Part,
+    third: Part,
+) -> Option<(Box<Exp>, Box<Exp>, Box<Exp>, usize)>
     ensures low { IfSome result (λ r. r.3 < 100) }
     ensures seen { (x y z : Tree) → Sees first x → Sees second y → Sees third z →
         let greatest = max (height x) (max (height y) (height z)) in
         MatchOption result (100 ≤ greatest)
-        (λ r. (tree_of r.0 ≡ x) × (tree_of r.1 ≡ y) × (tree_of r.2 ≡ z) × (r.3 ≡ greatest)) }
+        (λ r. (tree_of r.0.value ≡ x) × (tree_of r.1.value ≡ y) × (tree_of r.2.value ≡ z) × (r.3 ≡ greatest)) }
 {
     let Some((first, second, m)) = both(first, second) else {
         return none(third);
@@ -242,19 +254,6 @@ fn all_three(first: Part, second: Part, third: Part) -> Option<(Exp, Exp, Exp, u
         return none((first, second));
     };
     Some((first, second, third, m.max(n)))
-}
-
-fn three_boxes<T: Drop>(
-    alloc: Global,
-    first: T,
-    second: T,
-    third: T,
-) -> Result<(Box<T>, Box<T>, Box<T>), AllocError>
-    ensures { IfOk result (λ r. (r.0.value ≡ first) × (r.1.value ≡ second) × (r.2.value ≡ third)) }
-{
-    let (first, second) = boxes(alloc, first, second)?;
-    let third = boxed(alloc, third)?;
-    Ok((first, second, third))
 }
 
 pub fn strided_range_of(
@@ -270,10 +269,11 @@ pub fn strided_range_of(
     let Some((from, to, stride, height)) = all_three(from, to, stride) else {
         return Ok(Part::High(false));
     };
-    let (from, to, stride) = three_boxes(alloc, from, to, stride)?;
-    Ok(built(span, Node::StridedRange { from, to, stride }, height, false))
+    let exp = make_node(alloc, span, Node::StridedRange { from, to, stride })?;
+    Ok(built(exp, height, false))
 }
 
+#[inline(never)]
 pub fn choice_of(
     alloc: Global,
     word: Span,
@@ -288,19 +288,20 @@ pub fn choice_of(
         return Ok(Part::High(false));
     };
     let span = over(word, no.span);
-    let (test, yes, no) = three_boxes(alloc, test, yes, no)?;
-    Ok(built(span, Node::Choice { test, yes, no }, height, false))
+    let exp = make_node(alloc, span, Node::Choice { test, yes, no })?;
+    Ok(built(exp, height, false))
 }
 
 /// An empty sequence whose `[` stands here.
-pub fn empty_of(written: TypePart, from: Span) -> Part
-    ensures { (x : TypeTree) → SeesType written x → Sees result (node (spanning from (type_span x)) (trees.empty x)) }
+pub fn empty_of(alloc: Global, written: TypePart, from: Span) -> Result<Part, AllocError>
+    ensures { IfOk result (λ r. (x : TypeTree) → SeesType written x →
+        Sees r (node (spanning from (type_span x)) (trees.empty x))) }
 {
     match written {
         TypePart::Built { written, height } if height < LIMIT => {
             let span = over(from, written.span);
-            built(span, Node::Empty(written), height, false)
+            Ok(built(make_node(alloc, span, Node::Empty(written))?, height, false))
         }
-        other => too_high(other, false),
+        other => Ok(too_high(other, false)),
     }
 }

@@ -13,7 +13,10 @@ use std::alloc::{AllocError, Global};
 /// A pattern with its height, or one that is too high and isn't built.
 #[derive(Drop)]
 pub enum PatternPart {
-    Built { pattern: Pattern, height: usize },
+    Built {
+        pattern: Box<Pattern>,
+        height: usize,
+    },
     High,
 }
 
@@ -76,8 +79,11 @@ pub fn pattern_of(alloc: Global, part: Part) -> Result<Option<PatternPart>, Allo
     ensures { IfOk result (λ r. (x : Tree) → Sees part x → PatternGiven r (pattern_in x)) }
 {
     match part {
-        Part::Built { exp, height, .. } => match pattern_from(alloc, exp)? {
-            Some(pattern) => Ok(Some(PatternPart::Built { pattern, height })),
+        Part::Built { exp, height, .. } => match pattern_from(alloc, Box::into_inner(exp))? {
+            Some(found) => {
+                let pattern = boxed(alloc, found)?;
+                Ok(Some(PatternPart::Built { pattern, height }))
+            }
             None => Ok(None),
         },
         Part::High(true) => Ok(Some(PatternPart::High)),

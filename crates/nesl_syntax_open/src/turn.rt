@@ -68,6 +68,7 @@ fn end_round(part: Part, from: Span, end: PlacedMark) -> Result<Turn, ParseFault
     }
 }
 
+#[inline(never)]
 fn end_call(
     alloc: Global,
     name: Vec<u8>,
@@ -83,6 +84,7 @@ fn end_call(
     }
 }
 
+#[inline(never)]
 fn end_index(alloc: Global, base: Part, part: Part, end: PlacedMark) -> Result<Turn, ParseFault>
     ensures { (a x : Tree) → Sees base a → Sees part x → Turns result (turned end.mark end.at (machine.index_of a) x) }
 {
@@ -101,6 +103,7 @@ fn end_test(part: Part, word: Span, end: PlacedMark) -> Result<Turn, ParseFault>
     }
 }
 
+#[inline(never)]
 fn end_branch(test: Part, part: Part, word: Span, end: PlacedMark) -> Result<Turn, ParseFault>
     ensures { (a x : Tree) → Sees test a → Sees part x →
         Turns result (turned end.mark end.at (machine.branch word a) x) }
@@ -115,8 +118,10 @@ fn end_branch(test: Part, part: Part, word: Span, end: PlacedMark) -> Result<Tur
     }
 }
 
+#[inline(never)]
 #[tactic(auto, using(crate::proofs::Turns::no_elements))]
 fn end_list(
+    alloc: Global,
     some: bool,
     elements: Elements,
     part: Part,
@@ -129,7 +134,8 @@ fn end_list(
     match end.mark {
         Mark::CloseBracket => {
             let elements = push_part(elements, part)?;
-            Ok(Turn::Ends(sequence_of(elements, over(from, end.at))))
+            let list = sequence_of(alloc, elements, over(from, end.at))?;
+            Ok(Turn::Ends(list))
         }
         Mark::Colon => {
             drop(elements);
@@ -142,6 +148,7 @@ fn end_list(
     }
 }
 
+#[inline(never)]
 fn end_range_from(
     alloc: Global,
     start: Part,
@@ -163,6 +170,7 @@ fn end_range_from(
     }
 }
 
+#[inline(never)]
 fn end_range_to(
     alloc: Global,
     start: Part,
@@ -209,6 +217,7 @@ pub fn no_bindings(alloc: Global) -> Bindings
     }
 }
 
+#[inline(never)]
 fn end_brace(alloc: Global, part: Part, from: Span, end: PlacedMark) -> Result<Turn, ParseFault>
     ensures { (x : Tree) → Sees part x → Turns result (turned end.mark end.at (machine.brace from) x) }
 {
@@ -234,6 +243,7 @@ fn end_brace(alloc: Global, part: Part, from: Span, end: PlacedMark) -> Result<T
     }
 }
 
+#[inline(never)]
 fn end_pattern(
     alloc: Global,
     group: Group,
@@ -273,6 +283,7 @@ fn end_let_value(bindings: Bindings, word: Span, end: PlacedMark) -> Result<Turn
 }
 
 // Behind the value of a binder of an apply-to-each.
+#[inline(never)]
 fn end_each_value(
     alloc: Global,
     body: Option<Part>,
@@ -299,6 +310,7 @@ fn end_each_value(
     }
 }
 
+#[inline(never)]
 #[tactic(auto, using(crate::proofs::Turns::at_let, crate::proofs::Turns::at_each, crate::proofs::Turns::some_bound))]
 fn end_value(
     alloc: Global,
@@ -321,6 +333,7 @@ fn end_value(
     }
 }
 
+#[inline(never)]
 fn end_filter(
     alloc: Global,
     body: Option<Part>,
@@ -342,6 +355,7 @@ fn end_filter(
 }
 
 /// An opening with an expression and this token at this place behind it.
+#[inline(never)]
 pub fn turn_of(
     alloc: Global,
     opening: Opening,
@@ -363,7 +377,7 @@ pub fn turn_of(
             from,
             some,
             elements,
-        } => end_list(some, elements, part, from, end),
+        } => end_list(alloc, some, elements, part, from, end),
         Opening::RangeFrom { from, start } => end_range_from(alloc, start, part, from, end),
         Opening::RangeTo { from, start, stop } => {
             end_range_to(alloc, start, stop, part, from, end)
