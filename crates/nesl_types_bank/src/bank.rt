@@ -39,7 +39,9 @@ impl Model for Bank {
     ghost invariant = { λ b. IsBank b.shapes.keys b.sizes.items };
 }
 
-ghost use Rattle.std.specs.Prelude.{◌≡◌, ◌<◌, ◌↔◌, ℕ, IsTrue, length, slice_index, IfSome, IfOk, OnErr};
+ghost use Rattle.std.specs.Prelude.{◌≡◌, ◌<◌, ◌↔◌, ℕ, IsTrue, length, slice_index, IfSome, IfOk, OnOk, OnErr};
+ghost use Rattle.std.specs.Prelude.{vec_len};
+ghost use Rattle.std.specs.Vec.{vec_capacity};
 ghost use Rattle.nesl_types_bank.specs.Shapes.{IsShapeBelow, shape_type, shape_size};
 ghost use Rattle.nesl_types_bank.specs.Types.{type_at, size_of, AreDistinct, IsPlaced, Extends, IsPut};
 
@@ -55,11 +57,33 @@ fn size_of(sizes: &[u64], shape: Shape) -> u64
     }
 }
 
+/// How many types a bank takes room for at its first.
+const FIRST_ROOM: usize = 36;
+
+/// Room for the shapes of the first types.
+fn reserve_shapes(shapes: &mut IndexSet<Shape>) -> Result<(), AllocError>
+    ensures { shapes.new.keys ≡ shapes.old.keys }
+{
+    if shapes.capacity() == 0 {
+        shapes.reserve(FIRST_ROOM)?;
+    }
+    Ok(())
+}
+
+/// Room for the size of one type more.
+fn reserve_sizes(sizes: &mut Vec<u64>) -> Result<(), AllocError>
+    ensures items { sizes.new.items ≡ sizes.old.items }
+    ensures ok { OnOk result (vec_len sizes.new < vec_capacity sizes.new) }
+{
+    sizes.reserve(if sizes.is_empty() { FIRST_ROOM } else { 1 })
+}
+
 /// The place of a shape, which is added where it isn't there, and whether it was added.
 fn place_of(shapes: &mut IndexSet<Shape>, shape: Shape) -> Result<(usize, bool), AllocError>
     ensures ok { IfOk result (λ r. IsPlaced shapes.old.keys shapes.new.keys shape r.0 r.1) }
     ensures err { OnErr result (shapes.new.keys ≡ shapes.old.keys) }
 {
+    reserve_shapes(shapes)?;
     Ok(shapes.insert_full(shape)?)
 }
 
@@ -143,7 +167,7 @@ impl Bank {
         ensures err { OnErr result (self.new ≡ self.old) }
     {
         let size = size_of(&self.sizes, shape);
-        self.sizes.reserve(1)?;
+        reserve_sizes(&mut self.sizes)?;
         let (place, added) = place_of(&mut self.shapes, shape)?;
         if added {
             self.sizes.push_reserved(size);
