@@ -3,11 +3,15 @@
 
 mod binary;
 mod column;
+mod gather;
 mod leaf;
 mod made;
+mod sides;
 mod unary;
 
 pub use binary::of_two;
 pub use column::Column;
+pub use gather::{gathered, leaves_at, leaves_of_sides};
 pub use made::{each_of, each_of_two};
+pub use sides::{Sides, split_sides};
 pub use unary::of_one;
