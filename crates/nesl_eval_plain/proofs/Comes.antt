@@ -1,5 +1,7 @@
 -- Places that come to leaves.
 use Rattle.std.proofs.Common.{◌≡◌, ℕ, zero, suc, ◌+◌, ◌-◌, ◌*◌, ◌<◌, max, Bool, cond, List, [], ◌∷◌, ◌++◌, map, length, replicate, refl, ap, ◌∙◌, arith, subst}
+use Rattle.std.specs.Prelude.{sum}
+use Rattle.std.proofs.lemmas.List.Sums.{sum_by-cons}
 use Rattle.nesl_lex.specs.declared.token.Span.{Span}
 use Rattle.nesl_values.specs.Tree.{int, boolean, character, pair, size}
 use Rattle.nesl_scalars.specs.declared.unary.Unary.{Unary}
@@ -15,7 +17,7 @@ use Rattle.nesl_eval_meaning.specs.Outcome.{small_enough, apply_builtin, on_scal
 use Rattle.nesl_eval_code.specs.Run.{Runs, Table, run, run_node, run_two}
 use Rattle.nesl_eval_columns.specs.Each.{EachTwo, EachThree}
 use Rattle.nesl_eval_columns.specs.Columns.{Makes, MapsColumn}
-use Rattle.nesl_eval_plain.specs.Comes.{Comes, deep, chosen}
+use Rattle.nesl_eval_plain.specs.Comes.{Comes, greatest, chosen}
 
 -- what follows at each place
 pub each_so : {X Y : Type 0} (P Q : X → Y → Type 0) → ((x : X) (y : Y) → P x y → Q x y) → (xs : List X) (ys : List Y) → EachTwo P xs ys → EachTwo Q xs ys
@@ -73,28 +75,29 @@ abbrev pub Small : List Value → Type 0
 Small [] = Unit {0}
 Small (v ∷ vs) = (size v ≡ 1) × Small vs
 
-deepest : (n : ℕ) (is : List ℕ) → max (n + 0) (deep is n) ≡ n
-deepest n [] = omega arith
-deepest n (i ∷ is) = omega arith
+-- numbers, of which one stands before the others
+pub sum_next : (n : ℕ) (ns : List ℕ) → sum (n ∷ ns) ≡ n + sum ns
+sum_next n ns = sum_by-cons (λ x. x) n ns
 
-pub bodies_of : (p : ℕ → Out Value) (n : ℕ) (is : List ℕ) (vs : List Value) → Comes p n is vs → Small vs → all_beside (λ i. and_then (p i) body_value) is ≡ value vs (length is * (n + 1)) (deep is n)
-bodies_of p n [] [] h l = cost_is [] 0 (0 * (n + 1)) 0 0 (omega arith) refl
-bodies_of p n [] (v ∷ vs) h l = absurd h
-bodies_of p n (i ∷ is) [] h l = absurd h
-bodies_of p n (i ∷ is) (v ∷ vs) h l =
+pub bodies_of : (p : ℕ → Out Value) (is : List ℕ) (vs : List Value) (ns : List ℕ) → Comes p is vs ns → Small vs → all_beside (λ i. and_then (p i) body_value) is ≡ value vs (sum ns + length is) (greatest ns)
+bodies_of p [] [] [] h l = cost_is [] 0 (sum [] + 0) 0 0 (omega arith) refl
+bodies_of p (i ∷ is) (v ∷ vs) (n ∷ ns) h l =
     ap (λ o. beside (and_then o body_value) (all_beside (λ i. and_then (p i) body_value) is)) h.0
-    ∙ ap (λ o. beside (and_then (value v n n) body_value) o) (bodies_of p n is vs h.1 l.1)
-    ∙ cost_is (v ∷ vs) (n + size v + length is * (n + 1)) (suc (length is) * (n + 1)) (max (n + 0) (deep is n)) n (omega (arith, l.0)) (deepest n is)
+    ∙ ap (λ o. beside (and_then (value v n n) body_value) o) (bodies_of p is vs ns h.1 l.1)
+    ∙ cost_is (v ∷ vs) (n + size v + (sum ns + length is)) (sum (n ∷ ns) + suc (length is)) (max (n + 0) (greatest ns)) (max n (greatest ns)) (omega (arith, l.0, sum_next n ns)) (omega arith)
+bodies_of p _ _ _ h l = absurd h
 
 -- the filters
-pub filters_of : (p : ℕ → Out Value) (n : ℕ) (is : List ℕ) (bs : List Bool) → Comes p n is (map boolean bs) → all_beside (λ i. and_then (p i) (place_if_true i)) is ≡ value (chosen is bs) (length is * n) (deep is n)
-filters_of p n [] [] h = cost_is [] 0 (0 * n) 0 0 (omega arith) refl
-filters_of p n [] (b ∷ bs) h = absurd h
-filters_of p n (i ∷ is) [] h = absurd h
-filters_of p n (i ∷ is) (b ∷ bs) h =
+pub filters_of : (p : ℕ → Out Value) (is : List ℕ) (bs : List Bool) (ns : List ℕ) → Comes p is (map boolean bs) ns → all_beside (λ i. and_then (p i) (place_if_true i)) is ≡ value (chosen is bs) (sum ns) (greatest ns)
+filters_of p [] [] [] h = refl
+filters_of p (i ∷ is) (b ∷ bs) (n ∷ ns) h =
     ap (λ o. beside (and_then o (place_if_true i)) (all_beside (λ i. and_then (p i) (place_if_true i)) is)) h.0
-    ∙ ap (λ o. beside (and_then (value (boolean b) n n) (place_if_true i)) o) (filters_of p n is bs h.1)
-    ∙ cost_is (cond b (i ∷ []) [] ++ chosen is bs) (n + 0 + length is * n) (suc (length is) * n) (max (n + 0) (deep is n)) n (omega arith) (deepest n is)
+    ∙ ap (λ o. beside (and_then (value (boolean b) n n) (place_if_true i)) o) (filters_of p is bs ns h.1)
+    ∙ cost_is (cond b (i ∷ []) [] ++ chosen is bs) (n + 0 + sum ns) (sum (n ∷ ns)) (max (n + 0) (greatest ns)) (max n (greatest ns)) (omega (arith, sum_next n ns)) (omega arith)
+filters_of p [] [] (n ∷ ns) h = absurd h
+filters_of p [] (b ∷ bs) ns h = absurd h
+filters_of p (i ∷ is) [] ns h = absurd h
+filters_of p (i ∷ is) (b ∷ bs) [] h = absurd h
 
 -- a pair that was entered, and what is made of it
 pub added_added : {X : Type 0} (w d w' d' : ℕ) (o : Out X) → after_cost (w + w') (d + d') o ≡ after_cost w d (after_cost w' d' o)

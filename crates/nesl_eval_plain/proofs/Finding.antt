@@ -22,6 +22,7 @@ use Rattle.nesl_eval_code.specs.Run.{Runs, Table, run, run_node, run_two, run_le
 use Rattle.nesl_eval_columns.specs.declared.column.Column.{Column}
 use Rattle.nesl_eval_columns.specs.Each.{EachTwo, EachThree}
 use Rattle.nesl_eval_columns.specs.Columns.{leaves_of, Makes, MapsColumn}
+use Rattle.nesl_eval_plain.specs.Costs.{Sums}
 use Rattle.nesl_eval_plain.specs.Picked.{Picks}
 use Rattle.nesl_eval_plain.specs.Frames.{bound_at, IsAt, AreAt, AllAre}
 use Rattle.nesl_eval_plain.proofs.Comes.{entered_at, then_entered_at, one_at, two_at, pair_at, added_added}
@@ -41,28 +42,12 @@ three_at P (a ∷ xs) (b ∷ ys) [] k x y h e f = absurd h
 three_at P (a ∷ xs) (b ∷ ys) (c ∷ zs) zero x y h e f = (c, refl, subst (λ u. P u y c) (same_Some a x e) (subst (λ v. P a v c) (same_Some b y f) h.0))
 three_at P (a ∷ xs) (b ∷ ys) (c ∷ zs) (suc k) x y h e f = three_at P xs ys zs k x y h.1 e f
 
--- and the other way round
-pub two_from : {X Y : Type 0} (P : X → Y → Type 0) (xs : List X) (ys : List Y) → length ys ≡ length xs → ((k : ℕ) (x : X) → slice_get xs k ≡ Some x → (y : Y) × (slice_get ys k ≡ Some y) × P x y) → EachTwo P xs ys
-two_from P [] [] l h = tt
-two_from P [] (y ∷ ys) l h = absurd (omega arith)
-two_from P (x ∷ xs) [] l h = absurd (omega arith)
-two_from P (x ∷ xs) (y ∷ ys) l h =
-    let w = h 0 x refl in
-    (subst (λ z. P x z) (sym (same_Some y w.0 w.1)) w.2, two_from P xs ys (omega arith) (λ k z e. h (suc k) z e))
-
 -- the same outcomes
 pub at_so : (p q : Frames → Out Value) (at : ℕ → Option Frames) (vs : ℕ → Option Value) (ns : ℕ → Option ℕ) → ((fs : Frames) → p fs ≡ q fs) → AreAt q at vs ns → AreAt p at vs ns
 at_so p q at vs ns law h = λ k fs e. subst (IsAt vs ns k) (sym (law fs)) (h k fs e)
 
--- the sums of costs
-abbrev pub Sums : (ℕ → Option ℕ) → (ℕ → Option ℕ) → (ℕ → Option ℕ) → Type 0
-Sums ms ns os = (k m n : ℕ) → ms k ≡ Some m → ns k ≡ Some n → os k ≡ Some (m + n)
-
-pub sums_same : (m n o : ℕ) → o ≡ m + n → Sums (λ k. Some m) (λ k. Some n) (λ k. Some o)
-sums_same m n o e = λ k i j f h. ap Some (omega (arith, same_Some m i f, same_Some n j h))
-
 -- one leaf at all turns
-replicated : (n k : ℕ) (v : Value) → k < n → slice_get (replicate n v) k ≡ Some v
+pub replicated : {X : Type 0} (n k : ℕ) (v : X) → k < n → slice_get (replicate n v) k ≡ Some v
 replicated n k v h = slice_get-get_or (replicate n v) k v (omega (arith, length-replicate n v)) ∙ ap Some (get_or-replicate n k v v h)
 
 pub everywhere : (p : Frames → Out Value) (at : ℕ → Option Frames) (count : ℕ) (v : Value) (vs : List Value) → ((k : ℕ) (fs : Frames) → at k ≡ Some fs → k < count) → vs ≡ replicate count v → AllAre p at (value v 0 0) → AreAt p at (slice_get vs) (λ k. Some 0)

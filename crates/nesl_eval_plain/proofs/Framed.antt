@@ -1,13 +1,13 @@
 -- The frames at the turns of a block.
 use Rattle.std.proofs.Common.{◌≡◌, ℕ, ◌-◌, ◌<◌, List, ◌∷◌, Option, Some, None, Bor, refl, sym, ap, ◌∙◌, subst, rules}
-use Rattle.std.specs.Prelude.{slice_get, option_map, IsSomeAnd}
+use Rattle.std.specs.Prelude.{slice_get, option_map, option_and_then, IsSomeAnd}
 use Rattle.std.proofs.lemmas.Option.{same_Some, none-some}
 use Rattle.nesl_eval_meaning.specs.Names.{Value}
 use Rattle.nesl_eval_code.specs.Frames.{Frames}
 use Rattle.nesl_eval_meaning.specs.Out.{Out}
 use Rattle.nesl_eval_columns.specs.declared.column.Column.{Column}
 use Rattle.nesl_eval_plain.specs.declared.block.Block.{Block}
-use Rattle.nesl_eval_plain.specs.declared.scopes.Scopes.{Scopes, Rows, Let, the_lemmas}
+use Rattle.nesl_eval_plain.specs.declared.scopes.Scopes.{Scopes, Rows, Let, Turns, the_lemmas}
 use Rattle.nesl_eval_plain.specs.Blocks.{block_places, frames_at}
 use Rattle.nesl_eval_plain.specs.Frames.{bound_at, frames_in, IsAt, AreAt, AllAre}
 
@@ -25,6 +25,13 @@ frames-Rows b k = search (rules, the_lemmas)
 pub frames-Let : {A T : Type 0} (b : Block A T) (cs : Bor (List (Column A))) (rest : Bor (Scopes A)) (k : ℕ) → frames_in b (Let cs rest) k ≡ option_map (λ fs. bound_at cs.now k ∷ fs) (frames_in b rest.now k)
 frames-Let b cs rest k = search (rules, the_lemmas)
 
+pub frames-Turns : {A T : Type 0} (b : Block A T) (ts : Bor (List ℕ)) (rest : Bor (Scopes A)) (k : ℕ) → frames_in b (Turns ts rest) k ≡ option_and_then (frames_in b rest.now) (slice_get ts.now k)
+frames-Turns b ts rest k = search (rules, the_lemmas)
+
+then_some : {X Y : Type 0} (h : X → Option Y) (o : Option X) (y : Y) → option_and_then h o ≡ Some y → (x : X) × (o ≡ Some x) × (h x ≡ Some y)
+then_some h (Some x) y e = (x, refl, e)
+then_some h None y e = absurd (none-some y e)
+
 module _ {A T : Type 0} (b : Block A T) (s : Scopes A) (k : ℕ) (fs : Frames) where
   -- at a turn of the rows
   pub at_row : s ≡ Rows → frames_in b s k ≡ Some fs → (i : ℕ) × (slice_get (block_places b) k ≡ Some i) × (frames_at b i ≡ fs)
@@ -33,6 +40,28 @@ module _ {A T : Type 0} (b : Block A T) (s : Scopes A) (k : ℕ) (fs : Frames) w
   -- at a turn of a `let`
   pub at_let : (cs : Bor (List (Column A))) (rest : Bor (Scopes A)) → s ≡ Let cs rest → frames_in b s k ≡ Some fs → (gs : Frames) × (frames_in b rest.now k ≡ Some gs) × (bound_at cs.now k ∷ gs ≡ fs)
   at_let cs rest is e = mapped_some (λ gs. bound_at cs.now k ∷ gs) (frames_in b rest.now k) fs (sym (frames-Let b cs rest k) ∙ ap (λ t. frames_in b t k) (sym is) ∙ e)
+
+  -- at one of some turns
+  pub at_turn : (ts : Bor (List ℕ)) (rest : Bor (Scopes A)) → s ≡ Turns ts rest → frames_in b s k ≡ Some fs → (j : ℕ) × (slice_get ts.now k ≡ Some j) × (frames_in b rest.now j ≡ Some fs)
+  at_turn ts rest is e = then_some (frames_in b rest.now) (slice_get ts.now k) fs (sym (frames-Turns b ts rest k) ∙ ap (λ t. frames_in b t k) (sym is) ∙ e)
+
+-- the frames at some of the turns
+pub turns_at : {A T : Type 0} (b : Block A T) (ts : Bor (List ℕ)) (us : List ℕ) (rest : Bor (Scopes A)) (s : Scopes A) (k : ℕ) → ts.now ≡ us → rest.now ≡ s → frames_in b (Turns ts rest) k ≡ option_and_then (frames_in b s) (slice_get us k)
+turns_at b ts us rest s k is under =
+    frames-Turns b ts rest k ∙ ap (λ xs. option_and_then (frames_in b rest.now) (slice_get xs k)) is ∙ ap (λ r. option_and_then (frames_in b r) (slice_get us k)) under
+
+-- what is found at some of the turns
+pub turns_find : {A T : Type 0} (b : Block A T) (s : Scopes A) (ts : Bor (List ℕ)) (rest : Bor (Scopes A)) (p : Frames → Out Value) (us vs : ℕ → Option Value) (ms ns : ℕ → Option ℕ) → s ≡ Turns ts rest → AreAt p (frames_in b rest.now) us ms → ((k j : ℕ) → slice_get ts.now k ≡ Some j → (vs k ≡ us j) × (ns k ≡ ms j)) → AreAt p (frames_in b s) vs ns
+turns_find b s ts rest p us vs ms ns is h same = λ k fs e.
+    let w = at_turn b s k fs ts rest is e in
+    let x = h w.0 fs w.2 in
+    let z = same k w.0 w.1 in
+    (x.0, x.1, z.0 ∙ x.2, z.1 ∙ x.3, x.4)
+
+pub turns_are : {A T : Type 0} (b : Block A T) (s : Scopes A) (ts : Bor (List ℕ)) (rest : Bor (Scopes A)) (p : Frames → Out Value) (o : Out Value) → s ≡ Turns ts rest → AllAre p (frames_in b rest.now) o → AllAre p (frames_in b s) o
+turns_are b s ts rest p o is h = λ k fs e.
+    let w = at_turn b s k fs ts rest is e in
+    h w.0 fs w.2
 
 -- the frame of bindings on top
 pub let_at : {A T : Type 0} (b : Block A T) (cs : Bor (List (Column A))) (ds : List (Column A)) (rest : Bor (Scopes A)) (k : ℕ) (fs : Frames) → cs.now ≡ ds → frames_in b rest.now k ≡ Some fs → frames_in b (Let cs rest) k ≡ Some (bound_at ds k ∷ fs)

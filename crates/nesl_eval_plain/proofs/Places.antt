@@ -19,15 +19,18 @@ use Rattle.nesl_eval_nodes.proofs.Arms.{drop_next}
 use Rattle.nesl_eval_nodes.proofs.Lookups.{in_row, in_tail}
 use Rattle.nesl_eval_columns.specs.declared.column.Column.{Column}
 use Rattle.nesl_eval_columns.specs.Columns.{leaves_of}
-use Rattle.nesl_eval_columns.specs.Each.{EachTwo}
+use Rattle.nesl_eval_columns.specs.Each.{EachTwo, EachThree}
 use Rattle.nesl_eval_plain.specs.declared.block.Block.{Block}
 use Rattle.nesl_eval_plain.specs.declared.scopes.Scopes.{Scopes, Rows}
+use Rattle.nesl_eval_plain.specs.declared.costs.Costs.{Costs}
 use Rattle.nesl_eval_plain.specs.Comes.{Comes}
+use Rattle.nesl_eval_plain.specs.Costs.{costs_at, each_cost}
 use Rattle.nesl_eval_plain.specs.Blocks.{block_places, frames_at, IsWithin}
 use Rattle.nesl_eval_plain.specs.Frames.{bound_at, frames_in, IsAt, AreAt, AllAre}
-use Rattle.nesl_eval_plain.proofs.Comes.{each_so, cost_is}
+use Rattle.nesl_eval_plain.proofs.Comes.{each_so}
+use Rattle.nesl_eval_plain.proofs.Costing.{cost_listed}
 use Rattle.nesl_eval_plain.proofs.Framed.{at_row, frames-Rows}
-use Rattle.nesl_eval_plain.proofs.Finding.{each_at, two_from}
+use Rattle.nesl_eval_plain.proofs.Finding.{each_at}
 
 -- the element at a place
 abbrev pub Stands : {X : Type 0} → List X → ℕ → X → Type 0
@@ -78,9 +81,9 @@ row_at fs vs index v e is ys h =
     each_so (Stands (elements v)) (λ i y. place_in (row i vs ∷ fs) 0 index ≡ Some y)
     (λ i y q. in_row vs fs i index ∙ ap (option_and_then (λ u. slice_get (elements u) i)) e ∙ q) is ys h
 
-none_left : (steps : List Step) → true ≡ (length steps == 0) → steps ≡ []
+pub none_left : {X : Type 0} (xs : List X) → true ≡ (length xs == 0) → xs ≡ []
 none_left [] h = refl
-none_left (s ∷ steps) h = absurd (grind (arith, nat_tests))
+none_left (x ∷ xs) h = absurd (grind (arith, nat_tests))
 
 -- a name without steps
 name_at : (fs : Frames) (up index : ℕ) (steps : List Step) (v : Value) → up ≡ 0 → true ≡ (length steps == 0) → place_in fs 0 index ≡ Some v → given (local_at fs up index steps) (λ v. value v 0 0) ≡ value v 0 0
@@ -138,10 +141,21 @@ rows_count b s k fs within is e =
     let w = at_row b s k fs is e in
     omega (arith, slice_get_within (block_places b) k w.0 w.1, len_range (places_of b.places) b.from b.to within.0 within.1)
 
--- what was found, as a relation of places and leaves
-pub rows_come : {A T : Type 0} (b : Block A T) (p : Frames → Out Value) (n : ℕ) (vs : List Value) → IsWithin b → length vs ≡ b.to - b.from → AreAt p (frames_in b Rows) (slice_get vs) (λ k. Some n) → Comes (λ i. p (frames_at b i)) n (block_places b) vs
-rows_come b p n vs within len h =
-    two_from (λ i v. p (frames_at b i) ≡ value v n n) (block_places b) vs (len ∙ sym (len_range (places_of b.places) b.from b.to within.0 within.1))
+-- what was found, as a relation of places, leaves and costs
+three_from : {X Y Z : Type 0} (P : X → Y → Z → Type 0) (xs : List X) (ys : List Y) (zs : List Z) → length ys ≡ length xs → length zs ≡ length xs → ((k : ℕ) (x : X) → slice_get xs k ≡ Some x → (y : Y) × (z : Z) × (slice_get ys k ≡ Some y) × (slice_get zs k ≡ Some z) × P x y z) → EachThree P xs ys zs
+three_from P [] [] [] l m h = tt
+three_from P [] (y ∷ ys) zs l m h = absurd (omega arith)
+three_from P [] [] (z ∷ zs) l m h = absurd (omega arith)
+three_from P (x ∷ xs) [] zs l m h = absurd (omega arith)
+three_from P (x ∷ xs) (y ∷ ys) [] l m h = absurd (omega arith)
+three_from P (x ∷ xs) (y ∷ ys) (z ∷ zs) l m h =
+    let w = h 0 x refl in
+    (subst (λ u. P x u z) (sym (same_Some y w.0 w.2)) (subst (λ u. P x w.0 u) (sym (same_Some z w.1 w.3)) w.4), three_from P xs ys zs (omega arith) (omega arith) (λ k u e. h (suc k) u e))
+
+pub rows_come : {A T : Type 0} (b : Block A T) (p : Frames → Out Value) (c : Costs A) (count : ℕ) (vs : List Value) → IsWithin b → length vs ≡ b.to - b.from → count ≡ b.to - b.from → length (each_cost c count) ≡ count → AreAt p (frames_in b Rows) (slice_get vs) (costs_at c) → Comes (λ i. p (frames_at b i)) (block_places b) vs (each_cost c count)
+rows_come b p c count vs within len turns costs h =
+    let all = len_range (places_of b.places) b.from b.to within.0 within.1 in
+    three_from (λ i v n. p (frames_at b i) ≡ value v n n) (block_places b) vs (each_cost c count) (len ∙ sym all) (costs ∙ turns ∙ sym all)
     (λ k i e. let x = h k (frames_at b i) (frames-Rows b k ∙ ap (option_map (frames_at b)) e) in
-    let same : x.1 ≡ n = sym (same_Some n x.1 x.3) in
-    (x.0, x.2, x.4 ∙ cost_is x.0 x.1 n x.1 n same same))
+    let inside : k < count = omega (arith, slice_get_within (block_places b) k i e, all, turns) in
+    (x.0, x.1, x.2, cost_listed c.same count c.more k x.1 inside x.3, x.4))

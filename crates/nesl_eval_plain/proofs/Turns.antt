@@ -1,6 +1,6 @@
 -- Block after block.
 use Rattle.std.proofs.Common.{◌≡◌, ℕ, ℤ, zero, suc, true, set, append-nil, ◌+◌, ◌-◌, ◌*◌, ◌<◌, ◌≤◌, max, Bool, cond, List, [], ◌∷◌, ◌++◌, map, length, take, drop, take_all, get_or, get_or-drop, length-take, take-add, drop-drop, length-drop, Some, Result, Ok, Err, false, refl, sym, ap, ◌∙◌, arith, append_assoc}
-use Rattle.std.specs.Prelude.{slice_range, slice_get, MatchResult, is_err}
+use Rattle.std.specs.Prelude.{slice_range, slice_get, MatchResult, is_err, sum}
 use Rattle.std.proofs.lemmas.Grind.{take_at_read}
 use Rattle.std.proofs.lemmas.List.{take_more_set, take-set}
 use Rattle.std.proofs.lemmas.Option.{slice_get_within, get_or_from_slice_get}
@@ -12,8 +12,7 @@ use Rattle.nesl_eval_meaning.proofs.Joins.{all_halved}
 use Rattle.nesl_eval_columns.specs.declared.column.Column.{Column}
 use Rattle.nesl_eval_columns.specs.declared.column.Column.TheVariants.{Ints, Bools, Chars}
 use Rattle.nesl_eval_columns.specs.Columns.{leaves_of}
-use Rattle.nesl_eval_columns.proofs.Turns.{two_len}
-use Rattle.nesl_eval_plain.specs.Comes.{Comes, deep, chosen}
+use Rattle.nesl_eval_plain.specs.Comes.{Comes, greatest, chosen}
 use Rattle.nesl_eval_plain.proofs.Comes.{Small, bodies_of, filters_of}
 use Rattle.nesl_eval_plain.proofs.Places.{len_range}
 
@@ -51,10 +50,6 @@ more : {X : Type 0} (p : ℕ → Out (List X)) (is js ks : List ℕ) (xs ys : Li
 more p is js ks xs ys w v d e q h k =
     ap (all_beside p) q ∙ all_halved p is js ∙ ap (λ o. beside o (all_beside p js)) h ∙ ap (λ o. beside (value xs w d) o) k
 
-deep_some : (is : List ℕ) (n : ℕ) → 0 < length is → deep is n ≡ n
-deep_some [] n h = absurd (omega arith)
-deep_some (i ∷ is) n h = refl
-
 -- the state after a block: what was made, and what is left of the fuel
 module _ {X : Type 0} (p : ℕ → Out (List X)) (places : List ℕ) (from turn end fuel left left' most most' w n : ℕ) (xs ys zs : List X) where
   pub next_block : from ≤ turn → turn < end → end ≤ length places → left ≤ fuel → left ≡ left' + w → zs ≡ xs ++ ys → most' ≡ max most n → all_beside p (slice_range places from turn) ≡ value xs (fuel - left) most → all_beside p (slice_range places turn end) ≡ value ys w n → all_beside p (slice_range places from end) ≡ value zs (fuel - left') most'
@@ -69,11 +64,10 @@ no_block p places from fuel xs e =
     ap (λ n. all_beside p (take n (drop from places))) none ∙ value_is [] xs 0 (fuel - fuel) 0 0 (sym e) (omega arith) refl
 
 -- the bodies of a block
-pub block_bodies : {A : Type 0} (p : ℕ → Out Value) (n : ℕ) (places : List ℕ) (turn end : ℕ) (c : Column A) → turn < end → end ≤ length places → Comes p n (slice_range places turn end) (leaves_of c) → all_beside (λ i. and_then (p i) body_value) (slice_range places turn end) ≡ value (leaves_of c) ((end - turn) * (n + 1)) n
-block_bodies p n places turn end c a b h =
-    let len = len_range places turn end (omega arith) b in
-    bodies_of p n (slice_range places turn end) (leaves_of c) h (leaves_small c)
-    ∙ value_is (leaves_of c) (leaves_of c) (length (slice_range places turn end) * (n + 1)) ((end - turn) * (n + 1)) (deep (slice_range places turn end) n) n refl (ap (λ k. k * (n + 1)) len) (deep_some (slice_range places turn end) n (omega (arith, len)))
+pub block_bodies : {A : Type 0} (p : ℕ → Out Value) (ns : List ℕ) (places : List ℕ) (turn end : ℕ) (c : Column A) → turn < end → end ≤ length places → Comes p (slice_range places turn end) (leaves_of c) ns → all_beside (λ i. and_then (p i) body_value) (slice_range places turn end) ≡ value (leaves_of c) (sum ns + (end - turn)) (greatest ns)
+block_bodies p ns places turn end c a b h =
+    bodies_of p (slice_range places turn end) (leaves_of c) ns h (leaves_small c)
+    ∙ value_is (leaves_of c) (leaves_of c) (sum ns + length (slice_range places turn end)) (sum ns + (end - turn)) (greatest ns) (greatest ns) refl (ap (λ k. sum ns + k) (len_range places turn end (omega arith) b)) refl
 
 -- the filters of a block
 chosen_take : (n : ℕ) (is : List ℕ) (bs : List Bool) → length bs ≤ n → chosen (take n is) bs ≡ chosen is bs
@@ -87,19 +81,17 @@ chosen_take zero (i ∷ is) (b ∷ bs) h = absurd (omega arith)
 chosen_take (suc n) (i ∷ is) [] h = refl
 chosen_take (suc n) (i ∷ is) (b ∷ bs) h = ap (λ ks. cond b (i ∷ []) [] ++ ks) (chosen_take n is bs (omega arith))
 
-pub block_filters : (p : ℕ → Out Value) (n : ℕ) (places : List ℕ) (turn end : ℕ) (bs : List Bool) → turn < end → end ≤ length places → Comes p n (slice_range places turn end) (map boolean bs) → length bs ≡ end - turn → all_beside (λ i. and_then (p i) (place_if_true i)) (slice_range places turn end) ≡ value (chosen (drop turn places) bs) ((end - turn) * n) n
-block_filters p n places turn end bs a b h l =
-    let len = len_range places turn end (omega arith) b in
-    filters_of p n (slice_range places turn end) bs h
-    ∙ value_is (chosen (slice_range places turn end) bs) (chosen (drop turn places) bs) (length (slice_range places turn end) * n) ((end - turn) * n) (deep (slice_range places turn end) n) n (chosen_take (end - turn) (drop turn places) bs (omega arith)) (ap (λ k. k * n) len) (deep_some (slice_range places turn end) n (omega (arith, len)))
+pub block_filters : (p : ℕ → Out Value) (ns : List ℕ) (places : List ℕ) (turn end : ℕ) (bs : List Bool) → turn < end → end ≤ length places → Comes p (slice_range places turn end) (map boolean bs) ns → length bs ≡ end - turn → all_beside (λ i. and_then (p i) (place_if_true i)) (slice_range places turn end) ≡ value (chosen (drop turn places) bs) (sum ns + 0) (greatest ns)
+block_filters p ns places turn end bs a b h l =
+    filters_of p (slice_range places turn end) bs ns h
+    ∙ value_is (chosen (slice_range places turn end) bs) (chosen (drop turn places) bs) (sum ns) (sum ns + 0) (greatest ns) (greatest ns) (chosen_take (end - turn) (drop turn places) bs (omega arith)) (omega arith) refl
 
 len_map : {X Y : Type 0} (f : X → Y) (xs : List X) → length (map f xs) ≡ length xs
 len_map f [] = refl
 len_map f (x ∷ xs) = ap suc (len_map f xs)
 
-pub flags_len : (p : ℕ → Out Value) (n : ℕ) (places : List ℕ) (turn end : ℕ) (bs : List Bool) → turn < end → end ≤ length places → Comes p n (slice_range places turn end) (map boolean bs) → length bs ≡ end - turn
-flags_len p n places turn end bs a b h =
-    sym (len_map boolean bs) ∙ two_len (λ i v. p i ≡ value v n n) (slice_range places turn end) (map boolean bs) h ∙ len_range places turn end (omega arith) b
+pub flags_len : (bs : List Bool) (vs : List Value) (n : ℕ) → map boolean bs ≡ vs → length vs ≡ n → length bs ≡ n
+flags_len bs vs n e l = sym (len_map boolean bs) ∙ ap length e ∙ l
 
 -- one more place
 chosen_push : (is : List ℕ) (bs : List Bool) (i : ℕ) (b : Bool) → length is ≡ length bs → chosen (is ++ i ∷ []) (bs ++ b ∷ []) ≡ chosen is bs ++ cond b (i ∷ []) []

@@ -1,8 +1,9 @@
 -- The frames at the turns of a block, and what is found there.
-use Rattle.std.specs.Prelude.{◌≡◌, ℕ, ◌+◌, List, ◌∷◌, map, slice_get, Option, Some, option_map}
+use Rattle.std.specs.Prelude.{◌≡◌, ℕ, Bool, List, ◌∷◌, map, slice_get, Option, Some, option_map, option_and_then}
 use Rattle.nesl_eval_meaning.specs.Names.{Value}
 use Rattle.nesl_eval_code.specs.Frames.{Frames}
 use Rattle.nesl_eval_meaning.specs.Out.{Out, value}
+use Rattle.nesl_eval_meaning.specs.Outcome.{branch}
 use Rattle.nesl_eval_columns.specs.declared.column.Column.{Column}
 use Rattle.nesl_eval_columns.specs.Columns.{leaves_of}
 use Rattle.nesl_eval_plain.specs.declared.block.Block.{Block}
@@ -10,6 +11,7 @@ use Rattle.nesl_eval_plain.specs.declared.found.Found.{Found}
 use Rattle.nesl_eval_plain.specs.declared.scopes.Scopes.{Scopes, fold-Scopes}
 use Rattle.nesl_eval_plain.specs.declared.scopes.Scopes.TheOpen.{Scopes-F}
 use Rattle.nesl_eval_plain.specs.Blocks.{block_places, frames_at}
+use Rattle.nesl_eval_plain.specs.Costs.{costs_at}
 
 -- the values of bindings at a turn
 abbrev pub bound_at : {A : Type 0} → List (Column A) → ℕ → List (Option Value)
@@ -19,6 +21,7 @@ bound_at cs k = map (λ c. slice_get (leaves_of c) k) cs
 abbrev pub scopes_step : {A T : Type 0} → Block A T → Scopes-F A (ℕ → Option Frames) → ℕ → Option Frames
 scopes_step b Scopes-F.Rows k = option_map (frames_at b) (slice_get (block_places b) k)
 scopes_step b (Scopes-F.Let cs rest) k = option_map (λ fs. bound_at cs.now k ∷ fs) (rest.now k)
+scopes_step b (Scopes-F.Turns ts rest) k = option_and_then rest.now (slice_get ts.now k)
 
 abbrev pub frames_in : {A T : Type 0} → Block A T → Scopes A → ℕ → Option Frames
 frames_in {A} b = fold-Scopes A (ℕ → Option Frames) (scopes_step b)
@@ -37,11 +40,15 @@ leaf_at r = slice_get (leaves_of r.column)
 
 -- the cost at a turn
 abbrev pub cost_at : {A : Type 0} → Found A → ℕ → Option ℕ
-cost_at r k = Some r.nodes
+cost_at r = costs_at r.costs
 
 -- what was found at the turns
 abbrev pub Finds : {A : Type 0} → (Frames → Out Value) → (ℕ → Option Frames) → Found A → Type 0
 Finds p at r = AreAt p at (leaf_at r) (cost_at r)
+
+-- of two outcomes the one that the flag at a turn tells is the leaf there, and both its work and its depth are the cost
+abbrev pub Chooses : (ℕ → Option Bool) → (Frames → Out Value) → (Frames → Out Value) → (ℕ → Option Frames) → (ℕ → Option Value) → (ℕ → Option ℕ) → Type 0
+Chooses bs p q at vs ns = (k : ℕ) (fs : Frames) (b : Bool) → at k ≡ Some fs → bs k ≡ Some b → IsAt vs ns k (branch (Some b) (p fs) (q fs))
 
 -- the outcome is the same at all turns
 abbrev pub AllAre : (Frames → Out Value) → (ℕ → Option Frames) → Out Value → Type 0

@@ -9,6 +9,7 @@ ghost use Rattle.nesl_eval_plain.specs.Blocks.{IsWithin};
 ghost use Rattle.nesl_eval_plain.specs.Frames.{frames_in, Finds, AllAre};
 
 use crate::block::Block;
+use crate::costs::Costs;
 use crate::found::Found;
 use crate::scopes::{Scopes, count};
 use nesl_eval_columns::Column;
@@ -79,7 +80,13 @@ pub fn number<'x, A: Allocator + Copy, T>(
 {
     let count = count(block, scopes);
     let column = ints(n, count, *block.alloc)?;
-    Some(Found { column, nodes: 0 })
+    Some(Found {
+        column,
+        costs: Costs {
+            same: 0,
+            more: None,
+        },
+    })
 }
 
 pub fn truth<'x, A: Allocator + Copy, T>(
@@ -92,7 +99,13 @@ pub fn truth<'x, A: Allocator + Copy, T>(
 {
     let count = count(block, scopes);
     let column = bools(b, count, *block.alloc)?;
-    Some(Found { column, nodes: 0 })
+    Some(Found {
+        column,
+        costs: Costs {
+            same: 0,
+            more: None,
+        },
+    })
 }
 
 pub fn character<'x, A: Allocator + Copy, T>(
@@ -105,7 +118,13 @@ pub fn character<'x, A: Allocator + Copy, T>(
 {
     let count = count(block, scopes);
     let column = chars(c, count, *block.alloc)?;
-    Some(Found { column, nodes: 0 })
+    Some(Found {
+        column,
+        costs: Costs {
+            same: 0,
+            more: None,
+        },
+    })
 }
 
 // What comes to one leaf at all turns.
@@ -121,5 +140,11 @@ pub fn same<'x, A: Allocator + Copy, T>(
 {
     let count = count(block, scopes);
     let column = column_of(element, count, *block.alloc)?;
-    Some(Found { column, nodes: 0 })
+    Some(Found {
+        column,
+        costs: Costs {
+            same: 0,
+            more: None,
+        },
+    })
 }

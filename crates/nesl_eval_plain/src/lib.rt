@@ -3,7 +3,9 @@
 #![tactic(auto)]
 
 mod block;
+mod choices;
 mod constants;
+mod costs;
 mod found;
 mod names;
 mod outer;

@@ -10,40 +10,19 @@ ghost use Rattle.nesl_eval_plain.specs.Blocks.{block_places, IsWithin, frames_at
 ghost use Rattle.nesl_eval_plain.specs.Frames.{frames_in, Finds};
 
 use crate::block::Block;
+use crate::choices::at_turns;
 use crate::constants::same;
+use crate::costs::Costs;
 use crate::found::Found;
 use crate::outer::at_top;
 use crate::scopes::{Scopes, count};
 use nesl_eval_code::Step;
-use nesl_eval_columns::{Column, each_of};
+use nesl_eval_columns::{Column, gathered};
 use nesl_eval_nodes::held::Tops;
 use nesl_eval_nodes::places::Places;
 use nesl_eval_nodes::scope::lent_local;
 use nesl_values::{Element, Items};
 use std::alloc::Allocator;
-
-// The items at these places.
-fn gathered<X: Copy, A: Allocator>(items: &[X], places: &[usize], alloc: A) -> Option<Vec<X, A>>
-    ensures { IfSome result (λ v. EachTwo (λ i x. slice_get items.now i ≡ Some x) places.now v.items) }
-{
-    let some = *items.first()?;
-    each_of(
-        places,
-        some,
-        alloc,
-        |place: usize| at_or(items, place, some),
-    )
-}
-
-#[inline(always)]
-fn at_or<X: Copy>(items: &[X], place: usize, some: X) -> (X, bool)
-    ensures { IsTrue result.1 → slice_get items.now place ≡ Some result.0 }
-{
-    match items.get(place) {
-        Some(item) => (*item, true),
-        None => (some, false),
-    }
-}
 
 // The items from one place to another.
 fn part<X: Copy, A: Allocator>(items: &[X], from: usize, to: usize, alloc: A) -> Option<Vec<X, A>>
@@ -127,7 +106,13 @@ fn in_rows<'x, A: Allocator + Copy, T>(
             return None;
         }
         let column = newest(block, index)?;
-        return Some(Found { column, nodes: 0 });
+        return Some(Found {
+            column,
+            costs: Costs {
+                same: 0,
+                more: None,
+            },
+        });
     }
     let element = lent_local(block.scope, up - 1, index, steps)?;
     same(block, scopes, element)
@@ -174,7 +159,17 @@ pub fn local<'x, A: Allocator + Copy, T>(
             }
             let least = count(block, *rest);
             let column = bound(*columns, index, least, *block.alloc)?;
-            Some(Found { column, nodes: 0 })
+            Some(Found {
+                column,
+                costs: Costs {
+                    same: 0,
+                    more: None,
+                },
+            })
+        }
+        Scopes::Turns(turns, rest) => {
+            let found = local(block, *rest, up, index, steps)?;
+            at_turns(found, *turns, *block.alloc)
         }
     }
 }

@@ -14,6 +14,7 @@ ghost use Rattle.nesl_eval_plain.specs.Picked.{at_number, Picks};
 
 use crate::block::Block;
 use crate::constants::number;
+use crate::costs::Costs;
 use crate::found::Found;
 use crate::scopes::Scopes;
 use nesl_builtins::Builtin;
@@ -63,6 +64,7 @@ fn further_up<'x, A: Allocator + Copy, T>(
             }
             further_up(block, *rest, up - 1, index, steps)
         }
+        Scopes::Turns(_, rest) => further_up(block, *rest, up, index, steps),
     }
 }
 
@@ -181,7 +183,13 @@ pub fn length_of<'x, A: Allocator + Copy, T: Tops<A>>(
             let sequence = outer_value(block, scopes, argument, levels)?;
             let _len = sequence.sequence_len()?;
             let Found { column, .. } = number(block, scopes, sequence.items().len() as i64)?;
-            Some(Found { column, nodes: 1 })
+            Some(Found {
+                column,
+                costs: Costs {
+                    same: 1,
+                    more: None,
+                },
+            })
         }
         _ => None,
     }

@@ -5,7 +5,7 @@ use nesl_eval_code::Code;
 use nesl_seqs_base::seq_fn::SeqFn;
 
 /// Whether code is made of constants, names, functions of scalars, elements and lengths of names outside of the rows,
-/// and `let`s of these, with so many frames of `let`s below the row. What a name stands for is not looked at.
+/// and `let`s and choices of these, with so many frames of `let`s below the row. What a name stands for is not looked at.
 #[cycle(plainness)]
 pub fn is_plain(code: &Code, frames: usize, levels: u32) -> bool {
     if levels == 0 {
@@ -41,6 +41,11 @@ pub fn is_plain(code: &Code, frames: usize, levels: u32) -> bool {
             frames < usize::MAX
                 && are_plain(bindings, frames + 1, below)
                 && is_plain(body, frames + 1, below)
+        }
+        Code::Choice { test, yes, no, .. } => {
+            is_plain(test, frames, below)
+                && is_plain(yes, frames, below)
+                && is_plain(no, frames, below)
         }
         _ => false,
     }

@@ -15,6 +15,8 @@ pub enum Scopes<'a, A: Allocator> {
     Rows,
     /// The bindings of a `let` so far, each at all turns.
     Let(&'a [Column<A>], &'a Scopes<'a, A>),
+    /// The same at some of the turns, in this order.
+    Turns(&'a [usize], &'a Scopes<'a, A>),
 }
 
 impl<A: Allocator> Clone for Scopes<'_, A> {
@@ -35,5 +37,6 @@ pub fn count<A: Allocator, T>(block: &Block<'_, A, T>, scopes: &Scopes<'_, A>) -
     match scopes {
         Scopes::Rows => block.to - block.from,
         Scopes::Let(_, rest) => count(block, *rest),
+        Scopes::Turns(turns, _) => turns.len(),
     }
 }

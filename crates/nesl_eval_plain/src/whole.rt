@@ -1,5 +1,5 @@
 //! An apply-to-each whose body or filter is plain, block by block.
-ghost use Rattle.std.specs.Prelude.{◌≡◌, ◌+◌, ◌*◌, ◌-◌, ◌<◌, ◌≤◌, ◌^◌, ◌++◌, Ok, IfSome, MatchOption, IsTrue};
+ghost use Rattle.std.specs.Prelude.{◌≡◌, ◌+◌, ◌-◌, ◌<◌, ◌≤◌, ◌^◌, ◌++◌, Ok, IfSome, MatchOption, IsTrue};
 ghost use Rattle.std.specs.Prelude.{cond, map, length, take, drop};
 ghost use Rattle.nesl_values.specs.Tree.{boolean};
 ghost use Rattle.nesl_values.specs.View.{tree_of};
@@ -14,7 +14,8 @@ ghost use Rattle.nesl_eval_plain.specs.Comes.{chosen};
 ghost use Rattle.nesl_eval_plain.specs.Blocks.{block_places, IsWithin, IsPartOf};
 
 use crate::block::Block;
-use crate::found::{Found, sum};
+use crate::costs::{Paid, total_of};
+use crate::found::Found;
 use crate::parts::column;
 use crate::plain::is_plain;
 use crate::scopes::Scopes;
@@ -59,7 +60,7 @@ fn part<'x, A: Allocator + Copy, T>(
     }
 }
 
-// Whether the fuel is enough for so many times this work.
+// Whether the fuel is enough for so many times this work, which is the least that the turns cost.
 fn suffices(fuel: u64, count: usize, each: u64) -> bool {
     match each.checked_mul(count as u64) {
         Some(work) => work <= fuel,
@@ -67,13 +68,12 @@ fn suffices(fuel: u64, count: usize, each: u64) -> bool {
     }
 }
 
-// What is left of the fuel after so many times this work, if there is so much.
-fn charged(fuel: u64, count: usize, each: u64) -> Option<u64>
-    requires { 0 < count }
-    ensures { IfSome result (λ rest. (fuel ≡ rest + count * each) × (each ≤ count * each)) }
+// What is left of the fuel after this work and so many values, if there is so much.
+fn charged(fuel: u64, work: u64, values: usize) -> Option<u64>
+    ensures { IfSome result (λ rest. fuel ≡ rest + (work + values)) }
 {
-    let work = each.checked_mul(count as u64)?;
-    fuel.checked_sub(work)
+    let all = work.checked_add(values as u64)?;
+    fuel.checked_sub(all)
 }
 
 // Adds the leaves of a column, if there is room.
@@ -116,19 +116,19 @@ fn values_within<'x, A: Allocator + Copy, T: Tops<A>>(
     while turn < whole.to {
         let end = end_of(turn, whole.to);
         let block = part(whole, turn, end);
-        let Found { column, nodes } = column(&block, &Scopes::Rows, body, levels)?;
+        let Found { column, costs } = column(&block, &Scopes::Rows, body, levels)?;
         if column.len() != end - turn {
             return None;
         }
-        let each = sum(nodes, 1)?;
-        if !suffices(left, whole.to - turn, each) {
+        if !suffices(left, whole.to - turn, costs.same) {
             return None;
         }
-        left = charged(left, end - turn, each)?;
+        let Paid { work, depth } = total_of(&costs, end - turn)?;
+        left = charged(left, work, end - turn)?;
         if !extended(&mut builder, column) {
             return None;
         }
-        deepest = nodes.max(deepest);
+        deepest = depth.max(deepest);
         turn = end;
     }
     Some(Made {
@@ -261,19 +261,20 @@ fn places_within<'x, A: Allocator + Copy, T: Tops<A>>(
     while turn < whole.to {
         let end = end_of(turn, whole.to);
         let block = part(whole, turn, end);
-        let Found { column, nodes } = column(&block, &Scopes::Rows, filter, levels)?;
+        let Found { column, costs } = column(&block, &Scopes::Rows, filter, levels)?;
         if column.len() != end - turn {
             return None;
         }
-        if !suffices(left, whole.to - turn, nodes) {
+        if !suffices(left, whole.to - turn, costs.same) {
             return None;
         }
-        left = charged(left, end - turn, nodes)?;
+        let Paid { work, depth } = total_of(&costs, end - turn)?;
+        left = charged(left, work, 0)?;
         let flags = truths(column)?;
         if !choose(&mut places, whole.places, turn, end, &flags, *whole.alloc) {
             return None;
         }
-        most = nodes.max(most);
+        most = depth.max(most);
         turn = end;
     }
     Some(Kept {

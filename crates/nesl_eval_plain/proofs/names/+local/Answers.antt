@@ -5,7 +5,7 @@ use Rattle.nesl_eval_meaning.specs.Out.{given, value}
 use Rattle.nesl_eval_columns.specs.Columns.{leaves_of}
 use Rattle.nesl_eval_columns.proofs.Turns.{some_so}
 use Rattle.nesl_eval_plain.specs.Frames.{leaf_at, cost_at, IsAt}
-use Rattle.nesl_eval_plain.proofs.Framed.{at_let, below_let, some_and}
+use Rattle.nesl_eval_plain.proofs.Framed.{turns_find, at_let, below_let, some_and}
 use Rattle.nesl_eval_plain.proofs.Places.{name_below, bound_finds}
 use Rattle.nesl_eval_plain.proofs.names.+local.Goals as goal
 
@@ -32,3 +32,8 @@ returns-in_ok-column-in-Let g t c = λ k fs e.
     let inside : k < length (leaves_of d.0) = omega (arith, less, d.2.0) in
     subst (λ hs. IsAt (slice_get vs) (λ j. Some 0) k (given (local_at hs up index steps) (λ v. value v 0 0))) w.2
     (bound_finds cs w.0 up index k steps d.0 vs d.1 (omega (arith, c.if-up-gt0.false)) c.if-not-is_empty.ensures inside d.2.1)
+
+pub returns-in_ok-found-in-Turns : goal.returns-in_ok-found-in-Turns
+returns-in_ok-found-in-Turns g t c =
+    let f = c.in_ok-found-in-Turns.found in
+    some_so _ _ (λ r h. turns_find c.args.block.now c.args.scopes.now c.in-Turns.turns c.in-Turns.rest (λ fs. given (local_at fs c.args.up c.args.index c.args.steps.now) (λ v. value v 0 0)) (leaf_at f) (leaf_at r) (cost_at f) (cost_at r) c.in-Turns.is c.in_ok-found-in-Turns.ensures h) c.at_turns.result c.at_turns.ensures

@@ -9,23 +9,25 @@ use Rattle.nesl_eval_code.specs.Run.{run, run_node, run_let}
 use Rattle.nesl_eval_columns.specs.Columns.{leaves_of}
 use Rattle.nesl_eval_columns.proofs.Turns.{some_so}
 use Rattle.nesl_eval_nodes.proofs.Rows.{node-Let}
+use Rattle.nesl_eval_plain.specs.Costs.{costs_at}
 use Rattle.nesl_eval_plain.specs.Frames.{frames_in, leaf_at, cost_at}
+use Rattle.nesl_eval_plain.proofs.Choosing.{choice_finds, all_yes, all_no, both_sides}
 use Rattle.nesl_values.specs.View.{tree_of}
-use Rattle.nesl_eval_plain.proofs.Framed.{let_at}
-use Rattle.nesl_eval_plain.proofs.Finding.{at_so, sums_same, entered_finds, then_entered_finds, one_finds, two_finds, pair_finds, element_finds, along_begun, along_next, along_done}
+use Rattle.nesl_eval_plain.proofs.Framed.{let_at, turns_at}
+use Rattle.nesl_eval_plain.proofs.Finding.{at_so, entered_finds, then_entered_finds, one_finds, two_finds, pair_finds, element_finds, along_begun, along_next, along_done}
 use Rattle.nesl_eval_plain.proofs.parts.+plain.Goals as goal
 
 pub column-returns : goal.column-returns
 column-returns g t c =
     let b = c.args.block.now in
     let f = c.in_ok-found.found in
-    some_so _ _ (λ r e. entered_finds c.args.levels (g.T.Tops.table b.tops.now) c.args.code.now (frames_in b c.args.scopes.now) (leaf_at f) (leaf_at r) (λ k. Some f.nodes) (λ k. Some r.nodes) (omega (arith, c.if-levels-eq0.false)) (ap (λ d. slice_get (leaves_of d)) e.1) (sums_same f.nodes 1 r.nodes e.0) c.in_ok-found.ensures) c.entered.result c.entered.ensures
+    some_so _ _ (λ r e. entered_finds c.args.levels (g.T.Tops.table b.tops.now) c.args.code.now (frames_in b c.args.scopes.now) (leaf_at f) (leaf_at r) (cost_at f) (cost_at r) (omega (arith, c.if-levels-eq0.false)) (ap (λ d. slice_get (leaves_of d)) e.1) e.0 c.in_ok-found.ensures) c.entered.result c.entered.ensures
 
 pub apply-returns-in_ok-column-in-OfOne : goal.apply-returns-in_ok-column-in-OfOne
 apply-returns-in_ok-column-in-OfOne g t c = λ s.
     let b = c.args.block.now in
     let one = c.in_ok-one-in-OfOne.one in
-    rw c.in-OfOne.is (one_finds (λ fs. run c.args.levels (g.T.Tops.table b.tops.now) fs c.args.argument.now) (frames_in b c.args.scopes.now) s c.in-OfOne.function (λ k. Some one.nodes) (leaves_of one.column) (leaves_of c.in_ok-column-in-OfOne.column) c.in_ok-one-in-OfOne.ensures c.in_ok-column-in-OfOne.ensures)
+    rw c.in-OfOne.is (one_finds (λ fs. run c.args.levels (g.T.Tops.table b.tops.now) fs c.args.argument.now) (frames_in b c.args.scopes.now) s c.in-OfOne.function (cost_at one) (leaves_of one.column) (leaves_of c.in_ok-column-in-OfOne.column) c.in_ok-one-in-OfOne.ensures c.in_ok-column-in-OfOne.ensures)
 
 pub apply-returns-in_ok-found-in-OfTwo : goal.apply-returns-in_ok-found-in-OfTwo
 apply-returns-in_ok-found-in-OfTwo g t c = λ s.
@@ -33,22 +35,21 @@ apply-returns-in_ok-found-in-OfTwo g t c = λ s.
     let tb = g.T.Tops.table b.tops.now in
     let f = c.in_ok-found-in-OfTwo.found in
     let k = apply_builtin s (OfTwo c.in-OfTwo.function) in
-    rw c.in-OfTwo.is (some_so _ _ (λ r e. then_entered_finds c.args.levels tb c.args.argument.now k (frames_in b c.args.scopes.now) (leaf_at f) (leaf_at r) (λ k. Some f.nodes) (λ k. Some r.nodes) (omega (arith, c.if-levels-eq0.false)) (ap (λ d. slice_get (leaves_of d)) e.1) (sums_same f.nodes 1 r.nodes e.0) (c.in_ok-found-in-OfTwo.ensures s)) c.entered.result c.entered.ensures)
+    rw c.in-OfTwo.is (some_so _ _ (λ r e. then_entered_finds c.args.levels tb c.args.argument.now k (frames_in b c.args.scopes.now) (leaf_at f) (leaf_at r) (cost_at f) (cost_at r) (omega (arith, c.if-levels-eq0.false)) (ap (λ d. slice_get (leaves_of d)) e.1) e.0 (c.in_ok-found-in-OfTwo.ensures s)) c.entered.result c.entered.ensures)
 
 pub two-returns : goal.two-returns
 two-returns g t c = λ s.
     let b = c.args.block.now in
     let one = c.in_ok-one.one in
     let other = c.in_ok-other.other in
-    two_finds (run c.args.levels (g.T.Tops.table b.tops.now)) (frames_in b c.args.scopes.now) c.args.left.now c.args.right.now s c.args.function (λ k. Some one.nodes) (λ k. Some other.nodes) (λ k. Some c.in_ok-nodes.nodes) (leaves_of one.column) (leaves_of other.column) (leaves_of c.in_ok-column.column) c.in_ok-one.ensures c.in_ok-other.ensures c.in_ok-column.ensures (sums_same one.nodes other.nodes c.in_ok-nodes.nodes c.in_ok-nodes.ensures)
+    two_finds (run c.args.levels (g.T.Tops.table b.tops.now)) (frames_in b c.args.scopes.now) c.args.left.now c.args.right.now s c.args.function (cost_at one) (cost_at other) (costs_at c.in_ok-costs.costs) (leaves_of one.column) (leaves_of other.column) (leaves_of c.in_ok-column.column) c.in_ok-one.ensures c.in_ok-other.ensures c.in_ok-column.ensures c.in_ok-costs.ensures
 
-pub of_pair-returns-in_ok-nodes-in-Pair : goal.of_pair-returns-in_ok-nodes-in-Pair
-of_pair-returns-in_ok-nodes-in-Pair g t c = λ s.
+pub of_pair-returns-in_ok-costs-in-Pair : goal.of_pair-returns-in_ok-costs-in-Pair
+of_pair-returns-in_ok-costs-in-Pair g t c = λ s.
     let b = c.args.block.now in
     let one = c.in_ok-one-in-Pair.one in
     let other = c.in_ok-other-in-Pair.other in
-    let nodes = c.in_ok-nodes-in-Pair.nodes in
-    rw (c.in-Pair.is, ← c.deref.ensures, ← c.deref-in-Pair.ensures) (pair_finds (run c.args.levels (g.T.Tops.table b.tops.now)) (frames_in b c.args.scopes.now) c.deref.result.now c.deref-in-Pair.result.now s _ c.args.function (λ k. Some one.nodes) (λ k. Some other.nodes) (λ k. Some nodes) (leaves_of one.column) (leaves_of other.column) (leaves_of c.in_ok-column-in-Pair.column) c.in_ok-one-in-Pair.ensures c.in_ok-other-in-Pair.ensures c.in_ok-column-in-Pair.ensures (sums_same one.nodes other.nodes nodes c.in_ok-nodes-in-Pair.ensures))
+    rw (c.in-Pair.is, ← c.deref.ensures, ← c.deref-in-Pair.ensures) (pair_finds (run c.args.levels (g.T.Tops.table b.tops.now)) (frames_in b c.args.scopes.now) c.deref.result.now c.deref-in-Pair.result.now s _ c.args.function (cost_at one) (cost_at other) (costs_at c.in_ok-costs-in-Pair.costs) (leaves_of one.column) (leaves_of other.column) (leaves_of c.in_ok-column-in-Pair.column) c.in_ok-one-in-Pair.ensures c.in_ok-other-in-Pair.ensures c.in_ok-column-in-Pair.ensures c.in_ok-costs-in-Pair.ensures)
 
 pub node-returns-in-Number : goal.node-returns-in-Number
 node-returns-in-Number g t c =
@@ -93,12 +94,11 @@ apply-returns-in-OfSequences g t c = λ s. rw c.in-OfSequences.is (c.length_of.e
 pub apply_two-returns-in-OfSequences : goal.apply_two-returns-in-OfSequences
 apply_two-returns-in-OfSequences g t c = λ s. rw c.in-OfSequences.is (c.element.ensures s)
 
-pub element-returns-in_ok-nodes-in-ElementAt : goal.element-returns-in_ok-nodes-in-ElementAt
-element-returns-in_ok-nodes-in-ElementAt g t c = λ s.
+pub element-returns-in_ok-costs-in-ElementAt : goal.element-returns-in_ok-costs-in-ElementAt
+element-returns-in_ok-costs-in-ElementAt g t c = λ s.
     let b = c.args.block.now in
     let places = c.in_ok-places-in-ElementAt.places in
-    let nodes = c.in_ok-nodes-in-ElementAt.nodes in
-    rw c.in-ElementAt.is (element_finds (run c.args.levels (g.T.Tops.table b.tops.now)) (frames_in b c.args.scopes.now) c.args.left.now c.args.right.now s (tree_of c.in_ok-sequence-in-ElementAt.sequence.now) (λ k. Some places.nodes) (λ k. Some nodes) (leaves_of places.column) (leaves_of c.in_ok-column-in-ElementAt.column) c.in_ok-sequence-in-ElementAt.ensures c.in_ok-places-in-ElementAt.ensures c.in_ok-column-in-ElementAt.ensures (sums_same places.nodes 1 nodes c.in_ok-nodes-in-ElementAt.ensures))
+    rw c.in-ElementAt.is (element_finds (run c.args.levels (g.T.Tops.table b.tops.now)) (frames_in b c.args.scopes.now) c.args.left.now c.args.right.now s (tree_of c.in_ok-sequence-in-ElementAt.sequence.now) (cost_at places) (costs_at c.in_ok-costs-in-ElementAt.costs) (leaves_of places.column) (leaves_of c.in_ok-column-in-ElementAt.column) c.in_ok-sequence-in-ElementAt.ensures c.in_ok-places-in-ElementAt.ensures c.in_ok-column-in-ElementAt.ensures c.in_ok-costs-in-ElementAt.ensures)
 
 pub in_let-loop-binding-init : goal.in_let-loop-binding-init
 in_let-loop-binding-init g t c =
@@ -112,8 +112,8 @@ in_let-loop-binding-preserved g t c =
     let cs = c.args.bindings.now in
     let u = c.in_ok-bound.bound in
     let i = k.binding-index in
-    along_next (run c.args.levels (g.T.Tops.table b.tops.now)) (frames_in b c.args.scopes.now) _ cs c.args.body.now c.binding-item.result k.columns.items c.keep.new.columns.items u.column (drop (i + 1) cs) (drop i cs) (λ j. Some k.nodes) (λ j. Some u.nodes) (λ j. Some c.in_ok-nodes.nodes)
-    (drop_more cs i c.binding-item.result c.loop-binding-test.true ∙ ap (λ x. x ∷ drop (i + 1) cs) (sym c.binding-item.is)) k.invariant c.in_ok-bound.ensures (λ j fs e. let_at b _ k.columns.items _ j fs c.deref.ensures.value e) c.in_ok-keep.ensures (sums_same k.nodes u.nodes c.in_ok-nodes.nodes c.in_ok-nodes.ensures)
+    along_next (run c.args.levels (g.T.Tops.table b.tops.now)) (frames_in b c.args.scopes.now) _ cs c.args.body.now c.binding-item.result k.columns.items c.keep.new.columns.items u.column (drop (i + 1) cs) (drop i cs) (costs_at k.costs) (cost_at u) (costs_at c.in_ok-costs.costs)
+    (drop_more cs i c.binding-item.result c.loop-binding-test.true ∙ ap (λ x. x ∷ drop (i + 1) cs) (sym c.binding-item.is)) k.invariant c.in_ok-bound.ensures (λ j fs e. let_at b _ k.columns.items _ j fs c.deref.ensures.value e) c.in_ok-keep.ensures c.in_ok-costs.ensures
 
 pub in_let-returns : goal.in_let-returns
 in_let-returns g t c =
@@ -121,5 +121,39 @@ in_let-returns g t c =
     let k = c.loop-binding in
     let cs = c.args.bindings.now in
     let u = c.in_ok-last.last in
-    along_done (run c.args.levels (g.T.Tops.table b.tops.now)) (frames_in b c.args.scopes.now) _ cs c.args.body.now k.columns.items (drop k.binding-index cs) (leaf_at u) (λ j. Some k.nodes) (λ j. Some u.nodes) (λ j. Some c.in_ok-all.all)
-    (drop_all k.binding-index cs (omega arith)) k.invariant c.in_ok-last.ensures (λ j fs e. let_at b _ k.columns.items _ j fs c.deref-2.ensures.value e) (sums_same k.nodes u.nodes c.in_ok-all.all c.in_ok-all.ensures)
+    along_done (run c.args.levels (g.T.Tops.table b.tops.now)) (frames_in b c.args.scopes.now) _ cs c.args.body.now k.columns.items (drop k.binding-index cs) (leaf_at u) (costs_at k.costs) (cost_at u) (costs_at c.in_ok-all.all)
+    (drop_all k.binding-index cs (omega arith)) k.invariant c.in_ok-last.ensures (λ j fs e. let_at b _ k.columns.items _ j fs c.deref-2.ensures.value e) c.in_ok-all.ensures
+
+pub node-returns-in-Choice : goal.node-returns-in-Choice
+node-returns-in-Choice g t c = rw (c.in-Choice.is, ← c.deref-in-Choice.ensures, ← c.deref-in-Choice-2.ensures, ← c.deref-in-Choice-3.ensures) c.choice.ensures
+
+pub choice-returns : goal.choice-returns
+choice-returns g t c =
+    let b = c.args.block.now in
+    let test = c.in_ok-column.field-0 in
+    let r = c.in_ok-chosen.chosen in
+    choice_finds (run c.args.levels (g.T.Tops.table b.tops.now)) (frames_in b c.args.scopes.now) c.args.test.now c.args.yes.now c.args.no.now c.in_ok-sides.sides.flags.items (leaves_of test.column) (leaf_at r) (cost_at test) (cost_at r) (costs_at c.in_ok-all.all) c.in_ok-column.ensures c.in_ok-sides.ensures.0 c.in_ok-chosen.ensures c.in_ok-all.ensures
+
+pub chosen-returns-then-is_none : goal.chosen-returns-then-is_none
+chosen-returns-then-is_none g t c =
+    let b = c.args.block.now in
+    let f = run c.args.levels (g.T.Tops.table b.tops.now) in
+    let s = c.args.sides.now in
+    some_so _ _ (λ r h. all_yes s.flags.items s.yes.items s.no.items s.ranks.items (λ fs. f fs c.args.yes.now) (λ fs. f fs c.args.no.now) (frames_in b c.args.scopes.now) (leaf_at r) (cost_at r) c.requires.sorted (sym c.deref.ensures.value ∙ c.is_none.ensures c.if-is_none.true) h) c.column.result c.column.ensures
+
+pub chosen-returns-then-is_none-2 : goal.chosen-returns-then-is_none-2
+chosen-returns-then-is_none-2 g t c =
+    let b = c.args.block.now in
+    let f = run c.args.levels (g.T.Tops.table b.tops.now) in
+    let s = c.args.sides.now in
+    some_so _ _ (λ r h. all_no s.flags.items s.yes.items s.no.items s.ranks.items (λ fs. f fs c.args.yes.now) (λ fs. f fs c.args.no.now) (frames_in b c.args.scopes.now) (leaf_at r) (cost_at r) c.requires.sorted (sym c.deref-2.ensures.value ∙ c.is_none-2.ensures c.if-is_none-2.true) h) c.column-then-is_none-2.result c.column-then-is_none-2.ensures
+
+pub chosen-returns : goal.chosen-returns
+chosen-returns g t c =
+    let b = c.args.block.now in
+    let f = run c.args.levels (g.T.Tops.table b.tops.now) in
+    let s = c.args.sides.now in
+    let at = frames_in b c.args.scopes.now in
+    let one = c.in_ok-one.one in
+    let other = c.in_ok-other.other in
+    some_so _ _ (λ r h. both_sides s.flags.items s.yes.items s.no.items s.ranks.items (λ fs. f fs c.args.yes.now) (λ fs. f fs c.args.no.now) at _ _ (leaf_at one) (leaf_at other) (leaf_at r) (cost_at one) (cost_at other) (cost_at r) c.requires.sorted (λ k. turns_at b _ s.yes.items _ c.args.scopes.now k c.deref-3.ensures.value refl) (λ k. turns_at b _ s.no.items _ c.args.scopes.now k c.deref-4.ensures.value refl) c.in_ok-one.ensures c.in_ok-other.ensures h.0 h.1) c.merged.result c.merged.ensures

@@ -1,5 +1,6 @@
-use Rattle.std.proofs.Common.{ℕ, ◌+◌, ◌*◌, Some, drop}
+use Rattle.std.proofs.Common.{◌+◌, ◌*◌, drop}
 use Rattle.nesl_eval_code.specs.Run.{run}
+use Rattle.nesl_eval_plain.specs.Costs.{costs_at}
 use Rattle.nesl_eval_plain.specs.Frames.{frames_in}
 use Rattle.nesl_eval_plain.proofs.Finding.{Along}
 use Rattle.nesl_eval_plain.proofs.parts.+plain.Given as goal
@@ -28,6 +29,12 @@ decreases-element g l = l.levels * 8 + 5
 abbrev pub decreases-in_let : goal.decreases-in_let
 decreases-in_let g l = l.levels * 8 + 6
 
+abbrev pub decreases-choice : goal.decreases-choice
+decreases-choice g l = l.levels * 8 + 6
+
+abbrev pub decreases-chosen : goal.decreases-chosen
+decreases-chosen g l = l.levels * 8 + 5
+
 abbrev pub invariant-in_let-loop-binding : goal.invariant-in_let-loop-binding
 invariant-in_let-loop-binding g l =
-    Along (run l.levels (g.T.Tops.table l.block.tops.now)) (frames_in l.block l.scopes) l.bindings l.body l.columns.items (drop l.binding-index l.bindings) (λ (k : ℕ). Some l.nodes)
+    Along (run l.levels (g.T.Tops.table l.block.tops.now)) (frames_in l.block l.scopes) l.bindings l.body l.columns.items (drop l.binding-index l.bindings) (costs_at l.costs)
