@@ -136,24 +136,22 @@ fn paid_each(same: u64, more: &[u64]) -> Option<Paid>
 }
 
 /// What so many turns cost side by side: their works add, and the greatest depth counts.
-pub fn total_of<A: Allocator>(costs: &Costs<A>, count: usize) -> Option<Paid>
+pub fn total_of<A: Allocator>(costs: Costs<A>, count: usize) -> Option<Paid>
     requires { 0 < count }
-    ensures { let ns = each_cost costs.now count in
+    ensures { let ns = each_cost costs count in
         IfSome result (λ r. (length ns ≡ count) × (r.work ≡ sum ns) × (r.depth ≡ greatest ns)) }
 {
-    match &costs.more {
+    let Costs { same, more } = costs;
+    match more {
         None => {
-            let work = costs.same.checked_mul(count as u64)?;
-            Some(Paid {
-                work,
-                depth: costs.same,
-            })
+            let work = same.checked_mul(count as u64)?;
+            Some(Paid { work, depth: same })
         }
-        Some(more) => {
-            if more.len() != count {
+        Some(list) => {
+            if list.len() != count {
                 return None;
             }
-            paid_each(costs.same, more)
+            paid_each(same, &list)
         }
     }
 }

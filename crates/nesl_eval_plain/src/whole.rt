@@ -123,7 +123,7 @@ fn values_within<'x, A: Allocator + Copy, T: Tops<A>>(
         if !suffices(left, whole.to - turn, costs.same) {
             return None;
         }
-        let Paid { work, depth } = total_of(&costs, end - turn)?;
+        let Paid { work, depth } = total_of(costs, end - turn)?;
         left = charged(left, work, end - turn)?;
         if !extended(&mut builder, column) {
             return None;
@@ -268,7 +268,7 @@ fn places_within<'x, A: Allocator + Copy, T: Tops<A>>(
         if !suffices(left, whole.to - turn, costs.same) {
             return None;
         }
-        let Paid { work, depth } = total_of(&costs, end - turn)?;
+        let Paid { work, depth } = total_of(costs, end - turn)?;
         left = charged(left, work, 0)?;
         let flags = truths(column)?;
         if !choose(&mut places, whole.places, turn, end, &flags, *whole.alloc) {
