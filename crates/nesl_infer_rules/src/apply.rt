@@ -88,7 +88,8 @@ pub fn constrain_call<P: Drop>(
     constrain_other_call(state, outer, name, given, target)
 }
 
-/// The same, for a name that isn't the function's that is being defined.
+/// Adds what makes the name take the type of `given` and give the type of `target`, where it isn't the name of the
+/// function that is being defined.
 fn constrain_other_call<P: Drop>(
     state: &mut State,
     outer: &Outer<'_, P>,

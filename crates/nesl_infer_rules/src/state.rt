@@ -181,7 +181,7 @@ impl State {
         Ok(())
     }
 
-    /// The same for a type without variables.
+    /// The variable stands for the type of a top-level name, in which there are no variables.
     pub fn equate_closed(&mut self, name: &[u8], variable: u64, ty: &Ty) -> Result<(), AllocError>
         requires variable { variable < count self.old }
         requires ty { IsBelow 0 ty.now }
