@@ -1,5 +1,5 @@
 -- Places that come to leaves.
-use Rattle.std.proofs.Common.{◌≡◌, ℕ, zero, suc, ◌+◌, ◌-◌, ◌*◌, ◌<◌, max, Bool, cond, List, [], ◌∷◌, ◌++◌, map, length, replicate, refl, ap, ◌∙◌, arith, subst}
+use Rattle.std.proofs.Common.{◌≡◌, ℕ, zero, suc, ◌+◌, ◌-◌, ◌<◌, max, Bool, cond, List, [], ◌∷◌, ◌++◌, map, length, refl, ap, ◌∙◌, arith, subst}
 use Rattle.std.specs.Prelude.{sum}
 use Rattle.std.proofs.lemmas.List.Sums.{sum_by-cons}
 use Rattle.nesl_lex.specs.declared.token.Span.{Span}
@@ -15,8 +15,7 @@ use Rattle.nesl_eval_code.specs.Frames.{Frames}
 use Rattle.nesl_eval_meaning.specs.Out.{Out, value, fault, stuck, after_cost, and_then, beside, all_beside}
 use Rattle.nesl_eval_meaning.specs.Outcome.{small_enough, apply_builtin, on_scalars, body_value, place_if_true}
 use Rattle.nesl_eval_code.specs.Run.{Runs, Table, run, run_node, run_two}
-use Rattle.nesl_eval_columns.specs.Each.{EachTwo, EachThree}
-use Rattle.nesl_eval_columns.specs.Columns.{Makes, MapsColumn}
+use Rattle.nesl_eval_columns.specs.Each.{EachTwo}
 use Rattle.nesl_eval_plain.specs.Comes.{Comes, greatest, chosen}
 
 -- what follows at each place

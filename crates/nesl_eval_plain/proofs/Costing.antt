@@ -1,5 +1,5 @@
 -- Costs that are summed, merged and paid.
-use Rattle.std.proofs.Common.{◌≡◌, ℕ, zero, suc, ◌+◌, ◌*◌, ◌<◌, ◌≤◌, max, Bool, List, [], ◌∷◌, map, length, replicate, Vec, Option, Some, None, refl, sym, ap, ◌∙◌, arith}
+use Rattle.std.proofs.Common.{◌≡◌, ℕ, zero, suc, ◌+◌, ◌*◌, ◌<◌, ◌≤◌, Bool, List, [], ◌∷◌, map, length, replicate, Vec, Option, Some, None, refl, sym, ap, ◌∙◌, arith}
 use Rattle.std.specs.Prelude.{cond, slice_get, option_map, sum}
 use Rattle.std.proofs.lemmas.Option.{same_Some, slice_get-map}
 use Rattle.std.proofs.lemmas.List.{length-replicate}
@@ -8,7 +8,7 @@ use Rattle.nesl_eval_plain.specs.Comes.{greatest}
 use Rattle.nesl_eval_plain.specs.Costs.{cost_in, costs_in, Sums, Merges}
 use Rattle.nesl_eval_plain.proofs.Comes.{sum_next}
 use Rattle.nesl_eval_plain.proofs.Framed.{mapped_some}
-use Rattle.nesl_eval_plain.proofs.Finding.{each_at, three_at, replicated}
+use Rattle.nesl_eval_plain.proofs.Finding.{three_at, replicated}
 
 -- the part of a cost that differs from turn to turn
 cost_split : {A : Type 0} (n : ℕ) (a : Option (Vec ℕ A)) (k m : ℕ) → cost_in n a k ≡ Some m → (j : ℕ) × (cost_in 0 a k ≡ Some j) × (m ≡ n + j)

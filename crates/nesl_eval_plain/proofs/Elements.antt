@@ -9,11 +9,10 @@ use Rattle.nesl_seqs_base.specs.declared.seq_fn.SeqFn.TheVariants.{Length, Eleme
 use Rattle.nesl_seqs_base.specs.Outcome as seqs
 use Rattle.nesl_builtins.specs.declared.builtin.Builtin.TheVariants.{OfSequences}
 use Rattle.nesl_eval_code.specs.declared.code.Code.{Code}
-use Rattle.nesl_eval_code.specs.declared.code.Step.{Step}
-use Rattle.nesl_eval_code.specs.Frames.{Frames, row, local_at}
+use Rattle.nesl_eval_code.specs.Frames.{Frames}
 use Rattle.nesl_eval_code.specs.Run.{Runs, Table, run, run_node, run_two}
 use Rattle.nesl_eval_meaning.specs.Names.{Value}
-use Rattle.nesl_eval_meaning.specs.Out.{Out, value, given, after_cost, and_then}
+use Rattle.nesl_eval_meaning.specs.Out.{value, after_cost, and_then}
 use Rattle.nesl_eval_meaning.specs.Outcome.{apply_builtin, on_sequence}
 use Rattle.nesl_eval_columns.specs.Each.{EachTwo}
 use Rattle.nesl_eval_plain.specs.Picked.{at_number, Picks}

@@ -1,5 +1,5 @@
 -- The frames at the turns of a block.
-use Rattle.std.proofs.Common.{◌≡◌, ℕ, ◌-◌, ◌<◌, List, ◌∷◌, Option, Some, None, Bor, refl, sym, ap, ◌∙◌, subst, rules}
+use Rattle.std.proofs.Common.{◌≡◌, ℕ, List, ◌∷◌, Option, Some, None, Bor, refl, sym, ap, ◌∙◌, subst, rules}
 use Rattle.std.specs.Prelude.{slice_get, option_map, option_and_then, IsSomeAnd}
 use Rattle.std.proofs.lemmas.Option.{same_Some, none-some}
 use Rattle.nesl_eval_meaning.specs.Names.{Value}

@@ -1,5 +1,5 @@
 -- Block after block.
-use Rattle.std.proofs.Common.{◌≡◌, ℕ, ℤ, zero, suc, true, set, append-nil, ◌+◌, ◌-◌, ◌*◌, ◌<◌, ◌≤◌, max, Bool, cond, List, [], ◌∷◌, ◌++◌, map, length, take, drop, take_all, get_or, get_or-drop, length-take, take-add, drop-drop, length-drop, Some, Result, Ok, Err, false, refl, sym, ap, ◌∙◌, arith, append_assoc}
+use Rattle.std.proofs.Common.{◌≡◌, ℕ, ℤ, zero, suc, true, set, append-nil, ◌+◌, ◌-◌, ◌<◌, ◌≤◌, max, Bool, cond, List, [], ◌∷◌, ◌++◌, map, length, take, drop, take_all, get_or, get_or-drop, length-take, take-add, drop-drop, length-drop, Some, Result, Ok, Err, false, refl, sym, ap, ◌∙◌, arith, append_assoc}
 use Rattle.std.specs.Prelude.{slice_range, slice_get, MatchResult, is_err, sum}
 use Rattle.std.proofs.lemmas.Grind.{take_at_read}
 use Rattle.std.proofs.lemmas.List.{take_more_set, take-set}

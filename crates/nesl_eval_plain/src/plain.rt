@@ -5,7 +5,8 @@ use nesl_eval_code::Code;
 use nesl_seqs_base::seq_fn::SeqFn;
 
 /// Whether code is made of constants, names, functions of scalars, elements and lengths of names outside of the rows,
-/// and `let`s and choices of these, with so many frames of `let`s below the row. What a name stands for is not looked at.
+/// and `let`s and choices of these, with so many frames of `let`s below the row. What a name stands for is not looked
+/// at.
 #[cycle(plainness)]
 pub fn is_plain(code: &Code, frames: usize, levels: u32) -> bool {
     if levels == 0 {
@@ -28,15 +29,7 @@ pub fn is_plain(code: &Code, frames: usize, levels: u32) -> bool {
             left,
             right,
             ..
-        } => match function {
-            Builtin::OfTwo(_) => is_plain(left, frames, below) && is_plain(right, frames, below),
-            Builtin::OfSequences(function) => {
-                *function == SeqFn::ElementAt
-                    && is_outer(left, frames)
-                    && is_plain(right, frames, below)
-            }
-            Builtin::OfOne(_) => false,
-        },
+        } => is_plain_between(*function, left, right, frames, below),
         Code::Let { bindings, body, .. } => {
             frames < usize::MAX
                 && are_plain(bindings, frames + 1, below)
@@ -48,6 +41,26 @@ pub fn is_plain(code: &Code, frames: usize, levels: u32) -> bool {
                 && is_plain(no, frames, below)
         }
         _ => false,
+    }
+}
+
+// Whether a function of the two parts that an operator stands between is plain.
+#[cycle(plainness)]
+fn is_plain_between(
+    function: Builtin,
+    left: &Code,
+    right: &Code,
+    frames: usize,
+    levels: u32,
+) -> bool {
+    match function {
+        Builtin::OfTwo(_) => is_plain(left, frames, levels) && is_plain(right, frames, levels),
+        Builtin::OfSequences(function) => {
+            function == SeqFn::ElementAt
+                && is_outer(left, frames)
+                && is_plain(right, frames, levels)
+        }
+        Builtin::OfOne(_) => false,
     }
 }
 

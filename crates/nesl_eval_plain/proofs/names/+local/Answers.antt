@@ -1,6 +1,6 @@
-use Rattle.std.proofs.Common.{◌≡◌, ◌<◌, ◌≤◌, ◌-◌, ℕ, Some, length, subst, arith}
+use Rattle.std.proofs.Common.{◌≡◌, ◌<◌, ◌≤◌, ◌-◌, Some, length, subst, arith}
 use Rattle.std.specs.Prelude.{slice_get}
-use Rattle.nesl_eval_code.specs.Frames.{Frames, local_at}
+use Rattle.nesl_eval_code.specs.Frames.{local_at}
 use Rattle.nesl_eval_meaning.specs.Out.{given, value}
 use Rattle.nesl_eval_columns.specs.Columns.{leaves_of}
 use Rattle.nesl_eval_columns.proofs.Turns.{some_so}

@@ -1,4 +1,3 @@
-use Rattle.nesl_eval_meaning.specs.Out.{value}
 use Rattle.nesl_eval_code.specs.Run.{run_top, slot_at}
 use Rattle.nesl_eval_plain.proofs.names.top.Goals as goal
 

@@ -1,4 +1,4 @@
-use Rattle.std.proofs.Common.{◌≡◌, ◌∙◌, ℕ, ◌<◌, ◌^◌, length, pos, ap, subst, w64}
+use Rattle.std.proofs.Common.{◌∙◌, ◌<◌, ◌^◌, pos, ap, subst, w64}
 use Rattle.std.proofs.lemmas.Int.{to_z_pos}
 use Rattle.nesl_values.specs.Tree.{int}
 use Rattle.nesl_values.specs.View.{tree_of, item_trees}

@@ -7,6 +7,9 @@ decreases-is_plain l = l.levels * 2
 abbrev pub decreases-is_plain_call : goal.decreases-is_plain_call
 decreases-is_plain_call l = l.levels * 2 + 1
 
+abbrev pub decreases-is_plain_between : goal.decreases-is_plain_between
+decreases-is_plain_between l = l.levels * 2 + 1
+
 abbrev pub decreases-are_plain : goal.decreases-are_plain
 decreases-are_plain l = l.levels * 2 + 1
 

@@ -14,7 +14,6 @@ use Rattle.nesl_eval_plain.specs.Comes.{greatest}
 use Rattle.nesl_eval_plain.specs.Costs.{costs_at, each_cost}
 use Rattle.nesl_eval_plain.proofs.Costing.{greatest_le_sum}
 use Rattle.nesl_eval_plain.specs.declared.scopes.Scopes.{Rows}
-use Rattle.nesl_eval_plain.specs.Blocks.{block_places}
 use Rattle.nesl_eval_plain.specs.Frames.{frames_in, AreAt}
 use Rattle.nesl_eval_plain.proofs.Places.{rows_come}
 use Rattle.nesl_eval_plain.proofs.Turns.{next_block, block_bodies}

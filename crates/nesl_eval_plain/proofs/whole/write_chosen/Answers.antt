@@ -1,4 +1,4 @@
-use Rattle.std.proofs.Common.{◌≡◌, ◌<◌, ◌≤◌, ◌+◌, ◌-◌, [], length, take, ap, arith}
+use Rattle.std.proofs.Common.{◌+◌, [], take, ap, arith}
 use Rattle.nesl_eval_nodes.specs.Sides.{places_of}
 use Rattle.nesl_eval_plain.proofs.Turns.{all_turns, next_written}
 use Rattle.nesl_eval_plain.proofs.whole.write_chosen.Goals as goal
