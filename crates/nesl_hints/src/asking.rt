@@ -5,11 +5,10 @@ ghost use Rattle.nesl_reply.specs.declared.fault.Fault.{Fault};
 ghost use Rattle.nesl_session_step.specs.State.{State};
 ghost use Rattle.nesl_session_step.specs.Solo.{Replays};
 ghost use Rattle.nesl_session.specs.Asking.{AnswersWith};
-ghost use Rattle.nesl_hints_reading.specs.Within.{IsWithin};
+ghost use Rattle.nesl_hints_places.specs.Within.{IsWithin};
 
-use crate::asked::Asked;
-use crate::faults::hint_on_fault;
-use nesl_hints_reading::Hint;
+use nesl_hints_faults::{Asked, hint_on_fault};
+use nesl_hints_places::Hint;
 use nesl_session::session::Session;
 use std::alloc::{AllocError, Global};
 

@@ -1,9 +1,9 @@
 //! Hints on lines without tokens.
 ghost use Rattle.std.specs.Prelude.{IfOk, length};
-ghost use Rattle.nesl_hints_reading.specs.Within.{IsWithin};
+ghost use Rattle.nesl_hints_places.specs.Within.{IsWithin};
 
-use crate::hint::{Hint, Sentence};
 use crate::signs::SIGNS;
+use nesl_hints_places::{Hint, said_of_front};
 use nesl_lex::token::Span;
 use std::alloc::{AllocError, Global};
 
@@ -19,7 +19,7 @@ pub fn lexical(alloc: Global, text: &[u8], at: usize) -> Result<Hint, AllocError
             end: start.saturating_add(len),
         },
         second: None,
-        sentence: Sentence::of(alloc, said)?.done(),
+        sentence: Vec::from_slice(alloc, said)?,
     };
     Ok(hint.within(text.len()))
 }
@@ -67,10 +67,8 @@ fn said_of_text(bytes: &[u8]) -> (usize, &'static [u8]) {
 
 // Why a byte begins no token that is no letter, digit or quote.
 fn said_of_sign(bytes: &[u8]) -> (usize, &'static [u8]) {
-    for (seen, said) in &SIGNS {
-        if bytes.starts_with(seen) {
-            return (seen.len(), said);
-        }
+    if let Some(found) = said_of_front(SIGNS, bytes) {
+        return found;
     }
     match bytes.first() {
         Some(byte) if *byte > 126 => (

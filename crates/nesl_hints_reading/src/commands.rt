@@ -3,7 +3,7 @@
 use crate::halt::{Halt, stop};
 use crate::line::read_body;
 use crate::problems::Problem;
-use crate::source::{is_sign, name_in};
+use crate::tokens::{is_sign, name_in};
 use nesl_lex::token::{Sign, Token};
 use std::alloc::Global;
 

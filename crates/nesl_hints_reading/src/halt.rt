@@ -13,7 +13,7 @@ pub(crate) struct Wrong {
 }
 
 /// Why a walk over tokens ends.
-#[derive(Drop)]
+#[derive(Clone, Copy)]
 pub(crate) enum Halt {
     Wrong(Wrong),
     Memory,

@@ -4,7 +4,6 @@
 mod bytes;
 mod commands;
 mod halt;
-pub mod hint;
 mod line;
 mod machine;
 mod marks;
@@ -12,9 +11,7 @@ mod openings;
 mod patterns;
 mod problems;
 mod signs;
-mod source;
+mod tokens;
 
 pub use bytes::lexical;
-pub use hint::{Hint, Sentence, near};
 pub use line::syntax;
-pub use source::quoted;

@@ -1,83 +1,30 @@
 //! Hints on lines without a form.
 ghost use Rattle.std.specs.Prelude.{IfOk, length};
-ghost use Rattle.nesl_hints_reading.specs.Within.{IsWithin};
+ghost use Rattle.nesl_hints_places.specs.Within.{IsWithin};
 
 use crate::commands::read_command;
 use crate::halt::{Halt, Wrong, stop, stop_with};
-use crate::hint::Hint;
 use crate::machine::{read_expression, read_type};
 use crate::marks::{over, pair_said};
 use crate::problems::{Problem, told};
-use crate::source::{is_sign, is_word, name_in};
+use crate::tokens::{is_sign, is_word, name_in};
+use nesl_hints_places::{Hint, said_of_word};
 use nesl_lex::token::{Kind, Sign, Span, Token, Word};
 use std::alloc::{AllocError, Global};
 
 /// Words that begin a line in other languages, and what is said of them.
-const FOREIGN: [(&[u8], &[u8]); 18] = [
-    (b"def", b"a function is defined by `function g(x) = x + 1;`"),
-    (b"fun", b"a function is defined by `function g(x) = x + 1;`"),
-    (b"fn", b"a function is defined by `function g(x) = x + 1;`"),
-    (
-        b"func",
-        b"a function is defined by `function g(x) = x + 1;`",
-    ),
-    (
-        b"define",
-        b"a function is defined by `function g(x) = x + 1;`",
-    ),
-    (
-        b"lambda",
-        b"functions are no values: define one by `function g(x) = x + 1;`",
-    ),
-    (
-        b"type",
-        b"a datatype is defined by `datatype point (int, int);`, and a type is told by `:type x;`",
-    ),
-    (
-        b"data",
-        b"a datatype is defined by `datatype point (int, int);`",
-    ),
-    (
-        b"struct",
-        b"a datatype is defined by `datatype point (int, int);`",
-    ),
-    (
-        b"var",
-        b"a variable is bound by its name alone, as in `x = 3;`",
-    ),
-    (
-        b"val",
-        b"a variable is bound by its name alone, as in `x = 3;`",
-    ),
-    (
-        b"const",
-        b"a variable is bound by its name alone, as in `x = 3;`",
-    ),
-    (
-        b"set",
-        b"a variable is bound by its name alone, as in `x = 3;`",
-    ),
-    (
-        b"return",
-        b"nothing is returned: a function's body is its value",
-    ),
-    (
-        b"print",
-        b"an expression alone tells its value: leave `print` out",
-    ),
-    (
-        b"for",
-        b"there are no loops: `{a * a : a in v}` does something for each element",
-    ),
-    (
-        b"while",
-        b"there are no loops: a function may call itself, and `{a * a : a in v}` goes over elements",
-    ),
-    (
-        b"import",
-        b"there are no modules: all functions are there from the beginning",
-    ),
-];
+const FOREIGN: &[u8] = b"\
+def fun fn func define\ta function is defined by `function g(x) = x + 1;`
+lambda\tfunctions are no values: define one by `function g(x) = x + 1;`
+type\ta datatype is defined by `datatype point (int, int);`, and a type is told by `:type x;`
+data struct\ta datatype is defined by `datatype point (int, int);`
+var val const set\ta variable is bound by its name alone, as in `x = 3;`
+return\tnothing is returned: a function's body is its value
+print\tan expression alone tells its value: leave `print` out
+for\tthere are no loops: `{a * a : a in v}` does something for each element
+while\tthere are no loops: a function may call itself, and `{a * a : a in v}` goes over elements
+import\tthere are no modules: all functions are there from the beginning
+";
 
 /// Why the tokens of the text are no form: the first token after which none can go on.
 pub fn syntax(alloc: Global, text: &[u8], tokens: &[Token]) -> Result<Hint, AllocError>
@@ -144,10 +91,8 @@ fn read_named(alloc: Global, name: &[u8], tokens: &[Token], rest: &[Token]) -> R
     }
     match read_body(alloc, tokens, next.span) {
         Err(Halt::Wrong(found)) => {
-            for (foreign, said) in &FOREIGN {
-                if name == *foreign {
-                    return stop(Problem::Elsewhere(said), first_of(tokens));
-                }
+            if let Some(said) = said_of_word(FOREIGN, name) {
+                return stop(Problem::Elsewhere(said), first_of(tokens));
             }
             named_wrongly(alloc, tokens, rest, found)
         }

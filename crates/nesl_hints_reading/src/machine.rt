@@ -4,7 +4,7 @@ use crate::halt::{Halt, stop, stop_with};
 use crate::marks::{over, pair_said, unclosed};
 use crate::openings::{Open, Opening};
 use crate::problems::Problem;
-use crate::source::{is_sign, is_word};
+use crate::tokens::{is_sign, is_word};
 use nesl_lex::token::{Kind, Sign, Span, Token, Word};
 use std::alloc::Global;
 

@@ -4,7 +4,7 @@ use crate::halt::{Halt, stop, stop_with};
 use crate::machine::{Machine, Mode};
 use crate::openings::{Open, Opening};
 use crate::problems::Problem;
-use crate::source::{is_sign, is_word, name_in};
+use crate::tokens::{is_sign, is_word, name_in};
 use nesl_lex::token::{Kind, Sign, Span, Token, Word};
 
 /// Two neighbouring signs that another language has for one, and what is said of them.

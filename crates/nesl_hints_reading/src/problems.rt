@@ -1,8 +1,7 @@
 //! What can be wrong with a line's tokens, and how a person is told.
 
 use crate::halt::Wrong;
-use crate::hint::{Hint, Sentence};
-use crate::source::quoted;
+use nesl_hints_places::{Hint, join_parts, quoted};
 use nesl_lex::token::Span;
 use std::alloc::{AllocError, Global};
 
@@ -104,7 +103,7 @@ pub(crate) fn told(alloc: Global, text: &[u8], wrong: Wrong) -> Result<Hint, All
     Ok(Hint {
         place: wrong.place,
         second: wrong.second,
-        sentence: Sentence::of(alloc, front)?.and(seen)?.and(back)?.done(),
+        sentence: join_parts(alloc, front, seen, back)?,
     })
 }
 

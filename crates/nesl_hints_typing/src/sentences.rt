@@ -1,10 +1,9 @@
 //! What is said of parts that don't fit.
 
-use crate::clash::{Clash, Role};
-use crate::guesses::{Guess, Guesses};
 use crate::words::Words;
 use nesl_eval_code::Payload;
-use nesl_hints_reading::{Hint, Sentence};
+use nesl_hints_places::{Hint, add_parts, join_parts};
+use nesl_hints_types::{Clash, Guess, Guesses, Role};
 use nesl_syntax_tree::tree::{Operator, Prefix};
 use nesl_types::Context;
 use std::alloc::{AllocError, Global};
@@ -88,14 +87,14 @@ fn ordinal(before: u64) -> &'static [u8] {
 }
 
 // What is said of a part.
-fn said_of(role: &Role) -> Said<'_> {
+fn said_of(role: Role<'_>) -> Said<'_> {
     match role {
-        Role::Left(operator) => named(b"the left side of `", sign_of(*operator), MUST_BE),
-        Role::Right(operator) => said_of_right(*operator),
+        Role::Left(operator) => named(b"the left side of `", sign_of(operator), MUST_BE),
+        Role::Right(operator) => said_of_right(operator),
         Role::Operand(Prefix::Length) => plain(b"what stands behind `#` is ", MUST_BE_SEQUENCE),
         Role::Operand(Prefix::Negate) => plain(b"what stands behind `-` is ", MUST_BE),
-        Role::Argument(name) => named(b"the argument of `", name.as_slice(), MUST_BE),
-        Role::OneArgument(name, before) => named(ordinal(*before), name.as_slice(), MUST_BE),
+        Role::Argument(name) => named(b"the argument of `", name, MUST_BE),
+        Role::OneArgument(name, before) => named(ordinal(before), name, MUST_BE),
         Role::Indexed => plain(b"what stands before `[` is ", MUST_BE_SEQUENCE),
         Role::Index => plain(b"the number in brackets is ", MUST_BE),
         Role::Test => plain(b"the test behind `if` is ", MUST_BE),
@@ -108,7 +107,7 @@ fn said_of(role: &Role) -> Said<'_> {
         Role::Drawn => plain(b"what stands behind `in` is ", MUST_BE_SEQUENCE),
         Role::Filter => plain(b"the filter is ", MUST_BE),
         Role::Pair => plain(b"what these names stand for is ", MUST_BE_PAIR),
-        Role::Record(name) => named(b"what is matched with `", name.as_slice(), MUST_BE),
+        Role::Record(name) => named(b"what is matched with `", name, MUST_BE),
         Role::Parameter => plain(b"the parameter is ", b", and the signature says "),
         Role::Body => plain(b"the body is ", b", and the signature says "),
         Role::OwnBody => plain(
@@ -118,17 +117,22 @@ fn said_of(role: &Role) -> Said<'_> {
     }
 }
 
+// What else is said of a side of an operator on numbers.
+fn advice_on_number(found: Guess, is_text: bool) -> &'static [u8] {
+    match found {
+        Guess::Sequence(_) if is_text => b": `++` joins two texts",
+        Guess::Sequence(_) => b": `{a + 1 : a in v}` does it for each element",
+        Guess::Bool => b": `btoi(b)` is 1 or 0",
+        Guess::Char => b": `char_code(c)` is its number",
+        _ => b"",
+    }
+}
+
 // What else is said of an operator's side of this type.
-fn advice_on_side(operator: Operator, found: Guess, item: Option<Guess>) -> &'static [u8] {
+fn advice_on_side(operator: Operator, found: Guess, is_text: bool) -> &'static [u8] {
     match operator {
         Operator::Plus | Operator::Minus | Operator::Times | Operator::Divide => {
-            match (found, item) {
-                (Guess::Sequence(_), Some(Guess::Char)) => b": `++` joins two texts",
-                (Guess::Sequence(_), _) => b": `{a + 1 : a in v}` does it for each element",
-                (Guess::Bool, _) => b": `btoi(b)` is 1 or 0",
-                (Guess::Char, _) => b": `char_code(c)` is its number",
-                _ => b"",
-            }
+            advice_on_number(found, is_text)
         }
         Operator::Equal
         | Operator::NotEqual
@@ -147,66 +151,90 @@ fn advice_on_side(operator: Operator, found: Guess, item: Option<Guess>) -> &'st
     }
 }
 
-// What else is said of a part, by the types.
-fn advice_on(guesses: &Guesses, clash: &Clash) -> &'static [u8] {
-    let found = guesses.guess(clash.found);
-    let wanted = guesses.guess(clash.wanted);
-    let item = match found {
-        Guess::Sequence(place) => Some(guesses.guess(place)),
-        _ => None,
-    };
-    match &clash.role {
-        Role::Left(operator) | Role::Right(operator) => advice_on_side(*operator, found, item),
-        Role::Operand(Prefix::Negate) => match (found, item) {
-            (Guess::Sequence(_), Some(Guess::Char)) => b"",
-            (Guess::Sequence(_), _) => b": `{-a : a in v}` does it for each number",
-            _ => advice_on_side(Operator::Minus, found, item),
-        },
-        Role::Argument(_) => match (found, wanted) {
-            (Guess::Pair(_, _), Guess::Pair(_, _)) => b"",
-            (Guess::Pair(_, _), _) => b": it has one argument",
-            (_, Guess::Pair(_, _)) => b": it has more arguments, with commas between",
-            (Guess::Sequence(_), Guess::Int | Guess::Char | Guess::Bool) => {
-                b": `{g(a) : a in v}` calls a function `g` for each element"
-            }
-            _ => b"",
-        },
-        Role::Test | Role::Filter => match found {
-            Guess::Int => b": `x /= 0` is a truth value",
-            _ => b"",
-        },
-        Role::Drawn => match found {
-            Guess::Int => b": `index(n)` has the numbers from 0 to n - 1",
-            _ => b"",
-        },
-        Role::Element => b": a sequence has elements of one type",
-        Role::Index => match found {
-            Guess::Sequence(_) => b": `v -> w` has the elements at the places in `w`",
+// What else is said of what stands behind a `-`.
+fn advice_on_negated(found: Guess, is_text: bool) -> &'static [u8] {
+    match found {
+        Guess::Sequence(_) if is_text => b"",
+        Guess::Sequence(_) => b": `{-a : a in v}` does it for each number",
+        _ => advice_on_number(found, false),
+    }
+}
+
+// What else is said of a whole argument.
+fn advice_on_argument(found: Guess, wanted: Guess) -> &'static [u8] {
+    if let Guess::Pair(_, _) = found {
+        return match wanted {
+            Guess::Pair(_, _) => b"",
+            _ => b": it has one argument",
+        };
+    }
+    match wanted {
+        Guess::Pair(_, _) => b": it has more arguments, with commas between",
+        Guess::Int | Guess::Char | Guess::Bool => match found {
+            Guess::Sequence(_) => b": `{g(a) : a in v}` calls a function `g` for each element",
             _ => b"",
         },
         _ => b"",
     }
 }
 
+// What else is said of another part.
+fn advice_on_part(role: Role<'_>, found: Guess) -> &'static [u8] {
+    match found {
+        Guess::Int => match role {
+            Role::Test | Role::Filter => b": `x /= 0` is a truth value",
+            Role::Drawn => b": `index(n)` has the numbers from 0 to n - 1",
+            _ => b"",
+        },
+        Guess::Sequence(_) => match role {
+            Role::Index => b": `v -> w` has the elements at the places in `w`",
+            _ => b"",
+        },
+        _ => b"",
+    }
+}
+
+// Whether it is a sequence of characters.
+fn is_text(guesses: &Guesses, guess: Guess) -> bool {
+    match guess {
+        Guess::Sequence(item) => matches!(guesses.guess(item), Guess::Char),
+        _ => false,
+    }
+}
+
+// What else is said of a part, by the types.
+fn advice_on(guesses: &Guesses, clash: Clash<'_>) -> &'static [u8] {
+    let found = guesses.guess(clash.found);
+    match clash.role {
+        Role::Left(operator) | Role::Right(operator) => {
+            advice_on_side(operator, found, is_text(guesses, found))
+        }
+        Role::Operand(Prefix::Negate) => advice_on_negated(found, is_text(guesses, found)),
+        Role::Argument(_) => advice_on_argument(found, guesses.guess(clash.wanted)),
+        Role::Element => b": a sequence has elements of one type",
+        other => advice_on_part(other, found),
+    }
+}
+
 /// What a person is told of a part that doesn't fit.
-pub(crate) fn hint_of(
+pub(crate) fn hint_of<'e>(
     alloc: Global,
-    guesses: &Guesses,
-    context: &Context<Payload>,
-    clash: &Clash,
+    guesses: &'e Guesses,
+    context: &'e Context<Payload>,
+    clash: Clash<'_>,
 ) -> Result<Hint, AllocError> {
     let mut words = Words::new(alloc, guesses, context);
     let found = words.of(alloc, clash.found)?;
     let wanted = words.of(alloc, clash.wanted)?;
-    let said = said_of(&clash.role);
-    let sentence = Sentence::of(alloc, said.front)?
-        .and(said.name)?
-        .and(said.is)?
-        .and(found.as_slice())?
-        .and(said.must_be)?
-        .and(wanted.as_slice())?
-        .and(advice_on(guesses, clash))?
-        .done();
+    let said = said_of(clash.role);
+    let mut sentence = join_parts(alloc, said.front, said.name, said.is)?;
+    add_parts(
+        &mut sentence,
+        found.as_slice(),
+        said.must_be,
+        wanted.as_slice(),
+    )?;
+    sentence.extend_from_slice(advice_on(guesses, clash))?;
     Ok(Hint {
         place: clash.place,
         second: clash.second,

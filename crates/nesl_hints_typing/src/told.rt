@@ -1,13 +1,12 @@
 //! Forms that have no type, and forms that have more than one.
 ghost use Rattle.std.specs.Prelude.{IfOk, IfSome};
-ghost use Rattle.nesl_hints_reading.specs.Within.{IsWithin};
+ghost use Rattle.nesl_hints_places.specs.Within.{IsWithin};
 
-use crate::clash::Halt;
 use crate::sentences::hint_of;
-use crate::walk::Walk;
 use crate::words::Words;
 use nesl_eval_code::Payload;
-use nesl_hints_reading::{Hint, Sentence};
+use nesl_hints_places::{Hint, join_parts};
+use nesl_hints_types::{Guesses, Halt, Shortage, Walk};
 use nesl_lex::token::Span;
 use nesl_syntax_tree::tree::Form;
 use nesl_types::Context;
@@ -26,11 +25,11 @@ pub fn ill_typed(
     let mut walk = Walk::new(alloc, context);
     match walk.form(form) {
         Err(Halt::Found(clash)) => {
-            let hint = hint_of(alloc, &walk.guesses, context, &clash)?;
+            let hint = hint_of(alloc, &walk.guesses, context, clash)?;
             Ok(Some(hint.within(len)))
         }
-        Err(Halt::Memory) => Err(AllocError),
-        Err(Halt::Tired) => Ok(None),
+        Err(Halt::Short(Shortage::Memory)) => Err(AllocError),
+        Err(Halt::Short(Shortage::Guesses)) => Ok(None),
         Ok(_) => Ok(None),
     }
 }
@@ -47,10 +46,10 @@ pub fn ambiguous(
 {
     let mut walk = Walk::new(alloc, context);
     match walk.form(form) {
-        Err(Halt::Memory) => Err(AllocError),
+        Err(Halt::Short(Shortage::Memory)) => Err(AllocError),
         Ok(Some(whole)) => {
             let (span, place) = first_open(&walk, whole)?;
-            let hint = undecided(&walk, span, place)?;
+            let hint = undecided(alloc, &walk.guesses, context, span, place)?;
             Ok(Some(hint.within(len)))
         }
         _ => Ok(None),
@@ -68,14 +67,21 @@ fn first_open(walk: &Walk<'_>, whole: (Span, usize)) -> Result<(Span, usize), Al
 }
 
 // What is said of a part whose type is open.
-fn undecided(walk: &Walk<'_>, place: Span, ty: usize) -> Result<Hint, AllocError> {
-    let alloc = walk.alloc;
-    let mut words = Words::new(alloc, &walk.guesses, walk.context);
+fn undecided<'e>(
+    alloc: Global,
+    guesses: &'e Guesses,
+    context: &'e Context<Payload>,
+    place: Span,
+    ty: usize,
+) -> Result<Hint, AllocError> {
+    let mut words = Words::new(alloc, guesses, context);
     let text = words.of(alloc, ty)?;
-    let sentence = Sentence::of(alloc, b"nothing decides the type of this, which is `")?
-        .and(text.as_slice())?
-        .and(b"`: use it beside something whose type is known, as in `[] int ++ ..`")?
-        .done();
+    let sentence = join_parts(
+        alloc,
+        b"nothing decides the type of this, which is `",
+        text.as_slice(),
+        b"`: use it beside something whose type is known, as in `[] int ++ ..`",
+    )?;
     Ok(Hint {
         place,
         second: None,

@@ -1,7 +1,7 @@
 //! Types in the language's words.
 
-use crate::guesses::{Guess, Guesses};
 use nesl_eval_code::Payload;
+use nesl_hints_types::{Guess, Guesses};
 use nesl_types::{Class, Context};
 use std::alloc::{AllocError, Global};
 

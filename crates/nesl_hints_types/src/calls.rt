@@ -1,6 +1,6 @@
 //! Calls and operators.
 
-use crate::clash::{Clash, Halt, Role};
+use crate::clash::{Clash, Halt, Role, Shortage};
 use crate::copies::Ends;
 use crate::guesses::Guess;
 use crate::walk::Walk;
@@ -21,28 +21,44 @@ struct Misfit {
     wanted: usize,
 }
 
-impl<'a> Walk<'a> {
+// The clash of an argument of the function with this name, where the whole argument has the type at a place.
+fn clash_of(name: &[u8], given: usize, misfit: Misfit) -> Clash<'_> {
+    let role = if misfit.found == given {
+        Role::Argument(name)
+    } else {
+        Role::OneArgument(name, misfit.before)
+    };
+    Clash {
+        role,
+        place: misfit.place,
+        second: None,
+        found: misfit.found,
+        wanted: misfit.wanted,
+    }
+}
+
+impl<'e> Walk<'e> {
     /// The place of the type of a call, whose argument has the type at a place.
     pub(crate) fn call(
         &mut self,
         span: Span,
-        name: &[u8],
-        argument: &Exp,
+        name: &'e [u8],
+        argument: &'e Exp,
         given: usize,
-    ) -> Result<usize, Halt> {
+    ) -> Result<usize, Halt<'e>> {
         let ends = self.ends(name)?;
         if !self.guesses.join(given, ends.takes)? {
-            let clash = self.misfit(argument, given, ends.takes)?;
-            return self.refuse(name, given, clash);
+            let misfit = self.misfit(argument, given, ends.takes)?;
+            return Err(Halt::Found(clash_of(name, given, misfit)));
         }
         self.calls.push((span, ends.gives))?;
         Ok(ends.gives)
     }
 
     // What the function with a name takes and gives.
-    fn ends(&mut self, name: &[u8]) -> Result<Ends, Halt> {
+    fn ends(&mut self, name: &[u8]) -> Result<Ends, Shortage> {
         if let Some(own) = &self.own {
-            if own.name.as_slice() == name {
+            if own.name == name {
                 return Ok(own.ends);
             }
         }
@@ -66,7 +82,7 @@ impl<'a> Walk<'a> {
     }
 
     // The argument of a call that doesn't fit.
-    fn misfit(&mut self, exp: &Exp, found: usize, wanted: usize) -> Result<Misfit, Halt> {
+    fn misfit(&mut self, exp: &Exp, found: usize, wanted: usize) -> Result<Misfit, Shortage> {
         let whole = Misfit {
             before: 0,
             place: exp.span,
@@ -101,30 +117,13 @@ impl<'a> Walk<'a> {
         }
     }
 
-    // The clash of an argument of the function with this name, where the whole argument has the type at a place.
-    fn refuse(&self, name: &[u8], given: usize, misfit: Misfit) -> Result<usize, Halt> {
-        let name = Vec::from_slice(self.alloc, name)?;
-        let role = if misfit.found == given {
-            Role::Argument(name)
-        } else {
-            Role::OneArgument(name, misfit.before)
-        };
-        Err(Halt::Found(Clash {
-            role,
-            place: misfit.place,
-            second: None,
-            found: misfit.found,
-            wanted: misfit.wanted,
-        }))
-    }
-
     /// The place of the type of an operator before an expression.
     pub(crate) fn prefix(
         &mut self,
         operator: Prefix,
         place: Span,
         found: usize,
-    ) -> Result<usize, Halt> {
+    ) -> Result<usize, Halt<'e>> {
         let ends = self.guesses.builtin(of_prefix(operator))?;
         self.join(Clash {
             role: Role::Operand(operator),
@@ -142,7 +141,7 @@ impl<'a> Walk<'a> {
         operator: Operator,
         left: (Span, usize),
         right: (Span, usize),
-    ) -> Result<usize, Halt> {
+    ) -> Result<usize, Halt<'e>> {
         let ends = self.guesses.builtin(of_infix(operator))?;
         let Guess::Pair(first, second) = self.guesses.guess(ends.takes) else {
             return Ok(ends.gives);
@@ -169,7 +168,7 @@ impl<'a> Walk<'a> {
         &mut self,
         items: (Span, usize),
         number: (Span, usize),
-    ) -> Result<usize, Halt> {
+    ) -> Result<usize, Halt<'e>> {
         let item = self.guesses.open()?;
         self.expect(Guess::Sequence(item), Role::Indexed, items.0, items.1)?;
         self.expect(Guess::Int, Role::Index, number.0, number.1)?;

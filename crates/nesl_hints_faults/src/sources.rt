@@ -29,7 +29,7 @@ pub(crate) fn source_of(asked: &Asked<'_>, name: &[u8]) -> Result<Option<Source>
         _ => return Ok(None),
     };
     let text = last_definition(asked, name)?;
-    if is_definition(asked.alloc, text.as_slice(), name, parameter, body)? {
+    if is_definition(asked.alloc, text.as_slice(), name, parameter, body) {
         return Ok(Some(Source {
             text,
             parameter,
@@ -98,26 +98,34 @@ fn behind_word<'t>(text: &'t [u8], word: &[u8]) -> Option<&'t [u8]> {
 }
 
 // Whether the text is the definition of the function, with its parameter and its body at these places.
-fn is_definition(
-    alloc: Global,
-    text: &[u8],
-    name: &[u8],
-    parameter: Span,
-    body: Span,
-) -> Result<bool, AllocError> {
-    let Ok(tokens) = lex(alloc, text) else {
-        return Ok(false);
-    };
-    let Ok(form) = parse_form(alloc, tokens.as_slice()) else {
-        return Ok(false);
-    };
-    match &form {
+fn is_definition(alloc: Global, text: &[u8], name: &[u8], parameter: Span, body: Span) -> bool {
+    match form_of(alloc, text) {
+        Some(form) => is_function(&form, name, parameter, body),
+        None => false,
+    }
+}
+
+// Whether the form defines the function, with its parameter and its body at these places.
+fn is_function(form: &Form, name: &[u8], parameter: Span, body: Span) -> bool {
+    match form {
         Form::Fun {
             name: own,
             parameter: pattern,
             body: exp,
             ..
-        } => Ok(own.as_slice() == name && pattern.span == parameter && exp.span == body),
-        _ => Ok(false),
+        } => own.as_slice() == name && pattern.span == parameter && exp.span == body,
+        _ => false,
+    }
+}
+
+/// The form that the text is, if it is one.
+pub(crate) fn form_of(alloc: Global, text: &[u8]) -> Option<Form> {
+    let tokens = match lex(alloc, text) {
+        Ok(tokens) => tokens,
+        Err(_) => return None,
+    };
+    match parse_form(alloc, tokens.as_slice()) {
+        Ok(form) => Some(form),
+        Err(_) => None,
     }
 }

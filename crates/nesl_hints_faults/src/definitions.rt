@@ -4,7 +4,7 @@ use crate::asked::Asked;
 use nesl_builtins::named;
 use nesl_eval_code::Payload;
 use nesl_eval_sound::refers_to;
-use nesl_hints_reading::{Hint, Sentence};
+use nesl_hints_places::{Hint, add_parts, join_parts};
 use nesl_lex::token::{Kind, Span, Token};
 use nesl_syntax_tree::tree::Form;
 use nesl_types::{Top, scheme_text, type_text};
@@ -70,14 +70,14 @@ pub(crate) fn retyped(
     let name = name_of(form);
     let other = referring(asked, name).unwrap_or(b"");
     let known = known_as(asked, name)?;
-    let sentence = Sentence::of(asked.alloc, b"`")?
-        .and(other)?
-        .and(b"` refers to `")?
-        .and(name)?
-        .and(b"`, so this keeps its type, which is ")?
-        .and(known.as_slice())?
-        .and(b": take another name")?
-        .done();
+    let mut sentence = join_parts(asked.alloc, b"`", other, b"` refers to `")?;
+    add_parts(
+        &mut sentence,
+        name,
+        b"`, so this keeps its type, which is ",
+        known.as_slice(),
+    )?;
+    sentence.extend_from_slice(b": take another name")?;
     Ok(Hint {
         place: place_of(tokens),
         second: None,
@@ -88,25 +88,25 @@ pub(crate) fn retyped(
 /// The name can't be what the form makes it.
 pub(crate) fn taken(asked: &Asked<'_>, tokens: &[Token], form: &Form) -> Result<Hint, AllocError> {
     let name = name_of(form);
-    let back: &[u8] = if named(name).is_some() {
-        b"` is a built-in function, which keeps its name: take another one"
-    } else if name == b"it".as_slice() {
-        b"` is the value of the last expression, and nothing else: take another name"
-    } else {
-        match asked.environment().context().get(name) {
-            Some((Top::Datatype(_, _), _)) => {
-                b"` is a datatype, which keeps its name: take another one"
-            }
-            _ => b"` is bound already, and a datatype has a new name: take another one",
-        }
-    };
-    let sentence = Sentence::of(asked.alloc, b"`")?
-        .and(name)?
-        .and(back)?
-        .done();
     Ok(Hint {
         place: place_of(tokens),
         second: None,
-        sentence,
+        sentence: join_parts(asked.alloc, b"`", name, said_of_taken(asked, name))?,
     })
+}
+
+// What is said of a name that can't be what the form makes it.
+fn said_of_taken(asked: &Asked<'_>, name: &[u8]) -> &'static [u8] {
+    if named(name).is_some() {
+        return b"` is a built-in function, which keeps its name: take another one";
+    }
+    if name == b"it".as_slice() {
+        return b"` is the value of the last expression, and nothing else: take another name";
+    }
+    match asked.environment().context().get(name) {
+        Some((Top::Datatype(_, _), _)) => {
+            b"` is a datatype, which keeps its name: take another one"
+        }
+        _ => b"` is bound already, and a datatype has a new name: take another one",
+    }
 }

@@ -19,10 +19,10 @@ fn class_of(class: syntax::Class) -> Class {
     }
 }
 
-impl<'a> Walk<'a> {
+impl<'e> Walk<'e> {
     /// Walks over a form, and gives the place of the type of its expression, and where that stands. A definition has no
     /// expression of its own.
-    pub(crate) fn form(&mut self, form: &Form) -> Result<Option<(Span, usize)>, Halt> {
+    pub fn form(&mut self, form: &'e Form) -> Result<Option<(Span, usize)>, Halt<'e>> {
         match form {
             Form::Eval(exp) | Form::ShowType(exp) => {
                 let place = self.check(exp)?;
@@ -38,8 +38,7 @@ impl<'a> Walk<'a> {
                 signature,
                 body,
             } => {
-                let name = Vec::from_slice(self.alloc, name.as_slice())?;
-                self.function(name, parameter, signature, body)?;
+                self.function(name.as_slice(), parameter, signature, body)?;
                 Ok(None)
             }
             _ => Ok(None),
@@ -48,11 +47,11 @@ impl<'a> Walk<'a> {
 
     fn function(
         &mut self,
-        name: Vec<u8>,
-        parameter: &Pattern,
-        signature: &Option<Signature>,
-        body: &Exp,
-    ) -> Result<(), Halt> {
+        name: &'e [u8],
+        parameter: &'e Pattern,
+        signature: &'e Option<Signature>,
+        body: &'e Exp,
+    ) -> Result<(), Halt<'e>> {
         let takes = self.guesses.open()?;
         let gives = self.guesses.open()?;
         self.own = Some(Own {
@@ -80,10 +79,10 @@ impl<'a> Walk<'a> {
     // What a signature says of the parameter; gives where it says what the body is, and the place of that type.
     fn sign(
         &mut self,
-        parameter: &Pattern,
-        signature: &Signature,
+        parameter: &'e Pattern,
+        signature: &'e Signature,
         takes: usize,
-    ) -> Result<(Span, usize), Halt> {
+    ) -> Result<(Span, usize), Halt<'e>> {
         let mut names = Vec::new(self.alloc);
         let from = self.written(&signature.from, &mut names)?;
         let to = self.written(&signature.to, &mut names)?;

@@ -3,14 +3,14 @@
 
 use crate::asked::{Asked, bytes_of};
 use crate::finding::{expression_of, node_at};
-use crate::sources::{Source, source_of};
+use crate::sources::{Source, form_of, source_of};
 use crate::values::LEVELS;
 use nesl_eval::{Outcome, eval_one};
-use nesl_hints_typing::bound_names;
+use nesl_hints_names::bound_names;
+use nesl_hints_places::{add_parts, join_parts};
 use nesl_lex::lex;
 use nesl_lex::token::{Kind, Span, Token};
 use nesl_session::{Fault, Stop};
-use nesl_syntax::parse_form;
 use nesl_syntax_tree::tree::{Form, Node};
 use std::alloc::{AllocError, Global};
 
@@ -68,24 +68,34 @@ fn unfold_call(
     place: Span,
     fault: Fault,
 ) -> Result<Option<Unfolded>, AllocError> {
-    let Some(exp) = expression_of(form) else {
+    let Some((name, argument)) = call_at(form, place) else {
         return Ok(None);
     };
-    let Some(node) = node_at(exp, place) else {
-        return Ok(None);
-    };
-    let Node::Call { name, argument } = &node.node else {
-        return Ok(None);
-    };
-    let Some(source) = source_of(asked, name.as_slice())? else {
+    let Some(source) = source_of(asked, name)? else {
         return Ok(None);
     };
     if hides(asked.alloc, form, &source)? {
         return Ok(None);
     }
-    let text = with_body(asked.alloc, text, place, argument.span, &source)?;
-    let function = Vec::from_slice(asked.alloc, name.as_slice())?;
-    refused_again(asked, function, text, fault)
+    let text = with_body(asked.alloc, text, place, argument, &source)?;
+    let Some((form, place)) = refused_again(asked, text.as_slice(), fault)? else {
+        return Ok(None);
+    };
+    Ok(Some(Unfolded {
+        function: Vec::from_slice(asked.alloc, name)?,
+        text,
+        form,
+        place,
+    }))
+}
+
+// The name of the function that is called at a place, and where its argument stands.
+fn call_at(form: &Form, place: Span) -> Option<(&[u8], Span)> {
+    let node = node_at(expression_of(form)?, place)?;
+    match &node.node {
+        Node::Call { name, argument } => Some((name.as_slice(), argument.span)),
+        _ => None,
+    }
 }
 
 // The text with the call at a place replaced by the function's body.
@@ -105,51 +115,59 @@ fn with_body(
         start: call.end,
         end: text.len(),
     };
-    let mut out = Vec::from_slice(alloc, bytes_of(text, before))?;
-    out.extend_from_slice(b"(let (")?;
-    out.extend_from_slice(bytes_of(definition, source.parameter))?;
-    out.extend_from_slice(b") = (")?;
-    out.extend_from_slice(bytes_of(text, argument))?;
-    out.extend_from_slice(b") in ")?;
-    out.extend_from_slice(bytes_of(definition, source.body))?;
-    out.extend_from_slice(b")")?;
-    out.extend_from_slice(bytes_of(text, behind))?;
+    let parameter = bytes_of(definition, source.parameter);
+    let mut out = join_parts(alloc, bytes_of(text, before), b"(let (", parameter)?;
+    add_parts(&mut out, b") = (", bytes_of(text, argument), b") in ")?;
+    let body = bytes_of(definition, source.body);
+    add_parts(&mut out, body, b")", bytes_of(text, behind))?;
     Ok(out)
 }
 
 // Whether a local name of the form would hide one of the function's body.
 fn hides(alloc: Global, form: &Form, source: &Source) -> Result<bool, AllocError> {
     let bound = bound_names(alloc, form)?;
-    let own = names_in(alloc, source, source.parameter)?;
-    let used = names_in(alloc, source, source.body)?;
-    if bound.len().saturating_mul(used.len()) > MOST_COMPARED {
-        return Ok(true);
-    }
-    for name in &used {
-        if !has_name(&own, name.as_slice()) && has_name(&bound, name.as_slice()) {
-            return Ok(true);
-        }
-    }
-    Ok(false)
+    let own = tokens_in(alloc, source, source.parameter);
+    let used = tokens_in(alloc, source, source.body);
+    Ok(hides_one(bound.as_slice(), own.as_slice(), used.as_slice()))
 }
 
-// Whether the name is among these.
-fn has_name(names: &Vec<Vec<u8>>, name: &[u8]) -> bool {
-    names.iter().any(|known| known.as_slice() == name)
-}
-
-// The names among the tokens of a part of a definition.
-fn names_in(alloc: Global, source: &Source, place: Span) -> Result<Vec<Vec<u8>>, AllocError> {
-    let mut names = Vec::new(alloc);
-    let Ok(tokens) = lex(alloc, bytes_of(source.text.as_slice(), place)) else {
-        return Ok(names);
-    };
-    for token in &tokens {
+// Whether one of the names that are used is bound, and none of a function's own.
+fn hides_one(bound: &[&[u8]], own: &[Token], used: &[Token]) -> bool {
+    let count = used
+        .iter()
+        .filter(|token| name_in(*token).is_some())
+        .count();
+    if bound.len().saturating_mul(count) > MOST_COMPARED {
+        return true;
+    }
+    for token in used {
         if let Some(name) = name_in(token) {
-            names.push(Vec::from_slice(alloc, name)?)?;
+            if !names_one(own, name) && bound.iter().any(|known| *known == name) {
+                return true;
+            }
         }
     }
-    Ok(names)
+    false
+}
+
+// Whether the name is one of the tokens.
+fn names_one(tokens: &[Token], name: &[u8]) -> bool {
+    for token in tokens {
+        if let Some(known) = name_in(token) {
+            if known == name {
+                return true;
+            }
+        }
+    }
+    false
+}
+
+// The tokens of a part of a definition.
+fn tokens_in(alloc: Global, source: &Source, place: Span) -> Vec<Token> {
+    match lex(alloc, bytes_of(source.text.as_slice(), place)) {
+        Ok(tokens) => tokens,
+        Err(_) => Vec::new(alloc),
+    }
 }
 
 // The name that the token is.
@@ -160,31 +178,22 @@ fn name_in(token: &Token) -> Option<&[u8]> {
     }
 }
 
-// Where a form with a call replaced is refused, if it is for the same reason.
+// The form that the text is, and where it is refused, if it is for the same reason.
 fn refused_again(
     asked: &Asked<'_>,
-    function: Vec<u8>,
-    text: Vec<u8>,
+    text: &[u8],
     fault: Fault,
-) -> Result<Option<Unfolded>, AllocError> {
+) -> Result<Option<(Form, Span)>, AllocError> {
     if text.len() > MOST_BYTES {
         return Ok(None);
     }
-    let Ok(tokens) = lex(asked.alloc, text.as_slice()) else {
+    let Some(form) = form_of(asked.alloc, text) else {
         return Ok(None);
     };
-    let Ok(form) = parse_form(asked.alloc, tokens.as_slice()) else {
-        return Ok(None);
-    };
-    let Some(place) = refused_at(asked, &form, fault)? else {
-        return Ok(None);
-    };
-    Ok(Some(Unfolded {
-        function,
-        text,
-        form,
-        place,
-    }))
+    match refused_at(asked, &form, fault)? {
+        Some(place) => Ok(Some((form, place))),
+        None => Ok(None),
+    }
 }
 
 // Where the evaluation of a form is refused, if it is for the same reason.

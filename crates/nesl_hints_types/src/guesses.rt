@@ -1,6 +1,6 @@
 //! Types that are being found.
 
-use crate::clash::Halt;
+use crate::clash::Shortage;
 use nesl_types::Class;
 use std::alloc::Global;
 
@@ -9,23 +9,28 @@ const MOST_GUESSES: usize = 500_000;
 
 /// What is known of a type so far. Its parts are given by their places.
 #[derive(Clone, Copy)]
-pub(crate) enum Guess {
+pub enum Guess {
     /// Any type of a class.
     Open(Class),
     /// The type at another place.
     Same(usize),
+    /// The type of numbers.
     Int,
+    /// The type of truth values.
     Bool,
+    /// The type of characters.
     Char,
     /// A datatype, by its tag.
     Named(u64),
+    /// Sequences of this type.
     Sequence(usize),
+    /// Pairs of these types.
     Pair(usize, usize),
 }
 
 /// Types that are being found, each known by its place.
 #[derive(Drop)]
-pub(crate) struct Guesses {
+pub struct Guesses {
     pub(crate) alloc: Global,
     guesses: Vec<Guess>,
     /// What stood before at the places that were changed since the last mark.
@@ -51,22 +56,22 @@ impl Guesses {
     }
 
     /// One more type.
-    pub(crate) fn add(&mut self, guess: Guess) -> Result<usize, Halt> {
+    pub(crate) fn add(&mut self, guess: Guess) -> Result<usize, Shortage> {
         let place = self.guesses.len();
         if place >= MOST_GUESSES {
-            return Err(Halt::Tired);
+            return Err(Shortage::Guesses);
         }
         self.guesses.push(guess)?;
         Ok(place)
     }
 
     /// One more type, of which nothing is known.
-    pub(crate) fn open(&mut self) -> Result<usize, Halt> {
+    pub(crate) fn open(&mut self) -> Result<usize, Shortage> {
         self.add(Guess::Open(Class::Any))
     }
 
     /// One more type for each class, of which nothing else is known.
-    pub(crate) fn open_all(&mut self, classes: &[Class]) -> Result<Vec<usize>, Halt> {
+    pub(crate) fn open_all(&mut self, classes: &[Class]) -> Result<Vec<usize>, Shortage> {
         let mut places = Vec::new(self.alloc);
         for class in classes {
             let place = self.add(of_class(*class))?;
@@ -76,7 +81,7 @@ impl Guesses {
     }
 
     /// What is known of the type at a place, and the place where that stands.
-    pub(crate) fn find(&self, place: usize) -> (usize, Guess) {
+    pub fn find(&self, place: usize) -> (usize, Guess) {
         let mut at = place;
         for _ in 0..self.guesses.len() {
             match self.guesses.get(at) {
@@ -89,7 +94,7 @@ impl Guesses {
     }
 
     /// What is known of the type at a place.
-    pub(crate) fn guess(&self, place: usize) -> Guess {
+    pub fn guess(&self, place: usize) -> Guess {
         let (_, guess) = self.find(place);
         guess
     }
@@ -100,7 +105,7 @@ impl Guesses {
     }
 
     /// This is known from now on of the type at a place.
-    pub(crate) fn set(&mut self, place: usize, guess: Guess) -> Result<(), Halt> {
+    pub(crate) fn set(&mut self, place: usize, guess: Guess) -> Result<(), Shortage> {
         let (_, old) = self.find(place);
         self.before.push((place, old))?;
         self.put(place, guess);

@@ -1,12 +1,12 @@
 //! Names that stand for nothing.
 ghost use Rattle.std.specs.Prelude.{IfOk};
-ghost use Rattle.nesl_hints_reading.specs.Within.{IsWithin};
+ghost use Rattle.nesl_hints_places.specs.Within.{IsWithin};
 
 use crate::elsewhere::{known_elsewhere, type_elsewhere};
 use crate::names::{bound_names, is_called, near_binding, near_builtin, near_local};
 use nesl_builtins::named;
 use nesl_eval_code::Payload;
-use nesl_hints_reading::{Hint, Sentence};
+use nesl_hints_places::{Hint, add_parts, join_parts};
 use nesl_lex::token::{Kind, Sign, Span, Token};
 use nesl_syntax_tree::tree::Form;
 use nesl_types::Context;
@@ -95,26 +95,17 @@ fn is_opening(token: Option<&Token>) -> bool {
     }
 }
 
-// A sentence with a name between two parts of it.
-fn about(alloc: Global, front: &[u8], name: &[u8], back: &[u8]) -> Result<Vec<u8>, AllocError> {
-    Ok(Sentence::of(alloc, front)?.and(name)?.and(back)?.done())
-}
-
 // A sentence with a name that is near.
 fn near_to(alloc: Global, sought: Sought<'_>, known: &[u8]) -> Result<Vec<u8>, AllocError> {
-    let sentence = Sentence::of(alloc, b"nothing is called `")?
-        .and(sought.name)?
-        .and(b"`; there is `")?
-        .and(known)?
-        .and(b"`")?
-        .done();
+    let mut sentence = join_parts(alloc, b"nothing is called `", sought.name, b"`; there is `")?;
+    add_parts(&mut sentence, known, b"`", b"")?;
     Ok(sentence)
 }
 
 // What is said of a name in what a datatype is to hold.
 fn said_of_type(alloc: Global, own: &[u8], sought: Sought<'_>) -> Result<Vec<u8>, AllocError> {
     if sought.name == own {
-        return about(
+        return join_parts(
             alloc,
             b"a datatype can't hold itself: all types in `",
             own,
@@ -122,9 +113,9 @@ fn said_of_type(alloc: Global, own: &[u8], sought: Sought<'_>) -> Result<Vec<u8>
         );
     }
     if let Some(said) = type_elsewhere(sought.name) {
-        return Ok(Sentence::of(alloc, said)?.done());
+        return Vec::from_slice(alloc, said);
     }
-    about(
+    join_parts(
         alloc,
         b"no type is called `",
         sought.name,
@@ -134,7 +125,7 @@ fn said_of_type(alloc: Global, own: &[u8], sought: Sought<'_>) -> Result<Vec<u8>
 
 // What is said of a name before the parentheses of a pattern.
 fn said_of_record(alloc: Global, sought: Sought<'_>) -> Result<Vec<u8>, AllocError> {
-    about(
+    join_parts(
         alloc,
         b"no datatype is called `",
         sought.name,
@@ -150,12 +141,12 @@ fn said_of_value(
     sought: Sought<'_>,
 ) -> Result<Vec<u8>, AllocError> {
     let bound = bound_names(alloc, form)?;
-    let is_bound = bound.iter().any(|name| name.as_slice() == sought.name);
+    let is_bound = bound.iter().any(|name| *name == sought.name);
     if sought.called {
-        return said_of_function(alloc, context, bound.as_slice(), is_bound, sought);
+        return said_of_function(alloc, context, is_bound, sought);
     }
     if is_function(context, form, sought.name) {
-        return about(
+        return join_parts(
             alloc,
             b"`",
             sought.name,
@@ -163,7 +154,7 @@ fn said_of_value(
         );
     }
     if is_bound {
-        return about(
+        return join_parts(
             alloc,
             b"`",
             sought.name,
@@ -193,12 +184,11 @@ fn is_function(context: &Context<Payload>, form: &Form, name: &[u8]) -> bool {
 fn said_of_function(
     alloc: Global,
     context: &Context<Payload>,
-    bound: &[Vec<u8>],
     is_bound: bool,
     sought: Sought<'_>,
 ) -> Result<Vec<u8>, AllocError> {
     if is_bound || context.get(sought.name).is_some() {
-        return about(
+        return join_parts(
             alloc,
             b"`",
             sought.name,
@@ -206,7 +196,7 @@ fn said_of_function(
         );
     }
     if let Some(said) = known_elsewhere(sought.name) {
-        return Ok(Sentence::of(alloc, said)?.done());
+        return Vec::from_slice(alloc, said);
     }
     if let Some(known) = near_builtin(sought.name) {
         return near_to(alloc, sought, known);
@@ -214,8 +204,7 @@ fn said_of_function(
     if let Some(known) = near_binding(context, sought.name, true) {
         return near_to(alloc, sought, known);
     }
-    let _ = bound;
-    about(
+    join_parts(
         alloc,
         b"no function is called `",
         sought.name,
@@ -228,7 +217,7 @@ fn said_of_variable(
     alloc: Global,
     context: &Context<Payload>,
     form: &Form,
-    bound: &[Vec<u8>],
+    bound: &[&[u8]],
     sought: Sought<'_>,
 ) -> Result<Vec<u8>, AllocError> {
     if sought.name == b"it".as_slice() {
@@ -236,7 +225,7 @@ fn said_of_variable(
             Form::Fun { .. } => b"the body of a function doesn't know `it`: give it as an argument",
             _ => b"`it` is the value of the last expression, and there was none yet",
         };
-        return Ok(Sentence::of(alloc, said)?.done());
+        return Vec::from_slice(alloc, said);
     }
     if let Some(known) = near_local(bound, sought.name) {
         return near_to(alloc, sought, known);
@@ -245,14 +234,14 @@ fn said_of_variable(
         return near_to(alloc, sought, known);
     }
     if let Some(said) = type_elsewhere(sought.name) {
-        return Ok(Sentence::of(alloc, said)?.done());
+        return Vec::from_slice(alloc, said);
     }
     if let Some(said) = known_elsewhere(sought.name) {
-        return Ok(Sentence::of(alloc, said)?.done());
+        return Vec::from_slice(alloc, said);
     }
     let back: &[u8] = match form {
         Form::Fun { .. } => b"`: a body knows its parameter, and the variables of the session",
         _ => b"`: bind it first, as in `x = 3;`",
     };
-    about(alloc, b"nothing is called `", sought.name, back)
+    join_parts(alloc, b"nothing is called `", sought.name, back)
 }

@@ -4,9 +4,9 @@ use crate::asked::{Asked, bytes_of};
 use crate::finding::{expression_of, node_at};
 use crate::inside::{Unfolded, unfold_calls};
 use crate::values::value_of;
-use nesl_builtins::named;
-use nesl_hints_reading::{Hint, Sentence, quoted};
+use nesl_hints_places::{Hint, add_parts, join_parts, quoted};
 use nesl_hints_typing::sign_of;
+use nesl_lex::token::Span;
 use nesl_session::{Fault, Stop};
 use nesl_syntax_tree::tree::{Exp, Form, Node, Operator, Prefix};
 use std::alloc::AllocError;
@@ -29,44 +29,54 @@ fn stop_of(fault: Fault) -> Option<Stop> {
     }
 }
 
+/// What is said of a part: its function's name or sign stands in front, where there is one.
+#[derive(Clone, Copy)]
+struct Sentence<'e> {
+    front: &'static [u8],
+    name: &'e [u8],
+    back: &'static [u8],
+    said: &'static [u8],
+}
+
 /// An evaluation was refused.
 pub(crate) fn refused(asked: &Asked<'_>, form: &Form, fault: Fault) -> Result<Hint, AllocError> {
     let Some(stop) = stop_of(fault) else {
         return asked.whole(b"there is no room for what this would be");
     };
     let sentence = match fault {
-        Fault::Deep(_) => outside_sentence(asked, form, stop, fault)?,
+        Fault::Deep(_) => outside_sentence(asked, form, stop.span, fault)?,
         _ => match unfold_calls(asked, form, stop.span, fault)? {
             Some(inside) => inside_sentence(asked, &inside, fault)?,
-            None => outside_sentence(asked, form, stop, fault)?,
+            None => outside_sentence(asked, form, stop.span, fault)?,
         },
     };
     Ok(Hint {
         place: stop.span,
         second: None,
-        sentence: sentence.done(),
+        sentence,
     })
+}
+
+// The part of a form's expression that stands in these bytes.
+fn part_at(form: &Form, place: Span) -> Option<&Exp> {
+    node_at(expression_of(form)?, place)
 }
 
 // What is said of a part of the form.
 fn outside_sentence(
     asked: &Asked<'_>,
     form: &Form,
-    stop: Stop,
+    place: Span,
     fault: Fault,
-) -> Result<Sentence, AllocError> {
-    let found = match expression_of(form) {
-        Some(exp) => node_at(exp, stop.span),
-        None => None,
+) -> Result<Vec<u8>, AllocError> {
+    let Some(part) = part_at(form, place) else {
+        return Vec::from_slice(asked.alloc, said(fault));
     };
-    let sentence = Sentence::of(asked.alloc, b"")?;
-    match found {
-        Some(node) => {
-            let sentence = said_of(sentence, fault, node)?;
-            with_values(asked, sentence, fault, node)
-        }
-        None => sentence.and(said(fault)),
-    }
+    let said = said_of(fault, part);
+    let mut sentence = join_parts(asked.alloc, said.front, said.name, said.back)?;
+    sentence.extend_from_slice(said.said)?;
+    put_values(asked, &mut sentence, fault, part)?;
+    Ok(sentence)
 }
 
 // What is said of a part of a called function's body.
@@ -74,59 +84,78 @@ fn inside_sentence(
     asked: &Asked<'_>,
     inside: &Unfolded,
     fault: Fault,
-) -> Result<Sentence, AllocError> {
+) -> Result<Vec<u8>, AllocError> {
+    let whole = bytes_of(inside.text.as_slice(), inside.place);
     let part = quoted(inside.text.as_slice(), inside.place);
-    let back: &[u8] = if part.len() < bytes_of(inside.text.as_slice(), inside.place).len() {
+    let back: &[u8] = if part.len() < whole.len() {
         b" ..`: "
     } else {
         b"`: "
     };
-    let sentence = Sentence::of(asked.alloc, b"in `")?
-        .and(inside.function.as_slice())?
-        .and(b"`, at `")?
-        .and(part)?
-        .and(back)?;
-    let found = match expression_of(&inside.form) {
-        Some(exp) => node_at(exp, inside.place),
-        None => None,
+    let said = match part_at(&inside.form, inside.place) {
+        Some(found) => said_of(fault, found),
+        None => plain(said(fault)),
     };
-    match found {
-        Some(node) => said_of(sentence, fault, node),
-        None => sentence.and(said(fault)),
+    let function = inside.function.as_slice();
+    let mut sentence = join_parts(asked.alloc, b"in `", function, b"`, at `")?;
+    add_parts(&mut sentence, part, back, said.front)?;
+    add_parts(&mut sentence, said.name, said.back, said.said)?;
+    Ok(sentence)
+}
+
+// What is said of a part without a name or sign.
+fn plain(said: &'static [u8]) -> Sentence<'static> {
+    Sentence {
+        front: b"",
+        name: b"",
+        back: b"",
+        said,
+    }
+}
+
+// What is said of a part with a name or sign.
+fn named<'e>(name: &'e [u8], said: &'static [u8]) -> Sentence<'e> {
+    Sentence {
+        front: b"`",
+        name,
+        back: b"`: ",
+        said,
     }
 }
 
 // What is said of a part, its function's name or sign in front.
-fn said_of(sentence: Sentence, fault: Fault, node: &Exp) -> Result<Sentence, AllocError> {
-    match (fault, &node.node) {
-        (Fault::Large(_) | Fault::Deep(_), _) => sentence.and(said(fault)),
-        (_, Node::Each { .. } | Node::FilteredEach { .. }) => sentence.and(
-            b"the sequences of an apply-to-each are of different lengths",
-        ),
-        (_, Node::Index { .. }) => sentence.and(
-            b"the sequence has no element at this place: places are counted from 0",
-        ),
-        (_, Node::Infix { operator, .. }) => sentence
-            .and(b"`")?
-            .and(sign_of(*operator))?
-            .and(b"`: ")?
-            .and(said_of_operator(fault, *operator)),
-        (_, Node::Prefix { operator, .. }) => {
-            let sign: &[u8] = match operator {
-                Prefix::Length => b"#",
-                Prefix::Negate => b"-",
-            };
-            sentence.and(b"`")?.and(sign)?.and(b"`: ")?.and(said(fault))
+fn said_of(fault: Fault, part: &Exp) -> Sentence<'_> {
+    if let Fault::Large(_) | Fault::Deep(_) = fault {
+        return plain(said(fault));
+    }
+    match &part.node {
+        Node::Each { .. } | Node::FilteredEach { .. } => {
+            plain(b"the sequences of an apply-to-each are of different lengths")
         }
-        (_, Node::Call { name, .. }) if named(name.as_slice()).is_none() => {
-            sentence.and(said(fault))
+        Node::Index { .. } => {
+            plain(b"the sequence has no element at this place: places are counted from 0")
         }
-        (_, Node::Call { name, .. }) => sentence
-            .and(b"`")?
-            .and(name.as_slice())?
-            .and(b"`: ")?
-            .and(said_of_call(fault, name.as_slice())),
-        _ => sentence.and(said(fault)),
+        Node::Infix { operator, .. } => {
+            named(sign_of(*operator), said_of_operator(fault, *operator))
+        }
+        Node::Prefix { operator, .. } => named(sign_before(*operator), said(fault)),
+        Node::Call { name, .. } if is_builtin(name.as_slice()) => {
+            named(name.as_slice(), said_of_call(fault, name.as_slice()))
+        }
+        _ => plain(said(fault)),
+    }
+}
+
+// Whether a built-in function has the name.
+fn is_builtin(name: &[u8]) -> bool {
+    nesl_builtins::named(name).is_some()
+}
+
+// The sign of an operator before an expression.
+fn sign_before(operator: Prefix) -> &'static [u8] {
+    match operator {
+        Prefix::Length => b"#",
+        Prefix::Negate => b"-",
     }
 }
 
@@ -196,45 +225,45 @@ fn said(fault: Fault) -> &'static [u8] {
     }
 }
 
-// The values of the parts that a function refuses, where they are short.
-fn with_values(
+// Writes the values of the parts that a function refuses, where they are short.
+fn put_values(
     asked: &Asked<'_>,
-    sentence: Sentence,
+    sentence: &mut Vec<u8>,
     fault: Fault,
-    node: &Exp,
-) -> Result<Sentence, AllocError> {
+    part: &Exp,
+) -> Result<(), AllocError> {
     if let Fault::Large(_) | Fault::Deep(_) = fault {
-        return Ok(sentence);
+        return Ok(());
     }
-    match &node.node {
+    match &part.node {
         Node::Infix { left, right, .. } => {
-            let sentence = with_value(asked, sentence, b"; the left side is ", left)?;
-            with_value(asked, sentence, b"; the right side is ", right)
+            put_value(asked, sentence, b"; the left side is ", left)?;
+            put_value(asked, sentence, b"; the right side is ", right)
         }
-        Node::Prefix { operand, .. } => with_value(
-            asked,
-            sentence,
-            b"; it stands before ",
-            operand,
-        ),
+        Node::Prefix { operand, .. } => {
+            put_value(asked, sentence, b"; it stands before ", operand)
+        }
         Node::Index { sequence, index } => {
-            let sentence = with_value(asked, sentence, b"; the place is ", index)?;
-            with_value(asked, sentence, b"; the sequence is ", sequence)
+            put_value(asked, sentence, b"; the place is ", index)?;
+            put_value(asked, sentence, b"; the sequence is ", sequence)
         }
-        Node::Call { argument, .. } => with_value(asked, sentence, b"; the argument is ", argument),
-        _ => Ok(sentence),
+        Node::Call { argument, .. } => {
+            put_value(asked, sentence, b"; the argument is ", argument)
+        }
+        _ => Ok(()),
     }
 }
 
-// The value of a part, where it is short.
-fn with_value(
+// Writes the value of a part, where it is short.
+fn put_value(
     asked: &Asked<'_>,
-    sentence: Sentence,
+    sentence: &mut Vec<u8>,
     front: &[u8],
     part: &Exp,
-) -> Result<Sentence, AllocError> {
-    match value_of(asked, part)? {
-        Some(text) => sentence.and(front)?.and(text.as_slice()),
-        None => Ok(sentence),
+) -> Result<(), AllocError> {
+    if let Some(text) = value_of(asked, part)? {
+        sentence.extend_from_slice(front)?;
+        sentence.extend_from_slice(text.as_slice())?;
     }
+    Ok(())
 }

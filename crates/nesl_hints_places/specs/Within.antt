@@ -1,7 +1,7 @@
 -- Where hints point.
 use Rattle.std.specs.Prelude.{ℕ, ◌≤◌, IfSome}
 use Rattle.nesl_lex.specs.declared.token.Span.{Span}
-use Rattle.nesl_hints_reading.specs.declared.hint.Hint.{Hint}
+use Rattle.nesl_hints_places.specs.declared.hint.Hint.{Hint}
 
 -- bytes of a text that has so many
 pub record IsSpanWithin (len : ℕ) (s : Span) : Type 0 where

@@ -1,6 +1,6 @@
 //! Making two types the same.
 
-use crate::clash::Halt;
+use crate::clash::Shortage;
 use crate::guesses::{Guess, Guesses, of_class};
 use nesl_types::{Class, meet};
 use std::alloc::AllocError;
@@ -52,7 +52,7 @@ fn join_closed(
 
 impl Guesses {
     /// Makes two types the same, if they can be; if they can't, nothing changes.
-    pub(crate) fn join(&mut self, first: usize, second: usize) -> Result<bool, Halt> {
+    pub(crate) fn join(&mut self, first: usize, second: usize) -> Result<bool, Shortage> {
         self.mark();
         let mut rest = Vec::new(self.alloc);
         let mut next = Some((first, second));
@@ -66,7 +66,7 @@ impl Guesses {
             }
             next = rest.pop();
         }
-        Err(Halt::Tired)
+        Err(Shortage::Guesses)
     }
 
     // Makes two types the same but for their parts, which are left over.
@@ -75,7 +75,7 @@ impl Guesses {
         one: usize,
         other: usize,
         rest: &mut Vec<(usize, usize)>,
-    ) -> Result<bool, Halt> {
+    ) -> Result<bool, Shortage> {
         let (first, left) = self.find(one);
         let (second, right) = self.find(other);
         if first == second {
@@ -106,7 +106,7 @@ impl Guesses {
         class: Class,
         place: usize,
         known: Guess,
-    ) -> Result<bool, Halt> {
+    ) -> Result<bool, Shortage> {
         if !is_in(class, known) || self.is_within(open, place)? {
             return Ok(false);
         }
@@ -140,7 +140,7 @@ impl Guesses {
     }
 
     /// Whether a part of the type is open still.
-    pub(crate) fn is_open(&self, place: usize) -> Result<bool, AllocError> {
+    pub fn is_open(&self, place: usize) -> Result<bool, AllocError> {
         let mut rest = Vec::new(self.alloc);
         let mut next = Some(place);
         for _ in 0..MOST_PARTS {

@@ -1,18 +1,20 @@
 //! A form that is refused.
 
 use nesl_eval_code::Env;
-use nesl_hints_reading::{Hint, Sentence};
+use nesl_hints_places::Hint;
 use nesl_lex::token::Span;
 use nesl_session::session::Session;
 use std::alloc::{AllocError, Global};
 
 /// A form that is refused, and the session that refuses it.
-#[derive(Drop)]
-pub(crate) struct Asked<'a> {
-    pub(crate) alloc: Global,
-    pub(crate) session: &'a Session,
+#[derive(Clone, Copy)]
+pub struct Asked<'a> {
+    /// Where sentences are made.
+    pub alloc: Global,
+    /// The session.
+    pub session: &'a Session,
     /// The whole form.
-    pub(crate) text: &'a [u8],
+    pub text: &'a [u8],
 }
 
 impl<'a> Asked<'a> {
@@ -33,7 +35,7 @@ impl<'a> Asked<'a> {
         Ok(Hint {
             place,
             second: None,
-            sentence: Sentence::of(self.alloc, said)?.done(),
+            sentence: Vec::from_slice(self.alloc, said)?,
         })
     }
 

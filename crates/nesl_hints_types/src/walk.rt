@@ -1,6 +1,6 @@
 //! A walk over an expression, which finds the type of each part.
 
-use crate::clash::{Clash, Halt, Role};
+use crate::clash::{Clash, Halt, Role, Shortage};
 use crate::copies::Ends;
 use crate::guesses::{Guess, Guesses};
 use nesl_eval_code::Payload;
@@ -10,33 +10,35 @@ use nesl_types::{Context, Top};
 use std::alloc::Global;
 
 /// A local name, and the place of its type.
-#[derive(Drop)]
-pub(crate) struct Local {
-    pub(crate) name: Vec<u8>,
+#[derive(Clone, Copy)]
+pub(crate) struct Local<'e> {
+    pub(crate) name: &'e [u8],
     pub(crate) place: usize,
 }
 
 /// A function in whose body the walk is.
-#[derive(Drop)]
-pub(crate) struct Own {
-    pub(crate) name: Vec<u8>,
+#[derive(Clone, Copy)]
+pub(crate) struct Own<'e> {
+    pub(crate) name: &'e [u8],
     pub(crate) ends: Ends,
 }
 
 /// A walk over a form.
 #[derive(Drop)]
-pub(crate) struct Walk<'a> {
+pub struct Walk<'e> {
     pub(crate) alloc: Global,
-    pub(crate) context: &'a Context<Payload>,
-    pub(crate) guesses: Guesses,
-    pub(crate) locals: Vec<Local>,
-    pub(crate) own: Option<Own>,
+    pub(crate) context: &'e Context<Payload>,
+    /// The types of the parts.
+    pub guesses: Guesses,
+    pub(crate) locals: Vec<Local<'e>>,
+    pub(crate) own: Option<Own<'e>>,
     /// The calls so far, and the places of their types.
-    pub(crate) calls: Vec<(Span, usize)>,
+    pub calls: Vec<(Span, usize)>,
 }
 
-impl<'a> Walk<'a> {
-    pub(crate) fn new(alloc: Global, context: &'a Context<Payload>) -> Walk<'a> {
+impl<'e> Walk<'e> {
+    /// A walk that has yet to begin, where names mean what they mean in this context.
+    pub fn new(alloc: Global, context: &'e Context<Payload>) -> Walk<'e> {
         Walk {
             alloc,
             context,
@@ -49,21 +51,15 @@ impl<'a> Walk<'a> {
 
     /// The place of the type of an expression.
     #[cycle(walk)]
-    pub(crate) fn check(&mut self, exp: &Exp) -> Result<usize, Halt> {
+    pub(crate) fn check(&mut self, exp: &'e Exp) -> Result<usize, Halt<'e>> {
         match &exp.node {
-            Node::Number(_) => self.guesses.add(Guess::Int),
-            Node::Truth(_) => self.guesses.add(Guess::Bool),
-            Node::Character(_) => self.guesses.add(Guess::Char),
-            Node::Text(_) => self.text(),
-            Node::Variable(name) => self.variable(name.as_slice()),
             Node::Call { name, argument } => {
                 let given = self.check(argument)?;
                 self.call(exp.span, name.as_slice(), argument, given)
             }
             Node::Pair { left, right } => {
-                let first = self.check(left)?;
-                let second = self.check(right)?;
-                self.guesses.add(Guess::Pair(first, second))
+                let (first, second) = self.check_two(left, right)?;
+                Ok(self.guesses.add(Guess::Pair(first, second))?)
             }
             Node::Prefix { operator, operand } => {
                 let given = self.check(operand)?;
@@ -74,43 +70,29 @@ impl<'a> Walk<'a> {
                 left,
                 right,
             } => {
-                let first = self.check(left)?;
-                let second = self.check(right)?;
+                let (first, second) = self.check_two(left, right)?;
                 self.infix(*operator, (left.span, first), (right.span, second))
             }
             Node::Index { sequence, index } => {
-                let items = self.check(sequence)?;
-                let number = self.check(index)?;
+                let (items, number) = self.check_two(sequence, index)?;
                 self.index((sequence.span, items), (index.span, number))
             }
             Node::Choice { test, yes, no } => {
-                let truth = self.check(test)?;
-                self.expect(Guess::Bool, Role::Test, test.span, truth)?;
-                let first = self.check(yes)?;
-                let second = self.check(no)?;
+                self.check_as(test, Guess::Bool, Role::Test)?;
+                let (first, second) = self.check_two(yes, no)?;
                 self.same(Role::Otherwise, (yes.span, first), (no.span, second))
             }
             Node::Sequence(items) => self.check_items(items.as_slice()),
-            Node::Empty(written) => {
-                let mut names = Vec::new(self.alloc);
-                let item = self.written(written, &mut names)?;
-                self.guesses.add(Guess::Sequence(item))
-            }
             Node::Range { from, to } => {
-                let first = self.check(from)?;
-                self.expect(Guess::Int, Role::Bound, from.span, first)?;
-                let last = self.check(to)?;
-                self.expect(Guess::Int, Role::Bound, to.span, last)?;
-                self.guesses.add(Guess::Sequence(last))
+                self.check_as(from, Guess::Int, Role::Bound)?;
+                let last = self.check_as(to, Guess::Int, Role::Bound)?;
+                Ok(self.guesses.add(Guess::Sequence(last))?)
             }
             Node::StridedRange { from, to, stride } => {
-                let first = self.check(from)?;
-                self.expect(Guess::Int, Role::Bound, from.span, first)?;
-                let last = self.check(to)?;
-                self.expect(Guess::Int, Role::Bound, to.span, last)?;
-                let step = self.check(stride)?;
-                self.expect(Guess::Int, Role::Bound, stride.span, step)?;
-                self.guesses.add(Guess::Sequence(step))
+                self.check_as(from, Guess::Int, Role::Bound)?;
+                self.check_as(to, Guess::Int, Role::Bound)?;
+                let step = self.check_as(stride, Guess::Int, Role::Bound)?;
+                Ok(self.guesses.add(Guess::Sequence(step))?)
             }
             Node::Let { bindings, body } => {
                 let before = self.locals.len();
@@ -121,13 +103,9 @@ impl<'a> Walk<'a> {
             }
             Node::Each { body, bindings } => {
                 let before = self.locals.len();
-                let first = self.check_binders(bindings.as_slice())?;
-                let item = match &body.node {
-                    Node::Element => first,
-                    _ => self.check(body)?,
-                };
+                let item = self.check_each(body, bindings.as_slice())?;
                 self.locals.truncate(before);
-                self.guesses.add(Guess::Sequence(item))
+                Ok(self.guesses.add(Guess::Sequence(item))?)
             }
             Node::FilteredEach {
                 body,
@@ -135,23 +113,61 @@ impl<'a> Walk<'a> {
                 filter,
             } => {
                 let before = self.locals.len();
-                let first = self.check_binders(bindings.as_slice())?;
-                let item = match &body.node {
-                    Node::Element => first,
-                    _ => self.check(body)?,
-                };
-                let truth = self.check(filter)?;
-                self.expect(Guess::Bool, Role::Filter, filter.span, truth)?;
+                let item = self.check_each(body, bindings.as_slice())?;
+                self.check_as(filter, Guess::Bool, Role::Filter)?;
                 self.locals.truncate(before);
+                Ok(self.guesses.add(Guess::Sequence(item))?)
+            }
+            _ => Ok(self.leaf(&exp.node)?),
+        }
+    }
+
+    // The place of the type of an expression without parts.
+    fn leaf(&mut self, node: &'e Node) -> Result<usize, Shortage> {
+        match node {
+            Node::Number(_) => self.guesses.add(Guess::Int),
+            Node::Truth(_) => self.guesses.add(Guess::Bool),
+            Node::Character(_) => self.guesses.add(Guess::Char),
+            Node::Text(_) => self.text(),
+            Node::Variable(name) => self.variable(name.as_slice()),
+            Node::Empty(written) => {
+                let mut names = Vec::new(self.alloc);
+                let item = self.written(written, &mut names)?;
                 self.guesses.add(Guess::Sequence(item))
             }
-            Node::Element => self.guesses.open(),
+            _ => self.guesses.open(),
+        }
+    }
+
+    // The places of the types of two expressions.
+    #[cycle(walk)]
+    fn check_two(&mut self, left: &'e Exp, right: &'e Exp) -> Result<(usize, usize), Halt<'e>> {
+        let first = self.check(left)?;
+        let second = self.check(right)?;
+        Ok((first, second))
+    }
+
+    // The place of the type of an expression, which has to be this one.
+    #[cycle(walk)]
+    fn check_as(&mut self, exp: &'e Exp, guess: Guess, role: Role<'e>) -> Result<usize, Halt<'e>> {
+        let found = self.check(exp)?;
+        self.expect(guess, role, exp.span, found)?;
+        Ok(found)
+    }
+
+    // The place of the type of the body of an apply-to-each.
+    #[cycle(walk)]
+    fn check_each(&mut self, body: &'e Exp, bindings: &'e [Binding]) -> Result<usize, Halt<'e>> {
+        let first = self.check_binders(bindings)?;
+        match &body.node {
+            Node::Element => Ok(first),
+            _ => self.check(body),
         }
     }
 
     // The elements of a sequence.
     #[cycle(walk)]
-    fn check_items(&mut self, items: &[Exp]) -> Result<usize, Halt> {
+    fn check_items(&mut self, items: &'e [Exp]) -> Result<usize, Halt<'e>> {
         let mut first = None;
         for item in items {
             let found = self.check(item)?;
@@ -166,12 +182,12 @@ impl<'a> Walk<'a> {
             Some((_, place)) => place,
             None => self.guesses.open()?,
         };
-        self.guesses.add(Guess::Sequence(item))
+        Ok(self.guesses.add(Guess::Sequence(item))?)
     }
 
     // The bindings of a `let`, each of which sees the names before it.
     #[cycle(walk)]
-    fn check_bindings(&mut self, bindings: &[Binding]) -> Result<(), Halt> {
+    fn check_bindings(&mut self, bindings: &'e [Binding]) -> Result<(), Halt<'e>> {
         for binding in bindings {
             let value = self.check(&binding.value)?;
             self.bind(&binding.pattern, value)?;
@@ -181,7 +197,7 @@ impl<'a> Walk<'a> {
 
     // The bindings of an apply-to-each, and the place of the type of the first one's elements.
     #[cycle(walk)]
-    fn check_binders(&mut self, bindings: &[Binding]) -> Result<usize, Halt> {
+    fn check_binders(&mut self, bindings: &'e [Binding]) -> Result<usize, Halt<'e>> {
         let mut drawn = Vec::new(self.alloc);
         for binding in bindings {
             let value = self.check(&binding.value)?;
@@ -193,19 +209,19 @@ impl<'a> Walk<'a> {
         }
         match drawn.first() {
             Some(place) => Ok(*place),
-            None => self.guesses.open(),
+            None => Ok(self.guesses.open()?),
         }
     }
 
-    fn text(&mut self) -> Result<usize, Halt> {
+    fn text(&mut self) -> Result<usize, Shortage> {
         let item = self.guesses.add(Guess::Char)?;
         self.guesses.add(Guess::Sequence(item))
     }
 
     // The place of the type of a variable.
-    fn variable(&mut self, name: &[u8]) -> Result<usize, Halt> {
+    fn variable(&mut self, name: &[u8]) -> Result<usize, Shortage> {
         for local in self.locals.iter().rev() {
-            if local.name.as_slice() == name {
+            if local.name == name {
                 return Ok(local.place);
             }
         }
@@ -217,7 +233,7 @@ impl<'a> Walk<'a> {
     }
 
     // The place of the type of the elements of what a pattern is in.
-    fn drawn(&mut self, span: Span, value: usize) -> Result<usize, Halt> {
+    fn drawn(&mut self, span: Span, value: usize) -> Result<usize, Halt<'e>> {
         if let Guess::Sequence(item) = self.guesses.guess(value) {
             return Ok(item);
         }
@@ -230,10 +246,10 @@ impl<'a> Walk<'a> {
     pub(crate) fn expect(
         &mut self,
         guess: Guess,
-        role: Role,
+        role: Role<'e>,
         place: Span,
         found: usize,
-    ) -> Result<(), Halt> {
+    ) -> Result<(), Halt<'e>> {
         let wanted = self.guesses.add(guess)?;
         self.join(Clash {
             role,
@@ -247,10 +263,10 @@ impl<'a> Walk<'a> {
     /// Two parts have to be of one type, which is given.
     pub(crate) fn same(
         &mut self,
-        role: Role,
+        role: Role<'e>,
         first: (Span, usize),
         second: (Span, usize),
-    ) -> Result<usize, Halt> {
+    ) -> Result<usize, Halt<'e>> {
         self.join(Clash {
             role,
             place: second.0,
@@ -262,7 +278,7 @@ impl<'a> Walk<'a> {
     }
 
     /// What is found has to be of the type that is wanted, or there is this clash.
-    pub(crate) fn join(&mut self, clash: Clash) -> Result<(), Halt> {
+    pub(crate) fn join(&mut self, clash: Clash<'e>) -> Result<(), Halt<'e>> {
         if self.guesses.join(clash.found, clash.wanted)? {
             Ok(())
         } else {

@@ -1,19 +1,6 @@
-//! The text of a line.
+//! What a token is.
 
-use nesl_lex::token::{Kind, Sign, Span, Token, Word};
-
-/// The most bytes of a line that a sentence repeats.
-const MOST_QUOTED: usize = 32;
-
-/// The bytes of a span, or the first of them, where they are many. What lies behind the text is cut off.
-pub fn quoted(text: &[u8], span: Span) -> &[u8] {
-    let end = span
-        .end
-        .min(text.len())
-        .min(span.start.saturating_add(MOST_QUOTED));
-    let start = span.start.min(end);
-    &text[start..end]
-}
+use nesl_lex::token::{Kind, Sign, Token, Word};
 
 /// Whether the token is the sign.
 pub(crate) fn is_sign(token: &Token, sign: Sign) -> bool {

@@ -1,6 +1,6 @@
 //! Types of names that are known, among those that are being found.
 
-use crate::clash::Halt;
+use crate::clash::Shortage;
 use crate::guesses::{Guess, Guesses};
 use nesl_builtins::{Builtin, classes, gives, takes};
 use nesl_types::{Part, Scheme};
@@ -23,7 +23,7 @@ fn at(places: &[usize], place: usize) -> usize {
 
 impl Guesses {
     /// A copy of a type, in which the types at these places stand for its variables.
-    pub(crate) fn copy(&mut self, part: &Part<'_>, variables: &[usize]) -> Result<usize, Halt> {
+    pub(crate) fn copy(&mut self, part: &Part<'_>, variables: &[usize]) -> Result<usize, Shortage> {
         let (parts, last) = part.place();
         let mut places = Vec::new(self.alloc);
         for place in 0..parts.len() {
@@ -41,7 +41,7 @@ impl Guesses {
         shape: Shape,
         places: &[usize],
         variables: &[usize],
-    ) -> Result<usize, Halt> {
+    ) -> Result<usize, Shortage> {
         match shape {
             Shape::Int => self.add(Guess::Int),
             Shape::Bool => self.add(Guess::Bool),
@@ -59,7 +59,7 @@ impl Guesses {
     }
 
     /// What a built-in function takes and gives.
-    pub(crate) fn builtin(&mut self, builtin: Builtin) -> Result<Ends, Halt> {
+    pub(crate) fn builtin(&mut self, builtin: Builtin) -> Result<Ends, Shortage> {
         let variables = self.open_all(classes(builtin))?;
         let taken = self.copy(&takes(builtin), variables.as_slice())?;
         let given = self.copy(&gives(builtin), variables.as_slice())?;
@@ -70,7 +70,7 @@ impl Guesses {
     }
 
     /// What a defined function takes and gives.
-    pub(crate) fn scheme(&mut self, scheme: &Scheme) -> Result<Ends, Halt> {
+    pub(crate) fn scheme(&mut self, scheme: &Scheme) -> Result<Ends, Shortage> {
         let variables = self.open_all(scheme.classes.as_slice())?;
         let taken = self.copy(&scheme.argument.whole(), variables.as_slice())?;
         let given = self.copy(&scheme.result.whole(), variables.as_slice())?;

@@ -2,7 +2,7 @@
 
 use crate::asked::Asked;
 use crate::finding::expression_of;
-use nesl_hints_reading::Hint;
+use nesl_hints_places::Hint;
 use nesl_lex::token::Span;
 use nesl_session::LONGEST;
 use nesl_syntax_tree::tree::Form;

@@ -1,18 +1,20 @@
 //! Patterns, and types as they are written.
 
-use crate::clash::{Clash, Halt, Role};
+use crate::clash::{Clash, Halt, Role, Shortage};
 use crate::guesses::Guess;
 use crate::walk::{Local, Walk};
 use nesl_syntax_tree::tree::{Pattern, PatternNode, TypeExp, TypeNode};
 use nesl_types::Top;
 
-impl<'a> Walk<'a> {
+impl<'e> Walk<'e> {
     /// The names of a pattern that stands for something of the type at a place.
-    pub(crate) fn bind(&mut self, pattern: &Pattern, place: usize) -> Result<(), Halt> {
+    pub(crate) fn bind(&mut self, pattern: &'e Pattern, place: usize) -> Result<(), Halt<'e>> {
         match &pattern.node {
             PatternNode::Name(name) => {
-                let name = Vec::from_slice(self.alloc, name.as_slice())?;
-                self.locals.push(Local { name, place })?;
+                self.locals.push(Local {
+                    name: name.as_slice(),
+                    place,
+                })?;
                 Ok(())
             }
             PatternNode::Pair { left, right } => {
@@ -28,7 +30,7 @@ impl<'a> Walk<'a> {
     }
 
     // The parts of the type at a place, which has to be a pair.
-    fn parts(&mut self, pattern: &Pattern, place: usize) -> Result<(usize, usize), Halt> {
+    fn parts(&mut self, pattern: &Pattern, place: usize) -> Result<(usize, usize), Halt<'e>> {
         if let Guess::Pair(first, second) = self.guesses.guess(place) {
             return Ok((first, second));
         }
@@ -39,29 +41,33 @@ impl<'a> Walk<'a> {
     }
 
     // What a record of the type at a place holds, which has to be the datatype with this name.
-    fn content(&mut self, pattern: &Pattern, name: &[u8], place: usize) -> Result<usize, Halt> {
+    fn content(
+        &mut self,
+        pattern: &Pattern,
+        name: &'e [u8],
+        place: usize,
+    ) -> Result<usize, Halt<'e>> {
         let context = self.context;
         let Some((Top::Datatype(tag, content), _)) = context.get(name) else {
-            return self.guesses.open();
+            return Ok(self.guesses.open()?);
         };
         let wanted = self.guesses.add(Guess::Named(*tag))?;
-        let role = Role::Record(Vec::from_slice(self.alloc, name)?);
         self.join(Clash {
-            role,
+            role: Role::Record(name),
             place: pattern.span,
             second: None,
             found: place,
             wanted,
         })?;
-        self.guesses.copy(&content.whole(), &[])
+        Ok(self.guesses.copy(&content.whole(), &[])?)
     }
 
     /// The place of a type that is written. Names that are no datatypes stand for one type each, and are noted.
     pub(crate) fn written(
         &mut self,
-        written: &TypeExp,
-        names: &mut Vec<Local>,
-    ) -> Result<usize, Halt> {
+        written: &'e TypeExp,
+        names: &mut Vec<Local<'e>>,
+    ) -> Result<usize, Shortage> {
         match &written.node {
             TypeNode::Int => self.guesses.add(Guess::Int),
             TypeNode::Bool => self.guesses.add(Guess::Bool),
@@ -82,20 +88,19 @@ impl<'a> Walk<'a> {
     /// The place of the type that a name stands for.
     pub(crate) fn named_type(
         &mut self,
-        name: &[u8],
-        names: &mut Vec<Local>,
-    ) -> Result<usize, Halt> {
+        name: &'e [u8],
+        names: &mut Vec<Local<'e>>,
+    ) -> Result<usize, Shortage> {
         let context = self.context;
         if let Some((Top::Datatype(tag, _), _)) = context.get(name) {
             return self.guesses.add(Guess::Named(*tag));
         }
         for known in names.iter() {
-            if known.name.as_slice() == name {
+            if known.name == name {
                 return Ok(known.place);
             }
         }
         let place = self.guesses.open()?;
-        let name = Vec::from_slice(self.alloc, name)?;
         names.push(Local { name, place })?;
         Ok(place)
     }

@@ -5,8 +5,10 @@ use crate::definitions::{retyped, taken};
 use crate::finding::is_value;
 use crate::limits::{no_lines_left, no_room, over_budget, too_long};
 use crate::refusals::refused;
-use nesl_hints_reading::{Hint, lexical, syntax};
-use nesl_hints_typing::{Unknown, ambiguous, ill_typed, unknown_name};
+use nesl_hints_names::{Unknown, unknown_name};
+use nesl_hints_places::Hint;
+use nesl_hints_reading::{lexical, syntax};
+use nesl_hints_typing::{ambiguous, ill_typed};
 use nesl_lex::lex;
 use nesl_lex::token::Token;
 use nesl_session::Fault;
@@ -15,7 +17,7 @@ use nesl_syntax_tree::tree::Form;
 use std::alloc::AllocError;
 
 /// What is said of a form that is refused for this fault.
-pub(crate) fn hint_on_fault(asked: &Asked<'_>, fault: Fault) -> Result<Hint, AllocError> {
+pub fn hint_on_fault(asked: &Asked<'_>, fault: Fault) -> Result<Hint, AllocError> {
     match fault {
         Fault::Long => too_long(asked),
         Fault::Transcript => no_lines_left(asked),
@@ -27,7 +29,7 @@ pub(crate) fn hint_on_fault(asked: &Asked<'_>, fault: Fault) -> Result<Hint, All
     }
 }
 
-// The same of the tokens of a form.
+// What is said of a form with these tokens that is refused for this fault.
 fn hint_on_tokens(asked: &Asked<'_>, tokens: &[Token], fault: Fault) -> Result<Hint, AllocError> {
     match parse_form(asked.alloc, tokens) {
         Ok(form) => hint_on_form(asked, tokens, &form, fault),
@@ -39,7 +41,7 @@ fn hint_on_tokens(asked: &Asked<'_>, tokens: &[Token], fault: Fault) -> Result<H
     }
 }
 
-// The same of the tree of a form.
+// What is said of a form with this tree that is refused for this fault.
 fn hint_on_form(
     asked: &Asked<'_>,
     tokens: &[Token],

@@ -1,0 +1,109 @@
+//! Why a walk over a form ends.
+
+use nesl_lex::token::Span;
+use nesl_syntax_tree::tree::{Operator, Prefix};
+use std::alloc::{AllocError, AllocFailed};
+
+/// What a part of a form is to its whole.
+#[derive(Clone, Copy)]
+pub enum Role<'e> {
+    /// The left side of an operator.
+    Left(Operator),
+    /// The right side of an operator.
+    Right(Operator),
+    /// What stands behind an operator that stands before one expression.
+    Operand(Prefix),
+    /// The argument of the function with this name.
+    Argument(&'e [u8]),
+    /// One of several arguments of the function with this name, and how many stand before it.
+    OneArgument(&'e [u8], u64),
+    /// What stands before an index.
+    Indexed,
+    /// A number in brackets.
+    Index,
+    /// What stands behind `if`.
+    Test,
+    /// What stands behind `else`.
+    Otherwise,
+    /// An element of a sequence.
+    Element,
+    /// An end of a range, or its stride.
+    Bound,
+    /// What a pattern of an apply-to-each is in.
+    Drawn,
+    /// A filter of an apply-to-each.
+    Filter,
+    /// A pattern that is a pair.
+    Pair,
+    /// A pattern that is a record of the datatype with this name.
+    Record(&'e [u8]),
+    /// The parameter of a function, as its signature has it.
+    Parameter,
+    /// The body of a function, as its signature has it.
+    Body,
+    /// The body of a function, as calls within it have it.
+    OwnBody,
+}
+
+/// A part of a form that doesn't fit.
+#[derive(Clone, Copy)]
+pub struct Clash<'e> {
+    /// What the part is to its whole.
+    pub role: Role<'e>,
+    /// Where it stands.
+    pub place: Span,
+    /// What it doesn't fit to.
+    pub second: Option<Span>,
+    /// The place of its type.
+    pub found: usize,
+    /// The place of the type that it should have.
+    pub wanted: usize,
+}
+
+/// What there isn't enough of.
+#[derive(Clone, Copy)]
+pub enum Shortage {
+    /// Types that may be guessed: the form is too large to be looked at.
+    Guesses,
+    /// Memory.
+    Memory,
+}
+
+/// Why a walk over a form ends.
+#[derive(Clone, Copy)]
+pub enum Halt<'e> {
+    /// A part doesn't fit.
+    Found(Clash<'e>),
+    /// There isn't enough of something.
+    Short(Shortage),
+}
+
+impl From<AllocError> for Shortage {
+    fn from(_error: AllocError) -> Self {
+        Shortage::Memory
+    }
+}
+
+impl<T: Drop> From<AllocFailed<T>> for Shortage {
+    fn from(_error: AllocFailed<T>) -> Self {
+        Shortage::Memory
+    }
+}
+
+impl From<Shortage> for Halt<'_> {
+    fn from(shortage: Shortage) -> Self {
+        Halt::Short(shortage)
+    }
+}
+
+impl From<AllocError> for Halt<'_> {
+    fn from(_error: AllocError) -> Self {
+        Halt::Short(Shortage::Memory)
+    }
+}
+
+impl<T: Drop> From<AllocFailed<T>> for Halt<'_> {
+    fn from(_error: AllocFailed<T>) -> Self {
+        Halt::Short(Shortage::Memory)
+    }
+}
