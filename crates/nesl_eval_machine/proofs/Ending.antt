@@ -20,7 +20,7 @@ use Rattle.nesl_eval_machine.proofs.Unwinding.{unwound_stuck, unwound_stack, flo
 use Rattle.nesl_eval_machine.proofs.Stepping.{mapped}
 use Rattle.nesl_eval_machine.proofs.Entering.{places_cut}
 
-value_is : {v : Value} {w w' d d' : ℕ} → w ≡ w' → d ≡ d' → value v w d ≡ value v w' d'
+pub value_is : {v : Value} {w w' d d' : ℕ} → w ≡ w' → d ≡ d' → value v w d ≡ value v w' d'
 value_is p q = cc
 
 -- nothing is left of a block but its value

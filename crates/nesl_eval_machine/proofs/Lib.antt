@@ -11,3 +11,4 @@ pub mod Rows
 pub mod Gathering
 pub mod Turns
 pub mod Whole
+pub mod Hands

@@ -171,14 +171,18 @@ nothing_popped t m n b r f none h =
     let empty : length (stack_of m) ≤ floor (frames_of m) = omega (arith, length-map m.stack.items tree_of, m.stack.ok.0) in
     stuck_steps t m n b r (f (local_of m)) (ap f (all_dropped (floor (frames_of m)) (stack_of m) empty) ∙ h)
 
--- a value that is taken off the stack
-pub popped : {A U : Type 0} (t : Table) (m n : Machine A) (b : Block) (s : Vec (code.Value A) A) (x : code.Value A) (r : Result U Stop) (f : List Value → Out Value) →
+-- what is left where a value is taken off the stack
+pub off : {A : Type 0} (t : Table) (m : Machine A) (s : Vec (code.Value A) A) (x : code.Value A) (f : List Value → Out Value) →
     m.stack.items ≡ s.items ++ x ∷ [] → f [] ≡ stuck → Fits t m →
-    (Fits t (record m { stack = s }) → Steps t (record m { stack = s }) r n b (left_with t (record m { stack = s }) (f (tree_of x ∷ local_of (record m { stack = s }))))) →
-    Steps t m r n b (left_with t m (f (local_of m)))
-popped t m n b s x r f is h fits next = by_test (nat_le (floor (frames_of m)) (length s.items)) refl
+    let m1 : Machine A = record m { stack = s } in
+    (left_with t m (f (local_of m)) ≡ stuck) ⊎ ((left_with t m (f (local_of m)) ≡ left_with t m1 (f (tree_of x ∷ local_of m1))) × Fits t m1)
+off {A} t m s x f is h fits = by_test (nat_le (floor (frames_of m)) (length s.items)) refl
   where
-    by_test : (q : Bool) → nat_le (floor (frames_of m)) (length s.items) ≡ q → Steps t m r n b (left_with t m (f (local_of m)))
+    m1 : Machine A
+    m1 = record m { stack = s }
+
+    by_test : (q : Bool) → nat_le (floor (frames_of m)) (length s.items) ≡ q →
+        (left_with t m (f (local_of m)) ≡ stuck) ⊎ ((left_with t m (f (local_of m)) ≡ left_with t (record m { stack = s }) (f (tree_of x ∷ local_of (record m { stack = s })))) × Fits t (record m { stack = s }))
     by_test true e =
         let fs = frames_of m in
         let st : List Value = map tree_of s.items in
@@ -188,11 +192,20 @@ popped t m n b s x r f is h fits next = by_test (nat_le (floor (frames_of m)) (l
         let same : stack_of m ≡ st ++ tree_of x ∷ [] = mapped s.items m.stack.items x is in
         let inner : local_of m ≡ tree_of x ∷ above (floor fs) st = ap (above (floor fs)) same ∙ above_more (floor fs) st (tree_of x) within_st in
         let below : take (floor fs) (stack_of m) ≡ take (floor fs) st = ap (take (floor fs)) same ∙ take-append-le (floor fs) st (tree_of x ∷ []) within_st in
-        steps_from t m n b r _ _
-        (ap (λ l. left_with t m (f l)) inner ∙ unwound_stack t fs (slots_of m) (stack_of m) st _ below)
-        (next (fits.0, ordered, fits.2))
+        inr (ap (λ l. left_with t m (f l)) inner ∙ unwound_stack t fs (slots_of m) (stack_of m) st _ below, (fits.0, ordered, fits.2))
     by_test false e =
         let longer = one_longer s.items m.stack.items x is in
         let past : length s.items < floor (frames_of m) = grind (arith, nat_tests) in
         let empty : length (stack_of m) ≤ floor (frames_of m) = omega (arith, length-map m.stack.items tree_of) in
-        stuck_steps t m n b r (f (local_of m)) (ap f (all_dropped (floor (frames_of m)) (stack_of m) empty) ∙ h)
+        inl (ap (left_with t m) (ap f (all_dropped (floor (frames_of m)) (stack_of m) empty) ∙ h) ∙ unwound_stuck t (frames_of m) (slots_of m) (stack_of m))
+
+-- a value that is taken off the stack
+pub popped : {A U : Type 0} (t : Table) (m n : Machine A) (b : Block) (s : Vec (code.Value A) A) (x : code.Value A) (r : Result U Stop) (f : List Value → Out Value) →
+    m.stack.items ≡ s.items ++ x ∷ [] → f [] ≡ stuck → Fits t m →
+    (Fits t (record m { stack = s }) → Steps t (record m { stack = s }) r n b (left_with t (record m { stack = s }) (f (tree_of x ∷ local_of (record m { stack = s }))))) →
+    Steps t m r n b (left_with t m (f (local_of m)))
+popped t m n b s x r f is h fits next =
+    elim (off t m s x f is h fits) [
+      | inl e ↦ steps_stuck t m n b r _ e
+      | inr e ↦ steps_from t m n b r _ _ e.0 (next e.1)
+    ]

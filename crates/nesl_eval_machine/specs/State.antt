@@ -24,6 +24,8 @@ use Rattle.nesl_eval_machine.specs.declared.state.Round.{Round}
 use Rattle.nesl_eval_machine.specs.declared.state.Purpose.{Purpose}
 use Rattle.nesl_eval_machine.specs.declared.state.Purpose.TheVariants.{Push, Return, Turn}
 use Rattle.nesl_eval_machine.specs.declared.state.Frame.{Frame}
+use Rattle.nesl_eval_machine.specs.declared.state.Hand.{Hand}
+use Rattle.nesl_eval_machine.specs.declared.state.Hand.TheVariants.{Empty, Holds, Done}
 use Rattle.nesl_eval_machine.specs.declared.state.Machine.{Machine}
 
 -- the values of local names, end to end, and those on the stack, of which the part above a height is read from its top
@@ -135,6 +137,13 @@ left_at t m b = left_with t m (exec t m.levels (env_of m) b (local_of m))
 -- what is left
 abbrev pub left : {A : Type 0} → Table → Machine A → Out Value
 left t m = left_at t m (block_of m.code.now)
+
+-- what is left with what is at hand: a value stands before those on the stack; the last one is the outcome
+abbrev pub left_at_hand : {A : Type 0} → Table → Machine A → Hand A → Out Value
+left_at_hand t m Empty = left t m
+left_at_hand t m (Holds v next) =
+    left_with t m (exec t m.levels (env_of m) (block_of next.now) (tree_of v ∷ local_of m))
+left_at_hand t m (Done v) = value (tree_of v) 0 m.meter.depth
 
 -- the bodies that there are are those of the functions
 abbrev pub HasBodies : Table → List (Option Ops) → Type 0

@@ -1,5 +1,6 @@
 -- What a step does to what is left.
 use Rattle.std.specs.Prelude.{◌≡◌, ℕ, ◌+◌, ◌<◌, List, [], ◌∷◌, ◌++◌, length, Result, Ok, Err, Option, Some, None, ◌⊎◌}
+use Rattle.std.proofs.Common.{Bor}
 use Rattle.std.specs.declared.vec.Vec.{Vec}
 use Rattle.nesl_lex.specs.declared.token.Span.{Span}
 use Rattle.nesl_values.specs.View.{tree_of}
@@ -8,6 +9,7 @@ use Rattle.nesl_eval_meaning.specs.Names.{Value}
 use Rattle.nesl_eval_meaning.specs.Out.{Out, value, fault, stuck, after_cost}
 use Rattle.nesl_eval_code.specs.Run.{Table}
 use Rattle.nesl_eval_blocks.specs.Block.{Block}
+use Rattle.nesl_eval_ops.specs.declared.ops.Ops.{Ops}
 use Rattle.nesl_eval_ops.specs.View.{block_of}
 use Rattle.nesl_eval_nodes.specs.declared.meter.Stop.{Stop}
 use Rattle.nesl_eval_nodes.specs.declared.meter.Stop.TheVariants.{Fault, Over, Memory, Stuck}
@@ -15,9 +17,11 @@ use Rattle.nesl_eval_machine.specs.declared.state.Purpose.{Purpose}
 use Rattle.nesl_eval_machine.specs.declared.state.Purpose.TheVariants.{Push, Return, Turn}
 use Rattle.nesl_eval_machine.specs.declared.state.Frame.{Frame}
 use Rattle.nesl_eval_machine.specs.declared.state.Round.{Round}
+use Rattle.nesl_eval_machine.specs.declared.state.Hand.{Hand}
+use Rattle.nesl_eval_machine.specs.declared.state.Hand.TheVariants.{Empty, Holds, Done}
 use Rattle.nesl_eval_machine.specs.declared.state.Machine.{Machine}
 use Rattle.nesl_eval_machine.specs.State.{unwound, between, frames_of, slots_of, stack_of, env_of, local_of, left_at}
-use Rattle.nesl_eval_machine.specs.State.{Fits}
+use Rattle.nesl_eval_machine.specs.State.{Fits, left_at_hand}
 
 -- nothing is asked of what is found
 abbrev pub Anything : {R X : Type 0} → R → X → Type 0
@@ -91,6 +95,20 @@ Comes t m (Err e) n o = Stops (frames_of n) m.meter.fuel e n.meter.fuel o
 abbrev pub going_on : {A U : Type 0} → Result U Stop → Result (Option (code.Value A)) Stop
 going_on (Ok u) = Ok None
 going_on (Err e) = Err e
+
+-- one move, after which something may be at hand
+abbrev pub Moves : {A : Type 0} → Table → Machine A → Result (Hand A) Stop → Machine A → Out Value → Type 0
+Moves t m (Ok h) n o = (o ≡ stuck) ⊎ Leads m.meter.fuel n.meter.fuel o (left_at_hand t n h) (Fits t n)
+Moves t m (Err e) n o = Stops (frames_of n) m.meter.fuel e n.meter.fuel o
+
+-- a step that leaves nothing at hand, and a value that was found
+abbrev pub empty_handed : {A U : Type 0} → Result U Stop → Result (Hand A) Stop
+empty_handed (Ok u) = Ok Empty
+empty_handed (Err e) = Err e
+
+abbrev pub in_hand : {A : Type 0} → Result (code.Value A) Stop → Bor Ops → Result (Hand A) Stop
+in_hand (Ok v) next = Ok (Holds v next)
+in_hand (Err e) next = Err e
 
 -- a turn that ended
 abbrev pub Gave : {U : Type 0} → ℕ → Result U Stop → ℕ → Out Value → Out Value → Type 0

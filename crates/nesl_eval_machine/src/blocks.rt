@@ -9,9 +9,10 @@ ghost use Rattle.nesl_eval_ops.specs.View.{block_of};
 ghost use Rattle.nesl_eval_machine.specs.State.{Fits, frames_of, env_of, local_of, left_with, left_at};
 ghost use Rattle.nesl_eval_machine.specs.Steps.{Steps, slots_below};
 
+use crate::hand::push_value;
 use crate::state::{Frame, Machine, Purpose};
 use nesl_eval_nodes::meter::Stop;
-use nesl_eval_nodes::nodes::{keep, read_truth};
+use nesl_eval_nodes::nodes::read_truth;
 use nesl_eval_ops::Ops;
 use nesl_values::Value;
 use std::alloc::Allocator;
@@ -54,23 +55,9 @@ impl<'a, A: Allocator + Copy> Machine<'a, A> {
         Ok(())
     }
 
-    /// Goes on with the one or the other, and then with what is next.
+    /// Goes on with the one or the other, by the value at hand, and then with what is next.
     #[inline(always)]
-    pub(crate) fn choose(&mut self, yes: &'a Ops, no: &'a Ops, next: &'a Ops) -> Result<(), Stop>
-        ensures steps { (t : Table) → Fits t self.old
-            → Steps t self.old result self.new (block_of self.new.code.now)
-            (left_at t self.old (choose (block_of yes.now) (block_of no.now) (block_of next.now))) }
-        ensures meter { self.new.meter ≡ self.old.meter }
-    {
-        match self.stack.pop() {
-            Some(test) => self.choose_by(test, yes, no, next),
-            None => Err(Stop::Stuck),
-        }
-    }
-
-    // The same, where the test was taken off the stack.
-    #[inline(always)]
-    fn choose_by(
+    pub(crate) fn choose_by(
         &mut self,
         test: Value<A>,
         yes: &'a Ops,
@@ -90,23 +77,14 @@ impl<'a, A: Allocator + Copy> Machine<'a, A> {
         }
     }
 
-    /// Goes on with the one or the other, where nothing comes after it.
+    /// Goes on with the one or the other, by the value at hand, where nothing comes after it.
     #[inline(always)]
-    pub(crate) fn choose_last(&mut self, yes: &'a Ops, no: &'a Ops) -> Result<(), Stop>
-        ensures steps { (t : Table) → Fits t self.old
-            → Steps t self.old result self.new (block_of self.new.code.now)
-            (left_at t self.old (last (block_of yes.now) (block_of no.now))) }
-        ensures meter { self.new.meter ≡ self.old.meter }
-    {
-        match self.stack.pop() {
-            Some(test) => self.choose_last_by(test, yes, no),
-            None => Err(Stop::Stuck),
-        }
-    }
-
-    // The same, where the test was taken off the stack.
-    #[inline(always)]
-    fn choose_last_by(&mut self, test: Value<A>, yes: &'a Ops, no: &'a Ops) -> Result<(), Stop>
+    pub(crate) fn choose_last_by(
+        &mut self,
+        test: Value<A>,
+        yes: &'a Ops,
+        no: &'a Ops,
+    ) -> Result<(), Stop>
         ensures steps { (t : Table) → Fits t self.old → let m = self.old in
             Steps t m result self.new (block_of self.new.code.now)
             (left_with t m (exec t m.levels (env_of m)
@@ -122,29 +100,15 @@ impl<'a, A: Allocator + Copy> Machine<'a, A> {
         }
     }
 
-    /// The value on top is that of one more local name.
+    /// The value at hand is that of one more local name.
     #[inline(always)]
-    pub(crate) fn bind(&mut self, next: &'a Ops) -> Result<(), Stop>
-        ensures steps { (t : Table) → Fits t self.old
-            → Steps t self.old result self.new (block_of self.new.code.now)
-            (left_at t self.old (bind (block_of next.now))) }
-        ensures meter { self.new.meter ≡ self.old.meter }
-    {
-        match self.stack.pop() {
-            Some(value) => self.bind_to(value, next),
-            None => Err(Stop::Stuck),
-        }
-    }
-
-    // The same, where it was taken off the stack.
-    #[inline(always)]
-    fn bind_to(&mut self, value: Value<A>, next: &'a Ops) -> Result<(), Stop>
+    pub(crate) fn bind_to(&mut self, value: Value<A>, next: &'a Ops) -> Result<(), Stop>
         ensures steps { (t : Table) → Fits t self.old → let m = self.old in
             Steps t m result self.new (block_of self.new.code.now)
             (left_with t m (exec t m.levels (env_of m) (bind (block_of next.now)) (tree_of value ∷ local_of m))) }
         ensures meter { self.new.meter ≡ self.old.meter }
     {
-        keep(&mut self.slots, value)?;
+        push_value(&mut self.slots, value)?;
         self.code = next;
         Ok(())
     }

@@ -1,27 +1,39 @@
 //! Calls of functions, and records.
 ghost use Rattle.std.specs.Prelude.{◌≡◌, ◌-◌, [], ◌∷◌, suc, Some, IfSome, slice_get, option_and_then};
+ghost use Rattle.nesl_values.specs.Tree.{tagged};
 ghost use Rattle.nesl_values.specs.View.{tree_of};
 ghost use Rattle.nesl_eval_meaning.specs.Out.{and_then, at_call};
+ghost use Rattle.nesl_eval_meaning.specs.Outcome.{small_enough};
+ghost use Rattle.nesl_eval_nodes.specs.declared.meter.Meter.{Meter};
+ghost use Rattle.nesl_eval_nodes.specs.Meets.{Meets, Is};
 ghost use Rattle.nesl_eval_code.specs.declared.code.Code.{Code};
 ghost use Rattle.nesl_eval_code.specs.Frames.{frame};
 ghost use Rattle.nesl_eval_code.specs.Run.{Table, run, run_called, slot_at, function_slot};
-ghost use Rattle.nesl_eval_blocks.specs.Block.{call};
 ghost use Rattle.nesl_eval_blocks.specs.Exec.{exec, slot_of};
 ghost use Rattle.nesl_eval_ops.specs.View.{block_of, callee_is};
-ghost use Rattle.nesl_eval_machine.specs.State.{Fits, env_of, local_of, left_with, left_at};
-ghost use Rattle.nesl_eval_machine.specs.Steps.{Steps};
+ghost use Rattle.nesl_eval_machine.specs.State.{Fits, env_of, local_of, left_with};
+ghost use Rattle.nesl_eval_machine.specs.Steps.{Steps, Moves};
 
 use crate::blocks::keep_frame;
-use crate::state::{Frame, Machine, Purpose};
+use crate::hand::{empty_handed, in_hand, push_value};
+use crate::state::{Frame, Hand, Machine, Purpose};
 use nesl_eval_nodes::held::{Held, Tops};
 use nesl_eval_nodes::meter::Stop;
-use nesl_eval_nodes::nodes::{keep, make_record};
+use nesl_eval_nodes::nodes::make_record;
 use nesl_eval_ops::{Callee, Ops};
 use nesl_lex::token::Span;
 use nesl_values::Value;
 use std::alloc::Allocator;
 
+/// Where a function is called, or a record is made.
+#[derive(Clone, Copy)]
+pub(crate) struct CallNode {
+    pub height: u32,
+    pub span: Span,
+}
+
 // The place that is called, if the name has one.
+#[inline(always)]
 fn place_called<A: Allocator, T: Tops<A>>(tops: &T, callee: &Callee) -> Option<usize>
     ensures { let t = T.table tops.now in option_and_then (slot_at t) result ≡ slot_of t (callee_is callee.now) }
 {
@@ -31,7 +43,21 @@ fn place_called<A: Allocator, T: Tops<A>>(tops: &T, callee: &Callee) -> Option<u
     }
 }
 
+// A record.
+#[inline(always)]
+fn record_of<A: Allocator>(
+    tag: u64,
+    inner: Value<A>,
+    span: Span,
+    alloc: A,
+) -> Result<Value<A>, Stop>
+    ensures { (m : Meter) → Meets Is m result m (small_enough span (tagged tag (tree_of inner))) }
+{
+    make_record(tag, inner, span, alloc)
+}
+
 // The operations of the body at a place.
+#[inline(always)]
 fn body_at<'a>(bodies: &'a [Option<Ops>], place: usize) -> Option<&'a Ops>
     ensures { IfSome result (λ o. slice_get bodies.now place ≡ Some (Some o.now)) }
 {
@@ -42,73 +68,49 @@ fn body_at<'a>(bodies: &'a [Option<Ops>], place: usize) -> Option<&'a Ops>
 }
 
 impl<'a, A: Allocator + Copy> Machine<'a, A> {
-    /// Calls a function with the value on top, or makes a record of it.
+    /// Calls a function with the value at hand, or makes a record of it.
     #[inline(always)]
-    pub(crate) fn call<T: Tops<A>>(
-        &mut self,
-        tops: &T,
-        height: u32,
-        span: Span,
-        callee: &Callee,
-        next: &'a Ops,
-    ) -> Result<(), Stop>
-        ensures steps { let t = T.table tops.now in Fits t self.old
-            → Steps t self.old result self.new (block_of self.new.code.now)
-            (left_at t self.old (call height span (callee_is callee.now) (block_of next.now))) }
-        ensures meter { self.new.meter ≡ self.old.meter }
-    {
-        match self.stack.pop() {
-            Some(argument) => self.call_with(tops, argument, height, span, callee, next),
-            None => Err(Stop::Stuck),
-        }
-    }
-
-    // The same with an argument that was taken off the stack.
-    #[inline(always)]
-    fn call_with<T: Tops<A>>(
+    pub(crate) fn call_with<T: Tops<A>>(
         &mut self,
         tops: &T,
         argument: Value<A>,
-        height: u32,
-        span: Span,
+        node: CallNode,
         callee: &Callee,
         next: &'a Ops,
-    ) -> Result<(), Stop>
-        ensures steps { let t = T.table tops.now in let m = self.old in Fits t m
-            → Steps t m result self.new (block_of self.new.code.now)
-            (left_with t m (and_then (run_called (run (m.levels - suc height) t) span (slot_of t (callee_is callee.now))
+    ) -> Result<Hand<'a, A>, Stop>
+        ensures moves { let t = T.table tops.now in let m = self.old in Fits t m → Moves t m result self.new
+            (left_with t m (and_then
+            (run_called (run (m.levels - suc node.height) t) node.span (slot_of t (callee_is callee.now))
             (tree_of argument)) (λ v. exec t m.levels (env_of m) (block_of next.now) (v ∷ local_of m)))) }
         ensures meter { self.new.meter ≡ self.old.meter }
     {
         match place_called::<A, T>(tops, callee) {
-            Some(place) => self.call_at(tops, argument, height, span, place, next),
+            Some(place) => self.call_at(tops, argument, node, place, next),
             None => Err(Stop::Stuck),
         }
     }
 
-    // The same of what stands at a place.
+    // Calls the function at a place, or makes a record.
     #[inline(always)]
     fn call_at<T: Tops<A>>(
         &mut self,
         tops: &T,
         argument: Value<A>,
-        height: u32,
-        span: Span,
+        node: CallNode,
         place: usize,
         next: &'a Ops,
-    ) -> Result<(), Stop>
-        ensures steps { let t = T.table tops.now in let m = self.old in Fits t m
-            → Steps t m result self.new (block_of self.new.code.now)
-            (left_with t m (and_then (run_called (run (m.levels - suc height) t) span (slot_at t place)
+    ) -> Result<Hand<'a, A>, Stop>
+        ensures moves { let t = T.table tops.now in let m = self.old in Fits t m → Moves t m result self.new
+            (left_with t m (and_then (run_called (run (m.levels - suc node.height) t) node.span (slot_at t place)
             (tree_of argument)) (λ v. exec t m.levels (env_of m) (block_of next.now) (v ∷ local_of m)))) }
         ensures meter { self.new.meter ≡ self.old.meter }
     {
         match tops.held(place) {
-            Ok(Held::Function(_)) => self.enter_body(argument, height, span, place, next),
-            Ok(Held::Datatype(tag)) => {
-                let found = make_record(tag, argument, span, self.alloc);
-                self.put_before(found, next)
-            }
+            Ok(Held::Function(_)) => empty_handed(self.enter_body(argument, node, place, next)),
+            Ok(Held::Datatype(tag)) => in_hand(
+                record_of(tag, argument, node.span, self.alloc),
+                next,
+            ),
             Ok(Held::Variable(_)) => Err(Stop::Stuck),
             Ok(Held::Nothing) => Err(Stop::Stuck),
             Err(_) => Err(Stop::Memory),
@@ -120,15 +122,14 @@ impl<'a, A: Allocator + Copy> Machine<'a, A> {
     fn enter_body(
         &mut self,
         argument: Value<A>,
-        height: u32,
-        span: Span,
+        node: CallNode,
         place: usize,
         next: &'a Ops,
     ) -> Result<(), Stop>
         ensures steps { (t : Table) (c : Code) → slot_at t place ≡ Some (function_slot c) → let m = self.old in Fits t m
             → Steps t m result self.new (block_of self.new.code.now)
             (left_with t m (and_then
-            (at_call span (run (m.levels - suc height) t (frame (tree_of argument ∷ []) ∷ []) c))
+            (at_call node.span (run (m.levels - suc node.height) t (frame (tree_of argument ∷ []) ∷ []) c))
             (λ v. exec t m.levels (env_of m) (block_of next.now) (v ∷ local_of m)))) }
         ensures meter { self.new.meter ≡ self.old.meter }
     {
@@ -142,12 +143,12 @@ impl<'a, A: Allocator + Copy> Machine<'a, A> {
             len,
             height: self.stack.len(),
             levels: self.levels,
-            purpose: Purpose::Return(span),
+            purpose: Purpose::Return(node.span),
         };
         keep_frame(&mut self.frames, frame)?;
-        keep(&mut self.slots, argument)?;
+        push_value(&mut self.slots, argument)?;
         self.base = len;
-        self.levels = self.levels.saturating_sub(height).saturating_sub(1);
+        self.levels = self.levels.saturating_sub(node.height).saturating_sub(1);
         self.code = body;
         Ok(())
     }

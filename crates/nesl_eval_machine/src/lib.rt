@@ -4,11 +4,14 @@
 mod blocks;
 mod calls;
 mod ends;
+mod hand;
 mod leaves;
 mod making;
 mod moves;
+mod parts;
 mod rounds;
 mod run;
 pub mod state;
 
+pub use ends::going_on;
 pub use run::evaluate_ops;

@@ -11,17 +11,17 @@ ghost use Rattle.nesl_eval_ops.specs.View.{block_of, leaf_is, two_is, many_is};
 ghost use Rattle.nesl_eval_nodes.specs.declared.meter.Meter.{Meter};
 ghost use Rattle.nesl_eval_nodes.specs.Meets.{Meets, Is};
 ghost use Rattle.nesl_eval_machine.specs.State.{Fits, env_of, local_of, left_with, left_at};
-ghost use Rattle.nesl_eval_machine.specs.Steps.{Steps, TakesOff};
+ghost use Rattle.nesl_eval_machine.specs.Steps.{Steps, Moves, TakesOff};
 
+use crate::hand::{in_hand, push_value};
 use crate::leaves::{Sight, enter_at, enter_leaf};
-use crate::making::{make_of_many, make_of_two};
-use crate::state::Machine;
+use crate::making::{apply_to_value, make_of_many, make_of_two};
+use crate::parts::{of_one_leaf, of_two_leaves, of_value_and_leaf};
+use crate::state::{Hand, Machine};
 use nesl_eval_nodes::held::Tops;
 use nesl_eval_nodes::meter::Stop;
-use nesl_eval_nodes::nodes::{apply_builtin, keep};
 use nesl_eval_ops::{Leaf, ManyNode, OneNode, Ops, TwoNode};
 use nesl_lex::token::Span;
-use nesl_seqs::Argument;
 use nesl_values::Value;
 use std::alloc::Allocator;
 
@@ -36,26 +36,7 @@ impl<'a, A: Allocator + Copy> Machine<'a, A> {
         ensures meter { self.new.meter ≡ self.old.meter }
     {
         let value = found?;
-        keep(&mut self.stack, value)
-    }
-
-    /// Puts it there, and goes on with what is next.
-    #[inline(always)]
-    pub(crate) fn put_before(
-        &mut self,
-        found: Result<Value<A>, Stop>,
-        next: &'a Ops,
-    ) -> Result<(), Stop>
-        ensures steps { (t : Table) (o : Out ValueTree) (before : Meter)
-            → Meets Is before found self.old.meter o → Fits t self.old
-            → let m = record self.old { meter = before } in let b = block_of next.now in
-            Steps t m result self.new (block_of self.new.code.now)
-            (left_with t m (and_then o (λ x. exec t m.levels (env_of m) b (x ∷ local_of m)))) }
-        ensures meter { self.new.meter ≡ self.old.meter }
-    {
-        self.put(found)?;
-        self.code = next;
-        Ok(())
+        push_value(&mut self.stack, value)
     }
 
     // Puts a leaf's value on the stack.
@@ -85,16 +66,21 @@ impl<'a, A: Allocator + Copy> Machine<'a, A> {
         height: u32,
         leaf: &Leaf,
         next: &'a Ops,
-    ) -> Result<(), Stop>
+    ) -> Result<Hand<'a, A>, Stop>
         requires { self.old.meter.fuel + self.old.meter.depth < 2 ^ 64 }
-        ensures steps { let t = T.table tops.now in Fits t self.old
-            → Steps t self.old result self.new (block_of self.new.code.now)
+        ensures moves { let t = T.table tops.now in Fits t self.old → Moves t self.old result self.new
             (left_at t self.old (push height (leaf_is leaf.now) (block_of next.now))) }
         ensures bounded { self.new.meter.fuel + self.new.meter.depth < 2 ^ 64 }
     {
-        self.put_leaf(tops, height, leaf)?;
-        self.code = next;
-        Ok(())
+        let sight = Sight {
+            tops: &*tops,
+            slots: &self.slots,
+            base: self.base,
+            levels: self.levels,
+            alloc: &self.alloc,
+        };
+        let found = enter_leaf(&sight, height, leaf, &mut self.meter);
+        in_hand(found, next)
     }
 
     /// Enters a node that has parts.
@@ -119,50 +105,22 @@ impl<'a, A: Allocator + Copy> Machine<'a, A> {
         node: OneNode,
         leaf: &Leaf,
         next: &'a Ops,
-    ) -> Result<(), Stop>
+    ) -> Result<Hand<'a, A>, Stop>
         requires { self.old.meter.fuel + self.old.meter.depth < 2 ^ 64 }
-        ensures steps { let t = T.table tops.now in Fits t self.old
-            → Steps t self.old result self.new (block_of self.new.code.now) (left_at t self.old
+        ensures moves { let t = T.table tops.now in Fits t self.old → Moves t self.old result self.new
+            (left_at t self.old
             (make node.height node.span (of_one node.function) 0 (leaf_is leaf.now ∷ []) (block_of next.now))) }
         ensures bounded { self.new.meter.fuel + self.new.meter.depth < 2 ^ 64 }
     {
-        self.put_leaf(tops, node.height, leaf)?;
-        self.of_top(node, next)
-    }
-
-    /// A function of the value on top.
-    #[inline(always)]
-    pub(crate) fn of_top(&mut self, node: OneNode, next: &'a Ops) -> Result<(), Stop>
-        requires { self.old.meter.fuel + self.old.meter.depth < 2 ^ 64 }
-        ensures steps { (t : Table) → Fits t self.old
-            → Steps t self.old result self.new (block_of self.new.code.now) (left_at t self.old
-            (make node.height node.span (of_one node.function) 1 [] (block_of next.now))) }
-        ensures bounded { self.new.meter.fuel + self.new.meter.depth < 2 ^ 64 }
-    {
-        match self.stack.pop() {
-            Some(value) => self.of_value(value, node, next),
-            None => Err(Stop::Stuck),
-        }
-    }
-
-    // The same of a value that was taken off the stack.
-    #[inline(always)]
-    fn of_value(&mut self, value: Value<A>, node: OneNode, next: &'a Ops) -> Result<(), Stop>
-        requires { self.old.meter.fuel + self.old.meter.depth < 2 ^ 64 }
-        ensures steps { (t : Table) → Fits t self.old → let m = self.old in
-            Steps t m result self.new (block_of self.new.code.now) (left_with t m (exec t m.levels (env_of m)
-            (make node.height node.span (of_one node.function) 1 [] (block_of next.now))
-            (tree_of value ∷ local_of m))) }
-        ensures bounded { self.new.meter.fuel + self.new.meter.depth < 2 ^ 64 }
-    {
-        let found = apply_builtin(
-            node.function,
-            Argument::One(&value),
-            node.span,
-            &mut self.meter,
-            self.alloc,
-        );
-        self.put_before(found, next)
+        let sight = Sight {
+            tops: &*tops,
+            slots: &self.slots,
+            base: self.base,
+            levels: self.levels,
+            alloc: &self.alloc,
+        };
+        let found = of_one_leaf(&sight, node, leaf, &mut self.meter);
+        in_hand(found, next)
     }
 
     /// What is made of two leaves.
@@ -174,58 +132,83 @@ impl<'a, A: Allocator + Copy> Machine<'a, A> {
         left: &Leaf,
         right: &Leaf,
         next: &'a Ops,
-    ) -> Result<(), Stop>
+    ) -> Result<Hand<'a, A>, Stop>
         requires { self.old.meter.fuel + self.old.meter.depth < 2 ^ 64 }
-        ensures steps { let t = T.table tops.now in Fits t self.old
-            → Steps t self.old result self.new (block_of self.new.code.now) (left_at t self.old
+        ensures moves { let t = T.table tops.now in Fits t self.old → Moves t self.old result self.new
+            (left_at t self.old
             (make node.height node.span (two_is node.two) 0 (leaf_is left.now ∷ leaf_is right.now ∷ [])
             (block_of next.now))) }
         ensures bounded { self.new.meter.fuel + self.new.meter.depth < 2 ^ 64 }
     {
-        self.put_leaf(tops, node.height, left)?;
-        self.of_top_and_leaf(tops, node, right, next)
+        let sight = Sight {
+            tops: &*tops,
+            slots: &self.slots,
+            base: self.base,
+            levels: self.levels,
+            alloc: &self.alloc,
+        };
+        let found = of_two_leaves(&sight, node, left, right, &mut self.meter);
+        in_hand(found, next)
     }
 
-    /// What is made of the value on top and a leaf.
+    /// A function of the value at hand.
     #[inline(always)]
-    pub(crate) fn of_top_and_leaf<T: Tops<A>>(
+    pub(crate) fn of_value(
+        &mut self,
+        value: Value<A>,
+        node: OneNode,
+        next: &'a Ops,
+    ) -> Result<Hand<'a, A>, Stop>
+        requires { self.old.meter.fuel + self.old.meter.depth < 2 ^ 64 }
+        ensures moves { (t : Table) → Fits t self.old → let m = self.old in
+            Moves t m result self.new (left_with t m (exec t m.levels (env_of m)
+            (make node.height node.span (of_one node.function) 1 [] (block_of next.now))
+            (tree_of value ∷ local_of m))) }
+        ensures bounded { self.new.meter.fuel + self.new.meter.depth < 2 ^ 64 }
+    {
+        let found = apply_to_value(node, value, &mut self.meter, self.alloc);
+        in_hand(found, next)
+    }
+
+    /// What is made of the value at hand and a leaf.
+    #[inline(always)]
+    pub(crate) fn of_value_and_leaf<T: Tops<A>>(
         &mut self,
         tops: &T,
+        value: Value<A>,
         node: TwoNode,
         right: &Leaf,
         next: &'a Ops,
-    ) -> Result<(), Stop>
+    ) -> Result<Hand<'a, A>, Stop>
         requires { self.old.meter.fuel + self.old.meter.depth < 2 ^ 64 }
-        ensures steps { let t = T.table tops.now in Fits t self.old
-            → Steps t self.old result self.new (block_of self.new.code.now) (left_at t self.old
-            (make node.height node.span (two_is node.two) 1 (leaf_is right.now ∷ []) (block_of next.now))) }
+        ensures moves { let t = T.table tops.now in Fits t self.old → let m = self.old in
+            Moves t m result self.new (left_with t m (exec t m.levels (env_of m)
+            (make node.height node.span (two_is node.two) 1 (leaf_is right.now ∷ []) (block_of next.now))
+            (tree_of value ∷ local_of m))) }
         ensures bounded { self.new.meter.fuel + self.new.meter.depth < 2 ^ 64 }
     {
-        self.put_leaf(tops, node.height, right)?;
-        self.of_tops(node, next)
+        let sight = Sight {
+            tops: &*tops,
+            slots: &self.slots,
+            base: self.base,
+            levels: self.levels,
+            alloc: &self.alloc,
+        };
+        let found = of_value_and_leaf(&sight, value, node, right, &mut self.meter);
+        in_hand(found, next)
     }
 
-    /// What is made of the two values on top.
+    /// What is made of the value on top and the one at hand.
     #[inline(always)]
-    pub(crate) fn of_tops(&mut self, node: TwoNode, next: &'a Ops) -> Result<(), Stop>
+    pub(crate) fn of_tops(
+        &mut self,
+        right: Value<A>,
+        node: TwoNode,
+        next: &'a Ops,
+    ) -> Result<Hand<'a, A>, Stop>
         requires { self.old.meter.fuel + self.old.meter.depth < 2 ^ 64 }
-        ensures steps { (t : Table) → Fits t self.old
-            → Steps t self.old result self.new (block_of self.new.code.now) (left_at t self.old
-            (make node.height node.span (two_is node.two) 2 [] (block_of next.now))) }
-        ensures bounded { self.new.meter.fuel + self.new.meter.depth < 2 ^ 64 }
-    {
-        match self.stack.pop() {
-            Some(right) => self.of_top_and(right, node, next),
-            None => Err(Stop::Stuck),
-        }
-    }
-
-    // The same, where the second of them was taken off the stack.
-    #[inline(always)]
-    fn of_top_and(&mut self, right: Value<A>, node: TwoNode, next: &'a Ops) -> Result<(), Stop>
-        requires { self.old.meter.fuel + self.old.meter.depth < 2 ^ 64 }
-        ensures steps { (t : Table) → Fits t self.old → let m = self.old in
-            Steps t m result self.new (block_of self.new.code.now) (left_with t m (exec t m.levels (env_of m)
+        ensures moves { (t : Table) → Fits t self.old → let m = self.old in
+            Moves t m result self.new (left_with t m (exec t m.levels (env_of m)
             (make node.height node.span (two_is node.two) 2 [] (block_of next.now)) (tree_of right ∷ local_of m))) }
         ensures bounded { self.new.meter.fuel + self.new.meter.depth < 2 ^ 64 }
     {
@@ -235,7 +218,7 @@ impl<'a, A: Allocator + Copy> Machine<'a, A> {
         }
     }
 
-    // The same, where both were.
+    // What is made of both, where the first was taken off the stack.
     #[inline(always)]
     fn of_both(
         &mut self,
@@ -243,16 +226,16 @@ impl<'a, A: Allocator + Copy> Machine<'a, A> {
         right: Value<A>,
         node: TwoNode,
         next: &'a Ops,
-    ) -> Result<(), Stop>
+    ) -> Result<Hand<'a, A>, Stop>
         requires { self.old.meter.fuel + self.old.meter.depth < 2 ^ 64 }
-        ensures steps { (t : Table) → Fits t self.old → let m = self.old in
-            Steps t m result self.new (block_of self.new.code.now) (left_with t m (exec t m.levels (env_of m)
+        ensures moves { (t : Table) → Fits t self.old → let m = self.old in
+            Moves t m result self.new (left_with t m (exec t m.levels (env_of m)
             (make node.height node.span (two_is node.two) 2 [] (block_of next.now))
             (tree_of right ∷ tree_of left ∷ local_of m))) }
         ensures bounded { self.new.meter.fuel + self.new.meter.depth < 2 ^ 64 }
     {
         let found = make_of_two(node, left, right, &mut self.meter, self.alloc);
-        self.put_before(found, next)
+        in_hand(found, next)
     }
 
     // Puts the values of leaves on the stack, one after the other.
@@ -278,10 +261,10 @@ impl<'a, A: Allocator + Copy> Machine<'a, A> {
         count: usize,
         leaves: &[Leaf],
         next: &'a Ops,
-    ) -> Result<(), Stop>
+    ) -> Result<Hand<'a, A>, Stop>
         requires { self.old.meter.fuel + self.old.meter.depth < 2 ^ 64 }
-        ensures steps { let t = T.table tops.now in Fits t self.old
-            → Steps t self.old result self.new (block_of self.new.code.now) (left_at t self.old
+        ensures moves { let t = T.table tops.now in Fits t self.old → Moves t self.old result self.new
+            (left_at t self.old
             (make node.height node.span (many_is node.many) count (map leaf_is leaves.now) (block_of next.now))) }
         ensures bounded { self.new.meter.fuel + self.new.meter.depth < 2 ^ 64 }
     {
@@ -293,10 +276,14 @@ impl<'a, A: Allocator + Copy> Machine<'a, A> {
     }
 
     // What is made of so many values on top.
-    fn of_all_tops(&mut self, node: ManyNode, count: usize, next: &'a Ops) -> Result<(), Stop>
+    fn of_all_tops(
+        &mut self,
+        node: ManyNode,
+        count: usize,
+        next: &'a Ops,
+    ) -> Result<Hand<'a, A>, Stop>
         requires { self.old.meter.fuel + self.old.meter.depth < 2 ^ 64 }
-        ensures steps { (t : Table) → Fits t self.old
-            → Steps t self.old result self.new (block_of self.new.code.now) (left_at t self.old
+        ensures moves { (t : Table) → Fits t self.old → Moves t self.old result self.new (left_at t self.old
             (make node.height node.span (many_is node.many) count [] (block_of next.now))) }
         ensures bounded { self.new.meter.fuel + self.new.meter.depth < 2 ^ 64 }
     {
@@ -306,22 +293,22 @@ impl<'a, A: Allocator + Copy> Machine<'a, A> {
         }
     }
 
-    // The same, where they were taken off the stack.
+    // What is made of them, where they were taken off the stack.
     fn of_all(
         &mut self,
         values: Vec<Value<A>, A>,
         node: ManyNode,
         next: &'a Ops,
-    ) -> Result<(), Stop>
+    ) -> Result<Hand<'a, A>, Stop>
         requires { self.old.meter.fuel + self.old.meter.depth < 2 ^ 64 }
-        ensures steps { (t : Table) → Fits t self.old → let m = self.old in
-            Steps t m result self.new (block_of self.new.code.now) (left_with t m
+        ensures moves { (t : Table) → Fits t self.old → let m = self.old in
+            Moves t m result self.new (left_with t m
             (and_then (made_of node.span (many_is node.many) (map tree_of values.items))
             (λ v. exec t m.levels (env_of m) (block_of next.now) (v ∷ local_of m)))) }
         ensures bounded { self.new.meter.fuel + self.new.meter.depth < 2 ^ 64 }
     {
         let found = make_of_many(node.many, values, node.span, &mut self.meter, self.alloc);
-        self.put_before(found, next)
+        in_hand(found, next)
     }
 }
 

@@ -1,15 +1,21 @@
 //! Whole runs.
-ghost use Rattle.std.specs.Prelude.{◌≡◌, ◌+◌, ◌<◌, ◌^◌, []};
+ghost use Rattle.std.specs.Prelude.{◌≡◌, ℕ, ◌+◌, ◌<◌, ◌^◌, [], ◌∷◌};
+ghost use Rattle.nesl_values.specs.View.{tree_of};
+ghost use Rattle.nesl_eval_meaning.specs.Out.{stuck};
 ghost use Rattle.nesl_eval_code.specs.declared.code.Code.{Code};
 ghost use Rattle.nesl_eval_code.specs.Run.{run};
+ghost use Rattle.nesl_eval_blocks.specs.Exec.{Places, exec};
 ghost use Rattle.nesl_eval_blocks.specs.Flat.{block};
 ghost use Rattle.nesl_eval_ops.specs.View.{block_of};
 ghost use Rattle.nesl_eval_nodes.specs.Meets.{Meets, Is};
-ghost use Rattle.nesl_eval_machine.specs.State.{Fits, HasBodies, frames_of, left};
-ghost use Rattle.nesl_eval_machine.specs.Steps.{Comes, Ends, first_call, placed_stop};
+ghost use Rattle.nesl_eval_machine.specs.State.{Fits, HasBodies, frames_of, env_of, local_of, left_with, left_at};
+ghost use Rattle.nesl_eval_machine.specs.State.{left, left_at_hand};
+ghost use Rattle.nesl_eval_machine.specs.Steps.{Comes, Moves, Ends, first_call, placed_stop};
 
+use crate::calls::CallNode;
 use crate::ends::going_on;
-use crate::state::{Frame, Machine, Purpose};
+use crate::hand::empty_handed;
+use crate::state::{Frame, Hand, Machine, Purpose};
 use nesl_eval_nodes::held::Tops;
 use nesl_eval_nodes::meter::{Meter, Stop};
 use nesl_eval_ops::Ops;
@@ -42,74 +48,151 @@ impl<'a, A: Allocator + Copy> Machine<'a, A> {
         }
     }
 
-    // One operation.
+    // The next operation, where nothing is at hand.
     #[inline(always)]
-    fn step<T: Tops<A>>(&mut self, tops: &T) -> Result<Option<Value<A>>, Stop>
+    fn operate<T: Tops<A>>(&mut self, tops: &T) -> Result<Hand<'a, A>, Stop>
         requires { self.old.meter.fuel + self.old.meter.depth < 2 ^ 64 }
-        ensures comes { let t = T.table tops.now in Fits t self.old
-            → Comes t self.old result self.new (left t self.old) }
+        ensures moves { let t = T.table tops.now in Fits t self.old
+            → Moves t self.old result self.new (left t self.old) }
         ensures bounded { self.new.meter.fuel + self.new.meter.depth < 2 ^ 64 }
     {
         let code = self.code;
         match code {
-            Ops::Finish => self.finish(),
-            Ops::Push { height, leaf, next } => going_on(self.push_leaf(
-                tops, *height, leaf, &**next,
-            )),
-            Ops::Enter { height, span, next } => going_on(self.enter(*height, *span, &**next)),
-            Ops::OfLeaf { node, leaf, next } => going_on(self.of_leaf(tops, *node, leaf, &**next)),
-            Ops::OfTop { node, next } => going_on(self.of_top(*node, &**next)),
+            Ops::Push { height, leaf, next } => self.push_leaf(tops, *height, leaf, &**next),
+            Ops::Enter { height, span, next } => empty_handed(self.enter(*height, *span, &**next)),
+            Ops::OfLeaf { node, leaf, next } => self.of_leaf(tops, *node, leaf, &**next),
             Ops::OfLeaves {
                 node,
                 left,
                 right,
                 next,
-            } => going_on(self.of_leaves(tops, *node, left, right, &**next)),
-            Ops::OfTopAndLeaf { node, right, next } => {
-                going_on(self.of_top_and_leaf(tops, *node, right, &**next))
-            }
-            Ops::OfTops { node, next } => going_on(self.of_tops(*node, &**next)),
+            } => self.of_leaves(tops, *node, left, right, &**next),
             Ops::OfMany {
                 node,
                 count,
                 leaves,
                 next,
-            } => going_on(self.of_many(tops, *node, *count, leaves, &**next)),
-            Ops::Choose { yes, no, next } => going_on(self.choose(&**yes, &**no, &**next)),
-            Ops::Last { yes, no } => going_on(self.choose_last(&**yes, &**no)),
-            Ops::Call {
-                height,
-                span,
-                callee,
-                next,
-            } => going_on(self.call(tops, *height, *span, callee, &**next)),
-            Ops::Bind { next } => going_on(self.bind(&**next)),
-            Ops::Forget { places, next } => going_on(self.forget(*places, &**next)),
+            } => self.of_many(tops, *node, *count, leaves, &**next),
+            Ops::Forget { places, next } => empty_handed(self.forget(*places, &**next)),
             Ops::Each {
                 span,
                 count,
                 body,
                 next,
-            } => going_on(self.each(*span, *count, &**body, &**next)),
+            } => empty_handed(self.each(*span, *count, &**body, &**next)),
             Ops::Filtered {
                 span,
                 count,
                 body,
                 filter,
                 next,
-            } => going_on(self.filtered(*span, *count, &**body, &**filter, &**next)),
+            } => empty_handed(self.filtered(*span, *count, &**body, &**filter, &**next)),
+            Ops::Finish => self.take_top(tops, code),
+            Ops::OfTop { .. } => self.take_top(tops, code),
+            Ops::OfTopAndLeaf { .. } => self.take_top(tops, code),
+            Ops::OfTops { .. } => self.take_top(tops, code),
+            Ops::Choose { .. } => self.take_top(tops, code),
+            Ops::Last { .. } => self.take_top(tops, code),
+            Ops::Call { .. } => self.take_top(tops, code),
+            Ops::Bind { .. } => self.take_top(tops, code),
         }
     }
 
-    // All that is left. No run makes 2^64 - 1 steps.
+    // What is next takes the value at hand.
+    #[inline(always)]
+    fn take<T: Tops<A>>(
+        &mut self,
+        tops: &T,
+        value: Value<A>,
+        code: &'a Ops,
+    ) -> Result<Hand<'a, A>, Stop>
+        requires { self.old.meter.fuel + self.old.meter.depth < 2 ^ 64 }
+        ensures moves { let t = T.table tops.now in Fits t self.old → let m = self.old in Moves t m result self.new
+            (left_with t m (exec t m.levels (env_of m) (block_of code.now) (tree_of value ∷ local_of m))) }
+        ensures bounded { self.new.meter.fuel + self.new.meter.depth < 2 ^ 64 }
+    {
+        match code {
+            Ops::Finish => self.finish_with(value),
+            Ops::OfTop { node, next } => self.of_value(value, *node, &**next),
+            Ops::OfTopAndLeaf { node, right, next } => {
+                self.of_value_and_leaf(tops, value, *node, right, &**next)
+            }
+            Ops::OfTops { node, next } => self.of_tops(value, *node, &**next),
+            Ops::Choose { yes, no, next } => {
+                empty_handed(self.choose_by(value, &**yes, &**no, &**next))
+            }
+            Ops::Last { yes, no } => empty_handed(self.choose_last_by(value, &**yes, &**no)),
+            Ops::Call {
+                height,
+                span,
+                callee,
+                next,
+            } => {
+                let node = CallNode {
+                    height: *height,
+                    span: *span,
+                };
+                self.call_with(tops, value, node, callee, &**next)
+            }
+            Ops::Bind { next } => empty_handed(self.bind_to(value, &**next)),
+            _ => empty_handed(self.set_down(value, code)),
+        }
+    }
+
+    // An operation that takes the value on top of the stack.
+    #[inline(never)]
+    fn take_top<T: Tops<A>>(&mut self, tops: &T, code: &'a Ops) -> Result<Hand<'a, A>, Stop>
+        requires { self.old.meter.fuel + self.old.meter.depth < 2 ^ 64 }
+        ensures moves { let t = T.table tops.now in
+            ((n : ℕ) (env : Places) → exec t n env (block_of code.now) [] ≡ stuck) → Fits t self.old
+            → Moves t self.old result self.new (left_at t self.old (block_of code.now)) }
+        ensures bounded { self.new.meter.fuel + self.new.meter.depth < 2 ^ 64 }
+    {
+        match self.stack.pop() {
+            Some(value) => self.take(tops, value, code),
+            None => Err(Stop::Stuck),
+        }
+    }
+
+    /// One move: of what is at hand, or else the next operation.
+    #[inline(always)]
+    pub fn go_on<T: Tops<A>>(&mut self, tops: &T, hand: Hand<'a, A>) -> Result<Hand<'a, A>, Stop>
+        requires { self.old.meter.fuel + self.old.meter.depth < 2 ^ 64 }
+        ensures moves { let t = T.table tops.now in Fits t self.old
+            → Moves t self.old result self.new (left_at_hand t self.old hand.entry) }
+        ensures bounded { self.new.meter.fuel + self.new.meter.depth < 2 ^ 64 }
+    {
+        match hand {
+            Hand::Empty => self.operate(tops),
+            Hand::Holds(value, next) => self.take(tops, value, next),
+            Hand::Done(value) => Ok(Hand::Done(value)),
+        }
+    }
+
+    /// One operation, whose value goes on the stack.
+    pub fn step<T: Tops<A>>(&mut self, tops: &T) -> Result<Option<Value<A>>, Stop>
+        requires { self.old.meter.fuel + self.old.meter.depth < 2 ^ 64 }
+        ensures comes { let t = T.table tops.now in Fits t self.old
+            → Comes t self.old result self.new (left t self.old) }
+        ensures bounded { self.new.meter.fuel + self.new.meter.depth < 2 ^ 64 }
+    {
+        match self.operate(tops)? {
+            Hand::Empty => Ok(None),
+            Hand::Holds(value, next) => going_on(self.set_down(value, next)),
+            Hand::Done(value) => Ok(Some(value)),
+        }
+    }
+
+    // All that is left. No run makes 2^64 - 1 moves.
     fn run<T: Tops<A>>(&mut self, tops: &T) -> Result<Value<A>, Stop>
         requires { self.old.meter.fuel + self.old.meter.depth < 2 ^ 64 }
         ensures { let t = T.table tops.now in Fits t self.old → Ends self.old result self.new (left t self.old) }
     {
+        let mut hand = Hand::Empty;
         for _ in 0..u64::MAX {
-            match self.step(tops) {
-                Ok(None) => {}
-                Ok(Some(value)) => return Ok(value),
+            match self.go_on(tops, hand) {
+                Ok(Hand::Done(value)) => return Ok(value),
+                Ok(next) => hand = next,
                 Err(stop) => return Err(self.place_stop(stop)),
             }
         }

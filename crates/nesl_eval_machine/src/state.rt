@@ -57,6 +57,17 @@ pub struct Frame<'a, A: Allocator> {
     pub purpose: Purpose<'a, A>,
 }
 
+/// What a machine has at hand besides its stack.
+#[derive(Drop)]
+pub enum Hand<'a, A: Allocator> {
+    /// Nothing: it goes on with its code.
+    Empty,
+    /// A value, which the operations after it take.
+    Holds(Value<A>, &'a Ops),
+    /// The last value.
+    Done(Value<A>),
+}
+
 /// A machine: what it does next, the values of local names, the values that wait on the stack, and where it goes on
 /// after the block that it is in.
 #[derive(Drop)]

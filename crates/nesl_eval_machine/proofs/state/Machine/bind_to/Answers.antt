@@ -7,10 +7,10 @@ use Rattle.nesl_eval_machine.proofs.Binding.{bound}
 use Rattle.nesl_eval_machine.proofs.state.Machine.bind_to.Goals as goal
 
 pub returns-clause-steps : goal.returns-clause-steps
-returns-clause-steps g c = λ t fits. inr (bound t c.args.self.now c.keep.new.values c.args.value (block_of c.args.next.now) c.in_ok-keep.ensures fits)
+returns-clause-steps g c = λ t fits. inr (bound t c.args.self.now c.push_value.new.values c.args.value (block_of c.args.next.now) c.in_ok-push_value.ensures fits)
 
-pub returns-in_err-keep-clause-steps : goal.returns-in_err-keep-clause-steps
-returns-in_err-keep-clause-steps g c = λ t fits.
+pub returns-in_err-push_value-clause-steps : goal.returns-in_err-push_value-clause-steps
+returns-in_err-push_value-clause-steps g c = λ t fits.
     let m = c.args.self.now in
     let p = err_from_is_err_and c.from_residual.result c.from_residual.ensures.1 in
-    rw (p.1, p.2, c.in_err-keep.ensures) (memory_any (frames_of m) m.meter.fuel m.meter.fuel _)
+    rw (p.1, p.2, c.in_err-push_value.ensures) (memory_any (frames_of m) m.meter.fuel m.meter.fuel _)

@@ -10,51 +10,50 @@ use Rattle.nesl_eval_ops.specs.View.{block_of}
 use Rattle.nesl_eval_nodes.specs.declared.meter.Stop.TheVariants.{Stuck}
 use Rattle.nesl_eval_nodes.proofs.Making.{held_called}
 use Rattle.nesl_eval_machine.specs.State.{env_of, local_of, left_with}
-use Rattle.nesl_eval_machine.proofs.Stepping.{steps_from, stuck_steps}
+use Rattle.nesl_eval_machine.proofs.Hands.{moves_from, stuck_moves, steps_move, found_moves}
 use Rattle.nesl_eval_machine.proofs.Calling.{function_there}
 use Rattle.nesl_eval_machine.proofs.state.Machine.call_at.Goals as goal
 
-pub returns-in-Ok-Function-clause-steps : goal.returns-in-Ok-Function-clause-steps
-returns-in-Ok-Function-clause-steps g c = λ fits.
+pub returns-in-Ok-Function-clause-moves : goal.returns-in-Ok-Function-clause-moves
+returns-in-Ok-Function-clause-moves g c = λ fits.
     let t = g.T.Tops.table c.args.tops.now in
     let m = c.args.self.now in
     let n = c.enter_body.new.self in
-    let f = run (m.levels - suc c.args.height) t in
+    let f = run (m.levels - suc c.args.node.height) t in
     let k : Value → Out Value = λ v. exec t m.levels (env_of m) (block_of c.args.next.now) (v ∷ local_of m) in
     let code = c.in-Ok-Function.field-0-0.now in
     let there = function_there (slot_at t c.args.place) code (rw c.in-Ok-Function.field-0-is at c.in-Ok-Function.ensures) in
-    steps_from t m n (block_of n.code.now) c.enter_body.result _ _
-    (ap (λ q. left_with t m (and_then (run_called f c.args.span q (tree_of c.args.argument)) k)) there)
-    (c.enter_body.ensures.steps t code there fits)
+    moves_from t m n c.empty_handed.result _ _
+    (ap (λ q. left_with t m (and_then (run_called f c.args.node.span q (tree_of c.args.argument)) k)) there)
+    (steps_move t m n c.enter_body.result c.empty_handed.result _ c.empty_handed.ensures (c.enter_body.ensures.steps t code there fits))
 
-pub returns-in-Ok-Datatype-clause-steps : goal.returns-in-Ok-Datatype-clause-steps
-returns-in-Ok-Datatype-clause-steps g c = λ fits.
+pub returns-in-Ok-Datatype-clause-moves : goal.returns-in-Ok-Datatype-clause-moves
+returns-in-Ok-Datatype-clause-moves g c = λ fits.
     let t = g.T.Tops.table c.args.tops.now in
     let m = c.args.self.now in
-    let n = c.put_before.new.self in
-    let f = run (m.levels - suc c.args.height) t in
+    let f = run (m.levels - suc c.args.node.height) t in
     let x = tree_of c.args.argument in
     let k : Value → Out Value = λ v. exec t m.levels (env_of m) (block_of c.args.next.now) (v ∷ local_of m) in
-    steps_from t m n (block_of n.code.now) c.put_before.result _ _
-    (ap (λ o. left_with t m (and_then o k)) (sym (held_called f c.args.span (slot_at t c.args.place) x (datatype_slot c.in-Ok-Datatype.tag) (rw c.in-Ok-Datatype.field-0-is at c.in-Ok-Datatype.ensures))))
-    (c.put_before.ensures.steps t (small_enough c.args.span (tagged c.in-Ok-Datatype.tag x)) m.meter (c.make_record-found.ensures m.meter) fits)
+    moves_from t m m c.in_hand.result _ _
+    (ap (λ o. left_with t m (and_then o k)) (sym (held_called f c.args.node.span (slot_at t c.args.place) x (datatype_slot c.in-Ok-Datatype.tag) (rw c.in-Ok-Datatype.field-0-is at c.in-Ok-Datatype.ensures))))
+    (found_moves t m m.meter c.record_of.result c.args.next c.in_hand.result (small_enough c.args.node.span (tagged c.in-Ok-Datatype.tag x)) c.in_hand.ensures (c.record_of.ensures m.meter) fits)
 
-pub returns-in-Ok-Variable-clause-steps : goal.returns-in-Ok-Variable-clause-steps
-returns-in-Ok-Variable-clause-steps g c = λ fits.
+pub returns-in-Ok-Variable-clause-moves : goal.returns-in-Ok-Variable-clause-moves
+returns-in-Ok-Variable-clause-moves g c = λ fits.
     let t = g.T.Tops.table c.args.tops.now in
     let m = c.args.self.now in
-    let f = run (m.levels - suc c.args.height) t in
+    let f = run (m.levels - suc c.args.node.height) t in
     let x = tree_of c.args.argument in
     let k : Value → Out Value = λ v. exec t m.levels (env_of m) (block_of c.args.next.now) (v ∷ local_of m) in
-    stuck_steps {U = Unit {0}} t m m (block_of m.code.now) (Err Stuck) _
-    (ap (λ o. and_then o k) (sym (held_called f c.args.span (slot_at t c.args.place) x (variable_slot (tree_of c.in-Ok-Variable.field-0-0.now)) (rw c.in-Ok-Variable.field-0-is at c.in-Ok-Variable.ensures))))
+    stuck_moves t m m (Err Stuck) _
+    (ap (λ o. and_then o k) (sym (held_called f c.args.node.span (slot_at t c.args.place) x (variable_slot (tree_of c.in-Ok-Variable.field-0-0.now)) (rw c.in-Ok-Variable.field-0-is at c.in-Ok-Variable.ensures))))
 
-pub returns-in-Ok-Nothing-clause-steps : goal.returns-in-Ok-Nothing-clause-steps
-returns-in-Ok-Nothing-clause-steps g c = λ fits.
+pub returns-in-Ok-Nothing-clause-moves : goal.returns-in-Ok-Nothing-clause-moves
+returns-in-Ok-Nothing-clause-moves g c = λ fits.
     let t = g.T.Tops.table c.args.tops.now in
     let m = c.args.self.now in
-    let f = run (m.levels - suc c.args.height) t in
+    let f = run (m.levels - suc c.args.node.height) t in
     let x = tree_of c.args.argument in
     let k : Value → Out Value = λ v. exec t m.levels (env_of m) (block_of c.args.next.now) (v ∷ local_of m) in
-    stuck_steps {U = Unit {0}} t m m (block_of m.code.now) (Err Stuck) _
-    (ap (λ o. and_then o k) (sym (held_called f c.args.span (slot_at t c.args.place) x nothing_slot (rw c.in-Ok-Nothing.field-0-is at c.in-Ok-Nothing.ensures))))
+    stuck_moves t m m (Err Stuck) _
+    (ap (λ o. and_then o k) (sym (held_called f c.args.node.span (slot_at t c.args.place) x nothing_slot (rw c.in-Ok-Nothing.field-0-is at c.in-Ok-Nothing.ensures))))

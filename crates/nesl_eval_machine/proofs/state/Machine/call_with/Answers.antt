@@ -7,23 +7,23 @@ use Rattle.nesl_eval_blocks.specs.Exec.{exec}
 use Rattle.nesl_eval_ops.specs.View.{block_of}
 use Rattle.nesl_eval_nodes.specs.declared.meter.Stop.TheVariants.{Stuck}
 use Rattle.nesl_eval_machine.specs.State.{env_of, local_of, left_with}
-use Rattle.nesl_eval_machine.proofs.Stepping.{steps_from, stuck_steps}
+use Rattle.nesl_eval_machine.proofs.Hands.{moves_from, stuck_moves}
 use Rattle.nesl_eval_machine.proofs.state.Machine.call_with.Goals as goal
 
-pub returns-in-Some-clause-steps : goal.returns-in-Some-clause-steps
-returns-in-Some-clause-steps g c = λ fits.
+pub returns-in-Some-clause-moves : goal.returns-in-Some-clause-moves
+returns-in-Some-clause-moves g c = λ fits.
     let t = g.T.Tops.table c.args.tops.now in
     let m = c.args.self.now in
     let n = c.call_at.new.self in
     let k : Value → Out Value = λ v. exec t m.levels (env_of m) (block_of c.args.next.now) (v ∷ local_of m) in
-    steps_from t m n (block_of n.code.now) c.call_at.result _ _
-    (ap (λ q. left_with t m (and_then (run_called (run (m.levels - suc c.args.height) t) c.args.span q (tree_of c.args.argument)) k)) (sym c.in-Some.ensures))
-    (c.call_at.ensures.steps fits)
+    moves_from t m n c.call_at.result _ _
+    (ap (λ q. left_with t m (and_then (run_called (run (m.levels - suc c.args.node.height) t) c.args.node.span q (tree_of c.args.argument)) k)) (sym c.in-Some.ensures))
+    (c.call_at.ensures.moves fits)
 
-pub returns-in-None-clause-steps : goal.returns-in-None-clause-steps
-returns-in-None-clause-steps g c = λ fits.
+pub returns-in-None-clause-moves : goal.returns-in-None-clause-moves
+returns-in-None-clause-moves g c = λ fits.
     let t = g.T.Tops.table c.args.tops.now in
     let m = c.args.self.now in
     let k : Value → Out Value = λ v. exec t m.levels (env_of m) (block_of c.args.next.now) (v ∷ local_of m) in
-    stuck_steps {U = Unit {0}} t m m (block_of m.code.now) (Err Stuck) _
-    (ap (λ q. and_then (run_called (run (m.levels - suc c.args.height) t) c.args.span q (tree_of c.args.argument)) k) (sym c.in-None.ensures))
+    stuck_moves t m m (Err Stuck) _
+    (ap (λ q. and_then (run_called (run (m.levels - suc c.args.node.height) t) c.args.node.span q (tree_of c.args.argument)) k) (sym c.in-None.ensures))

@@ -1,4 +1,5 @@
-use Rattle.std.proofs.Common.{refl, List, Err, []}
+use Rattle.std.proofs.Common.{refl, List, Err, [], ◌∷◌}
+use Rattle.nesl_values.specs.View.{tree_of}
 use Rattle.nesl_eval_meaning.specs.Names.{Value}
 use Rattle.nesl_eval_meaning.specs.Out.{Out}
 use Rattle.nesl_eval_blocks.specs.Block.{make}
@@ -6,20 +7,19 @@ use Rattle.nesl_eval_blocks.specs.Exec.{exec}
 use Rattle.nesl_eval_ops.specs.View.{block_of, two_is}
 use Rattle.nesl_eval_nodes.specs.declared.meter.Stop.TheVariants.{Stuck}
 use Rattle.nesl_eval_machine.specs.State.{env_of}
-use Rattle.nesl_eval_machine.proofs.Stepping.{popped, nothing_popped}
+use Rattle.nesl_eval_machine.proofs.Hands.{popped_moves, none_moves}
 use Rattle.nesl_eval_machine.proofs.state.Machine.of_tops.Goals as goal
 
-pub returns-in-Some-clause-steps : goal.returns-in-Some-clause-steps
-returns-in-Some-clause-steps g c = λ t fits.
+pub returns-in-Some-clause-moves : goal.returns-in-Some-clause-moves
+returns-in-Some-clause-moves g c = λ t fits.
     let m = c.args.self.now in
     let k = c.args.node in
-    let n = c.of_top_and.new.self in
-    let f : List Value → Out Value = exec t m.levels (env_of m) (make k.height k.span (two_is k.two) 2 [] (block_of c.args.next.now)) in
-    popped t m n (block_of n.code.now) c.pop.new.self c.in-Some.right c.of_top_and.result f c.in-Some.ensures.items refl fits (λ h. c.of_top_and.ensures.steps t h)
+    let f : List Value → Out Value = λ vs. exec t m.levels (env_of m) (make k.height k.span (two_is k.two) 2 [] (block_of c.args.next.now)) (tree_of c.args.right ∷ vs) in
+    popped_moves t m c.of_both.new.self c.pop.new.self c.in-Some.left c.of_both.result f c.in-Some.ensures.items refl fits (λ h. c.of_both.ensures.moves t h)
 
-pub returns-in-None-clause-steps : goal.returns-in-None-clause-steps
-returns-in-None-clause-steps g c = λ t fits.
+pub returns-in-None-clause-moves : goal.returns-in-None-clause-moves
+returns-in-None-clause-moves g c = λ t fits.
     let m = c.args.self.now in
     let k = c.args.node in
-    let f : List Value → Out Value = exec t m.levels (env_of m) (make k.height k.span (two_is k.two) 2 [] (block_of c.args.next.now)) in
-    nothing_popped {U = Unit {0}} t m (record m { stack = c.pop.new.self }) (block_of m.code.now) (Err Stuck) f c.in-None.ensures.cases.0 refl
+    let f : List Value → Out Value = λ vs. exec t m.levels (env_of m) (make k.height k.span (two_is k.two) 2 [] (block_of c.args.next.now)) (tree_of c.args.right ∷ vs) in
+    none_moves t m (record m { stack = c.pop.new.self }) (Err Stuck) f c.in-None.ensures.cases.0 refl

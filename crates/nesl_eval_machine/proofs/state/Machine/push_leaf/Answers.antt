@@ -1,11 +1,13 @@
-use Rattle.std.proofs.lemmas.Result.{err_from_is_err_and}
-use Rattle.nesl_eval_ops.specs.View.{block_of}
+use Rattle.nesl_eval_blocks.specs.Exec.{leaf_out}
+use Rattle.nesl_eval_ops.specs.View.{leaf_is}
+use Rattle.nesl_eval_machine.specs.State.{env_of}
+use Rattle.nesl_eval_machine.proofs.Hands.{found_moves}
 use Rattle.nesl_eval_machine.proofs.state.Machine.push_leaf.Goals as goal
 
-pub returns-in_err-put_leaf-clause-steps : goal.returns-in_err-put_leaf-clause-steps
-returns-in_err-put_leaf-clause-steps g c = λ fits.
-    let p = err_from_is_err_and c.from_residual.result c.from_residual.ensures.1 in
-    rw (p.1, p.2) (c.in_err-put_leaf.ensures.steps (block_of c.args.next.now) fits)
-
-pub returns-clause-steps : goal.returns-clause-steps
-returns-clause-steps g c = λ fits. c.in_ok-put_leaf.ensures.steps (block_of c.args.next.now) fits
+pub returns-clause-moves : goal.returns-clause-moves
+returns-clause-moves g c = λ fits.
+    let t = g.T.Tops.table c.args.tops.now in
+    let m = c.args.self.now in
+    found_moves t m c.enter_leaf-found.new.meter c.enter_leaf-found.result c.args.next c.in_hand.result
+    (leaf_out t m.levels c.args.height (env_of m) (leaf_is c.args.leaf.now))
+    c.in_hand.ensures c.enter_leaf-found.ensures.meets fits

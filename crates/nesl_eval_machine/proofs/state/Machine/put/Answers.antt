@@ -18,5 +18,5 @@ pub returns-clause-steps : goal.returns-clause-steps
 returns-clause-steps g c = λ t b o before meets fits.
     let m = record c.args.self.now { meter = before } in
     let I = Is {A = g.row.A.Denot} in
-    kept_steps t m b c.keep.new.values c.args.self.now.meter c.in_ok-value.value o c.keep.result c.keep.ensures
+    kept_steps t m b c.push_value.new.values c.args.self.now.meter c.in_ok-value.value o c.push_value.result c.push_value.ensures
     (subst (λ r. Meets I before r c.args.self.now.meter o) c.in_ok-value.was meets) fits

@@ -5,7 +5,7 @@ use Rattle.nesl_values.specs.View.{tree_of}
 use Rattle.nesl_eval_meaning.specs.Outcome.{small_enough, apply_builtin}
 use Rattle.nesl_eval_nodes.specs.Meets.{Is}
 use Rattle.nesl_eval_nodes.proofs.Runs.{meets_then, meets_err}
-use Rattle.nesl_eval_machine.proofs.making.make_of_two.Goals as goal
+use Rattle.nesl_eval_machine.proofs.making.make_any_of_two.Goals as goal
 
 pub returns-in_err-fit_in_pair-in-OfPair-clause-meets : goal.returns-in_err-fit_in_pair-in-OfPair-clause-meets
 returns-in_err-fit_in_pair-in-OfPair-clause-meets g c =

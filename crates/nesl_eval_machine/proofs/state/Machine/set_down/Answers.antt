@@ -1,0 +1,15 @@
+use Rattle.std.proofs.lemmas.Result.{err_from_is_err_and}
+use Rattle.nesl_eval_ops.specs.View.{block_of}
+use Rattle.nesl_eval_machine.specs.State.{frames_of}
+use Rattle.nesl_eval_machine.proofs.Stepping.{memory_any}
+use Rattle.nesl_eval_machine.proofs.Hands.{set_down}
+use Rattle.nesl_eval_machine.proofs.state.Machine.set_down.Goals as goal
+
+pub returns-clause-steps : goal.returns-clause-steps
+returns-clause-steps g c = λ t fits. set_down t c.args.self.now (block_of c.args.next.now) c.push_value.new.values c.args.value c.in_ok-push_value.ensures fits
+
+pub returns-in_err-push_value-clause-steps : goal.returns-in_err-push_value-clause-steps
+returns-in_err-push_value-clause-steps g c = λ t fits.
+    let m = c.args.self.now in
+    let p = err_from_is_err_and c.from_residual.result c.from_residual.ensures.1 in
+    rw (p.1, p.2, c.in_err-push_value.ensures) (memory_any (frames_of m) m.meter.fuel m.meter.fuel _)
