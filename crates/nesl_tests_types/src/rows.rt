@@ -1,7 +1,7 @@
 //! Rows `SCRIPT => TOLD`: what a script tells of banks of types, of types and of schemes.
 //!
-//! A script is words, each a letter and up to two numbers, as `b0.1`. A place that isn't told is the one where a type was
-//! put last. Small letters, `D` and `S` are about the bank at hand, of two:
+//! A script is words, each a letter and up to two numbers, as `b0.1`. A place that isn't told is the one where a type
+//! was put last. Small letters, `D` and `S` are about the bank at hand, of two:
 //!
 //! - `i`, `t`, `c`, `v3` and `d7` put the integers, the truth values, the characters, a variable and a datatype there;
 //! - `s0` puts the sequences of the type at a place, and `b0.1` the pairs of those at two;

@@ -32,8 +32,8 @@ fn type_by(alloc: Global, word: &[u8], types: &mut Vec<Ty>) -> Result<Ty, AllocE
 }
 
 /// The type of words, each behind what it is made of: `I`, `B` and `C` are the numbers, the truth values and the
-/// characters, `V0` a variable, `N0` the datatype with a tag, `S` the sequences of the type before it, and `P` the pairs
-/// of the two before it.
+/// characters, `V0` a variable, `N0` the datatype with a tag, `S` the sequences of the type before it, and `P` the
+/// pairs of the two before it.
 pub fn type_of(alloc: Global, words: &str) -> Result<Ty, AllocError> {
     let mut types = Vec::new(alloc);
     for word in words.split(' ') {
