@@ -14,7 +14,7 @@ use Rattle.nesl_eval_nodes.proofs.Arms.{drop_next, drop_past}
 use Rattle.nesl_eval_machine.specs.declared.state.Frame.{Frame}
 use Rattle.nesl_eval_machine.specs.declared.state.Machine.{Machine}
 use Rattle.nesl_eval_machine.specs.State.{places_of, frames_of, slots_of, stack_of, env_of, local_of, left_with, left_at, Fits}
-use Rattle.nesl_eval_machine.specs.Steps.{Goes, slots_below}
+use Rattle.nesl_eval_machine.specs.Steps.{Leads, Goes, slots_below}
 use Rattle.nesl_eval_machine.proofs.Laws.{after_none}
 use Rattle.nesl_eval_machine.proofs.Unwinding.{unwound_stuck, unwound_slots, ordered_more, ordered_slots, slots_within}
 use Rattle.nesl_eval_machine.proofs.Entering.{places_more, places_long, places_cut}
@@ -61,11 +61,12 @@ cut_long (suc j) zero xs h i = absurd (omega arith)
 cut_long (suc j) (suc k) [] h i = absurd (omega arith)
 cut_long (suc j) (suc k) (x ∷ xs) h i = let e = cut_long j k xs (omega arith) (omega arith) in omega arith
 
--- the first so many are left
-pub forgotten : {A : Type 0} (t : Table) (m : Machine A) (slots : Vec (code.Value A) A) (len k : ℕ) (b : Block) →
+-- the first so many are left, over any values
+pub forgotten_under : {A : Type 0} (t : Table) (m : Machine A) (slots : Vec (code.Value A) A) (len k : ℕ) (b : Block) (vs : List Value) →
     slots.items ≡ take len m.slots.items → len ≡ m.base + k → slots_below (frames_of m) ≤ len → Fits t m →
-    Goes t m.meter.fuel (record m { slots = slots }) b (left_at t m (forget k b))
-forgotten {A} t m slots len k b is at low fits =
+    let n : Machine A = record m { slots = slots } in
+    Leads m.meter.fuel m.meter.fuel (left_with t m (exec t m.levels (env_of m) (forget k b) vs)) (left_with t n (exec t m.levels (env_of n) b vs)) (Fits t n)
+forgotten_under {A} t m slots len k b vs is at low fits =
     let n : Machine A = record m { slots = slots } in
     let fs = frames_of m in
     let all = slots_within fs (length m.slots.items) (length m.stack.items) fits.1 in
@@ -79,11 +80,16 @@ forgotten {A} t m slots len k b is at low fits =
       work = 0;
       spent = omega arith;
       same =
-          ap (λ e. left_with t m (exec t m.levels e b (local_of m))) (sym env)
+          ap (λ e. left_with t m (exec t m.levels e b vs)) (sym env)
           ∙ unwound_slots t fs (slots_of m) (places_of slots.items) (stack_of m) _ below
-          ∙ sym (after_none (left_at t n b));
+          ∙ sym (after_none (left_with t n (exec t m.levels (env_of n) b vs)));
       fits = (fits.0, ordered_slots fs (length m.slots.items) (length m.stack.items) _ fits.1 (long (slots_below fs) low all), long m.base (omega arith) fits.2);
     })
+
+pub forgotten : {A : Type 0} (t : Table) (m : Machine A) (slots : Vec (code.Value A) A) (len k : ℕ) (b : Block) →
+    slots.items ≡ take len m.slots.items → len ≡ m.base + k → slots_below (frames_of m) ≤ len → Fits t m →
+    Goes t m.meter.fuel (record m { slots = slots }) b (left_at t m (forget k b))
+forgotten t m slots len k b is at low fits = forgotten_under t m slots len k b (local_of m) is at low fits
 
 -- another block in the place of one that is last
 pub last_goes : {A : Type 0} (t : Table) (m : Machine A) (b : Block) (o : List Value → Out Value) → Fits t m →

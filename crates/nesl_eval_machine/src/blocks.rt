@@ -7,12 +7,11 @@ ghost use Rattle.nesl_eval_blocks.specs.Block.{choose, last, bind, forget};
 ghost use Rattle.nesl_eval_blocks.specs.Exec.{exec};
 ghost use Rattle.nesl_eval_ops.specs.View.{block_of};
 ghost use Rattle.nesl_eval_machine.specs.State.{Fits, frames_of, env_of, local_of, left_with, left_at};
-ghost use Rattle.nesl_eval_machine.specs.Steps.{Steps, slots_below};
+ghost use Rattle.nesl_eval_machine.specs.Steps.{Steps, Moves, slots_below};
 
-use crate::hand::push_value;
-use crate::state::{Frame, Machine, Purpose};
+use crate::hand::{cut, push_value, read_truth};
+use crate::state::{Frame, Hand, Machine, Purpose};
 use nesl_eval_nodes::meter::Stop;
-use nesl_eval_nodes::nodes::read_truth;
 use nesl_eval_ops::Ops;
 use nesl_values::Value;
 use std::alloc::Allocator;
@@ -141,5 +140,28 @@ impl<'a, A: Allocator + Copy> Machine<'a, A> {
         self.slots.truncate(len);
         self.code = next;
         Ok(())
+    }
+
+    /// Only the first so many local names are left, and the value stays at hand.
+    #[inline(always)]
+    pub(crate) fn forget_with(
+        &mut self,
+        value: Value<A>,
+        places: usize,
+        next: &'a Ops,
+    ) -> Result<Hand<'a, A>, Stop>
+        ensures moves { (t : Table) → Fits t self.old → let m = self.old in Moves t m result self.new
+            (left_with t m (exec t m.levels (env_of m) (forget places (block_of next.now))
+            (tree_of value ∷ local_of m))) }
+        ensures meter { self.new.meter ≡ self.old.meter }
+    {
+        let Some(len) = self.base.checked_add(places) else {
+            return Err(Stop::Memory);
+        };
+        if len < self.kept_slots() {
+            return Err(Stop::Memory);
+        }
+        cut(&mut self.slots, len);
+        Ok(Hand::Holds(value, next))
     }
 }

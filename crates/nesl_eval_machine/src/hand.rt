@@ -1,5 +1,6 @@
 //! Values at hand.
-ghost use Rattle.std.specs.Prelude.{◌≡◌, ◌∷◌, ◌++◌, [], MatchResult, take};
+ghost use Rattle.std.specs.Prelude.{◌≡◌, ◌∷◌, ◌++◌, [], MatchResult, Some, None, take};
+ghost use Rattle.nesl_values.specs.Parts.{as_bool};
 ghost use Rattle.nesl_values.specs.View.{tree_of};
 ghost use Rattle.nesl_eval_code.specs.Run.{Table};
 ghost use Rattle.nesl_eval_blocks.specs.Exec.{exec};
@@ -9,6 +10,7 @@ ghost use Rattle.nesl_eval_machine.specs.Steps.{Steps, empty_handed, in_hand};
 
 use crate::state::{Hand, Machine};
 use nesl_eval_nodes::meter::Stop;
+use nesl_eval_nodes::nodes;
 use nesl_eval_ops::Ops;
 use nesl_values::Value;
 use std::alloc::Allocator;
@@ -61,6 +63,39 @@ fn let_go<A: Allocator>(value: Value<A>) {
         Value::Shared(_) => {}
         _ => mem::forget(value),
     }
+}
+
+/// A truth value.
+#[inline(always)]
+pub(crate) fn read_truth<A: Allocator>(value: Value<A>) -> Result<bool, Stop>
+    ensures { MatchResult result (λ b. as_bool (tree_of value) ≡ Some b) (λ e. (e ≡ Stop.Stuck)
+        × (as_bool (tree_of value) ≡ None)) }
+{
+    match &value {
+        Value::Bool(truth) => {
+            let holds = *truth;
+            mem::forget(value);
+            Ok(holds)
+        }
+        _ => truth_apart(value),
+    }
+}
+
+// What may be no truth value, where it is called.
+#[inline(always)]
+fn truth_apart<A: Allocator>(value: Value<A>) -> Result<bool, Stop>
+    ensures { MatchResult result (λ b. as_bool (tree_of value) ≡ Some b) (λ e. (e ≡ Stop.Stuck)
+        × (as_bool (tree_of value) ≡ None)) }
+{
+    any_truth(value)
+}
+
+#[inline(never)]
+fn any_truth<A: Allocator>(value: Value<A>) -> Result<bool, Stop>
+    ensures { MatchResult result (λ b. as_bool (tree_of value) ≡ Some b) (λ e. (e ≡ Stop.Stuck)
+        × (as_bool (tree_of value) ≡ None)) }
+{
+    nodes::read_truth(value)
 }
 
 /// Only the first so many are left.

@@ -135,6 +135,7 @@ impl<'a, A: Allocator + Copy> Machine<'a, A> {
                 self.call_with(tops, value, node, callee, &**next)
             }
             Ops::Bind { next } => empty_handed(self.bind_to(value, &**next)),
+            Ops::Forget { places, next } => self.forget_with(value, *places, &**next),
             _ => empty_handed(self.set_down(value, code)),
         }
     }
