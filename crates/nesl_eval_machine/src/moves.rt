@@ -253,8 +253,27 @@ impl<'a, A: Allocator + Copy> Machine<'a, A> {
     }
 
     /// What is made of so many values on top and leaves.
-    #[inline(never)]
+    #[inline(always)]
     pub(crate) fn of_many<T: Tops<A>>(
+        &mut self,
+        tops: &T,
+        node: ManyNode,
+        count: usize,
+        leaves: &[Leaf],
+        next: &'a Ops,
+    ) -> Result<Hand<'a, A>, Stop>
+        requires { self.old.meter.fuel + self.old.meter.depth < 2 ^ 64 }
+        ensures moves { let t = T.table tops.now in Fits t self.old → Moves t self.old result self.new
+            (left_at t self.old
+            (make node.height node.span (many_is node.many) count (map leaf_is leaves.now) (block_of next.now))) }
+        ensures bounded { self.new.meter.fuel + self.new.meter.depth < 2 ^ 64 }
+    {
+        self.of_so_many(tops, node, count, leaves, next)
+    }
+
+    // It is not inlined, so that its answer has no place in the memory of the loop.
+    #[inline(never)]
+    fn of_so_many<T: Tops<A>>(
         &mut self,
         tops: &T,
         node: ManyNode,

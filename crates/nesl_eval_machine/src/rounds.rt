@@ -240,8 +240,25 @@ fn put_at<'a, A: Allocator + Copy>(round: &mut Box<Round<'a, A>, A>, place: usiz
 
 impl<'a, A: Allocator + Copy> Machine<'a, A> {
     /// A body at all places of the so many sequences on top.
-    #[inline(never)]
+    #[inline(always)]
     pub(crate) fn each(
+        &mut self,
+        span: Span,
+        count: usize,
+        body: &'a Ops,
+        next: &'a Ops,
+    ) -> Result<(), Stop>
+        requires { self.old.meter.fuel + self.old.meter.depth < 2 ^ 64 }
+        ensures steps { (t : Table) → Fits t self.old → Steps t self.old result self.new (block_of self.new.code.now)
+            (left_at t self.old (each span count (block_of body.now) (block_of next.now))) }
+        ensures bounded { self.new.meter.fuel + self.new.meter.depth < 2 ^ 64 }
+    {
+        self.begin_each(span, count, body, next)
+    }
+
+    // It is not inlined, so that its answer has no place in the memory of the loop.
+    #[inline(never)]
+    fn begin_each(
         &mut self,
         span: Span,
         count: usize,
@@ -260,8 +277,27 @@ impl<'a, A: Allocator + Copy> Machine<'a, A> {
     }
 
     /// A body at the places of the so many sequences on top where a filter holds.
-    #[inline(never)]
+    #[inline(always)]
     pub(crate) fn filtered(
+        &mut self,
+        span: Span,
+        count: usize,
+        body: &'a Ops,
+        filter: &'a Ops,
+        next: &'a Ops,
+    ) -> Result<(), Stop>
+        requires { self.old.meter.fuel + self.old.meter.depth < 2 ^ 64 }
+        ensures steps { (t : Table) → Fits t self.old → Steps t self.old result self.new (block_of self.new.code.now)
+            (left_at t self.old
+            (filtered span count (block_of body.now) (block_of filter.now) (block_of next.now))) }
+        ensures bounded { self.new.meter.fuel + self.new.meter.depth < 2 ^ 64 }
+    {
+        self.begin_filtered(span, count, body, filter, next)
+    }
+
+    // It is not inlined, so that its answer has no place in the memory of the loop.
+    #[inline(never)]
+    fn begin_filtered(
         &mut self,
         span: Span,
         count: usize,
@@ -423,6 +459,33 @@ impl<'a, A: Allocator + Copy> Machine<'a, A> {
     /// Ends a turn, and goes on with its round.
     #[inline(always)]
     pub(crate) fn end_turn(
+        &mut self,
+        next: &'a Ops,
+        base: usize,
+        len: usize,
+        levels: u32,
+        round: Box<Round<'a, A>, A>,
+    ) -> Result<(), Stop>
+        requires { self.old.meter.fuel + self.old.meter.depth < 2 ^ 64 }
+        ensures steps { (t : Table) (before : Vec (Frame A.row.Denot) A.row.Denot) (height : ℕ)
+            → let m = record self.old { frames = before } in
+            before.items ≡ self.old.frames.items ++ (record {
+              next = next.entry;
+              base = base;
+              len = len;
+              height = height;
+              levels = levels;
+              purpose = Purpose.Turn round.entry;
+            }) ∷ []
+            → Fits t m → Steps t m result self.new (block_of self.new.code.now) (left_at t m finish) }
+        ensures bounded { self.new.meter.fuel + self.new.meter.depth < 2 ^ 64 }
+    {
+        self.end_any_turn(next, base, len, levels, round)
+    }
+
+    // It is not inlined, so that its answer has no place in the memory of the loop.
+    #[inline(never)]
+    fn end_any_turn(
         &mut self,
         next: &'a Ops,
         base: usize,

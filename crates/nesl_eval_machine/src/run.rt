@@ -113,15 +113,52 @@ impl<'a, A: Allocator + Copy> Machine<'a, A> {
     {
         match code {
             Ops::Finish => self.finish_with(value),
+            Ops::Choose { yes, no, next } => {
+                empty_handed(self.choose_by(value, &**yes, &**no, &**next))
+            }
+            Ops::Last { yes, no } => empty_handed(self.choose_last_by(value, &**yes, &**no)),
+            Ops::Bind { next } => empty_handed(self.bind_to(value, &**next)),
+            Ops::Enter { .. } => empty_handed(self.set_down(value, code)),
+            Ops::OfLeaves { .. } => empty_handed(self.set_down(value, code)),
+            _ => self.take_apart(tops, value, code),
+        }
+    }
+
+    // What is less frequent, where it is called.
+    #[inline(always)]
+    fn take_apart<T: Tops<A>>(
+        &mut self,
+        tops: &T,
+        value: Value<A>,
+        code: &'a Ops,
+    ) -> Result<Hand<'a, A>, Stop>
+        requires { self.old.meter.fuel + self.old.meter.depth < 2 ^ 64 }
+        ensures moves { let t = T.table tops.now in Fits t self.old → let m = self.old in Moves t m result self.new
+            (left_with t m (exec t m.levels (env_of m) (block_of code.now) (tree_of value ∷ local_of m))) }
+        ensures bounded { self.new.meter.fuel + self.new.meter.depth < 2 ^ 64 }
+    {
+        self.take_any(tops, value, code)
+    }
+
+    // What is less frequent takes it.
+    #[inline(never)]
+    fn take_any<T: Tops<A>>(
+        &mut self,
+        tops: &T,
+        value: Value<A>,
+        code: &'a Ops,
+    ) -> Result<Hand<'a, A>, Stop>
+        requires { self.old.meter.fuel + self.old.meter.depth < 2 ^ 64 }
+        ensures moves { let t = T.table tops.now in Fits t self.old → let m = self.old in Moves t m result self.new
+            (left_with t m (exec t m.levels (env_of m) (block_of code.now) (tree_of value ∷ local_of m))) }
+        ensures bounded { self.new.meter.fuel + self.new.meter.depth < 2 ^ 64 }
+    {
+        match code {
             Ops::OfTop { node, next } => self.of_value(value, *node, &**next),
             Ops::OfTopAndLeaf { node, right, next } => {
                 self.of_value_and_leaf(tops, value, *node, right, &**next)
             }
             Ops::OfTops { node, next } => self.of_tops(value, *node, &**next),
-            Ops::Choose { yes, no, next } => {
-                empty_handed(self.choose_by(value, &**yes, &**no, &**next))
-            }
-            Ops::Last { yes, no } => empty_handed(self.choose_last_by(value, &**yes, &**no)),
             Ops::Call {
                 height,
                 span,
@@ -134,15 +171,26 @@ impl<'a, A: Allocator + Copy> Machine<'a, A> {
                 };
                 self.call_with(tops, value, node, callee, &**next)
             }
-            Ops::Bind { next } => empty_handed(self.bind_to(value, &**next)),
             Ops::Forget { places, next } => self.forget_with(value, *places, &**next),
             _ => empty_handed(self.set_down(value, code)),
         }
     }
 
     // An operation that takes the value on top of the stack.
-    #[inline(never)]
+    #[inline(always)]
     fn take_top<T: Tops<A>>(&mut self, tops: &T, code: &'a Ops) -> Result<Hand<'a, A>, Stop>
+        requires { self.old.meter.fuel + self.old.meter.depth < 2 ^ 64 }
+        ensures moves { let t = T.table tops.now in
+            ((n : ℕ) (env : Places) → exec t n env (block_of code.now) [] ≡ stuck) → Fits t self.old
+            → Moves t self.old result self.new (left_at t self.old (block_of code.now)) }
+        ensures bounded { self.new.meter.fuel + self.new.meter.depth < 2 ^ 64 }
+    {
+        self.take_any_top(tops, code)
+    }
+
+    // It is not inlined, so that its answer has no place in the memory of the loop.
+    #[inline(never)]
+    fn take_any_top<T: Tops<A>>(&mut self, tops: &T, code: &'a Ops) -> Result<Hand<'a, A>, Stop>
         requires { self.old.meter.fuel + self.old.meter.depth < 2 ^ 64 }
         ensures moves { let t = T.table tops.now in
             ((n : ℕ) (env : Places) → exec t n env (block_of code.now) [] ≡ stuck) → Fits t self.old

@@ -5,7 +5,7 @@ use Rattle.nesl_eval_blocks.specs.Exec.{exec}
 use Rattle.nesl_eval_ops.specs.View.{block_of, leaf_is, two_is, callee_is}
 use Rattle.nesl_eval_machine.specs.State.{env_of, local_of, left_with}
 use Rattle.nesl_eval_machine.specs.Steps.{Moves}
-use Rattle.nesl_eval_machine.proofs.state.Machine.take.Goals as goal
+use Rattle.nesl_eval_machine.proofs.state.Machine.take_any.Goals as goal
 
 pub returns-in-OfTopAndLeaf-clause-moves : goal.returns-in-OfTopAndLeaf-clause-moves
 returns-in-OfTopAndLeaf-clause-moves g c = λ fits.

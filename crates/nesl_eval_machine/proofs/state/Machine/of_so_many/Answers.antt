@@ -6,7 +6,7 @@ use Rattle.nesl_eval_machine.specs.State.{frames_of, left_at}
 use Rattle.nesl_eval_machine.specs.Steps.{Steps}
 use Rattle.nesl_eval_machine.proofs.Stepping.{memory_any}
 use Rattle.nesl_eval_machine.proofs.Hands.{step_moves}
-use Rattle.nesl_eval_machine.proofs.state.Machine.of_many.Goals as goal
+use Rattle.nesl_eval_machine.proofs.state.Machine.of_so_many.Goals as goal
 
 pub returns-in_err-put_leaves-clause-moves : goal.returns-in_err-put_leaves-clause-moves
 returns-in_err-put_leaves-clause-moves g c = λ fits.

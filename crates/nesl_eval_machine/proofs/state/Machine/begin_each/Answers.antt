@@ -7,7 +7,7 @@ use Rattle.nesl_eval_nodes.specs.declared.meter.Stop.TheVariants.{Stuck}
 use Rattle.nesl_eval_machine.specs.State.{in_rounds, env_of}
 use Rattle.nesl_eval_machine.specs.Steps.{TakesOff}
 use Rattle.nesl_eval_machine.proofs.Taking.{many_taken, few_taken}
-use Rattle.nesl_eval_machine.proofs.state.Machine.each.Goals as goal
+use Rattle.nesl_eval_machine.proofs.state.Machine.begin_each.Goals as goal
 
 pub returns-in-Some-clause-steps : goal.returns-in-Some-clause-steps
 returns-in-Some-clause-steps g c = λ t fits.

@@ -6,7 +6,7 @@ use Rattle.nesl_eval_ops.specs.View.{block_of}
 use Rattle.nesl_eval_nodes.specs.declared.meter.Stop.TheVariants.{Stuck}
 use Rattle.nesl_eval_machine.specs.State.{env_of}
 use Rattle.nesl_eval_machine.proofs.Hands.{popped_moves, none_moves}
-use Rattle.nesl_eval_machine.proofs.state.Machine.take_top.Goals as goal
+use Rattle.nesl_eval_machine.proofs.state.Machine.take_any_top.Goals as goal
 
 pub returns-in-Some-clause-moves : goal.returns-in-Some-clause-moves
 returns-in-Some-clause-moves g c = λ none fits.
