@@ -3,6 +3,7 @@
 
 mod blocks;
 mod calls;
+mod chosen;
 mod ends;
 mod hand;
 mod leaves;
@@ -14,4 +15,6 @@ mod run;
 pub mod state;
 
 pub use ends::going_on;
+pub use moves::take_off;
+pub use rounds::{go_to_body, push_row};
 pub use run::evaluate_ops;

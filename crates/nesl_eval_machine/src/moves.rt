@@ -331,8 +331,8 @@ impl<'a, A: Allocator + Copy> Machine<'a, A> {
     }
 }
 
-// Takes so many values off a stack, if there are so many.
-pub(crate) fn take_off<A: Allocator + Copy>(
+/// Takes so many values off a stack, if there are so many.
+pub fn take_off<A: Allocator + Copy>(
     stack: &mut Vec<Value<A>, A>,
     count: usize,
 ) -> Result<Option<Vec<Value<A>, A>>, Stop>

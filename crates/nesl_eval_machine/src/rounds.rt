@@ -73,8 +73,8 @@ fn element_at<A: Allocator>(
     }
 }
 
-// The elements of sequences at a place, as local names.
-fn push_row<A: Allocator>(
+/// The elements of sequences at a place, as local names.
+pub fn push_row<A: Allocator>(
     slots: &mut Vec<Value<A>, A>,
     sources: &[Value<A>],
     place: usize,
@@ -219,8 +219,9 @@ fn gather<'a, A: Allocator + Copy>(
     (**round).gather(made, meter)
 }
 
+/// After a filter's last turn, the round of its body; else nothing.
 #[inline(always)]
-fn go_to_body<'a, A: Allocator + Copy>(
+pub fn go_to_body<'a, A: Allocator + Copy>(
     round: &mut Box<Round<'a, A>, A>,
     fuel: u64,
     alloc: A,

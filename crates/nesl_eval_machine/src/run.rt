@@ -36,8 +36,8 @@ fn outermost<A: Allocator>(frames: &[Frame<'_, A>], span: Span) -> Span
 }
 
 impl<'a, A: Allocator + Copy> Machine<'a, A> {
-    // A fault is told with the span of the outermost call.
-    fn place_stop(&self, stop: Stop) -> Stop
+    /// A fault is told with the span of the outermost call.
+    pub fn place_stop(&self, stop: Stop) -> Stop
         ensures { result ≡ placed_stop (frames_of self.now) stop }
     {
         match stop {
