@@ -1,0 +1,26 @@
+-- What threads may share.
+use denote.RattleType.{RattleType}
+use denote.Ref.{NamedLft}
+use denote.Param.Send.{IsSync, sendable}
+use Rattle.std.proofs.Crossing as standard
+use Rattle.std.specs.contracts.alloc.Global as heap
+use Rattle.std.specs.contracts.impls.GlobalAllocator.TheImpl.{ghosts}
+use Rattle.nesl_values.specs.contracts.value.Value as value_row
+use Rattle.nesl_values.proofs.node.Node.TheLaws.TheKnot as value_knot
+use Rattle.nesl_lex.proofs.token.Span.TheSendSync as span_crosses
+use Rattle.nesl_builtins.proofs.builtin.Builtin.TheSendSync as builtin_crosses
+use Rattle.nesl_eval_code.proofs.code.Step.TheSendSync as step_crosses
+use Rattle.nesl_eval_ops.specs.contracts.ops.Ops as ops_row
+use Rattle.nesl_eval_ops.proofs.ops.Ops.TheLaws.TheKnot as ops_knot
+use Rattle.nesl_eval_halves.specs.contracts.turns.Interval as interval_row
+use Rattle.nesl_eval_halves.proofs.crew.Crew.TheSendSync as crew_crosses
+
+pub value_sync : IsSync (value_row.the_row heap.the_row ghosts)
+value_sync = search (sendable, standard.crosses, value_knot.crosses) depth 20
+
+pub ops_sync : IsSync ops_row.the_row
+ops_sync = search (sendable, standard.crosses, ops_knot.crosses, span_crosses.the_field_sync, builtin_crosses.the_field_sync, step_crosses.the_sync) depth 20 fits 100000
+
+-- places, with what stands around them
+pub interval_sync : (a : NamedLft) (R H G T : RattleType) → IsSync R → IsSync H → IsSync G → IsSync T → IsSync (interval_row.the_row a R H G T)
+interval_sync a R H G T r h g t = search (sendable, standard.crosses, value_sync, ops_sync, crew_crosses.the_sync) depth 20

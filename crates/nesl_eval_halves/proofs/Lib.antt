@@ -1,0 +1,4 @@
+pub mod Ranges
+pub mod Found
+pub mod Taken
+pub mod Crosses

@@ -1,0 +1,496 @@
+use Rattle.std.proofs.Common.{ℕ, List, ◌-◌, ◌/◌, Some, None, cond, length, Global, subst, arith, refl, Ok, Err, ◌∷◌, [], ◌+◌, ◌++◌, map, ap, ◌∙◌, sym, Vec, inl, inr}
+use Rattle.std.specs.Prelude.{slice_range, min}
+use Rattle.std.proofs.lemmas.Result.{err_from_is_err_and}
+use Rattle.nesl_values.specs.Tree.{ValueTree}
+use Rattle.nesl_values.specs.View.{tree_of}
+use Rattle.nesl_values.specs.declared.value.Value as code
+use Rattle.nesl_values_builder.specs.Elements.{elements_of}
+use Rattle.nesl_eval_meaning.specs.Out.{Out, and_then, all_beside}
+use Rattle.nesl_eval_meaning.specs.Outcome as outcome
+use Rattle.nesl_eval_meaning.specs.Outcome.{body_value}
+use Rattle.nesl_eval_meaning.proofs.Joins.{all_halved}
+use Rattle.nesl_eval_nodes.specs.Sides.{IsKeptPlace, IsOne, Has, places_of}
+use Rattle.nesl_eval_nodes.specs.Meets.{Meets, Is}
+use Rattle.nesl_eval_nodes.proofs.Runs.{memory_any, meets_then, meets_err}
+use Rattle.nesl_eval_nodes.proofs.Making.{keeps_truth}
+use Rattle.nesl_eval_nodes.proofs.Sides.{turn_stops, turn_next, turns_done}
+use Rattle.nesl_eval_blocks.specs.Block.{finish}
+use Rattle.nesl_eval_blocks.specs.Exec.{exec, at_places, kept_of}
+use Rattle.nesl_eval_ops.specs.View.{block_of}
+use Rattle.nesl_eval_nodes.specs.declared.meter.Stop.TheVariants.{Stuck}
+use Rattle.nesl_eval_machine.specs.declared.state.Machine.{Machine}
+use Rattle.nesl_eval_machine.specs.State as state
+use Rattle.nesl_eval_machine.specs.State.{Fits, HasBodies, left, left_at, in_rounds, env_of, local_of, slots_of, frames_of, chosen_places, turn_of, places_left, all_values, at_place, between}
+use Rattle.nesl_eval_machine.specs.Steps.{Comes, Ends, TakesOff}
+use Rattle.nesl_eval_machine.proofs.Taking.{many_taken, few_taken}
+use Rattle.nesl_eval_machine.proofs.Stepping as stepping
+use Rattle.nesl_eval_machine.proofs.Ending.{steps_come}
+use Rattle.nesl_eval_machine.proofs.Gathering.{after_places, after_values}
+use Rattle.nesl_eval_machine.proofs.Whole.{on_comes, ends_stopped, begun}
+use denote.Param.Send.{sendable}
+use Rattle.std.proofs.Crossing as standard
+use Rattle.nesl_split_helpers.specs.declared.halving.Half.{Half}
+use Rattle.nesl_values_builder.specs.declared.builder.SequenceBuilder.{SequenceBuilder}
+use Rattle.nesl_eval_halves.specs.Intervals.{at_turn, ArePlaces}
+use Rattle.nesl_eval_halves.specs.Halves.{Within, HalfFinds, Came}
+use Rattle.nesl_eval_halves.proofs.Taken.{came_none, each_comes, filtered_comes, filter_is, body_is, body_came, gathering_stops, filter_came, add_ends, last_places, came_then, stopped_rest, from_rest, turn_meets, lent_came}
+use Rattle.nesl_eval_halves.proofs.Ranges.{range_first, range_none, range_cut}
+use Rattle.nesl_eval_halves.proofs.Found.{finds, within}
+use Rattle.nesl_eval_halves.proofs.Crosses.{interval_sync}
+use Rattle.nesl_eval_halves.proofs.halves.+halves.Goals as goal
+
+pub run_in_halves-step_in_halves-requires-clause-room : goal.run_in_halves-step_in_halves-requires-clause-room
+run_in_halves-step_in_halves-requires-clause-room g t c = λ κs lives. c.loop.invariant.bounded
+
+pub run_in_halves-loop-init : goal.run_in_halves-loop-init
+run_in_halves-loop-init g t c = record { bounded = c.requires; so_far = λ fits. begun (g.T.Tops.table c.args.crew.now.tops.now) c.args.machine.now fits }
+
+pub run_in_halves-loop-preserved : goal.run_in_halves-loop-preserved
+run_in_halves-loop-preserved g t c =
+    let tb = g.T.Tops.table c.args.crew.now.tops.now in
+    record {
+      bounded = c.step_in_halves.ensures.bounded;
+      so_far = λ fits.
+          on_comes tb c.args.machine.now c.loop.machine c.step_in_halves.new.machine (Ok None) (c.loop.invariant.so_far fits)
+          (λ h. subst (λ r. Comes tb c.loop.machine r c.step_in_halves.new.machine (left tb c.loop.machine)) (c.in-Ok-None.is ∙ ap Ok c.in-Ok-None.field-0-is) (c.step_in_halves.ensures.comes h));
+    }
+
+pub run_in_halves-returns-in-Ok-Some : goal.run_in_halves-returns-in-Ok-Some
+run_in_halves-returns-in-Ok-Some g t c = λ fits.
+    let tb = g.T.Tops.table c.args.crew.now.tops.now in
+    on_comes tb c.args.machine.now c.loop.machine c.step_in_halves.new.machine (Ok (Some c.in-Ok-Some.value)) (c.loop.invariant.so_far fits)
+    (λ h. subst (λ r. Comes tb c.loop.machine r c.step_in_halves.new.machine (left tb c.loop.machine)) (c.in-Ok-Some.is ∙ ap Ok c.in-Ok-Some.field-0-is) (c.step_in_halves.ensures.comes h))
+
+pub run_in_halves-returns-in-Err : goal.run_in_halves-returns-in-Err
+run_in_halves-returns-in-Err g t c = λ fits.
+    let tb = g.T.Tops.table c.args.crew.now.tops.now in
+    let m = c.args.machine.now in
+    let n = c.step_in_halves.new.machine in
+    let all : Comes tb m (Err c.in-Err.stop) n (left tb m) =
+    on_comes tb m c.loop.machine n (Err c.in-Err.stop) (c.loop.invariant.so_far fits)
+    (λ h. subst (λ r. Comes tb c.loop.machine r n (left tb c.loop.machine)) c.in-Err.is (c.step_in_halves.ensures.comes h)) in
+    subst (λ e. Ends m (Err e) n (left tb m)) (sym c.place_stop.ensures) (ends_stopped tb m n c.in-Err.stop (left tb m) all)
+
+pub run_in_halves-returns : goal.run_in_halves-returns
+run_in_halves-returns g t c = λ fits. stepping.memory_any {A = Global} [] c.args.machine.now.meter.fuel c.loop.machine.meter.fuel (left (g.T.Tops.table c.args.crew.now.tops.now) c.args.machine.now)
+
+pub step_in_halves-returns-in-Each-clause-comes : goal.step_in_halves-returns-in-Each-clause-comes
+step_in_halves-returns-in-Each-clause-comes g t c = λ fits.
+    let tb = g.T.Tops.table c.args.crew.now.tops.now in
+    let m = c.args.machine.now in
+    let n = c.each_in_halves.new.machine in
+    subst (λ r. Comes tb m r n (left tb m)) (sym c.going_on.ensures)
+    (steps_come tb m n c.each_in_halves.result (left tb m)
+    (each_comes tb m n c.each_in_halves.result _ _ _ _ _ _ (ap block_of c.in-Each.is) (ap block_of c.deref.ensures) (ap block_of c.deref-in-Each.ensures) (c.each_in_halves.ensures.steps fits)))
+
+pub step_in_halves-returns-in-Filtered-clause-comes : goal.step_in_halves-returns-in-Filtered-clause-comes
+step_in_halves-returns-in-Filtered-clause-comes g t c = λ fits.
+    let tb = g.T.Tops.table c.args.crew.now.tops.now in
+    let m = c.args.machine.now in
+    let n = c.each_in_halves-in-Filtered.new.machine in
+    subst (λ r. Comes tb m r n (left tb m)) (sym c.going_on-in-Filtered.ensures)
+    (steps_come tb m n c.each_in_halves-in-Filtered.result (left tb m)
+    (filtered_comes tb m n c.each_in_halves-in-Filtered.result _ _ _ _ _ _ _ _ (ap block_of c.in-Filtered.is) (ap block_of c.deref-in-Filtered-2.ensures) (ap block_of c.deref-in-Filtered.ensures) (ap block_of c.deref-in-Filtered-3.ensures) (c.each_in_halves-in-Filtered.ensures.steps fits)))
+
+pub filters_one_by_one-returns-in_err-holds-clause-meets : goal.filters_one_by_one-returns-in_err-holds-clause-meets
+filters_one_by_one-returns-in_err-holds-clause-meets g t c = λ bodies.
+    let s = c.args.interval.now in
+    let q = λ (k : ℕ). and_then (at_turn g.T.Tops.table s k) (outcome.place_if_true k) in
+    let is = places_of s.places in
+    let n = c.args.to in
+    let k = c.loop-turn.turn in
+    let i = c.at-place.result in
+    let next = range_first is k n i c.loop-turn-test.true c.at-place.ensures in
+    let p = err_from_is_err_and c.from_residual.result c.from_residual.ensures.1 in
+    rw (p.1, p.2) (turn_stops (ArePlaces {A = Global}) (IsKeptPlace i) q (slice_range is k n) (slice_range is (k + 1) n) i c.loop-turn.meter.fuel c.args.meter.now.depth c.loop-turn.most c.loop-turn.kept.items c.args.meter.now c.holds_at.new.meter c.in_err-holds.field-0.0 (all_beside q (slice_range is c.args.from n)) next (c.loop-turn.invariant.leads bodies) (c.in_err-holds.ensures.meets bodies))
+
+pub filters_one_by_one-returns-in_err-keep_if-clause-meets : goal.filters_one_by_one-returns-in_err-keep_if-clause-meets
+filters_one_by_one-returns-in_err-keep_if-clause-meets g t c = λ bodies.
+    let s = c.args.interval.now in
+    let q = λ (k : ℕ). and_then (at_turn g.T.Tops.table s k) (outcome.place_if_true k) in
+    let is = places_of s.places in
+    let n = c.args.to in
+    let p = err_from_is_err_and c.from_residual-in_err-keep_if.result c.from_residual-in_err-keep_if.ensures.1 in
+    rw (p.1, p.2, c.in_err-keep_if.ensures) (memory_any (ArePlaces {A = Global}) c.args.meter.now c.holds_at.new.meter (all_beside q (slice_range is c.args.from n)))
+
+pub filters_one_by_one-loop-turn-preserved : goal.filters_one_by_one-loop-turn-preserved
+filters_one_by_one-loop-turn-preserved g t c =
+    let s = c.args.interval.now in
+    let q = λ (k : ℕ). and_then (at_turn g.T.Tops.table s k) (outcome.place_if_true k) in
+    let is = places_of s.places in
+    let n = c.args.to in
+    let k = c.loop-turn.turn in
+    let i = c.at-place.result in
+    let next = range_first is k n i c.loop-turn-test.true c.at-place.ensures in
+    record {
+      leads = λ bodies. turn_next (ArePlaces {A = Global}) (IsKeptPlace i) q (slice_range is k n) (slice_range is (k + 1) n) i c.loop-turn.meter.fuel c.args.meter.now.depth c.loop-turn.most _ c.loop-turn.kept.items c.keep_if.new.kept.items (cond c.in_ok-holds.holds (i ∷ []) []) c.args.meter.now c.holds_at.new.meter c.in_ok-holds.holds (all_beside q (slice_range is c.args.from n))
+          next (λ zs e. sym e) c.in_ok-keep_if.ensures c.deepest-most.ensures (c.loop-turn.invariant.leads bodies) (c.in_ok-holds.ensures.meets bodies);
+      spent = omega (arith, c.deepest-most.ensures, c.loop-turn.invariant.spent, c.in_ok-holds.ensures.spent);
+      begun = c.loop-turn.invariant.begun;
+    }
+
+pub filters_one_by_one-returns-clause-meets : goal.filters_one_by_one-returns-clause-meets
+filters_one_by_one-returns-clause-meets g t c = λ bodies.
+    let s = c.args.interval.now in
+    let q = λ (k : ℕ). and_then (at_turn g.T.Tops.table s k) (outcome.place_if_true k) in
+    let is = places_of s.places in
+    let n = c.args.to in
+    turns_done (ArePlaces {A = Global}) q (slice_range is c.loop-turn.turn n) c.loop-turn.meter.fuel c.args.meter.now.depth c.loop-turn.most c.loop-turn.kept.items c.args.meter.now c.loop-turn.kept (all_beside q (slice_range is c.args.from n)) (range_none is c.loop-turn.turn n c.loop-turn-test.false) (c.loop-turn.invariant.leads bodies) refl
+
+pub filters_halved-fork-left-requires-sync-S : goal.filters_halved-fork-left-requires-sync-S
+filters_halved-fork-left-requires-sync-S g t c = λ κs lives. search (sendable, standard.crosses, interval_sync) depth 30 fits 100000
+
+pub half_of_filters-returns : goal.half_of_filters-returns
+half_of_filters-returns g t c =
+    let s = c.args.interval.now in
+    let q = λ (k : ℕ). and_then (at_turn g.T.Tops.table s k) (outcome.place_if_true k) in
+    let is = places_of s.places in
+    let begun = c.begin_meter-begun in
+    let o = all_beside q (slice_range is c.args.from c.args.to) in
+    let h : Half (Vec ℕ Global) = record { found = c.filters-found.result; cost = c.cost_since-cost.result } in (
+      subst (λ (fuel : ℕ). Within fuel h) begun.ensures.fuel
+          (within begun.result c.filters-found.new.meter h begun.ensures.depth c.filters-found.ensures.spent c.cost_since-cost.ensures.work c.cost_since-cost.ensures.depth),
+      λ bodies. subst (λ (fuel : ℕ). HalfFinds (ArePlaces {A = Global}) fuel h o) begun.ensures.fuel
+          (finds (ArePlaces {A = Global}) begun.result c.filters-found.new.meter c.filters-found.result c.cost_since-cost.result o begun.ensures.depth c.cost_since-cost.ensures.work c.cost_since-cost.ensures.depth (c.filters-found.ensures.meets bodies)),
+    )
+
+pub filters_halved-join_places-requires-clause-left : goal.filters_halved-join_places-requires-clause-left
+filters_halved-join_places-requires-clause-left g t c = c.fork-left.ensures.left.0 c.args.meter.now refl
+
+pub filters_halved-join_places-requires-clause-right : goal.filters_halved-join_places-requires-clause-right
+filters_halved-join_places-requires-clause-right g t c = c.fork-left.ensures.right.0 c.args.meter.now refl
+
+pub filters_halved-returns-clause-meets : goal.filters_halved-returns-clause-meets
+filters_halved-returns-clause-meets g t c = λ bodies.
+    let s = c.args.interval.now in
+    let q = λ (k : ℕ). and_then (at_turn g.T.Tops.table s k) (outcome.place_if_true k) in
+    let is = places_of s.places in
+    let from = c.args.from in
+    let to = c.args.to in
+    let centre = from + (to - from) / 2 in
+    let left = slice_range is from centre in
+    let right = slice_range is centre to in
+    let cut = ap (all_beside q) (range_cut is from centre to (omega arith) (omega arith)) ∙ all_halved q left right in
+    subst (λ o. Meets (ArePlaces {A = Global}) c.args.meter.now c.join_places.result c.join_places.new.meter o) (sym cut)
+    (c.join_places.ensures.meets (all_beside q left) (all_beside q right) (c.fork-left.ensures.left.1 bodies c.args.meter.now refl) (c.fork-left.ensures.right.1 bodies c.args.meter.now refl))
+
+pub bodies_one_by_one-returns-in_err-value-clause-meets : goal.bodies_one_by_one-returns-in_err-value-clause-meets
+bodies_one_by_one-returns-in_err-value-clause-meets g t c = λ bodies.
+    let s = c.args.interval.now in
+    let q = λ (k : ℕ). and_then (at_turn g.T.Tops.table s k) body_value in
+    let is = places_of s.places in
+    let n = c.args.to in
+    let k = c.loop-turn.turn in
+    let i = c.at-place.result in
+    let next = range_first is k n i c.loop-turn-test.true c.at-place.ensures in
+    let p = err_from_is_err_and c.from_residual.result c.from_residual.ensures.1 in
+    rw (p.1, p.2) (turn_stops (Has {A = Global}) (IsOne {A = Global}) q (slice_range is k n) (slice_range is (k + 1) n) i c.loop-turn.meter.fuel c.args.meter.now.depth c.loop-turn.most (elements_of c.loop-turn.builder) c.args.meter.now c.body_at.new.meter c.in_err-value.field-0.0 (all_beside q (slice_range is c.args.from n)) next (c.loop-turn.invariant.leads bodies) (c.in_err-value.ensures.meets bodies))
+
+pub bodies_one_by_one-returns-in_err-add-clause-meets : goal.bodies_one_by_one-returns-in_err-add-clause-meets
+bodies_one_by_one-returns-in_err-add-clause-meets g t c = λ bodies.
+    let s = c.args.interval.now in
+    let q = λ (k : ℕ). and_then (at_turn g.T.Tops.table s k) body_value in
+    let is = places_of s.places in
+    let n = c.args.to in
+    let p = err_from_is_err_and c.from_residual-in_err-add.result c.from_residual-in_err-add.ensures.1 in
+    rw (p.1, p.2, c.in_err-add.ensures) (memory_any (Has {A = Global}) c.args.meter.now c.body_at.new.meter (all_beside q (slice_range is c.args.from n)))
+
+pub bodies_one_by_one-loop-turn-preserved : goal.bodies_one_by_one-loop-turn-preserved
+bodies_one_by_one-loop-turn-preserved g t c =
+    let s = c.args.interval.now in
+    let q = λ (k : ℕ). and_then (at_turn g.T.Tops.table s k) body_value in
+    let is = places_of s.places in
+    let n = c.args.to in
+    let k = c.loop-turn.turn in
+    let i = c.at-place.result in
+    let next = range_first is k n i c.loop-turn-test.true c.at-place.ensures in
+    record {
+      leads = λ bodies. turn_next (Has {A = Global}) (IsOne {A = Global}) q (slice_range is k n) (slice_range is (k + 1) n) i c.loop-turn.meter.fuel c.args.meter.now.depth c.loop-turn.most _ (elements_of c.loop-turn.builder) (elements_of c.add.new.builder) (tree_of c.in_ok-value.value ∷ []) c.args.meter.now c.body_at.new.meter c.in_ok-value.value (all_beside q (slice_range is c.args.from n))
+          next (λ zs e. sym e) c.in_ok-add.ensures c.deepest-most.ensures (c.loop-turn.invariant.leads bodies) (c.in_ok-value.ensures.meets bodies);
+      spent = omega (arith, c.deepest-most.ensures, c.loop-turn.invariant.spent, c.in_ok-value.ensures.spent);
+      begun = c.loop-turn.invariant.begun;
+    }
+
+pub bodies_one_by_one-returns-clause-meets : goal.bodies_one_by_one-returns-clause-meets
+bodies_one_by_one-returns-clause-meets g t c = λ bodies.
+    let s = c.args.interval.now in
+    let q = λ (k : ℕ). and_then (at_turn g.T.Tops.table s k) body_value in
+    let is = places_of s.places in
+    let n = c.args.to in
+    turns_done (Has {A = Global}) q (slice_range is c.loop-turn.turn n) c.loop-turn.meter.fuel c.args.meter.now.depth c.loop-turn.most (elements_of c.loop-turn.builder) c.args.meter.now c.loop-turn.builder (all_beside q (slice_range is c.args.from n)) (range_none is c.loop-turn.turn n c.loop-turn-test.false) (c.loop-turn.invariant.leads bodies) refl
+
+pub bodies_halved-fork-left-requires-sync-S : goal.bodies_halved-fork-left-requires-sync-S
+bodies_halved-fork-left-requires-sync-S g t c = λ κs lives. search (sendable, standard.crosses, interval_sync) depth 30 fits 100000
+
+pub half_of_bodies-returns : goal.half_of_bodies-returns
+half_of_bodies-returns g t c =
+    let s = c.args.interval.now in
+    let q = λ (k : ℕ). and_then (at_turn g.T.Tops.table s k) body_value in
+    let is = places_of s.places in
+    let begun = c.begin_meter-begun in
+    let o = all_beside q (slice_range is c.args.from c.args.to) in
+    let h : Half (SequenceBuilder Global) = record { found = c.bodies-found.result; cost = c.cost_since-cost.result } in (
+      subst (λ (fuel : ℕ). Within fuel h) begun.ensures.fuel
+          (within begun.result c.bodies-found.new.meter h begun.ensures.depth c.bodies-found.ensures.spent c.cost_since-cost.ensures.work c.cost_since-cost.ensures.depth),
+      λ bodies. subst (λ (fuel : ℕ). HalfFinds (Has {A = Global}) fuel h o) begun.ensures.fuel
+          (finds (Has {A = Global}) begun.result c.bodies-found.new.meter c.bodies-found.result c.cost_since-cost.result o begun.ensures.depth c.cost_since-cost.ensures.work c.cost_since-cost.ensures.depth (c.bodies-found.ensures.meets bodies)),
+    )
+
+pub bodies_halved-join_values-requires-clause-left : goal.bodies_halved-join_values-requires-clause-left
+bodies_halved-join_values-requires-clause-left g t c = c.fork-left.ensures.left.0 c.args.meter.now refl
+
+pub bodies_halved-join_values-requires-clause-right : goal.bodies_halved-join_values-requires-clause-right
+bodies_halved-join_values-requires-clause-right g t c = c.fork-left.ensures.right.0 c.args.meter.now refl
+
+pub bodies_halved-returns-clause-meets : goal.bodies_halved-returns-clause-meets
+bodies_halved-returns-clause-meets g t c = λ bodies.
+    let s = c.args.interval.now in
+    let q = λ (k : ℕ). and_then (at_turn g.T.Tops.table s k) body_value in
+    let is = places_of s.places in
+    let from = c.args.from in
+    let to = c.args.to in
+    let centre = from + (to - from) / 2 in
+    let left = slice_range is from centre in
+    let right = slice_range is centre to in
+    let cut = ap (all_beside q) (range_cut is from centre to (omega arith) (omega arith)) ∙ all_halved q left right in
+    subst (λ o. Meets (Has {A = Global}) c.args.meter.now c.join_values.result c.join_values.new.meter o) (sym cut)
+    (c.join_values.ensures.meets (all_beside q left) (all_beside q right) (c.fork-left.ensures.left.1 bodies c.args.meter.now refl) (c.fork-left.ensures.right.1 bodies c.args.meter.now refl))
+
+pub holds_at-returns-in_err-value-clause-meets : goal.holds_at-returns-in_err-value-clause-meets
+holds_at-returns-in_err-value-clause-meets g t c = λ bodies.
+    let p = err_from_is_err_and c.from_residual.result c.from_residual.ensures.1 in
+    let o = at_turn g.T.Tops.table c.args.interval.now c.args.place in
+    rw (p.1, p.2) (meets_err (Is {A = Global}) (IsKeptPlace c.args.place) c.args.meter.now c.value_at.new.meter c.in_err-value.field-0.0 o (outcome.place_if_true c.args.place) (c.in_err-value.ensures.meets bodies))
+
+pub body_at-returns-in_err-value-clause-meets : goal.body_at-returns-in_err-value-clause-meets
+body_at-returns-in_err-value-clause-meets g t c = λ bodies.
+    let p = err_from_is_err_and c.from_residual.result c.from_residual.ensures.1 in
+    let o = at_turn g.T.Tops.table c.args.interval.now c.args.place in
+    rw (p.1, p.2) (meets_err (Is {A = Global}) (IsOne {A = Global}) c.args.meter.now c.value_at.new.meter c.in_err-value.field-0.0 o body_value (c.in_err-value.ensures.meets bodies))
+
+pub holds_at-returns-clause-meets : goal.holds_at-returns-clause-meets
+holds_at-returns-clause-meets g t c = λ bodies.
+    let o = at_turn g.T.Tops.table c.args.interval.now c.args.place in
+    keeps_truth {A = Global} c.args.meter.now c.value_at.new.meter c.in_ok-value.value c.read_truth.result c.args.place o c.read_truth.ensures (c.in_ok-value.ensures.meets bodies)
+
+pub body_at-returns-clause-meets : goal.body_at-returns-clause-meets
+body_at-returns-clause-meets g t c = λ bodies.
+    let o = at_turn g.T.Tops.table c.args.interval.now c.args.place in
+    meets_then (Is {A = Global}) (IsOne {A = Global}) c.args.meter.now c.value_at.new.meter c.pay.new.meter c.in_ok-value.value c.pay.result o body_value (c.in_ok-value.ensures.meets bodies) (λ x e. subst (λ y. Meets (IsOne {A = Global}) c.value_at.new.meter c.pay.result c.pay.new.meter (body_value y)) e c.pay.ensures.meets)
+
+pub begin_in_halves-returns-in_err-round-clause-steps : goal.begin_in_halves-returns-in_err-round-clause-steps
+begin_in_halves-returns-in_err-round-clause-steps g t c = λ fits.
+    let tb = g.T.Tops.table c.args.crew.now.tops.now in
+    let p = err_from_is_err_and c.from_residual.result c.from_residual.ensures.1 in
+    rw (p.1, p.2) (c.in_err-round.ensures tb (block_of c.args.parts.now.next.now))
+
+pub begin_in_halves-returns-clause-steps : goal.begin_in_halves-returns-clause-steps
+begin_in_halves-returns-clause-steps g t c = λ fits.
+    let tb = g.T.Tops.table c.args.crew.now.tops.now in
+    let m = c.args.machine.now in
+    let n = c.go_round_in_halves.new.machine in
+    elim (c.in_ok-round.ensures tb (block_of c.args.parts.now.next.now)) [
+      | inl e ↦ stepping.steps_stuck tb m n (block_of n.code.now) c.go_round_in_halves.result _ e
+      | inr e ↦ stepping.steps_from tb m n (block_of n.code.now) c.go_round_in_halves.result _ _ e (c.go_round_in_halves.ensures.steps fits)
+    ]
+
+pub each_in_halves-returns-in_err-values-clause-steps : goal.each_in_halves-returns-in_err-values-clause-steps
+each_in_halves-returns-in_err-values-clause-steps g t c = λ fits.
+    let m = c.args.machine.now in
+    let p = err_from_is_err_and c.from_residual.result c.from_residual.ensures.1 in
+    rw (p.1, p.2, c.in_err-values.ensures) (stepping.memory_any (frames_of m) m.meter.fuel m.meter.fuel _)
+
+pub each_in_halves-returns-in-Some-clause-steps : goal.each_in_halves-returns-in-Some-clause-steps
+each_in_halves-returns-in-Some-clause-steps g t c = λ fits.
+    let tb = g.T.Tops.table c.args.crew.now.tops.now in
+    let m = c.args.machine.now in
+    let a = c.args.parts.now in
+    let n = c.begin_in_halves.new.machine in
+    let s = c.take_off.new.stack in
+    let f : List ValueTree × List ValueTree → Out ValueTree =
+    λ p. and_then (at_places a.span p.0 (in_rounds tb m.levels (env_of m) p.0 (block_of a.block.now) a.body)) (λ v. exec tb m.levels (env_of m) (block_of a.next.now) (v ∷ p.1)) in
+    let taken = subst (λ r. TakesOff m.stack.items s.items a.count (Ok r)) c.in-Some.is c.in_ok-values.ensures in
+    many_taken tb m n (block_of n.code.now) s c.in-Some.values.items c.begin_in_halves.result a.count f taken.0 taken.1 fits (λ h. c.begin_in_halves.ensures.steps h)
+
+pub each_in_halves-returns-in-None-clause-steps : goal.each_in_halves-returns-in-None-clause-steps
+each_in_halves-returns-in-None-clause-steps g t c = λ fits.
+    let tb = g.T.Tops.table c.args.crew.now.tops.now in
+    let m = c.args.machine.now in
+    let a = c.args.parts.now in
+    let s = c.take_off.new.stack in
+    let f : List ValueTree × List ValueTree → Out ValueTree =
+    λ p. and_then (at_places a.span p.0 (in_rounds tb m.levels (env_of m) p.0 (block_of a.block.now) a.body)) (λ v. exec tb m.levels (env_of m) (block_of a.next.now) (v ∷ p.1)) in
+    let fewer = subst (λ r. TakesOff m.stack.items s.items a.count (Ok r)) c.in-None.is c.in_ok-values.ensures in
+    few_taken {U = Unit {0}} tb m (record m { stack = s }) (block_of m.code.now) (Err Stuck) a.count f fewer
+
+pub go_round_in_halves-returns-in_err-rounds_in_halves-clause-steps : goal.go_round_in_halves-returns-in_err-rounds_in_halves-clause-steps
+go_round_in_halves-returns-in_err-rounds_in_halves-clause-steps g t c = λ fits.
+    let tb = g.T.Tops.table c.args.crew.now.tops.now in
+    let m = c.args.machine.now in
+    let b = block_of c.args.next.now in
+    let p = err_from_is_err_and c.from_residual.result c.from_residual.ensures.1 in
+    rw (p.1, p.2) (stopped_rest (Unit {0}) tb m c.rounds_in_halves.new.machine b c.in_err-rounds_in_halves.field-0.0 c.args.round.value c.rounds_in_halves.new.round.value
+    c.in_err-rounds_in_halves.ensures.meter (c.in_err-rounds_in_halves.ensures.came b (local_of m) fits.0))
+
+pub go_round_in_halves-returns-in_err-rounds_in_halves-clause-bounded : goal.go_round_in_halves-returns-in_err-rounds_in_halves-clause-bounded
+go_round_in_halves-returns-in_err-rounds_in_halves-clause-bounded g t c =
+    omega (arith, c.requires, c.in_err-rounds_in_halves.ensures.spent, c.in_err-rounds_in_halves.ensures.depth)
+
+pub go_round_in_halves-returns-clause-steps : goal.go_round_in_halves-returns-clause-steps
+go_round_in_halves-returns-clause-steps g t c = λ fits.
+    let tb = g.T.Tops.table c.args.crew.now.tops.now in
+    let m = c.args.machine.now in
+    let n = c.go_round.new.self in
+    let b = block_of c.args.next.now in
+    from_rest tb m c.rounds_in_halves.new.machine n b (block_of n.code.now) c.args.round.value c.rounds_in_halves.new.round.value (tt {0}) c.go_round.result
+    c.in_ok-rounds_in_halves.ensures.meter (c.in_ok-rounds_in_halves.ensures.came b (local_of m) fits.0) fits
+    (λ h. c.go_round.ensures.steps tb h)
+
+pub rounds_in_halves-returns-in_err-filter_in_halves-clause-came : goal.rounds_in_halves-returns-in_err-filter_in_halves-clause-came
+rounds_in_halves-returns-in_err-filter_in_halves-clause-came g t c = λ b st bodies.
+    let p = err_from_is_err_and c.from_residual.result c.from_residual.ensures.1 in
+    rw (p.1, p.2) (c.in_err-filter_in_halves.ensures.came b st bodies)
+
+pub rounds_in_halves-returns-in-None-clause-came : goal.rounds_in_halves-returns-in-None-clause-came
+rounds_in_halves-returns-in-None-clause-came g t c = λ b st bodies.
+    let tb = g.T.Tops.table c.args.crew.now.tops.now in
+    let m = c.args.machine.now in
+    let m1 = c.filter_in_halves.new.machine in
+    let n = c.turns_in_halves.new.machine in
+    let r1 = c.filter_in_halves.new.round.value in
+    let r2 = c.turns_in_halves.new.round.value in
+    let x = c.turns_in_halves.result in
+    came_then m.meter.fuel m1.meter.fuel n.meter.fuel (tt {0}) x _ (between tb m.levels b (env_of m) st r1) (between tb m.levels b (env_of m) st r2)
+    (c.in_ok-filter_in_halves.ensures.came b st bodies)
+    (subst (λ y. HasBodies tb y.bodies.now → Came m1.meter.fuel x n.meter.fuel (between tb y.levels b (env_of y) st r1) (between tb y.levels b (env_of y) st r2))
+    c.in_ok-filter_in_halves.ensures.meter (c.turns_in_halves.ensures.came b st) bodies)
+
+pub rounds_in_halves-returns-in-None-clause-meter : goal.rounds_in_halves-returns-in-None-clause-meter
+rounds_in_halves-returns-in-None-clause-meter g t c =
+    let n = c.turns_in_halves.new.machine in
+    c.turns_in_halves.ensures.meter ∙ ap {A = Machine Global} (λ y. record y { meter = n.meter }) c.in_ok-filter_in_halves.ensures.meter
+
+pub turns_before_body-returns-in_err-turns_in_halves-clause-came : goal.turns_before_body-returns-in_err-turns_in_halves-clause-came
+turns_before_body-returns-in_err-turns_in_halves-clause-came g t c = λ b st bodies.
+    let p = err_from_is_err_and c.from_residual.result c.from_residual.ensures.1 in
+    rw (p.1, p.2) (c.in_err-turns_in_halves.ensures.came b st bodies)
+
+pub turns_before_body-returns-clause-came : goal.turns_before_body-returns-clause-came
+turns_before_body-returns-clause-came g t c = λ b st bodies.
+    let tb = g.T.Tops.table c.args.crew.now.tops.now in
+    let m = c.args.machine.now in
+    let f = c.turns_in_halves.new.machine.meter.fuel in
+    add_ends m.meter.fuel f c.go_to_body.result _ _ c.go_to_body.ensures
+    (λ u h. subst (λ q. Came m.meter.fuel (Ok u) f (between tb m.levels b (env_of m) st c.args.round.now.value) q) (h tb m.levels b (env_of m) st) (c.in_ok-turns_in_halves.ensures.came b st bodies))
+
+pub take_filter_turns-returns-clause-meets : goal.take_filter_turns-returns-clause-meets
+take_filter_turns-returns-clause-meets g t c = λ bodies.
+    let tb = g.T.Tops.table c.args.crew.now.tops.now in
+    let r = c.args.round.now in
+    let names = state.places_of c.args.room.now.names.now in
+    let x = c.filters_halved.result in
+    let n = c.filters_halved.new.meter in
+    subst (λ (vs : List (code.Value Global)). Meets (ArePlaces {A = Global}) c.args.meter.now x n (kept_of (at_place tb c.args.room.now.levels names (map tree_of vs) (block_of r.block.now)) (places_left r r.turns))) c.deref.ensures.value
+    (subst (λ (l : List ℕ). Meets (ArePlaces {A = Global}) c.args.meter.now x n (kept_of (at_place tb c.args.room.now.levels names (map tree_of c.deref.result.now) (block_of r.block.now)) l))
+    (ap (λ (k : ℕ). slice_range (places_of c.places.result) k c.len-len.result) c.min.ensures
+    ∙ ap (λ (ks : List ℕ). slice_range ks (min r.turns c.len-len.result) c.len-len.result) c.places.ensures ∙ last_places (chosen_places r.chosen) r.turns c.len-len.result (c.len-len.ensures ∙ ap length c.places.ensures))
+    (c.filters_halved.ensures.meets bodies))
+
+pub take_body_turns-returns-clause-meets : goal.take_body_turns-returns-clause-meets
+take_body_turns-returns-clause-meets g t c = λ bodies.
+    let tb = g.T.Tops.table c.args.crew.now.tops.now in
+    let r = c.args.round.now in
+    let names = state.places_of c.args.room.now.names.now in
+    let x = c.bodies_halved.result in
+    let n = c.bodies_halved.new.meter in
+    subst (λ (vs : List (code.Value Global)). Meets (Has {A = Global}) c.args.meter.now x n (all_values (at_place tb c.args.room.now.levels names (map tree_of vs) (block_of r.block.now)) (places_left r r.turns))) c.deref.ensures.value
+    (subst (λ (l : List ℕ). Meets (Has {A = Global}) c.args.meter.now x n (all_values (at_place tb c.args.room.now.levels names (map tree_of c.deref.result.now) (block_of r.block.now)) l))
+    (ap (λ (k : ℕ). slice_range (places_of c.places.result) k c.len-len.result) c.min.ensures
+    ∙ ap (λ (ks : List ℕ). slice_range ks (min r.turns c.len-len.result) c.len-len.result) c.places.ensures ∙ last_places (chosen_places r.chosen) r.turns c.len-len.result (c.len-len.ensures ∙ ap length c.places.ensures))
+    (c.bodies_halved.ensures.meets bodies))
+
+pub take_turns-returns-in_err-places-in-Some-clause-came : goal.take_turns-returns-in_err-places-in-Some-clause-came
+take_turns-returns-in_err-places-in-Some-clause-came g t c = λ b st flat bodies.
+    let tb = g.T.Tops.table c.args.crew.now.tops.now in
+    let r = c.args.round.now in
+    let n = c.args.room.now.levels in
+    let env = state.places_of c.args.room.now.names.now in
+    let p = err_from_is_err_and c.from_residual.result c.from_residual.ensures.1 in
+    rw (p.1, p.2, filter_is tb n b env st r c.in-Some.field-0 c.in-Some.is)
+    (gathering_stops (Unit {0}) (ArePlaces {A = Global}) r.start r.most r.kept.items (after_places tb n b env st (map tree_of r.sources.items) c.in-Some.field-0) c.args.meter.now c.take_filter_turns.new.meter c.in_err-places-in-Some.field-0.0 _ _ (c.in_err-places-in-Some.ensures.meets bodies))
+
+pub take_turns-returns-in_ok-places-in-Some-clause-came : goal.take_turns-returns-in_ok-places-in-Some-clause-came
+take_turns-returns-in_ok-places-in-Some-clause-came g t c = λ b st flat bodies.
+    let tb = g.T.Tops.table c.args.crew.now.tops.now in
+    let r = c.args.round.now in
+    let n = c.args.room.now.levels in
+    let env = state.places_of c.args.room.now.names.now in
+    add_ends c.args.meter.now.fuel c.take_filter_turns.new.meter.fuel c.add_places.result _ _ c.add_places.ensures
+    (λ u h. filter_came tb n b env st u r c.add_places.new.round c.in-Some.field-0 c.in_ok-places-in-Some.places c.args.meter.now c.take_filter_turns.new.meter c.in-Some.is flat (c.in_ok-places-in-Some.ensures.meets bodies) h.0 (h.1 ∙ ap (λ (l : List ℕ). r.kept.items ++ l) c.deref.ensures.value))
+
+pub take_turns-returns-in_err-values-in-None-clause-came : goal.take_turns-returns-in_err-values-in-None-clause-came
+take_turns-returns-in_err-values-in-None-clause-came g t c = λ b st flat bodies.
+    let tb = g.T.Tops.table c.args.crew.now.tops.now in
+    let r = c.args.round.now in
+    let n = c.args.room.now.levels in
+    let env = state.places_of c.args.room.now.names.now in
+    let p = err_from_is_err_and c.from_residual-in_err-values-in-None.result c.from_residual-in_err-values-in-None.ensures.1 in
+    rw (p.1, p.2, body_is tb n b env st r c.in-None.is)
+    (gathering_stops (Unit {0}) (Has {A = Global}) r.start r.most (elements_of r.values) (after_values tb n b env st) c.args.meter.now c.take_body_turns.new.meter c.in_err-values-in-None.field-0.0 _ _ (c.in_err-values-in-None.ensures.meets bodies))
+
+pub take_turns-returns-in_ok-values-in-None-clause-came : goal.take_turns-returns-in_ok-values-in-None-clause-came
+take_turns-returns-in_ok-values-in-None-clause-came g t c = λ b st flat bodies.
+    let tb = g.T.Tops.table c.args.crew.now.tops.now in
+    let r = c.args.round.now in
+    let n = c.args.room.now.levels in
+    let env = state.places_of c.args.room.now.names.now in
+    add_ends c.args.meter.now.fuel c.take_body_turns.new.meter.fuel c.add_values.result _ _ c.add_values.ensures
+    (λ u h. body_came tb n b env st u r c.add_values.new.round c.in_ok-values-in-None.values c.args.meter.now c.take_body_turns.new.meter c.in-None.is flat (c.in_ok-values-in-None.ensures.meets bodies) h.0 h.1)
+
+pub value_at-returns-clause-meets : goal.value_at-returns-clause-meets
+value_at-returns-clause-meets g t c = λ bodies.
+    c.settle.ensures.meets (at_turn g.T.Tops.table c.args.interval.now c.args.place)
+    (turn_meets g.T.Tops.table c.args.interval.now c.args.place c.args.meter.now c.set_at_turn.new.machine c.run_in_halves-found.new.machine c.run_in_halves-found.result
+    c.in_ok-set_at_turn.ensures bodies c.run_in_halves-found.ensures)
+
+pub turns_in_halves-returns-then-cuts-eq0-clause-came : goal.turns_in_halves-returns-then-cuts-eq0-clause-came
+turns_in_halves-returns-then-cuts-eq0-clause-came g t c = λ b st bodies.
+    let m = c.args.machine.now in
+    came_none m.meter.fuel (tt {0}) (between (g.T.Tops.table c.args.crew.now.tops.now) m.levels b (env_of m) st c.args.round.now.value)
+
+pub turns_in_halves-returns-in_default-clause-came : goal.turns_in_halves-returns-in_default-clause-came
+turns_in_halves-returns-in_default-clause-came g t c = λ b st bodies.
+    let m = c.args.machine.now in
+    came_none m.meter.fuel (tt {0}) (between (g.T.Tops.table c.args.crew.now.tops.now) m.levels b (env_of m) st c.args.round.now.value)
+
+pub turns_in_halves-returns-clause-came : goal.turns_in_halves-returns-clause-came
+turns_in_halves-returns-clause-came g t c = λ b st bodies.
+    let tb = g.T.Tops.table c.args.crew.now.tops.now in
+    let m = c.args.machine.now in
+    let x = c.take_turns-done.result in
+    let n = c.take_turns-done.new.meter in
+    let last = c.take_turns-done.new.round in
+    let begun = c.begin_meter-meter in
+    subst (λ (f : ℕ). Came f x n.fuel (between tb m.levels b (env_of m) st c.args.round.now.value) (between tb m.levels b (env_of m) st last)) begun.ensures.fuel
+    (lent_came tb m.levels b st begun.result.fuel n.fuel x m.base m.slots.items c.deref-2.result.now _ _ last
+    c.deref-2.ensures.value c.deref_mut.ensures.value (c.take_turns-done.ensures.came b st begun.ensures.depth bodies))
+
+pub finish_in_halves-returns-then-ends_filter-clause-comes : goal.finish_in_halves-returns-then-ends_filter-clause-comes
+finish_in_halves-returns-then-ends_filter-clause-comes g t c = λ fits.
+    let tb = g.T.Tops.table c.args.crew.now.tops.now in
+    let m = c.args.machine.now in
+    let n = c.end_filter.new.machine in
+    subst (λ r. Comes tb m r n (left_at tb m finish)) (sym c.going_on.ensures)
+    (steps_come tb m n c.end_filter.result (left_at tb m finish) (c.end_filter.ensures.steps m.frames c.in-Some.ensures.items fits))
+
+pub end_filter-returns-in_ok-leave_turn-in-Turn-clause-steps : goal.end_filter-returns-in_ok-leave_turn-in-Turn-clause-steps
+end_filter-returns-in_ok-leave_turn-in-Turn-clause-steps g t c = λ before is fits.
+    let tb = g.T.Tops.table c.args.crew.now.tops.now in
+    let m = record c.args.machine.now { frames = before } in
+    let n = c.go_round_in_halves.new.machine in
+    let f = c.args.frame in
+    elim (c.in_ok-leave_turn-in-Turn.ensures.rests tb before f is refl refl refl c.in-Turn.is fits) [
+      | inl e ↦ stepping.steps_stuck tb m n (block_of n.code.now) c.go_round_in_halves.result _ e
+      | inr e ↦ stepping.steps_from tb m n (block_of n.code.now) c.go_round_in_halves.result _ _ e.same
+          (stepping.steps_after tb m c.leave_turn.new.self n (block_of n.code.now) c.go_round_in_halves.result e.work _ e.spent (c.go_round_in_halves.ensures.steps e.fits))
+    ]

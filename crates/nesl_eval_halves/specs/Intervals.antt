@@ -1,0 +1,42 @@
+-- Turns of a round.
+use Rattle.std.specs.Prelude.{◌≡◌, ℕ, ◌++◌, [], List, map, slice_range}
+use Rattle.std.specs.declared.vec.Vec.{Vec}
+use Rattle.std.proofs.Common.{Global}
+use Rattle.nesl_values.specs.View.{tree_of}
+use Rattle.nesl_values.specs.Tree.{ValueTree}
+use Rattle.nesl_eval_meaning.specs.Out.{Out}
+use Rattle.nesl_eval_code.specs.Frames.{row}
+use Rattle.nesl_eval_code.specs.Run.{Table}
+use Rattle.nesl_eval_blocks.specs.Exec.{kept_of}
+use Rattle.nesl_eval_ops.specs.View.{block_of}
+use Rattle.nesl_eval_nodes.specs.declared.meter.Meter.{Meter}
+use Rattle.nesl_eval_nodes.specs.Sides.{places_of}
+use Rattle.nesl_eval_machine.specs.State as state
+use Rattle.nesl_eval_machine.specs.State.{at_place, all_values, slots_of}
+use Rattle.nesl_eval_machine.specs.declared.state.Machine.{Machine}
+use Rattle.nesl_eval_halves.specs.declared.turns.Interval.{Interval}
+
+-- what the block comes to at a place
+abbrev pub at_turn : {R H G T : Type 0} → (T → Table) → Interval R H G T → ℕ → Out ValueTree
+at_turn table i =
+    at_place (table i.crew.now.tops.now) i.room.now.levels (state.places_of i.room.now.names.now)
+    (map tree_of i.sources.now) (block_of i.block.now)
+
+-- the places at which a filter holds, and the values of a body, in the turns from one to another
+abbrev pub filters_in : {R H G T : Type 0} → (T → Table) → Interval R H G T → ℕ → ℕ → Out (List ℕ)
+filters_in table i from to = kept_of (at_turn table i) (slice_range (places_of i.places) from to)
+
+abbrev pub bodies_in : {R H G T : Type 0} → (T → Table) → Interval R H G T → ℕ → ℕ → Out (List ValueTree)
+bodies_in table i from to = all_values (at_turn table i) (slice_range (places_of i.places) from to)
+
+-- these are the places
+abbrev pub ArePlaces : {A : Type 0} → Vec ℕ A → List ℕ → Type 0
+ArePlaces ks is = ks.items ≡ is
+
+-- a machine at the beginning of the turn at a place, under this meter: the block sees the names of the room and an
+-- element of each sequence
+abbrev pub IsAtTurn : {R H G T : Type 0} → Machine Global → Interval R H G T → ℕ → Meter → Type 0
+IsAtTurn m i place meter =
+    (m.bodies.now ≡ i.room.now.bodies.now) × (m.code.now ≡ i.block.now) × (m.levels ≡ i.room.now.levels)
+    × (m.meter ≡ meter) × (m.base ≡ 0) × (m.frames.items ≡ []) × (m.stack.items ≡ [])
+    × (slots_of m ≡ state.places_of i.room.now.names.now ++ row place (map tree_of i.sources.now))

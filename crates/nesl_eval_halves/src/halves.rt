@@ -1,0 +1,762 @@
+//! A machine whose rounds are cut in halves.
+ghost use Rattle.std.specs.Prelude.{◌≡◌, ◌+◌, ◌<◌, ◌≤◌, ◌^◌, ◌∷◌, ◌++◌, [], List, map, length};
+ghost use Rattle.std.specs.declared.vec.Vec.{Vec};
+ghost use Rattle.std.specs.Thread.{IsSync};
+ghost use Rattle.nesl_values.specs.Tree.{ValueTree};
+ghost use Rattle.nesl_values.specs.View.{tree_of};
+ghost use Rattle.nesl_eval_meaning.specs.Out.{and_then, given};
+ghost use Rattle.nesl_eval_meaning.specs.Outcome.{place_if_true, body_value};
+ghost use Rattle.nesl_eval_blocks.specs.Block.{Block, finish};
+ghost use Rattle.nesl_eval_blocks.specs.Exec.{exec, taken, at_places, kept_of};
+ghost use Rattle.nesl_eval_ops.specs.View.{block_of};
+ghost use Rattle.nesl_eval_nodes.specs.Sides.{places_of, IsKeptPlace, IsOne, Has};
+ghost use Rattle.nesl_eval_nodes.specs.Meets.{Meets, Is};
+ghost use Rattle.nesl_eval_machine.specs.State as state;
+ghost use Rattle.nesl_eval_machine.specs.State.{Fits, HasBodies, between, unwound, left, left_at, frames_of, slots_of};
+ghost use Rattle.nesl_eval_machine.specs.State.{stack_of, env_of, local_of, left_with, in_rounds, all_values, turn_of};
+ghost use Rattle.nesl_eval_machine.specs.State.{places_left};
+ghost use Rattle.nesl_eval_machine.specs.Steps.{Steps, Comes, Ends};
+ghost use Rattle.nesl_eval_halves.specs.Intervals.{at_turn, filters_in, bodies_in, ArePlaces};
+ghost use Rattle.nesl_eval_halves.specs.Halves.{Within, HalfFinds, Came};
+
+use crate::crew::{Crew, fork};
+use crate::turns::{
+    Interval, Parts, Room, Sources, add_places, add_values, count_left, ends_filter, idle_machine,
+    set_at_turn, settle,
+};
+use nesl_eval_machine::state::{Frame, Machine, Purpose, Round};
+use nesl_eval_machine::{go_to_body, going_on, take_off};
+use nesl_eval_nodes::held::Tops;
+use nesl_eval_nodes::meter::{Meter, Stop};
+use nesl_eval_nodes::nodes::{add, keep_if, pay, read_truth};
+use nesl_eval_ops::Ops;
+use nesl_split_helpers::{
+    Gate, Half, Helpers, Place, begin_meter, cost_since, join_places, join_values,
+};
+use nesl_values::Value;
+use nesl_values_builder::SequenceBuilder;
+use std::alloc::Global;
+use std::thread::Threads;
+
+/// All that is left for a machine. Its rounds are cut in halves where helpers are granted, at most so often one within
+/// another.
+#[cycle(halves)]
+pub(crate) fn run_in_halves<
+    R: Threads + Sync,
+    H: Helpers + Sync,
+    G: Gate + Sync,
+    T: Tops<Global> + Sync,
+>(
+    machine: &mut Machine<'_, Global>,
+    cuts: u32,
+    crew: &Crew<'_, R, H, G, T>,
+) -> Result<Value<Global>, Stop>
+    requires { machine.old.meter.fuel + machine.old.meter.depth < 2 ^ 64 }
+    ensures { let t = T.table crew.now.tops.now in Fits t machine.old
+        → Ends machine.old result machine.new (left t machine.old) }
+{
+    for _ in 0..u64::MAX {
+        match step_in_halves(machine, cuts, crew) {
+            Ok(None) => {}
+            Ok(Some(value)) => return Ok(value),
+            Err(stop) => return Err(machine.place_stop(stop)),
+        }
+    }
+    Err(Stop::Memory)
+}
+
+// One operation, or all turns of a round in halves.
+#[cycle(halves)]
+fn step_in_halves<R: Threads + Sync, H: Helpers + Sync, G: Gate + Sync, T: Tops<Global> + Sync>(
+    machine: &mut Machine<'_, Global>,
+    cuts: u32,
+    crew: &Crew<'_, R, H, G, T>,
+) -> Result<Option<Value<Global>>, Stop>
+    requires room { machine.old.meter.fuel + machine.old.meter.depth < 2 ^ 64 }
+    ensures comes { let t = T.table crew.now.tops.now in Fits t machine.old
+        → Comes t machine.old result machine.new (left t machine.old) }
+    ensures bounded { machine.new.meter.fuel + machine.new.meter.depth < 2 ^ 64 }
+{
+    let code = machine.code;
+    match code {
+        Ops::Each {
+            span,
+            count,
+            body,
+            next,
+        } => {
+            let parts = Parts {
+                span: *span,
+                count: *count,
+                block: &**body,
+                body: None,
+                next: &**next,
+            };
+            going_on(each_in_halves(machine, &parts, cuts, crew))
+        }
+        Ops::Filtered {
+            span,
+            count,
+            body,
+            filter,
+            next,
+        } => {
+            let parts = Parts {
+                span: *span,
+                count: *count,
+                block: &**filter,
+                body: Some(&**body),
+                next: &**next,
+            };
+            going_on(each_in_halves(machine, &parts, cuts, crew))
+        }
+        Ops::Finish => finish_in_halves(machine, cuts, crew),
+        _ => machine.step(crew.tops),
+    }
+}
+
+// An apply-to-each.
+#[cycle(halves)]
+#[inline(never)]
+fn each_in_halves<'a, R: Threads + Sync, H: Helpers + Sync, G: Gate + Sync, T: Tops<Global> + Sync>(
+    machine: &mut Machine<'a, Global>,
+    parts: &Parts<'a>,
+    cuts: u32,
+    crew: &Crew<'_, R, H, G, T>,
+) -> Result<(), Stop>
+    requires { machine.old.meter.fuel + machine.old.meter.depth < 2 ^ 64 }
+    ensures steps { let t = T.table crew.now.tops.now in let m = machine.old in Fits t m
+        → Steps t m result machine.new (block_of machine.new.code.now) (left_with t m
+        (given (taken parts.now.count (local_of m) []) (λ p. and_then (at_places parts.now.span p.0
+        (in_rounds t m.levels (env_of m) p.0 (block_of parts.now.block.now) parts.now.body))
+        (λ v. exec t m.levels (env_of m) (block_of parts.now.next.now) (v ∷ p.1))))) }
+    ensures bounded { machine.new.meter.fuel + machine.new.meter.depth < 2 ^ 64 }
+{
+    match take_off(&mut machine.stack, parts.count)? {
+        Some(values) => begin_in_halves(machine, Sources { values }, parts, cuts, crew),
+        None => Err(Stop::Stuck),
+    }
+}
+
+// The same over sequences that were taken off the stack.
+#[cycle(halves)]
+fn begin_in_halves<
+    'a,
+    R: Threads + Sync,
+    H: Helpers + Sync,
+    G: Gate + Sync,
+    T: Tops<Global> + Sync,
+>(
+    machine: &mut Machine<'a, Global>,
+    sources: Sources,
+    parts: &Parts<'a>,
+    cuts: u32,
+    crew: &Crew<'_, R, H, G, T>,
+) -> Result<(), Stop>
+    requires { machine.old.meter.fuel + machine.old.meter.depth < 2 ^ 64 }
+    ensures steps { let t = T.table crew.now.tops.now in let m = machine.old in let p = parts.now in
+        let vs = map tree_of sources.values.items in
+        Fits t m → Steps t m result machine.new (block_of machine.new.code.now) (left_with t m
+        (and_then (at_places p.span vs (in_rounds t m.levels (env_of m) vs (block_of p.block.now) p.body))
+        (λ v. exec t m.levels (env_of m) (block_of p.next.now) (v ∷ local_of m)))) }
+    ensures bounded { machine.new.meter.fuel + machine.new.meter.depth < 2 ^ 64 }
+{
+    let Sources { values } = sources;
+    let round = machine.first_round(values, parts.span, parts.block, parts.body)?;
+    go_round_in_halves(machine, round, parts.next, cuts, crew)
+}
+
+// Goes on with a round at its beginning, or where a filter had its last turn: all turns are taken in halves, if a
+// helper is granted.
+#[cycle(halves)]
+fn go_round_in_halves<
+    'a,
+    R: Threads + Sync,
+    H: Helpers + Sync,
+    G: Gate + Sync,
+    T: Tops<Global> + Sync,
+>(
+    machine: &mut Machine<'a, Global>,
+    mut round: Box<Round<'a, Global>>,
+    next: &'a Ops,
+    cuts: u32,
+    crew: &Crew<'_, R, H, G, T>,
+) -> Result<(), Stop>
+    requires { machine.old.meter.fuel < 2 ^ 64 }
+    ensures steps { let t = T.table crew.now.tops.now in let m = machine.old in Fits t m
+        → Steps t m result machine.new (block_of machine.new.code.now)
+        (unwound t (frames_of m) (slots_of m) (stack_of m)
+        (between t m.levels (block_of next.now) (env_of m) (local_of m) round.entry.value)) }
+    ensures bounded { machine.new.meter.fuel + machine.new.meter.depth < 2 ^ 64 }
+{
+    machine.meter.depth = 0;
+    rounds_in_halves(machine, &mut round, cuts, crew)?;
+    machine.go_round(round, next)
+}
+
+// Takes all turns that a round has left, and those of the body that comes after a filter, where helpers are granted.
+#[cycle(halves)]
+fn rounds_in_halves<
+    'a,
+    R: Threads + Sync,
+    H: Helpers + Sync,
+    G: Gate + Sync,
+    T: Tops<Global> + Sync,
+>(
+    machine: &mut Machine<'a, Global>,
+    round: &mut Box<Round<'a, Global>>,
+    cuts: u32,
+    crew: &Crew<'_, R, H, G, T>,
+) -> Result<(), Stop>
+    requires { machine.old.meter.fuel < 2 ^ 64 }
+    ensures came { let t = T.table crew.now.tops.now in let m = machine.old in (b : Block) (st : List ValueTree)
+        → HasBodies t m.bodies.now → Came m.meter.fuel result machine.new.meter.fuel
+        (between t m.levels b (env_of m) st round.old.value) (between t m.levels b (env_of m) st round.new.value) }
+    ensures meter { machine.new ≡ record machine.old { meter = machine.new.meter } }
+    ensures spent { machine.new.meter.fuel ≤ machine.old.meter.fuel }
+    ensures depth { machine.new.meter.depth ≤ machine.old.meter.depth }
+{
+    filter_in_halves(machine, round, cuts, crew)?;
+    match round.body {
+        Some(_) => Ok(()),
+        None => turns_in_halves(machine, round, cuts, crew),
+    }
+}
+
+// Takes all turns that a filter has left, if a helper is granted; nothing if the round is that of a body.
+#[cycle(halves)]
+fn filter_in_halves<
+    'a,
+    R: Threads + Sync,
+    H: Helpers + Sync,
+    G: Gate + Sync,
+    T: Tops<Global> + Sync,
+>(
+    machine: &mut Machine<'a, Global>,
+    round: &mut Box<Round<'a, Global>>,
+    cuts: u32,
+    crew: &Crew<'_, R, H, G, T>,
+) -> Result<(), Stop>
+    requires { machine.old.meter.fuel < 2 ^ 64 }
+    ensures came { let t = T.table crew.now.tops.now in let m = machine.old in (b : Block) (st : List ValueTree)
+        → HasBodies t m.bodies.now → Came m.meter.fuel result machine.new.meter.fuel
+        (between t m.levels b (env_of m) st round.old.value) (between t m.levels b (env_of m) st round.new.value) }
+    ensures meter { machine.new ≡ record machine.old { meter = machine.new.meter } }
+    ensures spent { machine.new.meter.fuel ≤ machine.old.meter.fuel }
+    ensures depth { machine.new.meter.depth ≤ machine.old.meter.depth }
+{
+    match round.body {
+        Some(_) => turns_before_body(machine, round, cuts, crew),
+        None => Ok(()),
+    }
+}
+
+// Takes all turns that a filter has left, if a helper is granted. After its last one the round is that of its body.
+#[cycle(halves)]
+fn turns_before_body<
+    'a,
+    R: Threads + Sync,
+    H: Helpers + Sync,
+    G: Gate + Sync,
+    T: Tops<Global> + Sync,
+>(
+    machine: &mut Machine<'a, Global>,
+    round: &mut Box<Round<'a, Global>>,
+    cuts: u32,
+    crew: &Crew<'_, R, H, G, T>,
+) -> Result<(), Stop>
+    requires { machine.old.meter.fuel < 2 ^ 64 }
+    ensures came { let t = T.table crew.now.tops.now in let m = machine.old in (b : Block) (st : List ValueTree)
+        → HasBodies t m.bodies.now → Came m.meter.fuel result machine.new.meter.fuel
+        (between t m.levels b (env_of m) st round.old.value) (between t m.levels b (env_of m) st round.new.value) }
+    ensures meter { machine.new ≡ record machine.old { meter = machine.new.meter } }
+    ensures spent { machine.new.meter.fuel ≤ machine.old.meter.fuel }
+    ensures depth { machine.new.meter.depth ≤ machine.old.meter.depth }
+{
+    turns_in_halves(machine, round, cuts, crew)?;
+    go_to_body(round, machine.meter.fuel, machine.alloc)
+}
+
+// Takes all turns that a round has left, if they are two or more and a helper is granted.
+#[cycle(halves)]
+fn turns_in_halves<
+    'a,
+    R: Threads + Sync,
+    H: Helpers + Sync,
+    G: Gate + Sync,
+    T: Tops<Global> + Sync,
+>(
+    machine: &mut Machine<'a, Global>,
+    round: &mut Box<Round<'a, Global>>,
+    cuts: u32,
+    crew: &Crew<'_, R, H, G, T>,
+) -> Result<(), Stop>
+    requires { machine.old.meter.fuel < 2 ^ 64 }
+    ensures came { let t = T.table crew.now.tops.now in let m = machine.old in (b : Block) (st : List ValueTree)
+        → HasBodies t m.bodies.now → Came m.meter.fuel result machine.new.meter.fuel
+        (between t m.levels b (env_of m) st round.old.value) (between t m.levels b (env_of m) st round.new.value) }
+    ensures meter { machine.new ≡ record machine.old { meter = machine.new.meter } }
+    ensures spent { machine.new.meter.fuel ≤ machine.old.meter.fuel }
+    ensures depth { machine.new.meter.depth ≤ machine.old.meter.depth }
+{
+    if cuts == 0 || count_left(&**round) < 2 {
+        return Ok(());
+    }
+    if machine.base > machine.slots.len() {
+        return Err(Stop::Memory);
+    }
+    let Some(permit) = crew.helpers.ask() else {
+        return Ok(());
+    };
+    let mut meter = begin_meter(machine.meter.fuel);
+    let room = Room {
+        bodies: machine.bodies,
+        names: &machine.slots[machine.base..],
+        levels: machine.levels,
+    };
+    let done = take_turns(&room, &mut **round, permit, &mut meter, cuts - 1, crew);
+    machine.meter.fuel = meter.fuel;
+    done
+}
+
+// Takes all turns that a round has left, with a helper that was granted.
+#[cycle(halves)]
+fn take_turns<'a, R: Threads + Sync, H: Helpers + Sync, G: Gate + Sync, T: Tops<Global> + Sync>(
+    room: &Room<'_>,
+    round: &mut Round<'a, Global>,
+    permit: H::Permit,
+    meter: &mut Meter,
+    cuts: u32,
+    crew: &Crew<'_, R, H, G, T>,
+) -> Result<(), Stop>
+    requires { meter.old.fuel + meter.old.depth < 2 ^ 64 }
+    ensures came { let t = T.table crew.now.tops.now in (b : Block) (st : List ValueTree)
+        → meter.old.depth ≡ 0 → HasBodies t room.now.bodies.now → Came meter.old.fuel result meter.new.fuel
+        (between t room.now.levels b (state.places_of room.now.names.now) st round.old)
+        (between t room.now.levels b (state.places_of room.now.names.now) st round.new) }
+    ensures spent { meter.new.fuel + meter.new.depth ≤ meter.old.fuel + meter.old.depth }
+{
+    match round.body {
+        Some(_) => {
+            let places = take_filter_turns(room, &*round, permit, meter, cuts, crew)?;
+            add_places(round, &places, meter.depth)
+        }
+        None => {
+            let values = take_body_turns(room, &*round, permit, meter, cuts, crew)?;
+            add_values(round, values, meter.depth)
+        }
+    }
+}
+
+// The places at which a filter holds in the turns that a round has left, in halves.
+#[cycle(halves)]
+fn take_filter_turns<
+    'a,
+    R: Threads + Sync,
+    H: Helpers + Sync,
+    G: Gate + Sync,
+    T: Tops<Global> + Sync,
+>(
+    room: &Room<'_>,
+    round: &Round<'a, Global>,
+    permit: H::Permit,
+    meter: &mut Meter,
+    cuts: u32,
+    crew: &Crew<'_, R, H, G, T>,
+) -> Result<Vec<usize>, Stop>
+    requires room { meter.old.fuel + meter.old.depth < 2 ^ 64 }
+    ensures meets { let t = T.table crew.now.tops.now in let r = round.now in HasBodies t room.now.bodies.now
+        → Meets ArePlaces meter.old result meter.new
+        (kept_of (turn_of t room.now.levels (state.places_of room.now.names.now) r) (places_left r r.turns)) }
+    ensures spent { meter.new.fuel + meter.new.depth ≤ meter.old.fuel + meter.old.depth }
+{
+    let whole = Interval {
+        room: &*room,
+        block: round.block,
+        sources: &round.sources,
+        places: round.chosen.places(),
+        crew: &*crew,
+    };
+    let len = whole.places.len();
+    filters_halved(&whole, round.turns.min(len), len, permit, meter, cuts)
+}
+
+// The places at which a filter holds, one by one.
+#[cycle(halves)]
+#[inline(never)]
+fn filters_one_by_one<R: Threads + Sync, H: Helpers + Sync, G: Gate + Sync, T: Tops<Global> + Sync>(
+    interval: &Interval<'_, R, H, G, T>,
+    from: usize,
+    to: usize,
+    cuts: u32,
+    meter: &mut Meter,
+) -> Result<Vec<usize>, Stop>
+    requires room { meter.old.fuel + meter.old.depth < 2 ^ 64 }
+    requires turns { (from ≤ to) × (to ≤ length (places_of interval.now.places)) }
+    ensures meets { HasBodies (T.table interval.now.crew.now.tops.now) interval.now.room.now.bodies.now
+        → Meets ArePlaces meter.old result meter.new (filters_in T.table interval.now from to) }
+    ensures spent { meter.new.fuel + meter.new.depth ≤ meter.old.fuel + meter.old.depth }
+{
+    let start = meter.depth;
+    let mut most = 0;
+    let mut kept = Vec::new(interval.crew.alloc);
+    let mut machine = idle_machine(interval);
+    for turn in from..to {
+        let place = interval.places.at(turn);
+        meter.depth = 0;
+        let holds = holds_at(interval, &mut machine, place, cuts, meter)?;
+        keep_if(&mut kept, place, holds)?;
+        most = meter.deepest(most);
+    }
+    meter.depth = start + most;
+    Ok(kept)
+}
+
+// The places at which a filter holds, in halves where a helper is granted.
+#[cycle(halves)]
+#[inline(never)]
+fn filters<R: Threads + Sync, H: Helpers + Sync, G: Gate + Sync, T: Tops<Global> + Sync>(
+    interval: &Interval<'_, R, H, G, T>,
+    from: usize,
+    to: usize,
+    cuts: u32,
+    meter: &mut Meter,
+) -> Result<Vec<usize>, Stop>
+    requires room { meter.old.fuel + meter.old.depth < 2 ^ 64 }
+    requires turns { (from ≤ to) × (to ≤ length (places_of interval.now.places)) }
+    ensures meets { HasBodies (T.table interval.now.crew.now.tops.now) interval.now.room.now.bodies.now
+        → Meets ArePlaces meter.old result meter.new (filters_in T.table interval.now from to) }
+    ensures spent { meter.new.fuel + meter.new.depth ≤ meter.old.fuel + meter.old.depth }
+{
+    if cuts == 0 || to - from < 2 {
+        return filters_one_by_one(interval, from, to, cuts, meter);
+    }
+    match interval.crew.helpers.ask() {
+        Some(permit) => filters_halved(interval, from, to, permit, meter, cuts - 1),
+        None => filters_one_by_one(interval, from, to, cuts, meter),
+    }
+}
+
+// The same with a helper that was granted.
+#[cycle(halves)]
+fn filters_halved<R: Threads + Sync, H: Helpers + Sync, G: Gate + Sync, T: Tops<Global> + Sync>(
+    interval: &Interval<'_, R, H, G, T>,
+    from: usize,
+    to: usize,
+    permit: H::Permit,
+    meter: &mut Meter,
+    cuts: u32,
+) -> Result<Vec<usize>, Stop>
+    requires room { meter.old.fuel + meter.old.depth < 2 ^ 64 }
+    requires turns { (from ≤ to) × (to ≤ length (places_of interval.now.places)) }
+    ensures meets { HasBodies (T.table interval.now.crew.now.tops.now) interval.now.room.now.bodies.now
+        → Meets ArePlaces meter.old result meter.new (filters_in T.table interval.now from to) }
+    ensures spent { meter.new.fuel + meter.new.depth ≤ meter.old.fuel + meter.old.depth }
+{
+    let centre = from + (to - from) / 2;
+    let fuel = meter.fuel;
+    let half = |interval: &Interval<'_, R, H, G, T>, from: usize, to: usize| -> Half<Vec<usize>>
+        requires { IsSync R.row × IsSync H.row × IsSync G.row × IsSync T.row
+            × (from ≤ to) × (to ≤ length (places_of interval.now.places)) }
+        ensures { Within fuel result
+            × (HasBodies (T.table interval.now.crew.now.tops.now) interval.now.room.now.bodies.now → HalfFinds ArePlaces
+            fuel result (filters_in T.table interval.now from to)) }
+    { half_of_filters(interval, from, to, cuts, fuel) };
+    let (left, right) = fork(
+        interval.crew.rt,
+        interval,
+        &half,
+        (from, centre),
+        (centre, to),
+    );
+    interval.crew.helpers.done(permit);
+    join_places(left, right, meter)
+}
+
+// A half of them, which has the whole fuel.
+#[cycle(halves)]
+fn half_of_filters<R: Threads + Sync, H: Helpers + Sync, G: Gate + Sync, T: Tops<Global> + Sync>(
+    interval: &Interval<'_, R, H, G, T>,
+    from: usize,
+    to: usize,
+    cuts: u32,
+    fuel: u64,
+) -> Half<Vec<usize>>
+    requires { (from ≤ to) × (to ≤ length (places_of interval.now.places)) }
+    ensures { Within fuel result × (HasBodies (T.table interval.now.crew.now.tops.now) interval.now.room.now.bodies.now
+        → HalfFinds ArePlaces fuel result (filters_in T.table interval.now from to)) }
+{
+    interval.crew.gate.enter(Place::Half(from, to));
+    let begun = begin_meter(fuel);
+    let mut meter = begun;
+    let found = filters(interval, from, to, cuts, &mut meter);
+    let cost = cost_since(begun, meter);
+    Half { found, cost }
+}
+
+// The values of a body in the turns that a round has left, in halves.
+#[cycle(halves)]
+fn take_body_turns<
+    'a,
+    R: Threads + Sync,
+    H: Helpers + Sync,
+    G: Gate + Sync,
+    T: Tops<Global> + Sync,
+>(
+    room: &Room<'_>,
+    round: &Round<'a, Global>,
+    permit: H::Permit,
+    meter: &mut Meter,
+    cuts: u32,
+    crew: &Crew<'_, R, H, G, T>,
+) -> Result<SequenceBuilder, Stop>
+    requires room { meter.old.fuel + meter.old.depth < 2 ^ 64 }
+    ensures meets { let t = T.table crew.now.tops.now in let r = round.now in HasBodies t room.now.bodies.now
+        → Meets Has meter.old result meter.new
+        (all_values (turn_of t room.now.levels (state.places_of room.now.names.now) r) (places_left r r.turns)) }
+    ensures spent { meter.new.fuel + meter.new.depth ≤ meter.old.fuel + meter.old.depth }
+{
+    let whole = Interval {
+        room: &*room,
+        block: round.block,
+        sources: &round.sources,
+        places: round.chosen.places(),
+        crew: &*crew,
+    };
+    let len = whole.places.len();
+    bodies_halved(&whole, round.turns.min(len), len, permit, meter, cuts)
+}
+
+// The values of a body, one by one.
+#[cycle(halves)]
+#[inline(never)]
+fn bodies_one_by_one<R: Threads + Sync, H: Helpers + Sync, G: Gate + Sync, T: Tops<Global> + Sync>(
+    interval: &Interval<'_, R, H, G, T>,
+    from: usize,
+    to: usize,
+    cuts: u32,
+    meter: &mut Meter,
+) -> Result<SequenceBuilder, Stop>
+    requires room { meter.old.fuel + meter.old.depth < 2 ^ 64 }
+    requires turns { (from ≤ to) × (to ≤ length (places_of interval.now.places)) }
+    ensures meets { HasBodies (T.table interval.now.crew.now.tops.now) interval.now.room.now.bodies.now
+        → Meets Has meter.old result meter.new (bodies_in T.table interval.now from to) }
+    ensures spent { meter.new.fuel + meter.new.depth ≤ meter.old.fuel + meter.old.depth }
+{
+    let start = meter.depth;
+    let mut most = 0;
+    // The values of all places behind are added to the first ones.
+    let room = if from == 0 {
+        interval.places.len()
+    } else {
+        to - from
+    };
+    let mut builder = SequenceBuilder::with_room(interval.crew.alloc, room);
+    let mut machine = idle_machine(interval);
+    for turn in from..to {
+        let place = interval.places.at(turn);
+        meter.depth = 0;
+        let value = body_at(interval, &mut machine, place, cuts, meter)?;
+        add(&mut builder, value)?;
+        most = meter.deepest(most);
+    }
+    meter.depth = start + most;
+    Ok(builder)
+}
+
+// The values of a body, in halves where a helper is granted.
+#[cycle(halves)]
+#[inline(never)]
+fn bodies<R: Threads + Sync, H: Helpers + Sync, G: Gate + Sync, T: Tops<Global> + Sync>(
+    interval: &Interval<'_, R, H, G, T>,
+    from: usize,
+    to: usize,
+    cuts: u32,
+    meter: &mut Meter,
+) -> Result<SequenceBuilder, Stop>
+    requires room { meter.old.fuel + meter.old.depth < 2 ^ 64 }
+    requires turns { (from ≤ to) × (to ≤ length (places_of interval.now.places)) }
+    ensures meets { HasBodies (T.table interval.now.crew.now.tops.now) interval.now.room.now.bodies.now
+        → Meets Has meter.old result meter.new (bodies_in T.table interval.now from to) }
+    ensures spent { meter.new.fuel + meter.new.depth ≤ meter.old.fuel + meter.old.depth }
+{
+    if cuts == 0 || to - from < 2 {
+        return bodies_one_by_one(interval, from, to, cuts, meter);
+    }
+    match interval.crew.helpers.ask() {
+        Some(permit) => bodies_halved(interval, from, to, permit, meter, cuts - 1),
+        None => bodies_one_by_one(interval, from, to, cuts, meter),
+    }
+}
+
+// The same with a helper that was granted.
+#[cycle(halves)]
+fn bodies_halved<R: Threads + Sync, H: Helpers + Sync, G: Gate + Sync, T: Tops<Global> + Sync>(
+    interval: &Interval<'_, R, H, G, T>,
+    from: usize,
+    to: usize,
+    permit: H::Permit,
+    meter: &mut Meter,
+    cuts: u32,
+) -> Result<SequenceBuilder, Stop>
+    requires room { meter.old.fuel + meter.old.depth < 2 ^ 64 }
+    requires turns { (from ≤ to) × (to ≤ length (places_of interval.now.places)) }
+    ensures meets { HasBodies (T.table interval.now.crew.now.tops.now) interval.now.room.now.bodies.now
+        → Meets Has meter.old result meter.new (bodies_in T.table interval.now from to) }
+    ensures spent { meter.new.fuel + meter.new.depth ≤ meter.old.fuel + meter.old.depth }
+{
+    let centre = from + (to - from) / 2;
+    let fuel = meter.fuel;
+    let half = |interval: &Interval<'_, R, H, G, T>, from: usize, to: usize| -> Half<
+        SequenceBuilder,
+    >
+        requires { IsSync R.row × IsSync H.row × IsSync G.row × IsSync T.row
+            × (from ≤ to) × (to ≤ length (places_of interval.now.places)) }
+        ensures { Within fuel result
+            × (HasBodies (T.table interval.now.crew.now.tops.now) interval.now.room.now.bodies.now → HalfFinds Has
+            fuel result (bodies_in T.table interval.now from to)) }
+    { half_of_bodies(interval, from, to, cuts, fuel) };
+    let (left, right) = fork(
+        interval.crew.rt,
+        interval,
+        &half,
+        (from, centre),
+        (centre, to),
+    );
+    interval.crew.helpers.done(permit);
+    join_values(left, right, meter)
+}
+
+// A half of them, which has the whole fuel.
+#[cycle(halves)]
+fn half_of_bodies<R: Threads + Sync, H: Helpers + Sync, G: Gate + Sync, T: Tops<Global> + Sync>(
+    interval: &Interval<'_, R, H, G, T>,
+    from: usize,
+    to: usize,
+    cuts: u32,
+    fuel: u64,
+) -> Half<SequenceBuilder>
+    requires { (from ≤ to) × (to ≤ length (places_of interval.now.places)) }
+    ensures { Within fuel result × (HasBodies (T.table interval.now.crew.now.tops.now) interval.now.room.now.bodies.now
+        → HalfFinds Has fuel result (bodies_in T.table interval.now from to)) }
+{
+    interval.crew.gate.enter(Place::Half(from, to));
+    let begun = begin_meter(fuel);
+    let mut meter = begun;
+    let found = bodies(interval, from, to, cuts, &mut meter);
+    let cost = cost_since(begun, meter);
+    Half { found, cost }
+}
+
+// Whether a filter holds at a place.
+#[cycle(halves)]
+fn holds_at<'a, R: Threads + Sync, H: Helpers + Sync, G: Gate + Sync, T: Tops<Global> + Sync>(
+    interval: &Interval<'a, R, H, G, T>,
+    machine: &mut Machine<'a, Global>,
+    place: usize,
+    cuts: u32,
+    meter: &mut Meter,
+) -> Result<bool, Stop>
+    requires { meter.old.fuel + meter.old.depth < 2 ^ 64 }
+    ensures meets { HasBodies (T.table interval.now.crew.now.tops.now) interval.now.room.now.bodies.now
+        → Meets (IsKeptPlace place) meter.old result meter.new
+        (and_then (at_turn T.table interval.now place) (place_if_true place)) }
+    ensures spent { meter.new.fuel + meter.new.depth ≤ meter.old.fuel + meter.old.depth }
+{
+    let value = value_at(interval, machine, place, cuts, meter)?;
+    read_truth(value)
+}
+
+// The value of a body at a place.
+#[cycle(halves)]
+fn body_at<'a, R: Threads + Sync, H: Helpers + Sync, G: Gate + Sync, T: Tops<Global> + Sync>(
+    interval: &Interval<'a, R, H, G, T>,
+    machine: &mut Machine<'a, Global>,
+    place: usize,
+    cuts: u32,
+    meter: &mut Meter,
+) -> Result<Value<Global>, Stop>
+    requires { meter.old.fuel + meter.old.depth < 2 ^ 64 }
+    ensures meets { HasBodies (T.table interval.now.crew.now.tops.now) interval.now.room.now.bodies.now
+        → Meets IsOne meter.old result meter.new (and_then (at_turn T.table interval.now place) body_value) }
+    ensures spent { meter.new.fuel + meter.new.depth ≤ meter.old.fuel + meter.old.depth }
+{
+    let value = value_at(interval, machine, place, cuts, meter)?;
+    pay(value, meter)
+}
+
+// What the block comes to at a place, by a machine that is there for the turns of the interval.
+#[cycle(halves)]
+fn value_at<'a, R: Threads + Sync, H: Helpers + Sync, G: Gate + Sync, T: Tops<Global> + Sync>(
+    interval: &Interval<'a, R, H, G, T>,
+    machine: &mut Machine<'a, Global>,
+    place: usize,
+    cuts: u32,
+    meter: &mut Meter,
+) -> Result<Value<Global>, Stop>
+    requires { meter.old.fuel + meter.old.depth < 2 ^ 64 }
+    ensures meets { HasBodies (T.table interval.now.crew.now.tops.now) interval.now.room.now.bodies.now
+        → Meets Is meter.old result meter.new (at_turn T.table interval.now place) }
+    ensures spent { meter.new.fuel + meter.new.depth ≤ meter.old.fuel + meter.old.depth }
+{
+    set_at_turn(machine, interval, place, *meter)?;
+    let found = run_in_halves(machine, cuts, interval.crew);
+    settle(found, machine.meter, meter)
+}
+
+// The end of a block.
+#[cycle(halves)]
+fn finish_in_halves<R: Threads + Sync, H: Helpers + Sync, G: Gate + Sync, T: Tops<Global> + Sync>(
+    machine: &mut Machine<'_, Global>,
+    cuts: u32,
+    crew: &Crew<'_, R, H, G, T>,
+) -> Result<Option<Value<Global>>, Stop>
+    requires { machine.old.meter.fuel + machine.old.meter.depth < 2 ^ 64 }
+    ensures comes { let t = T.table crew.now.tops.now in Fits t machine.old
+        → Comes t machine.old result machine.new (left_at t machine.old finish) }
+    ensures bounded { machine.new.meter.fuel + machine.new.meter.depth < 2 ^ 64 }
+{
+    match machine.frames.pop() {
+        Some(frame) => {
+            if ends_filter(&frame) {
+                going_on(end_filter(machine, frame, cuts, crew))
+            } else {
+                machine.resume(frame)
+            }
+        }
+        None => machine.last_value(),
+    }
+}
+
+// The end of the last turn of a filter, after which the turns of the body are taken in halves, if a helper is granted.
+#[cycle(halves)]
+#[inline(never)]
+fn end_filter<'a, R: Threads + Sync, H: Helpers + Sync, G: Gate + Sync, T: Tops<Global> + Sync>(
+    machine: &mut Machine<'a, Global>,
+    frame: Frame<'a, Global>,
+    cuts: u32,
+    crew: &Crew<'_, R, H, G, T>,
+) -> Result<(), Stop>
+    requires { machine.old.meter.fuel + machine.old.meter.depth < 2 ^ 64 }
+    ensures steps { let t = T.table crew.now.tops.now in (before : Vec (Frame Global) Global)
+        → let m = record machine.old { frames = before } in
+        before.items ≡ machine.old.frames.items ++ frame.entry ∷ [] → Fits t m
+        → Steps t m result machine.new (block_of machine.new.code.now) (left_at t m finish) }
+    ensures bounded { machine.new.meter.fuel + machine.new.meter.depth < 2 ^ 64 }
+{
+    let Frame {
+        next,
+        base,
+        len,
+        height: _,
+        levels,
+        purpose,
+    } = frame;
+    match purpose {
+        Purpose::Turn(mut round) => {
+            machine.leave_turn(base, len, levels, &mut round)?;
+            go_round_in_halves(machine, round, next, cuts, crew)
+        }
+        Purpose::Push | Purpose::Return(_) => Err(Stop::Memory),
+    }
+}

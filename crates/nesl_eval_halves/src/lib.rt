@@ -1,0 +1,10 @@
+//! Evaluation in halves: a machine whose rounds are cut in two where a helper is granted.
+#![tactic(auto)]
+
+mod crew;
+mod halves;
+mod run;
+mod turns;
+
+pub use crew::{Crew, fork};
+pub use run::evaluate_in_halves;
