@@ -138,7 +138,7 @@ fn each_in_halves<'a, R: Threads + Sync, H: Helpers + Sync, G: Gate + Sync, T: T
     }
 }
 
-// The same over sequences that were taken off the stack.
+// An apply-to-each over sequences that were taken off the stack.
 #[cycle(halves)]
 fn begin_in_halves<
     'a,
@@ -437,7 +437,7 @@ fn filters<R: Threads + Sync, H: Helpers + Sync, G: Gate + Sync, T: Tops<Global>
     }
 }
 
-// The same with a helper that was granted.
+// The places at which a filter holds, in halves, with a helper that was granted.
 #[cycle(halves)]
 fn filters_halved<R: Threads + Sync, H: Helpers + Sync, G: Gate + Sync, T: Tops<Global> + Sync>(
     interval: &Interval<'_, R, H, G, T>,
@@ -473,7 +473,7 @@ fn filters_halved<R: Threads + Sync, H: Helpers + Sync, G: Gate + Sync, T: Tops<
     join_places(left, right, meter)
 }
 
-// A half of them, which has the whole fuel.
+// The places at which a filter holds in a half, which has the whole fuel.
 #[cycle(halves)]
 fn half_of_filters<R: Threads + Sync, H: Helpers + Sync, G: Gate + Sync, T: Tops<Global> + Sync>(
     interval: &Interval<'_, R, H, G, T>,
@@ -589,7 +589,7 @@ fn bodies<R: Threads + Sync, H: Helpers + Sync, G: Gate + Sync, T: Tops<Global> 
     }
 }
 
-// The same with a helper that was granted.
+// The values of a body, in halves, with a helper that was granted.
 #[cycle(halves)]
 fn bodies_halved<R: Threads + Sync, H: Helpers + Sync, G: Gate + Sync, T: Tops<Global> + Sync>(
     interval: &Interval<'_, R, H, G, T>,
@@ -627,7 +627,7 @@ fn bodies_halved<R: Threads + Sync, H: Helpers + Sync, G: Gate + Sync, T: Tops<G
     join_values(left, right, meter)
 }
 
-// A half of them, which has the whole fuel.
+// The values of a body in a half, which has the whole fuel.
 #[cycle(halves)]
 fn half_of_bodies<R: Threads + Sync, H: Helpers + Sync, G: Gate + Sync, T: Tops<Global> + Sync>(
     interval: &Interval<'_, R, H, G, T>,
