@@ -8,21 +8,28 @@ use nesl_syntax::parse_form;
 use nesl_syntax_tree::tree::{Exp, Form};
 use nesl_types::{Top, Ty};
 use std::alloc::{AllocError, Global};
+use std::thread::Threads;
 
-/// Compares what both evaluators tell of each line, where what a line binds stands for the lines after it.
-pub fn compare_lines(alloc: Global, text: &str, out: &mut Vec<u8>) -> Result<(), AllocError> {
+/// Compares what the evaluators tell of each line, where what a line binds stands for the lines after it.
+pub fn compare_lines<R: Threads + Sync>(
+    rt: &R,
+    alloc: Global,
+    text: &str,
+    out: &mut Vec<u8>,
+) -> Result<(), AllocError> {
     let mut env = Env::new(alloc);
     let mut count = Count {
         expressions: 0,
         budgets: 0,
         differences: 0,
+        helpers: 0,
     };
     for line in text.lines() {
         if line == "@new" {
             env = Env::new(alloc);
         } else {
             let before = count.differences;
-            compare_line(alloc, &mut env, line, &mut count, out)?;
+            compare_line(rt, alloc, &mut env, line, &mut count, out)?;
             if count.differences != before {
                 put_line(out, b"different: ", line)?;
             }
@@ -32,14 +39,21 @@ pub fn compare_lines(alloc: Global, text: &str, out: &mut Vec<u8>) -> Result<(),
         expressions,
         budgets,
         differences,
+        helpers,
     } = count;
+    let many = if helpers > budgets / 100 {
+        "many"
+    } else {
+        "FEW"
+    };
     let text = format!(in alloc;
-        "{expressions} expressions, {budgets} budgets, {differences} differences\n"
+        "{expressions} expressions, {budgets} comparisons, {differences} differences, {many} helpers\n"
     )?;
     out.extend_from_slice(text.as_bytes())
 }
 
-fn compare_line(
+fn compare_line<R: Threads + Sync>(
+    rt: &R,
     alloc: Global,
     env: &mut Env,
     line: &str,
@@ -47,9 +61,9 @@ fn compare_line(
     out: &mut Vec<u8>,
 ) -> Result<(), AllocError> {
     match form_of(alloc, line.as_bytes()) {
-        Some(Form::Eval(exp)) => compare(alloc, env, &exp, count),
+        Some(Form::Eval(exp)) => compare(rt, alloc, env, &exp, count),
         Some(Form::Bind { name, value }) => {
-            compare(alloc, env, &value, count)?;
+            compare(rt, alloc, env, &value, count)?;
             bind(alloc, env, name.as_slice(), &value)
         }
         Some(

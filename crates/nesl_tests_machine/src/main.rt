@@ -1,10 +1,14 @@
 //! Evaluates lines by the machine and by the recursion over code, and compares what they tell: with the levels of the
-//! program and with few, and with small budgets and those about the whole work. A line `@new` forgets what is bound.
+//! program and with few, and with small budgets and those about the whole work. Each time the machine runs in order,
+//! and in halves by helpers that are granted as a seed tells, where few intervals may be cut one within another and
+//! where all may. With helpers that are always granted it is compared with the recursion in halves: how often they ask,
+//! and which halves are entered. A line `@new` forgets what is bound.
 //! Written are the lines of which they tell different outcomes, and how much was compared. Before the lines, code that
 //! is written by hand is laid out.
 #![tactic(auto)]
 
 mod comparing;
+mod helping;
 mod layouts;
 mod lines;
 mod running;
@@ -18,7 +22,7 @@ fn main(rt: HostRuntime) -> io::Result<()> {
     let text = io::read_to_string(alloc, rt.reader())?;
     let mut out = Vec::new(alloc);
     let laid = put_layouts(alloc, &mut out);
-    let done = compare_lines(alloc, text.as_str(), &mut out);
+    let done = compare_lines(&rt, alloc, text.as_str(), &mut out);
     let mut writer = io::writer(&rt);
     writer.write_all(out.as_slice())?;
     writer.flush()?;

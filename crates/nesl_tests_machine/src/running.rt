@@ -1,13 +1,16 @@
 //! What the machine tells of expressions.
 
+use crate::helping::{Entered, Granting};
 use nesl_eval::Outcome;
-use nesl_eval_code::{Env, Held, prepare};
+use nesl_eval_code::{Env, Held, TopLevel, prepare};
+use nesl_eval_halves::{Crew, evaluate_in_halves};
 use nesl_eval_machine::evaluate_ops;
 use nesl_eval_nodes::meter::{Meter, Stop};
 use nesl_eval_ops::{Ops, body_ops, expression_ops};
 use nesl_syntax_tree::tree::Exp;
 use nesl_values::Value;
 use std::alloc::{AllocError, Global};
+use std::thread::Threads;
 
 /// The operations of the bodies of functions, by place.
 pub fn bodies_of(alloc: Global, env: &Env) -> Result<Vec<Option<Ops>>, AllocError> {
@@ -39,6 +42,26 @@ pub fn run_ops(
     fuel: u64,
 ) -> Outcome<Global> {
     let (found, meter) = evaluate_ops(&env.top_level(), bodies, ops, levels, fuel, alloc);
+    outcome_of(found, fuel, meter)
+}
+
+/// How much an evaluation may take: so many levels, so much fuel, and so many intervals cut one within another.
+#[derive(Clone, Copy)]
+pub struct Limits {
+    pub levels: u32,
+    pub fuel: u64,
+    pub cuts: u32,
+}
+
+/// What operations come to in halves, with these helpers.
+pub fn run_in_halves<R: Threads + Sync>(
+    crew: &Crew<'_, R, Granting, Entered, TopLevel<'_>>,
+    bodies: &[Option<Ops>],
+    ops: &Ops,
+    limits: Limits,
+) -> Outcome<Global> {
+    let Limits { levels, fuel, cuts } = limits;
+    let (found, meter) = evaluate_in_halves(bodies, ops, levels, fuel, cuts, crew);
     outcome_of(found, fuel, meter)
 }
 
