@@ -63,7 +63,7 @@ impl Desk {
         text: &mut String,
     ) -> Result<(), AllocError> {
         match letter {
-            b'D' => self.put_often(b'b', numbers.1),
+            b'p' => self.put_often(b'b', numbers.1),
             b'S' => self.put_often(b's', numbers.1),
             b'x' => {
                 mem::swap(&mut self.bank, &mut self.other);

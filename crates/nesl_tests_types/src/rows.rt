@@ -1,11 +1,11 @@
 //! Rows `SCRIPT => TOLD`: what a script tells of banks of types, of types and of schemes.
 //!
 //! A script is words, each a letter and up to two numbers, as `b0.1`. A place that isn't told is the one where a type
-//! was put last. Small letters, `D` and `S` are about the bank at hand, of two:
+//! was put last. Small letters and `S` are about the bank at hand, of two:
 //!
 //! - `i`, `t`, `c`, `v3` and `d7` put the integers, the truth values, the characters, a variable and a datatype there;
 //! - `s0` puts the sequences of the type at a place, and `b0.1` the pairs of those at two;
-//! - `D12` puts the pairs of the last type with itself, twelve times; `S12` puts its sequences;
+//! - `p12` puts the pairs of the last type with itself, twelve times; `S12` puts its sequences;
 //! - `x` takes the other bank at hand;
 //! - `r0` puts all types of the other bank there, the type at place 0 here for variable 0, and tells how many;
 //! - `m5.0` puts the type at place 5 of the other bank there in this way, and `k5` puts it as it is;
@@ -19,7 +19,7 @@
 //!   their place; `G` reads the one at a place of the bank, `Y` copies the last, and `o` forgets it;
 //! - `E` tells whether the last two are the same, said of either, and `O` whether their numbers are;
 //! - `K`, `M`, `L`, `A` and `U` tell its kind, its nodes, the length of its list, its text and its variables behind
-//!   variable 9, `W` the variables of its first part, and `R4` what is left of a room for 4 nodes;
+//!   variable 9, `W` the variables of its first part, and `X4` what is left of a room for 4 nodes;
 //! - `B0` puts it into the bank, with the type at place 0 for variable 0;
 //! - `J3.0` tells whether the one at place 3 of the bank is that, and `j3` whether it is the last one itself;
 //! - `F2.0` tells of the elements of its sequences what `J2.0` does of it, and where `B0` puts them;
@@ -33,7 +33,7 @@ use std::thread::Builder;
 
 const STACK: usize = 64 << 10;
 
-const BANKS: &str = "i D12 l n D51 l n => 13 8191 64 18446744073709551615
+const BANKS: &str = "i p12 l n p51 l n => 13 8191 64 18446744073709551615
 i s0 s0 l w n e1.1 e0.1 f => 2 1 2 true false s0
 v0 S100000 l n a q x i r0 w l a => 100001 100001 200001:a 0 100001 100000 100001 200003:int
 i v0 v1 b1.2 s0 s3 x c m5.0 a l k4 w l n => [(char, b)] 4 5 6 2
@@ -45,9 +45,9 @@ T K V7 K N3 K I K => bool v7 d3 int
 I C P t c i b2.1 G E O L Y E => true true true 3 true true
 I C P C I P E O L => false false false 3
 I C E => false false
-I M R0 R1 => 1 none 0
-i D11 G M L R4094 R4096 => 4095 12 none 1
-i D63 G M R18446744073709551615 Q M R18446744073709551615 => 18446744073709551615 0 18446744073709551615 none
+I M X0 X1 => 1 none 0
+i p11 G M L X4094 X4096 => 4095 12 none 1
+i p63 G M X18446744073709551615 Q M X18446744073709551615 => 18446744073709551615 0 18446744073709551615 none
 V0 V1 P Q c B0 w l f2 J3.0 j3 J2.0 F2.0 l => 3 4 b0.1 true false false true 2 4
 V0 V1 P Q c B0 G E C V1 P Q E => false false true true
 V5 V2 P V5 P U W => 9 5 2 5 2

@@ -142,7 +142,7 @@ fn tell(
         b'K' => push_kind(ty, text),
         b'M' => write!(text, " {}", ty.nodes()),
         b'L' => write!(text, " {}", ty.parts().len()),
-        b'R' => push_room_left(ty, number, text),
+        b'X' => push_room_left(ty, number, text),
         b'A' => push_type_text(alloc, ty, text),
         b'U' => push_variables(noted(alloc, ty), text),
         b'W' => push_variables(noted_in_first(alloc, ty), text),
