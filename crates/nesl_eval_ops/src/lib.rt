@@ -4,8 +4,6 @@
 mod laying;
 pub mod ops;
 mod sizes;
-#[cfg(test)]
-mod tests;
 
 pub use laying::{body_ops, expression_ops};
 pub use ops::{Callee, Leaf, Many, ManyNode, OneNode, Ops, Two, TwoNode, What};

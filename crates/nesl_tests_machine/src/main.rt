@@ -1,12 +1,15 @@
 //! Evaluates lines by the machine and by the recursion over code, and compares what they tell: with the levels of the
 //! program and with few, and with small budgets and those about the whole work. A line `@new` forgets what is bound.
-//! Written are the lines of which they tell different outcomes, and how much was compared.
+//! Written are the lines of which they tell different outcomes, and how much was compared. Before the lines, code that
+//! is written by hand is laid out.
 #![tactic(auto)]
 
 mod comparing;
+mod layouts;
 mod lines;
 mod running;
 
+use crate::layouts::put_layouts;
 use crate::lines::compare_lines;
 use std::io::{self, Write};
 
@@ -14,9 +17,11 @@ fn main(rt: HostRuntime) -> io::Result<()> {
     let alloc = rt.alloc();
     let text = io::read_to_string(alloc, rt.reader())?;
     let mut out = Vec::new(alloc);
+    let laid = put_layouts(alloc, &mut out);
     let done = compare_lines(alloc, text.as_str(), &mut out);
     let mut writer = io::writer(&rt);
     writer.write_all(out.as_slice())?;
     writer.flush()?;
+    laid?;
     Ok(done?)
 }

@@ -121,11 +121,7 @@ fn all_hold_in(alloc: Global, rows: &str, size: usize, may_be_refused: bool) -> 
 
 #[test]
 fn in_a_heap(rt: HostRuntime) -> Result<(), Fail> {
-    all_hold_in(rt.alloc(), ROWS, 65_536, false)
-}
-
-#[test]
-fn results_in_a_heap_are_arguments(rt: HostRuntime) -> Result<(), Fail> {
+    all_hold_in(rt.alloc(), ROWS, 65_536, false)?;
     all_hold_in(rt.alloc(), CHAINS, 65_536, false)
 }
 

@@ -97,6 +97,7 @@ fn all_hold(alloc: Global, rows: &str) -> Result<(), Fail> {
     Ok(())
 }
 
+/// Numbers that stop where they no longer fit.
 const NUMBERS: &str = r#"+ ( MAX -1 ) = 9223372036854775806
 + ( MAX 1 ) ! Overflow
 - ( -1 MAX ) = MIN
@@ -108,22 +109,13 @@ negate MIN ! Overflow
 abs -7 = 7
 abs MIN ! Overflow"#;
 
-#[test]
-fn numbers_stop_where_they_no_longer_fit(rt: HostRuntime) -> Result<(), Fail> {
-    all_hold(rt.alloc(), NUMBERS)
-}
-
+/// Quotients are rounded towards zero.
 const QUOTIENTS: &str = r#"/ ( -7 2 ) = -3
 / ( MIN -1 ) ! Overflow
 / ( 1 0 ) ! Division
 rem ( -7 2 ) = -1
 rem ( MIN -1 ) = 0
 rem ( 1 0 ) ! Division"#;
-
-#[test]
-fn quotients_are_rounded_towards_zero(rt: HostRuntime) -> Result<(), Fail> {
-    all_hold(rt.alloc(), QUOTIENTS)
-}
 
 const SHIFTS_AND_ROOTS: &str = r#"rshift ( -7 1 ) = -4
 rshift ( -1 63 ) = -1
@@ -134,11 +126,6 @@ lshift ( -1 63 ) = MIN
 lshift ( 1 -1 ) ! Range
 isqrt MAX = 3037000499
 isqrt -1 ! Range"#;
-
-#[test]
-fn shifts_and_roots(rt: HostRuntime) -> Result<(), Fail> {
-    all_hold(rt.alloc(), SHIFTS_AND_ROOTS)
-}
 
 const COMPARISONS: &str = r#"== ( 2 2 ) = T
 /= ( 2 2 ) = F
@@ -155,11 +142,6 @@ zerop 0 = T
 oddp -3 = T
 evenp -3 = F"#;
 
-#[test]
-fn comparisons_and_tests(rt: HostRuntime) -> Result<(), Fail> {
-    all_hold(rt.alloc(), COMPARISONS)
-}
-
 const BITS: &str = r#"and ( 6 3 ) = 2
 or ( 6 3 ) = 7
 xor ( 6 3 ) = 5
@@ -170,21 +152,30 @@ nand ( T T ) = F
 xor ( T F ) = T
 btoi T = 1"#;
 
-#[test]
-fn bits_and_truth_values(rt: HostRuntime) -> Result<(), Fail> {
-    all_hold(rt.alloc(), BITS)
-}
-
 /// The character with the code 0 stands in the first row.
 const CODES: &str = "code_char 0 = '\0\n\
     code_char 256 ! Code\n\
     code_char -1 ! Code";
 
 #[test]
-fn characters_and_their_codes(rt: HostRuntime) -> Result<(), Fail> {
+fn rows_hold(rt: HostRuntime) -> Result<(), Fail> {
+    for rows in [
+        NUMBERS,
+        QUOTIENTS,
+        SHIFTS_AND_ROOTS,
+        COMPARISONS,
+        BITS,
+        CODES,
+    ] {
+        all_hold(rt.alloc(), rows)?;
+    }
+    Ok(())
+}
+
+#[test]
+fn the_last_character_has_a_code(rt: HostRuntime) {
     let last: Result<Value, Trap> = Unary::CharCode.apply(&Value::<Global>::Char(255));
     assert!(rt; matches!(&last, Ok(Value::Int(255))));
-    all_hold(rt.alloc(), CODES)
 }
 
 #[test]

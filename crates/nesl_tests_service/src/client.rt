@@ -1,12 +1,11 @@
 // Clients of the service, and a table for it.
 use nesl_house::table::Table;
 use nesl_session::limits::Limits;
-use std::alloc::Global;
+use std::alloc::{AllocError, Global};
 use std::io;
 use std::io::{Read, Write};
 use std::net::{Net, Shutdown, SocketAddr, TcpStream};
 use std::process::Abort;
-use std::test::Fail;
 use std::time::Duration;
 
 const LIMITS: Limits = Limits {
@@ -21,11 +20,13 @@ const LIMITS: Limits = Limits {
 const SECONDS: u64 = 20;
 
 // A table of ann and bob.
-pub fn ann_and_bob(alloc: Global) -> Result<Table, Fail> {
+pub fn ann_and_bob(alloc: Global) -> Result<Table, AllocError> {
     let mut roster = Vec::new(alloc);
     roster.push(Vec::from_slice(alloc, b"ann")?)?;
     roster.push(Vec::from_slice(alloc, b"bob")?)?;
-    Ok(Table::new(alloc, roster.as_slice(), LIMITS)?)
+    Table::new(alloc, roster.as_slice(), LIMITS)
+        .ok()
+        .ok_or(AllocError)
 }
 
 fn connect<R: Net<Stream = TcpStream>>(rt: &R, address: SocketAddr) -> io::Result<TcpStream> {

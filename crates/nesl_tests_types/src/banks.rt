@@ -1,135 +1,126 @@
-//! Banks of types.
+//! Words about banks.
 
-ghost use Rattle.std.specs.Prelude.{◌<◌, length, IfOk};
-
+use crate::desk::Desk;
+use crate::texts::{push_shape, push_type, push_variables};
 use indexmap::IndexSet;
-use nesl_types::{Context, Top, type_text};
 use nesl_types_bank::{Bank, Shape, Ty, note_variables, rename, rename_type, variables};
 use std::alloc::{AllocError, Global};
-use std::test::Fail;
 
-// Pairs of equal parts, `depth` deep, over the type at a place.
-pub(crate) fn doubled(bank: &mut Bank, place: usize, depth: usize) -> Result<usize, AllocError>
-    requires { place < length bank.old }
-    ensures { IfOk result (λ p. p < length bank.new) }
-{
-    let mut last = place;
-    for _ in 0..depth {
-        last = bank.put(Shape::Both(last, last))?;
+/// Puts a shape, whose parts are at places of the bank, and gives its place. What is no shape is put nowhere.
+pub fn put(
+    bank: &mut Bank,
+    letter: u8,
+    (first, last): (usize, usize),
+) -> Result<usize, AllocError> {
+    let count = bank.len();
+    match letter {
+        b'i' => bank.put(Shape::Int),
+        b't' => bank.put(Shape::Bool),
+        b'c' => bank.put(Shape::Char),
+        b'v' => bank.put(Shape::Var(last as u64)),
+        b'd' => bank.put(Shape::Named(last as u64)),
+        b's' if last < count => bank.put(Shape::SeqOf(last)),
+        b'b' if first < count && last < count => bank.put(Shape::Both(first, last)),
+        _ => Err(AllocError),
     }
-    Ok(last)
 }
 
-// Sequences, `depth` deep, over variable 0.
-pub(crate) fn nested(bank: &mut Bank, depth: usize) -> Result<usize, AllocError>
-    ensures { IfOk result (λ p. p < length bank.new) }
-{
-    let mut place = bank.put(Shape::Var(0))?;
-    for _ in 0..depth {
-        place = bank.put(Shape::SeqOf(place))?;
+// Puts all types of a bank into another, the type at a place there for variable 0; how many, and where the last one is.
+fn renamed(
+    alloc: Global,
+    from: &Bank,
+    to: &mut Bank,
+    of: usize,
+) -> Result<(usize, usize), AllocError> {
+    if of >= to.len() {
+        return Err(AllocError);
     }
-    Ok(place)
+    let places = rename(alloc, from, to, &[of])?;
+    Ok((places.len(), places.last().copied().unwrap_or(0)))
 }
 
-#[test]
-fn equal_parts_stand_once(rt: HostRuntime) -> Result<(), Fail> {
-    let mut bank = Bank::new(rt.alloc());
-    let int = bank.put(Shape::Int)?;
-    let place = doubled(&mut bank, int, 12)?;
-    assert!(rt; bank.len() == 13 && bank.nodes(place) == 8191);
-    let place = doubled(&mut bank, place, 51)?;
-    assert!(rt; bank.len() == 64 && bank.nodes(place) == u64::MAX);
-    Ok(())
+// Puts a type of a bank into another, the type at a place there for variable 0, or as it is.
+fn renamed_one(
+    alloc: Global,
+    from: &Bank,
+    place: usize,
+    to: &mut Bank,
+    of: Option<usize>,
+) -> Result<usize, AllocError> {
+    if place >= from.len() {
+        return Err(AllocError);
+    }
+    match of {
+        Some(of) if of < to.len() => rename_type(alloc, from, place, to, &[of]),
+        _ => rename_type(alloc, from, place, to, &[]),
+    }
 }
 
-#[test]
-fn a_shape_put_again(rt: HostRuntime) -> Result<(), Fail> {
-    let mut bank = Bank::new(rt.alloc());
-    let int = bank.put(Shape::Int)?;
-    let ints = bank.put(Shape::SeqOf(int))?;
-    let again = bank.put(Shape::SeqOf(int))?;
-    assert!(rt; bank.len() == 2 && again == 1 && bank.nodes(again) == 2);
-    assert!(rt; bank.is_same(ints, again) && !bank.is_same(int, again));
-    assert!(rt; bank.shape(again) == Shape::SeqOf(0));
-    Ok(())
-}
-
-#[test]
-fn nested_deeply(rt: HostRuntime) -> Result<(), Fail> {
-    let mut bank = Bank::new(rt.alloc());
-    let place = nested(&mut bank, 100_000)?;
-    assert!(rt; bank.len() == 100_001 && bank.nodes(place) == 100_001);
-    let context: Context<u8> = Context::new(rt.alloc());
-    let text = type_text(rt.alloc(), &Ty::read(rt.alloc(), &bank, place)?, &context)?;
-    assert!(rt; text.len() == 200_001 && text[100_000] == b'a');
-    let found = variables(rt.alloc(), &bank, place)?;
-    assert!(rt; found.as_slice() == [0].as_slice());
-    let mut other = Bank::new(rt.alloc());
-    let int = other.put(Shape::Int)?;
-    let places = rename(rt.alloc(), &bank, &mut other, &[int])?;
-    assert!(rt; places.len() == 100_001 && places[100_000] == 100_000 && other.len() == 100_001);
-    let text = type_text(
-        rt.alloc(),
-        &Ty::read(rt.alloc(), &other, places[100_000])?,
-        &context,
-    )?;
-    assert!(rt; text.len() == 200_003 && text[100_000] == b'i');
-    Ok(())
-}
-
-#[test]
-fn one_type_of_many(rt: HostRuntime) -> Result<(), Fail> {
-    let mut bank = Bank::new(rt.alloc());
-    let int = bank.put(Shape::Int)?;
-    let first = bank.put(Shape::Var(0))?;
-    let second = bank.put(Shape::Var(1))?;
-    let pair = bank.put(Shape::Both(first, second))?;
-    let other = bank.put(Shape::SeqOf(int))?;
-    let pairs = bank.put(Shape::SeqOf(pair))?;
-    let mut to = Bank::new(rt.alloc());
-    let given = to.put(Shape::Char)?;
-    let place = rename_type(rt.alloc(), &bank, pairs, &mut to, &[given])?;
-    let context: Context<u8> = Context::new(rt.alloc());
-    let text = type_text(rt.alloc(), &Ty::read(rt.alloc(), &to, place)?, &context)?;
-    assert!(rt; text.as_slice() == b"[(char, b)]".as_slice() && to.len() == 4);
-    let copied = rename_type(rt.alloc(), &bank, other, &mut to, &[])?;
-    assert!(rt; copied == 5 && to.len() == 6 && to.nodes(copied) == 2);
-    Ok(())
-}
-
-#[test]
-fn texts(rt: HostRuntime) -> Result<(), Fail> {
-    let mut bank = Bank::new(rt.alloc());
-    let mut context: Context<u8> = Context::new(rt.alloc());
-    context.set(rt.alloc(), b"pt", Top::Datatype(7, Ty::int(rt.alloc())?), 0)?;
-    let int = bank.put(Shape::Int)?;
-    let bool = bank.put(Shape::Bool)?;
-    let pair = bank.put(Shape::Both(int, bool))?;
-    let named = bank.put(Shape::Named(7))?;
-    let left = bank.put(Shape::Both(pair, named))?;
-    let variable = bank.put(Shape::Var(27))?;
-    let right = bank.put(Shape::Both(variable, left))?;
-    let char = bank.put(Shape::Char)?;
-    let chars = bank.put(Shape::SeqOf(char))?;
-    let all = bank.put(Shape::Both(chars, right))?;
-    let text = type_text(rt.alloc(), &Ty::read(rt.alloc(), &bank, all)?, &context)?;
-    assert!(rt; text.as_slice() == b"([char], b1, (int, bool), pt)".as_slice());
-    Ok(())
-}
-
-#[test]
-fn variables_in_order(rt: HostRuntime) -> Result<(), Fail> {
-    let mut bank = Bank::new(rt.alloc());
-    let first = bank.put(Shape::Var(3))?;
-    let second = bank.put(Shape::Var(1))?;
-    let right = bank.put(Shape::Both(second, first))?;
-    let both = bank.put(Shape::Both(first, right))?;
-    let all = bank.put(Shape::Both(both, right))?;
-    let found = variables(rt.alloc(), &bank, all)?;
-    assert!(rt; found.as_slice() == [3, 1].as_slice());
-    let mut seen = IndexSet::new(rt.alloc());
+// The variables of the type at a place, behind variable 9.
+fn noted(alloc: Global, bank: &Bank, place: usize) -> Result<IndexSet<u64>, AllocError> {
+    let mut seen = IndexSet::new(alloc);
     seen.insert(9u64)?;
-    note_variables(rt.alloc(), &bank, right, &mut seen)?;
-    assert!(rt; seen.as_slice() == [9, 1, 3].as_slice());
-    Ok(())
+    if place < bank.len() {
+        note_variables(alloc, bank, place, &mut seen)?;
+    }
+    Ok(seen)
+}
+
+// Tells of types at places of a bank.
+fn tell(
+    alloc: Global,
+    bank: &Bank,
+    letter: u8,
+    (first, last): (usize, usize),
+    text: &mut String,
+) -> Result<(), AllocError> {
+    if first >= bank.len() || last >= bank.len() {
+        return Err(AllocError);
+    }
+    match letter {
+        b'e' => write!(text, " {}", bank.is_same(first, last)),
+        b'n' => write!(text, " {}", bank.nodes(last)),
+        b'f' => push_shape(bank.shape(last), text),
+        b'a' => push_type(alloc, Ty::read(alloc, bank, last), text),
+        b'q' => push_variables(variables(alloc, bank, last), text),
+        b'u' => push_variables(noted(alloc, bank, last), text),
+        _ => Err(AllocError),
+    }
+}
+
+impl Desk {
+    /// Puts pairs or sequences of the last type, so many times.
+    pub fn put_often(&mut self, letter: u8, count: usize) -> Result<(), AllocError> {
+        for _ in 0..count {
+            self.place = put(&mut self.bank, letter, (self.place, self.place))?;
+        }
+        Ok(())
+    }
+
+    /// Puts all types of the other bank, and tells how many.
+    pub fn rename(&mut self, of: usize, text: &mut String) -> Result<(), AllocError> {
+        let (count, place) = renamed(self.alloc, &self.other, &mut self.bank, of)?;
+        self.place = place;
+        write!(text, " {count}")
+    }
+
+    /// Puts a type of the other bank.
+    pub fn rename_one(&mut self, place: usize, of: Option<usize>) -> Result<(), AllocError> {
+        self.place = renamed_one(self.alloc, &self.other, place, &mut self.bank, of)?;
+        Ok(())
+    }
+
+    /// Tells of the bank at hand.
+    pub fn tell_of_bank(
+        &self,
+        letter: u8,
+        numbers: (usize, usize),
+        text: &mut String,
+    ) -> Result<(), AllocError> {
+        match letter {
+            b'l' => write!(text, " {}", self.bank.len()),
+            b'w' => write!(text, " {}", self.place),
+            _ => tell(self.alloc, &self.bank, letter, numbers, text),
+        }
+    }
 }

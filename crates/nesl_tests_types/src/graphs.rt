@@ -1,11 +1,12 @@
 //! Types that are read from graphs.
 
-ghost use Rattle.std.specs.Prelude.{IfOk};
+ghost use Rattle.std.specs.Prelude.{◌≤◌, IfOk, length};
+ghost use Rattle.nesl_types_bank.specs.Graph.{IsGraph, IsFlat};
 ghost use Rattle.nesl_types_bank.specs.Readings.{HasNoLinks};
 
-use nesl_types_bank::{Node, Shape, read_types};
+use crate::texts::push_shape;
+use nesl_types_bank::{Node, Read, read_types};
 use std::alloc::{AllocError, Global};
-use std::test::Fail;
 
 // A graph of so many places, each but the last of which has the sequences of the next one's type.
 fn chain(alloc: Global, places: usize) -> Result<Vec<Node>, AllocError>
@@ -29,50 +30,102 @@ fn doublings(alloc: Global, places: usize) -> Result<Vec<Node>, AllocError>
     Ok(graph)
 }
 
-#[test]
-fn a_chain_is_read(rt: HostRuntime) -> Result<(), Fail> {
-    let graph = chain(rt.alloc(), 100_001)?;
-    match read_types(rt.alloc(), graph.as_slice(), 1, u64::MAX)? {
-        Some(types) => {
-            assert!(rt; types.places.len() == 1 && types.bank.len() == 100_001);
-            let place = types.places[0];
-            assert!(rt; place == 100_000 && types.bank.nodes(place) == 100_001);
-            assert!(rt; types.bank.shape(0) == Shape::Var(100_000));
-        }
-        None => assert!(rt; false),
+// Writes up to four of the places.
+fn push_places(places: &[usize], text: &mut String) -> Result<(), AllocError> {
+    write!(text, "{} places:", places.len())?;
+    for place in places.iter().take(4) {
+        write!(text, " {place}")?;
     }
-    assert!(rt; read_types(rt.alloc(), graph.as_slice(), 1, 4096)?.is_none());
-    assert!(rt; read_types(rt.alloc(), graph.as_slice(), 1, 100_001)?.is_some());
-    assert!(rt; read_types(rt.alloc(), graph.as_slice(), 1, 100_000)?.is_none());
     Ok(())
 }
 
-#[test]
-fn doublings_are_read(rt: HostRuntime) -> Result<(), Fail> {
-    let graph = doublings(rt.alloc(), 41)?;
-    match read_types(rt.alloc(), graph.as_slice(), 41, u64::MAX)? {
-        Some(types) => {
-            assert!(rt; types.places.len() == 41 && types.bank.len() == 41);
-            let place = types.places[0];
-            assert!(rt; types.bank.nodes(place) == 2_199_023_255_551);
-        }
-        None => assert!(rt; false),
+// Writes how many types there are, and up to four of their shapes.
+fn push_shapes(read: &Read, text: &mut String) -> Result<(), AllocError> {
+    let count = read.bank.len();
+    write!(text, "; {count} types:")?;
+    for place in 0..count.min(4) {
+        push_shape(read.bank.shape(place), text)?;
     }
-    assert!(rt; read_types(rt.alloc(), graph.as_slice(), 1, 4096)?.is_none());
     Ok(())
 }
 
+// Writes how many nodes the type of the first place has.
+fn push_nodes(read: &Read, text: &mut String) -> Result<(), AllocError> {
+    match read.places.first() {
+        Some(place) if *place < read.bank.len() => {
+            write!(text, "; {} nodes", read.bank.nodes(*place))
+        }
+        _ => Ok(()),
+    }
+}
+
+fn push_read(read: &Read, text: &mut String) -> Result<(), AllocError> {
+    push_places(read.places.as_slice(), text)?;
+    push_shapes(read, text)?;
+    push_nodes(read, text)
+}
+
+// What is read of the first places of a graph, of types with at most so many nodes.
+fn told(alloc: Global, graph: &[Node], count: usize, most: u64) -> Result<String, AllocError>
+    requires graph { IsGraph graph.now }
+    requires flat { IsFlat graph.now }
+    requires count { count ≤ length graph.now }
+{
+    let mut text = String::new(alloc);
+    match read_types(alloc, graph, count, most)? {
+        Some(read) => push_read(&read, &mut text)?,
+        None => text.push_str("none")?,
+    }
+    Ok(text)
+}
+
+fn is_told(told: Result<String, AllocError>, wanted: &str) -> bool {
+    match told {
+        Ok(text) => text.as_str() == wanted,
+        Err(_) => false,
+    }
+}
+
+const CHAIN: &str = "1 places: 100000; 100001 types: v100000 s0 s1 s2; 100001 nodes";
+
 #[test]
-fn a_type_in_itself(rt: HostRuntime) -> Result<(), Fail> {
+fn a_chain_is_read(rt: HostRuntime) {
+    let graph = chain(rt.alloc(), 100_001).expect(&rt, "memory");
+    for (most, wanted) in [
+        (u64::MAX, CHAIN),
+        (4096, "none"),
+        (100_001, CHAIN),
+        (100_000, "none"),
+    ] {
+        assert!(rt;
+            is_told(told(rt.alloc(), graph.as_slice(), 1, most), wanted),
+            "{most}"
+        );
+    }
+}
+
+const DOUBLINGS: &str = "41 places: 40 39 38 37; 41 types: v40 b0.0 b1.1 b2.2; 2199023255551 nodes";
+
+#[test]
+fn doublings_are_read(rt: HostRuntime) {
+    let graph = doublings(rt.alloc(), 41).expect(&rt, "memory");
+    let graph = graph.as_slice();
+    assert!(rt; is_told(told(rt.alloc(), graph, 41, u64::MAX), DOUBLINGS));
+    assert!(rt; is_told(told(rt.alloc(), graph, 1, 4096), "none"));
+}
+
+#[test]
+fn a_type_in_itself(rt: HostRuntime) {
     let one = [Node::Free, Node::SeqOf(1)].as_slice();
-    assert!(rt; read_types(rt.alloc(), one, 1, u64::MAX)?.is_none());
+    assert!(rt; is_told(told(rt.alloc(), one, 1, u64::MAX), "none"));
     let two = [Node::Both(2, 1), Node::SeqOf(3), Node::Int, Node::Same(0)].as_slice();
-    assert!(rt; read_types(rt.alloc(), two, 1, u64::MAX)?.is_none());
-    Ok(())
+    assert!(rt; is_told(told(rt.alloc(), two, 1, u64::MAX), "none"));
 }
 
+const WITH_LINKS: &str = "4 places: 1 0 3 0; 4 types: v1 s0 d7 b2.0; 2 nodes";
+
 #[test]
-fn links_and_free_places(rt: HostRuntime) -> Result<(), Fail> {
+fn links_and_free_places(rt: HostRuntime) {
     let graph = [
         Node::SeqOf(3),
         Node::Free,
@@ -81,18 +134,5 @@ fn links_and_free_places(rt: HostRuntime) -> Result<(), Fail> {
         Node::Named(7),
     ]
     .as_slice();
-    match read_types(rt.alloc(), graph, 4, 3)? {
-        Some(types) => {
-            let places = types.places.as_slice();
-            assert!(rt; places == [1, 0, 3, 0].as_slice() && types.bank.len() == 4);
-            assert!(rt;
-                types.bank.shape(0) == Shape::Var(1) && types.bank.shape(1) == Shape::SeqOf(0)
-            );
-            assert!(rt;
-                types.bank.shape(2) == Shape::Named(7) && types.bank.shape(3) == Shape::Both(2, 0)
-            );
-        }
-        None => assert!(rt; false),
-    }
-    Ok(())
+    assert!(rt; is_told(told(rt.alloc(), graph, 4, 3), WITH_LINKS));
 }

@@ -6,6 +6,12 @@ mod banks;
 #[cfg(test)]
 mod contexts;
 #[cfg(test)]
+mod desk;
+#[cfg(test)]
 mod graphs;
+#[cfg(test)]
+mod rows;
+#[cfg(test)]
+mod texts;
 #[cfg(test)]
 mod types;

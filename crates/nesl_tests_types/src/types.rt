@@ -1,165 +1,267 @@
-//! Types.
+//! Words about types.
 
-use crate::banks::{doubled, nested};
+use crate::desk::Desk;
+use crate::texts::{push_scheme, push_type_text, push_variables};
 use indexmap::IndexSet;
-use nesl_types_bank::{Bank, Kind, Part, Shape, Ty, variables};
+use nesl_types::{Class, Scheme};
+use nesl_types_bank::{Bank, Kind, Part, Ty};
 use std::alloc::{AllocError, Global};
-use std::test::Fail;
-use std::thread::Builder;
 
-const STACK: usize = 64 << 10;
-
-// Whether it is the integers.
-fn is_int(part: &Part<'_>) -> bool {
-    matches!(part.kind(), Kind::Int)
+// A type without parts.
+fn made(alloc: Global, letter: u8, number: usize) -> Result<Ty, AllocError> {
+    match letter {
+        b'I' => Ty::int(alloc),
+        b'T' => Ty::boolean(alloc),
+        b'C' => Ty::character(alloc),
+        b'V' => Ty::variable(alloc, number as u64),
+        b'N' => Ty::named(alloc, number as u64),
+        _ => Err(AllocError),
+    }
 }
 
-// Whether it is the sequences of the characters.
-fn is_text(part: &Part<'_>) -> bool {
+fn read_from(alloc: Global, bank: &Bank, place: usize) -> Result<Ty, AllocError> {
+    if place < bank.len() {
+        Ty::read(alloc, bank, place)
+    } else {
+        Err(AllocError)
+    }
+}
+
+fn last_two(types: &[Ty]) -> Option<(&Ty, &Ty)> {
+    let (last, before) = types.split_last()?;
+    Some((before.last()?, last))
+}
+
+// What a type is made of at first sight.
+fn name_of(part: &Part<'_>) -> &'static str {
     match part.kind() {
-        Kind::SeqOf(item) => matches!(item.kind(), Kind::Char),
-        _ => false,
+        Kind::Int => "int",
+        Kind::Bool => "bool",
+        Kind::Char => "char",
+        Kind::Var(_) => "variable",
+        Kind::Named(_) => "datatype",
+        Kind::SeqOf(item) if matches!(item.kind(), Kind::Char) => "text",
+        Kind::SeqOf(_) => "sequence",
+        Kind::Both(..) => "pair",
     }
 }
 
-#[test]
-fn makers_and_kinds(rt: HostRuntime) -> Result<(), Fail> {
-    let alloc = rt.alloc();
-    let text = Ty::seq_of(alloc, &Ty::character(alloc)?)?;
-    let pair = Ty::both(alloc, &Ty::int(alloc)?, &text)?;
-    match pair.kind() {
+fn push_kind(ty: &Ty, text: &mut String) -> Result<(), AllocError> {
+    match ty.kind() {
         Kind::Both(left, right) => {
-            assert!(rt; is_int(&left) && !is_text(&left) && is_text(&right) && !is_int(&right));
-            assert!(rt; is_text(&right.again()));
+            write!(text, " ({}, {})", name_of(&left), name_of(&right.again()))
         }
-        _ => assert!(rt; false),
+        Kind::Var(number) => write!(text, " v{number}"),
+        Kind::Named(tag) => write!(text, " d{tag}"),
+        _ => write!(text, " {}", name_of(&ty.whole())),
     }
-    assert!(rt; matches!(Ty::boolean(alloc)?.kind(), Kind::Bool));
-    assert!(rt; matches!(Ty::variable(alloc, 7)?.kind(), Kind::Var(7)));
-    assert!(rt; matches!(Ty::named(alloc, 3)?.kind(), Kind::Named(3)));
-    assert!(rt; pair.nodes() == 4 && pair.parts().len() == 4 && is_int(&Ty::int(alloc)?.whole()));
-    Ok(())
 }
 
-// The pair of the integers and the characters, whose parts come from a bank in another order.
-fn pair_from_bank(alloc: Global) -> Result<Ty, AllocError> {
-    let mut bank = Bank::new(alloc);
-    bank.put(Shape::Bool)?;
-    let character = bank.put(Shape::Char)?;
-    let int = bank.put(Shape::Int)?;
-    let pair = bank.put(Shape::Both(int, character))?;
-    Ty::read(alloc, &bank, pair)
-}
-
-#[test]
-fn equal_types_have_equal_lists(rt: HostRuntime) -> Result<(), Fail> {
-    let alloc = rt.alloc();
-    let int = Ty::int(alloc)?;
-    let character = Ty::character(alloc)?;
-    let pair = Ty::both(alloc, &int, &character)?;
-    let other = Ty::both(alloc, &character, &int)?;
-    let same = pair_from_bank(alloc)?;
-    assert!(rt; pair.same(&same) && same.same(&pair) && same.number() == pair.number());
-    assert!(rt; !pair.same(&other) && !other.same(&pair) && other.number() != pair.number());
-    assert!(rt; same.parts().len() == 3 && other.parts().len() == 3);
-    assert!(rt; pair.duplicate(alloc)?.same(&same) && !int.same(&character));
-    Ok(())
-}
-
-#[test]
-fn nodes_are_counted(rt: HostRuntime) -> Result<(), Fail> {
-    let alloc = rt.alloc();
-    let int = Ty::int(alloc)?;
-    assert!(rt; int.nodes() == 1 && int.room_left(0).is_none() && int.room_left(1) == Some(0));
-    let mut bank = Bank::new(alloc);
-    let leaf = bank.put(Shape::Int)?;
-    let place = doubled(&mut bank, leaf, 11)?;
-    let small = Ty::read(alloc, &bank, place)?;
-    assert!(rt; small.nodes() == 4095 && small.parts().len() == 12);
-    assert!(rt; small.room_left(4094).is_none() && small.room_left(4096) == Some(1));
-    let place = doubled(&mut bank, place, 52)?;
-    let large = Ty::read(alloc, &bank, place)?;
-    assert!(rt; large.nodes() == u64::MAX && large.room_left(u64::MAX) == Some(0));
-    let sequence = Ty::seq_of(alloc, &large)?;
-    assert!(rt; sequence.nodes() == u64::MAX && sequence.room_left(u64::MAX).is_none());
-    Ok(())
-}
-
-#[test]
-fn into_a_bank_and_back(rt: HostRuntime) -> Result<(), Fail> {
-    let alloc = rt.alloc();
-    let pair = Ty::both(alloc, &Ty::variable(alloc, 0)?, &Ty::variable(alloc, 1)?)?;
-    let pairs = Ty::seq_of(alloc, &pair)?;
-    let mut bank = Bank::new(alloc);
-    let character = bank.put(Shape::Char)?;
-    let place = pairs.put(alloc, &mut bank, &[character])?;
-    assert!(rt; place == 3 && bank.len() == 4 && bank.shape(2) == Shape::Both(0, 1));
-    assert!(rt; pairs.is_instance(alloc, &bank, place, &[character])?);
-    assert!(rt; !pairs.is_instance(alloc, &bank, place, &[])?);
-    assert!(rt; !pairs.is_instance(alloc, &bank, 2, &[character])?);
-    match pairs.kind() {
-        Kind::SeqOf(item) => {
-            assert!(rt; item.is_instance(alloc, &bank, 2, &[character])?);
-            assert!(rt; item.put(alloc, &mut bank, &[character])? == 2 && bank.len() == 4);
-        }
-        _ => assert!(rt; false),
+fn push_room_left(ty: &Ty, room: usize, text: &mut String) -> Result<(), AllocError> {
+    match ty.room_left(room as u64) {
+        Some(left) => write!(text, " {left}"),
+        None => text.push_str(" none"),
     }
-    let back = Ty::read(alloc, &bank, place)?;
-    let other = Ty::both(alloc, &Ty::character(alloc)?, &Ty::variable(alloc, 1)?)?;
-    assert!(rt; back.same(&Ty::seq_of(alloc, &other)?) && !back.same(&pairs));
-    Ok(())
 }
 
-#[test]
-fn variables_of_types(rt: HostRuntime) -> Result<(), Fail> {
-    let alloc = rt.alloc();
-    let left = Ty::variable(alloc, 5)?;
-    let right = Ty::variable(alloc, 2)?;
-    let pair = Ty::both(alloc, &Ty::both(alloc, &left, &right)?, &left)?;
+// The variables of a type, behind variable 9.
+fn noted(alloc: Global, ty: &Ty) -> Result<IndexSet<u64>, AllocError> {
     let mut seen = IndexSet::new(alloc);
     seen.insert(9u64)?;
-    pair.note_variables(alloc, &mut seen)?;
-    assert!(rt; seen.as_slice() == [9, 5, 2].as_slice());
-    match pair.kind() {
-        Kind::Both(first, _) => {
-            let mut seen = IndexSet::new(alloc);
-            first.note_variables(alloc, &mut seen)?;
-            assert!(rt; seen.as_slice() == [5, 2].as_slice());
-        }
-        _ => assert!(rt; false),
-    }
-    Ok(())
+    ty.note_variables(alloc, &mut seen)?;
+    Ok(seen)
 }
 
-// Whether sequences of that depth are made, copied, compared, read and put as they should be.
-fn goes_deep(alloc: Global, depth: usize) -> Result<bool, AllocError> {
-    let mut bank = Bank::new(alloc);
-    let place = nested(&mut bank, depth)?;
-    let ty = Ty::read(alloc, &bank, place)?;
-    let copy = ty.duplicate(alloc)?;
-    let more = Ty::seq_of(alloc, &ty)?;
-    let mut other = Bank::new(alloc);
-    let int = other.put(Shape::Int)?;
-    let put = ty.put(alloc, &mut other, &[int])?;
-    let instance = Ty::read(alloc, &other, put)?;
-    let found = variables(alloc, &bank, place)?;
-    Ok(
-        ty.same(&copy)
-            && !ty.same(&more)
-            && !ty.same(&instance)
-            && ty.is_instance(alloc, &other, put, &[int])?
-            && instance.parts().len() == ty.parts().len()
-            && found.len() == 1,
+// The variables of the first of two parts.
+fn noted_in_first(alloc: Global, ty: &Ty) -> Result<IndexSet<u64>, AllocError> {
+    let mut seen = IndexSet::new(alloc);
+    if let Kind::Both(first, _) = ty.kind() {
+        first.note_variables(alloc, &mut seen)?;
+    }
+    Ok(seen)
+}
+
+// Whether the type at a place of the bank is this one, the type at another for variable 0, or this one itself.
+fn push_instance(
+    alloc: Global,
+    ty: &Ty,
+    bank: &Bank,
+    (place, of): (usize, Option<usize>),
+    text: &mut String,
+) -> Result<(), AllocError> {
+    let is_instance = match of {
+        Some(of) if of < bank.len() => ty.is_instance(alloc, bank, place, &[of])?,
+        _ => ty.is_instance(alloc, bank, place, &[])?,
+    };
+    write!(text, " {is_instance}")
+}
+
+// Puts a type, the type at a place for variable 0.
+fn put(alloc: Global, ty: &Ty, bank: &mut Bank, of: usize) -> Result<usize, AllocError> {
+    if of < bank.len() {
+        ty.put(alloc, bank, &[of])
+    } else {
+        Err(AllocError)
+    }
+}
+
+// Whether the elements of sequences are at a place, the type at another for variable 0, and where they are put then.
+fn put_elements(
+    alloc: Global,
+    ty: &Ty,
+    bank: &mut Bank,
+    (place, of): (usize, usize),
+) -> Result<(bool, usize), AllocError> {
+    match ty.kind() {
+        Kind::SeqOf(item) if of < bank.len() => {
+            let is_instance = item.is_instance(alloc, bank, place, &[of])?;
+            Ok((is_instance, item.put(alloc, bank, &[of])?))
+        }
+        _ => Err(AllocError),
+    }
+}
+
+fn scheme_of(alloc: Global, takes: &Ty, gives: &Ty) -> Result<Scheme, AllocError> {
+    Scheme::new(
+        alloc,
+        takes,
+        gives,
+        &[Class::Any, Class::Any, Class::Number],
     )
 }
 
-#[test]
-fn deep_types_take_little_stack(rt: HostRuntime) -> Result<(), Fail> {
-    for depth in [4_094usize, 100_000] {
-        let thread = Builder::new()
-            .stack_size(STACK)
-            .spawn(&rt, move || goes_deep(rt.alloc(), depth))?;
-        assert!(rt; thread.join(&rt)?);
+// Tells of a type.
+fn tell(
+    alloc: Global,
+    ty: &Ty,
+    letter: u8,
+    number: usize,
+    text: &mut String,
+) -> Result<(), AllocError> {
+    match letter {
+        b'K' => push_kind(ty, text),
+        b'M' => write!(text, " {}", ty.nodes()),
+        b'L' => write!(text, " {}", ty.parts().len()),
+        b'R' => push_room_left(ty, number, text),
+        b'A' => push_type_text(alloc, ty, text),
+        b'U' => push_variables(noted(alloc, ty), text),
+        b'W' => push_variables(noted_in_first(alloc, ty), text),
+        _ => Err(AllocError),
     }
-    Ok(())
+}
+
+// Tells of two types.
+fn tell_of_two(
+    alloc: Global,
+    (first, second): (&Ty, &Ty),
+    letter: u8,
+    text: &mut String,
+) -> Result<(), AllocError> {
+    match letter {
+        b'E' => write!(text, " {} {}", first.same(second), second.same(first)),
+        b'O' => write!(text, " {}", first.number() == second.number()),
+        _ => push_scheme(alloc, scheme_of(alloc, first, second), text),
+    }
+}
+
+impl Desk {
+    fn push(&mut self, ty: Result<Ty, AllocError>) -> Result<(), AllocError> {
+        self.types.push(ty?)?;
+        Ok(())
+    }
+
+    fn pop(&mut self) -> Result<Ty, AllocError> {
+        self.types.pop().ok_or(AllocError)
+    }
+
+    fn pair(&mut self) -> Result<(), AllocError> {
+        let second = self.pop()?;
+        let first = self.pop()?;
+        self.push(Ty::both(self.alloc, &first, &second))
+    }
+
+    fn sequence(&mut self) -> Result<(), AllocError> {
+        let item = self.pop()?;
+        self.push(Ty::seq_of(self.alloc, &item))
+    }
+
+    // Reads the type at a place of the bank.
+    fn read(&mut self, place: usize) -> Result<(), AllocError> {
+        let ty = read_from(self.alloc, &self.bank, place);
+        self.push(ty)
+    }
+
+    fn copy(&mut self) -> Result<(), AllocError> {
+        let copy = match self.types.last() {
+            Some(ty) => ty.duplicate(self.alloc),
+            None => Err(AllocError),
+        };
+        self.push(copy)
+    }
+
+    // Tells of the last type and a bank.
+    fn try_in_bank(
+        &mut self,
+        letter: u8,
+        (first, last): (usize, usize),
+        text: &mut String,
+    ) -> Result<(), AllocError> {
+        let Some(ty) = self.types.last() else {
+            return Err(AllocError);
+        };
+        match letter {
+            b'B' => {
+                self.place = put(self.alloc, ty, &mut self.bank, last)?;
+                Ok(())
+            }
+            b'J' => push_instance(self.alloc, ty, &self.bank, (first, Some(last)), text),
+            b'j' => push_instance(self.alloc, ty, &self.bank, (last, None), text),
+            _ => {
+                let (is_there, place) = put_elements(
+                    self.alloc,
+                    ty,
+                    &mut self.bank,
+                    (first, last),
+                )?;
+                write!(text, " {is_there} {place}")
+            }
+        }
+    }
+
+    fn tell_of_types(
+        &self,
+        letter: u8,
+        number: usize,
+        text: &mut String,
+    ) -> Result<(), AllocError> {
+        match (letter, last_two(self.types.as_slice())) {
+            (b'E' | b'O' | b'Z', Some(types)) => tell_of_two(self.alloc, types, letter, text),
+            _ => match self.types.last() {
+                Some(ty) => tell(self.alloc, ty, letter, number, text),
+                None => Err(AllocError),
+            },
+        }
+    }
+
+    /// Makes types, or tells of them.
+    pub fn act_on_types(
+        &mut self,
+        letter: u8,
+        numbers: (usize, usize),
+        text: &mut String,
+    ) -> Result<(), AllocError> {
+        match letter {
+            b'I' | b'T' | b'C' | b'V' | b'N' => self.push(made(self.alloc, letter, numbers.1)),
+            b'G' => self.read(numbers.1),
+            b'Y' => self.copy(),
+            b'o' => {
+                self.pop()?;
+                Ok(())
+            }
+            b'P' => self.pair(),
+            b'Q' => self.sequence(),
+            b'B' | b'J' | b'j' | b'F' => self.try_in_bank(letter, numbers, text),
+            _ => self.tell_of_types(letter, numbers.1, text),
+        }
+    }
 }

@@ -105,18 +105,13 @@ impl Subject for Names {
     }
 }
 
-#[test]
-fn names_have_the_types_of_the_table(rt: HostRuntime) {
-    all_hold(&rt, rt.alloc(), &Names, &[NAMED]);
-}
-
 /// Names of no built-in function, of which the first is empty and the last ends in a space.
 const OTHERS: &str = " => none\nno => none\nnott => none\nand => none\nit => none\nlength => none\n\
     elt => none\nSum => none\nsum  => none";
 
 #[test]
-fn other_names_are_no_builtins(rt: HostRuntime) {
-    all_hold(&rt, rt.alloc(), &Names, &[OTHERS]);
+fn names_have_the_types_of_the_table_and_others_have_none(rt: HostRuntime) {
+    all_hold(&rt, rt.alloc(), &Names, &[NAMED, OTHERS]);
 }
 
 /// The built-in function of a sign.
@@ -151,11 +146,6 @@ impl Subject for Signs {
 }
 
 #[test]
-fn operators_have_the_types_of_the_table(rt: HostRuntime) {
-    all_hold(&rt, rt.alloc(), &Signs, &[OPERATORS]);
-}
-
-#[test]
-fn other_signs_have_types_too(rt: HostRuntime) {
-    all_hold(&rt, rt.alloc(), &Signs, &[OTHER_SIGNS]);
+fn signs_have_the_types_of_the_table(rt: HostRuntime) {
+    all_hold(&rt, rt.alloc(), &Signs, &[OPERATORS, OTHER_SIGNS]);
 }

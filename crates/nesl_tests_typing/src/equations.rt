@@ -130,72 +130,20 @@ impl Subject for Solutions {
     }
 }
 
-#[test]
-fn two_classes_meet(rt: HostRuntime) {
-    all_hold(
-        &rt,
-        rt.alloc(),
-        &Solutions,
-        &["1||v0 ordinal, v0 logical| => number"],
-    );
-}
+/// Two classes meet, a type has no sequence of itself, and no sequence is ordinal.
+const SMALL: &str = "1||v0 ordinal, v0 logical| => number
+1|v0 = seq v0|| => no solution
+1|v0 = seq int|v0 ordinal| => no solution";
 
-#[test]
-fn a_type_has_no_sequence_of_itself(rt: HostRuntime) {
-    all_hold(
-        &rt,
-        rt.alloc(),
-        &Solutions,
-        &["1|v0 = seq v0|| => no solution"],
-    );
-}
-
-#[test]
-fn no_sequence_is_ordinal(rt: HostRuntime) {
-    all_hold(
-        &rt,
-        rt.alloc(),
-        &Solutions,
-        &["1|v0 = seq int|v0 ordinal| => no solution"],
-    );
-}
-
-#[test]
-fn the_largest_type(rt: HostRuntime) {
-    all_hold(
-        &rt,
-        rt.alloc(),
-        &Solutions,
-        &["12|@11~v& = both v$ v$, @||v11 => any 4095"],
-    );
-}
-
-#[test]
-fn too_large_a_type(rt: HostRuntime) {
-    all_hold(
-        &rt,
-        rt.alloc(),
-        &Solutions,
-        &["13|@12~v& = both v$ v$, @|| => no solution"],
-    );
-}
-
-/// In both orders.
-const FAR_TOO_LARGE: &str = "5001|@5000~v& = both v$ v$, @|| => no solution
+/// The largest type, one that is too large, and one that is far too large, in both orders.
+const LARGE: &str = "12|@11~v& = both v$ v$, @||v11 => any 4095
+13|@12~v& = both v$ v$, @|| => no solution
+5001|@5000~v& = both v$ v$, @|| => no solution
 5001|@5000~v? = both v! v!, @|| => no solution";
 
-#[test]
-fn far_too_large_a_type(rt: HostRuntime) {
-    all_hold(&rt, rt.alloc(), &Solutions, &[FAR_TOO_LARGE]);
-}
-
+/// A chain of equal variables.
 const CHAIN: &str =
     "100000|@99999~v$ = v&, @|v0 number, v99999 logical|v0 v54321 v99999 => number v0 v0 v0";
-
-#[test]
-fn a_chain_of_equal_variables(rt: HostRuntime) {
-    all_hold(&rt, rt.alloc(), &Solutions, &[CHAIN]);
-}
 
 /// A thousand variables, each the first of a dozen in which each but the last is the pairs of the next one with itself,
 /// stand for types of 4,095 nodes, and are then all made equal.
@@ -205,18 +153,14 @@ const LARGE_AND_EQUAL: &str = "12000|\
     v$.8 = both v$.9 v$.9, v$.9 = both v$.10 v$.10, v$.10 = both v$.11 v$.11, @\
     @999~v&.0 = v$.0, @||v11999 v11988 => any v11 4095";
 
-#[test]
-fn many_large_types_are_made_equal(rt: HostRuntime) {
-    all_hold(&rt, rt.alloc(), &Solutions, &[LARGE_AND_EQUAL]);
-}
-
 /// Sequences of different types, for two variables, which are then the same.
 const SEQUENCES: &str = "2|v0 = seq d3, v1 = seq d4||v0 v1 => any 2 2
 2|v0 = seq d3, v1 = seq d4, v0 = v1|| => no solution";
 
 #[test]
-fn other_types_are_not_equal(rt: HostRuntime) {
-    all_hold(&rt, rt.alloc(), &Solutions, &[SEQUENCES]);
+fn equations_are_solved(rt: HostRuntime) {
+    let tables = [SMALL, LARGE, CHAIN, LARGE_AND_EQUAL, SEQUENCES];
+    all_hold(&rt, rt.alloc(), &Solutions, &tables);
 }
 
 /// Whether this type stands for the variable.

@@ -23,12 +23,7 @@ const AS_HIGH_AS_CAN_BE: &str =
 @98~[@[] int@98~]@; => Eval(0..202 Sequence([1..201 ..
 @99~(a, @b@99~)@; => Eval(0..496 Pair left: 1..2 Variable([97]), right: .."#;
 
-#[test]
-fn deep_lines_are_read_or_refused(rt: HostRuntime) {
-    all_hold(&rt, rt.alloc(), &Forms, &[DEEP, AS_HIGH_AS_CAN_BE]);
-}
-
-/// Lines with types of a height of 100 and of one more.
+/// Lines with types of a height of 100 and of one more: each type of a line is measured alone.
 const WITH_TYPES: &str =
     r#"datatype p @99~[@int@99~]@; => Datatype name: [112], content: 11..212 Sequence(12..211 ..
 datatype p @100~[@int@100~]@; => Nested
@@ -39,6 +34,7 @@ function g(x) : int -> @100~[@int@100~]@ :: (n in any) = x; => Nested
 function g(x) : @100~[@int@100~]@ -> int = ; => Syntax"#;
 
 #[test]
-fn each_type_of_a_line_is_measured_alone(rt: HostRuntime) {
-    all_hold(&rt, rt.alloc(), &Forms, &[WITH_TYPES]);
+fn deep_lines_are_read_or_refused(rt: HostRuntime) {
+    let tables = [DEEP, AS_HIGH_AS_CAN_BE, WITH_TYPES];
+    all_hold(&rt, rt.alloc(), &Forms, &tables);
 }

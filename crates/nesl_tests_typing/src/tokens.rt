@@ -84,6 +84,9 @@ const UNPRINTED_BYTES: &str = " \t\r => no tokens\n\
     x \"a\tb\" => lexical at 2\n\
     a\0 => lexical at 1";
 
+/// Numbers with many digits.
+const MANY_DIGITS: &str = "@65000~0@ => 0..65000 Number(0)\n1@64999~0@ => lexical at 0";
+
 fn push_token(text: &mut String, token: &Token) -> Result<(), AllocError> {
     let before = if text.is_empty() { "" } else { "; " };
     let (start, end) = (token.span.start, token.span.end);
@@ -122,6 +125,7 @@ fn lines_have_these_tokens(rt: HostRuntime) {
         RESERVED_WORDS,
         SIGNS,
         UNPRINTED_BYTES,
+        MANY_DIGITS,
     ];
     all_hold(&rt, rt.alloc(), &Tokens, &tables);
 }
@@ -136,11 +140,4 @@ fn bytes_that_begin_nothing_are_faults(rt: HostRuntime) {
         let is_read = lex(rt.alloc(), &[b]).is_ok();
         assert!(rt; is_read == BEGINNINGS.contains(&b), "at {b}");
     }
-}
-
-const MANY_DIGITS: &str = "@65000~0@ => 0..65000 Number(0)\n1@64999~0@ => lexical at 0";
-
-#[test]
-fn a_number_may_have_many_digits(rt: HostRuntime) {
-    all_hold(&rt, rt.alloc(), &Tokens, &[MANY_DIGITS]);
 }

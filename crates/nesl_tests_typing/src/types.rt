@@ -62,23 +62,19 @@ both int both int int => (int, int, int)
 seq seq char => [[char]]
 both bool d0 => (bool, point)";
 
-#[test]
-fn types_are_written(rt: HostRuntime) {
-    all_hold(&rt, rt.alloc(), &Texts, &[TYPES]);
-}
-
 const SCHEMES: &str = "both v3 v3 -> v3 :: any logical any number => (a, a) -> a :: (a in number)
 both v9 v1 -> v9 :: any logical any number => (a, b) -> a :: (b in logical)
 both v3 v1 -> bool :: any logical any number => (a, b) -> bool :: (a in number; b in logical)
-int -> d0 :: any logical any number => int -> point";
+int -> d0 :: any logical any number => int -> point
+both v0 d0 -> char :: ordinal => (a, point) -> char :: (a in ordinal)";
 
 /// One of thirty variables.
 const THIRTY: &str =
     "both v32 both v31 both v30 both v29 both v28 both v27 both v26 both v25 both v24 both v23 both v22 both v21 both v20 both v19 both v18 both v17 both v16 both v15 both v14 both v13 both v12 both v11 both v10 both v9 both v8 both v7 both v6 both v5 both v4 v3 -> v3 :: any logical any number => (a, b, c, d, e, f, g, h, i, j, k, l, m, n, o, p, q, r, s, t, u, v, w, x, y, z, a1, b1, c1, d1) -> d1 :: (d1 in number)";
 
 #[test]
-fn schemes_are_written(rt: HostRuntime) {
-    all_hold(&rt, rt.alloc(), &Texts, &[SCHEMES, THIRTY]);
+fn types_and_schemes_are_written(rt: HostRuntime) {
+    all_hold(&rt, rt.alloc(), &Texts, &[TYPES, SCHEMES, THIRTY]);
 }
 
 /// Adds a variable, a datatype, and the variable again, which is a datatype now.
@@ -185,7 +181,9 @@ impl Subject for Sameness {
 
 const COMPARED: &str = "both v0 v1 -> v1 :: number = both v0 v1 -> v1 :: number => true
 both v0 v1 -> v1 :: number = both v0 v1 -> v1 :: ordinal => false
-both v0 v1 -> v1 :: number = both v7 v3 -> v7 => false";
+both v0 v1 -> v1 :: number = both v7 v3 -> v7 => false
+both v2 v7 -> seq v2 :: any any number = both v0 v1 -> seq v0 :: number => true
+both v2 v7 -> seq v2 :: any any number = both v0 v1 -> seq v0 => false";
 
 #[test]
 fn schemes_are_compared(rt: HostRuntime) {

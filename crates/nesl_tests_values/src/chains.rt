@@ -4,7 +4,6 @@ use nesl_reply::value_text;
 use nesl_types::Ty;
 use nesl_values::Value;
 use std::alloc::{AllocError, Global};
-use std::test::Fail;
 use std::thread::Builder;
 
 const DEPTH: u64 = 1_000_000;
@@ -86,7 +85,7 @@ fn goes_through(alloc: Global, link: Link, nodes: u64) -> Result<bool, AllocErro
 }
 
 #[test]
-fn in_each_shape(rt: HostRuntime) -> Result<(), Fail> {
+fn in_each_shape(rt: HostRuntime) {
     for (link, nodes) in [
         (Link::One, 1_000_001),
         (Link::First, 2_000_001),
@@ -97,10 +96,10 @@ fn in_each_shape(rt: HostRuntime) -> Result<(), Fail> {
     ] {
         let thread = Builder::new()
             .stack_size(STACK)
-            .spawn(&rt, move || goes_through(rt.alloc(), link, nodes))?;
-        assert!(rt; thread.join(&rt)?, "{nodes} nodes");
+            .spawn(&rt, move || goes_through(rt.alloc(), link, nodes))
+            .expect(&rt, "a thread");
+        assert!(rt; thread.join(&rt).expect(&rt, "memory"), "{nodes} nodes");
     }
-    Ok(())
 }
 
 // Whether a chain of so many levels is the same as its copy, and not as one with another leaf.
@@ -113,17 +112,17 @@ fn is_same_as_its_copy(alloc: Global, link: Link, depth: u64) -> Result<bool, Al
 
 // Goes down to the last child of each node by a loop, so these take no stack; the others take some for each level.
 #[test]
-fn compared_without_memory(rt: HostRuntime) -> Result<(), Fail> {
+fn compared_without_memory(rt: HostRuntime) {
     for link in [Link::One, Link::Right, Link::Tagged] {
         let thread = Builder::new()
             .stack_size(STACK)
-            .spawn(&rt, move || is_same_as_its_copy(rt.alloc(), link, DEPTH))?;
-        assert!(rt; thread.join(&rt)?);
+            .spawn(&rt, move || is_same_as_its_copy(rt.alloc(), link, DEPTH))
+            .expect(&rt, "a thread");
+        assert!(rt; thread.join(&rt).expect(&rt, "memory"));
     }
     for link in [Link::First, Link::Left, Link::Mixed] {
-        assert!(rt; is_same_as_its_copy(rt.alloc(), link, 10_000)?);
+        assert!(rt; is_same_as_its_copy(rt.alloc(), link, 10_000).expect(&rt, "memory"));
     }
-    Ok(())
 }
 
 fn of_records(alloc: Global) -> Result<Value, AllocError> {
@@ -136,11 +135,10 @@ fn of_records(alloc: Global) -> Result<Value, AllocError> {
 
 // A record without a name at each level.
 #[test]
-fn its_text(rt: HostRuntime) -> Result<(), Fail> {
-    let value = of_records(rt.alloc())?;
-    let context = session(rt.alloc())?;
-    let int = Ty::int(rt.alloc())?;
-    let text = value_text(rt.alloc(), &value, &int, &context)?;
+fn its_text(rt: HostRuntime) {
+    let value = of_records(rt.alloc()).expect(&rt, "memory");
+    let context = session(rt.alloc()).expect(&rt, "memory");
+    let int = Ty::int(rt.alloc()).expect(&rt, "memory");
+    let text = value_text(rt.alloc(), &value, &int, &context).expect(&rt, "memory");
     assert!(rt; text.len() == 2_000_001);
-    Ok(())
 }

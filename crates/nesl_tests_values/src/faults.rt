@@ -4,7 +4,6 @@ use nesl_lex::token::Span;
 use nesl_reply::{Fault, Reply, Stop, no_memory};
 use nesl_scalars::Trap;
 use std::alloc::AllocError;
-use std::test::Fail;
 
 // Adds the texts of replies that tell these faults.
 fn put_faults(page: &mut Page, faults: &[Fault]) -> Result<(), AllocError> {
@@ -32,7 +31,7 @@ fault busy
 ";
 
 #[test]
-fn faults_of_lines(rt: HostRuntime) -> Result<(), Fail> {
+fn faults_of_lines(rt: HostRuntime) {
     let faults = [
         Fault::Long,
         Fault::Lexical(2),
@@ -50,10 +49,9 @@ fn faults_of_lines(rt: HostRuntime) -> Result<(), Fail> {
         Fault::User,
         Fault::Busy,
     ];
-    let mut page = Page::new(rt.alloc(), session(rt.alloc())?);
-    put_faults(&mut page, &faults)?;
+    let mut page = Page::new(rt.alloc(), session(rt.alloc()).expect(&rt, "memory"));
+    put_faults(&mut page, &faults).expect(&rt, "memory");
     assert!(rt; page.text() == OF_LINES);
-    Ok(())
 }
 
 #[test]
@@ -83,7 +81,7 @@ fault large at 3..10 (work 12)
 ";
 
 #[test]
-fn faults_of_evaluations(rt: HostRuntime) -> Result<(), Fail> {
+fn faults_of_evaluations(rt: HostRuntime) {
     let faults = [
         stopped(Trap::Overflow),
         stopped(Trap::Division),
@@ -97,8 +95,7 @@ fn faults_of_evaluations(rt: HostRuntime) -> Result<(), Fail> {
         stopped(Trap::Deep),
         stopped(Trap::Large),
     ];
-    let mut page = Page::new(rt.alloc(), session(rt.alloc())?);
-    put_faults(&mut page, &faults)?;
+    let mut page = Page::new(rt.alloc(), session(rt.alloc()).expect(&rt, "memory"));
+    put_faults(&mut page, &faults).expect(&rt, "memory");
     assert!(rt; page.text() == OF_EVALUATIONS);
-    Ok(())
 }

@@ -1,25 +1,56 @@
 //! Types, values and a session that the tests are made on.
-use nesl_reply::{Reply, reply_text, value_text};
+use nesl_reply::{Reply, reply_text};
 use nesl_types::{Context, Top, Ty};
 use nesl_values::Value;
 use nesl_values_builder::SequenceBuilder;
 use std::alloc::{AllocError, Global};
 
-pub fn seq_of(alloc: Global, item: Result<Ty, AllocError>) -> Result<Ty, AllocError> {
-    Ty::seq_of(alloc, &item?)
+fn taken<T>(made: &mut Vec<T>) -> Result<T, AllocError> {
+    made.pop().ok_or(AllocError)
 }
 
-pub fn both(
-    alloc: Global,
-    left: Result<Ty, AllocError>,
-    right: Result<Ty, AllocError>,
-) -> Result<Ty, AllocError> {
-    let (left, right) = both_made(left, right)?;
-    Ty::both(alloc, &left, &right)
+// The number that a digit is.
+fn digit(byte: u8) -> u64 {
+    u64::from(byte.saturating_sub(b'0'))
 }
 
-pub fn two_numbers(alloc: Global) -> Result<Ty, AllocError> {
-    both(alloc, Ty::int(alloc), Ty::int(alloc))
+// The type of a word, made of those before it.
+fn type_by(alloc: Global, word: &[u8], types: &mut Vec<Ty>) -> Result<Ty, AllocError> {
+    match word {
+        [b'I'] => Ty::int(alloc),
+        [b'B'] => Ty::boolean(alloc),
+        [b'C'] => Ty::character(alloc),
+        [b'V', number] => Ty::variable(alloc, digit(*number)),
+        [b'N', tag] => Ty::named(alloc, digit(*tag)),
+        [b'S'] => Ty::seq_of(alloc, &taken(types)?),
+        [b'P'] => {
+            let right = taken(types)?;
+            Ty::both(alloc, &taken(types)?, &right)
+        }
+        _ => Err(AllocError),
+    }
+}
+
+/// The type of words, each behind what it is made of: `I`, `B` and `C` are the numbers, the truth values and the
+/// characters, `V0` a variable, `N0` the datatype with a tag, `S` the sequences of the type before it, and `P` the
+/// pairs of the two before it.
+pub fn type_of(alloc: Global, words: &str) -> Result<Ty, AllocError> {
+    let mut types = Vec::new(alloc);
+    for word in words.split(' ') {
+        let ty = type_by(alloc, word.as_bytes(), &mut types)?;
+        types.push(ty)?;
+    }
+    taken(&mut types)
+}
+
+// The sequence of the two, or of the second alone.
+fn sequence(alloc: Global, first: Option<Value>, second: Value) -> Result<Value, AllocError> {
+    let mut builder = SequenceBuilder::new(alloc);
+    if let Some(first) = first {
+        builder.push(first)?;
+    }
+    builder.push(second)?;
+    builder.finish()
 }
 
 pub fn text(alloc: Global, bytes: &[u8]) -> Result<Value, AllocError> {
@@ -28,69 +59,70 @@ pub fn text(alloc: Global, bytes: &[u8]) -> Result<Value, AllocError> {
     builder.finish()
 }
 
-fn push(builder: &mut SequenceBuilder, item: Result<Value, AllocError>) -> Result<(), AllocError> {
-    builder.push(item?)
+// A number, or a character by its code.
+fn leaf(word: &str) -> Value {
+    match word.strip_prefix('\'') {
+        Some(code) => Value::Char(code.parse::<u8>().unwrap_or(0)),
+        None => Value::Int(word.parse::<i64>().unwrap_or(0)),
+    }
 }
 
-// What is built, if all was pushed.
-fn built(builder: SequenceBuilder, pushed: Result<(), AllocError>) -> Result<Value, AllocError> {
-    pushed?;
-    builder.finish()
+// The value of a word, made of those before it.
+fn value_by(alloc: Global, word: &str, values: &mut Vec<Value>) -> Result<Value, AllocError> {
+    match word.as_bytes() {
+        [b'T'] => Ok(Value::Bool(true)),
+        [b'F'] => Ok(Value::Bool(false)),
+        [b'e'] => Value::empty(alloc),
+        [b'o'] => sequence(alloc, None, taken(values)?),
+        [b's'] => {
+            let second = taken(values)?;
+            sequence(alloc, Some(taken(values)?), second)
+        }
+        [b'p'] => {
+            let right = taken(values)?;
+            Value::pair(alloc, taken(values)?, right)
+        }
+        [b't', tag] => Value::tagged(alloc, digit(*tag), taken(values)?),
+        [b'"', letters @ ..] => text(alloc, letters),
+        _ => Ok(leaf(word)),
+    }
 }
 
-pub fn sequence(
+/// The value of words, each behind what it is made of: `-2` is a number, `T` and `F` are truth values, `'97` is the
+/// character of a code, `"ab` a text, `e` the sequence of nothing, `o` and `s` are those of the value and of the two
+/// before it, `p` is the pair of the two before it, and `t0` the value before it with a tag.
+pub fn value_of(alloc: Global, words: &str) -> Result<Value, AllocError> {
+    let mut values = Vec::new(alloc);
+    for word in words.split(' ') {
+        let value = value_by(alloc, word, &mut values)?;
+        values.push(value)?;
+    }
+    taken(&mut values)
+}
+
+fn add_datatype(
     alloc: Global,
-    first: Result<Value, AllocError>,
-    second: Result<Value, AllocError>,
-) -> Result<Value, AllocError> {
-    let mut builder = SequenceBuilder::new(alloc);
-    let one = push(&mut builder, first);
-    let two = push(&mut builder, second);
-    built(builder, one.and(two))
-}
-
-pub fn one_of(alloc: Global, item: Result<Value, AllocError>) -> Result<Value, AllocError> {
-    let mut builder = SequenceBuilder::new(alloc);
-    let pushed = push(&mut builder, item);
-    built(builder, pushed)
-}
-
-pub fn pair(
-    alloc: Global,
-    left: Result<Value, AllocError>,
-    right: Result<Value, AllocError>,
-) -> Result<Value, AllocError> {
-    let (left, right) = both_made(left, right)?;
-    Value::pair(alloc, left, right)
-}
-
-pub fn numbers(alloc: Global, left: i64, right: i64) -> Result<Value, AllocError> {
-    Value::pair(alloc, Value::Int(left), Value::Int(right))
-}
-
-pub fn tagged(
-    alloc: Global,
+    context: &mut Context<u8>,
+    name: &[u8],
     tag: u64,
-    inner: Result<Value, AllocError>,
-) -> Result<Value, AllocError> {
-    Value::tagged(alloc, tag, inner?)
+    words: &str,
+) -> Result<(), AllocError> {
+    let content = type_of(alloc, words)?;
+    context.set(alloc, name, Top::Datatype(tag, content), 0)
+}
+
+fn add_names(alloc: Global, context: &mut Context<u8>) -> Result<(), AllocError> {
+    context.set(alloc, b"x", Top::Variable(Ty::int(alloc)?), 0)?;
+    add_datatype(alloc, context, b"point", 0, "I I P")?;
+    add_datatype(alloc, context, b"r", 1, "I I P I P")?;
+    add_datatype(alloc, context, b"q", 2, "N0 S")
 }
 
 /// A session with the datatypes `point` of two numbers, `r` of a pair and a number, `q` of a list of points.
 pub fn session(alloc: Global) -> Result<Context<u8>, AllocError> {
     let mut context = Context::new(alloc);
-    context.set(alloc, b"x", Top::Variable(Ty::int(alloc)?), 0)?;
-    add_datatypes(alloc, &mut context)?;
+    add_names(alloc, &mut context)?;
     Ok(context)
-}
-
-fn add_datatypes(alloc: Global, context: &mut Context<u8>) -> Result<(), AllocError> {
-    context.set(alloc, b"point", Top::Datatype(0, two_numbers(alloc)?), 0)?;
-    let r = both(alloc, two_numbers(alloc), Ty::int(alloc))?;
-    context.set(alloc, b"r", Top::Datatype(1, r), 0)?;
-    let q = seq_of(alloc, Ty::named(alloc, 0))?;
-    context.set(alloc, b"q", Top::Datatype(2, q), 0)?;
-    Ok(())
 }
 
 /// Texts, one behind the other.
@@ -116,34 +148,7 @@ impl Page {
 
     /// Adds the text of a reply.
     pub fn reply(&mut self, reply: Reply<'_>) -> Result<(), AllocError> {
-        let text = reply_text(self.alloc, &reply, &self.context);
-        append(&mut self.text, text, b"")
+        let text = reply_text(self.alloc, &reply, &self.context)?;
+        self.text.extend_from_slice(text.as_slice())
     }
-
-    /// Adds a line with the text of a value of this type.
-    pub fn value(
-        &mut self,
-        value: Result<Value, AllocError>,
-        ty: Result<Ty, AllocError>,
-    ) -> Result<(), AllocError> {
-        let (value, ty) = both_made(value, ty)?;
-        let text = value_text(self.alloc, &value, &ty, &self.context);
-        append(&mut self.text, text, b"\n")
-    }
-}
-
-fn append(
-    text: &mut Vec<u8>,
-    more: Result<Vec<u8>, AllocError>,
-    end: &[u8],
-) -> Result<(), AllocError> {
-    text.extend_from_slice(more?.as_slice())?;
-    text.extend_from_slice(end)
-}
-
-fn both_made<T: Drop, U: Drop>(
-    first: Result<T, AllocError>,
-    second: Result<U, AllocError>,
-) -> Result<(T, U), AllocError> {
-    Ok((first?, second?))
 }

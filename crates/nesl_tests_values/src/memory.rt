@@ -4,7 +4,6 @@ use linked_list_allocator::LocalHeap;
 use nesl_values::{Element, Value};
 use nesl_values_builder::SequenceBuilder;
 use std::alloc::{AllocError, Global};
-use std::test::Fail;
 
 // Whether a copy of the value is made in the heap, and is right.
 fn is_copied(heap: &LocalHeap, value: &Value) -> Result<bool, AllocError> {
@@ -15,12 +14,11 @@ fn is_copied(heap: &LocalHeap, value: &Value) -> Result<bool, AllocError> {
 }
 
 #[test]
-fn copied_into_a_heap(rt: HostRuntime) -> Result<(), Fail> {
-    let value = sample(rt.alloc())?;
-    let heap = LocalHeap::new(rt.alloc(), 65_536)?;
+fn copied_into_a_heap(rt: HostRuntime) {
+    let value = sample(rt.alloc()).expect(&rt, "memory");
+    let heap = LocalHeap::new(rt.alloc(), 65_536).expect(&rt, "memory");
     let before = heap.used();
-    assert!(rt; is_copied(&heap, &value)? && heap.used() == before);
-    Ok(())
+    assert!(rt; is_copied(&heap, &value).expect(&rt, "memory") && heap.used() == before);
 }
 
 // The bytes of the heap that are in use when a value is made, when it is shared, and when only its twin is left.
@@ -34,12 +32,11 @@ fn used_by_a_shared_value(heap: &LocalHeap) -> Result<(usize, usize, usize), All
 }
 
 #[test]
-fn shared_in_a_heap(rt: HostRuntime) -> Result<(), Fail> {
-    let heap = LocalHeap::new(rt.alloc(), 65_536)?;
+fn shared_in_a_heap(rt: HostRuntime) {
+    let heap = LocalHeap::new(rt.alloc(), 65_536).expect(&rt, "memory");
     let before = heap.used();
-    let (made, shared, left) = used_by_a_shared_value(&heap)?;
+    let (made, shared, left) = used_by_a_shared_value(&heap).expect(&rt, "memory");
     assert!(rt; shared == made && left == made && heap.used() == before);
-    Ok(())
 }
 
 // Whether a heap of so many bytes takes a copy, or is as it was.
@@ -59,14 +56,13 @@ fn is_refused(alloc: Global, bytes: usize, value: &Value) -> Result<bool, AllocE
 }
 
 #[test]
-fn a_small_heap_refuses(rt: HostRuntime) -> Result<(), Fail> {
-    let value = sample(rt.alloc())?;
-    assert!(rt; is_refused(rt.alloc(), 64, &value)?);
+fn a_small_heap_refuses(rt: HostRuntime) {
+    let value = sample(rt.alloc()).expect(&rt, "memory");
+    assert!(rt; is_refused(rt.alloc(), 64, &value).expect(&rt, "memory"));
     for size in 2..64 {
-        let is_right = takes_all_or_nothing(rt.alloc(), 32 * size, &value)?;
+        let is_right = takes_all_or_nothing(rt.alloc(), 32 * size, &value).expect(&rt, "memory");
         assert!(rt; is_right, "in {size} times 32 bytes");
     }
-    Ok(())
 }
 
 // That value, also where its first allocation that is refused is the only one.
@@ -134,8 +130,7 @@ fn is_built(alloc: Global, item: &Value) -> Result<bool, AllocError> {
 }
 
 #[test]
-fn a_refused_push_changes_nothing(rt: HostRuntime) -> Result<(), Fail> {
-    let item = second_try(rt.alloc())?;
-    assert!(rt; is_built(rt.alloc(), &item)?);
-    Ok(())
+fn a_refused_push_changes_nothing(rt: HostRuntime) {
+    let item = second_try(rt.alloc()).expect(&rt, "memory");
+    assert!(rt; is_built(rt.alloc(), &item).expect(&rt, "memory"));
 }

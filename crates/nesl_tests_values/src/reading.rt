@@ -2,7 +2,6 @@
 use crate::sample::{one_and_two, sample};
 use nesl_values::{Items, Shape, Value};
 use std::alloc::Global;
-use std::test::Fail;
 
 fn is_of_three(value: &Value) -> bool {
     value.sequence_len() == Some(3) && matches!(value.shape(), Shape::Sequence(3))
@@ -31,11 +30,10 @@ fn is_the_sample(value: &Value) -> bool {
 }
 
 #[test]
-fn what_it_holds(rt: HostRuntime) -> Result<(), Fail> {
-    let value = sample(rt.alloc())?;
+fn what_it_holds(rt: HostRuntime) {
+    let value = sample(rt.alloc()).expect(&rt, "memory");
     let counts = (value.nodes_up_to(19), value.nodes_up_to(18));
     assert!(rt; counts == (Some(19), None) && is_the_sample(&value));
-    Ok(())
 }
 
 // The number, the truth value or the character that it is.
@@ -44,12 +42,11 @@ fn leaf(value: &Value) -> (Option<i64>, Option<bool>, Option<u8>) {
 }
 
 #[test]
-fn leaves(rt: HostRuntime) -> Result<(), Fail> {
+fn leaves(rt: HostRuntime) {
     assert!(rt; leaf(&Value::Int(-3)) == (Some(-3), None, None));
     assert!(rt; leaf(&Value::Bool(true)) == (None, Some(true), None));
     assert!(rt; leaf(&Value::Char(b'q')) == (None, None, Some(b'q')));
-    assert!(rt; leaf(&one_and_two(rt.alloc())?) == (None, None, None));
-    Ok(())
+    assert!(rt; leaf(&one_and_two(rt.alloc()).expect(&rt, "memory")) == (None, None, None));
 }
 
 #[test]

@@ -1,44 +1,43 @@
 //! The texts of replies.
-use crate::made::{Page, both, numbers, session, tagged};
+use crate::made::{Page, session, type_of, value_of};
 use nesl_reply::{Reply, Used};
 use nesl_scalars::Cost;
 use nesl_types::{Class, Context, Scheme, Ty};
+use nesl_values::Value;
 use std::alloc::{AllocError, Global};
-use std::test::Fail;
 
-fn put_variable(page: &mut Page) -> Result<(), AllocError> {
-    let alloc = page.alloc;
-    let point = tagged(alloc, 0, numbers(alloc, 3, 4))?;
+fn put_bound(
+    page: &mut Page,
+    point: &Value,
+    ty: &Ty,
+    pair: &Ty,
+    scheme: &Scheme,
+) -> Result<(), AllocError> {
     let cost = Cost { work: 4, depth: 4 };
-    let ty = Ty::named(alloc, 0)?;
-    page.reply(Reply::Bound(b"it", &point, &ty, cost))
-}
-
-fn two_variables(alloc: Global) -> Result<Ty, AllocError> {
-    both(alloc, Ty::variable(alloc, 0), Ty::variable(alloc, 1))
-}
-
-fn put_datatype(page: &mut Page) -> Result<(), AllocError> {
-    let takes = two_variables(page.alloc)?;
-    page.reply(Reply::DatatypeTold(b"p", &takes))
+    page.reply(Reply::Bound(b"it", point, ty, cost))?;
+    page.reply(Reply::DatatypeTold(b"p", pair))?;
+    page.reply(Reply::FunTold(b"f", scheme))
 }
 
 fn to_itself(alloc: Global, ty: &Ty) -> Result<Scheme, AllocError> {
     Scheme::new(alloc, ty, ty, &[Class::Number, Class::Logical])
 }
 
-fn put_scheme(page: &mut Page, ty: &Ty) -> Result<(), AllocError> {
-    let scheme = to_itself(page.alloc, ty)?;
-    page.reply(Reply::FunTold(b"f", &scheme))
-}
-
-fn put_function(page: &mut Page) -> Result<(), AllocError> {
-    let takes = two_variables(page.alloc)?;
-    put_scheme(page, &takes)
+fn put_definitions(page: &mut Page) -> Result<(), AllocError> {
+    let point = value_of(page.alloc, "3 4 p t0")?;
+    let ty = type_of(page.alloc, "N0")?;
+    let pair = type_of(page.alloc, "V0 V1 P")?;
+    let scheme = to_itself(page.alloc, &pair)?;
+    put_bound(page, &point, &ty, &pair, &scheme)
 }
 
 fn used(used: u64, limit: u64) -> Used {
     Used { used, limit }
+}
+
+fn put_shown(page: &mut Page) -> Result<(), AllocError> {
+    let int = Ty::int(page.alloc)?;
+    page.reply(Reply::Shown(&int))
 }
 
 fn put_others(page: &mut Page) -> Result<(), AllocError> {
@@ -50,17 +49,14 @@ fn put_others(page: &mut Page) -> Result<(), AllocError> {
     );
     page.reply(budget)?;
     page.reply(Reply::Names)?;
-    let int = Ty::int(page.alloc)?;
-    page.reply(Reply::Shown(&int))?;
+    put_shown(page)?;
     page.reply(Reply::Blank)?;
     page.reply(Reply::More)?;
     page.reply(Reply::Cleared(12))
 }
 
 fn put_replies(page: &mut Page) -> Result<(), AllocError> {
-    put_variable(page)?;
-    put_datatype(page)?;
-    put_function(page)?;
+    put_definitions(page)?;
     put_others(page)
 }
 
@@ -76,17 +72,15 @@ reset: lines 12
 ";
 
 #[test]
-fn of_each_kind(rt: HostRuntime) -> Result<(), Fail> {
-    let mut page = Page::new(rt.alloc(), session(rt.alloc())?);
-    put_replies(&mut page)?;
+fn of_each_kind(rt: HostRuntime) {
+    let mut page = Page::new(rt.alloc(), session(rt.alloc()).expect(&rt, "memory"));
+    put_replies(&mut page).expect(&rt, "memory");
     assert!(rt; page.text() == REPLIES);
-    Ok(())
 }
 
 #[test]
-fn of_no_names(rt: HostRuntime) -> Result<(), Fail> {
+fn of_no_names(rt: HostRuntime) {
     let mut page = Page::new(rt.alloc(), Context::new(rt.alloc()));
-    page.reply(Reply::Names)?;
+    page.reply(Reply::Names).expect(&rt, "memory");
     assert!(rt; page.text() == b"names:\n".as_slice());
-    Ok(())
 }

@@ -3,7 +3,6 @@ use crate::sample::{numbers, one_and_two, sample};
 use nesl_values::{Element, Items, Value};
 use nesl_values_builder::SequenceBuilder;
 use std::alloc::{AllocError, Global};
-use std::test::Fail;
 
 // Whether the value is the same as the first, and not as the second, in each way to compare them.
 fn is_only_like(
@@ -35,16 +34,15 @@ fn is_empty(alloc: Global, value: Result<Value, AllocError>) -> Result<bool, All
 }
 
 #[test]
-fn with_no_element(rt: HostRuntime) -> Result<(), Fail> {
+fn with_no_element(rt: HostRuntime) {
     let alloc = rt.alloc();
     assert!(rt;
-        is_empty(alloc, Value::empty(alloc))?
-            && is_empty(alloc, Value::ints(alloc, Vec::new(alloc)))?
-            && is_empty(alloc, Value::bools(alloc, Vec::new(alloc)))?
-            && is_empty(alloc, Value::chars(alloc, Vec::new(alloc)))?
-            && is_empty(alloc, SequenceBuilder::new(alloc).finish())?
+        is_empty(alloc, Value::empty(alloc)).expect(&rt, "memory")
+            && is_empty(alloc, Value::ints(alloc, Vec::new(alloc))).expect(&rt, "memory")
+            && is_empty(alloc, Value::bools(alloc, Vec::new(alloc))).expect(&rt, "memory")
+            && is_empty(alloc, Value::chars(alloc, Vec::new(alloc))).expect(&rt, "memory")
+            && is_empty(alloc, SequenceBuilder::new(alloc).finish()).expect(&rt, "memory")
     );
-    Ok(())
 }
 
 // Pushes an element of each kind.
@@ -68,11 +66,10 @@ fn has_each(value: &Value) -> bool {
 }
 
 #[test]
-fn built_in_order(rt: HostRuntime) -> Result<(), Fail> {
+fn built_in_order(rt: HostRuntime) {
     let mut builder = SequenceBuilder::with_room(rt.alloc(), 4);
-    push_each(&mut builder)?;
-    assert!(rt; has_each(&builder.finish()?));
-    Ok(())
+    push_each(&mut builder).expect(&rt, "memory");
+    assert!(rt; has_each(&builder.finish().expect(&rt, "memory")));
 }
 
 // Pushes the elements from the second to the third of four.
@@ -93,11 +90,10 @@ fn zero_two_three(alloc: Global) -> Result<Value, AllocError> {
 }
 
 #[test]
-fn packed_while_all_are_alike(rt: HostRuntime) -> Result<(), Fail> {
-    let packed = zero_two_three(rt.alloc())?;
+fn packed_while_all_are_alike(rt: HostRuntime) {
+    let packed = zero_two_three(rt.alloc()).expect(&rt, "memory");
     assert!(rt; matches!(packed.items(), Items::Ints(_)));
-    assert!(rt; packed.same(&numbers(rt.alloc(), &[0, 2, 3])?));
-    Ok(())
+    assert!(rt; packed.same(&numbers(rt.alloc(), &[0, 2, 3]).expect(&rt, "memory")));
 }
 
 // Pushes characters, a truth value and a number.
@@ -135,10 +131,14 @@ fn mixed_again(alloc: Global, mixed: &Value) -> Result<Value, AllocError> {
 }
 
 #[test]
-fn not_packed_where_they_are_not_alike(rt: HostRuntime) -> Result<(), Fail> {
-    let mixed = mixed(rt.alloc())?;
-    assert!(rt; is_mixed(&mixed) && mixed_again(rt.alloc(), &mixed)?.same(&mixed));
-    Ok(())
+fn not_packed_where_they_are_not_alike(rt: HostRuntime) {
+    let mixed = mixed(rt.alloc()).expect(&rt, "memory");
+    assert!(rt;
+        is_mixed(&mixed)
+            && mixed_again(rt.alloc(), &mixed)
+                .expect(&rt, "memory")
+                .same(&mixed)
+    );
 }
 
 // A builder that has a number.
@@ -176,13 +176,15 @@ fn numbers_round_a_row(alloc: Global, row: &Value) -> Result<Value, AllocError> 
 }
 
 #[test]
-fn one_behind_another(rt: HostRuntime) -> Result<(), Fail> {
-    let packed = two_numbers(rt.alloc())?.finish()?;
+fn one_behind_another(rt: HostRuntime) {
+    let packed = two_numbers(rt.alloc())
+        .expect(&rt, "memory")
+        .finish()
+        .expect(&rt, "memory");
     assert!(rt; matches!(packed.items(), Items::Ints([1, 2])));
-    let mixed = numbers_round_a_row(rt.alloc(), &packed)?;
+    let mixed = numbers_round_a_row(rt.alloc(), &packed).expect(&rt, "memory");
     assert!(rt; mixed.sequence_len() == Some(4) && mixed.nodes() == 7);
     assert!(rt; mixed.element(1).as_int() == Some(2) && mixed.element(3).as_int() == Some(3));
-    Ok(())
 }
 
 // Pushes the row shared, and a copy.
@@ -211,11 +213,10 @@ fn four_rows(alloc: Global, row: &Value) -> Result<Value, AllocError> {
 }
 
 #[test]
-fn rows_that_are_shared(rt: HostRuntime) -> Result<(), Fail> {
-    let row = sample(rt.alloc())?;
-    let four = four_rows(rt.alloc(), &row)?;
+fn rows_that_are_shared(rt: HostRuntime) {
+    let row = sample(rt.alloc()).expect(&rt, "memory");
+    let four = four_rows(rt.alloc(), &row).expect(&rt, "memory");
     assert!(rt; four.nodes() == 77 && four.sequence_len() == Some(4));
     assert!(rt; matches!(four.items().at(0), Element::Node(_)));
-    assert!(rt; four.element(3).share()?.same(&row));
-    Ok(())
+    assert!(rt; four.element(3).share().expect(&rt, "memory").same(&row));
 }

@@ -3,7 +3,6 @@ use crate::sample::{doubled, numbers, one_and_two, sample};
 use nesl_values::{Element, Value};
 use std::alloc::{AllocError, Global};
 use std::marker::{Send, Sync};
-use std::test::Fail;
 use std::thread;
 
 fn is_sent_and_shared<T: Send + Sync>(_: &T) {}
@@ -12,27 +11,25 @@ fn is_sent_and_shared<T: Send + Sync>(_: &T) {}
 const NODES: u64 = 2_199_023_255_551;
 
 #[test]
-fn forty_doublings(rt: HostRuntime) -> Result<(), Fail> {
-    let value = doubled(rt.alloc(), 40)?;
+fn forty_doublings(rt: HostRuntime) {
+    let value = doubled(rt.alloc(), 40).expect(&rt, "memory");
     let counts = (value.nodes_up_to(1 << 50), value.nodes_up_to(1 << 40));
     assert!(rt; value.nodes() == NODES && counts == (Some(NODES), None));
-    Ok(())
 }
 
 // 63 doublings have 2^64 - 1 nodes; one more than that isn't counted.
 #[test]
-fn the_greatest_value(rt: HostRuntime) -> Result<(), Fail> {
-    let greatest = doubled(rt.alloc(), 63)?;
+fn the_greatest_value(rt: HostRuntime) {
+    let greatest = doubled(rt.alloc(), 63).expect(&rt, "memory");
     let before = greatest.nodes();
     let counts = (
         greatest.nodes_up_to(u64::MAX),
         greatest.nodes_up_to(u64::MAX - 1),
     );
-    let twin = greatest.share()?;
+    let twin = greatest.share().expect(&rt, "memory");
     let is_refused = Value::tagged(rt.alloc(), 0, twin).is_err();
     assert!(rt; is_refused && doubled(rt.alloc(), 64).is_err() && counts == (Some(u64::MAX), None));
     assert!(rt; before == u64::MAX && greatest.nodes() == u64::MAX);
-    Ok(())
 }
 
 fn is_the_sample(alloc: Global, value: &Value) -> Result<bool, AllocError> {
@@ -49,44 +46,52 @@ fn is_tagged(tagged: Value, twin: Value) -> Result<bool, AllocError> {
 }
 
 #[test]
-fn parts_of_a_shared_pair(rt: HostRuntime) -> Result<(), Fail> {
-    let pair = sample(rt.alloc())?;
-    let twin = pair.share()?;
-    let Some((numbers, tagged)) = pair.into_pair()? else {
+fn parts_of_a_shared_pair(rt: HostRuntime) {
+    let pair = sample(rt.alloc()).expect(&rt, "memory");
+    let twin = pair.share().expect(&rt, "memory");
+    let Some((numbers, tagged)) = pair.into_pair().expect(&rt, "memory") else {
         panic!(rt; "no pair");
     };
     assert!(rt; numbers.nodes() == 4 && tagged.nodes() == 14);
-    assert!(rt; is_the_sample(rt.alloc(), &twin)? && is_tagged(tagged, twin)?);
-    Ok(())
+    assert!(rt;
+        is_the_sample(rt.alloc(), &twin).expect(&rt, "memory")
+            && is_tagged(tagged, twin).expect(&rt, "memory")
+    );
 }
 
 #[test]
-fn elements_that_stay(rt: HostRuntime) -> Result<(), Fail> {
-    let row = sample(rt.alloc())?;
-    let shared = Element::Node(&row).share()?;
+fn elements_that_stay(rt: HostRuntime) {
+    let row = sample(rt.alloc()).expect(&rt, "memory");
+    let shared = Element::Node(&row).share().expect(&rt, "memory");
     drop(row);
-    assert!(rt; is_the_sample(rt.alloc(), &shared)?);
-    assert!(rt; Element::<Global>::Int(4).share()?.as_int() == Some(4));
-    Ok(())
+    assert!(rt; is_the_sample(rt.alloc(), &shared).expect(&rt, "memory"));
+    assert!(rt;
+        Element::<Global>::Int(4)
+            .share()
+            .expect(&rt, "memory")
+            .as_int()
+            == Some(4)
+    );
 }
 
 #[test]
-fn dropped_in_a_thread_and_here(rt: HostRuntime) -> Result<(), Fail> {
-    let value = sample(rt.alloc())?;
+fn dropped_in_a_thread_and_here(rt: HostRuntime) {
+    let value = sample(rt.alloc()).expect(&rt, "memory");
     is_sent_and_shared(&value);
-    let theirs = value.share()?;
+    let theirs = value.share().expect(&rt, "memory");
     let (left, mine) = thread::join(
         &rt,
         move || theirs.nodes() == 19,
         move || value.nodes() == 19,
     );
     assert!(rt; left && mine);
-    let value = doubled(rt.alloc(), 20)?;
-    let theirs = value.share()?;
-    let their_thread = thread::Builder::new().spawn(&rt, move || theirs.nodes())?;
+    let value = doubled(rt.alloc(), 20).expect(&rt, "memory");
+    let theirs = value.share().expect(&rt, "memory");
+    let their_thread = thread::Builder::new()
+        .spawn(&rt, move || theirs.nodes())
+        .expect(&rt, "a thread");
     drop(value);
     assert_eq!(rt; their_thread.join(&rt), (1 << 21) - 1);
-    Ok(())
 }
 
 // Whether the two are equal, in each way to compare them.
@@ -116,19 +121,21 @@ fn has_three_nodes(value: &Value) -> bool {
 }
 
 #[test]
-fn packed_or_not(rt: HostRuntime) -> Result<(), Fail> {
+fn packed_or_not(rt: HostRuntime) {
     let alloc = rt.alloc();
-    let packed = numbers(alloc, &[1, 2])?;
-    assert!(rt; has_three_nodes(&packed) && has_three_nodes(&one_and_two(alloc)?));
-    assert!(rt; are_equal(alloc, &packed, one_and_two(alloc))?);
-    assert!(rt; are_other(alloc, &packed, numbers(alloc, &[1, 2, 3]))?);
-    Ok(())
+    let packed = numbers(alloc, &[1, 2]).expect(&rt, "memory");
+    assert!(rt;
+        has_three_nodes(&packed) && has_three_nodes(&one_and_two(alloc).expect(&rt, "memory"))
+    );
+    assert!(rt; are_equal(alloc, &packed, one_and_two(alloc)).expect(&rt, "memory"));
+    assert!(rt; are_other(alloc, &packed, numbers(alloc, &[1, 2, 3])).expect(&rt, "memory"));
 }
 
 #[test]
-fn tags_are_compared(rt: HostRuntime) -> Result<(), Fail> {
+fn tags_are_compared(rt: HostRuntime) {
     let alloc = rt.alloc();
-    let seventh = Value::tagged(alloc, 7, Value::Int(1))?;
-    assert!(rt; are_other(alloc, &seventh, Value::tagged(alloc, 8, Value::Int(1)))?);
-    Ok(())
+    let seventh = Value::tagged(alloc, 7, Value::Int(1)).expect(&rt, "memory");
+    assert!(rt;
+        are_other(alloc, &seventh, Value::tagged(alloc, 8, Value::Int(1))).expect(&rt, "memory")
+    );
 }
