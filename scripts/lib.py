@@ -196,7 +196,7 @@ def stored_rows(part):
 
 
 def missed(lines):
-    """The rows that nesl_tests_runs or nesl_tests_refusals writes as missed, each with the lines that it got as its
+    """The rows that nesl_tests_runs or nesl_tests_talks writes as missed, each with the lines that it got as its
     answer; and the lines that count the rows of each part."""
     rows, counts = [], []
     for line in lines:

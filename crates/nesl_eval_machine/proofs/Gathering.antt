@@ -14,8 +14,8 @@ use Rattle.nesl_eval_code.specs.Run.{Table}
 use Rattle.nesl_eval_blocks.specs.Block.{Block}
 use Rattle.nesl_eval_blocks.specs.Exec.{Places, exec, kept_of, values_of}
 use Rattle.nesl_eval_blocks.proofs.Outs.{then_assoc, then_same}
-use Rattle.nesl_eval_ops.specs.declared.ops.Ops.{Ops}
-use Rattle.nesl_eval_ops.specs.View.{block_of}
+use Rattle.nesl_eval_ops.specs.declared.ops.Body.{Body}
+use Rattle.nesl_eval_ops.specs.View.{body_block}
 use Rattle.nesl_eval_nodes.specs.declared.meter.Meter.{Meter}
 use Rattle.nesl_eval_nodes.specs.declared.meter.Stop.{Stop}
 use Rattle.nesl_eval_nodes.specs.declared.meter.Stop.TheVariants.{Fault, Over, Memory, Stuck}
@@ -46,8 +46,8 @@ rest_none (y ∷ xs) (suc i) h = rest_none xs i h
 
 module _ (t : Table) (n : ℕ) (b : Block) (env : Places) (st : List Value) where
   -- what comes after the places of a filter, and after the values of a body
-  abbrev pub after_places : List Value → Bor Ops → List ℕ → Out Value
-  after_places vs c ks = and_then (values_of (at_place t n env vs (block_of c.now)) ks) (λ v. exec t n env b (v ∷ st))
+  abbrev pub after_places : List Value → Bor Body → List ℕ → Out Value
+  after_places vs c ks = and_then (values_of (at_place t n env vs (body_block c.now)) ks) (λ v. exec t n env b (v ∷ st))
 
   abbrev pub after_values : List Value → Out Value
   after_values us = exec t n env b (values.sequence us ∷ st)
@@ -57,7 +57,7 @@ module _ (t : Table) (n : ℕ) (b : Block) (env : Places) (st : List Value) wher
 
 module _ {A : Type 0} (t : Table) (n : ℕ) (b : Block) (env : Places) (st : List Value) where
   -- one more place of a filter
-  place_leads : (r : Round A) (kept : Vec ℕ A) (c : Bor Ops) (v : Value) (q : Bool) (D f : ℕ) → r.body ≡ Some c → as_bool v ≡ Some q →
+  place_leads : (r : Round A) (kept : Vec ℕ A) (c : Bor Body) (v : Value) (q : Bool) (D f : ℕ) → r.body ≡ Some c → as_bool v ≡ Some q →
       kept.items ≡ r.kept.items ++ cond q (r.place ∷ []) [] →
       Leads f f (in_turn t n b env st r (value v 0 D)) (between t n b env st (record r { kept = kept; turns = suc r.turns; most = max r.most D })) (Unit {0})
   place_leads r kept c v q D f is holds more =
@@ -80,7 +80,7 @@ module _ {A : Type 0} (t : Table) (n : ℕ) (b : Block) (env : Places) (st : Lis
         fits = tt;
       }
 
-  pub place_gave : (r r' : Round A) (kept : Vec ℕ A) (c : Bor Ops) (v : Value) (q : Bool) (D f : ℕ) (u : Result (Unit {0}) Stop) → r.body ≡ Some c → as_bool v ≡ Some q →
+  pub place_gave : (r r' : Round A) (kept : Vec ℕ A) (c : Bor Body) (v : Value) (q : Bool) (D f : ℕ) (u : Result (Unit {0}) Stop) → r.body ≡ Some c → as_bool v ≡ Some q →
       kept.items ≡ r.kept.items ++ cond q (r.place ∷ []) [] →
       MatchResult u (λ x. r' ≡ record r { kept = kept; turns = suc r.turns; most = max r.most D }) (λ e. e ≡ Memory) →
       Gave f u f (in_turn t n b env st r (value v 0 D)) (between t n b env st r')
@@ -90,7 +90,7 @@ module _ {A : Type 0} (t : Table) (n : ℕ) (b : Block) (env : Places) (st : Lis
       subst (λ y. Gave {U = Unit {0}} f (Err y) f (in_turn t n b env st r (value v 0 D)) (between t n b env st r')) (sym h) tt
 
   -- a filter's value is no truth value
-  pub no_place : (r : Round A) (c : Bor Ops) (v : Value) (D : ℕ) → r.body ≡ Some c → as_bool v ≡ None → in_turn t n b env st r (value v 0 D) ≡ stuck
+  pub no_place : (r : Round A) (c : Bor Body) (v : Value) (D : ℕ) → r.body ≡ Some c → as_bool v ≡ None → in_turn t n b env st r (value v 0 D) ≡ stuck
   no_place r c v D is holds =
       let vs = map tree_of r.sources.items in
       let ps = kept_of (turn_of t n env r) (places_left r (suc r.turns)) in
@@ -140,14 +140,14 @@ module _ {A : Type 0} (t : Table) (n : ℕ) (b : Block) (env : Places) (st : Lis
   pay_stops U r v D f' m n' Stuck p is h = absurd h
 
   -- the body's round comes after that of a filter
-  pub body_next : (r r' : Round A) (c : Bor Ops) (kept : Vec ℕ A) → r.body ≡ Some c → slice_get (chosen_places r.chosen) r.turns ≡ None →
+  pub body_next : (r r' : Round A) (c : Bor Body) (kept : Vec ℕ A) → r.body ≡ Some c → slice_get (chosen_places r.chosen) r.turns ≡ None →
       r'.body ≡ None → r'.block ≡ c → r'.sources ≡ r.sources → r'.chosen ≡ These kept → kept.items ≡ r.kept.items → r'.turns ≡ 0 → r'.start ≡ r.start + r.most →
       r'.most ≡ 0 → elements_of r'.values ≡ [] →
       between t n b env st r ≡ between t n b env st r'
   body_next r r' c kept is none_left body block sources chosen same turns start most made =
       let vs = map tree_of r.sources.items in
       let f = turn_of t n env r in
-      let f' = at_place t n env vs (block_of c.now) in
+      let f' = at_place t n env vs (body_block c.now) in
       let left = rest_none (chosen_places r.chosen) r.turns none_left in
       let K : Value → Out Value = λ v. exec t n env b (v ∷ st) in
       ap (λ g. gathered_as t n b env st vs r.start r.most g r.kept.items (elements_of r.values) (kept_of f (places_left r r.turns)) (all_values f (places_left r r.turns))) is
@@ -161,8 +161,8 @@ module _ {A : Type 0} (t : Table) (n : ℕ) (b : Block) (env : Places) (st : Lis
       ∙ ap (λ l. gathering r'.start r'.most (elements_of r'.values) (all_values f' l) (after_values t n b env st)) (sym same)
       ∙ ap (λ h. gathering r'.start r'.most (elements_of r'.values) (all_values f' (drop 0 (chosen_places h))) (after_values t n b env st)) (sym chosen)
       ∙ ap (λ k. gathering r'.start r'.most (elements_of r'.values) (all_values f' (places_left r' k)) (after_values t n b env st)) (sym turns)
-      ∙ ap (λ h. gathering r'.start r'.most (elements_of r'.values) (all_values (at_place t n env vs (block_of h.now)) (places_left r' r'.turns)) (after_values t n b env st)) (sym block)
-      ∙ ap (λ h. gathering r'.start r'.most (elements_of r'.values) (all_values (at_place t n env (map tree_of h.items) (block_of r'.block.now)) (places_left r' r'.turns)) (after_values t n b env st)) (sym sources)
+      ∙ ap (λ h. gathering r'.start r'.most (elements_of r'.values) (all_values (at_place t n env vs (body_block h.now)) (places_left r' r'.turns)) (after_values t n b env st)) (sym block)
+      ∙ ap (λ h. gathering r'.start r'.most (elements_of r'.values) (all_values (at_place t n env (map tree_of h.items) (body_block r'.block.now)) (places_left r' r'.turns)) (after_values t n b env st)) (sym sources)
       ∙ ap (λ g. gathered_as t n b env st (map tree_of r'.sources.items) r'.start r'.most g r'.kept.items (elements_of r'.values) (kept_of (turn_of t n env r') (places_left r' r'.turns)) (all_values (turn_of t n env r') (places_left r' r'.turns))) (sym body)
 
   -- the next turn

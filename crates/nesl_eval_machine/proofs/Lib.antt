@@ -12,3 +12,4 @@ pub mod Gathering
 pub mod Turns
 pub mod Whole
 pub mod Hands
+pub mod Columned

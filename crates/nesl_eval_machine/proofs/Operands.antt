@@ -11,14 +11,11 @@ use Rattle.nesl_values.specs.declared.value.Value as code
 use Rattle.nesl_eval_meaning.specs.Names.{Value}
 use Rattle.nesl_eval_meaning.specs.Out.{Out, value, and_then, given, stuck}
 use Rattle.nesl_eval_code.specs.declared.code.Step.{Step}
-use Rattle.nesl_eval_code.specs.Frames.{followed, frame, local_at}
+use Rattle.nesl_eval_code.specs.Frames.{followed}
 use Rattle.nesl_eval_code.specs.Run.{Table}
 use Rattle.nesl_eval_blocks.specs.Block.{Leaf, Maker, Block, push, make}
 use Rattle.nesl_eval_blocks.specs.Exec.{Places, value_at, leaf_out, with_leaves, made_of, taken, exec}
 use Rattle.nesl_eval_blocks.proofs.Outs.{then_assoc, then_same}
-use Rattle.nesl_eval_nodes.specs.declared.scope.Scope.{Scope, Let}
-use Rattle.nesl_eval_nodes.specs.Scopes.{frames_of}
-use Rattle.nesl_eval_nodes.proofs.Lookups.{frames-Let}
 use Rattle.nesl_eval_machine.specs.declared.state.Machine.{Machine}
 use Rattle.nesl_eval_nodes.specs.declared.meter.Stop.{Stop}
 use Rattle.nesl_eval_nodes.specs.declared.meter.Stop.TheVariants.{Memory}
@@ -34,24 +31,11 @@ further xs zero i = let e : i ≡ 0 + i = omega arith in ap (slice_get xs) e
 further [] (suc b) i = refl
 further (x ∷ xs) (suc b) i = let e : suc b + i ≡ suc (b + i) = omega arith in further xs b i ∙ ap (slice_get (x ∷ xs)) (sym e)
 
--- the value at a place behind others, in a scope of them all
-pub scope_place : {A : Type 0} (vs : Bor (List (code.Value A))) (outer : Bor (Scope A)) (xs : List (code.Value A)) (b i k : ℕ) (steps : List Step) →
-    vs.now ≡ xs → k ≡ b + i →
-    given (local_at (frames_of (Let vs outer)) 0 k steps) (λ v. value v 0 0)
-    ≡ given (option_and_then (followed steps) (value_at (drop b (places_of xs)) i)) (λ v. value v 0 0)
-scope_place vs outer xs b i k steps same e =
-    ap (λ fs. given (local_at fs 0 k steps) (λ v. value v 0 0)) (frames-Let vs outer)
-    ∙ ap (λ ys. given (option_and_then (followed steps) (option_and_then (λ o. o) (slice_get (frame (map tree_of ys)) k))) (λ v. value v 0 0)) same
-    ∙ ap (λ j. given (option_and_then (followed steps) (option_and_then (λ o. o) (slice_get (places_of xs) j))) (λ v. value v 0 0)) e
-    ∙ ap (λ o. given (option_and_then (followed steps) (option_and_then (λ o. o) o)) (λ v. value v 0 0)) (sym (further (places_of xs) b i))
-
 -- no value is at a place behind them
-pub no_place : {A : Type 0} (xs : List (code.Value A)) (b i : ℕ) (steps : List Step) → length xs ≤ b + i →
-    given (option_and_then (followed steps) (value_at (drop b (places_of xs)) i)) (λ v. value v 0 0) ≡ stuck
-no_place xs b i steps h =
+pub no_value : {A : Type 0} (xs : List (code.Value A)) (b i : ℕ) → length xs ≤ b + i → value_at (drop b (places_of xs)) i ≡ None
+no_value xs b i h =
     let long : length (places_of xs) ≡ length xs = length-map (map tree_of xs) Some ∙ length-map xs tree_of in
-    ap (λ o. given (option_and_then (followed steps) (option_and_then (λ o. o) o)) (λ v. value v 0 0))
-    (further (places_of xs) b i ∙ slice_get_past (places_of xs) (b + i) (omega (arith, long)))
+    ap (option_and_then (λ o. o)) (further (places_of xs) b i ∙ slice_get_past (places_of xs) (b + i) (omega (arith, long)))
 
 at_some : {X : Type 0} (xs : List X) (k : ℕ) → option_and_then (λ o. o) (slice_get (map Some xs) k) ≡ slice_get xs k
 at_some [] k = refl
@@ -59,14 +43,12 @@ at_some (x ∷ xs) zero = refl
 at_some (x ∷ xs) (suc k) = at_some xs k
 
 -- the value at a place, where there is one
-pub place_value : {A : Type 0} (xs : List (code.Value A)) (b i k : ℕ) (o : Option Value) → k ≡ b + i → o ≡ slice_get (map tree_of xs) k →
-    given (value_at (drop b (places_of xs)) i) (λ v. value v 0 0) ≡ given o (λ v. value v 0 0)
-place_value xs b i k o e at =
-    ap (λ q. given q (λ v. value v 0 0))
-    (ap (option_and_then (λ q. q)) (further (places_of xs) b i) ∙ at_some (map tree_of xs) (b + i) ∙ ap (slice_get (map tree_of xs)) (sym e) ∙ sym at)
+pub value_there : {A : Type 0} (xs : List (code.Value A)) (b i k : ℕ) (o : Option Value) → k ≡ b + i → o ≡ slice_get (map tree_of xs) k → value_at (drop b (places_of xs)) i ≡ o
+value_there xs b i k o e at =
+    ap (option_and_then (λ q. q)) (further (places_of xs) b i) ∙ at_some (map tree_of xs) (b + i) ∙ ap (slice_get (map tree_of xs)) (sym e) ∙ sym at
 
 -- no steps lead on
-pub no_steps : (o : Option Value) (k : Value → Out Value) → given (option_and_then (followed []) o) k ≡ given o k
+no_steps : (o : Option Value) (k : Value → Out Value) → given (option_and_then (followed []) o) k ≡ given o k
 no_steps None k = refl
 no_steps (Some v) k = refl
 

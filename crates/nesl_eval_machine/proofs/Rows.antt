@@ -1,32 +1,24 @@
 -- Rows of elements.
-use Rattle.std.proofs.Common.{◌≡◌, ℕ, zero, suc, ◌+◌, ◌<◌, ◌≤◌, length, refl, sym, ◌∙◌, ap, arith, List, [], ◌∷◌, ◌++◌, append_assoc, map, take, Result, Ok, Err, Option, Some, None, Bor}
+use Rattle.std.proofs.Common.{◌≡◌, ℕ, zero, suc, ◌+◌, ◌<◌, ◌≤◌, length, refl, sym, ◌∙◌, ap, arith, List, [], ◌∷◌, ◌++◌, append_assoc, map, take, Result, Ok, Err, Option, Some, None}
 use Rattle.std.specs.Prelude.{slice_get, option_and_then, MatchResult}
 use Rattle.std.specs.List.{range_with_len}
 use Rattle.std.proofs.lemmas.List.FromFn.{length-range_with_len, get_or-range_with_len}
 use Rattle.std.proofs.lemmas.Option.{slice_get-get_or}
+use Rattle.nesl_values.specs.Parts.{elements}
 use Rattle.nesl_values.specs.View.{tree_of}
 use Rattle.nesl_values.specs.declared.value.Value as code
 use Rattle.nesl_eval_meaning.specs.Names.{Value}
-use Rattle.nesl_eval_code.specs.Frames.{place_in, row}
+use Rattle.nesl_eval_code.specs.Frames.{row}
 use Rattle.nesl_eval_nodes.specs.declared.meter.Stop.{Stop}
 use Rattle.nesl_eval_nodes.specs.declared.meter.Stop.TheVariants.{Memory}
-use Rattle.nesl_eval_nodes.specs.declared.scope.Scope.{Scope, Row}
-use Rattle.nesl_eval_nodes.specs.Scopes.{frames_of}
-use Rattle.nesl_eval_nodes.proofs.Lookups.{frames-Row}
 use Rattle.nesl_eval_machine.specs.State.{places_of}
 use Rattle.nesl_eval_machine.proofs.Entering.{places_more}
 
-there : (o : Option (Option Value)) (x : Value) → option_and_then (λ p. p) o ≡ Some x → o ≡ Some (Some x)
-there None x e = absurd (cc e)
-there (Some None) x e = absurd (cc e)
-there (Some (Some y)) x e = let same : y ≡ x = cc e in ap (λ z. Some (Some z)) same
-
--- what stands at an index of the innermost row is that of the row
-pub row_element : {A : Type 0} (vs : Bor (List (code.Value A))) (outer : Bor (Scope A)) (xs : List (code.Value A)) (k i : ℕ) (x : Value) →
-    vs.now ≡ xs → Some x ≡ place_in (frames_of (Row vs k outer)) 0 i → slice_get (row k (map tree_of xs)) i ≡ Some (Some x)
-row_element vs outer xs k i x same e =
-    there (slice_get (row k (map tree_of xs)) i) x
-    (sym (e ∙ ap (λ fs. place_in fs 0 i) (frames-Row vs k outer) ∙ ap (λ ys. option_and_then (λ o. o) (slice_get (row k (map tree_of ys)) i)) same))
+-- what stands at an index of a row, where something does
+pub row_element : (vs : List Value) (k i : ℕ) (x : Value) → option_and_then (λ v. slice_get (elements v) k) (slice_get vs i) ≡ Some x → slice_get (row k vs) i ≡ Some (Some x)
+row_element [] k i x e = absurd (cc e)
+row_element (v ∷ vs) k zero x e = ap Some e
+row_element (v ∷ vs) k (suc i) x e = row_element vs k i x e
 
 -- an element that is owned
 pub owned : {A : Type 0} (r : Result (code.Value A) Stop) (o : Option (Option Value)) (x : Value) → o ≡ Some (Some x) →

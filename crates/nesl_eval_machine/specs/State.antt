@@ -1,5 +1,5 @@
 -- What is left for a machine to do.
-use Rattle.std.specs.Prelude.{◌≡◌, ℕ, suc, ◌≤◌, List, [], ◌∷◌, ◌++◌, map, length, take, drop, reverse, slice_get}
+use Rattle.std.specs.Prelude.{◌≡◌, ℕ, suc, ◌≤◌, List, [], ◌∷◌, ◌++◌, map, length, take, drop, reverse}
 use Rattle.std.specs.Prelude.{Option, Some, None}
 use Rattle.std.proofs.Common.{Bor}
 use Rattle.std.specs.List.{range_with_len}
@@ -10,14 +10,13 @@ use Rattle.nesl_values_builder.specs.Elements.{elements_of}
 use Rattle.nesl_eval_meaning.specs.Names.{Value}
 use Rattle.nesl_eval_meaning.specs.Out.{Out, value, after_cost, and_then, at_call, beside, all_beside}
 use Rattle.nesl_eval_meaning.specs.Outcome.{place_if_true, body_value}
-use Rattle.nesl_eval_code.specs.declared.code.Code.{Code}
 use Rattle.nesl_eval_code.specs.Frames.{frame, row}
-use Rattle.nesl_eval_code.specs.Run.{Table, slot_at, function_slot}
+use Rattle.nesl_eval_code.specs.Run.{Table}
 use Rattle.nesl_eval_blocks.specs.Block.{Block}
 use Rattle.nesl_eval_blocks.specs.Exec.{Places, exec, kept_of, values_of}
-use Rattle.nesl_eval_blocks.specs.Flat.{block}
-use Rattle.nesl_eval_ops.specs.declared.ops.Ops.{Ops}
-use Rattle.nesl_eval_ops.specs.View.{block_of}
+use Rattle.nesl_eval_ops.specs.declared.ops.Body.{Body}
+use Rattle.nesl_eval_ops.specs.View.{block_of, body_block}
+pub use Rattle.nesl_eval_ops.specs.View.{HasBodies}
 use Rattle.nesl_eval_machine.specs.declared.state.Chosen.{Chosen}
 use Rattle.nesl_eval_machine.specs.declared.state.Chosen.TheVariants.{All, These}
 use Rattle.nesl_eval_machine.specs.declared.state.Round.{Round}
@@ -57,11 +56,11 @@ gathering start most done later k = after_cost 0 start (and_then (beside (value 
 -- what the turns of a filter gave are the places of the body that comes after it; what those of a body gave is a
 -- sequence, which goes on the stack
 abbrev pub gathered_as :
-    Table → ℕ → Block → Places → List Value → List Value → ℕ → ℕ → Option (Bor Ops) → List ℕ → List Value
+    Table → ℕ → Block → Places → List Value → List Value → ℕ → ℕ → Option (Bor Body) → List ℕ → List Value
     → Out (List ℕ) → Out (List Value) → Out Value
 gathered_as t n b env st vs start most (Some c) kept made places later =
     gathering start most kept places
-    (λ ks. and_then (values_of (at_place t n env vs (block_of c.now)) ks) (λ v. exec t n env b (v ∷ st)))
+    (λ ks. and_then (values_of (at_place t n env vs (body_block c.now)) ks) (λ v. exec t n env b (v ∷ st)))
 gathered_as t n b env st vs start most None kept made places later =
     gathering start most made later (λ us. exec t n env b (values.sequence us ∷ st))
 
@@ -71,7 +70,7 @@ all_values f = all_beside (λ i. and_then (f i) body_value)
 
 -- a round's block at a place, and the places that are left after so many turns
 abbrev pub turn_of : {A : Type 0} → Table → ℕ → Places → Round A → ℕ → Out Value
-turn_of t n env r = at_place t n env (map tree_of r.sources.items) (block_of r.block.now)
+turn_of t n env r = at_place t n env (map tree_of r.sources.items) (body_block r.block.now)
 
 abbrev pub places_left : {A : Type 0} → Round A → ℕ → List ℕ
 places_left r k = drop k (chosen_places r.chosen)
@@ -145,12 +144,6 @@ left_at_hand t m (Holds v next) =
     left_with t m (exec t m.levels (env_of m) (block_of next.now) (tree_of v ∷ local_of m))
 left_at_hand t m (Done v) = value (tree_of v) 0 m.meter.depth
 
--- the bodies that there are are those of the functions
-abbrev pub HasBodies : Table → List (Option Ops) → Type 0
-HasBodies t bs =
-    (k : ℕ) (o : Ops) (c : Code) → slice_get bs k ≡ Some (Some o) → slot_at t k ≡ Some (function_slot c)
-    → block_of o ≡ block (1 ∷ []) c
-
 -- a machine over these names, whose frames lie one above the other
 abbrev pub Fits : {A : Type 0} → Table → Machine A → Type 0
 Fits t m =
@@ -158,7 +151,7 @@ Fits t m =
     × (m.base ≤ length m.slots.items)
 
 -- the rounds of an apply-to-each at places: that of a filter comes before that of its body
-abbrev pub in_rounds : Table → ℕ → Places → List Value → Block → Option (Bor Ops) → List ℕ → Out Value
+abbrev pub in_rounds : Table → ℕ → Places → List Value → Block → Option (Bor Body) → List ℕ → Out Value
 in_rounds t n env vs c None is = values_of (at_place t n env vs c) is
 in_rounds t n env vs c (Some body) is =
-    and_then (kept_of (at_place t n env vs c) is) (values_of (at_place t n env vs (block_of body.now)))
+    and_then (kept_of (at_place t n env vs c) is) (values_of (at_place t n env vs (body_block body.now)))

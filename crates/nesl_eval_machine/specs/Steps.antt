@@ -10,7 +10,6 @@ use Rattle.nesl_eval_meaning.specs.Out.{Out, value, fault, stuck, after_cost}
 use Rattle.nesl_eval_code.specs.Run.{Table}
 use Rattle.nesl_eval_blocks.specs.Block.{Block}
 use Rattle.nesl_eval_ops.specs.declared.ops.Ops.{Ops}
-use Rattle.nesl_eval_ops.specs.View.{block_of}
 use Rattle.nesl_eval_nodes.specs.declared.meter.Stop.{Stop}
 use Rattle.nesl_eval_nodes.specs.declared.meter.Stop.TheVariants.{Fault, Over, Memory, Stuck}
 use Rattle.nesl_eval_machine.specs.declared.state.Purpose.{Purpose}
@@ -33,6 +32,10 @@ pub record Leads (fuel fuel' : ℕ) (o p : Out Value) (Then : Type 0) : Type 0 w
   pub spent : fuel ≡ fuel' + work
   pub same : o ≡ after_cost work 0 p
   pub fits : Then
+
+-- turns that were taken, so that the one outcome leads to the other
+abbrev pub Took : ℕ → ℕ → Out Value → Out Value → Type 0
+Took f f' o p = (o ≡ stuck) ⊎ Leads f f' o p (Unit {0})
 
 -- the outcome is what is left for a machine at a block, after what was done for it
 abbrev pub Goes : {A : Type 0} → Table → ℕ → Machine A → Block → Out Value → Type 0
@@ -84,18 +87,6 @@ Gives m v n stuck = Unit {0}
 Gives m v n (value x w d) = (tree_of v ≡ x) × (m.meter.fuel ≡ n.meter.fuel + w) × (n.meter.depth ≡ d)
 Gives m v n (fault k s w) = ⊥
 
--- a step that may be the last
-abbrev pub Comes :
-    {A : Type 0} → Table → Machine A → Result (Option (code.Value A)) Stop → Machine A → Out Value → Type 0
-Comes t m (Ok None) n o = (o ≡ stuck) ⊎ Goes t m.meter.fuel n (block_of n.code.now) o
-Comes t m (Ok (Some v)) n o = Gives m v n o
-Comes t m (Err e) n o = Stops (frames_of n) m.meter.fuel e n.meter.fuel o
-
--- a step that is not
-abbrev pub going_on : {A U : Type 0} → Result U Stop → Result (Option (code.Value A)) Stop
-going_on (Ok u) = Ok None
-going_on (Err e) = Err e
-
 -- one move, after which something may be at hand
 abbrev pub Moves : {A : Type 0} → Table → Machine A → Result (Hand A) Stop → Machine A → Out Value → Type 0
 Moves t m (Ok h) n o = (o ≡ stuck) ⊎ Leads m.meter.fuel n.meter.fuel o (left_at_hand t n h) (Fits t n)
@@ -141,3 +132,14 @@ Rests t f (Ok u) n b r o =
     ⊎ Leads f n.meter.fuel o
     (unwound t (frames_of n) (slots_of n) (stack_of n) (between t n.levels b (env_of n) (local_of n) r)) (Fits t n)
 Rests t f (Err e) n b r o = Stops (frames_of n) f e n.meter.fuel o
+
+-- turns that a round had left were taken by a machine
+abbrev pub Advances : {A U : Type 0} → Table → Machine A → Result U Stop → Machine A → Round A → Round A → Type 0
+Advances t m (Ok u) n r r' =
+    (b : Block) (st : List Value) →
+    Took m.meter.fuel n.meter.fuel (between t m.levels b (env_of m) st r) (between t m.levels b (env_of m) st r')
+Advances t m (Err e) n r r' = e ≡ Memory
+
+-- these are the places
+abbrev pub ArePlaces : {A : Type 0} → Vec ℕ A → List ℕ → Type 0
+ArePlaces ks is = ks.items ≡ is

@@ -15,7 +15,7 @@ use nesl_eval_code::Step;
 use nesl_eval_nodes::held::Tops;
 use nesl_eval_nodes::meter::{Meter, Stop};
 use nesl_eval_nodes::nodes::{find_top, make_empty, make_text, named_top, share};
-use nesl_eval_nodes::scope::{Scope, local};
+use nesl_eval_nodes::scope::part_of;
 use nesl_eval_ops::{Leaf, What};
 use nesl_lex::token::Span;
 use nesl_scalars::Trap;
@@ -102,6 +102,21 @@ fn whole_local<A: Allocator>(
     }
 }
 
+// What `steps` reach from what stands at a place.
+fn lent_part<'x, A: Allocator>(
+    slots: &'x Vec<Value<A>, A>,
+    base: usize,
+    place: usize,
+    steps: &[Step],
+) -> Option<&'x Value<A>>
+    ensures { option_map (λ v. tree_of v.now) result
+        ≡ option_and_then (followed steps.now) (value_at (drop base (places_of slots.now.items)) place) }
+{
+    let index = base.checked_add(place)?;
+    let whole = lent_at(slots, index)?;
+    part_of(whole, steps)
+}
+
 // The value of a local name, which `steps` reach from what stands at a place.
 #[inline(never)]
 fn part_of_local<A: Allocator>(
@@ -114,12 +129,8 @@ fn part_of_local<A: Allocator>(
         (given (option_and_then (followed steps.now) (value_at (drop base (places_of slots.now.items)) place))
         (λ v. value v 0 0)) }
 {
-    match base.checked_add(place) {
-        Some(index) => {
-            let outer = Scope::Empty;
-            let scope = Scope::Let(&**slots, &outer);
-            local(&scope, 0, index, steps)
-        }
+    match lent_part(slots, base, place, steps) {
+        Some(part) => share_value(part),
         None => Err(Stop::Stuck),
     }
 }

@@ -4,6 +4,7 @@
 mod blocks;
 mod calls;
 mod chosen;
+mod columns;
 mod ends;
 mod hand;
 mod leaves;
@@ -14,7 +15,7 @@ mod rounds;
 mod run;
 pub mod state;
 
-pub use ends::going_on;
+pub use columns::{Setting, scope_round, take_in_columns};
 pub use moves::take_off;
 pub use rounds::{go_to_body, push_row};
 pub use run::evaluate_ops;

@@ -9,7 +9,7 @@ ghost use Rattle.nesl_eval_code.specs.Frames.{row};
 ghost use Rattle.nesl_eval_code.specs.Run.{Table};
 ghost use Rattle.nesl_eval_blocks.specs.Block.{Block, finish, each, filtered};
 ghost use Rattle.nesl_eval_blocks.specs.Exec.{Places, exec, at_places};
-ghost use Rattle.nesl_eval_ops.specs.View.{block_of};
+ghost use Rattle.nesl_eval_ops.specs.View.{block_of, body_block};
 ghost use Rattle.nesl_eval_machine.specs.State.{Fits, places_of, chosen_places, between, in_turn, in_rounds, unwound};
 ghost use Rattle.nesl_eval_machine.specs.State.{frames_of, slots_of, stack_of, env_of, local_of, left_with, left_at};
 ghost use Rattle.nesl_eval_machine.specs.Steps.{Steps, Stops, Gave, Rests};
@@ -17,10 +17,11 @@ ghost use Rattle.nesl_eval_machine.specs.Steps.{Steps, Stops, Gave, Rests};
 use crate::blocks::keep_frame;
 use crate::moves::take_off;
 use crate::state::{Chosen, Frame, Machine, Purpose, Round};
+use nesl_eval_nodes::elements::element_at;
+use nesl_eval_nodes::held::Tops;
 use nesl_eval_nodes::meter::{Meter, Stop};
 use nesl_eval_nodes::nodes::{add, finish, keep, keep_if, length_of_all, pay, read_truth, share};
-use nesl_eval_nodes::scope::{Scope, place_in};
-use nesl_eval_ops::Ops;
+use nesl_eval_ops::{Body, Ops};
 use nesl_lex::token::Span;
 use nesl_values::{Element, Value};
 use nesl_values_builder::SequenceBuilder;
@@ -57,7 +58,7 @@ fn own<A: Allocator>(element: Element<'_, A>) -> Result<Value<A>, Stop>
 }
 
 // The element of a sequence at a place, which is there.
-fn element_at<A: Allocator>(
+fn own_element<A: Allocator>(
     sources: &[Value<A>],
     index: usize,
     place: usize,
@@ -65,9 +66,7 @@ fn element_at<A: Allocator>(
     ensures { MatchResult result
         (λ v. slice_get (row place (map tree_of sources.now)) index ≡ Some (Some (tree_of v))) (λ e. e ≡ Stop.Memory) }
 {
-    let outer = Scope::Empty;
-    let scope = Scope::Row(&*sources, place, &outer);
-    match place_in(&scope, 0, index) {
+    match element_at(sources, index, place) {
         Some(element) => own(element),
         None => Err(Stop::Memory),
     }
@@ -83,7 +82,7 @@ pub fn push_row<A: Allocator>(
         ≡ places_of slots.old.items ++ row place (map tree_of sources.now)) (λ e. e ≡ Stop.Memory) }
 {
     for index in 0..sources.len() {
-        let value = element_at(sources, index, place)?;
+        let value = own_element(sources, index, place)?;
         keep(slots, value)?;
     }
     Ok(())
@@ -170,7 +169,7 @@ impl<'a, A: Allocator + Copy> Round<'a, A> {
     }
 
     // After a filter, the round of its body at the places that are kept.
-    fn become_body(&mut self, body: &'a Ops, fuel: u64, alloc: A) -> Result<(), Stop>
+    fn become_body(&mut self, body: &'a Body, fuel: u64, alloc: A) -> Result<(), Stop>
         ensures { MatchResult result (λ _. (t : Table) (n : ℕ) (b : Block) (env : Places) (st : List ValueTree)
             → self.old.body ≡ Some body.entry → slice_get (chosen_places self.old.chosen) self.old.turns ≡ None
             → between t n b env st self.old ≡ between t n b env st self.new) (λ e. e ≡ Stop.Memory) }
@@ -242,100 +241,107 @@ fn put_at<'a, A: Allocator + Copy>(round: &mut Box<Round<'a, A>, A>, place: usiz
 impl<'a, A: Allocator + Copy> Machine<'a, A> {
     /// A body at all places of the so many sequences on top.
     #[inline(always)]
-    pub(crate) fn each(
+    pub(crate) fn each<T: Tops<A>>(
         &mut self,
+        tops: &T,
         span: Span,
         count: usize,
-        body: &'a Ops,
+        body: &'a Body,
         next: &'a Ops,
     ) -> Result<(), Stop>
         requires { self.old.meter.fuel + self.old.meter.depth < 2 ^ 64 }
-        ensures steps { (t : Table) → Fits t self.old → Steps t self.old result self.new (block_of self.new.code.now)
-            (left_at t self.old (each span count (block_of body.now) (block_of next.now))) }
+        ensures steps { let t = T.table tops.now in Fits t self.old
+            → Steps t self.old result self.new (block_of self.new.code.now)
+            (left_at t self.old (each span count (body_block body.now) (block_of next.now))) }
         ensures bounded { self.new.meter.fuel + self.new.meter.depth < 2 ^ 64 }
     {
-        self.begin_each(span, count, body, next)
+        self.begin_each(tops, span, count, body, next)
     }
 
     // It is not inlined, so that its answer has no place in the memory of the loop.
     #[inline(never)]
-    fn begin_each(
+    fn begin_each<T: Tops<A>>(
         &mut self,
+        tops: &T,
         span: Span,
         count: usize,
-        body: &'a Ops,
+        body: &'a Body,
         next: &'a Ops,
     ) -> Result<(), Stop>
         requires { self.old.meter.fuel + self.old.meter.depth < 2 ^ 64 }
-        ensures steps { (t : Table) → Fits t self.old → Steps t self.old result self.new (block_of self.new.code.now)
-            (left_at t self.old (each span count (block_of body.now) (block_of next.now))) }
+        ensures steps { let t = T.table tops.now in Fits t self.old
+            → Steps t self.old result self.new (block_of self.new.code.now)
+            (left_at t self.old (each span count (body_block body.now) (block_of next.now))) }
         ensures bounded { self.new.meter.fuel + self.new.meter.depth < 2 ^ 64 }
     {
         match take_off(&mut self.stack, count)? {
-            Some(sources) => self.begin(sources, span, body, None, next),
+            Some(sources) => self.begin(tops, sources, span, body, None, next),
             None => Err(Stop::Stuck),
         }
     }
 
     /// A body at the places of the so many sequences on top where a filter holds.
     #[inline(always)]
-    pub(crate) fn filtered(
+    pub(crate) fn filtered<T: Tops<A>>(
         &mut self,
+        tops: &T,
         span: Span,
         count: usize,
-        body: &'a Ops,
-        filter: &'a Ops,
+        body: &'a Body,
+        filter: &'a Body,
         next: &'a Ops,
     ) -> Result<(), Stop>
         requires { self.old.meter.fuel + self.old.meter.depth < 2 ^ 64 }
-        ensures steps { (t : Table) → Fits t self.old → Steps t self.old result self.new (block_of self.new.code.now)
-            (left_at t self.old
-            (filtered span count (block_of body.now) (block_of filter.now) (block_of next.now))) }
+        ensures steps { let t = T.table tops.now in Fits t self.old
+            → Steps t self.old result self.new (block_of self.new.code.now) (left_at t self.old
+            (filtered span count (body_block body.now) (body_block filter.now) (block_of next.now))) }
         ensures bounded { self.new.meter.fuel + self.new.meter.depth < 2 ^ 64 }
     {
-        self.begin_filtered(span, count, body, filter, next)
+        self.begin_filtered(tops, span, count, body, filter, next)
     }
 
     // It is not inlined, so that its answer has no place in the memory of the loop.
     #[inline(never)]
-    fn begin_filtered(
+    fn begin_filtered<T: Tops<A>>(
         &mut self,
+        tops: &T,
         span: Span,
         count: usize,
-        body: &'a Ops,
-        filter: &'a Ops,
+        body: &'a Body,
+        filter: &'a Body,
         next: &'a Ops,
     ) -> Result<(), Stop>
         requires { self.old.meter.fuel + self.old.meter.depth < 2 ^ 64 }
-        ensures steps { (t : Table) → Fits t self.old → Steps t self.old result self.new (block_of self.new.code.now)
-            (left_at t self.old
-            (filtered span count (block_of body.now) (block_of filter.now) (block_of next.now))) }
+        ensures steps { let t = T.table tops.now in Fits t self.old
+            → Steps t self.old result self.new (block_of self.new.code.now) (left_at t self.old
+            (filtered span count (body_block body.now) (body_block filter.now) (block_of next.now))) }
         ensures bounded { self.new.meter.fuel + self.new.meter.depth < 2 ^ 64 }
     {
         match take_off(&mut self.stack, count)? {
-            Some(sources) => self.begin(sources, span, filter, Some(body), next),
+            Some(sources) => self.begin(tops, sources, span, filter, Some(body), next),
             None => Err(Stop::Stuck),
         }
     }
 
     // Begins with the first round at all places of sequences.
-    fn begin(
+    fn begin<T: Tops<A>>(
         &mut self,
+        tops: &T,
         sources: Vec<Value<A>, A>,
         span: Span,
-        block: &'a Ops,
-        body: Option<&'a Ops>,
+        block: &'a Body,
+        body: Option<&'a Body>,
         next: &'a Ops,
     ) -> Result<(), Stop>
         requires { self.old.meter.fuel + self.old.meter.depth < 2 ^ 64 }
-        ensures steps { (t : Table) → let m = self.old in let vs = map tree_of sources.items in Fits t m
+        ensures steps { let t = T.table tops.now in let m = self.old in let vs = map tree_of sources.items in Fits t m
             → Steps t m result self.new (block_of self.new.code.now) (left_with t m
-            (and_then (at_places span vs (in_rounds t m.levels (env_of m) vs (block_of block.now) body.entry))
+            (and_then (at_places span vs (in_rounds t m.levels (env_of m) vs (body_block block.now) body.entry))
             (λ v. exec t m.levels (env_of m) (block_of next.now) (v ∷ local_of m)))) }
         ensures bounded { self.new.meter.fuel + self.new.meter.depth < 2 ^ 64 }
     {
         let round = self.first_round(sources, span, block, body)?;
-        self.go_round(round, next)
+        self.go_round(tops, round, next)
     }
 
     /// The first round at all places of sequences, before its first turn: that of a filter, if there is a body that
@@ -344,12 +350,12 @@ impl<'a, A: Allocator + Copy> Machine<'a, A> {
         &self,
         sources: Vec<Value<A>, A>,
         span: Span,
-        block: &'a Ops,
-        body: Option<&'a Ops>,
+        block: &'a Body,
+        body: Option<&'a Body>,
     ) -> Result<Box<Round<'a, A>, A>, Stop>
         ensures { (t : Table) (next : Block) → let m = self.now in let vs = map tree_of sources.items in
             let o = left_with t m
-            (and_then (at_places span vs (in_rounds t m.levels (env_of m) vs (block_of block.now) body.entry))
+            (and_then (at_places span vs (in_rounds t m.levels (env_of m) vs (body_block block.now) body.entry))
             (λ v. exec t m.levels (env_of m) next (v ∷ local_of m))) in
             MatchResult result (λ round. (o ≡ stuck) ⊎ (o ≡ unwound t (frames_of m) (slots_of m) (stack_of m)
             (between t m.levels next (env_of m) (local_of m) round.value)))
@@ -371,9 +377,33 @@ impl<'a, A: Allocator + Copy> Machine<'a, A> {
         in_box(round, self.alloc)
     }
 
-    /// Goes on with a round between two turns.
+    /// Goes on with a round between two turns. Where it has had none, all of them are taken in columns, if they can be.
     #[inline(always)]
-    pub fn go_round(&mut self, mut round: Box<Round<'a, A>, A>, next: &'a Ops) -> Result<(), Stop>
+    pub fn go_round<T: Tops<A>>(
+        &mut self,
+        tops: &T,
+        mut round: Box<Round<'a, A>, A>,
+        next: &'a Ops,
+    ) -> Result<(), Stop>
+        requires { self.old.meter.fuel < 2 ^ 64 }
+        ensures steps { let t = T.table tops.now in let m = self.old in Fits t m
+            → Steps t m result self.new (block_of self.new.code.now)
+            (unwound t (frames_of m) (slots_of m) (stack_of m)
+            (between t m.levels (block_of next.now) (env_of m) (local_of m) round.entry.value)) }
+        ensures bounded { self.new.meter.fuel + self.new.meter.depth < 2 ^ 64 }
+    {
+        self.meter.depth = 0;
+        self.take_new_rounds(tops, &mut round)?;
+        self.go_on_with_round(round, next)
+    }
+
+    /// Begins the next turn of a round, or ends the round.
+    #[inline(always)]
+    pub fn go_on_with_round(
+        &mut self,
+        round: Box<Round<'a, A>, A>,
+        next: &'a Ops,
+    ) -> Result<(), Stop>
         requires { self.old.meter.fuel < 2 ^ 64 }
         ensures steps { (t : Table) → let m = self.old in Fits t m
             → Steps t m result self.new (block_of self.new.code.now)
@@ -381,8 +411,6 @@ impl<'a, A: Allocator + Copy> Machine<'a, A> {
             (between t m.levels (block_of next.now) (env_of m) (local_of m) round.entry.value)) }
         ensures bounded { self.new.meter.fuel + self.new.meter.depth < 2 ^ 64 }
     {
-        self.meter.depth = 0;
-        go_to_body(&mut round, self.meter.fuel, self.alloc)?;
         match round.chosen.at(round.turns) {
             Some(place) => self.begin_turn(round, place, next),
             None => self.end_round(round, next),
@@ -409,7 +437,7 @@ impl<'a, A: Allocator + Copy> Machine<'a, A> {
         let len = self.slots.len();
         put_at(&mut round, place);
         push_row(&mut self.slots, &round.sources, place)?;
-        let block = round.block;
+        let code = round.block.ops();
         let frame = Frame {
             next,
             base: self.base,
@@ -419,7 +447,7 @@ impl<'a, A: Allocator + Copy> Machine<'a, A> {
             purpose: Purpose::Turn(round),
         };
         keep_frame(&mut self.frames, frame)?;
-        self.code = block;
+        self.code = code;
         Ok(())
     }
 
@@ -459,8 +487,9 @@ impl<'a, A: Allocator + Copy> Machine<'a, A> {
 
     /// Ends a turn, and goes on with its round.
     #[inline(always)]
-    pub(crate) fn end_turn(
+    pub(crate) fn end_turn<T: Tops<A>>(
         &mut self,
+        tops: &T,
         next: &'a Ops,
         base: usize,
         len: usize,
@@ -468,7 +497,7 @@ impl<'a, A: Allocator + Copy> Machine<'a, A> {
         round: Box<Round<'a, A>, A>,
     ) -> Result<(), Stop>
         requires { self.old.meter.fuel + self.old.meter.depth < 2 ^ 64 }
-        ensures steps { (t : Table) (before : Vec (Frame A.row.Denot) A.row.Denot) (height : ℕ)
+        ensures steps { let t = T.table tops.now in (before : Vec (Frame A.row.Denot) A.row.Denot) (height : ℕ)
             → let m = record self.old { frames = before } in
             before.items ≡ self.old.frames.items ++ (record {
               next = next.entry;
@@ -481,13 +510,14 @@ impl<'a, A: Allocator + Copy> Machine<'a, A> {
             → Fits t m → Steps t m result self.new (block_of self.new.code.now) (left_at t m finish) }
         ensures bounded { self.new.meter.fuel + self.new.meter.depth < 2 ^ 64 }
     {
-        self.end_any_turn(next, base, len, levels, round)
+        self.end_any_turn(tops, next, base, len, levels, round)
     }
 
     // It is not inlined, so that its answer has no place in the memory of the loop.
     #[inline(never)]
-    fn end_any_turn(
+    fn end_any_turn<T: Tops<A>>(
         &mut self,
+        tops: &T,
         next: &'a Ops,
         base: usize,
         len: usize,
@@ -495,7 +525,7 @@ impl<'a, A: Allocator + Copy> Machine<'a, A> {
         mut round: Box<Round<'a, A>, A>,
     ) -> Result<(), Stop>
         requires { self.old.meter.fuel + self.old.meter.depth < 2 ^ 64 }
-        ensures steps { (t : Table) (before : Vec (Frame A.row.Denot) A.row.Denot) (height : ℕ)
+        ensures steps { let t = T.table tops.now in (before : Vec (Frame A.row.Denot) A.row.Denot) (height : ℕ)
             → let m = record self.old { frames = before } in
             before.items ≡ self.old.frames.items ++ (record {
               next = next.entry;
@@ -509,7 +539,7 @@ impl<'a, A: Allocator + Copy> Machine<'a, A> {
         ensures bounded { self.new.meter.fuel + self.new.meter.depth < 2 ^ 64 }
     {
         self.leave_turn(base, len, levels, &mut round)?;
-        self.go_round(round, next)
+        self.go_round(tops, round, next)
     }
 
     /// Ends a turn that a frame with these numbers waited for: its round is between two turns then.

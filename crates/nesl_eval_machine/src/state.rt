@@ -1,7 +1,7 @@
 //! The state of a machine.
 
 use nesl_eval_nodes::meter::Meter;
-use nesl_eval_ops::Ops;
+use nesl_eval_ops::{Body, Ops};
 use nesl_lex::token::Span;
 use nesl_values::Value;
 use nesl_values_builder::SequenceBuilder;
@@ -17,9 +17,9 @@ pub enum Chosen<A: Allocator> {
 /// A round of an apply-to-each: a filter or a body, with a turn at each place.
 #[derive(Drop)]
 pub struct Round<'a, A: Allocator> {
-    pub block: &'a Ops,
+    pub block: &'a Body,
     /// The body whose round comes after that of a filter.
-    pub body: Option<&'a Ops>,
+    pub body: Option<&'a Body>,
     pub sources: Vec<Value<A>, A>,
     pub chosen: Chosen<A>,
     /// How many turns were begun and ended.

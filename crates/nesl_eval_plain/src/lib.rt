@@ -15,4 +15,4 @@ mod scopes;
 mod whole;
 
 pub use block::Block;
-pub use whole::{bodies_in_columns, filters_in_columns};
+pub use whole::{LEAST, bodies_in_columns, filters_in_columns};

@@ -31,7 +31,7 @@ use std::alloc::Allocator;
 const BLOCK: usize = 1024;
 
 /// Fewer places than that are done one by one.
-const LEAST: usize = 8;
+pub const LEAST: usize = 8;
 
 // Where the block ends that begins there.
 fn end_of(turn: usize, to: usize) -> usize

@@ -1,11 +1,9 @@
-use Rattle.std.proofs.Common.{◌≤◌, ◌+◌, Err, subst, sym, ◌∙◌, arith, length, drop, Some, None, []}
+use Rattle.std.proofs.Common.{◌≤◌, ◌+◌, Err, subst, sym, ap, arith, length, Some, None}
 use Rattle.nesl_values.specs.View.{tree_of}
-use Rattle.nesl_eval_meaning.specs.Out.{value}
-use Rattle.nesl_eval_blocks.specs.Exec.{value_at}
+use Rattle.nesl_eval_meaning.specs.Out.{value, given}
 use Rattle.nesl_eval_nodes.specs.declared.meter.Stop.TheVariants.{Stuck}
 use Rattle.nesl_eval_nodes.specs.Meets.{Meets, Is}
-use Rattle.nesl_eval_machine.specs.State.{places_of}
-use Rattle.nesl_eval_machine.proofs.Operands.{place_value, no_place, no_steps, owned}
+use Rattle.nesl_eval_machine.proofs.Operands.{value_there, no_value, owned}
 use Rattle.nesl_eval_machine.proofs.leaves.whole_local.Goals as goal
 
 pub returns-in-Some-lent_at : goal.returns-in-Some-lent_at
@@ -13,18 +11,17 @@ returns-in-Some-lent_at g c = λ m.
     let v = c.args.slots.now in
     let x = tree_of c.in-Some-lent_at.value.now in
     subst (λ o. Meets (Is {A = g.row.A.Denot}) m c.share_value.result m o)
-    (sym (place_value v.items c.args.base c.args.place c.in-Some.index (Some x) (omega (arith, c.in-Some.ensures)) c.in-Some-lent_at.ensures))
+    (ap (λ o. given o (λ y. value y 0 0)) (sym (value_there v.items c.args.base c.args.place c.in-Some.index (Some x) (omega (arith, c.in-Some.ensures)) c.in-Some-lent_at.ensures)))
     (owned m c.share_value.result x c.share_value.ensures)
 
 pub returns-in-None-lent_at : goal.returns-in-None-lent_at
 returns-in-None-lent_at g c = λ m.
     let v = c.args.slots.now in
     subst (λ o. Meets (Is {A = g.row.A.Denot}) m (Err Stuck) m o)
-    (sym (place_value v.items c.args.base c.args.place c.in-Some.index None (omega (arith, c.in-Some.ensures)) c.in-None-lent_at.ensures)) tt
+    (ap (λ o. given o (λ y. value y 0 0)) (sym (value_there v.items c.args.base c.args.place c.in-Some.index None (omega (arith, c.in-Some.ensures)) c.in-None-lent_at.ensures))) tt
 
 pub returns-in-None : goal.returns-in-None
 returns-in-None g c = λ m.
     let v = c.args.slots.now in
     let past : length v.items ≤ c.args.base + c.args.place = omega (arith, c.in-None.ensures, v.ok.0, v.ok.1, v.small) in
-    let alone = no_steps (value_at (drop c.args.base (places_of v.items)) c.args.place) (λ x. value x 0 0) in
-    subst (λ o. Meets (Is {A = g.row.A.Denot}) m (Err Stuck) m o) (sym (no_place v.items c.args.base c.args.place [] past) ∙ alone) tt
+    subst (λ o. Meets (Is {A = g.row.A.Denot}) m (Err Stuck) m o) (ap (λ o. given o (λ y. value y 0 0)) (sym (no_value v.items c.args.base c.args.place past))) tt
