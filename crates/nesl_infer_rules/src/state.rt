@@ -11,6 +11,9 @@ use nesl_unify::{Flat, SolveFault, System};
 use std::alloc::{AllocError, Global};
 use std::collections::BTreeMap;
 
+/// How many parts a type has at most that is put in anew each time.
+const FEW_PARTS: usize = 16;
+
 /// The equations, the class of each variable, and a number for each top-level name whose types were used.
 #[derive(Drop)]
 pub struct State {
@@ -155,8 +158,31 @@ impl State {
     }
 
     /// The variable stands for a type of a top-level name with what the fresh variables stand for in place of its
-    /// variables. The type is put in once a line; `part` tells the types of one name apart.
+    /// variables. A type of many parts is put in once a line; `part` tells the types of one name apart.
     pub fn equate_shared(
+        &mut self,
+        name: &[u8],
+        part: usize,
+        variable: u64,
+        fresh: &[u64],
+        ty: &Ty,
+    ) -> Result<(), AllocError>
+        requires variable { variable < count self.old }
+        requires fresh { All (λ v. v < count self.old) fresh.now }
+        requires ty { IsBelow (length fresh.now) ty.now }
+        ensures { OnOk result (Adds self.old self.new (λ s of. s variable
+            ≡ substitute (type_in (map s fresh.now)) ty.now)) }
+    {
+        if ty.parts().len() <= FEW_PARTS {
+            self.equate_instance(variable, fresh, &ty.whole())?;
+            return Ok(());
+        }
+        self.equate_noted(name, part, variable, fresh, ty)?;
+        Ok(())
+    }
+
+    /// The same, where the place of the type is noted by the name and `part`, so that it isn't put in again.
+    fn equate_noted(
         &mut self,
         name: &[u8],
         part: usize,

@@ -14,6 +14,12 @@ use itoa::Buffer;
 use nesl_types_bank::{Parts, Shape, Ty};
 use std::alloc::{AllocError, Global};
 
+/// How many bytes of a text room is taken for at first.
+const TEXT_ROOM: usize = 32;
+
+/// How many pieces of a type room is taken for at first.
+const STACK_ROOM: usize = 8;
+
 /// A piece of a text that is still to be written.
 #[derive(Clone, Copy)]
 enum Piece {
@@ -147,7 +153,7 @@ fn write_part<P: Drop>(
     ensures { OnOk result (out.new.items ≡ out.old.items
         ++ text_of_type (name_at context.now) brackets (type_at parts.now place)) }
 {
-    let mut stack = Vec::new(alloc);
+    let mut stack = Vec::with_capacity(alloc, STACK_ROOM)?;
     stack.push(Piece::TypeAt(place, brackets))?;
     while let Some(piece) = stack.pop() {
         write_piece(out, &mut stack, parts, context, piece)?;
@@ -187,7 +193,7 @@ pub fn type_text<P: Drop>(
 ) -> Result<Vec<u8>, AllocError>
     ensures { IfOk result (λ text. text.items ≡ text_of_type (name_at context.now) true ty.now) }
 {
-    let mut out = Vec::new(alloc);
+    let mut out = Vec::with_capacity(alloc, TEXT_ROOM)?;
     write_type(alloc, &mut out, context, ty, true)?;
     Ok(out)
 }
@@ -246,7 +252,7 @@ pub fn scheme_text<P: Drop>(
 ) -> Result<Vec<u8>, AllocError>
     ensures { IfOk result (λ text. text.items ≡ text_of_scheme (name_at context.now) scheme.now) }
 {
-    let mut out = Vec::new(alloc);
+    let mut out = Vec::with_capacity(alloc, TEXT_ROOM)?;
     write_type(alloc, &mut out, context, &scheme.argument, true)?;
     out.extend_from_slice(b" -> ")?;
     write_type(alloc, &mut out, context, &scheme.result, true)?;

@@ -1,12 +1,11 @@
 -- Instances of types that are looked for in a bank, from a type down to its parts.
-use Rattle.std.proofs.Common.{◌≡◌, ◌≢◌, ◌⊎◌, inl, inr, ℕ, zero, suc, ◌+◌, ◌<◌, ◌≤◌, List, Option, None, Some, length, get_or, set, refl, sym, ap, subst, ◌∙◌, arith}
-use Rattle.std.proofs.lemmas.Bool.{cases_lt}
+use Rattle.std.proofs.Common.{◌≡◌, ◌≢◌, inl, inr, ℕ, zero, suc, ◌+◌, ◌<◌, ◌≤◌, List, Option, None, Some, length, get_or, refl, sym, ap, subst, ◌∙◌, arith}
 use Rattle.std.proofs.lemmas.List.{get_or-set_same, get_or-set_other, length-set, get_or_read}
 use Rattle.std.proofs.lemmas.Option.{none-some}
 use Rattle.nesl_types_bank.specs.Term.{Term, seq_of, pair_of}
 use Rattle.nesl_types_bank.specs.Substitution.{substitute}
 use Rattle.nesl_types_bank.specs.declared.shape.Shape.{Shape}
-use Rattle.nesl_types_bank.specs.declared.shape.Shape.TheVariants.{Int, Bool, Char, Var, Named, SeqOf, Both}
+use Rattle.nesl_types_bank.specs.declared.shape.Shape.TheVariants.{SeqOf, Both}
 use Rattle.nesl_types_bank.specs.Shapes.{shape_type, IsShapeBelow}
 use Rattle.nesl_types_bank.specs.Types.{type_at}
 use Rattle.nesl_types_bank.specs.Lists.{moved_to}

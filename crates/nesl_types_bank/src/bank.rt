@@ -64,7 +64,7 @@ const FIRST_ROOM: usize = 36;
 fn reserve_shapes(shapes: &mut IndexSet<Shape>) -> Result<(), AllocError>
     ensures { shapes.new.keys ≡ shapes.old.keys }
 {
-    if shapes.capacity() == 0 {
+    if shapes.is_empty() {
         shapes.reserve(FIRST_ROOM)?;
     }
     Ok(())

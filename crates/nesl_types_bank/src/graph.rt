@@ -11,6 +11,9 @@ use crate::bank::Bank;
 use crate::shape::Shape;
 use std::alloc::{AllocError, Global};
 
+/// For how many places that are being read room is taken at first.
+const STACK_ROOM: usize = 16;
+
 /// What is said of the type at a place of a graph.
 #[derive(Clone, Copy)]
 pub enum Node {
@@ -126,12 +129,12 @@ fn begin(states: &mut [State], stack: &mut Vec<usize>, place: usize) -> Result<b
     }
 }
 
-/// Reads the type at a place without a link, or answers `false` where no types fit.
+/// Reads the type at a place without a link, or answers `false` where no types fit. The stack is lent.
 fn read_root(
-    alloc: Global,
     graph: &[Node],
     bank: &mut Bank,
     states: &mut [State],
+    stack: &mut Vec<usize>,
     root: usize,
 ) -> Result<bool, AllocError>
     requires graph { IsGraph graph.now }
@@ -140,13 +143,14 @@ fn read_root(
     requires within { root < length graph.now }
     requires reading { IsReading graph.now states.old bank.old [] }
     requires unread { (a : ℕ) → state_at states.old root ≡ State.Read a → ⊥ }
+    requires empty { stack.old.items ≡ [] }
+    ensures empty { IfOk result (λ done. done ≡ true → stack.new.items ≡ []) }
     ensures keeps { IfOk result (λ done. done ≡ true → KeepsRead states.old states.new) }
     ensures reading { IfOk result (λ done. done ≡ true → IsReading graph.now states.new bank.new []) }
     ensures read { IfOk result (λ done. done ≡ true → (a : ℕ) × (state_at states.new root ≡ State.Read a)) }
     ensures none { IfOk result (λ done. done ≡ false → (w : ℕ → Term) → FitsGraph w graph.now → ⊥) }
 {
-    let mut stack = Vec::new(alloc);
-    if !begin(states, &mut stack, root)? {
+    if !begin(states, stack, root)? {
         return Ok(false);
     }
     while let Some(place) = stack.pop() {
@@ -154,7 +158,7 @@ fn read_root(
             Step::Put(shape) => states[place] = State::Read(bank.put(shape)?),
             Step::Part(part) => {
                 stack.push(place)?;
-                if !begin(states, &mut stack, target(graph, part))? {
+                if !begin(states, stack, target(graph, part))? {
                     return Ok(false);
                 }
             }
@@ -163,18 +167,21 @@ fn read_root(
     Ok(true)
 }
 
-/// The place in the bank of the type at a place, which is read where it wasn't, or `None` where no types fit.
+/// The place in the bank of the type at a place, which is read where it wasn't, or `None` where no types fit. The stack
+/// is lent.
 fn read_place(
-    alloc: Global,
     graph: &[Node],
     bank: &mut Bank,
     states: &mut [State],
+    stack: &mut Vec<usize>,
     place: usize,
 ) -> Result<Option<usize>, AllocError>
     requires graph { IsGraph graph.now }
     requires flat { IsFlat graph.now }
     requires within { place < length graph.now }
     requires reading { IsReading graph.now states.old bank.old [] }
+    requires empty { stack.old.items ≡ [] }
+    ensures empty { IfOk result (λ r. IfSome r (λ at. stack.new.items ≡ [])) }
     ensures keeps { IfOk result (λ r. IfSome r (λ at. KeepsRead states.old states.new)) }
     ensures reading { IfOk result (λ r. IfSome r (λ at. IsReading graph.now states.new bank.new [])) }
     ensures found { IfOk result (λ r. IfSome r (λ at. found graph.now states.new place ≡ Some' at)) }
@@ -183,7 +190,7 @@ fn read_place(
     if let Some(at) = found(graph, states, place) {
         return Ok(Some(at));
     }
-    if !read_root(alloc, graph, bank, states, target(graph, place))? {
+    if !read_root(graph, bank, states, stack, target(graph, place))? {
         return Ok(None);
     }
     Ok(found(graph, states, place))
@@ -200,8 +207,9 @@ fn read_all(alloc: Global, graph: &[Node]) -> Result<Option<Read>, AllocError>
     let mut noted = vec![in alloc; State::Unread; graph.len()]?;
     let states = noted.as_mut_slice();
     let mut places = Vec::with_capacity(alloc, graph.len())?;
+    let mut stack = Vec::with_capacity(alloc, STACK_ROOM)?;
     for place in 0..graph.len() {
-        match read_place(alloc, graph, &mut bank, states, place)? {
+        match read_place(graph, &mut bank, states, &mut stack, place)? {
             Some(at) => places.push(at)?,
             None => return Ok(None),
         }

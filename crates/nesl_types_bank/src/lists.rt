@@ -48,19 +48,34 @@ fn next_step(places: &[Option<usize>], shape: Shape) -> Step
     }
 }
 
+/// For how many parts that are being moved room is taken at first.
+const STACK_ROOM: usize = 8;
+
+/// For at most how many parts of a type room is taken at first.
+const PARTS_ROOM: u64 = 8;
+
+/// For how many parts of a type with so many nodes room is taken at first.
+pub(crate) fn first_room(count: Option<u64>) -> usize {
+    match count {
+        Some(count) => count.min(PARTS_ROOM) as usize,
+        None => PARTS_ROOM as usize,
+    }
+}
+
 /// The shapes of the parts of the type at a place, each behind those that it is made of, and its own last. Equal types
-/// have equal lists.
+/// have equal lists. Room is taken for so many at first.
 pub(crate) fn list_parts(
     alloc: Global,
     from: &Parts<'_>,
     place: usize,
+    room: usize,
 ) -> Result<Vec<Shape>, AllocError>
     requires { place < length from.now }
     ensures { IfOk result (λ shapes. AreParts shapes.items (type_at from.now place)) }
 {
-    let mut shapes = Vec::new(alloc);
+    let mut shapes = Vec::with_capacity(alloc, room)?;
     let mut places: Vec<Option<usize>> = vec![in alloc; None; from.len()]?;
-    let mut stack = Vec::new(alloc);
+    let mut stack = Vec::with_capacity(alloc, STACK_ROOM)?;
     stack.push(place)?;
     while let Some(next) = stack.pop() {
         match next_step(&places, from.shape(next)) {

@@ -1,6 +1,6 @@
 //! Types with types in place of their variables.
 
-ghost use Rattle.std.specs.Prelude.{◌≡◌, ◌<◌, All, length, slice_index, IsTrue, IfSome, IfOk, OnOk};
+ghost use Rattle.std.specs.Prelude.{◌≡◌, ◌<◌, ◌≤◌, All, length, replicate, slice_index, IsTrue, IfOk, OnOk, false};
 ghost use Rattle.nesl_types_bank.specs.Substitution.{substitute};
 ghost use Rattle.nesl_types_bank.specs.Shapes.{IsShapeBelow};
 ghost use Rattle.nesl_types_bank.specs.Visits.{parts, with_marks, AreReached};
@@ -11,6 +11,9 @@ use crate::bank::Bank;
 use crate::parts::Parts;
 use crate::shape::Shape;
 use std::alloc::{AllocError, Global};
+
+/// Among how many types one is renamed without memory of its own.
+const FEW: usize = 16;
 
 /// The place in `to` of a type with others in place of its variables. Its shape is given, and for each of its parts
 /// the place in `to`.
@@ -40,9 +43,9 @@ fn put_renamed(
 }
 
 /// Marks the parts of a shape.
-fn mark_parts(marks: &mut Vec<bool>, shape: Shape)
-    requires { IsShapeBelow (length marks.old.items) shape }
-    ensures { marks.new.items ≡ with_marks marks.old.items (parts shape) }
+fn mark_parts(marks: &mut [bool], shape: Shape)
+    requires { IsShapeBelow (length marks.old) shape }
+    ensures { marks.new ≡ with_marks marks.old (parts shape) }
 {
     match shape {
         Shape::SeqOf(item) => marks[item] = true,
@@ -54,21 +57,20 @@ fn mark_parts(marks: &mut Vec<bool>, shape: Shape)
     }
 }
 
-/// The marks of the places of a type and of all that it is made of.
-fn reached(alloc: Global, from: &Parts<'_>, place: usize) -> Result<Vec<bool>, AllocError>
-    requires { place < length from.now }
-    ensures { IfOk result (λ marks. AreReached from.now place marks.items) }
+/// Marks the places of a type and of all that it is made of.
+fn mark_reached(marks: &mut [bool], from: &Parts<'_>, place: usize)
+    requires place { place < length from.now }
+    requires none { marks.old ≡ replicate (length from.now) false }
+    ensures { AreReached from.now place marks.new }
 {
-    let mut marks = vec![in alloc; false; from.len()]?;
+    let mut next = from.len();
     marks[place] = true;
-    let mut next = place + 1;
     while next > 0 {
         next -= 1;
         if marks[next] {
-            mark_parts(&mut marks, from.shape(next));
+            mark_parts(marks, from.shape(next));
         }
     }
-    Ok(marks)
 }
 
 /// Puts the type at a place of `from` into `to`, with the type at place `of[v]` of `to` in place of each variable v,
@@ -90,6 +92,60 @@ pub fn rename_type(
     rename_part(alloc, &from.parts(), place, to, of)
 }
 
+/// Puts the type at a place of borrowed types into `to`, as `rename_type` does that of a bank, where what it is made of
+/// is marked. In `places` is room for the place in `to` of each.
+fn rename_marked(
+    from: &Parts<'_>,
+    place: usize,
+    to: &mut Bank,
+    of: &[usize],
+    marks: &[bool],
+    places: &mut [usize],
+) -> Result<usize, AllocError>
+    requires place { place < length from.now }
+    requires places { All (λ p. p < length to.old) of.now }
+    requires marks { AreReached from.now place marks.now }
+    requires room { length places.old ≡ length from.now }
+    ensures extends { Extends to.old to.new }
+    ensures within { IfOk result (λ p. p < length to.new) }
+    ensures here { IfOk result (λ p. type_at to.new p
+        ≡ substitute (replacement to.old of.now) (type_at from.now place)) }
+    ensures below { OnOk result
+        (HaveVariablesOf to.old to.new (substitute (replacement to.old of.now) (type_at from.now place))) }
+{
+    for next in 0..from.len() {
+        if !marks[next] {
+            continue;
+        }
+        places[next] = put_renamed(to, from.shape(next), places, of)?;
+    }
+    Ok(places[place])
+}
+
+/// Puts the type at a place of few borrowed types into `to`. It takes no memory of its own.
+fn rename_of_few(
+    from: &Parts<'_>,
+    place: usize,
+    to: &mut Bank,
+    of: &[usize],
+) -> Result<usize, AllocError>
+    requires place { place < length from.now }
+    requires places { All (λ p. p < length to.old) of.now }
+    requires few { length from.now ≤ 16 }
+    ensures extends { Extends to.old to.new }
+    ensures within { IfOk result (λ p. p < length to.new) }
+    ensures here { IfOk result (λ p. type_at to.new p
+        ≡ substitute (replacement to.old of.now) (type_at from.now place)) }
+    ensures below { OnOk result
+        (HaveVariablesOf to.old to.new (substitute (replacement to.old of.now) (type_at from.now place))) }
+{
+    let count = from.len();
+    let mut marks = [false; FEW];
+    let mut places = [0usize; FEW];
+    mark_reached(&mut marks[..count], from, place);
+    rename_marked(from, place, to, of, &marks[..count], &mut places[..count])
+}
+
 /// Puts the type at a place of borrowed types into `to`, as `rename_type` does that of a bank.
 pub(crate) fn rename_part(
     alloc: Global,
@@ -107,15 +163,14 @@ pub(crate) fn rename_part(
     ensures below { OnOk result
         (HaveVariablesOf to.old to.new (substitute (replacement to.old of.now) (type_at from.now place))) }
 {
-    let marks = reached(alloc, from, place)?;
-    let mut places = vec![in alloc; 0usize; from.len()]?;
-    for next in 0..from.len() {
-        if !marks[next] {
-            continue;
-        }
-        places[next] = put_renamed(to, from.shape(next), &places, of)?;
+    let count = from.len();
+    if count <= FEW {
+        return rename_of_few(from, place, to, of);
     }
-    Ok(places[place])
+    let mut marks = vec![in alloc; false; count]?;
+    let mut places = vec![in alloc; 0usize; count]?;
+    mark_reached(marks.as_mut_slice(), from, place);
+    rename_marked(from, place, to, of, marks.as_slice(), places.as_mut_slice())
 }
 
 /// Puts each type of `from` into `to`, with the type at place `of[v]` of `to` in place of each variable v, and gives

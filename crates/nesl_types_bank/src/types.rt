@@ -47,7 +47,7 @@ ghost use Rattle.nesl_types_bank.specs.Kinds.{kind_type};
 ghost use Rattle.nesl_types_bank.specs.Renames.{replacement, HaveVariablesOf};
 
 use crate::bank::Bank;
-use crate::lists::{are_same, count, list_of_seq, list_parts, number_of, one_more};
+use crate::lists::{are_same, count, first_room, list_of_seq, list_parts, number_of, one_more};
 use crate::part::{Kind, Part};
 use crate::parts::Parts;
 use indexmap::IndexSet;
@@ -134,8 +134,9 @@ impl Ty {
         requires { place < length bank.now }
         ensures { IfOk result (λ t. t ≡ type_at bank.now place) }
     {
-        let shapes = list_parts(alloc, &bank.parts(), place)?;
-        Ty::of(alloc, shapes, count(bank, place))
+        let count = count(bank, place);
+        let shapes = list_parts(alloc, &bank.parts(), place, first_room(count))?;
+        Ty::of(alloc, shapes, count)
     }
 
     /// Its parts, of which it is the last one.

@@ -31,6 +31,16 @@ more_within old new s members i e inside narrower before here k d below =
           subst (λ (m : Member). IsIn new m.class (s m.variable)) (sym at_end) here
     ]
 
+-- the widest class has each type
+pub all_in_any : (of : ℕ → Class) (c : Class) (t : Term) → c ≡ Any → IsIn of c t
+all_in_any of c int e = rw e tt
+all_in_any of c bool e = rw e tt
+all_in_any of c char e = rw e tt
+all_in_any of c (variable v) e = rw e (λ t m. tt)
+all_in_any of c (seq_of t) e = rw e tt
+all_in_any of c (pair_of t u) e = rw e tt
+all_in_any of c (named n) e = rw e tt
+
 -- a class with one sequence has each, and so with pairs
 seq_member : (c : Class) (t u : Term) → IsMember c (seq_of t) → IsMember c (seq_of u)
 seq_member Any t u h = tt

@@ -82,6 +82,7 @@ fn restrict_node(
 }
 
 /// Restricts the variable that stands for a member's variable, if one does, so that the type is in the member's class.
+#[tactic(auto, using(crate::proofs::Narrowing::all_in_any))]
 fn restrict_member(
     classes: &mut Vec<Class>,
     nodes: &[Node],
@@ -98,6 +99,9 @@ fn restrict_member(
     ensures none { IsErrOf result SolveFault.NoSolution → (w : ℕ → Term) → (of : ℕ → Class)
         → IsIn of member.now.class (substitute w (outside_at nodes.now member.now.variable)) → ⊥ }
 {
+    if let Class::Any = member.class {
+        return Ok(());
+    }
     let root = target(nodes, member.variable as usize);
     restrict_node(classes, root, node_at(nodes, root), member.class)?;
     Ok(())

@@ -5,7 +5,7 @@ ghost use Rattle.std.specs.Prelude.{◌≡◌, ◌∷◌, ◌++◌, [], OnOk};
 use std::alloc::AllocError;
 
 /// For how many items the first one takes room.
-const ROOM: usize = 16;
+const ROOM: usize = 32;
 
 /// Adds an item at the end.
 pub fn push_with_room<T: Copy>(items: &mut Vec<T>, item: T) -> Result<(), AllocError>

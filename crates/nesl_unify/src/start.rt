@@ -48,14 +48,14 @@ pub fn start_nodes(alloc: Global, count: usize, types: &Bank) -> Result<Vec<Node
     Ok(nodes)
 }
 
-/// The pairs of places of the sides in the table.
+/// The pairs of places of the sides in the table, with room for a pair for each variable.
 fn pairs_of_sides(alloc: Global, count: usize, sides: &[Sides]) -> Result<Vec<Pair>, AllocError>
     requires { All (λ e. (count + e.left < 2 ^ 64) × (count + e.right < 2 ^ 64)) sides.now }
     ensures below { IfOk result (λ ps. (n : ℕ) → All (λ e. (e.left < n) × (e.right < n)) sides.now
         → All (IsPairBelow (count + n)) ps.items) }
     ensures equal { IfOk result (λ ps. (w : ℕ → Term) → AreEqual w ps.items ↔ AreSidesEqual count sides.now w) }
 {
-    let mut pairs = Vec::with_capacity(alloc, sides.len())?;
+    let mut pairs = Vec::with_capacity(alloc, sides.len().saturating_add(count))?;
     for side in sides {
         let first = count + side.left;
         let second = count + side.right;

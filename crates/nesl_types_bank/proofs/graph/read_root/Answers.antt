@@ -6,8 +6,8 @@ use Rattle.nesl_types_bank.proofs.graph.read_root.Goals as goal
 
 pub loop-place-init : goal.loop-place-init
 loop-place-init c =
-    let begun = subst (IsBegun c.args.states.now c.begin.new.states c.new-stack.result.items c.begin.new.stack.items c.args.root) c.if-not-branch.false c.in_ok-begin.ensures in
-    underway_first c.args.graph.now c.args.bank.now c.args.states.now c.begin.new.states c.new-stack.result.items c.begin.new.stack.items c.args.root c.new-stack.ensures.items c.requires.within c.requires.root begun c.requires.reading
+    let begun = subst (IsBegun c.args.states.now c.begin.new.states c.args.stack.now.items c.begin.new.stack.items c.args.root) c.if-not-branch.false c.in_ok-begin.ensures in
+    underway_first c.args.graph.now c.args.bank.now c.args.states.now c.begin.new.states c.args.stack.now.items c.begin.new.stack.items c.args.root c.requires.empty c.requires.within c.requires.root begun c.requires.reading
 
 pub put-requires : goal.put-requires
 put-requires c =

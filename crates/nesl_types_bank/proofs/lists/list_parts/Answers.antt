@@ -4,8 +4,8 @@ use Rattle.nesl_types_bank.specs.Lists.{IsStep, IsMoved, IsFirstLeft}
 use Rattle.nesl_types_bank.proofs.Moved.{IsMoving, inside, unmoved, moving_push, moving_part, less_moved}
 use Rattle.nesl_types_bank.proofs.lists.list_parts.Goals as goal
 
-pub loop-next-smaller-in-Continue-branch-3 : goal.loop-next-smaller-in-Continue-branch-3
-loop-next-smaller-in-Continue-branch-3 c =
+pub loop-next-smaller-in-Continue-branch-5 : goal.loop-next-smaller-in-Continue-branch-5
+loop-next-smaller-in-Continue-branch-5 c =
     let from = c.args.from.now in
     let places = c.loop-next.places.items in
     let i = c.loop-next.invariant in
@@ -15,8 +15,8 @@ loop-next-smaller-in-Continue-branch-3 c =
     less_moved places c.pop.new.self.items c.loop-next.stack.items p c.len-in-Push.result c.in-Some.ensures.items (omega (arith, i.len, w)) u
     (λ k l. let b = i.below k l in omega (arith, i.len))
 
-pub loop-next-preserved-in-Continue-branch-3 : goal.loop-next-preserved-in-Continue-branch-3
-loop-next-preserved-in-Continue-branch-3 c =
+pub loop-next-preserved-in-Continue-branch-5 : goal.loop-next-preserved-in-Continue-branch-5
+loop-next-preserved-in-Continue-branch-5 c =
     let from = c.args.from.now in
     let shapes = c.loop-next.shapes.items in
     let places = c.loop-next.places.items in

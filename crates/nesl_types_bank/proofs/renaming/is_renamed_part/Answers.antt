@@ -1,4 +1,4 @@
-use Rattle.std.proofs.Common.{ℕ, ◌+◌, ◌-◌, ◌<◌, ◌≡◌, length, sym, ◌∙◌, subst, arith}
+use Rattle.std.proofs.Common.{ℕ, ◌+◌, ◌-◌, ◌<◌, ◌≡◌, length, ◌∙◌, subst, arith}
 use Rattle.nesl_types_bank.specs.Renames.{replacement}
 use Rattle.nesl_types_bank.proofs.Found.{IsChecking, checking_some, checked_whole, read_here}
 use Rattle.nesl_types_bank.proofs.renaming.is_renamed_part.Goals as goal
