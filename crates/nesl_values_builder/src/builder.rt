@@ -195,7 +195,8 @@ impl<A: Allocator + Copy> SequenceBuilder<A> {
         }
     }
 
-    /// Adds what another builder has at the end. Values of their own are moved, and none of them is looked at.
+    /// Adds what another builder has at the end. Values of their own are moved, and none of them is looked at. Where
+    /// there is no element yet, all of them are moved.
     pub fn append(&mut self, more: SequenceBuilder<A>) -> Result<(), AllocError>
         ensures ok { OnOk result (elements_of self.new ≡ elements_of self.old ++ elements_of more) }
         ensures err { OnErr result (elements_of self.new ≡ elements_of self.old) }
@@ -205,6 +206,10 @@ impl<A: Allocator + Copy> SequenceBuilder<A> {
             room: _,
             alloc: _,
         } = more;
+        if let Run::Empty = self.run {
+            self.run = run;
+            return Ok(());
+        }
         match run {
             Run::Empty => Ok(()),
             Run::Ints(ints) => self.extend_from_ints(&ints),
