@@ -1,4 +1,3 @@
 pub mod Meant
 pub mod Copying
 pub mod Reaching
-pub mod Ranges

@@ -6,15 +6,18 @@ ghost use Rattle.nesl_eval_code.specs.Means.{IsTableOf, names_of};
 ghost use Rattle.nesl_eval_meaning.specs.Names.{outside};
 ghost use Rattle.nesl_eval_meaning.specs.Out.{within};
 ghost use Rattle.nesl_eval_meaning.specs.Outcome.{out};
-ghost use Rattle.nesl_eval_code.specs.Stored.{environment, names_in};
-ghost use Rattle.nesl_eval_code.specs.TopLevels.{table_in};
+ghost use Rattle.nesl_eval_env.specs.Stored.{environment, names_in};
+ghost use Rattle.nesl_eval_env.specs.TopLevels.{table_in, bodies_in};
+ghost use Rattle.nesl_eval_ops.specs.View.{HasBodies};
 ghost use Rattle.nesl_eval.specs.Outcomes.{OutcomeIs};
 ghost use Rattle.nesl_eval.specs.Copied.{AreCopies, copies-prop, tree_at};
 
 use crate::outcome::{Outcome, evaluate};
 use crate::reached::places_reached;
-use nesl_eval_code::{Code, Env, TopLevel, prepare, runs_as_meant};
+use nesl_eval_code::{Code, runs_as_meant};
+use nesl_eval_env::{Env, TopLevel, prepare};
 use nesl_eval_nodes::held::{Held, Tops};
+use nesl_eval_ops::expression_ops;
 use nesl_syntax_tree::tree::Exp;
 use nesl_values::Value;
 use std::alloc::{AllocError, Allocator, Global};
@@ -29,24 +32,24 @@ struct Copies<'e, A: Allocator> {
 }
 
 impl<'e, A: Allocator> Tops<A> for Copies<'e, A> {
-    ghost use Rattle.nesl_eval_code.specs.TopLevels.{table_in};
+    ghost use Rattle.nesl_eval_env.specs.TopLevels.{table_in};
 
     ghost table = { λ c. table_in c.tops };
 
     #[tactic(auto, using(crate::proofs::Copying::copy_stands))]
     fn held(&self, place: usize) -> Result<Held<'_, A>, AllocError> {
         match self.tops.held(place) {
-            nesl_eval_code::Held::Variable(_) => match lent_copy(&self.values, place) {
+            nesl_eval_env::Held::Variable(_) => match lent_copy(&self.values, place) {
                 Some(copy) => Ok(Held::Variable(copy)),
                 None => Err(AllocError),
             },
-            nesl_eval_code::Held::Function(code) => Ok(Held::Function(code)),
-            nesl_eval_code::Held::Datatype(tag) => Ok(Held::Datatype(tag)),
-            nesl_eval_code::Held::Nothing => Ok(Held::Nothing),
+            nesl_eval_env::Held::Function(code) => Ok(Held::Function(code)),
+            nesl_eval_env::Held::Datatype(tag) => Ok(Held::Datatype(tag)),
+            nesl_eval_env::Held::Nothing => Ok(Held::Nothing),
         }
     }
 
-    #[tactic(auto, using(nesl_eval_nodes::proofs::Lent::place_named))]
+    #[tactic(auto, using(nesl_eval_env::proofs::Lent::place_named))]
     fn place_of(&self, name: &[u8]) -> Option<usize> {
         self.tops.place_of(name)
     }
@@ -71,6 +74,7 @@ fn copies_for<'e, A: Allocator + Copy>(
 ) -> Result<Copies<'e, A>, AllocError>
     ensures names { IfOk result (λ c. names_of (table_in c.tops) ≡ names_in env.now) }
     ensures stands { IfOk result (λ c. (n : ℕ) → IsTableOf n (environment env.now) (table_in c.tops)) }
+    ensures bodies { IfOk result (λ c. HasBodies (table_in c.tops) (bodies_in c.tops)) }
 {
     let tops = env.top_level();
     let reached = places_reached(alloc, &tops, env.len(), code)?;
@@ -122,7 +126,7 @@ fn copy_at<A: Allocator + Copy>(
         return None;
     }
     match tops.held(place) {
-        nesl_eval_code::Held::Variable(value) => match value.copy_into(heap) {
+        nesl_eval_env::Held::Variable(value) => match value.copy_into(heap) {
             Ok(copy) => Some(copy),
             Err(_) => None,
         },
@@ -147,8 +151,11 @@ pub fn eval_one_in<A: Allocator + Copy>(
     let Ok(code) = prepare(alloc, env, exp) else {
         return Outcome::Memory;
     };
+    let Ok(ops) = expression_ops(alloc, &code) else {
+        return Outcome::Memory;
+    };
     match copies_for(alloc, env, &code, heap) {
-        Ok(copies) => evaluate(&copies, &code, levels, fuel, heap),
+        Ok(copies) => evaluate(&copies, copies.tops.bodies(), &ops, levels, fuel, heap),
         Err(_) => Outcome::Memory,
     }
 }

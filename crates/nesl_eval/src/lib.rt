@@ -2,12 +2,11 @@
 #![tactic(auto)]
 
 mod copies;
-mod eval;
 mod one;
 mod outcome;
 mod reached;
 
 pub use copies::eval_one_in;
-pub use nesl_eval_code::Env;
+pub use nesl_eval_env::Env;
 pub use one::eval_one;
 pub use outcome::{Outcome, outcome_of};

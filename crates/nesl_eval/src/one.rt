@@ -4,11 +4,13 @@ ghost use Rattle.nesl_syntax_tree.specs.Views.{tree_of};
 ghost use Rattle.nesl_eval_meaning.specs.Names.{outside};
 ghost use Rattle.nesl_eval_meaning.specs.Out.{within};
 ghost use Rattle.nesl_eval_meaning.specs.Outcome.{out};
-ghost use Rattle.nesl_eval_code.specs.Stored.{environment};
+ghost use Rattle.nesl_eval_env.specs.Stored.{environment};
 ghost use Rattle.nesl_eval.specs.Outcomes.{OutcomeIs};
 
 use crate::outcome::{Outcome, evaluate};
-use nesl_eval_code::{Env, prepare, runs_as_meant};
+use nesl_eval_code::runs_as_meant;
+use nesl_eval_env::{Env, prepare};
+use nesl_eval_ops::expression_ops;
 use nesl_syntax_tree::tree::Exp;
 use std::alloc::Global;
 
@@ -18,8 +20,12 @@ pub fn eval_one(alloc: Global, env: &Env, exp: &Exp, levels: u32, fuel: u64) -> 
         (within fuel (out levels (environment env.now) (outside []) (tree_of exp.now))) }
 {
     runs_as_meant();
-    match prepare(alloc, env, exp) {
-        Ok(code) => evaluate(&env.top_level(), &code, levels, fuel, alloc),
-        Err(_) => Outcome::Memory,
-    }
+    let Ok(code) = prepare(alloc, env, exp) else {
+        return Outcome::Memory;
+    };
+    let Ok(ops) = expression_ops(alloc, &code) else {
+        return Outcome::Memory;
+    };
+    let tops = env.top_level();
+    evaluate(&tops, tops.bodies(), &ops, levels, fuel, alloc)
 }

@@ -1,16 +1,18 @@
 //! What an evaluation under a budget tells.
-ghost use Rattle.std.specs.Prelude.{◌≤◌, []};
+ghost use Rattle.std.specs.Prelude.{◌≡◌, []};
 ghost use Rattle.nesl_values.specs.Tree.{ValueTree};
 ghost use Rattle.nesl_eval_meaning.specs.Out.{Out, within};
+ghost use Rattle.nesl_eval_code.specs.declared.code.Code.{Code};
 ghost use Rattle.nesl_eval_code.specs.Run.{run};
+ghost use Rattle.nesl_eval_blocks.specs.Flat.{block};
+ghost use Rattle.nesl_eval_ops.specs.View.{block_of, HasBodies};
 ghost use Rattle.nesl_eval_nodes.specs.Meets.{Meets, Is};
 ghost use Rattle.nesl_eval.specs.Outcomes.{OutcomeIs};
 
-use crate::eval::eval_in;
-use nesl_eval_code::Code;
+use nesl_eval_machine::evaluate_ops;
 use nesl_eval_nodes::held::Tops;
 use nesl_eval_nodes::meter::{Meter, Stop};
-use nesl_eval_nodes::scope::Scope;
+use nesl_eval_ops::Ops;
 use nesl_lex::token::Span;
 use nesl_scalars::Trap;
 use nesl_values::Value;
@@ -36,19 +38,20 @@ pub enum Outcome<A: Allocator> {
     Memory,
 }
 
-/// What code comes to with so many levels and so much work, held by `heap`.
+/// What code comes to with so many levels and so much work, held by `heap`, where these are its operations and those
+/// of the bodies of functions.
 pub fn evaluate<A: Allocator + Copy, T: Tops<A>>(
     tops: &T,
-    code: &Code,
+    bodies: &[Option<Ops>],
+    ops: &Ops,
     levels: u32,
     fuel: u64,
     heap: A,
 ) -> Outcome<A>
-    ensures { OutcomeIs result (within fuel (run levels (T.table tops.now) [] code.now)) }
+    ensures { let t = T.table tops.now in (code : Code) → HasBodies t bodies.now → block_of ops.now ≡ block [] code
+        → OutcomeIs result (within fuel (run levels t [] code)) }
 {
-    let mut meter = Meter { fuel, depth: 0 };
-    let scope = Scope::Empty;
-    let found = eval_in(tops, &scope, code, levels, &mut meter, heap);
+    let (found, meter) = evaluate_ops(tops, bodies, ops, levels, fuel, heap);
     outcome_of(found, fuel, meter)
 }
 
@@ -58,11 +61,10 @@ pub fn outcome_of<A: Allocator>(
     fuel: u64,
     meter: Meter,
 ) -> Outcome<A>
-    requires { meter.fuel ≤ fuel }
     ensures { (o : Out ValueTree) → Meets Is (record { fuel = fuel; depth = 0 }) found meter o
         → OutcomeIs result (within fuel o) }
 {
-    let work = fuel - meter.fuel;
+    let work = fuel.saturating_sub(meter.fuel);
     match found {
         Ok(value) => Outcome::Done {
             value,

@@ -7,4 +7,3 @@ pub mod Bodies
 pub mod Resolved
 pub mod Prepared
 pub mod Placed
-pub mod Storing

@@ -2,6 +2,4 @@ pub mod Frames
 pub mod Run
 pub mod Means
 pub mod Resolving
-pub mod Stored
-pub mod TopLevels
 pub mod Laws

@@ -10,13 +10,14 @@ use indexmap::IndexMap;
 
 /// The top-level names. A function whose body is prepared before it stands there has its place already, the last.
 #[derive(Clone, Copy)]
-pub(crate) struct Places<'a> {
+pub struct Places<'a> {
+    /// The names in order, each with the code of its body, if it is a function.
     pub bodies: &'a IndexMap<Vec<u8>, Option<Code>>,
     pub own: Option<&'a [u8]>,
 }
 
 /// The name's place among those that are there.
-pub(crate) fn place_in(bodies: &IndexMap<Vec<u8>, Option<Code>>, name: &[u8]) -> Option<usize>
+pub fn place_in(bodies: &IndexMap<Vec<u8>, Option<Code>>, name: &[u8]) -> Option<usize>
     ensures { result ≡ place_of (keys_of bodies.now.entries) name.now }
 {
     bodies.get_index_of(name)

@@ -18,7 +18,7 @@ use std::alloc::{AllocError, Global};
 
 /// The code of an expression whose local names stand in these frames. It recurs as deep as the expression is high.
 #[cycle(prepare)]
-pub(crate) fn code_of(
+fn code_of(
     alloc: Global,
     places: &Places<'_>,
     exp: &Exp,
@@ -233,8 +233,15 @@ fn codes_of_bindings(
     Ok(codes)
 }
 
+/// The code of an expression of the top level.
+pub fn code_of_expression(alloc: Global, places: &Places<'_>, exp: &Exp) -> Result<Code, AllocError>
+    ensures { IfOk result (λ c. Means (known places.now) [] c (tree_of exp.now)) }
+{
+    code_of(alloc, places, exp, &Layers::Top)
+}
+
 /// The code of a function's body, in which its parameter alone is local.
-pub(crate) fn code_of_body(
+pub fn code_of_body(
     alloc: Global,
     places: &Places<'_>,
     parameter: &Pattern,

@@ -1,4 +1,5 @@
 pub mod Ranges
 pub mod Found
 pub mod Taken
+pub mod Columned
 pub mod Crosses

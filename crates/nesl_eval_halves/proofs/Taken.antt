@@ -1,49 +1,35 @@
 -- Turns that were taken together.
-use Rattle.std.proofs.Common.{◌≡◌, ℕ, ◌+◌, ◌-◌, refl, sym, ◌∙◌, ap, subst, arith, inl, inr, List, [], ◌∷◌, ◌++◌, append-nil, map, length, take, drop, reverse, Result, Ok, Err, Some, None, Vec, Bor, Global}
-use Rattle.std.specs.Prelude.{max, min, MatchResult, slice_range}
-use Rattle.std.proofs.lemmas.Grind.{common_steps}
+use Rattle.std.proofs.Common.{◌≡◌, ℕ, ◌+◌, ◌-◌, refl, sym, ◌∙◌, ap, subst, arith, inl, inr, List, [], ◌++◌, map, length, take, drop, reverse, Result, Ok, Err, Global}
+use Rattle.std.specs.Prelude.{MatchResult}
 use Rattle.nesl_lex.specs.declared.token.Span.{Span}
 use Rattle.nesl_values.specs.View.{tree_of}
-use Rattle.nesl_values_builder.specs.Elements.{elements_of}
-use Rattle.nesl_values_builder.specs.declared.builder.SequenceBuilder.{SequenceBuilder}
 use Rattle.nesl_eval_meaning.specs.Names.{Value}
 use Rattle.nesl_eval_meaning.specs.Out.{Out, value, fault, stuck, after_cost}
 use Rattle.nesl_eval_code.specs.Frames.{row}
 use Rattle.nesl_eval_code.specs.Run.{Table}
 use Rattle.nesl_eval_blocks.specs.Block.{Block, each, filtered}
-use Rattle.nesl_eval_blocks.specs.Exec.{Places, exec, kept_of}
-use Rattle.nesl_eval_ops.specs.View.{block_of}
-use Rattle.nesl_eval_ops.specs.declared.ops.Ops.{Ops}
+use Rattle.nesl_eval_blocks.specs.Exec.{Places, exec}
+use Rattle.nesl_eval_ops.specs.View.{block_of, body_block}
 use Rattle.nesl_eval_nodes.specs.declared.meter.Meter.{Meter}
 use Rattle.nesl_eval_nodes.specs.declared.meter.Stop.{Stop}
 use Rattle.nesl_eval_nodes.specs.declared.meter.Stop.TheVariants.{Fault, Over, Memory, Stuck}
 use Rattle.nesl_eval_nodes.specs.Meets.{Meets, Is}
-use Rattle.nesl_eval_nodes.specs.Sides.{Has}
-use Rattle.nesl_eval_machine.specs.declared.state.Round.{Round}
+use Rattle.nesl_eval_rounds.specs.declared.state.Round.{Round}
 use Rattle.nesl_eval_machine.specs.declared.state.Machine.{Machine}
 use Rattle.nesl_eval_machine.specs.declared.state.Frame.{Frame}
-use Rattle.std.proofs.lemmas.List.{drop-map}
 use Rattle.nesl_values.specs.declared.value.Value as code
-use Rattle.nesl_eval_machine.specs.State.{places_of, chosen_places, gathering, gathered_as, all_values, turn_of, places_left, between, unwound, above, floor, frames_of, slots_of, stack_of, env_of, local_of, left, left_at, HasBodies, Fits}
-use Rattle.nesl_eval_machine.specs.Steps.{Stops, Ends, Steps}
-use Rattle.nesl_eval_machine.proofs.Laws.{gathering_more, fault_twice, after_none, after_after}
+use Rattle.nesl_eval_rounds.specs.Rounds.{gathering, between}
+use Rattle.nesl_eval_machine.specs.State.{places_of, unwound, above, floor, frames_of, slots_of, stack_of, env_of, local_of, left, left_at, HasBodies, Fits}
+use Rattle.nesl_eval_machine.specs.Steps.{Stops, Ends, Steps, Advances}
+use Rattle.nesl_eval_rounds.proofs.Laws.{fault_twice, after_none}
 use Rattle.nesl_eval_machine.proofs.Unwinding.{unwound_stuck, unwound_fault, unwound_after}
 use Rattle.nesl_eval_machine.proofs.Stepping.{over_any, memory_any, steps_stuck, steps_from, steps_after}
-use Rattle.nesl_eval_machine.proofs.Gathering.{after_places, after_values}
 use Rattle.nesl_eval_machine.proofs.Whole.{fits_first}
+use Rattle.nesl_eval_rounds.proofs.Columned.{gathered, twice}
+use Rattle.nesl_eval_machine.proofs.Columned.{env_there, at_rest}
 use Rattle.nesl_eval_halves.specs.declared.turns.Interval.{Interval}
-use Rattle.nesl_eval_halves.specs.Intervals.{ArePlaces, IsAtTurn, at_turn}
+use Rattle.nesl_eval_halves.specs.Intervals.{IsAtTurn, at_turn}
 use Rattle.nesl_eval_halves.specs.Halves.{Came}
-
-list_value : {X : Type 0} {x y : List X} {w w' d d' : ℕ} → x ≡ y → w ≡ w' → d ≡ d' → value x w d ≡ value y w' d'
-list_value o p q = cc
-
--- all of them, and then none
-gathered : {X : Type 0} (start most : ℕ) (done xs : List X) (w d : ℕ) (k : List X → Out Value) →
-    gathering start most done (value xs w d) k ≡ after_cost w 0 (gathering start (max most d) (done ++ xs) (value [] 0 0) k)
-gathered start most done xs w d k =
-    ap (λ p. gathering start most done p k) (list_value (sym (append-nil xs)) (omega arith) (omega arith))
-    ∙ gathering_more start most done xs w d (value [] 0 0) k
 
 came_stuck : {U : Type 0} (f : ℕ) (r : Result U Stop) (f' : ℕ) (o p : Out Value) → o ≡ stuck → Came f r f' o p
 came_stuck f (Ok u) f' o p e = inl e
@@ -61,6 +47,12 @@ came_none f u o = inr (record {
   fits = tt;
 })
 
+-- turns that were taken in columns
+pub advances_came : {A U : Type 0} (t : Table) (m n : Machine A) (x : Result U Stop) (r0 r1 : Round A) (b : Block) (st : List Value) → Advances t m x n r0 r1 →
+    Came m.meter.fuel x n.meter.fuel (between t m.levels b (env_of m) st r0) (between t m.levels b (env_of m) st r1)
+advances_came t m n (Ok u) r0 r1 b st h = h b st
+advances_came {U = U} t m n (Err e) r0 r1 b st h = subst (λ y. Came {U = U} m.meter.fuel (Err y) n.meter.fuel (between t m.levels b (env_of m) st r0) (between t m.levels b (env_of m) st r1)) (sym h) tt
+
 -- turns that stopped
 pub gathering_stops : {R X : Type 0} (U : Type 0) (T : R → List X → Type 0) (start most : ℕ) (done : List X) (k : List X → Out Value) (m m' : Meter) (e : Stop) (o : Out (List X)) (p : Out Value) →
     Meets T m (Err e) m' o → Came {U = U} m.fuel (Err e) m'.fuel (gathering start most done o k) p
@@ -76,76 +68,6 @@ gathering_stops U T start most done k m m' Over (fault f' s' w) p h =
     inr (w, fault f' s' 0, ap (λ n. fault f' s' n) e, h)
 gathering_stops U T start most done k m m' Memory (fault f' s' w) p h = tt
 gathering_stops U T start most done k m m' Stuck (fault f' s' w) p h = absurd h
-
--- turns that were taken
-pub gathering_comes : {R X : Type 0} {U : Type 0} (u : U) (T : R → List X → Type 0) (start most : ℕ) (done : List X) (k : List X → Out Value) (m m' : Meter) (v : R) (o : Out (List X)) (p : Out Value) →
-    m.depth ≡ 0 → Meets T m (Ok v) m' o → ((xs : List X) → T v xs → p ≡ gathering start (max most m'.depth) (done ++ xs) (value [] 0 0) k) →
-    Came m.fuel (Ok u) m'.fuel (gathering start most done o k) p
-gathering_comes u T start most done k m m' v stuck p flat h same = inl refl
-gathering_comes u T start most done k m m' v (fault f s w) p flat h same = absurd h
-gathering_comes u T start most done k m m' v (value xs w d) p flat h same =
-    let deep : d ≡ m'.depth = omega (arith, h.2, flat) in
-    inr (record {
-      work = w;
-      spent = h.1;
-      same =
-          gathered start most done xs w d k
-          ∙ ap (λ n. after_cost w 0 (gathering start (max most n) (done ++ xs) (value [] 0 0) k)) deep
-          ∙ ap (after_cost w 0) (sym (same xs h.0));
-      fits = tt;
-    })
-
-none_left : {X : Type 0} (xs : List X) → drop (length xs) xs ≡ []
-none_left [] = refl
-none_left (x ∷ xs) = none_left xs
-
-module _ {A : Type 0} (t : Table) (n : ℕ) (b : Block) (env : Places) (st : List Value) where
-  -- a filter's turns
-  pub filter_is : (r : Round A) (c : Bor Ops) → r.body ≡ Some c →
-      between t n b env st r ≡ gathering r.start r.most r.kept.items (kept_of (turn_of t n env r) (places_left r r.turns)) (after_places t n b env st (map tree_of r.sources.items) c)
-  filter_is r c is =
-      ap (λ g. gathered_as t n b env st (map tree_of r.sources.items) r.start r.most g r.kept.items (elements_of r.values) (kept_of (turn_of t n env r) (places_left r r.turns)) (all_values (turn_of t n env r) (places_left r r.turns))) is
-
-  pub body_is : (r : Round A) → r.body ≡ None →
-      between t n b env st r ≡ gathering r.start r.most (elements_of r.values) (all_values (turn_of t n env r) (places_left r r.turns)) (after_values t n b env st)
-  body_is r is =
-      ap (λ g. gathered_as t n b env st (map tree_of r.sources.items) r.start r.most g r.kept.items (elements_of r.values) (kept_of (turn_of t n env r) (places_left r r.turns)) (all_values (turn_of t n env r) (places_left r r.turns))) is
-
-  filter_over : (r : Round A) (kept : Vec ℕ A) (c : Bor Ops) (xs : List ℕ) (d : ℕ) → r.body ≡ Some c → kept.items ≡ r.kept.items ++ xs →
-      between t n b env st (record r { kept = kept; turns = length (chosen_places r.chosen); most = max r.most d })
-      ≡ gathering r.start (max r.most d) (r.kept.items ++ xs) (value [] 0 0) (after_places t n b env st (map tree_of r.sources.items) c)
-  filter_over r kept c xs d is more =
-      let K = after_places t n b env st (map tree_of r.sources.items) c in
-      filter_is (record r { kept = kept; turns = length (chosen_places r.chosen); most = max r.most d }) c is
-      ∙ ap (λ l. gathering r.start (max r.most d) kept.items (kept_of (turn_of t n env r) l) K) (none_left (chosen_places r.chosen))
-      ∙ ap (λ l. gathering r.start (max r.most d) l (value [] 0 0) K) more
-
-  body_over : (r : Round A) (made : SequenceBuilder A) (xs : List Value) (d : ℕ) → r.body ≡ None → elements_of made ≡ elements_of r.values ++ xs →
-      between t n b env st (record r { values = made; turns = length (chosen_places r.chosen); most = max r.most d })
-      ≡ gathering r.start (max r.most d) (elements_of r.values ++ xs) (value [] 0 0) (after_values t n b env st)
-  body_over r made xs d is more =
-      let K = after_values t n b env st in
-      body_is (record r { values = made; turns = length (chosen_places r.chosen); most = max r.most d }) is
-      ∙ ap (λ l. gathering r.start (max r.most d) (elements_of made) (all_values (turn_of t n env r) l) K) (none_left (chosen_places r.chosen))
-      ∙ ap (λ l. gathering r.start (max r.most d) l (value [] 0 0) K) more
-
-  pub filter_came : {U : Type 0} (u : U) (r r' : Round A) (c : Bor Ops) (found : Vec ℕ A) (m m' : Meter) → r.body ≡ Some c → m.depth ≡ 0 →
-      Meets ArePlaces m (Ok found) m' (kept_of (turn_of t n env r) (places_left r r.turns)) →
-      r' ≡ record r { kept = r'.kept; turns = length (chosen_places r.chosen); most = max r.most m'.depth } → r'.kept.items ≡ r.kept.items ++ found.items →
-      Came m.fuel (Ok u) m'.fuel (between t n b env st r) (between t n b env st r')
-  filter_came u r r' c found m m' is flat h same more =
-      subst (λ q. Came m.fuel (Ok u) m'.fuel q (between t n b env st r')) (sym (filter_is r c is))
-      (gathering_comes u ArePlaces r.start r.most r.kept.items (after_places t n b env st (map tree_of r.sources.items) c) m m' found _ (between t n b env st r') flat h
-      (λ xs e. ap (between t n b env st) same ∙ filter_over r r'.kept c xs m'.depth is (more ∙ ap (λ l. r.kept.items ++ l) e)))
-
-  pub body_came : {U : Type 0} (u : U) (r r' : Round A) (made : SequenceBuilder A) (m m' : Meter) → r.body ≡ None → m.depth ≡ 0 →
-      Meets Has m (Ok made) m' (all_values (turn_of t n env r) (places_left r r.turns)) →
-      r' ≡ record r { values = r'.values; turns = length (chosen_places r.chosen); most = max r.most m'.depth } → elements_of r'.values ≡ elements_of r.values ++ elements_of made →
-      Came m.fuel (Ok u) m'.fuel (between t n b env st r) (between t n b env st r')
-  body_came u r r' made m m' is flat h same more =
-      subst (λ q. Came m.fuel (Ok u) m'.fuel q (between t n b env st r')) (sym (body_is r is))
-      (gathering_comes u Has r.start r.most (elements_of r.values) (after_values t n b env st) m m' made _ (between t n b env st r') flat h
-      (λ xs e. ap (between t n b env st) same ∙ body_over r r'.values xs m'.depth is (more ∙ ap (λ l. elements_of r.values ++ l) e)))
 
 -- turns that stopped stop the machine
 pub came_stops : {A : Type 0} (U : Type 0) (t : Table) (fs : List (Frame A)) (sl : Places) (st : List Value) (e : Stop) (f f' : ℕ) (o p : Out Value) →
@@ -173,10 +95,6 @@ meets_from m n (Err Over) (fault k' s' w) h = omega (arith, h)
 meets_from m n (Err Memory) (fault k' s' w) h = tt
 meets_from m n (Err Stuck) (fault k' s' w) h = h
 
--- what a machine comes to whose round is between two turns
-abbrev pub at_rest : {A : Type 0} → Table → Machine A → Block → Round A → Out Value
-at_rest t m b r = unwound t (frames_of m) (slots_of m) (stack_of m) (between t m.levels b (env_of m) (local_of m) r)
-
 -- turns that were taken, and then what comes after them
 pub then_came : {A U V : Type 0} (t : Table) (m n : Machine A) (q : Meter) (b c : Block) (r0 r1 : Round A) (u : U) (x : Result V Stop) →
     Came m.meter.fuel (Ok u) q.fuel (between t m.levels b (env_of m) (local_of m) r0) (between t m.levels b (env_of m) (local_of m) r1) →
@@ -196,15 +114,15 @@ from_rest t m m1 n b c r0 r1 u x same came fits h =
     then_came t m n m1.meter b c r0 r1 u x came (subst (λ y. Fits t y → Steps t y x n c (at_rest t y b r1)) same h fits)
 
 -- a machine at the beginning of a turn
-pub first_of_turn : {A : Type 0} (t : Table) (m : Machine A) (n : ℕ) (c : Ops) (xs : Places) → m.code.now ≡ c → m.levels ≡ n → m.base ≡ 0 → m.frames.items ≡ [] → m.stack.items ≡ [] → slots_of m ≡ xs →
-    left t m ≡ after_cost 0 m.meter.depth (exec t n xs (block_of c) [])
+pub first_of_turn : {A : Type 0} (t : Table) (m : Machine A) (n : ℕ) (c : Block) (xs : Places) → block_of m.code.now ≡ c → m.levels ≡ n → m.base ≡ 0 → m.frames.items ≡ [] → m.stack.items ≡ [] → slots_of m ≡ xs →
+    left t m ≡ after_cost 0 m.meter.depth (exec t n xs c [])
 first_of_turn t m n c xs code levels base no_frames no_stack slots =
     ap (λ l. unwound t (reverse l) (slots_of m) (map tree_of m.stack.items) (after_cost 0 m.meter.depth (exec t m.levels (drop m.base (slots_of m)) (block_of m.code.now) (above (floor (reverse l)) (map tree_of m.stack.items))))) no_frames
     ∙ ap (λ l. after_cost 0 m.meter.depth (exec t m.levels (drop m.base (slots_of m)) (block_of m.code.now) (above 0 (map tree_of l)))) no_stack
     ∙ ap (λ b. after_cost 0 m.meter.depth (exec t m.levels (drop b (slots_of m)) (block_of m.code.now) [])) base
     ∙ ap (λ l. after_cost 0 m.meter.depth (exec t m.levels l (block_of m.code.now) [])) slots
     ∙ ap (λ k. after_cost 0 m.meter.depth (exec t k xs (block_of m.code.now) [])) levels
-    ∙ ap (λ k. after_cost 0 m.meter.depth (exec t n xs (block_of k) [])) code
+    ∙ ap (λ k. after_cost 0 m.meter.depth (exec t n xs k [])) code
 
 -- a whole run from there is the turn
 pub turn_meets : {R H G T : Type 0} (table : T → Table) (i : Interval R H G T) (place : ℕ) (meter : Meter) (m n : Machine Global) (r : Result (code.Value Global) Stop) →
@@ -214,7 +132,7 @@ turn_meets table i place meter m n r at bodies runs =
     let t = table i.crew.now.tops.now in
     let o = at_turn table i place in
     let fits : Fits t m = fits_first t m (subst (HasBodies t) (sym at.0) bodies) at.5 at.4 in
-    let is : left t m ≡ after_cost 0 m.meter.depth o = first_of_turn t m i.room.now.levels i.block.now (places_of i.room.now.names.now ++ row place (map tree_of i.sources.now)) at.1 at.2 at.4 at.5 at.6 at.7 in
+    let is : left t m ≡ after_cost 0 m.meter.depth o = first_of_turn t m i.room.now.levels (body_block i.block.now) (places_of i.room.now.names.now ++ row place (map tree_of i.sources.now)) at.1 at.2 at.4 at.5 at.6 at.7 in
     subst (λ q. Meets Is q r n.meter o) at.3 (meets_from m n r o (subst (Ends m r n) is (runs fits)))
 
 -- turns that stopped, by a machine that differs in its meter alone
@@ -228,17 +146,6 @@ stopped_rest U t m m1 b e r0 r1 same came =
 pub add_ends : {U : Type 0} {P : Type 0} (f f' : ℕ) (u : Result U Stop) (o p : Out Value) → MatchResult u (λ x. P) (λ e. e ≡ Memory) → ((x : U) → P → Came {U = U} f (Ok x) f' o p) → Came {U = U} f u f' o p
 add_ends f f' (Ok x) o p h k = k x h
 add_ends {U} f f' (Err e) o p h k = subst (λ y. Came {U = U} f (Err y) f' o p) (sym h) tt
-
--- the last places of a list
-pub last_places : {X : Type 0} (xs : List X) (k n : ℕ) → n ≡ length xs → slice_range xs (min k n) n ≡ drop k xs
-last_places xs k n e = grind (arith, common_steps)
-
--- the values of the local names that a block sees
-rest_of : {X : Type 0} (k : ℕ) (xs : List X) → take (length xs - k) (drop k xs) ≡ drop k xs
-rest_of k xs = grind (arith, common_steps)
-
-pub env_there : {A : Type 0} (k : ℕ) (xs ds : List (code.Value A)) → ds ≡ xs → places_of (take (length ds - k) (drop k ds)) ≡ drop k (places_of xs)
-env_there k xs ds e = ap places_of (rest_of k ds ∙ ap (drop k) e) ∙ sym (drop-map Some k (map tree_of xs) ∙ ap (map Some) (drop-map tree_of k xs))
 
 -- turns that were taken of a round that was lent, over local names that were lent
 pub lent_came : {U : Type 0} (t : Table) (n : ℕ) (b : Block) (st : List Value) (f f' : ℕ) (x : Result U Stop) (k : ℕ) (xs ds : List (code.Value Global)) (r0 r1 last : Round Global) → ds ≡ xs → r0 ≡ r1 →
@@ -258,9 +165,6 @@ pub filtered_comes : {U : Type 0} (t : Table) (m n : Machine Global) (r : Result
     Steps t m r n (block_of n.code.now) (left_at t m (filtered s k b f x)) → Steps t m r n (block_of n.code.now) (left t m)
 filtered_comes t m n r s k b f x b' f' x' is body filter next h =
     subst (Steps t m r n (block_of n.code.now)) (ap (left_at t m) (ap (λ y. filtered s k y f x) body ∙ ap (λ y. filtered s k b' y x) filter ∙ ap (filtered s k b' f') next ∙ sym is)) h
-
-twice : (w v : ℕ) (q : Out Value) → after_cost w 0 (after_cost v 0 q) ≡ after_cost (w + v) 0 q
-twice w v q = let nothing : 0 + 0 ≡ 0 = omega arith in after_after w 0 v 0 q ∙ ap (λ d. after_cost (w + v) d q) nothing
 
 -- turns that were taken, and then more of them
 pub came_then : {U V : Type 0} (f f1 f2 : ℕ) (u : U) (r : Result V Stop) (o p q : Out Value) → Came f (Ok u) f1 o p → Came f1 r f2 p q → Came f r f2 o q

@@ -8,7 +8,7 @@ use Rattle.nesl_eval_nodes.specs.declared.meter.Stop.TheVariants.{Fault, Over, M
 use Rattle.nesl_eval_nodes.specs.Meets.{Meets}
 use Rattle.nesl_split_helpers.specs.declared.halving.Half.{Half}
 use Rattle.nesl_split_helpers.specs.Halves.{after_cost as after, IsWithin}
-use Rattle.nesl_eval_machine.specs.Steps.{Leads}
+use Rattle.nesl_eval_rounds.specs.Leads.{Leads}
 
 -- what the half took is within this fuel
 abbrev pub Within : {V : Type 0} → ℕ → Half V → Type 0

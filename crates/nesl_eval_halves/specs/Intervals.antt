@@ -8,11 +8,12 @@ use Rattle.nesl_eval_meaning.specs.Out.{Out}
 use Rattle.nesl_eval_code.specs.Frames.{row}
 use Rattle.nesl_eval_code.specs.Run.{Table}
 use Rattle.nesl_eval_blocks.specs.Exec.{kept_of}
-use Rattle.nesl_eval_ops.specs.View.{block_of}
+use Rattle.nesl_eval_ops.specs.View.{block_of, body_block}
 use Rattle.nesl_eval_nodes.specs.declared.meter.Meter.{Meter}
 use Rattle.nesl_eval_nodes.specs.Sides.{places_of}
 use Rattle.nesl_eval_machine.specs.State as state
-use Rattle.nesl_eval_machine.specs.State.{at_place, all_values, slots_of}
+use Rattle.nesl_eval_rounds.specs.Rounds.{at_place, all_values}
+use Rattle.nesl_eval_machine.specs.State.{slots_of}
 use Rattle.nesl_eval_machine.specs.declared.state.Machine.{Machine}
 use Rattle.nesl_eval_halves.specs.declared.turns.Interval.{Interval}
 
@@ -20,7 +21,7 @@ use Rattle.nesl_eval_halves.specs.declared.turns.Interval.{Interval}
 abbrev pub at_turn : {R H G T : Type 0} → (T → Table) → Interval R H G T → ℕ → Out ValueTree
 at_turn table i =
     at_place (table i.crew.now.tops.now) i.room.now.levels (state.places_of i.room.now.names.now)
-    (map tree_of i.sources.now) (block_of i.block.now)
+    (map tree_of i.sources.now) (body_block i.block.now)
 
 -- the places at which a filter holds, and the values of a body, in the turns from one to another
 abbrev pub filters_in : {R H G T : Type 0} → (T → Table) → Interval R H G T → ℕ → ℕ → Out (List ℕ)
@@ -37,6 +38,6 @@ ArePlaces ks is = ks.items ≡ is
 -- element of each sequence
 abbrev pub IsAtTurn : {R H G T : Type 0} → Machine Global → Interval R H G T → ℕ → Meter → Type 0
 IsAtTurn m i place meter =
-    (m.bodies.now ≡ i.room.now.bodies.now) × (m.code.now ≡ i.block.now) × (m.levels ≡ i.room.now.levels)
+    (m.bodies.now ≡ i.room.now.bodies.now) × (block_of m.code.now ≡ body_block i.block.now) × (m.levels ≡ i.room.now.levels)
     × (m.meter ≡ meter) × (m.base ≡ 0) × (m.frames.items ≡ []) × (m.stack.items ≡ [])
     × (slots_of m ≡ state.places_of i.room.now.names.now ++ row place (map tree_of i.sources.now))

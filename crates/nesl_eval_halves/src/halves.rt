@@ -8,28 +8,30 @@ ghost use Rattle.nesl_eval_meaning.specs.Out.{and_then, given};
 ghost use Rattle.nesl_eval_meaning.specs.Outcome.{place_if_true, body_value};
 ghost use Rattle.nesl_eval_blocks.specs.Block.{Block, finish};
 ghost use Rattle.nesl_eval_blocks.specs.Exec.{exec, taken, at_places, kept_of};
-ghost use Rattle.nesl_eval_ops.specs.View.{block_of};
+ghost use Rattle.nesl_eval_ops.specs.View.{block_of, body_block};
 ghost use Rattle.nesl_eval_nodes.specs.Sides.{places_of, IsKeptPlace, IsOne, Has};
 ghost use Rattle.nesl_eval_nodes.specs.Meets.{Meets, Is};
 ghost use Rattle.nesl_eval_machine.specs.State as state;
-ghost use Rattle.nesl_eval_machine.specs.State.{Fits, HasBodies, between, unwound, left, left_at, frames_of, slots_of};
-ghost use Rattle.nesl_eval_machine.specs.State.{stack_of, env_of, local_of, left_with, in_rounds, all_values, turn_of};
-ghost use Rattle.nesl_eval_machine.specs.State.{places_left};
-ghost use Rattle.nesl_eval_machine.specs.Steps.{Steps, Comes, Ends};
+ghost use Rattle.nesl_eval_rounds.specs.Rounds.{between, all_values, turn_of, places_left};
+ghost use Rattle.nesl_eval_machine.specs.State.{Fits, HasBodies, unwound, left, left_at, frames_of, slots_of};
+ghost use Rattle.nesl_eval_machine.specs.State.{stack_of, env_of, local_of, left_with, in_rounds, left_at_hand};
+ghost use Rattle.nesl_eval_machine.specs.Steps.{Steps, Moves, Ends};
 ghost use Rattle.nesl_eval_halves.specs.Intervals.{at_turn, filters_in, bodies_in, ArePlaces};
 ghost use Rattle.nesl_eval_halves.specs.Halves.{Within, HalfFinds, Came};
 
+use crate::columns::{bodies_by_columns, filters_by_columns, room_for};
 use crate::crew::{Crew, fork};
 use crate::turns::{
-    Interval, Parts, Room, Sources, add_places, add_values, count_left, ends_filter, idle_machine,
-    set_at_turn, settle,
+    Interval, Parts, Room, Sources, count_left, ends_filter, idle_machine, set_at_turn, settle,
+    take_at_end,
 };
-use nesl_eval_machine::state::{Frame, Machine, Purpose, Round};
-use nesl_eval_machine::{go_to_body, going_on, take_off};
+use nesl_eval_machine::state::{Frame, Hand, Machine, Purpose};
+use nesl_eval_machine::take_off;
 use nesl_eval_nodes::held::Tops;
 use nesl_eval_nodes::meter::{Meter, Stop};
 use nesl_eval_nodes::nodes::{add, keep_if, pay, read_truth};
 use nesl_eval_ops::Ops;
+use nesl_eval_rounds::{Round, go_to_body};
 use nesl_split_helpers::{
     Gate, Half, Helpers, Place, begin_meter, cost_since, join_places, join_values,
 };
@@ -39,7 +41,7 @@ use std::alloc::Global;
 use std::thread::Threads;
 
 /// All that is left for a machine. Its rounds are cut in halves where helpers are granted, at most so often one within
-/// another.
+/// another. No run makes 2^64 - 1 moves.
 #[cycle(halves)]
 pub(crate) fn run_in_halves<
     R: Threads + Sync,
@@ -55,30 +57,64 @@ pub(crate) fn run_in_halves<
     ensures { let t = T.table crew.now.tops.now in Fits t machine.old
         → Ends machine.old result machine.new (left t machine.old) }
 {
+    let mut hand = Hand::Empty;
     for _ in 0..u64::MAX {
-        match step_in_halves(machine, cuts, crew) {
-            Ok(None) => {}
-            Ok(Some(value)) => return Ok(value),
+        match go_on_in_halves(machine, hand, cuts, crew) {
+            Ok(Hand::Done(value)) => return Ok(value),
+            Ok(next) => hand = next,
             Err(stop) => return Err(machine.place_stop(stop)),
         }
     }
     Err(Stop::Memory)
 }
 
-// One operation, or all turns of a round in halves.
+// One move, or all turns of a round in halves.
 #[cycle(halves)]
-fn step_in_halves<R: Threads + Sync, H: Helpers + Sync, G: Gate + Sync, T: Tops<Global> + Sync>(
-    machine: &mut Machine<'_, Global>,
+#[inline(always)]
+fn go_on_in_halves<
+    'a,
+    R: Threads + Sync,
+    H: Helpers + Sync,
+    G: Gate + Sync,
+    T: Tops<Global> + Sync,
+>(
+    machine: &mut Machine<'a, Global>,
+    hand: Hand<'a, Global>,
     cuts: u32,
     crew: &Crew<'_, R, H, G, T>,
-) -> Result<Option<Value<Global>>, Stop>
+) -> Result<Hand<'a, Global>, Stop>
     requires room { machine.old.meter.fuel + machine.old.meter.depth < 2 ^ 64 }
-    ensures comes { let t = T.table crew.now.tops.now in Fits t machine.old
-        → Comes t machine.old result machine.new (left t machine.old) }
+    ensures moves { let t = T.table crew.now.tops.now in Fits t machine.old
+        → Moves t machine.old result machine.new (left_at_hand t machine.old hand.entry) }
     ensures bounded { machine.new.meter.fuel + machine.new.meter.depth < 2 ^ 64 }
 {
-    let code = machine.code;
-    match code {
+    match hand {
+        Hand::Empty => operate_in_halves(machine, cuts, crew),
+        Hand::Holds(value, next) => take_at_end(machine, value, next, crew.tops),
+        Hand::Done(value) => Ok(Hand::Done(value)),
+    }
+}
+
+// The next operation, where nothing is at hand, or all turns of a round in halves.
+#[cycle(halves)]
+#[inline(always)]
+fn operate_in_halves<
+    'a,
+    R: Threads + Sync,
+    H: Helpers + Sync,
+    G: Gate + Sync,
+    T: Tops<Global> + Sync,
+>(
+    machine: &mut Machine<'a, Global>,
+    cuts: u32,
+    crew: &Crew<'_, R, H, G, T>,
+) -> Result<Hand<'a, Global>, Stop>
+    requires { machine.old.meter.fuel + machine.old.meter.depth < 2 ^ 64 }
+    ensures moves { let t = T.table crew.now.tops.now in Fits t machine.old
+        → Moves t machine.old result machine.new (left t machine.old) }
+    ensures bounded { machine.new.meter.fuel + machine.new.meter.depth < 2 ^ 64 }
+{
+    match machine.code {
         Ops::Each {
             span,
             count,
@@ -90,9 +126,10 @@ fn step_in_halves<R: Threads + Sync, H: Helpers + Sync, G: Gate + Sync, T: Tops<
                 count: *count,
                 block: &**body,
                 body: None,
-                next: &**next,
+                next: next.ops(),
             };
-            going_on(each_in_halves(machine, &parts, cuts, crew))
+            each_in_halves(machine, &parts, cuts, crew)?;
+            Ok(Hand::Empty)
         }
         Ops::Filtered {
             span,
@@ -106,12 +143,16 @@ fn step_in_halves<R: Threads + Sync, H: Helpers + Sync, G: Gate + Sync, T: Tops<
                 count: *count,
                 block: &**filter,
                 body: Some(&**body),
-                next: &**next,
+                next: next.ops(),
             };
-            going_on(each_in_halves(machine, &parts, cuts, crew))
+            each_in_halves(machine, &parts, cuts, crew)?;
+            Ok(Hand::Empty)
         }
-        Ops::Finish => finish_in_halves(machine, cuts, crew),
-        _ => machine.step(crew.tops),
+        Ops::Finish if ends_filter(&machine.frames) => {
+            finish_filter(machine, cuts, crew)?;
+            Ok(Hand::Empty)
+        }
+        _ => machine.go_on(crew.tops, Hand::Empty),
     }
 }
 
@@ -128,7 +169,7 @@ fn each_in_halves<'a, R: Threads + Sync, H: Helpers + Sync, G: Gate + Sync, T: T
     ensures steps { let t = T.table crew.now.tops.now in let m = machine.old in Fits t m
         → Steps t m result machine.new (block_of machine.new.code.now) (left_with t m
         (given (taken parts.now.count (local_of m) []) (λ p. and_then (at_places parts.now.span p.0
-        (in_rounds t m.levels (env_of m) p.0 (block_of parts.now.block.now) parts.now.body))
+        (in_rounds t m.levels (env_of m) p.0 (body_block parts.now.block.now) parts.now.body))
         (λ v. exec t m.levels (env_of m) (block_of parts.now.next.now) (v ∷ p.1))))) }
     ensures bounded { machine.new.meter.fuel + machine.new.meter.depth < 2 ^ 64 }
 {
@@ -157,7 +198,7 @@ fn begin_in_halves<
     ensures steps { let t = T.table crew.now.tops.now in let m = machine.old in let p = parts.now in
         let vs = map tree_of sources.values.items in
         Fits t m → Steps t m result machine.new (block_of machine.new.code.now) (left_with t m
-        (and_then (at_places p.span vs (in_rounds t m.levels (env_of m) vs (block_of p.block.now) p.body))
+        (and_then (at_places p.span vs (in_rounds t m.levels (env_of m) vs (body_block p.block.now) p.body))
         (λ v. exec t m.levels (env_of m) (block_of p.next.now) (v ∷ local_of m)))) }
     ensures bounded { machine.new.meter.fuel + machine.new.meter.depth < 2 ^ 64 }
 {
@@ -191,7 +232,7 @@ fn go_round_in_halves<
 {
     machine.meter.depth = 0;
     rounds_in_halves(machine, &mut round, cuts, crew)?;
-    machine.go_round(round, next)
+    machine.go_on_with_round(round, next)
 }
 
 // Takes all turns that a round has left, and those of the body that comes after a filter, where helpers are granted.
@@ -277,7 +318,8 @@ fn turns_before_body<
     go_to_body(round, machine.meter.fuel, machine.alloc)
 }
 
-// Takes all turns that a round has left, if they are two or more and a helper is granted.
+// Takes all turns that a round has left: in halves, if they are two or more and a helper is granted, else in columns,
+// if they can be.
 #[cycle(halves)]
 fn turns_in_halves<
     'a,
@@ -300,13 +342,13 @@ fn turns_in_halves<
     ensures depth { machine.new.meter.depth ≤ machine.old.meter.depth }
 {
     if cuts == 0 || count_left(&**round) < 2 {
-        return Ok(());
+        return machine.take_new_turns(crew.tops, round);
     }
     if machine.base > machine.slots.len() {
         return Err(Stop::Memory);
     }
     let Some(permit) = crew.helpers.ask() else {
-        return Ok(());
+        return machine.take_new_turns(crew.tops, round);
     };
     let mut meter = begin_meter(machine.meter.fuel);
     let room = Room {
@@ -339,11 +381,11 @@ fn take_turns<'a, R: Threads + Sync, H: Helpers + Sync, G: Gate + Sync, T: Tops<
     match round.body {
         Some(_) => {
             let places = take_filter_turns(room, &*round, permit, meter, cuts, crew)?;
-            add_places(round, &places, meter.depth)
+            round.add_places(&places, meter.depth)
         }
         None => {
             let values = take_body_turns(room, &*round, permit, meter, cuts, crew)?;
-            add_values(round, values, meter.depth)
+            round.add_values(values, meter.depth)
         }
     }
 }
@@ -412,6 +454,27 @@ fn filters_one_by_one<R: Threads + Sync, H: Helpers + Sync, G: Gate + Sync, T: T
     Ok(kept)
 }
 
+// The places at which a filter holds, by this thread: in columns, if they can be.
+#[cycle(halves)]
+fn filters_in_order<R: Threads + Sync, H: Helpers + Sync, G: Gate + Sync, T: Tops<Global> + Sync>(
+    interval: &Interval<'_, R, H, G, T>,
+    from: usize,
+    to: usize,
+    cuts: u32,
+    meter: &mut Meter,
+) -> Result<Vec<usize>, Stop>
+    requires room { meter.old.fuel + meter.old.depth < 2 ^ 64 }
+    requires turns { (from ≤ to) × (to ≤ length (places_of interval.now.places)) }
+    ensures meets { HasBodies (T.table interval.now.crew.now.tops.now) interval.now.room.now.bodies.now
+        → Meets ArePlaces meter.old result meter.new (filters_in T.table interval.now from to) }
+    ensures spent { meter.new.fuel + meter.new.depth ≤ meter.old.fuel + meter.old.depth }
+{
+    match filters_by_columns(interval, from, to, meter) {
+        Some(found) => Ok(found),
+        None => filters_one_by_one(interval, from, to, cuts, meter),
+    }
+}
+
 // The places at which a filter holds, in halves where a helper is granted.
 #[cycle(halves)]
 #[inline(never)]
@@ -429,11 +492,11 @@ fn filters<R: Threads + Sync, H: Helpers + Sync, G: Gate + Sync, T: Tops<Global>
     ensures spent { meter.new.fuel + meter.new.depth ≤ meter.old.fuel + meter.old.depth }
 {
     if cuts == 0 || to - from < 2 {
-        return filters_one_by_one(interval, from, to, cuts, meter);
+        return filters_in_order(interval, from, to, cuts, meter);
     }
     match interval.crew.helpers.ask() {
         Some(permit) => filters_halved(interval, from, to, permit, meter, cuts - 1),
-        None => filters_one_by_one(interval, from, to, cuts, meter),
+        None => filters_in_order(interval, from, to, cuts, meter),
     }
 }
 
@@ -545,12 +608,7 @@ fn bodies_one_by_one<R: Threads + Sync, H: Helpers + Sync, G: Gate + Sync, T: To
 {
     let start = meter.depth;
     let mut most = 0;
-    // The values of all places behind are added to the first ones.
-    let room = if from == 0 {
-        interval.places.len()
-    } else {
-        to - from
-    };
+    let room = room_for(interval, from, to);
     let mut builder = SequenceBuilder::with_room(interval.crew.alloc, room);
     let mut machine = idle_machine(interval);
     for turn in from..to {
@@ -562,6 +620,27 @@ fn bodies_one_by_one<R: Threads + Sync, H: Helpers + Sync, G: Gate + Sync, T: To
     }
     meter.depth = start + most;
     Ok(builder)
+}
+
+// The values of a body, by this thread: in columns, if they can be.
+#[cycle(halves)]
+fn bodies_in_order<R: Threads + Sync, H: Helpers + Sync, G: Gate + Sync, T: Tops<Global> + Sync>(
+    interval: &Interval<'_, R, H, G, T>,
+    from: usize,
+    to: usize,
+    cuts: u32,
+    meter: &mut Meter,
+) -> Result<SequenceBuilder, Stop>
+    requires room { meter.old.fuel + meter.old.depth < 2 ^ 64 }
+    requires turns { (from ≤ to) × (to ≤ length (places_of interval.now.places)) }
+    ensures meets { HasBodies (T.table interval.now.crew.now.tops.now) interval.now.room.now.bodies.now
+        → Meets Has meter.old result meter.new (bodies_in T.table interval.now from to) }
+    ensures spent { meter.new.fuel + meter.new.depth ≤ meter.old.fuel + meter.old.depth }
+{
+    match bodies_by_columns(interval, from, to, meter) {
+        Some(found) => Ok(found),
+        None => bodies_one_by_one(interval, from, to, cuts, meter),
+    }
 }
 
 // The values of a body, in halves where a helper is granted.
@@ -581,11 +660,11 @@ fn bodies<R: Threads + Sync, H: Helpers + Sync, G: Gate + Sync, T: Tops<Global> 
     ensures spent { meter.new.fuel + meter.new.depth ≤ meter.old.fuel + meter.old.depth }
 {
     if cuts == 0 || to - from < 2 {
-        return bodies_one_by_one(interval, from, to, cuts, meter);
+        return bodies_in_order(interval, from, to, cuts, meter);
     }
     match interval.crew.helpers.ask() {
         Some(permit) => bodies_halved(interval, from, to, permit, meter, cuts - 1),
-        None => bodies_one_by_one(interval, from, to, cuts, meter),
+        None => bodies_in_order(interval, from, to, cuts, meter),
     }
 }
 
@@ -704,33 +783,27 @@ fn value_at<'a, R: Threads + Sync, H: Helpers + Sync, G: Gate + Sync, T: Tops<Gl
     settle(found, machine.meter, meter)
 }
 
-// The end of a block.
+// The end of the last turn of a filter, whose value is on the stack.
 #[cycle(halves)]
-fn finish_in_halves<R: Threads + Sync, H: Helpers + Sync, G: Gate + Sync, T: Tops<Global> + Sync>(
+#[inline(never)]
+fn finish_filter<R: Threads + Sync, H: Helpers + Sync, G: Gate + Sync, T: Tops<Global> + Sync>(
     machine: &mut Machine<'_, Global>,
     cuts: u32,
     crew: &Crew<'_, R, H, G, T>,
-) -> Result<Option<Value<Global>>, Stop>
+) -> Result<(), Stop>
     requires { machine.old.meter.fuel + machine.old.meter.depth < 2 ^ 64 }
-    ensures comes { let t = T.table crew.now.tops.now in Fits t machine.old
-        → Comes t machine.old result machine.new (left_at t machine.old finish) }
+    ensures steps { let t = T.table crew.now.tops.now in Fits t machine.old
+        → Steps t machine.old result machine.new (block_of machine.new.code.now) (left_at t machine.old finish) }
     ensures bounded { machine.new.meter.fuel + machine.new.meter.depth < 2 ^ 64 }
 {
     match machine.frames.pop() {
-        Some(frame) => {
-            if ends_filter(&frame) {
-                going_on(end_filter(machine, frame, cuts, crew))
-            } else {
-                machine.resume(frame)
-            }
-        }
-        None => machine.last_value(),
+        Some(frame) => end_filter(machine, frame, cuts, crew),
+        None => Err(Stop::Memory),
     }
 }
 
-// The end of the last turn of a filter, after which the turns of the body are taken in halves, if a helper is granted.
+// The same with the frame that waited for it. The turns of the body are taken in halves then, if a helper is granted.
 #[cycle(halves)]
-#[inline(never)]
 fn end_filter<'a, R: Threads + Sync, H: Helpers + Sync, G: Gate + Sync, T: Tops<Global> + Sync>(
     machine: &mut Machine<'a, Global>,
     frame: Frame<'a, Global>,

@@ -1,20 +1,21 @@
 //! Turns of a round, and what they stand in.
-ghost use Rattle.std.specs.Prelude.{◌≡◌, ◌+◌, ◌<◌, ◌≤◌, ◌^◌, ◌++◌, map, max, length, MatchResult};
+ghost use Rattle.std.specs.Prelude.{◌≡◌, ◌+◌, ◌<◌, ◌≤◌, ◌^◌, ◌++◌, map, MatchResult};
 ghost use Rattle.nesl_values.specs.Tree.{ValueTree};
 ghost use Rattle.nesl_values.specs.View.{tree_of};
 ghost use Rattle.nesl_eval_meaning.specs.Out.{Out};
-ghost use Rattle.nesl_values_builder.specs.Elements.{elements_of};
 ghost use Rattle.nesl_eval_nodes.specs.Meets.{Meets, Is};
-ghost use Rattle.nesl_eval_machine.specs.State.{chosen_places};
+ghost use Rattle.nesl_eval_machine.specs.State.{Fits, left_at_hand};
+ghost use Rattle.nesl_eval_machine.specs.Steps.{Moves};
 ghost use Rattle.nesl_eval_halves.specs.Intervals.{IsAtTurn};
 
 use crate::crew::Crew;
-use nesl_eval_machine::push_row;
-use nesl_eval_machine::state::{Frame, Machine, Purpose, Round};
+use nesl_eval_machine::state::{Frame, Hand, Machine, Purpose};
+use nesl_eval_nodes::held::Tops;
 use nesl_eval_nodes::meter::{Meter, Stop};
 use nesl_eval_nodes::nodes::{keep, share};
 use nesl_eval_nodes::places::Places;
-use nesl_eval_ops::Ops;
+use nesl_eval_ops::{Body, Ops};
+use nesl_eval_rounds::{Round, push_row};
 use nesl_lex::token::Span;
 use nesl_values::Value;
 use nesl_values_builder::SequenceBuilder;
@@ -32,7 +33,7 @@ pub(crate) struct Room<'a> {
 #[derive_where(Clone, Copy)]
 pub(crate) struct Interval<'a, R, H, G, T> {
     pub room: &'a Room<'a>,
-    pub block: &'a Ops,
+    pub block: &'a Body,
     pub sources: &'a [Value<Global>],
     pub places: Places<'a>,
     pub crew: &'a Crew<'a, R, H, G, T>,
@@ -58,7 +59,7 @@ pub(crate) fn idle_machine<'a, R, H, G, T>(
     let alloc = interval.crew.alloc;
     Machine {
         bodies: interval.room.bodies,
-        code: interval.block,
+        code: interval.block.ops(),
         slots: Vec::new(alloc),
         stack: Vec::new(alloc),
         frames: Vec::new(alloc),
@@ -84,7 +85,7 @@ pub(crate) fn set_at_turn<'a, R, H, G, T>(
     share_all(&mut machine.slots, interval.room.names)?;
     push_row(&mut machine.slots, interval.sources, place)?;
     machine.bodies = interval.room.bodies;
-    machine.code = interval.block;
+    machine.code = interval.block.ops();
     machine.base = 0;
     machine.levels = interval.room.levels;
     machine.meter = meter;
@@ -116,8 +117,8 @@ pub(crate) fn settle(
 pub(crate) struct Parts<'a> {
     pub span: Span,
     pub count: usize,
-    pub block: &'a Ops,
-    pub body: Option<&'a Ops>,
+    pub block: &'a Body,
+    pub body: Option<&'a Body>,
     pub next: &'a Ops,
 }
 
@@ -132,63 +133,37 @@ pub(crate) fn count_left(round: &Round<'_, Global>) -> usize {
     round.chosen.places().len().saturating_sub(round.turns)
 }
 
-/// Whether a frame waits for the last turn of a filter.
-pub(crate) fn ends_filter(frame: &Frame<'_, Global>) -> bool {
-    match &frame.purpose {
-        Purpose::Turn(round) => round.body.is_some() && count_left(&**round) < 2,
-        Purpose::Push | Purpose::Return(_) => false,
+/// Whether the innermost frame waits for the last turn of a filter.
+#[inline(always)]
+pub(crate) fn ends_filter(frames: &[Frame<'_, Global>]) -> bool {
+    match frames.last() {
+        Some(frame) => match &frame.purpose {
+            Purpose::Turn(round) => round.body.is_some() && count_left(&**round) < 2,
+            Purpose::Push | Purpose::Return(_) => false,
+        },
+        None => false,
     }
 }
 
-// All turns of a round are over, the deepest of which was so deep.
-fn end_turns(round: &mut Round<'_, Global>, depth: u64)
-    ensures { round.new ≡ record round.old {
-      turns = length (chosen_places round.old.chosen);
-      most = max round.old.most depth;
-    } }
+/// What is next takes the value at hand. One that ends the last turn of a filter is put on the stack first.
+#[inline(always)]
+pub(crate) fn take_at_end<'a, T: Tops<Global>>(
+    machine: &mut Machine<'a, Global>,
+    value: Value<Global>,
+    next: &'a Ops,
+    tops: &T,
+) -> Result<Hand<'a, Global>, Stop>
+    requires { machine.old.meter.fuel + machine.old.meter.depth < 2 ^ 64 }
+    ensures moves { let t = T.table tops.now in let m = machine.old in Fits t m → Moves t m result machine.new
+        (left_at_hand t m (Hand.Holds value next.entry)) }
+    ensures bounded { machine.new.meter.fuel + machine.new.meter.depth < 2 ^ 64 }
 {
-    round.turns = round.chosen.places().len();
-    round.most = round.most.max(depth);
-}
-
-/// The places of all turns that a filter had left, the deepest of which was so deep.
-pub(crate) fn add_places(
-    round: &mut Round<'_, Global>,
-    places: &[usize],
-    depth: u64,
-) -> Result<(), Stop>
-    ensures { MatchResult result (λ _. (round.new ≡ record round.old {
-      kept = round.new.kept;
-      turns = length (chosen_places round.old.chosen);
-      most = max round.old.most depth;
-    }) × (round.new.kept.items ≡ round.old.kept.items ++ places.now)) (λ e. e ≡ Stop.Memory) }
-{
-    match round.kept.extend_from_slice(places) {
-        Ok(()) => {
-            end_turns(round, depth);
-            Ok(())
+    match next {
+        Ops::Finish if ends_filter(&machine.frames) => {
+            keep(&mut machine.stack, value)?;
+            machine.code = next;
+            Ok(Hand::Empty)
         }
-        Err(_) => Err(Stop::Memory),
-    }
-}
-
-/// The values of all turns that a body had left, the deepest of which was so deep.
-pub(crate) fn add_values(
-    round: &mut Round<'_, Global>,
-    values: SequenceBuilder,
-    depth: u64,
-) -> Result<(), Stop>
-    ensures { MatchResult result (λ _. (round.new ≡ record round.old {
-      values = round.new.values;
-      turns = length (chosen_places round.old.chosen);
-      most = max round.old.most depth;
-    }) × (elements_of round.new.values ≡ elements_of round.old.values ++ elements_of values)) (λ e. e ≡ Stop.Memory) }
-{
-    match round.values.append(values) {
-        Ok(()) => {
-            end_turns(round, depth);
-            Ok(())
-        }
-        Err(_) => Err(Stop::Memory),
+        _ => machine.go_on(tops, Hand::Holds(value, next)),
     }
 }

@@ -14,10 +14,12 @@ use Rattle.nesl_eval_nodes.proofs.Arms.{drop_next, drop_past}
 use Rattle.nesl_eval_machine.specs.declared.state.Frame.{Frame}
 use Rattle.nesl_eval_machine.specs.declared.state.Machine.{Machine}
 use Rattle.nesl_eval_machine.specs.State.{places_of, frames_of, slots_of, stack_of, env_of, local_of, left_with, left_at, Fits}
-use Rattle.nesl_eval_machine.specs.Steps.{Leads, Goes, slots_below}
-use Rattle.nesl_eval_machine.proofs.Laws.{after_none}
+use Rattle.nesl_eval_rounds.specs.Leads.{Leads}
+use Rattle.nesl_eval_machine.specs.Steps.{Goes, slots_below}
+use Rattle.nesl_eval_rounds.proofs.Laws.{after_none}
 use Rattle.nesl_eval_machine.proofs.Unwinding.{unwound_stuck, unwound_slots, ordered_more, ordered_slots, slots_within}
-use Rattle.nesl_eval_machine.proofs.Entering.{places_more, places_long, places_cut}
+use Rattle.nesl_eval_rounds.proofs.Rows.{places_more}
+use Rattle.nesl_eval_machine.proofs.Entering.{places_long, places_cut}
 
 -- one more local name
 pub bound : {A : Type 0} (t : Table) (m : Machine A) (slots : Vec (code.Value A) A) (v : code.Value A) (b : Block) →

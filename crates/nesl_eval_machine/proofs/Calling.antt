@@ -14,8 +14,9 @@ use Rattle.nesl_eval_blocks.specs.Exec.{exec}
 use Rattle.nesl_eval_blocks.specs.Flat.{block}
 use Rattle.nesl_eval_blocks.proofs.Runs.{runs_as_code}
 use Rattle.nesl_eval_machine.specs.State.{places_of}
-use Rattle.nesl_eval_machine.proofs.Laws.{then_after, at_call_after}
-use Rattle.nesl_eval_machine.proofs.Entering.{places_more, places_long}
+use Rattle.nesl_eval_rounds.proofs.Laws.{then_after, at_call_after}
+use Rattle.nesl_eval_rounds.proofs.Rows.{places_more}
+use Rattle.nesl_eval_machine.proofs.Entering.{places_long}
 
 -- what is held is a function where one stands
 pub function_there : (o : Option Slot) (c : Code) → function_slot c ≡ unwrap_or o nothing_slot → o ≡ Some (function_slot c)

@@ -1,6 +1,6 @@
 -- Blocks that are entered.
 use Rattle.std.proofs.Common.{◌≡◌, ℕ, ◌+◌, ◌≤◌, sym, ◌∙◌, ap, subst, arith, List, [], ◌∷◌, ◌++◌, map, length, take, drop, reverse, Some, Vec}
-use Rattle.std.proofs.lemmas.List.{reverse-append, map-append, length-map, take-map}
+use Rattle.std.proofs.lemmas.List.{reverse-append, length-map, take-map}
 use Rattle.std.proofs.Math.Seq.{take-append_seam, take-length}
 use Rattle.std.proofs.Math.ListN.{length-append}
 use Rattle.nesl_values.specs.View.{tree_of}
@@ -15,11 +15,8 @@ use Rattle.nesl_eval_machine.specs.declared.state.Frame.{Frame}
 use Rattle.nesl_eval_machine.specs.declared.state.Machine.{Machine}
 use Rattle.nesl_eval_machine.specs.State.{places_of, above, floor, resumed, unwound, Ordered, frames_of, slots_of, stack_of, local_of, left_at, Fits}
 use Rattle.nesl_eval_machine.specs.Steps.{Goes}
-use Rattle.nesl_eval_machine.proofs.Laws.{after_none}
+use Rattle.nesl_eval_rounds.proofs.Laws.{after_none}
 use Rattle.nesl_eval_machine.proofs.Stepping.{all_dropped}
-
-pub places_more : {A : Type 0} (xs ys : List (code.Value A)) → places_of (xs ++ ys) ≡ places_of xs ++ places_of ys
-places_more xs ys = ap (map Some) (map-append tree_of xs ys) ∙ map-append Some (map tree_of xs) (map tree_of ys)
 
 pub places_long : {A : Type 0} (xs : List (code.Value A)) → length (places_of xs) ≡ length xs
 places_long xs = length-map (map tree_of xs) Some ∙ length-map xs tree_of

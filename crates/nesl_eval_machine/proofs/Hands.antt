@@ -1,6 +1,6 @@
 -- Moves, and values at hand.
 use Rattle.std.specs.Prelude.{vec_len}
-use Rattle.std.proofs.Common.{◌≡◌, ℕ, ◌+◌, ◌≤◌, refl, sym, ◌∙◌, ap, subst, arith, inl, inr, ◌⊎◌, List, [], ◌∷◌, ◌++◌, map, length, take, drop, reverse, Vec, Result, Ok, Err, Bor, Option}
+use Rattle.std.proofs.Common.{◌≡◌, ℕ, ◌+◌, ◌≤◌, refl, sym, ◌∙◌, ap, subst, arith, inl, inr, ◌⊎◌, List, [], ◌∷◌, ◌++◌, map, length, take, drop, reverse, Vec, Result, Ok, Err, Bor}
 use Rattle.std.proofs.lemmas.List.{take-append-drop, append-nil, reverse-append, reverse-reverse, length-map, length-take-le}
 use Rattle.nesl_lex.specs.declared.token.Span.{Span}
 use Rattle.nesl_values.specs.View.{tree_of}
@@ -14,20 +14,21 @@ use Rattle.nesl_eval_ops.specs.declared.ops.Ops.{Ops}
 use Rattle.nesl_eval_ops.specs.View.{block_of}
 use Rattle.nesl_eval_nodes.specs.declared.meter.Meter.{Meter}
 use Rattle.nesl_eval_nodes.specs.declared.meter.Stop.{Stop}
-use Rattle.nesl_eval_nodes.specs.declared.meter.Stop.TheVariants.{Fault, Over, Memory, Stuck}
+use Rattle.nesl_eval_nodes.specs.declared.meter.Stop.TheVariants.{Fault, Over, Stuck}
 use Rattle.nesl_eval_nodes.specs.Meets.{Meets, Is}
 use Rattle.nesl_eval_machine.specs.declared.state.Frame.{Frame}
 use Rattle.nesl_eval_machine.specs.declared.state.Hand.{Hand}
 use Rattle.nesl_eval_machine.specs.declared.state.Hand.TheVariants.{Empty, Holds, Done}
 use Rattle.nesl_eval_machine.specs.declared.state.Machine.{Machine}
-use Rattle.nesl_eval_machine.specs.State.{places_of, above, floor, resumed, unwound, Ordered, frames_of, slots_of, stack_of, env_of, local_of, left_with, left_at, left, left_at_hand, Fits}
-use Rattle.nesl_eval_machine.specs.Steps.{Leads, Goes, Stops, Steps, Gives, Moves, empty_handed, in_hand, Ends, placed_stop, Comes, going_on}
-use Rattle.nesl_eval_machine.proofs.Laws.{after_none, after_after, moved}
+use Rattle.nesl_eval_machine.specs.State.{places_of, above, floor, resumed, unwound, Ordered, frames_of, slots_of, stack_of, env_of, local_of, left_with, left_at, left_at_hand, Fits}
+use Rattle.nesl_eval_rounds.specs.Leads.{Leads}
+use Rattle.nesl_eval_machine.specs.Steps.{Goes, Stops, Steps, Gives, Moves, empty_handed, in_hand, Ends, placed_stop}
+use Rattle.nesl_eval_rounds.proofs.Laws.{after_none, after_after, moved}
 use Rattle.nesl_eval_machine.proofs.Unwinding.{unwound_stuck, unwound_after, ordered_more}
-use Rattle.nesl_eval_machine.proofs.Stepping.{steps_stuck, steps_from, steps_after, run_stops, stops_after, pushed, off, memory_any, all_dropped}
+use Rattle.nesl_eval_machine.proofs.Stepping.{run_stops, stops_after, pushed, off, memory_any, all_dropped}
 use Rattle.nesl_eval_machine.proofs.Taking.{many_off, few_taken}
 use Rattle.nesl_eval_machine.proofs.Entering.{places_cut}
-use Rattle.nesl_eval_machine.proofs.Ending.{value_is, steps_come}
+use Rattle.nesl_eval_machine.proofs.Ending.{value_is}
 use Rattle.nesl_eval_machine.proofs.Whole.{stops_placed}
 
 pub moves_stuck : {A : Type 0} (t : Table) (m n : Machine A) (r : Result (Hand A) Stop) (o : Out Value) → o ≡ stuck → Moves t m r n o
@@ -139,16 +140,6 @@ many_moves t m n s xs r k f is count fits next =
       | inl e ↦ moves_stuck t m n r _ e
       | inr e ↦ moves_from t m n r _ _ e.0 (under_stack t m n s r _ (next e.1))
     ]
-
--- an operation whose value goes on the stack
-pub held_comes : {A U : Type 0} (t : Table) (m m1 n : Machine A) (v : code.Value A) (next : Bor Ops) (u : Result U Stop) (r : Result (Option (code.Value A)) Stop) (o : Out Value) →
-    r ≡ going_on u → Moves t m (Ok (Holds v next)) m1 o → (Fits t m1 → Steps t m1 u n (block_of n.code.now) (left_at_hand t m1 (Holds v next))) → Comes t m r n o
-held_comes t m m1 n v next u r o e (inl s) h =
-    subst (λ x. Comes t m x n o) (sym e) (steps_come t m n u o (steps_stuck t m n (block_of n.code.now) u o s))
-held_comes t m m1 n v next u r o e (inr g) h =
-    subst (λ x. Comes t m x n o) (sym e)
-    (steps_come t m n u o
-    (steps_from t m n (block_of n.code.now) u o _ g.same (steps_after t m m1 n (block_of n.code.now) u g.work (left_at_hand t m1 (Holds v next)) g.spent (h g.fits))))
 
 -- the last value stays at hand
 pub done_moves : {A : Type 0} (t : Table) (m : Machine A) (v : code.Value A) → Fits t m → Moves t m (Ok (Done v)) m (left_at_hand t m (Done v))

@@ -1,4 +1,3 @@
-pub mod Laws
 pub mod Unwinding
 pub mod Stepping
 pub mod Operands
@@ -7,8 +6,7 @@ pub mod Entering
 pub mod Binding
 pub mod Calling
 pub mod Ending
-pub mod Rows
-pub mod Gathering
 pub mod Turns
 pub mod Whole
 pub mod Hands
+pub mod Columned

@@ -1,83 +1,19 @@
--- Leaves, and operations on them.
-use Rattle.std.proofs.Common.{◌≡◌, ℕ, zero, suc, ◌+◌, ◌≤◌, subst, Ok, Err, refl, sym, ◌∙◌, ap, arith, inl, inr, ◌⊎◌, List, [], ◌∷◌, ◌++◌, map, drop, length, Option, Some, None, Result}
-use Rattle.std.specs.Prelude.{slice_get, option_map, option_and_then, MatchResult, ◌==◌, true}
-use Rattle.std.proofs.lemmas.List.{length-map}
-use Rattle.std.proofs.lemmas.Bool.Decides.{nat_tests}
-use Rattle.std.proofs.lemmas.Option.{slice_get_past}
-use Rattle.std.proofs.Common.{Bor}
+-- Operations on leaves, which may be pushed first.
+use Rattle.std.proofs.Common.{◌≡◌, ℕ, zero, suc, ◌+◌, subst, Ok, refl, sym, ◌∙◌, ap, arith, inl, inr, ◌⊎◌, List, [], ◌∷◌, ◌++◌, Option, Some, None, Result}
+use Rattle.std.specs.Prelude.{option_map}
 use Rattle.nesl_lex.specs.declared.token.Span.{Span}
-use Rattle.nesl_values.specs.View.{tree_of}
-use Rattle.nesl_values.specs.declared.value.Value as code
 use Rattle.nesl_eval_meaning.specs.Names.{Value}
-use Rattle.nesl_eval_meaning.specs.Out.{Out, value, and_then, given, stuck}
-use Rattle.nesl_eval_code.specs.declared.code.Step.{Step}
-use Rattle.nesl_eval_code.specs.Frames.{followed, frame, local_at}
+use Rattle.nesl_eval_meaning.specs.Out.{Out, and_then, given, stuck}
 use Rattle.nesl_eval_code.specs.Run.{Table}
 use Rattle.nesl_eval_blocks.specs.Block.{Leaf, Maker, Block, push, make}
-use Rattle.nesl_eval_blocks.specs.Exec.{Places, value_at, leaf_out, with_leaves, made_of, taken, exec}
+use Rattle.nesl_eval_blocks.specs.Exec.{Places, leaf_out, with_leaves, made_of, taken, exec}
 use Rattle.nesl_eval_blocks.proofs.Outs.{then_assoc, then_same}
-use Rattle.nesl_eval_nodes.specs.declared.scope.Scope.{Scope, Let}
-use Rattle.nesl_eval_nodes.specs.Scopes.{frames_of}
-use Rattle.nesl_eval_nodes.proofs.Lookups.{frames-Let}
 use Rattle.nesl_eval_machine.specs.declared.state.Machine.{Machine}
 use Rattle.nesl_eval_nodes.specs.declared.meter.Stop.{Stop}
-use Rattle.nesl_eval_nodes.specs.declared.meter.Stop.TheVariants.{Memory}
-use Rattle.nesl_eval_nodes.specs.declared.meter.Meter.{Meter}
-use Rattle.nesl_eval_nodes.specs.Meets.{Meets, Is}
-use Rattle.nesl_eval_machine.specs.State.{places_of, env_of, local_of, left_with, left_at, Fits}
+use Rattle.nesl_eval_machine.specs.State.{env_of, local_of, left_with, left_at, Fits}
 use Rattle.nesl_eval_machine.specs.Steps.{Steps}
 use Rattle.nesl_eval_machine.proofs.Stepping.{stuck_steps, steps_from, then_steps}
-use Rattle.nesl_eval_machine.proofs.Laws.{after_none}
-
-further : {X : Type 0} (xs : List X) (b i : ℕ) → slice_get (drop b xs) i ≡ slice_get xs (b + i)
-further xs zero i = let e : i ≡ 0 + i = omega arith in ap (slice_get xs) e
-further [] (suc b) i = refl
-further (x ∷ xs) (suc b) i = let e : suc b + i ≡ suc (b + i) = omega arith in further xs b i ∙ ap (slice_get (x ∷ xs)) (sym e)
-
--- the value at a place behind others, in a scope of them all
-pub scope_place : {A : Type 0} (vs : Bor (List (code.Value A))) (outer : Bor (Scope A)) (xs : List (code.Value A)) (b i k : ℕ) (steps : List Step) →
-    vs.now ≡ xs → k ≡ b + i →
-    given (local_at (frames_of (Let vs outer)) 0 k steps) (λ v. value v 0 0)
-    ≡ given (option_and_then (followed steps) (value_at (drop b (places_of xs)) i)) (λ v. value v 0 0)
-scope_place vs outer xs b i k steps same e =
-    ap (λ fs. given (local_at fs 0 k steps) (λ v. value v 0 0)) (frames-Let vs outer)
-    ∙ ap (λ ys. given (option_and_then (followed steps) (option_and_then (λ o. o) (slice_get (frame (map tree_of ys)) k))) (λ v. value v 0 0)) same
-    ∙ ap (λ j. given (option_and_then (followed steps) (option_and_then (λ o. o) (slice_get (places_of xs) j))) (λ v. value v 0 0)) e
-    ∙ ap (λ o. given (option_and_then (followed steps) (option_and_then (λ o. o) o)) (λ v. value v 0 0)) (sym (further (places_of xs) b i))
-
--- no value is at a place behind them
-pub no_place : {A : Type 0} (xs : List (code.Value A)) (b i : ℕ) (steps : List Step) → length xs ≤ b + i →
-    given (option_and_then (followed steps) (value_at (drop b (places_of xs)) i)) (λ v. value v 0 0) ≡ stuck
-no_place xs b i steps h =
-    let long : length (places_of xs) ≡ length xs = length-map (map tree_of xs) Some ∙ length-map xs tree_of in
-    ap (λ o. given (option_and_then (followed steps) (option_and_then (λ o. o) o)) (λ v. value v 0 0))
-    (further (places_of xs) b i ∙ slice_get_past (places_of xs) (b + i) (omega (arith, long)))
-
-at_some : {X : Type 0} (xs : List X) (k : ℕ) → option_and_then (λ o. o) (slice_get (map Some xs) k) ≡ slice_get xs k
-at_some [] k = refl
-at_some (x ∷ xs) zero = refl
-at_some (x ∷ xs) (suc k) = at_some xs k
-
--- the value at a place, where there is one
-pub place_value : {A : Type 0} (xs : List (code.Value A)) (b i k : ℕ) (o : Option Value) → k ≡ b + i → o ≡ slice_get (map tree_of xs) k →
-    given (value_at (drop b (places_of xs)) i) (λ v. value v 0 0) ≡ given o (λ v. value v 0 0)
-place_value xs b i k o e at =
-    ap (λ q. given q (λ v. value v 0 0))
-    (ap (option_and_then (λ q. q)) (further (places_of xs) b i) ∙ at_some (map tree_of xs) (b + i) ∙ ap (slice_get (map tree_of xs)) (sym e) ∙ sym at)
-
--- no steps lead on
-pub no_steps : (o : Option Value) (k : Value → Out Value) → given (option_and_then (followed []) o) k ≡ given o k
-no_steps None k = refl
-no_steps (Some v) k = refl
-
-pub no_path : (o : Option Value) (steps : List Step) (k : Value → Out Value) → (length steps == 0) ≡ true → given o k ≡ given (option_and_then (followed steps) o) k
-no_path o [] k e = sym (no_steps o k)
-no_path o (s ∷ steps) k e = let none : suc (length steps) ≡ 0 = grind (arith, nat_tests) in absurd (omega arith)
-
--- another owner of a value
-pub owned : {A : Type 0} (m : Meter) (r : Result (code.Value A) Stop) (x : Value) → MatchResult r (λ v. tree_of v ≡ x) (λ e. e ≡ Memory) → Meets Is m r m (value x 0 0)
-owned m (Ok v) x h = (h, omega arith, omega arith)
-owned {A} m (Err e) x h = subst (λ y. Meets (Is {A = A}) m (Err y) m (value x 0 0)) (sym h) tt
+use Rattle.nesl_eval_rounds.proofs.Laws.{after_none}
 
 -- values that are taken before others
 taken_before : (k : ℕ) (vs us ws : List Value) → taken k vs (us ++ ws) ≡ option_map (λ p. (p.0 ++ ws, p.1)) (taken k vs us)

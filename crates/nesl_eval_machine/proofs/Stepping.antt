@@ -21,7 +21,7 @@ use Rattle.nesl_eval_machine.specs.declared.state.Frame.{Frame}
 use Rattle.nesl_eval_machine.specs.declared.state.Machine.{Machine}
 use Rattle.nesl_eval_machine.specs.State.{above, floor, unwound, Ordered, frames_of, slots_of, stack_of, env_of, local_of, left_with, left_at, Fits}
 use Rattle.nesl_eval_machine.specs.Steps.{Goes, placed, Stops, Steps}
-use Rattle.nesl_eval_machine.proofs.Laws.{after_after, moved}
+use Rattle.nesl_eval_rounds.proofs.Laws.{after_after, moved}
 use Rattle.nesl_eval_machine.proofs.Unwinding.{unwound_stuck, unwound_fault, unwound_after, unwound_stack, floor_within, ordered_more, ordered_less, above_more}
 
 -- an outcome that is stuck

@@ -15,24 +15,26 @@ use Rattle.nesl_eval_code.specs.Run.{Table}
 use Rattle.nesl_eval_blocks.specs.Block.{Block, finish}
 use Rattle.nesl_eval_blocks.specs.Exec.{Places, exec, at_places, kept_of, values_of}
 use Rattle.nesl_eval_blocks.proofs.Outs.{then_assoc}
-use Rattle.nesl_eval_ops.specs.declared.ops.Ops.{Ops}
-use Rattle.nesl_eval_ops.specs.View.{block_of}
+use Rattle.nesl_eval_ops.specs.declared.ops.Body.{Body}
+use Rattle.nesl_eval_ops.specs.View.{block_of, body_block}
 use Rattle.nesl_eval_nodes.specs.declared.meter.Meter.{Meter}
 use Rattle.nesl_eval_nodes.specs.declared.meter.Stop.{Stop}
 use Rattle.nesl_eval_nodes.specs.Meets.{Meets}
-use Rattle.nesl_eval_machine.specs.declared.state.Round.{Round}
+use Rattle.nesl_eval_rounds.specs.declared.state.Round.{Round}
 use Rattle.nesl_eval_machine.specs.declared.state.Purpose.TheVariants.{Turn}
 use Rattle.nesl_eval_machine.specs.declared.state.Frame.{Frame}
 use Rattle.nesl_eval_machine.specs.declared.state.Machine.{Machine}
-use Rattle.nesl_eval_machine.specs.State.{places_of, above, floor, chosen_places, at_place, gathered_as, all_values, turn_of, in_rounds, between, in_turn, resumed, resumed_as, unwound, Ordered, frames_of, slots_of, stack_of, env_of, local_of, left_with, left_at, Fits}
+use Rattle.nesl_eval_rounds.specs.Rounds.{chosen_places, at_place, gathered_as, all_values, turn_of, between, in_turn}
+use Rattle.nesl_eval_machine.specs.State.{places_of, above, floor, in_rounds, resumed, resumed_as, unwound, Ordered, frames_of, slots_of, stack_of, env_of, local_of, left_with, left_at, Fits}
 use Rattle.nesl_eval_nodes.specs.declared.meter.Stop.TheVariants.{Fault, Over, Memory, Stuck}
-use Rattle.nesl_eval_machine.specs.Steps.{Goes, Gave, Stops}
-use Rattle.nesl_eval_machine.proofs.Laws.{after_none, gathering_first}
+use Rattle.nesl_eval_rounds.specs.Leads.{Gave}
+use Rattle.nesl_eval_machine.specs.Steps.{Goes, Stops}
+use Rattle.nesl_eval_rounds.proofs.Laws.{after_none, gathering_first}
 use Rattle.nesl_eval_machine.proofs.Unwinding.{unwound_stuck, unwound_after, floor_within, ordered_more}
 use Rattle.nesl_eval_machine.proofs.Stepping.{mapped, one_longer, over_any, memory_any}
 use Rattle.nesl_eval_machine.proofs.Entering.{places_cut}
 use Rattle.nesl_eval_machine.proofs.Ending.{Ended, block_ended, pushed_local}
-use Rattle.nesl_eval_machine.proofs.Gathering.{after_places, after_values, then_result}
+use Rattle.nesl_eval_rounds.proofs.Gathering.{after_places, after_values, then_result}
 
 -- the places come first, and the rounds after them
 pub places_first : (s : Span) (vs : List Value) (f : List ℕ → Out Value) (k : Value → Out Value) →
@@ -55,8 +57,8 @@ found_first T t m v (value x w d) k h =
     inr (x, h.0, ap (λ j. left_with t m (after_cost j d (k x))) no_work ∙ ap (λ j. left_with t m (after_cost 0 j (k x))) no_depth ∙ ap (left_with t m) (after_none (k x)))
 
 -- the first round, between no turns
-pub first_between : {A : Type 0} (t : Table) (n : ℕ) (b : Block) (env : Places) (st : List Value) (r : Round A) (vs : List Value) (c : Block) (g : Option (Bor Ops)) (is : List ℕ) (D : ℕ) →
-    map tree_of r.sources.items ≡ vs → block_of r.block.now ≡ c → r.body ≡ g → chosen_places r.chosen ≡ is → r.turns ≡ 0 → r.start ≡ D → r.most ≡ 0 → r.kept.items ≡ [] → elements_of r.values ≡ [] →
+pub first_between : {A : Type 0} (t : Table) (n : ℕ) (b : Block) (env : Places) (st : List Value) (r : Round A) (vs : List Value) (c : Block) (g : Option (Bor Body)) (is : List ℕ) (D : ℕ) →
+    map tree_of r.sources.items ≡ vs → body_block r.block.now ≡ c → r.body ≡ g → chosen_places r.chosen ≡ is → r.turns ≡ 0 → r.start ≡ D → r.most ≡ 0 → r.kept.items ≡ [] → elements_of r.values ≡ [] →
     after_cost 0 D (and_then (in_rounds t n env vs c g is) (λ v. exec t n env b (v ∷ st))) ≡ between t n b env st r
 first_between t n b env st r vs c g is D sources block body chosen turns start most kept made =
     by_body g
@@ -70,11 +72,11 @@ first_between t n b env st r vs c g is D sources block body chosen turns start m
     ∙ ap (λ x. gathered_as t n b env st (map tree_of r.sources.items) r.start r.most r.body x [] (kept_of (turn_of t n env r) (drop r.turns (chosen_places r.chosen))) (all_values (turn_of t n env r) (drop r.turns (chosen_places r.chosen)))) (sym kept)
     ∙ ap (λ x. gathered_as t n b env st (map tree_of r.sources.items) r.start r.most r.body r.kept.items x (kept_of (turn_of t n env r) (drop r.turns (chosen_places r.chosen))) (all_values (turn_of t n env r) (drop r.turns (chosen_places r.chosen)))) (sym made)
   where
-    by_body : (g : Option (Bor Ops)) →
+    by_body : (g : Option (Bor Body)) →
         after_cost 0 D (and_then (in_rounds t n env vs c g is) (λ v. exec t n env b (v ∷ st)))
         ≡ gathered_as t n b env st vs D 0 g [] [] (kept_of (at_place t n env vs c) is) (all_values (at_place t n env vs c) is)
     by_body (Some d) =
-        ap (after_cost 0 D) (then_assoc (kept_of (at_place t n env vs c) is) (values_of (at_place t n env vs (block_of d.now))) (λ v. exec t n env b (v ∷ st)))
+        ap (after_cost 0 D) (then_assoc (kept_of (at_place t n env vs c) is) (values_of (at_place t n env vs (body_block d.now))) (λ v. exec t n env b (v ∷ st)))
         ∙ sym (gathering_first D (kept_of (at_place t n env vs c) is) (after_places t n b env st vs d))
     by_body None =
         ap (after_cost 0 D) (then_result t n b env st (all_values (at_place t n env vs c) is) (λ v. exec t n env b (v ∷ st)))

@@ -12,32 +12,33 @@ use Rattle.nesl_eval_meaning.specs.Outcome.{place_if_true, body_value}
 use Rattle.nesl_eval_code.specs.Run.{Table}
 use Rattle.nesl_eval_blocks.specs.Block.{Block}
 use Rattle.nesl_eval_blocks.specs.Exec.{Places, exec, kept_of, values_of}
-use Rattle.nesl_eval_ops.specs.View.{block_of}
-use Rattle.nesl_eval_ops.specs.declared.ops.Ops.{Ops}
-use Rattle.nesl_eval_machine.specs.declared.state.Round.{Round}
+use Rattle.nesl_eval_ops.specs.View.{block_of, body_block}
+use Rattle.nesl_eval_ops.specs.declared.ops.Body.{Body}
+use Rattle.nesl_eval_rounds.specs.declared.state.Round.{Round}
 use Rattle.nesl_eval_machine.specs.declared.state.Purpose.{Purpose}
 use Rattle.nesl_eval_machine.specs.declared.state.Purpose.TheVariants.{Push, Return, Turn}
 use Rattle.nesl_eval_machine.specs.declared.state.Frame.{Frame}
-use Rattle.nesl_eval_machine.specs.State.{above, floor, at_place, gathering, gathered_as, all_values, turn_of, places_left, resumed_as, resumed, unwound, Ordered}
+use Rattle.nesl_eval_rounds.specs.Rounds.{at_place, gathering, gathered_as, all_values, turn_of, places_left}
+use Rattle.nesl_eval_machine.specs.State.{above, floor, resumed_as, resumed, unwound, Ordered}
 use Rattle.nesl_eval_machine.specs.Steps.{placed_once, placed, slots_below}
-use Rattle.nesl_eval_machine.proofs.Laws.{then_after, at_call_after, gathering_after, fault_twice}
+use Rattle.nesl_eval_rounds.proofs.Laws.{then_after, at_call_after, gathering_after, fault_twice}
 
 module _ (t : Table) (n : ℕ) (b : Block) (env : Places) (st vs : List Value) (start most i : ℕ) (kept : List ℕ) (made : List Value) where
-  turn_stuck : (g : Option (Bor Ops)) (ps : Out (List ℕ)) (us : Out (List Value)) →
+  turn_stuck : (g : Option (Bor Body)) (ps : Out (List ℕ)) (us : Out (List Value)) →
       gathered_as t n b env st vs start most g kept made (beside (and_then stuck (place_if_true i)) ps) (beside (and_then stuck body_value) us) ≡ stuck
   turn_stuck (Some c) ps us = refl
   turn_stuck None ps us = refl
 
-  turn_fault : (g : Option (Bor Ops)) (ps : Out (List ℕ)) (us : Out (List Value)) (k : Trap) (s : Span) (w : ℕ) →
+  turn_fault : (g : Option (Bor Body)) (ps : Out (List ℕ)) (us : Out (List Value)) (k : Trap) (s : Span) (w : ℕ) →
       gathered_as t n b env st vs start most g kept made (beside (and_then (fault k s w) (place_if_true i)) ps) (beside (and_then (fault k s w) body_value) us) ≡ fault k s w
   turn_fault (Some c) ps us k s w = fault_twice Value k s w
   turn_fault None ps us k s w = fault_twice Value k s w
 
-  turn_after : (g : Option (Bor Ops)) (ps : Out (List ℕ)) (us : Out (List Value)) (w : ℕ) (o : Out Value) →
+  turn_after : (g : Option (Bor Body)) (ps : Out (List ℕ)) (us : Out (List Value)) (w : ℕ) (o : Out Value) →
       gathered_as t n b env st vs start most g kept made (beside (and_then (after_cost w 0 o) (place_if_true i)) ps) (beside (and_then (after_cost w 0 o) body_value) us)
       ≡ after_cost w 0 (gathered_as t n b env st vs start most g kept made (beside (and_then o (place_if_true i)) ps) (beside (and_then o body_value) us))
   turn_after (Some c) ps us w o =
-      let k : List ℕ → Out Value = λ ks. and_then (values_of (at_place t n env vs (block_of c.now)) ks) (λ v. exec t n env b (v ∷ st)) in
+      let k : List ℕ → Out Value = λ ks. and_then (values_of (at_place t n env vs (body_block c.now)) ks) (λ v. exec t n env b (v ∷ st)) in
       ap (λ p. gathering start most kept (beside p ps) k) (then_after w 0 o (place_if_true i))
       ∙ gathering_after start most kept w (and_then o (place_if_true i)) ps k
   turn_after None ps us w o =

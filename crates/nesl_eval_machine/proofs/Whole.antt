@@ -1,5 +1,5 @@
 -- Whole runs.
-use Rattle.std.proofs.Common.{◌≡◌, ℕ, ◌+◌, refl, sym, ◌∙◌, ap, subst, arith, inl, inr, ◌⊎◌, List, [], ◌∷◌, ◌++◌, map, drop, length, reverse, Result, Ok, Err, Option, Some, None}
+use Rattle.std.proofs.Common.{◌≡◌, ℕ, refl, sym, ◌∙◌, ap, subst, arith, inr, ◌⊎◌, List, [], ◌∷◌, ◌++◌, map, drop, length, reverse, Result, Ok, Err}
 use Rattle.std.proofs.lemmas.List.{reverse-append}
 use Rattle.nesl_lex.specs.declared.token.Span.{Span}
 use Rattle.nesl_values.specs.View.{tree_of}
@@ -17,10 +17,9 @@ use Rattle.nesl_eval_nodes.specs.declared.meter.Stop.TheVariants.{Fault, Over, M
 use Rattle.nesl_eval_nodes.specs.Meets.{Meets, Is}
 use Rattle.nesl_eval_machine.specs.declared.state.Frame.{Frame}
 use Rattle.nesl_eval_machine.specs.declared.state.Machine.{Machine}
-use Rattle.nesl_eval_machine.specs.State.{places_of, above, floor, unwound, Ordered, frames_of, slots_of, left, HasBodies, Fits}
-use Rattle.nesl_eval_machine.specs.Steps.{Goes, placed, placed_once, Stops, Gives, Comes, Ends, first_call, placed_stop}
-use Rattle.nesl_eval_machine.proofs.Laws.{after_none, after_after}
-use Rattle.nesl_eval_machine.proofs.Stepping.{stops_after}
+use Rattle.nesl_eval_machine.specs.State.{places_of, above, floor, unwound, Ordered, slots_of, left, HasBodies, Fits}
+use Rattle.nesl_eval_machine.specs.Steps.{Goes, placed, placed_once, Stops, Ends, first_call, placed_stop}
+use Rattle.nesl_eval_rounds.proofs.Laws.{after_none}
 
 placed_below : {A : Type 0} (fs : List (Frame A)) (f : Frame A) (s : Span) → placed (fs ++ f ∷ []) s ≡ placed_once f.purpose (placed fs s)
 placed_below [] f s = refl
@@ -41,39 +40,6 @@ stops_placed fs f (Fault k s) f' (fault k' s' w) h = h
 stops_placed fs f Over f' (fault k' s' w) h = h
 stops_placed fs f Memory f' (fault k' s' w) h = tt
 stops_placed fs f Stuck f' (fault k' s' w) h = h
-
-comes_stuck : {A : Type 0} (t : Table) (m n : Machine A) (r : Result (Option (code.Value A)) Stop) → Comes t m r n stuck
-comes_stuck t m n (Ok None) = inl refl
-comes_stuck t m n (Ok (Some v)) = tt
-comes_stuck t m n (Err e) = tt
-
-gives_after : {A : Type 0} (m m1 n : Machine A) (v : code.Value A) (w : ℕ) (p : Out Value) → m.meter.fuel ≡ m1.meter.fuel + w → Gives m1 v n p → Gives m v n (after_cost w 0 p)
-gives_after m m1 n v w stuck e h = tt
-gives_after m m1 n v w (value x u d) e h = (h.0, omega (arith, h.1), h.2 ∙ omega arith)
-gives_after m m1 n v w (fault k s u) e h = h
-
-comes_after : {A : Type 0} (t : Table) (m m1 n : Machine A) (r : Result (Option (code.Value A)) Stop) (w : ℕ) (p : Out Value) → m.meter.fuel ≡ m1.meter.fuel + w → Comes t m1 r n p → Comes t m r n (after_cost w 0 p)
-comes_after t m m1 n (Err x) w p f h = stops_after (frames_of n) x m.meter.fuel m1.meter.fuel n.meter.fuel w p f h
-comes_after t m m1 n (Ok (Some v)) w p f h = gives_after m m1 n v w p f h
-comes_after t m m1 n (Ok None) w p f (inl e) = inl (ap (after_cost w 0) e)
-comes_after t m m1 n (Ok None) w p f (inr h) = inr (record {
-  work = w + h.work;
-  spent = omega (arith, f, h.spent);
-  same = ap (after_cost w 0) h.same ∙ after_after w 0 h.work 0 (left t n) ∙ ap (λ d. after_cost (w + h.work) d (left t n)) nothing;
-  fits = h.fits;
-})
-  where
-    nothing : 0 + 0 ≡ 0
-    nothing = omega arith
-
--- what was done so far, and one more step
-pub on_comes : {A : Type 0} (t : Table) (m m1 n : Machine A) (r : Result (Option (code.Value A)) Stop) →
-    ((left t m ≡ stuck) ⊎ Goes t m.meter.fuel m1 (block_of m1.code.now) (left t m)) → (Fits t m1 → Comes t m1 r n (left t m1)) → Comes t m r n (left t m)
-on_comes t m m1 n r (inl e) h = subst (λ o. Comes t m r n o) (sym e) (comes_stuck t m n r)
-on_comes t m m1 n r (inr g) h = subst (λ o. Comes t m r n o) (sym g.same) (comes_after t m m1 n r g.work (left t m1) g.spent (h g.fits))
-
-pub ends_stopped : {A : Type 0} (t : Table) (m n : Machine A) (e : Stop) (o : Out Value) → Comes t m (Err e) n o → Ends m (Err (placed_stop (frames_of n) e)) n o
-ends_stopped t m n e o h = stops_placed (frames_of n) m.meter.fuel e n.meter.fuel o h
 
 pub begun : {A : Type 0} (t : Table) (m : Machine A) → Fits t m → (left t m ≡ stuck) ⊎ Goes t m.meter.fuel m (block_of m.code.now) (left t m)
 begun t m fits = inr (record {

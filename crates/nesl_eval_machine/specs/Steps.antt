@@ -6,33 +6,23 @@ use Rattle.nesl_lex.specs.declared.token.Span.{Span}
 use Rattle.nesl_values.specs.View.{tree_of}
 use Rattle.nesl_values.specs.declared.value.Value as code
 use Rattle.nesl_eval_meaning.specs.Names.{Value}
-use Rattle.nesl_eval_meaning.specs.Out.{Out, value, fault, stuck, after_cost}
+use Rattle.nesl_eval_meaning.specs.Out.{Out, value, fault, stuck}
 use Rattle.nesl_eval_code.specs.Run.{Table}
 use Rattle.nesl_eval_blocks.specs.Block.{Block}
 use Rattle.nesl_eval_ops.specs.declared.ops.Ops.{Ops}
-use Rattle.nesl_eval_ops.specs.View.{block_of}
 use Rattle.nesl_eval_nodes.specs.declared.meter.Stop.{Stop}
 use Rattle.nesl_eval_nodes.specs.declared.meter.Stop.TheVariants.{Fault, Over, Memory, Stuck}
 use Rattle.nesl_eval_machine.specs.declared.state.Purpose.{Purpose}
 use Rattle.nesl_eval_machine.specs.declared.state.Purpose.TheVariants.{Push, Return, Turn}
 use Rattle.nesl_eval_machine.specs.declared.state.Frame.{Frame}
-use Rattle.nesl_eval_machine.specs.declared.state.Round.{Round}
+use Rattle.nesl_eval_rounds.specs.declared.state.Round.{Round}
 use Rattle.nesl_eval_machine.specs.declared.state.Hand.{Hand}
-use Rattle.nesl_eval_machine.specs.declared.state.Hand.TheVariants.{Empty, Holds, Done}
+use Rattle.nesl_eval_machine.specs.declared.state.Hand.TheVariants.{Empty, Holds}
 use Rattle.nesl_eval_machine.specs.declared.state.Machine.{Machine}
-use Rattle.nesl_eval_machine.specs.State.{unwound, between, frames_of, slots_of, stack_of, env_of, local_of, left_at}
+use Rattle.nesl_eval_rounds.specs.Rounds.{between}
+use Rattle.nesl_eval_rounds.specs.Leads.{Leads, Took}
+use Rattle.nesl_eval_machine.specs.State.{unwound, frames_of, slots_of, stack_of, env_of, local_of, left_at}
 use Rattle.nesl_eval_machine.specs.State.{Fits, left_at_hand}
-
--- nothing is asked of what is found
-abbrev pub Anything : {R X : Type 0} → R → X → Type 0
-Anything r x = Unit {0}
-
--- so much work was taken off the fuel, the outcome is another one after that work, and something holds then
-pub record Leads (fuel fuel' : ℕ) (o p : Out Value) (Then : Type 0) : Type 0 where
-  pub work : ℕ
-  pub spent : fuel ≡ fuel' + work
-  pub same : o ≡ after_cost work 0 p
-  pub fits : Then
 
 -- the outcome is what is left for a machine at a block, after what was done for it
 abbrev pub Goes : {A : Type 0} → Table → ℕ → Machine A → Block → Out Value → Type 0
@@ -84,18 +74,6 @@ Gives m v n stuck = Unit {0}
 Gives m v n (value x w d) = (tree_of v ≡ x) × (m.meter.fuel ≡ n.meter.fuel + w) × (n.meter.depth ≡ d)
 Gives m v n (fault k s w) = ⊥
 
--- a step that may be the last
-abbrev pub Comes :
-    {A : Type 0} → Table → Machine A → Result (Option (code.Value A)) Stop → Machine A → Out Value → Type 0
-Comes t m (Ok None) n o = (o ≡ stuck) ⊎ Goes t m.meter.fuel n (block_of n.code.now) o
-Comes t m (Ok (Some v)) n o = Gives m v n o
-Comes t m (Err e) n o = Stops (frames_of n) m.meter.fuel e n.meter.fuel o
-
--- a step that is not
-abbrev pub going_on : {A U : Type 0} → Result U Stop → Result (Option (code.Value A)) Stop
-going_on (Ok u) = Ok None
-going_on (Err e) = Err e
-
 -- one move, after which something may be at hand
 abbrev pub Moves : {A : Type 0} → Table → Machine A → Result (Hand A) Stop → Machine A → Out Value → Type 0
 Moves t m (Ok h) n o = (o ≡ stuck) ⊎ Leads m.meter.fuel n.meter.fuel o (left_at_hand t n h) (Fits t n)
@@ -109,14 +87,6 @@ empty_handed (Err e) = Err e
 abbrev pub in_hand : {A : Type 0} → Result (code.Value A) Stop → Bor Ops → Result (Hand A) Stop
 in_hand (Ok v) next = Ok (Holds v next)
 in_hand (Err e) next = Err e
-
--- a turn that ended
-abbrev pub Gave : {U : Type 0} → ℕ → Result U Stop → ℕ → Out Value → Out Value → Type 0
-Gave f (Ok u) f' o p = Leads f f' o p (Unit {0})
-Gave f (Err (Fault k s)) f' o p = ⊥
-Gave f (Err Over) f' o p = (w : ℕ) × (q : Out Value) × (o ≡ after_cost w 0 q) × (f < w)
-Gave f (Err Memory) f' o p = Unit {0}
-Gave f (Err Stuck) f' o p = o ≡ stuck
 
 -- the span of the first call from the bottom, or else this one
 abbrev pub first_call : {A : Type 0} → List (Frame A) → Span → Span
@@ -141,3 +111,10 @@ Rests t f (Ok u) n b r o =
     ⊎ Leads f n.meter.fuel o
     (unwound t (frames_of n) (slots_of n) (stack_of n) (between t n.levels b (env_of n) (local_of n) r)) (Fits t n)
 Rests t f (Err e) n b r o = Stops (frames_of n) f e n.meter.fuel o
+
+-- turns that a round had left were taken by a machine
+abbrev pub Advances : {A U : Type 0} → Table → Machine A → Result U Stop → Machine A → Round A → Round A → Type 0
+Advances t m (Ok u) n r r' =
+    (b : Block) (st : List Value) →
+    Took m.meter.fuel n.meter.fuel (between t m.levels b (env_of m) st r) (between t m.levels b (env_of m) st r')
+Advances t m (Err e) n r r' = e ≡ Memory

@@ -3,18 +3,13 @@
 
 mod blocks;
 mod calls;
-mod chosen;
+mod columns;
 mod ends;
 mod hand;
-mod leaves;
-mod making;
 mod moves;
-mod parts;
 mod rounds;
 mod run;
 pub mod state;
 
-pub use ends::going_on;
 pub use moves::take_off;
-pub use rounds::{go_to_body, push_row};
 pub use run::evaluate_ops;

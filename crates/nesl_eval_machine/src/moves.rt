@@ -14,12 +14,13 @@ ghost use Rattle.nesl_eval_machine.specs.State.{Fits, env_of, local_of, left_wit
 ghost use Rattle.nesl_eval_machine.specs.Steps.{Steps, Moves, TakesOff};
 
 use crate::hand::{in_hand, push_value};
-use crate::leaves::{Sight, enter_at, enter_leaf};
-use crate::making::{apply_to_value, make_of_many, make_of_two};
-use crate::parts::{of_one_leaf, of_two_leaves, of_value_and_leaf};
 use crate::state::{Hand, Machine};
 use nesl_eval_nodes::held::Tops;
 use nesl_eval_nodes::meter::Stop;
+use nesl_eval_operands::{
+    Sight, apply_to_value, enter_at, enter_leaf, make_of_many, make_of_two, of_one_leaf,
+    of_two_leaves, of_value_and_leaf,
+};
 use nesl_eval_ops::{Leaf, ManyNode, OneNode, Ops, TwoNode};
 use nesl_lex::token::Span;
 use nesl_values::Value;

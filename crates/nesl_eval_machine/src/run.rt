@@ -10,11 +10,11 @@ ghost use Rattle.nesl_eval_ops.specs.View.{block_of};
 ghost use Rattle.nesl_eval_nodes.specs.Meets.{Meets, Is};
 ghost use Rattle.nesl_eval_machine.specs.State.{Fits, HasBodies, frames_of, env_of, local_of, left_with, left_at};
 ghost use Rattle.nesl_eval_machine.specs.State.{left, left_at_hand};
-ghost use Rattle.nesl_eval_machine.specs.Steps.{Comes, Moves, Ends, first_call, placed_stop};
+ghost use Rattle.nesl_eval_machine.specs.Steps.{Moves, Ends, first_call, placed_stop};
 
 use crate::calls::CallNode;
-use crate::ends::going_on;
 use crate::hand::empty_handed;
+use crate::rounds::EachNode;
 use crate::state::{Frame, Hand, Machine, Purpose};
 use nesl_eval_nodes::held::Tops;
 use nesl_eval_nodes::meter::{Meter, Stop};
@@ -58,35 +58,51 @@ impl<'a, A: Allocator + Copy> Machine<'a, A> {
     {
         let code = self.code;
         match code {
-            Ops::Push { height, leaf, next } => self.push_leaf(tops, *height, leaf, &**next),
-            Ops::Enter { height, span, next } => empty_handed(self.enter(*height, *span, &**next)),
-            Ops::OfLeaf { node, leaf, next } => self.of_leaf(tops, *node, leaf, &**next),
+            Ops::Push { height, leaf, next } => self.push_leaf(tops, *height, leaf, next.ops()),
+            Ops::Enter { height, span, next } => empty_handed(self.enter(
+                *height,
+                *span,
+                next.ops(),
+            )),
+            Ops::OfLeaf { node, leaf, next } => self.of_leaf(tops, *node, leaf, next.ops()),
             Ops::OfLeaves {
                 node,
                 left,
                 right,
                 next,
-            } => self.of_leaves(tops, *node, left, right, &**next),
+            } => self.of_leaves(tops, *node, left, right, next.ops()),
             Ops::OfMany {
                 node,
                 count,
                 leaves,
                 next,
-            } => self.of_many(tops, *node, *count, leaves, &**next),
-            Ops::Forget { places, next } => empty_handed(self.forget(*places, &**next)),
+            } => self.of_many(tops, *node, *count, leaves, next.ops()),
+            Ops::Forget { places, next } => empty_handed(self.forget(*places, next.ops())),
             Ops::Each {
                 span,
                 count,
                 body,
                 next,
-            } => empty_handed(self.each(*span, *count, &**body, &**next)),
+            } => {
+                let node = EachNode {
+                    span: *span,
+                    count: *count,
+                };
+                empty_handed(self.each(tops, node, &**body, next.ops()))
+            }
             Ops::Filtered {
                 span,
                 count,
                 body,
                 filter,
                 next,
-            } => empty_handed(self.filtered(*span, *count, &**body, &**filter, &**next)),
+            } => {
+                let node = EachNode {
+                    span: *span,
+                    count: *count,
+                };
+                empty_handed(self.filtered(tops, node, &**body, &**filter, next.ops()))
+            }
             Ops::Finish => self.take_top(tops, code),
             Ops::OfTop { .. } => self.take_top(tops, code),
             Ops::OfTopAndLeaf { .. } => self.take_top(tops, code),
@@ -112,12 +128,12 @@ impl<'a, A: Allocator + Copy> Machine<'a, A> {
         ensures bounded { self.new.meter.fuel + self.new.meter.depth < 2 ^ 64 }
     {
         match code {
-            Ops::Finish => self.finish_with(value),
+            Ops::Finish => self.finish_with(tops, value),
             Ops::Choose { yes, no, next } => {
-                empty_handed(self.choose_by(value, &**yes, &**no, &**next))
+                empty_handed(self.choose_by(value, yes.ops(), no.ops(), next.ops()))
             }
-            Ops::Last { yes, no } => empty_handed(self.choose_last_by(value, &**yes, &**no)),
-            Ops::Bind { next } => empty_handed(self.bind_to(value, &**next)),
+            Ops::Last { yes, no } => empty_handed(self.choose_last_by(value, yes.ops(), no.ops())),
+            Ops::Bind { next } => empty_handed(self.bind_to(value, next.ops())),
             Ops::Enter { .. } => empty_handed(self.set_down(value, code)),
             Ops::OfLeaves { .. } => empty_handed(self.set_down(value, code)),
             _ => self.take_apart(tops, value, code),
@@ -154,11 +170,11 @@ impl<'a, A: Allocator + Copy> Machine<'a, A> {
         ensures bounded { self.new.meter.fuel + self.new.meter.depth < 2 ^ 64 }
     {
         match code {
-            Ops::OfTop { node, next } => self.of_value(value, *node, &**next),
+            Ops::OfTop { node, next } => self.of_value(value, *node, next.ops()),
             Ops::OfTopAndLeaf { node, right, next } => {
-                self.of_value_and_leaf(tops, value, *node, right, &**next)
+                self.of_value_and_leaf(tops, value, *node, right, next.ops())
             }
-            Ops::OfTops { node, next } => self.of_tops(value, *node, &**next),
+            Ops::OfTops { node, next } => self.of_tops(value, *node, next.ops()),
             Ops::Call {
                 height,
                 span,
@@ -169,9 +185,9 @@ impl<'a, A: Allocator + Copy> Machine<'a, A> {
                     height: *height,
                     span: *span,
                 };
-                self.call_with(tops, value, node, callee, &**next)
+                self.call_with(tops, value, node, callee, next.ops())
             }
-            Ops::Forget { places, next } => self.forget_with(value, *places, &**next),
+            Ops::Forget { places, next } => self.forget_with(value, *places, next.ops()),
             _ => empty_handed(self.set_down(value, code)),
         }
     }
@@ -215,20 +231,6 @@ impl<'a, A: Allocator + Copy> Machine<'a, A> {
             Hand::Empty => self.operate(tops),
             Hand::Holds(value, next) => self.take(tops, value, next),
             Hand::Done(value) => Ok(Hand::Done(value)),
-        }
-    }
-
-    /// One operation, whose value goes on the stack.
-    pub fn step<T: Tops<A>>(&mut self, tops: &T) -> Result<Option<Value<A>>, Stop>
-        requires { self.old.meter.fuel + self.old.meter.depth < 2 ^ 64 }
-        ensures comes { let t = T.table tops.now in Fits t self.old
-            → Comes t self.old result self.new (left t self.old) }
-        ensures bounded { self.new.meter.fuel + self.new.meter.depth < 2 ^ 64 }
-    {
-        match self.operate(tops)? {
-            Hand::Empty => Ok(None),
-            Hand::Holds(value, next) => going_on(self.set_down(value, next)),
-            Hand::Done(value) => Ok(Some(value)),
         }
     }
 

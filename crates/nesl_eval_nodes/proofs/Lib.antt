@@ -3,9 +3,8 @@ pub mod Loops
 pub mod Sides
 pub mod Arms
 pub mod Lengths
-pub mod Lent
 pub mod Lookups
-pub mod Names
+pub mod Cuts
 pub mod Making
 pub mod Planned
 pub mod Rows

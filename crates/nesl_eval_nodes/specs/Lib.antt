@@ -2,4 +2,3 @@ pub mod Sides
 pub mod Holds
 pub mod Meets
 pub mod Scopes
-pub mod Standing

@@ -1,11 +1,7 @@
 -- What a run under a meter tells of an outcome.
-use Rattle.std.specs.Prelude.{◌≡◌, ℕ, ◌+◌, ◌<◌, Result, Ok, Err}
-use Rattle.nesl_lex.specs.declared.token.Span.{Span}
+use Rattle.std.specs.Prelude.{◌≡◌, ◌+◌, ◌<◌, Result, Ok, Err}
 use Rattle.nesl_values.specs.View.{tree_of}
-use Rattle.std.specs.Prelude.{List, map}
-use Rattle.std.specs.declared.vec.Vec.{Vec}
 use Rattle.nesl_values.specs.declared.value.Value as values
-use Rattle.nesl_scalars.specs.declared.trap.Trap.TheVariants.{Deep}
 use Rattle.nesl_eval_nodes.specs.declared.meter.Meter.{Meter}
 use Rattle.nesl_eval_nodes.specs.declared.meter.Stop.{Stop}
 use Rattle.nesl_eval_nodes.specs.declared.meter.Stop.TheVariants.{Fault, Over, Memory, Stuck}
@@ -29,14 +25,3 @@ Meets T m (Err Stuck) n (fault k s w) = ⊥
 -- the value is this tree
 abbrev pub Is : {A : Type 0} → values.Value A → Value → Type 0
 Is v t = tree_of v ≡ t
-
--- why a node is not entered
-abbrev pub Refuses : ℕ → Span → ℕ → Stop → Type 0
-Refuses levels s fuel (Fault k s') = (levels ≡ 0) × (k ≡ Deep) × (s' ≡ s)
-Refuses levels s fuel Over = (0 < levels) × (fuel < 1)
-Refuses levels s fuel Memory = ⊥
-Refuses levels s fuel Stuck = ⊥
-
--- the values are these trees
-abbrev pub Are : {A : Type 0} → Vec (values.Value A) A → List Value → Type 0
-Are vs ts = map tree_of vs.items ≡ ts

@@ -1,15 +1,15 @@
 -- The frames that a scope is.
-use Rattle.std.specs.Prelude.{[], ◌∷◌, map}
+use Rattle.std.specs.Prelude.{ℕ, ◌-◌, List, [], ◌∷◌, map, length, take, drop}
 use Rattle.nesl_values.specs.View.{tree_of}
-use Rattle.nesl_eval_code.specs.Frames.{Frames, frame, row}
-use Rattle.nesl_eval_nodes.specs.declared.scope.Scope.{Scope, fold-Scope}
-use Rattle.nesl_eval_nodes.specs.declared.scope.Scope.TheOpen.{Scope-F}
+use Rattle.nesl_eval_meaning.specs.Names.{Value}
+use Rattle.nesl_eval_code.specs.Frames.{Frames, frame}
+use Rattle.nesl_eval_nodes.specs.declared.scope.Scope.{Scope}
 
-abbrev pub frames_step : {A : Type 0} → Scope-F A Frames → Frames
-frames_step Scope-F.Empty = []
-frames_step (Scope-F.Argument v) = frame (tree_of v.now ∷ []) ∷ []
-frames_step (Scope-F.Let vs rest) = frame (map tree_of vs.now) ∷ rest.now
-frames_step (Scope-F.Row vs i rest) = row i (map tree_of vs.now) ∷ rest.now
+-- values that lie end to end, as frames of these sizes, the newest first: its values are the last ones
+abbrev pub cut : List ℕ → List Value → Frames
+cut [] vs = []
+cut (k ∷ ks) vs = frame (drop (length vs - k) vs) ∷ cut ks (take (length vs - k) vs)
 
+-- the frames of a scope
 abbrev pub frames_of : {A : Type 0} → Scope A → Frames
-frames_of {A} = fold-Scope A Frames frames_step
+frames_of s = cut s.sizes.now (map tree_of s.values.now)

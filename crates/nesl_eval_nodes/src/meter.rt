@@ -1,10 +1,6 @@
 //! The fuel that is left and the depth so far.
-ghost use Rattle.std.specs.Prelude.{◌≡◌, ◌+◌, ◌<◌, ◌^◌, MatchResult, max};
-ghost use Rattle.nesl_eval_code.specs.Run.{code_span};
-ghost use Rattle.nesl_eval_nodes.specs.Meets.{Refuses};
+ghost use Rattle.std.specs.Prelude.{◌≡◌, ◌+◌, ◌<◌, MatchResult, max};
 
-use crate::nodes::span_of;
-use nesl_eval_code::Code;
 use nesl_lex::token::Span;
 use nesl_scalars::Trap;
 
@@ -37,23 +33,6 @@ impl Meter {
             return Err(Stop::Over);
         }
         self.fuel -= work;
-        Ok(())
-    }
-
-    /// Enters a node: its own 1, if a level is left for it.
-    #[inline(always)]
-    pub fn enter(&mut self, levels: u32, code: &Code) -> Result<(), Stop>
-        requires { self.old.fuel + self.old.depth < 2 ^ 64 }
-        ensures { MatchResult result
-            (λ _. (0 < levels) × (self.old.fuel ≡ self.new.fuel + 1)
-            × (self.new.depth ≡ self.old.depth + 1))
-            (λ e. (self.new ≡ self.old) × Refuses levels (code_span code.now) self.old.fuel e) }
-    {
-        if levels == 0 {
-            return Err(Stop::Fault(Trap::Deep, span_of(code)));
-        }
-        self.charge(1)?;
-        self.depth += 1;
         Ok(())
     }
 

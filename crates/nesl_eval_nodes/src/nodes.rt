@@ -2,7 +2,7 @@
 ghost use Rattle.std.specs.Prelude.{◌≡◌, List, ◌==◌, ◌+◌, ◌<◌, ◌≤◌, ◌^◌, ◌∷◌, ◌++◌, [], ℕ, Some, IfOk};
 ghost use Rattle.std.specs.Prelude.{MatchResult, cond, map, length, ◌↔◌, IsTrue};
 ghost use Rattle.std.specs.List.{range_with_len, list_all};
-ghost use Rattle.nesl_values.specs.Tree.{ValueTree, sequence, tagged, pair, character};
+ghost use Rattle.nesl_values.specs.Tree.{sequence, tagged, pair, character};
 ghost use Rattle.nesl_values.specs.Parts.{as_bool};
 ghost use Rattle.nesl_values.specs.View.{tree_of};
 ghost use Rattle.nesl_values_builder.specs.Elements.{elements_of};
@@ -10,10 +10,10 @@ ghost use Rattle.nesl_scalars.specs.Scalars.{unary, binary};
 ghost use Rattle.nesl_seqs_base.specs.Lent.{argument_tree};
 ghost use Rattle.nesl_seqs_base.specs.Meaning.{outcome_of};
 ghost use Rattle.nesl_eval_meaning.specs.Names.{look_up};
-ghost use Rattle.nesl_eval_meaning.specs.Out.{Out, value, at_call, given, and_then};
+ghost use Rattle.nesl_eval_meaning.specs.Out.{value, given};
 ghost use Rattle.nesl_eval_meaning.specs.Outcome.{small_enough, apply_builtin, on_scalars, on_sequence, body_value};
 ghost use Rattle.nesl_eval_meaning.specs.Outcome.{lengths, common_places};
-ghost use Rattle.nesl_eval_code.specs.Run.{run_top, slot_at, code_span};
+ghost use Rattle.nesl_eval_code.specs.Run.{run_top, slot_at};
 ghost use Rattle.nesl_eval_nodes.specs.declared.meter.Meter.{Meter};
 ghost use Rattle.nesl_eval_nodes.specs.Sides.{IsOne};
 ghost use Rattle.nesl_eval_nodes.specs.Meets.{Meets, Is};
@@ -21,7 +21,6 @@ ghost use Rattle.nesl_eval_nodes.specs.Meets.{Meets, Is};
 use crate::held::{Held, Tops};
 use crate::meter::{Meter, Stop};
 use nesl_builtins::Builtin;
-use nesl_eval_code::Code;
 use nesl_lex::token::Span;
 use nesl_scalars::{Binary, Trap, Unary};
 use nesl_seqs::{Argument, SeqFn, plan};
@@ -30,10 +29,10 @@ use nesl_values_builder::SequenceBuilder;
 use std::alloc::{AllocError, Allocator};
 use std::mem;
 
-/// How many nodes a value may have that is made of parts.
-pub const LARGE: u64 = 1_048_576;
+// How many nodes a value may have that is made of parts.
+const LARGE: u64 = 1_048_576;
 
-/// The value that was made of parts.
+// The value that was made of parts.
 fn within_limit<A: Allocator>(value: Value<A>, span: Span) -> Result<Value<A>, Stop>
     ensures { (m : Meter) → Meets Is m result m (small_enough span (tree_of value)) }
 {
@@ -65,23 +64,6 @@ pub fn pair_fits(first: u64, second: u64) -> bool
     ensures { IsTrue result ↔ (first + second + 1 ≤ 1048576) }
 {
     first < LARGE && second < LARGE - first
-}
-
-// Two values stand for a pair, which is not built, only where it has at most 1,048,576 nodes.
-#[inline(always)]
-fn pair_within_limit<A: Allocator>(
-    left: &Value<A>,
-    right: &Value<A>,
-    span: Span,
-) -> Result<(), Stop>
-    ensures { let z = pair (tree_of left.now) (tree_of right.now) in
-        (m : Meter) → Meets (λ _ x. x ≡ z) m result m (small_enough span z) }
-{
-    if pair_fits(left.nodes(), right.nodes()) {
-        Ok(())
-    } else {
-        Err(Stop::Fault(Trap::Large, span))
-    }
 }
 
 /// The value with that tag.
@@ -216,23 +198,6 @@ pub fn apply_to_leaves<A: Allocator>(
     found
 }
 
-/// A function of two scalars that are written as a pair, which is not built.
-#[inline(always)]
-pub fn apply_to_pair<A: Allocator>(
-    function: Binary,
-    left: Value<A>,
-    right: Value<A>,
-    within: Span,
-    span: Span,
-) -> Result<Value<A>, Stop>
-    ensures { (m : Meter) → Meets Is m result m
-        (and_then (small_enough within (pair (tree_of left) (tree_of right)))
-        (apply_builtin span (Builtin.OfTwo function))) }
-{
-    pair_within_limit(&left, &right, within)?;
-    apply_to_leaves(function, left, right, span)
-}
-
 // Drops a value. A leaf holds nothing.
 #[inline]
 fn let_go<A: Allocator>(value: Value<A>) {
@@ -364,7 +329,20 @@ pub fn sequence_of<A: Allocator + Copy>(
     }
 }
 
+// The values, packed if they are leaves of one kind. Where the first has parts, they stand as they are.
 fn packed<A: Allocator + Copy>(values: Vec<Value<A>, A>, alloc: A) -> Result<Value<A>, AllocError>
+    ensures { IfOk result (λ v. tree_of v ≡ sequence (map tree_of values.items)) }
+{
+    match values.first() {
+        Some(Value::Shared(_)) => Value::sequence(alloc, values),
+        _ => pushed_one_by_one(values, alloc),
+    }
+}
+
+fn pushed_one_by_one<A: Allocator + Copy>(
+    values: Vec<Value<A>, A>,
+    alloc: A,
+) -> Result<Value<A>, AllocError>
     ensures { IfOk result (λ v. tree_of v ≡ sequence (map tree_of values.items)) }
 {
     let mut made = SequenceBuilder::with_room(alloc, values.len());
@@ -372,49 +350,6 @@ fn packed<A: Allocator + Copy>(values: Vec<Value<A>, A>, alloc: A) -> Result<Val
         made.push(value)?;
     }
     made.finish()
-}
-
-/// A fault inside a called body is told with the span of the call.
-#[inline]
-pub fn place_fault<A: Allocator>(
-    found: Result<Value<A>, Stop>,
-    span: Span,
-) -> Result<Value<A>, Stop>
-    ensures { (o : Out ValueTree) (m n : Meter) → Meets Is m found n o
-        → Meets Is m result n (at_call span o) }
-{
-    match found {
-        Err(Stop::Fault(trap, _)) => Err(Stop::Fault(trap, span)),
-        _ => found,
-    }
-}
-
-/// The bytes of an expression.
-#[inline(never)]
-pub fn span_of(code: &Code) -> Span
-    ensures { result ≡ code_span code.now }
-{
-    match code {
-        Code::Number { span, .. } => *span,
-        Code::Truth { span, .. } => *span,
-        Code::Character { span, .. } => *span,
-        Code::Text { span, .. } => *span,
-        Code::Local { span, .. } => *span,
-        Code::Top { span, .. } => *span,
-        Code::Named { span, .. } => *span,
-        Code::Pair { span, .. } => *span,
-        Code::Apply { span, .. } => *span,
-        Code::ApplyTwo { span, .. } => *span,
-        Code::ApplyThree { span, .. } => *span,
-        Code::Call { span, .. } => *span,
-        Code::CallNamed { span, .. } => *span,
-        Code::Choice { span, .. } => *span,
-        Code::Sequence { span, .. } => *span,
-        Code::Empty { span } => *span,
-        Code::Let { span, .. } => *span,
-        Code::Each { span, .. } => *span,
-        Code::FilteredEach { span, .. } => *span,
-    }
 }
 
 /// The value of a body, which costs its nodes.

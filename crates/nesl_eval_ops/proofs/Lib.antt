@@ -1,1 +1,3 @@
+pub mod Falling
+pub mod Copies
 pub mod Lists

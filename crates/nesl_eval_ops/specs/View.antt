@@ -1,8 +1,12 @@
 -- The blocks that operations are.
-use Rattle.std.specs.Prelude.{ℕ, List, [], ◌∷◌, map}
+use Rattle.std.specs.Prelude.{◌≡◌, ℕ, List, [], ◌∷◌, map, slice_get, Option, Some, None}
+use Rattle.nesl_eval_code.specs.declared.code.Code.{Code}
+use Rattle.nesl_eval_code.specs.Run.{Table, slot_at, function_slot}
 use Rattle.nesl_eval_blocks.specs.Block as block
 use Rattle.nesl_eval_blocks.specs.Block.{Block, finish, push, enter, make, choose, last, call, bind, forget, each}
 use Rattle.nesl_eval_blocks.specs.Block.{filtered}
+use Rattle.nesl_eval_blocks.specs.Flat.{flat}
+use Rattle.nesl_eval_blocks.specs.Flat as laying
 use Rattle.nesl_eval_ops.specs.declared.ops.What.{What}
 use Rattle.nesl_eval_ops.specs.declared.ops.What.TheVariants.{Number, Truth, Character, Text, Empty, Local, Missing}
 use Rattle.nesl_eval_ops.specs.declared.ops.What.TheVariants.{Top, Named}
@@ -13,9 +17,12 @@ use Rattle.nesl_eval_ops.specs.declared.ops.Many.{Many}
 use Rattle.nesl_eval_ops.specs.declared.ops.Many.TheVariants as many
 use Rattle.nesl_eval_ops.specs.declared.ops.Callee.{Callee}
 use Rattle.nesl_eval_ops.specs.declared.ops.Callee.TheVariants as callee
-use Rattle.nesl_eval_ops.specs.declared.ops.Ops.{Ops, Finish, Push', Enter', OfLeaf', OfTop', OfLeaves'}
-use Rattle.nesl_eval_ops.specs.declared.ops.Ops.{OfTopAndLeaf', OfTops', OfMany', Choose', Last', Call', Bind'}
-use Rattle.nesl_eval_ops.specs.declared.ops.Ops.{Forget', Each', Filtered'}
+use Rattle.nesl_eval_ops.specs.declared.ops.Body.{Body}
+use Rattle.nesl_eval_ops.specs.declared.ops.Body.TheVariants.{Any, Plain}
+use Rattle.nesl_eval_ops.specs.declared.ops.Ops.{Ops}
+use Rattle.nesl_eval_ops.specs.declared.ops.Ops.TheVariants.{Finish, Push, Enter, OfLeaf, OfTop, OfLeaves}
+use Rattle.nesl_eval_ops.specs.declared.ops.Ops.TheVariants.{OfTopAndLeaf, OfTops, OfMany, Choose, Last, Call, Bind}
+use Rattle.nesl_eval_ops.specs.declared.ops.Ops.TheVariants.{Forget, Each, Filtered}
 use Rattle.nesl_eval_ops.specs.declared.sizes.Sizes.{Sizes, fold-Sizes}
 use Rattle.nesl_eval_ops.specs.declared.sizes.Sizes.TheOpen.{Sizes-F}
 
@@ -46,23 +53,34 @@ abbrev pub callee_is : Callee → block.Callee
 callee_is (callee.Placed k) = block.placed k
 callee_is (callee.Named x) = block.called_by x.items
 
+-- a body's block is that of the code that it is laid from, where it keeps it
+abbrev pub body_block : Body → Block
+body_block (Any b) = b
+body_block (Plain k) = flat k.height k.sizes k.code None
+
 abbrev pub block_of : Ops → Block
 block_of Finish = finish
-block_of (Push' h l p b) = push h (leaf_is l) (block_of b)
-block_of (Enter' h s p b) = enter h s (block_of b)
-block_of (OfLeaf' n l p b) = make n.height n.span (block.of_one n.function) 0 (leaf_is l ∷ []) (block_of b)
-block_of (OfTop' n p b) = make n.height n.span (block.of_one n.function) 1 [] (block_of b)
-block_of (OfLeaves' n l r p b) = make n.height n.span (two_is n.two) 0 (leaf_is l ∷ leaf_is r ∷ []) (block_of b)
-block_of (OfTopAndLeaf' n r p b) = make n.height n.span (two_is n.two) 1 (leaf_is r ∷ []) (block_of b)
-block_of (OfTops' n p b) = make n.height n.span (two_is n.two) 2 [] (block_of b)
-block_of (OfMany' n k ls p b) = make n.height n.span (many_is n.many) k (map leaf_is ls.items) (block_of b)
-block_of (Choose' p c q d r b) = choose (block_of c) (block_of d) (block_of b)
-block_of (Last' p c q d) = last (block_of c) (block_of d)
-block_of (Call' h s f p b) = call h s (callee_is f) (block_of b)
-block_of (Bind' p b) = bind (block_of b)
-block_of (Forget' m p b) = forget m (block_of b)
-block_of (Each' s k p c q b) = each s k (block_of c) (block_of b)
-block_of (Filtered' s k p c q d r b) = filtered s k (block_of c) (block_of d) (block_of b)
+block_of (Push h l b) = push h (leaf_is l) b.value
+block_of (Enter h s b) = enter h s b.value
+block_of (OfLeaf n l b) = make n.height n.span (block.of_one n.function) 0 (leaf_is l ∷ []) b.value
+block_of (OfTop n b) = make n.height n.span (block.of_one n.function) 1 [] b.value
+block_of (OfLeaves n l r b) = make n.height n.span (two_is n.two) 0 (leaf_is l ∷ leaf_is r ∷ []) b.value
+block_of (OfTopAndLeaf n r b) = make n.height n.span (two_is n.two) 1 (leaf_is r ∷ []) b.value
+block_of (OfTops n b) = make n.height n.span (two_is n.two) 2 [] b.value
+block_of (OfMany n k ls b) = make n.height n.span (many_is n.many) k (map leaf_is ls.items) b.value
+block_of (Choose c d b) = choose c.value d.value b.value
+block_of (Last c d) = last c.value d.value
+block_of (Call h s f b) = call h s (callee_is f) b.value
+block_of (Bind b) = bind b.value
+block_of (Forget m b) = forget m b.value
+block_of (Each s k c b) = each s k (body_block c.value) b.value
+block_of (Filtered s k c d b) = filtered s k (body_block c.value) (body_block d.value) b.value
+
+-- the bodies that there are are those of the functions
+abbrev pub HasBodies : Table → List (Option Ops) → Type 0
+HasBodies t bs =
+    (k : ℕ) (o : Ops) (c : Code) → slice_get bs k ≡ Some (Some o) → slot_at t k ≡ Some (function_slot c)
+    → block_of o ≡ laying.block (1 ∷ []) c
 
 -- the sizes that a value of the program stands for
 abbrev pub sizes_step : Sizes-F (List ℕ) → List ℕ

@@ -5,11 +5,14 @@ ghost use Rattle.nesl_eval_blocks.specs.Block.{listing, of_one};
 ghost use Rattle.nesl_eval_blocks.specs.Flat.{local_what, leaf_of, leaves_of, making, pushing, rest};
 ghost use Rattle.nesl_eval_blocks.specs.Flat.{deciding, forgetting, flat, applying, block, place_of, room};
 ghost use Rattle.nesl_eval_ops.specs.View.{what_is, leaf_is, two_is, many_is, callee_is, block_of};
-ghost use Rattle.nesl_eval_ops.specs.View.{sizes_of};
+ghost use Rattle.nesl_eval_ops.specs.View.{body_block, sizes_of};
 ghost use Rattle.nesl_eval_ops.specs.Lists.{part_on, parts_on, binding_on, IsNoLeaf, EndsAt};
 
-use crate::ops::{Callee, Leaf, Many, ManyNode, OneNode, Ops, Two, TwoNode, What};
-use crate::sizes::{Sizes, place_of, room};
+use crate::copying::copy_plain;
+use crate::ops::{
+    Block, Body, Callee, Leaf, Many, ManyNode, OneNode, Ops, Plain, Two, TwoNode, What,
+};
+use crate::sizes::{Sizes, list_of, place_of, room};
 use nesl_builtins::Builtin;
 use nesl_eval_code::{Code, Step};
 use nesl_lex::token::Span;
@@ -164,13 +167,20 @@ fn rest(next: Option<Ops>) -> Ops
     }
 }
 
+fn boxed(alloc: Global, ops: Ops) -> Result<Box<Block>, AllocError>
+    ensures { IfOk result (λ b. b.value ≡ block_of ops) }
+{
+    let boxed = Box::new(alloc, Block::new(ops))?;
+    Ok(boxed)
+}
+
 fn push(at: &Place<'_>, leaf: Leaf, next: Ops) -> Result<Ops, AllocError>
     ensures { IfOk result (λ o. block_of o ≡ push at.now.height (leaf_is leaf) (block_of next)) }
 {
     Ok(Ops::Push {
         height: at.height,
         leaf,
-        next: Box::new(at.alloc, next)?,
+        next: boxed(at.alloc, next)?,
     })
 }
 
@@ -180,7 +190,7 @@ fn enter(at: &Place<'_>, span: Span, next: Ops) -> Result<Ops, AllocError>
     Ok(Ops::Enter {
         height: at.height,
         span,
-        next: Box::new(at.alloc, next)?,
+        next: boxed(at.alloc, next)?,
     })
 }
 
@@ -192,7 +202,7 @@ fn of_leaf(alloc: Global, node: OneNode, leaf: Leaf, next: Ops) -> Result<Ops, A
     Ok(Ops::OfLeaf {
         node,
         leaf,
-        next: Box::new(alloc, next)?,
+        next: boxed(alloc, next)?,
     })
 }
 
@@ -202,7 +212,7 @@ fn of_top(alloc: Global, node: OneNode, next: Ops) -> Result<Ops, AllocError>
 {
     Ok(Ops::OfTop {
         node,
-        next: Box::new(alloc, next)?,
+        next: boxed(alloc, next)?,
     })
 }
 
@@ -212,7 +222,7 @@ fn of_tops(alloc: Global, node: TwoNode, next: Ops) -> Result<Ops, AllocError>
 {
     Ok(Ops::OfTops {
         node,
-        next: Box::new(alloc, next)?,
+        next: boxed(alloc, next)?,
     })
 }
 
@@ -224,7 +234,7 @@ fn of_top_and_leaf(alloc: Global, node: TwoNode, right: Leaf, next: Ops) -> Resu
     Ok(Ops::OfTopAndLeaf {
         node,
         right,
-        next: Box::new(alloc, next)?,
+        next: boxed(alloc, next)?,
     })
 }
 
@@ -243,7 +253,7 @@ fn of_leaves(
         node,
         left,
         right,
-        next: Box::new(alloc, next)?,
+        next: boxed(alloc, next)?,
     })
 }
 
@@ -262,7 +272,7 @@ fn of_many(
         node,
         count,
         leaves,
-        next: Box::new(alloc, next)?,
+        next: boxed(alloc, next)?,
     })
 }
 
@@ -270,13 +280,13 @@ fn of_many(
 fn deciding(at: &Place<'_>, yes: Ops, no: Ops, next: Option<Ops>) -> Result<Ops, AllocError>
     ensures { IfOk result (λ o. block_of o ≡ deciding (block_of yes) (block_of no) (option_map block_of next)) }
 {
-    let yes = Box::new(at.alloc, yes)?;
-    let no = Box::new(at.alloc, no)?;
+    let yes = boxed(at.alloc, yes)?;
+    let no = boxed(at.alloc, no)?;
     match next {
         Some(next) => Ok(Ops::Choose {
             yes,
             no,
-            next: Box::new(at.alloc, next)?,
+            next: boxed(at.alloc, next)?,
         }),
         None => Ok(Ops::Last { yes, no }),
     }
@@ -290,7 +300,7 @@ fn forgetting(at: &Place<'_>, next: Option<Ops>) -> Result<Option<Ops>, AllocErr
     match next {
         Some(next) => Ok(Some(Ops::Forget {
             places: room(at.sizes)?,
-            next: Box::new(at.alloc, next)?,
+            next: boxed(at.alloc, next)?,
         })),
         None => Ok(None),
     }
@@ -300,7 +310,7 @@ fn bound(at: &Place<'_>, next: Ops) -> Result<Ops, AllocError>
     ensures { IfOk result (λ o. block_of o ≡ bind (block_of next)) }
 {
     Ok(Ops::Bind {
-        next: Box::new(at.alloc, next)?,
+        next: boxed(at.alloc, next)?,
     })
 }
 
@@ -425,7 +435,7 @@ fn of_call(
         height: at.height,
         span,
         callee,
-        next: Box::new(at.alloc, rest(next))?,
+        next: boxed(at.alloc, rest(next))?,
     };
     let inner = at.above()?;
     let made = laid(&inner, argument, Some(call))?;
@@ -468,12 +478,12 @@ fn of_each(
         (each span n (flat (suc h) (n ∷ ks) body.now None) (rest (option_map block_of next))))) }
 {
     let inner = at.above()?;
-    let body = inside(&inner, sources.len(), body, None)?;
+    let body = each_body(&inner, sources.len(), body)?;
     let each = Ops::Each {
         span,
         count: sources.len(),
         body: Box::new(at.alloc, body)?,
-        next: Box::new(at.alloc, rest(next))?,
+        next: boxed(at.alloc, rest(next))?,
     };
     let made = pushed(&inner, sources, each)?;
     enter(at, span, made)
@@ -495,14 +505,14 @@ fn of_filtered(
         (rest (option_map block_of next))))) }
 {
     let inner = at.above()?;
-    let body = inside(&inner, sources.len(), body, None)?;
-    let filter = inside(&inner, sources.len(), filter, None)?;
+    let body = each_body(&inner, sources.len(), body)?;
+    let filter = each_body(&inner, sources.len(), filter)?;
     let each = Ops::Filtered {
         span,
         count: sources.len(),
         body: Box::new(at.alloc, body)?,
         filter: Box::new(at.alloc, filter)?,
-        next: Box::new(at.alloc, rest(next))?,
+        next: boxed(at.alloc, rest(next))?,
     };
     let made = pushed(&inner, sources, each)?;
     enter(at, span, made)
@@ -521,6 +531,41 @@ fn inside(at: &Place<'_>, size: usize, code: &Code, next: Option<Ops>) -> Result
         sizes: &sizes,
     };
     laid(&inner, code, next)
+}
+
+/// The body or the filter of an apply-to-each of so many sequences.
+#[cycle(laying)]
+fn each_body(at: &Place<'_>, count: usize, code: &Code) -> Result<Body, AllocError>
+    ensures { IfOk result (λ b. body_block b
+        ≡ flat at.now.height (count ∷ sizes_of at.now.sizes.now) code.now None) }
+{
+    let sizes = within(count, at.sizes);
+    let inner = Place {
+        alloc: at.alloc,
+        height: at.height,
+        sizes: &sizes,
+    };
+    let ops = laid(&inner, code, None)?;
+    kept(&inner, ops, code)
+}
+
+/// Operations with the code that they are laid from, if it may have columns and the frames round it are few.
+fn kept(at: &Place<'_>, ops: Ops, code: &Code) -> Result<Body, AllocError>
+    requires { block_of ops ≡ flat at.now.height (sizes_of at.now.sizes.now) code.now None }
+    ensures { IfOk result (λ b. body_block b ≡ flat at.now.height (sizes_of at.now.sizes.now) code.now None) }
+{
+    let Some(code) = copy_plain(at.alloc, code)? else {
+        return Ok(Body::Any(Block::new(ops)));
+    };
+    let Some(sizes) = list_of(at.alloc, at.sizes)? else {
+        return Ok(Body::Any(Block::new(ops)));
+    };
+    Ok(Body::Plain(Plain {
+        ops,
+        height: at.height,
+        sizes,
+        code,
+    }))
 }
 
 /// A node of two parts.

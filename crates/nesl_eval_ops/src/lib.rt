@@ -1,9 +1,12 @@
 //! Code laid out in the order of evaluation: operations, each with those after it.
 #![tactic(auto)]
 
+mod copying;
 mod laying;
 pub mod ops;
 mod sizes;
 
 pub use laying::{body_ops, expression_ops};
-pub use ops::{Callee, Leaf, Many, ManyNode, OneNode, Ops, Two, TwoNode, What};
+pub use ops::{
+    Block, Body, Callee, Laid, Leaf, Many, ManyNode, OneNode, Ops, Plain, Two, TwoNode, What,
+};

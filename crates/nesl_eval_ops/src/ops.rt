@@ -1,8 +1,15 @@
 //! Operations in the order of evaluation.
 
+ghost use Rattle.std.specs.Prelude.{◌≡◌, ◌≤◌, IfSome, None};
+ghost use Rattle.nesl_eval_blocks.specs.Flat.{flat};
+ghost use Rattle.nesl_eval_ops.specs.View.{block_of, body_block};
+ghost use Rattle.nesl_eval_ops.specs.Weight.{weight};
+ghost use Rattle.nesl_eval_ops.specs.declared.ops.Block.TheDeep.{deep-Ops};
+
 use nesl_builtins::Builtin;
-use nesl_eval_code::Step;
+use nesl_eval_code::{Code, Step};
 use nesl_lex::token::Span;
+use std::marker::Model;
 
 /// What has no parts: a literal, a local name by the place of its value and the steps from there, or a name of the top
 /// level.
@@ -81,8 +88,145 @@ pub enum Callee {
     Named(Vec<u8>),
 }
 
+/// Operations that others hold. Contracts see them as their block.
+#[cycle(ops)]
+#[derive(Drop)]
+pub struct Block {
+    ops: Ops,
+}
+
+impl Model for Block {
+    ghost use Rattle.nesl_eval_blocks.specs.Block.{Block};
+    ghost use Rattle.nesl_eval_ops.specs.Codes.{block_code};
+    ghost use Rattle.std.specs.Coded.{codes};
+    ghost use Rattle.nesl_lex.specs.contracts.token.Span as span;
+    ghost use Rattle.nesl_builtins.specs.contracts.builtin.Builtin as builtin;
+    ghost use Rattle.nesl_eval_code.specs.contracts.code.Step as step;
+
+    ghost Value = { Block };
+
+    ghost coded = { block_code (Prim.hlevel (codes, span.the_row.coded, builtin.the_row.coded, step.the_row.coded)) };
+
+    ghost use Rattle.nesl_eval_ops.specs.View.{block_of};
+
+    ghost view = { λ a. block_of a.ops };
+
+    ghost use Rattle.nesl_eval_ops.specs.Weight.{weight};
+
+    ghost size = { weight };
+
+    ghost use Rattle.nesl_eval_ops.specs.Falls.{depth_le};
+
+    ghost size_decreases = { λ a h. depth_le a.ops };
+}
+
+impl Block {
+    pub fn new(ops: Ops) -> Block
+        ensures { result ≡ block_of ops }
+    {
+        Block { ops }
+    }
+
+    pub fn ops(&self) -> &Ops
+        ensures { block_of result.now ≡ self.now }
+    {
+        &self.ops
+    }
+
+    #[tactic(auto, using(crate::proofs::Falling::falls))]
+    fn into_ops(self) -> Ops
+        ensures is { block_of result ≡ self }
+        ensures lower { deep-Ops result ≤ weight self }
+    {
+        self.ops
+    }
+}
+
+/// The body or the filter of an apply-to-each.
+#[cycle(ops)]
+#[derive(Drop)]
+pub enum Body {
+    /// Operations alone.
+    Any(Block),
+    /// Operations and the code that they are laid from, whose parts may have columns.
+    Plain(Plain),
+}
+
+/// Operations, and the code that they are laid from.
+#[cycle(ops)]
+#[derive(Drop)]
+pub struct Plain {
+    pub(crate) ops: Ops,
+    /// The height of the code in the body of the function or in the expression that it stands in.
+    pub(crate) height: u32,
+    /// The sizes of the frames round the code, its own first.
+    pub(crate) sizes: Vec<usize>,
+    pub(crate) code: Code,
+}
+
+impl Model for Plain {
+    ghost use Rattle.std.specs.Prelude.{◌≡◌, None};
+    ghost use Rattle.nesl_eval_blocks.specs.Flat.{flat};
+    ghost use Rattle.nesl_eval_ops.specs.Kept.{Kept, kept_code};
+    ghost use Rattle.std.specs.Coded.{codes};
+    ghost use Rattle.nesl_eval_code.specs.contracts.code.Code as the_code;
+
+    ghost Value = { Kept };
+
+    ghost coded = { kept_code (Prim.hlevel (codes, the_code.the_row.coded)) };
+
+    ghost view = { λ a. record { height = a.height; sizes = a.sizes.items; code = a.code } };
+
+    ghost use Rattle.nesl_eval_ops.specs.View.{block_of};
+
+    ghost invariant = { λ a. block_of a.ops ≡ flat a.height a.sizes.items a.code None };
+
+    ghost use Rattle.nesl_eval_ops.specs.Weight.{weight};
+
+    ghost size = { λ k. weight (flat k.height k.sizes k.code None) };
+
+    ghost use Rattle.nesl_eval_ops.specs.Falls.{depth_le_same};
+
+    ghost size_decreases = { λ a h. depth_le_same a.ops (flat a.height a.sizes.items a.code None) h };
+}
+
+/// The code that a body is laid from: its height, and the sizes of the frames round it, its own first.
+#[derive(Clone, Copy)]
+pub struct Laid<'a> {
+    pub height: u32,
+    pub sizes: &'a [usize],
+    pub code: &'a Code,
+}
+
+impl Body {
+    /// The body's operations.
+    pub fn ops(&self) -> &Ops
+        ensures { block_of result.now ≡ body_block self.now }
+    {
+        match self {
+            Body::Any(block) => block.ops(),
+            Body::Plain(plain) => &plain.ops,
+        }
+    }
+
+    /// The code of the body, if it was kept.
+    pub fn plain(&self) -> Option<Laid<'_>>
+        ensures { IfSome result (λ l. body_block self.now ≡ flat l.height l.sizes.now l.code.now None) }
+    {
+        match self {
+            Body::Any(_) => None,
+            Body::Plain(plain) => Some(Laid {
+                height: plain.height,
+                sizes: &plain.sizes,
+                code: &plain.code,
+            }),
+        }
+    }
+}
+
 /// Operations. Values stand on a stack, the last one on top. A height is that of a node in its body; a node is entered
 /// before its parts.
+#[cycle(ops)]
 pub enum Ops {
     /// Nothing more: one value is left.
     Finish,
@@ -90,97 +234,98 @@ pub enum Ops {
     Push {
         height: u32,
         leaf: Leaf,
-        next: Box<Ops>,
+        next: Box<Block>,
     },
     /// Enters a node that has parts.
     Enter {
         height: u32,
         span: Span,
-        next: Box<Ops>,
+        next: Box<Block>,
     },
     /// Applies a function to a leaf. The leaves of a node have the height that it names: one more than its own.
     OfLeaf {
         node: OneNode,
         leaf: Leaf,
-        next: Box<Ops>,
+        next: Box<Block>,
     },
     /// Applies a function to the value on top.
     OfTop {
         node: OneNode,
-        next: Box<Ops>,
+        next: Box<Block>,
     },
     /// What is made of two leaves.
     OfLeaves {
         node: TwoNode,
         left: Leaf,
         right: Leaf,
-        next: Box<Ops>,
+        next: Box<Block>,
     },
     /// What is made of the value on top and a leaf.
     OfTopAndLeaf {
         node: TwoNode,
         right: Leaf,
-        next: Box<Ops>,
+        next: Box<Block>,
     },
     /// What is made of the two values on top.
     OfTops {
         node: TwoNode,
-        next: Box<Ops>,
+        next: Box<Block>,
     },
     /// What is made of so many values on top and leaves.
     OfMany {
         node: ManyNode,
         count: usize,
         leaves: Vec<Leaf>,
-        next: Box<Ops>,
+        next: Box<Block>,
     },
     /// Goes on with the one or the other, and then with what is next.
     Choose {
-        yes: Box<Ops>,
-        no: Box<Ops>,
-        next: Box<Ops>,
+        yes: Box<Block>,
+        no: Box<Block>,
+        next: Box<Block>,
     },
     /// The one or the other, where nothing else is left to do.
     Last {
-        yes: Box<Ops>,
-        no: Box<Ops>,
+        yes: Box<Block>,
+        no: Box<Block>,
     },
     /// Calls a function, whose body has a level less than the node at this height, or makes a record.
     Call {
         height: u32,
         span: Span,
         callee: Callee,
-        next: Box<Ops>,
+        next: Box<Block>,
     },
     /// The value on top is that of one more local name.
     Bind {
-        next: Box<Ops>,
+        next: Box<Block>,
     },
     /// Only the first so many local names are left.
     Forget {
         places: usize,
-        next: Box<Ops>,
+        next: Box<Block>,
     },
     /// A body at all places of so many sequences.
     Each {
         span: Span,
         count: usize,
-        body: Box<Ops>,
-        next: Box<Ops>,
+        body: Box<Body>,
+        next: Box<Block>,
     },
     /// A body at the places of so many sequences where a filter holds.
     Filtered {
         span: Span,
         count: usize,
-        body: Box<Ops>,
-        filter: Box<Ops>,
-        next: Box<Ops>,
+        body: Box<Body>,
+        filter: Box<Body>,
+        next: Box<Block>,
     },
 }
 
 // A loop along the operations: it recurs only into a side of a choice, a body or a filter, of which no more than a
 // node's levels stand in one another.
 impl Drop for Ops {
+    #[cycle(drops)]
     fn drop(mut self) {
         loop {
             match self {
@@ -189,63 +334,63 @@ impl Drop for Ops {
                     height: _,
                     leaf: _leaf,
                     next,
-                } => self = Box::into_inner(next),
+                } => self = Box::into_inner(next).into_ops(),
                 Ops::Enter {
                     height: _,
                     span: _,
                     next,
-                } => self = Box::into_inner(next),
+                } => self = Box::into_inner(next).into_ops(),
                 Ops::OfLeaf {
                     node: _,
                     leaf: _leaf,
                     next,
-                } => self = Box::into_inner(next),
-                Ops::OfTop { node: _, next } => self = Box::into_inner(next),
+                } => self = Box::into_inner(next).into_ops(),
+                Ops::OfTop { node: _, next } => self = Box::into_inner(next).into_ops(),
                 Ops::OfLeaves {
                     node: _,
                     left: _left,
                     right: _right,
                     next,
-                } => self = Box::into_inner(next),
+                } => self = Box::into_inner(next).into_ops(),
                 Ops::OfTopAndLeaf {
                     node: _,
                     right: _right,
                     next,
-                } => self = Box::into_inner(next),
-                Ops::OfTops { node: _, next } => self = Box::into_inner(next),
+                } => self = Box::into_inner(next).into_ops(),
+                Ops::OfTops { node: _, next } => self = Box::into_inner(next).into_ops(),
                 Ops::OfMany {
                     node: _,
                     count: _,
                     leaves: _leaves,
                     next,
-                } => self = Box::into_inner(next),
+                } => self = Box::into_inner(next).into_ops(),
                 Ops::Choose {
                     yes: _yes,
                     no: _no,
                     next,
-                } => self = Box::into_inner(next),
+                } => self = Box::into_inner(next).into_ops(),
                 Ops::Last { yes: _yes, no: _no } => return,
                 Ops::Call {
                     height: _,
                     span: _,
                     callee: _callee,
                     next,
-                } => self = Box::into_inner(next),
-                Ops::Bind { next } => self = Box::into_inner(next),
-                Ops::Forget { places: _, next } => self = Box::into_inner(next),
+                } => self = Box::into_inner(next).into_ops(),
+                Ops::Bind { next } => self = Box::into_inner(next).into_ops(),
+                Ops::Forget { places: _, next } => self = Box::into_inner(next).into_ops(),
                 Ops::Each {
                     span: _,
                     count: _,
                     body: _body,
                     next,
-                } => self = Box::into_inner(next),
+                } => self = Box::into_inner(next).into_ops(),
                 Ops::Filtered {
                     span: _,
                     count: _,
                     body: _body,
                     filter: _filter,
                     next,
-                } => self = Box::into_inner(next),
+                } => self = Box::into_inner(next).into_ops(),
             }
         }
     }

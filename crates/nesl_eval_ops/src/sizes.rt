@@ -1,9 +1,12 @@
 //! How many values the frames round a node hold.
-ghost use Rattle.std.specs.Prelude.{◌≡◌, IfOk};
+ghost use Rattle.std.specs.Prelude.{◌≡◌, ◌++◌, IfOk, IfSome, IsTrue};
 ghost use Rattle.nesl_eval_blocks.specs.Flat.{room, place_of};
 ghost use Rattle.nesl_eval_ops.specs.View.{sizes_of};
 
-use std::alloc::AllocError;
+use std::alloc::{AllocError, Global};
+
+/// A body inside more frames than these keeps no code, so that what is kept is in proportion to the code.
+const MOST_FRAMES: usize = 64;
 
 /// The sizes of frames, the newest first.
 #[derive(Clone, Copy)]
@@ -52,6 +55,34 @@ pub(crate) fn place_of(
                 Some(place) => Ok(Some(place)),
                 None => Err(AllocError),
             }
+        }
+    }
+}
+
+/// The sizes of the frames, the newest first, if they are few.
+pub(crate) fn list_of(alloc: Global, sizes: &Sizes<'_>) -> Result<Option<Vec<usize>>, AllocError>
+    ensures { IfOk result (λ o. IfSome o (λ ks. ks.items ≡ sizes_of sizes.now)) }
+{
+    let mut list = Vec::new(alloc);
+    if add_to(&mut list, sizes)? {
+        Ok(Some(list))
+    } else {
+        Ok(None)
+    }
+}
+
+/// Adds the sizes of the frames to a list, the newest first, if it stays short. It recurs over the frames.
+fn add_to(list: &mut Vec<usize>, sizes: &Sizes<'_>) -> Result<bool, AllocError>
+    ensures { IfOk result (λ b. IsTrue b → list.new.items ≡ list.old.items ++ sizes_of sizes.now) }
+{
+    match sizes {
+        Sizes::Top => Ok(true),
+        Sizes::Frame(size, outer) => {
+            if list.len() == MOST_FRAMES {
+                return Ok(false);
+            }
+            list.push(*size)?;
+            add_to(list, *outer)
         }
     }
 }

@@ -1,5 +1,5 @@
 -- Places that come to leaves.
-use Rattle.std.proofs.Common.{◌≡◌, ℕ, zero, suc, ◌+◌, ◌-◌, ◌<◌, max, Bool, cond, List, [], ◌∷◌, ◌++◌, map, length, refl, ap, ◌∙◌, arith, subst}
+use Rattle.std.proofs.Common.{◌≡◌, ℕ, zero, suc, ◌+◌, ◌-◌, ◌*◌, ◌<◌, max, Bool, cond, List, [], ◌∷◌, ◌++◌, map, length, refl, ap, ◌∙◌, arith, subst}
 use Rattle.std.specs.Prelude.{sum}
 use Rattle.std.proofs.lemmas.List.Sums.{sum_by-cons}
 use Rattle.nesl_lex.specs.declared.token.Span.{Span}
@@ -17,6 +17,7 @@ use Rattle.nesl_eval_meaning.specs.Outcome.{small_enough, apply_builtin, on_scal
 use Rattle.nesl_eval_code.specs.Run.{Runs, Table, run, run_node, run_two}
 use Rattle.nesl_eval_columns.specs.Each.{EachTwo}
 use Rattle.nesl_eval_plain.specs.Comes.{Comes, greatest, chosen}
+use Rattle.nesl_eval_plain.specs.Values.{AreOfSize}
 
 -- what follows at each place
 pub each_so : {X Y : Type 0} (P Q : X → Y → Type 0) → ((x : X) (y : Y) → P x y → Q x y) → (xs : List X) (ys : List Y) → EachTwo P xs ys → EachTwo Q xs ys
@@ -69,22 +70,18 @@ pair_at f fs a b s s' g x y z m n h k e =
     ∙ ap (λ o. after_cost (m + (n + 0)) (m + (n + 0)) (on_scalars s o)) e
     ∙ cost_is z (m + (n + 0) + 0) (m + n) (m + (n + 0) + 0) (m + n) (omega arith) (omega arith)
 
--- the bodies, whose values are leaves
-abbrev pub Small : List Value → Type 0
-Small [] = Unit {0}
-Small (v ∷ vs) = (size v ≡ 1) × Small vs
-
 -- numbers, of which one stands before the others
 pub sum_next : (n : ℕ) (ns : List ℕ) → sum (n ∷ ns) ≡ n + sum ns
 sum_next n ns = sum_by-cons (λ x. x) n ns
 
-pub bodies_of : (p : ℕ → Out Value) (is : List ℕ) (vs : List Value) (ns : List ℕ) → Comes p is vs ns → Small vs → all_beside (λ i. and_then (p i) body_value) is ≡ value vs (sum ns + length is) (greatest ns)
-bodies_of p [] [] [] h l = cost_is [] 0 (sum [] + 0) 0 0 (omega arith) refl
-bodies_of p (i ∷ is) (v ∷ vs) (n ∷ ns) h l =
+-- the bodies, whose values have so many nodes each
+pub bodies_of : (p : ℕ → Out Value) (is : List ℕ) (vs : List Value) (ns : List ℕ) (m : ℕ) → Comes p is vs ns → AreOfSize m vs → all_beside (λ i. and_then (p i) body_value) is ≡ value vs (sum ns + m * length is) (greatest ns)
+bodies_of p [] [] [] m h l = cost_is [] 0 (sum [] + m * 0) 0 0 (omega arith) refl
+bodies_of p (i ∷ is) (v ∷ vs) (n ∷ ns) m h l =
     ap (λ o. beside (and_then o body_value) (all_beside (λ i. and_then (p i) body_value) is)) h.0
-    ∙ ap (λ o. beside (and_then (value v n n) body_value) o) (bodies_of p is vs ns h.1 l.1)
-    ∙ cost_is (v ∷ vs) (n + size v + (sum ns + length is)) (sum (n ∷ ns) + suc (length is)) (max (n + 0) (greatest ns)) (max n (greatest ns)) (omega (arith, l.0, sum_next n ns)) (omega arith)
-bodies_of p _ _ _ h l = absurd h
+    ∙ ap (λ o. beside (and_then (value v n n) body_value) o) (bodies_of p is vs ns m h.1 l.1)
+    ∙ cost_is (v ∷ vs) (n + size v + (sum ns + m * length is)) (sum (n ∷ ns) + m * suc (length is)) (max (n + 0) (greatest ns)) (max n (greatest ns)) (omega (arith, l.0, sum_next n ns)) (omega arith)
+bodies_of p _ _ _ m h l = absurd h
 
 -- the filters
 pub filters_of : (p : ℕ → Out Value) (is : List ℕ) (bs : List Bool) (ns : List ℕ) → Comes p is (map boolean bs) ns → all_beside (λ i. and_then (p i) (place_if_true i)) is ≡ value (chosen is bs) (sum ns) (greatest ns)

@@ -1,6 +1,6 @@
 -- Elements at places.
-use Rattle.std.proofs.Common.{◌≡◌, ℕ, zero, suc, ◌+◌, ◌-◌, ◌<◌, ◌≤◌, ◌⊎◌, inl, inr, pos, List, [], ◌∷◌, map, length, get_or, take, drop, replicate, refl, sym, ap, ◌∙◌, arith, subst, Option, Some, None, true}
-use Rattle.std.specs.Prelude.{slice_get, slice_range, option_map, option_and_then, ◌==◌}
+use Rattle.std.proofs.Common.{◌≡◌, ℕ, zero, suc, ◌+◌, ◌-◌, ◌<◌, ◌≤◌, ◌⊎◌, inl, inr, pos, List, [], ◌∷◌, map, length, get_or, take, drop, replicate, refl, sym, ap, ◌∙◌, arith, subst, Option, Some, None, true, Bor}
+use Rattle.std.specs.Prelude.{slice_get, slice_range, option_map, option_and_then, IfSome, ◌==◌}
 use Rattle.std.proofs.lemmas.Bool.Decides.{nat_tests}
 use Rattle.std.specs.List.{range_with_len}
 use Rattle.std.proofs.lemmas.Option.{slice_get_cases, slice_get-map, slice_get-get_or, slice_get_within, same_Some}
@@ -9,6 +9,7 @@ use Rattle.std.proofs.lemmas.List.FromFn.{length-range_with_len}
 use Rattle.nesl_values.specs.Parts.{elements}
 use Rattle.nesl_values.specs.Tree.{int}
 use Rattle.nesl_values.specs.View.{tree_of}
+use Rattle.nesl_values.specs.declared.value.Value as code
 use Rattle.nesl_eval_code.specs.declared.code.Step.{Step}
 use Rattle.nesl_eval_meaning.specs.Names.{Value}
 use Rattle.nesl_eval_code.specs.Frames.{Frames, row, place_in, local_at, followed}
@@ -121,6 +122,11 @@ above_rows b s up index steps v is some e = λ k fs q.
     let w = at_row b s k fs is q in
     subst (λ hs. given (local_at hs up index steps) (λ v. value v 0 0) ≡ value v 0 0) w.2
     (outer_at (frames_of b.scope.now) (map tree_of b.values.now) w.0 up index steps v some e)
+
+-- of a value that is lent, if there is one
+pub some_tree : {A : Type 0} (o : Option (Bor (code.Value A))) (q : Option Value) (P : Bor (code.Value A) → Type 0) → option_map (λ v. tree_of v.now) o ≡ q → ((v : Bor (code.Value A)) → Some (tree_of v.now) ≡ q → P v) → IfSome o P
+some_tree (Some v) q P e law = law v e
+some_tree None q P e law = tt
 
 -- a name in the frame of a `let`
 pub bound_finds : {A : Type 0} (cs : List (Column A)) (gs : Frames) (up index k : ℕ) (steps : List Step) (c : Column A) (vs : List Value) → slice_get cs index ≡ Some c → up ≡ 0 → true ≡ (length steps == 0) → k < length (leaves_of c) → vs ≡ leaves_of c → IsAt (slice_get vs) (λ j. Some 0) k (given (local_at (bound_at cs k ∷ gs) up index steps) (λ v. value v 0 0))

@@ -1,41 +1,21 @@
 -- Block after block.
-use Rattle.std.proofs.Common.{◌≡◌, ℕ, ℤ, zero, suc, true, set, append-nil, ◌+◌, ◌-◌, ◌<◌, ◌≤◌, max, Bool, cond, List, [], ◌∷◌, ◌++◌, map, length, take, drop, take_all, get_or, get_or-drop, length-take, take-add, drop-drop, length-drop, Some, Result, Ok, Err, false, refl, sym, ap, ◌∙◌, arith, append_assoc}
+use Rattle.std.proofs.Common.{◌≡◌, ℕ, zero, suc, true, set, append-nil, ◌+◌, ◌-◌, ◌*◌, ◌<◌, ◌≤◌, max, Bool, cond, List, [], ◌∷◌, ◌++◌, map, length, take, drop, take_all, get_or, get_or-drop, length-take, take-add, drop-drop, length-drop, Some, Result, Ok, Err, false, refl, sym, ap, ◌∙◌, arith, append_assoc}
 use Rattle.std.specs.Prelude.{slice_range, slice_get, MatchResult, is_err, sum}
 use Rattle.std.proofs.lemmas.Grind.{take_at_read}
 use Rattle.std.proofs.lemmas.List.{take_more_set, take-set}
 use Rattle.std.proofs.lemmas.Option.{slice_get_within, get_or_from_slice_get}
-use Rattle.nesl_values.specs.Tree.{boolean, int, character}
+use Rattle.nesl_values.specs.Tree.{boolean}
 use Rattle.nesl_eval_meaning.specs.Names.{Value}
 use Rattle.nesl_eval_meaning.specs.Out.{Out, value, and_then, beside, all_beside}
 use Rattle.nesl_eval_meaning.specs.Outcome.{body_value, place_if_true}
 use Rattle.nesl_eval_meaning.proofs.Joins.{all_halved}
-use Rattle.nesl_eval_columns.specs.declared.column.Column.{Column}
-use Rattle.nesl_eval_columns.specs.declared.column.Column.TheVariants.{Ints, Bools, Chars}
-use Rattle.nesl_eval_columns.specs.Columns.{leaves_of}
 use Rattle.nesl_eval_plain.specs.Comes.{Comes, greatest, chosen}
-use Rattle.nesl_eval_plain.proofs.Comes.{Small, bodies_of, filters_of}
+use Rattle.nesl_eval_plain.specs.Values.{AreOfSize}
+use Rattle.nesl_eval_plain.proofs.Comes.{bodies_of, filters_of}
 use Rattle.nesl_eval_plain.proofs.Places.{len_range}
 
 value_is : {X : Type 0} (xs ys : X) (m n i j : ℕ) → xs ≡ ys → m ≡ n → i ≡ j → value xs m i ≡ value ys n j
 value_is xs ys m n i j e f h = cc
-
--- the leaves of a column are small
-ints_small : (xs : List ℤ) → Small (map int xs)
-ints_small [] = tt
-ints_small (x ∷ xs) = (refl, ints_small xs)
-
-bools_small : (xs : List Bool) → Small (map boolean xs)
-bools_small [] = tt
-bools_small (x ∷ xs) = (refl, bools_small xs)
-
-chars_small : (xs : List ℕ) → Small (map character xs)
-chars_small [] = tt
-chars_small (x ∷ xs) = (refl, chars_small xs)
-
-leaves_small : {A : Type 0} (c : Column A) → Small (leaves_of c)
-leaves_small (Ints v) = ints_small v.items
-leaves_small (Bools v) = bools_small v.items
-leaves_small (Chars v) = chars_small v.items
 
 -- a part that is cut in two
 range_cut : {X : Type 0} (xs : List X) (from centre to : ℕ) → from ≤ centre → centre ≤ to → slice_range xs from to ≡ slice_range xs from centre ++ slice_range xs centre to
@@ -64,10 +44,10 @@ no_block p places from fuel xs e =
     ap (λ n. all_beside p (take n (drop from places))) none ∙ value_is [] xs 0 (fuel - fuel) 0 0 (sym e) (omega arith) refl
 
 -- the bodies of a block
-pub block_bodies : {A : Type 0} (p : ℕ → Out Value) (ns : List ℕ) (places : List ℕ) (turn end : ℕ) (c : Column A) → turn < end → end ≤ length places → Comes p (slice_range places turn end) (leaves_of c) ns → all_beside (λ i. and_then (p i) body_value) (slice_range places turn end) ≡ value (leaves_of c) (sum ns + (end - turn)) (greatest ns)
-block_bodies p ns places turn end c a b h =
-    bodies_of p (slice_range places turn end) (leaves_of c) ns h (leaves_small c)
-    ∙ value_is (leaves_of c) (leaves_of c) (sum ns + length (slice_range places turn end)) (sum ns + (end - turn)) (greatest ns) (greatest ns) refl (ap (λ k. sum ns + k) (len_range places turn end (omega arith) b)) refl
+pub block_bodies : (p : ℕ → Out Value) (vs : List Value) (ns : List ℕ) (nodes : ℕ) (places : List ℕ) (turn end : ℕ) → turn < end → end ≤ length places → Comes p (slice_range places turn end) vs ns → AreOfSize nodes vs → all_beside (λ i. and_then (p i) body_value) (slice_range places turn end) ≡ value vs (sum ns + nodes * (end - turn)) (greatest ns)
+block_bodies p vs ns nodes places turn end a b h l =
+    bodies_of p (slice_range places turn end) vs ns nodes h l
+    ∙ value_is vs vs (sum ns + nodes * length (slice_range places turn end)) (sum ns + nodes * (end - turn)) (greatest ns) (greatest ns) refl (ap (λ k. sum ns + nodes * k) (len_range places turn end (omega arith) b)) refl
 
 -- the filters of a block
 chosen_take : (n : ℕ) (is : List ℕ) (bs : List Bool) → length bs ≤ n → chosen (take n is) bs ≡ chosen is bs

@@ -1,5 +1,6 @@
 -- The costs at the turns of a block.
-use Rattle.std.specs.Prelude.{◌≡◌, ℕ, ◌+◌, Bool, cond, List, map, replicate, slice_get, Option, Some, None, option_map, Vec}
+use Rattle.std.specs.Prelude.{◌≡◌, ℕ, ◌+◌, Bool, cond, List, map, replicate, slice_get, Option, Some, None}
+use Rattle.std.specs.Prelude.{option_map, Vec}
 use Rattle.nesl_eval_plain.specs.declared.costs.Costs.{Costs}
 
 -- the cost at a turn, of which so much is the same at all
@@ -24,4 +25,5 @@ Sums ms ns os = (k m n : ℕ) → ms k ≡ Some m → ns k ≡ Some n → os k �
 
 -- the last is, at each turn, the first or the second as the flag tells, at the rank
 abbrev pub Merges : {X : Type 0} → List Bool → List ℕ → (ℕ → Option X) → (ℕ → Option X) → (ℕ → Option X) → Type 0
-Merges bs is ps qs rs = (k : ℕ) (b : Bool) (i : ℕ) → slice_get bs k ≡ Some b → slice_get is k ≡ Some i → rs k ≡ cond b (ps i) (qs i)
+Merges bs is ps qs rs =
+    (k : ℕ) (b : Bool) (i : ℕ) → slice_get bs k ≡ Some b → slice_get is k ≡ Some i → rs k ≡ cond b (ps i) (qs i)

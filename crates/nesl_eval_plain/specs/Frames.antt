@@ -47,8 +47,11 @@ abbrev pub Finds : {A : Type 0} → (Frames → Out Value) → (ℕ → Option F
 Finds p at r = AreAt p at (leaf_at r) (cost_at r)
 
 -- of two outcomes the one that the flag at a turn tells is the leaf there, and both its work and its depth are the cost
-abbrev pub Chooses : (ℕ → Option Bool) → (Frames → Out Value) → (Frames → Out Value) → (ℕ → Option Frames) → (ℕ → Option Value) → (ℕ → Option ℕ) → Type 0
-Chooses bs p q at vs ns = (k : ℕ) (fs : Frames) (b : Bool) → at k ≡ Some fs → bs k ≡ Some b → IsAt vs ns k (branch (Some b) (p fs) (q fs))
+abbrev pub Chooses
+    : (ℕ → Option Bool) → (Frames → Out Value) → (Frames → Out Value) → (ℕ → Option Frames) → (ℕ → Option Value)
+    → (ℕ → Option ℕ) → Type 0
+Chooses bs p q at vs ns =
+    (k : ℕ) (fs : Frames) (b : Bool) → at k ≡ Some fs → bs k ≡ Some b → IsAt vs ns k (branch (Some b) (p fs) (q fs))
 
 -- the outcome is the same at all turns
 abbrev pub AllAre : (Frames → Out Value) → (ℕ → Option Frames) → Out Value → Type 0

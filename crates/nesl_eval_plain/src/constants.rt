@@ -1,7 +1,7 @@
 //! Constants, and what else is one leaf at all turns of a block.
 ghost use Rattle.std.specs.Prelude.{◌≡◌, IfSome, replicate};
 ghost use Rattle.nesl_values.specs.Tree.{ValueTree, int, boolean, character};
-ghost use Rattle.nesl_values.specs.View.{element_tree};
+ghost use Rattle.nesl_values.specs.View.{tree_of};
 ghost use Rattle.nesl_eval_code.specs.Frames.{Frames};
 ghost use Rattle.nesl_eval_meaning.specs.Out.{Out, value};
 ghost use Rattle.nesl_eval_columns.specs.Columns.{leaves_of};
@@ -13,7 +13,7 @@ use crate::costs::Costs;
 use crate::found::Found;
 use crate::scopes::{Scopes, count};
 use nesl_eval_columns::Column;
-use nesl_values::{Element, Value};
+use nesl_values::Value;
 use std::alloc::Allocator;
 
 // An item so many times.
@@ -48,24 +48,19 @@ fn chars<A: Allocator>(c: u8, count: usize, alloc: A) -> Option<Column<A>>
     Some(Column::Chars(repeated(c, count, alloc)?))
 }
 
-// The column of an element everywhere, if it is a leaf.
+// The column of a value everywhere, if it is a leaf.
 fn column_of<A: Allocator, B: Allocator>(
-    element: Element<'_, A>,
+    value: &Value<A>,
     count: usize,
     alloc: B,
 ) -> Option<Column<B>>
-    ensures { IfSome result (λ c. leaves_of c ≡ replicate count (element_tree element.entry)) }
+    ensures { IfSome result (λ c. leaves_of c ≡ replicate count (tree_of value.now)) }
 {
-    match element {
-        Element::Int(n) => ints(n, count, alloc),
-        Element::Bool(b) => bools(b, count, alloc),
-        Element::Char(c) => chars(c, count, alloc),
-        Element::Node(value) => match value {
-            Value::Int(n) => ints(*n, count, alloc),
-            Value::Bool(b) => bools(*b, count, alloc),
-            Value::Char(c) => chars(*c, count, alloc),
-            Value::Shared(_) => None,
-        },
+    match value {
+        Value::Int(n) => ints(*n, count, alloc),
+        Value::Bool(b) => bools(*b, count, alloc),
+        Value::Char(c) => chars(*c, count, alloc),
+        Value::Shared(_) => None,
     }
 }
 
@@ -131,15 +126,15 @@ pub fn character<'x, A: Allocator + Copy, T>(
 pub fn same<'x, A: Allocator + Copy, T>(
     block: &'x Block<'x, A, T>,
     scopes: &Scopes<'_, A>,
-    element: Element<'x, A>,
+    leaf: &'x Value<A>,
 ) -> Option<Found<A>>
     requires { IsWithin block.now }
     ensures { (p : Frames → Out ValueTree)
-        → AllAre p (frames_in block.now scopes.now) (value (element_tree element.entry) 0 0)
+        → AllAre p (frames_in block.now scopes.now) (value (tree_of leaf.now) 0 0)
         → IfSome result (Finds p (frames_in block.now scopes.now)) }
 {
     let count = count(block, scopes);
-    let column = column_of(element, count, *block.alloc)?;
+    let column = column_of(leaf, count, *block.alloc)?;
     Some(Found {
         column,
         costs: Costs {

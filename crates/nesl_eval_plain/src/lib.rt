@@ -9,10 +9,12 @@ mod costs;
 mod found;
 mod names;
 mod outer;
+mod pairs;
 mod parts;
 mod plain;
 mod scopes;
+mod values;
 mod whole;
 
 pub use block::Block;
-pub use whole::{bodies_in_columns, filters_in_columns};
+pub use whole::{LEAST, bodies_in_columns, filters_in_columns};

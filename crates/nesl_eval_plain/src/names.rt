@@ -21,7 +21,7 @@ use nesl_eval_columns::{Column, gathered};
 use nesl_eval_nodes::held::Tops;
 use nesl_eval_nodes::places::Places;
 use nesl_eval_nodes::scope::lent_local;
-use nesl_values::{Element, Items};
+use nesl_values::Items;
 use std::alloc::Allocator;
 
 // The items from one place to another.
@@ -114,8 +114,8 @@ fn in_rows<'x, A: Allocator + Copy, T>(
             },
         });
     }
-    let element = lent_local(block.scope, up - 1, index, steps)?;
-    same(block, scopes, element)
+    let value = lent_local(block.scope, up - 1, index, steps)?;
+    same(block, scopes, value)
 }
 
 // A binding of a `let`, at so many turns at the least.
@@ -185,5 +185,5 @@ pub fn top<'x, A: Allocator + Copy, T: Tops<A>>(
         (Finds (λ fs. run_top (slot_at (T.table block.now.tops.now) place)) (frames_in block.now scopes.now)) }
 {
     let value = at_top(block, place)?;
-    same(block, scopes, Element::Node(value))
+    same(block, scopes, value)
 }

@@ -23,10 +23,10 @@ use nesl_eval_columns::{Column, each_of};
 use nesl_eval_nodes::held::{Held, Tops};
 use nesl_eval_nodes::scope::lent_local;
 use nesl_seqs_base::seq_fn::SeqFn;
-use nesl_values::{Element, Items, Value};
+use nesl_values::{Items, Value};
 use std::alloc::Allocator;
 
-// The value of a local name that stands further up than the rows, if it is no packed element.
+// The value of a local name that stands further up than the rows.
 fn above_rows<'x, A: Allocator + Copy, T>(
     block: &'x Block<'x, A, T>,
     up: usize,
@@ -39,10 +39,7 @@ fn above_rows<'x, A: Allocator + Copy, T>(
     if up == 0 {
         return None;
     }
-    match lent_local(block.scope, up - 1, index, steps)? {
-        Element::Node(value) => Some(value),
-        _ => None,
-    }
+    lent_local(block.scope, up - 1, index, steps)
 }
 
 // The value of a local name that stands further up than the rows and all bindings.

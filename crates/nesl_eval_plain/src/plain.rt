@@ -105,3 +105,17 @@ fn is_plain_pair(code: &Code, frames: usize, levels: u32) -> bool {
         _ => false,
     }
 }
+
+/// Whether the body of an apply-to-each is plain, or a written pair of such bodies.
+#[cycle(rows)]
+pub fn is_plain_body(code: &Code, levels: u32) -> bool {
+    match code {
+        Code::Pair { left, right, .. } => {
+            if levels == 0 {
+                return false;
+            }
+            is_plain_body(left, levels - 1) && is_plain_body(right, levels - 1)
+        }
+        _ => is_plain(code, 0, levels),
+    }
+}

@@ -16,9 +16,11 @@ ghost use Rattle.nesl_eval_plain.specs.Blocks.{block_places, IsWithin, IsPartOf}
 use crate::block::Block;
 use crate::costs::{Paid, total_of};
 use crate::found::Found;
+use crate::pairs::{Bodies, bodies_at};
 use crate::parts::column;
-use crate::plain::is_plain;
+use crate::plain::{is_plain, is_plain_body};
 use crate::scopes::Scopes;
+use crate::values::extended;
 use nesl_eval_code::Code;
 use nesl_eval_columns::Column;
 use nesl_eval_nodes::held::Tops;
@@ -31,7 +33,7 @@ use std::alloc::Allocator;
 const BLOCK: usize = 1024;
 
 /// Fewer places than that are done one by one.
-const LEAST: usize = 8;
+pub const LEAST: usize = 8;
 
 // Where the block ends that begins there.
 fn end_of(turn: usize, to: usize) -> usize
@@ -68,24 +70,12 @@ fn suffices(fuel: u64, count: usize, each: u64) -> bool {
     }
 }
 
-// What is left of the fuel after this work and so many values, if there is so much.
-fn charged(fuel: u64, work: u64, values: usize) -> Option<u64>
-    ensures { IfSome result (λ rest. fuel ≡ rest + (work + values)) }
+// What is left of the fuel after this work and values with so many nodes in all, if there is so much.
+fn charged(fuel: u64, work: u64, nodes: u64) -> Option<u64>
+    ensures { IfSome result (λ rest. fuel ≡ rest + (work + nodes)) }
 {
-    let all = work.checked_add(values as u64)?;
+    let all = work.checked_add(nodes)?;
     fuel.checked_sub(all)
-}
-
-// Adds the leaves of a column, if there is room.
-fn extended<A: Allocator + Copy>(builder: &mut SequenceBuilder<A>, column: Column<A>) -> bool
-    ensures { IsTrue result → elements_of builder.new ≡ elements_of builder.old ++ leaves_of column }
-{
-    let outcome = match column {
-        Column::Ints(items) => builder.extend_from_ints(&items),
-        Column::Bools(items) => builder.extend_from_bools(&items),
-        Column::Chars(items) => builder.extend_from_chars(&items),
-    };
-    outcome.is_ok()
 }
 
 // The values of a body, with what is left of the fuel, and the depth.
@@ -116,16 +106,21 @@ fn values_within<'x, A: Allocator + Copy, T: Tops<A>>(
     while turn < whole.to {
         let end = end_of(turn, whole.to);
         let block = part(whole, turn, end);
-        let Found { column, costs } = column(&block, &Scopes::Rows, body, levels)?;
-        if column.len() != end - turn {
+        let Bodies {
+            values,
+            nodes,
+            costs,
+        } = bodies_at(&block, body, levels)?;
+        if values.len() != end - turn {
             return None;
         }
         if !suffices(left, whole.to - turn, costs.same) {
             return None;
         }
         let Paid { work, depth } = total_of(costs, end - turn)?;
-        left = charged(left, work, end - turn)?;
-        if !extended(&mut builder, column) {
+        let all = nodes.checked_mul((end - turn) as u64)?;
+        left = charged(left, work, all)?;
+        if !extended(&mut builder, values) {
             return None;
         }
         deepest = depth.max(deepest);
@@ -138,8 +133,8 @@ fn values_within<'x, A: Allocator + Copy, T: Tops<A>>(
     })
 }
 
-/// The values of a body at the places of a block, if it is plain and has a value at each of them, and the fuel is
-/// enough. Else the meter is as it was. Room is made for `room` values.
+/// The values of a body at the places of a block, if it is plain or made of pairs of plain parts and has a value at
+/// each of them, and the fuel is enough. Else the meter is as it was. Room is made for `room` values.
 pub fn bodies_in_columns<'x, A: Allocator + Copy, T: Tops<A>>(
     whole: &'x Block<'x, A, T>,
     body: &Code,
@@ -155,7 +150,7 @@ pub fn bodies_in_columns<'x, A: Allocator + Copy, T: Tops<A>>(
         (run_bodies f (frames_of w.scope.now) (map tree_of w.values.now) body.now (block_places w))) }
     ensures spent { meter.new.fuel + meter.new.depth ≤ meter.old.fuel + meter.old.depth }
 {
-    if whole.to - whole.from < LEAST || !is_plain(body, 0, levels) {
+    if whole.to - whole.from < LEAST || !is_plain_body(body, levels) {
         return None;
     }
     let Made {

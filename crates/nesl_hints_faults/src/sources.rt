@@ -1,7 +1,7 @@
 //! The text of a function's definition.
 
 use crate::asked::Asked;
-use nesl_eval_code::Payload;
+use nesl_eval_env::Payload;
 use nesl_lex::lex;
 use nesl_lex::token::Span;
 use nesl_syntax::parse_form;

@@ -3,7 +3,7 @@
 use crate::clash::{Clash, Halt, Role, Shortage};
 use crate::copies::Ends;
 use crate::guesses::{Guess, Guesses};
-use nesl_eval_code::Payload;
+use nesl_eval_env::Payload;
 use nesl_lex::token::Span;
 use nesl_syntax_tree::tree::{Binding, Exp, Node};
 use nesl_types::{Context, Top};

@@ -1,4 +1,5 @@
 -- Sessions go from thread to thread, so a table of them is shared.
+use denote.Hole.{as_row}
 use denote.Param.Send.{IsSend, IsSync, sendable}
 use Rattle.std.proofs.Crossing as standard
 use Rattle.std.proofs.MapsCrossing as maps
@@ -22,13 +23,25 @@ use Rattle.nesl_builtins.proofs.builtin.Builtin.TheSendSync as builtin_crosses
 use Rattle.nesl_eval_code.specs.contracts.code.Code as code_row
 use Rattle.nesl_eval_code.proofs.code.Code.TheLaws.TheKnot as code_knot
 use Rattle.nesl_eval_code.proofs.code.Step.TheSendSync as step_crosses
-use Rattle.nesl_eval_code.specs.contracts.env.Payload as payload_row
-use Rattle.nesl_eval_code.specs.contracts.env.Env as env_row
+use Rattle.nesl_eval_ops.specs.contracts.ops.Ops as ops_row
+use Rattle.nesl_eval_ops.specs.contracts.ops.Leaf as leaf_row
+use Rattle.nesl_eval_ops.proofs.ops.Block.TheLaws.TheKnot as ops_knot
+use Rattle.nesl_eval_env.specs.contracts.env.Payload as payload_row
+use Rattle.nesl_eval_env.specs.contracts.env.Env as env_row
 use Rattle.nesl_session.specs.contracts.session.Session as session_row
 use Rattle.nesl_house.specs.contracts.table.Table as table_row
 
 code_send : IsSend code_row.the_row
 code_send = search (sendable, standard.crosses, code_knot.crosses, span_crosses.the_field_send, builtin_crosses.the_field_send, step_crosses.the_send) depth 20 fits 100000
+
+code_field_send : IsSend (as_row code_row.the_field)
+code_field_send = search (sendable, standard.crosses, code_knot.crosses, span_crosses.the_field_send, builtin_crosses.the_field_send, step_crosses.the_send) depth 20 fits 100000
+
+leaf_field_send : IsSend (as_row leaf_row.the_field)
+leaf_field_send = search (sendable, standard.crosses, span_crosses.the_field_send, step_crosses.the_send) depth 20 fits 100000
+
+ops_send : IsSend ops_row.the_row
+ops_send = search (sendable, standard.crosses, ops_knot.crosses, code_field_send, leaf_field_send, span_crosses.the_field_send, builtin_crosses.the_field_send) depth 40 fits 1000000
 
 pattern_send : IsSend (pattern_row.the_field).row
 pattern_send = search (sendable, standard.crosses, pattern_knot.crosses, span_crosses.the_field_send) depth 20 fits 100000
@@ -55,7 +68,7 @@ context_send : IsSend (context_row.the_row payload_row.the_row)
 context_send = search (sendable, standard.crosses, maps.crosses, entry_send, shared_send) depth 40 fits 1000000
 
 env_send : IsSend env_row.the_row
-env_send = search (sendable, standard.crosses, maps.crosses, code_send, context_send) depth 30 fits 100000
+env_send = search (sendable, standard.crosses, maps.crosses, code_send, ops_send, context_send) depth 30 fits 100000
 
 pub session_send : IsSend session_row.the_row
 session_send = search (sendable, standard.crosses, env_send) depth 30 fits 100000
@@ -63,6 +76,15 @@ session_send = search (sendable, standard.crosses, env_send) depth 30 fits 10000
 -- and they are read by many
 code_sync : IsSync code_row.the_row
 code_sync = search (sendable, standard.crosses, code_knot.crosses, span_crosses.the_field_sync, builtin_crosses.the_field_sync, step_crosses.the_sync) depth 20 fits 100000
+
+code_field_sync : IsSync (as_row code_row.the_field)
+code_field_sync = search (sendable, standard.crosses, code_knot.crosses, span_crosses.the_field_sync, builtin_crosses.the_field_sync, step_crosses.the_sync) depth 20 fits 100000
+
+leaf_field_sync : IsSync (as_row leaf_row.the_field)
+leaf_field_sync = search (sendable, standard.crosses, span_crosses.the_field_sync, step_crosses.the_sync) depth 20 fits 100000
+
+ops_sync : IsSync ops_row.the_row
+ops_sync = search (sendable, standard.crosses, ops_knot.crosses, code_field_sync, leaf_field_sync, span_crosses.the_field_sync, builtin_crosses.the_field_sync) depth 40 fits 1000000
 
 pattern_sync : IsSync (pattern_row.the_field).row
 pattern_sync = search (sendable, standard.crosses, pattern_knot.crosses, span_crosses.the_field_sync) depth 20 fits 100000
@@ -89,7 +111,7 @@ context_sync : IsSync (context_row.the_row payload_row.the_row)
 context_sync = search (sendable, standard.crosses, maps.crosses, entry_sync, shared_sync) depth 40 fits 1000000
 
 env_sync : IsSync env_row.the_row
-env_sync = search (sendable, standard.crosses, maps.crosses, code_sync, context_sync) depth 30 fits 100000
+env_sync = search (sendable, standard.crosses, maps.crosses, code_sync, ops_sync, context_sync) depth 30 fits 100000
 
 pub session_sync : IsSync session_row.the_row
 session_sync = search (sendable, standard.crosses, env_sync) depth 30 fits 100000

@@ -11,10 +11,10 @@ use Rattle.nesl_types.specs.Names.{found}
 use Rattle.nesl_builtins.specs.Named.{builtin_named}
 use Rattle.nesl_builtins.specs.FunctionTypes.{function_type}
 use Rattle.nesl_infer_names.specs.Names.{top_in}
-use Rattle.nesl_eval_code.specs.declared.env.Payload.{Payload}
-use Rattle.nesl_eval_code.specs.declared.env.Payload.TheVariants as payload
+use Rattle.nesl_eval_env.specs.declared.env.Payload.{Payload}
+use Rattle.nesl_eval_env.specs.declared.env.Payload.TheVariants as payload
 use Rattle.nesl_eval_meaning.specs.Names.{Name}
-use Rattle.nesl_eval_code.specs.Stored.{Entry, top_of}
+use Rattle.nesl_eval_env.specs.Stored.{Entry, top_of}
 use Rattle.nesl_eval_sound.specs.Refers.{is_referred}
 use Rattle.nesl_eval_sound.specs.Lines.{IsRedefinable, IsUnchanged, is_type, values_of}
 use Rattle.nesl_session_bindings.specs.Known.{meaning_in, environment}

@@ -15,11 +15,11 @@ use Rattle.nesl_syntax_tree.specs.Views as syntax
 use Rattle.nesl_builtins.specs.FunctionTypes.{function_type}
 use Rattle.nesl_infer_names.specs.Names.{Names, OwnName}
 use Rattle.nesl_infer.specs.Verdicts.{IsTypeBy, IsFunctionBy, IsContentBy, typed}
-use Rattle.nesl_eval_code.specs.declared.env.Payload.{Payload}
-use Rattle.nesl_eval_code.specs.declared.env.Payload.TheVariants as payload
+use Rattle.nesl_eval_env.specs.declared.env.Payload.{Payload}
+use Rattle.nesl_eval_env.specs.declared.env.Payload.TheVariants as payload
 use Rattle.nesl_eval_meaning.specs.Names.{Name, Environment, outside}
 use Rattle.nesl_eval_meaning.specs.Outcome.{out}
-use Rattle.nesl_eval_code.specs.Stored.{Entry, top_of}
+use Rattle.nesl_eval_env.specs.Stored.{Entry, top_of}
 use Rattle.nesl_eval_sound.specs.Lines as lines
 use Rattle.nesl_eval_sound.specs.Lines.{IsSound}
 use Rattle.nesl_eval_sound.specs.Inferred.{InferredVariablesStaySound, InferredFunctionsStaySound, WrittenDatatypesStaySound}

@@ -6,11 +6,11 @@ use Rattle.nesl_types_bank.specs.Term.{Term}
 use Rattle.nesl_syntax_tree.specs.Trees.{Tree}
 use Rattle.nesl_infer_names.specs.Names.{Names, OwnName, names_in}
 use Rattle.nesl_infer.specs.Verdicts.{IsTypeBy, typed}
-use Rattle.nesl_eval_code.specs.declared.env.Payload.{Payload}
+use Rattle.nesl_eval_env.specs.declared.env.Payload.{Payload}
 use Rattle.nesl_eval_meaning.specs.Names.{Environment, Value, outside}
 use Rattle.nesl_eval_meaning.specs.Out.{Out, stuck}
 use Rattle.nesl_eval_meaning.specs.Outcome.{out}
-use Rattle.nesl_eval_code.specs.Stored.{Entry, top_of}
+use Rattle.nesl_eval_env.specs.Stored.{Entry, top_of}
 use Rattle.nesl_reply.specs.declared.reply.Reply.{Reply}
 use Rattle.nesl_reply.specs.Replies.{report_of, report_text, reply_text}
 use Rattle.nesl_reply.specs.Values as replies

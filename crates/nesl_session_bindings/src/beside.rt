@@ -7,7 +7,7 @@ ghost use Rattle.nesl_session_bindings.specs.Meanings.{elements_in};
 ghost use Rattle.nesl_session_bindings.specs.Stored.{AreKept, PayloadFits, bindings_of, meaning_of};
 
 use crate::nodes;
-use nesl_eval_code::{Env, Payload};
+use nesl_eval_env::{Env, Payload};
 use nesl_types::{Top, Ty};
 
 /// What is left of `room` after the elements of what stands there, or `None` where they are more.

@@ -12,7 +12,7 @@ ghost use Rattle.nesl_infer.specs.Verdicts.{AnswersVerdict, IsContentBy, IsFunct
 ghost use Rattle.nesl_eval_meaning.specs.Names.{outside};
 ghost use Rattle.nesl_eval_meaning.specs.Out.{stuck};
 ghost use Rattle.nesl_eval_meaning.specs.Outcome.{out};
-ghost use Rattle.nesl_eval_code.specs.Stored as stored;
+ghost use Rattle.nesl_eval_env.specs.Stored as stored;
 ghost use Rattle.nesl_reply.specs.Replies.{report_of, report_text};
 ghost use Rattle.nesl_session_bindings.specs.Beside.{elements_beside};
 ghost use Rattle.nesl_session_bindings.specs.Known.{datatype_count, datatypes_of, environment, known, put_binding};
@@ -23,7 +23,7 @@ ghost use Rattle.nesl_session_bindings.specs.Stored.{IsComputed, bindings_of, ki
 use crate::kind::Kind;
 use crate::refusal::Refusal;
 use crate::{beside, nodes, redefinition};
-use nesl_eval_code::{Env, Payload};
+use nesl_eval_env::{Env, Payload};
 use nesl_eval_sound::laws::inferred_lines_keep_types;
 use nesl_infer::InferFault;
 use nesl_reply::Reply;
@@ -50,10 +50,10 @@ impl Drop for Bindings {
 impl Model for Bindings {
     ghost use Rattle.std.specs.Prelude.{ℕ, List};
     ghost use Rattle.nesl_types.specs.declared.bindings.Top.{Top};
-    ghost use Rattle.nesl_eval_code.specs.declared.env.Payload.{Payload};
+    ghost use Rattle.nesl_eval_env.specs.declared.env.Payload.{Payload};
     ghost use Rattle.std.specs.Coded.{codes};
     ghost use Rattle.nesl_types_bank.specs.contracts.types.Ty as ty;
-    ghost use Rattle.nesl_eval_code.specs.contracts.env.Payload as payload;
+    ghost use Rattle.nesl_eval_env.specs.contracts.env.Payload as payload;
 
     ghost Value = { List (List ℕ × Top × Payload) };
 

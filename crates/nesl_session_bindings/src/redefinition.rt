@@ -4,8 +4,8 @@ ghost use Rattle.std.specs.Prelude.{◌≡◌, ◌↔◌, ◌&&◌, IsTrue, Some
 ghost use Rattle.std.specs.Option.{option_map_or};
 ghost use Rattle.std.specs.Str.{bytes_eq};
 ghost use Rattle.nesl_types.specs.declared.bindings.Top.{Top};
-ghost use Rattle.nesl_eval_code.specs.declared.env.Payload.{Payload};
-ghost use Rattle.nesl_eval_code.specs.Stored.{environment, top_of};
+ghost use Rattle.nesl_eval_env.specs.declared.env.Payload.{Payload};
+ghost use Rattle.nesl_eval_env.specs.Stored.{environment, top_of};
 ghost use Rattle.nesl_eval_sound.specs.Refers.{is_referred, top_refers};
 ghost use Rattle.nesl_eval_sound.specs.Lines.{datatypes, is_type};
 ghost use Rattle.nesl_session_bindings.specs.Known.{meaning_in};
@@ -14,7 +14,7 @@ ghost use Rattle.nesl_session_bindings.specs.Stored.{AllFit, PayloadFits, bindin
 
 use crate::kind::Kind;
 use nesl_builtins::named;
-use nesl_eval_code::{Env, Payload};
+use nesl_eval_env::{Env, Payload};
 use nesl_eval_sound::refers_to;
 use nesl_types::Top;
 

@@ -14,11 +14,18 @@ use Rattle.nesl_types_bank.specs.contracts.types.Ty as ty_row
 use Rattle.nesl_types_bank.proofs.shape.Shape.TheSendSync as shape_crosses
 use Rattle.nesl_types.proofs.classes.Class.TheSendSync as kind_crosses
 use Rattle.nesl_types.specs.contracts.bindings.Top as kind_row
-use Rattle.nesl_eval_code.specs.contracts.env.Payload as payload_row
+use Rattle.nesl_eval_env.specs.contracts.env.Payload as payload_row
 use Rattle.nesl_values.proofs.node.Node.TheLaws.TheKnot as value_knot
 use Rattle.nesl_types.specs.contracts.bindings.Entry as entry_row
 use Rattle.nesl_types.specs.contracts.bindings.Context as context_row
 use Rattle.nesl_types.specs.contracts.kept.Shared as shared_row
+use Rattle.nesl_builtins.proofs.builtin.Builtin.TheSendSync as builtin_crosses
+use Rattle.nesl_eval_code.specs.contracts.code.Code as code_row
+use Rattle.nesl_eval_code.proofs.code.Code.TheLaws.TheKnot as code_knot
+use Rattle.nesl_eval_code.proofs.code.Step.TheSendSync as step_crosses
+
+pub code_sync : IsSync code_row.the_row
+code_sync = search (sendable, standard.crosses, code_knot.crosses, span_crosses.the_field_sync, builtin_crosses.the_field_sync, step_crosses.the_sync) depth 20 fits 100000
 
 pattern_sync : IsSync (pattern_row.the_field).row
 pattern_sync = search (sendable, standard.crosses, pattern_knot.crosses, span_crosses.the_field_sync) depth 20 fits 100000

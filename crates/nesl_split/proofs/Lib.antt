@@ -1,4 +1,1 @@
-pub mod Ranges
-pub mod Halves
-pub mod Crosses
 pub mod Lent

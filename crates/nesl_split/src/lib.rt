@@ -1,8 +1,6 @@
 //! Evaluation whose intervals are cut in halves, which threads share.
 #![tactic(auto)]
 
-mod crew;
-mod eval;
 mod one;
 
 pub use nesl_split_helpers::{Free, Gate, Helpers, NoHelpers, Permits, Place, Pool};

@@ -4,21 +4,22 @@ ghost use Rattle.nesl_syntax_tree.specs.Views.{tree_of};
 ghost use Rattle.nesl_eval_meaning.specs.Names.{outside};
 ghost use Rattle.nesl_eval_meaning.specs.Out.{within};
 ghost use Rattle.nesl_eval_meaning.specs.Outcome.{out};
-ghost use Rattle.nesl_eval_code.specs.Run.{run};
-ghost use Rattle.nesl_eval_code.specs.Stored.{environment};
+ghost use Rattle.nesl_eval_env.specs.Stored.{environment};
 ghost use Rattle.nesl_eval.specs.Outcomes.{OutcomeIs};
 
-use crate::crew::Crew;
-use crate::eval::eval_in;
 use nesl_eval::{Outcome, outcome_of};
-use nesl_eval_code::{Code, Env, prepare, runs_as_meant};
-use nesl_eval_nodes::held::Tops;
-use nesl_eval_nodes::meter::Meter;
-use nesl_eval_nodes::scope::Scope;
+use nesl_eval_code::runs_as_meant;
+use nesl_eval_env::{Env, prepare};
+use nesl_eval_halves::{Crew, evaluate_in_halves};
+use nesl_eval_ops::expression_ops;
 use nesl_split_helpers::{Gate, Helpers};
 use nesl_syntax_tree::tree::Exp;
 use std::alloc::Global;
 use std::thread::Threads;
+
+// An interval is cut wherever a helper is granted. Each cut keeps its helper until both halves have ended, so no more
+// cuts stand one within another than there are helpers.
+const CUTS: u32 = u32::MAX;
 
 /// What `eval_one` tells, for every answer of the helpers.
 pub fn eval_split<R: Threads + Sync, H: Helpers + Sync, G: Gate + Sync>(
@@ -38,27 +39,17 @@ pub fn eval_split<R: Threads + Sync, H: Helpers + Sync, G: Gate + Sync>(
     let Ok(code) = prepare(alloc, env, exp) else {
         return Outcome::Memory;
     };
+    let Ok(ops) = expression_ops(alloc, &code) else {
+        return Outcome::Memory;
+    };
+    let tops = env.top_level();
     let crew = Crew {
         rt: &*rt,
         helpers: &*helpers,
         gate: &*gate,
+        tops: &tops,
         alloc,
     };
-    evaluate(&env.top_level(), &code, levels, fuel, &crew)
-}
-
-// What code comes to with so many levels and so much work.
-fn evaluate<R: Threads + Sync, H: Helpers + Sync, G: Gate + Sync, T: Tops<Global> + Sync>(
-    tops: &T,
-    code: &Code,
-    levels: u32,
-    fuel: u64,
-    crew: &Crew<'_, R, H, G>,
-) -> Outcome<Global>
-    ensures { OutcomeIs result (within fuel (run levels (T.table tops.now) [] code.now)) }
-{
-    let mut meter = Meter { fuel, depth: 0 };
-    let scope = Scope::Empty;
-    let found = eval_in(tops, &scope, code, levels, &mut meter, crew);
+    let (found, meter) = evaluate_in_halves(tops.bodies(), &ops, levels, fuel, CUTS, &crew);
     outcome_of(found, fuel, meter)
 }

@@ -1,4 +1,4 @@
-use Rattle.nesl_eval_code.specs.TopLevels.{table_in}
+use Rattle.nesl_eval_env.specs.TopLevels.{table_in}
 use Rattle.nesl_eval.specs.Copied.{AreCopies}
 use Rattle.nesl_eval.proofs.copies.copied.Given as goal
 

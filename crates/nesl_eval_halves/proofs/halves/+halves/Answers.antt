@@ -1,4 +1,4 @@
-use Rattle.std.proofs.Common.{ℕ, List, ◌-◌, ◌/◌, Some, None, cond, length, Global, subst, arith, refl, Ok, Err, ◌∷◌, [], ◌+◌, ◌++◌, map, ap, ◌∙◌, sym, Vec, inl, inr}
+use Rattle.std.proofs.Common.{ℕ, List, ◌-◌, ◌/◌, cond, length, Global, subst, arith, refl, Ok, Err, ◌∷◌, [], ◌+◌, ◌++◌, map, ap, ◌∙◌, sym, Vec, inl, inr}
 use Rattle.std.specs.Prelude.{slice_range, min}
 use Rattle.std.proofs.lemmas.Result.{err_from_is_err_and}
 use Rattle.nesl_values.specs.Tree.{ValueTree}
@@ -14,33 +14,36 @@ use Rattle.nesl_eval_nodes.specs.Meets.{Meets, Is}
 use Rattle.nesl_eval_nodes.proofs.Runs.{memory_any, meets_then, meets_err}
 use Rattle.nesl_eval_nodes.proofs.Making.{keeps_truth}
 use Rattle.nesl_eval_nodes.proofs.Sides.{turn_stops, turn_next, turns_done}
-use Rattle.nesl_eval_blocks.specs.Block.{finish}
 use Rattle.nesl_eval_blocks.specs.Exec.{exec, at_places, kept_of}
-use Rattle.nesl_eval_ops.specs.View.{block_of}
+use Rattle.nesl_eval_ops.specs.View.{block_of, body_block}
 use Rattle.nesl_eval_nodes.specs.declared.meter.Stop.TheVariants.{Stuck}
 use Rattle.nesl_eval_machine.specs.declared.state.Machine.{Machine}
 use Rattle.nesl_eval_machine.specs.State as state
-use Rattle.nesl_eval_machine.specs.State.{Fits, HasBodies, left, left_at, in_rounds, env_of, local_of, slots_of, frames_of, chosen_places, turn_of, places_left, all_values, at_place, between}
-use Rattle.nesl_eval_machine.specs.Steps.{Comes, Ends, TakesOff}
+use Rattle.nesl_eval_machine.specs.declared.state.Hand.TheVariants.{Done}
+use Rattle.nesl_eval_rounds.specs.Rounds.{chosen_places, places_left, all_values, at_place, between}
+use Rattle.nesl_eval_machine.specs.State.{HasBodies, left, left_at_hand, in_rounds, env_of, local_of, frames_of}
+use Rattle.nesl_eval_machine.specs.Steps.{Moves, Ends, TakesOff}
 use Rattle.nesl_eval_machine.proofs.Taking.{many_taken, few_taken}
 use Rattle.nesl_eval_machine.proofs.Stepping as stepping
-use Rattle.nesl_eval_machine.proofs.Ending.{steps_come}
-use Rattle.nesl_eval_machine.proofs.Gathering.{after_places, after_values}
-use Rattle.nesl_eval_machine.proofs.Whole.{on_comes, ends_stopped, begun}
+use Rattle.nesl_eval_machine.proofs.Hands.{then_moves, ends_done, ends_stopped_at, done_moves}
+use Rattle.nesl_eval_rounds.proofs.Gathering.{after_places, after_values}
+use Rattle.nesl_eval_machine.proofs.Whole.{begun}
+use Rattle.nesl_eval_rounds.proofs.Columned.{filter_is, body_is, filter_took, body_took, last_places}
 use denote.Param.Send.{sendable}
 use Rattle.std.proofs.Crossing as standard
 use Rattle.nesl_split_helpers.specs.declared.halving.Half.{Half}
 use Rattle.nesl_values_builder.specs.declared.builder.SequenceBuilder.{SequenceBuilder}
-use Rattle.nesl_eval_halves.specs.Intervals.{at_turn, ArePlaces}
+use Rattle.nesl_eval_nodes.specs.declared.meter.Meter.{Meter}
+use Rattle.nesl_eval_halves.specs.Intervals.{at_turn, ArePlaces, filters_in, bodies_in}
 use Rattle.nesl_eval_halves.specs.Halves.{Within, HalfFinds, Came}
-use Rattle.nesl_eval_halves.proofs.Taken.{came_none, each_comes, filtered_comes, filter_is, body_is, body_came, gathering_stops, filter_came, add_ends, last_places, came_then, stopped_rest, from_rest, turn_meets, lent_came}
+use Rattle.nesl_eval_halves.proofs.Taken.{each_comes, filtered_comes, gathering_stops, add_ends, came_then, stopped_rest, from_rest, turn_meets, lent_came, advances_came}
 use Rattle.nesl_eval_halves.proofs.Ranges.{range_first, range_none, range_cut}
 use Rattle.nesl_eval_halves.proofs.Found.{finds, within}
 use Rattle.nesl_eval_halves.proofs.Crosses.{interval_sync}
 use Rattle.nesl_eval_halves.proofs.halves.+halves.Goals as goal
 
-pub run_in_halves-step_in_halves-requires-clause-room : goal.run_in_halves-step_in_halves-requires-clause-room
-run_in_halves-step_in_halves-requires-clause-room g t c = λ κs lives. c.loop.invariant.bounded
+pub run_in_halves-go_on_in_halves-requires-clause-room : goal.run_in_halves-go_on_in_halves-requires-clause-room
+run_in_halves-go_on_in_halves-requires-clause-room g t c = λ κs lives. c.loop.invariant.bounded
 
 pub run_in_halves-loop-init : goal.run_in_halves-loop-init
 run_in_halves-loop-init g t c = record { bounded = c.requires; so_far = λ fits. begun (g.T.Tops.table c.args.crew.now.tops.now) c.args.machine.now fits }
@@ -48,49 +51,90 @@ run_in_halves-loop-init g t c = record { bounded = c.requires; so_far = λ fits.
 pub run_in_halves-loop-preserved : goal.run_in_halves-loop-preserved
 run_in_halves-loop-preserved g t c =
     let tb = g.T.Tops.table c.args.crew.now.tops.now in
+    let m = c.args.machine.now in
     record {
-      bounded = c.step_in_halves.ensures.bounded;
+      bounded = c.go_on_in_halves.ensures.bounded;
       so_far = λ fits.
-          on_comes tb c.args.machine.now c.loop.machine c.step_in_halves.new.machine (Ok None) (c.loop.invariant.so_far fits)
-          (λ h. subst (λ r. Comes tb c.loop.machine r c.step_in_halves.new.machine (left tb c.loop.machine)) (c.in-Ok-None.is ∙ ap Ok c.in-Ok-None.field-0-is) (c.step_in_halves.ensures.comes h));
+          then_moves tb m c.loop.machine c.go_on_in_halves.new.machine c.loop.hand (Ok c.in-Ok.next) (left tb m) (c.loop.invariant.so_far fits)
+          (λ h. subst (λ r. Moves tb c.loop.machine r c.go_on_in_halves.new.machine (left_at_hand tb c.loop.machine c.loop.hand)) c.in-Ok.is (c.go_on_in_halves.ensures.moves h));
     }
 
-pub run_in_halves-returns-in-Ok-Some : goal.run_in_halves-returns-in-Ok-Some
-run_in_halves-returns-in-Ok-Some g t c = λ fits.
+pub run_in_halves-returns-in-Ok-Done : goal.run_in_halves-returns-in-Ok-Done
+run_in_halves-returns-in-Ok-Done g t c = λ fits.
     let tb = g.T.Tops.table c.args.crew.now.tops.now in
-    on_comes tb c.args.machine.now c.loop.machine c.step_in_halves.new.machine (Ok (Some c.in-Ok-Some.value)) (c.loop.invariant.so_far fits)
-    (λ h. subst (λ r. Comes tb c.loop.machine r c.step_in_halves.new.machine (left tb c.loop.machine)) (c.in-Ok-Some.is ∙ ap Ok c.in-Ok-Some.field-0-is) (c.step_in_halves.ensures.comes h))
+    let m = c.args.machine.now in
+    ends_done tb m c.go_on_in_halves.new.machine c.in-Ok-Done.value (left tb m)
+    (then_moves tb m c.loop.machine c.go_on_in_halves.new.machine c.loop.hand (Ok (Done c.in-Ok-Done.value)) (left tb m) (c.loop.invariant.so_far fits)
+    (λ h. subst (λ r. Moves tb c.loop.machine r c.go_on_in_halves.new.machine (left_at_hand tb c.loop.machine c.loop.hand)) (c.in-Ok-Done.is ∙ ap Ok c.in-Ok-Done.field-0-is) (c.go_on_in_halves.ensures.moves h)))
 
 pub run_in_halves-returns-in-Err : goal.run_in_halves-returns-in-Err
 run_in_halves-returns-in-Err g t c = λ fits.
     let tb = g.T.Tops.table c.args.crew.now.tops.now in
     let m = c.args.machine.now in
-    let n = c.step_in_halves.new.machine in
-    let all : Comes tb m (Err c.in-Err.stop) n (left tb m) =
-    on_comes tb m c.loop.machine n (Err c.in-Err.stop) (c.loop.invariant.so_far fits)
-    (λ h. subst (λ r. Comes tb c.loop.machine r n (left tb c.loop.machine)) c.in-Err.is (c.step_in_halves.ensures.comes h)) in
-    subst (λ e. Ends m (Err e) n (left tb m)) (sym c.place_stop.ensures) (ends_stopped tb m n c.in-Err.stop (left tb m) all)
+    let n = c.go_on_in_halves.new.machine in
+    let all : Moves tb m (Err c.in-Err.stop) n (left tb m) =
+    then_moves tb m c.loop.machine n c.loop.hand (Err c.in-Err.stop) (left tb m) (c.loop.invariant.so_far fits)
+    (λ h. subst (λ r. Moves tb c.loop.machine r n (left_at_hand tb c.loop.machine c.loop.hand)) c.in-Err.is (c.go_on_in_halves.ensures.moves h)) in
+    subst (λ e. Ends m (Err e) n (left tb m)) (sym c.place_stop.ensures) (ends_stopped_at tb m n c.in-Err.stop (left tb m) all)
 
 pub run_in_halves-returns : goal.run_in_halves-returns
 run_in_halves-returns g t c = λ fits. stepping.memory_any {A = Global} [] c.args.machine.now.meter.fuel c.loop.machine.meter.fuel (left (g.T.Tops.table c.args.crew.now.tops.now) c.args.machine.now)
 
-pub step_in_halves-returns-in-Each-clause-comes : goal.step_in_halves-returns-in-Each-clause-comes
-step_in_halves-returns-in-Each-clause-comes g t c = λ fits.
+pub go_on_in_halves-returns-in-Empty-clause-moves : goal.go_on_in_halves-returns-in-Empty-clause-moves
+go_on_in_halves-returns-in-Empty-clause-moves g t c = λ fits.
     let tb = g.T.Tops.table c.args.crew.now.tops.now in
     let m = c.args.machine.now in
-    let n = c.each_in_halves.new.machine in
-    subst (λ r. Comes tb m r n (left tb m)) (sym c.going_on.ensures)
-    (steps_come tb m n c.each_in_halves.result (left tb m)
-    (each_comes tb m n c.each_in_halves.result _ _ _ _ _ _ (ap block_of c.in-Each.is) (ap block_of c.deref.ensures) (ap block_of c.deref-in-Each.ensures) (c.each_in_halves.ensures.steps fits)))
+    subst (λ h. Moves tb m c.operate_in_halves.result c.operate_in_halves.new.machine (left_at_hand tb m h)) (sym c.in-Empty.is) (c.operate_in_halves.ensures.moves fits)
 
-pub step_in_halves-returns-in-Filtered-clause-comes : goal.step_in_halves-returns-in-Filtered-clause-comes
-step_in_halves-returns-in-Filtered-clause-comes g t c = λ fits.
+pub go_on_in_halves-returns-in-Holds-clause-moves : goal.go_on_in_halves-returns-in-Holds-clause-moves
+go_on_in_halves-returns-in-Holds-clause-moves g t c = λ fits.
     let tb = g.T.Tops.table c.args.crew.now.tops.now in
     let m = c.args.machine.now in
-    let n = c.each_in_halves-in-Filtered.new.machine in
-    subst (λ r. Comes tb m r n (left tb m)) (sym c.going_on-in-Filtered.ensures)
-    (steps_come tb m n c.each_in_halves-in-Filtered.result (left tb m)
-    (filtered_comes tb m n c.each_in_halves-in-Filtered.result _ _ _ _ _ _ _ _ (ap block_of c.in-Filtered.is) (ap block_of c.deref-in-Filtered-2.ensures) (ap block_of c.deref-in-Filtered.ensures) (ap block_of c.deref-in-Filtered-3.ensures) (c.each_in_halves-in-Filtered.ensures.steps fits)))
+    subst (λ h. Moves tb m c.take_at_end.result c.take_at_end.new.machine (left_at_hand tb m h)) (sym c.in-Holds.is) (c.take_at_end.ensures.moves fits)
+
+pub go_on_in_halves-returns-in-Done-clause-moves : goal.go_on_in_halves-returns-in-Done-clause-moves
+go_on_in_halves-returns-in-Done-clause-moves g t c = λ fits.
+    let tb = g.T.Tops.table c.args.crew.now.tops.now in
+    let m = c.args.machine.now in
+    subst (λ h. Moves tb m (Ok (Done c.in-Done.value)) m (left_at_hand tb m h)) (sym c.in-Done.is) (done_moves tb m c.in-Done.value fits)
+
+pub operate_in_halves-returns-in_ok-each_in_halves-in-Each-clause-moves : goal.operate_in_halves-returns-in_ok-each_in_halves-in-Each-clause-moves
+operate_in_halves-returns-in_ok-each_in_halves-in-Each-clause-moves g t c = λ fits.
+    let tb = g.T.Tops.table c.args.crew.now.tops.now in
+    let m = c.args.machine.now in
+    each_comes tb m c.each_in_halves.new.machine (Ok (tt {0})) _ _ _ _ _ _ (ap block_of c.in-Each.is) (ap body_block c.deref.ensures) (c.ops.ensures ∙ c.deref-in-Each.ensures) (c.in_ok-each_in_halves-in-Each.ensures.steps fits)
+
+pub operate_in_halves-returns-in_err-each_in_halves-in-Each-clause-moves : goal.operate_in_halves-returns-in_err-each_in_halves-in-Each-clause-moves
+operate_in_halves-returns-in_err-each_in_halves-in-Each-clause-moves g t c = λ fits.
+    let tb = g.T.Tops.table c.args.crew.now.tops.now in
+    let m = c.args.machine.now in
+    let p = err_from_is_err_and c.from_residual.result c.from_residual.ensures.1 in
+    rw (p.1, p.2) (each_comes {U = Unit {0}} tb m c.each_in_halves.new.machine (Err c.in_err-each_in_halves-in-Each.field-0.0) _ _ _ _ _ _ (ap block_of c.in-Each.is) (ap body_block c.deref.ensures) (c.ops.ensures ∙ c.deref-in-Each.ensures) (c.in_err-each_in_halves-in-Each.ensures.steps fits))
+
+pub operate_in_halves-returns-in_ok-each_in_halves-in-Filtered-clause-moves : goal.operate_in_halves-returns-in_ok-each_in_halves-in-Filtered-clause-moves
+operate_in_halves-returns-in_ok-each_in_halves-in-Filtered-clause-moves g t c = λ fits.
+    let tb = g.T.Tops.table c.args.crew.now.tops.now in
+    let m = c.args.machine.now in
+    filtered_comes tb m c.each_in_halves-in-Filtered.new.machine (Ok (tt {0})) _ _ _ _ _ _ _ _ (ap block_of c.in-Filtered.is) (ap body_block c.deref-in-Filtered-2.ensures) (ap body_block c.deref-in-Filtered.ensures) (c.ops-in-Filtered.ensures ∙ c.deref-in-Filtered-3.ensures) (c.in_ok-each_in_halves-in-Filtered.ensures.steps fits)
+
+pub operate_in_halves-returns-in_err-each_in_halves-in-Filtered-clause-moves : goal.operate_in_halves-returns-in_err-each_in_halves-in-Filtered-clause-moves
+operate_in_halves-returns-in_err-each_in_halves-in-Filtered-clause-moves g t c = λ fits.
+    let tb = g.T.Tops.table c.args.crew.now.tops.now in
+    let m = c.args.machine.now in
+    let p = err_from_is_err_and c.from_residual-in_err-each_in_halves-in-Filtered.result c.from_residual-in_err-each_in_halves-in-Filtered.ensures.1 in
+    rw (p.1, p.2) (filtered_comes {U = Unit {0}} tb m c.each_in_halves-in-Filtered.new.machine (Err c.in_err-each_in_halves-in-Filtered.field-0.0) _ _ _ _ _ _ _ _ (ap block_of c.in-Filtered.is) (ap body_block c.deref-in-Filtered-2.ensures) (ap body_block c.deref-in-Filtered.ensures) (c.ops-in-Filtered.ensures ∙ c.deref-in-Filtered-3.ensures) (c.in_err-each_in_halves-in-Filtered.ensures.steps fits))
+
+pub filters_in_order-returns-in-None-clause-meets : goal.filters_in_order-returns-in-None-clause-meets
+filters_in_order-returns-in-None-clause-meets g t c = λ bodies.
+    let s = c.args.interval.now in
+    let x = c.filters_one_by_one in
+    subst (λ (m : Meter). Meets (ArePlaces {A = Global}) m x.result x.new.meter (filters_in g.T.Tops.table s c.args.from c.args.to)) c.in-None.ensures.meets (x.ensures.meets bodies)
+
+pub bodies_in_order-returns-in-None-clause-meets : goal.bodies_in_order-returns-in-None-clause-meets
+bodies_in_order-returns-in-None-clause-meets g t c = λ bodies.
+    let s = c.args.interval.now in
+    let x = c.bodies_one_by_one in
+    subst (λ (m : Meter). Meets (Has {A = Global}) m x.result x.new.meter (bodies_in g.T.Tops.table s c.args.from c.args.to)) c.in-None.ensures.meets (x.ensures.meets bodies)
 
 pub filters_one_by_one-returns-in_err-holds-clause-meets : goal.filters_one_by_one-returns-in_err-holds-clause-meets
 filters_one_by_one-returns-in_err-holds-clause-meets g t c = λ bodies.
@@ -308,7 +352,7 @@ each_in_halves-returns-in-Some-clause-steps g t c = λ fits.
     let n = c.begin_in_halves.new.machine in
     let s = c.take_off.new.stack in
     let f : List ValueTree × List ValueTree → Out ValueTree =
-    λ p. and_then (at_places a.span p.0 (in_rounds tb m.levels (env_of m) p.0 (block_of a.block.now) a.body)) (λ v. exec tb m.levels (env_of m) (block_of a.next.now) (v ∷ p.1)) in
+    λ p. and_then (at_places a.span p.0 (in_rounds tb m.levels (env_of m) p.0 (body_block a.block.now) a.body)) (λ v. exec tb m.levels (env_of m) (block_of a.next.now) (v ∷ p.1)) in
     let taken = subst (λ r. TakesOff m.stack.items s.items a.count (Ok r)) c.in-Some.is c.in_ok-values.ensures in
     many_taken tb m n (block_of n.code.now) s c.in-Some.values.items c.begin_in_halves.result a.count f taken.0 taken.1 fits (λ h. c.begin_in_halves.ensures.steps h)
 
@@ -319,7 +363,7 @@ each_in_halves-returns-in-None-clause-steps g t c = λ fits.
     let a = c.args.parts.now in
     let s = c.take_off.new.stack in
     let f : List ValueTree × List ValueTree → Out ValueTree =
-    λ p. and_then (at_places a.span p.0 (in_rounds tb m.levels (env_of m) p.0 (block_of a.block.now) a.body)) (λ v. exec tb m.levels (env_of m) (block_of a.next.now) (v ∷ p.1)) in
+    λ p. and_then (at_places a.span p.0 (in_rounds tb m.levels (env_of m) p.0 (body_block a.block.now) a.body)) (λ v. exec tb m.levels (env_of m) (block_of a.next.now) (v ∷ p.1)) in
     let fewer = subst (λ r. TakesOff m.stack.items s.items a.count (Ok r)) c.in-None.is c.in_ok-values.ensures in
     few_taken {U = Unit {0}} tb m (record m { stack = s }) (block_of m.code.now) (Err Stuck) a.count f fewer
 
@@ -340,11 +384,11 @@ pub go_round_in_halves-returns-clause-steps : goal.go_round_in_halves-returns-cl
 go_round_in_halves-returns-clause-steps g t c = λ fits.
     let tb = g.T.Tops.table c.args.crew.now.tops.now in
     let m = c.args.machine.now in
-    let n = c.go_round.new.self in
+    let n = c.go_on_with_round.new.self in
     let b = block_of c.args.next.now in
-    from_rest tb m c.rounds_in_halves.new.machine n b (block_of n.code.now) c.args.round.value c.rounds_in_halves.new.round.value (tt {0}) c.go_round.result
+    from_rest tb m c.rounds_in_halves.new.machine n b (block_of n.code.now) c.args.round.value c.rounds_in_halves.new.round.value (tt {0}) c.go_on_with_round.result
     c.in_ok-rounds_in_halves.ensures.meter (c.in_ok-rounds_in_halves.ensures.came b (local_of m) fits.0) fits
-    (λ h. c.go_round.ensures.steps tb h)
+    (λ h. c.go_on_with_round.ensures.steps tb h)
 
 pub rounds_in_halves-returns-in_err-filter_in_halves-clause-came : goal.rounds_in_halves-returns-in_err-filter_in_halves-clause-came
 rounds_in_halves-returns-in_err-filter_in_halves-clause-came g t c = λ b st bodies.
@@ -390,8 +434,8 @@ take_filter_turns-returns-clause-meets g t c = λ bodies.
     let names = state.places_of c.args.room.now.names.now in
     let x = c.filters_halved.result in
     let n = c.filters_halved.new.meter in
-    subst (λ (vs : List (code.Value Global)). Meets (ArePlaces {A = Global}) c.args.meter.now x n (kept_of (at_place tb c.args.room.now.levels names (map tree_of vs) (block_of r.block.now)) (places_left r r.turns))) c.deref.ensures.value
-    (subst (λ (l : List ℕ). Meets (ArePlaces {A = Global}) c.args.meter.now x n (kept_of (at_place tb c.args.room.now.levels names (map tree_of c.deref.result.now) (block_of r.block.now)) l))
+    subst (λ (vs : List (code.Value Global)). Meets (ArePlaces {A = Global}) c.args.meter.now x n (kept_of (at_place tb c.args.room.now.levels names (map tree_of vs) (body_block r.block.now)) (places_left r r.turns))) c.deref.ensures.value
+    (subst (λ (l : List ℕ). Meets (ArePlaces {A = Global}) c.args.meter.now x n (kept_of (at_place tb c.args.room.now.levels names (map tree_of c.deref.result.now) (body_block r.block.now)) l))
     (ap (λ (k : ℕ). slice_range (places_of c.places.result) k c.len-len.result) c.min.ensures
     ∙ ap (λ (ks : List ℕ). slice_range ks (min r.turns c.len-len.result) c.len-len.result) c.places.ensures ∙ last_places (chosen_places r.chosen) r.turns c.len-len.result (c.len-len.ensures ∙ ap length c.places.ensures))
     (c.filters_halved.ensures.meets bodies))
@@ -403,8 +447,8 @@ take_body_turns-returns-clause-meets g t c = λ bodies.
     let names = state.places_of c.args.room.now.names.now in
     let x = c.bodies_halved.result in
     let n = c.bodies_halved.new.meter in
-    subst (λ (vs : List (code.Value Global)). Meets (Has {A = Global}) c.args.meter.now x n (all_values (at_place tb c.args.room.now.levels names (map tree_of vs) (block_of r.block.now)) (places_left r r.turns))) c.deref.ensures.value
-    (subst (λ (l : List ℕ). Meets (Has {A = Global}) c.args.meter.now x n (all_values (at_place tb c.args.room.now.levels names (map tree_of c.deref.result.now) (block_of r.block.now)) l))
+    subst (λ (vs : List (code.Value Global)). Meets (Has {A = Global}) c.args.meter.now x n (all_values (at_place tb c.args.room.now.levels names (map tree_of vs) (body_block r.block.now)) (places_left r r.turns))) c.deref.ensures.value
+    (subst (λ (l : List ℕ). Meets (Has {A = Global}) c.args.meter.now x n (all_values (at_place tb c.args.room.now.levels names (map tree_of c.deref.result.now) (body_block r.block.now)) l))
     (ap (λ (k : ℕ). slice_range (places_of c.places.result) k c.len-len.result) c.min.ensures
     ∙ ap (λ (ks : List ℕ). slice_range ks (min r.turns c.len-len.result) c.len-len.result) c.places.ensures ∙ last_places (chosen_places r.chosen) r.turns c.len-len.result (c.len-len.ensures ∙ ap length c.places.ensures))
     (c.bodies_halved.ensures.meets bodies))
@@ -426,7 +470,7 @@ take_turns-returns-in_ok-places-in-Some-clause-came g t c = λ b st flat bodies.
     let n = c.args.room.now.levels in
     let env = state.places_of c.args.room.now.names.now in
     add_ends c.args.meter.now.fuel c.take_filter_turns.new.meter.fuel c.add_places.result _ _ c.add_places.ensures
-    (λ u h. filter_came tb n b env st u r c.add_places.new.round c.in-Some.field-0 c.in_ok-places-in-Some.places c.args.meter.now c.take_filter_turns.new.meter c.in-Some.is flat (c.in_ok-places-in-Some.ensures.meets bodies) h.0 (h.1 ∙ ap (λ (l : List ℕ). r.kept.items ++ l) c.deref.ensures.value))
+    (λ u h. filter_took tb n b env st r c.add_places.new.self c.in-Some.field-0 c.in_ok-places-in-Some.places c.args.meter.now c.take_filter_turns.new.meter c.in-Some.is flat (c.in_ok-places-in-Some.ensures.meets bodies) h.0 (h.1 ∙ ap (λ (l : List ℕ). r.kept.items ++ l) c.deref.ensures.value))
 
 pub take_turns-returns-in_err-values-in-None-clause-came : goal.take_turns-returns-in_err-values-in-None-clause-came
 take_turns-returns-in_err-values-in-None-clause-came g t c = λ b st flat bodies.
@@ -445,7 +489,7 @@ take_turns-returns-in_ok-values-in-None-clause-came g t c = λ b st flat bodies.
     let n = c.args.room.now.levels in
     let env = state.places_of c.args.room.now.names.now in
     add_ends c.args.meter.now.fuel c.take_body_turns.new.meter.fuel c.add_values.result _ _ c.add_values.ensures
-    (λ u h. body_came tb n b env st u r c.add_values.new.round c.in_ok-values-in-None.values c.args.meter.now c.take_body_turns.new.meter c.in-None.is flat (c.in_ok-values-in-None.ensures.meets bodies) h.0 h.1)
+    (λ u h. body_took tb n b env st r c.add_values.new.self c.in_ok-values-in-None.values c.args.meter.now c.take_body_turns.new.meter c.in-None.is flat (c.in_ok-values-in-None.ensures.meets bodies) h.0 h.1)
 
 pub value_at-returns-clause-meets : goal.value_at-returns-clause-meets
 value_at-returns-clause-meets g t c = λ bodies.
@@ -455,13 +499,11 @@ value_at-returns-clause-meets g t c = λ bodies.
 
 pub turns_in_halves-returns-then-cuts-eq0-clause-came : goal.turns_in_halves-returns-then-cuts-eq0-clause-came
 turns_in_halves-returns-then-cuts-eq0-clause-came g t c = λ b st bodies.
-    let m = c.args.machine.now in
-    came_none m.meter.fuel (tt {0}) (between (g.T.Tops.table c.args.crew.now.tops.now) m.levels b (env_of m) st c.args.round.now.value)
+    advances_came (g.T.Tops.table c.args.crew.now.tops.now) c.args.machine.now c.take_new_turns.new.self c.take_new_turns.result c.args.round.now.value c.take_new_turns.new.round.value b st c.take_new_turns.ensures.took
 
 pub turns_in_halves-returns-in_default-clause-came : goal.turns_in_halves-returns-in_default-clause-came
 turns_in_halves-returns-in_default-clause-came g t c = λ b st bodies.
-    let m = c.args.machine.now in
-    came_none m.meter.fuel (tt {0}) (between (g.T.Tops.table c.args.crew.now.tops.now) m.levels b (env_of m) st c.args.round.now.value)
+    advances_came (g.T.Tops.table c.args.crew.now.tops.now) c.args.machine.now c.take_new_turns-in_default.new.self c.take_new_turns-in_default.result c.args.round.now.value c.take_new_turns-in_default.new.round.value b st c.take_new_turns-in_default.ensures.took
 
 pub turns_in_halves-returns-clause-came : goal.turns_in_halves-returns-clause-came
 turns_in_halves-returns-clause-came g t c = λ b st bodies.
@@ -475,13 +517,8 @@ turns_in_halves-returns-clause-came g t c = λ b st bodies.
     (lent_came tb m.levels b st begun.result.fuel n.fuel x m.base m.slots.items c.deref-2.result.now _ _ last
     c.deref-2.ensures.value c.deref_mut.ensures.value (c.take_turns-done.ensures.came b st begun.ensures.depth bodies))
 
-pub finish_in_halves-returns-then-ends_filter-clause-comes : goal.finish_in_halves-returns-then-ends_filter-clause-comes
-finish_in_halves-returns-then-ends_filter-clause-comes g t c = λ fits.
-    let tb = g.T.Tops.table c.args.crew.now.tops.now in
-    let m = c.args.machine.now in
-    let n = c.end_filter.new.machine in
-    subst (λ r. Comes tb m r n (left_at tb m finish)) (sym c.going_on.ensures)
-    (steps_come tb m n c.end_filter.result (left_at tb m finish) (c.end_filter.ensures.steps m.frames c.in-Some.ensures.items fits))
+pub finish_filter-returns-in-Some-clause-steps : goal.finish_filter-returns-in-Some-clause-steps
+finish_filter-returns-in-Some-clause-steps g t c = λ fits. c.end_filter.ensures.steps c.args.machine.now.frames c.in-Some.ensures.items fits
 
 pub end_filter-returns-in_ok-leave_turn-in-Turn-clause-steps : goal.end_filter-returns-in_ok-leave_turn-in-Turn-clause-steps
 end_filter-returns-in_ok-leave_turn-in-Turn-clause-steps g t c = λ before is fits.

@@ -20,6 +20,9 @@ decreases-of_each l = (2 ^ 32 - l.at.now.height) * 4 + 3
 abbrev pub decreases-of_filtered : goal.decreases-of_filtered
 decreases-of_filtered l = (2 ^ 32 - l.at.now.height) * 4 + 3
 
+abbrev pub decreases-each_body : goal.decreases-each_body
+decreases-each_body l = (2 ^ 32 - l.at.now.height) * 4 + 5
+
 abbrev pub decreases-inside : goal.decreases-inside
 decreases-inside l = (2 ^ 32 - l.at.now.height) * 4 + 5
 

@@ -1,5 +1,5 @@
 use Rattle.std.proofs.Common.{arith}
-use Rattle.nesl_values.specs.View.{element_tree}
+use Rattle.nesl_values.specs.View.{tree_of}
 use Rattle.nesl_eval_code.specs.Frames.{local_at}
 use Rattle.nesl_eval_meaning.specs.Out.{given, value}
 use Rattle.nesl_eval_columns.specs.Columns.{leaves_of}
@@ -13,4 +13,4 @@ returns-then-up-eq0 g c = λ is.
 pub returns : goal.returns
 returns g c = λ is.
     c.same.ensures (λ fs. given (local_at fs c.args.up c.args.index c.args.steps.now) (λ v. value v 0 0))
-    (above_rows c.args.block.now c.args.scopes.now c.args.up c.args.index c.args.steps.now (element_tree c.in_ok-element.element) is (omega (arith, c.if-up-eq0.false)) c.in_ok-element.ensures)
+    (above_rows c.args.block.now c.args.scopes.now c.args.up c.args.index c.args.steps.now (tree_of c.in_ok-value.value.now) is (omega (arith, c.if-up-eq0.false)) c.in_ok-value.ensures)

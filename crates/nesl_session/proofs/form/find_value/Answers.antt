@@ -4,7 +4,7 @@ use Rattle.nesl_values.specs.View.{tree_of}
 use Rattle.nesl_eval_meaning.specs.Names.{Value, outside}
 use Rattle.nesl_eval_meaning.specs.Out.{fits_budget, value}
 use Rattle.nesl_eval_meaning.specs.Outcome.{out}
-use Rattle.nesl_eval_code.specs.Stored as code
+use Rattle.nesl_eval_env.specs.Stored as code
 use Rattle.nesl_session_bindings.specs.Known.{environment, put_binding}
 use Rattle.nesl_session_bindings.specs.Meanings.{variable, elements_of}
 use Rattle.nesl_session_standing.specs.Inside.{state_of}

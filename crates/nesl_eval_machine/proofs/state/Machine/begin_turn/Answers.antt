@@ -5,12 +5,13 @@ use Rattle.std.proofs.Math.ListN.{length-append}
 use Rattle.nesl_values.specs.View.{tree_of}
 use Rattle.nesl_eval_code.specs.Frames.{row}
 use Rattle.nesl_eval_blocks.specs.Exec.{Places, exec}
-use Rattle.nesl_eval_ops.specs.View.{block_of}
-use Rattle.nesl_eval_machine.specs.State.{places_of, between, slots_of, env_of, local_of, frames_of}
-use Rattle.nesl_eval_machine.proofs.Laws.{after_none}
+use Rattle.nesl_eval_ops.specs.View.{block_of, body_block}
+use Rattle.nesl_eval_rounds.specs.Rounds.{between}
+use Rattle.nesl_eval_machine.specs.State.{places_of, slots_of, env_of, local_of, frames_of}
+use Rattle.nesl_eval_rounds.proofs.Laws.{after_none}
 use Rattle.nesl_eval_machine.proofs.Stepping.{memory_any}
 use Rattle.nesl_eval_machine.proofs.Entering.{entered_block, places_long}
-use Rattle.nesl_eval_machine.proofs.Gathering.{turn_next}
+use Rattle.nesl_eval_rounds.proofs.Gathering.{turn_next}
 use Rattle.nesl_eval_machine.proofs.state.Machine.begin_turn.Goals as goal
 
 pub returns-in_err-push_row-clause-steps : goal.returns-in_err-push_row-clause-steps
@@ -39,9 +40,11 @@ returns-clause-steps g c = λ t fits there.
     let longer : length slots.items ≡ length m.slots.items + length more = sym (places_long slots.items) ∙ ap length grown ∙ length-append (slots_of m) more ∙ ap (λ k. k + length more) long in
     let w = c.deref-3.result.now in
     let same : w ≡ _ = c.deref-3.ensures ∙ c.put_at.ensures in
-    inr (entered_block t m _ c.keep_frame.new.frames (block_of w.block.now) slots more m.base m.levels (record { fuel = m.meter.fuel; depth = 0 })
+    let code = block_of c.ops-code.result.now in
+    inr (entered_block t m _ c.keep_frame.new.frames code slots more m.base m.levels (record { fuel = m.meter.fuel; depth = 0 })
     (between t m.levels b (env_of m) (local_of m) r)
     c.in_ok-keep_frame.ensures (omega (arith, c.len-len.ensures, m.slots.ok.0)) (omega (arith, c.len.ensures, m.stack.ok.0)) fits.2 grown (omega (arith, fits.2, longer)) refl fits
     (turn_next t m.levels b (env_of m) (local_of m) r c.put_at.new.round.value c.args.place _ there c.put_at.ensures
-    (after_none (exec t m.levels (drop m.base (places_of slots.items)) (block_of w.block.now) []) ∙ ap (λ e. exec t m.levels e (block_of w.block.now) []) env
-    ∙ ap (λ x. exec t m.levels (env_of m ++ more) (block_of x.block.now) []) same)))
+    (after_none (exec t m.levels (drop m.base (places_of slots.items)) code []) ∙ ap (λ e. exec t m.levels e code []) env
+    ∙ ap (λ b. exec t m.levels (env_of m ++ more) b []) c.ops-code.ensures
+    ∙ ap (λ x. exec t m.levels (env_of m ++ more) (body_block x.block.now) []) same)))

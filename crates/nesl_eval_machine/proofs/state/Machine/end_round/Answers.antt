@@ -6,9 +6,10 @@ use Rattle.nesl_values_builder.specs.Elements.{elements_of}
 use Rattle.nesl_eval_meaning.specs.Out.{after_cost}
 use Rattle.nesl_eval_blocks.specs.Exec.{exec}
 use Rattle.nesl_eval_ops.specs.View.{block_of}
-use Rattle.nesl_eval_machine.specs.State.{between, env_of, local_of, frames_of}
+use Rattle.nesl_eval_rounds.specs.Rounds.{between}
+use Rattle.nesl_eval_machine.specs.State.{env_of, local_of, frames_of}
 use Rattle.nesl_eval_machine.proofs.Stepping.{memory_any}
-use Rattle.nesl_eval_machine.proofs.Gathering.{round_done, none_there}
+use Rattle.nesl_eval_rounds.proofs.Gathering.{round_done, none_there}
 use Rattle.nesl_eval_machine.proofs.Turns.{put_on}
 use Rattle.nesl_eval_machine.proofs.state.Machine.end_round.Goals as goal
 

@@ -10,7 +10,8 @@ use Rattle.nesl_eval_blocks.specs.Flat.{block}
 use Rattle.nesl_eval_ops.specs.View.{block_of}
 use Rattle.nesl_eval_machine.specs.State.{places_of, frames_of, slots_of, env_of, local_of}
 use Rattle.nesl_eval_machine.proofs.Stepping.{memory_any, one_longer}
-use Rattle.nesl_eval_machine.proofs.Entering.{places_more, entered_block}
+use Rattle.nesl_eval_rounds.proofs.Rows.{places_more}
+use Rattle.nesl_eval_machine.proofs.Entering.{entered_block}
 use Rattle.nesl_eval_machine.proofs.Calling.{called_same, argument_alone}
 use Rattle.nesl_eval_machine.proofs.state.Machine.enter_body.Goals as goal
 

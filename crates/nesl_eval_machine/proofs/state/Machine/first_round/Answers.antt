@@ -1,6 +1,6 @@
 use Rattle.std.proofs.Common.{◌≡◌, ℕ, refl, sym, ap, ◌∙◌, inl, inr, subst, map, List, ◌∷◌, Ok, Err, Box}
-use Rattle.nesl_eval_machine.specs.declared.state.Chosen.TheVariants.{All}
-use Rattle.nesl_eval_machine.specs.declared.state.Round.{Round}
+use Rattle.nesl_eval_rounds.specs.declared.state.Chosen.TheVariants.{All}
+use Rattle.nesl_eval_rounds.specs.declared.state.Round.{Round}
 use Rattle.std.specs.List.{range_with_len}
 use Rattle.std.proofs.lemmas.Result.{err_from_is_err_and}
 use Rattle.nesl_values.specs.View.{tree_of}
@@ -8,9 +8,10 @@ use Rattle.nesl_eval_meaning.specs.Names.{Value}
 use Rattle.nesl_eval_meaning.specs.Out.{Out, and_then, given}
 use Rattle.nesl_eval_meaning.specs.Outcome.{lengths, common_places}
 use Rattle.nesl_eval_blocks.specs.Exec.{exec, at_places}
-use Rattle.nesl_eval_ops.specs.View.{block_of}
+use Rattle.nesl_eval_ops.specs.View.{body_block}
 use Rattle.nesl_eval_nodes.specs.Meets.{Meets}
-use Rattle.nesl_eval_machine.specs.State.{in_rounds, frames_of, slots_of, stack_of, env_of, local_of, left_with, unwound, between}
+use Rattle.nesl_eval_rounds.specs.Rounds.{between}
+use Rattle.nesl_eval_machine.specs.State.{in_rounds, frames_of, slots_of, stack_of, env_of, local_of, left_with, unwound}
 use Rattle.nesl_eval_machine.specs.Steps.{Stops}
 use Rattle.nesl_eval_machine.proofs.Stepping.{run_stops}
 use Rattle.nesl_eval_machine.proofs.Turns.{places_first, found_first, first_between, boxed_round}
@@ -21,7 +22,7 @@ returns-in_err-count g c = λ t next.
     let m = c.args.self.now in
     let vs = map tree_of c.args.sources.items in
     let s = c.args.span in
-    let R = in_rounds t m.levels (env_of m) vs (block_of c.args.block.now) c.args.body in
+    let R = in_rounds t m.levels (env_of m) vs (body_block c.args.block.now) c.args.body in
     let K : Value → Out Value = λ v. exec t m.levels (env_of m) next (v ∷ local_of m) in
     let P = given (lengths vs) (common_places s) in
     let T : ℕ → List ℕ → Type 0 = λ k is. range_with_len 0 k ≡ is in
@@ -35,7 +36,7 @@ returns g c = λ t next.
     let m = c.args.self.now in
     let vs = map tree_of c.args.sources.items in
     let s = c.args.span in
-    let R = in_rounds t m.levels (env_of m) vs (block_of c.args.block.now) c.args.body in
+    let R = in_rounds t m.levels (env_of m) vs (body_block c.args.block.now) c.args.body in
     let K : Value → Out Value = λ v. exec t m.levels (env_of m) next (v ∷ local_of m) in
     let P = given (lengths vs) (common_places s) in
     let T : ℕ → List ℕ → Type 0 = λ k is. range_with_len 0 k ≡ is in
@@ -48,7 +49,7 @@ returns g c = λ t next.
       | inr x ↦ inr
           (ap (left_with t m) (places_first s vs R K) ∙ x.2
           ∙ ap (unwound t (frames_of m) (slots_of m) (stack_of m))
-          (first_between t m.levels next (env_of m) (local_of m) r vs (block_of c.args.block.now) c.args.body x.0 m.meter.depth
+          (first_between t m.levels next (env_of m) (local_of m) r vs (body_block c.args.block.now) c.args.body x.0 m.meter.depth
           refl refl refl x.1 refl refl refl c.new.ensures.items c.with_room.ensures))
     ])
     c.in_box.ensures

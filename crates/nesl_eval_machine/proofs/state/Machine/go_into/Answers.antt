@@ -5,7 +5,7 @@ use Rattle.nesl_eval_meaning.specs.Out.{Out, after_cost, and_then}
 use Rattle.nesl_eval_blocks.specs.Exec.{exec}
 use Rattle.nesl_eval_ops.specs.View.{block_of}
 use Rattle.nesl_eval_machine.specs.State.{slots_of, env_of, local_of}
-use Rattle.nesl_eval_machine.proofs.Laws.{then_after}
+use Rattle.nesl_eval_rounds.proofs.Laws.{then_after}
 use Rattle.nesl_eval_machine.proofs.Entering.{entered_block}
 use Rattle.nesl_eval_machine.proofs.state.Machine.go_into.Goals as goal
 

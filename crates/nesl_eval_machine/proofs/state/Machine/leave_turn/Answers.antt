@@ -7,7 +7,8 @@ use Rattle.nesl_eval_blocks.specs.Block.{finish}
 use Rattle.nesl_eval_blocks.specs.Exec.{exec}
 use Rattle.nesl_eval_ops.specs.View.{block_of}
 use Rattle.nesl_eval_nodes.specs.declared.meter.Stop.TheVariants.{Stuck}
-use Rattle.nesl_eval_machine.specs.State.{places_of, above, floor, in_turn, frames_of, env_of, unwound}
+use Rattle.nesl_eval_rounds.specs.Rounds.{in_turn}
+use Rattle.nesl_eval_machine.specs.State.{places_of, above, floor, frames_of, env_of, unwound}
 use Rattle.nesl_eval_machine.specs.Steps.{Stops}
 use Rattle.nesl_eval_machine.proofs.Unwinding.{unwound_after}
 use Rattle.nesl_eval_machine.proofs.Stepping.{nothing_popped}

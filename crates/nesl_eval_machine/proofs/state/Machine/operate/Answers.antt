@@ -1,4 +1,4 @@
-use Rattle.std.proofs.Common.{refl, sym, subst, ◌∷◌, []}
+use Rattle.std.proofs.Common.{refl, sym, subst, ◌∙◌, ◌∷◌, []}
 use Rattle.nesl_eval_blocks.specs.Block.{make, of_one}
 use Rattle.nesl_eval_ops.specs.View.{block_of, leaf_is, two_is}
 use Rattle.nesl_eval_machine.specs.State.{left_at}
@@ -11,8 +11,8 @@ returns-in-OfLeaf-clause-moves g c = λ fits.
     let m = c.args.self.now in
     let n = c.of_leaf.new.self in
     let k = c.in-OfLeaf.node in
-    let next = c.deref-in-OfLeaf in
-    let done = subst (λ x. Moves t m c.of_leaf.result n (left_at t m (make k.height k.span (of_one k.function) 0 (leaf_is c.in-OfLeaf.leaf ∷ []) (block_of x)))) next.ensures (c.of_leaf.ensures.moves fits) in
+    let next = c.ops-in-OfLeaf.ensures ∙ c.deref-in-OfLeaf.ensures in
+    let done = subst (λ x. Moves t m c.of_leaf.result n (left_at t m (make k.height k.span (of_one k.function) 0 (leaf_is c.in-OfLeaf.leaf ∷ []) x))) next (c.of_leaf.ensures.moves fits) in
     subst (λ b. Moves t m c.of_leaf.result n (left_at t m (block_of b))) (sym c.in-OfLeaf.is) done
 
 pub returns-in-OfLeaves-clause-moves : goal.returns-in-OfLeaves-clause-moves
@@ -21,8 +21,8 @@ returns-in-OfLeaves-clause-moves g c = λ fits.
     let m = c.args.self.now in
     let n = c.of_leaves.new.self in
     let k = c.in-OfLeaves.node in
-    let next = c.deref-in-OfLeaves in
-    let done = subst (λ x. Moves t m c.of_leaves.result n (left_at t m (make k.height k.span (two_is k.two) 0 (leaf_is c.in-OfLeaves.left ∷ leaf_is c.in-OfLeaves.right ∷ []) (block_of x)))) next.ensures (c.of_leaves.ensures.moves fits) in
+    let next = c.ops-in-OfLeaves.ensures ∙ c.deref-in-OfLeaves.ensures in
+    let done = subst (λ x. Moves t m c.of_leaves.result n (left_at t m (make k.height k.span (two_is k.two) 0 (leaf_is c.in-OfLeaves.left ∷ leaf_is c.in-OfLeaves.right ∷ []) x))) next (c.of_leaves.ensures.moves fits) in
     subst (λ b. Moves t m c.of_leaves.result n (left_at t m (block_of b))) (sym c.in-OfLeaves.is) done
 
 pub returns-in-Finish-clause-moves : goal.returns-in-Finish-clause-moves

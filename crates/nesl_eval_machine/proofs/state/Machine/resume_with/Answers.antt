@@ -22,20 +22,23 @@ plain t n b k (inr e) env st v w d = ap (λ x. resumed_as t n b x env st (value 
 
 pub returns-in-Push : goal.returns-in-Push
 returns-in-Push g c = record {
-  moves = λ t before is fits.
+  moves = λ before is fits.
+      let t = g.T.Tops.table c.args.tops.now in
       resumed_with t c.args.self.now c.args.frame before c.cut.new.values c.args.value is fits c.cut.ensures
       (plain t c.args.frame.levels (block_of c.args.frame.next.now) c.args.frame.purpose c.in-Push.is);
   bounded = c.requires;
 }
 
 pub returns-in_err-push_value-in-Turn-clause-moves : goal.returns-in_err-push_value-in-Turn-clause-moves
-returns-in_err-push_value-in-Turn-clause-moves g c = λ t before is fits.
+returns-in_err-push_value-in-Turn-clause-moves g c = λ before is fits.
+    let t = g.T.Tops.table c.args.tops.now in
     let m = c.args.self.now in
     let p = err_from_is_err_and c.from_residual.result c.from_residual.ensures.1 in
     rw (p.1, p.2, c.in_err-push_value-in-Turn.ensures) (memory_any (frames_of m) m.meter.fuel m.meter.fuel _)
 
 pub returns-in_ok-push_value-in-Turn-clause-moves : goal.returns-in_ok-push_value-in-Turn-clause-moves
-returns-in_ok-push_value-in-Turn-clause-moves g c = λ t before is fits.
+returns-in_ok-push_value-in-Turn-clause-moves g c = λ before is fits.
+    let t = g.T.Tops.table c.args.tops.now in
     let m = record c.args.self.now { frames = before } in
     let n = c.end_turn.new.self in
     let f = c.args.frame in
@@ -44,4 +47,4 @@ returns-in_ok-push_value-in-Turn-clause-moves g c = λ t before is fits.
     step_moves t m (record m { stack = stack }) n finish (tt {0}) c.empty_handed.result _
     (set_down t m finish stack c.args.value c.in_ok-push_value-in-Turn.ensures fits)
     (λ h. steps_move t (record m { stack = stack }) n c.end_turn.result c.empty_handed.result _ c.empty_handed.ensures
-    (c.end_turn.ensures.steps t before f.height turn h))
+    (c.end_turn.ensures.steps before f.height turn h))

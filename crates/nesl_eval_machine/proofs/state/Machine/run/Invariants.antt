@@ -1,7 +1,7 @@
 use Rattle.std.proofs.Common.{◌≡◌, ◌+◌, ◌<◌, ◌^◌, ◌⊎◌}
 use Rattle.nesl_eval_meaning.specs.Out.{stuck}
 use Rattle.nesl_eval_machine.specs.State.{Fits, left, left_at_hand}
-use Rattle.nesl_eval_machine.specs.Steps.{Leads}
+use Rattle.nesl_eval_rounds.specs.Leads.{Leads}
 use Rattle.nesl_eval_machine.proofs.state.Machine.run.Given as goal
 
 abbrev pub invariant-loop : goal.invariant-loop

@@ -1,4 +1,4 @@
-use Rattle.std.proofs.Common.{sym, subst, ◌∷◌, []}
+use Rattle.std.proofs.Common.{sym, subst, ◌∙◌, ◌∷◌, []}
 use Rattle.nesl_values.specs.View.{tree_of}
 use Rattle.nesl_eval_blocks.specs.Block.{make, call}
 use Rattle.nesl_eval_blocks.specs.Exec.{exec}
@@ -14,8 +14,8 @@ returns-in-OfTopAndLeaf-clause-moves g c = λ fits.
     let n = c.of_value_and_leaf.new.self in
     let r = c.of_value_and_leaf.result in
     let k = c.in-OfTopAndLeaf.node in
-    let next = c.deref-in-OfTopAndLeaf in
-    let done = subst (λ x. Moves t m r n (left_with t m (exec t m.levels (env_of m) (make k.height k.span (two_is k.two) 1 (leaf_is c.in-OfTopAndLeaf.right ∷ []) (block_of x)) (tree_of c.args.value ∷ local_of m)))) next.ensures (c.of_value_and_leaf.ensures.moves fits) in
+    let next = c.ops-in-OfTopAndLeaf.ensures ∙ c.deref-in-OfTopAndLeaf.ensures in
+    let done = subst (λ x. Moves t m r n (left_with t m (exec t m.levels (env_of m) (make k.height k.span (two_is k.two) 1 (leaf_is c.in-OfTopAndLeaf.right ∷ []) x) (tree_of c.args.value ∷ local_of m)))) next (c.of_value_and_leaf.ensures.moves fits) in
     subst (λ b. Moves t m r n (left_with t m (exec t m.levels (env_of m) (block_of b) (tree_of c.args.value ∷ local_of m)))) (sym c.in-OfTopAndLeaf.is) done
 
 pub returns-in-Call-clause-moves : goal.returns-in-Call-clause-moves
@@ -25,6 +25,6 @@ returns-in-Call-clause-moves g c = λ fits.
     let n = c.call_with.new.self in
     let r = c.call_with.result in
     let k = c.in-Call in
-    let next = c.deref-in-Call in
-    let done = subst (λ x. Moves t m r n (left_with t m (exec t m.levels (env_of m) (call k.height k.span (callee_is k.callee) (block_of x)) (tree_of c.args.value ∷ local_of m)))) next.ensures (c.call_with.ensures.moves fits) in
+    let next = c.ops-in-Call.ensures ∙ c.deref-in-Call.ensures in
+    let done = subst (λ x. Moves t m r n (left_with t m (exec t m.levels (env_of m) (call k.height k.span (callee_is k.callee) x) (tree_of c.args.value ∷ local_of m)))) next (c.call_with.ensures.moves fits) in
     subst (λ b. Moves t m r n (left_with t m (exec t m.levels (env_of m) (block_of b) (tree_of c.args.value ∷ local_of m)))) (sym k.is) done

@@ -1,0 +1,110 @@
+-- Pairs of the values at turns.
+use Rattle.std.proofs.Common.{◌≡◌, ℕ, ℤ, zero, suc, ◌+◌, ◌<◌, ◌≤◌, Bool, true, false, List, [], ◌∷◌, ◌++◌, map, length, length-drop, drop, set, get_or, nat_le, append-nil, Option, Some, refl, sym, ap, ◌∙◌, subst, arith, append_assoc}
+use Rattle.std.specs.Prelude.{slice_get}
+use Rattle.std.proofs.lemmas.Option.{same_Some, none-some}
+use Rattle.std.proofs.lemmas.List.{length-map}
+use Rattle.std.proofs.lemmas.Bool.Decides.{nat_tests}
+use Rattle.nesl_lex.specs.declared.token.Span.{Span}
+use Rattle.nesl_values.specs.Tree.{int, boolean, character, pair, size}
+use Rattle.nesl_eval_meaning.specs.Names.{Value}
+use Rattle.nesl_eval_meaning.specs.Out.{value, after_cost, and_then}
+use Rattle.nesl_eval_meaning.specs.Outcome.{small_enough}
+use Rattle.nesl_eval_code.specs.declared.code.Code.{Code}
+use Rattle.nesl_eval_code.specs.Frames.{Frames}
+use Rattle.nesl_eval_code.specs.Run.{Runs, run_two}
+use Rattle.nesl_eval_columns.specs.declared.column.Column.{Column}
+use Rattle.nesl_eval_columns.specs.declared.column.Column.TheVariants.{Ints, Bools, Chars}
+use Rattle.nesl_eval_columns.specs.Columns.{leaves_of}
+use Rattle.nesl_eval_plain.specs.Costs.{Sums}
+use Rattle.nesl_eval_plain.specs.Frames.{AreAt}
+use Rattle.nesl_eval_plain.specs.Values.{pairs_of, AreOfSize}
+use Rattle.nesl_eval_plain.proofs.Comes.{cost_is}
+
+-- the pair at a turn
+pairs_at : (xs ys : List Value) (k : ℕ) (x y : Value) → slice_get xs k ≡ Some x → slice_get ys k ≡ Some y → slice_get (pairs_of xs ys) k ≡ Some (pair x y)
+pairs_at [] ys k x y h e = absurd (none-some x h)
+pairs_at (a ∷ xs) [] k x y h e = absurd (none-some y e)
+pairs_at (a ∷ xs) (b ∷ ys) zero x y h e = ap (λ u. Some (pair u b)) (same_Some a x h) ∙ ap (λ u. Some (pair x u)) (same_Some b y e)
+pairs_at (a ∷ xs) (b ∷ ys) (suc k) x y h e = pairs_at xs ys k x y h e
+
+-- how many nodes values have
+sized_at : (n : ℕ) (xs : List Value) (k : ℕ) (x : Value) → AreOfSize n xs → slice_get xs k ≡ Some x → size x ≡ n
+sized_at n [] k x h e = absurd (none-some x e)
+sized_at n (a ∷ xs) zero x h e = subst (λ u. size u ≡ n) (same_Some a x e) h.0
+sized_at n (a ∷ xs) (suc k) x h e = sized_at n xs k x h.1 e
+
+pub pairs_sized : (m n : ℕ) (xs ys : List Value) → AreOfSize m xs → AreOfSize n ys → AreOfSize (m + n + 1) (pairs_of xs ys)
+pairs_sized m n [] ys h k = tt
+pairs_sized m n (x ∷ xs) [] h k = tt
+pairs_sized m n (x ∷ xs) (y ∷ ys) h k = (omega (arith, h.0, k.0), pairs_sized m n xs ys h.1 k.1)
+
+ints_sized : (xs : List ℤ) → AreOfSize 1 (map int xs)
+ints_sized [] = tt
+ints_sized (x ∷ xs) = (refl, ints_sized xs)
+
+bools_sized : (xs : List Bool) → AreOfSize 1 (map boolean xs)
+bools_sized [] = tt
+bools_sized (x ∷ xs) = (refl, bools_sized xs)
+
+chars_sized : (xs : List ℕ) → AreOfSize 1 (map character xs)
+chars_sized [] = tt
+chars_sized (x ∷ xs) = (refl, chars_sized xs)
+
+pub leaves_sized : {A : Type 0} (c : Column A) → AreOfSize 1 (leaves_of c)
+leaves_sized (Ints v) = ints_sized v.items
+leaves_sized (Bools v) = bools_sized v.items
+leaves_sized (Chars v) = chars_sized v.items
+
+-- a value of few nodes
+few_nodes : (s : Span) (v : Value) → size v ≤ 1048576 → small_enough s v ≡ value v 0 0
+few_nodes s v few = by_test (nat_le (size v) 1048576) refl
+  where
+    by_test : (q : Bool) → nat_le (size v) 1048576 ≡ q → small_enough s v ≡ value v 0 0
+    by_test true e = rw e refl
+    by_test false e = absurd (grind (arith, nat_tests))
+
+-- a pair at a place
+made_at : (f : Runs) (fs : Frames) (a b : Code) (s : Span) (x y : Value) (m n : ℕ) → f fs a ≡ value x m m → f fs b ≡ value y n n → size (pair x y) ≤ 1048576 → run_two f fs a b (λ x y. small_enough s (pair x y)) ≡ value (pair x y) (m + n) (m + n)
+made_at f fs a b s x y m n h k few =
+    ap (λ o. and_then o (λ x. and_then (f fs b) (λ y. small_enough s (pair x y)))) h
+    ∙ ap (λ o. after_cost m m (and_then o (λ y. small_enough s (pair x y)))) k
+    ∙ ap (λ o. after_cost m m (after_cost n n o)) (few_nodes s (pair x y) few)
+    ∙ cost_is (pair x y) (m + (n + 0)) (m + n) (m + (n + 0)) (m + n) (omega arith) (omega arith)
+
+pub pairs_find : (f : Runs) (at : ℕ → Option Frames) (a b : Code) (s : Span) (ms ns os : ℕ → Option ℕ) (i j : ℕ) (xs ys : List Value) → AreAt (λ fs. f fs a) at (slice_get xs) ms → AreAt (λ fs. f fs b) at (slice_get ys) ns → AreOfSize i xs → AreOfSize j ys → i + j + 1 ≤ 1048576 → Sums ms ns os → AreAt (λ fs. run_two f fs a b (λ x y. small_enough s (pair x y))) at (slice_get (pairs_of xs ys)) os
+pairs_find f at a b s ms ns os i j xs ys h l few more less sums = λ k fs q.
+    let x = h k fs q in
+    let y = l k fs q in
+    let large : size (pair x.0 y.0) ≤ 1048576 = omega (arith, sized_at i xs k x.0 few x.2, sized_at j ys k y.0 more y.2, less) in
+    (pair x.0 y.0, x.1 + y.1, pairs_at xs ys k x.0 y.0 x.2 y.2, sums k x.1 y.1 x.3 y.3, made_at f fs a b s x.0 y.0 x.1 y.1 x.4 y.4 large)
+
+-- what is taken out at a turn, and what is left after it
+pub taken_out : {X : Type 0} (f : X → Value) (xs : List X) (i : ℕ) (d y : X) → i < length xs → drop i (map f xs) ≡ f (get_or xs i d) ∷ drop (i + 1) (map f (set xs i y))
+taken_out f [] i d y h = absurd (omega arith)
+taken_out f (x ∷ xs) zero d y h = refl
+taken_out f (x ∷ xs) (suc i) d y h =
+    let next : suc (i + 1) ≡ suc i + 1 = omega arith in
+    taken_out f xs i d y (omega arith) ∙ ap (λ n. f (get_or xs i d) ∷ drop n (f x ∷ map f (set xs i y))) next
+
+-- one more pair
+pub next_pair : (made more xs xs' ys ys' all : List Value) (x y : Value) → more ≡ made ++ pair x y ∷ [] → xs ≡ x ∷ xs' → ys ≡ y ∷ ys' → made ++ pairs_of xs ys ≡ all → more ++ pairs_of xs' ys' ≡ all
+next_pair made more xs xs' ys ys' all x y m e f h =
+    ap (λ us. us ++ pairs_of xs' ys') m ∙ append_assoc made (pair x y ∷ []) (pairs_of xs' ys')
+    ∙ ap (λ us. made ++ pairs_of us (y ∷ ys')) (sym e) ∙ ap (λ us. made ++ pairs_of xs us) (sym f) ∙ h
+
+-- one more value
+pub next_value : (made more xs xs' all : List Value) (x : Value) → more ≡ made ++ x ∷ [] → xs ≡ x ∷ xs' → made ++ xs ≡ all → more ++ xs' ≡ all
+next_value made more xs xs' all x m e h =
+    ap (λ us. us ++ xs') m ∙ append_assoc made (x ∷ []) xs' ∙ ap (λ us. made ++ us) (sym e) ∙ h
+
+-- none is left
+pub all_paired : (made xs ys all : List Value) → length xs ≡ 0 → made ++ pairs_of xs ys ≡ all → made ≡ all
+all_paired made [] ys all h e = sym (append-nil made) ∙ e
+all_paired made (x ∷ xs) ys all h e = absurd (omega arith)
+
+pub all_added : (made xs all : List Value) → length xs ≡ 0 → made ++ xs ≡ all → made ≡ all
+all_added made [] all h e = sym (append-nil made) ∙ e
+all_added made (x ∷ xs) all h e = absurd (omega arith)
+
+pub none_past : {X : Type 0} (f : X → Value) (xs : List X) (i : ℕ) → length xs ≤ i → length (drop i (map f xs)) ≡ 0
+none_past f xs i h = omega (arith, length-drop i (map f xs), length-map xs f)

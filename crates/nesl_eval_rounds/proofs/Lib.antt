@@ -1,0 +1,4 @@
+pub mod Laws
+pub mod Rows
+pub mod Gathering
+pub mod Columned

@@ -1,0 +1,29 @@
+use Rattle.std.proofs.Common.{sym, ap, ◌∙◌, ◌-◌, ◌∷◌, map, length}
+use Rattle.nesl_values.specs.View.{tree_of}
+use Rattle.nesl_eval_code.specs.Run.{run, run_filters}
+use Rattle.nesl_eval_blocks.specs.Exec.{laid}
+use Rattle.nesl_eval_blocks.specs.Laws.{sizes}
+use Rattle.nesl_eval_nodes.specs.Scopes.{frames_of}
+use Rattle.nesl_eval_plain.specs.Blocks.{block_places}
+use Rattle.nesl_eval_rounds.specs.Leads.{ArePlaces}
+use Rattle.nesl_eval_rounds.proofs.Columned.{filter_turns, some_meets}
+use Rattle.nesl_eval_rounds.proofs.columns.places_in_columns.Goals as goal
+
+pub returns-clause-meets : goal.returns-clause-meets
+returns-clause-meets g c = λ same.
+    let r = c.args.round.now in
+    let s = c.args.setting.now in
+    let h = c.args.filter.height in
+    let code = c.args.filter.code.now in
+    let w = c.turns_left-turns.result in
+    let turns = c.turns_left-turns.ensures in
+    let scope = c.in_ok-scope.ensures in
+    let fs = frames_of w.scope.now in
+    some_meets _ (ArePlaces {A = g.row.A.Denot}) c.filters_in_columns.result c.args.meter.now c.filters_in_columns.new.meter _ _
+    (ap (λ k. run_filters (run k (g.T.Tops.table w.tops.now)) fs (map tree_of w.values.now) code (block_places w)) c.saturating_sub-levels.ensures
+    ∙ ap (λ x. run_filters (run (s.levels - h) (g.T.Tops.table x)) fs (map tree_of w.values.now) code (block_places w)) turns.same.0
+    ∙ filter_turns (g.T.Tops.table s.tops.now) s.levels h fs code s.names.now w.values.now c.args.filter.sizes.now r (block_places w)
+    (ap (λ x. laid (frames_of x)) turns.same.1 ∙ scope.0)
+    (scope.1 ∙ ap (λ l. length l ∷ sizes (frames_of c.in_ok-scope.scope)) c.deref.ensures.value ∙ ap (λ x. length r.sources.items ∷ sizes (frames_of x)) (sym turns.same.1))
+    turns.same.2 turns.places same)
+    c.filters_in_columns.ensures.meets
