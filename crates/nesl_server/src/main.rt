@@ -36,8 +36,9 @@ use std::{env, thread};
 /// The bytes of an answer that are gathered before they are written.
 const ANSWER_BYTES: usize = 8192;
 
-/// The bytes of the stack that a batch is evaluated on: an evaluation of 1,000 levels was measured to take 1.2 MiB.
-const STACK_BYTES: usize = 8_388_608;
+/// The bytes of the stack that a batch is evaluated on. What recurs goes over trees at most 100 high, and takes at most
+/// 16 KiB of it for each level. An evaluation takes no stack for calls.
+const STACK_BYTES: usize = 4_194_304;
 
 fn main(rt: HostRuntime) -> ExitCode {
     if fill_standard(&rt).is_err() {
