@@ -5,13 +5,12 @@ use nesl_house::roster::NewFault;
 use nesl_house::table::{CloseFault, Table, TakeFault};
 use nesl_session::limits::Limits;
 use nesl_split_helpers::{Free, NoHelpers};
-use std::alloc::Global;
+use std::alloc::{AllocError, Global};
 use std::process::Abort;
 use std::sync::Wait;
-use std::test::Fail;
 
 // A line that binds a name, and its reply.
-const THREE: (&str, &str) = ("x = 3;", "x = 3 : int (work 1, depth 1)\n");
+const THREE: &str = "x = 3; => x = 3 : int (work 1, depth 1)";
 
 fn receipt_of(place: usize, recorded: u64) -> Receipt {
     Receipt { place, recorded }
@@ -33,16 +32,15 @@ fn refusal<R: Wait>(rt: &R, table: &Table, user: &str) -> Option<TakeFault> {
 }
 
 #[test]
-fn a_table_needs_a_roster(rt: HostRuntime) -> Result<(), Fail> {
+fn a_table_needs_a_roster(rt: HostRuntime) {
     let fault = Table::new(rt.alloc(), &[], LIMITS).err();
-    let table = opened(rt.alloc())?;
+    let table = opened(rt.alloc()).expect(&rt, "memory");
     assert!(rt; fault == Some(NewFault::Count) && is_as_opened(&table));
-    Ok(())
 }
 
 #[test]
-fn one_lease_at_a_time(rt: HostRuntime) -> Result<(), Fail> {
-    let table = opened(rt.alloc())?;
+fn one_lease_at_a_time(rt: HostRuntime) {
+    let table = opened(rt.alloc()).expect(&rt, "memory");
     let Ok(mut lease) = table.take(&rt, b"bob") else {
         panic!(rt; "bob's session is at home");
     };
@@ -61,12 +59,11 @@ fn one_lease_at_a_time(rt: HostRuntime) -> Result<(), Fail> {
         rt.alloc(),
         &table,
         "bob",
-        &[("it;", "it = 7 : int (work 1, depth 1)\n")],
+        "it; => it = 7 : int (work 1, depth 1)",
     );
     assert!(rt; is_seven && lines == 1 && place == 1 && receipt == receipt_of(1, 1));
     assert!(rt; busy == Some(TakeFault::Busy) && stranger == Some(TakeFault::NoUser));
     assert!(rt; home.is_none() && again == Some(receipt_of(1, 1)));
-    Ok(())
 }
 
 // These receipts; memory is there.
@@ -75,14 +72,14 @@ fn receipts_of<R: Abort>(rt: &R, alloc: Global, all: &[Receipt]) -> Vec<Receipt>
 }
 
 #[test]
-fn not_closed_while_a_lease_is_out(rt: HostRuntime) -> Result<(), Fail> {
-    let table = opened(rt.alloc())?;
+fn not_closed_while_a_lease_is_out(rt: HostRuntime) {
+    let table = opened(rt.alloc()).expect(&rt, "memory");
     let Some(first) = said(
         &rt,
         rt.alloc(),
         &table,
         "ann",
-        &[("1;", "it = 1 : int (work 1, depth 1)\n")],
+        "1; => it = 1 : int (work 1, depth 1)",
     ) else {
         panic!(rt; "ann's session is at home");
     };
@@ -106,18 +103,17 @@ fn not_closed_while_a_lease_is_out(rt: HostRuntime) -> Result<(), Fail> {
         panic!(rt; "all sessions are at home");
     };
     assert!(rt; closed.lines == 1 && closed.house.users().len() == 2);
-    Ok(())
 }
 
 #[test]
-fn not_closed_without_a_receipt(rt: HostRuntime) -> Result<(), Fail> {
-    let table = opened(rt.alloc())?;
+fn not_closed_without_a_receipt(rt: HostRuntime) {
+    let table = opened(rt.alloc()).expect(&rt, "memory");
     let Some(receipt) = said(
         &rt,
         rt.alloc(),
         &table,
         "ann",
-        &[THREE, ("x;", "it = 3 : int (work 1, depth 1)\n")],
+        "x = 3; => x = 3 : int (work 1, depth 1)\nx; => it = 3 : int (work 1, depth 1)",
     ) else {
         panic!(rt; "ann's session is at home");
     };
@@ -139,29 +135,24 @@ fn not_closed_without_a_receipt(rt: HostRuntime) -> Result<(), Fail> {
     let ann = lines_of(&closed.house, b"ann");
     let bob = lines_of(&closed.house, b"bob");
     assert!(rt; closed.lines == 2 && ann == Some(2) && bob == Some(0));
-    Ok(())
 }
 
 #[test]
-fn a_reset_is_a_line(rt: HostRuntime) -> Result<(), Fail> {
-    let table = opened(rt.alloc())?;
+fn a_reset_is_a_line(rt: HostRuntime) {
+    let table = opened(rt.alloc()).expect(&rt, "memory");
     let first = said(
         &rt,
         rt.alloc(),
         &table,
         "ann",
-        &[
-            THREE,
-            (":reset", "reset: lines 1\n"),
-            ("4;", "it = 4 : int (work 1, depth 1)\n"),
-        ],
+        "x = 3; => x = 3 : int (work 1, depth 1)\n:reset => reset: lines 1\n4; => it = 4 : int (work 1, depth 1)",
     );
     let second = said(
         &rt,
         rt.alloc(),
         &table,
         "ann",
-        &[("x;", "fault unknown at 0..1 (work 0)\n")],
+        "x; => fault unknown at 0..1 (work 0)",
     );
     let (Some(first), Some(second)) = (first, second) else {
         panic!(rt; "ann's session is at home");
@@ -173,17 +164,18 @@ fn a_reset_is_a_line(rt: HostRuntime) -> Result<(), Fail> {
     let cleared = closed.house.session(b"ann").map(|ann| ann.cleared());
     let lines = lines_of(&closed.house, b"ann");
     assert!(rt; closed.lines == 4 && cleared == Some(2) && lines == Some(2));
-    Ok(())
 }
 
 // A table of ann and bob whose sessions have other limits.
-fn opened_otherwise(alloc: Global) -> Result<Table, Fail> {
+fn opened_otherwise(alloc: Global) -> Result<Table, AllocError> {
     let names = roster(alloc, "ann bob")?;
     let limits = Limits {
         line_work: 7,
         ..LIMITS
     };
-    Ok(Table::new(alloc, names.as_slice(), limits)?)
+    Table::new(alloc, names.as_slice(), limits)
+        .ok()
+        .ok_or(AllocError)
 }
 
 // What is told of ann's session, which is taken out of one table and put into another.
@@ -193,26 +185,30 @@ fn moved<R: Wait>(rt: &R, from: &Table, to: &Table) -> Option<Receipt> {
 }
 
 #[test]
-fn another_table_has_the_session(rt: HostRuntime) -> Result<(), Fail> {
-    let (here, there) = (opened(rt.alloc())?, opened(rt.alloc())?);
-    let three = said(&rt, rt.alloc(), &there, "ann", &[THREE]);
+fn another_table_has_the_session(rt: HostRuntime) {
+    let (here, there) = (
+        opened(rt.alloc()).expect(&rt, "memory"),
+        opened(rt.alloc()).expect(&rt, "memory"),
+    );
+    let three = said(&rt, rt.alloc(), &there, "ann", THREE);
     let receipt = moved(&rt, &there, &here);
     assert!(rt; three == Some(receipt_of(0, 1)) && receipt == Some(receipt_of(0, 0)));
     let is_away = refusal(&rt, &there, "ann");
-    let it = ("x;", "it = 3 : int (work 1, depth 1)\n");
-    let told = said(&rt, rt.alloc(), &here, "ann", &[it]);
+    let it = "x; => it = 3 : int (work 1, depth 1)";
+    let told = said(&rt, rt.alloc(), &here, "ann", it);
     assert!(rt; is_away == Some(TakeFault::Busy) && told == Some(receipt_of(0, 1)));
-    Ok(())
 }
 
 #[test]
-fn a_session_with_other_limits_is_not_given_out(rt: HostRuntime) -> Result<(), Fail> {
-    let (here, there) = (opened(rt.alloc())?, opened_otherwise(rt.alloc())?);
+fn a_session_with_other_limits_is_not_given_out(rt: HostRuntime) {
+    let (here, there) = (
+        opened(rt.alloc()).expect(&rt, "memory"),
+        opened_otherwise(rt.alloc()).expect(&rt, "memory"),
+    );
     let receipt = moved(&rt, &there, &here);
     let is_away = refusal(&rt, &there, "ann");
     let is_other = refusal(&rt, &here, "ann");
     let is_home = refusal(&rt, &here, "bob");
     assert!(rt; receipt == Some(receipt_of(0, 0)) && is_away == Some(TakeFault::Busy));
     assert!(rt; is_other == Some(TakeFault::Busy) && is_home.is_none());
-    Ok(())
 }

@@ -1,7 +1,7 @@
 //! A house spoken to, in a few lines.
 use crate::granting::Granting;
-use crate::sample::{self, house_of, lines_of, roster};
-use crate::turns::{ORDERS, Talk, are_heard, is_order, said, script};
+use crate::sample::{self, house_of, is_reply, lines_of, roster};
+use crate::turns::{ORDERS, are_heard, is_order, said, script};
 use linked_list_allocator::LocalHeap;
 use nesl_house::house::{House, Said};
 use nesl_house::manner::InHeap;
@@ -11,7 +11,6 @@ use nesl_session::answer::Answer;
 use nesl_session::limits::Limits;
 use nesl_split_helpers::Free;
 use std::alloc::{AllocError, Global};
-use std::test::Fail;
 
 const LIMITS: Limits = Limits {
     line_work: 100,
@@ -57,17 +56,23 @@ fn is_refused(alloc: Global, names: &str, fault: NewFault) -> Result<bool, Alloc
 }
 
 #[test]
-fn rosters_are_checked(rt: HostRuntime) -> Result<(), Fail> {
+fn rosters_are_checked(rt: HostRuntime) {
     let alloc = rt.alloc();
     let first = NewFault::Name { place: 1 };
     assert!(rt; refusal(alloc, &[]) == Some(NewFault::Count));
-    assert!(rt; is_refused(alloc, "ann Ann", first)?);
-    assert!(rt; is_refused(alloc, "ann bob ann", NewFault::Twice { place: 2 })?);
-    assert!(rt; is_refused(alloc, "ann ann Bob", NewFault::Twice { place: 1 })?);
-    assert!(rt; is_refused(alloc, "ann 1a", first)? && is_refused(alloc, "ann ", first)?);
-    assert!(rt; is_refused(alloc, "ann abcdefghijklmnopq", first)?);
+    assert!(rt; is_refused(alloc, "ann Ann", first).expect(&rt, "memory"));
+    assert!(rt;
+        is_refused(alloc, "ann bob ann", NewFault::Twice { place: 2 }).expect(&rt, "memory")
+    );
+    assert!(rt;
+        is_refused(alloc, "ann ann Bob", NewFault::Twice { place: 1 }).expect(&rt, "memory")
+    );
+    assert!(rt;
+        is_refused(alloc, "ann 1a", first).expect(&rt, "memory")
+            && is_refused(alloc, "ann ", first).expect(&rt, "memory")
+    );
+    assert!(rt; is_refused(alloc, "ann abcdefghijklmnopq", first).expect(&rt, "memory"));
     assert!(rt; is_user_name(b"abcdefghijklmnop"));
-    Ok(())
 }
 
 // The names aa, ab, and so on.
@@ -89,20 +94,18 @@ fn all_are_told(alloc: Global, house: &mut House, names: &[Vec<u8>]) -> bool {
 }
 
 #[test]
-fn rosters_are_counted(rt: HostRuntime) -> Result<(), Fail> {
+fn rosters_are_counted(rt: HostRuntime) {
     let alloc = rt.alloc();
-    let names = many_names(alloc, 64)?;
-    let mut house = House::new(alloc, names.as_slice(), LIMITS)?;
+    let names = many_names(alloc, 64).expect(&rt, "memory");
+    let mut house = House::new(alloc, names.as_slice(), LIMITS).expect(&rt, "memory");
     let told = all_are_told(alloc, &mut house, names.as_slice());
     assert!(rt; told && house.users().len() == 64 && all_have_one(&house));
-    Ok(())
 }
 
 #[test]
-fn a_65th_name_is_too_many(rt: HostRuntime) -> Result<(), Fail> {
-    let names = many_names(rt.alloc(), 65)?;
+fn a_65th_name_is_too_many(rt: HostRuntime) {
+    let names = many_names(rt.alloc(), 65).expect(&rt, "memory");
     assert!(rt; refusal(rt.alloc(), names.as_slice()) == Some(NewFault::Count));
-    Ok(())
 }
 
 fn refusal_texts(alloc: Global) -> Result<String, AllocError> {
@@ -119,15 +122,14 @@ fn refusal_texts(alloc: Global) -> Result<String, AllocError> {
 }
 
 #[test]
-fn refusals_have_texts(rt: HostRuntime) -> Result<(), Fail> {
+fn refusals_have_texts(rt: HostRuntime) {
     let wanted = "bad count, bad name at place 1, the name at place 2 stands twice, no memory, ";
-    assert!(rt; refusal_texts(rt.alloc())?.as_str() == wanted);
-    Ok(())
+    assert!(rt; refusal_texts(rt.alloc()).expect(&rt, "memory").as_str() == wanted);
 }
 
 #[test]
-fn users_have_sessions_of_their_own(rt: HostRuntime) -> Result<(), Fail> {
-    let mut house = house_of(rt.alloc(), "ann bob", LIMITS)?;
+fn users_have_sessions_of_their_own(rt: HostRuntime) {
+    let mut house = house_of(rt.alloc(), "ann bob", LIMITS).expect(&rt, "memory");
     let seven = "it = 7 : int (work 1, depth 1)\n";
     let told = is_told(rt.alloc(), &mut house, b"bob", b"7;", seven);
     let ann = lines_of(&house, b"ann");
@@ -135,18 +137,16 @@ fn users_have_sessions_of_their_own(rt: HostRuntime) -> Result<(), Fail> {
     let zed = lines_of(&house, b"zed");
     assert!(rt; told && ann == Some(0) && bob == Some(1) && zed.is_none());
     assert!(rt; lines_of_second(&house, b"bob") == Some(1));
-    Ok(())
 }
 
 #[test]
-fn strangers_have_none(rt: HostRuntime) -> Result<(), Fail> {
+fn strangers_have_none(rt: HostRuntime) {
     let alloc = rt.alloc();
-    let mut house = house_of(alloc, "ann bob", LIMITS)?;
+    let mut house = house_of(alloc, "ann bob", LIMITS).expect(&rt, "memory");
     let first = house.say_in(alloc, b"zed", b"7;", alloc).fault();
     let second = house.say(alloc, b"zed", b"7;");
     let told = second.bytes() == b"fault user\n".as_slice() && !second.recorded();
     assert!(rt; told && first == Some(Fault::User) && second.fault() == Some(Fault::User));
-    Ok(())
 }
 
 // A line of bob, and one of a stranger.
@@ -166,61 +166,55 @@ fn are_answered(answers: &[Answer]) -> bool {
 }
 
 #[test]
-fn lines_are_said_in_a_heap(rt: HostRuntime) -> Result<(), Fail> {
+fn lines_are_said_in_a_heap(rt: HostRuntime) {
     let alloc = rt.alloc();
-    let script = bob_and_a_stranger(alloc)?;
-    let mut house = house_of(alloc, "ann bob", LIMITS)?;
+    let script = bob_and_a_stranger(alloc).expect(&rt, "memory");
+    let mut house = house_of(alloc, "ann bob", LIMITS).expect(&rt, "memory");
     let one = house.say_in(alloc, b"ann", b"1;", alloc).bytes() == ONE.as_bytes();
-    let answers = house.run_by(alloc, &InHeap(alloc), script.as_slice())?;
+    let answers = house
+        .run_by(alloc, &InHeap(alloc), script.as_slice())
+        .expect(&rt, "memory");
     assert!(rt; one && are_answered(answers.as_slice()) && all_have_one(&house));
-    Ok(())
 }
 
-const TOO_SMALL: [(&str, &str); 3] = [
-    ("index(50000);", "fault memory (work 0)\n"),
-    ("1 + 1;", "it = 2 : int (work 3, depth 3)\n"),
-    (
-        ":budget",
-        "budget: work 99999997, elements 1 of 100000, lines 1 of 10000, bytes 6 of 1048576\n",
-    ),
-];
+const TOO_SMALL: &str = "index(50000); => fault memory (work 0)
+1 + 1; => it = 2 : int (work 3, depth 3)
+:budget => budget: work 99999997, elements 1 of 100000, lines 1 of 10000, bytes 6 of 1048576";
 
 #[test]
-fn a_line_may_be_too_large_for_the_heap(rt: HostRuntime) -> Result<(), Fail> {
-    let heap = LocalHeap::new(rt.alloc(), 65_536)?;
-    let mut house = house_of(rt.alloc(), "ann bob", sample::LIMITS)?;
-    for (line, reply) in TOO_SMALL {
+fn a_line_may_be_too_large_for_the_heap(rt: HostRuntime) {
+    let heap = LocalHeap::new(rt.alloc(), 65_536).expect(&rt, "memory");
+    let mut house = house_of(rt.alloc(), "ann bob", sample::LIMITS).expect(&rt, "memory");
+    for row in TOO_SMALL.lines() {
+        let (line, reply) = row.split_once(" => ").unwrap_or((row, ""));
         let answer = house.say_in(rt.alloc(), b"ann", line.as_bytes(), &heap);
-        assert!(rt; answer.bytes() == reply.as_bytes(), "{line}");
+        assert!(rt; is_reply(answer.bytes(), reply), "{line}");
     }
     assert!(rt; lines_of(&house, b"ann") == Some(2) && lines_of(&house, b"bob") == Some(0));
-    Ok(())
 }
 
 #[test]
-fn a_line_is_said_in_halves(rt: HostRuntime) -> Result<(), Fail> {
+fn a_line_is_said_in_halves(rt: HostRuntime) {
     let helpers = Granting::always();
-    let mut house = house_of(rt.alloc(), "ann bob", sample::LIMITS)?;
+    let mut house = house_of(rt.alloc(), "ann bob", sample::LIMITS).expect(&rt, "memory");
     let squares = b"{a * a : a in [1, 2]};";
     let answer = house.say_with(&rt, rt.alloc(), b"bob", squares, &helpers, &Free);
     let told = b"it = [1, 4] : [int] (work 12, depth 7)\n".as_slice();
-    assert!(rt; answer.bytes() == told && answer.recorded() && helpers.are_back());
+    assert!(rt; answer.bytes() == told && answer.recorded() && helpers.have_helped());
     let answer = house.say_with(&rt, rt.alloc(), b"zed", squares, &helpers, &Free);
     assert!(rt; answer.fault() == Some(Fault::User) && lines_of(&house, b"bob") == Some(1));
-    Ok(())
 }
 
 #[test]
-fn a_line_may_be_too_long(rt: HostRuntime) -> Result<(), Fail> {
-    let mut line = Vec::from_slice(rt.alloc(), b"1;")?;
-    line.resize(65_537, b' ')?;
-    let mut house = house_of(rt.alloc(), "ann", LIMITS)?;
+fn a_line_may_be_too_long(rt: HostRuntime) {
+    let mut line = Vec::from_slice(rt.alloc(), b"1;").expect(&rt, "memory");
+    line.resize(65_537, b' ').expect(&rt, "memory");
+    let mut house = house_of(rt.alloc(), "ann", LIMITS).expect(&rt, "memory");
     let long = "fault long (work 0)\n";
     let is_long = is_told(rt.alloc(), &mut house, b"ann", line.as_slice(), long);
     let _ = line.pop();
     let is_one = is_told(rt.alloc(), &mut house, b"ann", line.as_slice(), ONE);
     assert!(rt; is_long && is_one && lines_of(&house, b"ann") == Some(1));
-    Ok(())
 }
 
 const MANY: Limits = Limits {
@@ -241,43 +235,40 @@ fn are_all_answered(alloc: Global, house: &mut House, lines: u32) -> bool {
 
 // No answer is want of memory while there is memory.
 #[test]
-fn a_session_takes_many_lines(rt: HostRuntime) -> Result<(), Fail> {
-    let mut house = house_of(rt.alloc(), "ann", MANY)?;
+fn a_session_takes_many_lines(rt: HostRuntime) {
+    let mut house = house_of(rt.alloc(), "ann", MANY).expect(&rt, "memory");
     let are_answered = are_all_answered(rt.alloc(), &mut house, 3000);
     let full = "fault transcript (work 0)\n";
     assert!(rt; are_answered && is_told(rt.alloc(), &mut house, b"ann", b"1;", full));
-    Ok(())
 }
 
-const ANN: Talk = [
-    ("3;", "it = 3 : int (work 1, depth 1)\n"),
-    ("x", "fault syntax (work 0)\n"),
-    ("4;", "it = 4 : int (work 1, depth 1)\n"),
-];
+const ANN: &str = "3; => it = 3 : int (work 1, depth 1)
+x => fault syntax (work 0)
+4; => it = 4 : int (work 1, depth 1)";
 
-const BOB: Talk = [
-    ("5;", "it = 5 : int (work 1, depth 1)\n"),
-    ("6;", "it = 6 : int (work 1, depth 1)\n"),
-    ("7;", "fault work (work 0)\n"),
-];
+const BOB: &str = "5; => it = 5 : int (work 1, depth 1)
+6; => it = 6 : int (work 1, depth 1)
+7; => fault work (work 0)";
 
 // Whether each hears the replies to their own lines, in this order.
-fn hear_their_own(alloc: Global, order: u8) -> Result<bool, Fail> {
-    let script = script(alloc, &ANN, &BOB, order)?;
+fn hear_their_own(alloc: Global, order: u8) -> Result<bool, AllocError> {
+    let script = script(alloc, ANN, BOB, order)?;
     let mut house = house_of(alloc, "ann bob", LIMITS)?;
     let answers = house.run(alloc, script.as_slice())?;
-    Ok(are_heard(&ANN, &BOB, order, answers.as_slice()))
+    Ok(are_heard(ANN, BOB, order, answers.as_slice()))
 }
 
 #[test]
-fn no_one_hears_who_else_speaks(rt: HostRuntime) -> Result<(), Fail> {
+fn no_one_hears_who_else_speaks(rt: HostRuntime) {
     let mut orders = 0u32;
     for order in 0u8..64 {
         if is_order(order) {
-            assert!(rt; hear_their_own(rt.alloc(), order)?, "in {order}");
+            assert!(rt;
+                hear_their_own(rt.alloc(), order).expect(&rt, "memory"),
+                "in {order}"
+            );
             orders = orders.saturating_add(1);
         }
     }
     assert!(rt; orders == ORDERS);
-    Ok(())
 }

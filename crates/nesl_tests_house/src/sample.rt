@@ -7,9 +7,9 @@ use nesl_session::limits::Limits;
 use nesl_split_helpers::Free;
 use std::alloc::{AllocError, Global};
 use std::sync::Wait;
-use std::test::Fail;
 use std::thread::Threads;
 
+// The limits of the program.
 pub const LIMITS: Limits = Limits {
     line_work: 1_000_000,
     session_work: 100_000_000,
@@ -28,15 +28,19 @@ pub fn roster(alloc: Global, names: &str) -> Result<Vec<Vec<u8>>, AllocError> {
 }
 
 // A table of ann and bob.
-pub fn opened(alloc: Global) -> Result<Table, Fail> {
+pub fn opened(alloc: Global) -> Result<Table, AllocError> {
     let names = roster(alloc, "ann bob")?;
-    Ok(Table::new(alloc, names.as_slice(), LIMITS)?)
+    Table::new(alloc, names.as_slice(), LIMITS)
+        .ok()
+        .ok_or(AllocError)
 }
 
 // A house of these users.
-pub fn house_of(alloc: Global, names: &str, limits: Limits) -> Result<House, Fail> {
+pub fn house_of(alloc: Global, names: &str, limits: Limits) -> Result<House, AllocError> {
     let names = roster(alloc, names)?;
-    Ok(House::new(alloc, names.as_slice(), limits)?)
+    House::new(alloc, names.as_slice(), limits)
+        .ok()
+        .ok_or(AllocError)
 }
 
 // How many lines the user's session stored.
@@ -44,23 +48,29 @@ pub fn lines_of(house: &House, user: &[u8]) -> Option<usize> {
     house.session(user).map(|session| session.lines().len())
 }
 
-// Says lines under one lease, each with the reply that is wanted. There is no receipt where the session is away, or a
-// reply is another.
+// Whether this is the reply that a row `LINE => REPLY` wants.
+pub fn is_reply(bytes: &[u8], reply: &str) -> bool {
+    bytes.strip_suffix(b"\n") == Some(reply.as_bytes())
+}
+
+// Says lines under one lease, each row `LINE => REPLY`. There is no receipt where the session is away, or a reply is
+// another.
 pub fn said<R: Threads + Wait + Sync>(
     rt: &R,
     alloc: Global,
     table: &Table,
     user: &str,
-    lines: &[(&str, &str)],
+    rows: &str,
 ) -> Option<Receipt> {
     let Ok(mut lease) = table.take(rt, user.as_bytes()) else {
         return None;
     };
     let helpers = Granting::always();
     let mut are_answered = true;
-    for (line, reply) in lines {
+    for row in rows.lines() {
+        let (line, reply) = row.split_once(" => ").unwrap_or((row, ""));
         let answer = lease.line_split(rt, alloc, line.as_bytes(), &helpers, &Free);
-        are_answered &= answer.bytes() == reply.as_bytes();
+        are_answered &= is_reply(answer.bytes(), reply);
     }
     let receipt = table.give(rt, lease);
     if are_answered { Some(receipt) } else { None }

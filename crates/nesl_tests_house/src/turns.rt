@@ -1,10 +1,8 @@
 // Two users who say three lines each, in every order.
+use crate::sample::is_reply;
 use nesl_house::house::Said;
 use nesl_session::answer::Answer;
 use std::alloc::{AllocError, Global};
-
-/// Lines, each with its reply.
-pub type Talk = [(&'static str, &'static str); 3];
 
 /// The number of the orders.
 pub const ORDERS: u32 = 20;
@@ -20,25 +18,29 @@ pub fn said(alloc: Global, user: &str, text: &str) -> Result<Said, AllocError> {
     Ok(Said { user, text })
 }
 
-/// What is said, in this order.
-pub fn script(alloc: Global, ann: &Talk, bob: &Talk, order: u8) -> Result<Vec<Said>, AllocError> {
+// The line and the reply of a row `LINE => REPLY`.
+fn parted(row: Option<&str>) -> (&str, &str) {
+    row.unwrap_or("").split_once(" => ").unwrap_or(("", ""))
+}
+
+/// What is said, in this order. A talk has three rows.
+pub fn script(alloc: Global, ann: &str, bob: &str, order: u8) -> Result<Vec<Said>, AllocError> {
     let mut script = Vec::new(alloc);
-    let (mut ann, mut bob) = (ann.iter(), bob.iter());
+    let (mut ann, mut bob) = (ann.lines(), bob.lines());
     for turn in 0..6u32 {
         let (user, next) = if (order >> turn) & 1 == 1 {
             ("ann", ann.next())
         } else {
             ("bob", bob.next())
         };
-        let (line, _) = next.copied().unwrap_or(("", ""));
-        script.push(said(alloc, user, line)?)?;
+        script.push(said(alloc, user, parted(next).0)?)?;
     }
     Ok(script)
 }
 
 /// Whether each hears the replies to their own lines.
-pub fn are_heard(ann: &Talk, bob: &Talk, order: u8, answers: &[Answer]) -> bool {
-    let (mut ann, mut bob, mut turns) = (ann.iter(), bob.iter(), order);
+pub fn are_heard(ann: &str, bob: &str, order: u8, answers: &[Answer]) -> bool {
+    let (mut ann, mut bob, mut turns) = (ann.lines(), bob.lines(), order);
     for answer in answers {
         let next = if turns & 1 == 1 {
             ann.next()
@@ -46,8 +48,7 @@ pub fn are_heard(ann: &Talk, bob: &Talk, order: u8, answers: &[Answer]) -> bool 
             bob.next()
         };
         turns >>= 1;
-        let (_, reply) = next.copied().unwrap_or(("", ""));
-        if answer.bytes() != reply.as_bytes() {
+        if !is_reply(answer.bytes(), parted(next).1) {
             return false;
         }
     }

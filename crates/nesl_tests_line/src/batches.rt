@@ -4,8 +4,7 @@ use nesl_house::house::House;
 use nesl_line::batch::batch;
 use nesl_line::device::{Device, Sink, Source};
 use nesl_line::exchange::{End, Ran};
-use std::alloc::Global;
-use std::test::Fail;
+use std::alloc::{AllocError, Global};
 
 /// What comes of a batch.
 #[derive(Drop)]
@@ -26,7 +25,7 @@ fn of_ann(house: &House) -> (usize, u64) {
 }
 
 /// What comes of a batch that reads the tape and writes on the paper.
-pub fn outcome_of(alloc: Global, tape: Tape<'_>, paper: Paper) -> Result<Outcome, Fail> {
+pub fn outcome_of(alloc: Global, tape: Tape<'_>, paper: Paper) -> Result<Outcome, AllocError> {
     let mut house = house(alloc)?;
     let mut reader = Device::new(tape);
     let mut writer = Device::new(paper);
@@ -45,7 +44,7 @@ pub fn is_answered(
     text: &[u8],
     step: usize,
     (wanted, lines): (&str, u64),
-) -> Result<bool, Fail> {
+) -> Result<bool, AllocError> {
     let outcome = outcome_of(alloc, tape_of(text, step), blank_paper(alloc))?;
     let end = End::Input;
     Ok(outcome.ran == Ran { lines, end } && outcome.paper.bytes.as_slice() == wanted.as_bytes())

@@ -2,8 +2,7 @@
 use crate::batches::{is_answered, outcome_of};
 use crate::devices::{Paper, Tape, blank_paper, paper_of, tape_of};
 use nesl_line::exchange::{End, Ran};
-use std::alloc::Global;
-use std::test::Fail;
+use std::alloc::{AllocError, Global};
 
 /// 36 bytes.
 const SAID: &[u8] = b"user ann\n2 * 3 + 1;\nuser bob\n4 + 5;\n";
@@ -41,20 +40,19 @@ fn answered(len: usize) -> (&'static str, u64) {
 }
 
 #[test]
-fn cut_off_at_every_byte(rt: HostRuntime) -> Result<(), Fail> {
+fn cut_off_at_every_byte(rt: HostRuntime) {
     for len in 0..=SAID.len() {
         let (said, wanted) = (&SAID[..len], answered(len));
-        let bytewise = is_answered(rt.alloc(), said, 1, wanted)?;
+        let bytewise = is_answered(rt.alloc(), said, 1, wanted).expect(&rt, "memory");
         assert!(rt;
-            bytewise && is_answered(rt.alloc(), said, 1000, wanted)?,
+            bytewise && is_answered(rt.alloc(), said, 1000, wanted).expect(&rt, "memory"),
             "{len}"
         );
     }
-    Ok(())
 }
 
 /// Whether so many lines are heard, and so many bytes answered, where the read after so many of one byte fails.
-fn ends_after(alloc: Global, good: u32, (lines, len): (u64, usize)) -> Result<bool, Fail> {
+fn ends_after(alloc: Global, good: u32, (lines, len): (u64, usize)) -> Result<bool, AllocError> {
     let tape = Tape {
         rest: SAID,
         step: 1,
@@ -69,7 +67,7 @@ fn ends_after(alloc: Global, good: u32, (lines, len): (u64, usize)) -> Result<bo
 }
 
 #[test]
-fn a_read_of_one_byte_that_fails(rt: HostRuntime) -> Result<(), Fail> {
+fn a_read_of_one_byte_that_fails(rt: HostRuntime) {
     for good in 0..36u32 {
         // The 20th read is the one that brings the line end of the first sum.
         let wanted = match good {
@@ -78,14 +76,21 @@ fn a_read_of_one_byte_that_fails(rt: HostRuntime) -> Result<(), Fail> {
             20..=28 => (2, 40),
             _ => (3, 49),
         };
-        assert!(rt; ends_after(rt.alloc(), good, wanted)?, "{good}");
+        assert!(rt;
+            ends_after(rt.alloc(), good, wanted).expect(&rt, "memory"),
+            "{good}"
+        );
     }
-    Ok(())
 }
 
 /// Whether the writer ends the batch where it has room for so many bytes: they are written and no more, and a line
 /// whose answer could not be written whole stays recorded.
-fn ends_by_writer(alloc: Global, step: usize, room: usize, stalls: bool) -> Result<bool, Fail> {
+fn ends_by_writer(
+    alloc: Global,
+    step: usize,
+    room: usize,
+    stalls: bool,
+) -> Result<bool, AllocError> {
     let paper = Paper {
         stalls,
         ..paper_of(alloc, step, room)
@@ -109,15 +114,14 @@ fn ends_by_writer(alloc: Global, step: usize, room: usize, stalls: bool) -> Resu
 }
 
 #[test]
-fn a_writer_with_room_for_so_many_bytes(rt: HostRuntime) -> Result<(), Fail> {
+fn a_writer_with_room_for_so_many_bytes(rt: HostRuntime) {
     for room in 0..ANSWERS.len() {
         for step in [1, 1000] {
-            let fails = ends_by_writer(rt.alloc(), step, room, false)?;
+            let fails = ends_by_writer(rt.alloc(), step, room, false).expect(&rt, "memory");
             assert!(rt;
-                fails && ends_by_writer(rt.alloc(), step, room, true)?,
+                fails && ends_by_writer(rt.alloc(), step, room, true).expect(&rt, "memory"),
                 "{room}"
             );
         }
     }
-    Ok(())
 }

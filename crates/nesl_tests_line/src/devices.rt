@@ -5,7 +5,6 @@ use nesl_session::limits::Limits;
 use std::alloc::{AllocError, Global};
 use std::io;
 use std::io::{Read, Write};
-use std::test::Fail;
 
 /// The limits of the program.
 pub const LIMITS: Limits = Limits {
@@ -24,15 +23,19 @@ pub fn roster(alloc: Global) -> Result<Vec<Vec<u8>>, AllocError> {
     Ok(roster)
 }
 
-pub fn house(alloc: Global) -> Result<House, Fail> {
+pub fn house(alloc: Global) -> Result<House, AllocError> {
     let roster = roster(alloc)?;
-    Ok(House::new(alloc, roster.as_slice(), LIMITS)?)
+    House::new(alloc, roster.as_slice(), LIMITS)
+        .ok()
+        .ok_or(AllocError)
 }
 
 /// A table of ann and bob.
-pub fn table(alloc: Global) -> Result<Table, Fail> {
+pub fn table(alloc: Global) -> Result<Table, AllocError> {
     let roster = roster(alloc)?;
-    Ok(Table::new(alloc, roster.as_slice(), LIMITS)?)
+    Table::new(alloc, roster.as_slice(), LIMITS)
+        .ok()
+        .ok_or(AllocError)
 }
 
 /// Gives at most `step` bytes at each read, and fails when `good` reads were made.

@@ -4,21 +4,20 @@ use crate::devices::{Paper, Tape, blank_paper, house, paper_of, tape_of};
 use nesl_line::batch::batch;
 use nesl_line::device::{Device, Failed, Sink, Source};
 use nesl_line::exchange::{End, Ran};
-use std::alloc::Global;
+use std::alloc::{AllocError, Global};
 use std::io;
 use std::io::Read;
-use std::test::Fail;
 
 const NINE: &[u8] = b"user ann\nit = 9 : int (work 1, depth 1)\n";
 
 #[test]
-fn a_read_that_fails_ends_the_batch(rt: HostRuntime) -> Result<(), Fail> {
+fn a_read_that_fails_ends_the_batch(rt: HostRuntime) {
     let tape = Tape {
         rest: b"user ann\n9;\n9",
         step: 13,
         good: 1,
     };
-    let outcome = outcome_of(rt.alloc(), tape, blank_paper(rt.alloc()))?;
+    let outcome = outcome_of(rt.alloc(), tape, blank_paper(rt.alloc())).expect(&rt, "memory");
     let wanted = Ran {
         lines: 2,
         end: End::ReadFault,
@@ -26,11 +25,10 @@ fn a_read_that_fails_ends_the_batch(rt: HostRuntime) -> Result<(), Fail> {
     let (stored, _) = outcome.of_ann;
     assert!(rt; outcome.ran == wanted && outcome.failures == (1, 0));
     assert!(rt; outcome.paper.bytes.as_slice() == NINE && stored == 1);
-    Ok(())
 }
 
 // Whether the batch ends where so many bytes are written. The line whose answer could not be written stays stored.
-fn ends_at(alloc: Global, room: usize, stalls: bool) -> Result<bool, Fail> {
+fn ends_at(alloc: Global, room: usize, stalls: bool) -> Result<bool, AllocError> {
     let paper = Paper {
         stalls,
         ..paper_of(alloc, 4, room)
@@ -50,18 +48,18 @@ fn ends_at(alloc: Global, room: usize, stalls: bool) -> Result<bool, Fail> {
 }
 
 #[test]
-fn a_write_that_fails_ends_the_batch(rt: HostRuntime) -> Result<(), Fail> {
+fn a_write_that_fails_ends_the_batch(rt: HostRuntime) {
     for room in 0..20 {
         assert!(rt;
-            ends_at(rt.alloc(), room, false)? && ends_at(rt.alloc(), room, true)?,
+            ends_at(rt.alloc(), room, false).expect(&rt, "memory")
+                && ends_at(rt.alloc(), room, true).expect(&rt, "memory"),
             "{room}"
         );
     }
-    Ok(())
 }
 
 // Whether the batch ends at the flush after so many.
-fn ends_at_flush(alloc: Global, good_flushes: u32) -> Result<bool, Fail> {
+fn ends_at_flush(alloc: Global, good_flushes: u32) -> Result<bool, AllocError> {
     let paper = Paper {
         good_flushes,
         ..paper_of(alloc, 1000, 1000)
@@ -77,11 +75,13 @@ fn ends_at_flush(alloc: Global, good_flushes: u32) -> Result<bool, Fail> {
 }
 
 #[test]
-fn each_answer_is_flushed(rt: HostRuntime) -> Result<(), Fail> {
+fn each_answer_is_flushed(rt: HostRuntime) {
     for good_flushes in 0..4 {
-        assert!(rt; ends_at_flush(rt.alloc(), good_flushes)?, "{good_flushes}");
+        assert!(rt;
+            ends_at_flush(rt.alloc(), good_flushes).expect(&rt, "memory"),
+            "{good_flushes}"
+        );
     }
-    Ok(())
 }
 
 // Fails once, and then has bytes.
@@ -106,9 +106,9 @@ impl Read for Hiccup<'_> {
 }
 
 #[test]
-fn a_device_tells_each_read_that_failed(rt: HostRuntime) -> Result<(), Fail> {
+fn a_device_tells_each_read_that_failed(rt: HostRuntime) {
     let alloc = rt.alloc();
-    let mut house = house(alloc)?;
+    let mut house = house(alloc).expect(&rt, "memory");
     let mut reader = Device::new(Hiccup {
         rest: b"user ann\n9;\n",
         fails: true,
@@ -128,7 +128,6 @@ fn a_device_tells_each_read_that_failed(rt: HostRuntime) -> Result<(), Fail> {
     let written = writer.into_inner().bytes.len();
     assert!(rt; read == Ok(9) && &chunk[..] == b"user ann\n".as_slice());
     assert!(rt; later == 1 && written == 0);
-    Ok(())
 }
 
 #[test]

@@ -6,7 +6,6 @@ use nesl_line::batch::batch_in;
 use nesl_line::device::Device;
 use nesl_session::limits::Remaining;
 use std::alloc::{AllocError, Global};
-use std::test::Fail;
 
 const MEMORY: &str = "fault memory (work 0)";
 
@@ -45,7 +44,7 @@ fn left_of(house: &House, user: &[u8]) -> Option<Left> {
 }
 
 // What comes of a text in a heap of so many bytes.
-fn told_in(alloc: Global, bytes: usize, said: &str) -> Result<Told, Fail> {
+fn told_in(alloc: Global, bytes: usize, said: &str) -> Result<Told, AllocError> {
     let heap = LocalHeap::new(alloc, bytes)?;
     let before = heap.used();
     let mut house = house(alloc)?;
@@ -67,11 +66,10 @@ budget: work 99999997, elements 1 of 100000, lines 1 of 10000, bytes 6 of 104857
 ";
 
 #[test]
-fn a_line_that_the_heap_is_too_small_for(rt: HostRuntime) -> Result<(), Fail> {
+fn a_line_that_the_heap_is_too_small_for(rt: HostRuntime) {
     let said = "user ann\nindex(50000);\n1 + 1;\n:budget\n";
-    let told = told_in(rt.alloc(), 65_536, said)?;
+    let told = told_in(rt.alloc(), 65_536, said).expect(&rt, "memory");
     assert!(rt; told.text() == TOO_SMALL && told.is_empty);
-    Ok(())
 }
 
 // Lines whose values lie in the heap, and those that look at values of earlier ones.
@@ -154,7 +152,7 @@ fn push_line(text: &mut String, line: &str) -> Result<(), AllocError> {
 
 // Whether the text is answered in a heap of so many bytes, but for the lines that are refused there, as those alone are
 // that were kept, and leaves the sessions as they do.
-fn is_right_in(alloc: Global, bytes: usize) -> Result<bool, Fail> {
+fn is_right_in(alloc: Global, bytes: usize) -> Result<bool, AllocError> {
     let told = told_in(alloc, bytes, SAID)?;
     let (kept, wanted) = kept(alloc, told.text())?;
     let other = told_in(alloc, 65_536, kept.as_str())?;
@@ -163,7 +161,7 @@ fn is_right_in(alloc: Global, bytes: usize) -> Result<bool, Fail> {
 }
 
 // How many lines are refused in a heap of so many bytes.
-fn refused_in(alloc: Global, bytes: usize) -> Result<usize, Fail> {
+fn refused_in(alloc: Global, bytes: usize) -> Result<usize, AllocError> {
     let told = told_in(alloc, bytes, SAID)?;
     Ok(
         told.text()
@@ -174,14 +172,13 @@ fn refused_in(alloc: Global, bytes: usize) -> Result<usize, Fail> {
 }
 
 #[test]
-fn heaps_of_each_size(rt: HostRuntime) -> Result<(), Fail> {
+fn heaps_of_each_size(rt: HostRuntime) {
     for size in 1..=256usize {
         assert!(rt;
-            is_right_in(rt.alloc(), 16 * size)?,
+            is_right_in(rt.alloc(), 16 * size).expect(&rt, "memory"),
             "{size} times 16 bytes"
         );
     }
-    assert!(rt; refused_in(rt.alloc(), 16)? > 0);
-    assert!(rt; refused_in(rt.alloc(), 4096)? == 0);
-    Ok(())
+    assert!(rt; refused_in(rt.alloc(), 16).expect(&rt, "memory") > 0);
+    assert!(rt; refused_in(rt.alloc(), 4096).expect(&rt, "memory") == 0);
 }

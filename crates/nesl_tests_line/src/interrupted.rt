@@ -5,7 +5,6 @@ use nesl_line::device::{Device, Sink, Source};
 use nesl_line::exchange::{End, Ran};
 use std::io;
 use std::io::{Read, Write};
-use std::test::Fail;
 
 // Is interrupted so many times before each call.
 #[derive(Drop)]
@@ -55,9 +54,9 @@ impl Write for Interrupted<Paper> {
 }
 
 #[test]
-fn interrupted_calls_are_made_again(rt: HostRuntime) -> Result<(), Fail> {
+fn interrupted_calls_are_made_again(rt: HostRuntime) {
     for times in [0, 1, 5] {
-        let mut house = house(rt.alloc())?;
+        let mut house = house(rt.alloc()).expect(&rt, "memory");
         let tape = tape_of(b"user ann\n2 * 3 + 1;\nx", 7);
         let mut reader = Device::new(Interrupted::new(tape, times));
         let mut writer = Device::new(Interrupted::new(blank_paper(rt.alloc()), times));
@@ -75,5 +74,4 @@ fn interrupted_calls_are_made_again(rt: HostRuntime) -> Result<(), Fail> {
             "{times}"
         );
     }
-    Ok(())
 }

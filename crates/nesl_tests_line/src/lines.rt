@@ -5,10 +5,14 @@ use nesl_line::batch::batch_in;
 use nesl_line::device::Device;
 use nesl_line::exchange::{End, Ran};
 use std::alloc::{AllocError, Global};
-use std::test::Fail;
 
 // Whether that is answered to the text, however much of it comes at a time.
-fn is_answered_always(alloc: Global, text: &str, wanted: &str, lines: u64) -> Result<bool, Fail> {
+fn is_answered_always(
+    alloc: Global,
+    text: &str,
+    wanted: &str,
+    lines: u64,
+) -> Result<bool, AllocError> {
     let (text, wanted) = (text.as_bytes(), (wanted, lines));
     Ok(
         is_answered(alloc, text, 1, wanted)?
@@ -18,7 +22,7 @@ fn is_answered_always(alloc: Global, text: &str, wanted: &str, lines: u64) -> Re
 }
 
 #[test]
-fn lines_are_answered(rt: HostRuntime) -> Result<(), Fail> {
+fn lines_are_answered(rt: HostRuntime) {
     let rows = [
         ("", "", 0),
         (
@@ -41,17 +45,16 @@ fn lines_are_answered(rt: HostRuntime) -> Result<(), Fail> {
     ];
     for (text, wanted, lines) in rows {
         assert!(rt;
-            is_answered_always(rt.alloc(), text, wanted, lines)?,
+            is_answered_always(rt.alloc(), text, wanted, lines).expect(&rt, "memory"),
             "{text:?}"
         );
     }
-    Ok(())
 }
 
 #[test]
-fn lines_are_answered_in_a_heap(rt: HostRuntime) -> Result<(), Fail> {
+fn lines_are_answered_in_a_heap(rt: HostRuntime) {
     let alloc = rt.alloc();
-    let mut house = house(alloc)?;
+    let mut house = house(alloc).expect(&rt, "memory");
     let mut reader = Device::new(tape_of(b"user ann\n9;\nuser zed", 5));
     let mut writer = Device::new(blank_paper(alloc));
     let ran = batch_in(alloc, &mut reader, &mut writer, &mut house, alloc);
@@ -61,29 +64,30 @@ fn lines_are_answered_in_a_heap(rt: HostRuntime) -> Result<(), Fail> {
     };
     let wanted = b"user ann\nit = 9 : int (work 1, depth 1)\nfault user\n".as_slice();
     assert!(rt; ran == whole && writer.into_inner().bytes.as_slice() == wanted);
-    Ok(())
 }
 
 #[test]
-fn line_ends_of_both_kinds(rt: HostRuntime) -> Result<(), Fail> {
+fn line_ends_of_both_kinds(rt: HostRuntime) {
     let nine = "user ann\nit = 9 : int (work 1, depth 1)\n";
-    assert!(rt; is_answered_always(rt.alloc(), "user ann\r\n9;\r\n", nine, 2)?);
-    assert!(rt; is_answered_always(rt.alloc(), "user ann\n9;\r", nine, 2)?);
-    assert!(rt; is_answered_always(rt.alloc(), "user ann\r", "fault user\n", 1)?);
-    Ok(())
+    assert!(rt;
+        is_answered_always(rt.alloc(), "user ann\r\n9;\r\n", nine, 2).expect(&rt, "memory")
+    );
+    assert!(rt; is_answered_always(rt.alloc(), "user ann\n9;\r", nine, 2).expect(&rt, "memory"));
+    assert!(rt;
+        is_answered_always(rt.alloc(), "user ann\r", "fault user\n", 1).expect(&rt, "memory")
+    );
 }
 
 #[test]
-fn user_lines_that_are_none(rt: HostRuntime) -> Result<(), Fail> {
+fn user_lines_that_are_none(rt: HostRuntime) {
     let first = "user ann\nuser 1a\n9;\n";
     let second = "user ann\nuser abcdefghijklmnopq\n9;\n";
     let faults = "user ann\nfault user\nfault user\n";
-    assert!(rt; is_answered_always(rt.alloc(), first, faults, 3)?);
-    assert!(rt; is_answered_always(rt.alloc(), second, faults, 3)?);
+    assert!(rt; is_answered_always(rt.alloc(), first, faults, 3).expect(&rt, "memory"));
+    assert!(rt; is_answered_always(rt.alloc(), second, faults, 3).expect(&rt, "memory"));
     let third = "user ann\nuser  ann\nuser\nUser ann\n";
     let syntax = "user ann\nfault syntax (work 0)\nfault syntax (work 0)\nfault syntax (work 0)\n";
-    assert!(rt; is_answered_always(rt.alloc(), third, syntax, 4)?);
-    Ok(())
+    assert!(rt; is_answered_always(rt.alloc(), third, syntax, 4).expect(&rt, "memory"));
 }
 
 // A line of ann with so many blanks, and one more line where it ends.
@@ -106,7 +110,7 @@ it = 9 : int (work 1, depth 1)
 ";
 
 // Whether that is answered to such a line, with each end of it. What answers the second line has 31 bytes.
-fn is_cut(alloc: Global, blanks: usize, wanted: &str) -> Result<bool, Fail> {
+fn is_cut(alloc: Global, blanks: usize, wanted: &str) -> Result<bool, AllocError> {
     let feed = long_line(alloc, blanks, "\n")?;
     let both = long_line(alloc, blanks, "\r\n")?;
     let last = long_line(alloc, blanks, "")?;
@@ -119,8 +123,10 @@ fn is_cut(alloc: Global, blanks: usize, wanted: &str) -> Result<bool, Fail> {
 }
 
 #[test]
-fn long_lines_are_cut(rt: HostRuntime) -> Result<(), Fail> {
-    assert!(rt; is_cut(rt.alloc(), 65_534, NINE)?);
-    assert!(rt; is_cut(rt.alloc(), 65_535, LONG)? && is_cut(rt.alloc(), 90_000, LONG)?);
-    Ok(())
+fn long_lines_are_cut(rt: HostRuntime) {
+    assert!(rt; is_cut(rt.alloc(), 65_534, NINE).expect(&rt, "memory"));
+    assert!(rt;
+        is_cut(rt.alloc(), 65_535, LONG).expect(&rt, "memory")
+            && is_cut(rt.alloc(), 90_000, LONG).expect(&rt, "memory")
+    );
 }

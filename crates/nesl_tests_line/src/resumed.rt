@@ -3,9 +3,8 @@ use crate::devices::{blank_paper, table, tape_of};
 use crate::served::served;
 use nesl_house::lease::Receipt;
 use nesl_house::table::{Closed, Table};
-use std::alloc::Global;
+use std::alloc::{AllocError, Global};
 use std::sync::Wait;
-use std::test::Fail;
 use std::thread::Threads;
 
 // A connection: what is said on it, what is answered, and how many lines are recorded.
@@ -35,7 +34,7 @@ fn closed_after<R: Threads + Wait + Sync>(
     alloc: Global,
     first: Visit,
     second: Visit,
-) -> Result<Option<Closed>, Fail> {
+) -> Result<Option<Closed>, AllocError> {
     let table = table(alloc)?;
     let mut receipts = Vec::new(alloc);
     for visit in [first, second] {
@@ -54,7 +53,7 @@ fn lines_of_ann(closed: &Closed) -> Option<(usize, u64)> {
 }
 
 #[test]
-fn a_name_is_bound_on_the_next_connection(rt: HostRuntime) -> Result<(), Fail> {
+fn a_name_is_bound_on_the_next_connection(rt: HostRuntime) {
     let first = (
         "user ann\nx = 3;\n",
         "user ann\nx = 3 : int (work 1, depth 1)\n",
@@ -65,26 +64,28 @@ fn a_name_is_bound_on_the_next_connection(rt: HostRuntime) -> Result<(), Fail> {
         "user ann\nit = 3 : int (work 1, depth 1)\n",
         1,
     );
-    let closed = closed_after(&rt, rt.alloc(), first, second)?.expect(&rt, "all is answered");
+    let closed = closed_after(&rt, rt.alloc(), first, second)
+        .expect(&rt, "memory")
+        .expect(&rt, "all is answered");
     assert!(rt; closed.lines == 2 && lines_of_ann(&closed) == Some((2, 0)));
-    Ok(())
 }
 
 #[test]
-fn a_form_goes_on_on_the_next_connection(rt: HostRuntime) -> Result<(), Fail> {
+fn a_form_goes_on_on_the_next_connection(rt: HostRuntime) {
     let first = ("user ann\n1 +\\\n", "user ann\nmore\n", 1);
     let second = (
         "user ann\n2;\n",
         "user ann\nit = 3 : int (work 3, depth 3)\n",
         1,
     );
-    let closed = closed_after(&rt, rt.alloc(), first, second)?.expect(&rt, "all is answered");
+    let closed = closed_after(&rt, rt.alloc(), first, second)
+        .expect(&rt, "memory")
+        .expect(&rt, "all is answered");
     assert!(rt; closed.lines == 2 && lines_of_ann(&closed) == Some((2, 0)));
-    Ok(())
 }
 
 #[test]
-fn what_a_reset_cleared_is_gone_on_the_next_connection(rt: HostRuntime) -> Result<(), Fail> {
+fn what_a_reset_cleared_is_gone_on_the_next_connection(rt: HostRuntime) {
     let first = (
         "user ann\nx = 3;\n:reset\n4;\n",
         "user ann\nx = 3 : int (work 1, depth 1)\nreset: lines 1\nit = 4 : int (work 1, depth 1)\n",
@@ -95,7 +96,8 @@ fn what_a_reset_cleared_is_gone_on_the_next_connection(rt: HostRuntime) -> Resul
         "user ann\nfault unknown at 0..1 (work 0)\n",
         1,
     );
-    let closed = closed_after(&rt, rt.alloc(), first, second)?.expect(&rt, "all is answered");
+    let closed = closed_after(&rt, rt.alloc(), first, second)
+        .expect(&rt, "memory")
+        .expect(&rt, "all is answered");
     assert!(rt; closed.lines == 4 && lines_of_ann(&closed) == Some((2, 2)));
-    Ok(())
 }

@@ -5,9 +5,8 @@ use nesl_line::device::Device;
 use nesl_line::exchange::End;
 use nesl_line::serve::{Served, serve};
 use nesl_split_helpers::{Free, NoHelpers};
-use std::alloc::Global;
+use std::alloc::{AllocError, Global};
 use std::sync::Wait;
-use std::test::Fail;
 use std::thread::Threads;
 
 /// 36 bytes, of which the third line is no user line to a session.
@@ -67,7 +66,7 @@ fn outcome_of<R: Threads + Wait + Sync>(
     alloc: Global,
     tape: Tape<'_>,
     paper: Paper,
-) -> Result<Outcome, Fail> {
+) -> Result<Outcome, AllocError> {
     let table = table(alloc)?;
     let (answers, ran) = served(rt, alloc, &table, tape, paper);
     Ok(Outcome {
@@ -96,15 +95,16 @@ fn answered(len: usize) -> &'static str {
 }
 
 #[test]
-fn cut_off_at_every_byte(rt: HostRuntime) -> Result<(), Fail> {
+fn cut_off_at_every_byte(rt: HostRuntime) {
     for len in 0..=SAID.len() {
         let tape = tape_of(&SAID[..len], 1);
-        let outcome = outcome_of(&rt, rt.alloc(), tape, blank_paper(rt.alloc()))?;
+        let outcome = outcome_of(&rt, rt.alloc(), tape, blank_paper(rt.alloc())).expect(
+            &rt, "memory",
+        );
         let is_ended = outcome.end == End::Input && outcome.recorded.is_some() == (len >= 8);
         let is_told = outcome.answers.as_slice() == answered(len).as_bytes();
         assert!(rt; is_ended && is_told && outcome.stored.is_some(), "{len}");
     }
-    Ok(())
 }
 
 // How many lines are heard, how many bytes answered, and how many lines stored, where the read after so many fails.
@@ -118,14 +118,16 @@ fn heard(good: u32) -> (u64, usize, u64) {
 }
 
 #[test]
-fn a_read_that_fails_gives_the_lease_back(rt: HostRuntime) -> Result<(), Fail> {
+fn a_read_that_fails_gives_the_lease_back(rt: HostRuntime) {
     for good in 0..36u32 {
         let tape = Tape {
             rest: SAID,
             step: 1,
             good,
         };
-        let outcome = outcome_of(&rt, rt.alloc(), tape, blank_paper(rt.alloc()))?;
+        let outcome = outcome_of(&rt, rt.alloc(), tape, blank_paper(rt.alloc())).expect(
+            &rt, "memory",
+        );
         let (lines, len, stored) = heard(good);
         let is_ended = outcome.lines == lines && outcome.end == End::ReadFault;
         let is_told = Some(outcome.answers.as_slice()) == ANSWERS.as_bytes().get(..len);
@@ -133,7 +135,6 @@ fn a_read_that_fails_gives_the_lease_back(rt: HostRuntime) -> Result<(), Fail> {
         let is_stored = outcome.stored == Some(stored as usize);
         assert!(rt; is_ended && is_told && is_counted && is_stored, "{good}");
     }
-    Ok(())
 }
 
 // Whether the lease goes back where so many bytes are written. The line whose answer could not be written stays stored.
@@ -142,7 +143,7 @@ fn is_given_back<R: Threads + Wait + Sync>(
     alloc: Global,
     room: usize,
     stalls: bool,
-) -> Result<bool, Fail> {
+) -> Result<bool, AllocError> {
     let paper = Paper {
         stalls,
         ..paper_of(alloc, 5, room)
@@ -160,15 +161,14 @@ fn is_given_back<R: Threads + Wait + Sync>(
 }
 
 #[test]
-fn a_write_that_fails_gives_the_lease_back(rt: HostRuntime) -> Result<(), Fail> {
+fn a_write_that_fails_gives_the_lease_back(rt: HostRuntime) {
     for room in 0..ANSWERS.len() {
-        let fails = is_given_back(&rt, rt.alloc(), room, false)?;
+        let fails = is_given_back(&rt, rt.alloc(), room, false).expect(&rt, "memory");
         assert!(rt;
-            fails && is_given_back(&rt, rt.alloc(), room, true)?,
+            fails && is_given_back(&rt, rt.alloc(), room, true).expect(&rt, "memory"),
             "{room}"
         );
     }
-    Ok(())
 }
 
 // Whether this is answered to the first line, and there is no lease.
@@ -190,9 +190,9 @@ fn is_refused<R: Threads + Wait + Sync>(
 }
 
 #[test]
-fn who_is_turned_away(rt: HostRuntime) -> Result<(), Fail> {
+fn who_is_turned_away(rt: HostRuntime) {
     let alloc = rt.alloc();
-    let table = table(alloc)?;
+    let table = table(alloc).expect(&rt, "memory");
     let Ok(lease) = table.take(&rt, b"ann") else {
         panic!(rt; "ann is at home");
     };
@@ -203,5 +203,4 @@ fn who_is_turned_away(rt: HostRuntime) -> Result<(), Fail> {
     table.give(&rt, lease);
     let homes = (stored(&rt, &table, b"ann"), stored(&rt, &table, b"bob"));
     assert!(rt; homes.0.is_some() && homes.1.is_some());
-    Ok(())
 }

@@ -7,7 +7,6 @@ use nesl_split_helpers::{Gate, Helpers, Place};
 use std::io;
 use std::io::Write;
 use std::sync::atomic::{AtomicU64, Ordering};
-use std::test::Fail;
 
 // Grants whatever is asked for.
 #[derive(Clone, Copy)]
@@ -111,8 +110,8 @@ const SAID: &[u8] = b"user ann
 ";
 
 #[test]
-fn a_line_is_entered_before_it_is_evaluated(rt: HostRuntime) -> Result<(), Fail> {
-    let table = table(rt.alloc())?;
+fn a_line_is_entered_before_it_is_evaluated(rt: HostRuntime) {
+    let table = table(rt.alloc()).expect(&rt, "memory");
     let watch = Watch::new();
     let mut reader = Device::new(tape_of(SAID, 1000));
     let mut writer = Device::new(Watched { watch: &watch });
@@ -127,5 +126,4 @@ fn a_line_is_entered_before_it_is_evaluated(rt: HostRuntime) -> Result<(), Fail>
     );
     assert!(rt; served.lines == 5 && served.end == End::Input);
     assert!(rt; watch.counts() == (149, 4, 4, 0));
-    Ok(())
 }

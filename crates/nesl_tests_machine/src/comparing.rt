@@ -1,12 +1,13 @@
-//! Whether the machine tells of an expression what the recursion over code does, in order and in halves.
+//! Whether evaluation in halves tells of an expression what evaluation in order does.
 
-use crate::helping::{Entered, Granting};
-use crate::running::{Limits, bodies_of, ops_of, run_in_halves, run_ops};
+use crate::helping::Granting;
+use crate::running::{Limits, ops_of, run_in_halves};
 use nesl_eval::{Outcome, eval_one};
-use nesl_eval_code::Env;
+use nesl_eval_env::Env;
 use nesl_eval_halves::Crew;
 use nesl_eval_ops::Ops;
 use nesl_split::eval_split;
+use nesl_split_helpers::Free;
 use nesl_syntax_tree::tree::Exp;
 use std::alloc::{AllocError, Global};
 use std::thread::Threads;
@@ -19,9 +20,7 @@ pub const LEVELS: u32 = 1000;
 // An expression is evaluated with each budget below this one, and with those about its whole work.
 const BUDGETS: u64 = 40;
 
-// How many intervals may be cut one within another: as many as there are, or few.
-const MANY: u32 = u32::MAX;
-
+// How many intervals may be cut one within another, where they are few.
 const FEW: u32 = 2;
 
 /// How many expressions were compared, with how many budgets, how often two outcomes were different, and how many
@@ -36,65 +35,45 @@ pub struct Count {
 
 // An expression as all evaluators take it.
 #[derive(Clone, Copy)]
-struct Both<'x, R> {
+struct Asked<'x, R> {
     rt: &'x R,
     alloc: Global,
     env: &'x Env,
-    bodies: &'x [Option<Ops>],
     ops: &'x Ops,
     exp: &'x Exp,
 }
 
-impl<R: Threads + Sync> Both<'_, R> {
-    // Whether the machine and the recursion tell the same.
-    fn agree(&self, levels: u32, fuel: u64) -> bool {
-        let told = run_ops(self.alloc, self.env, self.bodies, self.ops, levels, fuel);
-        is_same(
-            &told,
-            &eval_one(self.alloc, self.env, self.exp, levels, fuel),
-        )
+impl<R: Threads + Sync> Asked<'_, R> {
+    fn in_order(&self, levels: u32, fuel: u64) -> Outcome<Global> {
+        eval_one(self.alloc, self.env, self.exp, levels, fuel)
     }
 
-    // Whether the machine in halves tells the same and gives all helpers back, and how many were granted.
-    fn agree_in_halves(&self, limits: Limits, helpers: &Granting) -> bool {
-        let gate = Entered::new();
-        let told = self.in_halves(limits, helpers, &gate);
-        is_same(
-            &told,
-            &eval_one(self.alloc, self.env, self.exp, limits.levels, limits.fuel),
-        ) && helpers.are_back()
-    }
-
-    // Whether it asks as often as the recursion in halves does, and enters the same halves, where helpers are always
-    // granted.
-    fn ask_alike(&self, levels: u32, fuel: u64) -> bool {
-        let ours = Granting::always();
-        let entered = Entered::new();
-        let cuts = MANY;
-        let told = self.in_halves(Limits { levels, fuel, cuts }, &ours, &entered);
-        let theirs = Granting::always();
-        let gate = Entered::new();
-        let other = eval_split(
-            self.rt, self.alloc, self.env, self.exp, levels, fuel, &theirs, &gate,
+    // Whether halves tell the same with these helpers, and give all of them back.
+    fn agrees(&self, levels: u32, fuel: u64, helpers: &Granting) -> bool {
+        let told = eval_split(
+            self.rt, self.alloc, self.env, self.exp, levels, fuel, helpers, &Free,
         );
-        is_same(&told, &other) && ours.asked() == theirs.asked() && entered.same(&gate)
+        is_same(&told, &self.in_order(levels, fuel)) && helpers.are_back()
     }
 
-    fn in_halves(&self, limits: Limits, helpers: &Granting, gate: &Entered) -> Outcome<Global> {
+    // The same, where few intervals may be cut one within another.
+    fn agrees_with_few_cuts(&self, levels: u32, fuel: u64, helpers: &Granting) -> bool {
         let top_level = self.env.top_level();
         let crew = Crew {
             rt: self.rt,
             helpers,
-            gate,
+            gate: &Free,
             tops: &top_level,
             alloc: self.alloc,
         };
-        run_in_halves(&crew, self.bodies, self.ops, limits)
+        let cuts = FEW;
+        let told = run_in_halves(&crew, self.ops, Limits { levels, fuel, cuts });
+        is_same(&told, &self.in_order(levels, fuel)) && helpers.are_back()
     }
 
     // The whole work, where it is within the budget of a line.
     fn work(&self) -> Option<u64> {
-        match eval_one(self.alloc, self.env, self.exp, LEVELS, WORK) {
+        match self.in_order(LEVELS, WORK) {
             Outcome::Done { work, .. } => Some(work),
             Outcome::Fault { work, .. } => Some(work),
             _ => None,
@@ -110,47 +89,48 @@ pub fn compare<R: Threads + Sync>(
     exp: &Exp,
     count: &mut Count,
 ) -> Result<(), AllocError> {
-    let bodies = bodies_of(alloc, env)?;
     let ops = ops_of(alloc, env, exp)?;
-    let both = Both {
+    let asked = Asked {
         rt,
         alloc,
         env,
-        bodies: &bodies,
         ops: &ops,
         exp,
     };
     count.expressions = count.expressions.saturating_add(1);
     for levels in [LEVELS, 8, 5, 3, 2, 1, 0] {
-        try_all(&both, levels, WORK, count);
+        try_all(&asked, levels, WORK, count);
     }
     for fuel in 0..BUDGETS {
-        try_all(&both, LEVELS, fuel, count);
+        try_all(&asked, LEVELS, fuel, count);
     }
-    if let Some(work) = both.work() {
-        try_all(&both, LEVELS, work.saturating_sub(1), count);
-        try_all(&both, LEVELS, work, count);
+    if let Some(work) = asked.work() {
+        try_all(&asked, LEVELS, work.saturating_sub(1), count);
+        try_all(&asked, LEVELS, work, count);
     }
     Ok(())
 }
 
-// Compares them with so many levels and so much fuel. The number of comparisons so far is the seed.
-fn try_all<R: Threads + Sync>(both: &Both<'_, R>, levels: u32, fuel: u64, count: &mut Count) {
+// Compares them with so many levels and so much fuel: with helpers that are always granted, and with those that are as
+// the seed tells. The seed is the number of comparisons so far.
+fn try_all<R: Threads + Sync>(asked: &Asked<'_, R>, levels: u32, fuel: u64, count: &mut Count) {
     let seed = count.budgets;
-    note(count, both.agree(levels, fuel));
-    for cuts in [MANY, FEW] {
-        let helpers = Granting::seeded(seed);
-        let limits = Limits { levels, fuel, cuts };
-        note(count, both.agree_in_halves(limits, &helpers));
-        count.helpers = count.helpers.saturating_add(helpers.granted());
-    }
-    note(count, both.ask_alike(levels, fuel));
+    let always = Granting::always();
+    let seeded = Granting::seeded(seed);
+    let few = Granting::seeded(seed);
+    count.note(asked.agrees(levels, fuel, &always));
+    count.note(asked.agrees(levels, fuel, &seeded));
+    count.note(asked.agrees_with_few_cuts(levels, fuel, &few));
+    count.helpers = count.helpers.saturating_add(seeded.granted());
 }
 
-fn note(count: &mut Count, agreed: bool) {
-    count.budgets = count.budgets.saturating_add(1);
-    if !agreed {
-        count.differences = count.differences.saturating_add(1);
+impl Count {
+    // Counts a comparison.
+    fn note(&mut self, agreed: bool) {
+        self.budgets = self.budgets.saturating_add(1);
+        if !agreed {
+            self.differences = self.differences.saturating_add(1);
+        }
     }
 }
 

@@ -1,6 +1,6 @@
-//! Helpers that are granted by a rule, and a gate that counts.
+//! Helpers that are granted by a rule.
 
-use nesl_split_helpers::{Gate, Helpers, Place};
+use nesl_split_helpers::Helpers;
 use std::sync::atomic::{AtomicU64, Ordering};
 
 /// A granted helper.
@@ -33,11 +33,6 @@ impl Granting {
             granted: AtomicU64::new(0),
             out: AtomicU64::new(0),
         }
-    }
-
-    /// How many questions there were.
-    pub fn asked(&self) -> u64 {
-        self.asked.load(Ordering::SeqCst)
     }
 
     /// How many were granted.
@@ -83,40 +78,5 @@ impl Helpers for Granting {
     fn done(&self, permit: Leave) {
         let Leave = permit;
         self.out.fetch_sub(1, Ordering::SeqCst);
-    }
-}
-
-/// Counts the halves that are entered, and adds up a number for each.
-#[derive(Drop)]
-pub struct Entered {
-    halves: AtomicU64,
-    places: AtomicU64,
-}
-
-impl Entered {
-    pub fn new() -> Entered {
-        Entered {
-            halves: AtomicU64::new(0),
-            places: AtomicU64::new(0),
-        }
-    }
-
-    /// Whether another gate counted the same.
-    pub fn same(&self, other: &Entered) -> bool {
-        self.halves.load(Ordering::SeqCst) == other.halves.load(Ordering::SeqCst)
-            && self.places.load(Ordering::SeqCst) == other.places.load(Ordering::SeqCst)
-    }
-}
-
-impl Gate for Entered {
-    fn enter(&self, place: Place) {
-        match place {
-            Place::Half(from, to) => {
-                self.halves.fetch_add(1, Ordering::SeqCst);
-                self.places
-                    .fetch_add(mixed(from as u64, to as u64), Ordering::SeqCst);
-            }
-            Place::Line(_) => {}
-        }
     }
 }

@@ -58,7 +58,7 @@ fn second_leaf(ops: &Ops) -> Option<&What> {
     let Ops::Enter { next, .. } = ops else {
         return None;
     };
-    match &**next {
+    match next.ops() {
         Ops::OfLeaves { right, .. } => Some(&right.what),
         _ => None,
     }

@@ -1,8 +1,6 @@
-//! Evaluates lines by the machine and by the recursion over code, and compares what they tell: with the levels of the
-//! program and with few, and with small budgets and those about the whole work. Each time the machine runs in order,
-//! and in halves by helpers that are granted as a seed tells, where few intervals may be cut one within another and
-//! where all may. With helpers that are always granted it is compared with the recursion in halves: how often they ask,
-//! and which halves are entered. A line `@new` forgets what is bound.
+//! Evaluates lines in order and in halves, and compares what they tell: with the levels of the program and with few,
+//! and with small budgets and those about the whole work. Helpers are always granted, or as a seed tells. Then few
+//! intervals may be cut one within another, or all may.
 //! Written are the lines of which they tell different outcomes, and how much was compared. Before the lines, code that
 //! is written by hand is laid out.
 #![tactic(auto)]

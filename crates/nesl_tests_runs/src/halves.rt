@@ -24,7 +24,7 @@ use crate::rows::{Asked, Rows};
 use crate::told::{LEVELS, WORK, is_same, put_outcome};
 use crate::writing::{put, put_done, put_line, put_wrong};
 use nesl_eval::{Outcome, eval_one};
-use nesl_eval_code::Env;
+use nesl_eval_env::Env;
 use nesl_split::eval_split;
 use nesl_split_helpers::{Free, Gate, Helpers, NoHelpers, Pool};
 use nesl_syntax_tree::tree::{Exp, Form};

@@ -2,7 +2,11 @@
 #![tactic(auto)]
 
 #[cfg(test)]
+mod building;
+#[cfg(test)]
 mod chains;
+#[cfg(test)]
+mod desk;
 #[cfg(test)]
 mod faults;
 #[cfg(test)]
@@ -10,14 +14,12 @@ mod made;
 #[cfg(test)]
 mod memory;
 #[cfg(test)]
-mod reading;
-#[cfg(test)]
 mod replies;
 #[cfg(test)]
-mod sample;
-#[cfg(test)]
-mod sequences;
+mod rows;
 #[cfg(test)]
 mod sharing;
+#[cfg(test)]
+mod telling;
 #[cfg(test)]
 mod texts;

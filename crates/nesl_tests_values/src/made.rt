@@ -1,8 +1,6 @@
-//! Types, values and a session that the tests are made on.
+//! Types and a session that the tests are made on.
 use nesl_reply::{Reply, reply_text};
 use nesl_types::{Context, Top, Ty};
-use nesl_values::Value;
-use nesl_values_builder::SequenceBuilder;
 use std::alloc::{AllocError, Global};
 
 fn taken<T>(made: &mut Vec<T>) -> Result<T, AllocError> {
@@ -41,63 +39,6 @@ pub fn type_of(alloc: Global, words: &str) -> Result<Ty, AllocError> {
         types.push(ty)?;
     }
     taken(&mut types)
-}
-
-// The sequence of the two, or of the second alone.
-fn sequence(alloc: Global, first: Option<Value>, second: Value) -> Result<Value, AllocError> {
-    let mut builder = SequenceBuilder::new(alloc);
-    if let Some(first) = first {
-        builder.push(first)?;
-    }
-    builder.push(second)?;
-    builder.finish()
-}
-
-pub fn text(alloc: Global, bytes: &[u8]) -> Result<Value, AllocError> {
-    let mut builder = SequenceBuilder::new(alloc);
-    builder.extend_from_chars(bytes)?;
-    builder.finish()
-}
-
-// A number, or a character by its code.
-fn leaf(word: &str) -> Value {
-    match word.strip_prefix('\'') {
-        Some(code) => Value::Char(code.parse::<u8>().unwrap_or(0)),
-        None => Value::Int(word.parse::<i64>().unwrap_or(0)),
-    }
-}
-
-// The value of a word, made of those before it.
-fn value_by(alloc: Global, word: &str, values: &mut Vec<Value>) -> Result<Value, AllocError> {
-    match word.as_bytes() {
-        [b'T'] => Ok(Value::Bool(true)),
-        [b'F'] => Ok(Value::Bool(false)),
-        [b'e'] => Value::empty(alloc),
-        [b'o'] => sequence(alloc, None, taken(values)?),
-        [b's'] => {
-            let second = taken(values)?;
-            sequence(alloc, Some(taken(values)?), second)
-        }
-        [b'p'] => {
-            let right = taken(values)?;
-            Value::pair(alloc, taken(values)?, right)
-        }
-        [b't', tag] => Value::tagged(alloc, digit(*tag), taken(values)?),
-        [b'"', letters @ ..] => text(alloc, letters),
-        _ => Ok(leaf(word)),
-    }
-}
-
-/// The value of words, each behind what it is made of: `-2` is a number, `T` and `F` are truth values, `'97` is the
-/// character of a code, `"ab` a text, `e` the sequence of nothing, `o` and `s` are those of the value and of the two
-/// before it, `p` is the pair of the two before it, and `t0` the value before it with a tag.
-pub fn value_of(alloc: Global, words: &str) -> Result<Value, AllocError> {
-    let mut values = Vec::new(alloc);
-    for word in words.split(' ') {
-        let value = value_by(alloc, word, &mut values)?;
-        values.push(value)?;
-    }
-    taken(&mut values)
 }
 
 fn add_datatype(

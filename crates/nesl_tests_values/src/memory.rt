@@ -1,5 +1,5 @@
 // Memory that is taken, given back and refused.
-use crate::sample::{doubled, sample};
+use crate::desk::{doubled, sample};
 use linked_list_allocator::LocalHeap;
 use nesl_values::{Element, Value};
 use nesl_values_builder::SequenceBuilder;
@@ -23,7 +23,7 @@ fn copied_into_a_heap(rt: HostRuntime) {
 
 // The bytes of the heap that are in use when a value is made, when it is shared, and when only its twin is left.
 fn used_by_a_shared_value(heap: &LocalHeap) -> Result<(usize, usize, usize), AllocError> {
-    let value = doubled(heap, 60)?;
+    let value = doubled(heap, Value::Int(7), 60)?;
     let made = heap.used();
     let _twin = value.share()?;
     let shared = heap.used();

@@ -1,5 +1,6 @@
 //! The texts of replies.
-use crate::made::{Page, session, type_of, value_of};
+use crate::desk::value_of;
+use crate::made::{Page, session, type_of};
 use nesl_reply::{Reply, Used};
 use nesl_scalars::Cost;
 use nesl_types::{Class, Context, Scheme, Ty};

@@ -1,10 +1,9 @@
 use denote.Param.Send.{sendable}
 use Rattle.std.proofs.Crossing as standard
 use Rattle.std.proofs.MapsCrossing as maps
-use Rattle.nesl_eval_code.proofs.code.Code.TheLaws.TheKnot as code_knot
-use Rattle.nesl_split.proofs.Crosses.{code_sync}
-use Rattle.nesl_split.proofs.Lent.{context_sync}
+use Rattle.nesl_eval_halves.proofs.Crosses.{ops_sync}
+use Rattle.nesl_split.proofs.Lent.{code_sync, context_sync}
 use Rattle.nesl_tests_machine.proofs.running.run_in_halves.Goals as goal
 
 pub evaluate_in_halves-found-requires-sync-T : goal.evaluate_in_halves-found-requires-sync-T
-evaluate_in_halves-found-requires-sync-T g c = λ κs lives. search (sendable, standard.crosses, maps.crosses, code_sync, code_knot.crosses, context_sync) depth 30 fits 100000
+evaluate_in_halves-found-requires-sync-T g c = λ κs lives. search (sendable, standard.crosses, maps.crosses, code_sync, ops_sync, context_sync) depth 30 fits 100000
