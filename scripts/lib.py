@@ -9,6 +9,7 @@ import contextlib
 import functools
 import importlib.machinery
 import importlib.util
+import itertools
 import os
 import re
 import resource
@@ -69,15 +70,17 @@ def crates():
 
 
 def standing(uses):
-    """These crates and those that they stand on, lowest first: each with its line."""
+    """These crates and those of this repository that they stand on, lowest first: each with its line."""
     listed, wanted, found = crates(), list(uses), set()
+    below = {name: line.split(":", 1)[1].split() for name, line in listed.items()}
+    named = {*listed, *itertools.chain(*below.values())}
     while wanted:
         name = wanted.pop()
-        if name not in listed:
+        if name not in named:
             sys.exit(f"crates.txt has no {name}")
-        if name not in found:
+        if name in listed and name not in found:
             found.add(name)
-            wanted += [below for below in listed[name].split(":", 1)[1].split() if below in listed]
+            wanted += below[name]
     return {name: line for name, line in listed.items() if name in found}
 
 
@@ -118,14 +121,16 @@ def written(folder, cases):
     """Writes each case, by its name, as a file of this folder."""
     os.makedirs(folder, exist_ok=True)
     for name, text in cases.items():
-        Path(folder, name).write_text(text, encoding="utf-8")
+        Path(folder, name).write_bytes(text if isinstance(text, bytes) else text.encode())
     return str(folder)
 
 
-def tried(crate, folder, cases):
-    """The lines that the program of a crate prints for each of these texts: it is built once, without a proof."""
+def tried(crate, folder, cases, seconds=60):
+    """The lines that the program of a crate prints for each of these texts, each in so many seconds: it is built once,
+    without a proof."""
     cases = {f"{place:06}": text for place, text in enumerate(cases)}
-    return output(["rt", "try", "--steps", "1", "--cases", written(Path(folder, "cases"), cases)], crate).split("\n")
+    cases = written(Path(folder, "cases"), cases)
+    return output(["rt", "try", "--steps", "1", "--seconds", str(seconds), "--cases", cases], crate).split("\n")
 
 
 class Refusing:
@@ -196,7 +201,7 @@ def stored_rows(part):
 
 
 def missed(lines):
-    """The rows that nesl_tests_runs or nesl_tests_refusals writes as missed, each with the lines that it got as its
+    """The rows that nesl_tests_runs or nesl_tests_talks writes as missed, each with the lines that it got as its
     answer; and the lines that count the rows of each part."""
     rows, counts = [], []
     for line in lines:
