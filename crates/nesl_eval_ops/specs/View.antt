@@ -1,5 +1,6 @@
 -- The blocks that operations are.
 use Rattle.std.specs.Prelude.{◌≡◌, ℕ, List, [], ◌∷◌, map, slice_get, Option, Some, None}
+use Rattle.std.specs.Global.{Box}
 use Rattle.nesl_eval_code.specs.declared.code.Code.{Code}
 use Rattle.nesl_eval_code.specs.Run.{Table, slot_at, function_slot}
 use Rattle.nesl_eval_blocks.specs.Block as block
@@ -75,6 +76,10 @@ block_of (Bind b) = bind b.value
 block_of (Forget m b) = forget m b.value
 block_of (Each s k c b) = each s k (body_block c.value) b.value
 block_of (Filtered s k c d b) = filtered s k (body_block c.value) (body_block d.value) b.value
+
+-- the block in a box
+abbrev pub block_in : Box Block → Block
+block_in b = b.value
 
 -- the bodies that there are are those of the functions
 abbrev pub HasBodies : Table → List (Option Ops) → Type 0

@@ -1,10 +1,14 @@
 //! Code laid out in the order of evaluation.
+//!
+//! It recurs as deep as the code is high. So that a level takes little of the stack, operations are passed in boxes,
+//! and no function that makes some is inlined into those that recur.
 ghost use Rattle.std.specs.Prelude.{◌≡◌, ◌∷◌, ◌≤◌, [], false, IfOk, Some, None, map, suc, option_map, length};
 ghost use Rattle.nesl_eval_blocks.specs.Block.{push, enter, make, call, bind, each, filtered};
-ghost use Rattle.nesl_eval_blocks.specs.Block.{listing, of_one};
+ghost use Rattle.nesl_eval_blocks.specs.Block.{listing, of_one, called_by};
 ghost use Rattle.nesl_eval_blocks.specs.Flat.{local_what, leaf_of, leaves_of, making, pushing, rest};
 ghost use Rattle.nesl_eval_blocks.specs.Flat.{deciding, forgetting, flat, applying, block, place_of, room};
 ghost use Rattle.nesl_eval_ops.specs.View.{what_is, leaf_is, two_is, many_is, callee_is, block_of};
+ghost use Rattle.nesl_eval_ops.specs.View.{block_in};
 ghost use Rattle.nesl_eval_ops.specs.View.{body_block, sizes_of};
 ghost use Rattle.nesl_eval_ops.specs.Lists.{part_on, parts_on, binding_on, IsNoLeaf, EndsAt};
 
@@ -36,7 +40,8 @@ pub fn expression_ops(alloc: Global, code: &Code) -> Result<Ops, AllocError>
         height: 0,
         sizes: &sizes,
     };
-    laid(&at, code, None)
+    let block = laid(&at, code, None)?;
+    Ok(Box::into_inner(block).into_ops())
 }
 
 /// The operations of a function's body, which sees its argument alone.
@@ -50,7 +55,8 @@ pub fn body_ops(alloc: Global, code: &Code) -> Result<Ops, AllocError>
         height: 0,
         sizes: &sizes,
     };
-    laid(&at, code, None)
+    let block = laid(&at, code, None)?;
+    Ok(Box::into_inner(block).into_ops())
 }
 
 fn top<'a>() -> Sizes<'a>
@@ -112,6 +118,7 @@ fn local(at: &Place<'_>, up: usize, index: usize, steps: &[Step]) -> Result<What
 }
 
 /// The leaf that code is, if it is one.
+#[inline(never)]
 fn leaf(at: &Place<'_>, code: &Code) -> Result<Option<Leaf>, AllocError>
     ensures { IfOk result (λ l. option_map leaf_is l ≡ leaf_of (sizes_of at.now.sizes.now) code.now) }
 {
@@ -157,16 +164,6 @@ fn leaf(at: &Place<'_>, code: &Code) -> Result<Option<Leaf>, AllocError>
     }
 }
 
-/// What comes after, or nothing more.
-fn rest(next: Option<Ops>) -> Ops
-    ensures { block_of result ≡ rest (option_map block_of next) }
-{
-    match next {
-        Some(next) => next,
-        None => Ops::Finish,
-    }
-}
-
 fn boxed(alloc: Global, ops: Ops) -> Result<Box<Block>, AllocError>
     ensures { IfOk result (λ b. b.value ≡ block_of ops) }
 {
@@ -174,155 +171,254 @@ fn boxed(alloc: Global, ops: Ops) -> Result<Box<Block>, AllocError>
     Ok(boxed)
 }
 
-fn push(at: &Place<'_>, leaf: Leaf, next: Ops) -> Result<Ops, AllocError>
-    ensures { IfOk result (λ o. block_of o ≡ push at.now.height (leaf_is leaf) (block_of next)) }
+/// What comes after, or nothing more.
+#[inline(never)]
+fn rest(at: &Place<'_>, next: Option<Box<Block>>) -> Result<Box<Block>, AllocError>
+    ensures { IfOk result (λ b. block_in b ≡ rest (option_map block_in next)) }
 {
-    Ok(Ops::Push {
-        height: at.height,
-        leaf,
-        next: boxed(at.alloc, next)?,
-    })
+    match next {
+        Some(next) => Ok(next),
+        None => boxed(at.alloc, Ops::Finish),
+    }
 }
 
-fn enter(at: &Place<'_>, span: Span, next: Ops) -> Result<Ops, AllocError>
-    ensures { IfOk result (λ o. block_of o ≡ enter at.now.height span (block_of next)) }
+#[inline(never)]
+fn push(at: &Place<'_>, leaf: Leaf, next: Box<Block>) -> Result<Box<Block>, AllocError>
+    ensures { IfOk result (λ o. block_in o ≡ push at.now.height (leaf_is leaf) (block_in next)) }
 {
-    Ok(Ops::Enter {
+    let push = Ops::Push {
+        height: at.height,
+        leaf,
+        next,
+    };
+    boxed(at.alloc, push)
+}
+
+#[inline(never)]
+fn enter(at: &Place<'_>, span: Span, next: Box<Block>) -> Result<Box<Block>, AllocError>
+    ensures { IfOk result (λ o. block_in o ≡ enter at.now.height span (block_in next)) }
+{
+    let enter = Ops::Enter {
         height: at.height,
         span,
-        next: boxed(at.alloc, next)?,
-    })
+        next,
+    };
+    boxed(at.alloc, enter)
 }
 
 /// A function of a leaf.
-fn of_leaf(alloc: Global, node: OneNode, leaf: Leaf, next: Ops) -> Result<Ops, AllocError>
-    ensures { IfOk result (λ o. block_of o
-        ≡ make node.height node.span (of_one node.function) 0 (leaf_is leaf ∷ []) (block_of next)) }
+#[inline(never)]
+fn of_leaf(
+    alloc: Global,
+    node: OneNode,
+    leaf: Leaf,
+    next: Box<Block>,
+) -> Result<Box<Block>, AllocError>
+    ensures { IfOk result (λ o. block_in o
+        ≡ make node.height node.span (of_one node.function) 0 (leaf_is leaf ∷ []) (block_in next)) }
 {
-    Ok(Ops::OfLeaf {
-        node,
-        leaf,
-        next: boxed(alloc, next)?,
-    })
+    boxed(alloc, Ops::OfLeaf { node, leaf, next })
 }
 
 /// A function of the value on top.
-fn of_top(alloc: Global, node: OneNode, next: Ops) -> Result<Ops, AllocError>
-    ensures { IfOk result (λ o. block_of o ≡ make node.height node.span (of_one node.function) 1 [] (block_of next)) }
+#[inline(never)]
+fn of_top(alloc: Global, node: OneNode, next: Box<Block>) -> Result<Box<Block>, AllocError>
+    ensures { IfOk result (λ o. block_in o ≡ make node.height node.span (of_one node.function) 1 [] (block_in next)) }
 {
-    Ok(Ops::OfTop {
-        node,
-        next: boxed(alloc, next)?,
-    })
+    boxed(alloc, Ops::OfTop { node, next })
 }
 
 /// A node of the two values on top.
-fn of_tops(alloc: Global, node: TwoNode, next: Ops) -> Result<Ops, AllocError>
-    ensures { IfOk result (λ o. block_of o ≡ make node.height node.span (two_is node.two) 2 [] (block_of next)) }
+#[inline(never)]
+fn of_tops(alloc: Global, node: TwoNode, next: Box<Block>) -> Result<Box<Block>, AllocError>
+    ensures { IfOk result (λ o. block_in o ≡ make node.height node.span (two_is node.two) 2 [] (block_in next)) }
 {
-    Ok(Ops::OfTops {
-        node,
-        next: boxed(alloc, next)?,
-    })
+    boxed(alloc, Ops::OfTops { node, next })
 }
 
 /// A node of the value on top and a leaf.
-fn of_top_and_leaf(alloc: Global, node: TwoNode, right: Leaf, next: Ops) -> Result<Ops, AllocError>
-    ensures { IfOk result (λ o. block_of o
-        ≡ make node.height node.span (two_is node.two) 1 (leaf_is right ∷ []) (block_of next)) }
+#[inline(never)]
+fn of_top_and_leaf(
+    alloc: Global,
+    node: TwoNode,
+    right: Leaf,
+    next: Box<Block>,
+) -> Result<Box<Block>, AllocError>
+    ensures { IfOk result (λ o. block_in o
+        ≡ make node.height node.span (two_is node.two) 1 (leaf_is right ∷ []) (block_in next)) }
 {
-    Ok(Ops::OfTopAndLeaf {
-        node,
-        right,
-        next: boxed(alloc, next)?,
-    })
+    boxed(alloc, Ops::OfTopAndLeaf { node, right, next })
 }
 
 /// A node of two leaves.
+#[inline(never)]
 fn of_leaves(
     alloc: Global,
     node: TwoNode,
     left: Leaf,
     right: Leaf,
-    next: Ops,
-) -> Result<Ops, AllocError>
-    ensures { IfOk result (λ o. block_of o
-        ≡ make node.height node.span (two_is node.two) 0 (leaf_is left ∷ leaf_is right ∷ []) (block_of next)) }
+    next: Box<Block>,
+) -> Result<Box<Block>, AllocError>
+    ensures { IfOk result (λ o. block_in o
+        ≡ make node.height node.span (two_is node.two) 0 (leaf_is left ∷ leaf_is right ∷ []) (block_in next)) }
 {
-    Ok(Ops::OfLeaves {
+    let made = Ops::OfLeaves {
         node,
         left,
         right,
-        next: boxed(alloc, next)?,
-    })
+        next,
+    };
+    boxed(alloc, made)
 }
 
 /// A node of so many values on top and leaves.
+#[inline(never)]
 fn of_many(
     alloc: Global,
     node: ManyNode,
     count: usize,
     leaves: Vec<Leaf>,
-    next: Ops,
-) -> Result<Ops, AllocError>
-    ensures { IfOk result (λ o. block_of o
-        ≡ make node.height node.span (many_is node.many) count (map leaf_is leaves.items) (block_of next)) }
+    next: Box<Block>,
+) -> Result<Box<Block>, AllocError>
+    ensures { IfOk result (λ o. block_in o
+        ≡ make node.height node.span (many_is node.many) count (map leaf_is leaves.items) (block_in next)) }
 {
-    Ok(Ops::OfMany {
+    let made = Ops::OfMany {
         node,
         count,
         leaves,
-        next: boxed(alloc, next)?,
-    })
+        next,
+    };
+    boxed(alloc, made)
 }
 
 /// One of two blocks, and then what comes after.
-fn deciding(at: &Place<'_>, yes: Ops, no: Ops, next: Option<Ops>) -> Result<Ops, AllocError>
-    ensures { IfOk result (λ o. block_of o ≡ deciding (block_of yes) (block_of no) (option_map block_of next)) }
+#[inline(never)]
+fn deciding(
+    at: &Place<'_>,
+    yes: Box<Block>,
+    no: Box<Block>,
+    next: Option<Box<Block>>,
+) -> Result<Box<Block>, AllocError>
+    ensures { IfOk result (λ o. block_in o ≡ deciding (block_in yes) (block_in no) (option_map block_in next)) }
 {
-    let yes = boxed(at.alloc, yes)?;
-    let no = boxed(at.alloc, no)?;
     match next {
-        Some(next) => Ok(Ops::Choose {
-            yes,
-            no,
-            next: boxed(at.alloc, next)?,
-        }),
-        None => Ok(Ops::Last { yes, no }),
+        Some(next) => boxed(at.alloc, Ops::Choose { yes, no, next }),
+        None => boxed(at.alloc, Ops::Last { yes, no }),
     }
 }
 
 /// Behind a `let`: its names are forgotten, where anything comes after.
-fn forgetting(at: &Place<'_>, next: Option<Ops>) -> Result<Option<Ops>, AllocError>
-    ensures { IfOk result (λ o. option_map block_of o
-        ≡ forgetting (room (sizes_of at.now.sizes.now)) (option_map block_of next)) }
+#[inline(never)]
+fn forgetting(at: &Place<'_>, next: Option<Box<Block>>) -> Result<Option<Box<Block>>, AllocError>
+    ensures { IfOk result (λ o. option_map block_in o
+        ≡ forgetting (room (sizes_of at.now.sizes.now)) (option_map block_in next)) }
 {
-    match next {
-        Some(next) => Ok(Some(Ops::Forget {
-            places: room(at.sizes)?,
-            next: boxed(at.alloc, next)?,
-        })),
-        None => Ok(None),
-    }
+    let Some(next) = next else {
+        return Ok(None);
+    };
+    let places = room(at.sizes)?;
+    let forget = boxed(at.alloc, Ops::Forget { places, next })?;
+    Ok(Some(forget))
 }
 
-fn bound(at: &Place<'_>, next: Ops) -> Result<Ops, AllocError>
-    ensures { IfOk result (λ o. block_of o ≡ bind (block_of next)) }
+#[inline(never)]
+fn bound(at: &Place<'_>, next: Box<Block>) -> Result<Box<Block>, AllocError>
+    ensures { IfOk result (λ o. block_in o ≡ bind (block_in next)) }
 {
-    Ok(Ops::Bind {
-        next: boxed(at.alloc, next)?,
-    })
+    boxed(at.alloc, Ops::Bind { next })
+}
+
+/// A name that is called and has no place yet.
+#[inline(never)]
+fn named(at: &Place<'_>, name: &[u8]) -> Result<Callee, AllocError>
+    ensures { IfOk result (λ c. callee_is c ≡ called_by name.now) }
+{
+    let name = Vec::from_slice(at.alloc, name)?;
+    Ok(Callee::Named(name))
+}
+
+/// The operation that calls.
+#[inline(never)]
+fn calling(
+    at: &Place<'_>,
+    span: Span,
+    callee: Callee,
+    next: Box<Block>,
+) -> Result<Box<Block>, AllocError>
+    ensures { IfOk result (λ o. block_in o ≡ call at.now.height span (callee_is callee) (block_in next)) }
+{
+    let call = Ops::Call {
+        height: at.height,
+        span,
+        callee,
+        next,
+    };
+    boxed(at.alloc, call)
+}
+
+/// The operation that takes a body to all places of so many sequences.
+#[inline(never)]
+fn each_of(
+    at: &Place<'_>,
+    span: Span,
+    count: usize,
+    body: Box<Body>,
+    next: Box<Block>,
+) -> Result<Box<Block>, AllocError>
+    ensures { IfOk result (λ o. block_in o ≡ each span count (body_block body.value) (block_in next)) }
+{
+    let each = Ops::Each {
+        span,
+        count,
+        body,
+        next,
+    };
+    boxed(at.alloc, each)
+}
+
+/// The operation that takes a body to the places of so many sequences where a filter holds.
+#[inline(never)]
+fn filtered_of(
+    at: &Place<'_>,
+    span: Span,
+    count: usize,
+    body: Box<Body>,
+    filter: Box<Body>,
+    next: Box<Block>,
+) -> Result<Box<Block>, AllocError>
+    ensures { IfOk result (λ o. block_in o
+        ≡ filtered span count (body_block body.value) (body_block filter.value) (block_in next)) }
+{
+    let each = Ops::Filtered {
+        span,
+        count,
+        body,
+        filter,
+        next,
+    };
+    boxed(at.alloc, each)
+}
+
+/// The operations of code that has no parts, and then those that come after it.
+#[inline(never)]
+fn alone(at: &Place<'_>, code: &Code, next: Option<Box<Block>>) -> Result<Box<Block>, AllocError>
+    ensures { IfOk result (λ o. block_in o
+        ≡ flat at.now.height (sizes_of at.now.sizes.now) code.now (option_map block_in next)) }
+{
+    match leaf(at, code)? {
+        Some(leaf) => push(at, leaf, rest(at, next)?),
+        None => Err(AllocError),
+    }
 }
 
 /// The operations of a node, and then those that come after it. It recurs as deep as the code is high.
 #[cycle(laying)]
-fn laid(at: &Place<'_>, code: &Code, next: Option<Ops>) -> Result<Ops, AllocError>
-    ensures { IfOk result (λ o. block_of o
-        ≡ flat at.now.height (sizes_of at.now.sizes.now) code.now (option_map block_of next)) }
+#[inline(never)]
+fn laid(at: &Place<'_>, code: &Code, next: Option<Box<Block>>) -> Result<Box<Block>, AllocError>
+    ensures { IfOk result (λ o. block_in o
+        ≡ flat at.now.height (sizes_of at.now.sizes.now) code.now (option_map block_in next)) }
 {
-    if let Some(leaf) = leaf(at, code)? {
-        return push(at, leaf, rest(next));
-    }
     let inner = at.above()?;
     match code {
         Code::Pair { span, left, right } => {
@@ -331,7 +427,8 @@ fn laid(at: &Place<'_>, code: &Code, next: Option<Ops>) -> Result<Ops, AllocErro
                 span: *span,
                 two: Two::Pair,
             };
-            let made = of_two(&inner, node, left, right, rest(next))?;
+            let after = rest(at, next)?;
+            let made = of_two(&inner, node, left, right, after)?;
             enter(at, *span, made)
         }
         Code::Apply {
@@ -339,7 +436,8 @@ fn laid(at: &Place<'_>, code: &Code, next: Option<Ops>) -> Result<Ops, AllocErro
             function,
             argument,
         } => {
-            let made = applying(&inner, *span, *function, argument, rest(next))?;
+            let after = rest(at, next)?;
+            let made = applying(&inner, *span, *function, argument, after)?;
             enter(at, *span, made)
         }
         Code::ApplyTwo {
@@ -353,7 +451,8 @@ fn laid(at: &Place<'_>, code: &Code, next: Option<Ops>) -> Result<Ops, AllocErro
                 span: *span,
                 two: Two::Of(*function),
             };
-            let made = of_two(&inner, node, left, right, rest(next))?;
+            let after = rest(at, next)?;
+            let made = of_two(&inner, node, left, right, after)?;
             enter(at, *span, made)
         }
         Code::ApplyThree {
@@ -368,7 +467,8 @@ fn laid(at: &Place<'_>, code: &Code, next: Option<Ops>) -> Result<Ops, AllocErro
                 span: *span,
                 many: Many::OfThree(*function),
             };
-            let made = of_three(&inner, node, first, second, third, rest(next))?;
+            let after = rest(at, next)?;
+            let made = of_three(&inner, node, first, second, third, after)?;
             enter(at, *span, made)
         }
         Code::Call {
@@ -381,8 +481,8 @@ fn laid(at: &Place<'_>, code: &Code, next: Option<Ops>) -> Result<Ops, AllocErro
             name,
             argument,
         } => {
-            let name = Vec::from_slice(at.alloc, name)?;
-            of_call(at, *span, Callee::Named(name), argument, next)
+            let callee = named(at, name)?;
+            of_call(at, *span, callee, argument, next)
         }
         Code::Choice {
             span,
@@ -391,7 +491,8 @@ fn laid(at: &Place<'_>, code: &Code, next: Option<Ops>) -> Result<Ops, AllocErro
             no,
         } => of_choice(at, *span, test, yes, no, next),
         Code::Sequence { span, parts } => {
-            let made = of_sequence(&inner, *span, parts, rest(next))?;
+            let after = rest(at, next)?;
+            let made = of_sequence(&inner, *span, parts, after)?;
             enter(at, *span, made)
         }
         Code::Let {
@@ -413,30 +514,26 @@ fn laid(at: &Place<'_>, code: &Code, next: Option<Ops>) -> Result<Ops, AllocErro
             body,
             filter,
         } => of_filtered(at, *span, sources, body, filter, next),
-        // a leaf, which was laid out above
-        _ => Err(AllocError),
+        _ => alone(at, code, next),
     }
 }
 
 /// A call, whose argument comes before it.
 #[cycle(laying)]
+#[inline(never)]
 fn of_call(
     at: &Place<'_>,
     span: Span,
     callee: Callee,
     argument: &Code,
-    next: Option<Ops>,
-) -> Result<Ops, AllocError>
-    ensures { let h = at.now.height in IfOk result (λ o. block_of o
+    next: Option<Box<Block>>,
+) -> Result<Box<Block>, AllocError>
+    ensures { let h = at.now.height in IfOk result (λ o. block_in o
         ≡ enter h span (flat (suc h) (sizes_of at.now.sizes.now) argument.now
-        (Some (call h span (callee_is callee) (rest (option_map block_of next)))))) }
+        (Some (call h span (callee_is callee) (rest (option_map block_in next)))))) }
 {
-    let call = Ops::Call {
-        height: at.height,
-        span,
-        callee,
-        next: boxed(at.alloc, rest(next))?,
-    };
+    let after = rest(at, next)?;
+    let call = calling(at, span, callee, after)?;
     let inner = at.above()?;
     let made = laid(&inner, argument, Some(call))?;
     enter(at, span, made)
@@ -444,17 +541,18 @@ fn of_call(
 
 /// A choice, whose test comes before it.
 #[cycle(laying)]
+#[inline(never)]
 fn of_choice(
     at: &Place<'_>,
     span: Span,
     test: &Code,
     yes: &Code,
     no: &Code,
-    next: Option<Ops>,
-) -> Result<Ops, AllocError>
-    ensures { let h = at.now.height in let ks = sizes_of at.now.sizes.now in IfOk result (λ o. block_of o
+    next: Option<Box<Block>>,
+) -> Result<Box<Block>, AllocError>
+    ensures { let h = at.now.height in let ks = sizes_of at.now.sizes.now in IfOk result (λ o. block_in o
         ≡ enter h span (flat (suc h) ks test.now (Some (deciding (flat (suc h) ks yes.now None)
-        (flat (suc h) ks no.now None) (option_map block_of next))))) }
+        (flat (suc h) ks no.now None) (option_map block_in next))))) }
 {
     let inner = at.above()?;
     let yes = laid(&inner, yes, None)?;
@@ -466,63 +564,62 @@ fn of_choice(
 
 /// An apply-to-each, whose sequences come before it.
 #[cycle(laying)]
+#[inline(never)]
 fn of_each(
     at: &Place<'_>,
     span: Span,
     sources: &[Code],
     body: &Code,
-    next: Option<Ops>,
-) -> Result<Ops, AllocError>
+    next: Option<Box<Block>>,
+) -> Result<Box<Block>, AllocError>
     ensures { let h = at.now.height in let ks = sizes_of at.now.sizes.now in let n = length sources.now in
-        IfOk result (λ o. block_of o ≡ enter h span (pushing (parts_on (suc h) ks sources.now)
-        (each span n (flat (suc h) (n ∷ ks) body.now None) (rest (option_map block_of next))))) }
+        IfOk result (λ o. block_in o ≡ enter h span (pushing (parts_on (suc h) ks sources.now)
+        (each span n (flat (suc h) (n ∷ ks) body.now None) (rest (option_map block_in next))))) }
 {
     let inner = at.above()?;
     let body = each_body(&inner, sources.len(), body)?;
-    let each = Ops::Each {
-        span,
-        count: sources.len(),
-        body: Box::new(at.alloc, body)?,
-        next: boxed(at.alloc, rest(next))?,
-    };
+    let after = rest(at, next)?;
+    let each = each_of(at, span, sources.len(), body, after)?;
     let made = pushed(&inner, sources, each)?;
     enter(at, span, made)
 }
 
 /// An apply-to-each with a filter, whose sequences come before it.
 #[cycle(laying)]
+#[inline(never)]
 fn of_filtered(
     at: &Place<'_>,
     span: Span,
     sources: &[Code],
     body: &Code,
     filter: &Code,
-    next: Option<Ops>,
-) -> Result<Ops, AllocError>
+    next: Option<Box<Block>>,
+) -> Result<Box<Block>, AllocError>
     ensures { let h = at.now.height in let ks = sizes_of at.now.sizes.now in let n = length sources.now in
-        IfOk result (λ o. block_of o ≡ enter h span (pushing (parts_on (suc h) ks sources.now)
+        IfOk result (λ o. block_in o ≡ enter h span (pushing (parts_on (suc h) ks sources.now)
         (filtered span n (flat (suc h) (n ∷ ks) body.now None) (flat (suc h) (n ∷ ks) filter.now None)
-        (rest (option_map block_of next))))) }
+        (rest (option_map block_in next))))) }
 {
     let inner = at.above()?;
     let body = each_body(&inner, sources.len(), body)?;
     let filter = each_body(&inner, sources.len(), filter)?;
-    let each = Ops::Filtered {
-        span,
-        count: sources.len(),
-        body: Box::new(at.alloc, body)?,
-        filter: Box::new(at.alloc, filter)?,
-        next: boxed(at.alloc, rest(next))?,
-    };
+    let after = rest(at, next)?;
+    let each = filtered_of(at, span, sources.len(), body, filter, after)?;
     let made = pushed(&inner, sources, each)?;
     enter(at, span, made)
 }
 
 /// The operations of code inside one more frame of so many values.
 #[cycle(laying)]
-fn inside(at: &Place<'_>, size: usize, code: &Code, next: Option<Ops>) -> Result<Ops, AllocError>
-    ensures { IfOk result (λ o. block_of o
-        ≡ flat at.now.height (size ∷ sizes_of at.now.sizes.now) code.now (option_map block_of next)) }
+#[inline(never)]
+fn inside(
+    at: &Place<'_>,
+    size: usize,
+    code: &Code,
+    next: Option<Box<Block>>,
+) -> Result<Box<Block>, AllocError>
+    ensures { IfOk result (λ o. block_in o
+        ≡ flat at.now.height (size ∷ sizes_of at.now.sizes.now) code.now (option_map block_in next)) }
 {
     let sizes = within(size, at.sizes);
     let inner = Place {
@@ -535,8 +632,9 @@ fn inside(at: &Place<'_>, size: usize, code: &Code, next: Option<Ops>) -> Result
 
 /// The body or the filter of an apply-to-each of so many sequences.
 #[cycle(laying)]
-fn each_body(at: &Place<'_>, count: usize, code: &Code) -> Result<Body, AllocError>
-    ensures { IfOk result (λ b. body_block b
+#[inline(never)]
+fn each_body(at: &Place<'_>, count: usize, code: &Code) -> Result<Box<Body>, AllocError>
+    ensures { IfOk result (λ b. body_block b.value
         ≡ flat at.now.height (count ∷ sizes_of at.now.sizes.now) code.now None) }
 {
     let sizes = within(count, at.sizes);
@@ -550,36 +648,43 @@ fn each_body(at: &Place<'_>, count: usize, code: &Code) -> Result<Body, AllocErr
 }
 
 /// Operations with the code that they are laid from, if it may have columns and the frames round it are few.
-fn kept(at: &Place<'_>, ops: Ops, code: &Code) -> Result<Body, AllocError>
-    requires { block_of ops ≡ flat at.now.height (sizes_of at.now.sizes.now) code.now None }
-    ensures { IfOk result (λ b. body_block b ≡ flat at.now.height (sizes_of at.now.sizes.now) code.now None) }
+#[inline(never)]
+fn kept(at: &Place<'_>, ops: Box<Block>, code: &Code) -> Result<Box<Body>, AllocError>
+    requires { block_in ops ≡ flat at.now.height (sizes_of at.now.sizes.now) code.now None }
+    ensures { IfOk result (λ b. body_block b.value ≡ flat at.now.height (sizes_of at.now.sizes.now) code.now None) }
 {
+    let block = Box::into_inner(ops);
     let Some(code) = copy_plain(at.alloc, code)? else {
-        return Ok(Body::Any(Block::new(ops)));
+        let body = Box::new(at.alloc, Body::Any(block))?;
+        return Ok(body);
     };
     let Some(sizes) = list_of(at.alloc, at.sizes)? else {
-        return Ok(Body::Any(Block::new(ops)));
+        let body = Box::new(at.alloc, Body::Any(block))?;
+        return Ok(body);
     };
-    Ok(Body::Plain(Plain {
-        ops,
+    let plain = Plain {
+        ops: block.into_ops(),
         height: at.height,
         sizes,
         code,
-    }))
+    };
+    let body = Box::new(at.alloc, Body::Plain(plain))?;
+    Ok(body)
 }
 
 /// A node of two parts.
 #[cycle(laying)]
+#[inline(never)]
 fn of_two(
     at: &Place<'_>,
     node: TwoNode,
     left: &Code,
     right: &Code,
-    next: Ops,
-) -> Result<Ops, AllocError>
-    ensures { let h = at.now.height in let ks = sizes_of at.now.sizes.now in IfOk result (λ o. block_of o
+    next: Box<Block>,
+) -> Result<Box<Block>, AllocError>
+    ensures { let h = at.now.height in let ks = sizes_of at.now.sizes.now in IfOk result (λ o. block_in o
         ≡ making node.height node.span (two_is node.two) 0 (part_on h ks left.now ∷ part_on h ks right.now ∷ [])
-        (block_of next)) }
+        (block_in next)) }
 {
     let Some(second) = leaf(at, right)? else {
         let tops = of_tops(at.alloc, node, next)?;
@@ -597,17 +702,18 @@ fn of_two(
 
 /// A node of three parts.
 #[cycle(laying)]
+#[inline(never)]
 fn of_three(
     at: &Place<'_>,
     node: ManyNode,
     first: &Code,
     second: &Code,
     third: &Code,
-    next: Ops,
-) -> Result<Ops, AllocError>
-    ensures { let h = at.now.height in let ks = sizes_of at.now.sizes.now in IfOk result (λ o. block_of o
+    next: Box<Block>,
+) -> Result<Box<Block>, AllocError>
+    ensures { let h = at.now.height in let ks = sizes_of at.now.sizes.now in IfOk result (λ o. block_in o
         ≡ making node.height node.span (many_is node.many) 0
-        (part_on h ks first.now ∷ part_on h ks second.now ∷ part_on h ks third.now ∷ []) (block_of next)) }
+        (part_on h ks first.now ∷ part_on h ks second.now ∷ part_on h ks third.now ∷ []) (block_in next)) }
 {
     let Some(last) = leaf(at, third)? else {
         let tops = of_many(at.alloc, node, 3, Vec::new(at.alloc), next)?;
@@ -634,6 +740,7 @@ fn of_three(
     }
 }
 
+#[inline(never)]
 fn leaf_alone(at: &Place<'_>, leaf: Leaf) -> Result<Vec<Leaf>, AllocError>
     ensures { IfOk result (λ ls. map leaf_is ls.items ≡ leaf_is leaf ∷ []) }
 {
@@ -642,6 +749,7 @@ fn leaf_alone(at: &Place<'_>, leaf: Leaf) -> Result<Vec<Leaf>, AllocError>
     Ok(leaves)
 }
 
+#[inline(never)]
 fn two_leaves(at: &Place<'_>, first: Leaf, second: Leaf) -> Result<Vec<Leaf>, AllocError>
     ensures { IfOk result (λ ls. map leaf_is ls.items ≡ leaf_is first ∷ leaf_is second ∷ []) }
 {
@@ -651,6 +759,7 @@ fn two_leaves(at: &Place<'_>, first: Leaf, second: Leaf) -> Result<Vec<Leaf>, Al
     Ok(leaves)
 }
 
+#[inline(never)]
 fn three_leaves(
     at: &Place<'_>,
     first: Leaf,
@@ -668,15 +777,16 @@ fn three_leaves(
 
 /// A function of one value. It is not built where it is a pair that is written out.
 #[cycle(laying)]
+#[inline(never)]
 fn applying(
     at: &Place<'_>,
     span: Span,
     function: Builtin,
     argument: &Code,
-    next: Ops,
-) -> Result<Ops, AllocError>
-    ensures { let h = at.now.height in let ks = sizes_of at.now.sizes.now in IfOk result (λ o. block_of o
-        ≡ applying h ks span function (λ b. flat h ks argument.now (Some b)) argument.now (block_of next)) }
+    next: Box<Block>,
+) -> Result<Box<Block>, AllocError>
+    ensures { let h = at.now.height in let ks = sizes_of at.now.sizes.now in IfOk result (λ o. block_in o
+        ≡ applying h ks span function (λ b. flat h ks argument.now (Some b)) argument.now (block_in next)) }
 {
     match argument {
         Code::Pair {
@@ -725,6 +835,7 @@ fn with_parts(codes: &[Code]) -> usize
 }
 
 /// The leaves that codes are.
+#[inline(never)]
 fn leaves(at: &Place<'_>, codes: &[Code]) -> Result<Vec<Leaf>, AllocError>
     ensures { let h = at.now.height in let ks = sizes_of at.now.sizes.now in IfOk result (λ ls.
         leaves_of (parts_on h ks codes.now) ≡ Some (map leaf_is ls.items)) }
@@ -741,9 +852,15 @@ fn leaves(at: &Place<'_>, codes: &[Code]) -> Result<Vec<Leaf>, AllocError>
 
 /// A sequence of parts.
 #[cycle(laying)]
-fn of_sequence(at: &Place<'_>, span: Span, codes: &[Code], next: Ops) -> Result<Ops, AllocError>
-    ensures { let h = at.now.height in let ks = sizes_of at.now.sizes.now in IfOk result (λ o. block_of o
-        ≡ making h span listing 0 (parts_on h ks codes.now) (block_of next)) }
+#[inline(never)]
+fn of_sequence(
+    at: &Place<'_>,
+    span: Span,
+    codes: &[Code],
+    next: Box<Block>,
+) -> Result<Box<Block>, AllocError>
+    ensures { let h = at.now.height in let ks = sizes_of at.now.sizes.now in IfOk result (λ o. block_in o
+        ≡ making h span listing 0 (parts_on h ks codes.now) (block_in next)) }
 {
     let count = with_parts(codes);
     let leaves = leaves(at, &codes[count..])?;
@@ -758,9 +875,10 @@ fn of_sequence(at: &Place<'_>, span: Span, codes: &[Code], next: Ops) -> Result<
 
 /// All parts one after the other, and then what comes after.
 #[cycle(laying)]
-fn pushed(at: &Place<'_>, codes: &[Code], next: Ops) -> Result<Ops, AllocError>
-    ensures { let h = at.now.height in let ks = sizes_of at.now.sizes.now in IfOk result (λ o. block_of o
-        ≡ pushing (parts_on h ks codes.now) (block_of next)) }
+#[inline(never)]
+fn pushed(at: &Place<'_>, codes: &[Code], next: Box<Block>) -> Result<Box<Block>, AllocError>
+    ensures { let h = at.now.height in let ks = sizes_of at.now.sizes.now in IfOk result (λ o. block_in o
+        ≡ pushing (parts_on h ks codes.now) (block_in next)) }
 {
     let mut made = next;
     for turn in 0..codes.len() {
@@ -772,15 +890,16 @@ fn pushed(at: &Place<'_>, codes: &[Code], next: Ops) -> Result<Ops, AllocError>
 
 /// The bindings of a `let`, each of which sees those before it, and its body.
 #[cycle(laying)]
+#[inline(never)]
 fn of_let(
     at: &Place<'_>,
     bindings: &[Code],
     body: &Code,
-    next: Option<Ops>,
-) -> Result<Ops, AllocError>
-    ensures { let h = at.now.height in let ks = sizes_of at.now.sizes.now in IfOk result (λ o. block_of o
+    next: Option<Box<Block>>,
+) -> Result<Box<Block>, AllocError>
+    ensures { let h = at.now.height in let ks = sizes_of at.now.sizes.now in IfOk result (λ o. block_in o
         ≡ binding_on h ks 0 bindings.now
-        (λ k. flat h (k ∷ ks) body.now (forgetting (room ks) (option_map block_of next)))) }
+        (λ k. flat h (k ∷ ks) body.now (forgetting (room ks) (option_map block_in next)))) }
 {
     let after = forgetting(at, next)?;
     let mut made = inside(at, bindings.len(), body, after)?;

@@ -134,7 +134,7 @@ impl Block {
     }
 
     #[tactic(auto, using(crate::proofs::Falling::falls))]
-    fn into_ops(self) -> Ops
+    pub(crate) fn into_ops(self) -> Ops
         ensures is { block_of result ≡ self }
         ensures lower { deep-Ops result ≤ weight self }
     {

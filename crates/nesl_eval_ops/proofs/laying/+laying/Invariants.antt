@@ -1,7 +1,7 @@
 use Rattle.std.proofs.Common.{◌≡◌, ◌+◌, ◌*◌, ◌-◌, ◌^◌, ◌∷◌, drop, length}
 use Rattle.std.specs.Prelude.{option_map}
 use Rattle.nesl_eval_blocks.specs.Flat.{pushing, flat, forgetting, room}
-use Rattle.nesl_eval_ops.specs.View.{block_of, sizes_of}
+use Rattle.nesl_eval_ops.specs.View.{block_in, sizes_of}
 use Rattle.nesl_eval_ops.specs.Lists.{parts_on, binding_on}
 use Rattle.nesl_eval_ops.proofs.laying.+laying.Given as goal
 
@@ -46,11 +46,11 @@ decreases-of_let l = (2 ^ 32 - l.at.now.height) * 4 + 6
 
 abbrev pub invariant-pushed-loop-turn : goal.invariant-pushed-loop-turn
 invariant-pushed-loop-turn l =
-    block_of l.made ≡ pushing (parts_on l.at.height (sizes_of l.at.sizes.now) (drop (length l.codes - l.turn) l.codes)) (block_of l.fn.next)
+    block_in l.made ≡ pushing (parts_on l.at.height (sizes_of l.at.sizes.now) (drop (length l.codes - l.turn) l.codes)) (block_in l.fn.next)
 
 abbrev pub invariant-of_let-loop-turn : goal.invariant-of_let-loop-turn
 invariant-of_let-loop-turn l =
     let h = l.at.height in
     let ks = sizes_of l.at.sizes.now in
-    block_of l.made ≡ binding_on h ks (length l.bindings - l.turn) (drop (length l.bindings - l.turn) l.bindings)
-    (λ k. flat h (k ∷ ks) l.body (forgetting (room ks) (option_map block_of l.fn.next)))
+    block_in l.made ≡ binding_on h ks (length l.bindings - l.turn) (drop (length l.bindings - l.turn) l.bindings)
+    (λ k. flat h (k ∷ ks) l.body (forgetting (room ks) (option_map block_in l.fn.next)))
