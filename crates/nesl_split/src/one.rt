@@ -9,17 +9,39 @@ ghost use Rattle.nesl_eval.specs.Outcomes.{OutcomeIs};
 
 use nesl_eval::{Outcome, outcome_of};
 use nesl_eval_code::runs_as_meant;
-use nesl_eval_env::{Env, prepare};
+use nesl_eval_env::{Env, TopLevel, prepare};
 use nesl_eval_halves::{Crew, evaluate_in_halves};
+use nesl_eval_nodes::held::{Held, Tops};
 use nesl_eval_ops::expression_ops;
 use nesl_split_helpers::{Gate, Helpers};
 use nesl_syntax_tree::tree::Exp;
-use std::alloc::Global;
+use std::alloc::{AllocError, Global};
 use std::thread::Threads;
 
 // An interval is cut wherever a helper is granted. Each cut keeps its helper until both halves have ended, so no more
 // cuts stand one within another than there are helpers.
 const CUTS: u32 = u32::MAX;
+
+// The top level as an evaluation in halves sees it. It is a type of its own, so that what a machine does at each step
+// is compiled once for that and once for an evaluation in order: where the two share it, it is inlined into neither.
+#[derive(Drop)]
+struct Shared<'a> {
+    top_level: TopLevel<'a>,
+}
+
+impl Tops<Global> for Shared<'_> {
+    ghost use Rattle.nesl_eval_env.specs.TopLevels.{table_in};
+
+    ghost table = { λ s. table_in s.top_level };
+
+    fn held(&self, place: usize) -> Result<Held<'_, Global>, AllocError> {
+        Tops::held(&self.top_level, place)
+    }
+
+    fn place_of(&self, name: &[u8]) -> Option<usize> {
+        Tops::<Global>::place_of(&self.top_level, name)
+    }
+}
 
 /// What `eval_one` tells, for every answer of the helpers.
 pub fn eval_split<R: Threads + Sync, H: Helpers + Sync, G: Gate + Sync>(
@@ -42,7 +64,8 @@ pub fn eval_split<R: Threads + Sync, H: Helpers + Sync, G: Gate + Sync>(
     let Ok(ops) = expression_ops(alloc, &code) else {
         return Outcome::Memory;
     };
-    let tops = env.top_level();
+    let top_level = env.top_level();
+    let tops = Shared { top_level };
     let crew = Crew {
         rt: &*rt,
         helpers: &*helpers,
@@ -50,6 +73,6 @@ pub fn eval_split<R: Threads + Sync, H: Helpers + Sync, G: Gate + Sync>(
         tops: &tops,
         alloc,
     };
-    let (found, meter) = evaluate_in_halves(tops.bodies(), &ops, levels, fuel, CUTS, &crew);
+    let (found, meter) = evaluate_in_halves(top_level.bodies(), &ops, levels, fuel, CUTS, &crew);
     outcome_of(found, fuel, meter)
 }

@@ -17,7 +17,7 @@ evaluate_in_halves-found-requires-sync-T g c = λ κs lives. search (sendable, s
 
 pub returns : goal.returns
 returns g c =
-    let tops = c.top_level-tops in
+    let tops = c.top_level-top_level in
     let code = c.in-Ok in
     let found = c.evaluate_in_halves-found in
     let told = c.outcome_of.ensures (run c.args.levels (table_in tops.result) [] code.code)
