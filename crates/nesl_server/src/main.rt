@@ -37,8 +37,8 @@ use std::{env, thread};
 const ANSWER_BYTES: usize = 8192;
 
 /// The bytes of the stack that a batch is evaluated on. What recurs goes over trees at most 100 high, and takes at most
-/// 16 KiB of it for each level. An evaluation takes no stack for calls.
-const STACK_BYTES: usize = 4_194_304;
+/// 3 KiB of it for each level. An evaluation takes no stack for calls.
+const STACK_BYTES: usize = 1_048_576;
 
 fn main(rt: HostRuntime) -> ExitCode {
     if fill_standard(&rt).is_err() {
