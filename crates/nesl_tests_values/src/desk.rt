@@ -123,7 +123,7 @@ impl Desk {
             b'T' | b'F' | b'\'' | b'e' | b'i' | b'b' | b'c' => {
                 self.push(made(self.alloc, letter, rest))
             }
-            b'p' | b't' | b's' | b'D' => self.make(letter, number_of(rest)),
+            b'p' | b't' | b's' | b'd' => self.make(letter, number_of(rest)),
             b'y' | b'k' | b'@' | b'^' => self.make_beside(letter, number_of(rest) as usize),
             b'!' => self.refuse(rest, text),
             b'x' | b'w' | b'>' | b'<' => self.turn(letter, text),

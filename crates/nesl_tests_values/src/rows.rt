@@ -5,7 +5,7 @@
 //! - `-2` is a number, `T` and `F` are truth values, and `'97` is the character of a code;
 //! - `i1,-2`, `bTF` and `cab` are packed numbers, truth values and characters, and `e` is the sequence of nothing;
 //! - `p` and `s` are the pair and the sequence of the last two values, and `t7` is the last one with a tag;
-//! - `D40` is the pair of the last one with itself, and so on, 40 times;
+//! - `d40` is the pair of the last one with itself, and so on, 40 times;
 //! - `y` shares the last one and `k` copies it; `@2` shares the element at a place of it, and `^2` the item there;
 //! - `x` drops the last one, and `w` changes its place with the one before it;
 //! - `>` puts the two parts of a pair in its place, and `<` what stands behind a tag, which it tells.
@@ -22,7 +22,7 @@
 //! - `#` its nodes, and `#18` these up to a limit;
 //! - `?` what is read of it and its shape, and `/` how many items it has, and of which kind;
 //! - `=` whether it is the same as the one before it, by each way to compare them;
-//! - `!t7` or `!D1` whether such a value is refused.
+//! - `!t7` or `!d1` whether such a value is refused.
 
 use crate::desk::Desk;
 use std::alloc::{AllocError, Global};
@@ -50,9 +50,9 @@ c # ? / k = x e = x 1 2 s = => 1 sequence 0 [0] 0 chars true true false
 [ 1 l [ 2 l + ] [ 1 l x [ 2 l x + [ & + [ 3 l x + ] / # @1 ? x @3 ? => 4 values 7 int 2 2 int 3 3
 i3,-4,5 -1 cab p T '122 p bTF p s t7 p [ & % ] [ |0.2 ~0.2 ] # / ^0 # x @3 i3,-4,5 -1 cab p T '122 p bTF p s t7 p = => 77 4 values 19 true";
 
-const SHARED: &str = "7 D40 # #1125899906842624 #1099511627776 => 2199023255551 2199023255551 none
-7 D63 # #18446744073709551615 #18446744073709551614 y !t0 y !D1 # => 18446744073709551615 18446744073709551615 none true true 18446744073709551615
-7 !D64 7 D63 !D0 # => true false 18446744073709551615
+const SHARED: &str = "7 d40 # #1125899906842624 #1099511627776 => 2199023255551 2199023255551 none
+7 d63 # #18446744073709551615 #18446744073709551614 y !t0 y !d1 # => 18446744073709551615 18446744073709551615 none true true 18446744073709551615
+7 !d64 7 d63 !d0 # => true false 18446744073709551615
 i3,-4,5 -1 cab p T '122 p bTF p s t7 p y > # w # x w i3,-4,5 -1 cab p T '122 p bTF p s t7 p = x w < w x # > => 14 4 true 7 13 none
 7 i3,-4,5 -1 cab p T '122 p bTF p s t7 p s @1 w x i3,-4,5 -1 cab p T '122 p bTF p s t7 p = => true
 i4 @0 ? => int 4 4
