@@ -1,9 +1,10 @@
 -- The operations of the bodies, by place.
 use Rattle.std.proofs.Common.{◌≡◌, ℕ, zero, suc, Bool, true, false, ◌∙◌, ap, subst, List, [], ◌∷◌, Option, Some, None, Vec, Global}
-use Rattle.std.specs.Prelude.{option_map, slice_get, if◌then◌else◌}
+use Rattle.std.specs.Prelude.{option_map, slice_get, set, if◌then◌else◌}
 use Rattle.std.specs.Str.{bytes_eq}
 use Rattle.nesl_types.specs.declared.bindings.Top as kinds
 use Rattle.nesl_types.specs.declared.bindings.Top.TheVariants as kind
+use Rattle.indexmap.specs.IndexMap.{set_value_at}
 use Rattle.nesl_eval_code.specs.declared.code.Code.{Code}
 use Rattle.nesl_eval_code.specs.Run.{slot_at, function_slot}
 use Rattle.nesl_eval_code.specs.Means.{place_of}
@@ -52,3 +53,11 @@ laid_more key c o (d ∷ cs) (p ∷ os) l h = by (bytes_eq key.items d.0.items) 
     by true k i = (l, h.1)
     by false None i = (h.0, i)
     by false (Some k) i = (h.0, i)
+
+-- a body less
+pub laid_without : (i : ℕ) (cs : Codes) (os : List (Option Ops)) → AreLaid cs os → AreLaid (set_value_at cs i None) (set os i None)
+laid_without i [] [] h = tt
+laid_without i [] (o ∷ os) h = absurd h
+laid_without i (c ∷ cs) [] h = absurd h
+laid_without zero (c ∷ cs) (o ∷ os) h = (tt, h.1)
+laid_without (suc i) (c ∷ cs) (o ∷ os) h = (h.0, laid_without i cs os h.1)

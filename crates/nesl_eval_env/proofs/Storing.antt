@@ -2,9 +2,10 @@
 use Rattle.std.proofs.Common.{◌≡◌, ◌<◌, ℕ, zero, suc, Bool, true, false, refl, sym, ◌∙◌, ap, subst, arith, List, [], ◌∷◌, ◌++◌, append_assoc, append-nil, Option, Some, None, Vec, Global}
 use Rattle.std.specs.Prelude.{option_map, option_and_then, slice_get, is_some, unwrap_or, if◌then◌else◌}
 use Rattle.std.specs.Str.{bytes_eq}
+use Rattle.std.specs.Map.{values_of}
 use Rattle.nesl_types.specs.declared.bindings.Top as kinds
 use Rattle.nesl_types.specs.declared.bindings.Top.TheVariants as kind
-use Rattle.nesl_types.specs.Names.{with_name}
+use Rattle.nesl_types.specs.Names.{with_name, with_name_at}
 use Rattle.nesl_syntax_tree.specs.Trees.{Tree, PatternTree}
 use Rattle.nesl_syntax_tree.specs.Views as syntax
 use Rattle.nesl_eval_code.specs.declared.code.Code.{Code}
@@ -17,7 +18,7 @@ use Rattle.nesl_eval_meaning.specs.Outcome.{out, in_bound}
 use Rattle.nesl_eval_code.specs.Run.{Table, Slot, run, slot_at, nothing_slot}
 use Rattle.nesl_eval_code.specs.Means.{Agrees, Means, Layer, bindings, bound_all, StandsFor, AllStand, IsTableOf, Begins, names_of, place_of}
 use Rattle.nesl_eval_code.specs.Resolving.{keys_of}
-use Rattle.indexmap.specs.IndexMap.{insert_entry}
+use Rattle.indexmap.specs.IndexMap.{insert_entry, set_value_at}
 use Rattle.nesl_eval_env.specs.Stored.{Entry, Codes, top_of, slot_of, environment, table, HasCode, AllHaveCode, AreStored, names_in, with_place, with_code}
 
 pub means_more : (ns more : List Name) (ls : List Layer) (c : Code) (e : Tree) → Means ns ls c e → Means (ns ++ more) ls c e
@@ -139,6 +140,53 @@ set_stored x k p key code bs cs h q here =
     subst F (sym (set_names x k p bs))
     (set_codes x k p (with_place x (names_in bs)) key code q (subst H (same_names (names_in bs) bs cs h) here) bs cs
     (subst G (sym more.1) (all_more (names_in bs) more.0 bs cs h)))
+
+-- what stands at a place is set
+names_kept : (i : ℕ) (k : kinds.Top) (p : Payload) (bs : List Entry) → names_in (with_name_at i k p bs) ≡ names_in bs
+names_kept i k p [] = refl
+names_kept zero k p (b ∷ bs) = refl
+names_kept (suc i) k p (b ∷ bs) = ap (λ y. b.0 ∷ y) (names_kept i k p bs)
+
+codes_kept : (ns : List Name) (i : ℕ) (k : kinds.Top) (p : Payload) (c : Option Code) (bs : List Entry) (cs : Codes) → HasCode ns p c → AllHaveCode ns bs cs →
+    AllHaveCode ns (with_name_at i k p bs) (set_value_at cs i c)
+codes_kept ns i k p c [] [] q h = tt
+codes_kept ns i k p c [] (d ∷ cs) q h = absurd h
+codes_kept ns i k p c (b ∷ bs) [] q h = absurd h
+codes_kept ns zero k p c (b ∷ bs) (d ∷ cs) q h = (h.0, q, h.2)
+codes_kept ns (suc i) k p c (b ∷ bs) (d ∷ cs) q h = (h.0, h.1, codes_kept ns i k p c bs cs q h.2)
+
+pub stored_at : (i : ℕ) (k : kinds.Top) (p : Payload) (c : Option Code) (bs : List Entry) (cs : Codes) → ((ns : List Name) → HasCode ns p c) → AreStored bs cs →
+    AreStored (with_name_at i k p bs) (set_value_at cs i c)
+stored_at i k p c bs cs q h =
+    let F : List Name → Type 0 = λ ns. AllHaveCode ns (with_name_at i k p bs) (set_value_at cs i c) in
+    subst F (sym (names_kept i k p bs)) (codes_kept (names_in bs) i k p c bs cs (q (names_in bs)) h)
+
+-- where there is no code, nothing changes
+pub no_code : (i : ℕ) (c : Option Code) (cs : Codes) → None ≡ slice_get (values_of cs) i → cs ≡ set_value_at cs i c
+no_code i c [] h = refl
+no_code zero c (d ∷ cs) h = absurd cc
+no_code (suc i) c (d ∷ cs) h = ap (λ y. d ∷ y) (no_code i c cs h)
+
+no_first : (o : Option ℕ) → Some 0 ≡ option_map suc o → ⊥
+no_first None e = cc
+no_first (Some j) e = cc
+
+before : (o : Option ℕ) (i : ℕ) → Some (suc i) ≡ option_map suc o → Some i ≡ o
+before None i e = absurd cc
+before (Some j) i e = let same : i ≡ j = cc in ap Some same
+
+-- at its own place a name is set
+pub set_at : (x : Name) (k : kinds.Top) (p : Payload) (i : ℕ) (bs : List Entry) → Some i ≡ place_of (names_in bs) x → with_name_at i k p bs ≡ with_name x k p bs
+set_at x k p i [] h = absurd cc
+set_at x k p i (b ∷ bs) h = by (bytes_eq x b.0) i h (λ j e. set_at x k p j bs e)
+  where
+    by : (q : Bool) (j : ℕ) → Some j ≡ (if q then Some 0 else option_map suc (place_of (names_in bs) x)) →
+        ((m : ℕ) → Some m ≡ place_of (names_in bs) x → with_name_at m k p bs ≡ with_name x k p bs) →
+        with_name_at j k p (b ∷ bs) ≡ (if q then (b.0, k, p) ∷ bs else b ∷ with_name x k p bs)
+    by true zero e f = refl
+    by true (suc j) e f = absurd cc
+    by false zero e f = absurd (no_first (place_of (names_in bs) x) e)
+    by false (suc j) e f = ap (λ y. b ∷ y) (f j (before (place_of (names_in bs) x) j e))
 
 -- what stands at a place
 abbrev pub between : Option Entry → Option (Vec ℕ Global × Option Code) → Slot

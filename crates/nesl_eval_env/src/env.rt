@@ -1,10 +1,11 @@
 //! What stands at top level.
 
 ghost use Rattle.std.specs.Prelude.{◌≡◌, ◌<◌, ℕ, IfOk, OnOk, OnErr, [], length, slice_get, unwrap_or};
-ghost use Rattle.std.specs.Prelude.{vec_len, vec_capacity};
+ghost use Rattle.std.specs.Prelude.{vec_len, vec_capacity, IfSome, List, Some, None, set};
 ghost use Rattle.std.specs.Option.{option_map};
-ghost use Rattle.indexmap.specs.IndexMap.{spare};
+ghost use Rattle.indexmap.specs.IndexMap.{spare, set_value_at};
 ghost use Rattle.nesl_syntax_tree.specs.Views.{tree_of};
+ghost use Rattle.nesl_eval_meaning.specs.Names.{Name};
 ghost use Rattle.nesl_eval_code.specs.Means.{Means, IsTableOf, names_of, place_of};
 ghost use Rattle.nesl_eval_code.specs.Run.{slot_at, nothing_slot};
 ghost use Rattle.nesl_eval_code.specs.Resolving.{keys_of};
@@ -141,18 +142,32 @@ fn found_there<'a>(top: &'a Top, payload: &'a Payload, code: &'a Option<Code>) -
     }
 }
 
+/// The place, where there is one and what is set there is no function, so that it has no code.
+fn place_without_code(place: Option<usize>, payload: &Payload) -> Option<usize>
+    ensures same { IfSome result (λ there. place ≡ Some there) }
+    ensures code { IfSome result (λ _. (names : List Name) → HasCode names payload.now None) }
+{
+    let there = place?;
+    match payload {
+        Payload::Function { .. } => None,
+        _ => Some(there),
+    }
+}
+
 /// The code of a function's body, whose name has its place already. What is no function has none.
 fn code_of_payload(
     alloc: Global,
     codes: &IndexMap<Vec<u8>, Option<Code>>,
     name: &[u8],
+    place: Option<usize>,
     payload: &Payload,
 ) -> Result<Option<Code>, AllocError>
+    requires { place ≡ place_of (keys_of codes.now.entries) name.now }
     ensures { IfOk result (HasCode (with_place name.now (keys_of codes.now.entries)) payload.now) }
 {
     match payload {
         Payload::Function { pattern, body } => {
-            let own = match place_in(codes, name) {
+            let own = match place {
                 Some(_) => None,
                 None => Some(name),
             };
@@ -169,8 +184,10 @@ fn entry_of(
     alloc: Global,
     codes: &mut IndexMap<Vec<u8>, Option<Code>>,
     name: &[u8],
+    place: Option<usize>,
     payload: &Payload,
 ) -> Result<(Vec<u8>, Option<Code>), AllocError>
+    requires { place ≡ place_of (keys_of codes.old.entries) name.now }
     ensures entries { codes.new.entries ≡ codes.old.entries }
     ensures room { OnOk result (0 < spare codes.new) }
     ensures key { IfOk result (λ e. e.0.items ≡ name.now) }
@@ -178,7 +195,7 @@ fn entry_of(
 {
     codes.reserve(1)?;
     let key = Vec::from_slice(alloc, name)?;
-    let code = code_of_payload(alloc, codes, name, payload)?;
+    let code = code_of_payload(alloc, codes, name, place, payload)?;
     Ok((key, code))
 }
 
@@ -207,6 +224,28 @@ fn store(codes: &mut IndexMap<Vec<u8>, Option<Code>>, name: Vec<u8>, code: Optio
     match codes.insert(name, code) {
         Ok(_) => {}
         Err(_) => {}
+    }
+}
+
+/// The name at a place has no code.
+fn clear_code(codes: &mut IndexMap<Vec<u8>, Option<Code>>, place: usize)
+    ensures { codes.new.entries ≡ set_value_at codes.old.entries place None }
+{
+    if let Some(code) = codes.get_index_mut(place) {
+        if code.is_some() {
+            *code = None;
+        }
+    }
+}
+
+/// No body stands at this place.
+fn clear_body(bodies: &mut Vec<Option<Ops>>, place: usize)
+    ensures { bodies.new.items ≡ set bodies.old.items place None }
+{
+    if let Some(body) = bodies.get_mut(place) {
+        if body.is_some() {
+            *body = None;
+        }
     }
 }
 
@@ -295,10 +334,34 @@ impl Env {
         ensures ok { OnOk result (self.new ≡ with_name name.now top payload self.old) }
         ensures err { OnErr result (self.new ≡ self.old) }
     {
-        let (key, code) = entry_of(alloc, &mut self.prepared, name, &payload)?;
+        let place = place_in(&self.prepared, name);
+        if let Some(there) = place_without_code(place, &payload) {
+            self.context.replace(alloc, there, top, payload)?;
+            clear_code(&mut self.prepared, there);
+            clear_body(&mut self.bodies, there);
+            return Ok(());
+        }
+        self.set_prepared(alloc, name, place, top, payload)
+    }
+
+    // Makes the name what is given, and prepares a function's body. The place is the one that the name has, if any.
+    #[inline(never)]
+    fn set_prepared(
+        &mut self,
+        alloc: Global,
+        name: &[u8],
+        place: Option<usize>,
+        top: Top,
+        payload: Payload,
+    ) -> Result<(), AllocError>
+        requires { place ≡ place_of (names_in self.old) name.now }
+        ensures ok { OnOk result (self.new ≡ with_name name.now top payload self.old) }
+        ensures err { OnErr result (self.new ≡ self.old) }
+    {
+        let (key, code) = entry_of(alloc, &mut self.prepared, name, place, &payload)?;
         let body = body_of(alloc, &mut self.bodies, &code)?;
         self.context.set(alloc, name, top, payload)?;
-        store_body(&mut self.bodies, place_in(&self.prepared, name), body);
+        store_body(&mut self.bodies, place, body);
         store(&mut self.prepared, key, code);
         Ok(())
     }

@@ -44,6 +44,30 @@ fn names_keep_their_places(rt: HostRuntime) {
     assert!(rt; is_bound_again(&context) && is_found(&context) && is_first(&context));
 }
 
+// Replaces the variable by one of another type, then by one of that type. No name stands at place 2.
+fn replace_names(alloc: Global, context: &mut Context<u8>) -> Result<(), AllocError> {
+    context.replace(alloc, 0, Top::Variable(Ty::int(alloc)?), 4)?;
+    context.replace(alloc, 0, Top::Variable(Ty::int(alloc)?), 5)?;
+    context.replace(alloc, 2, Top::Variable(Ty::int(alloc)?), 6)
+}
+
+// Whether the variable is what it was replaced by last.
+fn is_replaced(context: &Context<u8>) -> bool {
+    match context.get(b"x") {
+        Some((Top::Variable(ty), payload)) => matches!(ty.kind(), Kind::Int) && *payload == 5,
+        _ => false,
+    }
+}
+
+#[test]
+fn names_are_replaced_in_their_places(rt: HostRuntime) {
+    let mut context: Context<u8> = Context::new(rt.alloc());
+    set_names(rt.alloc(), &mut context).expect(&rt, "memory");
+    replace_names(rt.alloc(), &mut context).expect(&rt, "memory");
+    assert!(rt; context.len() == 2 && is_replaced(&context));
+    assert!(rt; is_found(&context) && is_first(&context));
+}
+
 // A pair of a variable with itself, and so on, eleven deep.
 fn doubled(alloc: Global) -> Result<Ty, AllocError> {
     let mut ty = Ty::variable(alloc, 3)?;
@@ -113,9 +137,22 @@ fn set_deeper(alloc: Global, context: &mut Context<u64>) -> Result<(), AllocErro
     Ok(())
 }
 
+// Replaces what stands first by a sequence, twice, then by the sequences of that, and so on.
+fn replace_by_deeper(alloc: Global, context: &mut Context<u64>) -> Result<(), AllocError> {
+    let mut ty = Ty::int(alloc)?;
+    for number in 0..100u64 {
+        ty = Ty::seq_of(alloc, &ty)?;
+        context.replace(alloc, 0, Top::Variable(ty.duplicate(alloc)?), number)?;
+        context.replace(alloc, 0, Top::Variable(ty.duplicate(alloc)?), number)?;
+    }
+    Ok(())
+}
+
 #[test]
 fn types_of_names_that_change_go(rt: HostRuntime) {
     let mut context: Context<u64> = Context::new(rt.alloc());
     set_deeper(rt.alloc(), &mut context).expect(&rt, "memory");
+    assert!(rt; context.len() == 1 && context.kept_types() == 1);
+    replace_by_deeper(rt.alloc(), &mut context).expect(&rt, "memory");
     assert!(rt; context.len() == 1 && context.kept_types() == 1);
 }

@@ -3,7 +3,17 @@ use Rattle.std.proofs.Common.{◌≡◌, ℕ, zero, suc, ◌+◌, ◌<◌, ◌�
 use Rattle.std.proofs.lemmas.Bool.{cases_lt}
 use Rattle.std.specs.Str.{bytes_eq}
 use Rattle.nesl_types.specs.declared.bindings.Top.{Top}
-use Rattle.nesl_types.specs.Names.{with_name, is_datatype, datatype_place, datatype_at, is_datatype_at, AreReached}
+use Rattle.nesl_types.specs.Names.{with_name, with_name_at, is_datatype, datatype_place, datatype_at, is_datatype_at, AreReached}
+
+-- a name is set where the datatype with a tag stands, or it stands behind
+set_here : (n : ℕ) (c d : Bool) → d ≡ false → cond c 0 (suc n) ≤ cond d 0 (suc n)
+set_here n c true e = absurd cc
+set_here n true false e = omega arith
+set_here n false false e = omega arith
+
+set_behind : (n m : ℕ) (c : Bool) → n ≤ m → cond c 0 (suc n) ≤ cond c 0 (suc m)
+set_behind n m true i = omega arith
+set_behind n m false i = omega arith
 
 module _ {P : Type 0} where
   pub at_place : (names : List (List ℕ × Top × P)) (tag : ℕ) → slice_get names (datatype_place names tag) ≡ datatype_at names tag
@@ -81,20 +91,20 @@ module _ {P : Type 0} where
   place_kept [] tag name top payload h = omega arith
   place_kept (b ∷ bs) tag name top payload h =
       elim (bytes_eq name b.0) as (λ c. datatype_place (b ∷ bs) tag ≤ datatype_place (cond c ((b.0, top, payload) ∷ bs) (b ∷ with_name name top payload bs)) tag) [
-        | true ↦ set_here (is_datatype tag b.1) (is_datatype tag top) h
-        | false ↦ set_behind (is_datatype tag b.1) (place_kept bs tag name top payload h)
+        | true ↦ set_here (datatype_place bs tag) (is_datatype tag b.1) (is_datatype tag top) h
+        | false ↦ set_behind (datatype_place bs tag) (datatype_place (with_name name top payload bs) tag) (is_datatype tag b.1) (place_kept bs tag name top payload h)
       ]
-    where
-      set_here : (c d : Bool) → d ≡ false → cond c 0 (suc (datatype_place bs tag)) ≤ cond d 0 (suc (datatype_place bs tag))
-      set_here c true e = absurd cc
-      set_here true false e = omega arith
-      set_here false false e = omega arith
 
-      set_behind : (c : Bool) → datatype_place bs tag ≤ datatype_place (with_name name top payload bs) tag →
-          cond c 0 (suc (datatype_place bs tag)) ≤ cond c 0 (suc (datatype_place (with_name name top payload bs) tag))
-      set_behind true i = omega arith
-      set_behind false i = omega arith
+  place_kept_at : (names : List (List ℕ × Top × P)) (tag place : ℕ) (top : Top) (payload : P) → is_datatype tag top ≡ false → datatype_place names tag ≤ datatype_place (with_name_at place top payload names) tag
+  place_kept_at [] tag place top payload h = omega arith
+  place_kept_at (b ∷ bs) tag zero top payload h = set_here (datatype_place bs tag) (is_datatype tag b.1) (is_datatype tag top) h
+  place_kept_at (b ∷ bs) tag (suc place) top payload h =
+      set_behind (datatype_place bs tag) (datatype_place (with_name_at place top payload bs) tag) (is_datatype tag b.1) (place_kept_at bs tag place top payload h)
 
   pub others_reached : (names : List (List ℕ × Top × P)) (places : List ℕ) (name : List ℕ) (top : Top) (payload : P) → AreReached names places → (tag : ℕ) → is_datatype tag top ≡ false →
       slice_index places tag ≤ datatype_place (with_name name top payload names) tag
   others_reached names places name top payload r tag h = omega (arith, r tag, place_kept names tag name top payload h)
+
+  pub others_reached_at : (names : List (List ℕ × Top × P)) (places : List ℕ) (place : ℕ) (top : Top) (payload : P) → AreReached names places → (tag : ℕ) → is_datatype tag top ≡ false →
+      slice_index places tag ≤ datatype_place (with_name_at place top payload names) tag
+  others_reached_at names places place top payload r tag h = omega (arith, r tag, place_kept_at names tag place top payload h)

@@ -1,5 +1,5 @@
 -- What the top-level names are: a list of names, each with what it is and a payload.
-use Rattle.std.specs.Prelude.{ℕ, suc, ◌≤◌, ◌==◌, Bool, false, List, [], ◌∷◌, slice_get, slice_index}
+use Rattle.std.specs.Prelude.{ℕ, zero, suc, ◌≤◌, ◌==◌, Bool, false, List, [], ◌∷◌, slice_get, slice_index}
 use Rattle.std.specs.Prelude.{Option, Some, None, if◌then◌else◌}
 use Rattle.std.specs.Option.{option_map_or}
 use Rattle.std.specs.List.{find}
@@ -24,6 +24,12 @@ module _ {P : Type 0} where
   with_name name top payload [] = (name, top, payload) ∷ []
   with_name name top payload (b ∷ bs) =
       if bytes_eq name b.0 then (b.0, top, payload) ∷ bs else b ∷ with_name name top payload bs
+
+  -- the name at a place is this; where no name has the place, nothing changes
+  abbrev pub with_name_at : ℕ → Top → P → List (List ℕ × Top × P) → List (List ℕ × Top × P)
+  with_name_at place top payload [] = []
+  with_name_at zero top payload (b ∷ bs) = (b.0, top, payload) ∷ bs
+  with_name_at (suc place) top payload (b ∷ bs) = b ∷ with_name_at place top payload bs
 
   -- the datatype with the tag: the first name that is one
   abbrev pub datatype_at : List (List ℕ × Top × P) → ℕ → Option (List ℕ × Top × P)

@@ -66,7 +66,10 @@ impl<P> Model for Context<P> {
 }
 
 ghost use Rattle.std.specs.Prelude.{◌≡◌, ◌≢◌, ◌≤◌, ◌<◌, ℕ, Some, false, map, slice_index, vec_len, vec_capacity, IfOk};
-ghost use Rattle.nesl_types.specs.Names.{AreReached, is_datatype, is_datatype_at, datatype_place};
+ghost use Rattle.std.specs.Prelude.{slice_get, IsTrue};
+ghost use Rattle.std.specs.Option.{option_map};
+ghost use Rattle.nesl_types.specs.declared.bindings.Top.{Top as Tops};
+ghost use Rattle.nesl_types.specs.Names.{AreReached, is_datatype, is_datatype_at, datatype_place, with_name_at};
 
 // Whether the entry at a place is the datatype with the tag.
 fn is_datatype_at<P: Drop>(bindings: &IndexMap<Vec<u8>, Entry<P>>, place: usize, tag: u64) -> bool
@@ -146,6 +149,59 @@ fn shared_top(alloc: Global, kept: &mut Kept, top: Top) -> Result<(Top, Marks), 
     }
 }
 
+// Whether both are variables of one type.
+fn are_variables_of_one_type(old: &Top, new: &Top) -> bool
+    ensures same { IsTrue result → old.now ≡ new.now }
+    ensures kind { IsTrue result → (tag : ℕ) → is_datatype tag new.now ≡ false }
+{
+    match (old, new) {
+        (Top::Variable(old), Top::Variable(new)) => old.same(new),
+        _ => false,
+    }
+}
+
+// Whether the entry at a place is a variable, and what is given is one of its type.
+fn is_variable_at<P: Drop>(bindings: &IndexMap<Vec<u8>, Entry<P>>, place: usize, top: &Top) -> bool
+    ensures same { IsTrue result → option_map (λ e. e.1.top) (slice_get bindings.now.entries place) ≡ Some top.now }
+    ensures kind { IsTrue result → (tag : ℕ) → is_datatype tag top.now ≡ false }
+{
+    match bindings.get_index(place) {
+        Some((_, entry)) => are_variables_of_one_type(&entry.top, top),
+        None => false,
+    }
+}
+
+// Sets the payload of the entry at a place, which stays what it is.
+fn set_payload<P: Drop>(bindings: &mut IndexMap<Vec<u8>, Entry<P>>, place: usize, payload: P)
+    ensures { (top : Tops) → option_map (λ e. e.1.top) (slice_get bindings.old.entries place) ≡ Some top
+        → map (λ e. (e.0.items, e.1.top, e.1.payload)) bindings.new.entries
+        ≡ with_name_at place top payload (map (λ e. (e.0.items, e.1.top, e.1.payload)) bindings.old.entries) }
+{
+    if let Some(entry) = bindings.get_index_mut(place) {
+        entry.payload = payload;
+    }
+}
+
+// Replaces the entry at a place. The numbers are those of the entry that is dropped.
+fn set_entry<P: Drop>(
+    bindings: &mut IndexMap<Vec<u8>, Entry<P>>,
+    place: usize,
+    entry: Entry<P>,
+) -> Marks
+    ensures { map (λ e. (e.0.items, e.1.top, e.1.payload)) bindings.new.entries
+        ≡ with_name_at place entry.top entry.payload
+        (map (λ e. (e.0.items, e.1.top, e.1.payload)) bindings.old.entries) }
+{
+    match bindings.get_index_mut(place) {
+        Some(there) => {
+            let marks = there.marks;
+            *there = entry;
+            marks
+        }
+        None => entry.marks,
+    }
+}
+
 // The numbers under which the types of an entry are kept.
 fn marks_of<P: Drop>(entry: Option<Entry<P>>) -> Marks {
     match entry {
@@ -157,7 +213,7 @@ fn marks_of<P: Drop>(entry: Option<Entry<P>>) -> Marks {
 impl<P: Drop> Context<P> {
     ghost use Rattle.std.specs.Prelude.{◌≡◌, [], length, OnOk, OnErr, slice_get};
     ghost use Rattle.std.specs.Option.{option_map};
-    ghost use Rattle.nesl_types.specs.Names.{found, with_name, datatype_at};
+    ghost use Rattle.nesl_types.specs.Names.{found, with_name, with_name_at, datatype_at};
 
     /// A context with no names.
     pub fn new(alloc: Global) -> Self
@@ -223,6 +279,36 @@ impl<P: Drop> Context<P> {
         };
         let before = self.bindings.insert(name, entry)?;
         self.kept.release(marks_of(before));
+        note_place(&mut self.places, &self.bindings, tag);
+        Ok(())
+    }
+
+    /// Makes the name at a place in the order of first definition what is given. No name at that place: no change.
+    pub fn replace(
+        &mut self,
+        alloc: Global,
+        place: usize,
+        top: Top,
+        payload: P,
+    ) -> Result<(), AllocError>
+        ensures ok { OnOk result (self.new ≡ with_name_at place top payload self.old) }
+        ensures err { OnErr result (self.new ≡ self.old) }
+    {
+        if is_variable_at(&self.bindings, place, &top) {
+            set_payload(&mut self.bindings, place, payload);
+            return Ok(());
+        }
+        self.places.reserve(1)?;
+        self.kept.reserve()?;
+        let tag = tag_of(&top);
+        let (top, marks) = shared_top(alloc, &mut self.kept, top)?;
+        let entry = Entry {
+            top,
+            payload,
+            marks,
+        };
+        let before = set_entry(&mut self.bindings, place, entry);
+        self.kept.release(before);
         note_place(&mut self.places, &self.bindings, tag);
         Ok(())
     }
