@@ -10,7 +10,8 @@ use Rattle.nesl_eval_blocks.specs.Flat.{flat, leaf_of, applying}
 pub record IsLaidAs (c d : Code) : Type 0 where
   pub alone : (h : ℕ) (ks : List ℕ) (o : Option Block) → flat h ks c o ≡ flat h ks d o
   pub leaf : (ks : List ℕ) → leaf_of ks c ≡ leaf_of ks d
-  pub applied : (h : ℕ) (ks : List ℕ) (s : Span) (g : Builtin) (f : Block → Block) (b : Block) → applying h ks s g f c b ≡ applying h ks s g f d b
+  pub applied : (h : ℕ) (ks : List ℕ) (s : Span) (g : Builtin) (f : Block → Block) (b : Block) →
+      applying h ks s g f c b ≡ applying h ks s g f d b
 
 -- as many codes, each laid out as the other at its place is
 abbrev pub AreLaidAs : List Code → List Code → Type 0

@@ -13,10 +13,7 @@ pub(crate) fn copy_plain(alloc: Global, code: &Code) -> Result<Option<Code>, All
 {
     match code {
         Code::Pair { span, left, right } => {
-            let Some(left) = copy_boxed(alloc, left)? else {
-                return Ok(None);
-            };
-            let Some(right) = copy_boxed(alloc, right)? else {
+            let Some((left, right)) = copy_two(alloc, left, right)? else {
                 return Ok(None);
             };
             Ok(Some(Code::Pair {
@@ -45,10 +42,7 @@ pub(crate) fn copy_plain(alloc: Global, code: &Code) -> Result<Option<Code>, All
             left,
             right,
         } => {
-            let Some(left) = copy_boxed(alloc, left)? else {
-                return Ok(None);
-            };
-            let Some(right) = copy_boxed(alloc, right)? else {
+            let Some((left, right)) = copy_two(alloc, left, right)? else {
                 return Ok(None);
             };
             Ok(Some(Code::ApplyTwo {
@@ -58,6 +52,17 @@ pub(crate) fn copy_plain(alloc: Global, code: &Code) -> Result<Option<Code>, All
                 right,
             }))
         }
+        _ => copy_choice_or_let(alloc, code),
+    }
+}
+
+/// A copy of a choice or a `let` if their parts have one, or of code without parts.
+#[cycle(copying)]
+#[inline(never)]
+fn copy_choice_or_let(alloc: Global, code: &Code) -> Result<Option<Code>, AllocError>
+    ensures { IfOk result (λ o. IfSome o (λ c. IsLaidAs c code.now)) }
+{
+    match code {
         Code::Choice {
             span,
             test,
@@ -99,6 +104,25 @@ pub(crate) fn copy_plain(alloc: Global, code: &Code) -> Result<Option<Code>, All
         }
         _ => copy_leaf(alloc, code),
     }
+}
+
+/// Copies of two codes in boxes, if both have one.
+#[cycle(copying)]
+#[inline(never)]
+fn copy_two(
+    alloc: Global,
+    left: &Code,
+    right: &Code,
+) -> Result<Option<(Box<Code>, Box<Code>)>, AllocError>
+    ensures { IfOk result (λ o. IfSome o (λ p. IsLaidAs p.0.value left.now × IsLaidAs p.1.value right.now)) }
+{
+    let Some(left) = copy_boxed(alloc, left)? else {
+        return Ok(None);
+    };
+    let Some(right) = copy_boxed(alloc, right)? else {
+        return Ok(None);
+    };
+    Ok(Some((left, right)))
 }
 
 /// A copy of code in a box.

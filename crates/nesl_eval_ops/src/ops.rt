@@ -328,70 +328,71 @@ impl Drop for Ops {
     #[cycle(drops)]
     fn drop(mut self) {
         loop {
-            match self {
+            let next = match self {
                 Ops::Finish => return,
+                Ops::Last { yes: _yes, no: _no } => return,
                 Ops::Push {
                     height: _,
                     leaf: _leaf,
                     next,
-                } => self = Box::into_inner(next).into_ops(),
+                } => next,
                 Ops::Enter {
                     height: _,
                     span: _,
                     next,
-                } => self = Box::into_inner(next).into_ops(),
+                } => next,
                 Ops::OfLeaf {
                     node: _,
                     leaf: _leaf,
                     next,
-                } => self = Box::into_inner(next).into_ops(),
-                Ops::OfTop { node: _, next } => self = Box::into_inner(next).into_ops(),
+                } => next,
+                Ops::OfTop { node: _, next } => next,
                 Ops::OfLeaves {
                     node: _,
                     left: _left,
                     right: _right,
                     next,
-                } => self = Box::into_inner(next).into_ops(),
+                } => next,
                 Ops::OfTopAndLeaf {
                     node: _,
                     right: _right,
                     next,
-                } => self = Box::into_inner(next).into_ops(),
-                Ops::OfTops { node: _, next } => self = Box::into_inner(next).into_ops(),
+                } => next,
+                Ops::OfTops { node: _, next } => next,
                 Ops::OfMany {
                     node: _,
                     count: _,
                     leaves: _leaves,
                     next,
-                } => self = Box::into_inner(next).into_ops(),
+                } => next,
                 Ops::Choose {
                     yes: _yes,
                     no: _no,
                     next,
-                } => self = Box::into_inner(next).into_ops(),
-                Ops::Last { yes: _yes, no: _no } => return,
+                } => next,
                 Ops::Call {
                     height: _,
                     span: _,
                     callee: _callee,
                     next,
-                } => self = Box::into_inner(next).into_ops(),
-                Ops::Bind { next } => self = Box::into_inner(next).into_ops(),
-                Ops::Forget { places: _, next } => self = Box::into_inner(next).into_ops(),
+                } => next,
+                Ops::Bind { next } => next,
+                Ops::Forget { places: _, next } => next,
                 Ops::Each {
                     span: _,
                     count: _,
                     body: _body,
                     next,
-                } => self = Box::into_inner(next).into_ops(),
+                } => next,
                 Ops::Filtered {
                     span: _,
                     count: _,
                     body: _body,
                     filter: _filter,
                     next,
-                } => self = Box::into_inner(next).into_ops(),
-            }
+                } => next,
+            };
+            self = Box::into_inner(next).into_ops();
         }
     }
 }

@@ -1,0 +1,288 @@
+//! Functions that make one operation each, or what it holds.
+//!
+//! None of them is inlined into those that recur over code: each holds an operation on the stack until it is boxed.
+ghost use Rattle.std.specs.Prelude.{◌≡◌, ◌∷◌, [], IfOk, None, map, option_map};
+ghost use Rattle.nesl_eval_blocks.specs.Block.{push, enter, make, call, bind, each, filtered, of_one, called_by};
+ghost use Rattle.nesl_eval_blocks.specs.Flat.{rest, deciding, forgetting, flat, room};
+ghost use Rattle.nesl_eval_ops.specs.View.{block_of, block_in, body_block, sizes_of};
+ghost use Rattle.nesl_eval_ops.specs.View.{leaf_is, two_is, many_is, callee_is};
+
+use crate::copying::copy_plain;
+use crate::ops::{Block, Body, Callee, Leaf, ManyNode, OneNode, Ops, Plain, TwoNode};
+use crate::places::Place;
+use crate::sizes::{list_of, room};
+use nesl_eval_code::Code;
+use nesl_lex::token::Span;
+use std::alloc::{AllocError, Global};
+
+fn boxed(alloc: Global, ops: Ops) -> Result<Box<Block>, AllocError>
+    ensures { IfOk result (λ b. b.value ≡ block_of ops) }
+{
+    let boxed = Box::new(alloc, Block::new(ops))?;
+    Ok(boxed)
+}
+
+/// What comes after, or nothing more.
+#[inline(never)]
+pub(crate) fn rest(at: &Place<'_>, next: Option<Box<Block>>) -> Result<Box<Block>, AllocError>
+    ensures { IfOk result (λ b. block_in b ≡ rest (option_map block_in next)) }
+{
+    match next {
+        Some(next) => Ok(next),
+        None => boxed(at.alloc, Ops::Finish),
+    }
+}
+
+#[inline(never)]
+pub(crate) fn push(at: &Place<'_>, leaf: Leaf, next: Box<Block>) -> Result<Box<Block>, AllocError>
+    ensures { IfOk result (λ o. block_in o ≡ push at.now.height (leaf_is leaf) (block_in next)) }
+{
+    let push = Ops::Push {
+        height: at.height,
+        leaf,
+        next,
+    };
+    boxed(at.alloc, push)
+}
+
+#[inline(never)]
+pub(crate) fn enter(at: &Place<'_>, span: Span, next: Box<Block>) -> Result<Box<Block>, AllocError>
+    ensures { IfOk result (λ o. block_in o ≡ enter at.now.height span (block_in next)) }
+{
+    let enter = Ops::Enter {
+        height: at.height,
+        span,
+        next,
+    };
+    boxed(at.alloc, enter)
+}
+
+/// A function of a leaf.
+#[inline(never)]
+pub(crate) fn of_leaf(
+    alloc: Global,
+    node: OneNode,
+    leaf: Leaf,
+    next: Box<Block>,
+) -> Result<Box<Block>, AllocError>
+    ensures { IfOk result (λ o. block_in o
+        ≡ make node.height node.span (of_one node.function) 0 (leaf_is leaf ∷ []) (block_in next)) }
+{
+    boxed(alloc, Ops::OfLeaf { node, leaf, next })
+}
+
+/// A function of the value on top.
+#[inline(never)]
+pub(crate) fn of_top(
+    alloc: Global,
+    node: OneNode,
+    next: Box<Block>,
+) -> Result<Box<Block>, AllocError>
+    ensures { IfOk result (λ o. block_in o ≡ make node.height node.span (of_one node.function) 1 [] (block_in next)) }
+{
+    boxed(alloc, Ops::OfTop { node, next })
+}
+
+/// A node of the two values on top.
+#[inline(never)]
+pub(crate) fn of_tops(
+    alloc: Global,
+    node: TwoNode,
+    next: Box<Block>,
+) -> Result<Box<Block>, AllocError>
+    ensures { IfOk result (λ o. block_in o ≡ make node.height node.span (two_is node.two) 2 [] (block_in next)) }
+{
+    boxed(alloc, Ops::OfTops { node, next })
+}
+
+/// A node of the value on top and a leaf.
+#[inline(never)]
+pub(crate) fn of_top_and_leaf(
+    alloc: Global,
+    node: TwoNode,
+    right: Leaf,
+    next: Box<Block>,
+) -> Result<Box<Block>, AllocError>
+    ensures { IfOk result (λ o. block_in o
+        ≡ make node.height node.span (two_is node.two) 1 (leaf_is right ∷ []) (block_in next)) }
+{
+    boxed(alloc, Ops::OfTopAndLeaf { node, right, next })
+}
+
+/// A node of two leaves.
+#[inline(never)]
+pub(crate) fn of_leaves(
+    alloc: Global,
+    node: TwoNode,
+    left: Leaf,
+    right: Leaf,
+    next: Box<Block>,
+) -> Result<Box<Block>, AllocError>
+    ensures { IfOk result (λ o. block_in o
+        ≡ make node.height node.span (two_is node.two) 0 (leaf_is left ∷ leaf_is right ∷ []) (block_in next)) }
+{
+    let made = Ops::OfLeaves {
+        node,
+        left,
+        right,
+        next,
+    };
+    boxed(alloc, made)
+}
+
+/// A node of so many values on top and leaves.
+#[inline(never)]
+pub(crate) fn of_many(
+    alloc: Global,
+    node: ManyNode,
+    count: usize,
+    leaves: Vec<Leaf>,
+    next: Box<Block>,
+) -> Result<Box<Block>, AllocError>
+    ensures { IfOk result (λ o. block_in o
+        ≡ make node.height node.span (many_is node.many) count (map leaf_is leaves.items) (block_in next)) }
+{
+    let made = Ops::OfMany {
+        node,
+        count,
+        leaves,
+        next,
+    };
+    boxed(alloc, made)
+}
+
+/// One of two blocks, and then what comes after.
+#[inline(never)]
+pub(crate) fn deciding(
+    at: &Place<'_>,
+    yes: Box<Block>,
+    no: Box<Block>,
+    next: Option<Box<Block>>,
+) -> Result<Box<Block>, AllocError>
+    ensures { IfOk result (λ o. block_in o ≡ deciding (block_in yes) (block_in no) (option_map block_in next)) }
+{
+    match next {
+        Some(next) => boxed(at.alloc, Ops::Choose { yes, no, next }),
+        None => boxed(at.alloc, Ops::Last { yes, no }),
+    }
+}
+
+/// Behind a `let`: its names are forgotten, where anything comes after.
+#[inline(never)]
+pub(crate) fn forgetting(
+    at: &Place<'_>,
+    next: Option<Box<Block>>,
+) -> Result<Option<Box<Block>>, AllocError>
+    ensures { IfOk result (λ o. option_map block_in o
+        ≡ forgetting (room (sizes_of at.now.sizes.now)) (option_map block_in next)) }
+{
+    let Some(next) = next else {
+        return Ok(None);
+    };
+    let places = room(at.sizes)?;
+    let forget = boxed(at.alloc, Ops::Forget { places, next })?;
+    Ok(Some(forget))
+}
+
+#[inline(never)]
+pub(crate) fn bound(at: &Place<'_>, next: Box<Block>) -> Result<Box<Block>, AllocError>
+    ensures { IfOk result (λ o. block_in o ≡ bind (block_in next)) }
+{
+    boxed(at.alloc, Ops::Bind { next })
+}
+
+/// A name that is called and has no place yet.
+#[inline(never)]
+pub(crate) fn named(at: &Place<'_>, name: &[u8]) -> Result<Callee, AllocError>
+    ensures { IfOk result (λ c. callee_is c ≡ called_by name.now) }
+{
+    let name = Vec::from_slice(at.alloc, name)?;
+    Ok(Callee::Named(name))
+}
+
+/// The operation that calls.
+#[inline(never)]
+pub(crate) fn calling(
+    at: &Place<'_>,
+    span: Span,
+    callee: Callee,
+    next: Box<Block>,
+) -> Result<Box<Block>, AllocError>
+    ensures { IfOk result (λ o. block_in o ≡ call at.now.height span (callee_is callee) (block_in next)) }
+{
+    let call = Ops::Call {
+        height: at.height,
+        span,
+        callee,
+        next,
+    };
+    boxed(at.alloc, call)
+}
+
+/// The operation that takes a body to all places of so many sequences.
+#[inline(never)]
+pub(crate) fn each_of(
+    at: &Place<'_>,
+    span: Span,
+    count: usize,
+    body: Box<Body>,
+    next: Box<Block>,
+) -> Result<Box<Block>, AllocError>
+    ensures { IfOk result (λ o. block_in o ≡ each span count (body_block body.value) (block_in next)) }
+{
+    let each = Ops::Each {
+        span,
+        count,
+        body,
+        next,
+    };
+    boxed(at.alloc, each)
+}
+
+/// The operation that takes a body to the places of so many sequences where a filter holds.
+#[inline(never)]
+pub(crate) fn filtered_of(
+    at: &Place<'_>,
+    span: Span,
+    count: usize,
+    body: Box<Body>,
+    filter: Box<Body>,
+    next: Box<Block>,
+) -> Result<Box<Block>, AllocError>
+    ensures { IfOk result (λ o. block_in o
+        ≡ filtered span count (body_block body.value) (body_block filter.value) (block_in next)) }
+{
+    let each = Ops::Filtered {
+        span,
+        count,
+        body,
+        filter,
+        next,
+    };
+    boxed(at.alloc, each)
+}
+
+/// Operations with the code that they are laid from, if it may have columns and the frames round it are few.
+#[inline(never)]
+pub(crate) fn kept(at: &Place<'_>, ops: Box<Block>, code: &Code) -> Result<Box<Body>, AllocError>
+    requires { block_in ops ≡ flat at.now.height (sizes_of at.now.sizes.now) code.now None }
+    ensures { IfOk result (λ b. body_block b.value ≡ flat at.now.height (sizes_of at.now.sizes.now) code.now None) }
+{
+    let block = Box::into_inner(ops);
+    let Some(code) = copy_plain(at.alloc, code)? else {
+        let body = Box::new(at.alloc, Body::Any(block))?;
+        return Ok(body);
+    };
+    let Some(sizes) = list_of(at.alloc, at.sizes)? else {
+        let body = Box::new(at.alloc, Body::Any(block))?;
+        return Ok(body);
+    };
+    let plain = Plain {
+        ops: block.into_ops(),
+        height: at.height,
+        sizes,
+        code,
+    };
+    let body = Box::new(at.alloc, Body::Plain(plain))?;
+    Ok(body)
+}
