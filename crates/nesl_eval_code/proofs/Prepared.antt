@@ -3,18 +3,21 @@ use Rattle.std.proofs.Common.{◌≡◌, ◌<◌, ◌≤◌, ◌+◌, ℕ, sym, 
 use Rattle.std.proofs.Common.{ℤ, pos, min, w64, to_z, of_z}
 use Rattle.std.specs.Int.Signed.{mag}
 use Rattle.std.proofs.lemmas.Int.{to_z-of_z, ints}
-use Rattle.std.proofs.Common.{Vec, Box, Global, Result, Ok, IfOk}
+use Rattle.std.proofs.Common.{Vec, Box, Global, Result, Ok, Err, IfOk}
 use Rattle.std.specs.declared.alloc.AllocError.{AllocError}
 use Rattle.std.proofs.lemmas.List.{take_more, take_all}
+use Rattle.nesl_lex.specs.declared.token.Span.{Span}
 use Rattle.nesl_syntax_tree.specs.declared.tree.Exp.{Exp}
 use Rattle.nesl_syntax_tree.specs.declared.tree.Binding.{Binding}
 use Rattle.nesl_syntax_tree.specs.declared.tree.Node as declared
 use Rattle.nesl_syntax_tree.specs.declared.tree.Node.TheViews.{the_lemmas}
-use Rattle.nesl_syntax_tree.specs.Trees.{PatternTree, Tree}
+use Rattle.nesl_syntax_tree.specs.Trees.{PatternTree, Tree, Shape, Binders, node}
 use Rattle.nesl_syntax_tree.specs.Trees as trees
 use Rattle.nesl_syntax_tree.specs.Views.{shape_of, tree_of, trees_in, binders_in, pattern_tree}
 use Rattle.nesl_syntax_tree.proofs.Rows.{row_is, row_of_binders_is}
+use Rattle.nesl_builtins.specs.declared.builtin.Builtin.{Builtin}
 use Rattle.nesl_eval_code.specs.declared.code.Code.{Code}
+use Rattle.nesl_eval_code.specs.declared.code.Code as code
 use Rattle.nesl_eval_meaning.specs.Names.{Name}
 use Rattle.nesl_eval_meaning.specs.Outcome.{sources, greatest_number}
 use Rattle.nesl_eval_code.specs.Means.{Means, AllMean, BindingsMean, Layer, bindings, patterns}
@@ -96,13 +99,36 @@ module _ (names : List Name) (ls : List Layer) where
       BindingsMean names ls [] cs (binders_in bs)
   bindings_done bs i cs l h = let F : List Binding → Type 0 = λ y. BindingsMean names ls [] cs (binders_in y) in subst F (take_all i bs l) h
 
--- the code of a part, in its box
-pub part_means : (names : List Name) (ls : List Layer) (r : Result Code AllocError) (b : Box Code Global) (x e : Exp) →
-    IfOk r (λ c. Means names ls c (tree_of x)) → r ≡ Ok b.value → x ≡ e → Means names ls b.value (tree_of e)
-part_means names ls r b x e h o q =
-    let F : Result Code AllocError → Type 0 = λ y. IfOk y (λ c. Means names ls c (tree_of x)) in
-    let G : Exp → Type 0 = λ y. Means names ls b.value (tree_of y) in
-    subst G q (subst F o h)
+-- the code of a part
+pub part_means : (names : List Name) (ls : List Layer) (c : Code) (x e : Exp) → Means names ls c (tree_of x) → x ≡ e → Means names ls c (tree_of e)
+part_means names ls c x e h q = let G : Exp → Type 0 = λ y. Means names ls c (tree_of y) in subst G q h
+
+-- the code of a node of this shape
+pub shown : (names : List Name) (ls : List Layer) (r : Result Code AllocError) (s : Span) (k : Shape) (d : declared.Node) → shape_of d ≡ k →
+    IfOk r (λ c. Means names ls c (node s k)) → IfOk r (λ c. Means names ls c (node s (shape_of d)))
+shown names ls r s k d q h = let F : Shape → Type 0 = λ x. IfOk r (λ c. Means names ls c (node s x)) in subst F (sym q) h
+
+-- the code of a built-in function of two parts, where it stands for a node of this shape
+pub applied : (names : List Name) (ls : List Layer) (r : Result Code AllocError) (s : Span) (f : Builtin) (a b : Tree) (k : Shape) (d : declared.Node) →
+    ((l m : Box Code Global) → Means names ls l.value a → Means names ls m.value b → Means names ls (code.ApplyTwo s f l m) (node s k)) → shape_of d ≡ k →
+    IfOk r (λ c. (l : Box Code Global) × (m : Box Code Global) × (c ≡ code.ApplyTwo s f l m) × Means names ls l.value a × Means names ls m.value b) →
+    IfOk r (λ c. Means names ls c (node s (shape_of d)))
+applied names ls (Ok c) s f a b k d g q h =
+    let F : Shape → Type 0 = λ x. Means names ls c (node s x) in
+    let G : Code → Type 0 = λ x. Means names ls x (node s k) in
+    subst F (sym q) (subst G (sym h.2) (g h.0 h.1 h.3 h.4))
+applied names ls (Err e) s f a b k d g q h = h
+
+pub of_two : (f : Tree → Tree → Shape) (a b c d : Exp) → a ≡ c → b ≡ d → f (tree_of c) (tree_of d) ≡ f (tree_of a) (tree_of b)
+of_two f a b c d p q = ap (λ (x : Exp). f (tree_of x) (tree_of d)) (sym p) ∙ ap (λ (x : Exp). f (tree_of a) (tree_of x)) (sym q)
+
+pub of_three : (f : Tree → Tree → Tree → Shape) (a b c d e g : Exp) → a ≡ d → b ≡ e → c ≡ g →
+    f (tree_of d) (tree_of e) (tree_of g) ≡ f (tree_of a) (tree_of b) (tree_of c)
+of_three f a b c d e g p q r = of_two (λ x y. f x y (tree_of g)) a b d e p q ∙ ap (λ (x : Exp). f (tree_of a) (tree_of b) (tree_of x)) (sym r)
+
+pub of_list : (f : Binders → Tree → Shape) (bs ds : List Binding) (a b : Exp) → bs ≡ ds → a ≡ b →
+    f (binders_in ds) (tree_of b) ≡ f (binders_in bs) (tree_of a)
+of_list f bs ds a b p q = ap (λ (x : List Binding). f (binders_in x) (tree_of b)) (sym p) ∙ ap (λ (x : Exp). f (binders_in bs) (tree_of x)) (sym q)
 
 pub inner_means : (names : List Name) (ls ms : List Layer) (c : Code) (e : Tree) → ls ≡ ms → Means names ls c e → Means names ms c e
 inner_means names ls ms c e q h = let F : List Layer → Type 0 = λ y. Means names y c e in subst F q h

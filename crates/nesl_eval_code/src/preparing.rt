@@ -1,9 +1,12 @@
 //! Preparing expressions: their names are resolved.
 
 ghost use Rattle.std.specs.Prelude.{◌≡◌, ◌∷◌, [], IfOk, pos, min, List};
-ghost use Rattle.nesl_syntax_tree.specs.Trees.{Tree, node, variable, call, element};
+ghost use Rattle.std.proofs.Common.{Box, Global as Heap};
+ghost use Rattle.nesl_syntax_tree.specs.Trees.{Tree, node, text, variable, call, element, pair, choice, strided_range};
+ghost use Rattle.nesl_syntax_tree.specs.Trees.{let_in, each, filtered_each};
 ghost use Rattle.nesl_syntax_tree.specs.Views.{tree_of, trees_in, binders_in, pattern_tree};
 ghost use Rattle.nesl_eval_meaning.specs.Outcome.{greatest_number, sources};
+ghost use Rattle.nesl_eval_code.specs.declared.code.Code.{ApplyTwo};
 ghost use Rattle.nesl_eval_code.specs.Means.{Means, AllMean, BindingsMean, Layer, bindings as layer};
 ghost use Rattle.nesl_eval_code.specs.Resolving.{layers_of, known};
 
@@ -16,15 +19,19 @@ use nesl_seqs_base::seq_fn::SeqFn;
 use nesl_syntax_tree::tree::{Binding, Exp, Node, Pattern};
 use std::alloc::{AllocError, Global};
 
+/// Where the code of an expression is put, and the names that it sees.
+#[derive(Clone, Copy)]
+struct Preparing<'a> {
+    alloc: Global,
+    places: &'a Places<'a>,
+    layers: &'a Layers<'a>,
+}
+
 /// The code of an expression whose local names stand in these frames. It recurs as deep as the expression is high.
 #[cycle(prepare)]
-fn code_of(
-    alloc: Global,
-    places: &Places<'_>,
-    exp: &Exp,
-    layers: &Layers<'_>,
-) -> Result<Code, AllocError>
-    ensures { IfOk result (λ c. Means (known places.now) (layers_of layers.now) c (tree_of exp.now)) }
+#[inline(never)]
+fn code_of(at: &Preparing<'_>, exp: &Exp) -> Result<Code, AllocError>
+    ensures { IfOk result (λ c. Means (known at.now.places.now) (layers_of at.now.layers.now) c (tree_of exp.now)) }
 {
     let span = exp.span;
     match &exp.node {
@@ -40,22 +47,15 @@ fn code_of(
             span,
             value: *value,
         }),
-        Node::Text(bytes) => {
-            let bytes = Vec::from_slice(alloc, bytes.as_slice())?;
-            Ok(Code::Text { span, bytes })
-        }
-        Node::Variable(name) => code_of_variable(alloc, places, layers, span, name.as_slice()),
+        Node::Text(bytes) => code_of_text(at, span, bytes.as_slice()),
+        Node::Variable(name) => code_of_variable(at, span, name.as_slice()),
         Node::Call { name, argument } => {
-            let argument = boxed(alloc, code_of(alloc, places, argument, layers))?;
-            code_of_call(alloc, places, span, name.as_slice(), argument)
+            let argument = boxed_code_of(at, argument)?;
+            code_of_call(at, span, name.as_slice(), argument)
         }
-        Node::Pair { left, right } => {
-            let left = boxed(alloc, code_of(alloc, places, left, layers))?;
-            let right = boxed(alloc, code_of(alloc, places, right, layers))?;
-            Ok(Code::Pair { span, left, right })
-        }
+        Node::Pair { left, right } => code_of_pair(at, span, left, right),
         Node::Prefix { operator, operand } => {
-            let argument = boxed(alloc, code_of(alloc, places, operand, layers))?;
+            let argument = boxed_code_of(at, operand)?;
             Ok(Code::Apply {
                 span,
                 function: of_prefix(*operator),
@@ -66,126 +66,224 @@ fn code_of(
             operator,
             left,
             right,
-        } => {
-            let left = boxed(alloc, code_of(alloc, places, left, layers))?;
-            let right = boxed(alloc, code_of(alloc, places, right, layers))?;
-            Ok(Code::ApplyTwo {
-                span,
-                function: of_infix(*operator),
-                left,
-                right,
-            })
-        }
+        } => code_of_two(at, span, of_infix(*operator), left, right),
         Node::Index { sequence, index } => {
-            let left = boxed(alloc, code_of(alloc, places, sequence, layers))?;
-            let right = boxed(alloc, code_of(alloc, places, index, layers))?;
-            Ok(Code::ApplyTwo {
-                span,
-                function: Builtin::OfSequences(SeqFn::ElementAt),
-                left,
-                right,
-            })
+            let function = Builtin::OfSequences(SeqFn::ElementAt);
+            code_of_two(at, span, function, sequence, index)
         }
-        Node::Choice { test, yes, no } => {
-            let test = boxed(alloc, code_of(alloc, places, test, layers))?;
-            let yes = boxed(alloc, code_of(alloc, places, yes, layers))?;
-            let no = boxed(alloc, code_of(alloc, places, no, layers))?;
-            Ok(Code::Choice {
-                span,
-                test,
-                yes,
-                no,
-            })
-        }
+        Node::Choice { test, yes, no } => code_of_choice(at, span, test, yes, no),
         Node::Sequence(items) => {
-            let parts = codes_of(alloc, places, items.as_slice(), layers)?;
+            let parts = codes_of(at, items.as_slice())?;
             Ok(Code::Sequence { span, parts })
         }
         Node::Empty(_) => Ok(Code::Empty { span }),
         Node::Range { from, to } => {
-            let left = boxed(alloc, code_of(alloc, places, from, layers))?;
-            let right = boxed(alloc, code_of(alloc, places, to, layers))?;
-            Ok(Code::ApplyTwo {
-                span,
-                function: Builtin::OfSequences(SeqFn::Range),
-                left,
-                right,
-            })
+            let function = Builtin::OfSequences(SeqFn::Range);
+            code_of_two(at, span, function, from, to)
         }
-        Node::StridedRange { from, to, stride } => {
-            let first = boxed(alloc, code_of(alloc, places, from, layers))?;
-            let second = boxed(alloc, code_of(alloc, places, to, layers))?;
-            let third = boxed(alloc, code_of(alloc, places, stride, layers))?;
-            Ok(Code::ApplyThree {
-                span,
-                function: Builtin::OfSequences(SeqFn::RangeBy),
-                first,
-                second,
-                third,
-            })
-        }
-        Node::Let {
-            bindings: bound,
-            body,
-        } => {
-            let bound = bound.as_slice();
-            let bindings = codes_of_bindings(alloc, places, bound, layers)?;
-            let inner = behind(bound, &*layers);
-            let body = boxed(alloc, code_of(alloc, places, body, &inner))?;
-            Ok(Code::Let {
-                span,
-                bindings,
-                body,
-            })
-        }
-        Node::Each {
-            body,
-            bindings: drawn,
-        } => {
-            let drawn = drawn.as_slice();
-            let sources = codes_of_sources(alloc, places, drawn, layers)?;
-            let inner = inside(drawn, &*layers);
-            let body = boxed(alloc, code_of(alloc, places, body, &inner))?;
-            Ok(Code::Each {
-                span,
-                sources,
-                body,
-            })
-        }
+        Node::StridedRange { from, to, stride } => code_of_strided(at, span, from, to, stride),
+        Node::Let { bindings, body } => code_of_let(at, span, bindings.as_slice(), body),
+        Node::Each { body, bindings } => code_of_each(at, span, body, bindings.as_slice()),
         Node::FilteredEach {
             body,
-            bindings: drawn,
+            bindings,
             filter,
-        } => {
-            let drawn = drawn.as_slice();
-            let sources = codes_of_sources(alloc, places, drawn, layers)?;
-            let inner = inside(drawn, &*layers);
-            let body = boxed(alloc, code_of(alloc, places, body, &inner))?;
-            let filter = boxed(alloc, code_of(alloc, places, filter, &inner))?;
-            Ok(Code::FilteredEach {
-                span,
-                sources,
-                body,
-                filter,
-            })
-        }
-        Node::Element => code_of_element(alloc, places, layers, span),
+        } => code_of_filtered(at, span, body, bindings.as_slice(), filter),
+        Node::Element => code_of_element(at, span),
     }
+}
+
+/// The code of an expression, in a box.
+#[cycle(prepare)]
+#[inline(never)]
+fn boxed_code_of(at: &Preparing<'_>, exp: &Exp) -> Result<Box<Code>, AllocError>
+    ensures { IfOk result (λ b. Means (known at.now.places.now) (layers_of at.now.layers.now) b.value
+        (tree_of exp.now)) }
+{
+    let code = code_of(at, exp)?;
+    let boxed = Box::new(at.alloc, code)?;
+    Ok(boxed)
+}
+
+/// The code of a pair.
+#[cycle(prepare)]
+#[inline(never)]
+fn code_of_pair(at: &Preparing<'_>, span: Span, left: &Exp, right: &Exp) -> Result<Code, AllocError>
+    ensures { IfOk result (λ c. Means (known at.now.places.now) (layers_of at.now.layers.now) c
+        (node span (pair (tree_of left.now) (tree_of right.now)))) }
+{
+    let left = boxed_code_of(at, left)?;
+    let right = boxed_code_of(at, right)?;
+    Ok(Code::Pair { span, left, right })
+}
+
+/// The code of a built-in function of two parts.
+#[cycle(prepare)]
+#[inline(never)]
+fn code_of_two(
+    at: &Preparing<'_>,
+    span: Span,
+    function: Builtin,
+    left: &Exp,
+    right: &Exp,
+) -> Result<Code, AllocError>
+    ensures { IfOk result (λ c. (l : Box Code Heap) × (r : Box Code Heap) × (c ≡ ApplyTwo span function l r)
+        × Means (known at.now.places.now) (layers_of at.now.layers.now) l.value (tree_of left.now)
+        × Means (known at.now.places.now) (layers_of at.now.layers.now) r.value (tree_of right.now)) }
+{
+    let left = boxed_code_of(at, left)?;
+    let right = boxed_code_of(at, right)?;
+    Ok(Code::ApplyTwo {
+        span,
+        function,
+        left,
+        right,
+    })
+}
+
+/// The code of a range with a stride.
+#[cycle(prepare)]
+#[inline(never)]
+fn code_of_strided(
+    at: &Preparing<'_>,
+    span: Span,
+    from: &Exp,
+    to: &Exp,
+    stride: &Exp,
+) -> Result<Code, AllocError>
+    ensures { IfOk result (λ c. Means (known at.now.places.now) (layers_of at.now.layers.now) c
+        (node span (strided_range (tree_of from.now) (tree_of to.now) (tree_of stride.now)))) }
+{
+    let first = boxed_code_of(at, from)?;
+    let second = boxed_code_of(at, to)?;
+    let third = boxed_code_of(at, stride)?;
+    Ok(Code::ApplyThree {
+        span,
+        function: Builtin::OfSequences(SeqFn::RangeBy),
+        first,
+        second,
+        third,
+    })
+}
+
+/// The code of a choice.
+#[cycle(prepare)]
+#[inline(never)]
+fn code_of_choice(
+    at: &Preparing<'_>,
+    span: Span,
+    test: &Exp,
+    yes: &Exp,
+    no: &Exp,
+) -> Result<Code, AllocError>
+    ensures { IfOk result (λ c. Means (known at.now.places.now) (layers_of at.now.layers.now) c
+        (node span (choice (tree_of test.now) (tree_of yes.now) (tree_of no.now)))) }
+{
+    let test = boxed_code_of(at, test)?;
+    let yes = boxed_code_of(at, yes)?;
+    let no = boxed_code_of(at, no)?;
+    Ok(Code::Choice {
+        span,
+        test,
+        yes,
+        no,
+    })
+}
+
+/// The code of a `let`, whose body sees the names of all its bindings.
+#[cycle(prepare)]
+#[inline(never)]
+fn code_of_let(
+    at: &Preparing<'_>,
+    span: Span,
+    bound: &[Binding],
+    body: &Exp,
+) -> Result<Code, AllocError>
+    ensures { IfOk result (λ c. Means (known at.now.places.now) (layers_of at.now.layers.now) c
+        (node span (let_in (binders_in bound.now) (tree_of body.now)))) }
+{
+    let bindings = codes_of_bindings(at, bound)?;
+    let layers = behind(bound, at.layers);
+    let inner = Preparing {
+        alloc: at.alloc,
+        places: at.places,
+        layers: &layers,
+    };
+    let body = boxed_code_of(&inner, body)?;
+    Ok(Code::Let {
+        span,
+        bindings,
+        body,
+    })
+}
+
+/// The code of an apply-to-each.
+#[cycle(prepare)]
+#[inline(never)]
+fn code_of_each(
+    at: &Preparing<'_>,
+    span: Span,
+    body: &Exp,
+    drawn: &[Binding],
+) -> Result<Code, AllocError>
+    ensures { IfOk result (λ c. Means (known at.now.places.now) (layers_of at.now.layers.now) c
+        (node span (each (tree_of body.now) (binders_in drawn.now)))) }
+{
+    let sources = codes_of_sources(at, drawn)?;
+    let layers = inside(drawn, at.layers);
+    let inner = Preparing {
+        alloc: at.alloc,
+        places: at.places,
+        layers: &layers,
+    };
+    let body = boxed_code_of(&inner, body)?;
+    Ok(Code::Each {
+        span,
+        sources,
+        body,
+    })
+}
+
+/// The code of an apply-to-each with a filter.
+#[cycle(prepare)]
+#[inline(never)]
+fn code_of_filtered(
+    at: &Preparing<'_>,
+    span: Span,
+    body: &Exp,
+    drawn: &[Binding],
+    filter: &Exp,
+) -> Result<Code, AllocError>
+    ensures { IfOk result (λ c. Means (known at.now.places.now) (layers_of at.now.layers.now) c
+        (node span (filtered_each (tree_of body.now) (binders_in drawn.now) (tree_of filter.now)))) }
+{
+    let sources = codes_of_sources(at, drawn)?;
+    let layers = inside(drawn, at.layers);
+    let inner = Preparing {
+        alloc: at.alloc,
+        places: at.places,
+        layers: &layers,
+    };
+    let body = boxed_code_of(&inner, body)?;
+    let filter = boxed_code_of(&inner, filter)?;
+    Ok(Code::FilteredEach {
+        span,
+        sources,
+        body,
+        filter,
+    })
 }
 
 /// The codes of expressions.
 #[cycle(prepare)]
-fn codes_of(
-    alloc: Global,
-    places: &Places<'_>,
-    items: &[Exp],
-    layers: &Layers<'_>,
-) -> Result<Vec<Code>, AllocError>
-    ensures { IfOk result (λ cs. AllMean (known places.now) (layers_of layers.now) cs.items (trees_in items.now)) }
+#[inline(never)]
+fn codes_of(at: &Preparing<'_>, items: &[Exp]) -> Result<Vec<Code>, AllocError>
+    ensures { IfOk result (λ cs. AllMean (known at.now.places.now) (layers_of at.now.layers.now) cs.items
+        (trees_in items.now)) }
 {
-    let mut codes = Vec::new(alloc);
+    let mut codes = Vec::new(at.alloc);
     for item in items {
-        let code = code_of(alloc, places, item, layers)?;
+        let code = code_of(at, item)?;
         codes.push(code)?;
     }
     Ok(codes)
@@ -193,18 +291,14 @@ fn codes_of(
 
 /// The codes of the sequences of an apply-to-each, which don't see its names.
 #[cycle(prepare)]
-fn codes_of_sources(
-    alloc: Global,
-    places: &Places<'_>,
-    drawn: &[Binding],
-    layers: &Layers<'_>,
-) -> Result<Vec<Code>, AllocError>
-    ensures { IfOk result (λ cs. AllMean (known places.now) (layers_of layers.now) cs.items
+#[inline(never)]
+fn codes_of_sources(at: &Preparing<'_>, drawn: &[Binding]) -> Result<Vec<Code>, AllocError>
+    ensures { IfOk result (λ cs. AllMean (known at.now.places.now) (layers_of at.now.layers.now) cs.items
         (sources (binders_in drawn.now))) }
 {
-    let mut codes = Vec::new(alloc);
+    let mut codes = Vec::new(at.alloc);
     for binder in drawn {
-        let code = code_of(alloc, places, &binder.value, layers)?;
+        let code = code_of(at, &binder.value)?;
         codes.push(code)?;
     }
     Ok(codes)
@@ -212,21 +306,22 @@ fn codes_of_sources(
 
 /// The codes of the bindings of a `let`, each of which sees the names before it.
 #[cycle(prepare)]
-fn codes_of_bindings(
-    alloc: Global,
-    places: &Places<'_>,
-    bound: &[Binding],
-    layers: &Layers<'_>,
-) -> Result<Vec<Code>, AllocError>
-    ensures { IfOk result (λ cs. BindingsMean (known places.now) (layers_of layers.now) [] cs.items
+#[inline(never)]
+fn codes_of_bindings(at: &Preparing<'_>, bound: &[Binding]) -> Result<Vec<Code>, AllocError>
+    ensures { IfOk result (λ cs. BindingsMean (known at.now.places.now) (layers_of at.now.layers.now) [] cs.items
         (binders_in bound.now)) }
 {
-    let mut codes = Vec::new(alloc);
+    let mut codes = Vec::new(at.alloc);
     for (index, binding) in bound.iter().enumerate() {
         let code = {
             let before = &bound[..index];
-            let inner = behind(before, &*layers);
-            code_of(alloc, places, &binding.value, &inner)?
+            let layers = behind(before, at.layers);
+            let inner = Preparing {
+                alloc: at.alloc,
+                places: at.places,
+                layers: &layers,
+            };
+            code_of(&inner, &binding.value)?
         };
         codes.push(code)?;
     }
@@ -237,7 +332,12 @@ fn codes_of_bindings(
 pub fn code_of_expression(alloc: Global, places: &Places<'_>, exp: &Exp) -> Result<Code, AllocError>
     ensures { IfOk result (λ c. Means (known places.now) [] c (tree_of exp.now)) }
 {
-    code_of(alloc, places, exp, &Layers::Top)
+    let at = Preparing {
+        alloc,
+        places,
+        layers: &Layers::Top,
+    };
+    code_of(&at, exp)
 }
 
 /// The code of a function's body, in which its parameter alone is local.
@@ -251,7 +351,12 @@ pub fn code_of_body(
         (tree_of body.now)) }
 {
     let layers = of_body(parameter);
-    code_of(alloc, places, body, &layers)
+    let at = Preparing {
+        alloc,
+        places,
+        layers: &layers,
+    };
+    code_of(&at, body)
 }
 
 /// A number that a tree holds; one beyond the greatest stands for it.
@@ -265,17 +370,23 @@ fn number(value: u64) -> i64
     }
 }
 
-/// The code of a name: a local one, or else one of the top level.
-fn code_of_variable(
-    alloc: Global,
-    places: &Places<'_>,
-    layers: &Layers<'_>,
-    span: Span,
-    name: &[u8],
-) -> Result<Code, AllocError>
-    ensures { IfOk result (λ c. Means (known places.now) (layers_of layers.now) c (node span (variable name.now))) }
+/// The code of a text.
+#[inline(never)]
+fn code_of_text(at: &Preparing<'_>, span: Span, bytes: &[u8]) -> Result<Code, AllocError>
+    ensures { IfOk result (λ c. Means (known at.now.places.now) (layers_of at.now.layers.now) c
+        (node span (text bytes.now))) }
 {
-    if let Some(place) = place_of_local(alloc, layers, name)? {
+    let bytes = Vec::from_slice(at.alloc, bytes)?;
+    Ok(Code::Text { span, bytes })
+}
+
+/// The code of a name: a local one, or else one of the top level.
+#[inline(never)]
+fn code_of_variable(at: &Preparing<'_>, span: Span, name: &[u8]) -> Result<Code, AllocError>
+    ensures { IfOk result (λ c. Means (known at.now.places.now) (layers_of at.now.layers.now) c
+        (node span (variable name.now))) }
+{
+    if let Some(place) = place_of_local(at.alloc, at.layers, name)? {
         return Ok(Code::Local {
             span,
             up: place.up,
@@ -283,25 +394,25 @@ fn code_of_variable(
             steps: place.steps,
         });
     }
-    match place_of(places, name) {
+    match place_of(at.places, name) {
         Some(place) => Ok(Code::Top { span, place }),
         None => {
-            let name = Vec::from_slice(alloc, name)?;
+            let name = Vec::from_slice(at.alloc, name)?;
             Ok(Code::Named { span, name })
         }
     }
 }
 
 /// The code of a name before `(`: a built-in function, or else a function or a datatype of the top level.
+#[inline(never)]
 fn code_of_call(
-    alloc: Global,
-    places: &Places<'_>,
+    at: &Preparing<'_>,
     span: Span,
     name: &[u8],
     argument: Box<Code>,
 ) -> Result<Code, AllocError>
-    ensures { IfOk result (λ c. (ls : List Layer) (e : Tree) → Means (known places.now) ls argument.value e
-        → Means (known places.now) ls c (node span (call name.now e))) }
+    ensures { IfOk result (λ c. (ls : List Layer) (e : Tree) → Means (known at.now.places.now) ls argument.value e
+        → Means (known at.now.places.now) ls c (node span (call name.now e))) }
 {
     if let Some(function) = named(name) {
         return Ok(Code::Apply {
@@ -310,14 +421,14 @@ fn code_of_call(
             argument,
         });
     }
-    match place_of(places, name) {
+    match place_of(at.places, name) {
         Some(place) => Ok(Code::Call {
             span,
             place,
             argument,
         }),
         None => {
-            let name = Vec::from_slice(alloc, name)?;
+            let name = Vec::from_slice(at.alloc, name)?;
             Ok(Code::CallNamed {
                 span,
                 name,
@@ -328,27 +439,15 @@ fn code_of_call(
 }
 
 /// The code of the body of an apply-to-each without a body.
-fn code_of_element(
-    alloc: Global,
-    places: &Places<'_>,
-    layers: &Layers<'_>,
-    span: Span,
-) -> Result<Code, AllocError>
-    ensures { IfOk result (λ c. Means (known places.now) (layers_of layers.now) c (node span element)) }
+#[inline(never)]
+fn code_of_element(at: &Preparing<'_>, span: Span) -> Result<Code, AllocError>
+    ensures { IfOk result (λ c. Means (known at.now.places.now) (layers_of at.now.layers.now) c (node span element)) }
 {
-    let up = element_up(layers)?;
+    let up = element_up(at.layers)?;
     Ok(Code::Local {
         span,
         up,
         index: 0,
-        steps: Vec::new(alloc),
+        steps: Vec::new(at.alloc),
     })
-}
-
-/// The code in a box, if there is one.
-fn boxed(alloc: Global, code: Result<Code, AllocError>) -> Result<Box<Code>, AllocError>
-    ensures { IfOk result (λ b. code ≡ Ok b.value) }
-{
-    let boxed = Box::new(alloc, code?)?;
-    Ok(boxed)
 }
