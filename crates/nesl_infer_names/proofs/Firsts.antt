@@ -1,5 +1,5 @@
 -- What is found first in one part, then in another.
-use Rattle.std.proofs.Common.{◌≡◌, ℕ, List, [], ◌∷◌, ◌++◌, Option, Some, None, refl, sym, ap, subst, ◌∙◌}
+use Rattle.std.proofs.Common.{◌≡◌, ℕ, List, [], ◌∷◌, ◌++◌, Option, Some, None, refl, ap, ◌∙◌}
 use Rattle.nesl_lex.specs.declared.token.Span.{Span}
 use Rattle.nesl_syntax_tree.specs.declared.tree.Exp.{Exp}
 use Rattle.nesl_syntax_tree.specs.Views.{tree_of}
@@ -24,17 +24,3 @@ pub moved : (ns : Names) (ls ms : List (List ℕ)) (e d : Exp) (f g : Option Spa
     → g ≡ earlier f (first (unknown_names ns ms (tree_of d))) → g ≡ earlier f (first (unknown_names ns ls (tree_of e)))
 moved ns ls ms e d f g p q h =
     h ∙ ap (λ (x : List (List ℕ)). earlier f (first (unknown_names ns x (tree_of d)))) p ∙ ap (λ (x : Exp). earlier f (first (unknown_names ns ls (tree_of x)))) q
-
-pub two_parts : (ns : Names) (ls ms : List (List ℕ)) (a d b e : Exp) (f g h : Option Span)
-    → d ≡ a → g ≡ earlier f (first (unknown_names ns ls (tree_of d))) → ms ≡ ls → e ≡ b → h ≡ earlier g (first (unknown_names ns ms (tree_of e)))
-    → h ≡ earlier f (first (unknown_names ns ls (tree_of a) ++ unknown_names ns ls (tree_of b)))
-two_parts ns ls ms a d b e f g h p i q r j =
-    joined f g h (unknown_names ns ls (tree_of a)) (unknown_names ns ls (tree_of b)) (moved ns ls ls a d f g refl p i) (moved ns ls ms b e g h q r j)
-
-pub three_parts : (ns : Names) (ls ms os : List (List ℕ)) (a d b e c x : Exp) (f g h k : Option Span)
-    → d ≡ a → g ≡ earlier f (first (unknown_names ns ls (tree_of d))) → ms ≡ ls → e ≡ b → h ≡ earlier g (first (unknown_names ns ms (tree_of e)))
-    → os ≡ ms → x ≡ c → k ≡ earlier h (first (unknown_names ns os (tree_of x)))
-    → k ≡ earlier f (first (unknown_names ns ls (tree_of a) ++ (unknown_names ns ls (tree_of b) ++ unknown_names ns ls (tree_of c))))
-three_parts ns ls ms os a d b e c x f g h k p i q r j s t l =
-    joined f g k (unknown_names ns ls (tree_of a)) (unknown_names ns ls (tree_of b) ++ unknown_names ns ls (tree_of c)) (moved ns ls ls a d f g refl p i)
-    (joined g h k (unknown_names ns ls (tree_of b)) (unknown_names ns ls (tree_of c)) (moved ns ls ms b e g h q r j) (moved ns ls os c x h k (s ∙ q) t l))

@@ -9,7 +9,7 @@ ghost use Rattle.nesl_infer_names.specs.Names.{unknown_types};
 use crate::patterns::{bind, walk_pattern};
 use crate::scope::Scope;
 use crate::types::walk_type;
-use crate::walk::walk;
+use crate::walk::{Setting, walk};
 use nesl_lex::token::Span;
 use nesl_syntax_tree::tree::{Exp, Pattern, TypeExp};
 use nesl_types::Context;
@@ -25,7 +25,12 @@ pub fn unknown_in_exp<P: Drop>(
 {
     let mut scope = Scope::new(alloc);
     let mut found = None;
-    walk(alloc, context, &None, &mut scope, &mut found, exp)?;
+    let setting = Setting {
+        alloc,
+        context,
+        own: &None,
+    };
+    walk(&setting, &mut scope, &mut found, exp)?;
     Ok(found)
 }
 
@@ -46,7 +51,12 @@ pub fn unknown_in_function<P: Drop>(
     let mut found = None;
     walk_pattern(context, &mut found, pattern);
     bind(alloc, &mut scope, pattern)?;
-    walk(alloc, context, &own, &mut scope, &mut found, body)?;
+    let setting = Setting {
+        alloc,
+        context,
+        own: &own,
+    };
+    walk(&setting, &mut scope, &mut found, body)?;
     Ok(found)
 }
 
