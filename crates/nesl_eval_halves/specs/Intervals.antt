@@ -38,6 +38,6 @@ ArePlaces ks is = ks.items ≡ is
 -- element of each sequence
 abbrev pub IsAtTurn : {R H G T : Type 0} → Machine Global → Interval R H G T → ℕ → Meter → Type 0
 IsAtTurn m i place meter =
-    (m.bodies.now ≡ i.room.now.bodies.now) × (block_of m.code.now ≡ body_block i.block.now) × (m.levels ≡ i.room.now.levels)
-    × (m.meter ≡ meter) × (m.base ≡ 0) × (m.frames.items ≡ []) × (m.stack.items ≡ [])
+    (m.bodies.now ≡ i.room.now.bodies.now) × (block_of m.code.now ≡ body_block i.block.now)
+    × (m.levels ≡ i.room.now.levels) × (m.meter ≡ meter) × (m.base ≡ 0) × (m.frames.items ≡ []) × (m.stack.items ≡ [])
     × (slots_of m ≡ state.places_of i.room.now.names.now ++ row place (map tree_of i.sources.now))

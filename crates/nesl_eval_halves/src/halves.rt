@@ -1,47 +1,39 @@
 //! A machine whose rounds are cut in halves.
-ghost use Rattle.std.specs.Prelude.{◌≡◌, ◌+◌, ◌<◌, ◌≤◌, ◌^◌, ◌∷◌, ◌++◌, [], List, map, length};
+ghost use Rattle.std.specs.Prelude.{◌≡◌, ◌+◌, ◌<◌, ◌≤◌, ◌^◌, ◌∷◌, ◌++◌, [], List, map, MatchResult};
 ghost use Rattle.std.specs.declared.vec.Vec.{Vec};
-ghost use Rattle.std.specs.Thread.{IsSync};
 ghost use Rattle.nesl_values.specs.Tree.{ValueTree};
 ghost use Rattle.nesl_values.specs.View.{tree_of};
 ghost use Rattle.nesl_eval_meaning.specs.Out.{and_then, given};
-ghost use Rattle.nesl_eval_meaning.specs.Outcome.{place_if_true, body_value};
 ghost use Rattle.nesl_eval_blocks.specs.Block.{Block, finish};
 ghost use Rattle.nesl_eval_blocks.specs.Exec.{exec, taken, at_places, kept_of};
 ghost use Rattle.nesl_eval_ops.specs.View.{block_of, body_block};
-ghost use Rattle.nesl_eval_nodes.specs.Sides.{places_of, IsKeptPlace, IsOne, Has};
-ghost use Rattle.nesl_eval_nodes.specs.Meets.{Meets, Is};
+ghost use Rattle.nesl_eval_nodes.specs.Sides.{Has};
+ghost use Rattle.nesl_eval_nodes.specs.Meets.{Meets};
 ghost use Rattle.nesl_eval_machine.specs.State as state;
 ghost use Rattle.nesl_eval_rounds.specs.Rounds.{between, all_values, turn_of, places_left};
 ghost use Rattle.nesl_eval_machine.specs.State.{Fits, HasBodies, unwound, left, left_at, frames_of, slots_of};
 ghost use Rattle.nesl_eval_machine.specs.State.{stack_of, env_of, local_of, left_with, in_rounds, left_at_hand};
-ghost use Rattle.nesl_eval_machine.specs.Steps.{Steps, Moves, Ends};
-ghost use Rattle.nesl_eval_halves.specs.Intervals.{at_turn, filters_in, bodies_in, ArePlaces};
-ghost use Rattle.nesl_eval_halves.specs.Halves.{Within, HalfFinds, Came};
+ghost use Rattle.nesl_eval_machine.specs.Steps.{Steps, Moves, Ends, Gives, Stops};
+ghost use Rattle.nesl_eval_halves.specs.Intervals.{ArePlaces};
+ghost use Rattle.nesl_eval_halves.specs.Halves.{Came};
 
-use crate::columns::{bodies_by_columns, filters_by_columns, room_for};
-use crate::crew::{Crew, fork};
-use crate::turns::{
-    Interval, Parts, Room, Sources, count_left, ends_filter, idle_machine, set_at_turn, settle,
-    take_at_end,
-};
+use crate::crew::Crew;
+use crate::intervals::{bodies_halved, filters_halved};
+use crate::turns::{Interval, Parts, Room, Sources, count_left, ends_filter, may_be_cut, set_down};
 use nesl_eval_machine::state::{Frame, Hand, Machine, Purpose};
 use nesl_eval_machine::take_off;
 use nesl_eval_nodes::held::Tops;
 use nesl_eval_nodes::meter::{Meter, Stop};
-use nesl_eval_nodes::nodes::{add, keep_if, pay, read_truth};
 use nesl_eval_ops::Ops;
 use nesl_eval_rounds::{Round, go_to_body};
-use nesl_split_helpers::{
-    Gate, Half, Helpers, Place, begin_meter, cost_since, join_places, join_values,
-};
+use nesl_split_helpers::{Gate, Helpers, begin_meter};
 use nesl_values::Value;
 use nesl_values_builder::SequenceBuilder;
 use std::alloc::Global;
 use std::thread::Threads;
 
 /// All that is left for a machine. Its rounds are cut in halves where helpers are granted, at most so often one within
-/// another. No run makes 2^64 - 1 moves.
+/// another.
 #[cycle(halves)]
 pub(crate) fn run_in_halves<
     R: Threads + Sync,
@@ -57,27 +49,43 @@ pub(crate) fn run_in_halves<
     ensures { let t = T.table crew.now.tops.now in Fits t machine.old
         → Ends machine.old result machine.new (left t machine.old) }
 {
+    match make_moves(machine, cuts, crew) {
+        Ok(value) => Ok(value),
+        Err(stop) => Err(machine.place_stop(stop)),
+    }
+}
+
+// All moves of a machine, up to the last value. No run makes 2^64 - 1 moves. No other function calls `go_on`, so that
+// it is inlined in this loop.
+#[cycle(halves)]
+fn make_moves<R: Threads + Sync, H: Helpers + Sync, G: Gate + Sync, T: Tops<Global> + Sync>(
+    machine: &mut Machine<'_, Global>,
+    cuts: u32,
+    crew: &Crew<'_, R, H, G, T>,
+) -> Result<Value<Global>, Stop>
+    requires { machine.old.meter.fuel + machine.old.meter.depth < 2 ^ 64 }
+    ensures { let t = T.table crew.now.tops.now in let m = machine.old in Fits t m → MatchResult result
+        (λ v. Gives m v machine.new (left t m))
+        (λ e. Stops (frames_of machine.new) m.meter.fuel e machine.new.meter.fuel (left t m)) }
+{
     let mut hand = Hand::Empty;
     for _ in 0..u64::MAX {
-        match go_on_in_halves(machine, hand, cuts, crew) {
-            Ok(Hand::Done(value)) => return Ok(value),
-            Ok(next) => hand = next,
-            Err(stop) => return Err(machine.place_stop(stop)),
+        if may_be_cut(machine, &hand, cuts) {
+            hand = move_in_halves(machine, hand, cuts, crew)?;
+            continue;
+        }
+        match machine.go_on(crew.tops, hand)? {
+            Hand::Done(value) => return Ok(value),
+            next => hand = next,
         }
     }
     Err(Stop::Memory)
 }
 
-// One move, or all turns of a round in halves.
+// One move where turns may be cut. A value at hand is put on the stack first.
 #[cycle(halves)]
-#[inline(always)]
-fn go_on_in_halves<
-    'a,
-    R: Threads + Sync,
-    H: Helpers + Sync,
-    G: Gate + Sync,
-    T: Tops<Global> + Sync,
->(
+#[inline(never)]
+fn move_in_halves<'a, R: Threads + Sync, H: Helpers + Sync, G: Gate + Sync, T: Tops<Global> + Sync>(
     machine: &mut Machine<'a, Global>,
     hand: Hand<'a, Global>,
     cuts: u32,
@@ -90,14 +98,13 @@ fn go_on_in_halves<
 {
     match hand {
         Hand::Empty => operate_in_halves(machine, cuts, crew),
-        Hand::Holds(value, next) => take_at_end(machine, value, next, crew.tops),
+        Hand::Holds(value, next) => set_down(machine, value, next),
         Hand::Done(value) => Ok(Hand::Done(value)),
     }
 }
 
-// The next operation, where nothing is at hand, or all turns of a round in halves.
+// All turns of a round in halves, where an apply-to-each or the end of a filter comes next. Else nothing is done.
 #[cycle(halves)]
-#[inline(always)]
 fn operate_in_halves<
     'a,
     R: Threads + Sync,
@@ -152,7 +159,7 @@ fn operate_in_halves<
             finish_filter(machine, cuts, crew)?;
             Ok(Hand::Empty)
         }
-        _ => machine.go_on(crew.tops, Hand::Empty),
+        _ => Ok(Hand::Empty),
     }
 }
 
@@ -423,140 +430,6 @@ fn take_filter_turns<
     filters_halved(&whole, round.turns.min(len), len, permit, meter, cuts)
 }
 
-// The places at which a filter holds, one by one.
-#[cycle(halves)]
-#[inline(never)]
-fn filters_one_by_one<R: Threads + Sync, H: Helpers + Sync, G: Gate + Sync, T: Tops<Global> + Sync>(
-    interval: &Interval<'_, R, H, G, T>,
-    from: usize,
-    to: usize,
-    cuts: u32,
-    meter: &mut Meter,
-) -> Result<Vec<usize>, Stop>
-    requires room { meter.old.fuel + meter.old.depth < 2 ^ 64 }
-    requires turns { (from ≤ to) × (to ≤ length (places_of interval.now.places)) }
-    ensures meets { HasBodies (T.table interval.now.crew.now.tops.now) interval.now.room.now.bodies.now
-        → Meets ArePlaces meter.old result meter.new (filters_in T.table interval.now from to) }
-    ensures spent { meter.new.fuel + meter.new.depth ≤ meter.old.fuel + meter.old.depth }
-{
-    let start = meter.depth;
-    let mut most = 0;
-    let mut kept = Vec::new(interval.crew.alloc);
-    let mut machine = idle_machine(interval);
-    for turn in from..to {
-        let place = interval.places.at(turn);
-        meter.depth = 0;
-        let holds = holds_at(interval, &mut machine, place, cuts, meter)?;
-        keep_if(&mut kept, place, holds)?;
-        most = meter.deepest(most);
-    }
-    meter.depth = start + most;
-    Ok(kept)
-}
-
-// The places at which a filter holds, by this thread: in columns, if they can be.
-#[cycle(halves)]
-fn filters_in_order<R: Threads + Sync, H: Helpers + Sync, G: Gate + Sync, T: Tops<Global> + Sync>(
-    interval: &Interval<'_, R, H, G, T>,
-    from: usize,
-    to: usize,
-    cuts: u32,
-    meter: &mut Meter,
-) -> Result<Vec<usize>, Stop>
-    requires room { meter.old.fuel + meter.old.depth < 2 ^ 64 }
-    requires turns { (from ≤ to) × (to ≤ length (places_of interval.now.places)) }
-    ensures meets { HasBodies (T.table interval.now.crew.now.tops.now) interval.now.room.now.bodies.now
-        → Meets ArePlaces meter.old result meter.new (filters_in T.table interval.now from to) }
-    ensures spent { meter.new.fuel + meter.new.depth ≤ meter.old.fuel + meter.old.depth }
-{
-    match filters_by_columns(interval, from, to, meter) {
-        Some(found) => Ok(found),
-        None => filters_one_by_one(interval, from, to, cuts, meter),
-    }
-}
-
-// The places at which a filter holds, in halves where a helper is granted.
-#[cycle(halves)]
-#[inline(never)]
-fn filters<R: Threads + Sync, H: Helpers + Sync, G: Gate + Sync, T: Tops<Global> + Sync>(
-    interval: &Interval<'_, R, H, G, T>,
-    from: usize,
-    to: usize,
-    cuts: u32,
-    meter: &mut Meter,
-) -> Result<Vec<usize>, Stop>
-    requires room { meter.old.fuel + meter.old.depth < 2 ^ 64 }
-    requires turns { (from ≤ to) × (to ≤ length (places_of interval.now.places)) }
-    ensures meets { HasBodies (T.table interval.now.crew.now.tops.now) interval.now.room.now.bodies.now
-        → Meets ArePlaces meter.old result meter.new (filters_in T.table interval.now from to) }
-    ensures spent { meter.new.fuel + meter.new.depth ≤ meter.old.fuel + meter.old.depth }
-{
-    if cuts == 0 || to - from < 2 {
-        return filters_in_order(interval, from, to, cuts, meter);
-    }
-    match interval.crew.helpers.ask() {
-        Some(permit) => filters_halved(interval, from, to, permit, meter, cuts - 1),
-        None => filters_in_order(interval, from, to, cuts, meter),
-    }
-}
-
-// The places at which a filter holds, in halves, with a helper that was granted.
-#[cycle(halves)]
-fn filters_halved<R: Threads + Sync, H: Helpers + Sync, G: Gate + Sync, T: Tops<Global> + Sync>(
-    interval: &Interval<'_, R, H, G, T>,
-    from: usize,
-    to: usize,
-    permit: H::Permit,
-    meter: &mut Meter,
-    cuts: u32,
-) -> Result<Vec<usize>, Stop>
-    requires room { meter.old.fuel + meter.old.depth < 2 ^ 64 }
-    requires turns { (from ≤ to) × (to ≤ length (places_of interval.now.places)) }
-    ensures meets { HasBodies (T.table interval.now.crew.now.tops.now) interval.now.room.now.bodies.now
-        → Meets ArePlaces meter.old result meter.new (filters_in T.table interval.now from to) }
-    ensures spent { meter.new.fuel + meter.new.depth ≤ meter.old.fuel + meter.old.depth }
-{
-    let centre = from + (to - from) / 2;
-    let fuel = meter.fuel;
-    let half = |interval: &Interval<'_, R, H, G, T>, from: usize, to: usize| -> Half<Vec<usize>>
-        requires { IsSync R.row × IsSync H.row × IsSync G.row × IsSync T.row
-            × (from ≤ to) × (to ≤ length (places_of interval.now.places)) }
-        ensures { Within fuel result
-            × (HasBodies (T.table interval.now.crew.now.tops.now) interval.now.room.now.bodies.now → HalfFinds ArePlaces
-            fuel result (filters_in T.table interval.now from to)) }
-    { half_of_filters(interval, from, to, cuts, fuel) };
-    let (left, right) = fork(
-        interval.crew.rt,
-        interval,
-        &half,
-        (from, centre),
-        (centre, to),
-    );
-    interval.crew.helpers.done(permit);
-    join_places(left, right, meter)
-}
-
-// The places at which a filter holds in a half, which has the whole fuel.
-#[cycle(halves)]
-fn half_of_filters<R: Threads + Sync, H: Helpers + Sync, G: Gate + Sync, T: Tops<Global> + Sync>(
-    interval: &Interval<'_, R, H, G, T>,
-    from: usize,
-    to: usize,
-    cuts: u32,
-    fuel: u64,
-) -> Half<Vec<usize>>
-    requires { (from ≤ to) × (to ≤ length (places_of interval.now.places)) }
-    ensures { Within fuel result × (HasBodies (T.table interval.now.crew.now.tops.now) interval.now.room.now.bodies.now
-        → HalfFinds ArePlaces fuel result (filters_in T.table interval.now from to)) }
-{
-    interval.crew.gate.enter(Place::Half(from, to));
-    let begun = begin_meter(fuel);
-    let mut meter = begun;
-    let found = filters(interval, from, to, cuts, &mut meter);
-    let cost = cost_since(begun, meter);
-    Half { found, cost }
-}
-
 // The values of a body in the turns that a round has left, in halves.
 #[cycle(halves)]
 fn take_body_turns<
@@ -588,199 +461,6 @@ fn take_body_turns<
     };
     let len = whole.places.len();
     bodies_halved(&whole, round.turns.min(len), len, permit, meter, cuts)
-}
-
-// The values of a body, one by one.
-#[cycle(halves)]
-#[inline(never)]
-fn bodies_one_by_one<R: Threads + Sync, H: Helpers + Sync, G: Gate + Sync, T: Tops<Global> + Sync>(
-    interval: &Interval<'_, R, H, G, T>,
-    from: usize,
-    to: usize,
-    cuts: u32,
-    meter: &mut Meter,
-) -> Result<SequenceBuilder, Stop>
-    requires room { meter.old.fuel + meter.old.depth < 2 ^ 64 }
-    requires turns { (from ≤ to) × (to ≤ length (places_of interval.now.places)) }
-    ensures meets { HasBodies (T.table interval.now.crew.now.tops.now) interval.now.room.now.bodies.now
-        → Meets Has meter.old result meter.new (bodies_in T.table interval.now from to) }
-    ensures spent { meter.new.fuel + meter.new.depth ≤ meter.old.fuel + meter.old.depth }
-{
-    let start = meter.depth;
-    let mut most = 0;
-    let room = room_for(interval, from, to);
-    let mut builder = SequenceBuilder::with_room(interval.crew.alloc, room);
-    let mut machine = idle_machine(interval);
-    for turn in from..to {
-        let place = interval.places.at(turn);
-        meter.depth = 0;
-        let value = body_at(interval, &mut machine, place, cuts, meter)?;
-        add(&mut builder, value)?;
-        most = meter.deepest(most);
-    }
-    meter.depth = start + most;
-    Ok(builder)
-}
-
-// The values of a body, by this thread: in columns, if they can be.
-#[cycle(halves)]
-fn bodies_in_order<R: Threads + Sync, H: Helpers + Sync, G: Gate + Sync, T: Tops<Global> + Sync>(
-    interval: &Interval<'_, R, H, G, T>,
-    from: usize,
-    to: usize,
-    cuts: u32,
-    meter: &mut Meter,
-) -> Result<SequenceBuilder, Stop>
-    requires room { meter.old.fuel + meter.old.depth < 2 ^ 64 }
-    requires turns { (from ≤ to) × (to ≤ length (places_of interval.now.places)) }
-    ensures meets { HasBodies (T.table interval.now.crew.now.tops.now) interval.now.room.now.bodies.now
-        → Meets Has meter.old result meter.new (bodies_in T.table interval.now from to) }
-    ensures spent { meter.new.fuel + meter.new.depth ≤ meter.old.fuel + meter.old.depth }
-{
-    match bodies_by_columns(interval, from, to, meter) {
-        Some(found) => Ok(found),
-        None => bodies_one_by_one(interval, from, to, cuts, meter),
-    }
-}
-
-// The values of a body, in halves where a helper is granted.
-#[cycle(halves)]
-#[inline(never)]
-fn bodies<R: Threads + Sync, H: Helpers + Sync, G: Gate + Sync, T: Tops<Global> + Sync>(
-    interval: &Interval<'_, R, H, G, T>,
-    from: usize,
-    to: usize,
-    cuts: u32,
-    meter: &mut Meter,
-) -> Result<SequenceBuilder, Stop>
-    requires room { meter.old.fuel + meter.old.depth < 2 ^ 64 }
-    requires turns { (from ≤ to) × (to ≤ length (places_of interval.now.places)) }
-    ensures meets { HasBodies (T.table interval.now.crew.now.tops.now) interval.now.room.now.bodies.now
-        → Meets Has meter.old result meter.new (bodies_in T.table interval.now from to) }
-    ensures spent { meter.new.fuel + meter.new.depth ≤ meter.old.fuel + meter.old.depth }
-{
-    if cuts == 0 || to - from < 2 {
-        return bodies_in_order(interval, from, to, cuts, meter);
-    }
-    match interval.crew.helpers.ask() {
-        Some(permit) => bodies_halved(interval, from, to, permit, meter, cuts - 1),
-        None => bodies_in_order(interval, from, to, cuts, meter),
-    }
-}
-
-// The values of a body, in halves, with a helper that was granted.
-#[cycle(halves)]
-fn bodies_halved<R: Threads + Sync, H: Helpers + Sync, G: Gate + Sync, T: Tops<Global> + Sync>(
-    interval: &Interval<'_, R, H, G, T>,
-    from: usize,
-    to: usize,
-    permit: H::Permit,
-    meter: &mut Meter,
-    cuts: u32,
-) -> Result<SequenceBuilder, Stop>
-    requires room { meter.old.fuel + meter.old.depth < 2 ^ 64 }
-    requires turns { (from ≤ to) × (to ≤ length (places_of interval.now.places)) }
-    ensures meets { HasBodies (T.table interval.now.crew.now.tops.now) interval.now.room.now.bodies.now
-        → Meets Has meter.old result meter.new (bodies_in T.table interval.now from to) }
-    ensures spent { meter.new.fuel + meter.new.depth ≤ meter.old.fuel + meter.old.depth }
-{
-    let centre = from + (to - from) / 2;
-    let fuel = meter.fuel;
-    let half = |interval: &Interval<'_, R, H, G, T>, from: usize, to: usize| -> Half<
-        SequenceBuilder,
-    >
-        requires { IsSync R.row × IsSync H.row × IsSync G.row × IsSync T.row
-            × (from ≤ to) × (to ≤ length (places_of interval.now.places)) }
-        ensures { Within fuel result
-            × (HasBodies (T.table interval.now.crew.now.tops.now) interval.now.room.now.bodies.now → HalfFinds Has
-            fuel result (bodies_in T.table interval.now from to)) }
-    { half_of_bodies(interval, from, to, cuts, fuel) };
-    let (left, right) = fork(
-        interval.crew.rt,
-        interval,
-        &half,
-        (from, centre),
-        (centre, to),
-    );
-    interval.crew.helpers.done(permit);
-    join_values(left, right, meter)
-}
-
-// The values of a body in a half, which has the whole fuel.
-#[cycle(halves)]
-fn half_of_bodies<R: Threads + Sync, H: Helpers + Sync, G: Gate + Sync, T: Tops<Global> + Sync>(
-    interval: &Interval<'_, R, H, G, T>,
-    from: usize,
-    to: usize,
-    cuts: u32,
-    fuel: u64,
-) -> Half<SequenceBuilder>
-    requires { (from ≤ to) × (to ≤ length (places_of interval.now.places)) }
-    ensures { Within fuel result × (HasBodies (T.table interval.now.crew.now.tops.now) interval.now.room.now.bodies.now
-        → HalfFinds Has fuel result (bodies_in T.table interval.now from to)) }
-{
-    interval.crew.gate.enter(Place::Half(from, to));
-    let begun = begin_meter(fuel);
-    let mut meter = begun;
-    let found = bodies(interval, from, to, cuts, &mut meter);
-    let cost = cost_since(begun, meter);
-    Half { found, cost }
-}
-
-// Whether a filter holds at a place.
-#[cycle(halves)]
-fn holds_at<'a, R: Threads + Sync, H: Helpers + Sync, G: Gate + Sync, T: Tops<Global> + Sync>(
-    interval: &Interval<'a, R, H, G, T>,
-    machine: &mut Machine<'a, Global>,
-    place: usize,
-    cuts: u32,
-    meter: &mut Meter,
-) -> Result<bool, Stop>
-    requires { meter.old.fuel + meter.old.depth < 2 ^ 64 }
-    ensures meets { HasBodies (T.table interval.now.crew.now.tops.now) interval.now.room.now.bodies.now
-        → Meets (IsKeptPlace place) meter.old result meter.new
-        (and_then (at_turn T.table interval.now place) (place_if_true place)) }
-    ensures spent { meter.new.fuel + meter.new.depth ≤ meter.old.fuel + meter.old.depth }
-{
-    let value = value_at(interval, machine, place, cuts, meter)?;
-    read_truth(value)
-}
-
-// The value of a body at a place.
-#[cycle(halves)]
-fn body_at<'a, R: Threads + Sync, H: Helpers + Sync, G: Gate + Sync, T: Tops<Global> + Sync>(
-    interval: &Interval<'a, R, H, G, T>,
-    machine: &mut Machine<'a, Global>,
-    place: usize,
-    cuts: u32,
-    meter: &mut Meter,
-) -> Result<Value<Global>, Stop>
-    requires { meter.old.fuel + meter.old.depth < 2 ^ 64 }
-    ensures meets { HasBodies (T.table interval.now.crew.now.tops.now) interval.now.room.now.bodies.now
-        → Meets IsOne meter.old result meter.new (and_then (at_turn T.table interval.now place) body_value) }
-    ensures spent { meter.new.fuel + meter.new.depth ≤ meter.old.fuel + meter.old.depth }
-{
-    let value = value_at(interval, machine, place, cuts, meter)?;
-    pay(value, meter)
-}
-
-// What the block comes to at a place, by a machine that is there for the turns of the interval.
-#[cycle(halves)]
-fn value_at<'a, R: Threads + Sync, H: Helpers + Sync, G: Gate + Sync, T: Tops<Global> + Sync>(
-    interval: &Interval<'a, R, H, G, T>,
-    machine: &mut Machine<'a, Global>,
-    place: usize,
-    cuts: u32,
-    meter: &mut Meter,
-) -> Result<Value<Global>, Stop>
-    requires { meter.old.fuel + meter.old.depth < 2 ^ 64 }
-    ensures meets { HasBodies (T.table interval.now.crew.now.tops.now) interval.now.room.now.bodies.now
-        → Meets Is meter.old result meter.new (at_turn T.table interval.now place) }
-    ensures spent { meter.new.fuel + meter.new.depth ≤ meter.old.fuel + meter.old.depth }
-{
-    set_at_turn(machine, interval, place, *meter)?;
-    let found = run_in_halves(machine, cuts, interval.crew);
-    settle(found, machine.meter, meter)
 }
 
 // The end of the last turn of a filter, whose value is on the stack.

@@ -4,6 +4,7 @@
 mod columns;
 mod crew;
 mod halves;
+mod intervals;
 mod run;
 mod turns;
 

@@ -3,6 +3,7 @@ ghost use Rattle.std.specs.Prelude.{◌≡◌, ◌+◌, ◌<◌, ◌≤◌, ◌^
 ghost use Rattle.nesl_values.specs.Tree.{ValueTree};
 ghost use Rattle.nesl_values.specs.View.{tree_of};
 ghost use Rattle.nesl_eval_meaning.specs.Out.{Out};
+ghost use Rattle.nesl_eval_code.specs.Run.{Table};
 ghost use Rattle.nesl_eval_nodes.specs.Meets.{Meets, Is};
 ghost use Rattle.nesl_eval_machine.specs.State.{Fits, left_at_hand};
 ghost use Rattle.nesl_eval_machine.specs.Steps.{Moves};
@@ -10,7 +11,6 @@ ghost use Rattle.nesl_eval_halves.specs.Intervals.{IsAtTurn};
 
 use crate::crew::Crew;
 use nesl_eval_machine::state::{Frame, Hand, Machine, Purpose};
-use nesl_eval_nodes::held::Tops;
 use nesl_eval_nodes::meter::{Meter, Stop};
 use nesl_eval_nodes::nodes::{keep, share};
 use nesl_eval_nodes::places::Places;
@@ -145,25 +145,41 @@ pub(crate) fn ends_filter(frames: &[Frame<'_, Global>]) -> bool {
     }
 }
 
-/// What is next takes the value at hand. One that ends the last turn of a filter is put on the stack first.
+/// Whether turns may be cut by what comes next: an apply-to-each, or the end of the last turn of a filter.
 #[inline(always)]
-pub(crate) fn take_at_end<'a, T: Tops<Global>>(
+pub(crate) fn may_be_cut(
+    machine: &Machine<'_, Global>,
+    hand: &Hand<'_, Global>,
+    cuts: u32,
+) -> bool {
+    if cuts == 0 {
+        return false;
+    }
+    let next = match hand {
+        Hand::Empty => machine.code,
+        Hand::Holds(_, next) => *next,
+        Hand::Done(_) => return false,
+    };
+    match next {
+        Ops::Each { .. } => true,
+        Ops::Filtered { .. } => true,
+        Ops::Finish => ends_filter(&machine.frames),
+        _ => false,
+    }
+}
+
+/// A value at hand is put on the stack, and nothing is at hand before what is next.
+pub(crate) fn set_down<'a>(
     machine: &mut Machine<'a, Global>,
     value: Value<Global>,
     next: &'a Ops,
-    tops: &T,
 ) -> Result<Hand<'a, Global>, Stop>
     requires { machine.old.meter.fuel + machine.old.meter.depth < 2 ^ 64 }
-    ensures moves { let t = T.table tops.now in let m = machine.old in Fits t m → Moves t m result machine.new
+    ensures moves { (t : Table) → let m = machine.old in Fits t m → Moves t m result machine.new
         (left_at_hand t m (Hand.Holds value next.entry)) }
     ensures bounded { machine.new.meter.fuel + machine.new.meter.depth < 2 ^ 64 }
 {
-    match next {
-        Ops::Finish if ends_filter(&machine.frames) => {
-            keep(&mut machine.stack, value)?;
-            machine.code = next;
-            Ok(Hand::Empty)
-        }
-        _ => machine.go_on(tops, Hand::Holds(value, next)),
-    }
+    keep(&mut machine.stack, value)?;
+    machine.code = next;
+    Ok(Hand::Empty)
 }
