@@ -24,7 +24,7 @@ impl<A: Allocator> Column<A> {
         }
     }
 
-    /// The same leaves, if there is memory for them.
+    /// A copy in another allocator, if that has the memory.
     pub fn copy_into<B: Allocator>(&self, alloc: B) -> Option<Column<B>>
         ensures { IfSome result (λ c. leaves_of c ≡ leaves_of self.now) }
     {

@@ -55,7 +55,7 @@ impl<'a, A: Allocator + Copy> Machine<'a, A> {
         self.take_in_columns(tops, round)
     }
 
-    // The same where the round is that of a filter.
+    // Takes the turns of a round that has had none in columns, if it is that of a filter.
     #[inline(always)]
     fn take_new_filter<T: Tops<A>>(
         &mut self,
@@ -73,7 +73,7 @@ impl<'a, A: Allocator + Copy> Machine<'a, A> {
         }
     }
 
-    // The same where the round is that of a body.
+    // Takes the turns of a round that has had none in columns, if it is that of a body.
     #[inline(always)]
     fn take_new_body<T: Tops<A>>(
         &mut self,

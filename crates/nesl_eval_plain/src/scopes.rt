@@ -15,7 +15,7 @@ pub enum Scopes<'a, A: Allocator> {
     Rows,
     /// The bindings of a `let` so far, each at all turns.
     Let(&'a [Column<A>], &'a Scopes<'a, A>),
-    /// The same at some of the turns, in this order.
+    /// What names stand for at some of the turns alone, in this order.
     Turns(&'a [usize], &'a Scopes<'a, A>),
 }
 

@@ -170,7 +170,7 @@ impl<'a, A: Allocator + Copy> Round<'a, A> {
         Ok(())
     }
 
-    // The same where the filter had its last turn; else nothing.
+    // Goes on to the body once the filter had its last turn. Before that nothing changes.
     #[inline(always)]
     fn go_to_body(&mut self, fuel: u64, alloc: A) -> Result<(), Stop>
         ensures { MatchResult result (λ _. (t : Table) (n : ℕ) (b : Block) (env : Places) (st : List ValueTree)

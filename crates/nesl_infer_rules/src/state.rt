@@ -181,7 +181,8 @@ impl State {
         Ok(())
     }
 
-    /// The same, where the place of the type is noted by the name and `part`, so that it isn't put in again.
+    /// Adds that the variable is an instance of a type. The type's place is noted by the name and `part`, so that it
+    /// isn't put in again.
     fn equate_noted(
         &mut self,
         name: &[u8],

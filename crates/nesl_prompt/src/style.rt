@@ -19,7 +19,7 @@ impl Style {
         !self.prompts && !self.hints
     }
 
-    /// The same without prompts.
+    /// This style without prompts.
     pub fn without_prompts(self) -> Style
         ensures prompts { result.prompts ≡ false }
         ensures hints { result.hints ≡ self.hints }

@@ -432,7 +432,7 @@ pub fn serve_through<R: Threads + Wait + Clock + Sync, G: Gate + Sync, J: Journa
     serve_at(site, None, table, terms, observers)
 }
 
-/// The same, and beside that serves browsers where there is a page for them: each file of it, and users over
+/// Serves users as `serve_through` does, and browsers where there is a page for them: each file of it, and users over
 /// WebSockets. These come on top of the connections that the terms count; once those have ended no browser is let in
 /// any more, and the service ends with the last that was.
 pub fn serve_at<R: Threads + Wait + Clock + Sync, G: Gate + Sync, J: Journal + Sync>(

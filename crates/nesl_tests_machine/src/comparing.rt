@@ -56,7 +56,7 @@ impl<R: Threads + Sync> Asked<'_, R> {
         is_same(&told, &self.in_order(levels, fuel)) && helpers.are_back()
     }
 
-    // The same, where few intervals may be cut one within another.
+    // Whether halves tell the same with these helpers where few intervals may be cut one within another.
     fn agrees_with_few_cuts(&self, levels: u32, fuel: u64, helpers: &Granting) -> bool {
         let top_level = self.env.top_level();
         let crew = Crew {
