@@ -411,7 +411,7 @@ class Claim:
         found = [call for call in self.all_calls
                  if call.clauses and call.name not in ("view", "Value") and name in (title(call), call.owner)]
         if len({call.crate for call in found}) != 1:
-            raise SystemExit(f"scripts/gate/definitions.py: {name}, of CLAIM, is no public call, or one of several crates")
+            raise SystemExit(f"gate/definitions.py: {name}, of CLAIM, is no public call, or one of several crates")
         return found
 
     def models(self, place):
@@ -444,12 +444,12 @@ class Claim:
                 file, _, name = entry.partition(".")
                 fits = [key for key in left if key[1] == file and (not name or (*key, name) in self.needed)]
                 if len(fits) != 1:
-                    raise SystemExit(f"scripts/gate/definitions.py: {len(fits)} files of the claim are {entry}, of SECTIONS")
+                    raise SystemExit(f"gate/definitions.py: {len(fits)} files of the claim are {entry}, of SECTIONS")
                 files.append((fits[0], left.pop(fits[0])))
             sections.append((heading, files))
         if left:
             files = ", ".join(f"{file} of {crate}" for crate, file in left)
-            raise SystemExit(f"scripts/gate/definitions.py: SECTIONS lacks {files}")
+            raise SystemExit(f"gate/definitions.py: SECTIONS lacks {files}")
         return sections
 
     def kit_words(self, places):
