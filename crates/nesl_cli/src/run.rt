@@ -24,6 +24,7 @@ use nesl_prompt::hints::Hints;
 use nesl_prompt::shelf::Shelf;
 use nesl_session::limits::Limits;
 use std::alloc::{AllocError, Global};
+use std::mem::ManuallyDrop;
 
 /// The limits of each session of the program.
 pub const LIMITS: Limits = Limits {
@@ -105,7 +106,10 @@ pub(crate) fn run<'a, S: Source, W: Sink>(
         (S.left reader.old) (S.left reader.new) (W.held writer.old) (W.held writer.new)) }
 {
     let mut house = house_of(alloc, users)?;
-    let Ok(ran) = ran(alloc, reader, writer, &mut house, heap, is_hinted) else {
+    let tried = ran(alloc, reader, writer, &mut house, heap, is_hinted);
+    // The program ends behind a batch: the system takes back all memory of the house at once.
+    let _house = ManuallyDrop::new(house);
+    let Ok(ran) = tried else {
         return Err(Failure::Memory);
     };
     match Failure::of_end(ran.end) {
