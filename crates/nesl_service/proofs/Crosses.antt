@@ -7,12 +7,11 @@ use Rattle.std.specs.declared.sync.ledger.Ledger.{Ghosts}
 use Rattle.nesl_split_helpers.specs.contracts.pool.Pool as pool_row
 use Rattle.nesl_split_helpers.proofs.pool.Kept.TheSendSync as kept_crosses
 use Rattle.nesl_house.proofs.Crosses.{table_sync}
-use Rattle.nesl_house.proofs.lease.Receipt.TheSendSync as receipt_crosses
-use Rattle.nesl_service.proofs.numbers.Numbers.TheSendSync as numbers_crosses
+use Rattle.nesl_service_counts.proofs.Crosses.{receipts_send}
+use Rattle.nesl_service_counts.proofs.numbers.Numbers.TheSendSync as numbers_crosses
 use Rattle.nesl_service.specs.contracts.accept.Door as door_row
 use Rattle.nesl_service.specs.contracts.browse.Lobby as lobby_row
 use Rattle.nesl_service.specs.contracts.crowd.Start as start_row
-use Rattle.nesl_service.specs.contracts.receipts.Receipts as receipts_row
 use Rattle.nesl_service.specs.contracts.service.Service as service_row
 
 pub door_sync : (a : NamedLft) → IsSync (door_row.the_row a)
@@ -23,9 +22,6 @@ lobby_sync a = search (sendable, standard.crosses, door_sync) depth 30 fits 1000
 
 pub start_sync : IsSync start_row.the_row
 start_sync = search (sendable, standard.crosses) depth 30 fits 100000
-
-pub receipts_send : IsSend receipts_row.the_row
-receipts_send = search (sendable, standard.crosses, receipt_crosses.the_send) depth 30 fits 100000
 
 pub pool_sync : (L : RattleType) (g : Ghosts L.Denot) → IsSync L → IsSync (pool_row.the_row L g)
 pool_sync L g l = search (sendable, standard.crosses, kept_crosses.the_send) depth 30 fits 100000

@@ -1,11 +1,11 @@
 //! Browsers: the files of the page, and users over WebSockets.
 
 use crate::accept::Door;
-use crate::numbers::Fault;
 use crate::service::Service;
 use nesl_line::device::Device;
 use nesl_line::exchange::End;
 use nesl_line::serve::Served;
+use nesl_service_counts::numbers::Fault;
 use nesl_service_journal::answers::{Ear, Overheard};
 use nesl_service_journal::journal::{Caller, Journal, Missed};
 use nesl_service_journal::watch::{Timed, Watch};

@@ -4,8 +4,6 @@
 mod accept;
 pub mod browse;
 pub mod crowd;
-pub mod numbers;
 mod opening;
-pub mod receipts;
 pub mod service;
 pub mod wire;
