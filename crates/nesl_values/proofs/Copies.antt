@@ -1,7 +1,8 @@
 -- Copies that are on their way.
-use Rattle.std.proofs.Common.{◌≡◌, ℕ, ◌+◌, List, [], ◌∷◌, ◌++◌, length, map, refl, ap, sym, ◌∙◌, arith, append_assoc}
+use Rattle.std.proofs.Common.{◌≡◌, ◌+◌, List, [], ◌∷◌, ◌++◌, length, map, refl, ap, sym, ◌∙◌, arith, append_assoc}
 use Rattle.std.proofs.lemmas.List.{map-append, nil_from_length}
 use Rattle.nesl_values.specs.Tree.{ValueTree, sequence}
+use Rattle.nesl_values.specs.Parts.{elements}
 use Rattle.nesl_values.specs.View.{tree_of}
 use Rattle.nesl_values.specs.Copying.{around, all_around, work_around, work_above}
 use Rattle.nesl_values.specs.declared.copy.Frame.{Frame}
@@ -22,10 +23,11 @@ framed fs gs f t s push here = ap (λ hs. all_around hs t) push ∙ all_around-p
 pub framed_work : {A B : Type 0} → (fs gs : List (Frame A B)) (f : Frame A B) → gs ≡ fs ++ f ∷ [] → work_above gs ≡ work_above fs + work_around f
 framed_work fs gs f push = ap work_above push ∙ work_above-push fs f
 
-pub sequence_of : {A B : Type 0} → (vs : List (Value A)) (x : Value A) (all others : List (Value A)) (copies : List (Value B)) (t : ValueTree) → t ≡ sequence (map tree_of vs) → all ≡ vs → all ≡ x ∷ others → copies ≡ []
-    → sequence (map tree_of copies ++ tree_of x ∷ map tree_of others) ≡ t
-sequence_of vs x all others copies t is items parts none =
-    ap (λ cs. sequence (map tree_of cs ++ tree_of x ∷ map tree_of others)) none ∙ ap (λ us. sequence (map tree_of us)) (sym parts ∙ items) ∙ sym is
+-- a sequence by its first element and the others, before any of them is copied
+pub opened : {A B : Type 0} → (t : ValueTree) (values : List (Value A)) (first : Value A) (others : List (Value A)) (copies : List (Value B)) → t ≡ sequence (elements t) → map tree_of values ≡ elements t → values ≡ first ∷ others → copies ≡ []
+    → sequence (map tree_of copies ++ tree_of first ∷ map tree_of others) ≡ t
+opened t values first others copies is items parts none =
+    ap (λ cs. sequence (map tree_of cs ++ tree_of first ∷ map tree_of others)) none ∙ ap (λ us. sequence (map tree_of us)) (sym parts) ∙ ap sequence items ∙ sym is
 
 -- one more element of a sequence has been copied
 pub next_element : {A B : Type 0} → (old new : List (Value B)) (copy : Value B) (others rest : List (Value A)) (next : Value A) → new ≡ old ++ copy ∷ [] → others ≡ next ∷ rest

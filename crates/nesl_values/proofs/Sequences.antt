@@ -1,5 +1,5 @@
 -- Sequences, from the list of what their elements are.
-use Rattle.std.proofs.Common.{◌≡◌, ℕ, ◌+◌, ◌<◌, List, length, map, refl, ap, sym, ◌∙◌, arith, Some, option_map, get_or, slice_get}
+use Rattle.std.proofs.Common.{◌≡◌, ℕ, ◌<◌, List, length, map, ap, sym, ◌∙◌, arith, Some, option_map, get_or, slice_get}
 use Rattle.std.proofs.lemmas.Option.{slice_get-map, slice_get_read}
 use Rattle.std.proofs.lemmas.List.{length-map}
 use Rattle.nesl_values.specs.Tree.{ValueTree, sequence}

@@ -1,8 +1,8 @@
 -- How the weight and the number of nodes of values change, as a child is taken out of one and another value is put in its place.
-use Rattle.std.proofs.Common.{◌≡◌, ℕ, zero, suc, ◌+◌, ◌<◌, ◌≤◌, List, [], ◌∷◌, ◌++◌, length, map, get_or, set, refl, ap, sym, ◌∙◌, arith}
-use Rattle.nesl_values.specs.Tree.{ValueTree, trees_of, size, sizes}
+use Rattle.std.proofs.Common.{◌≡◌, ℕ, zero, suc, ◌+◌, ◌<◌, ◌≤◌, List, [], ◌∷◌, ◌++◌, length, get_or, set, ap, arith}
+use Rattle.nesl_values.specs.Tree.{size, sizes}
 use Rattle.nesl_values.specs.View.{tree_of, parts_tree, trees_view}
-use Rattle.nesl_values.specs.Weight.{weight, weights}
+use Rattle.nesl_values.specs.Weight.{weight}
 use Rattle.nesl_values.specs.Dropping.{heft}
 use Rattle.nesl_values.specs.declared.value.Value.{Value}
 use Rattle.nesl_values.specs.declared.node.Parts.{Parts}

@@ -3,12 +3,6 @@ use Rattle.std.specs.Prelude.{ℕ, ◌+◌, ◌*◌, ◌-◌, List, [], ◌∷�
 use Rattle.nesl_values.specs.Tree.{ValueTree, pair, tagged, sequence, size, sizes}
 use Rattle.nesl_values.specs.View.{tree_of, trees_view}
 use Rattle.nesl_values.specs.declared.copy.Frame.{Frame}
-use Rattle.nesl_values.specs.declared.copy.Place.{Place}
-
--- the tree before or after which the copy is
-abbrev pub tree_at : {A B : Type 0} → Place A B → ValueTree
-tree_at (Place.Before v) = tree_of v.now
-tree_at (Place.After w) = tree_of w
 
 -- the node that has that child, by what is known of its other children
 abbrev pub around : {A B : Type 0} → Frame A B → ValueTree → ValueTree
@@ -25,10 +19,6 @@ all_around (f ∷ fs) t = around f (all_around fs t)
 -- bounds on the steps that are left
 abbrev pub work_below : ValueTree → ℕ
 work_below t = 3 * size t - 1
-
-abbrev pub work_at : {A B : Type 0} → Place A B → ℕ
-work_at (Place.Before v) = work_below (tree_of v.now)
-work_at (Place.After w) = 0
 
 abbrev pub work_around : {A B : Type 0} → Frame A B → ℕ
 work_around (Frame.Left right) = 3 * size (tree_of right.now) + 1

@@ -1,5 +1,5 @@
 -- The children of a node are smaller than the node.
-use Rattle.std.specs.Prelude.{ℕ, ◌≤◌, ◌+◌, max, map, List, [], ◌∷◌}
+use Rattle.std.specs.Prelude.{◌≤◌, ◌+◌, max, map, List, [], ◌∷◌}
 use Rattle.std.specs.declared.alloc.Allocator.{Ghosts}
 use Rattle.std.proofs.Common.{arith}
 use denote.Param.Weighed.{most}

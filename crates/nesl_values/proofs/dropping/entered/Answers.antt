@@ -3,7 +3,7 @@ use Rattle.nesl_values.specs.Tree.{size, sizes}
 use Rattle.nesl_values.specs.View.{tree_of, parts_tree, trees_view}
 use Rattle.nesl_values.specs.Weight.{weight}
 use Rattle.nesl_values.specs.Dropping.{heft}
-use Rattle.nesl_values.proofs.Weights.{Exchange, exchanged}
+use Rattle.nesl_values.proofs.Weights.{exchanged}
 use Rattle.nesl_values.proofs.dropping.entered.Goals as goal
 
 pub exchanged-requires-in_default-clause-within : goal.exchanged-requires-in_default-clause-within

@@ -3,7 +3,7 @@ use Rattle.nesl_values.specs.Tree.{size, sizes}
 use Rattle.nesl_values.specs.View.{tree_of, parts_tree, trees_view}
 use Rattle.nesl_values.specs.Weight.{weight}
 use Rattle.nesl_values.specs.Dropping.{heft}
-use Rattle.nesl_values.proofs.Weights.{Exchange, exchanged, heft-append, sizes-push}
+use Rattle.nesl_values.proofs.Weights.{exchanged, heft-append, sizes-push}
 use Rattle.nesl_values.proofs.dropping.turned.Goals as goal
 
 pub overflow_sub-nodes : goal.overflow_sub-nodes

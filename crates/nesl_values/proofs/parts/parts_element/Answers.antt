@@ -1,4 +1,4 @@
-use Rattle.std.proofs.Common.{◌∙◌, sym, ap, rules}
+use Rattle.std.proofs.Common.{ap, rules}
 use Rattle.nesl_values.specs.Tree.{int, boolean, character}
 use Rattle.nesl_values.specs.View.{tree_of, parts_tree}
 use Rattle.nesl_values.proofs.Sequences.{within, element_at}

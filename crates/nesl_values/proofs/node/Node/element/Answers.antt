@@ -1,4 +1,3 @@
-use Rattle.std.proofs.Common.{rules}
 use Rattle.nesl_values.proofs.node.Node.element.Goals as goal
 
 pub parts_element-requires : goal.parts_element-requires
