@@ -3,7 +3,7 @@ ghost use Rattle.std.specs.Prelude.{◌≡◌, ◌↔◌, ◌+◌, ◌*◌, ◌-
 ghost use Rattle.nesl_values.specs.Tree.{pair, tagged, sequence, trees_of, size, sizes};
 ghost use Rattle.nesl_values.specs.Parts.{elements};
 ghost use Rattle.nesl_values.specs.View.{tree_of, item_trees};
-ghost use Rattle.nesl_values.specs.Comparing.{QuestionHolds, work_of, Asks, IsNext, Reduces};
+ghost use Rattle.nesl_values.specs.Comparing.{QuestionHolds, AllMeet, work_of, Asks, IsNext, Reduces};
 
 use crate::items::Items;
 use crate::same::{Comparison, compare};
@@ -41,13 +41,22 @@ impl<A: Allocator> Value<A> {
     {
         let mut questions = Vec::new(alloc);
         ask(&mut questions, Question::Values(self, other))?;
-        while let Some(question) = next_question(&mut questions) {
-            if !answer(&mut questions, question)? {
-                return Ok(false);
-            }
-        }
-        Ok(true)
+        answer_all(&mut questions)
     }
+}
+
+// Whether all the questions are answered by yes.
+fn answer_all<'a, 'b, A: Allocator, B: Allocator, C: Allocator>(
+    questions: &mut Vec<Question<'a, 'b, A, B>, C>,
+) -> Result<bool, AllocError>
+    ensures { IfOk result (λ b. IsTrue b ↔ AllMeet questions.old.items) }
+{
+    while let Some(question) = next_question(questions) {
+        if !answer(questions, question)? {
+            return Ok(false);
+        }
+    }
+    Ok(true)
 }
 
 // The question that comes next.

@@ -79,6 +79,13 @@ impl<A: Allocator> Value<A> {
     pub fn into_pair(self) -> Result<Option<(Value<A>, Value<A>)>, AllocError>
         ensures { IfOk result (λ o. option_map (λ p. (tree_of p.0, tree_of p.1)) o ≡ as_pair (tree_of self)) }
     {
+        self.shared_pair()
+    }
+
+    // The parts of a pair, with one more owner each.
+    fn shared_pair(&self) -> Result<Option<(Value<A>, Value<A>)>, AllocError>
+        ensures { IfOk result (λ o. option_map (λ p. (tree_of p.0, tree_of p.1)) o ≡ as_pair (tree_of self.now)) }
+    {
         match self.as_pair() {
             Some((left, right)) => Ok(Some((left.share()?, right.share()?))),
             None => Ok(None),
@@ -88,6 +95,13 @@ impl<A: Allocator> Value<A> {
     /// The tag and the value that it stands before.
     pub fn into_tagged(self) -> Result<Option<(u64, Value<A>)>, AllocError>
         ensures { IfOk result (λ o. option_map (λ p. (p.0, tree_of p.1)) o ≡ as_tagged (tree_of self)) }
+    {
+        self.shared_inner()
+    }
+
+    // The tag and the value that it stands before, with one more owner.
+    fn shared_inner(&self) -> Result<Option<(u64, Value<A>)>, AllocError>
+        ensures { IfOk result (λ o. option_map (λ p. (p.0, tree_of p.1)) o ≡ as_tagged (tree_of self.now)) }
     {
         match self.as_tagged() {
             Some((tag, inner)) => Ok(Some((tag, inner.share()?))),
