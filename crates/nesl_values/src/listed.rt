@@ -106,9 +106,9 @@ fn answer_values<'a, 'b, A: Allocator, B: Allocator, C: Allocator>(
         questions.old.items questions.new.items) }
 {
     match one.shape() {
-        Shape::Int(n) => Ok(other.as_int() == Some(n)),
-        Shape::Bool(b) => Ok(other.as_bool() == Some(b)),
-        Shape::Char(c) => Ok(other.as_char() == Some(c)),
+        Shape::Int(n) => Ok(other.is_int(n)),
+        Shape::Bool(b) => Ok(other.is_bool(b)),
+        Shape::Char(c) => Ok(other.is_char(c)),
         Shape::Pair(left, right) => answer_pair(questions, left, right, other),
         Shape::Tagged(tag, inner) => answer_tagged(questions, tag, inner, other),
         Shape::Sequence(len) => answer_sequence(questions, one, len, other),
