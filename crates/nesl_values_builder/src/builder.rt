@@ -3,7 +3,7 @@ ghost use Rattle.std.specs.Prelude.{◌≡◌, List, [], ◌∷◌, ◌++◌, ta
 ghost use Rattle.std.specs.Prelude.{vec_len};
 ghost use Rattle.nesl_values.specs.Tree.{int, boolean, character, sequence};
 ghost use Rattle.nesl_values.specs.View.{tree_of, element_tree, item_trees};
-ghost use Rattle.nesl_values_builder.specs.Elements.{elements_of};
+ghost use Rattle.nesl_values_builder.specs.Elements.{elements_of, run_trees};
 
 use crate::leaf::Leaf;
 use crate::run::Run;
@@ -210,6 +210,14 @@ impl<A: Allocator + Copy> SequenceBuilder<A> {
             self.run = run;
             return Ok(());
         }
+        self.append_run(run)
+    }
+
+    // Adds the elements of a run at the end.
+    fn append_run(&mut self, run: Run<A>) -> Result<(), AllocError>
+        ensures ok { OnOk result (elements_of self.new ≡ elements_of self.old ++ run_trees run) }
+        ensures err { OnErr result (elements_of self.new ≡ elements_of self.old) }
+    {
         match run {
             Run::Empty => Ok(()),
             Run::Ints(ints) => self.extend_from_ints(&ints),
