@@ -70,6 +70,12 @@ two_asked P Q R k m n qs mid more first second is h = (
   omega (arith, first.work, second.work),
 )
 
+-- an answer to what holds where another does
+pub reduces_as : {A B : Type 0} → (b : Bool) (P Q : Type 0) (m n : ℕ) (qs more : List (Question A B)) → (Q ↔ P) → m ≤ n → Reduces b P m qs more → Reduces b Q n qs more
+reduces_as true P Q m n qs more is h r =
+    ((λ all. (let both : P × AllMeet qs = r.0.0 all in (is.1 both.0, both.1)), λ all. r.0.1 (is.0 all.0, all.1)), omega (arith, r.1))
+reduces_as false P Q m n qs more is h r = λ q. r (is.0 q)
+
 -- nothing need be asked of lists with no element
 pub none_asked : {A B : Type 0} → (xs ys : List ValueTree) (n : ℕ) (qs : List (Question A B)) → length xs ≡ 0 → length xs ≡ length ys → Asks (xs ≡ ys) n qs qs
 none_asked xs ys n qs none len =

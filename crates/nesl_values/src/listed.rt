@@ -190,16 +190,30 @@ fn answer_elements<'a, 'b, A: Allocator, B: Allocator, C: Allocator>(
             Comparison::Settled(true) => {}
             Comparison::Settled(false) => return Ok(false),
             Comparison::RestsOn(x, y) => {
-                ask_rest(
-                    questions,
-                    one.part(place + 1, len),
-                    other.part(place + 1, len),
-                )?;
-                ask(questions, Question::Values(x, y))?;
-                return Ok(true);
+                let rest = one.part(place + 1, len);
+                return ask_from(questions, x, y, rest, other.part(place + 1, len));
             }
         }
     }
+    Ok(true)
+}
+
+// Asks whether two elements are the same, and whether those behind them are.
+fn ask_from<'a, 'b, A: Allocator, B: Allocator, C: Allocator>(
+    questions: &mut Vec<Question<'a, 'b, A, B>, C>,
+    x: &'a Value<A>,
+    y: &'b Value<B>,
+    one: Items<'a, A>,
+    other: Items<'b, B>,
+) -> Result<bool, AllocError>
+    requires { length (item_trees one) ≡ length (item_trees other) }
+    ensures { IfOk result (λ yes. Reduces yes
+        ((tree_of x.now ≡ tree_of y.now) × (item_trees one.entry ≡ item_trees other.entry))
+        (3 * (size (tree_of x.now) + sizes (trees_of (item_trees one.entry))) + 1)
+        questions.old.items questions.new.items) }
+{
+    ask_rest(questions, one, other)?;
+    ask(questions, Question::Values(x, y))?;
     Ok(true)
 }
 
