@@ -22,6 +22,15 @@ abbrev pub word_among : List Word → List ℕ → Option Word
 word_among [] small = None
 word_among (w ∷ ws) small = if bytes_eq small (word_text w) then Some w else word_among ws small
 
+-- those of these words that have so many letters
+abbrev pub with_letters : ℕ → List Word → List Word
+with_letters n [] = []
+with_letters n (w ∷ ws) = if n == length (word_text w) then w ∷ with_letters n ws else with_letters n ws
+
+-- the reserved words of so many letters
+abbrev pub words_of : ℕ → List Word
+words_of n = with_letters n all_words
+
 abbrev pub word_in : List ℕ → Option Word
 word_in small = word_among all_words small
 

@@ -1,20 +1,19 @@
 // What stands at the front of some bytes.
 
 ghost use Rattle.std.specs.Prelude.{◌≡◌, ◌≢◌, ◌≤◌, ◌<◌, ◌^◌, ◌+◌, ◌-◌, ◌*◌, ◌==◌, ◌↔◌, IsTrue, IfOk, IfSome, IfNone};
-ghost use Rattle.std.specs.Prelude.{length, map, slice_index, Bool};
+ghost use Rattle.std.specs.Prelude.{length, map, slice_index};
 ghost use Rattle.nesl_lex.specs.Lexemes.{is_digit, is_capital, is_letter, is_name_byte, is_printable, is_text_byte};
-ghost use Rattle.nesl_lex.specs.Lexemes.{small_letter, AllBytes, with_digits, word_text, IsTruthText, SpellsName};
-ghost use Rattle.nesl_lex.specs.Lexemes.{sign_text};
+ghost use Rattle.nesl_lex.specs.Lexemes.{small_letter, AllBytes, with_digits, SpellsName, sign_text};
 ghost use Rattle.nesl_lex.specs.Tokens.{lexeme_of};
+ghost use Rattle.nesl_lex.specs.Reading.{word_among, words_of, word_in, truth_in};
 ghost use Rattle.nesl_lex.specs.Scan.{start_of, test_of, front_len, PieceStands, single, double, sign_in};
-ghost use Rattle.nesl_lex.specs.declared.token.Word as word;
 ghost use Rattle.nesl_lex.specs.declared.scan.Start.TheVariants as start;
 
 use crate::token::{Kind, Sign, Word};
 use std::alloc::{AllocError, Global};
 
 /// What a first byte begins.
-#[derive(Clone, Copy, PartialEq, Eq, Debug)]
+#[derive(Clone, Copy)]
 pub enum Start {
     Blank,
     Comment,
@@ -27,7 +26,7 @@ pub enum Start {
 }
 
 /// A kind of byte that stands in a row.
-#[derive(Clone, Copy, PartialEq, Eq, Debug)]
+#[derive(Clone, Copy)]
 pub enum ByteClass {
     Digit,
     NameByte,
@@ -38,7 +37,7 @@ pub enum ByteClass {
 }
 
 /// What stands at the front, and how many bytes it takes.
-#[derive(Debug, Drop)]
+#[derive(Drop)]
 pub enum Piece {
     /// A blank or a comment.
     Gap(usize),
@@ -150,40 +149,95 @@ fn number(digits: &[u8]) -> Option<u64>
     Some(value)
 }
 
+// The reserved word of these two bytes.
+fn word_of_two(bytes: &[u8]) -> Option<Word>
+    ensures { result ≡ word_among (words_of 2) bytes.now }
+{
+    if bytes == b"in".as_slice() {
+        Some(Word::In)
+    } else if bytes == b"if".as_slice() {
+        Some(Word::If)
+    } else if bytes == b"or".as_slice() {
+        Some(Word::Or)
+    } else {
+        None
+    }
+}
+
+// The reserved word of these three bytes.
+fn word_of_three(bytes: &[u8]) -> Option<Word>
+    ensures { result ≡ word_among (words_of 3) bytes.now }
+{
+    if bytes == b"let".as_slice() {
+        Some(Word::Let)
+    } else if bytes == b"nor".as_slice() {
+        Some(Word::Nor)
+    } else if bytes == b"xor".as_slice() {
+        Some(Word::Xor)
+    } else if bytes == b"and".as_slice() {
+        Some(Word::And)
+    } else if bytes == b"int".as_slice() {
+        Some(Word::Int)
+    } else {
+        None
+    }
+}
+
+// The reserved word of these four bytes.
+fn word_of_four(bytes: &[u8]) -> Option<Word>
+    ensures { result ≡ word_among (words_of 4) bytes.now }
+{
+    if bytes == b"then".as_slice() {
+        Some(Word::Then)
+    } else if bytes == b"else".as_slice() {
+        Some(Word::Else)
+    } else if bytes == b"nand".as_slice() {
+        Some(Word::Nand)
+    } else if bytes == b"bool".as_slice() {
+        Some(Word::Bool)
+    } else if bytes == b"char".as_slice() {
+        Some(Word::Char)
+    } else {
+        None
+    }
+}
+
+// The reserved word of these eight bytes.
+fn word_of_eight(bytes: &[u8]) -> Option<Word>
+    ensures { result ≡ word_among (words_of 8) bytes.now }
+{
+    if bytes == b"function".as_slice() {
+        Some(Word::Function)
+    } else if bytes == b"datatype".as_slice() {
+        Some(Word::Datatype)
+    } else {
+        None
+    }
+}
+
 // The reserved word of these bytes.
 fn word(bytes: &[u8]) -> Option<Word>
-    ensures some { IfSome result (λ w. bytes.now ≡ word_text w) }
-    ensures none { IfNone result ((w : word.Word) → bytes.now ≢ word_text w) }
+    ensures { result ≡ word_in bytes.now }
 {
-    match bytes {
-        b"function" => Some(Word::Function),
-        b"datatype" => Some(Word::Datatype),
-        b"let" => Some(Word::Let),
-        b"in" => Some(Word::In),
-        b"if" => Some(Word::If),
-        b"then" => Some(Word::Then),
-        b"else" => Some(Word::Else),
-        b"or" => Some(Word::Or),
-        b"nor" => Some(Word::Nor),
-        b"xor" => Some(Word::Xor),
-        b"and" => Some(Word::And),
-        b"nand" => Some(Word::Nand),
-        b"int" => Some(Word::Int),
-        b"bool" => Some(Word::Bool),
-        b"char" => Some(Word::Char),
+    match bytes.len() {
+        2 => word_of_two(bytes),
+        3 => word_of_three(bytes),
+        4 => word_of_four(bytes),
+        8 => word_of_eight(bytes),
         _ => None,
     }
 }
 
 // The truth value that these bytes name.
 fn truth(bytes: &[u8]) -> Option<bool>
-    ensures some { IfSome result (λ value. IsTruthText bytes.now value) }
-    ensures none { IfNone result ((value : Bool) → IsTruthText bytes.now value → ⊥) }
+    ensures { result ≡ truth_in bytes.now }
 {
-    match bytes {
-        b"t" | b"true" => Some(true),
-        b"f" | b"false" => Some(false),
-        _ => None,
+    if bytes == b"t".as_slice() || bytes == b"true".as_slice() {
+        Some(true)
+    } else if bytes == b"f".as_slice() || bytes == b"false".as_slice() {
+        Some(false)
+    } else {
+        None
     }
 }
 
