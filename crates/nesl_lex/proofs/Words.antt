@@ -54,10 +54,24 @@ truth_found bytes false false false true s a b c d h = inl ((bytes_eq-Decides by
 truth_found bytes false false false false true a b c d h = inr ((bytes_eq-Decides bytes (codes "false")).0 d)
 truth_found bytes false false false false false a b c d h = cc
 
+truth_read : (small : List ℕ) (value : Bool) → truth_in small ≡ Some value → IsTruthText small value
+truth_read small value h = truth_found small value (bytes_eq small (codes "t")) (bytes_eq small (codes "true")) (bytes_eq small (codes "f")) (bytes_eq small (codes "false")) refl refl refl refl h
+
 named_from : (small : List ℕ) (w : Option Word) (v : Option Bool) → word_in small ≡ w → truth_in small ≡ v → SpellsName small (named_by small w v)
 named_from small (Some w) v h k = word_found all_words small w h
-named_from small None (Some v) h k = truth_found small v (bytes_eq small (codes "t")) (bytes_eq small (codes "true")) (bytes_eq small (codes "f")) (bytes_eq small (codes "false")) refl refl refl refl k
+named_from small None (Some v) h k = truth_read small v k
 named_from small None None h k = (refl, word_none small h, λ value t. let e = truth_named small value t in let f : named_in small ≡ name small = rw (h, k) refl in cc)
+
+-- what the code has found they are
+pub word_spelled : (small bytes : List ℕ) (found : Option Word) (w : Word) → bytes ≡ small → found ≡ word_in bytes → found ≡ Some w → small ≡ word_text w
+word_spelled small bytes found w h k e = sym h ∙ word_found all_words bytes w (sym k ∙ e)
+
+pub truth_spelled : (small bytes : List ℕ) (found : Option Bool) (value : Bool) → bytes ≡ small → found ≡ truth_in bytes → found ≡ Some value → IsTruthText small value
+truth_spelled small bytes found value h k e = subst (λ (bs : List ℕ). IsTruthText bs value) h (truth_read bytes value (sym k ∙ e))
+
+pub name_spelled : (small bytes text : List ℕ) (word : Option Word) (value : Option Bool) → bytes ≡ small → word ≡ word_in bytes → ((w : Word) → word ≡ Some w → ⊥) → text ≡ small → value ≡ truth_in text → value ≡ None → SpellsName small (name small)
+name_spelled small bytes text (Some w) value h k n g l f = absurd (n w refl)
+name_spelled small bytes text None value h k n g l f = named_from small None None (ap word_in (sym h) ∙ sym k) (ap truth_in (sym g) ∙ sym l ∙ f)
 
 -- the small letters are that
 pub named_is : (small : List ℕ) → SpellsName small (named_in small)
