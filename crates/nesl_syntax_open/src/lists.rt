@@ -1,9 +1,10 @@
 // Lists of parts: the elements of a sequence, and binders with what they are bound to.
 
-ghost use Rattle.std.specs.Prelude.{◌≡◌, ◌≤◌, ◌<◌, max, IfOk, IfSome, MatchOption, Option};
+ghost use Rattle.std.specs.Prelude.{◌≡◌, ◌≤◌, ◌<◌, ◌∷◌, [], ◌++◌, max, IfOk, IfSome, MatchOption, Option};
 ghost use Rattle.nesl_syntax_tree.specs.Trees.{Tree, Trees, Binders, PatternTree, height, greatest_binder_height, node};
 ghost use Rattle.nesl_syntax_tree.specs.Trees.{span_of, with_last, with_last_binder};
 ghost use Rattle.nesl_syntax_tree.specs.Trees as trees;
+ghost use Rattle.nesl_syntax_open.specs.declared.lists.Elements.TheVariants as elements;
 ghost use Rattle.nesl_syntax_open.specs.declared.lists.Bindings.TheVariants as many;
 ghost use Rattle.nesl_syntax_tree.specs.Views.{shape_of, trees_in, binders_in, tree_of};
 ghost use Rattle.nesl_syntax_tree.specs.Grammar.{spanning, unwritten_body};
@@ -30,31 +31,39 @@ pub enum Bindings {
     High,
 }
 
+// A list with one more.
+#[inline]
+fn pushed<T: Drop>(list: Vec<T>, item: T) -> Result<Vec<T>, AllocError>
+    ensures { IfOk result (λ v. v.items ≡ list.items ++ item ∷ []) }
+{
+    let mut list = list;
+    list.push(item)?;
+    Ok(list)
+}
+
+// Drops the elements of what is too high.
+fn no_elements<T: Drop>(parts: T) -> Elements
+    ensures { result ≡ elements.High }
+{
+    drop(parts);
+    Elements::High
+}
+
 #[tactic(auto, using(nesl_syntax_tree::proofs::Rows::greatest_and_then, nesl_syntax_tree::proofs::Rows::trees_push))]
 pub fn push_part(elements: Elements, part: Part) -> Result<Elements, AllocError>
     ensures { IfOk result (λ r. (xs : Trees) (x : Tree) → SeesAll elements xs → Sees part x →
         SeesAll r (with_last xs x)) }
 {
-    match elements {
-        Elements::Built { items, height: m } => match part {
-            Part::Built { exp, height: n, .. } => {
-                let mut items = items;
-                items.push(Box::into_inner(exp))?;
-                Ok(Elements::Built {
-                    items,
-                    height: m.max(n),
-                })
-            }
-            Part::High(_) => {
-                drop(items);
-                Ok(Elements::High)
-            }
-        },
-        Elements::High => {
-            drop(part);
-            Ok(Elements::High)
-        }
-    }
+    let Elements::Built { items, height: m } = elements else {
+        return Ok(no_elements(part));
+    };
+    let Part::Built { exp, height: n, .. } = part else {
+        return Ok(no_elements(items));
+    };
+    Ok(Elements::Built {
+        items: pushed(items, Box::into_inner(exp))?,
+        height: m.max(n),
+    })
 }
 
 // Drops the parts of what is too high.
@@ -89,12 +98,10 @@ pub fn push_binding(
     else {
         return Ok(not_built((items, pattern)));
     };
-    let mut items = items;
     let pattern = Box::into_inner(pattern);
     let value = Box::into_inner(value);
-    items.push(Binding { pattern, value })?;
     Ok(Bindings::Built {
-        items,
+        items: pushed(items, Binding { pattern, value })?,
         height: m.max(n.max(k)),
     })
 }

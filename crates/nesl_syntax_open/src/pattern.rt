@@ -2,11 +2,12 @@
 
 ghost use Rattle.std.specs.Prelude.{◌≡◌, ◌≤◌, ◌<◌, IfOk, Option, option_map, Some, Err};
 ghost use Rattle.nesl_syntax_tree.specs.Trees.{Tree, PatternTree};
-ghost use Rattle.nesl_syntax_tree.specs.Patterns.{pattern_in};
+ghost use Rattle.nesl_syntax_tree.specs.Patterns.{pattern_in, shape_pair, shape_record, with_span};
 ghost use Rattle.nesl_syntax_tree.specs.Views.{tree_of, pattern_tree};
 ghost use Rattle.nesl_syntax_open.specs.Parts.{Sees, SeesPattern, PatternGiven};
 
 use crate::part::{Part, boxed, boxes, none};
+use nesl_lex::token::Span;
 use nesl_syntax_tree::tree::{Exp, Node, Pattern, PatternNode};
 use std::alloc::{AllocError, Global};
 
@@ -28,6 +29,45 @@ fn run_out<T: Drop, U>(error: AllocError, value: T) -> Result<U, AllocError>
     Err(error)
 }
 
+// A pair's pattern in these bytes, where both its parts are patterns.
+fn pair_from(
+    alloc: Global,
+    span: Span,
+    left: Option<Pattern>,
+    right: Option<Pattern>,
+) -> Result<Option<Pattern>, AllocError>
+    ensures { IfOk result (λ r. option_map pattern_tree r ≡
+        with_span span (shape_pair (option_map pattern_tree left) (option_map pattern_tree right))) }
+{
+    let Some(left) = left else {
+        return Ok(none(right));
+    };
+    let Some(right) = right else {
+        return Ok(none(left));
+    };
+    let (left, right) = boxes(alloc, left, right)?;
+    let node = PatternNode::Pair { left, right };
+    Ok(Some(Pattern { span, node }))
+}
+
+// The pattern of a name before `(` in these bytes, where what the parentheses hold is one.
+fn record_from(
+    alloc: Global,
+    span: Span,
+    name: Vec<u8>,
+    part: Option<Pattern>,
+) -> Result<Option<Pattern>, AllocError>
+    ensures { IfOk result (λ r. option_map pattern_tree r ≡
+        with_span span (shape_record name.items (option_map pattern_tree part))) }
+{
+    let Some(part) = part else {
+        return Ok(none(name));
+    };
+    let part = boxed(alloc, part)?;
+    let node = PatternNode::Record { name, part };
+    Ok(Some(Pattern { span, node }))
+}
+
 // The pattern with an expression's tokens. It recurs over a tree that is at most 100 high.
 fn pattern_from(alloc: Global, exp: Exp) -> Result<Option<Pattern>, AllocError>
     ensures { IfOk result (λ r. option_map pattern_tree r ≡ pattern_in (tree_of exp)) }
@@ -43,34 +83,16 @@ fn pattern_from(alloc: Global, exp: Exp) -> Result<Option<Pattern>, AllocError>
                 Ok(left) => left,
                 Err(error) => return run_out(error, right),
             };
-            let right = match pattern_from(alloc, Box::into_inner(right)) {
-                Ok(right) => right,
-                Err(error) => return run_out(error, left),
-            };
-            let Some(left) = left else {
-                return Ok(none(right));
-            };
-            let Some(right) = right else {
-                return Ok(none(left));
-            };
-            let (left, right) = boxes(alloc, left, right)?;
-            let node = PatternNode::Pair { left, right };
-            Ok(Some(Pattern { span, node }))
-        }
-        Node::Call {
-            name,
-            argument: part,
-        } => match pattern_from(alloc, Box::into_inner(part))? {
-            Some(part) => {
-                let node = PatternNode::Record {
-                    name,
-                    part: boxed(alloc, part)?,
-                };
-                Ok(Some(Pattern { span, node }))
+            match pattern_from(alloc, Box::into_inner(right)) {
+                Ok(right) => pair_from(alloc, span, left, right),
+                Err(error) => run_out(error, left),
             }
-            None => Ok(None),
+        }
+        Node::Call { name, argument } => match pattern_from(alloc, Box::into_inner(argument)) {
+            Ok(part) => record_from(alloc, span, name, part),
+            Err(error) => run_out(error, name),
         },
-        other => Ok(none(other)),
+        other => Ok(none(Exp { span, node: other })),
     }
 }
 
