@@ -2,7 +2,11 @@
 
 ghost use Rattle.std.specs.Prelude.{◌≡◌, ◌≤◌, ◌<◌, ◌∷◌, [], ◌++◌, Err, IfOk, IfErr, IfSome, if◌then◌else◌, None, Some};
 ghost use Rattle.std.specs.Prelude.{List, vec_len};
-ghost use Rattle.nesl_syntax_tree.specs.Trees.{Tree, TypeTree};
+ghost use Rattle.nesl_syntax_tree.specs.Trees.{Tree, TypeTree, height_of};
+ghost use Rattle.nesl_syntax_tree.specs.Trees as trees;
+ghost use Rattle.nesl_syntax_tree.specs.Patterns.{is_pattern_shape};
+ghost use Rattle.nesl_syntax_tree.specs.Views.{shape_of};
+ghost use Rattle.nesl_syntax_open.specs.declared.pending.Pending as pending;
 ghost use Rattle.nesl_syntax_open.specs.Machine.{Waiting, type_at, typing, opened, called, taken_up, before};
 ghost use Rattle.nesl_syntax_open.specs.Machine.{with_newest, marked, separated, listed, mark_level, followed};
 ghost use Rattle.nesl_syntax_open.specs.Machine.{let_closed, let_body, emptied, empty_opening, type_done};
@@ -202,7 +206,7 @@ fn call(stack: &mut Vec<Pending>, fresh: bool, part: Part) -> Result<Mode, Parse
                     stack,
                     Pending::Open(Opening::Call { name, from: span }),
                 ),
-                other => refuse(other),
+                other => refuse(Exp { span, node: other }),
             }
         }
         Part::High(_) => Err(ParseFault::Syntax),
@@ -336,6 +340,15 @@ fn leaf(exp: Box<Exp>, fresh: bool) -> Mode
     }
 }
 
+// A leaf of a tree where an expression is to come.
+fn begin_leaf(alloc: Global, span: Span, node: Node, fresh: bool) -> Result<Mode, ParseFault>
+    ensures { (ps : List pending.Pending) (ws : List Waiting) → SeesStack ps ws → height_of (shape_of node) ≡ 1 →
+        is_pattern_shape (shape_of node) ≡ fresh →
+        Follows result ps (Some (ws, machine.behind fresh (trees.node span (shape_of node)))) }
+{
+    Ok(leaf(make_node(alloc, span, node)?, fresh))
+}
+
 // A sign where an expression is to come.
 #[inline(never)]
 fn begin_sign(
@@ -419,17 +432,11 @@ fn begin(alloc: Global, stack: &mut Vec<Pending>, token: &Token) -> Result<Mode,
 {
     let span = token.span;
     match &token.kind {
-        Kind::Number(n) => Ok(leaf(make_node(alloc, span, Node::Number(*n))?, false)),
-        Kind::Truth(value) => Ok(leaf(make_node(alloc, span, Node::Truth(*value))?, false)),
-        Kind::Character(c) => Ok(leaf(make_node(alloc, span, Node::Character(*c))?, false)),
-        Kind::Text(text) => {
-            let text = Node::Text(text.clone()?);
-            Ok(leaf(make_node(alloc, span, text)?, false))
-        }
-        Kind::Name(name) => {
-            let name = Node::Variable(name.clone()?);
-            Ok(leaf(make_node(alloc, span, name)?, true))
-        }
+        Kind::Number(n) => begin_leaf(alloc, span, Node::Number(*n), false),
+        Kind::Truth(value) => begin_leaf(alloc, span, Node::Truth(*value), false),
+        Kind::Character(c) => begin_leaf(alloc, span, Node::Character(*c), false),
+        Kind::Text(text) => begin_leaf(alloc, span, Node::Text(text.clone()?), false),
+        Kind::Name(name) => begin_leaf(alloc, span, Node::Variable(name.clone()?), true),
         Kind::Reserved(word) => begin_word(alloc, stack, *word, span),
         Kind::Symbol(sign) => begin_sign(alloc, stack, *sign, span),
     }
