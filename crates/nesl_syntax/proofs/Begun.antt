@@ -41,6 +41,10 @@ plain_kind (kind.Reserved w) all ts f g h = absurd (g w refl)
 plain_kind (kind.Symbol s) all ts f g h = absurd (h s refl)
 plain_kind _ all ts f g h = refl
 
+-- a line that is begun as this kind of token begins it
+pub begun_by : (r : Result Form ParseFault) (ts : List Token) (t : Token) (k : Kind) → 1 ≤ length ts → t ≡ get_or ts 0 t → t.kind ≡ k → GivesLine r (begun_line (lexeme_of k) (placed ts) (placed (take (length ts - 1) (drop 1 ts)))) → GivesLine r (line_in (placed ts))
+begun_by r ts t k h e j g = rw (line_from ts t k h e j) g
+
 pub word_line : (r : Result Form ParseFault) (ts : List Token) (t : Token) (w : Word) → 1 ≤ length ts → t ≡ get_or ts 0 t → t.kind ≡ kind.Reserved w → (w ≡ word.Function → ⊥) → (w ≡ word.Datatype → ⊥) → GivesLine r (option_map evaluate (expression (placed ts))) → GivesLine r (line_in (placed ts))
 word_line r ts t w h e j f d g = rw (line_from ts t (kind.Reserved w) h e j ∙ plain_word w (placed ts) _ f d) g
 
