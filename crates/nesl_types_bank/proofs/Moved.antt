@@ -1,8 +1,8 @@
 -- The parts of a type, as they are put into a list.
-use Rattle.std.proofs.Common.{◌≡◌, ◌≢◌, inl, inr, ℕ, zero, suc, ◌+◌, ◌-◌, ◌*◌, ◌<◌, ◌≤◌, Bool, true, false, List, [], ◌∷◌, ◌++◌, Option, None, Some, length, get_or, set, refl, sym, ap, subst, ◌∙◌, true≢false, arith}
+use Rattle.std.proofs.Common.{rules, replicate, ◌≡◌, ◌≢◌, inl, inr, ℕ, zero, suc, ◌+◌, ◌-◌, ◌*◌, ◌<◌, ◌≤◌, Bool, true, false, List, [], ◌∷◌, ◌++◌, Option, None, Some, length, get_or, set, refl, sym, ap, subst, ◌∙◌, true≢false, arith}
 use Rattle.std.proofs.Math.Nat.{suc-mul}
 use Rattle.std.proofs.lemmas.Bool.{cases_lt}
-use Rattle.std.proofs.lemmas.List.{get_or_append_left, get_or_push, length_push, get_or-set_same, get_or-set_other, length-set}
+use Rattle.std.proofs.lemmas.List.{get_or_past, get_or-replicate, length-replicate, get_or_append_left, get_or_push, length_push, get_or-set_same, get_or-set_other, length-set}
 use Rattle.std.specs.List.{list_any}
 use Rattle.nesl_types_bank.specs.Term.{Term, int, seq_of, pair_of}
 use Rattle.nesl_types_bank.specs.declared.shape.Shape.{Shape}
@@ -310,6 +310,30 @@ module _ (from : List Term) (root : ℕ) (shapes : List Shape) (places : List (O
           bottom = λ l. let e = size in let a : 0 < length qs = omega arith in old 0 a ∙ i.bottom a;
           last = λ e. absurd (omega arith);
         }
+
+-- nothing is moved yet
+pub moving_first : (from : List Term) (root : ℕ) (shapes : List Shape) (places : List (Option ℕ)) (stack : List ℕ) → root < length from → shapes ≡ [] → places ≡ replicate (length from) None → stack ≡ root ∷ [] → IsMoving from root shapes places stack
+moving_first from root shapes places stack l a b d =
+    let start : List (Option ℕ) = replicate (length from) None in
+    let size : length start ≡ length from = length-replicate (length from) None in
+    let none : (p : ℕ) → moved_to start p ≡ None = λ p. elim (cases_lt p (length from)) [
+      | inl m ↦ get_or-replicate (length from) p None None m
+      | inr g ↦ get_or_past start p None (omega (arith, size))
+    ] in
+    rw (a, b, d) (record {
+      made = search rules;
+      once = search rules;
+      len = size;
+      moved = λ p q e. let f : None ≡ Some q = sym (none p) ∙ e in cc;
+      all = λ p m h. search rules;
+      closed = search rules;
+      below = search rules;
+      left = λ i m. none _;
+      falls = λ i j m n. absurd (omega arith);
+      order = search rules;
+      bottom = search rules;
+      last = λ e. absurd (omega arith);
+    })
 
 -- in the end all parts are there
 pub all_moved : (from : List Term) (root : ℕ) (shapes : List Shape) (places : List (Option ℕ)) (stack : List ℕ) → stack ≡ [] → IsMoving from root shapes places stack → AreParts shapes (type_at from root)

@@ -1,11 +1,11 @@
 //! Types read out of a graph.
 
-ghost use Rattle.std.specs.Prelude.{◌≡◌, ◌<◌, ◌≤◌, ℕ, [], All, length, true, false, Some as Some', IsTrue, ◌↔◌, IfSome};
+ghost use Rattle.std.specs.Prelude.{◌≡◌, ◌<◌, ◌≤◌, ℕ, [], All, length, replicate, true, false, IsTrue, ◌↔◌, IfSome};
 ghost use Rattle.std.specs.Prelude.{IfNone, IfOk};
 ghost use Rattle.nesl_types_bank.specs.Term.{Term, nodes};
 ghost use Rattle.nesl_types_bank.specs.Types.{type_at, size_of};
 ghost use Rattle.nesl_types_bank.specs.Graph.{node_at, target, FitsGraph, IsGraph, IsFlat, IsRoot, AreRead};
-ghost use Rattle.nesl_types_bank.specs.Readings.{state_at, found, KeepsRead, IsBegun, IsStep, IsReading};
+ghost use Rattle.nesl_types_bank.specs.Readings.{state_at, found, IsBegun, IsStep, IsReading, IsRootRead, IsPlaceRead};
 
 use crate::bank::Bank;
 use crate::shape::Shape;
@@ -144,10 +144,8 @@ fn read_root(
     requires reading { IsReading graph.now states.old bank.old [] }
     requires unread { (a : ℕ) → state_at states.old root ≡ State.Read a → ⊥ }
     requires empty { stack.old.items ≡ [] }
-    ensures empty { IfOk result (λ done. done ≡ true → stack.new.items ≡ []) }
-    ensures keeps { IfOk result (λ done. done ≡ true → KeepsRead states.old states.new) }
-    ensures reading { IfOk result (λ done. done ≡ true → IsReading graph.now states.new bank.new []) }
-    ensures read { IfOk result (λ done. done ≡ true → (a : ℕ) × (state_at states.new root ≡ State.Read a)) }
+    ensures read { IfOk result (λ done. done ≡ true
+        → IsRootRead graph.now states.old states.new bank.new stack.new.items root) }
     ensures none { IfOk result (λ done. done ≡ false → (w : ℕ → Term) → FitsGraph w graph.now → ⊥) }
 {
     if !begin(states, stack, root)? {
@@ -181,10 +179,8 @@ fn read_place(
     requires within { place < length graph.now }
     requires reading { IsReading graph.now states.old bank.old [] }
     requires empty { stack.old.items ≡ [] }
-    ensures empty { IfOk result (λ r. IfSome r (λ at. stack.new.items ≡ [])) }
-    ensures keeps { IfOk result (λ r. IfSome r (λ at. KeepsRead states.old states.new)) }
-    ensures reading { IfOk result (λ r. IfSome r (λ at. IsReading graph.now states.new bank.new [])) }
-    ensures found { IfOk result (λ r. IfSome r (λ at. found graph.now states.new place ≡ Some' at)) }
+    ensures read { IfOk result
+        (λ r. IfSome r (IsPlaceRead graph.now states.old states.new bank.new stack.new.items place)) }
     ensures none { IfOk result (λ r. IfNone r ((w : ℕ → Term) → FitsGraph w graph.now → ⊥)) }
 {
     if let Some(at) = found(graph, states, place) {
@@ -196,6 +192,34 @@ fn read_place(
     Ok(found(graph, states, place))
 }
 
+/// Reads the types at all places in order, and notes the place of each in the bank, or answers `false` where no types
+/// fit. The stack is lent.
+fn read_each(
+    graph: &[Node],
+    bank: &mut Bank,
+    states: &mut [State],
+    stack: &mut Vec<usize>,
+    places: &mut Vec<usize>,
+) -> Result<bool, AllocError>
+    requires graph { IsGraph graph.now }
+    requires flat { IsFlat graph.now }
+    requires bank { bank.old ≡ [] }
+    requires states { states.old ≡ replicate (length graph.now) State.Unread }
+    requires stack { stack.old.items ≡ [] }
+    requires places { places.old.items ≡ [] }
+    ensures read { IfOk result (λ done. done ≡ true
+        → AreRead graph.now (length graph.now) bank.new places.new.items) }
+    ensures none { IfOk result (λ done. done ≡ false → (w : ℕ → Term) → FitsGraph w graph.now → ⊥) }
+{
+    for place in 0..graph.len() {
+        match read_place(graph, bank, states, stack, place)? {
+            Some(at) => places.push(at)?,
+            None => return Ok(false),
+        }
+    }
+    Ok(true)
+}
+
 /// The types at all places of a graph, each distinct type once, or `None` where no types fit.
 fn read_all(alloc: Global, graph: &[Node]) -> Result<Option<Read>, AllocError>
     requires graph { IsGraph graph.now }
@@ -204,17 +228,20 @@ fn read_all(alloc: Global, graph: &[Node]) -> Result<Option<Read>, AllocError>
     ensures none { IfOk result (λ r. IfNone r ((w : ℕ → Term) → FitsGraph w graph.now → ⊥)) }
 {
     let mut bank = Bank::new(alloc);
-    let mut noted = vec![in alloc; State::Unread; graph.len()]?;
-    let states = noted.as_mut_slice();
+    let mut states = vec![in alloc; State::Unread; graph.len()]?;
     let mut places = Vec::with_capacity(alloc, graph.len())?;
     let mut stack = Vec::with_capacity(alloc, STACK_ROOM)?;
-    for place in 0..graph.len() {
-        match read_place(graph, &mut bank, states, &mut stack, place)? {
-            Some(at) => places.push(at)?,
-            None => return Ok(None),
-        }
+    if read_each(
+        graph,
+        &mut bank,
+        states.as_mut_slice(),
+        &mut stack,
+        &mut places,
+    )? {
+        Ok(Some(Read { bank, places }))
+    } else {
+        Ok(None)
     }
-    Ok(Some(Read { bank, places }))
 }
 
 /// Whether each type at the places has at most so many nodes.

@@ -1,9 +1,9 @@
 //! The parts of types, in lists.
 
-ghost use Rattle.std.specs.Prelude.{◌≡◌, ◌<◌, ◌↔◌, IsTrue, length, IfOk};
+ghost use Rattle.std.specs.Prelude.{◌≡◌, ◌<◌, ◌↔◌, [], None, IsTrue, length, replicate, IfOk, OnOk};
 ghost use Rattle.nesl_types_bank.specs.Shapes.{IsShapeBelow};
 ghost use Rattle.nesl_types_bank.specs.Term.{Term, seq_of};
-ghost use Rattle.nesl_types_bank.specs.Types.{type_at, types};
+ghost use Rattle.nesl_types_bank.specs.Types.{type_at, types, AreDistinct};
 ghost use Rattle.nesl_types_bank.specs.Lists.{AreParts, IsCount, IsStep, moved_to, last_type};
 
 use crate::bank::Bank;
@@ -62,6 +62,38 @@ pub(crate) fn first_room(count: Option<u64>) -> usize {
     }
 }
 
+/// Puts the shapes of the parts of the type at a place into a list, each behind those that it is made of. In `places` is
+/// room for the place in the list of each part, and the stack is lent.
+fn push_listed(
+    from: &Parts<'_>,
+    place: usize,
+    shapes: &mut Vec<Shape>,
+    places: &mut [Option<usize>],
+    stack: &mut Vec<usize>,
+) -> Result<(), AllocError>
+    requires place { place < length from.now }
+    requires distinct { AreDistinct from.now }
+    requires shapes { shapes.old.items ≡ [] }
+    requires places { places.old ≡ replicate (length from.now) None }
+    requires stack { stack.old.items ≡ [] }
+    ensures { OnOk result (AreParts shapes.new.items (type_at from.now place)) }
+{
+    stack.push(place)?;
+    while let Some(next) = stack.pop() {
+        match next_step(places, from.shape(next)) {
+            Step::Push(shape) => {
+                places[next] = Some(shapes.len());
+                shapes.push(shape)?;
+            }
+            Step::Part(part) => {
+                stack.push(next)?;
+                stack.push(part)?;
+            }
+        }
+    }
+    Ok(())
+}
+
 /// The shapes of the parts of the type at a place, each behind those that it is made of, and its own last. Equal types
 /// have equal lists. Room is taken for so many at first.
 pub(crate) fn list_parts(
@@ -76,19 +108,7 @@ pub(crate) fn list_parts(
     let mut shapes = Vec::with_capacity(alloc, room)?;
     let mut places: Vec<Option<usize>> = vec![in alloc; None; from.len()]?;
     let mut stack = Vec::with_capacity(alloc, STACK_ROOM)?;
-    stack.push(place)?;
-    while let Some(next) = stack.pop() {
-        match next_step(&places, from.shape(next)) {
-            Step::Push(shape) => {
-                places[next] = Some(shapes.len());
-                shapes.push(shape)?;
-            }
-            Step::Part(part) => {
-                stack.push(next)?;
-                stack.push(part)?;
-            }
-        }
-    }
+    push_listed(from, place, &mut shapes, places.as_mut_slice(), &mut stack)?;
     Ok(shapes)
 }
 

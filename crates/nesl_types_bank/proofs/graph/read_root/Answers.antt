@@ -1,13 +1,32 @@
-use Rattle.std.proofs.Common.{true, false, subst}
+use Rattle.std.proofs.Common.{rules, ◌≡◌, ℕ, List, [], true, false, refl, subst}
 use Rattle.nesl_types_bank.specs.Graph.{node_at}
 use Rattle.nesl_types_bank.specs.Readings.{IsBegun}
-use Rattle.nesl_types_bank.proofs.Readings.{shape_below, underway_first, underway_put, underway_part, less_put, less_part, cycle}
+use Rattle.nesl_types_bank.proofs.Readings.{IsUnderway, shape_below, underway_first, underway_put, underway_part, less_put, less_part, cycle, read_at_end}
 use Rattle.nesl_types_bank.proofs.graph.read_root.Goals as goal
 
 pub loop-place-init : goal.loop-place-init
 loop-place-init c =
     let begun = subst (IsBegun c.args.states.now c.begin.new.states c.args.stack.now.items c.begin.new.stack.items c.args.root) c.if-not-branch.false c.in_ok-begin.ensures in
     underway_first c.args.graph.now c.args.bank.now c.args.states.now c.begin.new.states c.args.stack.now.items c.begin.new.stack.items c.args.root c.requires.empty c.requires.within c.requires.root begun c.requires.reading
+
+pub returns-then-not-branch-clause-none : goal.returns-then-not-branch-clause-none
+returns-then-not-branch-clause-none c =
+    let begun = subst (IsBegun c.args.states.now c.begin.new.states c.args.stack.now.items c.begin.new.stack.items c.args.root) c.if-not-branch.true c.in_ok-begin.ensures in
+    let r = read_at_end c.args.graph.now c.args.states.now c.args.bank.now c.args.root (begun.no refl) c.requires.reading in
+    λ _ w f. c.requires.unread r.0 r.1
+
+pub returns-clause-read : goal.returns-clause-read
+returns-clause-read c =
+    let ns = c.args.graph.now in
+    let ss = c.loop-place.states in
+    let none : c.loop-place.stack.items ≡ [] = search rules in
+    let i = subst (λ (ps : List ℕ). IsUnderway ns c.loop-place.bank c.args.states.now ss ps c.args.root) none c.loop-place.invariant in
+    λ _. record {
+      empty = search rules;
+      keeps = i.keeps;
+      reading = i.reading;
+      read = read_at_end ns ss c.loop-place.bank c.args.root i.seen i.reading;
+    }
 
 pub put-requires : goal.put-requires
 put-requires c =
