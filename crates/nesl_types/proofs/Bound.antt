@@ -1,6 +1,7 @@
 -- The entries of a map as the list of the top-level names.
-use Rattle.std.proofs.Common.{◌≡◌, ℕ, zero, suc, true, false, List, [], ◌∷◌, Some, None, map, slice_get, cond, refl, ap}
+use Rattle.std.proofs.Common.{◌≡◌, ℕ, zero, suc, true, false, List, [], ◌∷◌, Some, None, map, slice_get, Option, cond, refl, ap, sym, ◌∙◌}
 use Rattle.std.specs.Option.{option_map}
+use Rattle.std.proofs.lemmas.Option.{slice_get-map}
 use Rattle.std.specs.Str.{bytes_eq}
 use Rattle.std.specs.Map.{lookup, values_of}
 use Rattle.indexmap.specs.IndexMap.{insert_entry, set_value_at}
@@ -10,6 +11,10 @@ use Rattle.nesl_types.specs.Names.{found, with_name, with_name_at}
 module _ {K V P : Type 0} (bytes : K → List ℕ) (top : V → Top) (payload : V → P) where
   abbrev pub shown : K × V → List ℕ × Top × P
   shown e = (bytes e.0, top e.1, payload e.1)
+
+  -- the entry at a place of the map is the name at that place of the list
+  pub shown_at : (es : List (K × V)) (i : ℕ) (o : Option (K × V)) → o ≡ slice_get es i → option_map shown o ≡ slice_get (map shown es) i
+  shown_at es i o e = ap (option_map shown) e ∙ sym (slice_get-map shown es i)
 
   -- what the map finds is what the list says
   pub found-shown : (name : List ℕ) (es : List (K × V)) → option_map (λ v. (top v, payload v)) (lookup (λ k. bytes_eq name (bytes k)) es) ≡ found name (map shown es)

@@ -8,7 +8,6 @@ use std::alloc::{AllocError, Global};
 use std::marker::Model;
 
 /// What a top-level name is.
-#[derive(Drop)]
 pub enum Top {
     /// A variable of a type.
     Variable(Ty),
@@ -16,6 +15,17 @@ pub enum Top {
     Function(Scheme),
     /// A datatype: its tag, which is its number in order of definition from 0, and the type that its records hold.
     Datatype(u64, Ty),
+}
+
+// By hand, so that no crate above has to prove how the parts are dropped.
+impl Drop for Top {
+    fn drop(self) {
+        match self {
+            Top::Variable(ty) => drop(ty),
+            Top::Function(scheme) => drop(scheme),
+            Top::Datatype(_, ty) => drop(ty),
+        }
+    }
 }
 
 #[derive(Drop)]
@@ -66,20 +76,27 @@ impl<P> Model for Context<P> {
 }
 
 ghost use Rattle.std.specs.Prelude.{◌≡◌, ◌≢◌, ◌≤◌, ◌<◌, ℕ, Some, false, map, slice_index, vec_len, vec_capacity, IfOk};
-ghost use Rattle.std.specs.Prelude.{slice_get, IsTrue};
+ghost use Rattle.std.specs.Prelude.{slice_get, IsTrue, OnOk};
 ghost use Rattle.std.specs.Option.{option_map};
 ghost use Rattle.nesl_types.specs.declared.bindings.Top.{Top as Tops};
 ghost use Rattle.nesl_types.specs.Names.{AreReached, is_datatype, is_datatype_at, datatype_place, with_name_at};
+
+// Whether a name is the datatype with the tag.
+fn is_datatype(top: &Top, tag: u64) -> bool
+    ensures { result ≡ is_datatype tag top.now }
+{
+    match top {
+        Top::Datatype(number, _) => *number == tag,
+        _ => false,
+    }
+}
 
 // Whether the entry at a place is the datatype with the tag.
 fn is_datatype_at<P: Drop>(bindings: &IndexMap<Vec<u8>, Entry<P>>, place: usize, tag: u64) -> bool
     ensures { result ≡ is_datatype_at (map (λ e. (e.0.items, e.1.top, e.1.payload)) bindings.now.entries) place tag }
 {
     match bindings.get_index(place) {
-        Some((_, entry)) => match entry.top {
-            Top::Datatype(number, _) => number == tag,
-            _ => false,
-        },
+        Some((_, entry)) => is_datatype(&entry.top, tag),
         None => false,
     }
 }
@@ -129,22 +146,24 @@ fn note_place<P: Drop>(
     }
 }
 
-// What shares the parts of types that are kept, and the numbers under which its own types are.
-fn shared_top(alloc: Global, kept: &mut Kept, top: Top) -> Result<(Top, Marks), AllocError>
-    ensures { IfOk result (λ r. r.0 ≡ top) }
-{
-    match top {
-        Top::Variable(ty) => {
-            let (ty, mark) = kept.share(alloc, ty)?;
-            Ok((Top::Variable(ty), Marks::one(mark)))
-        }
-        Top::Function(scheme) => {
-            let (scheme, marks) = scheme.shared(alloc, kept)?;
-            Ok((Top::Function(scheme), marks))
-        }
-        Top::Datatype(tag, ty) => {
-            let (ty, mark) = kept.share(alloc, ty)?;
-            Ok((Top::Datatype(tag, ty), Marks::one(mark)))
+impl Top {
+    // What shares the parts of types that are kept, and the numbers under which its own types are.
+    fn shared(self, alloc: Global, kept: &mut Kept) -> Result<(Top, Marks), AllocError>
+        ensures { IfOk result (λ r. r.0 ≡ self) }
+    {
+        match self {
+            Top::Variable(ty) => {
+                let (ty, mark) = kept.share(alloc, ty)?;
+                Ok((Top::Variable(ty), Marks::one(mark)))
+            }
+            Top::Function(scheme) => {
+                let (scheme, marks) = scheme.shared(alloc, kept)?;
+                Ok((Top::Function(scheme), marks))
+            }
+            Top::Datatype(tag, ty) => {
+                let (ty, mark) = kept.share(alloc, ty)?;
+                Ok((Top::Datatype(tag, ty), Marks::one(mark)))
+            }
         }
     }
 }
@@ -202,6 +221,33 @@ fn set_entry<P: Drop>(
     }
 }
 
+// Makes room for the place of one datatype more, and for the types of one name more.
+fn reserve_types(places: &mut Vec<usize>, kept: &mut Kept) -> Result<(), AllocError>
+    ensures places { places.new.items ≡ places.old.items }
+    ensures room { OnOk result (vec_len places.new < vec_capacity places.new) }
+{
+    places.reserve(1)?;
+    kept.reserve()
+}
+
+// Makes room for one name more, and gives the name, owned.
+fn reserve_name<P: Drop>(
+    alloc: Global,
+    name: &[u8],
+    places: &mut Vec<usize>,
+    bindings: &mut IndexMap<Vec<u8>, Entry<P>>,
+    kept: &mut Kept,
+) -> Result<Vec<u8>, AllocError>
+    ensures places { places.new.items ≡ places.old.items }
+    ensures room { OnOk result (vec_len places.new < vec_capacity places.new) }
+    ensures bindings { bindings.new.entries ≡ bindings.old.entries }
+    ensures name { IfOk result (λ owned. owned.items ≡ name.now) }
+{
+    reserve_types(places, kept)?;
+    bindings.reserve(1)?;
+    Ok(Vec::from_slice(alloc, name)?)
+}
+
 // The numbers under which the types of an entry are kept.
 fn marks_of<P: Drop>(entry: Option<Entry<P>>) -> Marks {
     match entry {
@@ -211,7 +257,7 @@ fn marks_of<P: Drop>(entry: Option<Entry<P>>) -> Marks {
 }
 
 impl<P: Drop> Context<P> {
-    ghost use Rattle.std.specs.Prelude.{◌≡◌, [], length, OnOk, OnErr, slice_get};
+    ghost use Rattle.std.specs.Prelude.{◌≡◌, [], length, OnErr, slice_get};
     ghost use Rattle.std.specs.Option.{option_map};
     ghost use Rattle.nesl_types.specs.Names.{found, with_name, with_name_at, datatype_at};
 
@@ -266,12 +312,15 @@ impl<P: Drop> Context<P> {
         ensures ok { OnOk result (self.new ≡ with_name name.now top payload self.old) }
         ensures err { OnErr result (self.new ≡ self.old) }
     {
-        self.places.reserve(1)?;
-        self.bindings.reserve(1)?;
-        self.kept.reserve()?;
-        let name = Vec::from_slice(alloc, name)?;
+        let name = reserve_name(
+            alloc,
+            name,
+            &mut self.places,
+            &mut self.bindings,
+            &mut self.kept,
+        )?;
         let tag = tag_of(&top);
-        let (top, marks) = shared_top(alloc, &mut self.kept, top)?;
+        let (top, marks) = top.shared(alloc, &mut self.kept)?;
         let entry = Entry {
             top,
             payload,
@@ -298,10 +347,9 @@ impl<P: Drop> Context<P> {
             set_payload(&mut self.bindings, place, payload);
             return Ok(());
         }
-        self.places.reserve(1)?;
-        self.kept.reserve()?;
+        reserve_types(&mut self.places, &mut self.kept)?;
         let tag = tag_of(&top);
-        let (top, marks) = shared_top(alloc, &mut self.kept, top)?;
+        let (top, marks) = top.shared(alloc, &mut self.kept)?;
         let entry = Entry {
             top,
             payload,

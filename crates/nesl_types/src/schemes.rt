@@ -1,17 +1,19 @@
 //! The types of functions.
 
-ghost use Rattle.std.specs.Prelude.{◌≡◌, ◌++◌, ◌↔◌, [], ℕ, IsTrue, map, length, IfOk};
+ghost use Rattle.std.specs.Prelude.{◌≡◌, ◌<◌, ◌++◌, ◌↔◌, [], ℕ, IsTrue, map, length, IfOk};
 ghost use Rattle.nesl_types_bank.specs.Term.{variable};
 ghost use Rattle.nesl_types.specs.Class.{class_at};
 ghost use Rattle.nesl_types_bank.specs.Substitution.{substitute};
 ghost use Rattle.nesl_types_bank.specs.Shapes.{IsShapeBelow};
+ghost use Rattle.nesl_types_bank.specs.Types.{type_at};
+ghost use Rattle.nesl_types_bank.specs.Lists.{last_type};
 ghost use Rattle.nesl_types.specs.Numbered.{numbered_shape};
 ghost use Rattle.nesl_types_bank.specs.Numbering.{IsBelow, variables, first_occurrences, numbers_below, number_of};
 
 use crate::classes::Class;
 use crate::kept::{Kept, Marks};
 use indexmap::IndexSet;
-use nesl_types_bank::{Bank, Shape, Ty};
+use nesl_types_bank::{Bank, Parts, Shape, Ty};
 use std::alloc::{AllocError, Global};
 
 /// The type of a function: what it takes, what it gives, and the class of each variable of these types.
@@ -59,6 +61,29 @@ fn numbered(seen: &IndexSet<u64>, shape: Shape, places: &[usize]) -> Shape
     }
 }
 
+/// Puts a type into a bank, with the number of each variable in its place, and gives the place of the type there. In
+/// `places` is noted where its parts are.
+fn put_numbered(
+    seen: &IndexSet<u64>,
+    parts: &Parts<'_>,
+    bank: &mut Bank,
+    places: &mut Vec<usize>,
+) -> Result<usize, AllocError>
+    requires some { 0 < length parts.now }
+    requires bank { bank.old ≡ [] }
+    requires places { places.old.items ≡ [] }
+    ensures within { IfOk result (λ p. p < length bank.new) }
+    ensures here { IfOk result (λ p. type_at bank.new p
+        ≡ substitute (λ v. variable (number_of seen.now.keys v)) (last_type parts.now)) }
+{
+    for place in 0..parts.len() {
+        let shape = numbered(seen, parts.shape(place), places.as_slice());
+        let put = bank.put(shape)?;
+        places.push(put)?;
+    }
+    Ok(places[parts.len() - 1])
+}
+
 /// The type with the number of each variable in its place.
 fn renumbered(alloc: Global, seen: &IndexSet<u64>, ty: &Ty) -> Result<Ty, AllocError>
     ensures { IfOk result (λ t. t ≡ substitute (λ v. variable (number_of seen.now.keys v)) ty.now) }
@@ -66,12 +91,8 @@ fn renumbered(alloc: Global, seen: &IndexSet<u64>, ty: &Ty) -> Result<Ty, AllocE
     let parts = ty.parts();
     let mut bank = Bank::new(alloc);
     let mut places = Vec::with_capacity(alloc, parts.len())?;
-    for place in 0..parts.len() {
-        let shape = numbered(seen, parts.shape(place), &places);
-        let put = bank.put(shape)?;
-        places.push(put)?;
-    }
-    Ty::read(alloc, &bank, places[parts.len() - 1])
+    let place = put_numbered(seen, &parts, &mut bank, &mut places)?;
+    Ty::read(alloc, &bank, place)
 }
 
 /// The class of a variable, `Any` where none is given.

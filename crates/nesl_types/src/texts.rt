@@ -244,6 +244,21 @@ fn write_members(out: &mut Vec<u8>, classes: &[Class]) -> Result<(), AllocError>
     write_if(out, started, b')')
 }
 
+/// Writes a scheme.
+fn write_scheme<P: Drop>(
+    alloc: Global,
+    out: &mut Vec<u8>,
+    scheme: &Scheme,
+    context: &Context<P>,
+) -> Result<(), AllocError>
+    ensures { OnOk result (out.new.items ≡ out.old.items ++ text_of_scheme (name_at context.now) scheme.now) }
+{
+    write_type(alloc, out, context, &scheme.argument, true)?;
+    out.extend_from_slice(b" -> ")?;
+    write_type(alloc, out, context, &scheme.result, true)?;
+    write_members(out, &scheme.classes)
+}
+
 /// The text of a scheme. The context has the names of the datatypes.
 pub fn scheme_text<P: Drop>(
     alloc: Global,
@@ -253,9 +268,6 @@ pub fn scheme_text<P: Drop>(
     ensures { IfOk result (λ text. text.items ≡ text_of_scheme (name_at context.now) scheme.now) }
 {
     let mut out = Vec::with_capacity(alloc, TEXT_ROOM)?;
-    write_type(alloc, &mut out, context, &scheme.argument, true)?;
-    out.extend_from_slice(b" -> ")?;
-    write_type(alloc, &mut out, context, &scheme.result, true)?;
-    write_members(&mut out, &scheme.classes)?;
+    write_scheme(alloc, &mut out, scheme, context)?;
     Ok(out)
 }

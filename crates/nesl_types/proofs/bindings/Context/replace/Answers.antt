@@ -20,8 +20,8 @@ note_place-requires-clause-others g c =
     let old = map (shown (λ k. k.items) (λ e. e.top) (λ e. e.payload)) c.self.inside.bindings.entries in
     let e = c.set_entry-before.ensures ∙ ap (λ t. with_name_at c.args.place t c.args.payload old) c.in_ok-top.ensures in
     λ other h.
-    subst (λ ns. slice_index c.reserve.new.self.items other ≤ datatype_place ns other) (sym e)
-    (subst (λ ps. slice_index ps other ≤ datatype_place (with_name_at c.args.place c.args.top c.args.payload old) other) (sym c.in_ok-reserve.ensures.items)
+    subst (λ ns. slice_index c.reserve_types.new.places.items other ≤ datatype_place ns other) (sym e)
+    (subst (λ ps. slice_index ps other ≤ datatype_place (with_name_at c.args.place c.args.top c.args.payload old) other) (sym c.reserve_types.ensures.places)
     (others_reached_at old c.self.inside.places.items c.args.place c.args.top c.args.payload c.self.invariant other (c.tag_of-tag.ensures other h)))
 
 pub returns-clause-ok : goal.returns-clause-ok

@@ -10,13 +10,13 @@ note_place-requires-clause-others g c =
     let old = map row c.self.inside.bindings.entries in
     let e =
     ap (map row) c.in_ok-before.ensures.entries
-    ∙ with_name-shown (λ k. k.items) (λ e. e.top) (λ e. e.payload) c.in_ok-name.name (record { top = c.in_ok-top.top; payload = c.args.payload; marks = c.in_ok-top.marks }) c.reserve-2.new.self.entries
-    ∙ ap (λ es. with_name c.in_ok-name.name.items c.in_ok-top.top c.args.payload (map row es)) c.in_ok-reserve-2.ensures.entries
-    ∙ ap (λ n. with_name n c.in_ok-top.top c.args.payload old) c.in_ok-name.ensures.items
+    ∙ with_name-shown (λ k. k.items) (λ e. e.top) (λ e. e.payload) c.in_ok-name.name (record { top = c.in_ok-top.top; payload = c.args.payload; marks = c.in_ok-top.marks }) c.reserve_name.new.bindings.entries
+    ∙ ap (λ es. with_name c.in_ok-name.name.items c.in_ok-top.top c.args.payload (map row es)) c.reserve_name.ensures.bindings
+    ∙ ap (λ n. with_name n c.in_ok-top.top c.args.payload old) c.in_ok-name.ensures.name
     ∙ ap (λ t. with_name c.args.name.now t c.args.payload old) c.in_ok-top.ensures in
     λ other h.
-    subst (λ ns. slice_index c.reserve.new.self.items other ≤ datatype_place ns other) (sym e)
-    (subst (λ ps. slice_index ps other ≤ datatype_place (with_name c.args.name.now c.args.top c.args.payload old) other) (sym c.in_ok-reserve.ensures.items)
+    subst (λ ns. slice_index c.reserve_name.new.places.items other ≤ datatype_place ns other) (sym e)
+    (subst (λ ps. slice_index ps other ≤ datatype_place (with_name c.args.name.now c.args.top c.args.payload old) other) (sym c.reserve_name.ensures.places)
     (others_reached old c.self.inside.places.items c.args.name.now c.args.top c.args.payload c.self.invariant other (c.tag_of-tag.ensures other h)))
 
 pub returns-clause-ok : goal.returns-clause-ok
@@ -24,8 +24,8 @@ returns-clause-ok g c =
     let row = shown (λ k. k.items) (λ e. e.top) (λ e. e.payload) in
     let old = map row c.self.inside.bindings.entries in
     ap (map row) c.in_ok-before.ensures.entries
-    ∙ with_name-shown (λ k. k.items) (λ e. e.top) (λ e. e.payload) c.in_ok-name.name (record { top = c.in_ok-top.top; payload = c.args.payload; marks = c.in_ok-top.marks }) c.reserve-2.new.self.entries
-    ∙ ap (λ es. with_name c.in_ok-name.name.items c.in_ok-top.top c.args.payload (map row es)) c.in_ok-reserve-2.ensures.entries
-    ∙ ap (λ n. with_name n c.in_ok-top.top c.args.payload old) c.in_ok-name.ensures.items
+    ∙ with_name-shown (λ k. k.items) (λ e. e.top) (λ e. e.payload) c.in_ok-name.name (record { top = c.in_ok-top.top; payload = c.args.payload; marks = c.in_ok-top.marks }) c.reserve_name.new.bindings.entries
+    ∙ ap (λ es. with_name c.in_ok-name.name.items c.in_ok-top.top c.args.payload (map row es)) c.reserve_name.ensures.bindings
+    ∙ ap (λ n. with_name n c.in_ok-top.top c.args.payload old) c.in_ok-name.ensures.name
     ∙ ap (λ t. with_name c.args.name.now t c.args.payload old) c.in_ok-top.ensures
     ∙ ap (with_name c.args.name.now c.args.top c.args.payload) c.self.view_is
