@@ -1,6 +1,6 @@
 -- Restricted classes of variables.
-use Rattle.std.proofs.Common.{◌≡◌, ◌+◌, ◌<◌, inl, inr, ℕ, List, length, get_or, refl, sym, ap, ◌∙◌, subst, arith}
-use Rattle.std.proofs.lemmas.Bool.{cases_lt}
+use Rattle.std.proofs.Common.{◌≡◌, ◌≢◌, ◌↔◌, ◌+◌, ◌<◌, inl, inr, ℕ, List, length, get_or, refl, sym, ap, ◌∙◌, subst, arith}
+use Rattle.std.proofs.lemmas.Bool.{cases_eq, cases_lt}
 use Rattle.std.proofs.lemmas.List.{get_or_default}
 use Rattle.nesl_types.specs.declared.classes.Class.{Class}
 use Rattle.nesl_types.specs.declared.classes.Class.TheVariants.{Any, Ordinal, Number, Logical}
@@ -40,6 +40,23 @@ all_in_any of c (variable v) e = rw e (λ t m. tt)
 all_in_any of c (seq_of t) e = rw e tt
 all_in_any of c (pair_of t u) e = rw e tt
 all_in_any of c (named n) e = rw e tt
+
+-- a variable is restricted to a class: `old` gives the classes before, and `new` those after
+module _ (old new : ℕ → Class) (x : ℕ) (c : Class) (here : (of : ℕ → Class) (t : Term) → IsIn of (new x) t ↔ (IsIn of (old x) t × IsIn of c t)) (others : (v : ℕ) → v ≢ x → new v ≡ old v) where
+  pub restricted_within : IsIn new c (variable x)
+  restricted_within = IsWithin-from_types (new x) c (λ of t h. ((here of t).0 h).1)
+
+  pub restricted_narrower : (v : ℕ) (of : ℕ → Class) (t : Term) → IsIn of (new v) t → IsIn of (old v) t
+  restricted_narrower v of t h = elim (cases_eq v x) [
+    | inl same ↦ subst (λ k. IsIn of (old k) t) (sym same) ((here of t).0 (subst (λ k. IsIn of (new k) t) same h)).0
+    | inr other ↦ subst (λ d. IsIn of d t) (others v other) h
+  ]
+
+  pub restricted_general : (w : ℕ → Term) (of : ℕ → Class) → IsIn of c (w x) → ((v : ℕ) → IsIn of (old v) (w v)) → (v : ℕ) → IsIn of (new v) (w v)
+  restricted_general w of e h v = elim (cases_eq v x) [
+    | inl same ↦ subst (λ k. IsIn of (new k) (w k)) (sym same) ((here of (w x)).1 (h x, e))
+    | inr other ↦ subst (λ d. IsIn of d (w v)) (sym (others v other)) (h v)
+  ]
 
 -- a class with one sequence has each, and so with pairs
 seq_member : (c : Class) (t u : Term) → IsMember c (seq_of t) → IsMember c (seq_of u)

@@ -2,7 +2,7 @@
 
 ghost use Rattle.std.specs.Prelude.{◌≡◌, ◌≢◌, ◌<◌, ◌↔◌, ℕ, All, IsTrue, IfOk, IsErrOf, OnOk, vec_len};
 ghost use Rattle.nesl_types.specs.declared.classes.Class.{Class};
-ghost use Rattle.nesl_types_bank.specs.Term.{Term};
+ghost use Rattle.nesl_types_bank.specs.Term.{Term, variable as variable_type};
 ghost use Rattle.nesl_types_bank.specs.Substitution.{substitute};
 ghost use Rattle.nesl_types.specs.Class.{IsIn};
 ghost use Rattle.nesl_unify.specs.Table.{outside, outside_at};
@@ -40,8 +40,8 @@ fn make_class_room(classes: &mut Vec<Class>, variable: u64) -> Result<(), AllocE
     Ok(())
 }
 
-/// Restricts a variable to a class.
-fn restrict(classes: &mut Vec<Class>, variable: u64, class: Class) -> Result<(), AllocError>
+/// Restricts the class of a variable to what it shares with another one.
+fn meet_class(classes: &mut Vec<Class>, variable: u64, class: Class) -> Result<(), AllocError>
     ensures here { OnOk result ((of : ℕ → Class) → (t : Term)
         → IsIn of (class_at classes.new.items variable) t
         ↔ (IsIn of (class_at classes.old.items variable) t × IsIn of class t)) }
@@ -51,6 +51,19 @@ fn restrict(classes: &mut Vec<Class>, variable: u64, class: Class) -> Result<(),
     make_class_room(classes, variable)?;
     let place = variable as usize;
     classes[place] = meet(classes[place], class);
+    Ok(())
+}
+
+/// Restricts a variable to a class.
+fn restrict(classes: &mut Vec<Class>, variable: u64, class: Class) -> Result<(), AllocError>
+    ensures within { OnOk result (IsIn (class_at classes.new.items) class (variable_type variable)) }
+    ensures narrower { OnOk result ((v : ℕ) → (of : ℕ → Class) → (t : Term) → IsIn of (class_at classes.new.items v) t
+        → IsIn of (class_at classes.old.items v) t) }
+    ensures general { OnOk result ((w : ℕ → Term) → (of : ℕ → Class) → IsIn of class (w variable)
+        → ((v : ℕ) → IsIn of (class_at classes.old.items v) (w v)) → (v : ℕ)
+        → IsIn of (class_at classes.new.items v) (w v)) }
+{
+    meet_class(classes, variable, class)?;
     Ok(())
 }
 

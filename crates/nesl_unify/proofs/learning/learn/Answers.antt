@@ -1,6 +1,42 @@
-use Rattle.nesl_unify.proofs.Beside.{learning_variable, learning_parts}
+use Rattle.std.proofs.Common.{◌<◌, length, arith}
+use Rattle.nesl_unify.proofs.Beside.{part_there, variable_there, learning_variable, learning_parts}
 use Rattle.nesl_unify.proofs.learning.learn.Goals.{in-Var+in_ok-learn-in-Var, in_default+in_ok-push_parts-in_default}
 use Rattle.nesl_unify.proofs.learning.learn.Goals as goal
+
+pub shape-requires : goal.shape-requires
+shape-requires c =
+    let there = part_there c.args.equations.now c.loop.equations c.args.parts.now c.args.fresh.now c.args.at c.in-Some.next c.loop.stack.items c.pop.new.self.items c.in-Some.ensures.items c.loop.invariant in
+    there.part
+
+pub shape-requires-in_default : goal.shape-requires-in_default
+shape-requires-in_default c =
+    let there = part_there c.args.equations.now c.loop.equations c.args.parts.now c.args.fresh.now c.args.at c.in-Some.next c.loop.stack.items c.pop.new.self.items c.in-Some.ensures.items c.loop.invariant in
+    there.place
+
+pub learn-requires-clause-made : goal.learn-requires-clause-made
+learn-requires-clause-made c = c.loop.invariant.follows.made
+
+pub learn-requires-clause-variable : goal.learn-requires-clause-variable
+learn-requires-clause-variable c =
+    let v = c.in-Var.variable in
+    let below : v < length c.args.fresh.now = variable_there c.args.equations.now c.loop.equations c.args.parts.now c.args.fresh.now c.args.at c.in-Some.next c.loop.stack.items c.pop.new.self.items c.in-Some.ensures.items c.loop.invariant v c.in-Var.ensures.shape in
+    let known = c.requires.fresh v 0 below in
+    omega (arith, known, c.loop.invariant.follows.count)
+
+pub learn-requires-clause-place : goal.learn-requires-clause-place
+learn-requires-clause-place c =
+    let there = part_there c.args.equations.now c.loop.equations c.args.parts.now c.args.fresh.now c.args.at c.in-Some.next c.loop.stack.items c.pop.new.self.items c.in-Some.ensures.items c.loop.invariant in
+    there.place
+
+pub bounds-fresh-variable : goal.bounds-fresh-variable
+bounds-fresh-variable c =
+    variable_there c.args.equations.now c.loop.equations c.args.parts.now c.args.fresh.now c.args.at c.in-Some.next c.loop.stack.items c.pop.new.self.items c.in-Some.ensures.items c.loop.invariant c.in-Var.variable c.in-Var.ensures.shape
+
+pub returns-in-None : goal.returns-in-None
+returns-in-None c = c.loop.invariant.follows
+
+pub returns : goal.returns
+returns c = c.loop.invariant.follows
 
 pub loop-preserved : goal.loop-preserved
 loop-preserved c =
