@@ -1,7 +1,6 @@
 -- Names in scope for a part alone, and the shapes of nodes with lists of parts.
-use Rattle.std.proofs.Common.{◌≡◌, ◌≤◌, ◌-◌, ℕ, List, ◌++◌, Option, length, drop, refl, sym, ap, subst, ◌∙◌, rules, arith, length-append}
+use Rattle.std.proofs.Common.{◌≡◌, ◌≤◌, ◌-◌, ℕ, List, ◌++◌, length, drop, ap, ◌∙◌, rules, arith, length-append}
 use Rattle.std.proofs.Common.{Vec, Box, Global}
-use Rattle.nesl_lex.specs.declared.token.Span.{Span}
 use Rattle.nesl_syntax_tree.specs.declared.tree.Exp.{Exp}
 use Rattle.nesl_syntax_tree.specs.declared.tree.Binding.{Binding}
 use Rattle.nesl_syntax_tree.specs.declared.tree.Node as declared
@@ -22,6 +21,21 @@ each_shape b v = search (rules, the_lemmas, row_of_binders_is)
 
 pub filtered_shape : (b : Box Exp Global) (v : Vec Binding Global) (f : Box Exp Global) → shape_of (declared.FilteredEach b v f) ≡ trees.filtered_each (tree_of b.value) (binders_in v.items) (tree_of f.value)
 filtered_shape b v f = search (rules, the_lemmas, row_of_binders_is)
+
+pub pair_shape : (a b : Box Exp Global) → shape_of (declared.Pair a b) ≡ trees.pair (tree_of a.value) (tree_of b.value)
+pair_shape a b = search (rules, the_lemmas)
+
+pub index_shape : (a b : Box Exp Global) → shape_of (declared.Index a b) ≡ trees.index (tree_of a.value) (tree_of b.value)
+index_shape a b = search (rules, the_lemmas)
+
+pub range_shape : (a b : Box Exp Global) → shape_of (declared.Range a b) ≡ trees.range (tree_of a.value) (tree_of b.value)
+range_shape a b = search (rules, the_lemmas)
+
+pub choice_shape : (a b c : Box Exp Global) → shape_of (declared.Choice a b c) ≡ trees.choice (tree_of a.value) (tree_of b.value) (tree_of c.value)
+choice_shape a b c = search (rules, the_lemmas)
+
+pub strided_shape : (a b c : Box Exp Global) → shape_of (declared.StridedRange a b c) ≡ trees.strided_range (tree_of a.value) (tree_of b.value) (tree_of c.value)
+strided_shape a b c = search (rules, the_lemmas)
 
 -- `ls` with more names before them, `ms`, hold at least as many
 pub enough : (added ls ms : List (List ℕ)) (n : ℕ) → n ≡ length ls → ms ≡ added ++ ls → n ≤ length ms

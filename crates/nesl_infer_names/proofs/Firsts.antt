@@ -24,3 +24,10 @@ pub moved : (ns : Names) (ls ms : List (List ℕ)) (e d : Exp) (f g : Option Spa
     → g ≡ earlier f (first (unknown_names ns ms (tree_of d))) → g ≡ earlier f (first (unknown_names ns ls (tree_of e)))
 moved ns ls ms e d f g p q h =
     h ∙ ap (λ (x : List (List ℕ)). earlier f (first (unknown_names ns x (tree_of d)))) p ∙ ap (λ (x : Exp). earlier f (first (unknown_names ns ls (tree_of x)))) q
+
+pub moved_two : (ns : Names) (ls ms : List (List ℕ)) (a b d e : Exp) (f g : Option Span) → ms ≡ ls → d ≡ a → e ≡ b
+    → g ≡ earlier f (first (unknown_names ns ms (tree_of d) ++ unknown_names ns ms (tree_of e))) → g ≡ earlier f (first (unknown_names ns ls (tree_of a) ++ unknown_names ns ls (tree_of b)))
+moved_two ns ls ms a b d e f g p q r h =
+    h ∙ ap (λ (x : List (List ℕ)). earlier f (first (unknown_names ns x (tree_of d) ++ unknown_names ns x (tree_of e)))) p
+    ∙ ap (λ (x : Exp). earlier f (first (unknown_names ns ls (tree_of x) ++ unknown_names ns ls (tree_of e)))) q
+    ∙ ap (λ (x : Exp). earlier f (first (unknown_names ns ls (tree_of a) ++ unknown_names ns ls (tree_of x)))) r

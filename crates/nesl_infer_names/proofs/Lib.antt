@@ -1,4 +1,5 @@
 pub mod Scoping
+pub mod Sizes
 pub mod Firsts
 pub mod Loops
 pub mod Arms

@@ -1,10 +1,9 @@
 -- One round of a walk over a list of parts, by what is left of the list.
-use Rattle.std.proofs.Common.{◌≡◌, ◌<◌, ◌+◌, ℕ, List, [], ◌∷◌, ◌++◌, Option, Some, None, length, get_or, drop, refl, sym, ap, subst, ◌∙◌, append_assoc}
+use Rattle.std.proofs.Common.{◌≡◌, ◌<◌, ◌+◌, ℕ, List, ◌∷◌, ◌++◌, Option, length, get_or, drop, refl, sym, ap, ◌∙◌, append_assoc}
 use Rattle.std.proofs.lemmas.List.{drop_more}
 use Rattle.nesl_lex.specs.declared.token.Span.{Span}
 use Rattle.nesl_syntax_tree.specs.declared.tree.Exp.{Exp}
 use Rattle.nesl_syntax_tree.specs.declared.tree.Binding.{Binding}
-use Rattle.nesl_syntax_tree.specs.Trees.{PatternTree}
 use Rattle.nesl_syntax_tree.specs.Views.{tree_of, trees_in, binders_in, pattern_tree}
 use Rattle.nesl_infer_names.specs.Firsts.{first, earlier}
 use Rattle.nesl_infer_names.specs.Names.{Names, unknown_names, all_unknown_names, unknown_records, unknown_in_let, unknown_in_each, names_bound, all_names_bound}

@@ -1,14 +1,12 @@
 -- Unknown names stand in the order of the text, since the nodes of a line do.
-use Rattle.std.proofs.Common.{◌≡◌, ℕ, ◌≤◌, Bool, true, false, List, [], ◌∷◌, ◌++◌, Option, Some, None, refl, arith}
+use Rattle.std.proofs.Common.{ℕ, ◌≤◌, Bool, true, false, List, [], ◌∷◌, ◌++◌, Option, arith}
 use Rattle.std.specs.Option.{is_some}
-use Rattle.std.specs.List.{list_any}
-use Rattle.std.specs.Str.{bytes_eq}
 use Rattle.nesl_lex.specs.declared.token.Span.{Span}
 use Rattle.nesl_types_bank.specs.Term.{Term}
 use Rattle.nesl_syntax_tree.specs.Trees.{Tree, Shape, Trees, Binders, PatternTree, PatternShape, TypeTree, TypeShape, SignatureTree, FormTree, node, pattern, written, none, more, no_binders, binder}
 use Rattle.nesl_syntax_tree.specs.Trees as trees
-use Rattle.nesl_syntax_tree.specs.Spans.{Item, exp_item, pattern_item, type_item, token_item, item_span, items_of, bound_items, body_items, shape_items, pattern_items, type_items, Lined, none_lined, more_lined, Orderly, orderly, signature_items, line_items}
-use Rattle.nesl_infer_names.specs.Names.{Names, span_unless_known, unknown_names, unknown_in, all_unknown_names, unknown_in_let, unknown_in_each, unknown_types, unknown_types_in, unknown_records, unknown_records_in, unknown_of_function, names_bound, all_names_bound}
+use Rattle.nesl_syntax_tree.specs.Spans.{Item, exp_item, pattern_item, type_item, item_span, items_of, bound_items, body_items, shape_items, pattern_items, type_items, Lined, none_lined, more_lined, Orderly, orderly, signature_items, line_items}
+use Rattle.nesl_infer_names.specs.Names.{Names, span_unless_known, unknown_names, unknown_in, all_unknown_names, unknown_in_let, unknown_in_each, unknown_types, unknown_types_in, unknown_records, unknown_records_in, names_bound, all_names_bound}
 use Rattle.nesl_infer_names.specs.Order.{Ascends, none_ascend, more_ascend, unknown_in_line}
 
 mutual

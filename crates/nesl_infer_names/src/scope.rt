@@ -10,12 +10,19 @@ use std::collections::BTreeMap;
 
 /// The local names, with how often each is bound, so that a name is found in time logarithmic in their number.
 /// Names are ordered and not hashed, so that nobody can choose names that are slow to find.
-#[derive(Drop)]
 pub struct Scope {
     names: Vec<Vec<u8>>,
     counts: BTreeMap<Vec<u8>, u64>,
     ghost counted: { (x : List ℕ) → count (λ k. k.items) x counts.entries
         ≡ occurrences x (newest_first (λ k. k.items) names.items) },
+}
+
+// By hand, so that no function has to prove how the parts are dropped.
+impl Drop for Scope {
+    fn drop(self) {
+        let Scope { names, counts } = self;
+        drop((names, counts));
+    }
 }
 
 /// How often the name is bound.

@@ -1,5 +1,6 @@
-use Rattle.std.proofs.Common.{◌≡◌, ℕ, Bool, ◌||◌, List, [], ◌++◌, drop, sym, ap, subst, ◌∙◌, arith, OnOk, append_assoc}
+use Rattle.std.proofs.Common.{rules, ◌≡◌, ℕ, Bool, ◌||◌, List, [], ◌++◌, drop, refl, sym, ap, subst, ◌∙◌, arith, OnOk, append_assoc}
 use Rattle.std.proofs.lemmas.Grind.{common_steps}
+use Rattle.std.proofs.lemmas.Result.{on_ok_weaker}
 use Rattle.std.specs.Option.{is_some, option_map}
 use Rattle.std.specs.List.{list_any}
 use Rattle.std.specs.Str.{bytes_eq}
@@ -12,9 +13,11 @@ use Rattle.nesl_syntax_tree.specs.Views.{shape_of, tree_of, trees_in, binders_in
 use Rattle.nesl_infer_names.specs.Firsts.{first, earlier}
 use Rattle.nesl_infer_names.specs.Names.{Names, OwnName, names_in, span_unless_known, names_bound, all_names_bound, unknown_names, unknown_in, all_unknown_names, unknown_in_let, unknown_in_each}
 use Rattle.nesl_infer_names.specs.Scopes.{locals}
-use Rattle.nesl_infer_names.proofs.Firsts.{joined, unchanged, moved}
+use Rattle.nesl_infer_names.proofs.Firsts.{joined, unchanged, moved, moved_two}
+use Rattle.nesl_syntax_tree.proofs.tree.Exp.TheLaws as exp
+use Rattle.nesl_infer_names.proofs.Sizes.{pair_falls, index_falls, range_falls, choice_falls, strided_falls}
 use Rattle.nesl_infer_names.proofs.Loops.{item_step, binder_step, binding_step, bound_step}
-use Rattle.nesl_infer_names.proofs.Arms.{sequence_shape, let_shape, each_shape, filtered_shape, enough, taken_back}
+use Rattle.nesl_infer_names.proofs.Arms.{pair_shape, index_shape, range_shape, choice_shape, strided_shape, sequence_shape, let_shape, each_shape, filtered_shape, enough, taken_back}
 use Rattle.nesl_infer_names.proofs.walk.+walk.Goals as goal
 
 -- what is unknown in the body and the binders of an apply-to-each
@@ -219,3 +222,147 @@ pub walk-returns-in_ok-walk-in-FilteredEach-clause-scope : goal.walk-returns-in_
 walk-returns-in_ok-walk-in-FilteredEach-clause-scope g t c =
     let ls = locals c.args.scope.now in
     taken_back (all_names_bound (binders_in c.as_slice-in-FilteredEach.result.now)) ls (locals c.walk-in-FilteredEach.new.scope) (locals c.truncate-in-FilteredEach.new.self) c.len-before-in-FilteredEach.result c.len-before-in-FilteredEach.ensures (c.in_ok-walk-in-FilteredEach.ensures.scope ∙ c.in_ok-walk_each-in-FilteredEach.ensures.scope) c.truncate-in-FilteredEach.ensures
+
+pub walk-returns-in-Pair-clause-found : goal.walk-returns-in-Pair-clause-found
+walk-returns-in-Pair-clause-found g t c =
+    let own : OwnName = option_map (λ v. v.items) c.args.setting.now.own.now in
+    let ns : Names = names_in c.args.setting.now.context.now own in
+    let ls = locals c.args.scope.now in
+    let f = c.args.found.now in
+    let s = c.args.exp.now.span in
+    let a = c.in-Pair.left in
+    let b = c.in-Pair.right in
+    let h = c.walk_two.new.found in
+    let r = c.walk_two.result in
+    subst (λ (k : declared.Node). OnOk r (h ≡ earlier f (first (unknown_in ns ls s (shape_of k))))) (sym c.in-Pair.is)
+    (subst (λ (k : Shape). OnOk r (h ≡ earlier f (first (unknown_in ns ls s k)))) (sym (pair_shape a b))
+    (on_ok_weaker r (moved_two ns ls ls a.value b.value c.deref-in-Pair.result.now c.deref-in-Pair-2.result.now f h refl c.deref-in-Pair.ensures c.deref-in-Pair-2.ensures) c.walk_two.ensures.found))
+
+pub walk-returns-in-Index-clause-found : goal.walk-returns-in-Index-clause-found
+walk-returns-in-Index-clause-found g t c =
+    let own : OwnName = option_map (λ v. v.items) c.args.setting.now.own.now in
+    let ns : Names = names_in c.args.setting.now.context.now own in
+    let ls = locals c.args.scope.now in
+    let f = c.args.found.now in
+    let s = c.args.exp.now.span in
+    let a = c.in-Index.sequence in
+    let b = c.in-Index.index in
+    let h = c.walk_two-in-Index.new.found in
+    let r = c.walk_two-in-Index.result in
+    subst (λ (k : declared.Node). OnOk r (h ≡ earlier f (first (unknown_in ns ls s (shape_of k))))) (sym c.in-Index.is)
+    (subst (λ (k : Shape). OnOk r (h ≡ earlier f (first (unknown_in ns ls s k)))) (sym (index_shape a b))
+    (on_ok_weaker r (moved_two ns ls ls a.value b.value c.deref-in-Index.result.now c.deref-in-Index-2.result.now f h refl c.deref-in-Index.ensures c.deref-in-Index-2.ensures) c.walk_two-in-Index.ensures.found))
+
+pub walk-returns-in-Range-clause-found : goal.walk-returns-in-Range-clause-found
+walk-returns-in-Range-clause-found g t c =
+    let own : OwnName = option_map (λ v. v.items) c.args.setting.now.own.now in
+    let ns : Names = names_in c.args.setting.now.context.now own in
+    let ls = locals c.args.scope.now in
+    let f = c.args.found.now in
+    let s = c.args.exp.now.span in
+    let a = c.in-Range.from in
+    let b = c.in-Range.to in
+    let h = c.walk_two-in-Range.new.found in
+    let r = c.walk_two-in-Range.result in
+    subst (λ (k : declared.Node). OnOk r (h ≡ earlier f (first (unknown_in ns ls s (shape_of k))))) (sym c.in-Range.is)
+    (subst (λ (k : Shape). OnOk r (h ≡ earlier f (first (unknown_in ns ls s k)))) (sym (range_shape a b))
+    (on_ok_weaker r (moved_two ns ls ls a.value b.value c.deref-in-Range.result.now c.deref-in-Range-2.result.now f h refl c.deref-in-Range.ensures c.deref-in-Range-2.ensures) c.walk_two-in-Range.ensures.found))
+
+pub walk-returns-in_ok-walk-in-Choice-clause-found : goal.walk-returns-in_ok-walk-in-Choice-clause-found
+walk-returns-in_ok-walk-in-Choice-clause-found g t c =
+    let own : OwnName = option_map (λ v. v.items) c.args.setting.now.own.now in
+    let ns : Names = names_in c.args.setting.now.context.now own in
+    let ls = locals c.args.scope.now in
+    let f = c.args.found.now in
+    let s = c.args.exp.now.span in
+    let a = c.in-Choice.test in
+    let b = c.in-Choice.yes in
+    let d = c.in-Choice.no in
+    let m = c.walk-in-Choice.new.found in
+    let h = c.walk_two-in-Choice.new.found in
+    let r = c.walk_two-in-Choice.result in
+    let test = moved ns ls ls a.value c.deref-in-Choice.result.now f m refl c.deref-in-Choice.ensures c.in_ok-walk-in-Choice.ensures.found in
+    let rest = moved_two ns ls (locals c.walk-in-Choice.new.scope) b.value d.value c.deref-in-Choice-2.result.now c.deref-in-Choice-3.result.now m h c.in_ok-walk-in-Choice.ensures.scope c.deref-in-Choice-2.ensures c.deref-in-Choice-3.ensures in
+    subst (λ (k : declared.Node). OnOk r (h ≡ earlier f (first (unknown_in ns ls s (shape_of k))))) (sym c.in-Choice.is)
+    (subst (λ (k : Shape). OnOk r (h ≡ earlier f (first (unknown_in ns ls s k)))) (sym (choice_shape a b d))
+    (on_ok_weaker r (λ x. joined f m h (unknown_names ns ls (tree_of a.value)) (unknown_names ns ls (tree_of b.value) ++ unknown_names ns ls (tree_of d.value)) test (rest x)) c.walk_two-in-Choice.ensures.found))
+
+pub walk-returns-in_ok-walk-in-StridedRange-clause-found : goal.walk-returns-in_ok-walk-in-StridedRange-clause-found
+walk-returns-in_ok-walk-in-StridedRange-clause-found g t c =
+    let own : OwnName = option_map (λ v. v.items) c.args.setting.now.own.now in
+    let ns : Names = names_in c.args.setting.now.context.now own in
+    let ls = locals c.args.scope.now in
+    let f = c.args.found.now in
+    let s = c.args.exp.now.span in
+    let a = c.in-StridedRange.from in
+    let b = c.in-StridedRange.to in
+    let d = c.in-StridedRange.stride in
+    let m = c.walk-in-StridedRange.new.found in
+    let h = c.walk_two-in-StridedRange.new.found in
+    let r = c.walk_two-in-StridedRange.result in
+    let test = moved ns ls ls a.value c.deref-in-StridedRange.result.now f m refl c.deref-in-StridedRange.ensures c.in_ok-walk-in-StridedRange.ensures.found in
+    let rest = moved_two ns ls (locals c.walk-in-StridedRange.new.scope) b.value d.value c.deref-in-StridedRange-2.result.now c.deref-in-StridedRange-3.result.now m h c.in_ok-walk-in-StridedRange.ensures.scope c.deref-in-StridedRange-2.ensures c.deref-in-StridedRange-3.ensures in
+    subst (λ (k : declared.Node). OnOk r (h ≡ earlier f (first (unknown_in ns ls s (shape_of k))))) (sym c.in-StridedRange.is)
+    (subst (λ (k : Shape). OnOk r (h ≡ earlier f (first (unknown_in ns ls s k)))) (sym (strided_shape a b d))
+    (on_ok_weaker r (λ x. joined f m h (unknown_names ns ls (tree_of a.value)) (unknown_names ns ls (tree_of b.value) ++ unknown_names ns ls (tree_of d.value)) test (rest x)) c.walk_two-in-StridedRange.ensures.found))
+
+pub walk_two-returns-clause-found : goal.walk_two-returns-clause-found
+walk_two-returns-clause-found g t c =
+    let own : OwnName = option_map (λ v. v.items) c.args.setting.now.own.now in
+    let ns : Names = names_in c.args.setting.now.context.now own in
+    let ls = locals c.args.scope.now in
+    let f = c.args.found.now in
+    let a = c.args.left.now in
+    let b = c.args.right.now in
+    let m = c.walk.new.found in
+    let h = c.walk-2.new.found in
+    on_ok_weaker c.walk-2.result
+    (λ x. joined f m h (unknown_names ns ls (tree_of a)) (unknown_names ns ls (tree_of b)) c.in_ok-walk.ensures.found (moved ns ls (locals c.walk.new.scope) b b m h c.in_ok-walk.ensures.scope refl x))
+    c.walk-2.ensures.found
+
+pub walk-walk_two-requires : goal.walk-walk_two-requires
+walk-walk_two-requires g t c =
+    let less = pair_falls c.args.exp.now c.in-Pair.left c.in-Pair.right c.in-Pair.is in
+    let one = ap exp.the_size c.deref-in-Pair.ensures in
+    let two = ap exp.the_size c.deref-in-Pair-2.ensures in
+    λ κs l. (omega (arith, c.decreases, less, one, two), search rules)
+
+pub walk-walk_two-requires-in-Index : goal.walk-walk_two-requires-in-Index
+walk-walk_two-requires-in-Index g t c =
+    let less = index_falls c.args.exp.now c.in-Index.sequence c.in-Index.index c.in-Index.is in
+    let one = ap exp.the_size c.deref-in-Index.ensures in
+    let two = ap exp.the_size c.deref-in-Index-2.ensures in
+    λ κs l. (omega (arith, c.decreases, less, one, two), search rules)
+
+pub walk-walk_two-requires-in-Range : goal.walk-walk_two-requires-in-Range
+walk-walk_two-requires-in-Range g t c =
+    let less = range_falls c.args.exp.now c.in-Range.from c.in-Range.to c.in-Range.is in
+    let one = ap exp.the_size c.deref-in-Range.ensures in
+    let two = ap exp.the_size c.deref-in-Range-2.ensures in
+    λ κs l. (omega (arith, c.decreases, less, one, two), search rules)
+
+pub walk-walk_two-requires-in-Choice : goal.walk-walk_two-requires-in-Choice
+walk-walk_two-requires-in-Choice g t c =
+    let less = choice_falls c.args.exp.now c.in-Choice.test c.in-Choice.yes c.in-Choice.no c.in-Choice.is in
+    let two = ap exp.the_size c.deref-in-Choice-2.ensures in
+    let three = ap exp.the_size c.deref-in-Choice-3.ensures in
+    λ κs l. (omega (arith, c.decreases, less, two, three), search rules)
+
+pub walk-walk-requires-in-Choice : goal.walk-walk-requires-in-Choice
+walk-walk-requires-in-Choice g t c =
+    let less = choice_falls c.args.exp.now c.in-Choice.test c.in-Choice.yes c.in-Choice.no c.in-Choice.is in
+    let one = ap exp.the_size c.deref-in-Choice.ensures in
+    λ κs l. (omega (arith, c.decreases, less, one), search rules)
+
+pub walk-walk_two-requires-in-StridedRange : goal.walk-walk_two-requires-in-StridedRange
+walk-walk_two-requires-in-StridedRange g t c =
+    let less = strided_falls c.args.exp.now c.in-StridedRange.from c.in-StridedRange.to c.in-StridedRange.stride c.in-StridedRange.is in
+    let two = ap exp.the_size c.deref-in-StridedRange-2.ensures in
+    let three = ap exp.the_size c.deref-in-StridedRange-3.ensures in
+    λ κs l. (omega (arith, c.decreases, less, two, three), search rules)
+
+pub walk-walk-requires-in-StridedRange : goal.walk-walk-requires-in-StridedRange
+walk-walk-requires-in-StridedRange g t c =
+    let less = strided_falls c.args.exp.now c.in-StridedRange.from c.in-StridedRange.to c.in-StridedRange.stride c.in-StridedRange.is in
+    let one = ap exp.the_size c.deref-in-StridedRange.ensures in
+    λ κs l. (omega (arith, c.decreases, less, one), search rules)

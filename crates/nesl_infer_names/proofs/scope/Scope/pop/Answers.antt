@@ -1,5 +1,4 @@
-use Rattle.std.proofs.Common.{◌≡◌, ◌≤◌, ◌-◌, ◌∙◌, ◌+◌, List, ℕ, sym, ap, drop, arith}
-use Rattle.nesl_infer_names.specs.Scopes.{locals}
+use Rattle.std.proofs.Common.{◌≡◌, ◌-◌, ◌∙◌, List, ℕ, sym, ap, drop, arith}
 use Rattle.nesl_infer_names.specs.Scoping.{occurrences, newest_first, count}
 use Rattle.nesl_infer_names.proofs.Scoping.{newest-push, occurrences-first, counted-after, never_absent, nothing_left}
 use Rattle.nesl_infer_names.proofs.scope.Scope.pop.Goals as goal

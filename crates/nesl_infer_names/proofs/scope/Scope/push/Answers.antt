@@ -1,4 +1,4 @@
-use Rattle.std.proofs.Common.{◌≡◌, ◌≤◌, ◌+◌, ◌-◌, ◌∙◌, ◌∷◌, List, ℕ, sym, ap, length, take, arith}
+use Rattle.std.proofs.Common.{◌≤◌, ◌+◌, ◌-◌, ◌∙◌, ◌∷◌, List, ℕ, sym, ap, length, take, arith}
 use Rattle.nesl_infer_names.specs.Scopes.{locals}
 use Rattle.nesl_infer_names.specs.Scoping.{occurrences, newest_first, count}
 use Rattle.nesl_infer_names.proofs.Scoping.{newest-length, newest-push, occurrences-most, counted-push, put_back}

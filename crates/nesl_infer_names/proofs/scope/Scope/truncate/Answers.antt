@@ -1,4 +1,4 @@
-use Rattle.std.proofs.Common.{◌≡◌, ◌+◌, ◌-◌, ◌∙◌, ℕ, sym, ap, drop, arith}
+use Rattle.std.proofs.Common.{◌≡◌, ◌+◌, ◌-◌, ◌∙◌, ℕ, ap, drop, arith}
 use Rattle.nesl_infer_names.specs.Scopes.{locals}
 use Rattle.nesl_infer_names.proofs.Scoping.{dropped_more}
 use Rattle.nesl_infer_names.proofs.scope.Scope.truncate.Goals as goal

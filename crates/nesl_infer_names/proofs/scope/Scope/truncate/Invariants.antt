@@ -1,4 +1,4 @@
-use Rattle.std.proofs.Common.{◌≡◌, ◌≤◌, ◌-◌, drop}
+use Rattle.std.proofs.Common.{◌≡◌, ◌-◌, drop}
 use Rattle.nesl_infer_names.specs.Scopes.{locals}
 use Rattle.nesl_infer_names.proofs.scope.Scope.truncate.Given as goal
 
