@@ -9,6 +9,7 @@ use Rattle.nesl_types.specs.declared.texts.Piece.{Piece}
 use Rattle.nesl_types.specs.declared.texts.Piece.TheVariants.{Byte, TypeAt}
 use Rattle.nesl_types_bank.specs.Shapes.{shape_type, IsShapeBelow}
 use Rattle.nesl_types_bank.proofs.Made.{below_wider}
+use Rattle.nesl_types_bank.proofs.Nodes.{nodes_positive}
 use Rattle.nesl_types.specs.Pieces.{piece_text, rest_text, piece_size, rest_size, IsPieceBelow, IsBegun, IsWritten}
 
 pub rest_text-push : (names : ℕ → List ℕ) (f : ℕ → Term) (ps : List Piece) (p : Piece) → rest_text names f (ps ++ p ∷ []) ≡ piece_text names f p ++ rest_text names f ps
@@ -18,6 +19,14 @@ rest_text-push names f (q ∷ ps) p = ap (λ t. t ++ piece_text names f q) (rest
 pub rest_size-push : (f : ℕ → Term) (ps : List Piece) (p : Piece) → rest_size f (ps ++ p ∷ []) ≡ rest_size f ps + piece_size f p
 rest_size-push f [] p = refl
 rest_size-push f (q ∷ ps) p = omega (arith, rest_size-push f ps p)
+
+-- a type without parts
+pub leaf_begun : (names : ℕ → List ℕ) (brackets : Bool) (shape : Shape) (text out next : List ℕ) (ps : List Piece) → ((f : ℕ → Term) → type_text names brackets (shape_type f shape) ≡ text) → next ≡ out ++ text → IsBegun names brackets shape out next ps ps
+leaf_begun names brackets shape text out next ps same n = record {
+  text = λ f. ap (λ x. x ++ rest_text names f ps) (n ∙ ap (λ x. out ++ x) (sym (same f))) ∙ append_assoc out (type_text names brackets (shape_type f shape)) (rest_text names f ps);
+  below = λ n b a. a;
+  less = λ f. omega (arith, nodes_positive (shape_type f shape));
+}
 
 -- sequences
 pub seq_begun : (names : ℕ → List ℕ) (brackets : Bool) (item : ℕ) (out next : List ℕ) (ps qs : List Piece) → next ≡ out ++ 91 ∷ [] → qs ≡ (ps ++ Byte 93 ∷ []) ++ TypeAt item true ∷ [] → IsBegun names brackets (SeqOf item) out next ps qs
