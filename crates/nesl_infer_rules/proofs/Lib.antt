@@ -11,3 +11,4 @@ pub mod Eaches
 pub mod Signatures
 pub mod Leaves
 pub mod Contexts
+pub mod WrittenPairs
