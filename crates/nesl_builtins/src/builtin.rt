@@ -8,7 +8,7 @@ use nesl_seqs_base::seq_fn::SeqFn;
 use nesl_syntax_tree::tree::{Operator, Prefix};
 
 /// A built-in function. It takes one value: two arguments are a pair, three are `(a, (b, c))`.
-#[derive(Clone, Copy, PartialEq, Eq, Debug)]
+#[derive(Clone, Copy, PartialEq, Eq)]
 pub enum Builtin {
     /// A function of one scalar.
     OfOne(Unary),

@@ -1,5 +1,5 @@
 -- Arguments by what they are read as.
-use Rattle.std.proofs.Common.{◌≡◌, ℕ, ℤ, Bool, Some, None, refl, ap}
+use Rattle.std.proofs.Common.{◌≡◌, ℕ, ℤ, Bool, Some, None, refl}
 use Rattle.nesl_values.specs.Tree.{ValueTree, int, boolean, character, pair, seq, tagged}
 use Rattle.nesl_values.specs.Parts.{as_int, as_bool, as_char}
 use Rattle.nesl_scalars.specs.declared.binary.Binary.{Binary}

@@ -13,7 +13,7 @@ use nesl_values::{Shape, Value};
 use std::alloc::Allocator;
 
 /// A function of two scalars of one type.
-#[derive(Clone, Copy, PartialEq, Eq, Debug)]
+#[derive(Clone, Copy, PartialEq, Eq)]
 pub enum Binary {
     And,
     Or,

@@ -3,7 +3,7 @@
 ghost use Rattle.std.specs.Prelude.{◌≡◌, ◌+◌, ◌<◌, ◌^◌, max};
 
 /// What an evaluation costs, counted as in Blelloch's *Programming Parallel Algorithms* (CACM 39(3), 1996).
-#[derive(Clone, Copy, PartialEq, Eq, Debug)]
+#[derive(Clone, Copy, PartialEq, Eq)]
 pub struct Cost {
     /// All steps, whoever takes them.
     pub work: u64,

@@ -12,7 +12,7 @@ use nesl_values::{Shape, Value};
 use std::alloc::Allocator;
 
 /// A function of one scalar.
-#[derive(Clone, Copy, PartialEq, Eq, Debug)]
+#[derive(Clone, Copy, PartialEq, Eq)]
 pub enum Unary {
     /// Negation of a truth value, complement of a number's 64 bits.
     Not,

@@ -1,7 +1,7 @@
 //! What a function costs, and how large its result is.
 
 /// The price of a function at an argument, known before the result is built.
-#[derive(Clone, Copy, PartialEq, Eq, Debug)]
+#[derive(Clone, Copy, PartialEq, Eq)]
 pub struct Price {
     /// 1, the elements read, and the nodes below the result's root.
     pub work: u128,

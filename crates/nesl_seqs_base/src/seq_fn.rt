@@ -2,7 +2,7 @@
 
 /// A function on sequences, of this profile's table. It takes one value: two arguments are a pair,
 /// three are `(a, (b, c))`.
-#[derive(Clone, Copy, PartialEq, Eq, Debug)]
+#[derive(Clone, Copy, PartialEq, Eq)]
 pub enum SeqFn {
     /// `#v`: the length.
     Length,
