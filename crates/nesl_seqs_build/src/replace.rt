@@ -20,7 +20,7 @@ use nesl_seqs_base::arguments::{Replacement, WRONG_SHAPE, as_replacement};
 use nesl_seqs_base::copies::extend;
 use nesl_seqs_base::nodes::{nodes_of_both, value_nodes};
 use nesl_seqs_base::price::Price;
-use nesl_values::{Items, Value};
+use nesl_values::{Element, Items, Value};
 use nesl_values_builder::SequenceBuilder;
 use std::alloc::{AllocError, Allocator};
 
@@ -140,6 +140,6 @@ fn extend_by_replaced<A: Allocator + Copy>(
         ≡ elements_of builder.old ++ slice_set (item_trees items.entry) place (tree_of item.now)) }
 {
     extend(builder, items.part(0, place))?;
-    builder.push(item.share()?)?;
+    builder.push_shared(Element::Node(item))?;
     extend(builder, from_place(items, place + 1))
 }
