@@ -1,6 +1,9 @@
 -- Lists of shapes, told whether they are types.
-use Rattle.std.specs.Prelude.{ℕ, zero, suc, Bool as Bool', true, false, not, ◌&&◌, nat_eq, nat_lt, List, [], ◌∷◌}
+use Rattle.std.specs.Prelude.{◌≡◌, ◌<◌, length, ℕ, suc, Bool as Bool', true, false, not, ◌&&◌, nat_eq, nat_lt, List, [], ◌∷◌}
 use Rattle.std.specs.List.{list_any}
+use Rattle.nesl_types_bank.specs.Lists.{last_type}
+use Rattle.nesl_types_bank.specs.Term.{Term}
+use Rattle.nesl_types_bank.specs.Types.{types}
 use Rattle.nesl_types_bank.specs.declared.shape.Shape.{Shape}
 use Rattle.nesl_types_bank.specs.declared.shape.Shape.TheVariants.{Int, Bool, Char, Var, Named, SeqOf, Both}
 
@@ -37,3 +40,7 @@ are_apart (s ∷ ss) = not (list_any (is_equal s) ss) && are_apart ss
 -- whether they are the shapes of types, each made of earlier ones
 abbrev pub are_types : List Shape → Bool'
 are_types shapes = are_made 0 shapes && are_apart shapes
+
+-- whether they are the shapes of types of which the last is that one
+abbrev pub IsList : List Shape → Term → Type 0
+IsList shapes t = (are_types shapes ≡ true) × (0 < length shapes) × (last_type (types shapes) ≡ t)

@@ -3,6 +3,7 @@
 ghost use Rattle.std.specs.Prelude.{◌≡◌, IfOk};
 ghost use Rattle.nesl_builtins.specs.FunctionTypes.{function_type, unary_type, binary_type, sequence_type};
 ghost use Rattle.nesl_builtins.specs.FunctionTypes.{builtin_type};
+ghost use Rattle.nesl_builtins.specs.Lists.{IsList};
 
 use crate::builtin::Builtin;
 use crate::shapes::{
@@ -13,7 +14,7 @@ use crate::shapes::{
 use nesl_scalars::{Binary, Unary};
 use nesl_seqs_base::seq_fn::SeqFn;
 use nesl_types::{Class, Part, Scheme, Ty};
-use nesl_types_bank::Bank;
+use nesl_types_bank::{Bank, Shape};
 use std::alloc::{AllocError, Global};
 
 /// What a built-in function takes.
@@ -21,9 +22,9 @@ pub fn takes(builtin: Builtin) -> Part<'static>
     ensures { result ≡ (builtin_type builtin).argument }
 {
     match builtin {
-        Builtin::OfOne(function) => taken_by_one(function),
-        Builtin::OfTwo(function) => taken_by_two(function),
-        Builtin::OfSequences(function) => taken_by_sequences(function),
+        Builtin::OfOne(function) => last(taken_by_one(function)),
+        Builtin::OfTwo(function) => last(taken_by_two(function)),
+        Builtin::OfSequences(function) => last(taken_by_sequences(function)),
     }
 }
 
@@ -32,9 +33,9 @@ pub fn gives(builtin: Builtin) -> Part<'static>
     ensures { result ≡ (builtin_type builtin).result }
 {
     match builtin {
-        Builtin::OfOne(function) => given_by_one(function),
-        Builtin::OfTwo(function) => given_by_two(function),
-        Builtin::OfSequences(function) => given_by_sequences(function),
+        Builtin::OfOne(function) => last(given_by_one(function)),
+        Builtin::OfTwo(function) => last(given_by_two(function)),
+        Builtin::OfSequences(function) => last(given_by_sequences(function)),
     }
 }
 
@@ -72,27 +73,27 @@ fn copy(alloc: Global, part: &Part<'_>) -> Result<Ty, AllocError>
     Ty::read(alloc, &bank, place)
 }
 
-fn taken_by_one(function: Unary) -> Part<'static>
-    ensures { result ≡ (unary_type function).argument }
+fn taken_by_one(function: Unary) -> &'static [Shape]
+    ensures { IsList result.now (unary_type function).argument }
 {
     match function {
         Unary::Not | Unary::Plusp | Unary::Minusp | Unary::Zerop | Unary::Negate | Unary::Abs => {
-            last(&ANY)
+            &ANY
         }
-        Unary::Oddp | Unary::Evenp | Unary::Isqrt | Unary::CodeChar => last(&INT),
-        Unary::Btoi => last(&BOOL),
-        Unary::CharCode => last(&CHAR),
+        Unary::Oddp | Unary::Evenp | Unary::Isqrt | Unary::CodeChar => &INT,
+        Unary::Btoi => &BOOL,
+        Unary::CharCode => &CHAR,
     }
 }
 
-fn given_by_one(function: Unary) -> Part<'static>
-    ensures { result ≡ (unary_type function).result }
+fn given_by_one(function: Unary) -> &'static [Shape]
+    ensures { IsList result.now (unary_type function).result }
 {
     match function {
-        Unary::Not | Unary::Negate | Unary::Abs => last(&ANY),
-        Unary::Plusp | Unary::Minusp | Unary::Zerop | Unary::Oddp | Unary::Evenp => last(&BOOL),
-        Unary::Isqrt | Unary::Btoi | Unary::CharCode => last(&INT),
-        Unary::CodeChar => last(&CHAR),
+        Unary::Not | Unary::Negate | Unary::Abs => &ANY,
+        Unary::Plusp | Unary::Minusp | Unary::Zerop | Unary::Oddp | Unary::Evenp => &BOOL,
+        Unary::Isqrt | Unary::Btoi | Unary::CharCode => &INT,
+        Unary::CodeChar => &CHAR,
     }
 }
 
@@ -113,11 +114,11 @@ fn classes_of_one(function: Unary) -> &'static [Class]
     }
 }
 
-fn taken_by_two(function: Binary) -> Part<'static>
-    ensures { result ≡ (binary_type function).argument }
+fn taken_by_two(function: Binary) -> &'static [Shape]
+    ensures { IsList result.now (binary_type function).argument }
 {
     match function {
-        Binary::Rem | Binary::Lshift | Binary::Rshift => last(&TWO_INTS),
+        Binary::Rem | Binary::Lshift | Binary::Rshift => &TWO_INTS,
         Binary::And
         | Binary::Or
         | Binary::Xor
@@ -134,12 +135,12 @@ fn taken_by_two(function: Binary) -> Part<'static>
         | Binary::Multiply
         | Binary::Divide
         | Binary::Max
-        | Binary::Min => last(&TWO),
+        | Binary::Min => &TWO,
     }
 }
 
-fn given_by_two(function: Binary) -> Part<'static>
-    ensures { result ≡ (binary_type function).result }
+fn given_by_two(function: Binary) -> &'static [Shape]
+    ensures { IsList result.now (binary_type function).result }
 {
     match function {
         Binary::Equal
@@ -147,8 +148,8 @@ fn given_by_two(function: Binary) -> Part<'static>
         | Binary::Less
         | Binary::Greater
         | Binary::AtMost
-        | Binary::AtLeast => last(&BOOL),
-        Binary::Rem | Binary::Lshift | Binary::Rshift => last(&INT),
+        | Binary::AtLeast => &BOOL,
+        Binary::Rem | Binary::Lshift | Binary::Rshift => &INT,
         Binary::And
         | Binary::Or
         | Binary::Xor
@@ -159,7 +160,7 @@ fn given_by_two(function: Binary) -> Part<'static>
         | Binary::Multiply
         | Binary::Divide
         | Binary::Max
-        | Binary::Min => last(&ANY),
+        | Binary::Min => &ANY,
     }
 }
 
@@ -181,8 +182,8 @@ fn classes_of_two(function: Binary) -> &'static [Class]
     }
 }
 
-fn taken_by_sequences(function: SeqFn) -> Part<'static>
-    ensures { result ≡ (sequence_type function).argument }
+fn taken_by_sequences(function: SeqFn) -> &'static [Shape]
+    ensures { IsList result.now (sequence_type function).argument }
 {
     match function {
         SeqFn::Length
@@ -197,34 +198,34 @@ fn taken_by_sequences(function: SeqFn) -> Part<'static>
         | SeqFn::PlusScan
         | SeqFn::OrScan
         | SeqFn::AndScan
-        | SeqFn::Bottop => last(&SEQUENCE),
-        SeqFn::Flatten => last(&PIECES),
-        SeqFn::ElementAt | SeqFn::Take | SeqFn::Drop | SeqFn::Rotate => last(&SEQUENCE_WITH_INT),
-        SeqFn::Append | SeqFn::Interleave => last(&TWO_SEQUENCES),
-        SeqFn::Gather | SeqFn::Permute | SeqFn::Partition => last(&SEQUENCE_WITH_INTS),
-        SeqFn::Split => last(&SEQUENCE_WITH_BOOLS),
-        SeqFn::Write => last(&SEQUENCE_WITH_ITEMS),
-        SeqFn::Rep => last(&SEQUENCE_WITH_ITEM),
-        SeqFn::Dist => last(&WITH_INT),
-        SeqFn::Eql => last(&TWO),
-        SeqFn::Any | SeqFn::All | SeqFn::Count => last(&BOOLS),
-        SeqFn::Index => last(&INT),
-        SeqFn::Range => last(&TWO_INTS),
-        SeqFn::RangeBy => last(&THREE_INTS),
-        SeqFn::Zip => last(&SEPARATE),
-        SeqFn::Unzip => last(&JOINED),
+        | SeqFn::Bottop => &SEQUENCE,
+        SeqFn::Flatten => &PIECES,
+        SeqFn::ElementAt | SeqFn::Take | SeqFn::Drop | SeqFn::Rotate => &SEQUENCE_WITH_INT,
+        SeqFn::Append | SeqFn::Interleave => &TWO_SEQUENCES,
+        SeqFn::Gather | SeqFn::Permute | SeqFn::Partition => &SEQUENCE_WITH_INTS,
+        SeqFn::Split => &SEQUENCE_WITH_BOOLS,
+        SeqFn::Write => &SEQUENCE_WITH_ITEMS,
+        SeqFn::Rep => &SEQUENCE_WITH_ITEM,
+        SeqFn::Dist => &WITH_INT,
+        SeqFn::Eql => &TWO,
+        SeqFn::Any | SeqFn::All | SeqFn::Count => &BOOLS,
+        SeqFn::Index => &INT,
+        SeqFn::Range => &TWO_INTS,
+        SeqFn::RangeBy => &THREE_INTS,
+        SeqFn::Zip => &SEPARATE,
+        SeqFn::Unzip => &JOINED,
     }
 }
 
-fn given_by_sequences(function: SeqFn) -> Part<'static>
-    ensures { result ≡ (sequence_type function).result }
+fn given_by_sequences(function: SeqFn) -> &'static [Shape]
+    ensures { IsList result.now (sequence_type function).result }
 {
     match function {
-        SeqFn::Length | SeqFn::MaxIndex | SeqFn::MinIndex | SeqFn::Count => last(&INT),
-        SeqFn::Any | SeqFn::All | SeqFn::Eql => last(&BOOL),
-        SeqFn::ElementAt | SeqFn::Sum | SeqFn::MaxVal | SeqFn::MinVal => last(&ANY),
-        SeqFn::Index | SeqFn::Range | SeqFn::RangeBy => last(&INTS),
-        SeqFn::Bottop | SeqFn::Split | SeqFn::Partition => last(&PIECES),
+        SeqFn::Length | SeqFn::MaxIndex | SeqFn::MinIndex | SeqFn::Count => &INT,
+        SeqFn::Any | SeqFn::All | SeqFn::Eql => &BOOL,
+        SeqFn::ElementAt | SeqFn::Sum | SeqFn::MaxVal | SeqFn::MinVal => &ANY,
+        SeqFn::Index | SeqFn::Range | SeqFn::RangeBy => &INTS,
+        SeqFn::Bottop | SeqFn::Split | SeqFn::Partition => &PIECES,
         SeqFn::Reverse
         | SeqFn::OddElts
         | SeqFn::EvenElts
@@ -241,9 +242,9 @@ fn given_by_sequences(function: SeqFn) -> Part<'static>
         | SeqFn::Permute
         | SeqFn::Write
         | SeqFn::Rep
-        | SeqFn::Dist => last(&SEQUENCE),
-        SeqFn::Zip => last(&JOINED),
-        SeqFn::Unzip => last(&SEPARATE),
+        | SeqFn::Dist => &SEQUENCE,
+        SeqFn::Zip => &JOINED,
+        SeqFn::Unzip => &SEPARATE,
     }
 }
 

@@ -1,4 +1,4 @@
-use Rattle.std.proofs.Common.{◌≡◌, ◌++◌, length, sym, ap, subst, ◌∙◌}
+use Rattle.std.proofs.Common.{◌++◌, length, sym, ap, ◌∙◌}
 use Rattle.nesl_types_bank.specs.Numbering.{variables, first_occurrences, numbers_below}
 use Rattle.nesl_builtins.specs.FunctionTypes.{builtin_type}
 use Rattle.nesl_builtins.proofs.Numbered.{numbered}
