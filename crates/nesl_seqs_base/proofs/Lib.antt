@@ -5,3 +5,4 @@ pub mod Shapes
 pub mod Sizes
 pub mod Totals
 pub mod Weaving
+pub mod Zipped

@@ -56,9 +56,7 @@ pub fn sequence_and_int<A: Allocator>(argument: Argument<'_, A>) -> Option<(Item
         ≡ sequence_and_int (argument_tree argument.entry) }
 {
     let (first, second) = argument.as_pair()?;
-    let items = elements(first)?;
-    let number = second.as_int()?;
-    Some((items, number))
+    elements(first).zip(second.as_int())
 }
 
 /// Two sequences.
@@ -70,9 +68,7 @@ pub fn two_sequences<A: Allocator>(
         ≡ two_sequences (argument_tree argument.entry) }
 {
     let (first, second) = argument.as_pair()?;
-    let items = elements(first)?;
-    let others = sequence(second)?;
-    Some((items, others))
+    elements(first).zip(sequence(second))
 }
 
 /// Anything and a number.
@@ -90,9 +86,7 @@ pub fn two_ints<A: Allocator>(argument: Argument<'_, A>) -> Option<(i64, i64)>
     ensures { result ≡ two_ints (argument_tree argument.entry) }
 {
     let (first, second) = argument.as_pair()?;
-    let one = first.as_int()?;
-    let other = second.as_int()?;
-    Some((one, other))
+    first.as_int().zip(second.as_int())
 }
 
 /// Three numbers.
