@@ -1,4 +1,4 @@
-use Rattle.std.proofs.Common.{◌≡◌, ◌∙◌, [], true, false, IsSome, length, unwrap_or, ap, sym, refl, arith}
+use Rattle.std.proofs.Common.{◌≡◌, ◌∙◌, [], IsSome, length, unwrap_or, ap, sym, refl, arith}
 use Rattle.nesl_scalars.specs.declared.trap.Trap.TheVariants.{Length}
 use Rattle.nesl_values.specs.Parts.{as_bool}
 use Rattle.nesl_values.specs.View.{item_trees}
