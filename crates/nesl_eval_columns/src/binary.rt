@@ -103,13 +103,13 @@ fn of_ints<A: Allocator>(
         Binary::AtLeast => bools(function, left, right, alloc, |a, b| (b <= a, true)),
         Binary::Max => ints(function, left, right, alloc, |a, b| (a.max(b), true)),
         Binary::Min => ints(function, left, right, alloc, |a, b| (a.min(b), true)),
-        Binary::Add => ints(function, left, right, alloc, |a, b| added(a, b)),
-        Binary::Subtract => ints(function, left, right, alloc, |a, b| subtracted(a, b)),
-        Binary::Multiply => ints(function, left, right, alloc, |a, b| multiplied(a, b)),
-        Binary::Divide => ints(function, left, right, alloc, |a, b| divided(a, b)),
-        Binary::Rem => ints(function, left, right, alloc, |a, b| remainder(a, b)),
-        Binary::Lshift => ints(function, left, right, alloc, |a, b| shifted_left(a, b)),
-        Binary::Rshift => ints(function, left, right, alloc, |a, b| shifted_right(a, b)),
+        Binary::Add => ints(function, left, right, alloc, added),
+        Binary::Subtract => ints(function, left, right, alloc, subtracted),
+        Binary::Multiply => ints(function, left, right, alloc, multiplied),
+        Binary::Divide => ints(function, left, right, alloc, divided),
+        Binary::Rem => ints(function, left, right, alloc, remainder),
+        Binary::Lshift => ints(function, left, right, alloc, shifted_left),
+        Binary::Rshift => ints(function, left, right, alloc, shifted_right),
     }
 }
 

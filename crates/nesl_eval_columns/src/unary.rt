@@ -89,10 +89,10 @@ fn of_ints<A: Allocator>(function: Unary, items: &[i64], alloc: A) -> Option<Col
             alloc,
             |a| (a.unsigned_abs() % 2 == 0, true),
         ),
-        Unary::Negate => ints(function, items, alloc, |a| negated(a)),
-        Unary::Abs => ints(function, items, alloc, |a| size(a)),
-        Unary::Isqrt => ints(function, items, alloc, |a| root(a)),
-        Unary::CodeChar => chars(function, items, alloc, |a| character(a)),
+        Unary::Negate => ints(function, items, alloc, negated),
+        Unary::Abs => ints(function, items, alloc, size),
+        Unary::Isqrt => ints(function, items, alloc, root),
+        Unary::CodeChar => chars(function, items, alloc, character),
         _ => None,
     }
 }
