@@ -1,13 +1,14 @@
 //! Functions that make one operation each, or what it holds.
 //!
 //! None of them is inlined into those that recur over code: each holds an operation on the stack until it is boxed.
-ghost use Rattle.std.specs.Prelude.{◌≡◌, ◌∷◌, [], IfOk, None, map, option_map};
+ghost use Rattle.std.specs.Prelude.{◌≡◌, ◌∷◌, [], IfOk, IfSome, None, map, option_map};
 ghost use Rattle.nesl_eval_blocks.specs.Block.{push, enter, make, call, bind, each, filtered, of_one, called_by};
 ghost use Rattle.nesl_eval_blocks.specs.Flat.{rest, deciding, forgetting, flat, room};
+ghost use Rattle.nesl_eval_ops.specs.Copies.{IsLaidAs};
 ghost use Rattle.nesl_eval_ops.specs.View.{block_of, block_in, body_block, sizes_of};
 ghost use Rattle.nesl_eval_ops.specs.View.{leaf_is, two_is, many_is, callee_is};
 
-use crate::copying::copy_plain;
+use crate::copying::{NoCopy, copy_plain};
 use crate::ops::{Block, Body, Callee, Leaf, ManyNode, OneNode, Ops, Plain, TwoNode};
 use crate::places::Place;
 use crate::sizes::{list_of, room};
@@ -262,27 +263,52 @@ pub(crate) fn filtered_of(
     boxed(at.alloc, each)
 }
 
+/// The code that operations are laid from, and the sizes of the frames round it.
+#[derive(Drop)]
+struct Source {
+    code: Code,
+    sizes: Vec<usize>,
+}
+
+/// A copy of the code with the sizes of the frames round it, if it may have columns and these are few.
+fn source_of(at: &Place<'_>, code: &Code) -> Result<Option<Source>, AllocError>
+    ensures { IfOk result (λ o. IfSome o (λ s. (s.sizes.items ≡ sizes_of at.now.sizes.now)
+        × IsLaidAs s.code code.now)) }
+{
+    let Some(sizes) = list_of(at.alloc, at.sizes)? else {
+        return Ok(None);
+    };
+    match copy_plain(at.alloc, code) {
+        Ok(code) => Ok(Some(Source { code, sizes })),
+        Err(NoCopy::NotPlain) => Ok(None),
+        Err(NoCopy::Memory) => Err(AllocError),
+    }
+}
+
 /// Operations with the code that they are laid from, if it may have columns and the frames round it are few.
 #[inline(never)]
 pub(crate) fn kept(at: &Place<'_>, ops: Box<Block>, code: &Code) -> Result<Box<Body>, AllocError>
     requires { block_in ops ≡ flat at.now.height (sizes_of at.now.sizes.now) code.now None }
     ensures { IfOk result (λ b. body_block b.value ≡ flat at.now.height (sizes_of at.now.sizes.now) code.now None) }
 {
-    let block = Box::into_inner(ops);
-    let Some(code) = copy_plain(at.alloc, code)? else {
-        let body = Box::new(at.alloc, Body::Any(block))?;
-        return Ok(body);
-    };
-    let Some(sizes) = list_of(at.alloc, at.sizes)? else {
-        let body = Box::new(at.alloc, Body::Any(block))?;
-        return Ok(body);
-    };
-    let plain = Plain {
-        ops: block.into_ops(),
-        height: at.height,
-        sizes,
-        code,
-    };
-    let body = Box::new(at.alloc, Body::Plain(plain))?;
-    Ok(body)
+    let source = source_of(at, code)?;
+    let body = body_of(at.height, Box::into_inner(ops), source);
+    let boxed = Box::new(at.alloc, body)?;
+    Ok(boxed)
+}
+
+/// A body of these operations, with the code that they are laid from, if that is kept.
+fn body_of(height: u32, block: Block, source: Option<Source>) -> Body
+    requires { IfSome source (λ s. block ≡ flat height s.sizes.items s.code None) }
+    ensures { body_block result ≡ block }
+{
+    match source {
+        Some(Source { code, sizes }) => Body::Plain(Plain {
+            ops: block.into_ops(),
+            height,
+            sizes,
+            code,
+        }),
+        None => Body::Any(block),
+    }
 }

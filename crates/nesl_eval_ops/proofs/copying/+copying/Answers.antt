@@ -6,16 +6,18 @@ use Rattle.nesl_eval_ops.proofs.copying.+copying.Goals as goal
 
 pub copy_all-loop-code-preserved : goal.copy_all-loop-code-preserved
 copy_all-loop-code-preserved t c =
-    let laid : IsLaidAs c.in-Some.copy c.code-item.result = search rules in
-    copied_turn c.args.codes.now c.loop-code.code-index c.code-item.result c.in-Some.copy c.loop-code.copies.items
-    c.push.new.self.items
-    c.loop-code-test.true c.code-item.is c.in_ok-push-in-Some.ensures.items laid c.loop-code.invariant
+    let added = c.in_ok-add_copy.ensures in
+    copied_turn c.args.codes.now c.loop-code.code-index c.code-item.result added.0 c.loop-code.copies.items
+    c.add_copy.new.copies.items
+    c.loop-code-test.true c.code-item.is added.1 added.2 c.loop-code.invariant
 
-pub copy_choice_or_let-returns-in-Some-5 : goal.copy_choice_or_let-returns-in-Some-5
-copy_choice_or_let-returns-in-Some-5 t c =
-    let bound : AreLaidAs c.in-Some-4.bindings.items c.in-Let.bindings.items = search rules in
-    let body : IsLaidAs c.in-Some-5.body.value c.in-Let.body.value = search rules in
-    same_of (nodes.Let c.in-Let.span c.in-Some-4.bindings c.in-Some-5.body)
+pub copy_choice_or_let-returns-in_ok-body-in-Let : goal.copy_choice_or_let-returns-in_ok-body-in-Let
+copy_choice_or_let-returns-in_ok-body-in-Let t c =
+    let made = c.in_ok-bindings-in-Let.bindings in
+    let inner = c.in_ok-body-in-Let.body in
+    let bound : AreLaidAs made.items c.in-Let.bindings.items = search rules in
+    let body : IsLaidAs inner.value c.in-Let.body.value = search rules in
+    same_of (nodes.Let c.in-Let.span made inner)
     (nodes.Let c.in-Let.span c.in-Let.bindings c.in-Let.body) c.args.code.now
-    (let_same c.in-Let.span c.in-Let.bindings c.in-Some-4.bindings c.in-Let.body c.in-Some-5.body bound body)
+    (let_same c.in-Let.span c.in-Let.bindings made c.in-Let.body inner bound body)
     c.in-Let.is
