@@ -4,7 +4,7 @@ use nesl_builtins::Builtin;
 use nesl_lex::token::Span;
 
 /// A step from a value to a part of it.
-#[derive(Clone, Copy, PartialEq, Eq, Debug)]
+#[derive(Clone, Copy)]
 pub enum Step {
     /// To the left part of a pair.
     Left,

@@ -1,12 +1,12 @@
 //! Preparing expressions: their names are resolved.
 
-ghost use Rattle.std.specs.Prelude.{◌≡◌, ◌∷◌, [], IfOk, pos, min, List};
+ghost use Rattle.std.specs.Prelude.{◌≡◌, ◌∷◌, ◌++◌, [], IfOk, OnOk, pos, min, List};
 ghost use Rattle.std.proofs.Common.{Box, Global as Heap};
 ghost use Rattle.nesl_syntax_tree.specs.Trees.{Tree, node, text, variable, call, element, pair, choice, strided_range};
 ghost use Rattle.nesl_syntax_tree.specs.Trees.{let_in, each, filtered_each};
 ghost use Rattle.nesl_syntax_tree.specs.Views.{tree_of, trees_in, binders_in, pattern_tree};
 ghost use Rattle.nesl_eval_meaning.specs.Outcome.{greatest_number, sources};
-ghost use Rattle.nesl_eval_code.specs.declared.code.Code.{ApplyTwo};
+ghost use Rattle.nesl_eval_code.specs.declared.code.Code.{Code, ApplyTwo};
 ghost use Rattle.nesl_eval_code.specs.Means.{Means, AllMean, BindingsMean, Layer, bindings as layer};
 ghost use Rattle.nesl_eval_code.specs.Resolving.{layers_of, known};
 
@@ -274,6 +274,18 @@ fn code_of_filtered(
     })
 }
 
+/// One more code: that of an expression.
+#[cycle(prepare)]
+#[inline(never)]
+fn add_code(at: &Preparing<'_>, codes: &mut Vec<Code>, exp: &Exp) -> Result<(), AllocError>
+    ensures { OnOk result ((c : Code) × (codes.new.items ≡ codes.old.items ++ c ∷ [])
+        × Means (known at.now.places.now) (layers_of at.now.layers.now) c (tree_of exp.now)) }
+{
+    let code = code_of(at, exp)?;
+    codes.push(code)?;
+    Ok(())
+}
+
 /// The codes of expressions.
 #[cycle(prepare)]
 #[inline(never)]
@@ -283,8 +295,7 @@ fn codes_of(at: &Preparing<'_>, items: &[Exp]) -> Result<Vec<Code>, AllocError>
 {
     let mut codes = Vec::new(at.alloc);
     for item in items {
-        let code = code_of(at, item)?;
-        codes.push(code)?;
+        add_code(at, &mut codes, item)?;
     }
     Ok(codes)
 }
@@ -298,8 +309,7 @@ fn codes_of_sources(at: &Preparing<'_>, drawn: &[Binding]) -> Result<Vec<Code>, 
 {
     let mut codes = Vec::new(at.alloc);
     for binder in drawn {
-        let code = code_of(at, &binder.value)?;
-        codes.push(code)?;
+        add_code(at, &mut codes, &binder.value)?;
     }
     Ok(codes)
 }
@@ -313,17 +323,13 @@ fn codes_of_bindings(at: &Preparing<'_>, bound: &[Binding]) -> Result<Vec<Code>,
 {
     let mut codes = Vec::new(at.alloc);
     for (index, binding) in bound.iter().enumerate() {
-        let code = {
-            let before = &bound[..index];
-            let layers = behind(before, at.layers);
-            let inner = Preparing {
-                alloc: at.alloc,
-                places: at.places,
-                layers: &layers,
-            };
-            code_of(&inner, &binding.value)?
+        let layers = behind(&bound[..index], at.layers);
+        let inner = Preparing {
+            alloc: at.alloc,
+            places: at.places,
+            layers: &layers,
         };
-        codes.push(code)?;
+        add_code(&inner, &mut codes, &binding.value)?;
     }
     Ok(codes)
 }

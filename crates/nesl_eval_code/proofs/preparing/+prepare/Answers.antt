@@ -243,21 +243,24 @@ pub codes_of-loop-item-preserved : goal.codes_of-loop-item-preserved
 codes_of-loop-item-preserved t c =
     let names = known c.args.at.now.places.now in
     let ls = layers_of c.args.at.now.layers.now in
-    item_step names ls c.args.items.now c.loop-item.item-index c.item-item.result c.loop-item.codes.items c.push.new.self.items c.in_ok-code.code c.loop-item-test.true c.item-item.is c.loop-item.invariant c.in_ok-code.ensures c.in_ok-push.ensures.items
+    let added = c.in_ok-add_code.ensures in
+    item_step names ls c.args.items.now c.loop-item.item-index c.item-item.result c.loop-item.codes.items c.add_code.new.codes.items added.0 c.loop-item-test.true c.item-item.is c.loop-item.invariant added.2 added.1
 
 pub codes_of_sources-loop-binder-preserved : goal.codes_of_sources-loop-binder-preserved
 codes_of_sources-loop-binder-preserved t c =
     let names = known c.args.at.now.places.now in
     let ls = layers_of c.args.at.now.layers.now in
-    source_step names ls c.args.drawn.now c.loop-binder.binder-index c.binder-item.result c.loop-binder.codes.items c.push.new.self.items c.in_ok-code.code c.loop-binder-test.true c.binder-item.is c.loop-binder.invariant c.in_ok-code.ensures c.in_ok-push.ensures.items
+    let added = c.in_ok-add_code.ensures in
+    source_step names ls c.args.drawn.now c.loop-binder.binder-index c.binder-item.result c.loop-binder.codes.items c.add_code.new.codes.items added.0 c.loop-binder-test.true c.binder-item.is c.loop-binder.invariant added.2 added.1
 
 pub codes_of_bindings-loop-index-preserved : goal.codes_of_bindings-loop-index-preserved
 codes_of_bindings-loop-index-preserved t c =
     let names = known c.args.at.now.places.now in
     let ls = layers_of c.args.at.now.layers.now in
     let i = c.loop-index.index in
+    let added = c.in_ok-add_code.ensures in
     let same : layers_of c.behind-layers.result ≡ bindings (patterns (binders_in (take i c.args.bound.now))) ∷ ls =
     c.behind-layers.ensures in
-    binding_step names ls c.args.bound.now i c.index-bound-index.result c.loop-index.codes.items c.push.new.self.items c.in_ok-code.code c.loop-index-test.true c.index-bound-index.is c.loop-index.invariant
-    (inner_means names (layers_of c.behind-layers.result) (bindings (patterns (binders_in (take i c.args.bound.now))) ∷ ls) c.in_ok-code.code (tree_of c.index-bound-index.result.value) same c.in_ok-code.ensures)
-    c.in_ok-push.ensures.items
+    binding_step names ls c.args.bound.now i c.index-bound-index.result c.loop-index.codes.items c.add_code.new.codes.items added.0 c.loop-index-test.true c.index-bound-index.is c.loop-index.invariant
+    (inner_means names (layers_of c.behind-layers.result) (bindings (patterns (binders_in (take i c.args.bound.now))) ∷ ls) added.0 (tree_of c.index-bound-index.result.value) same added.2)
+    added.1

@@ -35,22 +35,25 @@ abbrev pub decreases-code_of_choice : goal.decreases-code_of_choice
 decreases-code_of_choice l = 4 * max (size l.test.now) (max (size l.yes.now) (size l.no.now)) + 2
 
 abbrev pub decreases-code_of_let : goal.decreases-code_of_let
-decreases-code_of_let l = 4 * max (most_of l.bound.now) (size l.body.now) + 2
+decreases-code_of_let l = 4 * max (most_of l.bound.now) (size l.body.now) + 3
 
 abbrev pub decreases-code_of_each : goal.decreases-code_of_each
-decreases-code_of_each l = 4 * max (size l.body.now) (most_of l.drawn.now) + 2
+decreases-code_of_each l = 4 * max (size l.body.now) (most_of l.drawn.now) + 3
 
 abbrev pub decreases-code_of_filtered : goal.decreases-code_of_filtered
-decreases-code_of_filtered l = 4 * max (size l.body.now) (max (most_of l.drawn.now) (size l.filter.now)) + 2
+decreases-code_of_filtered l = 4 * max (size l.body.now) (max (most_of l.drawn.now) (size l.filter.now)) + 3
+
+abbrev pub decreases-add_code : goal.decreases-add_code
+decreases-add_code l = 4 * size l.exp.now + 1
 
 abbrev pub decreases-codes_of : goal.decreases-codes_of
-decreases-codes_of l = 4 * most (λ (e : Exp). size e) l.items.now + 1
+decreases-codes_of l = 4 * most (λ (e : Exp). size e) l.items.now + 2
 
 abbrev pub decreases-codes_of_sources : goal.decreases-codes_of_sources
-decreases-codes_of_sources l = 4 * most_of l.drawn.now + 1
+decreases-codes_of_sources l = 4 * most_of l.drawn.now + 2
 
 abbrev pub decreases-codes_of_bindings : goal.decreases-codes_of_bindings
-decreases-codes_of_bindings l = 4 * most_of l.bound.now + 1
+decreases-codes_of_bindings l = 4 * most_of l.bound.now + 2
 
 abbrev pub invariant-codes_of-loop-item : goal.invariant-codes_of-loop-item
 invariant-codes_of-loop-item l = AllMean (known l.at.places.now) (layers_of l.at.layers.now) l.codes.items (trees_in (take l.item-index l.items))
