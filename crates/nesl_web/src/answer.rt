@@ -122,19 +122,23 @@ fn head(
     length: usize,
 ) -> Result<Vec<u8>, WriteError> {
     let length = format!(in alloc; "{length}")?;
-    let known = [Header {
+    let length_field = Header {
         name: b"Content-Length",
         value: length.as_bytes(),
-    }];
+    };
+    written(alloc, status, words, &text_fields(kind), length_field)
+}
+
+// The head of an answer with these fields.
+fn written(
+    alloc: Global,
+    status: u16,
+    words: &str,
+    fields: &[Header<'_>],
+    last: Header<'_>,
+) -> Result<Vec<u8>, WriteError> {
     let mut bytes = Vec::new(alloc);
-    write_response(
-        &mut bytes,
-        1,
-        status,
-        words.as_bytes(),
-        &text_fields(kind),
-        &known,
-    )?;
+    write_response(&mut bytes, 1, status, words.as_bytes(), fields, &[last])?;
     Ok(bytes)
 }
 
@@ -160,18 +164,15 @@ pub fn refused(alloc: Global, refusal: Refusal) -> Result<Vec<u8>, WriteError> {
 
 /// The answer after which the connection is a WebSocket, with the key that accepts it.
 pub fn upgrade(alloc: Global, key: &[u8; 28]) -> Result<Vec<u8>, WriteError> {
-    let accept = [Header {
+    let accept_field = Header {
         name: b"Sec-WebSocket-Accept",
         value: key.as_slice(),
-    }];
-    let mut bytes = Vec::new(alloc);
-    write_response(
-        &mut bytes,
-        1,
+    };
+    written(
+        alloc,
         101,
-        b"Switching Protocols",
+        "Switching Protocols",
         &upgrade_fields(),
-        &accept,
-    )?;
-    Ok(bytes)
+        accept_field,
+    )
 }

@@ -21,81 +21,53 @@ pub struct File {
     pub text: &'static str,
 }
 
+const HTML: &str = "text/html; charset=utf-8";
+
+const CSS: &str = "text/css; charset=utf-8";
+
+const JSON: &str = "application/json; charset=utf-8";
+
+const SCRIPT: &str = "text/javascript; charset=utf-8";
+
+// A file of the page and its path.
+#[derive(Clone, Copy)]
+struct Placed {
+    path: &'static str,
+    file: File,
+}
+
 /// The file at a path; the page itself is at `/`.
 pub fn file_at(path: &str) -> Option<File> {
-    if path == "/" || path == "/index.html" {
-        return Some(html(index_html::TEXT));
+    for placed in &all_files() {
+        if placed.path == path {
+            return Some(placed.file);
+        }
     }
-    if path == "/style.css" {
-        return Some(css(style_css::TEXT));
-    }
-    if path == "/lessons.json" {
-        return Some(json(lessons_json::TEXT));
-    }
-    match script_at(path) {
-        Some(text) => Some(script(text)),
-        None => None,
-    }
+    None
 }
 
-// The script at a path.
-fn script_at(path: &str) -> Option<&'static str> {
-    if path == "/main.js" {
-        Some(main_js::TEXT)
-    } else if path == "/dom.js" {
-        Some(dom_js::TEXT)
-    } else if path == "/kept.js" {
-        Some(kept_js::TEXT)
-    } else if path == "/session.js" {
-        Some(session_js::TEXT)
-    } else if path == "/language.js" {
-        Some(language_js::TEXT)
-    } else {
-        view_at(path)
-    }
+fn all_files() -> [Placed; 14] {
+    [
+        at("/", HTML, index_html::TEXT),
+        at("/index.html", HTML, index_html::TEXT),
+        at("/style.css", CSS, style_css::TEXT),
+        at("/lessons.json", JSON, lessons_json::TEXT),
+        at("/main.js", SCRIPT, main_js::TEXT),
+        at("/dom.js", SCRIPT, dom_js::TEXT),
+        at("/kept.js", SCRIPT, kept_js::TEXT),
+        at("/session.js", SCRIPT, session_js::TEXT),
+        at("/language.js", SCRIPT, language_js::TEXT),
+        at("/notebook.js", SCRIPT, notebook_js::TEXT),
+        at("/left.js", SCRIPT, left_js::TEXT),
+        at("/measure.js", SCRIPT, measure_js::TEXT),
+        at("/curves.js", SCRIPT, curves_js::TEXT),
+        at("/lesson_view.js", SCRIPT, lesson_view_js::TEXT),
+    ]
 }
 
-// The script of a view at a path.
-fn view_at(path: &str) -> Option<&'static str> {
-    if path == "/notebook.js" {
-        Some(notebook_js::TEXT)
-    } else if path == "/left.js" {
-        Some(left_js::TEXT)
-    } else if path == "/measure.js" {
-        Some(measure_js::TEXT)
-    } else if path == "/curves.js" {
-        Some(curves_js::TEXT)
-    } else if path == "/lesson_view.js" {
-        Some(lesson_view_js::TEXT)
-    } else {
-        None
-    }
-}
-
-fn html(text: &'static str) -> File {
-    File {
-        kind: "text/html; charset=utf-8",
-        text,
-    }
-}
-
-fn css(text: &'static str) -> File {
-    File {
-        kind: "text/css; charset=utf-8",
-        text,
-    }
-}
-
-fn json(text: &'static str) -> File {
-    File {
-        kind: "application/json; charset=utf-8",
-        text,
-    }
-}
-
-fn script(text: &'static str) -> File {
-    File {
-        kind: "text/javascript; charset=utf-8",
-        text,
+fn at(path: &'static str, kind: &'static str, text: &'static str) -> Placed {
+    Placed {
+        path,
+        file: File { kind, text },
     }
 }

@@ -87,8 +87,9 @@ impl<'s, R: Clock> Ears<'s, R> {
         match self.messages.next(allowed) {
             Ok(Some(line)) => {
                 self.is_first = false;
-                self.rest = Rest::of(self.alloc, line.as_str().as_bytes())?;
-                Ok(true)
+                let begun = self.begin(line.as_str().as_bytes());
+                drop(line);
+                begun
             }
             Ok(None) => Ok(false),
             Err(error) => {
@@ -96,6 +97,12 @@ impl<'s, R: Clock> Ears<'s, R> {
                 Err(error)
             }
         }
+    }
+
+    // A line has come. True.
+    fn begin(&mut self, line: &[u8]) -> io::Result<bool> {
+        self.rest = Rest::of(self.alloc, line)?;
+        Ok(true)
     }
 }
 

@@ -1,5 +1,5 @@
 //! The messages of a WebSocket.
-ghost use Rattle.std.specs.Prelude.{length};
+ghost use Rattle.std.specs.Prelude.{length, IfSome};
 ghost use Rattle.nesl_web.specs.Messages.{IfLine};
 
 use crate::wire::Wire;
@@ -39,15 +39,45 @@ impl Heard {
         ensures { IfLine result }
     {
         match read {
-            Ok(Message::Text(text)) => line_of(text),
-            Ok(Message::Binary(_)) => Heard::Unfit(CloseCode::Unsupported),
-            Ok(Message::Ping(_) | Message::Pong(_) | Message::Close(_)) => Heard::Aside,
-            Err(Error::ConnectionClosed) => Heard::Farewell,
-            Err(Error::Capacity(_)) => Heard::Unfit(CloseCode::Size),
-            Err(Error::Utf8) => Heard::Unfit(CloseCode::Invalid),
-            Err(Error::Protocol(_)) => Heard::Unfit(CloseCode::Protocol),
-            Err(Error::Io(error)) => Heard::Lost(error),
-            Err(_) => Heard::Lost(lost()),
+            Ok(message) => Heard::of_message(message),
+            Err(error) => Heard::of_failure(error),
+        }
+    }
+
+    // A message came.
+    fn of_message(message: Message) -> Heard
+        ensures { IfLine result }
+    {
+        match message {
+            Message::Text(text) => line_of(text),
+            Message::Binary(_) => Heard::Unfit(CloseCode::Unsupported),
+            Message::Ping(_) | Message::Pong(_) | Message::Close(_) => Heard::Aside,
+        }
+    }
+
+    // No message came.
+    fn of_failure(error: Error) -> Heard
+        ensures { IfLine result }
+    {
+        match Heard::of_end(&error) {
+            Some(heard) => {
+                drop(error);
+                heard
+            }
+            None => Heard::Lost(failure_of(error)),
+        }
+    }
+
+    // What ends the connection, other than that it is lost.
+    fn of_end(error: &Error) -> Option<Heard>
+        ensures { IfSome result IfLine }
+    {
+        match error {
+            Error::ConnectionClosed => Some(Heard::Farewell),
+            Error::Capacity(_) => Some(Heard::Unfit(CloseCode::Size)),
+            Error::Utf8 => Some(Heard::Unfit(CloseCode::Invalid)),
+            Error::Protocol(_) => Some(Heard::Unfit(CloseCode::Protocol)),
+            _ => None,
         }
     }
 }
@@ -94,7 +124,7 @@ impl<'s, R: Clock> Incoming<'s, R> {
                 Heard::Aside => {}
                 Heard::Farewell => return Ok(None),
                 Heard::Unfit(code) => {
-                    let _ = self.socket.close(Some(farewell(code))).is_ok();
+                    self.close(code);
                     return Err(lost());
                 }
                 Heard::Lost(error) => return Err(error),
@@ -104,12 +134,21 @@ impl<'s, R: Clock> Incoming<'s, R> {
     }
 
     /// Ends the connection: says so, if that wasn't said, and hears the peer out.
-    pub fn end(self) {
-        let Incoming { rt: _, mut socket } = self;
-        if socket.can_write() {
-            let _ = socket.close(Some(farewell(CloseCode::Normal))).is_ok();
+    pub fn end(mut self) {
+        self.say_farewell();
+        drop(self);
+    }
+
+    fn say_farewell(&mut self) {
+        if self.socket.can_write() {
+            self.close(CloseCode::Normal);
         }
-        let _ = socket.get_mut().hear_out().is_ok();
+        drop(self.socket.get_mut().hear_out());
+    }
+
+    // Says why the connection ends.
+    fn close(&mut self, code: CloseCode) {
+        drop(self.socket.close(Some(farewell(code))));
     }
 }
 
@@ -154,7 +193,10 @@ fn lost() -> io::Error {
 fn failure_of(error: Error) -> io::Error {
     match error {
         Error::Io(error) => error,
-        _ => lost(),
+        other => {
+            drop(other);
+            lost()
+        }
     }
 }
 
