@@ -34,7 +34,10 @@ fn said_of(bytes: &[u8]) -> (usize, &'static [u8]) {
                 1,
                 b"the comment that begins here has no closing `%`; a remainder is `rem(a, b)`",
             ),
-            b'0'..=b'9' => (digits(bytes), b"9223372036854775807 is the greatest number"),
+            b'0'..=b'9' => (
+                front_len(bytes, b'0', b'9'),
+                b"9223372036854775807 is the greatest number",
+            ),
             b'`' => (
                 bytes.len().min(2),
                 b"a character is a backquote and one byte from 32 to 126, as `a; of others say `code_char(10)`",
@@ -44,18 +47,23 @@ fn said_of(bytes: &[u8]) -> (usize, &'static [u8]) {
     }
 }
 
-fn digits(bytes: &[u8]) -> usize {
-    bytes.iter().take_while(|b| b.is_ascii_digit()).count()
+// How many bytes at the front are from `least` to `most`.
+fn front_len(bytes: &[u8], least: u8, most: u8) -> usize {
+    bytes
+        .iter()
+        .position(|byte| *byte < least || *byte > most)
+        .unwrap_or(bytes.len())
+}
+
+// How many bytes behind the first are from `least` to `most`, and the first.
+fn front_len_behind(bytes: &[u8], least: u8, most: u8) -> usize {
+    let behind = bytes.get(1..).unwrap_or(&[]);
+    front_len(behind, least, most).saturating_add(1)
 }
 
 // Why the text that begins at the front doesn't end.
 fn said_of_text(bytes: &[u8]) -> (usize, &'static [u8]) {
-    let inside = bytes
-        .iter()
-        .skip(1)
-        .take_while(|b| **b >= 32 && **b <= 126)
-        .count();
-    let len = inside.saturating_add(1);
+    let len = front_len_behind(bytes, 32, 126);
     if len < bytes.len() {
         return (
             len.saturating_add(1),
@@ -72,13 +80,7 @@ fn said_of_sign(bytes: &[u8]) -> (usize, &'static [u8]) {
     }
     match bytes.first() {
         Some(byte) if *byte > 126 => (
-            1usize.saturating_add(
-                bytes
-                    .iter()
-                    .skip(1)
-                    .take_while(|b| **b >= 128 && **b < 192)
-                    .count(),
-            ),
+            front_len_behind(bytes, 128, 191),
             b"this is no sign of the language, whose bytes are from 32 to 126",
         ),
         _ => (1, b"no sign begins with this byte"),

@@ -18,25 +18,42 @@ pub(crate) fn read_command(alloc: Global, colon: &Token, rest: &[Token]) -> Resu
     let Some(name) = name_in(word) else {
         return stop(Problem::NoCommand, word.span);
     };
+    match command_in(name) {
+        Some(Command::Type) => read_body(alloc, behind, word.span),
+        Some(Command::Reset) => stop(Problem::ResetAlone, word.span),
+        Some(Command::Alone) => check_alone(behind),
+        None if PROMPT_WORDS.contains(&name) => stop(Problem::PromptWord, word.span),
+        None => stop(Problem::NoCommand, word.span),
+    }
+}
+
+/// The commands of a session.
+enum Command {
+    /// `type`, which an expression stands behind.
+    Type,
+    Reset,
+    /// Another one, which nothing stands behind.
+    Alone,
+}
+
+// The command of this name.
+fn command_in(name: &[u8]) -> Option<Command> {
     if name == b"type".as_slice() {
-        return read_body(alloc, behind, word.span);
+        Some(Command::Type)
+    } else if name == b"reset".as_slice() {
+        Some(Command::Reset)
+    } else if name == b"names".as_slice() || name == b"budget".as_slice() {
+        Some(Command::Alone)
+    } else {
+        None
     }
-    if name == b"reset".as_slice() {
-        return stop(Problem::ResetAlone, word.span);
+}
+
+// Nothing may stand behind the command.
+fn check_alone(behind: &[Token]) -> Result<(), Halt> {
+    match behind.first() {
+        None => Ok(()),
+        Some(next) if is_sign(next, Sign::Semicolon) => stop(Problem::BehindCommand, next.span),
+        Some(next) => stop(Problem::CommandAlone, next.span),
     }
-    if name == b"names".as_slice() || name == b"budget".as_slice() {
-        return match behind {
-            [] => Ok(()),
-            [next, ..] if is_sign(next, Sign::Semicolon) => {
-                stop(Problem::BehindCommand, next.span)
-            }
-            [next, ..] => stop(Problem::CommandAlone, next.span),
-        };
-    }
-    for known in &PROMPT_WORDS {
-        if name == *known {
-            return stop(Problem::PromptWord, word.span);
-        }
-    }
-    stop(Problem::NoCommand, word.span)
 }

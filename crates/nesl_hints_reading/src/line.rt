@@ -5,7 +5,8 @@ ghost use Rattle.nesl_hints_places.specs.Within.{IsWithin};
 use crate::commands::read_command;
 use crate::halt::{Halt, Wrong, stop, stop_with};
 use crate::machine::{read_expression, read_type};
-use crate::marks::{over, pair_said};
+use crate::marks::check_pair;
+use crate::patterns::check_all_names;
 use crate::problems::{Problem, told};
 use crate::tokens::{is_sign, is_word, name_in};
 use nesl_hints_places::{Hint, said_of_word};
@@ -60,12 +61,9 @@ fn read_line(alloc: Global, tokens: &[Token]) -> Result<(), Halt> {
             [next, ..] if is_sign(next, Sign::Equal) => stop(Problem::TruthAsName, first.span),
             _ => read_body(alloc, tokens, first.span),
         },
-        Kind::Reserved(word) => match rest {
+        Kind::Reserved(_) => match rest {
             [next, ..] if is_sign(next, Sign::Equal) => stop(Problem::WordAsName, first.span),
-            _ => {
-                let _ = word;
-                read_body(alloc, tokens, first.span)
-            }
+            _ => read_body(alloc, tokens, first.span),
         },
         _ => read_body(alloc, tokens, first.span),
     }
@@ -77,17 +75,7 @@ fn read_named(alloc: Global, name: &[u8], tokens: &[Token], rest: &[Token]) -> R
         return read_body(alloc, tokens, Span { start: 0, end: 0 });
     };
     if is_sign(next, Sign::Equal) {
-        if let [sign, ..] = behind {
-            if let Some(said) = pair_said(next, sign) {
-                return stop(Problem::Elsewhere(said), over(next.span, sign.span));
-            }
-        }
-        return match read_body(alloc, behind, next.span) {
-            Err(Halt::Wrong(found)) if found.problem == Problem::InAlone => {
-                stop_with(Problem::NoLet, first_of(tokens), found.place)
-            }
-            other => other,
-        };
+        return read_bound(alloc, first_of(tokens), next, behind);
     }
     match read_body(alloc, tokens, next.span) {
         Err(Halt::Wrong(found)) => {
@@ -95,6 +83,19 @@ fn read_named(alloc: Global, name: &[u8], tokens: &[Token], rest: &[Token]) -> R
                 return stop(Problem::Elsewhere(said), first_of(tokens));
             }
             named_wrongly(alloc, tokens, rest, found)
+        }
+        other => other,
+    }
+}
+
+// Reads what a name is bound to, behind its `=`.
+fn read_bound(alloc: Global, name: Span, equal: &Token, behind: &[Token]) -> Result<(), Halt> {
+    if let Some(sign) = behind.first() {
+        check_pair(equal, sign)?;
+    }
+    match read_body(alloc, behind, equal.span) {
+        Err(Halt::Wrong(found)) if found.problem == Problem::InAlone => {
+            stop_with(Problem::NoLet, name, found.place)
         }
         other => other,
     }
@@ -153,11 +154,7 @@ pub(crate) fn read_body(alloc: Global, tokens: &[Token], before: Span) -> Result
         return stop(Problem::GoesOn, before);
     };
     if !is_sign(last, Sign::Semicolon) {
-        read_expression(alloc, tokens, last.span)?;
-        return match &last.kind {
-            Kind::Character(b';') => stop(Problem::SemicolonQuoted, last.span),
-            _ => stop(Problem::NoSemicolon, last.span),
-        };
+        return read_without_end(alloc, tokens, last);
     }
     match read_expression(alloc, front, last.span) {
         Err(Halt::Wrong(found)) if found.problem == Problem::GoesOn => nothing_before(front, last),
@@ -165,12 +162,19 @@ pub(crate) fn read_body(alloc: Global, tokens: &[Token], before: Span) -> Result
     }
 }
 
+// Reads an expression without a `;` behind it.
+fn read_without_end(alloc: Global, tokens: &[Token], last: &Token) -> Result<(), Halt> {
+    read_expression(alloc, tokens, last.span)?;
+    match &last.kind {
+        Kind::Character(b';') => stop(Problem::SemicolonQuoted, last.span),
+        _ => stop(Problem::NoSemicolon, last.span),
+    }
+}
+
 // An expression should stand before the `;` of a form, where these tokens stand.
 fn nothing_before(front: &[Token], end: &Token) -> Result<(), Halt> {
     if let Some(before) = front.last() {
-        if let Some(said) = pair_said(before, end) {
-            return stop(Problem::Elsewhere(said), over(before.span, end.span));
-        }
+        check_pair(before, end)?;
     }
     stop(Problem::NoExpression, end.span)
 }
@@ -239,21 +243,22 @@ fn check_behind_parameter(name: Span, behind: &[Token]) -> Result<(), Halt> {
     let Some(next) = behind.first() else {
         return Ok(());
     };
-    let names = behind
-        .iter()
-        .take_while(|token| name_in(*token).is_some())
-        .count();
     match &next.kind {
         Kind::Symbol(Sign::Equal | Sign::Colon) => Ok(()),
         Kind::Symbol(Sign::DoubleEqual) => stop(Problem::DoubleEqual, next.span),
         Kind::Symbol(Sign::RightArrow | Sign::DoubleColon) => stop(Problem::NoColon, next.span),
-        Kind::Name(_) => match behind.get(names) {
-            Some(token) if is_sign(token, Sign::Equal) => {
-                stop_with(Problem::SecondParameter, next.span, name)
-            }
-            _ => stop(Problem::NoEqual, next.span),
-        },
+        Kind::Name(_) if are_names_bound(behind) => {
+            stop_with(Problem::SecondParameter, next.span, name)
+        }
         _ => stop(Problem::NoEqual, next.span),
+    }
+}
+
+// Whether a `=` stands behind the names at the front.
+fn are_names_bound(tokens: &[Token]) -> bool {
+    match tokens.iter().find(|token| name_in(token).is_none()) {
+        Some(token) => is_sign(token, Sign::Equal),
+        None => false,
     }
 }
 
@@ -281,20 +286,6 @@ fn no_equal(alloc: Global, name: Span, len: usize, behind: &[Token]) -> Result<(
     }
 }
 
-// The first token that is none of a parameter.
-fn check_names(tokens: &[Token]) -> Result<(), Halt> {
-    for token in tokens {
-        match &token.kind {
-            Kind::Truth(_) => return stop(Problem::TruthAsName, token.span),
-            Kind::Name(_)
-            | Kind::Symbol(Sign::OpenParenthesis | Sign::CloseParenthesis | Sign::Comma) => {}
-            Kind::Reserved(_) => return stop(Problem::WordAsName, token.span),
-            _ => return stop(Problem::NoPattern, token.span),
-        }
-    }
-    Ok(())
-}
-
 // Reads a parameter, and a signature behind a `:`, if there is one.
 fn read_head(alloc: Global, head: &[Token], equal: Span) -> Result<(), Halt> {
     let Some(cut) = place_of(head, Sign::Colon) else {
@@ -310,7 +301,7 @@ fn read_parameter(alloc: Global, tokens: &[Token], end: Span) -> Result<(), Halt
     if tokens.is_empty() {
         return stop(Problem::NoParameter, end);
     }
-    check_names(tokens)?;
+    check_all_names(tokens, Problem::WordAsName)?;
     match read_expression(alloc, tokens, end) {
         Err(Halt::Wrong(found)) => match found.problem {
             Problem::NoParentheses => stop(Problem::NoPattern, found.place),

@@ -1,7 +1,7 @@
 //! A walk over the tokens of an expression or a type, up to the first at which no form can go on.
 
 use crate::halt::{Halt, stop, stop_with};
-use crate::marks::{over, pair_said, unclosed};
+use crate::marks::{check_pair, over, unclosed};
 use crate::openings::{Open, Opening};
 use crate::problems::Problem;
 use crate::tokens::{is_sign, is_word};
@@ -70,15 +70,19 @@ impl<'a> Machine<'a> {
     fn run(&mut self) -> Result<(), Halt> {
         let tokens = self.tokens;
         for (place, token) in tokens.iter().enumerate() {
-            self.check_names(token)?;
-            match self.mode {
-                Mode::Before => self.begin(place, token)?,
-                Mode::Behind => self.follow(place, token)?,
-                Mode::Type => self.begin_type(place, token)?,
-                Mode::BehindType => self.follow_type(token)?,
-            }
+            self.step(place, token)?;
         }
         Ok(())
+    }
+
+    fn step(&mut self, place: usize, token: &Token) -> Result<(), Halt> {
+        self.check_names(token)?;
+        match self.mode {
+            Mode::Before => self.begin(place, token),
+            Mode::Behind => self.follow(place, token),
+            Mode::Type => self.begin_type(place, token),
+            Mode::BehindType => self.follow_type(token),
+        }
     }
 
     /// The token before a place.
@@ -174,9 +178,7 @@ impl<'a> Machine<'a> {
     // No expression begins with this token.
     fn no_expression<T>(&self, place: usize, token: &Token) -> Result<T, Halt> {
         if let Some(before) = self.before(place) {
-            if let Some(said) = pair_said(before, token) {
-                return stop(Problem::Elsewhere(said), over(before.span, token.span));
-            }
+            check_pair(before, token)?;
         }
         if let Some(open) = self.opens.last() {
             if open.from == place {
@@ -188,26 +190,28 @@ impl<'a> Machine<'a> {
 
     // A token where a type begins.
     fn begin_type(&mut self, place: usize, token: &Token) -> Result<(), Halt> {
-        let behind = place.saturating_add(1);
         match &token.kind {
             Kind::Reserved(Word::Int | Word::Bool | Word::Char) | Kind::Name(_) => {
                 self.end_type();
                 Ok(())
             }
-            Kind::Symbol(Sign::OpenBracket) => {
-                self.types
-                    .push(Open::new(Opening::Square, token.span, behind))?;
-                Ok(())
-            }
-            Kind::Symbol(Sign::OpenParenthesis) => {
-                self.types
-                    .push(Open::new(Opening::Round, token.span, behind))?;
-                Ok(())
-            }
+            Kind::Symbol(Sign::OpenBracket) => self.open_type(Opening::Square, token.span, place),
+            Kind::Symbol(Sign::OpenParenthesis) => self.open_type(
+                Opening::Round,
+                token.span,
+                place,
+            ),
             _ if self.only_type => self.no_type(token),
             _ if self.types.is_empty() => stop(Problem::NoElementType, self.empty),
             _ => self.no_type(token),
         }
+    }
+
+    // Opens a bracket in which a type stands first.
+    fn open_type(&mut self, opening: Opening, at: Span, place: usize) -> Result<(), Halt> {
+        self.types
+            .push(Open::new(opening, at, place.saturating_add(1)))?;
+        Ok(())
     }
 
     fn no_type(&self, token: &Token) -> Result<(), Halt> {
@@ -329,12 +333,12 @@ impl<'a> Machine<'a> {
 
 // No expression begins with the first token behind something that was opened.
 fn nothing_inside<T>(open: Open, token: &Token) -> Result<T, Halt> {
-    match (open.opening, &token.kind) {
-        (Opening::Round | Opening::Call, Kind::Symbol(Sign::CloseParenthesis)) => {
+    match open.opening {
+        Opening::Round | Opening::Call if is_sign(token, Sign::CloseParenthesis) => {
             stop(Problem::NothingInside, token.span)
         }
-        (Opening::Brace, Kind::Symbol(Sign::CloseBrace)) => stop(Problem::NoSequence, token.span),
-        (Opening::Index, Kind::Symbol(Sign::CloseBracket)) => {
+        Opening::Brace if is_sign(token, Sign::CloseBrace) => stop(Problem::NoSequence, token.span),
+        Opening::Index if is_sign(token, Sign::CloseBracket) => {
             stop(Problem::NoIndex, over(open.at, token.span))
         }
         _ => stop(Problem::NoExpression, token.span),

@@ -3,6 +3,7 @@
 use crate::halt::{Halt, stop, stop_with};
 use crate::machine::{Machine, Mode};
 use crate::openings::{Open, Opening};
+use crate::patterns::check_all_names;
 use crate::problems::Problem;
 use crate::tokens::{is_sign, is_word, name_in};
 use nesl_lex::token::{Kind, Sign, Span, Token, Word};
@@ -69,7 +70,7 @@ const PAIRS: [(Sign, Sign, &[u8]); 13] = [
 ];
 
 /// What is said of two signs that another language has for one.
-pub(crate) fn pair_said(first: &Token, second: &Token) -> Option<&'static [u8]> {
+fn pair_said(first: &Token, second: &Token) -> Option<&'static [u8]> {
     if first.span.end != second.span.start {
         return None;
     }
@@ -79,6 +80,14 @@ pub(crate) fn pair_said(first: &Token, second: &Token) -> Option<&'static [u8]> 
         }
     }
     None
+}
+
+/// Whether two neighbouring signs are two: another language may have them for one.
+pub(crate) fn check_pair(first: &Token, second: &Token) -> Result<(), Halt> {
+    match pair_said(first, second) {
+        Some(said) => stop(Problem::Elsewhere(said), over(first.span, second.span)),
+        None => Ok(()),
+    }
 }
 
 impl<'a> Machine<'a> {
@@ -302,18 +311,14 @@ impl<'a> Machine<'a> {
                 _ => unclosed(open, token.span),
             },
             None => {
-                let tokens = self.tokens;
-                match tokens.get(place.saturating_add(1)) {
-                    Some(next) => stop(Problem::TwoForms, next.span),
-                    None => stop(Problem::TwoForms, token.span),
-                }
+                let next = self.tokens.get(place.saturating_add(1));
+                stop(Problem::TwoForms, next.unwrap_or(token).span)
             }
         }
     }
 
     fn colon(&mut self, place: usize, token: &Token) -> Result<(), Halt> {
         self.settle();
-        let next = self.tokens.get(place.saturating_add(1));
         match self.opens.pop() {
             Some(mut open) => match open.opening {
                 Opening::Brace => {
@@ -323,20 +328,21 @@ impl<'a> Machine<'a> {
                     open.colons = open.colons.saturating_add(1);
                     self.go_on(open)
                 }
-                _ => match self.opens.last() {
-                    Some(outer) if open.is_bracket() && outer.takes_colon() => {
-                        self.still_open(open, token.span)
-                    }
-                    _ if open.opening == Opening::Index => {
-                        stop_with(Problem::ColonInIndex, token.span, open.at)
-                    }
-                    _ => stop(Problem::ColonHere, token.span),
-                },
+                _ => self.no_colon(open, token.span),
             },
-            None => match next {
+            None => match self.tokens.get(place.saturating_add(1)) {
                 Some(next) if is_sign(next, Sign::Equal) => stop(Problem::BoundByEqual, token.span),
                 _ => stop(Problem::ColonHere, token.span),
             },
+        }
+    }
+
+    // A colon where this was open, which takes none.
+    fn no_colon(&self, open: Open, at: Span) -> Result<(), Halt> {
+        match self.opens.last() {
+            Some(outer) if open.is_bracket() && outer.takes_colon() => self.still_open(open, at),
+            _ if open.opening == Opening::Index => stop_with(Problem::ColonInIndex, at, open.at),
+            _ => stop(Problem::ColonHere, at),
         }
     }
 
@@ -346,14 +352,16 @@ impl<'a> Machine<'a> {
             Some(open) if open.opening == Opening::EachValue => {
                 self.go_on(open.turned(Opening::Filter, place.saturating_add(1)))
             }
-            _ => match self.tokens.get(place.saturating_add(1)) {
-                Some(next) => match pair_said(token, next) {
-                    Some(said) => stop(Problem::Elsewhere(said), over(token.span, next.span)),
-                    None => stop(Problem::BarHere, token.span),
-                },
-                None => stop(Problem::BarHere, token.span),
-            },
+            _ => self.no_mark(place, token, Problem::BarHere),
         }
+    }
+
+    // The token may not stand at its place, with or without the one behind it.
+    fn no_mark(&self, place: usize, token: &Token, problem: Problem) -> Result<(), Halt> {
+        if let Some(next) = self.tokens.get(place.saturating_add(1)) {
+            check_pair(token, next)?;
+        }
+        stop(problem, token.span)
     }
 
     fn equal(&mut self, place: usize, token: &Token) -> Result<(), Halt> {
@@ -361,13 +369,7 @@ impl<'a> Machine<'a> {
             Some(open) if open.opening == Opening::LetPattern => {
                 self.go_on(open.turned(Opening::LetValue, place.saturating_add(1)))
             }
-            _ => match self.tokens.get(place.saturating_add(1)) {
-                Some(next) => match pair_said(token, next) {
-                    Some(said) => stop(Problem::Elsewhere(said), over(token.span, next.span)),
-                    None => stop(Problem::EqualForEqual, token.span),
-                },
-                None => stop(Problem::EqualForEqual, token.span),
-            },
+            _ => self.no_mark(place, token, Problem::EqualForEqual),
         }
     }
 
@@ -381,7 +383,8 @@ impl<'a> Machine<'a> {
                     place.saturating_add(1),
                 )),
                 Opening::Brace | Opening::EachPattern => {
-                    self.check_pattern(open.from, place)?;
+                    let pattern = self.tokens.get(open.from..place).unwrap_or(&[]);
+                    check_all_names(pattern, Problem::NoPattern)?;
                     self.go_on(open.turned(Opening::EachValue, place.saturating_add(1)))
                 }
                 _ if open.is_bracket() => self.still_open(open, token.span),
@@ -389,20 +392,6 @@ impl<'a> Machine<'a> {
             },
             None => stop(Problem::InAlone, token.span),
         }
-    }
-
-    // Whether the tokens between are a pattern's.
-    fn check_pattern(&self, from: usize, to: usize) -> Result<(), Halt> {
-        let len = to.saturating_sub(from);
-        for token in self.tokens.iter().skip(from).take(len) {
-            match &token.kind {
-                Kind::Truth(_) => return stop(Problem::TruthAsName, token.span),
-                Kind::Name(_)
-                | Kind::Symbol(Sign::OpenParenthesis | Sign::CloseParenthesis | Sign::Comma) => {}
-                _ => return stop(Problem::NoPattern, token.span),
-            }
-        }
-        Ok(())
     }
 }
 

@@ -6,6 +6,27 @@ use crate::openings::{Open, Opening};
 use crate::problems::Problem;
 use nesl_lex::token::{Kind, Sign, Token, Word};
 
+/// Whether the tokens are a pattern's. `of_word` is the problem of a word of the language.
+pub(crate) fn check_all_names(tokens: &[Token], of_word: Problem) -> Result<(), Halt> {
+    for token in tokens {
+        if let Some(problem) = problem_in_names(token, of_word) {
+            return stop(problem, token.span);
+        }
+    }
+    Ok(())
+}
+
+// Why a token is none of a pattern.
+fn problem_in_names(token: &Token, of_word: Problem) -> Option<Problem> {
+    match &token.kind {
+        Kind::Name(_)
+        | Kind::Symbol(Sign::OpenParenthesis | Sign::CloseParenthesis | Sign::Comma) => None,
+        Kind::Truth(_) => Some(Problem::TruthAsName),
+        Kind::Reserved(_) => Some(of_word),
+        _ => Some(Problem::NoPattern),
+    }
+}
+
 impl<'a> Machine<'a> {
     /// A pattern has names, commas and parentheses; any other token ends it, or is wrong in it.
     pub(crate) fn check_names(&self, token: &Token) -> Result<(), Halt> {
