@@ -3,6 +3,7 @@
 
 mod bytes;
 mod commands;
+mod foreign;
 mod halt;
 mod line;
 mod machine;

@@ -3,29 +3,16 @@ ghost use Rattle.std.specs.Prelude.{IfOk, length};
 ghost use Rattle.nesl_hints_places.specs.Within.{IsWithin};
 
 use crate::commands::read_command;
+use crate::foreign::foreign_said;
 use crate::halt::{Halt, Wrong, stop, stop_with};
 use crate::machine::{read_expression, read_type};
 use crate::marks::check_pair;
 use crate::patterns::check_all_names;
 use crate::problems::{Problem, told};
 use crate::tokens::{is_sign, is_word, name_in};
-use nesl_hints_places::{Hint, said_of_word};
+use nesl_hints_places::Hint;
 use nesl_lex::token::{Kind, Sign, Span, Token, Word};
 use std::alloc::{AllocError, Global};
-
-/// Words that begin a line in other languages, and what is said of them.
-const FOREIGN: &[u8] = b"\
-def fun fn func define\ta function is defined by `function g(x) = x + 1;`
-lambda\tfunctions are no values: define one by `function g(x) = x + 1;`
-type\ta datatype is defined by `datatype point (int, int);`, and a type is told by `:type x;`
-data struct\ta datatype is defined by `datatype point (int, int);`
-var val const set\ta variable is bound by its name alone, as in `x = 3;`
-return\tnothing is returned: a function's body is its value
-print\tan expression alone tells its value: leave `print` out
-for\tthere are no loops: `{a * a : a in v}` does something for each element
-while\tthere are no loops: a function may call itself, and `{a * a : a in v}` goes over elements
-import\tthere are no modules: all functions are there from the beginning
-";
 
 /// Why the tokens of the text are no form: the first token after which none can go on.
 pub fn syntax(alloc: Global, text: &[u8], tokens: &[Token]) -> Result<Hint, AllocError>
@@ -43,7 +30,7 @@ pub fn syntax(alloc: Global, text: &[u8], tokens: &[Token]) -> Result<Hint, Allo
             second: None,
         },
     };
-    let hint = told(alloc, text, wrong)?;
+    let hint = told(alloc, text, tokens, wrong)?;
     Ok(hint.within(text.len()))
 }
 
@@ -56,7 +43,7 @@ fn read_line(alloc: Global, tokens: &[Token]) -> Result<(), Halt> {
         Kind::Symbol(Sign::Colon) => read_command(alloc, first, rest),
         Kind::Reserved(Word::Function) => read_function(alloc, first.span, rest),
         Kind::Reserved(Word::Datatype) => read_datatype(alloc, first.span, rest),
-        Kind::Name(name) => read_named(alloc, name.as_slice(), tokens, rest),
+        Kind::Name(_) => read_named(alloc, tokens, rest),
         Kind::Truth(_) => match rest {
             [next, ..] if is_sign(next, Sign::Equal) => stop(Problem::TruthAsName, first.span),
             _ => read_body(alloc, tokens, first.span),
@@ -70,7 +57,7 @@ fn read_line(alloc: Global, tokens: &[Token]) -> Result<(), Halt> {
 }
 
 // Reads a line that begins with a name.
-fn read_named(alloc: Global, name: &[u8], tokens: &[Token], rest: &[Token]) -> Result<(), Halt> {
+fn read_named(alloc: Global, tokens: &[Token], rest: &[Token]) -> Result<(), Halt> {
     let [next, behind @ ..] = rest else {
         return read_body(alloc, tokens, Span { start: 0, end: 0 });
     };
@@ -79,8 +66,8 @@ fn read_named(alloc: Global, name: &[u8], tokens: &[Token], rest: &[Token]) -> R
     }
     match read_body(alloc, tokens, next.span) {
         Err(Halt::Wrong(found)) => {
-            if let Some(said) = said_of_word(FOREIGN, name) {
-                return stop(Problem::Elsewhere(said), first_of(tokens));
+            if foreign_said(tokens).is_some() {
+                return stop(Problem::ForeignWord, first_of(tokens));
             }
             named_wrongly(alloc, tokens, rest, found)
         }

@@ -1,5 +1,6 @@
 //! The tokens that stand behind an expression.
 
+use crate::foreign::pair_said;
 use crate::halt::{Halt, stop, stop_with};
 use crate::machine::{Machine, Mode};
 use crate::openings::{Open, Opening};
@@ -8,85 +9,24 @@ use crate::problems::Problem;
 use crate::tokens::{is_sign, is_word, name_in};
 use nesl_lex::token::{Kind, Sign, Span, Token, Word};
 
-/// Two neighbouring signs that another language has for one, and what is said of them.
-const PAIRS: [(Sign, Sign, &[u8]); 13] = [
-    (
-        Sign::Plus,
-        Sign::Equal,
-        b"`+=` is no sign: a name is bound anew, as in `x = x + 1;`",
-    ),
-    (
-        Sign::DoublePlus,
-        Sign::Semicolon,
-        b"`++` joins two sequences; one more is `x = x + 1;`",
-    ),
-    (
-        Sign::Minus,
-        Sign::Equal,
-        b"`-=` is no sign: a name is bound anew, as in `x = x - 1;`",
-    ),
-    (
-        Sign::Star,
-        Sign::Equal,
-        b"`*=` is no sign: a name is bound anew, as in `x = x * 2;`",
-    ),
-    (
-        Sign::Star,
-        Sign::Star,
-        b"`**` is no sign: write a product, or `lshift(1, n)` for a power of two",
-    ),
-    (
-        Sign::Slash,
-        Sign::Slash,
-        b"`//` is no sign: `/` between whole numbers drops the fraction, and a comment is `% .. %`",
-    ),
-    (
-        Sign::Less,
-        Sign::Greater,
-        b"`<>` is no sign: two values that differ are `/=`",
-    ),
-    (Sign::Equal, Sign::Greater, b"`=>` is no sign: write `>=`"),
-    (Sign::Equal, Sign::Less, b"`=<` is no sign: write `<=`"),
-    (
-        Sign::DoubleEqual,
-        Sign::Equal,
-        b"`===` is no sign: `==` compares, and `eql(a, b)` compares sequences and pairs",
-    ),
-    (
-        Sign::Bar,
-        Sign::Bar,
-        b"`||` is no sign: write `or`, which evaluates both sides",
-    ),
-    (
-        Sign::Colon,
-        Sign::Equal,
-        b"a name is bound by `=` alone, as in `x = 3;`",
-    ),
-    (
-        Sign::Less,
-        Sign::Less,
-        b"`<<` is no sign: write `lshift(x, n)`",
-    ),
-];
+/// Whether two neighbouring signs are two: another language may have them for one.
+pub(crate) fn check_pair(first: &Token, second: &Token) -> Result<(), Halt> {
+    match pair_in(first, second) {
+        Some((one, other)) => stop(Problem::Pair(one, other), over(first.span, second.span)),
+        None => Ok(()),
+    }
+}
 
-/// What is said of two signs that another language has for one.
-fn pair_said(first: &Token, second: &Token) -> Option<&'static [u8]> {
+// Two neighbouring signs that another language has for one.
+fn pair_in(first: &Token, second: &Token) -> Option<(Sign, Sign)> {
     if first.span.end != second.span.start {
         return None;
     }
-    for (one, other, said) in &PAIRS {
-        if is_sign(first, *one) && is_sign(second, *other) {
-            return Some(said);
+    match (&first.kind, &second.kind) {
+        (Kind::Symbol(one), Kind::Symbol(other)) if pair_said(*one, *other).is_some() => {
+            Some((*one, *other))
         }
-    }
-    None
-}
-
-/// Whether two neighbouring signs are two: another language may have them for one.
-pub(crate) fn check_pair(first: &Token, second: &Token) -> Result<(), Halt> {
-    match pair_said(first, second) {
-        Some(said) => stop(Problem::Elsewhere(said), over(first.span, second.span)),
-        None => Ok(()),
+        _ => None,
     }
 }
 

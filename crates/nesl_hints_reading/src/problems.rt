@@ -1,8 +1,9 @@
 //! What can be wrong with a line's tokens, and how a person is told.
 
+use crate::foreign::{foreign_said, pair_said};
 use crate::halt::Wrong;
 use nesl_hints_places::{Hint, join_parts, quoted};
-use nesl_lex::token::Span;
+use nesl_lex::token::{Sign, Span, Token};
 use std::alloc::{AllocError, Global};
 
 /// What is wrong at a place. In the comments, the second place is in brackets.
@@ -87,14 +88,24 @@ pub(crate) enum Problem {
     NothingInside,
     NoIndex,
     NoSequence,
-    /// What another language writes.
-    Elsewhere(&'static [u8]),
+    /// Two signs that another language has for one.
+    Pair(Sign, Sign),
+    /// A word that begins a line in another language.
+    ForeignWord,
     NoForm,
 }
 
-/// A hint that says what is wrong.
-pub(crate) fn told(alloc: Global, text: &[u8], wrong: Wrong) -> Result<Hint, AllocError> {
-    let (front, quote, back) = said_of(wrong.problem);
+/// A hint that says what is wrong with these tokens of a text.
+pub(crate) fn told(
+    alloc: Global,
+    text: &[u8],
+    tokens: &[Token],
+    wrong: Wrong,
+) -> Result<Hint, AllocError> {
+    let (front, quote, back) = match foreign_said(tokens) {
+        Some(said) if wrong.problem == Problem::ForeignWord => plain(said),
+        _ => said_of(wrong.problem),
+    };
     let seen = match quote {
         Quote::Nothing => b"".as_slice(),
         Quote::Place => quoted(text, wrong.place),
@@ -211,7 +222,7 @@ fn said_of_definition(problem: Problem) -> (&'static [u8], Quote, &'static [u8])
             b"the empty sequence says the type of its elements, as in `[] int`",
         ),
         Problem::FormInside => plain(b"a definition is a form of its own, in a line of its own"),
-        Problem::Elsewhere(said) => plain(said),
+        Problem::Pair(one, other) => plain(pair_said(one, other).unwrap_or(b"")),
         other => said_of_expression(other),
     }
 }
