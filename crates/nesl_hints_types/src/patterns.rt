@@ -4,7 +4,6 @@ use crate::clash::{Clash, Halt, Role, Shortage};
 use crate::guesses::Guess;
 use crate::walk::{Local, Walk};
 use nesl_syntax_tree::tree::{Pattern, PatternNode, TypeExp, TypeNode};
-use nesl_types::Top;
 
 impl<'e> Walk<'e> {
     /// The names of a pattern that stands for something of the type at a place.
@@ -47,11 +46,10 @@ impl<'e> Walk<'e> {
         name: &'e [u8],
         place: usize,
     ) -> Result<usize, Halt<'e>> {
-        let context = self.context;
-        let Some((Top::Datatype(tag, content), _)) = context.get(name) else {
-            return Ok(self.guesses.open()?);
+        let Some((tag, content)) = self.datatype(name) else {
+            return self.open();
         };
-        let wanted = self.guesses.add(Guess::Named(*tag))?;
+        let wanted = self.add(Guess::Named(tag))?;
         self.join(Clash {
             role: Role::Record(name),
             place: pattern.span,
@@ -91,9 +89,8 @@ impl<'e> Walk<'e> {
         name: &'e [u8],
         names: &mut Vec<Local<'e>>,
     ) -> Result<usize, Shortage> {
-        let context = self.context;
-        if let Some((Top::Datatype(tag, _), _)) = context.get(name) {
-            return self.guesses.add(Guess::Named(*tag));
+        if let Some((tag, _)) = self.datatype(name) {
+            return self.guesses.add(Guess::Named(tag));
         }
         for known in names.iter() {
             if known.name == name {

@@ -6,7 +6,7 @@ use crate::guesses::{Guess, Guesses};
 use nesl_eval_env::Payload;
 use nesl_lex::token::Span;
 use nesl_syntax_tree::tree::{Binding, Exp, Node};
-use nesl_types::{Context, Top};
+use nesl_types::{Context, Top, Ty};
 use std::alloc::Global;
 
 /// A local name, and the place of its type.
@@ -59,7 +59,7 @@ impl<'e> Walk<'e> {
             }
             Node::Pair { left, right } => {
                 let (first, second) = self.check_two(left, right)?;
-                Ok(self.guesses.add(Guess::Pair(first, second))?)
+                self.add(Guess::Pair(first, second))
             }
             Node::Prefix { operator, operand } => {
                 let given = self.check(operand)?;
@@ -77,52 +77,38 @@ impl<'e> Walk<'e> {
                 let (items, number) = self.check_two(sequence, index)?;
                 self.index((sequence.span, items), (index.span, number))
             }
-            Node::Choice { test, yes, no } => {
-                self.check_as(test, Guess::Bool, Role::Test)?;
-                let (first, second) = self.check_two(yes, no)?;
-                self.same(Role::Otherwise, (yes.span, first), (no.span, second))
-            }
+            Node::Choice { test, yes, no } => self.check_choice(test, yes, no),
             Node::Sequence(items) => self.check_items(items.as_slice()),
             Node::Range { from, to } => {
-                self.check_as(from, Guess::Int, Role::Bound)?;
-                let last = self.check_as(to, Guess::Int, Role::Bound)?;
-                Ok(self.guesses.add(Guess::Sequence(last))?)
+                let last = self.check_ends(from, to)?;
+                self.add(Guess::Sequence(last))
             }
             Node::StridedRange { from, to, stride } => {
-                self.check_as(from, Guess::Int, Role::Bound)?;
-                self.check_as(to, Guess::Int, Role::Bound)?;
+                self.check_ends(from, to)?;
                 let step = self.check_as(stride, Guess::Int, Role::Bound)?;
-                Ok(self.guesses.add(Guess::Sequence(step))?)
+                self.add(Guess::Sequence(step))
             }
-            Node::Let { bindings, body } => {
-                let before = self.locals.len();
-                self.check_bindings(bindings.as_slice())?;
-                let found = self.check(body)?;
-                self.locals.truncate(before);
-                Ok(found)
-            }
+            Node::Let { bindings, body } => self.check_let(bindings.as_slice(), body),
             Node::Each { body, bindings } => {
                 let before = self.locals.len();
                 let item = self.check_each(body, bindings.as_slice())?;
                 self.locals.truncate(before);
-                Ok(self.guesses.add(Guess::Sequence(item))?)
+                self.add(Guess::Sequence(item))
             }
             Node::FilteredEach {
                 body,
                 bindings,
                 filter,
-            } => {
-                let before = self.locals.len();
-                let item = self.check_each(body, bindings.as_slice())?;
-                self.check_as(filter, Guess::Bool, Role::Filter)?;
-                self.locals.truncate(before);
-                Ok(self.guesses.add(Guess::Sequence(item))?)
-            }
-            _ => Ok(self.leaf(&exp.node)?),
+            } => self.check_filtered(body, bindings.as_slice(), filter),
+            _ => self.check_leaf(&exp.node),
         }
     }
 
     // The place of the type of an expression without parts.
+    fn check_leaf(&mut self, node: &'e Node) -> Result<usize, Halt<'e>> {
+        Ok(self.leaf(node)?)
+    }
+
     fn leaf(&mut self, node: &'e Node) -> Result<usize, Shortage> {
         match node {
             Node::Number(_) => self.guesses.add(Guess::Int),
@@ -145,6 +131,48 @@ impl<'e> Walk<'e> {
         let first = self.check(left)?;
         let second = self.check(right)?;
         Ok((first, second))
+    }
+
+    #[cycle(walk)]
+    fn check_choice(
+        &mut self,
+        test: &'e Exp,
+        yes: &'e Exp,
+        no: &'e Exp,
+    ) -> Result<usize, Halt<'e>> {
+        self.check_as(test, Guess::Bool, Role::Test)?;
+        let (first, second) = self.check_two(yes, no)?;
+        self.same(Role::Otherwise, (yes.span, first), (no.span, second))
+    }
+
+    // The ends of a range, and the place of the type of the last one.
+    #[cycle(walk)]
+    fn check_ends(&mut self, from: &'e Exp, to: &'e Exp) -> Result<usize, Halt<'e>> {
+        self.check_as(from, Guess::Int, Role::Bound)?;
+        self.check_as(to, Guess::Int, Role::Bound)
+    }
+
+    #[cycle(walk)]
+    fn check_let(&mut self, bindings: &'e [Binding], body: &'e Exp) -> Result<usize, Halt<'e>> {
+        let before = self.locals.len();
+        self.check_bindings(bindings)?;
+        let found = self.check(body)?;
+        self.locals.truncate(before);
+        Ok(found)
+    }
+
+    #[cycle(walk)]
+    fn check_filtered(
+        &mut self,
+        body: &'e Exp,
+        bindings: &'e [Binding],
+        filter: &'e Exp,
+    ) -> Result<usize, Halt<'e>> {
+        let before = self.locals.len();
+        let item = self.check_each(body, bindings)?;
+        self.check_as(filter, Guess::Bool, Role::Filter)?;
+        self.locals.truncate(before);
+        self.add(Guess::Sequence(item))
     }
 
     // The place of the type of an expression, which has to be this one.
@@ -182,7 +210,7 @@ impl<'e> Walk<'e> {
             Some((_, place)) => place,
             None => self.guesses.open()?,
         };
-        Ok(self.guesses.add(Guess::Sequence(item))?)
+        self.add(Guess::Sequence(item))
     }
 
     // The bindings of a `let`, each of which sees the names before it.
@@ -198,18 +226,49 @@ impl<'e> Walk<'e> {
     // The bindings of an apply-to-each, and the place of the type of the first one's elements.
     #[cycle(walk)]
     fn check_binders(&mut self, bindings: &'e [Binding]) -> Result<usize, Halt<'e>> {
+        let drawn = self.check_drawn(bindings)?;
+        self.bind_drawn(bindings, drawn.as_slice())
+    }
+
+    // The places of the types of the elements that the bindings of an apply-to-each are of.
+    #[cycle(walk)]
+    fn check_drawn(&mut self, bindings: &'e [Binding]) -> Result<Vec<usize>, Halt<'e>> {
         let mut drawn = Vec::new(self.alloc);
         for binding in bindings {
             let value = self.check(&binding.value)?;
             let item = self.drawn(binding.value.span, value)?;
             drawn.push(item)?;
         }
+        Ok(drawn)
+    }
+
+    // The bindings of an apply-to-each stand for elements of the types at these places, of which the first is given.
+    fn bind_drawn(&mut self, bindings: &'e [Binding], drawn: &[usize]) -> Result<usize, Halt<'e>> {
         for (binding, item) in bindings.iter().zip(drawn.iter()) {
             self.bind(&binding.pattern, *item)?;
         }
         match drawn.first() {
             Some(place) => Ok(*place),
-            None => Ok(self.guesses.open()?),
+            None => self.open(),
+        }
+    }
+
+    /// The place of one more type.
+    pub(crate) fn add(&mut self, guess: Guess) -> Result<usize, Halt<'e>> {
+        Ok(self.guesses.add(guess)?)
+    }
+
+    /// The place of one more type, of which nothing is known.
+    pub(crate) fn open(&mut self) -> Result<usize, Halt<'e>> {
+        Ok(self.guesses.open()?)
+    }
+
+    /// The tag of the datatype with a name, and what a record of it holds.
+    pub(crate) fn datatype(&self, name: &[u8]) -> Option<(u64, &'e Ty)> {
+        let context = self.context;
+        match context.get(name) {
+            Some((Top::Datatype(tag, content), _)) => Some((*tag, content)),
+            _ => None,
         }
     }
 

@@ -13,22 +13,37 @@ abbrev most_of : List Binding → ℕ
 most_of bs = most (λ (b : Binding). binding.the_size b) bs
 
 abbrev pub decreases-check : goal.decreases-check
-decreases-check l = 4 * size l.exp.now
+decreases-check l = 8 * size l.exp.now
 
 abbrev pub decreases-check_two : goal.decreases-check_two
-decreases-check_two l = 4 * max (size l.left.now) (size l.right.now) + 1
+decreases-check_two l = 8 * max (size l.left.now) (size l.right.now) + 1
 
 abbrev pub decreases-check_as : goal.decreases-check_as
-decreases-check_as l = 4 * size l.exp.now + 1
+decreases-check_as l = 8 * size l.exp.now + 1
 
 abbrev pub decreases-check_items : goal.decreases-check_items
-decreases-check_items l = 4 * most (λ (e : Exp). size e) l.items.now + 1
+decreases-check_items l = 8 * most (λ (e : Exp). size e) l.items.now + 1
 
 abbrev pub decreases-check_bindings : goal.decreases-check_bindings
-decreases-check_bindings l = 4 * most_of l.bindings.now + 1
+decreases-check_bindings l = 8 * most_of l.bindings.now + 1
 
 abbrev pub decreases-check_binders : goal.decreases-check_binders
-decreases-check_binders l = 4 * most_of l.bindings.now + 1
+decreases-check_binders l = 8 * most_of l.bindings.now + 2
+
+abbrev pub decreases-check_drawn : goal.decreases-check_drawn
+decreases-check_drawn l = 8 * most_of l.bindings.now + 1
 
 abbrev pub decreases-check_each : goal.decreases-check_each
-decreases-check_each l = 4 * max (size l.body.now) (most_of l.bindings.now) + 2
+decreases-check_each l = 8 * max (size l.body.now) (most_of l.bindings.now) + 3
+
+abbrev pub decreases-check_choice : goal.decreases-check_choice
+decreases-check_choice l = 8 * max (size l.test.now) (max (size l.yes.now) (size l.no.now)) + 2
+
+abbrev pub decreases-check_ends : goal.decreases-check_ends
+decreases-check_ends l = 8 * max (size l.from.now) (size l.to.now) + 2
+
+abbrev pub decreases-check_let : goal.decreases-check_let
+decreases-check_let l = 8 * max (size l.body.now) (most_of l.bindings.now) + 2
+
+abbrev pub decreases-check_filtered : goal.decreases-check_filtered
+decreases-check_filtered l = 8 * max (size l.filter.now) (max (size l.body.now) (most_of l.bindings.now)) + 4
