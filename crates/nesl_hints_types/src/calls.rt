@@ -68,16 +68,8 @@ impl<'e> Walk<'e> {
         let context = self.context;
         match context.get(name) {
             Some((Top::Function(scheme), _)) => self.guesses.scheme(scheme),
-            Some((Top::Datatype(tag, content), _)) => {
-                let takes = self.guesses.copy(&content.whole(), &[])?;
-                let gives = self.guesses.add(Guess::Named(*tag))?;
-                Ok(Ends { takes, gives })
-            }
-            _ => {
-                let takes = self.guesses.open()?;
-                let gives = self.guesses.open()?;
-                Ok(Ends { takes, gives })
-            }
+            Some((Top::Datatype(tag, content), _)) => self.guesses.maker(*tag, content),
+            _ => self.guesses.unknown(),
         }
     }
 

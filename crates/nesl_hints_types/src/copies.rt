@@ -3,7 +3,7 @@
 use crate::clash::Shortage;
 use crate::guesses::{Guess, Guesses};
 use nesl_builtins::{Builtin, classes, gives, takes};
-use nesl_types::{Part, Scheme};
+use nesl_types::{Class, Part, Scheme, Ty};
 use nesl_types_bank::Shape;
 
 /// What a function takes and gives.
@@ -60,23 +60,45 @@ impl Guesses {
 
     /// What a built-in function takes and gives.
     pub(crate) fn builtin(&mut self, builtin: Builtin) -> Result<Ends, Shortage> {
-        let variables = self.open_all(classes(builtin))?;
-        let taken = self.copy(&takes(builtin), variables.as_slice())?;
-        let given = self.copy(&gives(builtin), variables.as_slice())?;
+        self.ends_of(classes(builtin), &takes(builtin), &gives(builtin))
+    }
+
+    /// What a defined function takes and gives.
+    pub(crate) fn scheme(&mut self, scheme: &Scheme) -> Result<Ends, Shortage> {
+        self.ends_of(
+            scheme.classes.as_slice(),
+            &scheme.argument.whole(),
+            &scheme.result.whole(),
+        )
+    }
+
+    // What a function takes and gives, where its types have variables of these classes.
+    fn ends_of(
+        &mut self,
+        classes: &[Class],
+        takes: &Part<'_>,
+        gives: &Part<'_>,
+    ) -> Result<Ends, Shortage> {
+        let variables = self.open_all(classes)?;
+        let taken = self.copy(takes, variables.as_slice())?;
+        let given = self.copy(gives, variables.as_slice())?;
         Ok(Ends {
             takes: taken,
             gives: given,
         })
     }
 
-    /// What a defined function takes and gives.
-    pub(crate) fn scheme(&mut self, scheme: &Scheme) -> Result<Ends, Shortage> {
-        let variables = self.open_all(scheme.classes.as_slice())?;
-        let taken = self.copy(&scheme.argument.whole(), variables.as_slice())?;
-        let given = self.copy(&scheme.result.whole(), variables.as_slice())?;
-        Ok(Ends {
-            takes: taken,
-            gives: given,
-        })
+    /// What the function takes and gives that makes records of a datatype, which hold this.
+    pub(crate) fn maker(&mut self, tag: u64, content: &Ty) -> Result<Ends, Shortage> {
+        let takes = self.copy(&content.whole(), &[])?;
+        let gives = self.add(Guess::Named(tag))?;
+        Ok(Ends { takes, gives })
+    }
+
+    /// What a function takes and gives of which nothing is known.
+    pub(crate) fn unknown(&mut self) -> Result<Ends, Shortage> {
+        let takes = self.open()?;
+        let gives = self.open()?;
+        Ok(Ends { takes, gives })
     }
 }

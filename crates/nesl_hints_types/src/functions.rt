@@ -1,9 +1,8 @@
 //! Whole forms.
 
 use crate::clash::{Clash, Halt, Role};
-use crate::copies::Ends;
 use crate::guesses::of_class;
-use crate::walk::{Own, Walk};
+use crate::walk::{Local, Own, Walk};
 use nesl_lex::token::Span;
 use nesl_syntax_tree::tree as syntax;
 use nesl_syntax_tree::tree::{Exp, Form, Pattern, Signature};
@@ -52,15 +51,11 @@ impl<'e> Walk<'e> {
         signature: &'e Option<Signature>,
         body: &'e Exp,
     ) -> Result<(), Halt<'e>> {
-        let takes = self.guesses.open()?;
-        let gives = self.guesses.open()?;
-        self.own = Some(Own {
-            name,
-            ends: Ends { takes, gives },
-        });
-        self.bind(parameter, takes)?;
+        let ends = self.guesses.unknown()?;
+        self.own = Some(Own { name, ends });
+        self.bind(parameter, ends.takes)?;
         let signed = match signature {
-            Some(signature) => Some(self.sign(parameter, signature, takes)?),
+            Some(signature) => Some(self.sign(parameter, signature, ends.takes)?),
             None => None,
         };
         let found = self.check(body)?;
@@ -72,7 +67,7 @@ impl<'e> Walk<'e> {
             place: body.span,
             second: None,
             found,
-            wanted: gives,
+            wanted: ends.gives,
         })
     }
 
@@ -86,9 +81,24 @@ impl<'e> Walk<'e> {
         let mut names = Vec::new(self.alloc);
         let from = self.written(&signature.from, &mut names)?;
         let to = self.written(&signature.to, &mut names)?;
+        self.sign_members(signature, &mut names)?;
+        self.same(
+            Role::Parameter,
+            (signature.from.span, from),
+            (parameter.span, takes),
+        )?;
+        Ok((signature.to.span, to))
+    }
+
+    // What a signature says of the classes of the types that these names stand for.
+    fn sign_members(
+        &mut self,
+        signature: &'e Signature,
+        names: &mut Vec<Local<'e>>,
+    ) -> Result<(), Halt<'e>> {
         for member in &signature.members {
-            let wanted = self.guesses.add(of_class(class_of(member.class)))?;
-            let found = self.named_type(member.name.as_slice(), &mut names)?;
+            let wanted = self.add(of_class(class_of(member.class)))?;
+            let found = self.named_type(member.name.as_slice(), names)?;
             self.join(Clash {
                 role: Role::Parameter,
                 place: signature.from.span,
@@ -97,11 +107,6 @@ impl<'e> Walk<'e> {
                 wanted,
             })?;
         }
-        self.same(
-            Role::Parameter,
-            (signature.from.span, from),
-            (parameter.span, takes),
-        )?;
-        Ok((signature.to.span, to))
+        Ok(())
     }
 }

@@ -9,13 +9,7 @@ impl<'e> Walk<'e> {
     /// The names of a pattern that stands for something of the type at a place.
     pub(crate) fn bind(&mut self, pattern: &'e Pattern, place: usize) -> Result<(), Halt<'e>> {
         match &pattern.node {
-            PatternNode::Name(name) => {
-                self.locals.push(Local {
-                    name: name.as_slice(),
-                    place,
-                })?;
-                Ok(())
-            }
+            PatternNode::Name(name) => self.bind_name(name.as_slice(), place),
             PatternNode::Pair { left, right } => {
                 let (first, second) = self.parts(pattern, place)?;
                 self.bind(left, first)?;
@@ -26,6 +20,11 @@ impl<'e> Walk<'e> {
                 self.bind(part, content)
             }
         }
+    }
+
+    fn bind_name(&mut self, name: &'e [u8], place: usize) -> Result<(), Halt<'e>> {
+        self.locals.push(Local { name, place })?;
+        Ok(())
     }
 
     // The parts of the type at a place, which has to be a pair.

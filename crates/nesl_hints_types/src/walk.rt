@@ -83,18 +83,9 @@ impl<'e> Walk<'e> {
                 let last = self.check_ends(from, to)?;
                 self.add(Guess::Sequence(last))
             }
-            Node::StridedRange { from, to, stride } => {
-                self.check_ends(from, to)?;
-                let step = self.check_as(stride, Guess::Int, Role::Bound)?;
-                self.add(Guess::Sequence(step))
-            }
+            Node::StridedRange { from, to, stride } => self.check_strided(from, to, stride),
             Node::Let { bindings, body } => self.check_let(bindings.as_slice(), body),
-            Node::Each { body, bindings } => {
-                let before = self.locals.len();
-                let item = self.check_each(body, bindings.as_slice())?;
-                self.locals.truncate(before);
-                self.add(Guess::Sequence(item))
-            }
+            Node::Each { body, bindings } => self.check_unfiltered(body, bindings.as_slice()),
             Node::FilteredEach {
                 body,
                 bindings,
@@ -153,12 +144,36 @@ impl<'e> Walk<'e> {
     }
 
     #[cycle(walk)]
+    fn check_strided(
+        &mut self,
+        from: &'e Exp,
+        to: &'e Exp,
+        stride: &'e Exp,
+    ) -> Result<usize, Halt<'e>> {
+        self.check_ends(from, to)?;
+        let step = self.check_as(stride, Guess::Int, Role::Bound)?;
+        self.add(Guess::Sequence(step))
+    }
+
+    #[cycle(walk)]
     fn check_let(&mut self, bindings: &'e [Binding], body: &'e Exp) -> Result<usize, Halt<'e>> {
         let before = self.locals.len();
         self.check_bindings(bindings)?;
         let found = self.check(body)?;
         self.locals.truncate(before);
         Ok(found)
+    }
+
+    #[cycle(walk)]
+    fn check_unfiltered(
+        &mut self,
+        body: &'e Exp,
+        bindings: &'e [Binding],
+    ) -> Result<usize, Halt<'e>> {
+        let before = self.locals.len();
+        let item = self.check_each(body, bindings)?;
+        self.locals.truncate(before);
+        self.add(Guess::Sequence(item))
     }
 
     #[cycle(walk)]

@@ -47,3 +47,9 @@ decreases-check_let l = 8 * max (size l.body.now) (most_of l.bindings.now) + 2
 
 abbrev pub decreases-check_filtered : goal.decreases-check_filtered
 decreases-check_filtered l = 8 * max (size l.filter.now) (max (size l.body.now) (most_of l.bindings.now)) + 4
+
+abbrev pub decreases-check_strided : goal.decreases-check_strided
+decreases-check_strided l = 8 * max (size l.from.now) (max (size l.to.now) (size l.stride.now)) + 3
+
+abbrev pub decreases-check_unfiltered : goal.decreases-check_unfiltered
+decreases-check_unfiltered l = 8 * max (size l.body.now) (most_of l.bindings.now) + 4
