@@ -62,8 +62,8 @@ pub(crate) fn first_room(count: Option<u64>) -> usize {
     }
 }
 
-/// Puts the shapes of the parts of the type at a place into a list, each behind those that it is made of. In `places` is
-/// room for the place in the list of each part, and the stack is lent.
+/// Puts the shapes of the parts of the type at a place into a list, each behind those that it is made of. In `places`
+/// is room for the place in the list of each part, and the stack is lent.
 fn push_listed(
     from: &Parts<'_>,
     place: usize,
