@@ -19,6 +19,7 @@ use Rattle.nesl_eval_ops.specs.contracts.ops.Leaf as leaf_row
 use Rattle.nesl_eval_ops.proofs.ops.Block.TheLaws.TheKnot as ops_knot
 use Rattle.nesl_eval_halves.specs.contracts.turns.Interval as interval_row
 use Rattle.nesl_eval_halves.proofs.crew.Crew.TheSendSync as crew_crosses
+use Rattle.nesl_eval_halves.proofs.found.Wanted.TheSendSync as wanted_crosses
 
 pub value_sync : IsSync (value_row.the_row heap.the_row ghosts)
 value_sync = search (sendable, standard.crosses, value_knot.crosses) depth 20
@@ -37,4 +38,4 @@ body_sync = search (sendable, standard.crosses, ops_knot.crosses, code_sync, lea
 
 -- places, with what stands around them
 pub interval_sync : (a : NamedLft) (R H G T : RattleType) → IsSync R → IsSync H → IsSync G → IsSync T → IsSync (interval_row.the_row a R H G T)
-interval_sync a R H G T r h g t = search (sendable, standard.crosses, value_sync, ops_sync, body_sync, crew_crosses.the_sync) depth 20
+interval_sync a R H G T r h g t = search (sendable, standard.crosses, value_sync, ops_sync, body_sync, crew_crosses.the_sync, wanted_crosses.the_field_sync) depth 20

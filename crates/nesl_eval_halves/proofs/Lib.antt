@@ -1,5 +1,8 @@
 pub mod Ranges
-pub mod Found
+pub mod Halved
+pub mod Finding
 pub mod Taken
+pub mod Left
+pub mod Reaching
 pub mod Columned
 pub mod Crosses

@@ -29,9 +29,9 @@ use Rattle.nesl_eval_rounds.proofs.Columned.{gathered, twice}
 use Rattle.nesl_eval_machine.proofs.Columned.{env_there, at_rest}
 use Rattle.nesl_eval_halves.specs.declared.turns.Interval.{Interval}
 use Rattle.nesl_eval_halves.specs.Intervals.{IsAtTurn, at_turn}
-use Rattle.nesl_eval_halves.specs.Halves.{Came}
+use Rattle.nesl_eval_halves.specs.Halves.{Came, Ran}
 
-came_stuck : {U : Type 0} (f : ℕ) (r : Result U Stop) (f' : ℕ) (o p : Out Value) → o ≡ stuck → Came f r f' o p
+pub came_stuck : {U : Type 0} (f : ℕ) (r : Result U Stop) (f' : ℕ) (o p : Out Value) → o ≡ stuck → Came f r f' o p
 came_stuck f (Ok u) f' o p e = inl e
 came_stuck f (Err (Fault k s)) f' o p e = inl e
 came_stuck f (Err Over) f' o p e = inl e
@@ -125,15 +125,13 @@ first_of_turn t m n c xs code levels base no_frames no_stack slots =
     ∙ ap (λ k. after_cost 0 m.meter.depth (exec t n xs k [])) code
 
 -- a whole run from there is the turn
-pub turn_meets : {R H G T : Type 0} (table : T → Table) (i : Interval R H G T) (place : ℕ) (meter : Meter) (m n : Machine Global) (r : Result (code.Value Global) Stop) →
-    IsAtTurn m i place meter → HasBodies (table i.crew.now.tops.now) i.room.now.bodies.now → (Fits (table i.crew.now.tops.now) m → Ends m r n (left (table i.crew.now.tops.now) m)) →
-    Meets Is meter r n.meter (at_turn table i place)
-turn_meets table i place meter m n r at bodies runs =
+pub turn_ran : {R H G T : Type 0} (table : T → Table) (i : Interval R H G T) (place : ℕ) (meter : Meter) (m n : Machine Global) (r : Result (code.Value Global) Stop) →
+    IsAtTurn m i place meter → HasBodies (table i.crew.now.tops.now) i.room.now.bodies.now → (Fits (table i.crew.now.tops.now) m → Ran m r n (left (table i.crew.now.tops.now) m)) →
+    Ran m r n (after_cost 0 m.meter.depth (at_turn table i place))
+turn_ran table i place meter m n r at bodies runs =
     let t = table i.crew.now.tops.now in
-    let o = at_turn table i place in
-    let fits : Fits t m = fits_first t m (subst (HasBodies t) (sym at.0) bodies) at.5 at.4 in
-    let is : left t m ≡ after_cost 0 m.meter.depth o = first_of_turn t m i.room.now.levels (body_block i.block.now) (places_of i.room.now.names.now ++ row place (map tree_of i.sources.now)) at.1 at.2 at.4 at.5 at.6 at.7 in
-    subst (λ q. Meets Is q r n.meter o) at.3 (meets_from m n r o (subst (Ends m r n) is (runs fits)))
+    subst (Ran m r n) (first_of_turn t m i.room.now.levels (body_block i.block.now) (places_of i.room.now.names.now ++ row place (map tree_of i.sources.now)) at.1 at.2 at.4 at.5 at.6 at.7)
+    (runs (fits_first t m (subst (HasBodies t) (sym at.0) bodies) at.5 at.4))
 
 -- turns that stopped, by a machine that differs in its meter alone
 pub stopped_rest : {A : Type 0} (U : Type 0) (t : Table) (m m1 : Machine A) (b : Block) (e : Stop) (r0 r1 : Round A) → m1 ≡ record m { meter = m1.meter } →
@@ -146,25 +144,6 @@ stopped_rest U t m m1 b e r0 r1 same came =
 pub add_ends : {U : Type 0} {P : Type 0} (f f' : ℕ) (u : Result U Stop) (o p : Out Value) → MatchResult u (λ x. P) (λ e. e ≡ Memory) → ((x : U) → P → Came {U = U} f (Ok x) f' o p) → Came {U = U} f u f' o p
 add_ends f f' (Ok x) o p h k = k x h
 add_ends {U} f f' (Err e) o p h k = subst (λ y. Came {U = U} f (Err y) f' o p) (sym h) tt
-
--- turns that were taken of a round that was lent, over local names that were lent
-pub lent_came : {U : Type 0} (t : Table) (n : ℕ) (b : Block) (st : List Value) (f f' : ℕ) (x : Result U Stop) (k : ℕ) (xs ds : List (code.Value Global)) (r0 r1 last : Round Global) → ds ≡ xs → r0 ≡ r1 →
-    Came {U = U} f x f' (between t n b (places_of (take (length ds - k) (drop k ds))) st r0) (between t n b (places_of (take (length ds - k) (drop k ds))) st last) →
-    Came {U = U} f x f' (between t n b (drop k (places_of xs)) st r1) (between t n b (drop k (places_of xs)) st last)
-lent_came {U} t n b st f f' x k xs ds r0 r1 last e same h =
-    subst (λ (r : Round Global). Came {U = U} f x f' (between t n b (drop k (places_of xs)) st r) (between t n b (drop k (places_of xs)) st last)) same
-    (subst (λ (env : Places). Came {U = U} f x f' (between t n b env st r0) (between t n b env st last)) (env_there k xs ds e) h)
-
--- an apply-to-each that comes next
-pub each_comes : {U : Type 0} (t : Table) (m n : Machine Global) (r : Result U Stop) (s : Span) (k : ℕ) (b x b' x' : Block) → block_of m.code.now ≡ each s k b' x' → b ≡ b' → x ≡ x' →
-    Steps t m r n (block_of n.code.now) (left_at t m (each s k b x)) → Steps t m r n (block_of n.code.now) (left t m)
-each_comes t m n r s k b x b' x' is body next h =
-    subst (Steps t m r n (block_of n.code.now)) (ap (left_at t m) (ap (λ y. each s k y x) body ∙ ap (each s k b') next ∙ sym is)) h
-
-pub filtered_comes : {U : Type 0} (t : Table) (m n : Machine Global) (r : Result U Stop) (s : Span) (k : ℕ) (b f x b' f' x' : Block) → block_of m.code.now ≡ filtered s k b' f' x' → b ≡ b' → f ≡ f' → x ≡ x' →
-    Steps t m r n (block_of n.code.now) (left_at t m (filtered s k b f x)) → Steps t m r n (block_of n.code.now) (left t m)
-filtered_comes t m n r s k b f x b' f' x' is body filter next h =
-    subst (Steps t m r n (block_of n.code.now)) (ap (left_at t m) (ap (λ y. filtered s k y f x) body ∙ ap (λ y. filtered s k b' y x) filter ∙ ap (filtered s k b' f') next ∙ sym is)) h
 
 -- turns that were taken, and then more of them
 pub came_then : {U V : Type 0} (f f1 f2 : ℕ) (u : U) (r : Result V Stop) (o p q : Out Value) → Came f (Ok u) f1 o p → Came f1 r f2 p q → Came f r f2 o q

@@ -1,87 +1,62 @@
 //! Turns of an interval in columns.
-ghost use Rattle.std.specs.Prelude.{◌≡◌, ◌+◌, ◌<◌, ◌≤◌, ◌^◌, Ok, MatchOption, length};
+ghost use Rattle.std.specs.Prelude.{◌≡◌, ◌+◌, ◌<◌, ◌≤◌, ◌^◌, Ok, MatchOption};
 ghost use Rattle.nesl_eval_nodes.specs.Meets.{Meets};
-ghost use Rattle.nesl_eval_nodes.specs.Sides.{places_of, Has};
-ghost use Rattle.nesl_eval_halves.specs.Intervals.{ArePlaces, filters_in, bodies_in};
+ghost use Rattle.nesl_eval_halves.specs.Finding.{Are};
+ghost use Rattle.nesl_eval_halves.specs.Intervals.{AreIn, found_in};
 
-use crate::turns::Interval;
+use crate::found::{Found, Wanted};
+use crate::turns::{Interval, Turns};
 use nesl_eval_nodes::held::Tops;
 use nesl_eval_nodes::meter::Meter;
 use nesl_eval_plain::{Block, bodies_in_columns, filters_in_columns};
 use nesl_eval_rounds::scope_round;
-use nesl_values_builder::SequenceBuilder;
 use std::alloc::Global;
 
-/// For how many values room is made at the first of these places. Those of all places behind are added to the first.
-pub(crate) fn room_for<R, H, G, T>(
-    interval: &Interval<'_, R, H, G, T>,
-    from: usize,
-    to: usize,
-) -> usize
-    requires { from ≤ to }
+/// For how many values room is made at the first of these turns. Those of all turns behind are added to the first.
+pub(crate) fn room_for<R, H, G, T>(interval: &Interval<'_, R, H, G, T>, turns: Turns) -> usize
+    requires { turns.from ≤ turns.to }
 {
-    if from == 0 {
+    if turns.from == 0 {
         interval.places.len()
     } else {
-        to - from
+        turns.count()
     }
 }
 
-/// The places at which a filter holds in the turns from one to another, if its code was kept and has a leaf at each of
-/// them, and the fuel is enough. Else the meter is as it was.
-pub(crate) fn filters_by_columns<R, H, G, T: Tops<Global>>(
+/// What is found in these turns, if the code of the block was kept and has a leaf at each of their places, and the fuel
+/// is enough. Else the meter is as it was.
+pub(crate) fn find_by_columns<R, H, G, T: Tops<Global>>(
     interval: &Interval<'_, R, H, G, T>,
-    from: usize,
-    to: usize,
+    turns: Turns,
     meter: &mut Meter,
-) -> Option<Vec<usize>>
+) -> Option<Found>
     requires room { meter.old.fuel + meter.old.depth < 2 ^ 64 }
-    requires turns { (from ≤ to) × (to ≤ length (places_of interval.now.places)) }
+    requires turns { AreIn turns interval.now }
     ensures meets { MatchOption result (meter.new ≡ meter.old)
-        (λ ks. Meets ArePlaces meter.old (Ok ks) meter.new (filters_in T.table interval.now from to)) }
+        (λ f. Meets (Are interval.now.wanted) meter.old (Ok f) meter.new (found_in T.table interval.now turns)) }
     ensures spent { meter.new.fuel + meter.new.depth ≤ meter.old.fuel + meter.old.depth }
 {
     let laid = interval.block.plain()?;
     let scope = scope_round(interval.room.names, interval.sources, laid.sizes)?;
-    let turns = Block {
+    let block = Block {
         tops: interval.crew.tops,
         scope: &scope,
         values: interval.sources,
         places: interval.places,
-        from,
-        to,
+        from: turns.from,
+        to: turns.to,
         alloc: &interval.crew.alloc,
     };
+    let room = room_for(interval, turns);
     let levels = interval.room.levels.saturating_sub(laid.height);
-    filters_in_columns(&turns, laid.code, levels, meter)
-}
-
-/// The values of a body in the turns from one to another, if its code was kept and has a leaf at each of them, and the
-/// fuel is enough. Else the meter is as it was.
-pub(crate) fn bodies_by_columns<R, H, G, T: Tops<Global>>(
-    interval: &Interval<'_, R, H, G, T>,
-    from: usize,
-    to: usize,
-    meter: &mut Meter,
-) -> Option<SequenceBuilder>
-    requires room { meter.old.fuel + meter.old.depth < 2 ^ 64 }
-    requires turns { (from ≤ to) × (to ≤ length (places_of interval.now.places)) }
-    ensures meets { MatchOption result (meter.new ≡ meter.old)
-        (λ b. Meets Has meter.old (Ok b) meter.new (bodies_in T.table interval.now from to)) }
-    ensures spent { meter.new.fuel + meter.new.depth ≤ meter.old.fuel + meter.old.depth }
-{
-    let laid = interval.block.plain()?;
-    let scope = scope_round(interval.room.names, interval.sources, laid.sizes)?;
-    let turns = Block {
-        tops: interval.crew.tops,
-        scope: &scope,
-        values: interval.sources,
-        places: interval.places,
-        from,
-        to,
-        alloc: &interval.crew.alloc,
-    };
-    let room = room_for(interval, from, to);
-    let levels = interval.room.levels.saturating_sub(laid.height);
-    bodies_in_columns(&turns, laid.code, room, levels, meter)
+    match interval.wanted {
+        Wanted::Places => {
+            let places = filters_in_columns(&block, laid.code, levels, meter)?;
+            Some(Found::Places(places))
+        }
+        Wanted::Values => {
+            let values = bodies_in_columns(&block, laid.code, room, levels, meter)?;
+            Some(Found::Values(values))
+        }
+    }
 }

@@ -3,8 +3,12 @@
 
 mod columns;
 mod crew;
+mod found;
+mod grant;
 mod halves;
 mod intervals;
+mod reached;
+mod rounds;
 mod run;
 mod turns;
 

@@ -8,7 +8,7 @@ ghost use Rattle.nesl_eval_nodes.specs.Meets.{Meets, Is};
 ghost use Rattle.nesl_eval_machine.specs.State.{HasBodies};
 
 use crate::crew::Crew;
-use crate::halves::run_in_halves;
+use crate::halves::make_moves;
 use crate::turns::settle;
 use nesl_eval_machine::state::Machine;
 use nesl_eval_nodes::held::Tops;
@@ -51,8 +51,8 @@ pub fn evaluate_in_halves<
         meter: Meter { fuel, depth: 0 },
         alloc,
     };
-    let found = run_in_halves(&mut machine, cuts, crew);
+    let found = make_moves(&mut machine, cuts, crew);
     let mut meter = Meter { fuel, depth: 0 };
-    let settled = settle(found, machine.meter, &mut meter);
+    let settled = settle(&machine, found, &mut meter);
     (settled, meter)
 }

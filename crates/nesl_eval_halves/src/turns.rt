@@ -1,24 +1,23 @@
-//! Turns of a round, and what they stand in.
-ghost use Rattle.std.specs.Prelude.{◌≡◌, ◌+◌, ◌<◌, ◌≤◌, ◌^◌, ◌++◌, map, MatchResult};
+//! Turns of an apply-to-each, and what they stand in.
+ghost use Rattle.std.specs.Prelude.{◌≡◌, ◌+◌, ◌-◌, ◌<◌, ◌≤◌, ◌^◌, ◌++◌, map, MatchResult};
 ghost use Rattle.nesl_values.specs.Tree.{ValueTree};
 ghost use Rattle.nesl_values.specs.View.{tree_of};
-ghost use Rattle.nesl_eval_meaning.specs.Out.{Out};
-ghost use Rattle.nesl_eval_code.specs.Run.{Table};
+ghost use Rattle.nesl_eval_meaning.specs.Out.{Out, after_cost, and_then};
 ghost use Rattle.nesl_eval_nodes.specs.Meets.{Meets, Is};
-ghost use Rattle.nesl_eval_machine.specs.State.{Fits, left_at_hand};
-ghost use Rattle.nesl_eval_machine.specs.Steps.{Moves};
-ghost use Rattle.nesl_eval_halves.specs.Intervals.{IsAtTurn};
+ghost use Rattle.nesl_eval_machine.specs.Steps.{Ends};
+ghost use Rattle.nesl_eval_halves.specs.Finding.{kind_of, IsOf, Adds, of_value};
+ghost use Rattle.nesl_eval_halves.specs.Intervals.{IsAtTurn, AreHalves};
+ghost use Rattle.nesl_eval_halves.specs.Halves.{Ran};
 
 use crate::crew::Crew;
-use nesl_eval_machine::state::{Frame, Hand, Machine, Purpose};
+use crate::found::{Found, Wanted};
+use nesl_eval_machine::state::Machine;
 use nesl_eval_nodes::meter::{Meter, Stop};
 use nesl_eval_nodes::nodes::{keep, share};
 use nesl_eval_nodes::places::Places;
 use nesl_eval_ops::{Body, Ops};
-use nesl_eval_rounds::{Round, push_row};
-use nesl_lex::token::Span;
+use nesl_eval_rounds::push_row;
 use nesl_values::Value;
-use nesl_values_builder::SequenceBuilder;
 use std::alloc::Global;
 
 /// What turns stand in: the bodies of functions, the values of local names, and how many levels there are.
@@ -29,14 +28,42 @@ pub(crate) struct Room<'a> {
     pub levels: u32,
 }
 
-/// Turns: what a block comes to at each of these places.
+/// What is wanted of a block at each of these places.
 #[derive_where(Clone, Copy)]
 pub(crate) struct Interval<'a, R, H, G, T> {
+    pub wanted: Wanted,
     pub room: &'a Room<'a>,
     pub block: &'a Body,
     pub sources: &'a [Value<Global>],
     pub places: Places<'a>,
     pub crew: &'a Crew<'a, R, H, G, T>,
+}
+
+/// The turns at the places of an interval from one to before another.
+#[derive(Clone, Copy)]
+pub(crate) struct Turns {
+    pub from: usize,
+    pub to: usize,
+}
+
+impl Turns {
+    /// How many there are.
+    pub(crate) fn count(self) -> usize
+        requires { self.from ≤ self.to }
+        ensures { result ≡ self.to - self.from }
+    {
+        self.to - self.from
+    }
+
+    /// Both halves. The right one begins where the left one ends.
+    pub(crate) fn halves(self) -> (Turns, Turns)
+        requires { self.from ≤ self.to }
+        ensures { AreHalves self result.0 result.1 }
+    {
+        let Turns { from, to } = self;
+        let centre = from + (to - from) / 2;
+        (Turns { from, to: centre }, Turns { from: centre, to })
+    }
 }
 
 /// More values, each with one more owner.
@@ -92,94 +119,55 @@ pub(crate) fn set_at_turn<'a, R, H, G, T>(
     Ok(())
 }
 
-/// What a machine found that had the fuel and the depth of this meter, and has those of `ended` now. No machine ends
+// What a machine tells of the end of its run: a fault has the span of the outermost call.
+fn tell(
+    machine: &Machine<'_, Global>,
+    found: Result<Value<Global>, Stop>,
+) -> Result<Value<Global>, Stop>
+    ensures { (m : Machine Global) (o : Out ValueTree) → Ran m found machine.now o → Ends m result machine.now o }
+{
+    match found {
+        Ok(value) => Ok(value),
+        Err(stop) => Err(machine.place_stop(stop)),
+    }
+}
+
+/// What a machine found at the end of its run, which began with the fuel and the depth of this meter. No machine ends
 /// with more of both together.
 pub(crate) fn settle(
+    machine: &Machine<'_, Global>,
     found: Result<Value<Global>, Stop>,
-    ended: Meter,
     meter: &mut Meter,
 ) -> Result<Value<Global>, Stop>
     requires { meter.old.fuel + meter.old.depth < 2 ^ 64 }
-    ensures meets { (o : Out ValueTree) → Meets Is meter.old found ended o → Meets Is meter.old result meter.new o }
+    ensures meets { (m : Machine Global) (o : Out ValueTree) → m.meter ≡ meter.old
+        → Ran m found machine.now (after_cost 0 m.meter.depth o) → Meets Is meter.old result meter.new o }
     ensures spent { meter.new.fuel + meter.new.depth ≤ meter.old.fuel + meter.old.depth }
 {
     let before = meter.fuel + meter.depth;
+    let ended = machine.meter;
     if ended.fuel > before || ended.depth > before - ended.fuel {
         return Err(Stop::Memory);
     }
     *meter = ended;
-    found
+    tell(machine, found)
 }
 
-/// What an apply-to-each is made of: its span, how many sequences it has, the block that comes first, the body after a
-/// filter, and what is next.
-#[derive(Clone, Copy)]
-pub(crate) struct Parts<'a> {
-    pub span: Span,
-    pub count: usize,
-    pub block: &'a Body,
-    pub body: Option<&'a Body>,
-    pub next: &'a Ops,
-}
-
-/// Sequences that were taken off a stack.
-#[derive(Drop)]
-pub(crate) struct Sources {
-    pub values: Vec<Value<Global>>,
-}
-
-/// How many turns a round has left.
-pub(crate) fn count_left(round: &Round<'_, Global>) -> usize {
-    round.chosen.places().len().saturating_sub(round.turns)
-}
-
-/// Whether the innermost frame waits for the last turn of a filter.
-#[inline(always)]
-pub(crate) fn ends_filter(frames: &[Frame<'_, Global>]) -> bool {
-    match frames.last() {
-        Some(frame) => match &frame.purpose {
-            Purpose::Turn(round) => round.body.is_some() && count_left(&**round) < 2,
-            Purpose::Push | Purpose::Return(_) => false,
-        },
-        None => false,
-    }
-}
-
-/// Whether turns may be cut by what comes next: an apply-to-each, or the end of the last turn of a filter.
-#[inline(always)]
-pub(crate) fn may_be_cut(
+/// Adds what a turn gives at whose end a machine found this.
+pub(crate) fn end_turn(
     machine: &Machine<'_, Global>,
-    hand: &Hand<'_, Global>,
-    cuts: u32,
-) -> bool {
-    if cuts == 0 {
-        return false;
-    }
-    let next = match hand {
-        Hand::Empty => machine.code,
-        Hand::Holds(_, next) => *next,
-        Hand::Done(_) => return false,
-    };
-    match next {
-        Ops::Each { .. } => true,
-        Ops::Filtered { .. } => true,
-        Ops::Finish => ends_filter(&machine.frames),
-        _ => false,
-    }
-}
-
-/// A value at hand is put on the stack, and nothing is at hand before what is next.
-pub(crate) fn set_down<'a>(
-    machine: &mut Machine<'a, Global>,
-    value: Value<Global>,
-    next: &'a Ops,
-) -> Result<Hand<'a, Global>, Stop>
-    requires { machine.old.meter.fuel + machine.old.meter.depth < 2 ^ 64 }
-    ensures moves { (t : Table) → let m = machine.old in Fits t m → Moves t m result machine.new
-        (left_at_hand t m (Hand.Holds value next.entry)) }
-    ensures bounded { machine.new.meter.fuel + machine.new.meter.depth < 2 ^ 64 }
+    found: Result<Value<Global>, Stop>,
+    place: usize,
+    so_far: &mut Found,
+    meter: &mut Meter,
+) -> Result<(), Stop>
+    requires { meter.old.fuel + meter.old.depth < 2 ^ 64 }
+    ensures kind { kind_of so_far.new ≡ kind_of so_far.old }
+    ensures meets { (w : Wanted) (m : Machine Global) (o : Out ValueTree) → IsOf w so_far.old → m.meter ≡ meter.old
+        → Ran m found machine.now (after_cost 0 m.meter.depth o)
+        → Meets (Adds w so_far.old so_far.new) meter.old result meter.new (and_then o (of_value w place)) }
+    ensures spent { meter.new.fuel + meter.new.depth ≤ meter.old.fuel + meter.old.depth }
 {
-    keep(&mut machine.stack, value)?;
-    machine.code = next;
-    Ok(Hand::Empty)
+    let value = settle(machine, found, meter)?;
+    so_far.add(place, value, meter)
 }
