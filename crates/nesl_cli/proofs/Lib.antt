@@ -1,6 +1,3 @@
-pub mod Flags
-pub mod Numbers
-pub mod Tasks
 pub mod Failed
 pub mod Done
 pub mod Ends

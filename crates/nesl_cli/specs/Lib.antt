@@ -1,5 +1,3 @@
-pub mod Words
-pub mod Wanted
 pub mod Failures
 pub mod Offered
 pub mod Prompted

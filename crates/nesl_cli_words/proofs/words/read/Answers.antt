@@ -2,8 +2,8 @@ use Rattle.std.proofs.Common.{◌≡◌, true, subst, sym, ap, ◌∙◌, map, [
 use Rattle.std.proofs.lemmas.Result.{err_from_is_err_and}
 use Rattle.clap.specs.Words.{fault_of, HasKind, HasMatchesOf, is_simple}
 use Rattle.clap.specs.Faults.{is_simple_and_free}
-use Rattle.nesl_cli.specs.Words.{program, program_is_simple, users_in, task_in}
-use Rattle.nesl_cli.proofs.words.read.Goals as goal
+use Rattle.nesl_cli_words.specs.Words.{program, program_is_simple, users_in, task_in}
+use Rattle.nesl_cli_words.proofs.words.read.Goals as goal
 
 simple : is_simple program ≡ true
 simple = refl

@@ -2,7 +2,7 @@
 use Rattle.std.proofs.Common.{◌≡◌, ℕ, List, [], Option, Some, None, map, slice_get, option_map, sym, ap, ◌∙◌}
 use Rattle.std.specs.Prelude.{option_and_then, unwrap_or}
 use Rattle.std.proofs.lemmas.Option.{slice_get-map}
-use Rattle.nesl_cli.specs.Words.{is_true}
+use Rattle.nesl_cli_words.specs.Words.{is_true}
 
 -- the first text among those that were found is the first of those that were read
 pub first_read : {A S : Type 0} (f : A → List ℕ) (g : S → List A) (texts : Option S) (found : Option (List (List ℕ))) → option_map (λ s. map f (g s)) texts ≡ found

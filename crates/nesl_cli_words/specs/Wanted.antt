@@ -1,10 +1,10 @@
 -- What the words ask for, in the code.
 use Rattle.std.specs.Prelude.{ℕ, List, map, option_map}
-use Rattle.nesl_cli.specs.declared.words.Task.{Task as Code}
-use Rattle.nesl_cli.specs.declared.words.Task.TheVariants as code
-use Rattle.nesl_cli.specs.declared.words.Service.{Service as ServiceCode}
-use Rattle.nesl_cli.specs.declared.words.Wanted.{Wanted}
-use Rattle.nesl_cli.specs.Words.{Task, Service, a_batch, some_costs, a_service, a_prompt}
+use Rattle.nesl_cli_words.specs.declared.words.Task.{Task as Code}
+use Rattle.nesl_cli_words.specs.declared.words.Task.TheVariants as code
+use Rattle.nesl_cli_words.specs.declared.words.Service.{Service as ServiceCode}
+use Rattle.nesl_cli_words.specs.declared.words.Wanted.{Wanted}
+use Rattle.nesl_cli_words.specs.Words.{Task, Service, a_batch, some_costs, a_service, a_prompt}
 
 -- the service
 abbrev pub service_wanted : ServiceCode → Service

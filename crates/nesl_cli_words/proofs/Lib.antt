@@ -1,0 +1,4 @@
+pub mod Flags
+pub mod Numbers
+pub mod Tasks
+pub mod Shapes
