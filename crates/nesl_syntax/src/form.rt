@@ -76,7 +76,10 @@ fn datatype_named(alloc: Global, name: &Vec<u8>, tokens: &[Token]) -> Result<For
 {
     let name = name.clone()?;
     match written_type(alloc, tokens)? {
-        TypePart::Built { written: of, .. } => Ok(Form::Datatype { name, content: of }),
+        TypePart::Built { written, .. } => {
+            let content = Box::into_inner(written);
+            Ok(Form::Datatype { name, content })
+        }
         TypePart::High => Err(ParseFault::Nested),
     }
 }

@@ -2,13 +2,14 @@
 
 ghost use Rattle.std.specs.Prelude.{◌≡◌, ◌≤◌, ◌<◌, ◌∷◌, [], ◌++◌, Err, IfOk, IfErr, IfSome, if◌then◌else◌, None, Some};
 ghost use Rattle.std.specs.Prelude.{List, vec_len};
-ghost use Rattle.nesl_syntax_tree.specs.Trees.{Tree, TypeTree, height_of};
+ghost use Rattle.nesl_syntax_tree.specs.Trees.{Tree, TypeTree, height_of, type_height_of, written};
 ghost use Rattle.nesl_syntax_tree.specs.Trees as trees;
 ghost use Rattle.nesl_syntax_tree.specs.Patterns.{is_pattern_shape};
-ghost use Rattle.nesl_syntax_tree.specs.Views.{shape_of};
+ghost use Rattle.nesl_syntax_tree.specs.Views.{shape_of, type_shape};
 ghost use Rattle.nesl_syntax_open.specs.declared.pending.Pending as pending;
 ghost use Rattle.nesl_syntax_open.specs.Machine.{Waiting, type_at, typing, opened, called, taken_up, before};
 ghost use Rattle.nesl_syntax_open.specs.Machine.{with_newest, marked, separated, listed, mark_level, followed};
+ghost use Rattle.nesl_syntax_open.specs.Machine.{open_at, index_of, joined, folded, on_both};
 ghost use Rattle.nesl_syntax_open.specs.Machine.{let_closed, let_body, emptied, empty_opening, type_done};
 ghost use Rattle.nesl_syntax_open.specs.Machine.{type_separated, type_bracketed, bracket_type, type_closed, begun_with};
 ghost use Rattle.nesl_syntax_open.specs.Machine.{typed_with, typed_on};
@@ -31,8 +32,8 @@ use nesl_syntax_open::pending::{
     Group, Opening, Pending, TypeOpening, fold, level_begun, level_of, newest, wanted,
 };
 use nesl_syntax_open::turn::{Turn, no_bindings, turn_of};
-use nesl_syntax_open::types::{self, TypePart, pair_of, sequence_of};
-use nesl_syntax_tree::tree::{Exp, Node, Prefix, TypeNode};
+use nesl_syntax_open::types::{self, TypePart, make_type, pair_of, sequence_of};
+use nesl_syntax_tree::tree::{Exp, Node, Operator, Prefix, TypeNode};
 use std::alloc::Global;
 
 /// What the tokens so far leave.
@@ -135,7 +136,6 @@ fn take(stack: &mut Vec<Pending>, turn: Turn) -> Result<Mode, ParseFault>
 }
 
 // Behind a token that ends a part.
-#[inline(never)]
 fn end_part(
     alloc: Global,
     stack: &mut Vec<Pending>,
@@ -163,8 +163,8 @@ fn list(stack: &mut Vec<Pending>, opening: Opening, part: Part) -> Result<Mode, 
         Opening::List { from, elements, .. } => {
             let elements = push_part(elements, part)?;
             let opening = Opening::List {
-                from,
                 some: true,
+                from,
                 elements,
             };
             wait(stack, Pending::Open(opening))
@@ -174,7 +174,6 @@ fn list(stack: &mut Vec<Pending>, opening: Opening, part: Part) -> Result<Mode, 
 }
 
 // Behind a comma.
-#[inline(never)]
 #[tactic(auto, using(crate::proofs::StepLemmas::near_comma))]
 fn separate(stack: &mut Vec<Pending>, part: Part) -> Result<Mode, ParseFault>
     ensures { (ws : List Waiting) (x : Tree) → SeesStack stack.old.items ws → Sees part x →
@@ -223,7 +222,64 @@ fn level_at(mark: Mark) -> u8
     }
 }
 
-// A token behind an expression.
+// Behind a `[` that follows an expression.
+#[inline(never)]
+fn index(stack: &mut Vec<Pending>, part: Part) -> Result<Mode, ParseFault>
+    ensures { (ws : List Waiting) (x : Tree) → SeesStack stack.old.items ws → Sees part x →
+        Follows result stack.new.items (opened (open_at (index_of x)) ws) }
+{
+    open(stack, Pending::Open(Opening::Index(part)))
+}
+
+// A comma behind an expression.
+#[inline(never)]
+fn follow_comma(alloc: Global, stack: &mut Vec<Pending>, part: Part) -> Result<Mode, ParseFault>
+    ensures { (ws : List Waiting) (x : Tree) → SeesStack stack.old.items ws → Sees part x →
+        Follows result stack.new.items (on_both separated (folded 2 ws x)) }
+{
+    let part = fold(alloc, stack, 2, part)?;
+    separate(stack, part)
+}
+
+// An operator behind an expression.
+#[inline(never)]
+fn follow_operator(
+    alloc: Global,
+    stack: &mut Vec<Pending>,
+    operator: Operator,
+    part: Part,
+) -> Result<Mode, ParseFault>
+    ensures { (ws : List Waiting) (x : Tree) → SeesStack stack.old.items ws → Sees part x →
+        Follows result stack.new.items (joined operator ws x) }
+{
+    let part = fold(alloc, stack, level_of(operator), part)?;
+    open(
+        stack,
+        Pending::Sign {
+            operator,
+            left: part,
+        },
+    )
+}
+
+// A token that ends a part, behind an expression.
+#[inline(never)]
+fn follow_mark(
+    alloc: Global,
+    stack: &mut Vec<Pending>,
+    part: Part,
+    mark: Mark,
+    at: Span,
+) -> Result<Mode, ParseFault>
+    ensures { (ws : List Waiting) (x : Tree) → SeesStack stack.old.items ws → Sees part x →
+        Follows result stack.new.items (on_both (marked mark at) (folded (mark_level mark) ws x)) }
+{
+    let part = fold(alloc, stack, level_at(mark), part)?;
+    end_part(alloc, stack, part, mark, at)
+}
+
+// A token behind an expression. What each does stands in a function of its own, for a function pays at each call for all
+// that it may hold.
 fn follow(
     alloc: Global,
     stack: &mut Vec<Pending>,
@@ -237,25 +293,10 @@ fn follow(
 {
     match follow {
         Follow::Call => call(stack, fresh, part),
-        Follow::Index => open(stack, Pending::Open(Opening::Index(part))),
-        Follow::Comma => {
-            let part = fold(alloc, stack, 2, part)?;
-            separate(stack, part)
-        }
-        Follow::Operator(operator) => {
-            let part = fold(alloc, stack, level_of(operator), part)?;
-            open(
-                stack,
-                Pending::Sign {
-                    operator,
-                    left: part,
-                },
-            )
-        }
-        Follow::Mark(mark) => {
-            let part = fold(alloc, stack, level_at(mark), part)?;
-            end_part(alloc, stack, part, mark, at)
-        }
+        Follow::Index => index(stack, part),
+        Follow::Comma => follow_comma(alloc, stack, part),
+        Follow::Operator(operator) => follow_operator(alloc, stack, operator, part),
+        Follow::Mark(mark) => follow_mark(alloc, stack, part, mark, at),
         Follow::Nothing => refuse(part),
     }
 }
@@ -328,14 +369,14 @@ fn begin_type(stack: &mut Vec<Pending>) -> Result<Mode, ParseFault>
 
 // A leaf of a tree.
 fn leaf(exp: Box<Exp>, fresh: bool) -> Mode
-    ensures { result ≡ mode.Behind fresh (part.Built exp 1 fresh) }
+    ensures { result ≡ mode.Behind fresh (part.Built fresh 1 exp) }
 {
     Mode::Behind {
         fresh,
         part: Part::Built {
-            exp,
-            height: 1,
             pattern: fresh,
+            height: 1,
+            exp,
         },
     }
 }
@@ -364,14 +405,14 @@ fn begin_sign(
         Sign::OpenParenthesis => open(stack, Pending::Open(Opening::Round(span))),
         Sign::OpenBracket => {
             let elements = Elements::Built {
-                items: Vec::new(alloc),
                 height: 0,
+                items: Vec::new(alloc),
             };
             open(
                 stack,
                 Pending::Open(Opening::List {
-                    from: span,
                     some: false,
+                    from: span,
                     elements,
                 }),
             )
@@ -480,6 +521,20 @@ fn end_type(alloc: Global, stack: &mut Vec<Pending>, part: TypePart) -> Result<M
     }
 }
 
+// A type of one token.
+fn begin_type_leaf(
+    alloc: Global,
+    stack: &mut Vec<Pending>,
+    span: Span,
+    node: TypeNode,
+) -> Result<Mode, ParseFault>
+    ensures { (ws : List Waiting) → SeesStack stack.old.items ws → type_height_of (type_shape node) ≡ 1 →
+        Follows result stack.new.items (Some (type_done ws (written span (type_shape node)))) }
+{
+    let part = types::leaf(make_type(alloc, span, node)?);
+    end_type(alloc, stack, part)
+}
+
 // A token where a type is to come.
 #[inline(never)]
 fn begin_written(alloc: Global, stack: &mut Vec<Pending>, token: &Token) -> Result<Mode, ParseFault>
@@ -489,9 +544,9 @@ fn begin_written(alloc: Global, stack: &mut Vec<Pending>, token: &Token) -> Resu
     let span = token.span;
     match &token.kind {
         Kind::Reserved(word) => match word {
-            Word::Int => end_type(alloc, stack, types::leaf(span, TypeNode::Int)),
-            Word::Bool => end_type(alloc, stack, types::leaf(span, TypeNode::Bool)),
-            Word::Char => end_type(alloc, stack, types::leaf(span, TypeNode::Char)),
+            Word::Int => begin_type_leaf(alloc, stack, span, TypeNode::Int),
+            Word::Bool => begin_type_leaf(alloc, stack, span, TypeNode::Bool),
+            Word::Char => begin_type_leaf(alloc, stack, span, TypeNode::Char),
             _ => Err(ParseFault::Syntax),
         },
         Kind::Name(name) => {
@@ -499,7 +554,7 @@ fn begin_written(alloc: Global, stack: &mut Vec<Pending>, token: &Token) -> Resu
                 name: name.clone()?,
                 token: span,
             };
-            end_type(alloc, stack, types::leaf(span, name))
+            begin_type_leaf(alloc, stack, span, name)
         }
         Kind::Symbol(sign) => match sign {
             Sign::OpenBracket => wait_for_type(stack, TypeOpening::List(span)),

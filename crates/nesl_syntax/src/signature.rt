@@ -185,8 +185,8 @@ fn signature_of(from: TypePart, target: Target) -> SignaturePart
     match from {
         TypePart::Built { written: from, .. } => match to {
             TypePart::Built { written: to, .. } => SignaturePart::Built(Signature {
-                from,
-                to,
+                from: Box::into_inner(from),
+                to: Box::into_inner(to),
                 members,
             }),
             TypePart::High => too_high((from, members)),

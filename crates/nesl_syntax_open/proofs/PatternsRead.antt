@@ -66,8 +66,8 @@ height_kept t p h = by_flag (is_pattern t) refl
     by_flag true e = let r = reads_of t e in let f : r.form ≡ p = let k = r.reads in cc in ap pattern_height (sym f) ∙ r.high
     by_flag false e = let k = no_reads t e in cc
 
-pub given_some : (p : Box Pattern Global) (h : ℕ) (x : Tree) → Some (pattern_tree p.value) ≡ pattern_in x → h ≡ height x → h ≤ 100 → PatternGiven (Some (patterns.Built p h)) (pattern_in x)
-given_some p h x e f l = let g = height_kept x (pattern_tree p.value) (sym e) in subst (λ (o : Option PatternTree). PatternGiven (Some (patterns.Built p h)) o) e (refl, omega arith, l)
+pub given_some : (p : Box Pattern Global) (h : ℕ) (x : Tree) → Some (pattern_tree p.value) ≡ pattern_in x → h ≡ height x → h ≤ 100 → PatternGiven (Some (patterns.Built h p)) (pattern_in x)
+given_some p h x e f l = let g = height_kept x (pattern_tree p.value) (sym e) in subst (λ (o : Option PatternTree). PatternGiven (Some (patterns.Built h p)) o) e (refl, omega arith, l)
 
 pub given_high : (x : Tree) → 100 < height x → true ≡ is_pattern x → PatternGiven (Some patterns.High) (pattern_in x)
 given_high x l e = let r = reads_of x (sym e) in subst (λ (o : Option PatternTree). PatternGiven (Some patterns.High) o) (sym r.reads) (omega (arith, r.high))

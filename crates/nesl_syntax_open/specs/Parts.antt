@@ -17,7 +17,7 @@ use Rattle.nesl_syntax_tree.specs.Views.{tree_of, trees_in, binders_in, pattern_
 use Rattle.nesl_syntax_tree.specs.Patterns.{is_pattern}
 
 abbrev pub Sees : Part → Tree → Type 0
-Sees (part.Built e h b) t = (tree_of e.value ≡ t) × (h ≡ height t) × (h ≤ 100) × (b ≡ is_pattern t)
+Sees (part.Built b h e) t = (tree_of e.value ≡ t) × (h ≡ height t) × (h ≤ 100) × (b ≡ is_pattern t)
 Sees (part.High b) t = (100 < height t) × (b ≡ is_pattern t)
 
 abbrev pub SeesBody : Option Part → Option Tree → Type 0
@@ -26,19 +26,19 @@ SeesBody None None = Unit {0}
 SeesBody _ _ = ⊥
 
 abbrev pub SeesAll : Elements → Trees → Type 0
-SeesAll (elements.Built v h) ts = (trees_in v.items ≡ ts) × (h ≡ greatest_height ts) × (h ≤ 100)
+SeesAll (elements.Built h v) ts = (trees_in v.items ≡ ts) × (h ≡ greatest_height ts) × (h ≤ 100)
 SeesAll elements.High ts = 100 < greatest_height ts
 
 abbrev pub SeesBound : Bindings → Binders → Type 0
-SeesBound (bindings.Built v h) bs = (binders_in v.items ≡ bs) × (h ≡ greatest_binder_height bs) × (h ≤ 100)
+SeesBound (bindings.Built h v) bs = (binders_in v.items ≡ bs) × (h ≡ greatest_binder_height bs) × (h ≤ 100)
 SeesBound bindings.High bs = 100 < greatest_binder_height bs
 
 abbrev pub SeesPattern : PatternPart → PatternTree → Type 0
-SeesPattern (patterns.Built p h) t = (pattern_tree p.value ≡ t) × (h ≡ pattern_height t) × (h ≤ 100)
+SeesPattern (patterns.Built h p) t = (pattern_tree p.value ≡ t) × (h ≡ pattern_height t) × (h ≤ 100)
 SeesPattern patterns.High t = 100 < pattern_height t
 
 abbrev pub SeesType : TypePart → TypeTree → Type 0
-SeesType (types.Built a h) t = (type_tree a ≡ t) × (h ≡ type_height t) × (h ≤ 100)
+SeesType (types.Built h a) t = (type_tree a.value ≡ t) × (h ≡ type_height t) × (h ≤ 100)
 SeesType types.High t = 100 < type_height t
 
 -- a pattern that was given, and the one that was wanted

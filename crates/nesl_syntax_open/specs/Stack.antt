@@ -33,11 +33,11 @@ SeesOpening (openings.Call x s) o = o ≡ machine.call x.items s
 SeesOpening (openings.Index p) o = (a : Tree) × (o ≡ machine.index_of a) × Sees p a
 SeesOpening (openings.Test s) o = o ≡ machine.test s
 SeesOpening (openings.Branch s p) o = (a : Tree) × (o ≡ machine.branch s a) × Sees p a
-SeesOpening (openings.List s b ps) o = (xs : Trees) × (o ≡ machine.list s xs) × (b ≡ some_elements xs) × SeesAll ps xs
+SeesOpening (openings.List b s ps) o = (xs : Trees) × (o ≡ machine.list s xs) × (b ≡ some_elements xs) × SeesAll ps xs
 SeesOpening (openings.RangeFrom s p) o = (a : Tree) × (o ≡ machine.range_from s a) × Sees p a
 SeesOpening (openings.RangeTo s p q) o = (a b : Tree) × (o ≡ machine.range_to s a b) × Sees p a × Sees q b
 SeesOpening (openings.Brace s) o = o ≡ machine.brace s
-SeesOpening (openings.Binders g b bound) o =
+SeesOpening (openings.Binders b g bound) o =
     (h : machine.Group) × (bs : Binders) × (o ≡ machine.binders h bs) × SeesGroup g h × (b ≡ some_binders bs)
     × SeesBound bound bs
 SeesOpening (openings.Value g bound p) o =

@@ -20,14 +20,14 @@ use std::alloc::{AllocError, Global};
 /// Elements so far with their greatest height, or some that are too high.
 #[derive(Drop)]
 pub enum Elements {
-    Built { items: Vec<Exp>, height: usize },
+    Built { height: u8, items: Vec<Exp> },
     High,
 }
 
 /// Binders so far with the greatest height of their parts, or some that are too high.
 #[derive(Drop)]
 pub enum Bindings {
-    Built { items: Vec<Binding>, height: usize },
+    Built { height: u8, items: Vec<Binding> },
     High,
 }
 
@@ -61,8 +61,8 @@ pub fn push_part(elements: Elements, part: Part) -> Result<Elements, AllocError>
         return Ok(no_elements(items));
     };
     Ok(Elements::Built {
-        items: pushed(items, Box::into_inner(exp))?,
         height: m.max(n),
+        items: pushed(items, Box::into_inner(exp))?,
     })
 }
 
@@ -101,8 +101,8 @@ pub fn push_binding(
     let pattern = Box::into_inner(pattern);
     let value = Box::into_inner(value);
     Ok(Bindings::Built {
-        items: pushed(items, Binding { pattern, value })?,
         height: m.max(n.max(k)),
+        items: pushed(items, Binding { pattern, value })?,
     })
 }
 
@@ -153,7 +153,7 @@ pub fn sequence_of(alloc: Global, elements: Elements, span: Span) -> Result<Part
 }
 
 // Binders with their height, where a node may stand over them.
-fn low_bindings(bindings: Bindings) -> Option<(Vec<Binding>, usize)>
+fn low_bindings(bindings: Bindings) -> Option<(Vec<Binding>, u8)>
     ensures low { IfSome result (λ r. r.1 < 100) }
     ensures seen { (bs : Binders) → SeesBound bindings bs →
         MatchOption result (100 ≤ greatest_binder_height bs)
@@ -202,15 +202,15 @@ fn body_of(alloc: Global, body: Option<Part>, items: &[Binding]) -> Result<Part,
     match body {
         Some(part) => Ok(part),
         None => Ok(Part::Built {
-            exp: boxed(alloc, element_of(items))?,
-            height: 1,
             pattern: false,
+            height: 1,
+            exp: boxed(alloc, element_of(items))?,
         }),
     }
 }
 
 /// The body and the binders of an apply-to-each with their greater height, where a node may stand over them.
-type LowEach = Option<(Box<Exp>, Vec<Binding>, usize)>;
+type LowEach = Option<(Box<Exp>, Vec<Binding>, u8)>;
 
 // The body and the binders of an apply-to-each with their greater height, where a node may stand over them.
 fn low_each(alloc: Global, body: Option<Part>, bindings: Bindings) -> Result<LowEach, AllocError>

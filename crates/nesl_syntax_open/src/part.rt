@@ -15,16 +15,17 @@ use nesl_syntax_tree::tree::{Exp, Node, Operator, Prefix};
 use std::alloc::{AllocError, Global};
 
 /// The greatest height of a tree that is built.
-pub const LIMIT: usize = 100;
+pub const LIMIT: u8 = 100;
 
 /// An expression with its height, or one that is too high and isn't built; and whether its tokens could be a pattern.
 /// The expression lies on the heap from the first: what is open stays small, and the node over it takes it as it is.
+/// A part is moved at each token. So its small fields stand first, where they take no room of their own.
 #[derive(Drop)]
 pub enum Part {
     Built {
-        exp: Box<Exp>,
-        height: usize,
         pattern: bool,
+        height: u8,
+        exp: Box<Exp>,
     },
     High(bool),
 }
@@ -53,19 +54,19 @@ pub fn make_node(alloc: Global, span: Span, node: Node) -> Result<Box<Exp>, Allo
 }
 
 /// A node over parts of at most this height.
-pub(crate) fn built(exp: Box<Exp>, height: usize, pattern: bool) -> Part
+pub(crate) fn built(exp: Box<Exp>, height: u8, pattern: bool) -> Part
     requires { height < 100 }
-    ensures { result ≡ part.Built exp (height + 1) pattern }
+    ensures { result ≡ part.Built pattern (height + 1) exp }
 {
     Part::Built {
-        exp,
-        height: height + 1,
         pattern,
+        height: height + 1,
+        exp,
     }
 }
 
 /// An expression with its height, where a node may stand over it.
-pub(crate) fn low_enough(part: Part) -> Option<(Box<Exp>, usize)>
+pub(crate) fn low_enough(part: Part) -> Option<(Box<Exp>, u8)>
     ensures low { IfSome result (λ r. r.1 < 100) }
     ensures seen { (x : Tree) → Sees part x →
         MatchOption result (100 ≤ height x) (λ r. (tree_of r.0.value ≡ x) × (r.1 ≡ height x)) }
@@ -77,7 +78,7 @@ pub(crate) fn low_enough(part: Part) -> Option<(Box<Exp>, usize)>
 }
 
 // Two expressions with their greater height, where a node may stand over them.
-fn both(left: Part, right: Part) -> Option<(Box<Exp>, Box<Exp>, usize)>
+fn both(left: Part, right: Part) -> Option<(Box<Exp>, Box<Exp>, u8)>
     ensures low { IfSome result (λ r. r.2 < 100) }
     ensures seen { (x y : Tree) → Sees left x → Sees right y → let greater = max (height x) (height y) in
         MatchOption result (100 ≤ greater)
@@ -138,15 +139,15 @@ pub fn widen(part: Part, span: Span) -> Part
 {
     match part {
         Part::Built {
-            mut exp,
-            height,
             pattern,
+            height,
+            mut exp,
         } => {
             exp.span = span;
             Part::Built {
-                exp,
-                height,
                 pattern,
+                height,
+                exp,
             }
         }
         Part::High(pattern) => Part::High(pattern),
@@ -236,11 +237,7 @@ pub fn range_of(alloc: Global, from: Part, to: Part, span: Span) -> Result<Part,
 }
 
 // Three expressions with their greatest height, where a node may stand over them.
-fn all_three(
-    first: Part,
-    second: Part,
-    third: Part,
-) -> Option<(Box<Exp>, Box<Exp>, Box<Exp>, usize)>
+fn all_three(first: Part, second: Part, third: Part) -> Option<(Box<Exp>, Box<Exp>, Box<Exp>, u8)>
     ensures low { IfSome result (λ r. r.3 < 100) }
     ensures seen { (x y z : Tree) → Sees first x → Sees second y → Sees third z →
         let greatest = max (height x) (max (height y) (height z)) in
@@ -300,7 +297,8 @@ pub fn empty_of(alloc: Global, written: TypePart, from: Span) -> Result<Part, Al
     match written {
         TypePart::Built { written, height } if height < LIMIT => {
             let span = over(from, written.span);
-            Ok(built(make_node(alloc, span, Node::Empty(written))?, height, false))
+            let node = Node::Empty(Box::into_inner(written));
+            Ok(built(make_node(alloc, span, node)?, height, false))
         }
         other => Ok(too_high(other, false)),
     }

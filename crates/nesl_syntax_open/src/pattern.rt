@@ -14,10 +14,7 @@ use std::alloc::{AllocError, Global};
 /// A pattern with its height, or one that is too high and isn't built.
 #[derive(Drop)]
 pub enum PatternPart {
-    Built {
-        pattern: Box<Pattern>,
-        height: usize,
-    },
+    Built { height: u8, pattern: Box<Pattern> },
     High,
 }
 
@@ -104,7 +101,7 @@ pub fn pattern_of(alloc: Global, part: Part) -> Result<Option<PatternPart>, Allo
         Part::Built { exp, height, .. } => match pattern_from(alloc, Box::into_inner(exp))? {
             Some(found) => {
                 let pattern = boxed(alloc, found)?;
-                Ok(Some(PatternPart::Built { pattern, height }))
+                Ok(Some(PatternPart::Built { height, pattern }))
             }
             None => Ok(None),
         },

@@ -42,8 +42,8 @@ pub enum Opening {
     },
     /// Elements of a sequence, and whether there is one so far.
     List {
-        from: Span,
         some: bool,
+        from: Span,
         elements: Elements,
     },
     RangeFrom {
@@ -58,8 +58,8 @@ pub enum Opening {
     Brace(Span),
     /// A pattern is to come, and whether binders stand before it.
     Binders {
-        group: Group,
         some: bool,
+        group: Group,
         bindings: Bindings,
     },
     Value {

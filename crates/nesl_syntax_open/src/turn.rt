@@ -212,8 +212,8 @@ pub fn no_bindings(alloc: Global) -> Bindings
     ensures { SeesBound result no_binders }
 {
     Bindings::Built {
-        items: Vec::new(alloc),
         height: 0,
+        items: Vec::new(alloc),
     }
 }
 

@@ -7,15 +7,15 @@ ghost use Rattle.nesl_syntax_tree.specs.Views.{type_tree};
 ghost use Rattle.nesl_syntax_open.specs.Machine.{type_pair};
 ghost use Rattle.nesl_syntax_open.specs.Parts.{SeesType};
 
-use crate::part::{LIMIT, boxed, boxes, none, over};
+use crate::part::{LIMIT, boxed, none, over};
 use nesl_lex::token::Span;
 use nesl_syntax_tree::tree::{TypeExp, TypeNode};
 use std::alloc::{AllocError, Global};
 
-/// A type with its height, or one that is too high and isn't built.
+/// A type with its height, or one that is too high and isn't built. It lies on the heap as an expression does.
 #[derive(Drop)]
 pub enum TypePart {
-    Built { written: TypeExp, height: usize },
+    Built { height: u8, written: Box<TypeExp> },
     High,
 }
 
@@ -27,22 +27,29 @@ fn too_high<T: Drop>(parts: T) -> TypePart
     TypePart::High
 }
 
-// A type in these bytes over parts of at most this height.
-fn built(span: Span, node: TypeNode, height: usize) -> TypePart
+/// A type in these bytes, on the heap.
+pub fn make_type(alloc: Global, span: Span, node: TypeNode) -> Result<Box<TypeExp>, AllocError>
+    ensures { IfOk result (λ r. r.value ≡ record { span = span; node = node }) }
+{
+    boxed(alloc, TypeExp { span, node })
+}
+
+// A type over parts of at most this height.
+fn built(written: Box<TypeExp>, height: u8) -> TypePart
     requires { height < 100 }
-    ensures { result ≡ types.Built (record { span = span; node = node }) (height + 1) }
+    ensures { result ≡ types.Built (height + 1) written }
 {
     TypePart::Built {
-        written: TypeExp { span, node },
         height: height + 1,
+        written,
     }
 }
 
 /// A type of one token.
-pub fn leaf(span: Span, node: TypeNode) -> TypePart
-    ensures { result ≡ types.Built (record { span = span; node = node }) 1 }
+pub fn leaf(written: Box<TypeExp>) -> TypePart
+    ensures { result ≡ types.Built 1 written }
 {
-    built(span, node, 0)
+    built(written, 0)
 }
 
 /// A type of these bytes in place of its own.
@@ -51,21 +58,21 @@ pub fn widen(part: TypePart, span: Span) -> TypePart
 {
     match part {
         TypePart::Built {
-            mut written,
             height,
+            mut written,
         } => {
             written.span = span;
-            TypePart::Built { written, height }
+            TypePart::Built { height, written }
         }
         TypePart::High => TypePart::High,
     }
 }
 
 // A type with its height, where another may stand over it.
-fn low_enough(part: TypePart) -> Option<(TypeExp, usize)>
+fn low_enough(part: TypePart) -> Option<(Box<TypeExp>, u8)>
     ensures low { IfSome result (λ r. r.1 < 100) }
     ensures seen { (x : TypeTree) → SeesType part x →
-        MatchOption result (100 ≤ type_height x) (λ r. (type_tree r.0 ≡ x) × (r.1 ≡ type_height x)) }
+        MatchOption result (100 ≤ type_height x) (λ r. (type_tree r.0.value ≡ x) × (r.1 ≡ type_height x)) }
 {
     match part {
         TypePart::Built { written, height } if height < LIMIT => Some((written, height)),
@@ -79,8 +86,8 @@ pub fn sequence_of(alloc: Global, part: TypePart, span: Span) -> Result<TypePart
     let Some((element, height)) = low_enough(part) else {
         return Ok(TypePart::High);
     };
-    let node = TypeNode::Sequence(boxed(alloc, element)?);
-    Ok(built(span, node, height))
+    let written = make_type(alloc, span, TypeNode::Sequence(element))?;
+    Ok(built(written, height))
 }
 
 pub fn pair_of(alloc: Global, left: TypePart, right: TypePart) -> Result<TypePart, AllocError>
@@ -93,6 +100,6 @@ pub fn pair_of(alloc: Global, left: TypePart, right: TypePart) -> Result<TypePar
         return Ok(too_high(left));
     };
     let span = over(left.span, right.span);
-    let (left, right) = boxes(alloc, left, right)?;
-    Ok(built(span, TypeNode::Pair { left, right }, m.max(n)))
+    let written = make_type(alloc, span, TypeNode::Pair { left, right })?;
+    Ok(built(written, m.max(n)))
 }
