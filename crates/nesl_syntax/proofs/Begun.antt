@@ -10,7 +10,7 @@ use Rattle.nesl_lex.specs.declared.token.Sign.TheVariants as sign
 use Rattle.nesl_lex.specs.declared.token.Token.{Token}
 use Rattle.nesl_lex.specs.declared.token.Word.{Word}
 use Rattle.nesl_lex.specs.declared.token.Word.TheVariants as word
-use Rattle.nesl_syntax_tree.specs.declared.tree.Form.{Form}
+use Rattle.nesl_syntax.specs.declared.line.Line.{Line}
 use Rattle.nesl_syntax_tree.specs.Trees.{evaluate}
 use Rattle.nesl_syntax_open.specs.declared.fault.ParseFault.{ParseFault}
 use Rattle.nesl_syntax_open.specs.Machine.{expression}
@@ -42,14 +42,14 @@ plain_kind (kind.Symbol s) all ts f g h = absurd (h s refl)
 plain_kind _ all ts f g h = refl
 
 -- a line that is begun as this kind of token begins it
-pub begun_by : (r : Result Form ParseFault) (ts : List Token) (t : Token) (k : Kind) → 1 ≤ length ts → t ≡ get_or ts 0 t → t.kind ≡ k → GivesLine r (begun_line (lexeme_of k) (placed ts) (placed (take (length ts - 1) (drop 1 ts)))) → GivesLine r (line_in (placed ts))
+pub begun_by : (r : Result Line ParseFault) (ts : List Token) (t : Token) (k : Kind) → 1 ≤ length ts → t ≡ get_or ts 0 t → t.kind ≡ k → GivesLine r (begun_line (lexeme_of k) (placed ts) (placed (take (length ts - 1) (drop 1 ts)))) → GivesLine r (line_in (placed ts))
 begun_by r ts t k h e j g = rw (line_from ts t k h e j) g
 
-pub word_line : (r : Result Form ParseFault) (ts : List Token) (t : Token) (w : Word) → 1 ≤ length ts → t ≡ get_or ts 0 t → t.kind ≡ kind.Reserved w → (w ≡ word.Function → ⊥) → (w ≡ word.Datatype → ⊥) → GivesLine r (option_map evaluate (expression (placed ts))) → GivesLine r (line_in (placed ts))
+pub word_line : (r : Result Line ParseFault) (ts : List Token) (t : Token) (w : Word) → 1 ≤ length ts → t ≡ get_or ts 0 t → t.kind ≡ kind.Reserved w → (w ≡ word.Function → ⊥) → (w ≡ word.Datatype → ⊥) → GivesLine r (option_map evaluate (expression (placed ts))) → GivesLine r (line_in (placed ts))
 word_line r ts t w h e j f d g = rw (line_from ts t (kind.Reserved w) h e j ∙ plain_word w (placed ts) _ f d) g
 
-pub sign_line : (r : Result Form ParseFault) (ts : List Token) (t : Token) (s : Sign) → 1 ≤ length ts → t ≡ get_or ts 0 t → t.kind ≡ kind.Symbol s → (s ≡ sign.Colon → ⊥) → GivesLine r (option_map evaluate (expression (placed ts))) → GivesLine r (line_in (placed ts))
+pub sign_line : (r : Result Line ParseFault) (ts : List Token) (t : Token) (s : Sign) → 1 ≤ length ts → t ≡ get_or ts 0 t → t.kind ≡ kind.Symbol s → (s ≡ sign.Colon → ⊥) → GivesLine r (option_map evaluate (expression (placed ts))) → GivesLine r (line_in (placed ts))
 sign_line r ts t s h e j f g = rw (line_from ts t (kind.Symbol s) h e j ∙ plain_sign s (placed ts) _ f) g
 
-pub kind_line : (r : Result Form ParseFault) (ts : List Token) (t : Token) → 1 ≤ length ts → t ≡ get_or ts 0 t → ((x : Vec ℕ Global) → t.kind ≡ kind.Name x → ⊥) → ((w : Word) → t.kind ≡ kind.Reserved w → ⊥) → ((s : Sign) → t.kind ≡ kind.Symbol s → ⊥) → GivesLine r (option_map evaluate (expression (placed ts))) → GivesLine r (line_in (placed ts))
+pub kind_line : (r : Result Line ParseFault) (ts : List Token) (t : Token) → 1 ≤ length ts → t ≡ get_or ts 0 t → ((x : Vec ℕ Global) → t.kind ≡ kind.Name x → ⊥) → ((w : Word) → t.kind ≡ kind.Reserved w → ⊥) → ((s : Sign) → t.kind ≡ kind.Symbol s → ⊥) → GivesLine r (option_map evaluate (expression (placed ts))) → GivesLine r (line_in (placed ts))
 kind_line r ts t h e i j k g = rw (line_from ts t t.kind h e refl ∙ plain_kind t.kind (placed ts) _ i j k) g

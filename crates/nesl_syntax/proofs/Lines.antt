@@ -10,12 +10,11 @@ use Rattle.nesl_lex.specs.declared.token.Span.{Span}
 use Rattle.nesl_lex.specs.declared.token.Word.TheVariants as word
 use Rattle.nesl_lex.specs.declared.token.Sign.TheVariants as sign
 use Rattle.std.specs.Prelude.{Result, Ok, Err, IfOk, IsErrOf}
-use Rattle.nesl_syntax_tree.specs.declared.tree.Form.{Form}
+use Rattle.nesl_syntax.specs.declared.line.Line.{Line}
 use Rattle.nesl_syntax.specs.declared.cut.Divider.TheVariants as divider
 use Rattle.nesl_syntax_open.specs.declared.fault.ParseFault.{ParseFault}
 use Rattle.nesl_syntax_open.specs.declared.fault.ParseFault.TheVariants.{Syntax, Nested, Memory}
-use Rattle.nesl_syntax_tree.specs.Views.{line_of}
-use Rattle.nesl_syntax.specs.Given.{GivesLine}
+use Rattle.nesl_syntax.specs.Given.{GivesLine, line_tree}
 use Rattle.nesl_syntax.specs.Reading.{form_with, form_in, closed_in, is_semicolon, behind_token, Halves, cut, head_in, function_of, function_with, function_named, datatype_named, typed_named, bound_with, bound_in, begun_line, line_in, command_with, command_in, is_text}
 use Rattle.nesl_syntax_tree.specs.Trees.{Tree, FormTree, nothing, function, datatype, bind, evaluate, show_names, show_budget, show_type, form_height}
 use Rattle.nesl_syntax_tree.specs.Grammar.{token_at, sign_at, word_at, name_at}
@@ -194,17 +193,17 @@ ends_by (reads_closed other s k) rest t h n =
     record { ends = sym (ap (λ (x : Placed). x.lexeme) same.lasts); reads = ap line_in (sym same.fronts) ∙ k }
 
 -- what is ensured of a line's tokens
-pub record Answers (ts : List Placed) (r : Result Form ParseFault) : Type 0 where
-  pub tree : IfOk r (λ form. IsForm ts (line_of form))
-  pub only : IfOk r (λ form. (other : FormTree) → IsForm ts other → other ≡ line_of form)
-  pub low : IfOk r (λ form. form_height (line_of form) ≤ 100)
+pub record Answers (ts : List Placed) (r : Result Line ParseFault) : Type 0 where
+  pub tree : IfOk r (λ form. IsForm ts (line_tree form))
+  pub only : IfOk r (λ form. (other : FormTree) → IsForm ts other → other ≡ line_tree form)
+  pub low : IfOk r (λ form. form_height (line_tree form) ≤ 100)
   pub syntax : IsErrOf r Syntax → (line : FormTree) → IsForm ts line → ⊥
   pub nested : IsErrOf r Nested → (line : FormTree) × IsForm ts line × (100 < form_height line)
 
-answers_by : (ts rest : List Placed) (s : Span) → ts ≡ rest ++ (sign_at sign.Semicolon s ∷ []) → (r : Result Form ParseFault) (o : Option FormTree) → line_in rest ≡ o → GivesLine r o → Answers ts r
+answers_by : (ts rest : List Placed) (s : Span) → ts ≡ rest ++ (sign_at sign.Semicolon s ∷ []) → (r : Result Line ParseFault) (o : Option FormTree) → line_in rest ≡ o → GivesLine r o → Answers ts r
 answers_by ts rest s h (Ok f) (Some l) k g =
-    let e : line_of f ≡ l = g.0 in
-    let is : IsForm ts (line_of f) = subst (λ (us : List Placed). IsForm us (line_of f)) (sym h) (line_is rest s (line_of f) (k ∙ ap (λ (x : FormTree). Some x) (sym e))) in
+    let e : line_tree f ≡ l = g.0 in
+    let is : IsForm ts (line_tree f) = subst (λ (us : List Placed). IsForm us (line_tree f)) (sym h) (line_is rest s (line_tree f) (k ∙ ap (λ (x : FormTree). Some x) (sym e))) in
     record {
       tree = is;
       only = λ other p. one_line p is;
@@ -238,7 +237,7 @@ empty_of [] h = no_tokens
 empty_of (t ∷ ts) h = absurd (omega arith)
 
 -- the tokens before a last ; are this line, so all are
-pub form_answers : (ts rest : List Token) (t : Token) → ts ≡ rest ++ t ∷ [] → lexeme_of t.kind ≡ symbol sign.Semicolon → (r : Result Form ParseFault) → GivesLine r (line_in (placed rest)) → Answers (placed ts) r
+pub form_answers : (ts rest : List Token) (t : Token) → ts ≡ rest ++ t ∷ [] → lexeme_of t.kind ≡ symbol sign.Semicolon → (r : Result Line ParseFault) → GivesLine r (line_in (placed rest)) → Answers (placed ts) r
 form_answers ts rest t h k r g =
     answers_by (placed ts) (placed rest) t.span (placed_ends ts rest t h ∙ ap (λ (x : Lexeme). placed rest ++ (record { lexeme = x; span = t.span }) ∷ []) k) r (line_in (placed rest)) refl g
 
@@ -246,9 +245,9 @@ form_answers ts rest t h k r g =
 pub no_form : (ts rest : List Token) (t : Token) → ts ≡ rest ++ t ∷ [] → (lexeme_of t.kind ≡ symbol sign.Semicolon → ⊥) → None ≡ command_in (placed ts) → (l : FormTree) → IsForm (placed ts) l → ⊥
 no_form ts rest t h n e l p = n (ends_by (reads p) (placed rest) (placed_of t) (placed_ends ts rest t h) (sym e)).ends
 
-pub command_answers : (ts : List Placed) (f : Form) → Some (line_of f) ≡ command_in ts → Answers ts (Ok f)
+pub command_answers : (ts : List Placed) (f : Line) → Some (line_tree f) ≡ command_in ts → Answers ts (Ok f)
 command_answers ts f h =
-    let c = command_is ts (line_of f) (sym h) in
+    let c = command_is ts (line_tree f) (sym h) in
     record { tree = c.0; only = λ other p. one_line p c.0; low = omega (arith, c.1); syntax = λ x. cc; nested = λ x. cc }
 
 -- what is computed is the line

@@ -6,9 +6,8 @@ use Rattle.nesl_syntax_tree.specs.declared.tree.Class.{Class}
 use Rattle.nesl_syntax_tree.specs.declared.tree.Class.TheVariants as class
 use Rattle.nesl_syntax_tree.specs.Lines.{class_text}
 use Rattle.nesl_syntax_tree.specs.Trees.{FormTree, show_names, show_budget}
-use Rattle.nesl_syntax_tree.specs.Views.{line_of}
-use Rattle.nesl_syntax.specs.Given.{IsCommand}
-use Rattle.nesl_syntax_tree.specs.declared.tree.Form.{Form}
+use Rattle.nesl_syntax.specs.Given.{IsCommand, line_tree}
+use Rattle.nesl_syntax.specs.declared.line.Line.{Line}
 use Rattle.std.specs.Prelude.{IfSome, IfNone, IsTrue, ◌↔◌, ◌≢◌, option_map}
 use Rattle.nesl_syntax.specs.Reading.{is_text, class_of, command_of, typed_named}
 use Rattle.nesl_lex.specs.Tokens.{Placed}
@@ -80,8 +79,8 @@ command_found x show_names h = sym (ap command_of h)
 command_found x show_budget h = sym (ap command_of h)
 command_found x _ h = absurd h
 
-pub command_by : (x : List ℕ) (r : Option Form) → IfSome r (λ f. IsCommand x (line_of f)) → IfNone r ((l : FormTree) → IsCommand x l → ⊥) → option_map line_of r ≡ command_of x
-command_by x (Some f) some none = command_found x (line_of f) some
+pub command_by : (x : List ℕ) (r : Option Line) → IfSome r (λ f. IsCommand x (line_tree f)) → IfNone r ((l : FormTree) → IsCommand x l → ⊥) → option_map line_tree r ≡ command_of x
+command_by x (Some f) some none = command_found x (line_tree f) some
 command_by x None some none = rw (text_other x (codes "names") (none show_names), text_other x (codes "budget") (none show_budget)) refl
 
 pub no_type_word : (x : List ℕ) (ts : List Placed) → (x ≡ codes "type" → ⊥) → typed_named (tokens.name x) ts ≡ None

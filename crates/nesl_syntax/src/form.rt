@@ -6,12 +6,13 @@ ghost use Rattle.nesl_syntax_tree.specs.Trees as trees;
 ghost use Rattle.nesl_syntax_tree.specs.Views.{line_of};
 ghost use Rattle.nesl_syntax_tree.specs.Lines.{IsForm};
 ghost use Rattle.nesl_syntax.specs.Reading as reading;
-ghost use Rattle.nesl_syntax.specs.Given.{IsCommand, GivesExp, GivesLine};
+ghost use Rattle.nesl_syntax.specs.Given.{IsCommand, GivesExp, GivesLine, line_tree};
 ghost use Rattle.nesl_syntax_open.specs.Machine as machine;
 ghost use Rattle.nesl_lex.specs.Tokens.{Placed, placed, lexeme_of, symbol};
 ghost use Rattle.nesl_lex.specs.Tokens as lexemes;
 
 use crate::function::function;
+use crate::line::{Line, form_of};
 use crate::parse::{expression, written_type};
 use crate::text::is_text;
 use nesl_lex::token::{Kind, Sign, Token, Word};
@@ -22,28 +23,28 @@ use nesl_syntax_tree::tree::{Exp, Form};
 use std::alloc::Global;
 
 // The expression that the tokens are, where it isn't too high.
-fn body(alloc: Global, tokens: &[Token]) -> Result<Exp, ParseFault>
+fn body(alloc: Global, tokens: &[Token]) -> Result<Box<Exp>, ParseFault>
     ensures { GivesExp result (machine.expression (placed tokens.now)) }
 {
     match expression(alloc, tokens)? {
-        Part::Built { exp, .. } => Ok(Box::into_inner(exp)),
+        Part::Built { exp, .. } => Ok(exp),
         Part::High(_) => Err(ParseFault::Nested),
     }
 }
 
 // An expression's line.
-fn eval(alloc: Global, tokens: &[Token]) -> Result<Form, ParseFault>
+fn eval(alloc: Global, tokens: &[Token]) -> Result<Line, ParseFault>
     ensures { GivesLine result (option_map trees.evaluate (machine.expression (placed tokens.now))) }
 {
-    Ok(Form::Eval(body(alloc, tokens)?))
+    Ok(Line::Eval(body(alloc, tokens)?))
 }
 
 // A line that binds this name to what the tokens are.
-fn bind(alloc: Global, name: &Vec<u8>, tokens: &[Token]) -> Result<Form, ParseFault>
+fn bind(alloc: Global, name: &Vec<u8>, tokens: &[Token]) -> Result<Line, ParseFault>
     ensures { GivesLine result (option_map (trees.bind name.now.items) (machine.expression (placed tokens.now))) }
 {
     let name = name.clone()?;
-    Ok(Form::Bind {
+    Ok(Line::Bind {
         name,
         value: body(alloc, tokens)?,
     })
@@ -55,7 +56,7 @@ fn named(
     name: &Vec<u8>,
     tokens: &[Token],
     behind: &[Token],
-) -> Result<Form, ParseFault>
+) -> Result<Line, ParseFault>
     ensures { GivesLine result (reading.bound_in name.now.items (placed tokens.now) (placed behind.now)) }
 {
     let [first, rest @ ..] = behind else {
@@ -71,21 +72,21 @@ fn named(
 }
 
 // A datatype's line behind its name.
-fn datatype_named(alloc: Global, name: &Vec<u8>, tokens: &[Token]) -> Result<Form, ParseFault>
+fn datatype_named(alloc: Global, name: &Vec<u8>, tokens: &[Token]) -> Result<Line, ParseFault>
     ensures { GivesLine result (option_map (trees.datatype name.now.items) (machine.written_type (placed tokens.now))) }
 {
     let name = name.clone()?;
     match written_type(alloc, tokens)? {
-        TypePart::Built { written, .. } => {
-            let content = Box::into_inner(written);
-            Ok(Form::Datatype { name, content })
-        }
+        TypePart::Built { written, .. } => Ok(Line::Datatype {
+            name,
+            content: written,
+        }),
         TypePart::High => Err(ParseFault::Nested),
     }
 }
 
 // A datatype's line behind its first word.
-fn datatype(alloc: Global, tokens: &[Token]) -> Result<Form, ParseFault>
+fn datatype(alloc: Global, tokens: &[Token]) -> Result<Line, ParseFault>
     ensures { GivesLine result (reading.datatype_in (placed tokens.now)) }
 {
     let [first, rest @ ..] = tokens else {
@@ -105,17 +106,17 @@ fn is_type(name: &[u8]) -> bool
 }
 
 // The command that asks for a type, behind its word.
-fn show_named(alloc: Global, name: &Vec<u8>, tokens: &[Token]) -> Result<Form, ParseFault>
+fn show_named(alloc: Global, name: &Vec<u8>, tokens: &[Token]) -> Result<Line, ParseFault>
     ensures { GivesLine result (reading.typed_named (lexemes.name name.now.items) (placed tokens.now)) }
 {
     if !is_type(name.as_slice()) {
         return Err(ParseFault::Syntax);
     }
-    Ok(Form::ShowType(body(alloc, tokens)?))
+    Ok(Line::ShowType(body(alloc, tokens)?))
 }
 
 // The command that asks for a type, behind its `:`.
-fn show_type(alloc: Global, tokens: &[Token]) -> Result<Form, ParseFault>
+fn show_type(alloc: Global, tokens: &[Token]) -> Result<Line, ParseFault>
     ensures { GivesLine result (reading.typed_in (placed tokens.now)) }
 {
     let [first, rest @ ..] = tokens else {
@@ -128,7 +129,7 @@ fn show_type(alloc: Global, tokens: &[Token]) -> Result<Form, ParseFault>
 }
 
 // The line of the tokens before a last `;`.
-fn line(alloc: Global, tokens: &[Token]) -> Result<Form, ParseFault>
+fn line(alloc: Global, tokens: &[Token]) -> Result<Line, ParseFault>
     ensures { GivesLine result (reading.line_in (placed tokens.now)) }
 {
     let [first, rest @ ..] = tokens else {
@@ -150,28 +151,28 @@ fn line(alloc: Global, tokens: &[Token]) -> Result<Form, ParseFault>
 }
 
 // The command of a word that no `;` stands behind.
-fn command_named(name: &[u8]) -> Option<Form>
-    ensures some { IfSome result (λ form. IsCommand name.now (line_of form)) }
+fn command_named(name: &[u8]) -> Option<Line>
+    ensures some { IfSome result (λ line. IsCommand name.now (line_tree line)) }
     ensures none { IfNone result ((line : FormTree) → IsCommand name.now line → ⊥) }
 {
     if is_text(name, b"names") {
-        Some(Form::ShowNames)
+        Some(Line::ShowNames)
     } else if is_text(name, b"budget") {
-        Some(Form::ShowBudget)
+        Some(Line::ShowBudget)
     } else {
         None
     }
 }
 
-fn command_of(name: &[u8]) -> Option<Form>
-    ensures { option_map line_of result ≡ reading.command_of name.now }
+fn command_of(name: &[u8]) -> Option<Line>
+    ensures { option_map line_tree result ≡ reading.command_of name.now }
 {
     command_named(name)
 }
 
 // A `:` and such a word.
-fn command_with(first: &Token, second: &Token) -> Option<Form>
-    ensures { option_map line_of result ≡ reading.command_with (lexeme_of first.now.kind) (lexeme_of second.now.kind) }
+fn command_with(first: &Token, second: &Token) -> Option<Line>
+    ensures { option_map line_tree result ≡ reading.command_with (lexeme_of first.now.kind) (lexeme_of second.now.kind) }
 {
     match &first.kind {
         Kind::Symbol(sign) => match sign {
@@ -186,8 +187,8 @@ fn command_with(first: &Token, second: &Token) -> Option<Form>
 }
 
 // The command that ends in no `;`.
-fn command(tokens: &[Token]) -> Option<Form>
-    ensures { option_map line_of result ≡ reading.command_in (placed tokens.now) }
+fn command(tokens: &[Token]) -> Option<Line>
+    ensures { option_map line_tree result ≡ reading.command_in (placed tokens.now) }
 {
     match tokens {
         [first, second] => command_with(first, second),
@@ -205,6 +206,32 @@ fn is_semicolon(token: &Token) -> bool
     }
 }
 
+// The one line of tokens.
+fn read_line(alloc: Global, tokens: &[Token]) -> Result<Line, ParseFault>
+    // The tokens are this form, and no other tree of any height.
+    ensures tree { IfOk result (λ line. IsForm (placed tokens.now) (line_tree line)) }
+    ensures only { IfOk result (λ line. (other : FormTree) → IsForm (placed tokens.now) other → other ≡ line_tree line) }
+    ensures low { IfOk result (λ line. form_height (line_tree line) ≤ 100) }
+
+    // They have no tree of any height.
+    ensures syntax { IsErrOf result ParseFault.Syntax → (other : FormTree) → IsForm (placed tokens.now) other → ⊥ }
+
+    // They have a tree, and it is too high.
+    ensures nested { IsErrOf result ParseFault.Nested →
+        (other : FormTree) × IsForm (placed tokens.now) other × (100 < form_height other) }
+{
+    if let Some(line) = command(tokens) {
+        return Ok(line);
+    }
+    let Some((last, rest)) = tokens.split_last() else {
+        return Ok(Line::Nothing);
+    };
+    if !is_semicolon(last) {
+        return Err(ParseFault::Syntax);
+    }
+    line(alloc, rest)
+}
+
 /// The one form of a line's tokens.
 pub fn parse_form(alloc: Global, tokens: &[Token]) -> Result<Form, ParseFault>
     // The tokens are this form, and no other tree of any height.
@@ -219,16 +246,10 @@ pub fn parse_form(alloc: Global, tokens: &[Token]) -> Result<Form, ParseFault>
     ensures nested { IsErrOf result ParseFault.Nested →
         (line : FormTree) × IsForm (placed tokens.now) line × (100 < form_height line) }
 {
-    if let Some(form) = command(tokens) {
-        return Ok(form);
+    match read_line(alloc, tokens) {
+        Ok(line) => Ok(form_of(line)),
+        Err(fault) => Err(fault),
     }
-    let Some((last, rest)) = tokens.split_last() else {
-        return Ok(Form::Nothing);
-    };
-    if !is_semicolon(last) {
-        return Err(ParseFault::Syntax);
-    }
-    line(alloc, rest)
 }
 
 /// Tokens have at most one line.

@@ -11,13 +11,14 @@ ghost use Rattle.nesl_syntax.specs.Given.{Given, SeesOptional, SeesHead, GivesLi
 ghost use Rattle.nesl_lex.specs.Tokens.{placed};
 
 use crate::cut::{Divider, cut};
+use crate::line::Line;
 use crate::parse::expression;
 use crate::signature::{SignaturePart, signature};
 use nesl_lex::token::{Kind, Token};
 use nesl_syntax_open::ParseFault;
 use nesl_syntax_open::part::Part;
 use nesl_syntax_open::pattern::{PatternPart, pattern_of};
-use nesl_syntax_tree::tree::{Exp, Form, Pattern};
+use nesl_syntax_tree::tree::{Exp, Pattern};
 use std::alloc::Global;
 
 /// A function's parameter and its signature.
@@ -59,7 +60,7 @@ fn read_head(alloc: Global, tokens: &[Token]) -> Result<Head, ParseFault>
 }
 
 // Drops the parts of a line with one that is too high.
-fn too_high<T: Drop>(parts: T) -> Result<Form, ParseFault>
+fn too_high<T: Drop>(parts: T) -> Result<Line, ParseFault>
     ensures { result ≡ Err ParseFault.Nested }
 {
     drop(parts);
@@ -69,16 +70,16 @@ fn too_high<T: Drop>(parts: T) -> Result<Form, ParseFault>
 // The line of a pattern and what is too high or not behind it.
 fn function_with(
     name: Vec<u8>,
-    pattern: Pattern,
+    pattern: Box<Pattern>,
     signature: Option<SignaturePart>,
-    body: Exp,
-) -> Result<Form, ParseFault>
-    ensures { (s : Option SignatureTree) → SeesOptional signature s → height (tree_of body) ≤ 100 →
-        pattern_height (pattern_tree pattern) ≤ 100 →
-        GivesLine result (Some (trees.function name.items (pattern_tree pattern) s (tree_of body))) }
+    body: Box<Exp>,
+) -> Result<Line, ParseFault>
+    ensures { (s : Option SignatureTree) → SeesOptional signature s → height (tree_of body.value) ≤ 100 →
+        pattern_height (pattern_tree pattern.value) ≤ 100 →
+        GivesLine result (Some (trees.function name.items (pattern_tree pattern.value) s (tree_of body.value))) }
 {
     match signature {
-        None => Ok(Form::Fun {
+        None => Ok(Line::Fun {
             name,
             parameter: pattern,
             signature: None,
@@ -86,7 +87,7 @@ fn function_with(
         }),
         Some(part) => match part {
             SignaturePart::Built(signature) => {
-                Ok(Form::Fun {
+                Ok(Line::Fun {
                     name,
                     parameter: pattern,
                     signature: Some(signature),
@@ -99,17 +100,14 @@ fn function_with(
 }
 
 // The line of a function's parts.
-fn function_of(name: Vec<u8>, head: Head, body: Part) -> Result<Form, ParseFault>
+fn function_of(name: Vec<u8>, head: Head, body: Part) -> Result<Line, ParseFault>
     ensures { (h : reading.Heads) (e : Tree) → SeesHead head h → Sees body e →
         GivesLine result (Some (reading.function_of name.items h e)) }
 {
     let Head { pattern, signature } = head;
     match pattern {
         PatternPart::Built { pattern, .. } => match body {
-            Part::Built { exp, .. } => {
-                let pattern = Box::into_inner(pattern);
-                function_with(name, pattern, signature, Box::into_inner(exp))
-            }
+            Part::Built { exp, .. } => function_with(name, pattern, signature, exp),
             Part::High(_) => too_high((name, pattern, signature)),
         },
         PatternPart::High => too_high((name, signature, body)),
@@ -117,7 +115,7 @@ fn function_of(name: Vec<u8>, head: Head, body: Part) -> Result<Form, ParseFault
 }
 
 // A function's line behind its name.
-fn function_named(alloc: Global, name: &Vec<u8>, tokens: &[Token]) -> Result<Form, ParseFault>
+fn function_named(alloc: Global, name: &Vec<u8>, tokens: &[Token]) -> Result<Line, ParseFault>
     ensures { GivesLine result (reading.function_with name.now.items (reading.cut divider.Equal (placed tokens.now))) }
 {
     let Some((front, behind)) = cut(Divider::Equal, tokens) else {
@@ -130,7 +128,7 @@ fn function_named(alloc: Global, name: &Vec<u8>, tokens: &[Token]) -> Result<For
 }
 
 /// A function's line behind its first word.
-pub fn function(alloc: Global, tokens: &[Token]) -> Result<Form, ParseFault>
+pub fn function(alloc: Global, tokens: &[Token]) -> Result<Line, ParseFault>
     ensures { GivesLine result (reading.function_in (placed tokens.now)) }
 {
     let [first, rest @ ..] = tokens else {

@@ -5,6 +5,7 @@ mod cut;
 mod form;
 mod function;
 mod laws;
+mod line;
 mod parse;
 mod signature;
 mod text;

@@ -1,6 +1,6 @@
 // A function's signature: its types, and the classes of names in them.
 
-ghost use Rattle.std.specs.Prelude.{◌≡◌, ◌≢◌, ◌≤◌, ◌<◌, IfSome, IfNone};
+ghost use Rattle.std.specs.Prelude.{◌≡◌, ◌≢◌, ◌≤◌, ◌<◌, Some, IfOk, IfErr, IfSome, IfNone};
 ghost use Rattle.nesl_syntax_tree.specs.declared.tree.Class as class;
 ghost use Rattle.nesl_syntax_tree.specs.Lines.{class_text};
 ghost use Rattle.nesl_syntax.specs.declared.signature.SignaturePart.TheVariants as signatures;
@@ -17,13 +17,13 @@ use crate::text::is_text;
 use nesl_lex::token::{Kind, Sign, Token, Word};
 use nesl_syntax_open::ParseFault;
 use nesl_syntax_open::types::TypePart;
-use nesl_syntax_tree::tree::{Class, Member, Signature};
+use nesl_syntax_tree::tree::{Class, Member, Signature, TypeExp};
 use std::alloc::Global;
 
 /// A signature, or one with a type that is too high.
 #[derive(Drop)]
 pub enum SignaturePart {
-    Built(Signature),
+    Built(Box<Signature>),
     High,
 }
 
@@ -176,22 +176,40 @@ fn too_high<T: Drop>(parts: T) -> SignaturePart
     SignaturePart::High
 }
 
+// A signature on the heap.
+fn make_signature(
+    alloc: Global,
+    from: Box<TypeExp>,
+    to: Box<TypeExp>,
+    members: Vec<Member>,
+) -> Result<Box<Signature>, ParseFault>
+    ensures made { IfOk result (λ r. (r.value.from ≡ from.value) × (r.value.to ≡ to.value)
+        × (r.value.members ≡ members)) }
+    ensures fails { IfErr result (λ e. e ≡ ParseFault.Memory) }
+{
+    let signature = Signature {
+        from: Box::into_inner(from),
+        to: Box::into_inner(to),
+        members,
+    };
+    Ok(Box::new(alloc, signature)?)
+}
+
 // The signature of its parts.
-fn signature_of(from: TypePart, target: Target) -> SignaturePart
+fn signature_of(alloc: Global, from: TypePart, target: Target) -> Result<SignaturePart, ParseFault>
     ensures { (a : TypeTree) (r : reading.Targets) → SeesType from a → SeesTarget target r →
-        SeesSignature result (reading.signature_of a r) }
+        Given SeesSignature result (Some (reading.signature_of a r)) }
 {
     let Target { to, members } = target;
     match from {
         TypePart::Built { written: from, .. } => match to {
-            TypePart::Built { written: to, .. } => SignaturePart::Built(Signature {
-                from: Box::into_inner(from),
-                to: Box::into_inner(to),
-                members,
-            }),
-            TypePart::High => too_high((from, members)),
+            TypePart::Built { written: to, .. } => {
+                let signature = make_signature(alloc, from, to, members)?;
+                Ok(SignaturePart::Built(signature))
+            }
+            TypePart::High => Ok(too_high((from, members))),
         },
-        TypePart::High => too_high((to, members)),
+        TypePart::High => Ok(too_high((to, members))),
     }
 }
 
@@ -204,5 +222,5 @@ pub fn signature(alloc: Global, tokens: &[Token]) -> Result<SignaturePart, Parse
     };
     let from = written_type(alloc, front)?;
     let target = read_target(alloc, behind)?;
-    Ok(signature_of(from, target))
+    signature_of(alloc, from, target)
 }
