@@ -66,6 +66,7 @@ GivesExp (Err Nested) (Some x) = 100 < height x
 GivesExp (Err Nested) None = ⊥
 GivesExp (Err Memory) x = Unit {0}
 
+-- what a line stands for, whose parts lie on the heap
 abbrev pub boxed_signature : Box Signature → SignatureTree
 boxed_signature s = signature_tree s.value
 
@@ -80,6 +81,7 @@ line_tree lines.ShowNames = trees.show_names
 line_tree lines.ShowBudget = trees.show_budget
 line_tree (lines.ShowType e) = trees.show_type (tree_of e.value)
 
+-- the same of a line
 abbrev pub GivesLine : Result Line ParseFault → Option FormTree → Type 0
 GivesLine (Ok f) (Some l) = (line_tree f ≡ l) × (form_height l ≤ 100)
 GivesLine (Ok f) None = ⊥

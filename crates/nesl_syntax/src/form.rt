@@ -172,7 +172,8 @@ fn command_of(name: &[u8]) -> Option<Line>
 
 // A `:` and such a word.
 fn command_with(first: &Token, second: &Token) -> Option<Line>
-    ensures { option_map line_tree result ≡ reading.command_with (lexeme_of first.now.kind) (lexeme_of second.now.kind) }
+    ensures { option_map line_tree result
+        ≡ reading.command_with (lexeme_of first.now.kind) (lexeme_of second.now.kind) }
 {
     match &first.kind {
         Kind::Symbol(sign) => match sign {
@@ -210,7 +211,8 @@ fn is_semicolon(token: &Token) -> bool
 fn read_line(alloc: Global, tokens: &[Token]) -> Result<Line, ParseFault>
     // The tokens are this form, and no other tree of any height.
     ensures tree { IfOk result (λ line. IsForm (placed tokens.now) (line_tree line)) }
-    ensures only { IfOk result (λ line. (other : FormTree) → IsForm (placed tokens.now) other → other ≡ line_tree line) }
+    ensures only { IfOk result (λ line. (other : FormTree) → IsForm (placed tokens.now) other →
+        other ≡ line_tree line) }
     ensures low { IfOk result (λ line. form_height (line_tree line) ≤ 100) }
 
     // They have no tree of any height.

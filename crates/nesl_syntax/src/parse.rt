@@ -85,6 +85,7 @@ fn wait_for_type(stack: &mut Vec<Pending>, opening: TypeOpening) -> Result<Mode,
 }
 
 // The newest, where it is an opening.
+#[inline(always)]
 fn pop_opening(stack: &mut Vec<Pending>) -> Option<Opening>
     ensures { (ws : List Waiting) → SeesStack stack.old.items ws →
         OpeningPopped result stack.new.items (newest_opening ws) }
@@ -278,8 +279,8 @@ fn follow_mark(
     end_part(alloc, stack, part, mark, at)
 }
 
-// A token behind an expression. What each does stands in a function of its own, for a function pays at each call for all
-// that it may hold.
+// A token behind an expression. What each does stands in a function of its own, for a function pays at each call for
+// all that it may hold.
 fn follow(
     alloc: Global,
     stack: &mut Vec<Pending>,
