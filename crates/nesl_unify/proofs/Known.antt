@@ -1,11 +1,9 @@
 -- Equations that grow, and what is known of their variables.
 use Rattle.std.proofs.Common.{◌≡◌, ℕ, ◌+◌, ◌<◌, ◌⊎◌, ◌++◌, ◌↔◌, inl, inr, List, [], ◌∷◌, All, length, get_or, set, refl, sym, ap, ◌∙◌, subst, arith}
 use Rattle.std.specs.Prelude.{Option, Some, None}
-use Rattle.std.specs.Option.{option_map_or}
 use Rattle.std.proofs.lemmas.Bool.{cases_lt, cases_eq}
 use Rattle.std.proofs.lemmas.List.{get_or_append_left, get_or_push, get_or_past, get_or-set_same, get_or-set_other, length_push, length-set}
 use Rattle.std.proofs.lemmas.List.Elements.{All-nil, All-push, All-pop, All-weaker}
-use Rattle.std.proofs.lemmas.Option.{slice_get-get_or}
 use Rattle.nesl_types_bank.specs.Term.{Term, int, bool, char, variable, seq_of, pair_of, named}
 use Rattle.nesl_types_bank.specs.Numbering.{IsBelow}
 use Rattle.nesl_types_bank.specs.Substitution.{substitute}
@@ -20,6 +18,7 @@ use Rattle.nesl_unify.specs.Systems.{IsAsKnown, HoldIn, Hold, AreEquationsIn, Ar
 use Rattle.nesl_unify.specs.Growth.{IsFreeAt, Grows, Puts, Adds, SaysEquations, Follows, ArePlacesOf, IsBegun}
 use Rattle.nesl_unify.proofs.Grown.{below_more}
 use Rattle.nesl_unify.proofs.Placed.{extends_none, extends_more, places_wider}
+use Rattle.nesl_unify.proofs.Narrowing.{replaced_at}
 use Rattle.nesl_unify.proofs.Solved.{substitute_below}
 
 abbrev pub AreSidesBelow : ℕ → List Sides → Type 0
@@ -281,10 +280,6 @@ first_more types known mid new fresh k places more p a x l h e = rw e (record {
 
 pub first_whole : (types : List Term) (known : List (Option ℕ)) (new : List Term) (fresh : List ℕ) (k : ℕ) (places : List ℕ) → k ≡ length fresh → AreFirst types known new fresh k places → ArePlacesOf types known new fresh places
 first_whole types known new fresh k places e a = record { len = a.len ∙ e; within = a.within; here = λ s h v l. a.here s h v (omega arith) }
-
--- what stands for a variable that has a place
-replaced_at : (ts : List Term) (of : List ℕ) (v : ℕ) → v < length of → replacement ts of v ≡ type_at ts (get_or of v 0)
-replaced_at ts of v l = ap (λ o. option_map_or (type_at ts) o (variable v)) (slice_get-get_or of v 0 l)
 
 -- an instance of a type that was put in
 pub instance_below : (n : ℕ) (types ts : List Term) (known : List (Option ℕ)) (fresh of : List ℕ) (t : Term) → All (IsBelow n) ts → ArePlacesOf types known ts fresh of → IsBelow (length fresh) t → IsBelow n (substitute (replacement ts of) t)

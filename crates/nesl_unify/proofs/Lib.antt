@@ -11,3 +11,5 @@ pub mod Starts
 pub mod Below
 pub mod Beside
 pub mod Moved
+pub mod Settling
+pub mod Solutions

@@ -11,20 +11,18 @@ use Rattle.nesl_types_bank.specs.Term.{Term, int, bool, char, variable, seq_of, 
 use Rattle.nesl_types_bank.specs.Substitution.{substitute}
 use Rattle.nesl_types_bank.specs.declared.graph.Node.{Node}
 use Rattle.nesl_types_bank.specs.declared.graph.Node.TheVariants.{Free, Same, Int, Bool, Char, Named, SeqOf, Both}
-use Rattle.nesl_types_bank.specs.Graph.{node_at, FitsGraph, IsFlat, IsGraph, IsNodeBelow, target, AreRead}
+use Rattle.nesl_types_bank.specs.Graph.{node_at, FitsGraph, IsFlat, IsGraph, IsNodeBelow, AreRead}
 use Rattle.nesl_types_bank.specs.Renames.{replacement}
 use Rattle.nesl_types_bank.specs.Types.{type_at, size_of}
 use Rattle.nesl_unify.specs.declared.unify.Pair.{Pair}
 use Rattle.nesl_unify.specs.declared.narrow.Member.{Member}
 use Rattle.nesl_unify.specs.Bounds.{IsBounded}
-use Rattle.nesl_unify.specs.Table.{IsPlaced, IsTable, outside_at}
+use Rattle.nesl_unify.specs.Members.{IsInAll}
+use Rattle.nesl_unify.specs.Table.{IsPlaced, IsTable}
 use Rattle.nesl_unify.specs.Extends.{Extends}
 use Rattle.nesl_unify.specs.Pairs.{AreEqual}
 use Rattle.nesl_unify.specs.Met.{AreMet}
-use Rattle.nesl_unify.specs.Members.{IsInAll}
-use Rattle.nesl_unify.proofs.Tables.{fits-target}
 use Rattle.nesl_unify.proofs.Extensions.{table_built}
-use Rattle.nesl_unify.proofs.Narrowing.{built, root_built, in_outside, from_outside}
 
 -- types of the variables of a type are all that it sees
 pub substitute_below : (n : ℕ) (f g : ℕ → Term) (t : Term) → IsBelow n t → ((v : ℕ) → v < n → f v ≡ g v) → substitute f t ≡ substitute g t
@@ -84,7 +82,7 @@ get_inside [] v l = absurd (omega arith)
 get_inside (p ∷ ps) zero l = refl
 get_inside (p ∷ ps) (suc v) l = get_inside ps v (omega arith)
 
-get_past : (ps : List ℕ) (v : ℕ) → length ps ≤ v → slice_get ps v ≡ None
+pub get_past : (ps : List ℕ) (v : ℕ) → length ps ≤ v → slice_get ps v ≡ None
 get_past [] v l = refl
 get_past (p ∷ ps) zero l = absurd (omega arith)
 get_past (p ∷ ps) (suc v) l = get_past ps v (omega arith)
@@ -119,23 +117,9 @@ module _ (count : ℕ) (start ns : List Node) (pending : List Pair) (ts : List T
     | inr g ↦ ap (substitute s) (sym (types_past v g))
   ]
 
-  -- a type that is read is what its node says
-  types_node : (v : ℕ) → v < count → replacement ts places v ≡ built r.types (target ns v) (node_at ns (target ns v))
-  types_node v l =
-      let root = target ns v in
-      types_here v l ∙ fits-target r.types ns v r.most_general.fits
-      ∙ root_built r.types root (r.types root) (node_at ns root) (u.flat v) (r.most_general.free root) (r.most_general.fits root)
-
-  pub members_outside : (members : List Member) (s : ℕ → Term) (of : ℕ → Class) → All (λ m. m.variable < count) members → ((v : ℕ) → s v ≡ substitute s (replacement ts places v)) → IsInAll s of members → IsInAll (λ v. substitute s (outside_at ns v)) of members
-  members_outside members s of below g h = λ k d l.
-      let m = get_or members k d in
-      let i = subst (IsIn of m.class) (g m.variable ∙ ap (substitute s) (types_node m.variable (below k d l))) (h k d l) in
-      in_outside of m.class s r.types (target ns m.variable) (node_at ns (target ns m.variable)) (u.flat m.variable) i
-
-  pub members_read : (members : List Member) (of : ℕ → Class) → All (λ m. m.variable < count) members → IsInAll (outside_at ns) of members → IsInAll (replacement ts places) of members
-  members_read members of below h = λ k d l.
-      let m = get_or members k d in
-      subst (IsIn of m.class) (sym (types_node m.variable (below k d l))) (from_outside of m.class r.types (target ns m.variable) (node_at ns (target ns m.variable)) (u.flat m.variable) (h k d l))
+-- members are in their classes where what stands for them is
+pub members_general : (places : List ℕ) (ts : List Term) (members : List Member) (s : ℕ → Term) (of : ℕ → Class) → ((v : ℕ) → s v ≡ substitute s (replacement ts places v)) → IsInAll s of members → IsInAll (λ v. substitute s (replacement ts places v)) of members
+members_general places ts members s of g h = λ k d l. let m = get_or members k d in subst (IsIn of m.class) (g m.variable) (h k d l)
 
 -- no solutions
 pub none_read : (count : ℕ) (start ns : List Node) (pending : List Pair) → ((w : ℕ → Term) → FitsGraph w ns ↔ (FitsGraph w start × AreEqual w pending)) →

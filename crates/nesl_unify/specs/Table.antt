@@ -1,6 +1,5 @@
 -- A table of the nodes of types, each at a place.
 use Rattle.std.specs.Prelude.{◌<◌, ◌≤◌, ℕ, List, length}
-use Rattle.nesl_types_bank.specs.Term.{Term, int, bool, char, variable, seq_of, pair_of, named}
 use Rattle.nesl_types_bank.specs.declared.graph.Node.{Node}
 use Rattle.nesl_types_bank.specs.declared.graph.Node.TheVariants.{Free, Same, Int, Bool, Char, Named, SeqOf, Both}
 use Rattle.nesl_types_bank.specs.Graph.{node_at, target}
@@ -41,18 +40,3 @@ shortened ns Char = Char
 shortened ns (Named m) = Named m
 shortened ns (SeqOf q) = SeqOf q
 shortened ns (Both q r) = Both q r
-
--- what the type of a node at place p is, but for the parts of a sequence or a pair
-abbrev pub outside : ℕ → Node → Term
-outside p Free = variable p
-outside p (Same q) = variable q
-outside p Int = int
-outside p Bool = bool
-outside p Char = char
-outside p (Named m) = named m
-outside p (SeqOf q) = seq_of int
-outside p (Both q r) = pair_of int int
-
--- the outside of the type at each place
-abbrev pub outside_at : List Node → ℕ → Term
-outside_at ns p = outside (target ns p) (node_at ns (target ns p))

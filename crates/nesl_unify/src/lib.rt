@@ -8,6 +8,7 @@ mod instance;
 mod learning;
 pub mod narrow;
 mod room;
+mod settle;
 mod solution;
 pub mod solve;
 mod start;

@@ -1,18 +1,18 @@
 //! The classes of the variables that are left.
 
-ghost use Rattle.std.specs.Prelude.{◌≡◌, ◌≢◌, ◌<◌, ◌↔◌, ℕ, All, IsTrue, IfOk, IsErrOf, OnOk, vec_len};
+ghost use Rattle.std.specs.Prelude.{◌≡◌, ◌≢◌, ◌<◌, ◌↔◌, ℕ, All, IsTrue, IfOk, IsErrOf, OnOk, length, vec_len};
 ghost use Rattle.nesl_types.specs.declared.classes.Class.{Class};
 ghost use Rattle.nesl_types_bank.specs.Term.{Term, variable as variable_type};
 ghost use Rattle.nesl_types_bank.specs.Substitution.{substitute};
+ghost use Rattle.nesl_types_bank.specs.Shapes.{shape_type};
+ghost use Rattle.nesl_types_bank.specs.Renames.{replacement};
 ghost use Rattle.nesl_types.specs.Class.{IsIn};
-ghost use Rattle.nesl_unify.specs.Table.{outside, outside_at};
 ghost use Rattle.nesl_types.specs.Class.{class_at};
 ghost use Rattle.nesl_unify.specs.Members.{IsInAll};
 
 use crate::fault::SolveFault;
-use crate::table::{node_at, target};
 use nesl_types::{Class, meet};
-use nesl_types_bank::Node;
+use nesl_types_bank::{Bank, Shape};
 use std::alloc::{AllocError, Global};
 
 /// What a variable stands for has to be in a class.
@@ -67,75 +67,80 @@ fn restrict(classes: &mut Vec<Class>, variable: u64, class: Class) -> Result<(),
     Ok(())
 }
 
-/// Restricts the variable where the node at a place is one, so that its type is in a class.
-fn restrict_node(
-    classes: &mut Vec<Class>,
-    place: usize,
-    node: Node,
-    class: Class,
-) -> Result<(), SolveFault>
-    ensures within { OnOk result (IsIn (class_at classes.new.items) class (outside place node)) }
+/// Restricts the variable where a shape is one, so that its type is in a class, whatever its parts are.
+fn restrict_shape(classes: &mut Vec<Class>, shape: Shape, class: Class) -> Result<(), SolveFault>
+    ensures within { OnOk result ((f : ℕ → Term) → IsIn (class_at classes.new.items) class (shape_type f shape)) }
     ensures narrower { OnOk result ((v : ℕ) → (of : ℕ → Class) → (t : Term) → IsIn of (class_at classes.new.items v) t
         → IsIn of (class_at classes.old.items v) t) }
-    ensures general { OnOk result ((w : ℕ → Term) → (of : ℕ → Class) → IsIn of class (substitute w (outside place node))
+    ensures general { OnOk result ((f : ℕ → Term) → (w : ℕ → Term) → (of : ℕ → Class)
+        → IsIn of class (substitute w (shape_type f shape))
         → ((v : ℕ) → IsIn of (class_at classes.old.items v) (w v)) → (v : ℕ)
         → IsIn of (class_at classes.new.items v) (w v)) }
-    ensures none { IsErrOf result SolveFault.NoSolution → (w : ℕ → Term) → (of : ℕ → Class)
-        → IsIn of class (substitute w (outside place node)) → ⊥ }
+    ensures none { IsErrOf result SolveFault.NoSolution → (f : ℕ → Term) → (w : ℕ → Term) → (of : ℕ → Class)
+        → IsIn of class (substitute w (shape_type f shape)) → ⊥ }
 {
-    match (node, class) {
-        (Node::Free, _) => Ok(restrict(classes, place as u64, class)?),
-        (Node::Same(up), _) => Ok(restrict(classes, up as u64, class)?),
+    match (shape, class) {
+        (Shape::Var(variable), _) => Ok(restrict(classes, variable, class)?),
         (_, Class::Any) => Ok(()),
-        (Node::Int, _) => Ok(()),
-        (Node::Bool, Class::Logical) => Ok(()),
-        (Node::Char, Class::Ordinal) => Ok(()),
+        (Shape::Int, _) => Ok(()),
+        (Shape::Bool, Class::Logical) => Ok(()),
+        (Shape::Char, Class::Ordinal) => Ok(()),
         _ => Err(SolveFault::NoSolution),
     }
 }
 
 /// Restricts the variable that stands for a member's variable, if one does, so that the type is in the member's class.
+/// The type of each variable is at its place of the bank.
 #[tactic(auto, using(crate::proofs::Narrowing::all_in_any))]
 fn restrict_member(
     classes: &mut Vec<Class>,
-    nodes: &[Node],
+    types: &Bank,
+    places: &[usize],
     member: &Member,
 ) -> Result<(), SolveFault>
+    requires places { All (λ p. p < length types.now) places.now }
+    requires member { member.now.variable < length places.now }
     ensures within { OnOk result (IsIn (class_at classes.new.items) member.now.class
-        (outside_at nodes.now member.now.variable)) }
+        (replacement types.now places.now member.now.variable)) }
     ensures narrower { OnOk result ((v : ℕ) → (of : ℕ → Class) → (t : Term) → IsIn of (class_at classes.new.items v) t
         → IsIn of (class_at classes.old.items v) t) }
     ensures general { OnOk result ((w : ℕ → Term) → (of : ℕ → Class)
-        → IsIn of member.now.class (substitute w (outside_at nodes.now member.now.variable))
+        → IsIn of member.now.class (substitute w (replacement types.now places.now member.now.variable))
         → ((v : ℕ) → IsIn of (class_at classes.old.items v) (w v)) → (v : ℕ)
         → IsIn of (class_at classes.new.items v) (w v)) }
     ensures none { IsErrOf result SolveFault.NoSolution → (w : ℕ → Term) → (of : ℕ → Class)
-        → IsIn of member.now.class (substitute w (outside_at nodes.now member.now.variable)) → ⊥ }
+        → IsIn of member.now.class (substitute w (replacement types.now places.now member.now.variable)) → ⊥ }
 {
     if let Class::Any = member.class {
         return Ok(());
     }
-    let root = target(nodes, member.variable as usize);
-    restrict_node(classes, root, node_at(nodes, root), member.class)?;
+    let place = places[member.variable as usize];
+    let shape = types.shape(place);
+    restrict_shape(classes, shape, member.class)?;
     Ok(())
 }
 
-/// The classes of the variables in a table without chains of links, as wide as the members allow.
+/// The classes of the variables in the types at these places of a bank, which are those of the members' variables, as
+/// wide as the members allow.
 pub(crate) fn narrow(
     alloc: Global,
-    nodes: &[Node],
+    types: &Bank,
+    places: &[usize],
     members: &[Member],
 ) -> Result<Vec<Class>, SolveFault>
-    ensures within { IfOk result (λ cs. IsInAll (outside_at nodes.now) (class_at cs.items) members.now) }
+    requires places { All (λ p. p < length types.now) places.now }
+    requires members { All (λ m. m.variable < length places.now) members.now }
+    ensures within { IfOk result
+        (λ cs. IsInAll (replacement types.now places.now) (class_at cs.items) members.now) }
     ensures general { IfOk result (λ cs. (w : ℕ → Term) → (of : ℕ → Class)
-        → IsInAll (λ v. substitute w (outside_at nodes.now v)) of members.now → (v : ℕ)
+        → IsInAll (λ v. substitute w (replacement types.now places.now v)) of members.now → (v : ℕ)
         → IsIn of (class_at cs.items v) (w v)) }
     ensures none { IsErrOf result SolveFault.NoSolution → (w : ℕ → Term) → (of : ℕ → Class)
-        → IsInAll (λ v. substitute w (outside_at nodes.now v)) of members.now → ⊥ }
+        → IsInAll (λ v. substitute w (replacement types.now places.now v)) of members.now → ⊥ }
 {
-    let mut classes = Vec::with_capacity(alloc, members.len())?;
+    let mut classes = Vec::new(alloc);
     for member in members {
-        restrict_member(&mut classes, nodes, member)?;
+        restrict_member(&mut classes, types, places, member)?;
     }
     Ok(classes)
 }

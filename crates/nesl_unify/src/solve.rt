@@ -2,7 +2,7 @@
 
 ghost use Rattle.std.specs.Prelude.{◌≡◌, ◌<◌, ℕ, All, IfOk, IsErrOf};
 ghost use Rattle.nesl_types.specs.declared.classes.Class.{Class};
-ghost use Rattle.nesl_types.specs.Class.{class_at};
+ghost use Rattle.nesl_types.specs.Class.{IsIn, class_at};
 ghost use Rattle.nesl_types_bank.specs.Substitution.{substitute};
 ghost use Rattle.nesl_types_bank.specs.Term.{Term};
 ghost use Rattle.nesl_types_bank.specs.Numbering.{IsBelow};
@@ -16,11 +16,12 @@ use crate::start::{start_nodes, start_pairs};
 pub use crate::types::is_below;
 use crate::unify::{Pair, unify};
 use nesl_types::Ty;
-use nesl_types_bank::{Node, Read, read_types};
+use nesl_types_bank::{Bank, Node, Read, read_types};
 use std::alloc::{AllocError, Global};
+use std::mem::replace;
 
 /// The greatest number of nodes of a type.
-const MOST_NODES: u64 = 4096;
+pub(crate) const MOST_NODES: u64 = 4096;
 
 /// Two types that have to be one.
 #[derive(Drop)]
@@ -79,7 +80,7 @@ pub(crate) fn solve_table(
         Some(read) => read,
         None => return Err(SolveFault::NoSolution),
     };
-    let classes = narrow(alloc, nodes.as_slice(), members)?;
+    let classes = narrow(alloc, &types, places.as_slice(), members)?;
     Ok(Solution {
         types,
         places,
@@ -87,8 +88,9 @@ pub(crate) fn solve_table(
     })
 }
 
-/// A most general solution of the equations in which each member's variable has a type of its class.
-pub(crate) fn solve_equations(
+/// A most general solution of the equations in which each member's variable has a type of its class, found by a table
+/// of all nodes.
+fn solve_by_table(
     alloc: Global,
     equations: &Equations,
     members: &[Member],
@@ -113,6 +115,60 @@ pub(crate) fn solve_equations(
     )?;
     let solution = solve_table(alloc, count, nodes, pending, members)?;
     Ok(solution)
+}
+
+ghost use Rattle.std.specs.Prelude.{◌≡◌};
+ghost use Rattle.nesl_types_bank.specs.Renames.{replacement};
+
+/// The solution that has the types of these equations at the places of its variables, and the classes of the variables
+/// that are left.
+fn solution_at(
+    alloc: Global,
+    equations: &mut Equations,
+    places: Vec<usize>,
+    members: &[Member],
+) -> Result<Solution, SolveFault>
+    requires places { All (λ p. p < length equations.old.types) places.items }
+    requires members { All (λ m. m.variable < length places.items) members.now }
+    ensures types { IfOk result (λ a. a.types ≡ equations.old.types) }
+    ensures places { IfOk result (λ a. a.places.items ≡ places.items) }
+    ensures within { IfOk result
+        (λ a. IsInAll (replacement equations.old.types places.items) (class_of a) members.now) }
+    ensures general { IfOk result (λ a. (s : ℕ → Term) → (of : ℕ → Class)
+        → IsInAll (λ v. substitute s (replacement equations.old.types places.items v)) of members.now → (v : ℕ)
+        → IsIn of (class_of a v) (s v)) }
+    ensures none { IsErrOf result SolveFault.NoSolution → (s : ℕ → Term) → (of : ℕ → Class)
+        → IsInAll (λ v. substitute s (replacement equations.old.types places.items v)) of members.now → ⊥ }
+{
+    let classes = narrow(alloc, &equations.types, places.as_slice(), members)?;
+    let types = replace(&mut equations.types, Bank::new(alloc));
+    Ok(Solution {
+        types,
+        places,
+        classes,
+    })
+}
+
+/// A most general solution of the equations in which each member's variable has a type of its class.
+pub(crate) fn solve_equations(
+    alloc: Global,
+    equations: &mut Equations,
+    members: &[Member],
+) -> Result<Solution, SolveFault>
+    requires made { AreEquations equations.old }
+    requires members { All (λ m. m.variable < length equations.old.known.items) members.now }
+    ensures holds { IfOk result (λ a. Hold equations.old (type_of a)) }
+    ensures within { IfOk result (λ a. IsInAll (type_of a) (class_of a) members.now) }
+    ensures general { IfOk result (λ a. (s : ℕ → Term) → (of : ℕ → Class) → Hold equations.old s
+        → IsInAll s of members.now → IsInstance (type_of a) (class_of a) s of) }
+    ensures bounded { IfOk result (λ a. IsBounded (type_of a)) }
+    ensures none { IsErrOf result SolveFault.NoSolution → (s : ℕ → Term) → (of : ℕ → Class) → IsBounded s
+        → Hold equations.old s → IsInAll s of members.now → ⊥ }
+{
+    match equations.settle_all(alloc)? {
+        Some(places) => solution_at(alloc, equations, places, members),
+        None => solve_by_table(alloc, equations, members),
+    }
 }
 
 /// Equations in as many variables, of which there are none.
@@ -159,7 +215,7 @@ pub fn solve(
     ensures none { IsErrOf result SolveFault.NoSolution → (s : ℕ → Term) → (of : ℕ → Class) → IsBounded s
         → IsSolution equations.now members.now s of → ⊥ }
 {
-    let equations = equations_of(alloc, count, equations)?;
-    let solution = solve_equations(alloc, &equations, members)?;
+    let mut equations = equations_of(alloc, count, equations)?;
+    let solution = solve_equations(alloc, &mut equations, members)?;
     Ok(solution)
 }

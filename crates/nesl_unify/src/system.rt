@@ -179,7 +179,7 @@ impl System {
     }
 
     /// A most general solution of the equations in which each variable has a type of its class.
-    pub fn solve(self, alloc: Global) -> Result<Solution, SolveFault>
+    pub fn solve(mut self, alloc: Global) -> Result<Solution, SolveFault>
         requires { IsSystem self }
         ensures solves { IfOk result (λ a. SolvesSystem self (type_of a) (class_of a)) }
         ensures general { IfOk result (λ a. (s : ℕ → Term) → (of : ℕ → Class) → SolvesSystem self s of
@@ -188,7 +188,7 @@ impl System {
         ensures none { IsErrOf result SolveFault.NoSolution → (s : ℕ → Term) → (of : ℕ → Class) → IsBounded s
             → SolvesSystem self s of → ⊥ }
     {
-        let solution = solve_equations(alloc, &self.equations, self.members.as_slice())?;
+        let solution = solve_equations(alloc, &mut self.equations, self.members.as_slice())?;
         Ok(solution)
     }
 }

@@ -2,7 +2,7 @@ use Rattle.std.proofs.Common.{rules}
 use Rattle.nesl_types.specs.declared.classes.Class.TheVariants.{Any}
 use Rattle.nesl_types.specs.Class.{class_at}
 use Rattle.nesl_unify.specs.declared.narrow.Member.{Member}
-use Rattle.nesl_unify.specs.Table.{outside_at}
+use Rattle.nesl_types_bank.specs.Renames.{replacement}
 use Rattle.nesl_unify.proofs.Narrowing.{more_within}
 use Rattle.nesl_unify.proofs.narrow.narrow.Goals as goal
 
@@ -17,6 +17,6 @@ loop-member-preserved c =
     let i = c.loop-member.member-index in
     let none : Member = record { variable = 0; class = Any } in
     record {
-      within = more_within (class_at c.loop-member.classes.items) (class_at c.restrict_member.new.classes.items) (outside_at c.args.nodes.now) c.args.members.now i none c.loop-member-test.true e.narrower c.loop-member.invariant.within e.within;
+      within = more_within (class_at c.loop-member.classes.items) (class_at c.restrict_member.new.classes.items) (replacement c.args.types.now c.args.places.now) c.args.members.now i none c.loop-member-test.true e.narrower c.loop-member.invariant.within e.within;
       general = λ w of h. e.general w of (h i none c.loop-member-test.true) (c.loop-member.invariant.general w of h);
     }
