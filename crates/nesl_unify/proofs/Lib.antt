@@ -13,3 +13,4 @@ pub mod Beside
 pub mod Moved
 pub mod Settling
 pub mod Solutions
+pub mod Fits

@@ -22,7 +22,7 @@ use nesl_types_bank::{Bank, Shape};
 use std::alloc::{AllocError, Global};
 
 /// How many nodes of two types that are one are compared, to see what their variables are.
-const MOST_COMPARED: u64 = 64;
+pub const MOST_COMPARED: u64 = 64;
 
 /// How many steps lead from one variable to the next where each is known to be the other.
 const MOST_STEPS: u64 = 16;
@@ -124,7 +124,7 @@ impl Equations {
     }
 
     /// Puts a type whose parts are variables in, with what is known in their place, and gives its place.
-    fn put_flat(&mut self, flat: Flat) -> Result<usize, AllocError>
+    pub(crate) fn put_flat(&mut self, flat: Flat) -> Result<usize, AllocError>
         requires made { AreEquations self.old }
         requires flat { IsBelow (length self.old.known.items) (flat_type flat) }
         ensures { IfOk result (Puts self.old self.new (flat_type flat)) }
@@ -156,7 +156,7 @@ impl Equations {
 
     /// The place of what the type at a place is, where that is a variable of which something is known: a bounded number
     /// of steps from one variable to the next.
-    fn resolve(&self, place: usize) -> usize
+    pub(crate) fn resolve(&self, place: usize) -> usize
         requires made { AreEquations self.now }
         requires place { place < length self.now.types }
         ensures within { result < length self.now.types }
@@ -238,7 +238,7 @@ impl Equations {
 
     /// The types at two places are one, and so are their parts: of so many nodes these are compared, and so many are
     /// left.
-    fn join(&mut self, left: usize, right: usize, room: u64) -> Result<u64, AllocError>
+    pub(crate) fn join(&mut self, left: usize, right: usize, room: u64) -> Result<u64, AllocError>
         requires made { AreEquations self.old }
         requires left { left < length self.old.types }
         requires right { right < length self.old.types }
@@ -392,17 +392,6 @@ impl Equations {
         let of = self.begin_instance(alloc, variable, fresh, part)?;
         let right = put_part(alloc, &mut self.types, of.as_slice(), part)?;
         self.equate_variable(variable, right)
-    }
-
-    /// The variable stands for a type whose parts are variables.
-    pub fn equate_flat(&mut self, variable: u64, flat: Flat) -> Result<(), AllocError>
-        requires made { AreEquations self.old }
-        requires variable { variable < length self.old.known.items }
-        requires flat { IsBelow (length self.old.known.items) (flat_type flat) }
-        ensures { OnOk result (Adds self.old self.new (λ s. s variable ≡ substitute s (flat_type flat))) }
-    {
-        let place = self.put_flat(flat)?;
-        self.equate_variable(variable, place)
     }
 
     /// Both types are one.

@@ -3,6 +3,7 @@
 
 mod equations;
 pub mod fault;
+mod fit;
 pub mod flat;
 mod instance;
 mod learning;
