@@ -26,21 +26,21 @@ adds_known a b v p t e x = adds_as a b (λ s. substitute s (type_at a.types p) �
     (λ s i. (λ h. sym (e s i.known) ∙ h, λ h. e s i.known ∙ h))
 
 -- a type at a place that is the same type
-pub fits_same : (a : Equations) (p : ℕ) (t : Term) → AreEquations a → type_at a.types p ≡ t → Adds a a (λ s. substitute s (type_at a.types p) ≡ substitute s t)
-fits_same a p t m e =
+pub same : (a : Equations) (p : ℕ) (t : Term) → AreEquations a → type_at a.types p ≡ t → Adds a a (λ s. substitute s (type_at a.types p) ≡ substitute s t)
+same a p t m e =
     let P : (ℕ → Term) → Type 0 = λ s. substitute s (type_at a.types p) ≡ substitute s t in
     adds_says a a P (says_none a P m (λ s h. ap (substitute s) e))
 
 -- that is a variable
-pub fits_variable : (a b : Equations) (p v : ℕ) → SaysEquations a b (λ s. s v ≡ substitute s (type_at a.types p)) → Adds a b (λ s. substitute s (type_at a.types p) ≡ s v)
-fits_variable a b p v x =
+pub variable : (a b : Equations) (p v : ℕ) → SaysEquations a b (λ s. s v ≡ substitute s (type_at a.types p)) → Adds a b (λ s. substitute s (type_at a.types p) ≡ s v)
+variable a b p v x =
     let P : (ℕ → Term) → Type 0 = λ s. s v ≡ substitute s (type_at a.types p) in
     adds_as a b P (λ s. substitute s (type_at a.types p) ≡ s v) (adds_says a b P x) (λ s i. (λ h. sym h, λ h. sym h))
 
 -- that is the sequences of a variable
-pub fits_seq : (a b : Equations) (p q v : ℕ) → type_at a.types p ≡ seq_of (type_at a.types q) → SaysEquations a b (λ s. s v ≡ substitute s (type_at a.types q)) →
+pub seq : (a b : Equations) (p q v : ℕ) → type_at a.types p ≡ seq_of (type_at a.types q) → SaysEquations a b (λ s. s v ≡ substitute s (type_at a.types q)) →
     Adds a b (λ s. substitute s (type_at a.types p) ≡ seq_of (s v))
-fits_seq a b p q v e x =
+seq a b p q v e x =
     let P : (ℕ → Term) → Type 0 = λ s. s v ≡ substitute s (type_at a.types q) in
     adds_as a b P (λ s. substitute s (type_at a.types p) ≡ seq_of (s v)) (adds_says a b P x)
     (λ s i. (
@@ -49,9 +49,9 @@ fits_seq a b p q v e x =
     ))
 
 -- that is the pairs of two variables
-pub fits_both : (a b c : Equations) (p q r v w : ℕ) → type_at a.types p ≡ pair_of (type_at a.types q) (type_at a.types r) → SaysEquations a b (λ s. s v ≡ substitute s (type_at a.types q)) →
+pub both : (a b c : Equations) (p q r v w : ℕ) → type_at a.types p ≡ pair_of (type_at a.types q) (type_at a.types r) → SaysEquations a b (λ s. s v ≡ substitute s (type_at a.types q)) →
     SaysEquations b c (λ s. s w ≡ substitute s (type_at b.types r)) → Adds a c (λ s. substitute s (type_at a.types p) ≡ pair_of (s v) (s w))
-fits_both a b c p q r v w e x y =
+both a b c p q r v w e x y =
     let P : (ℕ → Term) → Type 0 = λ s. s v ≡ substitute s (type_at a.types q) in
     let Q : (ℕ → Term) → Type 0 = λ s. s w ≡ substitute s (type_at a.types r) in
     let z : SaysEquations b c Q = subst (λ (ts : List Term). SaysEquations b c (λ s. s w ≡ substitute s (type_at ts r))) x.types y in
@@ -65,9 +65,9 @@ fits_both a b c p q r v w e x y =
     ))
 
 -- that was put in
-pub fits_put : (a b c : Equations) (p q : ℕ) (u : (ℕ → Term) → Term) → AreEquations a → p < length a.types → Grows a b → ((s : ℕ → Term) → IsAsKnown a.types a.known.items s → substitute s (type_at b.types q) ≡ u s) →
+pub put : (a b c : Equations) (p q : ℕ) (u : (ℕ → Term) → Term) → AreEquations a → p < length a.types → Grows a b → ((s : ℕ → Term) → IsAsKnown a.types a.known.items s → substitute s (type_at b.types q) ≡ u s) →
     SaysEquations b c (λ s. substitute s (type_at b.types p) ≡ substitute s (type_at b.types q)) → Adds a c (λ s. substitute s (type_at a.types p) ≡ u s)
-fits_put a b c p q u m l g x z = record {
+put a b c p q u m l g x z = record {
   made = z.made;
   count = z.count ∙ ap length g.known;
   holds = λ s.

@@ -1,5 +1,5 @@
-//! Equations of a variable with a type whose parts are variables: where the variable is known, the parts are laid beside
-//! what it is, and nothing is put in.
+//! Equations of a variable with a type whose parts are variables: where the variable is known, the parts are laid
+//! beside what it is, and nothing is put in.
 
 ghost use Rattle.std.specs.Prelude.{◌≡◌, ◌<◌, ℕ, length, IfSome, OnOk};
 ghost use Rattle.nesl_types_bank.specs.Term.{Term};
@@ -31,7 +31,7 @@ impl Equations {
     }
 
     /// The type at a place is one whose parts are variables.
-    #[tactic(auto, using(crate::proofs::Fits::fits_same, crate::proofs::Fits::fits_variable, crate::proofs::Fits::fits_seq, crate::proofs::Fits::fits_both))]
+    #[tactic(auto, using(crate::proofs::Fits::same, crate::proofs::Fits::variable, crate::proofs::Fits::seq))]
     fn fit_flat(&mut self, place: usize, flat: Flat) -> Result<(), AllocError>
         requires made { AreEquations self.old }
         requires place { place < length self.old.types }
