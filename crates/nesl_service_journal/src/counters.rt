@@ -60,6 +60,12 @@ fn read_at(counters: &[AtomicU64], place: usize) -> u64 {
     }
 }
 
+// Writes a number behind what stands before it.
+fn write_number(text: &mut String, before: &str, number: u64) -> Result<(), AllocError> {
+    write!(text, "{before}{number}")?;
+    Ok(())
+}
+
 // Writes `"NAME":NUMBER`, behind a comma where it isn't the first.
 fn write_one(
     text: &mut String,
@@ -67,10 +73,9 @@ fn write_one(
     name: &str,
     counters: &[AtomicU64],
 ) -> Result<(), AllocError> {
-    let comma = if place > 0 { "," } else { "" };
-    let number = read_at(counters, place);
-    write!(text, "{comma}\"{name}\":{number}")?;
-    Ok(())
+    text.push_str(if place > 0 { ",\"" } else { "\"" })?;
+    text.push_str(name)?;
+    write_number(text, "\":", read_at(counters, place))
 }
 
 impl Counters {
@@ -153,13 +158,7 @@ impl Counters {
         let mut text = String::new(alloc);
         self.write_connections(&mut text, uptime)?;
         self.write_lines(&mut text)?;
-        let (granted, refused) = (read(&self.granted), read(&self.refused));
-        write!(
-            text,
-            "\"helpers\":{{\"granted\":{granted},\"refused\":{refused}}}"
-        )?;
-        let (told, lost) = (read(&self.told), read(&self.lost));
-        write!(text, ",\"log\":{{\"told\":{told},\"lost\":{lost}}}}}")?;
+        self.write_events(&mut text)?;
         Ok(text)
     }
 
@@ -169,36 +168,40 @@ impl Counters {
         for one in self.ended.as_slice() {
             ended = ended.saturating_add(read(one));
         }
-        let (seconds, begun) = (uptime.as_secs(), read(&self.begun));
-        let open = begun.saturating_sub(ended);
-        write!(
-            text,
-            "{{\"uptime\":{seconds},\"begun\":{begun},\"open\":{open}"
-        )?;
-        let (unknown, busy) = (read(&self.unknown), read(&self.busy));
-        write!(
-            text,
-            ",\"turned_away\":{{\"unknown\":{unknown},\"busy\":{busy}}},\"ended\":{{"
-        )?;
+        let begun = read(&self.begun);
+        write_number(text, "{\"uptime\":", uptime.as_secs())?;
+        write_number(text, ",\"begun\":", begun)?;
+        write_number(text, ",\"open\":", begun.saturating_sub(ended))?;
+        write_number(text, ",\"turned_away\":{\"unknown\":", read(&self.unknown))?;
+        write_number(text, ",\"busy\":", read(&self.busy))?;
+        text.push_str("},\"ended\":{")?;
         for (place, ending) in Ending::ALL.iter().enumerate() {
             write_one(text, place, ending.words(), self.ended.as_slice())?;
         }
-        write!(text, "}},")?;
-        Ok(())
+        text.push_str("},")
     }
 
     // Writes what became of lines.
     fn write_lines(&self, text: &mut String) -> Result<(), AllocError> {
-        let (lines, work) = (read(&self.lines), read(&self.work));
-        write!(text, "\"lines\":{lines},\"work\":{work},\"faults\":{{")?;
+        write_number(text, "\"lines\":", read(&self.lines))?;
+        write_number(text, ",\"work\":", read(&self.work))?;
+        text.push_str(",\"faults\":{")?;
         for (place, word) in FAULTS.iter().enumerate() {
             write_one(text, place, word, self.faults.as_slice())?;
         }
-        write!(text, "}},\"slow\":{{")?;
+        text.push_str("},\"slow\":{")?;
         for (place, name) in ["1 ms", "10 ms", "100 ms"].iter().enumerate() {
             write_one(text, place, name, self.slow.as_slice())?;
         }
-        write!(text, "}},")?;
-        Ok(())
+        text.push_str("},")
+    }
+
+    // Writes what was asked for helpers, and what became of the lines of the log.
+    fn write_events(&self, text: &mut String) -> Result<(), AllocError> {
+        write_number(text, "\"helpers\":{\"granted\":", read(&self.granted))?;
+        write_number(text, ",\"refused\":", read(&self.refused))?;
+        write_number(text, "},\"log\":{\"told\":", read(&self.told))?;
+        write_number(text, ",\"lost\":", read(&self.lost))?;
+        text.push_str("}}")
     }
 }

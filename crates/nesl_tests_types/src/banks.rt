@@ -1,7 +1,7 @@
 //! Words about banks.
 
 use crate::desk::Desk;
-use crate::texts::{push_shape, push_type, push_variables};
+use crate::texts::{push_number, push_shape, push_truth, push_type, push_variables};
 use indexmap::IndexSet;
 use nesl_types_bank::{Bank, Shape, Ty, note_variables, rename, rename_type, variables};
 use std::alloc::{AllocError, Global};
@@ -78,8 +78,8 @@ fn tell(
         return Err(AllocError);
     }
     match letter {
-        b'e' => write!(text, " {}", bank.is_same(first, last)),
-        b'n' => write!(text, " {}", bank.nodes(last)),
+        b'e' => push_truth(bank.is_same(first, last), text),
+        b'n' => push_number(" ", bank.nodes(last), text),
         b'f' => push_shape(bank.shape(last), text),
         b'a' => push_type(alloc, Ty::read(alloc, bank, last), text),
         b'q' => push_variables(variables(alloc, bank, last), text),
@@ -101,7 +101,7 @@ impl Desk {
     pub fn rename(&mut self, of: usize, text: &mut String) -> Result<(), AllocError> {
         let (count, place) = renamed(self.alloc, &self.other, &mut self.bank, of)?;
         self.place = place;
-        write!(text, " {count}")
+        push_number(" ", count as u64, text)
     }
 
     /// Puts a type of the other bank.
@@ -118,8 +118,8 @@ impl Desk {
         text: &mut String,
     ) -> Result<(), AllocError> {
         match letter {
-            b'l' => write!(text, " {}", self.bank.len()),
-            b'w' => write!(text, " {}", self.place),
+            b'l' => push_number(" ", self.bank.len() as u64, text),
+            b'w' => push_number(" ", self.place as u64, text),
             _ => tell(self.alloc, &self.bank, letter, numbers, text),
         }
     }

@@ -4,7 +4,7 @@ ghost use Rattle.std.specs.Prelude.{◌≤◌, IfOk, length};
 ghost use Rattle.nesl_types_bank.specs.Graph.{IsGraph, IsFlat};
 ghost use Rattle.nesl_types_bank.specs.Readings.{HasNoLinks};
 
-use crate::texts::push_shape;
+use crate::texts::{push_number, push_shape};
 use nesl_types_bank::{Node, Read, read_types};
 use std::alloc::{AllocError, Global};
 
@@ -32,9 +32,10 @@ fn doublings(alloc: Global, places: usize) -> Result<Vec<Node>, AllocError>
 
 // Writes up to four of the places.
 fn push_places(places: &[usize], text: &mut String) -> Result<(), AllocError> {
-    write!(text, "{} places:", places.len())?;
+    push_number("", places.len() as u64, text)?;
+    text.push_str(" places:")?;
     for place in places.iter().take(4) {
-        write!(text, " {place}")?;
+        push_number(" ", *place as u64, text)?;
     }
     Ok(())
 }
@@ -42,7 +43,8 @@ fn push_places(places: &[usize], text: &mut String) -> Result<(), AllocError> {
 // Writes how many types there are, and up to four of their shapes.
 fn push_shapes(read: &Read, text: &mut String) -> Result<(), AllocError> {
     let count = read.bank.len();
-    write!(text, "; {count} types:")?;
+    push_number("; ", count as u64, text)?;
+    text.push_str(" types:")?;
     for place in 0..count.min(4) {
         push_shape(read.bank.shape(place), text)?;
     }
@@ -53,7 +55,8 @@ fn push_shapes(read: &Read, text: &mut String) -> Result<(), AllocError> {
 fn push_nodes(read: &Read, text: &mut String) -> Result<(), AllocError> {
     match read.places.first() {
         Some(place) if *place < read.bank.len() => {
-            write!(text, "; {} nodes", read.bank.nodes(*place))
+            push_number("; ", read.bank.nodes(*place), text)?;
+            text.push_str(" nodes")
         }
         _ => Ok(()),
     }

@@ -5,16 +5,29 @@ use nesl_types::{Class, Context, Scheme, Top, type_text};
 use nesl_types_bank::{Shape, Ty};
 use std::alloc::{AllocError, Global};
 
+/// Writes a number behind a mark.
+pub fn push_number(mark: &str, number: u64, text: &mut String) -> Result<(), AllocError> {
+    write!(text, "{mark}{number}")
+}
+
+/// Writes whether something is so.
+pub fn push_truth(is_so: bool, text: &mut String) -> Result<(), AllocError> {
+    text.push_str(if is_so { " true" } else { " false" })
+}
+
 /// Writes a shape as the word that puts it.
 pub fn push_shape(shape: Shape, text: &mut String) -> Result<(), AllocError> {
     match shape {
         Shape::Int => text.push_str(" i"),
         Shape::Bool => text.push_str(" t"),
         Shape::Char => text.push_str(" c"),
-        Shape::Var(number) => write!(text, " v{number}"),
-        Shape::Named(tag) => write!(text, " d{tag}"),
-        Shape::SeqOf(item) => write!(text, " s{item}"),
-        Shape::Both(first, second) => write!(text, " b{first}.{second}"),
+        Shape::Var(number) => push_number(" v", number, text),
+        Shape::Named(tag) => push_number(" d", tag, text),
+        Shape::SeqOf(item) => push_number(" s", item as u64, text),
+        Shape::Both(first, second) => {
+            push_number(" b", first as u64, text)?;
+            push_number(".", second as u64, text)
+        }
     }
 }
 
@@ -25,7 +38,7 @@ pub fn push_variables(
 ) -> Result<(), AllocError> {
     let variables = variables?;
     for number in variables.as_slice() {
-        write!(text, " {number}")?;
+        push_number(" ", *number, text)?;
     }
     Ok(())
 }
@@ -46,12 +59,15 @@ fn text_of(alloc: Global, ty: &Ty) -> Result<Vec<u8>, AllocError> {
 fn push_text(bytes: &[u8], text: &mut String) -> Result<(), AllocError> {
     let count = bytes.len();
     if count < 100 {
-        return write!(text, " {}", str::from_utf8(bytes).unwrap_or(""));
+        text.push_str(" ")?;
+        return text.push_str(str::from_utf8(bytes).unwrap_or(""));
     }
     let (_, rest) = bytes.split_at(count / 20 * 10);
     let midst = str::from_utf8(rest).unwrap_or("");
     let (midst, _) = midst.split_once(']').unwrap_or((midst, ""));
-    write!(text, " {count}:{midst}")
+    push_number(" ", count as u64, text)?;
+    text.push_str(":")?;
+    text.push_str(midst)
 }
 
 /// Writes the text of a type.

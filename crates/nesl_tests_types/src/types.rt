@@ -1,7 +1,7 @@
 //! Words about types.
 
 use crate::desk::Desk;
-use crate::texts::{push_scheme, push_type_text, push_variables};
+use crate::texts::{push_number, push_scheme, push_truth, push_type_text, push_variables};
 use indexmap::IndexSet;
 use nesl_types::{Class, Scheme};
 use nesl_types_bank::{Bank, Kind, Part, Ty};
@@ -49,17 +49,24 @@ fn name_of(part: &Part<'_>) -> &'static str {
 fn push_kind(ty: &Ty, text: &mut String) -> Result<(), AllocError> {
     match ty.kind() {
         Kind::Both(left, right) => {
-            write!(text, " ({}, {})", name_of(&left), name_of(&right.again()))
+            text.push_str(" (")?;
+            text.push_str(name_of(&left))?;
+            text.push_str(", ")?;
+            text.push_str(name_of(&right.again()))?;
+            text.push_str(")")
         }
-        Kind::Var(number) => write!(text, " v{number}"),
-        Kind::Named(tag) => write!(text, " d{tag}"),
-        _ => write!(text, " {}", name_of(&ty.whole())),
+        Kind::Var(number) => push_number(" v", number, text),
+        Kind::Named(tag) => push_number(" d", tag, text),
+        _ => {
+            text.push_str(" ")?;
+            text.push_str(name_of(&ty.whole()))
+        }
     }
 }
 
 fn push_room_left(ty: &Ty, room: usize, text: &mut String) -> Result<(), AllocError> {
     match ty.room_left(room as u64) {
-        Some(left) => write!(text, " {left}"),
+        Some(left) => push_number(" ", left, text),
         None => text.push_str(" none"),
     }
 }
@@ -93,7 +100,7 @@ fn push_instance(
         Some(of) if of < bank.len() => ty.is_instance(alloc, bank, place, &[of])?,
         _ => ty.is_instance(alloc, bank, place, &[])?,
     };
-    write!(text, " {is_instance}")
+    push_truth(is_instance, text)
 }
 
 // Puts a type, the type at a place for variable 0.
@@ -140,8 +147,8 @@ fn tell(
 ) -> Result<(), AllocError> {
     match letter {
         b'K' => push_kind(ty, text),
-        b'M' => write!(text, " {}", ty.nodes()),
-        b'L' => write!(text, " {}", ty.parts().len()),
+        b'M' => push_number(" ", ty.nodes(), text),
+        b'L' => push_number(" ", ty.parts().len() as u64, text),
         b'X' => push_room_left(ty, number, text),
         b'A' => push_type_text(alloc, ty, text),
         b'U' => push_variables(noted(alloc, ty), text),
@@ -158,8 +165,11 @@ fn tell_of_two(
     text: &mut String,
 ) -> Result<(), AllocError> {
     match letter {
-        b'E' => write!(text, " {} {}", first.same(second), second.same(first)),
-        b'O' => write!(text, " {}", first.number() == second.number()),
+        b'E' => {
+            push_truth(first.same(second), text)?;
+            push_truth(second.same(first), text)
+        }
+        b'O' => push_truth(first.number() == second.number(), text),
         _ => push_scheme(alloc, scheme_of(alloc, first, second), text),
     }
 }
@@ -223,7 +233,8 @@ impl Desk {
                     &mut self.bank,
                     (first, last),
                 )?;
-                write!(text, " {is_there} {place}")
+                push_truth(is_there, text)?;
+                push_number(" ", place as u64, text)
             }
         }
     }

@@ -1,6 +1,6 @@
 //! What the words of scripts do with values.
 
-use crate::telling::{push_comparison, tell};
+use crate::telling::{push_comparison, push_number, push_truth, tell};
 use nesl_values::Value;
 use nesl_values_builder::SequenceBuilder;
 use std::alloc::{AllocError, Allocator, Global};
@@ -160,7 +160,7 @@ impl Desk {
             [letter, rest @ ..] => self.make(*letter, number_of(rest)).is_err(),
             [] => false,
         };
-        write!(text, " {is_refused}")
+        push_truth(" ", is_refused, text)
     }
 
     fn make_beside(&mut self, letter: u8, place: usize) -> Result<(), AllocError> {
@@ -208,7 +208,7 @@ impl Desk {
         match inner {
             Some((tag, inner)) => {
                 self.push(Ok(inner))?;
-                write!(text, " {tag}")
+                push_number(" ", tag, text)
             }
             None => text.push_str(" none"),
         }
