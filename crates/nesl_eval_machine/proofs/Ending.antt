@@ -1,64 +1,66 @@
 -- Blocks that end.
 use Rattle.std.proofs.Common.{◌≡◌, ℕ, ◌≤◌, refl, sym, ◌∙◌, ap, subst, arith, inl, inr, ◌⊎◌, List, [], ◌∷◌, ◌++◌, length, take, drop, reverse, Vec}
-use Rattle.std.proofs.lemmas.List.{take-append-le, take-append-drop, reverse-append, reverse-reverse}
+use Rattle.std.proofs.lemmas.List.{take-append-le, take-append-drop, append-nil, reverse-append, reverse-reverse, length-take-le}
+use Rattle.nesl_values.specs.View.{tree_of}
+use Rattle.nesl_values.specs.declared.value.Value as code
 use Rattle.nesl_eval_meaning.specs.Names.{Value}
-use Rattle.nesl_eval_meaning.specs.Out.{Out, value, stuck}
+use Rattle.nesl_eval_meaning.specs.Out.{Out, value, stuck, after_cost}
 use Rattle.nesl_eval_code.specs.Run.{Table}
 use Rattle.nesl_eval_blocks.specs.Block.{finish}
 use Rattle.nesl_eval_blocks.specs.Exec.{Places, exec}
 use Rattle.nesl_eval_machine.specs.declared.state.Frame.{Frame}
 use Rattle.nesl_eval_machine.specs.declared.state.Machine.{Machine}
-use Rattle.nesl_eval_machine.specs.State.{above, floor, resumed, unwound, Ordered, frames_of, slots_of, stack_of, env_of, local_of, left_with, left_at, Fits}
-use Rattle.nesl_eval_machine.proofs.Unwinding.{unwound_stuck, unwound_stack, above_more}
+use Rattle.nesl_eval_machine.specs.State.{places_of, above, floor, resumed, unwound, Ordered, frames_of, slots_of, stack_of, env_of, local_of, left_with, Fits}
+use Rattle.nesl_eval_machine.proofs.Unwinding.{unwound_stuck, unwound_stack, above_more, ordered_more}
+use Rattle.nesl_eval_machine.proofs.Entering.{places_cut}
 
 pub value_is : {v : Value} {w w' d d' : ℕ} → w ≡ w' → d ≡ d' → value v w d ≡ value v w' d'
 value_is p q = cc
 
--- nothing is left of a block but its value
-one_left : (k : ℕ) (st : List Value) (v : Value) → above k st ≡ v ∷ [] → st ≡ take k st ++ v ∷ []
-one_left k st v e =
-    let d : drop k st ≡ v ∷ [] = sym (reverse-reverse (drop k st)) ∙ ap reverse e in
-    sym (take-append-drop k st) ∙ ap (λ l. take k st ++ l) d
+-- a block that ended with the value at hand, which nothing stands before, and these slots are left
+pub record Ended {A : Type 0} (t : Table) (m : Machine A) (f : Frame A) (sl : List (code.Value A)) (v : code.Value A) (o : Out Value) : Type 0 where
+  pub left : o ≡ unwound t (frames_of m) (places_of sl) (stack_of m)
+      (resumed t f (drop f.base (places_of sl)) (above (floor (frames_of m)) (stack_of m)) (value (tree_of v) 0 m.meter.depth))
+  pub ordered : Ordered (frames_of m) (length sl) (length m.stack.items)
+  pub base : f.base ≤ length sl
 
-pub record Ended {A : Type 0} (t : Table) (m : Machine A) (f : Frame A) (o : Out Value) : Type 0 where
-  pub last : Value
-  pub split : stack_of m ≡ take f.height (stack_of m) ++ last ∷ []
-  pub len : f.len ≤ length m.slots.items
-  pub height : f.height ≤ length m.stack.items
-  pub base : f.base ≤ f.len
-  pub ordered : Ordered (frames_of m) f.len f.height
-  pub left : o ≡ unwound t (frames_of m) (take f.len (slots_of m)) (take f.height (stack_of m))
-      (resumed t f (drop f.base (take f.len (slots_of m))) (above (floor (frames_of m)) (take f.height (stack_of m))) (value last 0 m.meter.depth))
-
--- a block that ended with its value alone, or is stuck
-pub block_ended : {A : Type 0} (t : Table) (m : Machine A) (f : Frame A) (before : Vec (Frame A) A) →
-    before.items ≡ m.frames.items ++ f ∷ [] → Fits t (record m { frames = before }) →
-    (left_at t (record m { frames = before }) finish ≡ stuck) ⊎ Ended t m f (left_at t (record m { frames = before }) finish)
-block_ended {A} t m f before is fits = by_local (local_of (record m { frames = before })) refl
+-- or it is stuck
+pub block_ended : {A : Type 0} (t : Table) (m : Machine A) (f : Frame A) (before : Vec (Frame A) A) (sl : List (code.Value A)) (v : code.Value A) →
+    before.items ≡ m.frames.items ++ f ∷ [] → Fits t (record m { frames = before }) → sl ≡ take f.len m.slots.items →
+    let m0 : Machine A = record m { frames = before } in
+    let o = left_with t m0 (exec t m.levels (env_of m) finish (tree_of v ∷ local_of m0)) in
+    (o ≡ stuck) ⊎ Ended t m f sl v o
+block_ended {A} t m f before sl v is fits cut = by_local (local_of (record m { frames = before })) refl
   where
-    by_local : (vs : List Value) → local_of (record m { frames = before }) ≡ vs →
-        (left_at t (record m { frames = before }) finish ≡ stuck) ⊎ Ended t m f (left_at t (record m { frames = before }) finish)
-    by_local [] e = inl (ap (λ l. left_with t (record m { frames = before }) (exec t m.levels (env_of m) finish l)) e ∙ unwound_stuck t (reverse before.items) (slots_of m) (stack_of m))
-    by_local (v ∷ u ∷ vs) e = inl (ap (λ l. left_with t (record m { frames = before }) (exec t m.levels (env_of m) finish l)) e ∙ unwound_stuck t (reverse before.items) (slots_of m) (stack_of m))
-    by_local (v ∷ []) e =
-        let m0 : Machine A = record m { frames = before } in
+    m0 : Machine A
+    m0 = record m { frames = before }
+
+    o : List Value → Out Value
+    o = λ l. left_with t m0 (exec t m.levels (env_of m) finish (tree_of v ∷ l))
+
+    by_local : (vs : List Value) → local_of m0 ≡ vs → (o (local_of m0) ≡ stuck) ⊎ Ended t m f sl v (o (local_of m0))
+    by_local (u ∷ vs) e = inl (ap o e ∙ unwound_stuck t (reverse before.items) (slots_of m) (stack_of m))
+    by_local [] e =
         let fs = frames_of m in
-        let sl = slots_of m in
         let st = stack_of m in
+        let D = m.meter.depth in
         let tops : frames_of m0 ≡ f ∷ fs = ap reverse is ∙ reverse-append m.frames.items (f ∷ []) in
         let ordered : Ordered (f ∷ fs) (length m.slots.items) (length m.stack.items) = subst (λ l. Ordered l (length m.slots.items) (length m.stack.items)) tops fits.1 in
-        let here : above f.height st ≡ v ∷ [] = ap (λ l. above (floor l) st) (sym tops) ∙ e in
+        let none : drop f.height st ≡ [] = sym (reverse-reverse (drop f.height st)) ∙ ap reverse (ap (λ l. above (floor l) st) (sym tops) ∙ e) in
+        let whole : take f.height st ≡ st = sym (append-nil (take f.height st)) ∙ ap (λ l. take f.height st ++ l) (sym none) ∙ take-append-drop f.height st in
+        let slots_are : take f.len (slots_of m) ≡ places_of sl = places_cut f.len m.slots.items ∙ sym (ap places_of cut) in
+        let long : length sl ≡ f.len = ap length cut ∙ length-take-le f.len m.slots.items ordered.0 in
+        let alone : after_cost 0 D (value (tree_of v) 0 0) ≡ value (tree_of v) 0 D = value_is (omega arith) (omega arith) in
+        let W : Places → List Value → Out Value = λ l s. unwound t fs l s (resumed t f (drop f.base l) (above (floor fs) s) (value (tree_of v) 0 D)) in
         inr (record {
-          last = v;
-          split = one_left f.height st v here;
-          len = ordered.0;
-          height = ordered.1;
-          base = ordered.2;
-          ordered = ordered.3;
           left =
-              ap (λ l. left_with t m0 (exec t m.levels (env_of m) finish l)) e
-              ∙ ap (unwound t (frames_of m0) sl st) (value_is (omega arith) (omega arith))
-              ∙ ap (λ l. unwound t l sl st (value v 0 m.meter.depth)) tops;
+              ap o e
+              ∙ ap (unwound t (frames_of m0) (slots_of m) st) alone
+              ∙ ap (λ l. unwound t l (slots_of m) st (value (tree_of v) 0 D)) tops
+              ∙ ap (W (take f.len (slots_of m))) whole
+              ∙ ap (λ l. W l st) slots_are;
+          ordered = ordered_more fs f.len f.height _ _ ordered.3 (omega (arith, long)) ordered.1;
+          base = omega (arith, long, ordered.2);
         })
 
 -- a value on the stack in the place of one on the local part alone

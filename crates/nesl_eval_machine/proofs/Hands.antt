@@ -1,7 +1,7 @@
 -- Moves, and values at hand.
 use Rattle.std.specs.Prelude.{vec_len}
-use Rattle.std.proofs.Common.{◌≡◌, ℕ, ◌+◌, ◌≤◌, refl, sym, ◌∙◌, ap, subst, arith, inl, inr, ◌⊎◌, List, [], ◌∷◌, ◌++◌, map, length, take, drop, reverse, Vec, Result, Ok, Err, Bor}
-use Rattle.std.proofs.lemmas.List.{take-append-drop, append-nil, reverse-append, reverse-reverse, length-map, length-take-le}
+use Rattle.std.proofs.Common.{◌≡◌, ℕ, ◌+◌, ◌≤◌, refl, sym, ◌∙◌, ap, subst, arith, inl, inr, ◌⊎◌, List, [], ◌∷◌, ◌++◌, map, length, take, reverse, Vec, Result, Ok, Err, Bor}
+use Rattle.std.proofs.lemmas.List.{length-map}
 use Rattle.nesl_lex.specs.declared.token.Span.{Span}
 use Rattle.nesl_values.specs.View.{tree_of}
 use Rattle.nesl_values.specs.declared.value.Value as code
@@ -20,15 +20,14 @@ use Rattle.nesl_eval_machine.specs.declared.state.Frame.{Frame}
 use Rattle.nesl_eval_machine.specs.declared.state.Hand.{Hand}
 use Rattle.nesl_eval_machine.specs.declared.state.Hand.TheVariants.{Empty, Holds, Done}
 use Rattle.nesl_eval_machine.specs.declared.state.Machine.{Machine}
-use Rattle.nesl_eval_machine.specs.State.{places_of, above, floor, resumed, unwound, Ordered, frames_of, slots_of, stack_of, env_of, local_of, left_with, left_at, left_at_hand, Fits}
+use Rattle.nesl_eval_machine.specs.State.{floor, resumed, unwound, Ordered, frames_of, slots_of, stack_of, env_of, local_of, left_with, left_at, left_at_hand, Fits}
 use Rattle.nesl_eval_rounds.specs.Leads.{Leads}
 use Rattle.nesl_eval_machine.specs.Steps.{Goes, Stops, Steps, Gives, Moves, empty_handed, in_hand, Ends, placed_stop}
 use Rattle.nesl_eval_rounds.proofs.Laws.{after_none, after_after, moved}
-use Rattle.nesl_eval_machine.proofs.Unwinding.{unwound_stuck, unwound_after, ordered_more}
+use Rattle.nesl_eval_machine.proofs.Unwinding.{unwound_stuck, unwound_after}
 use Rattle.nesl_eval_machine.proofs.Stepping.{run_stops, stops_after, pushed, off, memory_any, all_dropped}
 use Rattle.nesl_eval_machine.proofs.Taking.{many_off, few_taken}
-use Rattle.nesl_eval_machine.proofs.Entering.{places_cut}
-use Rattle.nesl_eval_machine.proofs.Ending.{value_is}
+use Rattle.nesl_eval_machine.proofs.Ending.{value_is, block_ended}
 use Rattle.nesl_eval_machine.proofs.Whole.{stops_placed}
 
 pub moves_stuck : {A : Type 0} (t : Table) (m n : Machine A) (r : Result (Hand A) Stop) (o : Out Value) → o ≡ stuck → Moves t m r n o
@@ -206,43 +205,17 @@ pub resumed_with : {A : Type 0} (t : Table) (m : Machine A) (f : Frame A) (befor
     ((env : Places) (st : List Value) (v : Value) (w d : ℕ) → resumed t f env st (value v w d) ≡ after_cost w d (exec t f.levels env (block_of f.next.now) (v ∷ st))) →
     let m0 : Machine A = record m { frames = before } in
     Moves t m0 (Ok (Holds v f.next)) (record m { slots = slots; base = f.base; levels = f.levels }) (left_with t m0 (exec t m.levels (env_of m) finish (tree_of v ∷ local_of m0)))
-resumed_with {A} t m f before slots v is fits cut plain = by_local (local_of (record m { frames = before })) refl
-  where
-    m0 : Machine A
-    m0 = record m { frames = before }
-
-    n : Machine A
-    n = record m { slots = slots; base = f.base; levels = f.levels }
-
-    o : List Value → Out Value
-    o = λ l. left_with t m0 (exec t m.levels (env_of m) finish (tree_of v ∷ l))
-
-    by_local : (vs : List Value) → local_of m0 ≡ vs → Moves t m0 (Ok (Holds v f.next)) n (o (local_of m0))
-    by_local (u ∷ vs) e = inl (ap o e ∙ unwound_stuck t (reverse before.items) (slots_of m) (stack_of m))
-    by_local [] e =
-        let fs = frames_of m in
-        let sl = slots_of m in
-        let st = stack_of m in
-        let D = m.meter.depth in
-        let tops : frames_of m0 ≡ f ∷ fs = ap reverse is ∙ reverse-append m.frames.items (f ∷ []) in
-        let ordered : Ordered (f ∷ fs) (length m.slots.items) (length m.stack.items) = subst (λ l. Ordered l (length m.slots.items) (length m.stack.items)) tops fits.1 in
-        let none : drop f.height st ≡ [] = sym (reverse-reverse (drop f.height st)) ∙ ap reverse (ap (λ l. above (floor l) st) (sym tops) ∙ e) in
-        let whole : take f.height st ≡ st = sym (append-nil (take f.height st)) ∙ ap (λ l. take f.height st ++ l) (sym none) ∙ take-append-drop f.height st in
-        let slots_are : slots_of n ≡ take f.len sl = ap places_of cut ∙ sym (places_cut f.len m.slots.items) in
-        let long_slots : length slots.items ≡ f.len = ap length cut ∙ length-take-le f.len m.slots.items ordered.0 in
-        let E : Places → List Value → Out Value = λ env l. after_cost 0 D (exec t f.levels env (block_of f.next.now) (tree_of v ∷ l)) in
-        let W : Places → List Value → Out Value = λ l s. unwound t fs l s (E (drop f.base l) (above (floor fs) s)) in
-        let alone : after_cost 0 D (value (tree_of v) 0 0) ≡ value (tree_of v) 0 D = value_is (omega arith) (omega arith) in
-        inr (record {
-          work = 0;
-          spent = omega arith;
-          same =
-              ap o e
-              ∙ ap (unwound t (frames_of m0) sl st) alone
-              ∙ ap (λ l. unwound t l sl st (value (tree_of v) 0 D)) tops
-              ∙ ap (unwound t fs (take f.len sl) (take f.height st)) (plain (drop f.base (take f.len sl)) (above (floor fs) (take f.height st)) (tree_of v) 0 D)
-              ∙ ap (W (take f.len sl)) whole
-              ∙ ap (λ l. W l st) (sym slots_are)
-              ∙ sym (after_none (left_at_hand t n (Holds v f.next)));
-          fits = (fits.0, ordered_more fs f.len f.height _ _ ordered.3 (omega (arith, long_slots)) ordered.1, omega (arith, long_slots, ordered.2));
-        })
+resumed_with {A} t m f before slots v is fits cut plain =
+    let n : Machine A = record m { slots = slots; base = f.base; levels = f.levels } in
+    elim (block_ended t m f before slots.items v is fits cut) [
+      | inl e ↦ inl e
+      | inr e ↦ inr (record {
+        work = 0;
+        spent = omega arith;
+        same =
+            e.left
+            ∙ ap (unwound t (frames_of m) (slots_of n) (stack_of m)) (plain (env_of n) (local_of m) (tree_of v) 0 m.meter.depth)
+            ∙ sym (after_none (left_at_hand t n (Holds v f.next)));
+        fits = (fits.0, e.ordered, e.base);
+      })
+    ]

@@ -1,9 +1,7 @@
 -- How an apply-to-each begins, and how its turns end.
 use Rattle.std.proofs.Common.{◌≡◌, ℕ, ◌+◌, ◌≤◌, refl, sym, ◌∙◌, ap, subst, arith, inl, inr, ◌⊎◌, List, [], ◌∷◌, ◌++◌, map, length, take, drop, Result, Ok, Err, Option, Some, None, Vec, Bor}
 use Rattle.std.specs.Prelude.{MatchResult}
-use Rattle.std.proofs.lemmas.List.{length-map, length-take-le}
-use Rattle.std.proofs.Math.Seq.{take-append_seam, drop-append_seam}
-use Rattle.std.proofs.Math.ListN.{length-append}
+use Rattle.std.proofs.lemmas.List.{length-map}
 use Rattle.nesl_lex.specs.declared.token.Span.{Span}
 use Rattle.nesl_values.specs.View.{tree_of}
 use Rattle.nesl_values.specs.declared.value.Value as code
@@ -25,15 +23,14 @@ use Rattle.nesl_eval_machine.specs.declared.state.Purpose.TheVariants.{Turn}
 use Rattle.nesl_eval_machine.specs.declared.state.Frame.{Frame}
 use Rattle.nesl_eval_machine.specs.declared.state.Machine.{Machine}
 use Rattle.nesl_eval_rounds.specs.Rounds.{chosen_places, at_place, gathered_as, all_values, turn_of, between, in_turn}
-use Rattle.nesl_eval_machine.specs.State.{places_of, above, floor, in_rounds, resumed, resumed_as, unwound, Ordered, frames_of, slots_of, stack_of, env_of, local_of, left_with, left_at, Fits}
+use Rattle.nesl_eval_machine.specs.State.{places_of, above, floor, in_rounds, resumed_as, unwound, Ordered, frames_of, slots_of, stack_of, env_of, local_of, left_with, left_at, Fits}
 use Rattle.nesl_eval_nodes.specs.declared.meter.Stop.TheVariants.{Fault, Over, Memory, Stuck}
 use Rattle.nesl_eval_rounds.specs.Leads.{Gave}
-use Rattle.nesl_eval_machine.specs.Steps.{Goes, Stops}
+use Rattle.nesl_eval_machine.specs.Steps.{Goes, Stops, Rests}
 use Rattle.nesl_eval_rounds.proofs.Laws.{after_none, gathering_first}
 use Rattle.nesl_eval_machine.proofs.Unwinding.{unwound_stuck, unwound_after, floor_within, ordered_more}
-use Rattle.nesl_eval_machine.proofs.Stepping.{mapped, one_longer, over_any, memory_any}
-use Rattle.nesl_eval_machine.proofs.Entering.{places_cut}
-use Rattle.nesl_eval_machine.proofs.Ending.{Ended, block_ended, pushed_local}
+use Rattle.nesl_eval_machine.proofs.Stepping.{mapped, one_longer, over_any, memory_any, off}
+use Rattle.nesl_eval_machine.proofs.Ending.{block_ended, pushed_local}
 use Rattle.nesl_eval_rounds.proofs.Gathering.{after_places, after_values, then_result}
 
 -- the places come first, and the rounds after them
@@ -82,49 +79,46 @@ first_between t n b env st r vs c g is D sources block body chosen turns start m
         ap (after_cost 0 D) (then_result t n b env st (all_values (at_place t n env vs c) is) (λ v. exec t n env b (v ∷ st)))
         ∙ sym (gathering_first D (all_values (at_place t n env vs c) is) (after_values t n b env st))
 
--- the end of a turn
-pub record Turned {A : Type 0} (t : Table) (m : Machine A) (f : Frame A) (r : Round A) (sl s : List (code.Value A)) (v : code.Value A) (o : Out Value) : Type 0 where
-  pub left : o ≡ unwound t (frames_of m) (places_of sl) (map tree_of s)
-      (in_turn t f.levels (block_of f.next.now) (drop f.base (places_of sl)) (above (floor (frames_of m)) (map tree_of s)) r (value (tree_of v) 0 m.meter.depth))
-  pub ordered : Ordered (frames_of m) (length sl) (length s)
+-- the end of a turn whose value is at hand
+pub record Turned {A : Type 0} (t : Table) (m : Machine A) (f : Frame A) (r : Round A) (sl : List (code.Value A)) (v : code.Value A) (o : Out Value) : Type 0 where
+  pub left : o ≡ unwound t (frames_of m) (places_of sl) (stack_of m)
+      (in_turn t f.levels (block_of f.next.now) (drop f.base (places_of sl)) (above (floor (frames_of m)) (stack_of m)) r (value (tree_of v) 0 m.meter.depth))
+  pub ordered : Ordered (frames_of m) (length sl) (length m.stack.items)
   pub base : f.base ≤ length sl
 
-pub turn_ended : {A : Type 0} (t : Table) (m : Machine A) (f : Frame A) (before : Vec (Frame A) A) (turn : _) (s : Vec (code.Value A) A) (sl : List (code.Value A)) (v : code.Value A) →
-    before.items ≡ m.frames.items ++ f ∷ [] → Fits t (record m { frames = before }) → f.purpose ≡ Turn turn → m.stack.items ≡ s.items ++ v ∷ [] → sl ≡ take f.len m.slots.items →
-    (left_at t (record m { frames = before }) finish ≡ stuck) ⊎ Turned t m f turn.value sl s.items v (left_at t (record m { frames = before }) finish)
-turn_ended {A} t m f before turn s sl v is fits purpose takes cut = elim (block_ended t m f before is fits) [ inl e ↦ inl e | inr e ↦ inr (on e) ]
+pub turn_ended : {A : Type 0} (t : Table) (m : Machine A) (f : Frame A) (before : Vec (Frame A) A) (turn : _) (sl : List (code.Value A)) (v : code.Value A) →
+    before.items ≡ m.frames.items ++ f ∷ [] → Fits t (record m { frames = before }) → f.purpose ≡ Turn turn → sl ≡ take f.len m.slots.items →
+    let m0 : Machine A = record m { frames = before } in
+    let o = left_with t m0 (exec t m.levels (env_of m) finish (tree_of v ∷ local_of m0)) in
+    (o ≡ stuck) ⊎ Turned t m f turn.value sl v o
+turn_ended t m f before turn sl v is fits purpose cut =
+    elim (block_ended t m f before sl v is fits cut) [
+      | inl e ↦ inl e
+      | inr e ↦ inr (record {
+        left =
+            e.left
+            ∙ ap (λ k. unwound t (frames_of m) (places_of sl) (stack_of m)
+            (resumed_as t f.levels (block_of f.next.now) k (drop f.base (places_of sl)) (above (floor (frames_of m)) (stack_of m)) (value (tree_of v) 0 m.meter.depth))) purpose;
+        ordered = e.ordered;
+        base = e.base;
+      })
+    ]
+
+-- the value of a turn that was on the stack
+pub rests_popped : {A U : Type 0} (t : Table) (m n : Machine A) (s : Vec (code.Value A) A) (v : code.Value A) (u : Result U Stop) (b : Block) (r : Round A) →
+    m.stack.items ≡ s.items ++ v ∷ [] → Fits t m →
+    let m1 : Machine A = record m { stack = s } in
+    (Fits t m1 → Rests t m.meter.fuel u n b r (left_with t m1 (exec t m.levels (env_of m) finish (tree_of v ∷ local_of m1)))) →
+    Rests t m.meter.fuel u n b r (left_at t m finish)
+rests_popped {A} {U} t m n s v u b r is fits next =
+    elim (off t m s v (exec t m.levels (env_of m) finish) is refl fits) [
+      | inl e ↦ stuck_rests u (left_at t m finish) e
+      | inr e ↦ subst (Rests t m.meter.fuel u n b r) (sym e.0) (next e.1)
+    ]
   where
-    on : Ended t m f (left_at t (record m { frames = before }) finish) → Turned t m f turn.value sl s.items v (left_at t (record m { frames = before }) finish)
-    on e =
-        let fs = frames_of m in
-        let st = stack_of m in
-        let st1 : List Value = map tree_of s.items in
-        let D = m.meter.depth in
-        let long_st : length st ≡ length m.stack.items = length-map m.stack.items tree_of in
-        let split : st ≡ st1 ++ tree_of v ∷ [] = mapped s.items m.stack.items v takes in
-        let one : length st ≡ length st1 + 1 = ap length split ∙ length-append st1 (tree_of v ∷ []) in
-        let two : length st ≡ length (take f.height st) + 1 = ap length e.split ∙ length-append (take f.height st) (e.last ∷ []) in
-        let high : length (take f.height st) ≡ f.height = length-take-le f.height st (omega (arith, e.height, long_st)) in
-        let here : f.height ≡ length st1 = omega (arith, one, two, high) in
-        let front : take f.height st ≡ st1 = ap (λ k. take k st) here ∙ ap (take (length st1)) split ∙ take-append_seam st1 (tree_of v ∷ []) in
-        let back : st1 ++ e.last ∷ [] ≡ st1 ++ tree_of v ∷ [] = ap (λ l. l ++ e.last ∷ []) (sym front) ∙ sym e.split ∙ split in
-        let ends : e.last ∷ [] ≡ tree_of v ∷ [] = sym (drop-append_seam st1 (e.last ∷ [])) ∙ ap (drop (length st1)) back ∙ drop-append_seam st1 (tree_of v ∷ []) in
-        let last : e.last ≡ tree_of v = cc ends in
-        let slots_are : take f.len (slots_of m) ≡ places_of sl = places_cut f.len m.slots.items ∙ sym (ap places_of cut) in
-        let env : Places = drop f.base (places_of sl) in
-        let low = above (floor fs) st1 in
-        let long_slots : length sl ≡ f.len = ap length cut ∙ length-take-le f.len m.slots.items e.len in
-        let long_s : length st1 ≡ length s.items = length-map s.items tree_of in
-        record {
-          left =
-              e.left
-              ∙ ap (λ l. unwound t fs l (take f.height st) (resumed t f (drop f.base l) (above (floor fs) (take f.height st)) (value e.last 0 D))) slots_are
-              ∙ ap (λ l. unwound t fs (places_of sl) l (resumed t f env (above (floor fs) l) (value e.last 0 D))) front
-              ∙ ap (λ x. unwound t fs (places_of sl) st1 (resumed t f env low (value x 0 D))) last
-              ∙ ap (λ k. unwound t fs (places_of sl) st1 (resumed_as t f.levels (block_of f.next.now) k env low (value (tree_of v) 0 D))) purpose;
-          ordered = ordered_more fs f.len f.height _ _ e.ordered (omega (arith, long_slots)) (omega (arith, here, long_s));
-          base = omega (arith, long_slots, e.base);
-        }
+    stuck_rests : (u : Result U Stop) (o : Out Value) → o ≡ stuck → Rests t m.meter.fuel u n b r o
+    stuck_rests (Ok x) o e = inl e
+    stuck_rests (Err x) o e = subst (Stops (frames_of n) m.meter.fuel x n.meter.fuel) (sym e) tt
 
 -- a value on the stack of a machine
 pub put_on : {A : Type 0} (t : Table) (m : Machine A) (b : Block) (stack : Vec (code.Value A) A) (r : Meter) (v : code.Value A) (o : Out Value) →

@@ -1,5 +1,6 @@
 //! Turns of a machine's round in columns.
-ghost use Rattle.std.specs.Prelude.{◌≡◌, ◌≤◌};
+ghost use Rattle.std.specs.Prelude.{◌≡◌, ◌≤◌, Some, IfSome, slice_get};
+ghost use Rattle.nesl_eval_rounds.specs.Rounds.{chosen_places};
 ghost use Rattle.nesl_eval_machine.specs.Steps.{Advances};
 
 use crate::state::Machine;
@@ -8,6 +9,17 @@ use nesl_eval_nodes::meter::Stop;
 use nesl_eval_plain::LEAST;
 use nesl_eval_rounds::{Round, Setting, go_to_body, take_in_columns};
 use std::alloc::Allocator;
+
+/// The place of a round's next turn, if there is one, and the turns are not first to be tried in columns.
+#[inline(always)]
+pub(crate) fn place_alone<A: Allocator>(round: &Round<'_, A>) -> Option<usize>
+    ensures { IfSome result (λ place. slice_get (chosen_places round.now.chosen) round.now.turns ≡ Some place) }
+{
+    if round.turns == 0 && round.chosen.places().len() >= LEAST {
+        return None;
+    }
+    round.chosen.at(round.turns)
+}
 
 impl<'a, A: Allocator + Copy> Machine<'a, A> {
     // Takes all turns that a round has left in columns, if they can be.

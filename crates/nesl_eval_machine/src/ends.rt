@@ -7,7 +7,7 @@ ghost use Rattle.nesl_eval_blocks.specs.Exec.{exec};
 ghost use Rattle.nesl_eval_machine.specs.State.{Fits, env_of, local_of, left_with};
 ghost use Rattle.nesl_eval_machine.specs.Steps.{Moves};
 
-use crate::hand::{cut, empty_handed, push_value};
+use crate::hand::{cut, empty_handed};
 use crate::rounds::Outer;
 use crate::state::{Frame, Hand, Machine, Purpose};
 use nesl_eval_nodes::held::Tops;
@@ -66,9 +66,13 @@ impl<'a, A: Allocator + Copy> Machine<'a, A> {
                 Ok(Hand::Holds(value, next))
             }
             Purpose::Turn(round) => {
-                push_value(&mut self.stack, value)?;
-                let outer = Outer { base, len, levels };
-                empty_handed(self.end_turn(tops, next, outer, round))
+                let outer = Outer {
+                    next,
+                    base,
+                    len,
+                    levels,
+                };
+                empty_handed(self.end_turn(tops, value, outer, round))
             }
         }
     }

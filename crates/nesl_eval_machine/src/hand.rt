@@ -1,5 +1,5 @@
 //! Values at hand.
-ghost use Rattle.std.specs.Prelude.{◌≡◌, ◌∷◌, ◌++◌, [], MatchResult, Some, None, take};
+ghost use Rattle.std.specs.Prelude.{◌≡◌, ◌-◌, ◌∷◌, ◌++◌, [], MatchResult, Some, None, take, vec_len};
 ghost use Rattle.nesl_values.specs.Parts.{as_bool};
 ghost use Rattle.nesl_values.specs.View.{tree_of};
 ghost use Rattle.nesl_eval_code.specs.Run.{Table};
@@ -98,18 +98,39 @@ fn any_truth<A: Allocator>(value: Value<A>) -> Result<bool, Stop>
     nodes::read_truth(value)
 }
 
-/// Only the first so many are left.
+// Drops the last value.
 #[inline(always)]
-pub(crate) fn cut<A: Allocator>(values: &mut Vec<Value<A>, A>, len: usize)
+fn drop_last<A: Allocator>(values: &mut Vec<Value<A>, A>)
+    ensures { values.new.items ≡ take (vec_len values.old - 1) values.old.items }
+{
+    if let Some(value) = values.pop() {
+        let_go(value);
+    }
+}
+
+// Only the first so many are left, which are most often all but one.
+#[inline(always)]
+fn cut_last<A: Allocator>(values: &mut Vec<Value<A>, A>, len: usize)
     ensures { values.new.items ≡ take len values.old.items }
 {
     if values.len() == 0 || values.len() - 1 != len {
         values.truncate(len);
         return;
     }
-    if let Some(value) = values.pop() {
-        let_go(value);
+    drop_last(values);
+}
+
+/// Only the first so many are left.
+#[inline(always)]
+pub(crate) fn cut<A: Allocator>(values: &mut Vec<Value<A>, A>, len: usize)
+    ensures { values.new.items ≡ take len values.old.items }
+{
+    if values.len().saturating_sub(len) == 2 {
+        drop_last(values);
+        cut_last(values, len);
+        return;
     }
+    cut_last(values, len);
 }
 
 impl<'a, A: Allocator + Copy> Machine<'a, A> {

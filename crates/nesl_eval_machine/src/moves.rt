@@ -1,5 +1,5 @@
 //! Operations that go on within a block.
-ghost use Rattle.std.specs.Prelude.{◌≡◌, ◌+◌, ◌<◌, ◌^◌, ℕ, [], ◌∷◌, map, length};
+ghost use Rattle.std.specs.Prelude.{◌≡◌, ◌+◌, ◌<◌, ◌^◌, ℕ, [], ◌∷◌, map, length, MatchResult};
 ghost use Rattle.nesl_lex.specs.declared.token.Span.{Span};
 ghost use Rattle.nesl_values.specs.Tree.{ValueTree};
 ghost use Rattle.nesl_values.specs.View.{tree_of};
@@ -332,6 +332,34 @@ impl<'a, A: Allocator + Copy> Machine<'a, A> {
     }
 }
 
+// One value.
+#[inline(always)]
+fn one_value<A: Allocator + Copy>(value: Value<A>, alloc: A) -> Result<Vec<Value<A>, A>, Stop>
+    ensures { MatchResult result (λ values. values.items ≡ value ∷ []) (λ e. e ≡ Stop.Memory) }
+{
+    let mut values = match Vec::with_capacity(alloc, 1) {
+        Ok(values) => values,
+        Err(_) => return Err(Stop::Memory),
+    };
+    push_value(&mut values, value)?;
+    Ok(values)
+}
+
+// Takes the last value off a stack, if there is one.
+#[inline(always)]
+fn take_last<A: Allocator + Copy>(
+    stack: &mut Vec<Value<A>, A>,
+) -> Result<Option<Vec<Value<A>, A>>, Stop>
+    ensures { TakesOff stack.old.items stack.new.items 1 result }
+{
+    let alloc = *stack.allocator();
+    let Some(value) = stack.pop() else {
+        return Ok(None);
+    };
+    let values = one_value(value, alloc)?;
+    Ok(Some(values))
+}
+
 /// Takes so many values off a stack, if there are so many.
 pub fn take_off<A: Allocator + Copy>(
     stack: &mut Vec<Value<A>, A>,
@@ -339,6 +367,9 @@ pub fn take_off<A: Allocator + Copy>(
 ) -> Result<Option<Vec<Value<A>, A>>, Stop>
     ensures { TakesOff stack.old.items stack.new.items count result }
 {
+    if count == 1 {
+        return take_last(stack);
+    }
     let Some(below) = stack.len().checked_sub(count) else {
         return Ok(None);
     };

@@ -14,6 +14,8 @@ ghost use Rattle.nesl_eval_machine.specs.State.{frames_of, slots_of, stack_of, e
 ghost use Rattle.nesl_eval_machine.specs.Steps.{Steps, Stops, Rests};
 
 use crate::blocks::keep_frame;
+use crate::columns::place_alone;
+use crate::hand::cut;
 use crate::moves::take_off;
 use crate::state::{Frame, Machine, Purpose};
 use nesl_eval_nodes::held::Tops;
@@ -41,9 +43,10 @@ struct Rounds<'a> {
 }
 
 /// What a round sees again after a turn: its local names have the slots from `base` to `len`, and there are so many
-/// levels.
+/// levels. After the round comes what is next.
 #[derive(Clone, Copy)]
-pub(crate) struct Outer {
+pub(crate) struct Outer<'a> {
+    pub next: &'a Ops,
     pub base: usize,
     pub len: usize,
     pub levels: u32,
@@ -156,6 +159,7 @@ impl<'a, A: Allocator + Copy> Machine<'a, A> {
     }
 
     // Begins with the first round at all places of sequences.
+    #[inline(always)]
     fn begin<T: Tops<A>>(
         &mut self,
         tops: &T,
@@ -178,6 +182,7 @@ impl<'a, A: Allocator + Copy> Machine<'a, A> {
 
     /// The first round at all places of sequences, before its first turn: that of a filter, if there is a body that
     /// comes after it.
+    #[inline(always)]
     pub fn first_round(
         &self,
         sources: Vec<Value<A>, A>,
@@ -212,6 +217,27 @@ impl<'a, A: Allocator + Copy> Machine<'a, A> {
     /// Goes on with a round between two turns. Where it has had none, all of them are taken in columns, if they can be.
     #[inline(always)]
     pub fn go_round<T: Tops<A>>(
+        &mut self,
+        tops: &T,
+        round: Box<Round<'a, A>, A>,
+        next: &'a Ops,
+    ) -> Result<(), Stop>
+        requires { self.old.meter.fuel < 2 ^ 64 }
+        ensures steps { let t = T.table tops.now in let m = self.old in Fits t m
+            → Steps t m result self.new (block_of self.new.code.now)
+            (unwound t (frames_of m) (slots_of m) (stack_of m)
+            (between t m.levels (block_of next.now) (env_of m) (local_of m) round.entry.value)) }
+        ensures bounded { self.new.meter.fuel + self.new.meter.depth < 2 ^ 64 }
+    {
+        match place_alone(&*round) {
+            Some(place) => self.begin_turn(round, place, next),
+            None => self.go_round_apart(tops, round, next),
+        }
+    }
+
+    // What is less frequent, where it is called.
+    #[inline(never)]
+    fn go_round_apart<T: Tops<A>>(
         &mut self,
         tops: &T,
         mut round: Box<Round<'a, A>, A>,
@@ -284,6 +310,7 @@ impl<'a, A: Allocator + Copy> Machine<'a, A> {
     }
 
     // Puts the sequence of the values of a body on the stack.
+    #[inline(always)]
     fn end_round(&mut self, round: Box<Round<'a, A>, A>, next: &'a Ops) -> Result<(), Stop>
         requires { self.old.meter.fuel < 2 ^ 64 }
         ensures steps { (t : Table) → let m = self.old in Fits t m
@@ -317,30 +344,74 @@ impl<'a, A: Allocator + Copy> Machine<'a, A> {
         Ok(())
     }
 
-    /// Ends a turn, and goes on with its round.
+    // Goes on with a round after a turn.
+    #[inline(always)]
+    fn go_on_after_turn<T: Tops<A>>(
+        &mut self,
+        tops: &T,
+        round: Box<Round<'a, A>, A>,
+        next: &'a Ops,
+    ) -> Result<(), Stop>
+        requires { self.old.meter.fuel < 2 ^ 64 }
+        ensures steps { let t = T.table tops.now in let m = self.old in Fits t m
+            → Steps t m result self.new (block_of self.new.code.now)
+            (unwound t (frames_of m) (slots_of m) (stack_of m)
+            (between t m.levels (block_of next.now) (env_of m) (local_of m) round.entry.value)) }
+        ensures bounded { self.new.meter.fuel + self.new.meter.depth < 2 ^ 64 }
+    {
+        match round.chosen.at(round.turns) {
+            Some(place) => self.begin_turn(round, place, next),
+            None => self.end_turns(tops, round, next),
+        }
+    }
+
+    // After a filter's last turn come those of its body, and after a body's last one the round ends.
+    #[inline(never)]
+    fn end_turns<T: Tops<A>>(
+        &mut self,
+        tops: &T,
+        round: Box<Round<'a, A>, A>,
+        next: &'a Ops,
+    ) -> Result<(), Stop>
+        requires { self.old.meter.fuel < 2 ^ 64 }
+        ensures steps { let t = T.table tops.now in let m = self.old in Fits t m
+            → slice_get (chosen_places round.entry.value.chosen) round.entry.value.turns ≡ None
+            → Steps t m result self.new (block_of self.new.code.now)
+            (unwound t (frames_of m) (slots_of m) (stack_of m)
+            (between t m.levels (block_of next.now) (env_of m) (local_of m) round.entry.value)) }
+        ensures bounded { self.new.meter.fuel + self.new.meter.depth < 2 ^ 64 }
+    {
+        match round.body {
+            Some(_) => self.go_round_apart(tops, round, next),
+            None => self.end_round(round, next),
+        }
+    }
+
+    /// Ends a turn whose value is at hand, and goes on with its round.
     #[inline(always)]
     pub(crate) fn end_turn<T: Tops<A>>(
         &mut self,
         tops: &T,
-        next: &'a Ops,
-        outer: Outer,
+        value: Value<A>,
+        outer: Outer<'a>,
         round: Box<Round<'a, A>, A>,
     ) -> Result<(), Stop>
         requires { self.old.meter.fuel + self.old.meter.depth < 2 ^ 64 }
         ensures steps { let t = T.table tops.now in (before : Vec (Frame A.row.Denot) A.row.Denot) (height : ℕ)
-            → let m = record self.old { frames = before } in
+            → let m = record self.old { frames = before } in let o = outer.entry in
             before.items ≡ self.old.frames.items ++ (record {
-              next = next.entry;
-              base = outer.base;
-              len = outer.len;
+              next = o.next;
+              base = o.base;
+              len = o.len;
               height = height;
-              levels = outer.levels;
+              levels = o.levels;
               purpose = Purpose.Turn round.entry;
             }) ∷ []
-            → Fits t m → Steps t m result self.new (block_of self.new.code.now) (left_at t m finish) }
+            → Fits t m → Steps t m result self.new (block_of self.new.code.now)
+            (left_with t m (exec t m.levels (env_of m) finish (tree_of value ∷ local_of m))) }
         ensures bounded { self.new.meter.fuel + self.new.meter.depth < 2 ^ 64 }
     {
-        self.end_any_turn(tops, next, outer, round)
+        self.end_any_turn(tops, value, outer, round)
     }
 
     // It is not inlined, so that its answer has no place in the memory of the loop.
@@ -348,26 +419,55 @@ impl<'a, A: Allocator + Copy> Machine<'a, A> {
     fn end_any_turn<T: Tops<A>>(
         &mut self,
         tops: &T,
-        next: &'a Ops,
-        outer: Outer,
+        value: Value<A>,
+        outer: Outer<'a>,
         mut round: Box<Round<'a, A>, A>,
     ) -> Result<(), Stop>
         requires { self.old.meter.fuel + self.old.meter.depth < 2 ^ 64 }
         ensures steps { let t = T.table tops.now in (before : Vec (Frame A.row.Denot) A.row.Denot) (height : ℕ)
-            → let m = record self.old { frames = before } in
+            → let m = record self.old { frames = before } in let o = outer.entry in
             before.items ≡ self.old.frames.items ++ (record {
-              next = next.entry;
-              base = outer.base;
-              len = outer.len;
+              next = o.next;
+              base = o.base;
+              len = o.len;
               height = height;
-              levels = outer.levels;
+              levels = o.levels;
               purpose = Purpose.Turn round.entry;
             }) ∷ []
-            → Fits t m → Steps t m result self.new (block_of self.new.code.now) (left_at t m finish) }
+            → Fits t m → Steps t m result self.new (block_of self.new.code.now)
+            (left_with t m (exec t m.levels (env_of m) finish (tree_of value ∷ local_of m))) }
         ensures bounded { self.new.meter.fuel + self.new.meter.depth < 2 ^ 64 }
     {
-        self.leave_turn(outer.base, outer.len, outer.levels, &mut round)?;
-        self.go_round(tops, round, next)
+        self.give_turn(value, outer.base, outer.len, outer.levels, &mut round)?;
+        self.go_on_after_turn(tops, round, outer.next)
+    }
+
+    // Ends a turn whose value is at hand, and that a frame with these numbers waited for: its round is between two
+    // turns then.
+    #[inline(always)]
+    fn give_turn(
+        &mut self,
+        value: Value<A>,
+        base: usize,
+        len: usize,
+        levels: u32,
+        round: &mut Box<Round<'a, A>, A>,
+    ) -> Result<(), Stop>
+        requires { self.old.meter.fuel + self.old.meter.depth < 2 ^ 64 }
+        ensures rests { (t : Table) (before : Vec (Frame A.row.Denot) A.row.Denot) (f : Frame A.row.Denot)
+            → let m = record self.old { frames = before } in
+            before.items ≡ self.old.frames.items ++ f ∷ [] → f.base ≡ base → f.len ≡ len → f.levels ≡ levels
+            → f.purpose ≡ Purpose.Turn round.old
+            → Fits t m
+            → Rests t m.meter.fuel result self.new (block_of f.next.now) round.new.value
+            (left_with t m (exec t m.levels (env_of m) finish (tree_of value ∷ local_of m))) }
+        ensures bounded { self.new.meter.fuel + self.new.meter.depth < 2 ^ 64 }
+    {
+        gather(round, value, &mut self.meter)?;
+        cut(&mut self.slots, len);
+        self.base = base;
+        self.levels = levels;
+        Ok(())
     }
 
     /// Ends a turn that a frame with these numbers waited for: its round is between two turns then.
@@ -389,13 +489,7 @@ impl<'a, A: Allocator + Copy> Machine<'a, A> {
         ensures bounded { self.new.meter.fuel + self.new.meter.depth < 2 ^ 64 }
     {
         match self.stack.pop() {
-            Some(value) => {
-                gather(round, value, &mut self.meter)?;
-                self.slots.truncate(len);
-                self.base = base;
-                self.levels = levels;
-                Ok(())
-            }
+            Some(value) => self.give_turn(value, base, len, levels, round),
             None => Err(Stop::Stuck),
         }
     }

@@ -1,17 +1,15 @@
 use Rattle.std.proofs.Common.{◌≡◌, ap, ◌∙◌, List, [], ◌∷◌, ◌++◌, ◌⊎◌, inl, inr}
-use Rattle.std.proofs.lemmas.Result.{err_from_is_err_and}
 use Rattle.nesl_lex.specs.declared.token.Span.{Span}
 use Rattle.nesl_eval_meaning.specs.Names.{Value}
 use Rattle.nesl_eval_meaning.specs.Out.{value, after_cost}
 use Rattle.nesl_eval_code.specs.Run.{Table}
-use Rattle.nesl_eval_blocks.specs.Block.{Block, finish}
+use Rattle.nesl_eval_blocks.specs.Block.{Block}
 use Rattle.nesl_eval_blocks.specs.Exec.{Places, exec}
 use Rattle.nesl_eval_ops.specs.View.{block_of}
 use Rattle.nesl_eval_machine.specs.declared.state.Purpose.{Purpose}
 use Rattle.nesl_eval_machine.specs.declared.state.Purpose.TheVariants.{Push, Return}
-use Rattle.nesl_eval_machine.specs.State.{resumed_as, frames_of, left_at}
-use Rattle.nesl_eval_machine.proofs.Stepping.{memory_any}
-use Rattle.nesl_eval_machine.proofs.Hands.{resumed_with, set_down, moves_stuck, step_moves, steps_move}
+use Rattle.nesl_eval_machine.specs.State.{resumed_as}
+use Rattle.nesl_eval_machine.proofs.Hands.{resumed_with, steps_move}
 use Rattle.nesl_eval_machine.proofs.state.Machine.resume_with.Goals as goal
 
 -- a frame of no turn
@@ -29,22 +27,10 @@ returns-in-Push g c = record {
   bounded = c.requires;
 }
 
-pub returns-in_err-push_value-in-Turn-clause-moves : goal.returns-in_err-push_value-in-Turn-clause-moves
-returns-in_err-push_value-in-Turn-clause-moves g c = λ before is fits.
-    let t = g.T.Tops.table c.args.tops.now in
-    let m = c.args.self.now in
-    let p = err_from_is_err_and c.from_residual.result c.from_residual.ensures.1 in
-    rw (p.1, p.2, c.in_err-push_value-in-Turn.ensures) (memory_any (frames_of m) m.meter.fuel m.meter.fuel _)
-
-pub returns-in_ok-push_value-in-Turn-clause-moves : goal.returns-in_ok-push_value-in-Turn-clause-moves
-returns-in_ok-push_value-in-Turn-clause-moves g c = λ before is fits.
+pub returns-in-Turn-clause-moves : goal.returns-in-Turn-clause-moves
+returns-in-Turn-clause-moves g c = λ before is fits.
     let t = g.T.Tops.table c.args.tops.now in
     let m = record c.args.self.now { frames = before } in
-    let n = c.end_turn.new.self in
     let f = c.args.frame in
-    let stack = c.push_value.new.values in
     let turn : before.items ≡ _ = is ∙ ap (λ (k : Purpose g.row.A.Denot). c.args.self.now.frames.items ++ (record f { purpose = k }) ∷ []) c.in-Turn.is in
-    step_moves t m (record m { stack = stack }) n finish (tt {0}) c.empty_handed.result _
-    (set_down t m finish stack c.args.value c.in_ok-push_value-in-Turn.ensures fits)
-    (λ h. steps_move t (record m { stack = stack }) n c.end_turn.result c.empty_handed.result _ c.empty_handed.ensures
-    (c.end_turn.ensures.steps before f.height turn h))
+    steps_move t m c.end_turn.new.self c.end_turn.result c.empty_handed.result _ c.empty_handed.ensures (c.end_turn.ensures.steps before f.height turn fits)
