@@ -67,6 +67,7 @@ fn own_element<A: Allocator>(
 }
 
 /// The elements of sequences at a place, as local names.
+#[inline(always)]
 pub fn push_row<A: Allocator>(
     slots: &mut Vec<Value<A>, A>,
     sources: &[Value<A>],
