@@ -1,6 +1,6 @@
 -- What stands behind `batch`.
 use Rattle.std.proofs.Common.{◌≡◌, ℕ, Bool, List, Option, Some, None, option_map, sym, ap, ◌∙◌}
-use Rattle.nesl_cli_words.specs.Words.{Task, a_batch, some_costs, batch_among}
+use Rattle.nesl_cli_words.specs.Words.{a_batch, some_costs, batch_among}
 
 -- values were read: costs are wanted
 pub costs_behind : {S : Type 0} (text : S → List ℕ) (read : Option S) (values : S) (found : Option (List ℕ)) (heap among : Option ℕ) (hinted : Bool) → read ≡ Some values → option_map text read ≡ found → heap ≡ among

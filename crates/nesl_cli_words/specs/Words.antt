@@ -1,5 +1,5 @@
 -- What the words of the command line ask for, in clap's terms.
-use Rattle.std.specs.Prelude.{◌≡◌, refl, ℕ, ◌-◌, ◌^◌, true, List, [], ◌∷◌, ◌++◌, Option, Some, None, codes, unwrap_or}
+use Rattle.std.specs.Prelude.{◌≡◌, refl, ℕ, ◌-◌, ◌^◌, true, List, [], ◌∷◌, Option, Some, None, codes, unwrap_or}
 use Rattle.std.specs.Prelude.{slice_get, Bool, false, option_and_then, if◌then◌else◌}
 use Rattle.std.specs.Str.{bytes_eq}
 use Rattle.std.specs.Str.Parse.{digits_value, without_leading_plus}
@@ -50,12 +50,9 @@ hints_rule = record (new_rule (codes "HINTS")) {
   action = Some SetTrue;
 }
 
--- the subcommand `batch [--heap BYTES] [--csv VALUES] [--hints] USER..`: first its options
-abbrev pub batch_options : Shape
-batch_options = record (new_shape (codes "batch")) { rules = heap_rule ∷ csv_rule ∷ hints_rule ∷ [] }
-
+-- the subcommand `batch [--heap BYTES] [--csv VALUES] [--hints] USER..`
 abbrev pub batch : Shape
-batch = record batch_options { rules = batch_options.rules ++ users_rule ∷ [] }
+batch = record (new_shape (codes "batch")) { rules = heap_rule ∷ csv_rule ∷ hints_rule ∷ users_rule ∷ [] }
 
 -- the subcommand `repl [--hints]`
 abbrev pub repl : Shape
@@ -101,22 +98,12 @@ abbrev pub stats_rule : Rule
 stats_rule = text_rule (codes "FILE") (codes "stats")
 
 -- the subcommand `serve --port P --workers W [--connections N] [--web PORT] [--web-host NAME] [--idle SECONDS]
--- [--first-line SECONDS] [--log] [--stats FILE] USER..`: first its port and its counts, then its page, then its
--- seconds, then what it tells
-abbrev pub serve_counts : Shape
-serve_counts = record (new_shape (codes "serve")) { rules = port_rule ∷ workers_rule ∷ connections_rule ∷ [] }
-
-abbrev pub serve_page : Shape
-serve_page = record serve_counts { rules = serve_counts.rules ++ web_rule ∷ web_host_rule ∷ [] }
-
-abbrev pub serve_seconds : Shape
-serve_seconds = record serve_page { rules = serve_page.rules ++ idle_rule ∷ first_line_rule ∷ [] }
-
-abbrev pub serve_told : Shape
-serve_told = record serve_seconds { rules = serve_seconds.rules ++ log_rule ∷ stats_rule ∷ [] }
-
+-- [--first-line SECONDS] [--log] [--stats FILE] USER..`
 abbrev pub serve : Shape
-serve = record serve_told { rules = serve_told.rules ++ users_rule ∷ [] }
+serve = record (new_shape (codes "serve")) {
+  rules = port_rule ∷ workers_rule ∷ connections_rule ∷ web_rule ∷ web_host_rule ∷ idle_rule ∷ first_line_rule
+      ∷ log_rule ∷ stats_rule ∷ users_rule ∷ [];
+}
 
 -- the program before its subcommands: one is required, help is told where there are no words, and it has a version
 abbrev pub without_subcommands : App

@@ -1,18 +1,17 @@
 //! The words of the command line.
 
 ghost use Rattle.std.specs.Prelude.{◌≡◌, IfOk, codes, false, map, option_map};
-ghost use Rattle.clap.specs.Walk.{rule_of, rows_of};
+ghost use Rattle.clap.specs.Walk.{rule_of, rows_of, Rule};
 ghost use Rattle.clap.specs.Matches.{found_of};
-ghost use Rattle.clap.specs.declared.builder.command.Command.TheViews.{out-Command as fields_of};
-ghost use Rattle.clap.specs.Simple.{with_subcommand};
-ghost use Rattle.clap.specs.Words.{app_of, fault_of, FailsBy, shape_of, subcommand_rows_of};
-ghost use Rattle.nesl_cli_words.specs.Words.{batch_options, hints_rule, idle_rule, repl};
+ghost use Rattle.clap.specs.Simple.{App, Shape, with_subcommand};
+ghost use Rattle.clap.specs.Words.{app_of, fault_of, FailsBy, subcommand_rows_of};
+ghost use Rattle.nesl_cli_words.specs.Shapes.{IsShaped, with_rule};
 ghost use Rattle.nesl_cli_words.specs.Words.{batch, connections_rule, csv_rule, first_line_rule, heap_rule};
-ghost use Rattle.nesl_cli_words.specs.Words.{is_among, log_rule, number_among, number_rule, port_rule, program, serve};
-ghost use Rattle.nesl_cli_words.specs.Words.{serve_counts, serve_page, serve_seconds, serve_told, service_among};
-ghost use Rattle.nesl_cli_words.specs.Words.{stats_rule, task_among, web_host_rule, web_rule};
-ghost use Rattle.nesl_cli_words.specs.Words.{batch_among, task_in, task_of, text_among, text_rule, users_among};
-ghost use Rattle.nesl_cli_words.specs.Words.{users_in, users_of, users_rule, without_subcommands, workers_rule};
+ghost use Rattle.nesl_cli_words.specs.Words.{hints_rule, idle_rule, is_among, log_rule, number_among, number_rule};
+ghost use Rattle.nesl_cli_words.specs.Words.{port_rule, program, repl, serve, service_among, stats_rule, task_among};
+ghost use Rattle.nesl_cli_words.specs.Words.{web_host_rule, web_rule, batch_among, task_in, task_of, text_among};
+ghost use Rattle.nesl_cli_words.specs.Words.{text_rule, users_among, users_in, users_of, users_rule};
+ghost use Rattle.nesl_cli_words.specs.Words.{without_subcommands, workers_rule};
 ghost use Rattle.nesl_cli_words.specs.Wanted.{service_wanted, task_wanted, users_wanted};
 
 use crate::help;
@@ -113,25 +112,9 @@ pub fn example(words: &[&str]) -> &'static str {
 fn command<'a>(alloc: Global) -> Result<Command<'a>, AllocError>
     ensures { IfOk result (λ command. app_of command ≡ program) }
 {
-    let repl = repl(alloc)?;
-    with_serve(alloc)?.subcommand(repl)
-}
-
-// The program as far as the second of its subcommands goes.
-fn with_serve<'a>(alloc: Global) -> Result<Command<'a>, AllocError>
-    ensures { IfOk result (λ command. app_of command
-        ≡ with_subcommand (with_subcommand without_subcommands batch) serve) }
-{
-    let serve = serve(alloc)?;
-    with_batch(alloc)?.subcommand(serve)
-}
-
-// The program as far as the first of its subcommands goes.
-fn with_batch<'a>(alloc: Global) -> Result<Command<'a>, AllocError>
-    ensures { IfOk result (λ command. app_of command ≡ with_subcommand without_subcommands batch) }
-{
-    let batch = batch(alloc)?;
-    without_subcommands(alloc).subcommand(batch)
+    let with_batch = with_subcommand(Ok(without_subcommands(alloc)), batch(alloc));
+    let with_serve = with_subcommand(with_batch, serve(alloc));
+    with_subcommand(with_serve, repl(alloc))
 }
 
 // The program without its subcommands.
@@ -146,80 +129,66 @@ fn without_subcommands<'a>(alloc: Global) -> Command<'a>
         .arg_required_else_help(true)
 }
 
-fn batch<'a>(alloc: Global) -> Result<Command<'a>, AllocError>
-    ensures shape { IfOk result (λ command. shape_of command ≡ batch) }
-    ensures local { IfOk result (λ command. (fields_of command).has_globals ≡ false) }
+// The program with one more subcommand, if there is memory for both.
+fn with_subcommand<'a>(
+    program: Result<Command<'a>, AllocError>,
+    subcommand: Result<Command<'a>, AllocError>,
+) -> Result<Command<'a>, AllocError>
+    ensures { (app : App) (shape : Shape) → IfOk program.entry (λ command. app_of command ≡ app)
+        → IfOk subcommand.entry (IsShaped shape) → IfOk result (λ command. app_of command ≡ with_subcommand app shape) }
 {
-    batch_options(alloc)?
-        .after_help(help::BATCH_AFTER)
-        .arg(user(alloc))
+    program?.subcommand(subcommand?)
 }
 
-// The subcommand as far as its options go.
-fn batch_options<'a>(alloc: Global) -> Result<Command<'a>, AllocError>
-    ensures shape { IfOk result (λ command. shape_of command ≡ batch_options) }
-    ensures local { IfOk result (λ command. (fields_of command).has_globals ≡ false) }
+// A command with one more option, if there is memory for it.
+fn with_option<'a>(
+    command: Result<Command<'a>, AllocError>,
+    option: Arg<'a>,
+) -> Result<Command<'a>, AllocError>
+    requires { option.global ≡ false }
+    ensures { (shape : Shape) (rule : Rule) → rule_of option.entry ≡ rule → IfOk command.entry (IsShaped shape)
+        → IfOk result (IsShaped (with_rule shape rule)) }
 {
-    Command::new(alloc, "batch")
+    command?.arg(option)
+}
+
+fn batch<'a>(alloc: Global) -> Result<Command<'a>, AllocError>
+    ensures { IfOk result (IsShaped batch) }
+{
+    let named = Command::new(alloc, "batch")
         .about(help::BATCH)
-        .arg(heap(alloc))?
-        .arg(csv(alloc))?
-        .arg(hints(alloc, help::HINTS))
+        .after_help(help::BATCH_AFTER);
+    let with_heap = with_option(Ok(named), heap(alloc));
+    let with_csv = with_option(with_heap, csv(alloc));
+    let with_hints = with_option(with_csv, hints(alloc, help::HINTS));
+    with_option(with_hints, user(alloc))
 }
 
 fn repl<'a>(alloc: Global) -> Result<Command<'a>, AllocError>
-    ensures shape { IfOk result (λ command. shape_of command ≡ repl) }
-    ensures local { IfOk result (λ command. (fields_of command).has_globals ≡ false) }
+    ensures { IfOk result (IsShaped repl) }
 {
-    Command::new(alloc, "repl")
+    let named = Command::new(alloc, "repl")
         .about(help::REPL)
-        .after_help(help::REPL_AFTER)
-        .arg(hints(alloc, help::REPL_HINTS))
+        .after_help(help::REPL_AFTER);
+    with_option(Ok(named), hints(alloc, help::REPL_HINTS))
 }
 
 fn serve<'a>(alloc: Global) -> Result<Command<'a>, AllocError>
-    ensures shape { IfOk result (λ command. shape_of command ≡ serve) }
-    ensures local { IfOk result (λ command. (fields_of command).has_globals ≡ false) }
+    ensures { IfOk result (IsShaped serve) }
 {
-    serve_told(alloc)?
-        .after_help(help::SERVE_AFTER)
-        .arg(user(alloc))
-}
-
-// The subcommand as far as what it tells goes.
-fn serve_told<'a>(alloc: Global) -> Result<Command<'a>, AllocError>
-    ensures shape { IfOk result (λ command. shape_of command ≡ serve_told) }
-    ensures local { IfOk result (λ command. (fields_of command).has_globals ≡ false) }
-{
-    serve_seconds(alloc)?.arg(log(alloc))?.arg(stats(alloc))
-}
-
-// The subcommand as far as its numbers of seconds go.
-fn serve_seconds<'a>(alloc: Global) -> Result<Command<'a>, AllocError>
-    ensures shape { IfOk result (λ command. shape_of command ≡ serve_seconds) }
-    ensures local { IfOk result (λ command. (fields_of command).has_globals ≡ false) }
-{
-    serve_page(alloc)?.arg(idle(alloc))?.arg(first_line(alloc))
-}
-
-// The subcommand as far as its page goes.
-fn serve_page<'a>(alloc: Global) -> Result<Command<'a>, AllocError>
-    ensures shape { IfOk result (λ command. shape_of command ≡ serve_page) }
-    ensures local { IfOk result (λ command. (fields_of command).has_globals ≡ false) }
-{
-    serve_counts(alloc)?.arg(web(alloc))?.arg(web_host(alloc))
-}
-
-// The subcommand as far as its port and its counts go.
-fn serve_counts<'a>(alloc: Global) -> Result<Command<'a>, AllocError>
-    ensures shape { IfOk result (λ command. shape_of command ≡ serve_counts) }
-    ensures local { IfOk result (λ command. (fields_of command).has_globals ≡ false) }
-{
-    Command::new(alloc, "serve")
+    let named = Command::new(alloc, "serve")
         .about(help::SERVE)
-        .arg(port(alloc))?
-        .arg(workers(alloc))?
-        .arg(connections(alloc))
+        .after_help(help::SERVE_AFTER);
+    let with_port = with_option(Ok(named), port(alloc));
+    let with_workers = with_option(with_port, workers(alloc));
+    let with_connections = with_option(with_workers, connections(alloc));
+    let with_web = with_option(with_connections, web(alloc));
+    let with_web_host = with_option(with_web, web_host(alloc));
+    let with_idle = with_option(with_web_host, idle(alloc));
+    let with_first_line = with_option(with_idle, first_line(alloc));
+    let with_log = with_option(with_first_line, log(alloc));
+    let with_stats = with_option(with_log, stats(alloc));
+    with_option(with_stats, user(alloc))
 }
 
 fn port<'a>(alloc: Global) -> Arg<'a>

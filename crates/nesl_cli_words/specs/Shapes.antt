@@ -1,0 +1,14 @@
+-- The shapes of commands.
+use Rattle.std.specs.Prelude.{◌≡◌, ◌∷◌, [], ◌++◌, false}
+use Rattle.clap.specs.Simple.{Shape, shape_of}
+use Rattle.clap.specs.Walk.{Rule}
+use Rattle.clap.specs.declared.builder.command.Command.{Command}
+use Rattle.clap.specs.declared.builder.command.Command.TheViews.{out-Command as fields_of}
+
+-- a command of this shape, of which a command above it takes over no option
+abbrev pub IsShaped : Shape → Command → Type 0
+IsShaped shape command = (shape_of command ≡ shape) × ((fields_of command).has_globals ≡ false)
+
+-- a shape with one more option
+abbrev pub with_rule : Shape → Rule → Shape
+with_rule shape rule = record shape { rules = shape.rules ++ rule ∷ [] }
