@@ -193,7 +193,8 @@ fn any_leaf_value<A: Allocator + Copy, T: Tops<A>>(
     }
 }
 
-// The value of a leaf that was entered, where it is called.
+// The value of a leaf that was entered, where it is called. It gets a copy of `sight`, so that the one of the loop has no
+// place in memory.
 #[inline(always)]
 fn value_apart<A: Allocator + Copy, T: Tops<A>>(
     sight: &Sight<'_, A, T>,
@@ -205,7 +206,8 @@ fn value_apart<A: Allocator + Copy, T: Tops<A>>(
     ensures spent { meter.new.fuel ≤ meter.old.fuel }
     ensures depth { meter.new.depth ≡ meter.old.depth }
 {
-    any_leaf_value(sight, what, meter)
+    let own = *sight;
+    any_leaf_value(&own, what, meter)
 }
 
 // The value of a leaf that was entered: at once where it is frequent.

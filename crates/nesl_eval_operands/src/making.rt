@@ -206,7 +206,7 @@ fn any_of_both<A: Allocator + Copy>(
 /// What a node makes of two values.
 #[inline(always)]
 pub fn make_of_two<A: Allocator + Copy>(
-    node: TwoNode,
+    node: &TwoNode,
     left: Value<A>,
     right: Value<A>,
     meter: &mut Meter,
@@ -214,7 +214,7 @@ pub fn make_of_two<A: Allocator + Copy>(
 ) -> Result<Value<A>, Stop>
     requires { meter.old.fuel + meter.old.depth < 2 ^ 64 }
     ensures meets { Meets Is meter.old result meter.new
-        (made_of node.span (two_is node.two) (tree_of left ∷ tree_of right ∷ [])) }
+        (made_of node.now.span (two_is node.now.two) (tree_of left ∷ tree_of right ∷ [])) }
     ensures spent { meter.new.fuel + meter.new.depth ≤ meter.old.fuel + meter.old.depth }
 {
     match node.two {
@@ -226,7 +226,7 @@ pub fn make_of_two<A: Allocator + Copy>(
 // What a node makes of two values, where it is called.
 #[inline(always)]
 fn make_apart<A: Allocator + Copy>(
-    node: TwoNode,
+    node: &TwoNode,
     left: Value<A>,
     right: Value<A>,
     meter: &mut Meter,
@@ -234,7 +234,7 @@ fn make_apart<A: Allocator + Copy>(
 ) -> Result<Value<A>, Stop>
     requires { meter.old.fuel + meter.old.depth < 2 ^ 64 }
     ensures meets { Meets Is meter.old result meter.new
-        (made_of node.span (two_is node.two) (tree_of left ∷ tree_of right ∷ [])) }
+        (made_of node.now.span (two_is node.now.two) (tree_of left ∷ tree_of right ∷ [])) }
     ensures spent { meter.new.fuel + meter.new.depth ≤ meter.old.fuel + meter.old.depth }
 {
     make_any_of_two(node, left, right, meter, alloc)
@@ -243,7 +243,7 @@ fn make_apart<A: Allocator + Copy>(
 // What any node makes of two values.
 #[inline(never)]
 fn make_any_of_two<A: Allocator + Copy>(
-    node: TwoNode,
+    node: &TwoNode,
     left: Value<A>,
     right: Value<A>,
     meter: &mut Meter,
@@ -251,7 +251,7 @@ fn make_any_of_two<A: Allocator + Copy>(
 ) -> Result<Value<A>, Stop>
     requires { meter.old.fuel + meter.old.depth < 2 ^ 64 }
     ensures meets { Meets Is meter.old result meter.new
-        (made_of node.span (two_is node.two) (tree_of left ∷ tree_of right ∷ [])) }
+        (made_of node.now.span (two_is node.now.two) (tree_of left ∷ tree_of right ∷ [])) }
     ensures spent { meter.new.fuel + meter.new.depth ≤ meter.old.fuel + meter.old.depth }
 {
     match node.two {

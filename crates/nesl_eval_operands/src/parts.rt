@@ -37,15 +37,15 @@ pub fn of_one_leaf<A: Allocator + Copy, T: Tops<A>>(
 #[inline(always)]
 pub fn of_two_leaves<A: Allocator + Copy, T: Tops<A>>(
     sight: &Sight<'_, A, T>,
-    node: TwoNode,
+    node: &TwoNode,
     left: &Leaf,
     right: &Leaf,
     meter: &mut Meter,
 ) -> Result<Value<A>, Stop>
     requires { meter.old.fuel + meter.old.depth < 2 ^ 64 }
     ensures meets { let s = sight.now in Meets Is meter.old result meter.new
-        (with_leaves (T.table s.tops.now) s.levels node.height (drop s.base (places_of s.slots.now.items)) []
-        (leaf_is left.now ∷ leaf_is right.now ∷ []) (made_of node.span (two_is node.two))) }
+        (with_leaves (T.table s.tops.now) s.levels node.now.height (drop s.base (places_of s.slots.now.items)) []
+        (leaf_is left.now ∷ leaf_is right.now ∷ []) (made_of node.now.span (two_is node.now.two))) }
     ensures spent { meter.new.fuel + meter.new.depth ≤ meter.old.fuel + meter.old.depth }
 {
     let value = enter_leaf(sight, node.height, left, meter)?;
@@ -57,14 +57,14 @@ pub fn of_two_leaves<A: Allocator + Copy, T: Tops<A>>(
 pub fn of_value_and_leaf<A: Allocator + Copy, T: Tops<A>>(
     sight: &Sight<'_, A, T>,
     value: Value<A>,
-    node: TwoNode,
+    node: &TwoNode,
     right: &Leaf,
     meter: &mut Meter,
 ) -> Result<Value<A>, Stop>
     requires { meter.old.fuel + meter.old.depth < 2 ^ 64 }
     ensures meets { let s = sight.now in Meets Is meter.old result meter.new
-        (with_leaves (T.table s.tops.now) s.levels node.height (drop s.base (places_of s.slots.now.items))
-        (tree_of value ∷ []) (leaf_is right.now ∷ []) (made_of node.span (two_is node.two))) }
+        (with_leaves (T.table s.tops.now) s.levels node.now.height (drop s.base (places_of s.slots.now.items))
+        (tree_of value ∷ []) (leaf_is right.now ∷ []) (made_of node.now.span (two_is node.now.two))) }
     ensures spent { meter.new.fuel + meter.new.depth ≤ meter.old.fuel + meter.old.depth }
 {
     let other = enter_leaf(sight, node.height, right, meter)?;

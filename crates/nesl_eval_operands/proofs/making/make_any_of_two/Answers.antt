@@ -14,7 +14,7 @@ returns-in_err-fit_in_pair-in-OfPair-clause-meets g c =
     let U : Unit {0} → ValueTree → Type 0 = λ u x. x ≡ z in
     let p = err_from_is_err_and c.from_residual.result c.from_residual.ensures.1 in
     rw (p.1, p.2, c.in-OfPair.is) (meets_err U (Is {A = g.row.A.Denot}) m m c.in_err-fit_in_pair-in-OfPair.field-0.0
-    (small_enough c.in-OfPair.within z) (apply_builtin c.args.node.span c.in-OfPair.function) (c.in_err-fit_in_pair-in-OfPair.ensures m))
+    (small_enough c.in-OfPair.within z) (apply_builtin c.args.node.now.span c.in-OfPair.function) (c.in_err-fit_in_pair-in-OfPair.ensures m))
 
 pub returns-in_ok-fit_in_pair-in-OfPair-clause-meets : goal.returns-in_ok-fit_in_pair-in-OfPair-clause-meets
 returns-in_ok-fit_in_pair-in-OfPair-clause-meets g c =
@@ -22,7 +22,7 @@ returns-in_ok-fit_in_pair-in-OfPair-clause-meets g c =
     let z = pair (tree_of c.args.left) (tree_of c.args.right) in
     let U : Unit {0} → ValueTree → Type 0 = λ u x. x ≡ z in
     rw c.in-OfPair.is (meets_then U (Is {A = g.row.A.Denot}) m m c.apply_to_both-in-OfPair.new.meter tt c.apply_to_both-in-OfPair.result
-    (small_enough c.in-OfPair.within z) (apply_builtin c.args.node.span c.in-OfPair.function) (c.in_ok-fit_in_pair-in-OfPair.ensures m) (λ x e. rw e c.apply_to_both-in-OfPair.ensures.meets))
+    (small_enough c.in-OfPair.within z) (apply_builtin c.args.node.now.span c.in-OfPair.function) (c.in_ok-fit_in_pair-in-OfPair.ensures m) (λ x e. rw e c.apply_to_both-in-OfPair.ensures.meets))
 
 pub returns-in-Pair-clause-meets : goal.returns-in-Pair-clause-meets
 returns-in-Pair-clause-meets g c = rw c.in-Pair.is (c.make_pair.ensures c.args.meter.now)

@@ -13,7 +13,7 @@ pub returns-in_err-value-clause-meets : goal.returns-in_err-value-clause-meets
 returns-in_err-value-clause-meets g c =
     let s = c.args.sight.now in
     let t = g.T.Tops.table s.tops.now in
-    let k = c.args.node in
+    let k = c.args.node.now in
     let env = drop s.base (places_of s.slots.now.items) in
     let I = Is {A = g.row.A.Denot} in
     let p = err_from_is_err_and c.from_residual.result c.from_residual.ensures.1 in
@@ -24,7 +24,7 @@ pub returns-clause-meets : goal.returns-clause-meets
 returns-clause-meets g c =
     let s = c.args.sight.now in
     let t = g.T.Tops.table s.tops.now in
-    let k = c.args.node in
+    let k = c.args.node.now in
     let env = drop s.base (places_of s.slots.now.items) in
     let I = Is {A = g.row.A.Denot} in
     meets_then I I c.args.meter.now c.enter_leaf.new.meter c.of_value_and_leaf.new.meter c.in_ok-value.value c.of_value_and_leaf.result
