@@ -20,7 +20,7 @@ use Rattle.nesl_eval_machine.specs.declared.state.Frame.{Frame}
 use Rattle.nesl_eval_machine.specs.declared.state.Hand.{Hand}
 use Rattle.nesl_eval_machine.specs.declared.state.Hand.TheVariants.{Empty, Holds, Done}
 use Rattle.nesl_eval_machine.specs.declared.state.Machine.{Machine}
-use Rattle.nesl_eval_machine.specs.State.{floor, resumed, unwound, Ordered, frames_of, slots_of, stack_of, env_of, local_of, left_with, left_at, left_at_hand, Fits}
+use Rattle.nesl_eval_machine.specs.State.{floor, resumed, unwound, Ordered, frames_of, slots_of, stack_of, env_of, local_of, left_with, left_at, left, left_at_hand, Fits}
 use Rattle.nesl_eval_rounds.specs.Leads.{Leads}
 use Rattle.nesl_eval_machine.specs.Steps.{Goes, Stops, Steps, Gives, Moves, empty_handed, in_hand, Ends, placed_stop}
 use Rattle.nesl_eval_rounds.proofs.Laws.{after_none, after_after, moved}
@@ -103,6 +103,15 @@ pub none_moves : {A : Type 0} (t : Table) (m n : Machine A) (r : Result (Hand A)
 none_moves t m n r f none h =
     let empty : length (stack_of m) ≤ floor (frames_of m) = omega (arith, length-map m.stack.items tree_of, m.stack.ok.0) in
     stuck_moves t m n r (f (local_of m)) (ap f (all_dropped (floor (frames_of m)) (stack_of m) empty) ∙ h)
+
+-- nothing is done
+pub nothing_moves : {A : Type 0} (t : Table) (m : Machine A) → Fits t m → Moves t m (Ok Empty) m (left t m)
+nothing_moves t m fits = inr (record {
+  work = 0;
+  spent = omega arith;
+  same = sym (after_none (left t m));
+  fits = fits;
+})
 
 -- so far, and one move more
 moves_after : {A : Type 0} (t : Table) (m m1 n : Machine A) (r : Result (Hand A) Stop) (w : ℕ) (p : Out Value) → m.meter.fuel ≡ m1.meter.fuel + w → Moves t m1 r n p → Moves t m r n (after_cost w 0 p)

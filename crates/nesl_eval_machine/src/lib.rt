@@ -7,6 +7,7 @@ mod columns;
 mod ends;
 mod hand;
 mod moves;
+mod next;
 mod rounds;
 mod run;
 pub mod state;

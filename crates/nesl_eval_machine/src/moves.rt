@@ -129,7 +129,7 @@ impl<'a, A: Allocator + Copy> Machine<'a, A> {
     pub(crate) fn of_leaves<T: Tops<A>>(
         &mut self,
         tops: &T,
-        node: TwoNode,
+        node: &TwoNode,
         left: &Leaf,
         right: &Leaf,
         next: &'a Ops,
@@ -137,7 +137,7 @@ impl<'a, A: Allocator + Copy> Machine<'a, A> {
         requires { self.old.meter.fuel + self.old.meter.depth < 2 ^ 64 }
         ensures moves { let t = T.table tops.now in Fits t self.old → Moves t self.old result self.new
             (left_at t self.old
-            (make node.height node.span (two_is node.two) 0 (leaf_is left.now ∷ leaf_is right.now ∷ [])
+            (make node.now.height node.now.span (two_is node.now.two) 0 (leaf_is left.now ∷ leaf_is right.now ∷ [])
             (block_of next.now))) }
         ensures bounded { self.new.meter.fuel + self.new.meter.depth < 2 ^ 64 }
     {
@@ -177,14 +177,14 @@ impl<'a, A: Allocator + Copy> Machine<'a, A> {
         &mut self,
         tops: &T,
         value: Value<A>,
-        node: TwoNode,
+        node: &TwoNode,
         right: &Leaf,
         next: &'a Ops,
     ) -> Result<Hand<'a, A>, Stop>
         requires { self.old.meter.fuel + self.old.meter.depth < 2 ^ 64 }
         ensures moves { let t = T.table tops.now in Fits t self.old → let m = self.old in
             Moves t m result self.new (left_with t m (exec t m.levels (env_of m)
-            (make node.height node.span (two_is node.two) 1 (leaf_is right.now ∷ []) (block_of next.now))
+            (make node.now.height node.now.span (two_is node.now.two) 1 (leaf_is right.now ∷ []) (block_of next.now))
             (tree_of value ∷ local_of m))) }
         ensures bounded { self.new.meter.fuel + self.new.meter.depth < 2 ^ 64 }
     {
@@ -204,13 +204,13 @@ impl<'a, A: Allocator + Copy> Machine<'a, A> {
     pub(crate) fn of_tops(
         &mut self,
         right: Value<A>,
-        node: TwoNode,
+        node: &TwoNode,
         next: &'a Ops,
     ) -> Result<Hand<'a, A>, Stop>
         requires { self.old.meter.fuel + self.old.meter.depth < 2 ^ 64 }
         ensures moves { (t : Table) → Fits t self.old → let m = self.old in
             Moves t m result self.new (left_with t m (exec t m.levels (env_of m)
-            (make node.height node.span (two_is node.two) 2 [] (block_of next.now)) (tree_of right ∷ local_of m))) }
+            (make node.now.height node.now.span (two_is node.now.two) 2 [] (block_of next.now)) (tree_of right ∷ local_of m))) }
         ensures bounded { self.new.meter.fuel + self.new.meter.depth < 2 ^ 64 }
     {
         match self.stack.pop() {
@@ -225,13 +225,13 @@ impl<'a, A: Allocator + Copy> Machine<'a, A> {
         &mut self,
         left: Value<A>,
         right: Value<A>,
-        node: TwoNode,
+        node: &TwoNode,
         next: &'a Ops,
     ) -> Result<Hand<'a, A>, Stop>
         requires { self.old.meter.fuel + self.old.meter.depth < 2 ^ 64 }
         ensures moves { (t : Table) → Fits t self.old → let m = self.old in
             Moves t m result self.new (left_with t m (exec t m.levels (env_of m)
-            (make node.height node.span (two_is node.two) 2 [] (block_of next.now))
+            (make node.now.height node.now.span (two_is node.now.two) 2 [] (block_of next.now))
             (tree_of right ∷ tree_of left ∷ local_of m))) }
         ensures bounded { self.new.meter.fuel + self.new.meter.depth < 2 ^ 64 }
     {

@@ -59,18 +59,17 @@ impl<'a, A: Allocator + Copy> Machine<'a, A> {
         let code = self.code;
         match code {
             Ops::Push { height, leaf, next } => self.push_leaf(tops, *height, leaf, next.ops()),
-            Ops::Enter { height, span, next } => empty_handed(self.enter(
-                *height,
-                *span,
-                next.ops(),
-            )),
+            Ops::Enter { height, span, next } => {
+                let done = self.enter(*height, *span, next.ops());
+                self.after_step(tops, done)
+            }
             Ops::OfLeaf { node, leaf, next } => self.of_leaf(tops, *node, leaf, next.ops()),
             Ops::OfLeaves {
                 node,
                 left,
                 right,
                 next,
-            } => self.of_leaves(tops, *node, left, right, next.ops()),
+            } => self.of_leaves(tops, node, left, right, next.ops()),
             Ops::OfMany {
                 node,
                 count,
@@ -130,12 +129,31 @@ impl<'a, A: Allocator + Copy> Machine<'a, A> {
         match code {
             Ops::Finish => self.finish_with(tops, value),
             Ops::Choose { yes, no, next } => {
-                empty_handed(self.choose_by(value, yes.ops(), no.ops(), next.ops()))
+                let done = self.choose_by(value, yes.ops(), no.ops(), next.ops());
+                self.after_step(tops, done)
             }
-            Ops::Last { yes, no } => empty_handed(self.choose_last_by(value, yes.ops(), no.ops())),
-            Ops::Bind { next } => empty_handed(self.bind_to(value, next.ops())),
-            Ops::Enter { .. } => empty_handed(self.set_down(value, code)),
-            Ops::OfLeaves { .. } => empty_handed(self.set_down(value, code)),
+            Ops::Last { yes, no } => {
+                let done = self.choose_last_by(value, yes.ops(), no.ops());
+                self.after_step(tops, done)
+            }
+            Ops::Bind { next } => {
+                let done = self.bind_to(value, next.ops());
+                self.after_step(tops, done)
+            }
+            Ops::Enter { .. } => self.set_down_and_go_on(tops, value, code),
+            Ops::OfLeaves { .. } => self.set_down_and_go_on(tops, value, code),
+            Ops::Call {
+                height,
+                span,
+                callee,
+                next,
+            } => {
+                let node = CallNode {
+                    height: *height,
+                    span: *span,
+                };
+                self.call_with(tops, value, node, callee, next.ops())
+            }
             _ => self.take_apart(tops, value, code),
         }
     }
@@ -172,21 +190,9 @@ impl<'a, A: Allocator + Copy> Machine<'a, A> {
         match code {
             Ops::OfTop { node, next } => self.of_value(value, *node, next.ops()),
             Ops::OfTopAndLeaf { node, right, next } => {
-                self.of_value_and_leaf(tops, value, *node, right, next.ops())
+                self.of_value_and_leaf(tops, value, node, right, next.ops())
             }
-            Ops::OfTops { node, next } => self.of_tops(value, *node, next.ops()),
-            Ops::Call {
-                height,
-                span,
-                callee,
-                next,
-            } => {
-                let node = CallNode {
-                    height: *height,
-                    span: *span,
-                };
-                self.call_with(tops, value, node, callee, next.ops())
-            }
+            Ops::OfTops { node, next } => self.of_tops(value, node, next.ops()),
             Ops::Forget { places, next } => self.forget_with(value, *places, next.ops()),
             _ => empty_handed(self.set_down(value, code)),
         }

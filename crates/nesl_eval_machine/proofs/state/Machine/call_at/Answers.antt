@@ -10,7 +10,7 @@ use Rattle.nesl_eval_ops.specs.View.{block_of}
 use Rattle.nesl_eval_nodes.specs.declared.meter.Stop.TheVariants.{Stuck}
 use Rattle.nesl_eval_nodes.proofs.Making.{held_called}
 use Rattle.nesl_eval_machine.specs.State.{env_of, local_of, left_with}
-use Rattle.nesl_eval_machine.proofs.Hands.{moves_from, stuck_moves, steps_move, found_moves}
+use Rattle.nesl_eval_machine.proofs.Hands.{moves_from, stuck_moves, found_moves}
 use Rattle.nesl_eval_machine.proofs.Calling.{function_there}
 use Rattle.nesl_eval_machine.proofs.state.Machine.call_at.Goals as goal
 
@@ -18,14 +18,14 @@ pub returns-in-Ok-Function-clause-moves : goal.returns-in-Ok-Function-clause-mov
 returns-in-Ok-Function-clause-moves g c = λ fits.
     let t = g.T.Tops.table c.args.tops.now in
     let m = c.args.self.now in
-    let n = c.enter_body.new.self in
+    let n = c.after_step.new.self in
     let f = run (m.levels - suc c.args.node.height) t in
     let k : Value → Out Value = λ v. exec t m.levels (env_of m) (block_of c.args.next.now) (v ∷ local_of m) in
     let code = c.in-Ok-Function.field-0-0.now in
     let there = function_there (slot_at t c.args.place) code (rw c.in-Ok-Function.field-0-is at c.in-Ok-Function.ensures) in
-    moves_from t m n c.empty_handed.result _ _
+    moves_from t m n c.after_step.result _ _
     (ap (λ q. left_with t m (and_then (run_called f c.args.node.span q (tree_of c.args.argument)) k)) there)
-    (steps_move t m n c.enter_body.result c.empty_handed.result _ c.empty_handed.ensures (c.enter_body.ensures.steps t code there fits))
+    (c.after_step.ensures.moves m _ (c.enter_body-done.ensures.steps t code there fits))
 
 pub returns-in-Ok-Datatype-clause-moves : goal.returns-in-Ok-Datatype-clause-moves
 returns-in-Ok-Datatype-clause-moves g c = λ fits.

@@ -9,5 +9,5 @@ pub returns-clause-moves : goal.returns-clause-moves
 returns-clause-moves g c = λ t fits.
     let m = c.args.self.now in
     found_moves t m c.make_of_two-found.new.meter c.make_of_two-found.result c.args.next c.in_hand.result
-    (made_of c.args.node.span (two_is c.args.node.two) (tree_of c.args.left ∷ tree_of c.args.right ∷ []))
+    (made_of c.args.node.now.span (two_is c.args.node.now.two) (tree_of c.args.left ∷ tree_of c.args.right ∷ []))
     c.in_hand.ensures c.make_of_two-found.ensures.meets fits

@@ -9,7 +9,7 @@ use Rattle.nesl_eval_machine.proofs.state.Machine.of_value_and_leaf.Goals as goa
 pub returns-clause-moves : goal.returns-clause-moves
 returns-clause-moves g c = λ fits.
     let t = g.T.Tops.table c.args.tops.now in
-    let k = c.args.node in
+    let k = c.args.node.now in
     let m = c.args.self.now in
     found_moves t m c.of_value_and_leaf-found.new.meter c.of_value_and_leaf-found.result c.args.next c.in_hand.result
     (with_leaves t m.levels k.height (env_of m) (tree_of c.args.value ∷ []) (leaf_is c.args.right.now ∷ []) (made_of k.span (two_is k.two)))
