@@ -5,17 +5,15 @@ use Rattle.std.proofs.lemmas.Bool.{lt-leb}
 use Rattle.std.proofs.lemmas.List.{reverse-reverse}
 use Rattle.nesl_lex.specs.Tokens.{Placed}
 use Rattle.nesl_lex.specs.declared.token.Span.{Span}
-use Rattle.nesl_syntax.specs.declared.parse.Mode.{Mode}
+use Rattle.nesl_syntax_open.specs.declared.mode.Mode.{Mode}
 use Rattle.nesl_syntax_open.specs.declared.pending.Pending.{Pending}
 use Rattle.nesl_syntax_open.specs.declared.pending.Opening.{Opening}
 use Rattle.nesl_syntax_open.specs.declared.pending.TypeOpening.{TypeOpening}
 use Rattle.nesl_syntax_open.specs.declared.pending.TypeOpening.TheVariants as types
 use Rattle.nesl_syntax_open.specs.declared.part.Part.{Part}
-use Rattle.nesl_syntax_open.specs.declared.turn.Turn.{Turn}
-use Rattle.nesl_syntax_open.specs.declared.mark.Mark.{Mark}
 use Rattle.nesl_syntax_open.specs.declared.fault.ParseFault.{ParseFault}
 use Rattle.nesl_syntax_open.specs.declared.fault.ParseFault.TheVariants.{Syntax, Nested, Memory}
-use Rattle.nesl_syntax_open.specs.Turns.{SeesTurn, Turns}
+use Rattle.nesl_syntax_open.specs.Modes.{SeesMode, Follows}
 use Rattle.nesl_syntax_open.specs.declared.types.TypePart.{TypePart}
 use Rattle.nesl_syntax_tree.specs.Trees.{Tree, TypeTree, type_on}
 use Rattle.nesl_syntax_tree.specs.Grammar.{spanning}
@@ -24,7 +22,7 @@ use Rattle.nesl_syntax_open.specs.Parts.{Sees, SeesType}
 use Rattle.nesl_syntax_open.specs.Stack.{SeesOpening, SeesEach, SeesStack}
 use Rattle.nesl_syntax_tree.specs.Grammar.{level_of}
 use Rattle.nesl_syntax_open.specs.Machine.{round, call, binders, list, Waiting, open_at, comma_behind, else_behind, body_of, prefix_at, sign_behind, type_at, opening_wants, wanted, before, State, opened, separated, run, step, on_both, alone, type_alone, type_closed, type_pair, type_comma, type_done, taken_up, turned, marked, listed, with_newest}
-use Rattle.nesl_syntax.specs.Steps.{list_newest, SeesMode, Follows, Runs, Closes, OpeningPopped, newest_opening, TypePopped, newest_type}
+use Rattle.nesl_syntax.specs.Steps.{list_newest, Runs, Closes, OpeningPopped, newest_opening, TypePopped, newest_type}
 use Rattle.nesl_syntax_open.proofs.Complete.{level_low}
 
 pub near_comma : (ws : List Waiting) (e : Tree) → wanted ws ≤ 1 → separated ws e ≡ opened (comma_behind e) ws
@@ -94,19 +92,6 @@ pub closes_turn : (t : Span) (old mid : List Pending) (left part r : TypePart) (
 closes_turn t old mid left part r ws a popped put f =
     let g = pair_closes t mid left r f.now f.last (popped f.now f.stack) (λ b h. put b f.last h f.sees) in
     record { now = g.now; last = g.last; stack = g.stack; sees = g.sees; same = g.same ∙ f.same }
-
-turn_ends : (turn : Turn) (r : Result Mode ParseFault) (new : List Pending) (vs : List Waiting) (z : Option machine.Turn) → Turns (Ok turn) z → ((q : machine.Turn) → SeesTurn turn q → Follows r new (taken_up vs (Some q))) → Follows r new (taken_up vs z)
-turn_ends turn r new vs None h f = absurd h
-turn_ends turn r new vs (Some q) h f = f q h
-
--- a token that ends a part of the newest opening
-pub part_ends : (mid new : List Pending) (opening : Opening) (part : Part) (turn : Turn) (r : Result Mode ParseFault) (m : Mark) (t : Span) (ws : List Waiting) (x : Tree) → OpeningPopped (Some opening) mid (newest_opening ws)
-    → ((o : machine.Opening) (y : Tree) → SeesOpening opening o → Sees part y → Turns (Ok turn) (turned m t o y))
-    → ((vs : List Waiting) (q : machine.Turn) → SeesStack mid vs → SeesTurn turn q → Follows r new (taken_up vs (Some q)))
-    → Sees part x → Follows r new (marked m t ws x)
-part_ends mid new opening part turn r m t [] x h turns takes p = absurd h
-part_ends mid new opening part turn r m t (open_at o ∷ ws) x h turns takes p = turn_ends turn r new ws (turned m t o x) (turns o x h.0 p) (λ q g. takes ws q h.1 g)
-part_ends mid new opening part turn r m t (w ∷ ws) x h turns takes p = absurd h
 
 -- one more element of the newest list
 pub list_follows : (mid new : List Pending) (opening : Opening) (part : Part) (r : Result Mode ParseFault) (ws : List Waiting) (x : Tree) → OpeningPopped (Some opening) mid (newest_opening ws)

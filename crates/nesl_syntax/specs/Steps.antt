@@ -6,32 +6,18 @@ use Rattle.nesl_syntax_open.specs.declared.pending.Pending.{Pending}
 use Rattle.nesl_syntax_open.specs.declared.pending.Pending.TheVariants as pendings
 use Rattle.nesl_syntax_open.specs.declared.pending.TypeOpening.{TypeOpening}
 use Rattle.nesl_syntax_open.specs.declared.types.TypePart.{TypePart}
-use Rattle.nesl_syntax.specs.declared.parse.Mode.{Mode}
-use Rattle.nesl_syntax.specs.declared.parse.Mode.TheVariants.{Before, Behind, Typing, Typed}
+use Rattle.nesl_syntax_open.specs.declared.mode.Mode.{Mode}
 use Rattle.nesl_syntax_open.specs.declared.fault.ParseFault.{ParseFault}
 use Rattle.nesl_syntax_open.specs.declared.fault.ParseFault.TheVariants.{Syntax, Nested, Memory}
 use Rattle.nesl_syntax_tree.specs.Trees.{Tree, TypeTree}
 use Rattle.nesl_lex.specs.Tokens.{Placed}
 use Rattle.nesl_lex.specs.declared.token.Span.{Span}
-use Rattle.nesl_syntax_open.specs.Machine.{Waiting, State, before, behind, typing, typed, run, with_newest, open_at}
+use Rattle.nesl_syntax_open.specs.Machine.{Waiting, State, before, run, with_newest, open_at}
 use Rattle.nesl_syntax_open.specs.Machine.{type_at, listed, type_closed}
 use Rattle.nesl_syntax_open.specs.Machine as machine
+use Rattle.nesl_syntax_open.specs.Modes.{SeesMode}
 use Rattle.nesl_syntax_open.specs.Parts.{Sees, SeesType}
 use Rattle.nesl_syntax_open.specs.Stack.{SeesOpening, SeesTypeOpening, SeesPending, SeesStack}
-
-abbrev pub SeesMode : Mode → machine.Mode → Type 0
-SeesMode Before m = m ≡ before
-SeesMode (Behind b p) m = (e : Tree) × (m ≡ behind b e) × Sees p e
-SeesMode Typing m = m ≡ typing
-SeesMode (Typed p) m = (a : TypeTree) × (m ≡ typed a) × SeesType p a
-
--- what a call answered and left is the state after a step, or there is none and the answer says so, or memory ran out
-abbrev pub Follows : Result Mode ParseFault → List Pending → Option State → Type 0
-Follows (Ok m) ps (Some q) = SeesStack ps q.0 × SeesMode m q.1
-Follows (Ok m) ps None = ⊥
-Follows (Err Syntax) ps q = q ≡ None
-Follows (Err Nested) ps q = ⊥
-Follows (Err Memory) ps q = Unit {0}
 
 -- the newest, where it is an opening, and those that wait under it
 abbrev pub newest_opening : List Waiting → Option (machine.Opening × List Waiting)

@@ -7,7 +7,7 @@ ghost use Rattle.nesl_syntax_tree.specs.Trees as trees;
 ghost use Rattle.nesl_syntax_tree.specs.Patterns.{is_pattern_shape};
 ghost use Rattle.nesl_syntax_tree.specs.Views.{shape_of, type_shape};
 ghost use Rattle.nesl_syntax_open.specs.declared.pending.Pending as pending;
-ghost use Rattle.nesl_syntax_open.specs.Machine.{Waiting, type_at, typing, opened, called, taken_up, before};
+ghost use Rattle.nesl_syntax_open.specs.Machine.{Waiting, type_at, typing, opened, called, before};
 ghost use Rattle.nesl_syntax_open.specs.Machine.{with_newest, marked, separated, listed, mark_level, followed};
 ghost use Rattle.nesl_syntax_open.specs.Machine.{open_at, index_of, joined, folded, on_both};
 ghost use Rattle.nesl_syntax_open.specs.Machine.{let_closed, let_body, emptied, empty_opening, type_done};
@@ -16,10 +16,10 @@ ghost use Rattle.nesl_syntax_open.specs.Machine.{typed_with, typed_on};
 ghost use Rattle.nesl_syntax_open.specs.Machine as machine;
 ghost use Rattle.nesl_syntax_open.specs.Parts.{Sees, SeesType};
 ghost use Rattle.nesl_syntax_open.specs.Stack.{SeesOpening, SeesTypeOpening, SeesPending, SeesStack};
-ghost use Rattle.nesl_syntax_open.specs.Turns.{SeesTurn};
-ghost use Rattle.nesl_syntax.specs.Steps.{SeesMode, Follows, GivesTree, PendingGiven, TypeOpeningGiven, TypeGiven};
+ghost use Rattle.nesl_syntax_open.specs.Modes.{SeesMode, Follows};
+ghost use Rattle.nesl_syntax.specs.Steps.{GivesTree, PendingGiven, TypeOpeningGiven, TypeGiven};
 ghost use Rattle.nesl_syntax.specs.Steps.{OpeningPopped, newest_opening, TypePopped, newest_type};
-ghost use Rattle.nesl_syntax.specs.declared.parse.Mode.TheVariants as mode;
+ghost use Rattle.nesl_syntax_open.specs.declared.mode.Mode.TheVariants as mode;
 ghost use Rattle.nesl_syntax_open.specs.declared.part.Part.TheVariants as part;
 ghost use Rattle.nesl_lex.specs.Tokens.{lexeme_of, placed_of, placed, symbol, reserved};
 
@@ -27,27 +27,15 @@ use nesl_lex::token::{Kind, Sign, Span, Token, Word};
 use nesl_syntax_open::ParseFault;
 use nesl_syntax_open::lists::{Elements, push_part};
 use nesl_syntax_open::mark::{Follow, Mark, follow_of};
+use nesl_syntax_open::mode::{Mode, push, wait};
 use nesl_syntax_open::part::{Part, empty_of, make_node, over};
 use nesl_syntax_open::pending::{
     Group, Opening, Pending, TypeOpening, fold, level_begun, level_of, newest, wanted,
 };
-use nesl_syntax_open::turn::{Turn, no_bindings, turn_of};
+use nesl_syntax_open::turn::{end_part, no_bindings};
 use nesl_syntax_open::types::{self, TypePart, make_type, pair_of, sequence_of};
 use nesl_syntax_tree::tree::{Exp, Node, Operator, Prefix, TypeNode};
 use std::alloc::Global;
-
-/// What the tokens so far leave.
-#[derive(Drop)]
-pub enum Mode {
-    /// An expression is to come.
-    Before,
-    /// An expression stands before this place, and whether it is a name and nothing else.
-    Behind { fresh: bool, part: Part },
-    /// A type is to come.
-    Typing,
-    /// A type stands before this place.
-    Typed(TypePart),
-}
 
 // The tokens have no tree; what was read of one is dropped.
 fn refuse<T: Drop>(value: T) -> Result<Mode, ParseFault>
@@ -55,24 +43,6 @@ fn refuse<T: Drop>(value: T) -> Result<Mode, ParseFault>
 {
     drop(value);
     Err(ParseFault::Syntax)
-}
-
-// One more that waits.
-fn push(stack: &mut Vec<Pending>, pending: Pending) -> Result<(), ParseFault>
-    ensures pushed { IfOk result (λ u. stack.new.items ≡ stack.old.items ++ pending ∷ []) }
-    ensures fails { IfErr result (λ e. e ≡ ParseFault.Memory) }
-{
-    stack.push(pending)?;
-    Ok(())
-}
-
-// One more that waits for an expression.
-fn wait(stack: &mut Vec<Pending>, pending: Pending) -> Result<Mode, ParseFault>
-    ensures { (ws : List Waiting) (w : Waiting) → SeesStack stack.old.items ws → SeesPending pending w →
-        Follows result stack.new.items (Some (w ∷ ws, before)) }
-{
-    push(stack, pending)?;
-    Ok(Mode::Before)
 }
 
 // One more that waits for a type.
@@ -115,6 +85,7 @@ fn pop_type(stack: &mut Vec<Pending>) -> Option<TypeOpening>
 }
 
 // One more that is open, where it may stand.
+#[inline(always)]
 fn open(stack: &mut Vec<Pending>, pending: Pending) -> Result<Mode, ParseFault>
     ensures { (ws : List Waiting) (w : Waiting) → SeesStack stack.old.items ws → SeesPending pending w →
         Follows result stack.new.items (opened w ws) }
@@ -123,35 +94,6 @@ fn open(stack: &mut Vec<Pending>, pending: Pending) -> Result<Mode, ParseFault>
         return refuse(pending);
     }
     wait(stack, pending)
-}
-
-// What comes of the newest opening.
-fn take(stack: &mut Vec<Pending>, turn: Turn) -> Result<Mode, ParseFault>
-    ensures { (ws : List Waiting) (t : machine.Turn) → SeesStack stack.old.items ws → SeesTurn turn t →
-        Follows result stack.new.items (taken_up ws (Some t)) }
-{
-    match turn {
-        Turn::Becomes(pending) => wait(stack, pending),
-        Turn::Ends(part) => Ok(Mode::Behind { fresh: false, part }),
-    }
-}
-
-// Behind a token that ends a part.
-fn end_part(
-    alloc: Global,
-    stack: &mut Vec<Pending>,
-    part: Part,
-    mark: Mark,
-    at: Span,
-) -> Result<Mode, ParseFault>
-    ensures { (ws : List Waiting) (x : Tree) → SeesStack stack.old.items ws → Sees part x →
-        Follows result stack.new.items (marked mark at ws x) }
-{
-    let Some(opening) = pop_opening(stack) else {
-        return refuse(part);
-    };
-    let turn = turn_of(alloc, opening, part, mark, at)?;
-    take(stack, turn)
 }
 
 // One more element, where a list is open.

@@ -3,3 +3,4 @@ pub mod Machine
 pub mod Parts
 pub mod Stack
 pub mod Turns
+pub mod Modes

@@ -4,6 +4,7 @@
 mod fault;
 pub mod lists;
 pub mod mark;
+pub mod mode;
 pub mod part;
 pub mod pattern;
 pub mod pending;

@@ -1,6 +1,6 @@
 // What is open while tokens are read: brackets, operators with their left sides, parts of a choice, binders.
 
-ghost use Rattle.std.specs.Prelude.{◌≡◌, ◌≤◌, ◌<◌, ◌∷◌, [], ◌++◌, List, IfOk, IfSome, IfNone, MatchOption, length};
+ghost use Rattle.std.specs.Prelude.{◌≡◌, ◌≤◌, ◌<◌, ◌∷◌, [], ◌++◌, List, IfOk, IfSome, IfNone, IsTrue, MatchOption, length};
 ghost use Rattle.std.specs.Prelude.{vec_len};
 ghost use Rattle.nesl_syntax_open.specs.declared.pending.Pending as pending;
 ghost use Rattle.nesl_syntax_tree.specs.Trees.{Tree};
@@ -252,8 +252,22 @@ fn pop_at(stack: &mut Vec<Pending>, level: u8) -> Option<Pending>
     stack.pop()
 }
 
-/// Puts together what is complete at this level.
-pub fn fold(
+// Whether the newest isn't complete at this level, or nothing is open.
+#[inline(always)]
+fn is_settled(stack: &[Pending], level: u8) -> bool
+    requires { 1 ≤ level }
+    ensures { IsTrue result → (ws : List Waiting) (x : Tree) → SeesStack stack.now ws → folded level ws x ≡ (ws, x) }
+{
+    let rank = match newest(stack) {
+        None => 0,
+        Some(pending) => rank(pending),
+    };
+    rank < level
+}
+
+// Puts together what is complete at this level, where something is.
+#[inline(never)]
+fn fold_open(
     alloc: Global,
     stack: &mut Vec<Pending>,
     level: u8,
@@ -268,4 +282,22 @@ pub fn fold(
         part = complete(alloc, pending, part)?;
     }
     Ok(part)
+}
+
+/// Puts together what is complete at this level. Behind most tokens nothing is, which is told in place.
+#[inline(always)]
+pub fn fold(
+    alloc: Global,
+    stack: &mut Vec<Pending>,
+    level: u8,
+    part: Part,
+) -> Result<Part, AllocError>
+    requires { 1 ≤ level }
+    ensures { IfOk result (λ r. (ws : List Waiting) (x : Tree) → SeesStack stack.old.items ws → Sees part x →
+        SeesStack stack.new.items (folded level ws x).0 × Sees r (folded level ws x).1) }
+{
+    if is_settled(stack.as_slice(), level) {
+        return Ok(part);
+    }
+    fold_open(alloc, stack, level, part)
 }

@@ -1,33 +1,36 @@
-// What comes of an opening when an expression and a token that ends a part stand behind it.
+// What comes of the newest opening when an expression and a token that ends a part stand behind it.
 
-ghost use Rattle.std.specs.Prelude.{◌≡◌, IfOk, Option, Some, None, Ok, Err, true};
+ghost use Rattle.std.specs.Prelude.{◌≡◌, ◌∷◌, List, Option, Some, None, Err, false, true};
 ghost use Rattle.nesl_syntax_tree.specs.Trees.{Tree, Trees, Binders, PatternTree, no_binders, with_last};
 ghost use Rattle.nesl_syntax_tree.specs.Trees.{with_last_binder};
 ghost use Rattle.nesl_syntax_tree.specs.Patterns.{pattern_in};
-ghost use Rattle.nesl_syntax_open.specs.Machine.{turned};
+ghost use Rattle.nesl_syntax_open.specs.Machine.{Waiting, before, marked, open_at, taken_up, turned};
 ghost use Rattle.nesl_syntax_open.specs.Machine as machine;
+ghost use Rattle.nesl_syntax_open.specs.Modes.{Follows};
 ghost use Rattle.nesl_syntax_open.specs.Parts.{Sees, SeesAll, SeesBody, SeesBound, SeesPattern};
-ghost use Rattle.nesl_syntax_open.specs.Stack.{SeesGroup, SeesOpening, some_elements, some_binders};
-ghost use Rattle.nesl_syntax_open.specs.Turns.{Turns, let_turned, each_turned};
-ghost use Rattle.nesl_syntax_open.specs.declared.turn.Turn.TheVariants as turn;
-ghost use Rattle.nesl_syntax_open.specs.declared.pending.Pending.TheVariants as pending;
+ghost use Rattle.nesl_syntax_open.specs.Stack.{SeesGroup, SeesOpening, SeesPending, SeesStack, some_elements, some_binders};
+ghost use Rattle.nesl_syntax_open.specs.Turns.{let_turned, each_turned};
+ghost use Rattle.nesl_syntax_open.specs.declared.pending.Pending as pending;
+ghost use Rattle.nesl_syntax_open.specs.declared.mode.Mode.TheVariants as mode;
 
 use crate::fault::ParseFault;
 use crate::lists::{
     Bindings, Elements, each_of, filtered_each_of, push_binding, push_part, sequence_of,
 };
 use crate::mark::Mark;
+use crate::mode::{Mode, wait};
 use crate::part::{Part, call_of, index_of, over, range_of, strided_range_of, widen};
 use crate::pattern::{PatternPart, pattern_of};
 use crate::pending::{Group, Opening, Pending};
 use nesl_lex::token::Span;
 use std::alloc::Global;
 
-/// Something else is open, or the part is whole.
+/// The last part of what is open, and the token behind it, which ends the part.
 #[derive(Drop)]
-pub enum Turn {
-    Becomes(Pending),
-    Ends(Part),
+struct Last {
+    part: Part,
+    mark: Mark,
+    at: Span,
 }
 
 /// A token that ends a part, and where it stands.
@@ -38,7 +41,7 @@ struct PlacedMark {
 }
 
 // The tokens have no tree; what was read of one is dropped.
-fn refuse<T: Drop>(value: T) -> Result<Turn, ParseFault>
+fn refuse<T: Drop>(value: T) -> Result<Mode, ParseFault>
     ensures { result ≡ Err ParseFault.Syntax }
 {
     drop(value);
@@ -46,75 +49,104 @@ fn refuse<T: Drop>(value: T) -> Result<Turn, ParseFault>
 }
 
 // Memory ran out; what was read of a tree is dropped.
-fn run_out<T: Drop>(value: T) -> Result<Turn, ParseFault>
+fn run_out<T: Drop>(value: T) -> Result<Mode, ParseFault>
     ensures { result ≡ Err ParseFault.Memory }
 {
     drop(value);
     Err(ParseFault::Memory)
 }
 
-fn becomes(opening: Opening) -> Result<Turn, ParseFault>
-    ensures { result ≡ Ok (turn.Becomes (pending.Open opening)) }
+// A part that is whole.
+#[inline(always)]
+fn whole(part: Part) -> Mode
+    ensures { result ≡ mode.Behind false part }
 {
-    Ok(Turn::Becomes(Pending::Open(opening)))
+    Mode::Behind { fresh: false, part }
 }
 
-fn end_round(part: Part, from: Span, end: PlacedMark) -> Result<Turn, ParseFault>
-    ensures { (x : Tree) → Sees part x → Turns result (turned end.mark end.at (machine.round from) x) }
+// Something else is open in place of what was.
+#[inline(always)]
+fn becomes(stack: &mut Vec<Pending>, opening: Opening) -> Result<Mode, ParseFault>
+    ensures { (ws : List Waiting) (o : machine.Opening) → SeesStack stack.old.items ws → SeesOpening opening o →
+        Follows result stack.new.items (Some (open_at o ∷ ws, before)) }
 {
-    match end.mark {
-        Mark::CloseParenthesis => Ok(Turn::Ends(widen(part, over(from, end.at)))),
+    wait(stack, Pending::Open(opening))
+}
+
+#[inline(never)]
+fn end_round(last: Last, from: Span) -> Result<Mode, ParseFault>
+    ensures { (ps : List pending.Pending) (ws : List Waiting) (x : Tree) → SeesStack ps ws → Sees last.part x →
+        Follows result ps (taken_up ws (turned last.mark last.at (machine.round from) x)) }
+{
+    let Last { part, mark, at } = last;
+    match mark {
+        Mark::CloseParenthesis => Ok(whole(widen(part, over(from, at)))),
         _ => refuse(part),
     }
 }
 
 #[inline(never)]
-fn end_call(
-    alloc: Global,
-    name: Vec<u8>,
-    part: Part,
-    from: Span,
-    end: PlacedMark,
-) -> Result<Turn, ParseFault>
-    ensures { (x : Tree) → Sees part x → Turns result (turned end.mark end.at (machine.call name.items from) x) }
+fn end_call(alloc: Global, name: Vec<u8>, from: Span, last: Last) -> Result<Mode, ParseFault>
+    ensures { (ps : List pending.Pending) (ws : List Waiting) (x : Tree) → SeesStack ps ws → Sees last.part x →
+        Follows result ps (taken_up ws (turned last.mark last.at (machine.call name.items from) x)) }
 {
-    match end.mark {
-        Mark::CloseParenthesis => Ok(Turn::Ends(call_of(alloc, name, part, over(from, end.at))?)),
+    let Last { part, mark, at } = last;
+    match mark {
+        Mark::CloseParenthesis => Ok(whole(call_of(alloc, name, part, over(from, at))?)),
         _ => refuse((name, part)),
     }
 }
 
 #[inline(never)]
-fn end_index(alloc: Global, base: Part, part: Part, end: PlacedMark) -> Result<Turn, ParseFault>
-    ensures { (a x : Tree) → Sees base a → Sees part x → Turns result (turned end.mark end.at (machine.index_of a) x) }
+fn end_index(alloc: Global, base: Part, last: Last) -> Result<Mode, ParseFault>
+    ensures { (ps : List pending.Pending) (ws : List Waiting) (a x : Tree) → SeesStack ps ws → Sees base a →
+        Sees last.part x →
+        Follows result ps (taken_up ws (turned last.mark last.at (machine.index_of a) x)) }
 {
-    match end.mark {
-        Mark::CloseBracket => Ok(Turn::Ends(index_of(alloc, base, part, end.at)?)),
+    let Last { part, mark, at } = last;
+    match mark {
+        Mark::CloseBracket => Ok(whole(index_of(alloc, base, part, at)?)),
         _ => refuse((base, part)),
     }
 }
 
-fn end_test(part: Part, word: Span, end: PlacedMark) -> Result<Turn, ParseFault>
-    ensures { (x : Tree) → Sees part x → Turns result (turned end.mark end.at (machine.test word) x) }
+#[inline(never)]
+fn end_test(stack: &mut Vec<Pending>, word: Span, last: Last) -> Result<Mode, ParseFault>
+    ensures { (ws : List Waiting) (x : Tree) → SeesStack stack.old.items ws → Sees last.part x →
+        Follows result stack.new.items (taken_up ws (turned last.mark last.at (machine.test word) x)) }
 {
-    match end.mark {
-        Mark::Then => becomes(Opening::Branch { word, test: part }),
-        _ => refuse(part),
+    match last.mark {
+        Mark::Then => becomes(
+            stack,
+            Opening::Branch {
+                word,
+                test: last.part,
+            },
+        ),
+        _ => refuse(last),
     }
 }
 
 #[inline(never)]
-fn end_branch(test: Part, part: Part, word: Span, end: PlacedMark) -> Result<Turn, ParseFault>
-    ensures { (a x : Tree) → Sees test a → Sees part x →
-        Turns result (turned end.mark end.at (machine.branch word a) x) }
+fn end_branch(
+    stack: &mut Vec<Pending>,
+    test: Part,
+    word: Span,
+    last: Last,
+) -> Result<Mode, ParseFault>
+    ensures { (ws : List Waiting) (a x : Tree) → SeesStack stack.old.items ws → Sees test a → Sees last.part x →
+        Follows result stack.new.items (taken_up ws (turned last.mark last.at (machine.branch word a) x)) }
 {
-    match end.mark {
-        Mark::Else => Ok(Turn::Becomes(Pending::Else {
-            word,
-            test,
-            yes: part,
-        })),
-        _ => refuse((test, part)),
+    match last.mark {
+        Mark::Else => wait(
+            stack,
+            Pending::Else {
+                word,
+                test,
+                yes: last.part,
+            },
+        ),
+        _ => refuse((test, last)),
     }
 }
 
@@ -122,27 +154,29 @@ fn end_branch(test: Part, part: Part, word: Span, end: PlacedMark) -> Result<Tur
 #[tactic(auto, using(crate::proofs::Turns::no_elements))]
 fn end_list(
     alloc: Global,
+    stack: &mut Vec<Pending>,
     some: bool,
     elements: Elements,
-    part: Part,
     from: Span,
-    end: PlacedMark,
-) -> Result<Turn, ParseFault>
-    ensures { (xs : Trees) (x : Tree) → some ≡ some_elements xs → SeesAll elements xs → Sees part x →
-        Turns result (turned end.mark end.at (machine.list from xs) x) }
+    last: Last,
+) -> Result<Mode, ParseFault>
+    ensures { (ws : List Waiting) (xs : Trees) (x : Tree) → SeesStack stack.old.items ws →
+        some ≡ some_elements xs → SeesAll elements xs → Sees last.part x →
+        Follows result stack.new.items (taken_up ws (turned last.mark last.at (machine.list from xs) x)) }
 {
-    match end.mark {
+    let Last { part, mark, at } = last;
+    match mark {
         Mark::CloseBracket => {
             let elements = push_part(elements, part)?;
-            let list = sequence_of(alloc, elements, over(from, end.at))?;
-            Ok(Turn::Ends(list))
+            let list = sequence_of(alloc, elements, over(from, at))?;
+            Ok(whole(list))
         }
         Mark::Colon => {
             drop(elements);
             if some {
                 return refuse(part);
             }
-            becomes(Opening::RangeFrom { from, start: part })
+            becomes(stack, Opening::RangeFrom { from, start: part })
         }
         _ => refuse((elements, part)),
     }
@@ -151,21 +185,27 @@ fn end_list(
 #[inline(never)]
 fn end_range_from(
     alloc: Global,
+    stack: &mut Vec<Pending>,
     start: Part,
-    part: Part,
     from: Span,
-    end: PlacedMark,
-) -> Result<Turn, ParseFault>
-    ensures { (a x : Tree) → Sees start a → Sees part x →
-        Turns result (turned end.mark end.at (machine.range_from from a) x) }
+    last: Last,
+) -> Result<Mode, ParseFault>
+    ensures { (ws : List Waiting) (a x : Tree) → SeesStack stack.old.items ws → Sees start a → Sees last.part x →
+        Follows result stack.new.items (taken_up ws (turned last.mark last.at (machine.range_from from a) x)) }
 {
-    match end.mark {
-        Mark::Colon => becomes(Opening::RangeTo {
-            from,
-            start,
-            stop: part,
-        }),
-        Mark::CloseBracket => Ok(Turn::Ends(range_of(alloc, start, part, over(from, end.at))?)),
+    let Last { part, mark, at } = last;
+    match mark {
+        Mark::Colon => {
+            becomes(
+                stack,
+                Opening::RangeTo {
+                    from,
+                    start,
+                    stop: part,
+                },
+            )
+        }
+        Mark::CloseBracket => Ok(whole(range_of(alloc, start, part, over(from, at))?)),
         _ => refuse((start, part)),
     }
 }
@@ -175,39 +215,52 @@ fn end_range_to(
     alloc: Global,
     start: Part,
     stop: Part,
-    part: Part,
     from: Span,
-    end: PlacedMark,
-) -> Result<Turn, ParseFault>
-    ensures { (a b x : Tree) → Sees start a → Sees stop b → Sees part x →
-        Turns result (turned end.mark end.at (machine.range_to from a b) x) }
+    last: Last,
+) -> Result<Mode, ParseFault>
+    ensures { (ps : List pending.Pending) (ws : List Waiting) (a b x : Tree) → SeesStack ps ws → Sees start a →
+        Sees stop b → Sees last.part x →
+        Follows result ps (taken_up ws (turned last.mark last.at (machine.range_to from a b) x)) }
 {
-    match end.mark {
+    let Last { part, mark, at } = last;
+    match mark {
         Mark::CloseBracket => {
-            let range = strided_range_of(alloc, start, stop, part, over(from, end.at))?;
-            Ok(Turn::Ends(range))
+            let range = strided_range_of(alloc, start, stop, part, over(from, at))?;
+            Ok(whole(range))
         }
         _ => refuse((start, stop, part)),
     }
 }
 
 // A pattern, where an expression may be one.
-fn bind(alloc: Global, group: Group, bindings: Bindings, part: Part) -> Result<Turn, ParseFault>
-    ensures { (g : machine.Group) (bs : Binders) (x : Tree) → SeesGroup group g → SeesBound bindings bs → Sees part x →
-        Turns result (machine.bound g bs (pattern_in x)) }
+#[inline(always)]
+fn bind(
+    alloc: Global,
+    stack: &mut Vec<Pending>,
+    group: Group,
+    bindings: Bindings,
+    part: Part,
+) -> Result<Mode, ParseFault>
+    ensures { (ws : List Waiting) (g : machine.Group) (bs : Binders) (x : Tree) → SeesStack stack.old.items ws →
+        SeesGroup group g → SeesBound bindings bs → Sees part x →
+        Follows result stack.new.items (taken_up ws (machine.bound g bs (pattern_in x))) }
 {
     match pattern_of(alloc, part) {
-        Ok(Some(pattern)) => becomes(Opening::Value {
-            group,
-            bindings,
-            pattern,
-        }),
+        Ok(Some(pattern)) => becomes(
+            stack,
+            Opening::Value {
+                group,
+                bindings,
+                pattern,
+            },
+        ),
         Ok(None) => refuse((group, bindings)),
         Err(_) => run_out((group, bindings)),
     }
 }
 
 /// No binders so far.
+#[inline(always)]
 pub fn no_bindings(alloc: Global) -> Bindings
     ensures { SeesBound result no_binders }
 {
@@ -218,27 +271,36 @@ pub fn no_bindings(alloc: Global) -> Bindings
 }
 
 #[inline(never)]
-fn end_brace(alloc: Global, part: Part, from: Span, end: PlacedMark) -> Result<Turn, ParseFault>
-    ensures { (x : Tree) → Sees part x → Turns result (turned end.mark end.at (machine.brace from) x) }
+fn end_brace(
+    alloc: Global,
+    stack: &mut Vec<Pending>,
+    from: Span,
+    last: Last,
+) -> Result<Mode, ParseFault>
+    ensures { (ws : List Waiting) (x : Tree) → SeesStack stack.old.items ws → Sees last.part x →
+        Follows result stack.new.items (taken_up ws (turned last.mark last.at (machine.brace from) x)) }
 {
-    match end.mark {
+    let Last { part, mark, .. } = last;
+    match mark {
         Mark::Colon => {
             let group = Group::Each {
                 from,
                 body: Some(part),
             };
-            becomes(Opening::Binders {
-                group,
-                some: false,
-                bindings: no_bindings(alloc),
-            })
+            let bindings = no_bindings(alloc);
+            becomes(
+                stack,
+                Opening::Binders {
+                    group,
+                    some: false,
+                    bindings,
+                },
+            )
         }
-        Mark::In => bind(
-            alloc,
-            Group::Each { from, body: None },
-            no_bindings(alloc),
-            part,
-        ),
+        Mark::In => {
+            let group = Group::Each { from, body: None };
+            bind(alloc, stack, group, no_bindings(alloc), part)
+        }
         _ => refuse(part),
     }
 }
@@ -246,66 +308,90 @@ fn end_brace(alloc: Global, part: Part, from: Span, end: PlacedMark) -> Result<T
 #[inline(never)]
 fn end_pattern(
     alloc: Global,
+    stack: &mut Vec<Pending>,
     group: Group,
     bindings: Bindings,
-    part: Part,
-    end: PlacedMark,
-) -> Result<Turn, ParseFault>
-    ensures { (g : machine.Group) (bs : Binders) (x : Tree) → SeesGroup group g → SeesBound bindings bs → Sees part x →
-        Turns result (turned end.mark end.at (machine.binders g bs) x) }
+    last: Last,
+) -> Result<Mode, ParseFault>
+    ensures { (ws : List Waiting) (g : machine.Group) (bs : Binders) (x : Tree) → SeesStack stack.old.items ws →
+        SeesGroup group g → SeesBound bindings bs → Sees last.part x →
+        Follows result stack.new.items (taken_up ws (turned last.mark last.at (machine.binders g bs) x)) }
 {
+    let Last { part, mark, .. } = last;
     match group {
-        Group::Let(word) => match end.mark {
-            Mark::Equal => bind(alloc, Group::Let(word), bindings, part),
+        Group::Let(word) => match mark {
+            Mark::Equal => bind(alloc, stack, Group::Let(word), bindings, part),
             _ => refuse((bindings, part)),
         },
-        Group::Each { from, body } => match end.mark {
-            Mark::In => bind(alloc, Group::Each { from, body }, bindings, part),
+        Group::Each { from, body } => match mark {
+            Mark::In => bind(alloc, stack, Group::Each { from, body }, bindings, part),
             _ => refuse((body, bindings, part)),
         },
     }
 }
 
 // Behind the value of a binder of a let.
-fn end_let_value(bindings: Bindings, word: Span, end: PlacedMark) -> Result<Turn, ParseFault>
-    ensures { (bs : Binders) → SeesBound bindings bs → some_binders bs ≡ true →
-        Turns result (let_turned end.mark word bs) }
+fn end_let_value(
+    stack: &mut Vec<Pending>,
+    bindings: Bindings,
+    word: Span,
+    end: PlacedMark,
+) -> Result<Mode, ParseFault>
+    ensures { (ws : List Waiting) (bs : Binders) → SeesStack stack.old.items ws → SeesBound bindings bs →
+        some_binders bs ≡ true →
+        Follows result stack.new.items (taken_up ws (let_turned end.mark word bs)) }
 {
     match end.mark {
-        Mark::Semicolon => becomes(Opening::Binders {
-            group: Group::Let(word),
-            some: true,
-            bindings,
-        }),
-        Mark::In => Ok(Turn::Becomes(Pending::Body { word, bindings })),
+        Mark::Semicolon => {
+            becomes(
+                stack,
+                Opening::Binders {
+                    group: Group::Let(word),
+                    some: true,
+                    bindings,
+                },
+            )
+        }
+        Mark::In => wait(stack, Pending::Body { word, bindings }),
         _ => refuse(bindings),
     }
 }
 
 // Behind the value of a binder of an apply-to-each.
-#[inline(never)]
 fn end_each_value(
     alloc: Global,
+    stack: &mut Vec<Pending>,
     body: Option<Part>,
     bindings: Bindings,
     from: Span,
     end: PlacedMark,
-) -> Result<Turn, ParseFault>
-    ensures { (b : Option Tree) (bs : Binders) → SeesBody body b → SeesBound bindings bs → some_binders bs ≡ true →
-        Turns result (each_turned end.mark end.at from b bs) }
+) -> Result<Mode, ParseFault>
+    ensures { (ws : List Waiting) (b : Option Tree) (bs : Binders) → SeesStack stack.old.items ws →
+        SeesBody body b → SeesBound bindings bs → some_binders bs ≡ true →
+        Follows result stack.new.items (taken_up ws (each_turned end.mark end.at from b bs)) }
 {
     match end.mark {
-        Mark::Semicolon => becomes(Opening::Binders {
-            group: Group::Each { from, body },
-            some: true,
-            bindings,
-        }),
-        Mark::Bar => becomes(Opening::Filter {
-            from,
-            body,
-            bindings,
-        }),
-        Mark::CloseBrace => Ok(Turn::Ends(each_of(alloc, body, bindings, over(from, end.at))?)),
+        Mark::Semicolon => {
+            becomes(
+                stack,
+                Opening::Binders {
+                    group: Group::Each { from, body },
+                    some: true,
+                    bindings,
+                },
+            )
+        }
+        Mark::Bar => {
+            becomes(
+                stack,
+                Opening::Filter {
+                    from,
+                    body,
+                    bindings,
+                },
+            )
+        }
+        Mark::CloseBrace => Ok(whole(each_of(alloc, body, bindings, over(from, end.at))?)),
         _ => refuse((body, bindings)),
     }
 }
@@ -314,22 +400,25 @@ fn end_each_value(
 #[tactic(auto, using(crate::proofs::Turns::at_let, crate::proofs::Turns::at_each, crate::proofs::Turns::some_bound))]
 fn end_value(
     alloc: Global,
+    stack: &mut Vec<Pending>,
     group: Group,
     bindings: Bindings,
     pattern: PatternPart,
-    part: Part,
-    end: PlacedMark,
-) -> Result<Turn, ParseFault>
-    ensures { (g : machine.Group) (bs : Binders) (p : PatternTree) (x : Tree) → SeesGroup group g →
-        SeesBound bindings bs → SeesPattern pattern p → Sees part x →
-        Turns result (turned end.mark end.at (machine.value g bs p) x) }
+    last: Last,
+) -> Result<Mode, ParseFault>
+    ensures { (ws : List Waiting) (g : machine.Group) (bs : Binders) (p : PatternTree) (x : Tree) →
+        SeesStack stack.old.items ws → SeesGroup group g → SeesBound bindings bs → SeesPattern pattern p →
+        Sees last.part x →
+        Follows result stack.new.items (taken_up ws (turned last.mark last.at (machine.value g bs p) x)) }
 {
+    let Last { part, mark, at } = last;
     let Ok(bindings) = push_binding(bindings, pattern, part) else {
         return run_out(group);
     };
+    let end = PlacedMark { mark, at };
     match group {
-        Group::Let(word) => end_let_value(bindings, word, end),
-        Group::Each { from, body } => end_each_value(alloc, body, bindings, from, end),
+        Group::Let(word) => end_let_value(stack, bindings, word, end),
+        Group::Each { from, body } => end_each_value(alloc, stack, body, bindings, from, end),
     }
 }
 
@@ -338,65 +427,100 @@ fn end_filter(
     alloc: Global,
     body: Option<Part>,
     bindings: Bindings,
-    part: Part,
     from: Span,
-    end: PlacedMark,
-) -> Result<Turn, ParseFault>
-    ensures { (b : Option Tree) (bs : Binders) (x : Tree) → SeesBody body b → SeesBound bindings bs → Sees part x →
-        Turns result (turned end.mark end.at (machine.filter from b bs) x) }
+    last: Last,
+) -> Result<Mode, ParseFault>
+    ensures { (ps : List pending.Pending) (ws : List Waiting) (b : Option Tree) (bs : Binders) (x : Tree) →
+        SeesStack ps ws → SeesBody body b → SeesBound bindings bs → Sees last.part x →
+        Follows result ps (taken_up ws (turned last.mark last.at (machine.filter from b bs) x)) }
 {
-    match end.mark {
+    let Last { part, mark, at } = last;
+    match mark {
         Mark::CloseBrace => {
-            let each = filtered_each_of(alloc, body, bindings, part, over(from, end.at))?;
-            Ok(Turn::Ends(each))
+            let each = filtered_each_of(alloc, body, bindings, part, over(from, at))?;
+            Ok(whole(each))
         }
         _ => refuse((body, bindings, part)),
     }
 }
 
-/// An opening with an expression and this token at this place behind it.
-#[inline(never)]
-pub fn turn_of(
+// An opening that isn't on the list any more, with its last part.
+#[inline(always)]
+fn end_opening(
     alloc: Global,
+    stack: &mut Vec<Pending>,
     opening: Opening,
-    part: Part,
-    mark: Mark,
-    at: Span,
-) -> Result<Turn, ParseFault>
-    ensures { (o : machine.Opening) (x : Tree) → SeesOpening opening o → Sees part x →
-        Turns result (turned mark at o x) }
+    last: Last,
+) -> Result<Mode, ParseFault>
+    ensures { (ws : List Waiting) (o : machine.Opening) (x : Tree) → SeesStack stack.old.items ws →
+        SeesOpening opening o → Sees last.part x →
+        Follows result stack.new.items (taken_up ws (turned last.mark last.at o x)) }
 {
-    let end = PlacedMark { mark, at };
     match opening {
-        Opening::Round(from) => end_round(part, from, end),
-        Opening::Call { name, from } => end_call(alloc, name, part, from, end),
-        Opening::Index(base) => end_index(alloc, base, part, end),
-        Opening::Test(word) => end_test(part, word, end),
-        Opening::Branch { word, test } => end_branch(test, part, word, end),
+        Opening::Round(from) => end_round(last, from),
+        Opening::Call { name, from } => end_call(alloc, name, from, last),
+        Opening::Index(base) => end_index(alloc, base, last),
+        Opening::Test(word) => end_test(stack, word, last),
+        Opening::Branch { word, test } => end_branch(stack, test, word, last),
         Opening::List {
             from,
             some,
             elements,
-        } => end_list(alloc, some, elements, part, from, end),
-        Opening::RangeFrom { from, start } => end_range_from(alloc, start, part, from, end),
-        Opening::RangeTo { from, start, stop } => {
-            end_range_to(alloc, start, stop, part, from, end)
-        }
-        Opening::Brace(from) => end_brace(alloc, part, from, end),
+        } => end_list(alloc, stack, some, elements, from, last),
+        Opening::RangeFrom { from, start } => end_range_from(alloc, stack, start, from, last),
+        Opening::RangeTo { from, start, stop } => end_range_to(alloc, start, stop, from, last),
+        Opening::Brace(from) => end_brace(alloc, stack, from, last),
         Opening::Binders {
             group,
             bindings,
             ..
-        } => end_pattern(alloc, group, bindings, part, end),
+        } => end_pattern(alloc, stack, group, bindings, last),
         Opening::Value {
             group,
             bindings,
             pattern,
-        } => { end_value(alloc, group, bindings, pattern, part, end) }
+        } => end_value(alloc, stack, group, bindings, pattern, last),
         Opening::Filter {
             from,
             body,
             bindings,
-        } => { end_filter(alloc, body, bindings, part, from, end) }
+        } => end_filter(alloc, body, bindings, from, last),
+    }
+}
+
+// What the newest is, with its last part.
+#[inline(always)]
+fn end_popped(
+    alloc: Global,
+    stack: &mut Vec<Pending>,
+    popped: Pending,
+    last: Last,
+) -> Result<Mode, ParseFault>
+    ensures { (ws : List Waiting) (w : Waiting) (x : Tree) → SeesStack stack.old.items ws → SeesPending popped w →
+        Sees last.part x →
+        Follows result stack.new.items (marked last.mark last.at (w ∷ ws) x) }
+{
+    match popped {
+        Pending::Open(opening) => end_opening(alloc, stack, opening, last),
+        other => refuse((other, last)),
+    }
+}
+
+/// What a token leaves that ends a part of the newest opening, with that part.
+#[inline(never)]
+pub fn end_part(
+    alloc: Global,
+    stack: &mut Vec<Pending>,
+    part: Part,
+    mark: Mark,
+    at: Span,
+) -> Result<Mode, ParseFault>
+    ensures { (ws : List Waiting) (x : Tree) → SeesStack stack.old.items ws → Sees part x →
+        Follows result stack.new.items (marked mark at ws x) }
+{
+    let last = Last { part, mark, at };
+    match stack.pop() {
+        Some(popped) => end_popped(alloc, stack, popped, last),
+        None => refuse(last),
     }
 }

@@ -3,7 +3,8 @@ use Rattle.nesl_lex.specs.Tokens.{placed}
 use Rattle.nesl_syntax_open.specs.Machine as machine
 use Rattle.nesl_syntax_open.specs.Machine.{Waiting}
 use Rattle.nesl_syntax_open.specs.Stack.{SeesStack}
-use Rattle.nesl_syntax.specs.Steps.{Runs, SeesMode}
+use Rattle.nesl_syntax.specs.Steps.{Runs}
+use Rattle.nesl_syntax_open.specs.Modes.{SeesMode}
 use Rattle.nesl_syntax.proofs.parse.run.Given as goal
 
 abbrev pub invariant-loop-token : goal.invariant-loop-token

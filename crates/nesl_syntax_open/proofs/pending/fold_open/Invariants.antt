@@ -3,7 +3,7 @@ use Rattle.nesl_syntax_tree.specs.Trees.{Tree}
 use Rattle.nesl_syntax_open.specs.Machine.{Waiting}
 use Rattle.nesl_syntax_open.specs.Parts.{Sees}
 use Rattle.nesl_syntax_open.specs.Stack.{SeesStack, Folds}
-use Rattle.nesl_syntax_open.proofs.pending.fold.Given as goal
+use Rattle.nesl_syntax_open.proofs.pending.fold_open.Given as goal
 
 -- what is left folds as all did
 abbrev pub invariant-loop-pending : goal.invariant-loop-pending

@@ -1,0 +1,44 @@
+// What the tokens so far leave, and one more that waits.
+
+ghost use Rattle.std.specs.Prelude.{◌≡◌, ◌∷◌, [], ◌++◌, List, IfOk, IfErr, Some};
+ghost use Rattle.nesl_syntax_open.specs.Machine.{Waiting, before};
+ghost use Rattle.nesl_syntax_open.specs.Stack.{SeesPending, SeesStack};
+ghost use Rattle.nesl_syntax_open.specs.Modes.{Follows};
+
+use crate::fault::ParseFault;
+use crate::part::Part;
+use crate::pending::Pending;
+use crate::types::TypePart;
+
+/// What the tokens so far leave.
+#[derive(Drop)]
+pub enum Mode {
+    /// An expression is to come.
+    Before,
+    /// An expression stands before this place, and whether it is a name and nothing else.
+    Behind { fresh: bool, part: Part },
+    /// A type is to come.
+    Typing,
+    /// A type stands before this place.
+    Typed(TypePart),
+}
+
+/// One more that waits.
+#[inline(always)]
+pub fn push(stack: &mut Vec<Pending>, pending: Pending) -> Result<(), ParseFault>
+    ensures pushed { IfOk result (λ u. stack.new.items ≡ stack.old.items ++ pending ∷ []) }
+    ensures fails { IfErr result (λ e. e ≡ ParseFault.Memory) }
+{
+    stack.push(pending)?;
+    Ok(())
+}
+
+/// One more that waits for an expression.
+#[inline(always)]
+pub fn wait(stack: &mut Vec<Pending>, pending: Pending) -> Result<Mode, ParseFault>
+    ensures { (ws : List Waiting) (w : Waiting) → SeesStack stack.old.items ws → SeesPending pending w →
+        Follows result stack.new.items (Some (w ∷ ws, before)) }
+{
+    push(stack, pending)?;
+    Ok(Mode::Before)
+}
