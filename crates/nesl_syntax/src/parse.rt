@@ -690,11 +690,14 @@ fn finish(alloc: Global, stack: &mut Vec<Pending>, mode: Mode) -> Result<Part, P
     }
 }
 
+/// How many that wait room is taken for at first. More room is taken where more wait.
+const FIRST_ROOM: usize = 8;
+
 /// The expression that the tokens are.
 pub fn expression(alloc: Global, tokens: &[Token]) -> Result<Part, ParseFault>
     ensures { GivesTree result (machine.expression (placed tokens.now)) }
 {
-    let mut stack = Vec::new(alloc);
+    let mut stack = Vec::with_capacity(alloc, FIRST_ROOM)?;
     let mode = run(alloc, &mut stack, Mode::Before, tokens)?;
     finish(alloc, &mut stack, mode)
 }

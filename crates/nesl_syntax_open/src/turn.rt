@@ -25,17 +25,10 @@ use crate::pending::{Group, Opening, Pending};
 use nesl_lex::token::Span;
 use std::alloc::Global;
 
-/// The last part of what is open, and the token behind it, which ends the part.
-#[derive(Drop)]
-struct Last {
-    part: Part,
-    mark: Mark,
-    at: Span,
-}
-
-/// A token that ends a part, and where it stands.
+/// A token that ends a part, and where it stands; and where memory for what it makes comes from.
 #[derive(Clone, Copy)]
-struct PlacedMark {
+struct End {
+    alloc: Global,
     mark: Mark,
     at: Span,
 }
@@ -74,56 +67,47 @@ fn becomes(stack: &mut Vec<Pending>, opening: Opening) -> Result<Mode, ParseFaul
 }
 
 #[inline(never)]
-fn end_round(last: Last, from: Span) -> Result<Mode, ParseFault>
-    ensures { (ps : List pending.Pending) (ws : List Waiting) (x : Tree) → SeesStack ps ws → Sees last.part x →
-        Follows result ps (taken_up ws (turned last.mark last.at (machine.round from) x)) }
+fn end_round(from: Span, part: Part, end: End) -> Result<Mode, ParseFault>
+    ensures { (ps : List pending.Pending) (ws : List Waiting) (x : Tree) → SeesStack ps ws → Sees part x →
+        Follows result ps (taken_up ws (turned end.mark end.at (machine.round from) x)) }
 {
-    let Last { part, mark, at } = last;
-    match mark {
-        Mark::CloseParenthesis => Ok(whole(widen(part, over(from, at)))),
+    match end.mark {
+        Mark::CloseParenthesis => Ok(whole(widen(part, over(from, end.at)))),
         _ => refuse(part),
     }
 }
 
 #[inline(never)]
-fn end_call(alloc: Global, name: Vec<u8>, from: Span, last: Last) -> Result<Mode, ParseFault>
-    ensures { (ps : List pending.Pending) (ws : List Waiting) (x : Tree) → SeesStack ps ws → Sees last.part x →
-        Follows result ps (taken_up ws (turned last.mark last.at (machine.call name.items from) x)) }
+fn end_call(name: Vec<u8>, from: Span, part: Part, end: End) -> Result<Mode, ParseFault>
+    ensures { (ps : List pending.Pending) (ws : List Waiting) (x : Tree) → SeesStack ps ws → Sees part x →
+        Follows result ps (taken_up ws (turned end.mark end.at (machine.call name.items from) x)) }
 {
-    let Last { part, mark, at } = last;
-    match mark {
-        Mark::CloseParenthesis => Ok(whole(call_of(alloc, name, part, over(from, at))?)),
+    match end.mark {
+        Mark::CloseParenthesis => Ok(whole(call_of(end.alloc, name, part, over(from, end.at))?)),
         _ => refuse((name, part)),
     }
 }
 
 #[inline(never)]
-fn end_index(alloc: Global, base: Part, last: Last) -> Result<Mode, ParseFault>
+fn end_index(base: Part, part: Part, end: End) -> Result<Mode, ParseFault>
     ensures { (ps : List pending.Pending) (ws : List Waiting) (a x : Tree) → SeesStack ps ws → Sees base a →
-        Sees last.part x →
-        Follows result ps (taken_up ws (turned last.mark last.at (machine.index_of a) x)) }
+        Sees part x →
+        Follows result ps (taken_up ws (turned end.mark end.at (machine.index_of a) x)) }
 {
-    let Last { part, mark, at } = last;
-    match mark {
-        Mark::CloseBracket => Ok(whole(index_of(alloc, base, part, at)?)),
+    match end.mark {
+        Mark::CloseBracket => Ok(whole(index_of(end.alloc, base, part, end.at)?)),
         _ => refuse((base, part)),
     }
 }
 
 #[inline(never)]
-fn end_test(stack: &mut Vec<Pending>, word: Span, last: Last) -> Result<Mode, ParseFault>
-    ensures { (ws : List Waiting) (x : Tree) → SeesStack stack.old.items ws → Sees last.part x →
-        Follows result stack.new.items (taken_up ws (turned last.mark last.at (machine.test word) x)) }
+fn end_test(stack: &mut Vec<Pending>, word: Span, part: Part, end: End) -> Result<Mode, ParseFault>
+    ensures { (ws : List Waiting) (x : Tree) → SeesStack stack.old.items ws → Sees part x →
+        Follows result stack.new.items (taken_up ws (turned end.mark end.at (machine.test word) x)) }
 {
-    match last.mark {
-        Mark::Then => becomes(
-            stack,
-            Opening::Branch {
-                word,
-                test: last.part,
-            },
-        ),
-        _ => refuse(last),
+    match end.mark {
+        Mark::Then => becomes(stack, Opening::Branch { word, test: part }),
+        _ => refuse(part),
     }
 }
 
@@ -132,43 +116,43 @@ fn end_branch(
     stack: &mut Vec<Pending>,
     test: Part,
     word: Span,
-    last: Last,
+    part: Part,
+    end: End,
 ) -> Result<Mode, ParseFault>
-    ensures { (ws : List Waiting) (a x : Tree) → SeesStack stack.old.items ws → Sees test a → Sees last.part x →
-        Follows result stack.new.items (taken_up ws (turned last.mark last.at (machine.branch word a) x)) }
+    ensures { (ws : List Waiting) (a x : Tree) → SeesStack stack.old.items ws → Sees test a → Sees part x →
+        Follows result stack.new.items (taken_up ws (turned end.mark end.at (machine.branch word a) x)) }
 {
-    match last.mark {
+    match end.mark {
         Mark::Else => wait(
             stack,
             Pending::Else {
                 word,
                 test,
-                yes: last.part,
+                yes: part,
             },
         ),
-        _ => refuse((test, last)),
+        _ => refuse((test, part)),
     }
 }
 
 #[inline(never)]
 #[tactic(auto, using(crate::proofs::Turns::no_elements))]
 fn end_list(
-    alloc: Global,
     stack: &mut Vec<Pending>,
     some: bool,
     elements: Elements,
     from: Span,
-    last: Last,
+    part: Part,
+    end: End,
 ) -> Result<Mode, ParseFault>
     ensures { (ws : List Waiting) (xs : Trees) (x : Tree) → SeesStack stack.old.items ws →
-        some ≡ some_elements xs → SeesAll elements xs → Sees last.part x →
-        Follows result stack.new.items (taken_up ws (turned last.mark last.at (machine.list from xs) x)) }
+        some ≡ some_elements xs → SeesAll elements xs → Sees part x →
+        Follows result stack.new.items (taken_up ws (turned end.mark end.at (machine.list from xs) x)) }
 {
-    let Last { part, mark, at } = last;
-    match mark {
+    match end.mark {
         Mark::CloseBracket => {
             let elements = push_part(elements, part)?;
-            let list = sequence_of(alloc, elements, over(from, at))?;
+            let list = sequence_of(end.alloc, elements, over(from, end.at))?;
             Ok(whole(list))
         }
         Mark::Colon => {
@@ -184,17 +168,16 @@ fn end_list(
 
 #[inline(never)]
 fn end_range_from(
-    alloc: Global,
     stack: &mut Vec<Pending>,
     start: Part,
     from: Span,
-    last: Last,
+    part: Part,
+    end: End,
 ) -> Result<Mode, ParseFault>
-    ensures { (ws : List Waiting) (a x : Tree) → SeesStack stack.old.items ws → Sees start a → Sees last.part x →
-        Follows result stack.new.items (taken_up ws (turned last.mark last.at (machine.range_from from a) x)) }
+    ensures { (ws : List Waiting) (a x : Tree) → SeesStack stack.old.items ws → Sees start a → Sees part x →
+        Follows result stack.new.items (taken_up ws (turned end.mark end.at (machine.range_from from a) x)) }
 {
-    let Last { part, mark, at } = last;
-    match mark {
+    match end.mark {
         Mark::Colon => {
             becomes(
                 stack,
@@ -205,27 +188,26 @@ fn end_range_from(
                 },
             )
         }
-        Mark::CloseBracket => Ok(whole(range_of(alloc, start, part, over(from, at))?)),
+        Mark::CloseBracket => Ok(whole(range_of(end.alloc, start, part, over(from, end.at))?)),
         _ => refuse((start, part)),
     }
 }
 
 #[inline(never)]
 fn end_range_to(
-    alloc: Global,
     start: Part,
     stop: Part,
     from: Span,
-    last: Last,
+    part: Part,
+    end: End,
 ) -> Result<Mode, ParseFault>
     ensures { (ps : List pending.Pending) (ws : List Waiting) (a b x : Tree) → SeesStack ps ws → Sees start a →
-        Sees stop b → Sees last.part x →
-        Follows result ps (taken_up ws (turned last.mark last.at (machine.range_to from a b) x)) }
+        Sees stop b → Sees part x →
+        Follows result ps (taken_up ws (turned end.mark end.at (machine.range_to from a b) x)) }
 {
-    let Last { part, mark, at } = last;
-    match mark {
+    match end.mark {
         Mark::CloseBracket => {
-            let range = strided_range_of(alloc, start, stop, part, over(from, at))?;
+            let range = strided_range_of(end.alloc, start, stop, part, over(from, end.at))?;
             Ok(whole(range))
         }
         _ => refuse((start, stop, part)),
@@ -271,23 +253,17 @@ pub fn no_bindings(alloc: Global) -> Bindings
 }
 
 #[inline(never)]
-fn end_brace(
-    alloc: Global,
-    stack: &mut Vec<Pending>,
-    from: Span,
-    last: Last,
-) -> Result<Mode, ParseFault>
-    ensures { (ws : List Waiting) (x : Tree) → SeesStack stack.old.items ws → Sees last.part x →
-        Follows result stack.new.items (taken_up ws (turned last.mark last.at (machine.brace from) x)) }
+fn end_brace(stack: &mut Vec<Pending>, from: Span, part: Part, end: End) -> Result<Mode, ParseFault>
+    ensures { (ws : List Waiting) (x : Tree) → SeesStack stack.old.items ws → Sees part x →
+        Follows result stack.new.items (taken_up ws (turned end.mark end.at (machine.brace from) x)) }
 {
-    let Last { part, mark, .. } = last;
-    match mark {
+    match end.mark {
         Mark::Colon => {
             let group = Group::Each {
                 from,
                 body: Some(part),
             };
-            let bindings = no_bindings(alloc);
+            let bindings = no_bindings(end.alloc);
             becomes(
                 stack,
                 Opening::Binders {
@@ -299,7 +275,7 @@ fn end_brace(
         }
         Mark::In => {
             let group = Group::Each { from, body: None };
-            bind(alloc, stack, group, no_bindings(alloc), part)
+            bind(end.alloc, stack, group, no_bindings(end.alloc), part)
         }
         _ => refuse(part),
     }
@@ -307,24 +283,23 @@ fn end_brace(
 
 #[inline(never)]
 fn end_pattern(
-    alloc: Global,
     stack: &mut Vec<Pending>,
     group: Group,
     bindings: Bindings,
-    last: Last,
+    part: Part,
+    end: End,
 ) -> Result<Mode, ParseFault>
     ensures { (ws : List Waiting) (g : machine.Group) (bs : Binders) (x : Tree) → SeesStack stack.old.items ws →
-        SeesGroup group g → SeesBound bindings bs → Sees last.part x →
-        Follows result stack.new.items (taken_up ws (turned last.mark last.at (machine.binders g bs) x)) }
+        SeesGroup group g → SeesBound bindings bs → Sees part x →
+        Follows result stack.new.items (taken_up ws (turned end.mark end.at (machine.binders g bs) x)) }
 {
-    let Last { part, mark, .. } = last;
     match group {
-        Group::Let(word) => match mark {
-            Mark::Equal => bind(alloc, stack, Group::Let(word), bindings, part),
+        Group::Let(word) => match end.mark {
+            Mark::Equal => bind(end.alloc, stack, Group::Let(word), bindings, part),
             _ => refuse((bindings, part)),
         },
-        Group::Each { from, body } => match mark {
-            Mark::In => bind(alloc, stack, Group::Each { from, body }, bindings, part),
+        Group::Each { from, body } => match end.mark {
+            Mark::In => bind(end.alloc, stack, Group::Each { from, body }, bindings, part),
             _ => refuse((body, bindings, part)),
         },
     }
@@ -335,7 +310,7 @@ fn end_let_value(
     stack: &mut Vec<Pending>,
     bindings: Bindings,
     word: Span,
-    end: PlacedMark,
+    end: End,
 ) -> Result<Mode, ParseFault>
     ensures { (ws : List Waiting) (bs : Binders) → SeesStack stack.old.items ws → SeesBound bindings bs →
         some_binders bs ≡ true →
@@ -359,12 +334,11 @@ fn end_let_value(
 
 // Behind the value of a binder of an apply-to-each.
 fn end_each_value(
-    alloc: Global,
     stack: &mut Vec<Pending>,
     body: Option<Part>,
     bindings: Bindings,
     from: Span,
-    end: PlacedMark,
+    end: End,
 ) -> Result<Mode, ParseFault>
     ensures { (ws : List Waiting) (b : Option Tree) (bs : Binders) → SeesStack stack.old.items ws →
         SeesBody body b → SeesBound bindings bs → some_binders bs ≡ true →
@@ -391,7 +365,7 @@ fn end_each_value(
                 },
             )
         }
-        Mark::CloseBrace => Ok(whole(each_of(alloc, body, bindings, over(from, end.at))?)),
+        Mark::CloseBrace => Ok(whole(each_of(end.alloc, body, bindings, over(from, end.at))?)),
         _ => refuse((body, bindings)),
     }
 }
@@ -399,45 +373,42 @@ fn end_each_value(
 #[inline(never)]
 #[tactic(auto, using(crate::proofs::Turns::at_let, crate::proofs::Turns::at_each, crate::proofs::Turns::some_bound))]
 fn end_value(
-    alloc: Global,
     stack: &mut Vec<Pending>,
     group: Group,
     bindings: Bindings,
     pattern: PatternPart,
-    last: Last,
+    part: Part,
+    end: End,
 ) -> Result<Mode, ParseFault>
     ensures { (ws : List Waiting) (g : machine.Group) (bs : Binders) (p : PatternTree) (x : Tree) →
         SeesStack stack.old.items ws → SeesGroup group g → SeesBound bindings bs → SeesPattern pattern p →
-        Sees last.part x →
-        Follows result stack.new.items (taken_up ws (turned last.mark last.at (machine.value g bs p) x)) }
+        Sees part x →
+        Follows result stack.new.items (taken_up ws (turned end.mark end.at (machine.value g bs p) x)) }
 {
-    let Last { part, mark, at } = last;
     let Ok(bindings) = push_binding(bindings, pattern, part) else {
         return run_out(group);
     };
-    let end = PlacedMark { mark, at };
     match group {
         Group::Let(word) => end_let_value(stack, bindings, word, end),
-        Group::Each { from, body } => end_each_value(alloc, stack, body, bindings, from, end),
+        Group::Each { from, body } => end_each_value(stack, body, bindings, from, end),
     }
 }
 
 #[inline(never)]
 fn end_filter(
-    alloc: Global,
     body: Option<Part>,
     bindings: Bindings,
     from: Span,
-    last: Last,
+    part: Part,
+    end: End,
 ) -> Result<Mode, ParseFault>
     ensures { (ps : List pending.Pending) (ws : List Waiting) (b : Option Tree) (bs : Binders) (x : Tree) →
-        SeesStack ps ws → SeesBody body b → SeesBound bindings bs → Sees last.part x →
-        Follows result ps (taken_up ws (turned last.mark last.at (machine.filter from b bs) x)) }
+        SeesStack ps ws → SeesBody body b → SeesBound bindings bs → Sees part x →
+        Follows result ps (taken_up ws (turned end.mark end.at (machine.filter from b bs) x)) }
 {
-    let Last { part, mark, at } = last;
-    match mark {
+    match end.mark {
         Mark::CloseBrace => {
-            let each = filtered_each_of(alloc, body, bindings, part, over(from, at))?;
+            let each = filtered_each_of(end.alloc, body, bindings, part, over(from, end.at))?;
             Ok(whole(each))
         }
         _ => refuse((body, bindings, part)),
@@ -447,62 +418,62 @@ fn end_filter(
 // An opening that isn't on the list any more, with its last part.
 #[inline(always)]
 fn end_opening(
-    alloc: Global,
     stack: &mut Vec<Pending>,
     opening: Opening,
-    last: Last,
+    part: Part,
+    end: End,
 ) -> Result<Mode, ParseFault>
     ensures { (ws : List Waiting) (o : machine.Opening) (x : Tree) → SeesStack stack.old.items ws →
-        SeesOpening opening o → Sees last.part x →
-        Follows result stack.new.items (taken_up ws (turned last.mark last.at o x)) }
+        SeesOpening opening o → Sees part x →
+        Follows result stack.new.items (taken_up ws (turned end.mark end.at o x)) }
 {
     match opening {
-        Opening::Round(from) => end_round(last, from),
-        Opening::Call { name, from } => end_call(alloc, name, from, last),
-        Opening::Index(base) => end_index(alloc, base, last),
-        Opening::Test(word) => end_test(stack, word, last),
-        Opening::Branch { word, test } => end_branch(stack, test, word, last),
+        Opening::Round(from) => end_round(from, part, end),
+        Opening::Call { name, from } => end_call(name, from, part, end),
+        Opening::Index(base) => end_index(base, part, end),
+        Opening::Test(word) => end_test(stack, word, part, end),
+        Opening::Branch { word, test } => end_branch(stack, test, word, part, end),
         Opening::List {
             from,
             some,
             elements,
-        } => end_list(alloc, stack, some, elements, from, last),
-        Opening::RangeFrom { from, start } => end_range_from(alloc, stack, start, from, last),
-        Opening::RangeTo { from, start, stop } => end_range_to(alloc, start, stop, from, last),
-        Opening::Brace(from) => end_brace(alloc, stack, from, last),
+        } => end_list(stack, some, elements, from, part, end),
+        Opening::RangeFrom { from, start } => end_range_from(stack, start, from, part, end),
+        Opening::RangeTo { from, start, stop } => end_range_to(start, stop, from, part, end),
+        Opening::Brace(from) => end_brace(stack, from, part, end),
         Opening::Binders {
             group,
             bindings,
             ..
-        } => end_pattern(alloc, stack, group, bindings, last),
+        } => end_pattern(stack, group, bindings, part, end),
         Opening::Value {
             group,
             bindings,
             pattern,
-        } => end_value(alloc, stack, group, bindings, pattern, last),
+        } => end_value(stack, group, bindings, pattern, part, end),
         Opening::Filter {
             from,
             body,
             bindings,
-        } => end_filter(alloc, body, bindings, from, last),
+        } => end_filter(body, bindings, from, part, end),
     }
 }
 
 // What the newest is, with its last part.
 #[inline(always)]
 fn end_popped(
-    alloc: Global,
     stack: &mut Vec<Pending>,
     popped: Pending,
-    last: Last,
+    part: Part,
+    end: End,
 ) -> Result<Mode, ParseFault>
     ensures { (ws : List Waiting) (w : Waiting) (x : Tree) → SeesStack stack.old.items ws → SeesPending popped w →
-        Sees last.part x →
-        Follows result stack.new.items (marked last.mark last.at (w ∷ ws) x) }
+        Sees part x →
+        Follows result stack.new.items (marked end.mark end.at (w ∷ ws) x) }
 {
     match popped {
-        Pending::Open(opening) => end_opening(alloc, stack, opening, last),
-        other => refuse((other, last)),
+        Pending::Open(opening) => end_opening(stack, opening, part, end),
+        other => refuse((other, part)),
     }
 }
 
@@ -518,9 +489,9 @@ pub fn end_part(
     ensures { (ws : List Waiting) (x : Tree) → SeesStack stack.old.items ws → Sees part x →
         Follows result stack.new.items (marked mark at ws x) }
 {
-    let last = Last { part, mark, at };
+    let end = End { alloc, mark, at };
     match stack.pop() {
-        Some(popped) => end_popped(alloc, stack, popped, last),
-        None => refuse(last),
+        Some(popped) => end_popped(stack, popped, part, end),
+        None => refuse(part),
     }
 }
