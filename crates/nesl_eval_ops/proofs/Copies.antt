@@ -8,7 +8,7 @@ use Rattle.nesl_builtins.specs.declared.builtin.Builtin.{Builtin}
 use Rattle.nesl_eval_code.specs.declared.code.Step.{Step}
 use Rattle.nesl_eval_code.specs.declared.code.Code.{Code}
 use Rattle.nesl_eval_code.specs.declared.code.Code as nodes
-use Rattle.nesl_eval_blocks.specs.Block.{Block, enter, of_two, of_pair, pairing, bind}
+use Rattle.nesl_eval_blocks.specs.Block.{Block, enter, of_two, of_pair, pairing, placed, call, bind}
 use Rattle.nesl_eval_blocks.specs.Flat.{Part, part, leaf_of, flat, making, applying, rest, deciding, forgetting, room}
 use Rattle.nesl_eval_ops.specs.Lists.{part_on, binding_on}
 use Rattle.nesl_eval_ops.specs.Copies.{IsLaidAs, AreLaidAs}
@@ -82,6 +82,20 @@ apply_same s g a a' e = record {
       ∙ sym (flat-Apply h ks s g a o);
   leaf = λ ks. refl;
   applied = λ h ks t i k b. refl;
+}
+
+pub flat-Call : (h : ℕ) (ks : List ℕ) (s : Span) (k : ℕ) (a : Box Code Global) (o : Option Block) →
+    flat h ks (nodes.Call s k a) o ≡ enter h s (flat (suc h) ks a.value (Some (call h s (placed k) (rest o))))
+flat-Call h ks s k a o = search (rules, nodes.the_lemmas)
+
+pub call_same : (s : Span) (k : ℕ) (a a' : Box Code Global) → IsLaidAs a'.value a.value →
+    IsLaidAs (nodes.Call s k a') (nodes.Call s k a)
+call_same s k a a' e = record {
+  alone = λ h ks o. flat-Call h ks s k a' o
+      ∙ ap (enter h s) (e.alone (suc h) ks (Some (call h s (placed k) (rest o))))
+      ∙ sym (flat-Call h ks s k a o);
+  leaf = λ ks. refl;
+  applied = λ h ks t i j b. refl;
 }
 
 pub flat-Choice : (h : ℕ) (ks : List ℕ) (s : Span) (t y n : Box Code Global) (o : Option Block) →

@@ -15,10 +15,27 @@ pub(crate) enum NoCopy {
     Memory,
 }
 
-/// A copy of code, if it is made of constants, names, functions of one value and of two, pairs, choices and `let`s. It
-/// recurs as deep as the code is high.
+/// A copy of code, if it is made of constants, names, functions of one value and of two, calls, pairs, choices and
+/// `let`s. It recurs as deep as the code is high.
 #[cycle(copying)]
 pub(crate) fn copy_plain(alloc: Global, code: &Code) -> Result<Code, NoCopy>
+    ensures { IfOk result (λ c. IsLaidAs c code.now) }
+{
+    match code {
+        Code::Pair { .. } => copy_applied(alloc, code),
+        Code::Apply { .. } => copy_applied(alloc, code),
+        Code::ApplyTwo { .. } => copy_applied(alloc, code),
+        Code::Call { .. } => copy_applied(alloc, code),
+        Code::Choice { .. } => copy_choice_or_let(alloc, code),
+        Code::Let { .. } => copy_choice_or_let(alloc, code),
+        _ => copy_leaf(alloc, code),
+    }
+}
+
+/// A copy of a pair, a function or a call if its parts have one.
+#[cycle(copying)]
+#[inline(never)]
+fn copy_applied(alloc: Global, code: &Code) -> Result<Code, NoCopy>
     ensures { IfOk result (λ c. IsLaidAs c code.now) }
 {
     match code {
@@ -58,11 +75,23 @@ pub(crate) fn copy_plain(alloc: Global, code: &Code) -> Result<Code, NoCopy>
                 right,
             })
         }
-        _ => copy_choice_or_let(alloc, code),
+        Code::Call {
+            span,
+            place,
+            argument,
+        } => {
+            let argument = copy_boxed(alloc, argument)?;
+            Ok(Code::Call {
+                span: *span,
+                place: *place,
+                argument,
+            })
+        }
+        _ => Err(NoCopy::NotPlain),
     }
 }
 
-/// A copy of a choice or a `let` if their parts have one, or of code without parts.
+/// A copy of a choice or a `let` if its parts have one.
 #[cycle(copying)]
 #[inline(never)]
 fn copy_choice_or_let(alloc: Global, code: &Code) -> Result<Code, NoCopy>
@@ -98,7 +127,7 @@ fn copy_choice_or_let(alloc: Global, code: &Code) -> Result<Code, NoCopy>
                 body,
             })
         }
-        _ => copy_leaf(alloc, code),
+        _ => Err(NoCopy::NotPlain),
     }
 }
 
@@ -139,6 +168,7 @@ fn add_copy(alloc: Global, copies: &mut Vec<Code>, code: &Code) -> Result<(), No
 }
 
 /// A copy of a number, a truth value, a character, or a name that has a place.
+#[inline(never)]
 fn copy_leaf(alloc: Global, code: &Code) -> Result<Code, NoCopy>
     ensures { IfOk result (λ c. IsLaidAs c code.now) }
 {

@@ -11,6 +11,9 @@ size c = node.the_size c
 abbrev pub decreases-copy_plain : goal.decreases-copy_plain
 decreases-copy_plain l = 4 * size l.code.now + 1
 
+abbrev pub decreases-copy_applied : goal.decreases-copy_applied
+decreases-copy_applied l = 4 * size l.code.now
+
 abbrev pub decreases-copy_choice_or_let : goal.decreases-copy_choice_or_let
 decreases-copy_choice_or_let l = 4 * size l.code.now
 
