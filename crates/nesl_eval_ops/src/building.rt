@@ -8,7 +8,7 @@ ghost use Rattle.nesl_eval_ops.specs.Copies.{IsLaidAs};
 ghost use Rattle.nesl_eval_ops.specs.View.{block_of, block_in, body_block, sizes_of};
 ghost use Rattle.nesl_eval_ops.specs.View.{leaf_is, two_is, many_is, callee_is};
 
-use crate::copying::{NoCopy, copy_plain};
+use crate::copying::{NoCopy, copy_plain, is_plain};
 use crate::ops::{Block, Body, Callee, Leaf, ManyNode, OneNode, Ops, Plain, TwoNode};
 use crate::places::Place;
 use crate::sizes::{list_of, room};
@@ -275,6 +275,9 @@ fn source_of(at: &Place<'_>, code: &Code) -> Result<Option<Source>, AllocError>
     ensures { IfOk result (λ o. IfSome o (λ s. (s.sizes.items ≡ sizes_of at.now.sizes.now)
         × IsLaidAs s.code code.now)) }
 {
+    if !is_plain(code) {
+        return Ok(None);
+    }
     let Some(sizes) = list_of(at.alloc, at.sizes)? else {
         return Ok(None);
     };

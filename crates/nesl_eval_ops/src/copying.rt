@@ -3,6 +3,7 @@ ghost use Rattle.std.specs.Prelude.{◌≡◌, ◌++◌, ◌∷◌, [], IfOk, On
 ghost use Rattle.nesl_eval_code.specs.declared.code.Code.{Code};
 ghost use Rattle.nesl_eval_ops.specs.Copies.{IsLaidAs, AreLaidAs};
 
+use crate::leaves::copied;
 use nesl_eval_code::Code;
 use std::alloc::Global;
 
@@ -13,6 +14,39 @@ pub(crate) enum NoCopy {
     NotPlain,
     /// There is no memory.
     Memory,
+}
+
+/// Whether code may have columns: it is made of what `copy_plain` copies. It recurs as deep as the code is high, and
+/// allocates nothing.
+#[cycle(telling)]
+#[inline(never)]
+pub(crate) fn is_plain(code: &Code) -> bool {
+    match code {
+        Code::Number { .. } => true,
+        Code::Truth { .. } => true,
+        Code::Character { .. } => true,
+        Code::Local { .. } => true,
+        Code::Top { .. } => true,
+        Code::Pair { left, right, .. } => is_plain(left) && is_plain(right),
+        Code::Apply { argument, .. } => is_plain(argument),
+        Code::ApplyTwo { left, right, .. } => is_plain(left) && is_plain(right),
+        Code::Call { argument, .. } => is_plain(argument),
+        Code::Choice { test, yes, no, .. } => is_plain(test) && is_plain(yes) && is_plain(no),
+        Code::Let { bindings, body, .. } => are_plain(bindings) && is_plain(body),
+        _ => false,
+    }
+}
+
+/// Whether each of the codes may have columns.
+#[cycle(telling)]
+#[inline(never)]
+fn are_plain(codes: &[Code]) -> bool {
+    for code in codes {
+        if !is_plain(code) {
+            return false;
+        }
+    }
+    true
 }
 
 /// A copy of code, if it is made of constants, names, functions of one value and of two, calls, pairs, choices and
@@ -148,7 +182,9 @@ fn copy_boxed(alloc: Global, code: &Code) -> Result<Box<Code>, NoCopy>
 fn copy_all(alloc: Global, codes: &[Code]) -> Result<Vec<Code>, NoCopy>
     ensures { IfOk result (λ cs. AreLaidAs cs.items codes.now) }
 {
-    let mut copies = Vec::new(alloc);
+    let Ok(mut copies) = Vec::with_capacity(alloc, codes.len()) else {
+        return Err(NoCopy::Memory);
+    };
     for code in codes {
         add_copy(alloc, &mut copies, code)?;
     }
@@ -190,7 +226,7 @@ fn copy_leaf(alloc: Global, code: &Code) -> Result<Code, NoCopy>
             up,
             index,
             steps,
-        } => match Vec::from_slice(alloc, steps) {
+        } => match copied(alloc, steps) {
             Ok(steps) => Ok(Code::Local {
                 span: *span,
                 up: *up,

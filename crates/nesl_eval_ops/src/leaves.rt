@@ -8,7 +8,7 @@ use crate::ops::{Leaf, What};
 use crate::places::Place;
 use crate::sizes::place_of;
 use nesl_eval_code::{Code, Step};
-use std::alloc::AllocError;
+use std::alloc::{AllocError, Global};
 
 /// Whether code has no parts.
 fn is_leaf(code: &Code) -> bool
@@ -27,6 +27,18 @@ fn is_leaf(code: &Code) -> bool
     }
 }
 
+/// A copy of steps. Most names have none.
+#[inline(always)]
+pub(crate) fn copied(alloc: Global, steps: &[Step]) -> Result<Vec<Step>, AllocError>
+    ensures { IfOk result (λ v. v.items ≡ steps.now) }
+{
+    if steps.is_empty() {
+        Ok(Vec::new(alloc))
+    } else {
+        Vec::from_slice(alloc, steps)
+    }
+}
+
 /// A local name, by the place of its value.
 fn local(at: &Place<'_>, up: usize, index: usize, steps: &[Step]) -> Result<What, AllocError>
     ensures { IfOk result (λ w. what_is w ≡ local_what (place_of (sizes_of at.now.sizes.now) up index) steps.now) }
@@ -34,7 +46,7 @@ fn local(at: &Place<'_>, up: usize, index: usize, steps: &[Step]) -> Result<What
     match place_of(at.sizes, up, index)? {
         Some(place) => Ok(What::Local {
             place,
-            steps: Vec::from_slice(at.alloc, steps)?,
+            steps: copied(at.alloc, steps)?,
         }),
         None => Ok(What::Missing),
     }
@@ -58,10 +70,8 @@ pub(crate) fn leaf(at: &Place<'_>, code: &Code) -> Result<Option<Leaf>, AllocErr
             span: *span,
             what: What::Character(*value),
         })),
-        Code::Text { span, bytes } => Ok(Some(Leaf {
-            span: *span,
-            what: What::Text(Vec::from_slice(at.alloc, bytes)?),
-        })),
+        Code::Text { .. } => leaf_of_bytes(at, code),
+        Code::Named { .. } => leaf_of_bytes(at, code),
         Code::Local {
             span,
             up,
@@ -75,10 +85,6 @@ pub(crate) fn leaf(at: &Place<'_>, code: &Code) -> Result<Option<Leaf>, AllocErr
             span: *span,
             what: What::Top(*place),
         })),
-        Code::Named { span, name } => Ok(Some(Leaf {
-            span: *span,
-            what: What::Named(Vec::from_slice(at.alloc, name)?),
-        })),
         Code::Empty { span } => Ok(Some(Leaf {
             span: *span,
             what: What::Empty,
@@ -87,11 +93,29 @@ pub(crate) fn leaf(at: &Place<'_>, code: &Code) -> Result<Option<Leaf>, AllocErr
     }
 }
 
+/// The leaf that a text is, or a name without a place.
+#[inline(never)]
+fn leaf_of_bytes(at: &Place<'_>, code: &Code) -> Result<Option<Leaf>, AllocError>
+    ensures { IfOk result (λ l. option_map leaf_is l ≡ leaf_of (sizes_of at.now.sizes.now) code.now) }
+{
+    match code {
+        Code::Text { span, bytes } => Ok(Some(Leaf {
+            span: *span,
+            what: What::Text(Vec::from_slice(at.alloc, bytes)?),
+        })),
+        Code::Named { span, name } => Ok(Some(Leaf {
+            span: *span,
+            what: What::Named(Vec::from_slice(at.alloc, name)?),
+        })),
+        _ => Err(AllocError),
+    }
+}
+
 #[inline(never)]
 pub(crate) fn leaf_alone(at: &Place<'_>, leaf: Leaf) -> Result<Vec<Leaf>, AllocError>
     ensures { IfOk result (λ ls. map leaf_is ls.items ≡ leaf_is leaf ∷ []) }
 {
-    let mut leaves = Vec::new(at.alloc);
+    let mut leaves = Vec::with_capacity(at.alloc, 1)?;
     leaves.push(leaf)?;
     Ok(leaves)
 }
@@ -100,7 +124,7 @@ pub(crate) fn leaf_alone(at: &Place<'_>, leaf: Leaf) -> Result<Vec<Leaf>, AllocE
 pub(crate) fn two_leaves(at: &Place<'_>, first: Leaf, second: Leaf) -> Result<Vec<Leaf>, AllocError>
     ensures { IfOk result (λ ls. map leaf_is ls.items ≡ leaf_is first ∷ leaf_is second ∷ []) }
 {
-    let mut leaves = Vec::new(at.alloc);
+    let mut leaves = Vec::with_capacity(at.alloc, 2)?;
     leaves.push(first)?;
     leaves.push(second)?;
     Ok(leaves)
@@ -115,7 +139,7 @@ pub(crate) fn three_leaves(
 ) -> Result<Vec<Leaf>, AllocError>
     ensures { IfOk result (λ ls. map leaf_is ls.items ≡ leaf_is first ∷ leaf_is second ∷ leaf_is third ∷ []) }
 {
-    let mut leaves = Vec::new(at.alloc);
+    let mut leaves = Vec::with_capacity(at.alloc, 3)?;
     leaves.push(first)?;
     leaves.push(second)?;
     leaves.push(third)?;
@@ -142,7 +166,7 @@ pub(crate) fn leaves(at: &Place<'_>, codes: &[Code]) -> Result<Vec<Leaf>, AllocE
     ensures { let h = at.now.height in let ks = sizes_of at.now.sizes.now in IfOk result (λ ls.
         leaves_of (parts_on h ks codes.now) ≡ Some (map leaf_is ls.items)) }
 {
-    let mut leaves = Vec::new(at.alloc);
+    let mut leaves = Vec::with_capacity(at.alloc, codes.len())?;
     for code in codes {
         match leaf(at, code)? {
             Some(leaf) => leaves.push(leaf)?,
