@@ -9,7 +9,7 @@ use Rattle.nesl_syntax_tree.specs.Views.{pattern_tree, binders_in}
 use Rattle.nesl_eval_code.specs.declared.layers.Layers.{Layers, Top, Parameter, Let, Row, the_lemmas}
 use Rattle.nesl_eval_code.specs.declared.layers.LocalPlace.{LocalPlace}
 use Rattle.nesl_eval_meaning.specs.Names.{Name}
-use Rattle.nesl_eval_code.specs.Means.{Layer, bindings, binders, patterns, patterns_of, last_binding, or_later, binds, steps_to, Spot, spot, IsSpotOf, IsNoLocal}
+use Rattle.nesl_eval_code.specs.Means.{Layer, bindings, binders, patterns, patterns_of, last_binding, or_later, binds, steps_to, spot, IsSpotOf, IsNoLocal}
 use Rattle.nesl_eval_code.specs.Resolving.{layers_of, FindsIn, FindsLocal}
 use Rattle.nesl_eval_code.proofs.Locals.{spot_here, spot_outside, none_here, none_at_top}
 
@@ -30,20 +30,20 @@ layers-Row bs outer = search (rules, the_lemmas)
 pub found_in : (ls : List Layer) (l : Layer) (ms : List Layer) (x : Name) (p : LocalPlace) → ls ≡ l ∷ ms →
     FindsIn (patterns_of l) x (Some p) → FindsLocal ls x (Some p)
 found_in ls l ms x p e h =
-    let here = spot_here l ms x p.index h.0 h.1 h.2 in
-    let same : spot 0 p.index (steps_to x h.0) ≡ spot p.up p.index p.steps.items =
-    ap (λ k. spot k p.index (steps_to x h.0)) (sym h.4) ∙ ap (λ s. spot p.up p.index s) (sym h.3) in
-    let F : List Layer → Type 0 = λ y. IsSpotOf y x (spot p.up p.index p.steps.items) in
-    let G : Spot → Type 0 = λ y. IsSpotOf (l ∷ ms) x y in
-    subst F (sym e) (subst G same here)
+    let q = pattern_tree p.pattern.now in
+    let here = spot_here l ms x p.index q h.0 h.1 in
+    let F : List Layer → Type 0 = λ y. IsSpotOf y x (spot p.up p.index (steps_to x q)) in
+    let G : ℕ → Type 0 = λ k. IsSpotOf (l ∷ ms) x (spot k p.index (steps_to x q)) in
+    subst F (sym e) (subst G (sym h.2) here)
 
 pub found_out : (ls : List Layer) (l : Layer) (ms : List Layer) (x : Name) (p r : LocalPlace) → ls ≡ l ∷ ms →
-    last_binding x (patterns_of l) ≡ None → FindsLocal ms x (Some p) →
-    spot r.up r.index r.steps.items ≡ spot (suc p.up) p.index p.steps.items → FindsLocal ls x (Some r)
+    last_binding x (patterns_of l) ≡ None → FindsLocal ms x (Some p) → r ≡ record p { up = suc p.up } →
+    FindsLocal ls x (Some r)
 found_out ls l ms x p r e f h s =
-    let F : List Layer → Type 0 = λ y. IsSpotOf y x (spot r.up r.index r.steps.items) in
-    let G : Spot → Type 0 = λ y. IsSpotOf (l ∷ ms) x y in
-    subst F (sym e) (subst G (sym s) (spot_outside l ms x (spot p.up p.index p.steps.items) f h))
+    let q = pattern_tree p.pattern.now in
+    let F : List Layer → Type 0 = λ y. IsSpotOf y x (spot (suc p.up) p.index (steps_to x q)) in
+    let G : LocalPlace → Type 0 = λ y. FindsLocal ls x (Some y) in
+    subst G (sym s) (subst F (sym e) (spot_outside l ms x (spot p.up p.index (steps_to x q)) f h))
 
 pub found_none : (ls : List Layer) (l : Layer) (ms : List Layer) (x : Name) → ls ≡ l ∷ ms →
     last_binding x (patterns_of l) ≡ None → IsNoLocal ms x → IsNoLocal ls x

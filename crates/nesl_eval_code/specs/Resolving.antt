@@ -22,17 +22,16 @@ layers_step (Layers-F.Row bs outer) = binders (patterns (binders_in bs.now)) ∷
 abbrev pub layers_of : Layers → List Layer
 layers_of = fold-Layers (List Layer) layers_step
 
--- the last of these patterns that binds the name, and the steps in it
+-- the last of these patterns that binds the name
 abbrev pub FindsIn : List PatternTree → Name → Option LocalPlace → Type 0
 FindsIn ps x None = last_binding x ps ≡ None
 FindsIn ps x (Some p) =
-    (q : PatternTree) × (last_binding x ps ≡ Some p.index) × (slice_get ps p.index ≡ Some q) ×
-    (p.steps.items ≡ steps_to x q) × (p.up ≡ 0)
+    (last_binding x ps ≡ Some p.index) × (slice_get ps p.index ≡ Some (pattern_tree p.pattern.now)) × (p.up ≡ 0)
 
 -- where the value of a name is, or that it is no local one
 abbrev pub FindsLocal : List Layer → Name → Option LocalPlace → Type 0
 FindsLocal ls x None = IsNoLocal ls x
-FindsLocal ls x (Some p) = IsSpotOf ls x (spot p.up p.index p.steps.items)
+FindsLocal ls x (Some p) = IsSpotOf ls x (spot p.up p.index (steps_to x (pattern_tree p.pattern.now)))
 
 -- the names of a map in order
 abbrev pub keys_of : List (Vec ℕ Global × Option Code) → List Name

@@ -23,12 +23,12 @@ pub(crate) enum Layers<'a> {
     Row(&'a [Binding], &'a Layers<'a>),
 }
 
-/// So many frames up, at that index of the frame, and from there by these steps.
-#[derive(Drop)]
-pub(crate) struct LocalPlace {
+/// So many frames up, at that index of the frame, in the pattern that stands there.
+#[derive(Clone, Copy)]
+pub(crate) struct LocalPlace<'a> {
     pub up: usize,
     pub index: usize,
-    pub steps: Vec<Step>,
+    pub pattern: &'a Pattern,
 }
 
 /// In the body of a function.
@@ -52,14 +52,39 @@ pub(crate) fn inside<'a>(drawn: &'a [Binding], outer: &'a Layers<'a>) -> Layers<
     Layers::Row(drawn, outer)
 }
 
-/// Whether the pattern binds the name.
+/// Whether the pattern binds the name. Most patterns are names, which are compared without a call.
+#[inline(always)]
 fn binds(pattern: &Pattern, name: &[u8]) -> bool
     ensures { result ≡ binds name.now (pattern_tree pattern.now) }
 {
     match &pattern.node {
         PatternNode::Name(own) => name == own.as_slice(),
-        PatternNode::Pair { left, right } => binds(right, name) || binds(left, name),
-        PatternNode::Record { part, .. } => binds(part, name),
+        _ => part_binds(pattern, name),
+    }
+}
+
+/// Whether the pattern binds the name. It recurs over the parts.
+fn part_binds(pattern: &Pattern, name: &[u8]) -> bool
+    ensures { result ≡ binds name.now (pattern_tree pattern.now) }
+{
+    match &pattern.node {
+        PatternNode::Name(own) => name == own.as_slice(),
+        PatternNode::Pair { left, right } => part_binds(right, name) || part_binds(left, name),
+        PatternNode::Record { part, .. } => part_binds(part, name),
+    }
+}
+
+/// The steps from the value of a pattern to what the name stands for.
+pub(crate) fn steps_in(
+    alloc: Global,
+    pattern: &Pattern,
+    name: &[u8],
+) -> Result<Vec<Step>, AllocError>
+    ensures { IfOk result (λ r. r.items ≡ steps_to name.now (pattern_tree pattern.now)) }
+{
+    match &pattern.node {
+        PatternNode::Name(_) => Ok(Vec::new(alloc)),
+        _ => add_steps(pattern, name, Vec::new(alloc)),
     }
 }
 
@@ -100,64 +125,51 @@ fn last_binding(bindings: &[Binding], name: &[u8]) -> Option<usize>
 }
 
 /// Where the value is in a frame of one value.
-fn place_in_pattern(
-    alloc: Global,
-    pattern: &Pattern,
-    name: &[u8],
-) -> Result<Option<LocalPlace>, AllocError>
-    ensures { IfOk result (FindsIn (pattern_tree pattern.now ∷ []) name.now) }
+fn place_in_pattern<'a>(pattern: &'a Pattern, name: &[u8]) -> Option<LocalPlace<'a>>
+    ensures { FindsIn (pattern_tree pattern.now ∷ []) name.now result }
 {
     if !binds(pattern, name) {
-        return Ok(None);
+        return None;
     }
-    let steps = add_steps(pattern, name, Vec::new(alloc))?;
-    Ok(Some(LocalPlace {
+    Some(LocalPlace {
         up: 0,
         index: 0,
-        steps,
-    }))
+        pattern,
+    })
 }
 
 /// Where the value is in a frame of bindings.
-fn place_in_bindings(
-    alloc: Global,
-    bindings: &[Binding],
-    name: &[u8],
-) -> Result<Option<LocalPlace>, AllocError>
-    ensures { IfOk result (FindsIn (patterns (binders_in bindings.now)) name.now) }
+fn place_in_bindings<'a>(bindings: &'a [Binding], name: &[u8]) -> Option<LocalPlace<'a>>
+    ensures { FindsIn (patterns (binders_in bindings.now)) name.now result }
 {
-    let Some(index) = last_binding(bindings, name) else {
-        return Ok(None);
-    };
-    let steps = add_steps(&bindings[index].pattern, name, Vec::new(alloc))?;
-    Ok(Some(LocalPlace {
+    let index = last_binding(bindings, name)?;
+    Some(LocalPlace {
         up: 0,
         index,
-        steps,
-    }))
+        pattern: &bindings[index].pattern,
+    })
 }
 
 /// Where the value of the name is, if it is a local one. It recurs over the frames.
-pub(crate) fn place_of_local(
-    alloc: Global,
-    layers: &Layers<'_>,
+pub(crate) fn place_of_local<'a>(
+    layers: &Layers<'a>,
     name: &[u8],
-) -> Result<Option<LocalPlace>, AllocError>
+) -> Result<Option<LocalPlace<'a>>, AllocError>
     ensures { IfOk result (FindsLocal (layers_of layers.now) name.now) }
 {
     match layers {
         Layers::Top => Ok(None),
-        Layers::Parameter(pattern) => place_in_pattern(alloc, *pattern, name),
-        Layers::Let(bindings, outer) => match place_in_bindings(alloc, *bindings, name)? {
+        Layers::Parameter(pattern) => Ok(place_in_pattern(*pattern, name)),
+        Layers::Let(bindings, outer) => match place_in_bindings(*bindings, name) {
             Some(place) => Ok(Some(place)),
-            None => match place_of_local(alloc, *outer, name)? {
+            None => match place_of_local(*outer, name)? {
                 Some(place) => Ok(Some(one_up(place)?)),
                 None => Ok(None),
             },
         },
-        Layers::Row(bindings, outer) => match place_in_bindings(alloc, *bindings, name)? {
+        Layers::Row(bindings, outer) => match place_in_bindings(*bindings, name) {
             Some(place) => Ok(Some(place)),
-            None => match place_of_local(alloc, *outer, name)? {
+            None => match place_of_local(*outer, name)? {
                 Some(place) => Ok(Some(one_up(place)?)),
                 None => Ok(None),
             },
@@ -166,14 +178,14 @@ pub(crate) fn place_of_local(
 }
 
 /// The place as it is seen from a frame further in. There are fewer frames than memory has bytes.
-fn one_up(place: LocalPlace) -> Result<LocalPlace, AllocError>
-    ensures { IfOk result (λ r. spot r.up r.index r.steps.items ≡ spot (suc place.up) place.index place.steps.items) }
+fn one_up<'a>(place: LocalPlace<'a>) -> Result<LocalPlace<'a>, AllocError>
+    ensures { IfOk result (λ r. r ≡ record place.entry { up = suc place.entry.up }) }
 {
     let up = next(place.up)?;
     Ok(LocalPlace {
         up,
         index: place.index,
-        steps: place.steps,
+        pattern: place.pattern,
     })
 }
 

@@ -3,7 +3,7 @@
 ghost use Rattle.std.specs.Prelude.{◌≡◌, ◌∷◌, ◌++◌, [], IfOk, OnOk, pos, min, List};
 ghost use Rattle.std.proofs.Common.{Box, Global as Heap};
 ghost use Rattle.nesl_syntax_tree.specs.Trees.{Tree, node, text, variable, call, element, pair, choice, strided_range};
-ghost use Rattle.nesl_syntax_tree.specs.Trees.{let_in, each, filtered_each};
+ghost use Rattle.nesl_syntax_tree.specs.Trees.{prefix_of, sequence, let_in, each, filtered_each};
 ghost use Rattle.nesl_syntax_tree.specs.Views.{tree_of, trees_in, binders_in, pattern_tree};
 ghost use Rattle.nesl_eval_meaning.specs.Outcome.{greatest_number, sources};
 ghost use Rattle.nesl_eval_code.specs.declared.code.Code.{Code, ApplyTwo};
@@ -11,12 +11,12 @@ ghost use Rattle.nesl_eval_code.specs.Means.{Means, AllMean, BindingsMean, Layer
 ghost use Rattle.nesl_eval_code.specs.Resolving.{layers_of, known};
 
 use crate::code::Code;
-use crate::layers::{Layers, behind, element_up, inside, of_body, place_of_local};
+use crate::layers::{Layers, behind, element_up, inside, of_body, place_of_local, steps_in};
 use crate::places::{Places, place_of};
 use nesl_builtins::{Builtin, named, of_infix, of_prefix};
 use nesl_lex::token::Span;
 use nesl_seqs_base::seq_fn::SeqFn;
-use nesl_syntax_tree::tree::{Binding, Exp, Node, Pattern};
+use nesl_syntax_tree::tree::{Binding, Exp, Node, Pattern, Prefix};
 use std::alloc::{AllocError, Global};
 
 /// Where the code of an expression is put, and the names that it sees.
@@ -49,19 +49,9 @@ fn code_of(at: &Preparing<'_>, exp: &Exp) -> Result<Code, AllocError>
         }),
         Node::Text(bytes) => code_of_text(at, span, bytes.as_slice()),
         Node::Variable(name) => code_of_variable(at, span, name.as_slice()),
-        Node::Call { name, argument } => {
-            let argument = boxed_code_of(at, argument)?;
-            code_of_call(at, span, name.as_slice(), argument)
-        }
+        Node::Call { name, argument } => code_of_applied(at, span, name.as_slice(), argument),
         Node::Pair { left, right } => code_of_pair(at, span, left, right),
-        Node::Prefix { operator, operand } => {
-            let argument = boxed_code_of(at, operand)?;
-            Ok(Code::Apply {
-                span,
-                function: of_prefix(*operator),
-                argument,
-            })
-        }
+        Node::Prefix { operator, operand } => code_of_prefix(at, span, *operator, operand),
         Node::Infix {
             operator,
             left,
@@ -72,10 +62,7 @@ fn code_of(at: &Preparing<'_>, exp: &Exp) -> Result<Code, AllocError>
             code_of_two(at, span, function, sequence, index)
         }
         Node::Choice { test, yes, no } => code_of_choice(at, span, test, yes, no),
-        Node::Sequence(items) => {
-            let parts = codes_of(at, items.as_slice())?;
-            Ok(Code::Sequence { span, parts })
-        }
+        Node::Sequence(items) => code_of_sequence(at, span, items.as_slice()),
         Node::Empty(_) => Ok(Code::Empty { span }),
         Node::Range { from, to } => {
             let function = Builtin::OfSequences(SeqFn::Range);
@@ -103,6 +90,42 @@ fn boxed_code_of(at: &Preparing<'_>, exp: &Exp) -> Result<Box<Code>, AllocError>
     let code = code_of(at, exp)?;
     let boxed = Box::new(at.alloc, code)?;
     Ok(boxed)
+}
+
+/// The code of a name before `(` and its argument.
+#[cycle(prepare)]
+#[inline(never)]
+fn code_of_applied(
+    at: &Preparing<'_>,
+    span: Span,
+    name: &[u8],
+    argument: &Exp,
+) -> Result<Code, AllocError>
+    ensures { IfOk result (λ c. Means (known at.now.places.now) (layers_of at.now.layers.now) c
+        (node span (call name.now (tree_of argument.now)))) }
+{
+    let argument = boxed_code_of(at, argument)?;
+    code_of_call(at, span, name, argument)
+}
+
+/// The code of an operator before an expression.
+#[cycle(prepare)]
+#[inline(never)]
+fn code_of_prefix(
+    at: &Preparing<'_>,
+    span: Span,
+    operator: Prefix,
+    operand: &Exp,
+) -> Result<Code, AllocError>
+    ensures { IfOk result (λ c. Means (known at.now.places.now) (layers_of at.now.layers.now) c
+        (node span (prefix_of operator (tree_of operand.now)))) }
+{
+    let argument = boxed_code_of(at, operand)?;
+    Ok(Code::Apply {
+        span,
+        function: of_prefix(operator),
+        argument,
+    })
 }
 
 /// The code of a pair.
@@ -286,6 +309,17 @@ fn add_code(at: &Preparing<'_>, codes: &mut Vec<Code>, exp: &Exp) -> Result<(), 
     Ok(())
 }
 
+/// The code of a sequence that is written out.
+#[cycle(prepare)]
+#[inline(never)]
+fn code_of_sequence(at: &Preparing<'_>, span: Span, items: &[Exp]) -> Result<Code, AllocError>
+    ensures { IfOk result (λ c. Means (known at.now.places.now) (layers_of at.now.layers.now) c
+        (node span (sequence (trees_in items.now)))) }
+{
+    let parts = codes_of(at, items)?;
+    Ok(Code::Sequence { span, parts })
+}
+
 /// The codes of expressions.
 #[cycle(prepare)]
 #[inline(never)]
@@ -293,7 +327,7 @@ fn codes_of(at: &Preparing<'_>, items: &[Exp]) -> Result<Vec<Code>, AllocError>
     ensures { IfOk result (λ cs. AllMean (known at.now.places.now) (layers_of at.now.layers.now) cs.items
         (trees_in items.now)) }
 {
-    let mut codes = Vec::new(at.alloc);
+    let mut codes = Vec::with_capacity(at.alloc, items.len())?;
     for item in items {
         add_code(at, &mut codes, item)?;
     }
@@ -307,7 +341,7 @@ fn codes_of_sources(at: &Preparing<'_>, drawn: &[Binding]) -> Result<Vec<Code>, 
     ensures { IfOk result (λ cs. AllMean (known at.now.places.now) (layers_of at.now.layers.now) cs.items
         (sources (binders_in drawn.now))) }
 {
-    let mut codes = Vec::new(at.alloc);
+    let mut codes = Vec::with_capacity(at.alloc, drawn.len())?;
     for binder in drawn {
         add_code(at, &mut codes, &binder.value)?;
     }
@@ -321,7 +355,7 @@ fn codes_of_bindings(at: &Preparing<'_>, bound: &[Binding]) -> Result<Vec<Code>,
     ensures { IfOk result (λ cs. BindingsMean (known at.now.places.now) (layers_of at.now.layers.now) [] cs.items
         (binders_in bound.now)) }
 {
-    let mut codes = Vec::new(at.alloc);
+    let mut codes = Vec::with_capacity(at.alloc, bound.len())?;
     for (index, binding) in bound.iter().enumerate() {
         let layers = behind(&bound[..index], at.layers);
         let inner = Preparing {
@@ -392,12 +426,13 @@ fn code_of_variable(at: &Preparing<'_>, span: Span, name: &[u8]) -> Result<Code,
     ensures { IfOk result (λ c. Means (known at.now.places.now) (layers_of at.now.layers.now) c
         (node span (variable name.now))) }
 {
-    if let Some(place) = place_of_local(at.alloc, at.layers, name)? {
+    if let Some(place) = place_of_local(at.layers, name)? {
+        let steps = steps_in(at.alloc, place.pattern, name)?;
         return Ok(Code::Local {
             span,
             up: place.up,
             index: place.index,
-            steps: place.steps,
+            steps,
         });
     }
     match place_of(at.places, name) {

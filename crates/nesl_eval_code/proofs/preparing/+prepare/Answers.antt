@@ -9,12 +9,12 @@ use Rattle.nesl_builtins.specs.declared.builtin.Builtin.TheVariants.{OfSequences
 use Rattle.nesl_seqs_base.specs.declared.seq_fn.SeqFn.TheVariants as seq
 use Rattle.nesl_eval_code.specs.declared.code.Code as code
 use Rattle.nesl_eval_meaning.specs.Names.{Name}
-use Rattle.nesl_eval_code.specs.Means.{Means, AllMean, bindings, binders, patterns}
+use Rattle.nesl_eval_code.specs.Means.{Means, bindings, binders, patterns}
 use Rattle.nesl_eval_code.specs.Resolving.{layers_of, known}
 use Rattle.nesl_eval_code.proofs.Nodes as nodes
 use Rattle.nesl_eval_code.proofs.Lists as lists
 use Rattle.nesl_eval_code.proofs.Resolved.{if_ok}
-use Rattle.nesl_eval_code.proofs.Prepared.{sequence_shape, let_shape, each_shape, filtered_shape, item_step, source_step, binding_step, part_means, inner_means, read_number, shown, applied, of_two, of_three, of_list}
+use Rattle.nesl_eval_code.proofs.Prepared.{sequence_shape, let_shape, each_shape, filtered_shape, item_step, source_step, binding_step, inner_means, read_number, shown, applied, of_two, of_three, of_list}
 use Rattle.nesl_eval_code.proofs.preparing.+prepare.Goals as goal
 
 pub code_of-returns-in-Number : goal.code_of-returns-in-Number
@@ -57,16 +57,21 @@ code_of-returns-in-Variable t c =
     shown names ls c.code_of_variable.result s _ c.args.exp.now.node
     (ap shape_of c.in-Variable.is ∙ ap (λ (x : Name). trees.variable x) (sym c.as_slice-in-Variable.ensures.value)) c.code_of_variable.ensures
 
-pub code_of-returns-in_ok-argument-in-Call : goal.code_of-returns-in_ok-argument-in-Call
-code_of-returns-in_ok-argument-in-Call t c =
+pub code_of-returns-in-Call : goal.code_of-returns-in-Call
+code_of-returns-in-Call t c =
     let names = known c.args.at.now.places.now in
     let ls = layers_of c.args.at.now.layers.now in
     let s = c.args.exp.now.span in
+    shown names ls c.code_of_applied.result s _ c.args.exp.now.node
+    (ap shape_of c.in-Call.is
+    ∙ ap (λ (x : Name). trees.call x (tree_of c.in-Call.argument.value)) (sym c.as_slice-in-Call.ensures.value)
+    ∙ ap (λ (x : Exp). trees.call c.as_slice-in-Call.result.now (tree_of x)) (sym c.deref.ensures))
+    c.code_of_applied.ensures
+
+pub code_of_applied-returns : goal.code_of_applied-returns
+code_of_applied-returns t c =
     if_ok c.code_of_call.result c.code_of_call.ensures (λ k h.
-    subst (λ (d : declared.Node). Means names ls k (node s (shape_of d))) (sym c.in-Call.is)
-    (subst (λ (x : Name). Means names ls k (node s (trees.call x (tree_of c.in-Call.argument.value)))) c.as_slice-in-Call.ensures.value
-    (h ls (tree_of c.in-Call.argument.value)
-    (part_means names ls c.in_ok-argument-in-Call.argument.value c.deref.result.now c.in-Call.argument.value c.in_ok-argument-in-Call.ensures c.deref.ensures))))
+    h (layers_of c.args.at.now.layers.now) (tree_of c.args.argument.now) c.in_ok-argument.ensures)
 
 pub code_of-returns-in-Pair : goal.code_of-returns-in-Pair
 code_of-returns-in-Pair t c =
@@ -77,15 +82,24 @@ code_of-returns-in-Pair t c =
     (ap shape_of c.in-Pair.is ∙ of_two trees.pair c.deref-in-Pair.result.now c.deref-in-Pair-2.result.now c.in-Pair.left.value c.in-Pair.right.value c.deref-in-Pair.ensures c.deref-in-Pair-2.ensures)
     c.code_of_pair.ensures
 
-pub code_of-returns-in_ok-argument-in-Prefix : goal.code_of-returns-in_ok-argument-in-Prefix
-code_of-returns-in_ok-argument-in-Prefix t c =
+pub code_of-returns-in-Prefix : goal.code_of-returns-in-Prefix
+code_of-returns-in-Prefix t c =
     let names = known c.args.at.now.places.now in
     let ls = layers_of c.args.at.now.layers.now in
     let s = c.args.exp.now.span in
-    subst (λ (k : declared.Node). Means names ls (code.Apply s c.of_prefix.result c.in_ok-argument-in-Prefix.argument) (node s (shape_of k))) (sym c.in-Prefix.is)
-    (subst (λ (f : Builtin). Means names ls (code.Apply s f c.in_ok-argument-in-Prefix.argument) (node s (trees.prefix_of c.in-Prefix.operator (tree_of c.in-Prefix.operand.value)))) (sym c.of_prefix.ensures)
-    (nodes.means_prefix names ls s c.in-Prefix.operator c.in_ok-argument-in-Prefix.argument (tree_of c.in-Prefix.operand.value)
-    (part_means names ls c.in_ok-argument-in-Prefix.argument.value c.deref-in-Prefix.result.now c.in-Prefix.operand.value c.in_ok-argument-in-Prefix.ensures c.deref-in-Prefix.ensures)))
+    shown names ls c.code_of_prefix.result s _ c.args.exp.now.node
+    (ap shape_of c.in-Prefix.is
+    ∙ ap (λ (x : Exp). trees.prefix_of c.in-Prefix.operator (tree_of x)) (sym c.deref-in-Prefix.ensures))
+    c.code_of_prefix.ensures
+
+pub code_of_prefix-returns : goal.code_of_prefix-returns
+code_of_prefix-returns t c =
+    let names = known c.args.at.now.places.now in
+    let ls = layers_of c.args.at.now.layers.now in
+    let a = c.in_ok-argument.argument in
+    let e = tree_of c.args.operand.now in
+    subst (λ (f : Builtin). Means names ls (code.Apply c.args.span f a) (node c.args.span (trees.prefix_of c.args.operator e))) (sym c.of_prefix.ensures)
+    (nodes.means_prefix names ls c.args.span c.args.operator a e c.in_ok-argument.ensures)
 
 pub code_of-returns-in-Infix : goal.code_of-returns-in-Infix
 code_of-returns-in-Infix t c =
@@ -142,15 +156,21 @@ code_of-returns-in-StridedRange t c =
     (ap shape_of c.in-StridedRange.is ∙ of_three trees.strided_range c.deref-in-StridedRange.result.now c.deref-in-StridedRange-2.result.now c.deref-in-StridedRange-3.result.now c.in-StridedRange.from.value c.in-StridedRange.to.value c.in-StridedRange.stride.value c.deref-in-StridedRange.ensures c.deref-in-StridedRange-2.ensures c.deref-in-StridedRange-3.ensures)
     c.code_of_strided.ensures
 
-pub code_of-returns-in_ok-parts-in-Sequence : goal.code_of-returns-in_ok-parts-in-Sequence
-code_of-returns-in_ok-parts-in-Sequence t c =
+pub code_of-returns-in-Sequence : goal.code_of-returns-in-Sequence
+code_of-returns-in-Sequence t c =
     let names = known c.args.at.now.places.now in
     let ls = layers_of c.args.at.now.layers.now in
     let s = c.args.exp.now.span in
-    subst (λ (k : declared.Node). Means names ls (code.Sequence s c.in_ok-parts-in-Sequence.parts) (node s (shape_of k))) (sym c.in-Sequence.is)
-    (subst (λ (k : Shape). Means names ls (code.Sequence s c.in_ok-parts-in-Sequence.parts) (node s k)) (sym (sequence_shape c.in-Sequence.items))
-    (lists.means_sequence names ls s c.in_ok-parts-in-Sequence.parts (trees_in c.in-Sequence.items.items)
-    (subst (λ (es : List Exp). AllMean names ls c.in_ok-parts-in-Sequence.parts.items (trees_in es)) c.as_slice-in-Sequence.ensures.value c.in_ok-parts-in-Sequence.ensures)))
+    shown names ls c.code_of_sequence.result s _ c.args.exp.now.node
+    (ap shape_of c.in-Sequence.is ∙ sequence_shape c.in-Sequence.items
+    ∙ ap (λ (es : List Exp). trees.sequence (trees_in es)) (sym c.as_slice-in-Sequence.ensures.value))
+    c.code_of_sequence.ensures
+
+pub code_of_sequence-returns : goal.code_of_sequence-returns
+code_of_sequence-returns t c =
+    let names = known c.args.at.now.places.now in
+    let ls = layers_of c.args.at.now.layers.now in
+    lists.means_sequence names ls c.args.span c.in_ok-parts.parts (trees_in c.args.items.now) c.in_ok-parts.ensures
 
 pub code_of-returns-in-Empty : goal.code_of-returns-in-Empty
 code_of-returns-in-Empty t c =

@@ -22,6 +22,15 @@ decreases-code_of l = 4 * size l.exp.now
 abbrev pub decreases-boxed_code_of : goal.decreases-boxed_code_of
 decreases-boxed_code_of l = 4 * size l.exp.now + 1
 
+abbrev pub decreases-code_of_applied : goal.decreases-code_of_applied
+decreases-code_of_applied l = 4 * size l.argument.now + 2
+
+abbrev pub decreases-code_of_prefix : goal.decreases-code_of_prefix
+decreases-code_of_prefix l = 4 * size l.operand.now + 2
+
+abbrev pub decreases-code_of_sequence : goal.decreases-code_of_sequence
+decreases-code_of_sequence l = 4 * most (λ (e : Exp). size e) l.items.now + 3
+
 abbrev pub decreases-code_of_pair : goal.decreases-code_of_pair
 decreases-code_of_pair l = 4 * max (size l.left.now) (size l.right.now) + 2
 

@@ -1,6 +1,7 @@
 use Rattle.std.proofs.Common.{sym, refl, subst, Option}
+use Rattle.nesl_syntax_tree.specs.Views.{pattern_tree}
 use Rattle.nesl_eval_code.specs.declared.layers.LocalPlace.{LocalPlace}
-use Rattle.nesl_eval_code.specs.Means.{spot}
+use Rattle.nesl_eval_code.specs.Means.{spot, steps_to}
 use Rattle.nesl_eval_code.specs.Resolving.{known, layers_of, FindsLocal}
 use Rattle.nesl_eval_code.proofs.Nodes.{means_local, means_top, means_named}
 use Rattle.nesl_eval_code.proofs.preparing.code_of_variable.Goals as goal
@@ -10,8 +11,9 @@ returns-in-Some c =
     let ls = layers_of c.args.at.now.layers.now in
     let p = c.in-Some.place in
     let F : Option LocalPlace → Type 0 = λ o. FindsLocal ls c.args.name.now o in
-    means_local (known c.args.at.now.places.now) ls c.args.span c.args.name.now p.up p.index p.steps (spot p.up p.index p.steps.items)
-    (subst F c.in-Some.is c.in_ok-place.ensures) refl refl refl
+    means_local (known c.args.at.now.places.now) ls c.args.span c.args.name.now p.up p.index c.in_ok-steps.steps
+    (spot p.up p.index (steps_to c.args.name.now (pattern_tree p.pattern.now)))
+    (subst F c.in-Some.is c.in_ok-place.ensures) refl refl c.in_ok-steps.ensures
 
 pub returns-in-Some-place_of : goal.returns-in-Some-place_of
 returns-in-Some-place_of c =
