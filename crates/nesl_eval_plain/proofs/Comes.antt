@@ -3,17 +3,17 @@ use Rattle.std.proofs.Common.{◌≡◌, ℕ, zero, suc, ◌+◌, ◌-◌, ◌*�
 use Rattle.std.specs.Prelude.{sum}
 use Rattle.std.proofs.lemmas.List.Sums.{sum_by-cons}
 use Rattle.nesl_lex.specs.declared.token.Span.{Span}
-use Rattle.nesl_values.specs.Tree.{int, boolean, character, pair, size}
-use Rattle.nesl_scalars.specs.declared.unary.Unary.{Unary}
+use Rattle.nesl_values.specs.Tree.{boolean, pair, size}
 use Rattle.nesl_scalars.specs.declared.binary.Binary.{Binary}
 use Rattle.nesl_scalars.specs.Outcomes.{gives}
-use Rattle.nesl_scalars.specs.Scalars.{unary, binary}
-use Rattle.nesl_builtins.specs.declared.builtin.Builtin.TheVariants.{OfOne, OfTwo}
+use Rattle.nesl_scalars.specs.Scalars.{binary}
+use Rattle.nesl_builtins.specs.declared.builtin.Builtin.{Builtin}
+use Rattle.nesl_builtins.specs.declared.builtin.Builtin.TheVariants.{OfTwo}
 use Rattle.nesl_eval_code.specs.declared.code.Code.{Code}
 use Rattle.nesl_eval_meaning.specs.Names.{Value}
 use Rattle.nesl_eval_code.specs.Frames.{Frames}
 use Rattle.nesl_eval_meaning.specs.Out.{Out, value, fault, stuck, after_cost, and_then, beside, all_beside}
-use Rattle.nesl_eval_meaning.specs.Outcome.{small_enough, apply_builtin, on_scalars, body_value, place_if_true}
+use Rattle.nesl_eval_meaning.specs.Outcome.{apply_builtin, on_scalars, body_value, place_if_true}
 use Rattle.nesl_eval_code.specs.Run.{Runs, Table, run, run_node, run_two}
 use Rattle.nesl_eval_columns.specs.Each.{EachTwo}
 use Rattle.nesl_eval_plain.specs.Comes.{Comes, greatest, chosen}
@@ -46,29 +46,10 @@ two_at f fs a b s g x y z m n h k e =
     ∙ ap (λ o. after_cost m m (after_cost n n (on_scalars s o))) e
     ∙ cost_is z (m + (n + 0)) (m + n) (m + (n + 0)) (m + n) (omega arith) (omega arith)
 
--- a function of one scalar
-pub one_at : (o : Out Value) (s : Span) (g : Unary) (x z : Value) (m : ℕ) → o ≡ value x m m → unary g x ≡ gives z → and_then o (apply_builtin s (OfOne g)) ≡ value z m m
-one_at o s g x z m h e =
-    ap (λ o. and_then o (apply_builtin s (OfOne g))) h ∙ ap (λ o. after_cost m m (on_scalars s o)) e
-    ∙ cost_is z (m + 0) m (m + 0) m (omega arith) (omega arith)
-
--- what has a function of two scalars is a leaf
-pub leaves_both : (g : Binary) (x y z : Value) → binary g x y ≡ gives z → (size x ≡ 1) × (size y ≡ 1)
-leaves_both g (int a) (int b) z e = (refl, refl)
-leaves_both g (boolean a) (boolean b) z e = (refl, refl)
-leaves_both g (character a) (character b) z e = (refl, refl)
-leaves_both g _ _ z e = cc
-
--- a function of two scalars that are written as a pair, which was entered
-pub pair_at : (f : Runs) (fs : Frames) (a b : Code) (s s' : Span) (g : Binary) (x y z : Value) (m n : ℕ) → f fs a ≡ value x m m → f fs b ≡ value y n n → binary g x y ≡ gives z → and_then (run_two f fs a b (λ x y. small_enough s' (pair x y))) (apply_builtin s (OfTwo g)) ≡ value z (m + n) (m + n)
-pair_at f fs a b s s' g x y z m n h k e =
-    let l = leaves_both g x y z e in
-    let fits : small_enough s' (pair x y) ≡ value (pair x y) 0 0 = rw (l.0, l.1) refl in
-    ap (λ o. and_then (and_then o (λ x. and_then (f fs b) (λ y. small_enough s' (pair x y)))) (apply_builtin s (OfTwo g))) h
-    ∙ ap (λ o. and_then (after_cost m m (and_then o (λ y. small_enough s' (pair x y)))) (apply_builtin s (OfTwo g))) k
-    ∙ ap (λ o. and_then (after_cost m m (after_cost n n o)) (apply_builtin s (OfTwo g))) fits
-    ∙ ap (λ o. after_cost (m + (n + 0)) (m + (n + 0)) (on_scalars s o)) e
-    ∙ cost_is z (m + (n + 0) + 0) (m + n) (m + (n + 0) + 0) (m + n) (omega arith) (omega arith)
+-- a function of one argument that costs nothing more
+pub applied_at : (o : Out Value) (s : Span) (g : Builtin) (x z : Value) (m : ℕ) → o ≡ value x m m → apply_builtin s g x ≡ value z 0 0 → and_then o (apply_builtin s g) ≡ value z m m
+applied_at o s g x z m h e =
+    ap (λ o. and_then o (apply_builtin s g)) h ∙ ap (after_cost m m) e ∙ cost_is z (m + 0) m (m + 0) m (omega arith) (omega arith)
 
 -- numbers, of which one stands before the others
 pub sum_next : (n : ℕ) (ns : List ℕ) → sum (n ∷ ns) ≡ n + sum ns
@@ -95,21 +76,8 @@ filters_of p [] (b ∷ bs) ns h = absurd h
 filters_of p (i ∷ is) [] ns h = absurd h
 filters_of p (i ∷ is) (b ∷ bs) [] h = absurd h
 
--- a pair that was entered, and what is made of it
+-- costs one after the other
 pub added_added : {X : Type 0} (w d w' d' : ℕ) (o : Out X) → after_cost (w + w') (d + d') o ≡ after_cost w d (after_cost w' d' o)
 added_added w d w' d' (value x v e) = cost_is x (w + w' + v) (w + (w' + v)) (d + d' + e) (d + (d' + e)) (omega arith) (omega arith)
 added_added w d w' d' (fault t s v) = ap (λ a. fault t s a) (omega arith)
 added_added w d w' d' stuck = refl
-
-then_added : {X Y : Type 0} (w d : ℕ) (o : Out X) (k : X → Out Y) → and_then (after_cost w d o) k ≡ after_cost w d (and_then o k)
-then_added w d (value x v e) k = added_added w d v e (k x)
-then_added w d (fault t s v) k = refl
-then_added w d stuck k = refl
-
-pub then_entered_at : (n m : ℕ) (t : Table) (fs : Frames) (c : Code) (k : Value → Out Value) (v : Value) → 0 < n → and_then (run_node (run (n - 1) t) t fs c) k ≡ value v m m → and_then (run n t fs c) k ≡ value v (m + 1) (m + 1)
-unfolding run
-then_entered_at zero m t fs c k v some h = absurd (omega arith)
-then_entered_at (suc n) m t fs c k v some h =
-    let same : suc n - 1 ≡ n = omega arith in
-    let e : and_then (run_node (run n t) t fs c) k ≡ value v m m = subst (λ j. and_then (run_node (run j t) t fs c) k ≡ value v m m) same h in
-    then_added 1 1 (run_node (run n t) t fs c) k ∙ ap (after_cost 1 1) e ∙ cost_is v (1 + m) (m + 1) (1 + m) (m + 1) (omega arith) (omega arith)

@@ -1,5 +1,5 @@
 -- What is found for a node, from what is found for its parts.
-use Rattle.std.proofs.Common.{◌≡◌, ℕ, zero, suc, ◌+◌, ◌-◌, ◌<◌, pos, List, [], ◌∷◌, ◌++◌, length, replicate, Option, Some, refl, sym, ap, ◌∙◌, subst, arith}
+use Rattle.std.proofs.Common.{◌≡◌, ℕ, zero, suc, ◌+◌, ◌-◌, ◌<◌, List, [], ◌∷◌, ◌++◌, replicate, Option, Some, refl, sym, ap, ◌∙◌, subst, arith}
 use Rattle.std.specs.Prelude.{slice_get}
 use Rattle.std.proofs.lemmas.List.{get_or-replicate, map-append, length-replicate}
 use Rattle.std.proofs.lemmas.Option.{same_Some, none-some, slice_get-get_or}
@@ -9,24 +9,26 @@ use Rattle.nesl_scalars.specs.declared.unary.Unary.{Unary}
 use Rattle.nesl_scalars.specs.declared.binary.Binary.{Binary}
 use Rattle.nesl_scalars.specs.Outcomes.{gives}
 use Rattle.nesl_scalars.specs.Scalars.{unary, binary}
-use Rattle.nesl_values.specs.Parts.{as_sequence}
+use Rattle.nesl_builtins.specs.declared.builtin.Builtin.{Builtin}
 use Rattle.nesl_builtins.specs.declared.builtin.Builtin.TheVariants.{OfOne, OfTwo, OfSequences}
 use Rattle.nesl_seqs_base.specs.declared.seq_fn.SeqFn.TheVariants.{Length, ElementAt}
-use Rattle.nesl_values.specs.Tree as values
 use Rattle.nesl_eval_code.specs.declared.code.Code.{Code}
 use Rattle.nesl_eval_meaning.specs.Names.{Value}
 use Rattle.nesl_eval_code.specs.Frames.{Frames, frame}
 use Rattle.nesl_eval_meaning.specs.Out.{Out, value, fault, stuck, after_cost, and_then}
-use Rattle.nesl_eval_meaning.specs.Outcome.{small_enough, apply_builtin}
+use Rattle.nesl_eval_meaning.specs.Outcome.{small_enough, apply_builtin, on_scalars}
 use Rattle.nesl_eval_code.specs.Run.{Runs, Table, run, run_node, run_two, run_let}
-use Rattle.nesl_eval_columns.specs.declared.column.Column.{Column}
 use Rattle.nesl_eval_columns.specs.Each.{EachTwo, EachThree}
-use Rattle.nesl_eval_columns.specs.Columns.{leaves_of, Makes, MapsColumn}
+use Rattle.nesl_eval_columns.specs.Columns.{Makes, MapsColumn}
+use Rattle.nesl_eval_plain.specs.declared.columns.Columns.{Columns}
+use Rattle.nesl_eval_plain.specs.Columns.{value_at, both, SameUpTo, Pairs, Applies}
 use Rattle.nesl_eval_plain.specs.Costs.{Sums}
-use Rattle.nesl_eval_plain.specs.Picked.{Picks}
+use Rattle.nesl_eval_plain.specs.Picked.{Picks, IsLength}
 use Rattle.nesl_eval_plain.specs.Frames.{bound_at, IsAt, AreAt, AllAre}
-use Rattle.nesl_eval_plain.proofs.Comes.{entered_at, then_entered_at, one_at, two_at, pair_at, added_added}
-use Rattle.nesl_eval_plain.proofs.Elements.{element_at, length_at}
+use Rattle.nesl_eval_plain.proofs.Comes.{entered_at, applied_at, two_at, added_added}
+use Rattle.nesl_eval_plain.proofs.Elements.{element_at, length_is}
+use Rattle.nesl_eval_plain.proofs.Pairing.{made_at}
+use Rattle.nesl_eval_plain.proofs.Valued.{both_some}
 
 -- what stands at a turn of lists that are related
 pub each_at : {X Y : Type 0} (P : X → Y → Type 0) (xs : List X) (ys : List Y) (k : ℕ) (x : X) → EachTwo P xs ys → slice_get xs k ≡ Some x → (y : Y) × (slice_get ys k ≡ Some y) × P x y
@@ -50,19 +52,20 @@ at_so p q at vs ns law h = λ k fs e. subst (IsAt vs ns k) (sym (law fs)) (h k f
 pub replicated : {X : Type 0} (n k : ℕ) (v : X) → k < n → slice_get (replicate n v) k ≡ Some v
 replicated n k v h = slice_get-get_or (replicate n v) k v (omega (arith, length-replicate n v)) ∙ ap Some (get_or-replicate n k v v h)
 
-pub everywhere : (p : Frames → Out Value) (at : ℕ → Option Frames) (count : ℕ) (v : Value) (vs : List Value) → ((k : ℕ) (fs : Frames) → at k ≡ Some fs → k < count) → vs ≡ replicate count v → AllAre p at (value v 0 0) → AreAt p at (slice_get vs) (λ k. Some 0)
-everywhere p at count v vs within e law = λ k fs h. (v, 0, ap (λ ws. slice_get ws k) e ∙ replicated count k v (within k fs h), refl, law k fs h)
+pub all_are : (p : Frames → Out Value) (at : ℕ → Option Frames) (v : Value) (vs : ℕ → Option Value) → ((k : ℕ) → vs k ≡ Some v) → AllAre p at (value v 0 0) → AreAt p at vs (λ k. Some 0)
+all_are p at v vs same law = λ k fs e. (v, 0, same k, refl, law k fs e)
+
+-- the same values
+pub same_find : (p : Frames → Out Value) (at : ℕ → Option Frames) (n : ℕ) (xs ys : ℕ → Option Value) (ms : ℕ → Option ℕ) → ((k : ℕ) (fs : Frames) → at k ≡ Some fs → k < n) → SameUpTo n xs ys → AreAt p at xs ms → AreAt p at ys ms
+same_find p at n xs ys ms within same h = λ k fs e.
+    let x = h k fs e in
+    (x.0, x.1, same k (within k fs e) ∙ x.2, x.3, x.4)
 
 -- a node that is entered
 pub entered_finds : (n : ℕ) (t : Table) (c : Code) (at : ℕ → Option Frames) (vs ws : ℕ → Option Value) (ms ns : ℕ → Option ℕ) → 0 < n → ws ≡ vs → Sums ms (λ k. Some 1) ns → AreAt (λ fs. run_node (run (n - 1) t) t fs c) at vs ms → AreAt (λ fs. run n t fs c) at ws ns
 entered_finds n t c at vs ws ms ns some e sums h = λ k fs q.
     let x = h k fs q in
     (x.0, x.1 + 1, ap (λ us. us k) e ∙ x.2, sums k x.1 1 x.3 refl, entered_at n x.1 t fs c x.0 some x.4)
-
-pub then_entered_finds : (n : ℕ) (t : Table) (c : Code) (j : Value → Out Value) (at : ℕ → Option Frames) (vs ws : ℕ → Option Value) (ms ns : ℕ → Option ℕ) → 0 < n → ws ≡ vs → Sums ms (λ k. Some 1) ns → AreAt (λ fs. and_then (run_node (run (n - 1) t) t fs c) j) at vs ms → AreAt (λ fs. and_then (run n t fs c) j) at ws ns
-then_entered_finds n t c j at vs ws ms ns some e sums h = λ k fs q.
-    let x = h k fs q in
-    (x.0, x.1 + 1, ap (λ us. us k) e ∙ x.2, sums k x.1 1 x.3 refl, then_entered_at n x.1 t fs c j x.0 some x.4)
 
 -- functions of scalars
 pub two_finds : (f : Runs) (at : ℕ → Option Frames) (a b : Code) (s : Span) (g : Binary) (ms ns os : ℕ → Option ℕ) (xs ys zs : List Value) → AreAt (λ fs. f fs a) at (slice_get xs) ms → AreAt (λ fs. f fs b) at (slice_get ys) ns → Makes g xs ys zs → Sums ms ns os → AreAt (λ fs. run_two f fs a b (λ x y. apply_builtin s (OfTwo g) (pair x y))) at (slice_get zs) os
@@ -72,30 +75,45 @@ two_finds f at a b s g ms ns os xs ys zs h i e sums = λ k fs q.
     let z = three_at (λ x y z. binary g x y ≡ gives z) xs ys zs k x.0 y.0 e x.2 y.2 in
     (z.0, x.1 + y.1, z.1, sums k x.1 y.1 x.3 y.3, two_at f fs a b s g x.0 y.0 z.0 x.1 y.1 x.4 y.4 z.2)
 
-pub pair_finds : (f : Runs) (at : ℕ → Option Frames) (a b : Code) (s s' : Span) (g : Binary) (ms ns os : ℕ → Option ℕ) (xs ys zs : List Value) → AreAt (λ fs. f fs a) at (slice_get xs) ms → AreAt (λ fs. f fs b) at (slice_get ys) ns → Makes g xs ys zs → Sums ms ns os → AreAt (λ fs. and_then (run_two f fs a b (λ x y. small_enough s' (pair x y))) (apply_builtin s (OfTwo g))) at (slice_get zs) os
-pair_finds f at a b s s' g ms ns os xs ys zs h i e sums = λ k fs q.
+pub applied_finds : {A : Type 0} (p : Frames → Out Value) (at : ℕ → Option Frames) (s : Span) (g : Builtin) (n : ℕ) (xs : ℕ → Option Value) (c : Columns A) (ms : ℕ → Option ℕ) → ((k : ℕ) (fs : Frames) → at k ≡ Some fs → k < n) → Applies g s n xs c → AreAt p at xs ms → AreAt (λ fs. and_then (p fs) (apply_builtin s g)) at (value_at c) ms
+applied_finds p at s g n xs c ms within so h = λ k fs e.
+    let x = h k fs e in
+    let y = so k x.0 (within k fs e) x.2 in
+    (y.0, x.1, y.1, x.3, applied_at (p fs) s g x.0 y.0 x.1 x.4 y.2)
+
+-- functions at the leaves of columns
+pub one_applies : {A : Type 0} (s : Span) (g : Unary) (n : ℕ) (xs : ℕ → Option Value) (us zs : List Value) (c : Columns A) → SameUpTo n xs (slice_get us) → MapsColumn g us zs → ((k : ℕ) → value_at c k ≡ slice_get zs k) → Applies (OfOne g) s n xs c
+one_applies s g n xs us zs c same e its = λ k x l q.
+    let z = each_at (λ x z. unary g x ≡ gives z) us zs k x e (same k l ∙ q) in
+    (z.0, its k ∙ z.1, ap (on_scalars s) z.2)
+
+pub two_apply : {A : Type 0} (s : Span) (g : Binary) (n : ℕ) (xs : ℕ → Option Value) (us vs zs : List Value) (c : Columns A) → SameUpTo n xs (λ k. both (slice_get us k) (slice_get vs k)) → Makes g us vs zs → ((k : ℕ) → value_at c k ≡ slice_get zs k) → Applies (OfTwo g) s n xs c
+two_apply s g n xs us vs zs c same e its = λ k x l q.
+    let w = both_some (slice_get us k) (slice_get vs k) x (same k l ∙ q) in
+    let z = three_at (λ x y z. binary g x y ≡ gives z) us vs zs k w.0 w.1 e w.2 w.3 in
+    (z.0, its k ∙ z.1, ap (apply_builtin s (OfTwo g)) w.4 ∙ ap (on_scalars s) z.2)
+
+pub length_applies : {A : Type 0} (s : Span) (n : ℕ) (xs : ℕ → Option Value) (v y : Value) (c : Columns A) → ((k : ℕ) → xs k ≡ Some v) → IsLength v y → ((k : ℕ) → value_at c k ≡ Some y) → Applies (OfSequences Length) s n xs c
+length_applies s n xs v y c same is its = λ k x l q.
+    let own : v ≡ x = same_Some v x (sym (same k) ∙ q) in
+    (y, its k, ap (apply_builtin s (OfSequences Length)) (sym own) ∙ length_is s v y is)
+
+-- the pairs of two parts
+pub pairs_find : (f : Runs) (at : ℕ → Option Frames) (a b : Code) (s : Span) (ms ns os : ℕ → Option ℕ) (xs ys zs : ℕ → Option Value) → AreAt (λ fs. f fs a) at xs ms → AreAt (λ fs. f fs b) at ys ns → Pairs xs ys zs → Sums ms ns os → AreAt (λ fs. run_two f fs a b (λ x y. small_enough s (pair x y))) at zs os
+pairs_find f at a b s ms ns os xs ys zs h i made sums = λ k fs q.
     let x = h k fs q in
     let y = i k fs q in
-    let z = three_at (λ x y z. binary g x y ≡ gives z) xs ys zs k x.0 y.0 e x.2 y.2 in
-    (z.0, x.1 + y.1, z.1, sums k x.1 y.1 x.3 y.3, pair_at f fs a b s s' g x.0 y.0 z.0 x.1 y.1 x.4 y.4 z.2)
+    let z = made k x.0 y.0 x.2 y.2 in
+    (pair x.0 y.0, x.1 + y.1, z.0, sums k x.1 y.1 x.3 y.3, made_at f fs a b s x.0 y.0 x.1 y.1 x.4 y.4 z.1)
 
-pub one_finds : (p : Frames → Out Value) (at : ℕ → Option Frames) (s : Span) (g : Unary) (ms : ℕ → Option ℕ) (xs zs : List Value) → AreAt p at (slice_get xs) ms → MapsColumn g xs zs → AreAt (λ fs. and_then (p fs) (apply_builtin s (OfOne g))) at (slice_get zs) ms
-one_finds p at s g ms xs zs h e = λ k fs q.
-    let x = h k fs q in
-    let z = each_at (λ x z. unary g x ≡ gives z) xs zs k x.0 e x.2 in
-    (z.0, x.1, z.1, x.3, one_at (p fs) s g x.0 z.0 x.1 x.4 z.2)
-
--- elements and lengths of a sequence that is the same at all turns
-pub element_finds : (f : Runs) (at : ℕ → Option Frames) (a b : Code) (s : Span) (v : Value) (ms ns : ℕ → Option ℕ) (xs zs : List Value) → AllAre (λ fs. f fs a) at (value v 1 1) → AreAt (λ fs. f fs b) at (slice_get xs) ms → EachTwo (Picks v) xs zs → Sums ms (λ k. Some 1) ns → AreAt (λ fs. run_two f fs a b (λ x y. apply_builtin s (OfSequences ElementAt) (pair x y))) at (slice_get zs) ns
-element_finds f at a b s v ms ns xs zs h i e sums = λ k fs q.
+-- elements of a sequence that is the same at all turns
+pub element_finds : (f : Runs) (at : ℕ → Option Frames) (a b : Code) (s : Span) (v : Value) (ws : ℕ → Option Value) (ms ns os : ℕ → Option ℕ) (xs zs : List Value) → ((k : ℕ) → ws k ≡ Some v) → AreAt (λ fs. f fs a) at ws ms → AreAt (λ fs. f fs b) at (slice_get xs) ns → EachTwo (Picks v) xs zs → Sums ms ns os → AreAt (λ fs. run_two f fs a b (λ x y. apply_builtin s (OfSequences ElementAt) (pair x y))) at (slice_get zs) os
+element_finds f at a b s v ws ms ns os xs zs same h i e sums = λ k fs q.
+    let w = h k fs q in
     let x = i k fs q in
+    let own : v ≡ w.0 = same_Some v w.0 (sym (same k) ∙ w.2) in
     let z = each_at (Picks v) xs zs k x.0 e x.2 in
-    (z.0, x.1 + 1, z.1, sums k x.1 1 x.3 refl, element_at f fs a b s v x.0 z.0 x.1 (h k fs q) x.4 z.2)
-
-pub length_finds : (f : Runs) (at : ℕ → Option Frames) (a : Code) (s : Span) (v : Value) (ts : List Value) (ys : ℕ → Option Value) (ms : ℕ → Option ℕ) → AllAre (λ fs. f fs a) at (value v 1 1) → as_sequence v ≡ Some ts → AreAt (λ fs. value (values.int (pos (length ts))) 0 0) at ys ms → AreAt (λ fs. and_then (f fs a) (apply_builtin s (OfSequences Length))) at ys (λ k. Some 1)
-length_finds f at a s v ts ys ms h is i = λ k fs q.
-    let y = i k fs q in
-    (y.0, 1, y.2, refl, length_at f fs a s v ts y.0 y.1 (h k fs q) is y.4)
+    (z.0, w.1 + x.1, z.1, sums k w.1 x.1 w.3 x.3, element_at f fs a b s v x.0 z.0 w.1 x.1 (w.4 ∙ ap (λ u. value u w.1 w.1) (sym own)) x.4 z.2)
 
 -- the bindings of a `let`, of which some have been evaluated
 abbrev pub let_from : Runs → Frames → List (Option Value) → List Code → Code → Out Value
@@ -113,8 +131,8 @@ let_is f fs vs (c ∷ cs) e =
     then_so (f (frame vs ∷ fs) c) (λ v. run_let f fs (vs ++ v ∷ []) cs e) (λ v. let_from f fs (frame vs ++ Some v ∷ []) cs e)
     (λ v. let_is f fs (vs ++ v ∷ []) cs e ∙ ap (λ os. let_from f fs os cs e) (map-append Some vs (v ∷ [])))
 
--- so far the bindings have come to these columns, at these costs
-abbrev pub Along : {A : Type 0} → Runs → (ℕ → Option Frames) → List Code → Code → List (Column A) → List Code → (ℕ → Option ℕ) → Type 0
+-- so far the bindings have come to these values, at these costs
+abbrev pub Along : {A : Type 0} → Runs → (ℕ → Option Frames) → List Code → Code → List (Columns A) → List Code → (ℕ → Option ℕ) → Type 0
 Along f at cs e us rest ns = (k : ℕ) (fs : Frames) → at k ≡ Some fs → (n : ℕ) × (ns k ≡ Some n) × (let_from f fs [] cs e ≡ after_cost n n (let_from f fs (bound_at us k) rest e))
 
 added_none : {X : Type 0} (o : Out X) → o ≡ after_cost 0 0 o
@@ -125,15 +143,15 @@ added_none (value x w d) = cost_so x w (0 + w) d (0 + d) (omega arith) (omega ar
 added_none (fault t s w) = ap (λ v. fault t s v) (omega arith)
 added_none stuck = refl
 
-pub along_begun : {A : Type 0} (f : Runs) (at : ℕ → Option Frames) (cs : List Code) (e : Code) (us : List (Column A)) → us ≡ [] → Along f at cs e us cs (λ k. Some 0)
+pub along_begun : {A : Type 0} (f : Runs) (at : ℕ → Option Frames) (cs : List Code) (e : Code) (us : List (Columns A)) → us ≡ [] → Along f at cs e us cs (λ k. Some 0)
 along_begun f at cs e us none = λ k fs q. (0, refl, added_none (let_from f fs [] cs e) ∙ ap (λ ws. after_cost 0 0 (let_from f fs (bound_at ws k) cs e)) (sym none))
 
-pub along_next : {A : Type 0} (f : Runs) (at inner : ℕ → Option Frames) (cs : List Code) (e c : Code) (us ws : List (Column A)) (u : Column A) (rest more : List Code) (ns ms os : ℕ → Option ℕ) → more ≡ c ∷ rest → Along f at cs e us more ns → AreAt (λ fs. f fs c) inner (slice_get (leaves_of u)) ms → ((k : ℕ) (fs : Frames) → at k ≡ Some fs → inner k ≡ Some (bound_at us k ∷ fs)) → ws ≡ us ++ u ∷ [] → Sums ns ms os → Along f at cs e ws rest os
+pub along_next : {A : Type 0} (f : Runs) (at inner : ℕ → Option Frames) (cs : List Code) (e c : Code) (us ws : List (Columns A)) (u : Columns A) (rest more : List Code) (ns ms os : ℕ → Option ℕ) → more ≡ c ∷ rest → Along f at cs e us more ns → AreAt (λ fs. f fs c) inner (value_at u) ms → ((k : ℕ) (fs : Frames) → at k ≡ Some fs → inner k ≡ Some (bound_at us k ∷ fs)) → ws ≡ us ++ u ∷ [] → Sums ns ms os → Along f at cs e ws rest os
 along_next f at inner cs e c us ws u rest more ns ms os splits so h under is sums = λ k fs q.
     let x = so k fs q in
     let y = h k (bound_at us k ∷ fs) (under k fs q) in
     let its : bound_at ws k ≡ bound_at us k ++ Some y.0 ∷ [] =
-    ap (λ ds. bound_at ds k) is ∙ map-append (λ d. slice_get (leaves_of d) k) us (u ∷ []) ∙ ap (λ o. bound_at us k ++ o ∷ []) y.2 in (
+    ap (λ ds. bound_at ds k) is ∙ map-append (λ d. value_at d k) us (u ∷ []) ∙ ap (λ o. bound_at us k ++ o ∷ []) y.2 in (
       x.0 + y.1,
       sums k x.0 y.1 x.1 y.3,
       x.2 ∙ ap (λ ds. after_cost x.0 x.0 (let_from f fs (bound_at us k) ds e)) splits
@@ -142,7 +160,7 @@ along_next f at inner cs e c us ws u rest more ns ms os splits so h under is sum
           ∙ ap (λ ps. after_cost (x.0 + y.1) (x.0 + y.1) (let_from f fs ps rest e)) (sym its),
     )
 
-pub along_done : {A : Type 0} (f : Runs) (at inner : ℕ → Option Frames) (cs : List Code) (e : Code) (us : List (Column A)) (rest : List Code) (vs : ℕ → Option Value) (ns ms os : ℕ → Option ℕ) → rest ≡ [] → Along f at cs e us rest ns → AreAt (λ fs. f fs e) inner vs ms → ((k : ℕ) (fs : Frames) → at k ≡ Some fs → inner k ≡ Some (bound_at us k ∷ fs)) → Sums ns ms os → AreAt (λ fs. run_let f fs [] cs e) at vs os
+pub along_done : {A : Type 0} (f : Runs) (at inner : ℕ → Option Frames) (cs : List Code) (e : Code) (us : List (Columns A)) (rest : List Code) (vs : ℕ → Option Value) (ns ms os : ℕ → Option ℕ) → rest ≡ [] → Along f at cs e us rest ns → AreAt (λ fs. f fs e) inner vs ms → ((k : ℕ) (fs : Frames) → at k ≡ Some fs → inner k ≡ Some (bound_at us k ∷ fs)) → Sums ns ms os → AreAt (λ fs. run_let f fs [] cs e) at vs os
 along_done f at inner cs e us rest vs ns ms os none so h under sums = λ k fs q.
     let x = so k fs q in
     let y = h k (bound_at us k ∷ fs) (under k fs q) in (

@@ -5,11 +5,11 @@ use Rattle.std.proofs.lemmas.Option.{same_Some, none-some}
 use Rattle.nesl_eval_meaning.specs.Names.{Value}
 use Rattle.nesl_eval_code.specs.Frames.{Frames}
 use Rattle.nesl_eval_meaning.specs.Out.{Out}
-use Rattle.nesl_eval_columns.specs.declared.column.Column.{Column}
 use Rattle.nesl_eval_plain.specs.declared.block.Block.{Block}
+use Rattle.nesl_eval_plain.specs.declared.columns.Columns.{Columns}
 use Rattle.nesl_eval_plain.specs.declared.scopes.Scopes.{Scopes, Rows, Let, Turns, the_lemmas}
 use Rattle.nesl_eval_plain.specs.Blocks.{block_places, frames_at}
-use Rattle.nesl_eval_plain.specs.Frames.{bound_at, frames_in, IsAt, AreAt, AllAre}
+use Rattle.nesl_eval_plain.specs.Frames.{bound_at, frames_in, IsAt, AreAt}
 
 pub mapped_some : {X Y : Type 0} (h : X → Y) (o : Option X) (y : Y) → option_map h o ≡ Some y → (x : X) × (o ≡ Some x) × (h x ≡ y)
 mapped_some h (Some x) y e = (x, refl, same_Some (h x) y e)
@@ -22,7 +22,7 @@ some_and None P h = absurd h
 pub frames-Rows : {A T : Type 0} (b : Block A T) (k : ℕ) → frames_in b Rows k ≡ option_map (frames_at b) (slice_get (block_places b) k)
 frames-Rows b k = search (rules, the_lemmas)
 
-pub frames-Let : {A T : Type 0} (b : Block A T) (cs : Bor (List (Column A))) (rest : Bor (Scopes A)) (k : ℕ) → frames_in b (Let cs rest) k ≡ option_map (λ fs. bound_at cs.now k ∷ fs) (frames_in b rest.now k)
+pub frames-Let : {A T : Type 0} (b : Block A T) (cs : Bor (List (Columns A))) (rest : Bor (Scopes A)) (k : ℕ) → frames_in b (Let cs rest) k ≡ option_map (λ fs. bound_at cs.now k ∷ fs) (frames_in b rest.now k)
 frames-Let b cs rest k = search (rules, the_lemmas)
 
 pub frames-Turns : {A T : Type 0} (b : Block A T) (ts : Bor (List ℕ)) (rest : Bor (Scopes A)) (k : ℕ) → frames_in b (Turns ts rest) k ≡ option_and_then (frames_in b rest.now) (slice_get ts.now k)
@@ -38,7 +38,7 @@ module _ {A T : Type 0} (b : Block A T) (s : Scopes A) (k : ℕ) (fs : Frames) w
   at_row is e = mapped_some (frames_at b) (slice_get (block_places b) k) fs (sym (frames-Rows b k) ∙ ap (λ t. frames_in b t k) (sym is) ∙ e)
 
   -- at a turn of a `let`
-  pub at_let : (cs : Bor (List (Column A))) (rest : Bor (Scopes A)) → s ≡ Let cs rest → frames_in b s k ≡ Some fs → (gs : Frames) × (frames_in b rest.now k ≡ Some gs) × (bound_at cs.now k ∷ gs ≡ fs)
+  pub at_let : (cs : Bor (List (Columns A))) (rest : Bor (Scopes A)) → s ≡ Let cs rest → frames_in b s k ≡ Some fs → (gs : Frames) × (frames_in b rest.now k ≡ Some gs) × (bound_at cs.now k ∷ gs ≡ fs)
   at_let cs rest is e = mapped_some (λ gs. bound_at cs.now k ∷ gs) (frames_in b rest.now k) fs (sym (frames-Let b cs rest k) ∙ ap (λ t. frames_in b t k) (sym is) ∙ e)
 
   -- at one of some turns
@@ -58,22 +58,12 @@ turns_find b s ts rest p us vs ms ns is h same = λ k fs e.
     let z = same k w.0 w.1 in
     (x.0, x.1, z.0 ∙ x.2, z.1 ∙ x.3, x.4)
 
-pub turns_are : {A T : Type 0} (b : Block A T) (s : Scopes A) (ts : Bor (List ℕ)) (rest : Bor (Scopes A)) (p : Frames → Out Value) (o : Out Value) → s ≡ Turns ts rest → AllAre p (frames_in b rest.now) o → AllAre p (frames_in b s) o
-turns_are b s ts rest p o is h = λ k fs e.
-    let w = at_turn b s k fs ts rest is e in
-    h w.0 fs w.2
-
 -- the frame of bindings on top
-pub let_at : {A T : Type 0} (b : Block A T) (cs : Bor (List (Column A))) (ds : List (Column A)) (rest : Bor (Scopes A)) (k : ℕ) (fs : Frames) → cs.now ≡ ds → frames_in b rest.now k ≡ Some fs → frames_in b (Let cs rest) k ≡ Some (bound_at ds k ∷ fs)
+pub let_at : {A T : Type 0} (b : Block A T) (cs : Bor (List (Columns A))) (ds : List (Columns A)) (rest : Bor (Scopes A)) (k : ℕ) (fs : Frames) → cs.now ≡ ds → frames_in b rest.now k ≡ Some fs → frames_in b (Let cs rest) k ≡ Some (bound_at ds k ∷ fs)
 let_at b cs ds rest k fs is e = frames-Let b cs rest k ∙ ap (option_map (λ gs. bound_at cs.now k ∷ gs)) e ∙ ap (λ us. Some (bound_at us k ∷ fs)) is
 
 -- what is found below the frame of a `let`
-pub below_let : {A T : Type 0} (b : Block A T) (s : Scopes A) (cs : Bor (List (Column A))) (rest : Bor (Scopes A)) (p q : Frames → Out Value) (vs : ℕ → Option Value) (ns : ℕ → Option ℕ) → s ≡ Let cs rest → ((x : List (Option Value)) (gs : Frames) → p (x ∷ gs) ≡ q gs) → AreAt q (frames_in b rest.now) vs ns → AreAt p (frames_in b s) vs ns
+pub below_let : {A T : Type 0} (b : Block A T) (s : Scopes A) (cs : Bor (List (Columns A))) (rest : Bor (Scopes A)) (p q : Frames → Out Value) (vs : ℕ → Option Value) (ns : ℕ → Option ℕ) → s ≡ Let cs rest → ((x : List (Option Value)) (gs : Frames) → p (x ∷ gs) ≡ q gs) → AreAt q (frames_in b rest.now) vs ns → AreAt p (frames_in b s) vs ns
 below_let b s cs rest p q vs ns is law h = λ k fs e.
     let w = at_let b s k fs cs rest is e in
     subst (λ hs. IsAt vs ns k (p hs)) w.2 (subst (λ o. IsAt vs ns k o) (sym (law (bound_at cs.now k) w.0)) (h k w.0 w.1))
-
-pub all_below_let : {A T : Type 0} (b : Block A T) (s : Scopes A) (cs : Bor (List (Column A))) (rest : Bor (Scopes A)) (p q : Frames → Out Value) (o : Out Value) → s ≡ Let cs rest → ((x : List (Option Value)) (gs : Frames) → p (x ∷ gs) ≡ q gs) → AllAre q (frames_in b rest.now) o → AllAre p (frames_in b s) o
-all_below_let b s cs rest p q o is law h = λ k fs e.
-    let w = at_let b s k fs cs rest is e in
-    subst (λ hs. p hs ≡ o) w.2 (law (bound_at cs.now k) w.0 ∙ h k w.0 w.1)

@@ -1,5 +1,5 @@
 -- Pairs of the values at turns.
-use Rattle.std.proofs.Common.{◌≡◌, ℕ, ℤ, zero, suc, ◌+◌, ◌<◌, ◌≤◌, Bool, true, false, List, [], ◌∷◌, ◌++◌, map, length, length-drop, drop, set, get_or, nat_le, append-nil, Option, Some, refl, sym, ap, ◌∙◌, subst, arith, append_assoc}
+use Rattle.std.proofs.Common.{◌≡◌, ℕ, ℤ, zero, suc, ◌+◌, ◌<◌, ◌≤◌, Bool, true, false, List, [], ◌∷◌, ◌++◌, map, length, length-drop, drop, set, get_or, nat_le, append-nil, Some, refl, sym, ap, ◌∙◌, subst, arith, append_assoc}
 use Rattle.std.specs.Prelude.{slice_get}
 use Rattle.std.proofs.lemmas.Option.{same_Some, none-some}
 use Rattle.std.proofs.lemmas.List.{length-map}
@@ -15,28 +15,14 @@ use Rattle.nesl_eval_code.specs.Run.{Runs, run_two}
 use Rattle.nesl_eval_columns.specs.declared.column.Column.{Column}
 use Rattle.nesl_eval_columns.specs.declared.column.Column.TheVariants.{Ints, Bools, Chars}
 use Rattle.nesl_eval_columns.specs.Columns.{leaves_of}
-use Rattle.nesl_eval_plain.specs.Costs.{Sums}
-use Rattle.nesl_eval_plain.specs.Frames.{AreAt}
 use Rattle.nesl_eval_plain.specs.Values.{pairs_of, AreOfSize}
 use Rattle.nesl_eval_plain.proofs.Comes.{cost_is}
 
--- the pair at a turn
-pairs_at : (xs ys : List Value) (k : ℕ) (x y : Value) → slice_get xs k ≡ Some x → slice_get ys k ≡ Some y → slice_get (pairs_of xs ys) k ≡ Some (pair x y)
-pairs_at [] ys k x y h e = absurd (none-some x h)
-pairs_at (a ∷ xs) [] k x y h e = absurd (none-some y e)
-pairs_at (a ∷ xs) (b ∷ ys) zero x y h e = ap (λ u. Some (pair u b)) (same_Some a x h) ∙ ap (λ u. Some (pair x u)) (same_Some b y e)
-pairs_at (a ∷ xs) (b ∷ ys) (suc k) x y h e = pairs_at xs ys k x y h e
-
 -- how many nodes values have
-sized_at : (n : ℕ) (xs : List Value) (k : ℕ) (x : Value) → AreOfSize n xs → slice_get xs k ≡ Some x → size x ≡ n
+pub sized_at : (n : ℕ) (xs : List Value) (k : ℕ) (x : Value) → AreOfSize n xs → slice_get xs k ≡ Some x → size x ≡ n
 sized_at n [] k x h e = absurd (none-some x e)
 sized_at n (a ∷ xs) zero x h e = subst (λ u. size u ≡ n) (same_Some a x e) h.0
 sized_at n (a ∷ xs) (suc k) x h e = sized_at n xs k x h.1 e
-
-pub pairs_sized : (m n : ℕ) (xs ys : List Value) → AreOfSize m xs → AreOfSize n ys → AreOfSize (m + n + 1) (pairs_of xs ys)
-pairs_sized m n [] ys h k = tt
-pairs_sized m n (x ∷ xs) [] h k = tt
-pairs_sized m n (x ∷ xs) (y ∷ ys) h k = (omega (arith, h.0, k.0), pairs_sized m n xs ys h.1 k.1)
 
 ints_sized : (xs : List ℤ) → AreOfSize 1 (map int xs)
 ints_sized [] = tt
@@ -64,19 +50,12 @@ few_nodes s v few = by_test (nat_le (size v) 1048576) refl
     by_test false e = absurd (grind (arith, nat_tests))
 
 -- a pair at a place
-made_at : (f : Runs) (fs : Frames) (a b : Code) (s : Span) (x y : Value) (m n : ℕ) → f fs a ≡ value x m m → f fs b ≡ value y n n → size (pair x y) ≤ 1048576 → run_two f fs a b (λ x y. small_enough s (pair x y)) ≡ value (pair x y) (m + n) (m + n)
+pub made_at : (f : Runs) (fs : Frames) (a b : Code) (s : Span) (x y : Value) (m n : ℕ) → f fs a ≡ value x m m → f fs b ≡ value y n n → size (pair x y) ≤ 1048576 → run_two f fs a b (λ x y. small_enough s (pair x y)) ≡ value (pair x y) (m + n) (m + n)
 made_at f fs a b s x y m n h k few =
     ap (λ o. and_then o (λ x. and_then (f fs b) (λ y. small_enough s (pair x y)))) h
     ∙ ap (λ o. after_cost m m (and_then o (λ y. small_enough s (pair x y)))) k
     ∙ ap (λ o. after_cost m m (after_cost n n o)) (few_nodes s (pair x y) few)
     ∙ cost_is (pair x y) (m + (n + 0)) (m + n) (m + (n + 0)) (m + n) (omega arith) (omega arith)
-
-pub pairs_find : (f : Runs) (at : ℕ → Option Frames) (a b : Code) (s : Span) (ms ns os : ℕ → Option ℕ) (i j : ℕ) (xs ys : List Value) → AreAt (λ fs. f fs a) at (slice_get xs) ms → AreAt (λ fs. f fs b) at (slice_get ys) ns → AreOfSize i xs → AreOfSize j ys → i + j + 1 ≤ 1048576 → Sums ms ns os → AreAt (λ fs. run_two f fs a b (λ x y. small_enough s (pair x y))) at (slice_get (pairs_of xs ys)) os
-pairs_find f at a b s ms ns os i j xs ys h l few more less sums = λ k fs q.
-    let x = h k fs q in
-    let y = l k fs q in
-    let large : size (pair x.0 y.0) ≤ 1048576 = omega (arith, sized_at i xs k x.0 few x.2, sized_at j ys k y.0 more y.2, less) in
-    (pair x.0 y.0, x.1 + y.1, pairs_at xs ys k x.0 y.0 x.2 y.2, sums k x.1 y.1 x.3 y.3, made_at f fs a b s x.0 y.0 x.1 y.1 x.4 y.4 large)
 
 -- what is taken out at a turn, and what is left after it
 pub taken_out : {X : Type 0} (f : X → Value) (xs : List X) (i : ℕ) (d y : X) → i < length xs → drop i (map f xs) ≡ f (get_or xs i d) ∷ drop (i + 1) (map f (set xs i y))

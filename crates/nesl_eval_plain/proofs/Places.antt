@@ -1,13 +1,11 @@
 -- Elements at places.
-use Rattle.std.proofs.Common.{◌≡◌, ℕ, zero, suc, ◌+◌, ◌-◌, ◌<◌, ◌≤◌, ◌⊎◌, inl, inr, pos, List, [], ◌∷◌, map, length, get_or, take, drop, replicate, refl, sym, ap, ◌∙◌, arith, subst, Option, Some, None, true, Bor}
+use Rattle.std.proofs.Common.{◌≡◌, ℕ, zero, suc, ◌+◌, ◌-◌, ◌<◌, ◌≤◌, ◌⊎◌, inl, inr, List, [], ◌∷◌, map, length, get_or, take, drop, replicate, refl, sym, ap, ◌∙◌, arith, subst, Option, Some, None, true, Bor}
 use Rattle.std.specs.Prelude.{slice_get, slice_range, option_map, option_and_then, IfSome, ◌==◌}
-use Rattle.std.proofs.lemmas.Bool.Decides.{nat_tests}
 use Rattle.std.specs.List.{range_with_len}
-use Rattle.std.proofs.lemmas.Option.{slice_get_cases, slice_get-map, slice_get-get_or, slice_get_within, same_Some}
+use Rattle.std.proofs.lemmas.Option.{slice_get_cases, slice_get-map, slice_get_within, same_Some}
 use Rattle.std.proofs.lemmas.Grind.{common_steps}
 use Rattle.std.proofs.lemmas.List.FromFn.{length-range_with_len}
 use Rattle.nesl_values.specs.Parts.{elements}
-use Rattle.nesl_values.specs.Tree.{int}
 use Rattle.nesl_values.specs.View.{tree_of}
 use Rattle.nesl_values.specs.declared.value.Value as code
 use Rattle.nesl_eval_code.specs.declared.code.Step.{Step}
@@ -18,20 +16,21 @@ use Rattle.nesl_eval_nodes.specs.Sides.{places_of}
 use Rattle.nesl_eval_nodes.specs.Scopes.{frames_of}
 use Rattle.nesl_eval_nodes.proofs.Arms.{drop_next}
 use Rattle.nesl_eval_nodes.proofs.Lookups.{in_row, in_tail}
-use Rattle.nesl_eval_columns.specs.declared.column.Column.{Column}
-use Rattle.nesl_eval_columns.specs.Columns.{leaves_of}
 use Rattle.nesl_eval_columns.specs.Each.{EachTwo, EachThree}
 use Rattle.nesl_eval_plain.specs.declared.block.Block.{Block}
+use Rattle.nesl_eval_plain.specs.declared.columns.Columns.{Columns}
 use Rattle.nesl_eval_plain.specs.declared.scopes.Scopes.{Scopes, Rows}
 use Rattle.nesl_eval_plain.specs.declared.costs.Costs.{Costs}
 use Rattle.nesl_eval_plain.specs.Comes.{Comes}
 use Rattle.nesl_eval_plain.specs.Costs.{costs_at, each_cost}
 use Rattle.nesl_eval_plain.specs.Blocks.{block_places, frames_at, IsWithin}
-use Rattle.nesl_eval_plain.specs.Frames.{bound_at, frames_in, IsAt, AreAt, AllAre}
+use Rattle.nesl_eval_plain.specs.Frames.{bound_at, frames_in, IsAt, AreAt, AllAre, StandsAt}
+use Rattle.nesl_eval_plain.specs.Columns.{value_at, Leads}
 use Rattle.nesl_eval_plain.proofs.Comes.{each_so}
 use Rattle.nesl_eval_plain.proofs.Costing.{cost_listed}
-use Rattle.nesl_eval_plain.proofs.Framed.{at_row, frames-Rows}
+use Rattle.nesl_eval_plain.proofs.Framed.{at_row, frames-Rows, some_and}
 use Rattle.nesl_eval_plain.proofs.Finding.{each_at}
+use Rattle.nesl_eval_plain.proofs.Valued.{none_left}
 
 -- the element at a place
 abbrev pub Stands : {X : Type 0} → List X → ℕ → X → Type 0
@@ -82,10 +81,6 @@ row_at fs vs index v e is ys h =
     each_so (Stands (elements v)) (λ i y. place_in (row i vs ∷ fs) 0 index ≡ Some y)
     (λ i y q. in_row vs fs i index ∙ ap (option_and_then (λ u. slice_get (elements u) i)) e ∙ q) is ys h
 
-pub none_left : {X : Type 0} (xs : List X) → true ≡ (length xs == 0) → xs ≡ []
-none_left [] h = refl
-none_left (x ∷ xs) h = absurd (grind (arith, nat_tests))
-
 -- a name without steps
 name_at : (fs : Frames) (up index : ℕ) (steps : List Step) (v : Value) → up ≡ 0 → true ≡ (length steps == 0) → place_in fs 0 index ≡ Some v → given (local_at fs up index steps) (λ v. value v 0 0) ≡ value v 0 0
 name_at fs up index steps v z e h =
@@ -129,13 +124,21 @@ some_tree (Some v) q P e law = law v e
 some_tree None q P e law = tt
 
 -- a name in the frame of a `let`
-pub bound_finds : {A : Type 0} (cs : List (Column A)) (gs : Frames) (up index k : ℕ) (steps : List Step) (c : Column A) (vs : List Value) → slice_get cs index ≡ Some c → up ≡ 0 → true ≡ (length steps == 0) → k < length (leaves_of c) → vs ≡ leaves_of c → IsAt (slice_get vs) (λ j. Some 0) k (given (local_at (bound_at cs k ∷ gs) up index steps) (λ v. value v 0 0))
-bound_finds cs gs up index k steps c vs is z e h same =
-    let v = get_or (leaves_of c) k (int (pos 0)) in
-    let leaf = slice_get-get_or (leaves_of c) k (int (pos 0)) h in
-    let there : place_in (bound_at cs k ∷ gs) 0 index ≡ Some v =
-    ap (option_and_then (λ o. o)) (slice_get-map (λ d. slice_get (leaves_of d) k) cs index ∙ ap (option_map (λ d. slice_get (leaves_of d) k)) is) ∙ leaf in
-    (v, 0, ap (λ us. slice_get us k) same ∙ leaf, refl, name_at (bound_at cs k ∷ gs) up index steps v z e there)
+pub bound_finds : {A : Type 0} (cs : List (Columns A)) (gs : Frames) (up index k least : ℕ) (steps : List Step) (ys : ℕ → Option Value) → up ≡ 0 → StandsAt cs index least steps ys → k < least → IsAt ys (λ j. Some 0) k (given (local_at (bound_at cs k ∷ gs) up index steps) (λ v. value v 0 0))
+bound_finds cs gs up index k least steps ys z so less =
+    let c = some_and (slice_get cs index) (λ c. ((k : ℕ) → k < least → (v : Value) × (value_at c k ≡ Some v)) × Leads steps (value_at c) ys) so in
+    let v = c.2.0 k less in
+    let w = c.2.1 k v.0 v.1 in
+    let there : place_in (bound_at cs k ∷ gs) 0 index ≡ Some v.0 =
+    ap (option_and_then (λ o. o)) (slice_get-map (λ d. value_at d k) cs index ∙ ap (option_map (λ d. value_at d k)) c.1) ∙ v.1 in (
+      w.0,
+      0,
+      w.2,
+      refl,
+      ap (λ n. given (local_at (bound_at cs k ∷ gs) n index steps) (λ v. value v 0 0)) z
+          ∙ ap (λ o. given (option_and_then (followed steps) o) (λ v. value v 0 0)) there
+          ∙ ap (λ o. given o (λ v. value v 0 0)) w.1,
+    )
 
 -- a name further up than a frame
 pub name_below : (up index : ℕ) (steps : List Step) → 0 < up → (x : List (Option Value)) (gs : Frames) → given (local_at (x ∷ gs) up index steps) (λ v. value v 0 0) ≡ given (local_at gs (up - 1) index steps) (λ v. value v 0 0)

@@ -1,21 +1,25 @@
 -- The frames at the turns of a block, and what is found there.
-use Rattle.std.specs.Prelude.{◌≡◌, ℕ, Bool, List, ◌∷◌, map, slice_get, Option, Some, option_map, option_and_then}
+use Rattle.std.specs.Prelude.{◌≡◌, ℕ, ◌<◌, Bool, List, ◌∷◌, map, slice_get, Option, Some, option_map, option_and_then}
+use Rattle.std.specs.Prelude.{IsSomeAnd}
+use Rattle.nesl_eval_code.specs.declared.code.Step.{Step}
 use Rattle.nesl_eval_meaning.specs.Names.{Value}
 use Rattle.nesl_eval_code.specs.Frames.{Frames}
 use Rattle.nesl_eval_meaning.specs.Out.{Out, value}
 use Rattle.nesl_eval_meaning.specs.Outcome.{branch}
-use Rattle.nesl_eval_columns.specs.declared.column.Column.{Column}
 use Rattle.nesl_eval_columns.specs.Columns.{leaves_of}
 use Rattle.nesl_eval_plain.specs.declared.block.Block.{Block}
+use Rattle.nesl_eval_plain.specs.declared.columns.Columns.{Columns}
 use Rattle.nesl_eval_plain.specs.declared.found.Found.{Found}
+use Rattle.nesl_eval_plain.specs.declared.found.Results.{Results}
 use Rattle.nesl_eval_plain.specs.declared.scopes.Scopes.{Scopes, fold-Scopes}
 use Rattle.nesl_eval_plain.specs.declared.scopes.Scopes.TheOpen.{Scopes-F}
 use Rattle.nesl_eval_plain.specs.Blocks.{block_places, frames_at}
+use Rattle.nesl_eval_plain.specs.Columns.{value_at, Leads}
 use Rattle.nesl_eval_plain.specs.Costs.{costs_at}
 
 -- the values of bindings at a turn
-abbrev pub bound_at : {A : Type 0} → List (Column A) → ℕ → List (Option Value)
-bound_at cs k = map (λ c. slice_get (leaves_of c) k) cs
+abbrev pub bound_at : {A : Type 0} → List (Columns A) → ℕ → List (Option Value)
+bound_at cs k = map (λ c. value_at c k) cs
 
 -- the frames at a turn, if there is such a turn
 abbrev pub scopes_step : {A T : Type 0} → Block A T → Scopes-F A (ℕ → Option Frames) → ℕ → Option Frames
@@ -42,9 +46,23 @@ leaf_at r = slice_get (leaves_of r.column)
 abbrev pub cost_at : {A : Type 0} → Found A → ℕ → Option ℕ
 cost_at r = costs_at r.costs
 
--- what was found at the turns
+-- what was found at the turns, as leaves
 abbrev pub Finds : {A : Type 0} → (Frames → Out Value) → (ℕ → Option Frames) → Found A → Type 0
 Finds p at r = AreAt p at (leaf_at r) (cost_at r)
+
+-- what was found at the turns, as values
+abbrev pub Yields : {A : Type 0} → (Frames → Out Value) → (ℕ → Option Frames) → Results A → Type 0
+Yields p at r = AreAt p at (value_at r.values) (costs_at r.costs)
+
+-- what was found at the turns, without cost
+abbrev pub NeedsNothing : {A : Type 0} → (Frames → Out Value) → (ℕ → Option Frames) → Columns A → Type 0
+NeedsNothing p at c = AreAt p at (value_at c) (λ k. Some 0)
+
+-- the values are what the steps lead to from the binding at that place, at so many turns
+abbrev pub StandsAt : {A : Type 0} → List (Columns A) → ℕ → ℕ → List Step → (ℕ → Option Value) → Type 0
+StandsAt cs index least steps ys =
+    IsSomeAnd (slice_get cs index) (λ c.
+    ((k : ℕ) → k < least → (v : Value) × (value_at c k ≡ Some v)) × Leads steps (value_at c) ys)
 
 -- of two outcomes the one that the flag at a turn tells is the leaf there, and both its work and its depth are the cost
 abbrev pub Chooses

@@ -8,7 +8,7 @@ use Rattle.nesl_eval_code.specs.Frames.{Frames}
 use Rattle.nesl_eval_columns.specs.Columns.{leaves_of}
 use Rattle.nesl_eval_plain.specs.declared.values.Values.{Values}
 use Rattle.nesl_eval_plain.specs.declared.values.Values.TheVariants.{Leaves, Pairs}
-use Rattle.nesl_eval_plain.specs.declared.pairs.Bodies.{Bodies}
+use Rattle.nesl_eval_plain.specs.declared.bodies.Bodies.{Bodies}
 use Rattle.nesl_eval_plain.specs.Costs.{costs_at}
 use Rattle.nesl_eval_plain.specs.Frames.{AreAt}
 

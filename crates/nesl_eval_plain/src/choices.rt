@@ -1,11 +1,11 @@
-// What is found at some of the turns, and at all of them from two sides.
-ghost use Rattle.std.specs.Prelude.{◌≡◌, ℕ, [], IfSome, IsTrue, Some, slice_get};
+// What is found at all turns, from two sides.
+ghost use Rattle.std.specs.Prelude.{◌≡◌, [], IfSome, IsTrue};
 ghost use Rattle.nesl_eval_plain.specs.Costs.{Merges};
 ghost use Rattle.nesl_eval_plain.specs.Frames.{leaf_at, cost_at};
 
-use crate::costs::{Costs, costs_of_sides};
+use crate::costs::costs_of_sides;
 use crate::found::Found;
-use nesl_eval_columns::{Sides, leaves_at, leaves_of_sides};
+use nesl_eval_columns::{Sides, leaves_of_sides};
 use std::alloc::Allocator;
 
 /// Whether there are no places.
@@ -13,25 +13,6 @@ pub fn is_none(places: &[usize]) -> bool
     ensures { IsTrue result → places.now ≡ [] }
 {
     places.is_empty()
-}
-
-/// What was found, at these turns.
-pub fn at_turns<A: Allocator>(found: Found<A>, turns: &[usize], alloc: A) -> Option<Found<A>>
-    ensures { IfSome result (λ r. (k j : ℕ) → slice_get turns.now k ≡ Some j
-        → (leaf_at r k ≡ leaf_at found j) × (cost_at r k ≡ cost_at found j)) }
-{
-    let Found { column, costs } = found;
-    let Costs { same, more } = costs;
-    match more {
-        None => {
-            let leaves = leaves_at(&column, turns, alloc)?;
-            Some(Found {
-                column: leaves,
-                costs: Costs { same, more: None },
-            })
-        }
-        Some(_) => None,
-    }
 }
 
 /// What is found at all turns, from what is found at those of each side.

@@ -1,8 +1,8 @@
 // What plain code comes to.
 ghost use Rattle.std.specs.Prelude.{◌≡◌, [], ◌∷◌, ◌++◌, IfSome, Some};
-ghost use Rattle.nesl_eval_plain.specs.Costs.{Sums};
-ghost use Rattle.nesl_eval_plain.specs.Frames.{cost_at};
+ghost use Rattle.nesl_eval_plain.specs.Costs.{costs_at, Sums};
 
+use crate::columns::Columns;
 use crate::costs::{Costs, raised};
 use nesl_eval_columns::Column;
 use std::alloc::Allocator;
@@ -14,20 +14,28 @@ pub struct Found<A: Allocator> {
     pub costs: Costs<A>,
 }
 
-/// What was found, with the own 1 of a node.
-pub fn entered<A: Allocator>(found: Found<A>) -> Option<Found<A>>
-    ensures { IfSome result (λ r. (Sums (cost_at found) (λ k. Some 1) (cost_at r)) × (r.column ≡ found.column)) }
-{
-    let Found { column, costs } = found;
-    let costs = raised(costs, 1)?;
-    Some(Found { column, costs })
+/// The values at the turns of a block, and what they cost.
+#[derive(Drop)]
+pub struct Results<A: Allocator> {
+    pub values: Columns<A>,
+    pub costs: Costs<A>,
 }
 
-// Adds a column, if there is room.
-pub fn keep<A: Allocator>(columns: &mut Vec<Column<A>, A>, column: Column<A>) -> Option<()>
-    ensures { IfSome result (λ u. columns.new.items ≡ columns.old.items ++ column ∷ []) }
+/// What was found, with the own 1 of a node.
+pub fn entered<A: Allocator>(results: Results<A>) -> Option<Results<A>>
+    ensures { IfSome result (λ r. (Sums (costs_at results.costs) (λ k. Some 1) (costs_at r.costs))
+        × (r.values ≡ results.values)) }
 {
-    match columns.push(column) {
+    let Results { values, costs } = results;
+    let costs = raised(costs, 1)?;
+    Some(Results { values, costs })
+}
+
+// Adds values, if there is room.
+pub fn keep<A: Allocator>(bindings: &mut Vec<Columns<A>, A>, values: Columns<A>) -> Option<()>
+    ensures { IfSome result (λ u. bindings.new.items ≡ bindings.old.items ++ values ∷ []) }
+{
+    match bindings.push(values) {
         Ok(()) => Some(()),
         Err(_) => None,
     }

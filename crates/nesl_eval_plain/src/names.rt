@@ -1,5 +1,6 @@
 // Names at the turns of a block.
-ghost use Rattle.std.specs.Prelude.{◌≡◌, ◌≤◌, Some, IfSome, IsSomeAnd, IsTrue, length, slice_get, slice_range};
+ghost use Rattle.std.specs.Prelude.{◌≡◌, ◌≤◌, Some, IfSome, IsTrue, length, slice_get, slice_range};
+ghost use Rattle.nesl_values.specs.View.{tree_of};
 ghost use Rattle.nesl_eval_code.specs.Frames.{local_at, place_in};
 ghost use Rattle.nesl_eval_meaning.specs.Out.{given, value};
 ghost use Rattle.nesl_eval_code.specs.Run.{run_top, slot_at};
@@ -7,21 +8,18 @@ ghost use Rattle.nesl_eval_nodes.specs.Sides.{places_of};
 ghost use Rattle.nesl_eval_columns.specs.Columns.{leaves_of};
 ghost use Rattle.nesl_eval_columns.specs.Each.{EachTwo};
 ghost use Rattle.nesl_eval_plain.specs.Blocks.{block_places, IsWithin, frames_at};
-ghost use Rattle.nesl_eval_plain.specs.Frames.{frames_in, Finds};
+ghost use Rattle.nesl_eval_plain.specs.Columns.{Leads, value_at};
+ghost use Rattle.nesl_eval_plain.specs.Frames.{frames_in, NeedsNothing, StandsAt};
 
 use crate::block::Block;
-use crate::choices::at_turns;
-use crate::constants::same;
-use crate::costs::Costs;
-use crate::found::Found;
-use crate::outer::at_top;
+use crate::columns::{Columns, at_turns, parts_of, reaches, shared};
 use crate::scopes::{Scopes, count};
 use nesl_eval_code::Step;
 use nesl_eval_columns::{Column, gathered};
-use nesl_eval_nodes::held::Tops;
+use nesl_eval_nodes::held::{Held, Tops};
 use nesl_eval_nodes::places::Places;
 use nesl_eval_nodes::scope::lent_local;
-use nesl_values::Items;
+use nesl_values::{Items, Value};
 use std::alloc::Allocator;
 
 // The items from one place to another.
@@ -88,51 +86,44 @@ fn newest<'x, A: Allocator + Copy, T>(block: &'x Block<'x, A, T>, index: usize) 
     }
 }
 
-// A name in the rows: an element of a sequence that lies packed, or one leaf at all turns.
+// A name in the rows: an element of a sequence that lies packed, or one value at all turns.
 fn in_rows<'x, A: Allocator + Copy, T>(
     block: &'x Block<'x, A, T>,
     scopes: &Scopes<'_, A>,
     up: usize,
     index: usize,
     steps: &[Step],
-) -> Option<Found<A>>
+) -> Option<Columns<A>>
     requires { IsWithin block.now }
     ensures { scopes.now ≡ Scopes.Rows → IfSome result
-        (Finds (λ fs. given (local_at fs up index steps.now) (λ v. value v 0 0))
+        (NeedsNothing (λ fs. given (local_at fs up index steps.now) (λ v. value v 0 0))
         (frames_in block.now scopes.now)) }
 {
     if up == 0 {
         if !steps.is_empty() {
             return None;
         }
-        let column = newest(block, index)?;
-        return Some(Found {
-            column,
-            costs: Costs {
-                same: 0,
-                more: None,
-            },
-        });
+        return Some(Columns::Leaves(newest(block, index)?));
     }
     let value = lent_local(block.scope, up - 1, index, steps)?;
-    same(block, scopes, value)
+    Some(Columns::Same(shared(value)?))
 }
 
-// A binding of a `let`, at so many turns at the least.
-fn bound<A: Allocator, B: Allocator>(
-    columns: &[Column<A>],
+// The parts of a binding to which the steps lead, if it has values at so many turns.
+fn bound<A: Allocator + Copy>(
+    bindings: &[Columns<A>],
     index: usize,
     least: usize,
-    alloc: B,
-) -> Option<Column<B>>
-    ensures { IfSome result (λ c. IsSomeAnd (slice_get columns.now index) (λ d.
-        (least ≤ length (leaves_of d)) × (leaves_of c ≡ leaves_of d))) }
+    steps: &[Step],
+    alloc: A,
+) -> Option<Columns<A>>
+    ensures { IfSome result (λ c. StandsAt bindings.now index least steps.now (value_at c)) }
 {
-    let column = columns.get(index)?;
-    if column.len() < least {
+    let binding = bindings.get(index)?;
+    if !reaches(binding, least) {
         return None;
     }
-    column.copy_into(alloc)
+    parts_of(binding, steps, alloc)
 }
 
 /// A local name: what the rows or the bindings have for it.
@@ -142,35 +133,38 @@ pub fn local<'x, A: Allocator + Copy, T>(
     up: usize,
     index: usize,
     steps: &[Step],
-) -> Option<Found<A>>
+) -> Option<Columns<A>>
     requires { IsWithin block.now }
     ensures { IfSome result
-        (Finds (λ fs. given (local_at fs up index steps.now) (λ v. value v 0 0))
+        (NeedsNothing (λ fs. given (local_at fs up index steps.now) (λ v. value v 0 0))
         (frames_in block.now scopes.now)) }
 {
     match scopes {
         Scopes::Rows => in_rows(block, scopes, up, index, steps),
-        Scopes::Let(columns, rest) => {
+        Scopes::Let(bindings, rest) => {
             if up > 0 {
                 return local(block, *rest, up - 1, index, steps);
             }
-            if !steps.is_empty() {
-                return None;
-            }
             let least = count(block, *rest);
-            let column = bound(*columns, index, least, *block.alloc)?;
-            Some(Found {
-                column,
-                costs: Costs {
-                    same: 0,
-                    more: None,
-                },
-            })
+            bound(*bindings, index, least, steps, *block.alloc)
         }
         Scopes::Turns(turns, rest) => {
-            let found = local(block, *rest, up, index, steps)?;
-            at_turns(found, *turns, *block.alloc)
+            let values = local(block, *rest, up, index, steps)?;
+            at_turns(values, *turns, *block.alloc)
         }
+    }
+}
+
+// The value of a top-level variable.
+fn at_top<'x, A: Allocator + Copy, T: Tops<A>>(
+    block: &'x Block<'x, A, T>,
+    place: usize,
+) -> Option<&'x Value<A>>
+    ensures { IfSome result (λ v. run_top (slot_at (T.table block.now.tops.now) place) ≡ value (tree_of v.now) 0 0) }
+{
+    match block.tops.held(place) {
+        Ok(Held::Variable(value)) => Some(value),
+        _ => None,
     }
 }
 
@@ -179,11 +173,10 @@ pub fn top<'x, A: Allocator + Copy, T: Tops<A>>(
     block: &'x Block<'x, A, T>,
     scopes: &Scopes<'_, A>,
     place: usize,
-) -> Option<Found<A>>
-    requires { IsWithin block.now }
+) -> Option<Columns<A>>
     ensures { IfSome result
-        (Finds (λ fs. run_top (slot_at (T.table block.now.tops.now) place)) (frames_in block.now scopes.now)) }
+        (NeedsNothing (λ fs. run_top (slot_at (T.table block.now.tops.now) place)) (frames_in block.now scopes.now)) }
 {
     let value = at_top(block, place)?;
-    same(block, scopes, value)
+    Some(Columns::Same(shared(value)?))
 }

@@ -5,7 +5,7 @@ ghost use Rattle.nesl_eval_plain.specs.Blocks.{IsWithin};
 ghost use Rattle.nesl_eval_plain.specs.Frames.{frames_in};
 
 use crate::block::Block;
-use nesl_eval_columns::Column;
+use crate::columns::Columns;
 use std::alloc::{AllocError, Allocator};
 
 /// What local names stand for, the newest frame first, at all turns of a block side by side.
@@ -14,7 +14,7 @@ pub enum Scopes<'a, A: Allocator> {
     /// The rows of the apply-to-each at the places of the block.
     Rows,
     /// The bindings of a `let` so far, each at all turns.
-    Let(&'a [Column<A>], &'a Scopes<'a, A>),
+    Let(&'a [Columns<A>], &'a Scopes<'a, A>),
     /// What names stand for at some of the turns alone, in this order.
     Turns(&'a [usize], &'a Scopes<'a, A>),
 }

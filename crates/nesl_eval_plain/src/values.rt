@@ -4,8 +4,11 @@ ghost use Rattle.nesl_values.specs.Tree.{pair};
 ghost use Rattle.nesl_values.specs.View.{tree_of};
 ghost use Rattle.nesl_values_builder.specs.Elements.{elements_of};
 ghost use Rattle.nesl_eval_columns.specs.Columns.{leaves_of};
+ghost use Rattle.nesl_eval_plain.specs.Columns.{value_at, SameUpTo};
 ghost use Rattle.nesl_eval_plain.specs.Values.{trees_in, pairs_of};
 
+use crate::columns::Columns;
+use crate::constants::column_of;
 use nesl_eval_columns::Column;
 use nesl_values::Value;
 use nesl_values_builder::SequenceBuilder;
@@ -155,5 +158,24 @@ pub fn extended<A: Allocator + Copy>(builder: &mut SequenceBuilder<A>, values: V
     match values {
         Values::Leaves(column) => extend_with_leaves(builder, column),
         Values::Pairs(pairs) => extend_with_pairs(builder, pairs),
+    }
+}
+
+/// The values at so many turns. One value at all turns has to be a leaf.
+pub fn values_of<A: Allocator + Copy>(
+    columns: Columns<A>,
+    count: usize,
+    alloc: A,
+) -> Option<Values<A>>
+    ensures { IfSome result (λ vs. SameUpTo count (value_at columns) (slice_get (trees_in vs))) }
+{
+    match columns {
+        Columns::Same(value) => Some(Values::Leaves(column_of(&value, count, alloc)?)),
+        Columns::Leaves(column) => Some(Values::Leaves(column)),
+        Columns::Pair(one, other) => {
+            let left = values_of(Box::into_inner(one), count, alloc)?;
+            let right = values_of(Box::into_inner(other), count, alloc)?;
+            Some(Values::Pairs(pairs(left, right, alloc)?))
+        }
     }
 }

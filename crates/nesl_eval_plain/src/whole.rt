@@ -14,12 +14,10 @@ ghost use Rattle.nesl_eval_plain.specs.Comes.{chosen};
 ghost use Rattle.nesl_eval_plain.specs.Blocks.{block_places, IsWithin, IsPartOf};
 
 use crate::block::Block;
+use crate::bodies::{Bodies, bodies_at, filter_at};
 use crate::costs::{Paid, total_of};
 use crate::found::Found;
-use crate::pairs::{Bodies, bodies_at};
-use crate::parts::column;
-use crate::plain::{is_plain, is_plain_body};
-use crate::scopes::Scopes;
+use crate::plain::is_plain;
 use crate::values::extended;
 use nesl_eval_code::Code;
 use nesl_eval_columns::Column;
@@ -133,8 +131,8 @@ fn values_within<'x, A: Allocator + Copy, T: Tops<A>>(
     })
 }
 
-/// The values of a body at the places of a block, if it is plain or made of pairs of plain parts and has a value at
-/// each of them, and the fuel is enough. Else the meter is as it was. Room is made for `room` values.
+/// The values of a body at the places of a block, if it is plain and has a value at each of them, and the fuel
+/// is enough. Else the meter is as it was. Room is made for `room` values.
 pub fn bodies_in_columns<'x, A: Allocator + Copy, T: Tops<A>>(
     whole: &'x Block<'x, A, T>,
     body: &Code,
@@ -150,7 +148,7 @@ pub fn bodies_in_columns<'x, A: Allocator + Copy, T: Tops<A>>(
         (run_bodies f (frames_of w.scope.now) (map tree_of w.values.now) body.now (block_places w))) }
     ensures spent { meter.new.fuel + meter.new.depth ≤ meter.old.fuel + meter.old.depth }
 {
-    if whole.to - whole.from < LEAST || !is_plain_body(body, levels) {
+    if whole.to - whole.from < LEAST || !is_plain(body, 0, levels) {
         return None;
     }
     let Made {
@@ -256,7 +254,7 @@ fn places_within<'x, A: Allocator + Copy, T: Tops<A>>(
     while turn < whole.to {
         let end = end_of(turn, whole.to);
         let block = part(whole, turn, end);
-        let Found { column, costs } = column(&block, &Scopes::Rows, filter, levels)?;
+        let Found { column, costs } = filter_at(&block, filter, levels)?;
         if column.len() != end - turn {
             return None;
         }

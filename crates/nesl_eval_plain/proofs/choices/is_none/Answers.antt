@@ -1,5 +1,5 @@
 use Rattle.std.proofs.Common.{sym, ◌∙◌}
-use Rattle.nesl_eval_plain.proofs.Places.{none_left}
+use Rattle.nesl_eval_plain.proofs.Valued.{none_left}
 use Rattle.nesl_eval_plain.proofs.choices.is_none.Goals as goal
 
 pub returns : goal.returns

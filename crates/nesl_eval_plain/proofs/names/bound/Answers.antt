@@ -1,4 +1,4 @@
-use Rattle.std.proofs.Common.{◌≡◌, Some, length, refl, sym, arith}
+use Rattle.std.proofs.Common.{◌≡◌, Some, length, refl, sym}
 use Rattle.std.specs.Prelude.{slice_get}
 use Rattle.std.proofs.lemmas.Option.{slice_get_read}
 use borrow.Author.Tests.{ltb-true}
@@ -7,8 +7,8 @@ use Rattle.nesl_eval_plain.proofs.names.bound.Goals as goal
 
 pub returns : goal.returns
 returns g c =
-    let cs = c.args.columns.now in
-    let d = c.in_ok-column.column.now in
-    let a = c.in_ok-column.ensures.lookup in
+    let cs = c.args.bindings.now in
+    let d = c.in_ok-binding.binding.now in
+    let a = c.in_ok-binding.ensures.lookup in
     let its : slice_get cs c.args.index ≡ Some d = slice_get_read cs (length cs) c.args.index d refl (ltb-true _ _ (sym a.0)) a.1 in
-    rw its (some_so _ _ (λ v h. (omega arith, h)) c.copy_into.result c.copy_into.ensures)
+    some_so _ _ (λ v h. rw its (c.if-not-reaches.ensures refl, h)) c.parts_of.result c.parts_of.ensures

@@ -4,14 +4,5 @@ use Rattle.nesl_eval_plain.proofs.plain.+plainness.Given as goal
 abbrev pub decreases-is_plain : goal.decreases-is_plain
 decreases-is_plain l = l.levels * 2
 
-abbrev pub decreases-is_plain_call : goal.decreases-is_plain_call
-decreases-is_plain_call l = l.levels * 2 + 1
-
-abbrev pub decreases-is_plain_between : goal.decreases-is_plain_between
-decreases-is_plain_between l = l.levels * 2 + 1
-
 abbrev pub decreases-are_plain : goal.decreases-are_plain
 decreases-are_plain l = l.levels * 2 + 1
-
-abbrev pub decreases-is_plain_pair : goal.decreases-is_plain_pair
-decreases-is_plain_pair l = l.levels * 2

@@ -1,0 +1,31 @@
+// How far the recursion over code may go.
+ghost use Rattle.std.specs.Prelude.{◌≡◌, ◌-◌, ◌<◌, IfSome};
+
+/// How many nodes deep the recursion over code may go at the most. The stack is laid out for it.
+const HEIGHT: u32 = 128;
+
+/// How far the recursion over code may go: so many levels, as the evaluator counts them, and so many nodes deep.
+#[derive(Clone, Copy)]
+pub struct Reach {
+    pub levels: u32,
+    pub height: u32,
+}
+
+/// At the root of code that has so many levels.
+pub fn at_root(levels: u32) -> Reach
+    ensures { result.levels ≡ levels }
+{
+    Reach {
+        levels,
+        height: HEIGHT,
+    }
+}
+
+/// In the parts of a node, if it may be entered.
+pub fn below(reach: Reach) -> Option<Reach>
+    ensures { IfSome result (λ r. (0 < reach.levels) × (r.levels ≡ reach.levels - 1) × (r.height < reach.height)) }
+{
+    let levels = reach.levels.checked_sub(1)?;
+    let height = reach.height.checked_sub(1)?;
+    Some(Reach { levels, height })
+}
