@@ -205,8 +205,8 @@ fn follow_operator(
     )
 }
 
-// A token that ends a part, behind an expression.
-#[inline(never)]
+// A token that ends a part, behind an expression. It is what most tokens are, and so stands in place.
+#[inline(always)]
 fn follow_mark(
     alloc: Global,
     stack: &mut Vec<Pending>,
@@ -221,8 +221,8 @@ fn follow_mark(
     end_part(alloc, stack, part, mark, at)
 }
 
-// A token behind an expression. What each does stands in a function of its own, for a function pays at each call for
-// all that it may hold.
+// A token behind an expression. What each but a mark does stands in a function of its own, for a function pays at each
+// call for all that it may hold.
 fn follow(
     alloc: Global,
     stack: &mut Vec<Pending>,

@@ -478,7 +478,7 @@ fn end_popped(
 }
 
 /// What a token leaves that ends a part of the newest opening, with that part.
-#[inline(never)]
+#[inline(always)]
 pub fn end_part(
     alloc: Global,
     stack: &mut Vec<Pending>,
