@@ -1,12 +1,12 @@
 -- Which reserved word, truth value or name some small letters are.
-use Rattle.std.proofs.Common.{◌≡◌, ◌≢◌, ℕ, Bool, true, false, cond, List, [], ◌∷◌, Option, Some, None, inl, inr, refl, ap, sym, subst, ◌∙◌}
+use Rattle.std.proofs.Common.{◌≡◌, ◌≢◌, ℕ, Bool, true, false, cond, map, List, [], ◌∷◌, Option, Some, None, inl, inr, refl, ap, sym, subst, ◌∙◌}
 use Rattle.std.specs.Prelude.{codes}
 use Rattle.std.specs.Str.{bytes_eq}
 use Rattle.std.proofs.lemmas.Slice.Eq.{bytes_eq-Decides}
 use Rattle.nesl_lex.specs.declared.token.Word.{Word}
 use Rattle.nesl_lex.specs.declared.token.Word.TheVariants as word
 use Rattle.nesl_lex.specs.Tokens.{Lexeme, number, name, reserved, truth, character, quoted, symbol}
-use Rattle.nesl_lex.specs.Lexemes.{word_text, IsTruthText, SpellsName}
+use Rattle.nesl_lex.specs.Lexemes.{word_text, small_letter, IsTruthText, SpellsName}
 use Rattle.nesl_lex.specs.Reading.{all_words, word_among, word_in, truth_in, named_by, named_in}
 
 word_read : (w : Word) → word_in (word_text w) ≡ Some w
@@ -72,6 +72,27 @@ truth_spelled small bytes found value h k e = subst (λ (bs : List ℕ). IsTruth
 pub name_spelled : (small bytes text : List ℕ) (word : Option Word) (value : Option Bool) → bytes ≡ small → word ≡ word_in bytes → ((w : Word) → word ≡ Some w → ⊥) → text ≡ small → value ≡ truth_in text → value ≡ None → SpellsName small (name small)
 name_spelled small bytes text (Some w) value h k n g l f = absurd (n w refl)
 name_spelled small bytes text None value h k n g l f = named_from small None None (ap word_in (sym h) ∙ sym k) (ap truth_in (sym g) ∙ sym l ∙ f)
+
+-- a word stands in small letters
+word_small : (w : Word) → map small_letter (word_text w) ≡ word_text w
+word_small word.Function = refl
+word_small word.Datatype = refl
+word_small word.Let = refl
+word_small word.In = refl
+word_small word.If = refl
+word_small word.Then = refl
+word_small word.Else = refl
+word_small word.Or = refl
+word_small word.Nor = refl
+word_small word.Xor = refl
+word_small word.And = refl
+word_small word.Nand = refl
+word_small word.Int = refl
+word_small word.Bool = refl
+word_small word.Char = refl
+
+pub word_as_is : (text : List ℕ) (found : Option Word) (w : Word) → found ≡ word_in text → found ≡ Some w → map small_letter text ≡ word_text w
+word_as_is text found w k e = ap (map small_letter) (word_found all_words text w (sym k ∙ e)) ∙ word_small w
 
 -- the small letters are that
 pub named_is : (small : List ℕ) → SpellsName small (named_in small)

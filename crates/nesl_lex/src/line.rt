@@ -10,8 +10,11 @@ use crate::scan::{Piece, next_piece};
 use crate::token::{Span, Token};
 use std::alloc::Global;
 
-// How many tokens room is taken for at first, where the line has as many bytes. More room is taken as more tokens come.
-const FIRST_ROOM: usize = 64;
+// How many tokens room is taken for at first in a short line, which has at most twice as many bytes.
+const SHORT_ROOM: usize = 21;
+
+// The same of a longer line. More room is taken as more tokens come.
+const LONG_ROOM: usize = 64;
 
 /// The tokens of a line.
 pub fn lex(alloc: Global, line: &[u8]) -> Result<Vec<Token>, LexFault>
@@ -23,7 +26,9 @@ pub fn lex(alloc: Global, line: &[u8]) -> Result<Vec<Token>, LexFault>
     ensures stuck { OnLexical result (λ at. HasNoTokenAt line.now at) }
     ensures none { OnLexical result (λ at. (others : List Placed) → HasTokens line.now others → ⊥) }
 {
-    let mut tokens = Vec::with_capacity(alloc, line.len().min(FIRST_ROOM))?;
+    let is_short = line.len() <= 2 * SHORT_ROOM;
+    let room = if is_short { SHORT_ROOM } else { LONG_ROOM };
+    let mut tokens = Vec::with_capacity(alloc, line.len().min(room))?;
     let mut at = 0;
     while at < line.len() {
         match next_piece(alloc, &line[at..])? {

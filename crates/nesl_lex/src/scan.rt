@@ -245,7 +245,11 @@ fn truth(bytes: &[u8]) -> Option<bool>
 fn small(alloc: Global, text: &[u8]) -> Result<Vec<u8>, AllocError>
     ensures { IfOk result (λ v. v.items ≡ map small_letter text.now) }
 {
-    text.iter().map(|b| small_letter(*b)).collect(alloc)
+    let mut letters = Vec::with_capacity(alloc, text.len())?;
+    for b in text {
+        letters.push(small_letter(*b))?;
+    }
+    Ok(letters)
 }
 
 // The sign of one byte.
@@ -361,15 +365,18 @@ fn named(text: Vec<u8>) -> Kind
     }
 }
 
-// A name, a reserved word or a truth value.
+// A name, a reserved word or a truth value. No memory is taken for a word in small letters.
 fn name(alloc: Global, bytes: &[u8]) -> Result<Piece, AllocError>
     requires some { 0 < length bytes.now }
     requires letter { start_of (slice_index bytes.now 0) ≡ start.Name }
     ensures { IfOk result (λ piece. PieceStands bytes.now piece) }
 {
     let n = front_len(bytes, ByteClass::NameByte);
-    let text = small(alloc, &bytes[..n])?;
-    Ok(Piece::Token(n, named(text)))
+    let text = &bytes[..n];
+    if let Some(word) = word(text) {
+        return Ok(Piece::Token(n, Kind::Reserved(word)));
+    }
+    Ok(Piece::Token(n, named(small(alloc, text)?)))
 }
 
 // A character, from its backquote on.
