@@ -1,7 +1,7 @@
 // What is open while tokens are read: brackets, operators with their left sides, parts of a choice, binders.
 
-ghost use Rattle.std.specs.Prelude.{◌≡◌, ◌≤◌, ◌<◌, ◌∷◌, [], ◌++◌, List, IfOk, IfSome, IfNone, IsTrue, MatchOption, length};
-ghost use Rattle.std.specs.Prelude.{vec_len};
+ghost use Rattle.std.specs.Prelude.{◌≡◌, ◌≤◌, ◌<◌, ◌∷◌, [], ◌++◌, List, IfOk, IfSome, IfNone, IsTrue, MatchOption};
+ghost use Rattle.std.specs.Prelude.{length, vec_len};
 ghost use Rattle.nesl_syntax_open.specs.declared.pending.Pending as pending;
 ghost use Rattle.nesl_syntax_tree.specs.Trees.{Tree};
 ghost use Rattle.nesl_syntax_tree.specs.Grammar as grammar;

@@ -8,7 +8,8 @@ ghost use Rattle.nesl_syntax_open.specs.Machine.{Waiting, before, marked, open_a
 ghost use Rattle.nesl_syntax_open.specs.Machine as machine;
 ghost use Rattle.nesl_syntax_open.specs.Modes.{Follows};
 ghost use Rattle.nesl_syntax_open.specs.Parts.{Sees, SeesAll, SeesBody, SeesBound, SeesPattern};
-ghost use Rattle.nesl_syntax_open.specs.Stack.{SeesGroup, SeesOpening, SeesPending, SeesStack, some_elements, some_binders};
+ghost use Rattle.nesl_syntax_open.specs.Stack.{SeesGroup, SeesOpening, SeesPending, SeesStack};
+ghost use Rattle.nesl_syntax_open.specs.Stack.{some_elements, some_binders};
 ghost use Rattle.nesl_syntax_open.specs.Turns.{let_turned, each_turned};
 ghost use Rattle.nesl_syntax_open.specs.declared.pending.Pending as pending;
 ghost use Rattle.nesl_syntax_open.specs.declared.mode.Mode.TheVariants as mode;
