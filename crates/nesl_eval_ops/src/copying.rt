@@ -165,14 +165,41 @@ fn copy_choice_or_let(alloc: Global, code: &Code) -> Result<Code, NoCopy>
     }
 }
 
-/// A copy of code in a box.
+/// A copy of code in a box. That of a local name, which most parts are, is made in its place.
 #[cycle(copying)]
 fn copy_boxed(alloc: Global, code: &Code) -> Result<Box<Code>, NoCopy>
     ensures { IfOk result (λ b. IsLaidAs b.value code.now) }
 {
+    if let Code::Local {
+        span,
+        up,
+        index,
+        steps,
+    } = code
+    {
+        return match copied(alloc, steps) {
+            Ok(steps) => boxed(
+                alloc,
+                Code::Local {
+                    span: *span,
+                    up: *up,
+                    index: *index,
+                    steps,
+                },
+            ),
+            Err(_) => Err(NoCopy::Memory),
+        };
+    }
     let copy = copy_plain(alloc, code)?;
-    match Box::new(alloc, copy) {
-        Ok(copy) => Ok(copy),
+    boxed(alloc, copy)
+}
+
+#[inline(always)]
+fn boxed(alloc: Global, code: Code) -> Result<Box<Code>, NoCopy>
+    ensures { IfOk result (λ b. b.value ≡ code) }
+{
+    match Box::new(alloc, code) {
+        Ok(boxed) => Ok(boxed),
         Err(_) => Err(NoCopy::Memory),
     }
 }

@@ -70,8 +70,10 @@ pub(crate) fn leaf(at: &Place<'_>, code: &Code) -> Result<Option<Leaf>, AllocErr
             span: *span,
             what: What::Character(*value),
         })),
-        Code::Text { .. } => leaf_of_bytes(at, code),
-        Code::Named { .. } => leaf_of_bytes(at, code),
+        Code::Text { span, bytes } => Ok(Some(Leaf {
+            span: *span,
+            what: What::Text(Vec::from_slice(at.alloc, bytes)?),
+        })),
         Code::Local {
             span,
             up,
@@ -85,29 +87,15 @@ pub(crate) fn leaf(at: &Place<'_>, code: &Code) -> Result<Option<Leaf>, AllocErr
             span: *span,
             what: What::Top(*place),
         })),
+        Code::Named { span, name } => Ok(Some(Leaf {
+            span: *span,
+            what: What::Named(Vec::from_slice(at.alloc, name)?),
+        })),
         Code::Empty { span } => Ok(Some(Leaf {
             span: *span,
             what: What::Empty,
         })),
         _ => Ok(None),
-    }
-}
-
-/// The leaf that a text is, or a name without a place.
-#[inline(never)]
-fn leaf_of_bytes(at: &Place<'_>, code: &Code) -> Result<Option<Leaf>, AllocError>
-    ensures { IfOk result (λ l. option_map leaf_is l ≡ leaf_of (sizes_of at.now.sizes.now) code.now) }
-{
-    match code {
-        Code::Text { span, bytes } => Ok(Some(Leaf {
-            span: *span,
-            what: What::Text(Vec::from_slice(at.alloc, bytes)?),
-        })),
-        Code::Named { span, name } => Ok(Some(Leaf {
-            span: *span,
-            what: What::Named(Vec::from_slice(at.alloc, name)?),
-        })),
-        _ => Err(AllocError),
     }
 }
 

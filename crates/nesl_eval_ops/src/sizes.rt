@@ -8,6 +8,9 @@ use std::alloc::{AllocError, Global};
 /// A body inside more frames than these keeps no code, so that what is kept is in proportion to the code.
 const MOST_FRAMES: usize = 64;
 
+/// Most bodies are inside no more frames than these.
+const FEW_FRAMES: usize = 4;
+
 /// The sizes of frames, the newest first.
 #[derive(Clone, Copy)]
 pub(crate) enum Sizes<'a> {
@@ -63,7 +66,7 @@ pub(crate) fn place_of(
 pub(crate) fn list_of(alloc: Global, sizes: &Sizes<'_>) -> Result<Option<Vec<usize>>, AllocError>
     ensures { IfOk result (λ o. IfSome o (λ ks. ks.items ≡ sizes_of sizes.now)) }
 {
-    let mut list = Vec::new(alloc);
+    let mut list = Vec::with_capacity(alloc, FEW_FRAMES)?;
     if add_to(&mut list, sizes)? {
         Ok(Some(list))
     } else {
