@@ -12,7 +12,7 @@ use crate::building::{
     bound, calling, deciding, each_of, enter, filtered_of, forgetting, kept, named, of_leaf,
     of_leaves, of_many, of_top, of_top_and_leaf, of_tops, push, rest,
 };
-use crate::leaves::{leaf, leaf_alone, leaves, three_leaves, two_leaves, with_parts};
+use crate::leaves::{is_leaf, leaf, leaf_alone, leaves, three_leaves, two_leaves, with_parts};
 use crate::ops::{Block, Body, Callee, Many, ManyNode, OneNode, Ops, Two, TwoNode};
 use crate::places::{Place, top, within};
 use nesl_builtins::Builtin;
@@ -125,6 +125,45 @@ fn laid(at: &Place<'_>, code: &Code, next: Option<Box<Block>>) -> Result<Box<Blo
             filter,
         } => of_filtered(at, *span, sources, body, filter, next),
         _ => alone(at, code, next),
+    }
+}
+
+/// A node of two parts that are leaves.
+#[inline(never)]
+fn of_two_leaves(
+    at: &Place<'_>,
+    node: TwoNode,
+    left: &Code,
+    right: &Code,
+    next: Box<Block>,
+) -> Result<Box<Block>, AllocError>
+    ensures { let h = at.now.height in let ks = sizes_of at.now.sizes.now in IfOk result (λ o. block_in o
+        ≡ making node.height node.span (two_is node.two) 0 (part_on h ks left.now ∷ part_on h ks right.now ∷ [])
+        (block_in next)) }
+{
+    let Some(second) = leaf(at, right)? else {
+        return Err(AllocError);
+    };
+    match leaf(at, left)? {
+        Some(first) => of_leaves(at.alloc, node, first, second, next),
+        None => Err(AllocError),
+    }
+}
+
+/// A node of the value on top and a part that is a leaf.
+#[inline(never)]
+fn before_leaf(
+    at: &Place<'_>,
+    node: TwoNode,
+    right: &Code,
+    next: Box<Block>,
+) -> Result<Box<Block>, AllocError>
+    ensures { let h = at.now.height in let ks = sizes_of at.now.sizes.now in IfOk result (λ o. block_in o
+        ≡ making node.height node.span (two_is node.two) 1 (part_on h ks right.now ∷ []) (block_in next)) }
+{
+    match leaf(at, right)? {
+        Some(second) => of_top_and_leaf(at.alloc, node, second, next),
+        None => Err(AllocError),
     }
 }
 
@@ -409,18 +448,16 @@ fn of_two(
         ≡ making node.height node.span (two_is node.two) 0 (part_on h ks left.now ∷ part_on h ks right.now ∷ [])
         (block_in next)) }
 {
-    let Some(second) = leaf(at, right)? else {
+    if !is_leaf(right) {
         let tops = of_tops(at.alloc, node, next)?;
         let after = laid(at, right, Some(tops))?;
         return laid(at, left, Some(after));
-    };
-    match leaf(at, left)? {
-        Some(first) => of_leaves(at.alloc, node, first, second, next),
-        None => {
-            let top = of_top_and_leaf(at.alloc, node, second, next)?;
-            laid(at, left, Some(top))
-        }
     }
+    if is_leaf(left) {
+        return of_two_leaves(at, node, left, right, next);
+    }
+    let top = before_leaf(at, node, right, next)?;
+    laid(at, left, Some(top))
 }
 
 /// A node of three parts.

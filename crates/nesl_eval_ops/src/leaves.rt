@@ -11,7 +11,7 @@ use nesl_eval_code::{Code, Step};
 use std::alloc::{AllocError, Global};
 
 /// Whether code has no parts.
-fn is_leaf(code: &Code) -> bool
+pub(crate) fn is_leaf(code: &Code) -> bool
     ensures { result ≡ false → IsNoLeaf code.now }
 {
     match code {

@@ -4,9 +4,9 @@ use Rattle.std.specs.Prelude.{option_map}
 use Rattle.nesl_eval_code.proofs.Resolved.{if_ok}
 use Rattle.nesl_eval_blocks.specs.Block.{listing}
 use Rattle.nesl_eval_blocks.specs.Flat.{flat, leaf_of, leaves_of, pushing, forgetting, room}
-use Rattle.nesl_eval_ops.specs.View.{block_in, leaf_is, sizes_of, two_is, many_is}
+use Rattle.nesl_eval_ops.specs.View.{block_in, leaf_is, sizes_of, many_is}
 use Rattle.nesl_eval_ops.specs.Lists.{parts_on}
-use Rattle.nesl_eval_ops.proofs.Lists.{making_all, two_pushed, three_pushed, tail_is, pushed_turn, bound_turn}
+use Rattle.nesl_eval_ops.proofs.Lists.{making_all, three_pushed, tail_is, pushed_turn, bound_turn}
 use Rattle.nesl_eval_ops.proofs.Lists.{sequence_laid, let_laid, let_above, each_laid, filtered_laid}
 use Rattle.nesl_eval_ops.proofs.laying.+laying.Goals as goal
 
@@ -85,17 +85,6 @@ of_three-returns-in_default t c =
     (block_in c.in_ok-tops.tops) (block_in c.in_ok-after.after) (block_in c.in_ok-middle.middle)
     c.new.result.items none c.new.ensures.items
     c.in_ok-tops.ensures c.in_ok-after.ensures c.in_ok-middle.ensures)
-
-pub of_two-returns-in_default : goal.of_two-returns-in_default
-of_two-returns-in_default t c =
-    let p = c.args.at.now in
-    let n = c.args.node in
-    let ks = sizes_of p.sizes.now in
-    let none : leaf_of ks c.args.right.now ≡ None = sym c.in_ok-second.ensures
-    ∙ ap (option_map leaf_is) c.in_default.is in
-    if_ok c.laid-in_default.result c.laid-in_default.ensures (λ o e. e
-    ∙ two_pushed n.height p.height ks n.span (two_is n.two) c.args.left.now c.args.right.now (block_in c.args.next)
-    (block_in c.in_ok-tops.tops) (block_in c.in_ok-after.after) none c.in_ok-tops.ensures c.in_ok-after.ensures)
 
 pub pushed-loop-turn-preserved : goal.pushed-loop-turn-preserved
 pushed-loop-turn-preserved t c =
