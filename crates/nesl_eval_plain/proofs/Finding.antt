@@ -1,6 +1,6 @@
 -- What is found for a node, from what is found for its parts.
-use Rattle.std.proofs.Common.{◌≡◌, ℕ, zero, suc, ◌+◌, ◌-◌, ◌<◌, List, [], ◌∷◌, ◌++◌, replicate, Option, Some, refl, sym, ap, ◌∙◌, subst, arith}
-use Rattle.std.specs.Prelude.{slice_get}
+use Rattle.std.proofs.Common.{◌≡◌, ℕ, zero, suc, ◌+◌, ◌-◌, ◌<◌, List, [], ◌∷◌, ◌++◌, replicate, Option, Some, None, refl, sym, ap, ◌∙◌, subst, arith}
+use Rattle.std.specs.Prelude.{slice_get, unwrap_or}
 use Rattle.std.proofs.lemmas.List.{get_or-replicate, map-append, length-replicate}
 use Rattle.std.proofs.lemmas.Option.{same_Some, none-some, slice_get-get_or}
 use Rattle.nesl_lex.specs.declared.token.Span.{Span}
@@ -15,9 +15,9 @@ use Rattle.nesl_seqs_base.specs.declared.seq_fn.SeqFn.TheVariants.{Length, Eleme
 use Rattle.nesl_eval_code.specs.declared.code.Code.{Code}
 use Rattle.nesl_eval_meaning.specs.Names.{Value}
 use Rattle.nesl_eval_code.specs.Frames.{Frames, frame}
-use Rattle.nesl_eval_meaning.specs.Out.{Out, value, fault, stuck, after_cost, and_then}
+use Rattle.nesl_eval_meaning.specs.Out.{Out, value, fault, stuck, after_cost, and_then, at_call}
 use Rattle.nesl_eval_meaning.specs.Outcome.{small_enough, apply_builtin, on_scalars}
-use Rattle.nesl_eval_code.specs.Run.{Runs, Table, run, run_node, run_two, run_let}
+use Rattle.nesl_eval_code.specs.Run.{Runs, Table, run, run_node, run_two, run_let, run_called, Slot, function_slot, nothing_slot}
 use Rattle.nesl_eval_columns.specs.Each.{EachTwo, EachThree}
 use Rattle.nesl_eval_columns.specs.Columns.{Makes, MapsColumn}
 use Rattle.nesl_eval_plain.specs.declared.columns.Columns.{Columns}
@@ -114,6 +114,25 @@ element_finds f at a b s v ws ms ns os xs zs same h i e sums = λ k fs q.
     let own : v ≡ w.0 = same_Some v w.0 (sym (same k) ∙ w.2) in
     let z = each_at (Picks v) xs zs k x.0 e x.2 in
     (z.0, w.1 + x.1, z.1, sums k w.1 x.1 w.3 x.3, element_at f fs a b s v x.0 z.0 w.1 x.1 (w.4 ∙ ap (λ u. value u w.1 w.1) (sym own)) x.4 z.2)
+
+-- what stands at the place of a function
+pub function_there : (o : Option Slot) (c : Code) → function_slot c ≡ unwrap_or o nothing_slot → o ≡ Some (function_slot c)
+function_there (Some s) c e = ap Some (sym e)
+function_there None c e = absurd cc
+
+-- a call, whose body sees the argument alone
+pub call_finds : (f : Runs) (at inner : ℕ → Option Frames) (a body : Code) (s : Span) (o : Option Slot) (xs vs : ℕ → Option Value) (ms ns os : ℕ → Option ℕ) → o ≡ Some (function_slot body) → AreAt (λ fs. f fs a) at xs ms → AreAt (λ fs. f fs body) inner vs ns → ((k : ℕ) (fs : Frames) → at k ≡ Some fs → inner k ≡ Some ((xs k ∷ []) ∷ [])) → Sums ms ns os → AreAt (λ fs. and_then (f fs a) (run_called f s o)) at vs os
+call_finds f at inner a body s o xs vs ms ns os is h i under sums = λ k fs q.
+    let x = h k fs q in
+    let y = i k ((Some x.0 ∷ []) ∷ []) (under k fs q ∙ ap (λ u. Some ((u ∷ []) ∷ [])) x.2) in (
+      y.0,
+      x.1 + y.1,
+      y.2,
+      sums k x.1 y.1 x.3 y.3,
+      ap (λ p. and_then p (run_called f s o)) x.4
+          ∙ ap (λ p. after_cost x.1 x.1 (run_called f s p x.0)) is
+          ∙ ap (λ p. after_cost x.1 x.1 (at_call s p)) y.4,
+    )
 
 -- the bindings of a `let`, of which some have been evaluated
 abbrev pub let_from : Runs → Frames → List (Option Value) → List Code → Code → Out Value

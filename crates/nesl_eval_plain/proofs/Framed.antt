@@ -1,5 +1,5 @@
 -- The frames at the turns of a block.
-use Rattle.std.proofs.Common.{◌≡◌, ℕ, List, ◌∷◌, Option, Some, None, Bor, refl, sym, ap, ◌∙◌, subst, rules}
+use Rattle.std.proofs.Common.{◌≡◌, ℕ, List, [], ◌∷◌, Option, Some, None, Bor, refl, sym, ap, ◌∙◌, subst, rules}
 use Rattle.std.specs.Prelude.{slice_get, option_map, option_and_then, IsSomeAnd}
 use Rattle.std.proofs.lemmas.Option.{same_Some, none-some}
 use Rattle.nesl_eval_meaning.specs.Names.{Value}
@@ -7,7 +7,8 @@ use Rattle.nesl_eval_code.specs.Frames.{Frames}
 use Rattle.nesl_eval_meaning.specs.Out.{Out}
 use Rattle.nesl_eval_plain.specs.declared.block.Block.{Block}
 use Rattle.nesl_eval_plain.specs.declared.columns.Columns.{Columns}
-use Rattle.nesl_eval_plain.specs.declared.scopes.Scopes.{Scopes, Rows, Let, Turns, the_lemmas}
+use Rattle.nesl_eval_plain.specs.declared.scopes.Scopes.{Scopes, Rows, Let, Call, Turns, the_lemmas}
+use Rattle.nesl_eval_plain.specs.Columns.{value_at}
 use Rattle.nesl_eval_plain.specs.Blocks.{block_places, frames_at}
 use Rattle.nesl_eval_plain.specs.Frames.{bound_at, frames_in, IsAt, AreAt}
 
@@ -25,6 +26,9 @@ frames-Rows b k = search (rules, the_lemmas)
 pub frames-Let : {A T : Type 0} (b : Block A T) (cs : Bor (List (Columns A))) (rest : Bor (Scopes A)) (k : ℕ) → frames_in b (Let cs rest) k ≡ option_map (λ fs. bound_at cs.now k ∷ fs) (frames_in b rest.now k)
 frames-Let b cs rest k = search (rules, the_lemmas)
 
+pub frames-Call : {A T : Type 0} (b : Block A T) (c : Bor (Columns A)) (rest : Bor (Scopes A)) (k : ℕ) → frames_in b (Call c rest) k ≡ option_map (λ fs. (value_at c.now k ∷ []) ∷ []) (frames_in b rest.now k)
+frames-Call b c rest k = search (rules, the_lemmas)
+
 pub frames-Turns : {A T : Type 0} (b : Block A T) (ts : Bor (List ℕ)) (rest : Bor (Scopes A)) (k : ℕ) → frames_in b (Turns ts rest) k ≡ option_and_then (frames_in b rest.now) (slice_get ts.now k)
 frames-Turns b ts rest k = search (rules, the_lemmas)
 
@@ -40,6 +44,10 @@ module _ {A T : Type 0} (b : Block A T) (s : Scopes A) (k : ℕ) (fs : Frames) w
   -- at a turn of a `let`
   pub at_let : (cs : Bor (List (Columns A))) (rest : Bor (Scopes A)) → s ≡ Let cs rest → frames_in b s k ≡ Some fs → (gs : Frames) × (frames_in b rest.now k ≡ Some gs) × (bound_at cs.now k ∷ gs ≡ fs)
   at_let cs rest is e = mapped_some (λ gs. bound_at cs.now k ∷ gs) (frames_in b rest.now k) fs (sym (frames-Let b cs rest k) ∙ ap (λ t. frames_in b t k) (sym is) ∙ e)
+
+  -- at a turn of a call
+  pub at_call : (c : Bor (Columns A)) (rest : Bor (Scopes A)) → s ≡ Call c rest → frames_in b s k ≡ Some fs → (gs : Frames) × (frames_in b rest.now k ≡ Some gs) × ((value_at c.now k ∷ []) ∷ [] ≡ fs)
+  at_call c rest is e = mapped_some (λ gs. (value_at c.now k ∷ []) ∷ []) (frames_in b rest.now k) fs (sym (frames-Call b c rest k) ∙ ap (λ t. frames_in b t k) (sym is) ∙ e)
 
   -- at one of some turns
   pub at_turn : (ts : Bor (List ℕ)) (rest : Bor (Scopes A)) → s ≡ Turns ts rest → frames_in b s k ≡ Some fs → (j : ℕ) × (slice_get ts.now k ≡ Some j) × (frames_in b rest.now j ≡ Some fs)
@@ -67,3 +75,7 @@ pub below_let : {A T : Type 0} (b : Block A T) (s : Scopes A) (cs : Bor (List (C
 below_let b s cs rest p q vs ns is law h = λ k fs e.
     let w = at_let b s k fs cs rest is e in
     subst (λ hs. IsAt vs ns k (p hs)) w.2 (subst (λ o. IsAt vs ns k o) (sym (law (bound_at cs.now k) w.0)) (h k w.0 w.1))
+
+-- the frame of an argument alone
+pub called_at : {A T : Type 0} (b : Block A T) (c : Bor (Columns A)) (d : Columns A) (rest : Bor (Scopes A)) (k : ℕ) (fs : Frames) → c.now ≡ d → frames_in b rest.now k ≡ Some fs → frames_in b (Call c rest) k ≡ Some ((value_at d k ∷ []) ∷ [])
+called_at b c d rest k fs is e = frames-Call b c rest k ∙ ap (option_map (λ gs. (value_at c.now k ∷ []) ∷ [])) e ∙ ap (λ u. Some ((value_at u k ∷ []) ∷ [])) is

@@ -24,8 +24,8 @@ use Rattle.nesl_eval_plain.specs.declared.costs.Costs.{Costs}
 use Rattle.nesl_eval_plain.specs.Comes.{Comes}
 use Rattle.nesl_eval_plain.specs.Costs.{costs_at, each_cost}
 use Rattle.nesl_eval_plain.specs.Blocks.{block_places, frames_at, IsWithin}
-use Rattle.nesl_eval_plain.specs.Frames.{bound_at, frames_in, IsAt, AreAt, AllAre, StandsAt}
-use Rattle.nesl_eval_plain.specs.Columns.{value_at, Leads}
+use Rattle.nesl_eval_plain.specs.Frames.{bound_at, frames_in, IsAt, AreAt, AllAre, StandsFor, StandsAt}
+use Rattle.nesl_eval_plain.specs.Columns.{value_at}
 use Rattle.nesl_eval_plain.proofs.Comes.{each_so}
 use Rattle.nesl_eval_plain.proofs.Costing.{cost_listed}
 use Rattle.nesl_eval_plain.proofs.Framed.{at_row, frames-Rows, some_and}
@@ -123,22 +123,33 @@ pub some_tree : {A : Type 0} (o : Option (Bor (code.Value A))) (q : Option Value
 some_tree (Some v) q P e law = law v e
 some_tree None q P e law = tt
 
--- a name in the frame of a `let`
-pub bound_finds : {A : Type 0} (cs : List (Columns A)) (gs : Frames) (up index k least : ℕ) (steps : List Step) (ys : ℕ → Option Value) → up ≡ 0 → StandsAt cs index least steps ys → k < least → IsAt ys (λ j. Some 0) k (given (local_at (bound_at cs k ∷ gs) up index steps) (λ v. value v 0 0))
-bound_finds cs gs up index k least steps ys z so less =
-    let c = some_and (slice_get cs index) (λ c. ((k : ℕ) → k < least → (v : Value) × (value_at c k ≡ Some v)) × Leads steps (value_at c) ys) so in
-    let v = c.2.0 k less in
-    let w = c.2.1 k v.0 v.1 in
-    let there : place_in (bound_at cs k ∷ gs) 0 index ≡ Some v.0 =
-    ap (option_and_then (λ o. o)) (slice_get-map (λ d. value_at d k) cs index ∙ ap (option_map (λ d. value_at d k)) c.1) ∙ v.1 in (
+-- a name without a frame above it
+stands_finds : {A : Type 0} (hs : Frames) (c : Columns A) (up index k least : ℕ) (steps : List Step) (ys : ℕ → Option Value) → up ≡ 0 → place_in hs 0 index ≡ value_at c k → StandsFor c least steps ys → k < least → IsAt ys (λ j. Some 0) k (given (local_at hs up index steps) (λ v. value v 0 0))
+stands_finds hs c up index k least steps ys z is so less =
+    let v = so.0 k less in
+    let w = so.1 k v.0 v.1 in (
       w.0,
       0,
       w.2,
       refl,
-      ap (λ n. given (local_at (bound_at cs k ∷ gs) n index steps) (λ v. value v 0 0)) z
-          ∙ ap (λ o. given (option_and_then (followed steps) o) (λ v. value v 0 0)) there
+      ap (λ n. given (local_at hs n index steps) (λ v. value v 0 0)) z
+          ∙ ap (λ o. given (option_and_then (followed steps) o) (λ v. value v 0 0)) (is ∙ v.1)
           ∙ ap (λ o. given o (λ v. value v 0 0)) w.1,
     )
+
+-- a name in the frame of a `let`
+pub bound_finds : {A : Type 0} (cs : List (Columns A)) (gs : Frames) (up index k least : ℕ) (steps : List Step) (ys : ℕ → Option Value) → up ≡ 0 → StandsAt cs index least steps ys → k < least → IsAt ys (λ j. Some 0) k (given (local_at (bound_at cs k ∷ gs) up index steps) (λ v. value v 0 0))
+bound_finds cs gs up index k least steps ys z so less =
+    let c = some_and (slice_get cs index) (λ c. StandsFor c least steps ys) so in
+    let there : place_in (bound_at cs k ∷ gs) 0 index ≡ value_at c.0 k =
+    ap (option_and_then (λ o. o)) (slice_get-map (λ d. value_at d k) cs index ∙ ap (option_map (λ d. value_at d k)) c.1) in
+    stands_finds (bound_at cs k ∷ gs) c.0 up index k least steps ys z there c.2 less
+
+-- the argument of a call
+pub argument_finds : {A : Type 0} (c : Columns A) (up index k least : ℕ) (steps : List Step) (ys : ℕ → Option Value) → up ≡ 0 → index ≡ 0 → StandsFor c least steps ys → k < least → IsAt ys (λ j. Some 0) k (given (local_at ((value_at c k ∷ []) ∷ []) up index steps) (λ v. value v 0 0))
+argument_finds c up index k least steps ys z none so less =
+    let there : place_in ((value_at c k ∷ []) ∷ []) 0 index ≡ value_at c k = ap (place_in ((value_at c k ∷ []) ∷ []) 0) none in
+    stands_finds ((value_at c k ∷ []) ∷ []) c up index k least steps ys z there so less
 
 -- a name further up than a frame
 pub name_below : (up index : ℕ) (steps : List Step) → 0 < up → (x : List (Option Value)) (gs : Frames) → given (local_at (x ∷ gs) up index steps) (λ v. value v 0 0) ≡ given (local_at gs (up - 1) index steps) (λ v. value v 0 0)

@@ -1,5 +1,5 @@
 -- The frames at the turns of a block, and what is found there.
-use Rattle.std.specs.Prelude.{◌≡◌, ℕ, ◌<◌, Bool, List, ◌∷◌, map, slice_get, Option, Some, option_map, option_and_then}
+use Rattle.std.specs.Prelude.{◌≡◌, ℕ, ◌<◌, Bool, List, [], ◌∷◌, map, slice_get, Option, Some, option_map, option_and_then}
 use Rattle.std.specs.Prelude.{IsSomeAnd}
 use Rattle.nesl_eval_code.specs.declared.code.Step.{Step}
 use Rattle.nesl_eval_meaning.specs.Names.{Value}
@@ -25,6 +25,7 @@ bound_at cs k = map (λ c. value_at c k) cs
 abbrev pub scopes_step : {A T : Type 0} → Block A T → Scopes-F A (ℕ → Option Frames) → ℕ → Option Frames
 scopes_step b Scopes-F.Rows k = option_map (frames_at b) (slice_get (block_places b) k)
 scopes_step b (Scopes-F.Let cs rest) k = option_map (λ fs. bound_at cs.now k ∷ fs) (rest.now k)
+scopes_step b (Scopes-F.Call c rest) k = option_map (λ fs. (value_at c.now k ∷ []) ∷ []) (rest.now k)
 scopes_step b (Scopes-F.Turns ts rest) k = option_and_then rest.now (slice_get ts.now k)
 
 abbrev pub frames_in : {A T : Type 0} → Block A T → Scopes A → ℕ → Option Frames
@@ -58,11 +59,14 @@ Yields p at r = AreAt p at (value_at r.values) (costs_at r.costs)
 abbrev pub NeedsNothing : {A : Type 0} → (Frames → Out Value) → (ℕ → Option Frames) → Columns A → Type 0
 NeedsNothing p at c = AreAt p at (value_at c) (λ k. Some 0)
 
--- the values are what the steps lead to from the binding at that place, at so many turns
+-- the values are what the steps lead to from a binding, which has values at so many turns
+abbrev pub StandsFor : {A : Type 0} → Columns A → ℕ → List Step → (ℕ → Option Value) → Type 0
+StandsFor c least steps ys =
+    ((k : ℕ) → k < least → (v : Value) × (value_at c k ≡ Some v)) × Leads steps (value_at c) ys
+
+-- so they are from the binding at that place
 abbrev pub StandsAt : {A : Type 0} → List (Columns A) → ℕ → ℕ → List Step → (ℕ → Option Value) → Type 0
-StandsAt cs index least steps ys =
-    IsSomeAnd (slice_get cs index) (λ c.
-    ((k : ℕ) → k < least → (v : Value) × (value_at c k ≡ Some v)) × Leads steps (value_at c) ys)
+StandsAt cs index least steps ys = IsSomeAnd (slice_get cs index) (λ c. StandsFor c least steps ys)
 
 -- of two outcomes the one that the flag at a turn tells is the leaf there, and both its work and its depth are the cost
 abbrev pub Chooses

@@ -3,18 +3,18 @@ ghost use Rattle.std.specs.Prelude.{◌≡◌, ◌≤◌, Some, IfSome, IsTrue, 
 ghost use Rattle.nesl_values.specs.View.{tree_of};
 ghost use Rattle.nesl_eval_code.specs.Frames.{local_at, place_in};
 ghost use Rattle.nesl_eval_meaning.specs.Out.{given, value};
-ghost use Rattle.nesl_eval_code.specs.Run.{run_top, slot_at};
+ghost use Rattle.nesl_eval_code.specs.Run.{function_slot, run_top, slot_at};
 ghost use Rattle.nesl_eval_nodes.specs.Sides.{places_of};
 ghost use Rattle.nesl_eval_columns.specs.Columns.{leaves_of};
 ghost use Rattle.nesl_eval_columns.specs.Each.{EachTwo};
 ghost use Rattle.nesl_eval_plain.specs.Blocks.{block_places, IsWithin, frames_at};
-ghost use Rattle.nesl_eval_plain.specs.Columns.{Leads, value_at};
-ghost use Rattle.nesl_eval_plain.specs.Frames.{frames_in, NeedsNothing, StandsAt};
+ghost use Rattle.nesl_eval_plain.specs.Columns.{value_at};
+ghost use Rattle.nesl_eval_plain.specs.Frames.{frames_in, NeedsNothing, StandsFor, StandsAt};
 
 use crate::block::Block;
 use crate::columns::{Columns, at_turns, parts_of, reaches, shared};
 use crate::scopes::{Scopes, count};
-use nesl_eval_code::Step;
+use nesl_eval_code::{Code, Step};
 use nesl_eval_columns::{Column, gathered};
 use nesl_eval_nodes::held::{Held, Tops};
 use nesl_eval_nodes::places::Places;
@@ -110,6 +110,21 @@ fn in_rows<'x, A: Allocator + Copy, T>(
 }
 
 // The parts of a binding to which the steps lead, if it has values at so many turns.
+fn standing<A: Allocator + Copy>(
+    binding: &Columns<A>,
+    least: usize,
+    steps: &[Step],
+    alloc: A,
+) -> Option<Columns<A>>
+    ensures { IfSome result (λ c. StandsFor binding.now least steps.now (value_at c)) }
+{
+    if !reaches(binding, least) {
+        return None;
+    }
+    parts_of(binding, steps, alloc)
+}
+
+// So from one of some bindings.
 fn bound<A: Allocator + Copy>(
     bindings: &[Columns<A>],
     index: usize,
@@ -120,13 +135,10 @@ fn bound<A: Allocator + Copy>(
     ensures { IfSome result (λ c. StandsAt bindings.now index least steps.now (value_at c)) }
 {
     let binding = bindings.get(index)?;
-    if !reaches(binding, least) {
-        return None;
-    }
-    parts_of(binding, steps, alloc)
+    standing(binding, least, steps, alloc)
 }
 
-/// A local name: what the rows or the bindings have for it.
+/// A local name: what the rows, the bindings or the argument have for it.
 pub fn local<'x, A: Allocator + Copy, T>(
     block: &'x Block<'x, A, T>,
     scopes: &Scopes<'_, A>,
@@ -147,6 +159,13 @@ pub fn local<'x, A: Allocator + Copy, T>(
             }
             let least = count(block, *rest);
             bound(*bindings, index, least, steps, *block.alloc)
+        }
+        Scopes::Call(argument, rest) => {
+            if up > 0 || index > 0 {
+                return None;
+            }
+            let least = count(block, *rest);
+            standing(*argument, least, steps, *block.alloc)
         }
         Scopes::Turns(turns, rest) => {
             let values = local(block, *rest, up, index, steps)?;
@@ -179,4 +198,17 @@ pub fn top<'x, A: Allocator + Copy, T: Tops<A>>(
 {
     let value = at_top(block, place)?;
     Some(Columns::Same(shared(value)?))
+}
+
+/// The body of a top-level function.
+pub fn function_at<'x, A: Allocator + Copy, T: Tops<A>>(
+    block: &'x Block<'x, A, T>,
+    place: usize,
+) -> Option<&'x Code>
+    ensures { IfSome result (λ c. slot_at (T.table block.now.tops.now) place ≡ Some (function_slot c.now)) }
+{
+    match block.tops.held(place) {
+        Ok(Held::Function(body)) => Some(body),
+        _ => None,
+    }
 }

@@ -5,7 +5,7 @@ ghost use Rattle.nesl_values.specs.Tree.{pair};
 ghost use Rattle.nesl_values.specs.Parts.{as_bool};
 ghost use Rattle.nesl_eval_meaning.specs.Out.{and_then};
 ghost use Rattle.nesl_eval_meaning.specs.Outcome.{apply_builtin, branch, small_enough};
-ghost use Rattle.nesl_eval_code.specs.Run.{Runs, run, run_node, run_two, run_let};
+ghost use Rattle.nesl_eval_code.specs.Run.{Runs, run, run_node, run_two, run_let, run_called, slot_at};
 ghost use Rattle.nesl_eval_plain.specs.Blocks.{IsWithin};
 ghost use Rattle.nesl_eval_plain.specs.Frames.{frames_in, Finds, Yields, NeedsNothing, Chooses, leaf_at, cost_at};
 ghost use Rattle.nesl_eval_columns.specs.Sides.{Sorted};
@@ -16,7 +16,7 @@ use crate::columns::{Columns, as_leaves, paired, same_value};
 use crate::costs::{Costs, sum};
 use crate::found::{Found, Results, entered, keep};
 use crate::functions::applied;
-use crate::names::{local, top};
+use crate::names::{function_at, local, top};
 use crate::outer::picked;
 use crate::reach::{Reach, below};
 use crate::scopes::{Scopes, count};
@@ -102,6 +102,11 @@ fn node<'x, A: Allocator + Copy, T: Tops<A>>(
             right,
             ..
         } => apply_two(block, scopes, *function, left, right, reach),
+        Code::Call {
+            place,
+            argument,
+            ..
+        } => call(block, scopes, *place, argument, reach),
         Code::Let { bindings, body, .. } => in_let(block, scopes, bindings, body, reach),
         Code::Choice { test, yes, no, .. } => choice(block, scopes, test, yes, no, reach),
         _ => {
@@ -184,6 +189,31 @@ fn in_let<'x, A: Allocator + Copy, T: Tops<A>>(
         keep(&mut columns, bound.values)?;
     }
     let inner = Scopes::Let(&*columns, &*scopes);
+    let last = results(block, &inner, body, reach)?;
+    let all = sum(costs, last.costs, *block.alloc)?;
+    Some(Results {
+        values: last.values,
+        costs: all,
+    })
+}
+
+// The body of a user's function, which sees its argument alone.
+#[cycle(plain)]
+fn call<'x, A: Allocator + Copy, T: Tops<A>>(
+    block: &'x Block<'x, A, T>,
+    scopes: &Scopes<'_, A>,
+    place: usize,
+    argument: &Code,
+    reach: Reach,
+) -> Option<Results<A>>
+    requires { IsWithin block.now }
+    ensures { let tb = T.table block.now.tops.now in let f = run reach.levels tb in (s : Span) → IfSome result
+        (Yields (λ fs. and_then (f fs argument.now) (run_called f s (slot_at tb place)))
+        (frames_in block.now scopes.now)) }
+{
+    let body = function_at(block, place)?;
+    let Results { values, costs } = results(block, scopes, argument, reach)?;
+    let inner = Scopes::Call(&values, &*scopes);
     let last = results(block, &inner, body, reach)?;
     let all = sum(costs, last.costs, *block.alloc)?;
     Some(Results {

@@ -1,14 +1,37 @@
 // Whether code is plain.
 
+use crate::block::Block;
 use nesl_builtins::Builtin;
 use nesl_eval_code::Code;
+use nesl_eval_nodes::held::{Held, Tops};
 use nesl_seqs_base::seq_fn::SeqFn;
+use std::alloc::Allocator;
 
-/// Whether code is made of constants, names, pairs, functions of scalars, elements and lengths, and `let`s and choices
-/// of these, with so many frames of `let`s below the row. What a name stands for is not looked at.
+/// How many nodes of called functions are looked at, in all.
+const MOST: u32 = 100;
+
+/// Whether code is made of constants, names, pairs, functions of scalars, elements and lengths, and `let`s, choices
+/// and calls of functions with a plain body. What a name of a value stands for is not looked at.
+pub fn is_plain<'x, A: Allocator + Copy, T: Tops<A>>(
+    block: &'x Block<'x, A, T>,
+    code: &Code,
+    levels: u32,
+) -> bool {
+    let mut left = MOST;
+    is_plain_part(block, code, Some(0), levels, &mut left)
+}
+
+// So many frames up stands the row, if the code is not the body of a function. So many more nodes of such bodies may
+// be looked at.
 #[cycle(plainness)]
-pub fn is_plain(code: &Code, frames: usize, levels: u32) -> bool {
-    if levels == 0 {
+fn is_plain_part<'x, A: Allocator + Copy, T: Tops<A>>(
+    block: &'x Block<'x, A, T>,
+    code: &Code,
+    row: Option<usize>,
+    levels: u32,
+    left: &mut u32,
+) -> bool {
+    if levels == 0 || !counted(row, left) {
         return false;
     }
     let below = levels - 1;
@@ -16,34 +39,67 @@ pub fn is_plain(code: &Code, frames: usize, levels: u32) -> bool {
         Code::Number { .. } => true,
         Code::Truth { .. } => true,
         Code::Character { .. } => true,
-        Code::Local { up, steps, .. } => *up != frames || steps.is_empty(),
+        Code::Local { up, steps, .. } => row != Some(*up) || steps.is_empty(),
         Code::Top { .. } => true,
-        Code::Pair { left, right, .. } => is_plain(left, frames, below)
-            && is_plain(right, frames, below),
+        Code::Pair {
+            left: one,
+            right,
+            ..
+        } => is_plain_part(block, one, row, below, left)
+            && is_plain_part(block, right, row, below, left),
         Code::Apply {
             function,
             argument,
             ..
-        } => has_columns(*function, SeqFn::Length) && is_plain(argument, frames, below),
+        } => has_columns(*function, SeqFn::Length)
+            && is_plain_part(block, argument, row, below, left),
         Code::ApplyTwo {
             function,
-            left,
+            left: one,
             right,
             ..
         } => has_columns(*function, SeqFn::ElementAt)
-            && is_plain(left, frames, below)
-            && is_plain(right, frames, below),
+            && is_plain_part(block, one, row, below, left)
+            && is_plain_part(block, right, row, below, left),
+        Code::Call {
+            place,
+            argument,
+            ..
+        } => is_plain_part(block, argument, row, below, left)
+            && is_plain_function(block, *place, below, left),
         Code::Let { bindings, body, .. } => {
-            frames < usize::MAX
-                && are_plain(bindings, frames + 1, below)
-                && is_plain(body, frames + 1, below)
+            let inner = one_up(row);
+            are_plain(block, bindings, inner, below, left)
+                && is_plain_part(block, body, inner, below, left)
         }
         Code::Choice { test, yes, no, .. } => {
-            is_plain(test, frames, below)
-                && is_plain(yes, frames, below)
-                && is_plain(no, frames, below)
+            is_plain_part(block, test, row, below, left)
+                && is_plain_part(block, yes, row, below, left)
+                && is_plain_part(block, no, row, below, left)
         }
         _ => false,
+    }
+}
+
+// Whether one more node may be looked at. Those of the code itself are not counted.
+fn counted(row: Option<usize>, left: &mut u32) -> bool {
+    if row.is_some() {
+        return true;
+    }
+    match left.checked_sub(1) {
+        Some(rest) => {
+            *left = rest;
+            true
+        }
+        None => false,
+    }
+}
+
+// Where the row stands seen from one frame further in.
+fn one_up(row: Option<usize>) -> Option<usize> {
+    match row {
+        Some(up) => up.checked_add(1),
+        None => None,
     }
 }
 
@@ -56,10 +112,30 @@ fn has_columns(function: Builtin, one: SeqFn) -> bool {
     }
 }
 
+// Whether a function of the top level has a plain body.
 #[cycle(plainness)]
-fn are_plain(codes: &[Code], frames: usize, levels: u32) -> bool {
+fn is_plain_function<'x, A: Allocator + Copy, T: Tops<A>>(
+    block: &'x Block<'x, A, T>,
+    place: usize,
+    levels: u32,
+    left: &mut u32,
+) -> bool {
+    match block.tops.held(place) {
+        Ok(Held::Function(body)) => is_plain_part(block, body, None, levels, left),
+        _ => false,
+    }
+}
+
+#[cycle(plainness)]
+fn are_plain<'x, A: Allocator + Copy, T: Tops<A>>(
+    block: &'x Block<'x, A, T>,
+    codes: &[Code],
+    row: Option<usize>,
+    levels: u32,
+    left: &mut u32,
+) -> bool {
     for code in codes {
-        if !is_plain(code, frames, levels) {
+        if !is_plain_part(block, code, row, levels, left) {
             return false;
         }
     }

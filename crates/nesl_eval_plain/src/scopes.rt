@@ -15,6 +15,8 @@ pub enum Scopes<'a, A: Allocator> {
     Rows,
     /// The bindings of a `let` so far, each at all turns.
     Let(&'a [Columns<A>], &'a Scopes<'a, A>),
+    /// The argument of a function that is called, which its body sees alone, at the turns that the call has.
+    Call(&'a Columns<A>, &'a Scopes<'a, A>),
     /// What names stand for at some of the turns alone, in this order.
     Turns(&'a [usize], &'a Scopes<'a, A>),
 }
@@ -37,6 +39,7 @@ pub fn count<A: Allocator, T>(block: &Block<'_, A, T>, scopes: &Scopes<'_, A>) -
     match scopes {
         Scopes::Rows => block.to - block.from,
         Scopes::Let(_, rest) => count(block, *rest),
+        Scopes::Call(_, rest) => count(block, *rest),
         Scopes::Turns(turns, _) => turns.len(),
     }
 }

@@ -148,7 +148,7 @@ pub fn bodies_in_columns<'x, A: Allocator + Copy, T: Tops<A>>(
         (run_bodies f (frames_of w.scope.now) (map tree_of w.values.now) body.now (block_places w))) }
     ensures spent { meter.new.fuel + meter.new.depth ≤ meter.old.fuel + meter.old.depth }
 {
-    if whole.to - whole.from < LEAST || !is_plain(body, 0, levels) {
+    if whole.to - whole.from < LEAST || !is_plain(whole, body, levels) {
         return None;
     }
     let Made {
@@ -293,7 +293,7 @@ pub fn filters_in_columns<'x, A: Allocator + Copy, T: Tops<A>>(
         (run_filters f (frames_of w.scope.now) (map tree_of w.values.now) filter.now (block_places w))) }
     ensures spent { meter.new.fuel + meter.new.depth ≤ meter.old.fuel + meter.old.depth }
 {
-    if whole.to - whole.from < LEAST || !is_plain(filter, 0, levels) {
+    if whole.to - whole.from < LEAST || !is_plain(whole, filter, levels) {
         return None;
     }
     let Kept {

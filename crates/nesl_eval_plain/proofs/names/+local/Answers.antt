@@ -4,8 +4,8 @@ use Rattle.nesl_eval_meaning.specs.Out.{given, value}
 use Rattle.nesl_eval_columns.proofs.Turns.{some_so}
 use Rattle.nesl_eval_plain.specs.Columns.{value_at}
 use Rattle.nesl_eval_plain.specs.Frames.{IsAt}
-use Rattle.nesl_eval_plain.proofs.Framed.{turns_find, at_let, below_let}
-use Rattle.nesl_eval_plain.proofs.Places.{name_below, bound_finds}
+use Rattle.nesl_eval_plain.proofs.Framed.{turns_find, at_let, at_call, below_let}
+use Rattle.nesl_eval_plain.proofs.Places.{name_below, bound_finds, argument_finds}
 use Rattle.nesl_eval_plain.proofs.names.+local.Goals as goal
 
 pub returns-in-Rows : goal.returns-in-Rows
@@ -34,3 +34,14 @@ pub returns-in_ok-values-in-Turns : goal.returns-in_ok-values-in-Turns
 returns-in_ok-values-in-Turns g t c =
     let f = c.in_ok-values-in-Turns.values in
     some_so _ _ (λ r h. turns_find c.args.block.now c.args.scopes.now c.in-Turns.turns c.in-Turns.rest (λ fs. given (local_at fs c.args.up c.args.index c.args.steps.now) (λ v. value v 0 0)) (value_at f) (value_at r) (λ k. Some 0) (λ k. Some 0) c.in-Turns.is c.in_ok-values-in-Turns.ensures (λ k j e. (h k j e, refl))) c.at_turns.result c.at_turns.ensures
+
+pub returns-else-index-gt0 : goal.returns-else-index-gt0
+returns-else-index-gt0 g t c =
+    let up = c.args.up in
+    let index = c.args.index in
+    let steps = c.args.steps.now in
+    let argument = c.in-Call.argument.now in
+    some_so _ _ (λ r h. λ k fs e.
+    let w = at_call c.args.block.now c.args.scopes.now k fs c.in-Call.argument c.in-Call.rest c.in-Call.is e in
+    subst (λ hs. IsAt (value_at r) (λ j. Some 0) k (given (local_at hs up index steps) (λ v. value v 0 0))) w.2
+    (argument_finds argument up index k c.count-least-in-Call.result steps (value_at r) (omega (arith, c.if-up-gt0-2.false)) (omega (arith, c.if-index-gt0.false)) h (c.count-least-in-Call.ensures k w.0 w.1))) c.standing.result c.standing.ensures

@@ -11,4 +11,4 @@ returns g c =
     let d = c.in_ok-binding.binding.now in
     let a = c.in_ok-binding.ensures.lookup in
     let its : slice_get cs c.args.index ≡ Some d = slice_get_read cs (length cs) c.args.index d refl (ltb-true _ _ (sym a.0)) a.1 in
-    some_so _ _ (λ v h. rw its (c.if-not-reaches.ensures refl, h)) c.parts_of.result c.parts_of.ensures
+    some_so _ _ (λ v h. rw its h) c.standing.result c.standing.ensures

@@ -2,7 +2,7 @@ use Rattle.std.proofs.Common.{◌≡◌, ◌+◌, [], ◌∷◌, arith, refl, sy
 use Rattle.std.specs.Prelude.{slice_get}
 use Rattle.std.proofs.lemmas.List.{drop_more, drop_all}
 use Rattle.nesl_eval_code.specs.Frames.{Frames}
-use Rattle.nesl_eval_code.specs.Run.{run, run_node, run_let}
+use Rattle.nesl_eval_code.specs.Run.{run, run_node, run_let, slot_at}
 use Rattle.nesl_eval_columns.specs.Columns.{leaves_of}
 use Rattle.nesl_eval_columns.proofs.Turns.{some_so}
 use Rattle.nesl_eval_nodes.proofs.Rows.{node-Let}
@@ -11,8 +11,8 @@ use Rattle.nesl_eval_plain.specs.Costs.{costs_at}
 use Rattle.nesl_eval_plain.specs.Frames.{frames_in, AreAt, leaf_at, cost_at}
 use Rattle.nesl_eval_plain.proofs.Choosing.{choice_finds, all_yes, all_no, both_sides}
 use Rattle.nesl_values.specs.View.{tree_of}
-use Rattle.nesl_eval_plain.proofs.Framed.{let_at, turns_at}
-use Rattle.nesl_eval_plain.proofs.Finding.{at_so, entered_finds, same_find, applied_finds, two_finds, pairs_find, element_finds, along_begun, along_next, along_done}
+use Rattle.nesl_eval_plain.proofs.Framed.{let_at, called_at, turns_at}
+use Rattle.nesl_eval_plain.proofs.Finding.{at_so, entered_finds, same_find, applied_finds, two_finds, pairs_find, element_finds, call_finds, along_begun, along_next, along_done}
 use Rattle.nesl_eval_plain.proofs.parts.+plain.Goals as goal
 
 pub results-returns : goal.results-returns
@@ -148,3 +148,14 @@ chosen-returns g t c =
     let one = c.in_ok-one.one in
     let other = c.in_ok-other.other in
     some_so _ _ (λ r h. both_sides s.flags.items s.yes.items s.no.items s.ranks.items (λ fs. f fs c.args.yes.now) (λ fs. f fs c.args.no.now) at _ _ (leaf_at one) (leaf_at other) (leaf_at r) (cost_at one) (cost_at other) (cost_at r) c.requires.sorted (λ k. turns_at b _ s.yes.items _ c.args.scopes.now k c.deref-3.ensures.value refl) (λ k. turns_at b _ s.no.items _ c.args.scopes.now k c.deref-4.ensures.value refl) c.in_ok-one.ensures c.in_ok-other.ensures h.0 h.1) c.merged.result c.merged.ensures
+
+pub node-returns-in-Call : goal.node-returns-in-Call
+node-returns-in-Call g t c = rw (c.in-Call.is, ← c.deref-in-Call.ensures) (c.call.ensures c.in-Call.span)
+
+pub call-returns : goal.call-returns
+call-returns g t c = λ s.
+    let b = c.args.block.now in
+    let tb = g.T.Tops.table b.tops.now in
+    let r = c.in_ok-values.field-0 in
+    let last = c.in_ok-last.last in
+    call_finds (run c.args.reach.levels tb) (frames_in b c.args.scopes.now) _ c.args.argument.now c.in_ok-body.body.now s (slot_at tb c.args.place) (value_at r.values) (value_at last.values) (costs_at r.costs) (costs_at last.costs) (costs_at c.in_ok-all.all) c.in_ok-body.ensures c.in_ok-values.ensures c.in_ok-last.ensures (λ k fs e. called_at b _ r.values _ k fs refl e) c.in_ok-all.ensures

@@ -32,6 +32,9 @@ decreases-element g l = l.reach.height * 8 + 5
 abbrev pub decreases-in_let : goal.decreases-in_let
 decreases-in_let g l = l.reach.height * 8 + 6
 
+abbrev pub decreases-call : goal.decreases-call
+decreases-call g l = l.reach.height * 8 + 6
+
 abbrev pub decreases-choice : goal.decreases-choice
 decreases-choice g l = l.reach.height * 8 + 6
 
