@@ -121,10 +121,10 @@ function_there (Some s) c e = ap Some (sym e)
 function_there None c e = absurd cc
 
 -- a call, whose body sees the argument alone
-pub call_finds : (f : Runs) (at inner : ℕ → Option Frames) (a body : Code) (s : Span) (o : Option Slot) (xs vs : ℕ → Option Value) (ms ns os : ℕ → Option ℕ) → o ≡ Some (function_slot body) → AreAt (λ fs. f fs a) at xs ms → AreAt (λ fs. f fs body) inner vs ns → ((k : ℕ) (fs : Frames) → at k ≡ Some fs → inner k ≡ Some ((xs k ∷ []) ∷ [])) → Sums ms ns os → AreAt (λ fs. and_then (f fs a) (run_called f s o)) at vs os
-call_finds f at inner a body s o xs vs ms ns os is h i under sums = λ k fs q.
+pub call_finds : (f g : Runs) (at inner : ℕ → Option Frames) (a body : Code) (s : Span) (o : Option Slot) (xs vs : ℕ → Option Value) (ms ns os : ℕ → Option ℕ) → o ≡ Some (function_slot body) → g ≡ f → AreAt (λ fs. f fs a) at xs ms → AreAt (λ fs. g fs body) inner vs ns → ((k : ℕ) (fs : Frames) → at k ≡ Some fs → inner k ≡ Some ((xs k ∷ []) ∷ [])) → Sums ms ns os → AreAt (λ fs. and_then (f fs a) (run_called f s o)) at vs os
+call_finds f g at inner a body s o xs vs ms ns os is same h i under sums = λ k fs q.
     let x = h k fs q in
-    let y = i k ((Some x.0 ∷ []) ∷ []) (under k fs q ∙ ap (λ u. Some ((u ∷ []) ∷ [])) x.2) in (
+    let y = subst (λ r. AreAt (λ gs. r gs body) inner vs ns) same i k ((Some x.0 ∷ []) ∷ []) (under k fs q ∙ ap (λ u. Some ((u ∷ []) ∷ [])) x.2) in (
       y.0,
       x.1 + y.1,
       y.2,
@@ -165,10 +165,10 @@ added_none stuck = refl
 pub along_begun : {A : Type 0} (f : Runs) (at : ℕ → Option Frames) (cs : List Code) (e : Code) (us : List (Columns A)) → us ≡ [] → Along f at cs e us cs (λ k. Some 0)
 along_begun f at cs e us none = λ k fs q. (0, refl, added_none (let_from f fs [] cs e) ∙ ap (λ ws. after_cost 0 0 (let_from f fs (bound_at ws k) cs e)) (sym none))
 
-pub along_next : {A : Type 0} (f : Runs) (at inner : ℕ → Option Frames) (cs : List Code) (e c : Code) (us ws : List (Columns A)) (u : Columns A) (rest more : List Code) (ns ms os : ℕ → Option ℕ) → more ≡ c ∷ rest → Along f at cs e us more ns → AreAt (λ fs. f fs c) inner (value_at u) ms → ((k : ℕ) (fs : Frames) → at k ≡ Some fs → inner k ≡ Some (bound_at us k ∷ fs)) → ws ≡ us ++ u ∷ [] → Sums ns ms os → Along f at cs e ws rest os
-along_next f at inner cs e c us ws u rest more ns ms os splits so h under is sums = λ k fs q.
+pub along_next : {A : Type 0} (f g : Runs) (at inner : ℕ → Option Frames) (cs : List Code) (e c : Code) (us ws : List (Columns A)) (u : Columns A) (rest more : List Code) (ns ms os : ℕ → Option ℕ) → more ≡ c ∷ rest → g ≡ f → Along f at cs e us more ns → AreAt (λ fs. g fs c) inner (value_at u) ms → ((k : ℕ) (fs : Frames) → at k ≡ Some fs → inner k ≡ Some (bound_at us k ∷ fs)) → ws ≡ us ++ u ∷ [] → Sums ns ms os → Along f at cs e ws rest os
+along_next f g at inner cs e c us ws u rest more ns ms os splits same so h under is sums = λ k fs q.
     let x = so k fs q in
-    let y = h k (bound_at us k ∷ fs) (under k fs q) in
+    let y = subst (λ r. AreAt (λ gs. r gs c) inner (value_at u) ms) same h k (bound_at us k ∷ fs) (under k fs q) in
     let its : bound_at ws k ≡ bound_at us k ++ Some y.0 ∷ [] =
     ap (λ ds. bound_at ds k) is ∙ map-append (λ d. value_at d k) us (u ∷ []) ∙ ap (λ o. bound_at us k ++ o ∷ []) y.2 in (
       x.0 + y.1,
@@ -179,10 +179,10 @@ along_next f at inner cs e c us ws u rest more ns ms os splits so h under is sum
           ∙ ap (λ ps. after_cost (x.0 + y.1) (x.0 + y.1) (let_from f fs ps rest e)) (sym its),
     )
 
-pub along_done : {A : Type 0} (f : Runs) (at inner : ℕ → Option Frames) (cs : List Code) (e : Code) (us : List (Columns A)) (rest : List Code) (vs : ℕ → Option Value) (ns ms os : ℕ → Option ℕ) → rest ≡ [] → Along f at cs e us rest ns → AreAt (λ fs. f fs e) inner vs ms → ((k : ℕ) (fs : Frames) → at k ≡ Some fs → inner k ≡ Some (bound_at us k ∷ fs)) → Sums ns ms os → AreAt (λ fs. run_let f fs [] cs e) at vs os
-along_done f at inner cs e us rest vs ns ms os none so h under sums = λ k fs q.
+pub along_done : {A : Type 0} (f g : Runs) (at inner : ℕ → Option Frames) (cs : List Code) (e : Code) (us : List (Columns A)) (rest : List Code) (vs : ℕ → Option Value) (ns ms os : ℕ → Option ℕ) → rest ≡ [] → g ≡ f → Along f at cs e us rest ns → AreAt (λ fs. g fs e) inner vs ms → ((k : ℕ) (fs : Frames) → at k ≡ Some fs → inner k ≡ Some (bound_at us k ∷ fs)) → Sums ns ms os → AreAt (λ fs. run_let f fs [] cs e) at vs os
+along_done f g at inner cs e us rest vs ns ms os none same so h under sums = λ k fs q.
     let x = so k fs q in
-    let y = h k (bound_at us k ∷ fs) (under k fs q) in (
+    let y = subst (λ r. AreAt (λ gs. r gs e) inner vs ms) same h k (bound_at us k ∷ fs) (under k fs q) in (
       y.0,
       x.0 + y.1,
       y.2,

@@ -1,6 +1,6 @@
 -- The frames at the turns of a block, and what is found there.
-use Rattle.std.specs.Prelude.{◌≡◌, ℕ, ◌<◌, Bool, List, [], ◌∷◌, map, slice_get, Option, Some, option_map, option_and_then}
-use Rattle.std.specs.Prelude.{IsSomeAnd}
+use Rattle.std.specs.Prelude.{◌≡◌, ℕ, ◌<◌, Bool, List, [], ◌∷◌, map, slice_get, Option, Some, option_map}
+use Rattle.std.specs.Prelude.{option_and_then, IsSomeAnd}
 use Rattle.nesl_eval_code.specs.declared.code.Step.{Step}
 use Rattle.nesl_eval_meaning.specs.Names.{Value}
 use Rattle.nesl_eval_code.specs.Frames.{Frames}

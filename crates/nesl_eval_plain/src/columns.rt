@@ -38,8 +38,8 @@ pub fn nodes<A: Allocator>(columns: &Columns<A>) -> Option<u64>
     }
 }
 
-// How many leaves and single values there are at a turn.
-fn breadth<A: Allocator>(columns: &Columns<A>) -> usize {
+/// How many leaves and single values there are at a turn.
+pub fn breadth<A: Allocator>(columns: &Columns<A>) -> usize {
     match columns {
         Columns::Same(_) | Columns::Leaves(_) => 1,
         Columns::Pair(one, other) => breadth(one).saturating_add(breadth(other)),

@@ -12,13 +12,13 @@ ghost use Rattle.nesl_eval_columns.specs.Sides.{Sorted};
 
 use crate::block::Block;
 use crate::choices::{is_none, merged};
-use crate::columns::{Columns, as_leaves, paired, same_value};
+use crate::columns::{Columns, as_leaves, breadth, paired, same_value};
 use crate::costs::{Costs, sum};
 use crate::found::{Found, Results, entered, keep};
 use crate::functions::applied;
 use crate::names::{function_at, local, top};
 use crate::outer::picked;
-use crate::reach::{Reach, below};
+use crate::reach::{Reach, below, beside};
 use crate::scopes::{Scopes, count};
 use nesl_builtins::Builtin;
 use nesl_eval_code::Code;
@@ -156,7 +156,8 @@ fn in_pair<'x, A: Allocator + Copy, T: Tops<A>>(
         (frames_in block.now scopes.now)) }
 {
     let one = results(block, scopes, left, reach)?;
-    let other = results(block, scopes, right, reach)?;
+    let inside = beside(reach, breadth(&one.values))?;
+    let other = results(block, scopes, right, inside)?;
     let costs = sum(one.costs, other.costs, *block.alloc)?;
     let values = paired(one.values, other.values, *block.alloc)?;
     Some(Results { values, costs })
@@ -180,16 +181,20 @@ fn in_let<'x, A: Allocator + Copy, T: Tops<A>>(
         more: None,
     };
     let mut columns = Vec::new(*block.alloc);
+    let mut waiting: usize = 0;
     for binding in bindings {
+        let inside = beside(reach, waiting)?;
         let bound = {
             let inner = Scopes::Let(&*columns, &*scopes);
-            results(block, &inner, binding, reach)?
+            results(block, &inner, binding, inside)?
         };
+        waiting = waiting.saturating_add(breadth(&bound.values));
         costs = sum(costs, bound.costs, *block.alloc)?;
         keep(&mut columns, bound.values)?;
     }
+    let inside = beside(reach, waiting)?;
     let inner = Scopes::Let(&*columns, &*scopes);
-    let last = results(block, &inner, body, reach)?;
+    let last = results(block, &inner, body, inside)?;
     let all = sum(costs, last.costs, *block.alloc)?;
     Some(Results {
         values: last.values,
@@ -213,8 +218,9 @@ fn call<'x, A: Allocator + Copy, T: Tops<A>>(
 {
     let body = function_at(block, place)?;
     let Results { values, costs } = results(block, scopes, argument, reach)?;
+    let inside = beside(reach, breadth(&values))?;
     let inner = Scopes::Call(&values, &*scopes);
-    let last = results(block, &inner, body, reach)?;
+    let last = results(block, &inner, body, inside)?;
     let all = sum(costs, last.costs, *block.alloc)?;
     Some(Results {
         values: last.values,

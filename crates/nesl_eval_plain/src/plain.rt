@@ -1,6 +1,7 @@
 // Whether code is plain.
 
 use crate::block::Block;
+use crate::reach::HEIGHT;
 use nesl_builtins::Builtin;
 use nesl_eval_code::Code;
 use nesl_eval_nodes::held::{Held, Tops};
@@ -18,7 +19,7 @@ pub fn is_plain<'x, A: Allocator + Copy, T: Tops<A>>(
     levels: u32,
 ) -> bool {
     let mut left = MOST;
-    is_plain_part(block, code, Some(0), levels, &mut left)
+    is_plain_part(block, code, Some(0), levels.min(HEIGHT), &mut left)
 }
 
 // So many frames up stands the row, if the code is not the body of a function. So many more nodes of such bodies may

@@ -2,13 +2,18 @@
 ghost use Rattle.std.specs.Prelude.{◌≡◌, ◌-◌, ◌<◌, IfSome};
 
 /// How many nodes deep the recursion over code may go at the most. The stack is laid out for it.
-const HEIGHT: u32 = 128;
+pub const HEIGHT: u32 = 128;
 
-/// How far the recursion over code may go: so many levels, as the evaluator counts them, and so many nodes deep.
+/// How many columns may wait at the same time, while others are made.
+const COLUMNS: usize = 1024;
+
+/// How far the recursion over code may go: so many levels, as the evaluator counts them, so many nodes deep, and with
+/// so many more columns that wait.
 #[derive(Clone, Copy)]
 pub struct Reach {
     pub levels: u32,
     pub height: u32,
+    pub columns: usize,
 }
 
 /// At the root of code that has so many levels.
@@ -18,6 +23,7 @@ pub fn at_root(levels: u32) -> Reach
     Reach {
         levels,
         height: HEIGHT,
+        columns: COLUMNS,
     }
 }
 
@@ -27,5 +33,21 @@ pub fn below(reach: Reach) -> Option<Reach>
 {
     let levels = reach.levels.checked_sub(1)?;
     let height = reach.height.checked_sub(1)?;
-    Some(Reach { levels, height })
+    Some(Reach {
+        levels,
+        height,
+        columns: reach.columns,
+    })
+}
+
+/// Beside so many columns that wait, if there may be so many.
+pub fn beside(reach: Reach, waiting: usize) -> Option<Reach>
+    ensures { IfSome result (λ r. (r.levels ≡ reach.levels) × (r.height ≡ reach.height)) }
+{
+    let columns = reach.columns.checked_sub(waiting)?;
+    Some(Reach {
+        levels: reach.levels,
+        height: reach.height,
+        columns,
+    })
 }

@@ -46,7 +46,10 @@ in_pair-returns g t c = λ s.
     let b = c.args.block.now in
     let one = c.in_ok-one.one in
     let other = c.in_ok-other.other in
-    pairs_find (run c.args.reach.levels (g.T.Tops.table b.tops.now)) (frames_in b c.args.scopes.now) c.args.left.now c.args.right.now s (costs_at one.costs) (costs_at other.costs) (costs_at c.in_ok-costs.costs) (value_at one.values) (value_at other.values) (value_at c.in_ok-values.values) c.in_ok-one.ensures c.in_ok-other.ensures c.in_ok-values.ensures c.in_ok-costs.ensures
+    let tb = g.T.Tops.table b.tops.now in
+    let at = frames_in b c.args.scopes.now in
+    let second = subst (λ n. AreAt (λ fs. run n tb fs c.args.right.now) at (value_at other.values) (costs_at other.costs)) c.in_ok-inside.ensures.0 c.in_ok-other.ensures in
+    pairs_find (run c.args.reach.levels tb) at c.args.left.now c.args.right.now s (costs_at one.costs) (costs_at other.costs) (costs_at c.in_ok-costs.costs) (value_at one.values) (value_at other.values) (value_at c.in_ok-values.values) c.in_ok-one.ensures second c.in_ok-values.ensures c.in_ok-costs.ensures
 
 pub apply-returns : goal.apply-returns
 apply-returns g t c = λ s.
@@ -103,8 +106,9 @@ in_let-loop-binding-preserved g t c =
     let cs = c.args.bindings.now in
     let u = c.in_ok-bound.bound in
     let i = k.binding-index in
-    along_next (run c.args.reach.levels (g.T.Tops.table b.tops.now)) (frames_in b c.args.scopes.now) _ cs c.args.body.now c.binding-item.result k.columns.items c.keep.new.bindings.items u.values (drop (i + 1) cs) (drop i cs) (costs_at k.costs) (costs_at u.costs) (costs_at c.in_ok-costs.costs)
-    (drop_more cs i c.binding-item.result c.loop-binding-test.true ∙ ap (λ x. x ∷ drop (i + 1) cs) (sym c.binding-item.is)) k.invariant c.in_ok-bound.ensures (λ j fs e. let_at b _ k.columns.items _ j fs c.deref.ensures.value e) c.in_ok-keep.ensures c.in_ok-costs.ensures
+    let tb = g.T.Tops.table b.tops.now in
+    along_next (run c.args.reach.levels tb) (run c.in_ok-inside.inside.levels tb) (frames_in b c.args.scopes.now) _ cs c.args.body.now c.binding-item.result k.columns.items c.keep.new.bindings.items u.values (drop (i + 1) cs) (drop i cs) (costs_at k.costs) (costs_at u.costs) (costs_at c.in_ok-costs.costs)
+    (drop_more cs i c.binding-item.result c.loop-binding-test.true ∙ ap (λ x. x ∷ drop (i + 1) cs) (sym c.binding-item.is)) (ap (λ n. run n tb) c.in_ok-inside.ensures.0) k.invariant c.in_ok-bound.ensures (λ j fs e. let_at b _ k.columns.items _ j fs c.deref.ensures.value e) c.in_ok-keep.ensures c.in_ok-costs.ensures
 
 pub in_let-returns : goal.in_let-returns
 in_let-returns g t c =
@@ -112,8 +116,9 @@ in_let-returns g t c =
     let k = c.loop-binding in
     let cs = c.args.bindings.now in
     let u = c.in_ok-last.last in
-    along_done (run c.args.reach.levels (g.T.Tops.table b.tops.now)) (frames_in b c.args.scopes.now) _ cs c.args.body.now k.columns.items (drop k.binding-index cs) (value_at u.values) (costs_at k.costs) (costs_at u.costs) (costs_at c.in_ok-all.all)
-    (drop_all k.binding-index cs (omega arith)) k.invariant c.in_ok-last.ensures (λ j fs e. let_at b _ k.columns.items _ j fs c.deref-2.ensures.value e) c.in_ok-all.ensures
+    let tb = g.T.Tops.table b.tops.now in
+    along_done (run c.args.reach.levels tb) (run c.in_ok-inside-2.inside.levels tb) (frames_in b c.args.scopes.now) _ cs c.args.body.now k.columns.items (drop k.binding-index cs) (value_at u.values) (costs_at k.costs) (costs_at u.costs) (costs_at c.in_ok-all.all)
+    (drop_all k.binding-index cs (omega arith)) (ap (λ n. run n tb) c.in_ok-inside-2.ensures.0) k.invariant c.in_ok-last.ensures (λ j fs e. let_at b _ k.columns.items _ j fs c.deref-2.ensures.value e) c.in_ok-all.ensures
 
 pub node-returns-in-Choice : goal.node-returns-in-Choice
 node-returns-in-Choice g t c = rw (c.in-Choice.is, ← c.deref-in-Choice.ensures, ← c.deref-in-Choice-2.ensures, ← c.deref-in-Choice-3.ensures) c.choice.ensures
@@ -158,4 +163,4 @@ call-returns g t c = λ s.
     let tb = g.T.Tops.table b.tops.now in
     let r = c.in_ok-values.field-0 in
     let last = c.in_ok-last.last in
-    call_finds (run c.args.reach.levels tb) (frames_in b c.args.scopes.now) _ c.args.argument.now c.in_ok-body.body.now s (slot_at tb c.args.place) (value_at r.values) (value_at last.values) (costs_at r.costs) (costs_at last.costs) (costs_at c.in_ok-all.all) c.in_ok-body.ensures c.in_ok-values.ensures c.in_ok-last.ensures (λ k fs e. called_at b _ r.values _ k fs refl e) c.in_ok-all.ensures
+    call_finds (run c.args.reach.levels tb) (run c.in_ok-inside.inside.levels tb) (frames_in b c.args.scopes.now) _ c.args.argument.now c.in_ok-body.body.now s (slot_at tb c.args.place) (value_at r.values) (value_at last.values) (costs_at r.costs) (costs_at last.costs) (costs_at c.in_ok-all.all) c.in_ok-body.ensures (ap (λ n. run n tb) c.in_ok-inside.ensures.0) c.in_ok-values.ensures c.in_ok-last.ensures (λ k fs e. called_at b _ r.values _ k fs refl e) c.in_ok-all.ensures
