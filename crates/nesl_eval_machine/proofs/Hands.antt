@@ -2,7 +2,6 @@
 use Rattle.std.specs.Prelude.{vec_len}
 use Rattle.std.proofs.Common.{◌≡◌, ℕ, ◌+◌, ◌≤◌, refl, sym, ◌∙◌, ap, subst, arith, inl, inr, ◌⊎◌, List, [], ◌∷◌, ◌++◌, map, length, take, reverse, Vec, Result, Ok, Err, Bor}
 use Rattle.std.proofs.lemmas.List.{length-map}
-use Rattle.nesl_lex.specs.declared.token.Span.{Span}
 use Rattle.nesl_values.specs.View.{tree_of}
 use Rattle.nesl_values.specs.declared.value.Value as code
 use Rattle.nesl_eval_meaning.specs.Names.{Value}
@@ -14,7 +13,6 @@ use Rattle.nesl_eval_ops.specs.declared.ops.Ops.{Ops}
 use Rattle.nesl_eval_ops.specs.View.{block_of}
 use Rattle.nesl_eval_nodes.specs.declared.meter.Meter.{Meter}
 use Rattle.nesl_eval_nodes.specs.declared.meter.Stop.{Stop}
-use Rattle.nesl_eval_nodes.specs.declared.meter.Stop.TheVariants.{Fault, Over, Stuck}
 use Rattle.nesl_eval_nodes.specs.Meets.{Meets, Is}
 use Rattle.nesl_eval_machine.specs.declared.state.Frame.{Frame}
 use Rattle.nesl_eval_machine.specs.declared.state.Hand.{Hand}
@@ -25,8 +23,8 @@ use Rattle.nesl_eval_rounds.specs.Leads.{Leads}
 use Rattle.nesl_eval_machine.specs.Steps.{Goes, Stops, Steps, Gives, Moves, empty_handed, in_hand, Ends, placed_stop}
 use Rattle.nesl_eval_rounds.proofs.Laws.{after_none, after_after, moved}
 use Rattle.nesl_eval_machine.proofs.Unwinding.{unwound_stuck, unwound_after}
-use Rattle.nesl_eval_machine.proofs.Stepping.{run_stops, stops_after, pushed, off, memory_any, all_dropped}
-use Rattle.nesl_eval_machine.proofs.Taking.{many_off, few_taken}
+use Rattle.nesl_eval_machine.proofs.Stepping.{run_stops, stops_after, pushed, off, all_dropped}
+use Rattle.nesl_eval_machine.proofs.Taking.{many_off}
 use Rattle.nesl_eval_machine.proofs.Ending.{value_is, block_ended}
 use Rattle.nesl_eval_machine.proofs.Whole.{stops_placed}
 
@@ -103,6 +101,15 @@ pub none_moves : {A : Type 0} (t : Table) (m n : Machine A) (r : Result (Hand A)
 none_moves t m n r f none h =
     let empty : length (stack_of m) ≤ floor (frames_of m) = omega (arith, length-map m.stack.items tree_of, m.stack.ok.0) in
     stuck_moves t m n r (f (local_of m)) (ap f (all_dropped (floor (frames_of m)) (stack_of m) empty) ∙ h)
+
+-- a value that is at hand before what is next
+pub held_moves : {A : Type 0} (t : Table) (m : Machine A) (v : code.Value A) (next : Bor Ops) → Fits t m → Moves t m (Ok (Holds v next)) m (left_at_hand t m (Holds v next))
+held_moves t m v next fits = inr (record {
+  work = 0;
+  spent = omega arith;
+  same = sym (after_none (left_at_hand t m (Holds v next)));
+  fits = fits;
+})
 
 -- nothing is done
 pub nothing_moves : {A : Type 0} (t : Table) (m : Machine A) → Fits t m → Moves t m (Ok Empty) m (left t m)

@@ -53,23 +53,6 @@ impl<'a, A: Allocator + Copy> Machine<'a, A> {
         self.go_on_at_leaves(tops)
     }
 
-    /// Puts a value that was at hand on the stack, and goes on with what is next.
-    #[inline(always)]
-    pub(crate) fn set_down_and_go_on<T: Tops<A>>(
-        &mut self,
-        tops: &T,
-        value: Value<A>,
-        next: &'a Ops,
-    ) -> Result<Hand<'a, A>, Stop>
-        requires { self.old.meter.fuel + self.old.meter.depth < 2 ^ 64 }
-        ensures moves { let t = T.table tops.now in Fits t self.old → let m = self.old in Moves t m result self.new
-            (left_with t m (exec t m.levels (env_of m) (block_of next.now) (tree_of value ∷ local_of m))) }
-        ensures bounded { self.new.meter.fuel + self.new.meter.depth < 2 ^ 64 }
-    {
-        let done = self.set_down(value, next);
-        self.after_step(tops, done)
-    }
-
     /// After a step that leaves nothing at hand.
     #[inline(always)]
     pub(crate) fn after_step<T: Tops<A>>(

@@ -3,14 +3,14 @@ ghost use Rattle.std.specs.Prelude.{◌≡◌, ℕ, ◌+◌, ◌<◌, ◌^◌, [
 ghost use Rattle.nesl_values.specs.View.{tree_of};
 ghost use Rattle.nesl_eval_meaning.specs.Out.{stuck};
 ghost use Rattle.nesl_eval_code.specs.declared.code.Code.{Code};
-ghost use Rattle.nesl_eval_code.specs.Run.{run};
+ghost use Rattle.nesl_eval_code.specs.Run.{Table, run};
 ghost use Rattle.nesl_eval_blocks.specs.Exec.{Places, exec};
 ghost use Rattle.nesl_eval_blocks.specs.Flat.{block};
 ghost use Rattle.nesl_eval_ops.specs.View.{block_of};
 ghost use Rattle.nesl_eval_nodes.specs.Meets.{Meets, Is};
 ghost use Rattle.nesl_eval_machine.specs.State.{Fits, HasBodies, frames_of, env_of, local_of, left_with, left_at};
 ghost use Rattle.nesl_eval_machine.specs.State.{left, left_at_hand};
-ghost use Rattle.nesl_eval_machine.specs.Steps.{Moves, Ends, first_call, placed_stop};
+ghost use Rattle.nesl_eval_machine.specs.Steps.{Steps, Moves, Ends, first_call, placed_stop};
 
 use crate::calls::CallNode;
 use crate::hand::empty_handed;
@@ -102,14 +102,14 @@ impl<'a, A: Allocator + Copy> Machine<'a, A> {
                 };
                 empty_handed(self.filtered(tops, node, &**body, &**filter, next.ops()))
             }
-            Ops::Finish => self.take_top(tops, code),
-            Ops::OfTop { .. } => self.take_top(tops, code),
-            Ops::OfTopAndLeaf { .. } => self.take_top(tops, code),
-            Ops::OfTops { .. } => self.take_top(tops, code),
-            Ops::Choose { .. } => self.take_top(tops, code),
-            Ops::Last { .. } => self.take_top(tops, code),
-            Ops::Call { .. } => self.take_top(tops, code),
-            Ops::Bind { .. } => self.take_top(tops, code),
+            Ops::Finish => self.take_top(code),
+            Ops::OfTop { .. } => self.take_top(code),
+            Ops::OfTopAndLeaf { .. } => self.take_top(code),
+            Ops::OfTops { .. } => self.take_top(code),
+            Ops::Choose { .. } => self.take_top(code),
+            Ops::Last { .. } => self.take_top(code),
+            Ops::Call { .. } => self.take_top(code),
+            Ops::Bind { .. } => self.take_top(code),
         }
     }
 
@@ -128,20 +128,14 @@ impl<'a, A: Allocator + Copy> Machine<'a, A> {
     {
         match code {
             Ops::Finish => self.finish_with(tops, value),
-            Ops::Choose { yes, no, next } => {
-                let done = self.choose_by(value, yes.ops(), no.ops(), next.ops());
+            Ops::Choose { .. }
+            | Ops::Last { .. }
+            | Ops::Bind { .. }
+            | Ops::Enter { .. }
+            | Ops::OfLeaves { .. } => {
+                let done = self.take_at_step(value, code);
                 self.after_step(tops, done)
             }
-            Ops::Last { yes, no } => {
-                let done = self.choose_last_by(value, yes.ops(), no.ops());
-                self.after_step(tops, done)
-            }
-            Ops::Bind { next } => {
-                let done = self.bind_to(value, next.ops());
-                self.after_step(tops, done)
-            }
-            Ops::Enter { .. } => self.set_down_and_go_on(tops, value, code),
-            Ops::OfLeaves { .. } => self.set_down_and_go_on(tops, value, code),
             Ops::Call {
                 height,
                 span,
@@ -155,6 +149,24 @@ impl<'a, A: Allocator + Copy> Machine<'a, A> {
                 self.call_with(tops, value, node, callee, next.ops())
             }
             _ => self.take_apart(tops, value, code),
+        }
+    }
+
+    // A step that takes the value at hand, or puts it on the stack, and leaves nothing at hand.
+    #[inline(always)]
+    fn take_at_step(&mut self, value: Value<A>, code: &'a Ops) -> Result<(), Stop>
+        ensures steps { (t : Table) → Fits t self.old → let m = self.old in
+            Steps t m result self.new (block_of self.new.code.now)
+            (left_with t m (exec t m.levels (env_of m) (block_of code.now) (tree_of value ∷ local_of m))) }
+        ensures meter { self.new.meter ≡ self.old.meter }
+    {
+        match code {
+            Ops::Choose { yes, no, next } => {
+                self.choose_by(value, yes.ops(), no.ops(), next.ops())
+            }
+            Ops::Last { yes, no } => self.choose_last_by(value, yes.ops(), no.ops()),
+            Ops::Bind { next } => self.bind_to(value, next.ops()),
+            _ => self.set_down(value, code),
         }
     }
 
@@ -198,29 +210,15 @@ impl<'a, A: Allocator + Copy> Machine<'a, A> {
         }
     }
 
-    // An operation that takes the value on top of the stack.
+    // The value on top of the stack is at hand before an operation that takes it.
     #[inline(always)]
-    fn take_top<T: Tops<A>>(&mut self, tops: &T, code: &'a Ops) -> Result<Hand<'a, A>, Stop>
-        requires { self.old.meter.fuel + self.old.meter.depth < 2 ^ 64 }
-        ensures moves { let t = T.table tops.now in
-            ((n : ℕ) (env : Places) → exec t n env (block_of code.now) [] ≡ stuck) → Fits t self.old
-            → Moves t self.old result self.new (left_at t self.old (block_of code.now)) }
-        ensures bounded { self.new.meter.fuel + self.new.meter.depth < 2 ^ 64 }
-    {
-        self.take_any_top(tops, code)
-    }
-
-    // It is not inlined, so that its answer has no place in the memory of the loop.
-    #[inline(never)]
-    fn take_any_top<T: Tops<A>>(&mut self, tops: &T, code: &'a Ops) -> Result<Hand<'a, A>, Stop>
-        requires { self.old.meter.fuel + self.old.meter.depth < 2 ^ 64 }
-        ensures moves { let t = T.table tops.now in
-            ((n : ℕ) (env : Places) → exec t n env (block_of code.now) [] ≡ stuck) → Fits t self.old
-            → Moves t self.old result self.new (left_at t self.old (block_of code.now)) }
-        ensures bounded { self.new.meter.fuel + self.new.meter.depth < 2 ^ 64 }
+    fn take_top(&mut self, code: &'a Ops) -> Result<Hand<'a, A>, Stop>
+        ensures moves { (t : Table) → ((n : ℕ) (env : Places) → exec t n env (block_of code.now) [] ≡ stuck)
+            → Fits t self.old → Moves t self.old result self.new (left_at t self.old (block_of code.now)) }
+        ensures meter { self.new.meter ≡ self.old.meter }
     {
         match self.stack.pop() {
-            Some(value) => self.take(tops, value, code),
+            Some(value) => Ok(Hand::Holds(value, code)),
             None => Err(Stop::Stuck),
         }
     }

@@ -26,25 +26,25 @@ returns-in-OfLeaves-clause-moves g c = λ fits.
     subst (λ b. Moves t m c.of_leaves.result n (left_at t m (block_of b))) (sym c.in-OfLeaves.is) done
 
 pub returns-in-Finish-clause-moves : goal.returns-in-Finish-clause-moves
-returns-in-Finish-clause-moves g c = λ fits. c.take_top.ensures.moves (λ n env. rw c.in-Finish.is refl) fits
+returns-in-Finish-clause-moves g c = λ fits. c.take_top.ensures.moves (g.T.Tops.table c.args.tops.now) (λ n env. rw c.in-Finish.is refl) fits
 
 pub returns-in-OfTop-clause-moves : goal.returns-in-OfTop-clause-moves
-returns-in-OfTop-clause-moves g c = λ fits. c.take_top-in-OfTop.ensures.moves (λ n env. rw c.in-OfTop.is refl) fits
+returns-in-OfTop-clause-moves g c = λ fits. c.take_top-in-OfTop.ensures.moves (g.T.Tops.table c.args.tops.now) (λ n env. rw c.in-OfTop.is refl) fits
 
 pub returns-in-OfTopAndLeaf-clause-moves : goal.returns-in-OfTopAndLeaf-clause-moves
-returns-in-OfTopAndLeaf-clause-moves g c = λ fits. c.take_top-in-OfTopAndLeaf.ensures.moves (λ n env. rw c.in-OfTopAndLeaf.is refl) fits
+returns-in-OfTopAndLeaf-clause-moves g c = λ fits. c.take_top-in-OfTopAndLeaf.ensures.moves (g.T.Tops.table c.args.tops.now) (λ n env. rw c.in-OfTopAndLeaf.is refl) fits
 
 pub returns-in-OfTops-clause-moves : goal.returns-in-OfTops-clause-moves
-returns-in-OfTops-clause-moves g c = λ fits. c.take_top-in-OfTops.ensures.moves (λ n env. rw c.in-OfTops.is refl) fits
+returns-in-OfTops-clause-moves g c = λ fits. c.take_top-in-OfTops.ensures.moves (g.T.Tops.table c.args.tops.now) (λ n env. rw c.in-OfTops.is refl) fits
 
 pub returns-in-Choose-clause-moves : goal.returns-in-Choose-clause-moves
-returns-in-Choose-clause-moves g c = λ fits. c.take_top-in-Choose.ensures.moves (λ n env. rw c.in-Choose.is refl) fits
+returns-in-Choose-clause-moves g c = λ fits. c.take_top-in-Choose.ensures.moves (g.T.Tops.table c.args.tops.now) (λ n env. rw c.in-Choose.is refl) fits
 
 pub returns-in-Last-clause-moves : goal.returns-in-Last-clause-moves
-returns-in-Last-clause-moves g c = λ fits. c.take_top-in-Last.ensures.moves (λ n env. rw c.in-Last.is refl) fits
+returns-in-Last-clause-moves g c = λ fits. c.take_top-in-Last.ensures.moves (g.T.Tops.table c.args.tops.now) (λ n env. rw c.in-Last.is refl) fits
 
 pub returns-in-Call-clause-moves : goal.returns-in-Call-clause-moves
-returns-in-Call-clause-moves g c = λ fits. c.take_top-in-Call.ensures.moves (λ n env. rw c.in-Call.is refl) fits
+returns-in-Call-clause-moves g c = λ fits. c.take_top-in-Call.ensures.moves (g.T.Tops.table c.args.tops.now) (λ n env. rw c.in-Call.is refl) fits
 
 pub returns-in-Bind-clause-moves : goal.returns-in-Bind-clause-moves
-returns-in-Bind-clause-moves g c = λ fits. c.take_top-in-Bind.ensures.moves (λ n env. rw c.in-Bind.is refl) fits
+returns-in-Bind-clause-moves g c = λ fits. c.take_top-in-Bind.ensures.moves (g.T.Tops.table c.args.tops.now) (λ n env. rw c.in-Bind.is refl) fits

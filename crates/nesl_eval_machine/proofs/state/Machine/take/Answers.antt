@@ -14,6 +14,6 @@ returns-in-Call-clause-moves g c = λ fits.
     let n = c.call_with.new.self in
     let r = c.call_with.result in
     let k = c.in-Call in
-    let next = c.ops-in-Call.ensures ∙ c.deref-in-Call.ensures in
+    let next = c.ops.ensures ∙ c.deref.ensures in
     let done = subst (λ x. Moves t m r n (left_with t m (exec t m.levels (env_of m) (call k.height k.span (callee_is k.callee) x) (tree_of c.args.value ∷ local_of m)))) next (c.call_with.ensures.moves fits) in
     subst (λ b. Moves t m r n (left_with t m (exec t m.levels (env_of m) (block_of b) (tree_of c.args.value ∷ local_of m)))) (sym k.is) done

@@ -1,5 +1,3 @@
-use Rattle.std.proofs.Common.{refl}
-use Rattle.nesl_eval_rounds.proofs.Columned.{took_none}
 use Rattle.nesl_eval_machine.proofs.Columned.{machine_took}
 use Rattle.nesl_eval_machine.proofs.state.Machine.take_in_columns.Goals as goal
 

@@ -1,4 +1,3 @@
-use Rattle.std.proofs.lemmas.Result.{err_from_is_err_and}
 use Rattle.nesl_eval_machine.proofs.Columned.{advances_then}
 use Rattle.nesl_eval_machine.specs.State.{env_of}
 use Rattle.nesl_eval_machine.proofs.state.Machine.take_new_rounds.Goals as goal
