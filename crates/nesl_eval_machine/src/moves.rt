@@ -210,7 +210,8 @@ impl<'a, A: Allocator + Copy> Machine<'a, A> {
         requires { self.old.meter.fuel + self.old.meter.depth < 2 ^ 64 }
         ensures moves { (t : Table) → Fits t self.old → let m = self.old in
             Moves t m result self.new (left_with t m (exec t m.levels (env_of m)
-            (make node.now.height node.now.span (two_is node.now.two) 2 [] (block_of next.now)) (tree_of right ∷ local_of m))) }
+            (make node.now.height node.now.span (two_is node.now.two) 2 [] (block_of next.now))
+            (tree_of right ∷ local_of m))) }
         ensures bounded { self.new.meter.fuel + self.new.meter.depth < 2 ^ 64 }
     {
         match self.stack.pop() {

@@ -193,7 +193,7 @@ fn any_leaf_value<A: Allocator + Copy, T: Tops<A>>(
     }
 }
 
-// The value of a leaf that was entered, where it is called. It gets a copy of `sight`, so that the one of the loop has no
+// The value of a leaf that was entered, where it is called. It gets a copy of `sight`, so that the loop's own has no
 // place in memory.
 #[inline(always)]
 fn value_apart<A: Allocator + Copy, T: Tops<A>>(
