@@ -13,7 +13,7 @@ use nesl_eval_nodes::scope::part_of;
 use nesl_values::Value;
 use std::alloc::Allocator;
 
-/// How many leaves and single values pairs may have. So few copies are made of each.
+/// How many leaves and single values pairs may have at a turn.
 const MOST: usize = 64;
 
 /// Values at the turns of a block.
@@ -87,7 +87,7 @@ pub fn paired<A: Allocator + Copy>(
     boxed(one, other, alloc)
 }
 
-// One more owner of a value.
+/// One more owner of a value.
 pub fn shared<A: Allocator>(value: &Value<A>) -> Option<Value<A>>
     ensures { IfSome result (λ v. tree_of v ≡ tree_of value.now) }
 {

@@ -22,8 +22,8 @@ pub fn is_plain<'x, A: Allocator + Copy, T: Tops<A>>(
     is_plain_part(block, code, Some(0), levels.min(HEIGHT), &mut left)
 }
 
-// So many frames up stands the row, if the code is not the body of a function. So many more nodes of such bodies may
-// be looked at.
+// Whether a part is plain. The row stands `row` frames up; the body of a function sees no row. Of such bodies `left`
+// more nodes may be looked at.
 #[cycle(plainness)]
 fn is_plain_part<'x, A: Allocator + Copy, T: Tops<A>>(
     block: &'x Block<'x, A, T>,
