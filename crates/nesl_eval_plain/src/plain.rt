@@ -62,21 +62,35 @@ fn is_plain_part<'x, A: Allocator + Copy, T: Tops<A>>(
         } => has_columns(*function, SeqFn::ElementAt)
             && is_plain_part(block, one, row, below, left)
             && is_plain_part(block, right, row, below, left),
+        _ => is_plain_form(block, code, row, below, left),
+    }
+}
+
+// Whether a call, a `let` or a choice is plain, whose parts have so many levels.
+#[cycle(plainness)]
+fn is_plain_form<'x, A: Allocator + Copy, T: Tops<A>>(
+    block: &'x Block<'x, A, T>,
+    code: &Code,
+    row: Option<usize>,
+    levels: u32,
+    left: &mut u32,
+) -> bool {
+    match code {
         Code::Call {
             place,
             argument,
             ..
-        } => is_plain_part(block, argument, row, below, left)
-            && is_plain_function(block, *place, below, left),
+        } => is_plain_part(block, argument, row, levels, left)
+            && is_plain_function(block, *place, levels, left),
         Code::Let { bindings, body, .. } => {
             let inner = one_up(row);
-            are_plain(block, bindings, inner, below, left)
-                && is_plain_part(block, body, inner, below, left)
+            are_plain(block, bindings, inner, levels, left)
+                && is_plain_part(block, body, inner, levels, left)
         }
         Code::Choice { test, yes, no, .. } => {
-            is_plain_part(block, test, row, below, left)
-                && is_plain_part(block, yes, row, below, left)
-                && is_plain_part(block, no, row, below, left)
+            is_plain_part(block, test, row, levels, left)
+                && is_plain_part(block, yes, row, levels, left)
+                && is_plain_part(block, no, row, levels, left)
         }
         _ => false,
     }
