@@ -1,5 +1,5 @@
 -- The values of columns at turns.
-use Rattle.std.proofs.Common.{◌≡◌, ℕ, zero, suc, ◌+◌, ◌<◌, ◌≤◌, List, [], ◌∷◌, length, true, Option, Some, None, refl, sym, ap, ◌∙◌, arith}
+use Rattle.std.proofs.Common.{◌≡◌, ℕ, zero, suc, ◌<◌, ◌≤◌, List, [], ◌∷◌, length, true, Option, Some, None, refl, sym, ap, ◌∙◌, arith}
 use Rattle.std.specs.Prelude.{slice_get, ◌==◌}
 use Rattle.std.proofs.lemmas.Option.{same_Some, none-some, slice_get_within, slice_get-get_or}
 use Rattle.std.proofs.Common.{get_or, pos}
@@ -11,7 +11,7 @@ use Rattle.nesl_eval_code.specs.Frames.{followed}
 use Rattle.nesl_eval_meaning.specs.Names.{Value}
 use Rattle.nesl_eval_columns.specs.declared.column.Column.{Column}
 use Rattle.nesl_eval_columns.specs.Columns.{leaves_of}
-use Rattle.nesl_eval_plain.specs.Columns.{both, SameUpTo, Pairs, Leads}
+use Rattle.nesl_eval_plain.specs.Columns.{both, SameUpTo, Leads}
 use Rattle.nesl_eval_plain.specs.Values.{pairs_of, AreOfSize}
 use Rattle.nesl_eval_plain.proofs.Pairing.{leaves_sized, sized_at}
 
@@ -53,14 +53,6 @@ pairs_both (x ∷ xs) (y ∷ ys) (suc k) = pairs_both xs ys k
 
 pub both_up_to : (n : ℕ) (us vs xs ys zs : ℕ → Option Value) → SameUpTo n us xs → SameUpTo n vs ys → ((k : ℕ) → zs k ≡ both (xs k) (ys k)) → SameUpTo n (λ k. both (us k) (vs k)) zs
 both_up_to n us vs xs ys zs h i law = λ k l. law k ∙ ap (λ o. both o (ys k)) (h k l) ∙ ap (both (us k)) (i k l)
-
-pub pairs_made : (m n : ℕ) (xs ys zs : ℕ → Option Value) → ((k : ℕ) (v : Value) → xs k ≡ Some v → size v ≡ m) → ((k : ℕ) (v : Value) → ys k ≡ Some v → size v ≡ n) → m + n + 1 ≤ 1048576 → ((k : ℕ) → zs k ≡ both (xs k) (ys k)) → Pairs xs ys zs
-pairs_made m n xs ys zs few more less law = λ k x y e f.
-    let large : size (pair x y) ≤ 1048576 = omega (arith, few k x e, more k y f, less) in
-    (law k ∙ both_are (xs k) (ys k) x y e f, large)
-
-pub pairs_turned : (o p q r s t : Option Value) → s ≡ both o p → t ≡ both q r → o ≡ q → p ≡ r → s ≡ t
-pairs_turned o p q r s t e f g h = e ∙ ap (λ u. both u p) g ∙ ap (both q) h ∙ sym f
 
 -- what steps lead to
 pub no_step : (steps : List Step) (xs ys : ℕ → Option Value) → true ≡ (length steps == 0) → ((k : ℕ) → ys k ≡ xs k) → Leads steps xs ys
