@@ -86,15 +86,15 @@ abbrev pub KeepsRead : List State → List State → Type 0
 KeepsRead old new = (p a : ℕ) → state_at old p ≡ Read a → state_at new p ≡ Read a
 
 -- the type at a place without a link is read, with all that it is made of: nothing is left on the stack
-pub record IsRootRead (ns : List Node) (old new : List State) (ts : List Term) (stack : List ℕ) (root : ℕ) : Type 0 where
-  pub empty : stack ≡ []
+pub record IsRootRead (ns : List Node) (old new : List State) (ts : List Term) (rest : List ℕ) (root : ℕ) : Type 0 where
+  pub empty : rest ≡ []
   pub keeps : KeepsRead old new
   pub reading : IsReading ns new ts []
   pub read : (a : ℕ) × (state_at new root ≡ Read a)
 
 -- the type at place p is read into place a of the bank, with all that it is made of: nothing is left on the stack
-pub record IsPlaceRead (ns : List Node) (old new : List State) (ts : List Term) (stack : List ℕ) (p a : ℕ) : Type 0 where
-  pub empty : stack ≡ []
+pub record IsPlaceRead (ns : List Node) (old new : List State) (ts : List Term) (rest : List ℕ) (p a : ℕ) : Type 0 where
+  pub empty : rest ≡ []
   pub keeps : KeepsRead old new
   pub reading : IsReading ns new ts []
   pub here : found ns new p ≡ Some a

@@ -166,10 +166,10 @@ impl Bank {
         ensures ok { IfOk result (λ place. IsPut self.old self.new (shape_type (type_at self.old) shape) place) }
         ensures err { OnErr result (self.new ≡ self.old) }
     {
-        let size = size_of(&self.sizes, shape);
         reserve_sizes(&mut self.sizes)?;
         let (place, added) = place_of(&mut self.shapes, shape)?;
         if added {
+            let size = size_of(&self.sizes, shape);
             self.sizes.push_reserved(size);
         }
         Ok(place)

@@ -1,6 +1,6 @@
 //! The parts of types, in lists.
 
-ghost use Rattle.std.specs.Prelude.{◌≡◌, ◌<◌, ◌↔◌, [], None, IsTrue, length, replicate, IfOk, OnOk};
+ghost use Rattle.std.specs.Prelude.{◌≡◌, ◌<◌, ◌≤◌, ◌↔◌, [], None, IsTrue, length, replicate, IfOk, OnOk};
 ghost use Rattle.nesl_types_bank.specs.Shapes.{IsShapeBelow};
 ghost use Rattle.nesl_types_bank.specs.Term.{Term, seq_of};
 ghost use Rattle.nesl_types_bank.specs.Types.{type_at, types, AreDistinct};
@@ -94,6 +94,28 @@ fn push_listed(
     Ok(())
 }
 
+/// Among how many types the parts of one are listed with little memory of their own.
+const FEW: usize = 32;
+
+/// The shapes of the parts of the type at a place of few types, as `list_parts` gives them.
+fn list_of_few(
+    alloc: Global,
+    from: &Parts<'_>,
+    place: usize,
+    room: usize,
+) -> Result<Vec<Shape>, AllocError>
+    requires place { place < length from.now }
+    requires few { length from.now ≤ 32 }
+    ensures { IfOk result (λ shapes. AreParts shapes.items (type_at from.now place)) }
+{
+    let count = from.len();
+    let mut shapes = Vec::with_capacity(alloc, room)?;
+    let mut places: [Option<usize>; FEW] = [None; FEW];
+    let mut stack = Vec::with_capacity(alloc, STACK_ROOM)?;
+    push_listed(from, place, &mut shapes, &mut places[..count], &mut stack)?;
+    Ok(shapes)
+}
+
 /// The shapes of the parts of the type at a place, each behind those that it is made of, and its own last. Equal types
 /// have equal lists. Room is taken for so many at first.
 pub(crate) fn list_parts(
@@ -105,8 +127,12 @@ pub(crate) fn list_parts(
     requires { place < length from.now }
     ensures { IfOk result (λ shapes. AreParts shapes.items (type_at from.now place)) }
 {
+    let count = from.len();
+    if count <= FEW {
+        return list_of_few(alloc, from, place, room);
+    }
     let mut shapes = Vec::with_capacity(alloc, room)?;
-    let mut places: Vec<Option<usize>> = vec![in alloc; None; from.len()]?;
+    let mut places: Vec<Option<usize>> = vec![in alloc; None; count]?;
     let mut stack = Vec::with_capacity(alloc, STACK_ROOM)?;
     push_listed(from, place, &mut shapes, places.as_mut_slice(), &mut stack)?;
     Ok(shapes)

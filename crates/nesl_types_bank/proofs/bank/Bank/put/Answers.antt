@@ -20,7 +20,7 @@ invariant_of-self-then-added c =
     let ns = c.self.inside.shapes.keys in
     let ms = c.place_of.new.shapes.keys in
     let s = c.args.shape in
-    let size = c.size_of-size.ensures ∙ ap (λ ks. shape_size (slice_index ks) s) c.deref.ensures.value in
+    let size = c.size_of-size.ensures ∙ ap (λ ks. shape_size (slice_index ks) s) (c.deref.ensures.value ∙ c.in_ok-reserve_sizes.ensures.items) in
     let sizes = c.push_reserved.ensures.items ∙ ap (λ ks. ks ++ c.size_of-size.result ∷ []) c.in_ok-reserve_sizes.ensures.items ∙ ap (λ k. c.self.inside.sizes.items ++ k ∷ []) size in
     bank_push ns ms c.self.inside.sizes.items c.push_reserved.new.self.items s c.in_ok-place.place c.self.invariant
     (subst (IsPlaced ns ms s c.in_ok-place.place) c.if-added.true c.in_ok-place.ensures.ok) (below ns c.args.self.now s c.self.view_is c.requires) sizes
