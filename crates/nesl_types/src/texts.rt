@@ -15,7 +15,10 @@ use nesl_types_bank::{Parts, Shape, Ty};
 use std::alloc::{AllocError, Global};
 
 /// How many bytes of a text room is taken for at first.
-const TEXT_ROOM: usize = 32;
+const TEXT_ROOM: usize = 64;
+
+/// How deep the parts of a type lie that are written without a stack.
+const MOST_DEPTH: u64 = 32;
 
 /// How many pieces of a type room is taken for at first.
 const STACK_ROOM: usize = 8;
@@ -161,20 +164,6 @@ fn write_part<P: Drop>(
     Ok(())
 }
 
-/// Writes a type; a pair has brackets where they are wanted.
-fn write_type<P: Drop>(
-    alloc: Global,
-    out: &mut Vec<u8>,
-    context: &Context<P>,
-    ty: &Ty,
-    brackets: bool,
-) -> Result<(), AllocError>
-    ensures { OnOk result (out.new.items ≡ out.old.items ++ text_of_type (name_at context.now) brackets ty.now) }
-{
-    let parts = ty.parts();
-    write_part(alloc, out, &parts, parts.len() - 1, context, brackets)
-}
-
 /// Writes the byte where it is wanted.
 fn write_if(out: &mut Vec<u8>, wanted: bool, byte: u8) -> Result<(), AllocError>
     ensures { OnOk result (out.new.items ≡ out.old.items ++ (if wanted then byte ∷ [] else [])) }
@@ -183,6 +172,59 @@ fn write_if(out: &mut Vec<u8>, wanted: bool, byte: u8) -> Result<(), AllocError>
         out.push(byte)?;
     }
     Ok(())
+}
+
+/// Writes the type at a place; a pair has brackets where they are wanted. Only of what lies deeper pieces are put on a
+/// stack.
+fn write_at<P: Drop>(
+    out: &mut Vec<u8>,
+    parts: &Parts<'_>,
+    context: &Context<P>,
+    place: usize,
+    brackets: bool,
+    depth: u64,
+) -> Result<(), AllocError>
+    requires { place < length parts.now }
+    ensures { OnOk result (out.new.items ≡ out.old.items
+        ++ text_of_type (name_at context.now) brackets (type_at parts.now place)) }
+{
+    let less = match depth.checked_sub(1) {
+        Some(less) => less,
+        None => return write_part(*out.allocator(), out, parts, place, context, brackets),
+    };
+    match parts.shape(place) {
+        Shape::Int => out.extend_from_slice(b"int")?,
+        Shape::Bool => out.extend_from_slice(b"bool")?,
+        Shape::Char => out.extend_from_slice(b"char")?,
+        Shape::Var(variable) => write_variable(out, variable)?,
+        Shape::Named(tag) => write_name(out, context, tag)?,
+        Shape::SeqOf(item) => {
+            out.push(b'[')?;
+            write_at(out, parts, context, item, true, less)?;
+            out.push(b']')?;
+        }
+        Shape::Both(first, second) => {
+            write_if(out, brackets, b'(')?;
+            write_at(out, parts, context, first, true, less)?;
+            out.extend_from_slice(b", ")?;
+            write_at(out, parts, context, second, false, less)?;
+            write_if(out, brackets, b')')?;
+        }
+    }
+    Ok(())
+}
+
+/// Writes a type; a pair has brackets where they are wanted.
+fn write_type<P: Drop>(
+    out: &mut Vec<u8>,
+    context: &Context<P>,
+    ty: &Ty,
+    brackets: bool,
+) -> Result<(), AllocError>
+    ensures { OnOk result (out.new.items ≡ out.old.items ++ text_of_type (name_at context.now) brackets ty.now) }
+{
+    let parts = ty.parts();
+    write_at(out, &parts, context, parts.len() - 1, brackets, MOST_DEPTH)
 }
 
 /// The text of a type. The context has the names of the datatypes.
@@ -194,7 +236,7 @@ pub fn type_text<P: Drop>(
     ensures { IfOk result (λ text. text.items ≡ text_of_type (name_at context.now) true ty.now) }
 {
     let mut out = Vec::with_capacity(alloc, TEXT_ROOM)?;
-    write_type(alloc, &mut out, context, ty, true)?;
+    write_type(&mut out, context, ty, true)?;
     Ok(out)
 }
 
@@ -246,16 +288,15 @@ fn write_members(out: &mut Vec<u8>, classes: &[Class]) -> Result<(), AllocError>
 
 /// Writes a scheme.
 fn write_scheme<P: Drop>(
-    alloc: Global,
     out: &mut Vec<u8>,
     scheme: &Scheme,
     context: &Context<P>,
 ) -> Result<(), AllocError>
     ensures { OnOk result (out.new.items ≡ out.old.items ++ text_of_scheme (name_at context.now) scheme.now) }
 {
-    write_type(alloc, out, context, &scheme.argument, true)?;
+    write_type(out, context, &scheme.argument, true)?;
     out.extend_from_slice(b" -> ")?;
-    write_type(alloc, out, context, &scheme.result, true)?;
+    write_type(out, context, &scheme.result, true)?;
     write_members(out, &scheme.classes)
 }
 
@@ -268,6 +309,6 @@ pub fn scheme_text<P: Drop>(
     ensures { IfOk result (λ text. text.items ≡ text_of_scheme (name_at context.now) scheme.now) }
 {
     let mut out = Vec::with_capacity(alloc, TEXT_ROOM)?;
-    write_scheme(alloc, &mut out, scheme, context)?;
+    write_scheme(&mut out, scheme, context)?;
     Ok(out)
 }
