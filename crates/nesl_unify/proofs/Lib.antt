@@ -14,3 +14,4 @@ pub mod Moved
 pub mod Settling
 pub mod Solutions
 pub mod Fits
+pub mod Laid

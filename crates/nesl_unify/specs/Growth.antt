@@ -33,6 +33,13 @@ pub record Adds (old new : Equations) (P : (ℕ → Term) → Type 0) : Type 0 w
   pub count : length new.known.items ≡ length old.known.items
   pub holds : (s : ℕ → Term) → Hold new s ↔ (Hold old s × P s)
 
+-- new has the types of old and others, and what P says more
+pub record Lays (old new : Equations) (P : (ℕ → Term) → Type 0) : Type 0 where
+  pub made : AreEquations new
+  pub count : length new.known.items ≡ length old.known.items
+  pub extends : Extends old.types new.types
+  pub holds : (s : ℕ → Term) → Hold new s ↔ (Hold old s × P s)
+
 -- new has the types of old, and what P says more
 pub record SaysEquations (old new : Equations) (P : (ℕ → Term) → Type 0) : Type 0 where
   pub made : AreEquations new

@@ -306,7 +306,11 @@ impl Equations {
     }
 
     /// The places of these variables: what is known of each, or where it stands itself.
-    fn places_of(&mut self, alloc: Global, fresh: &[u64]) -> Result<Vec<usize>, AllocError>
+    pub(crate) fn places_of(
+        &mut self,
+        alloc: Global,
+        fresh: &[u64],
+    ) -> Result<Vec<usize>, AllocError>
         requires made { AreEquations self.old }
         requires fresh { All (λ v. v < length self.old.known.items) fresh.now }
         ensures { IfOk result (λ ps. PutsAll self.old self.new fresh.now ps.items) }
@@ -389,6 +393,11 @@ impl Equations {
         ensures { OnOk result
             (Adds self.old self.new (λ s. s variable ≡ substitute (λ v. s (slice_index fresh.now v)) part.now)) }
     {
+        if let Some(place) = self.small_place(variable) {
+            let (parts, part) = part.place();
+            self.lay(fresh, &parts, PartAt { part, place }, MOST_COMPARED)?;
+            return Ok(());
+        }
         let of = self.begin_instance(alloc, variable, fresh, part)?;
         let right = put_part(alloc, &mut self.types, of.as_slice(), part)?;
         self.equate_variable(variable, right)

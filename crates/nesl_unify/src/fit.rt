@@ -18,7 +18,7 @@ use std::alloc::AllocError;
 
 impl Equations {
     /// The place of what is known of a variable, if something is.
-    fn known_place(&self, variable: u64) -> Option<usize>
+    pub(crate) fn known_place(&self, variable: u64) -> Option<usize>
         requires made { AreEquations self.now }
         ensures within { IfSome result (λ p. p < length self.now.types) }
         ensures same { IfSome result (λ p. (s : ℕ → Term) → IsAsKnown self.now.types self.now.known.items s

@@ -6,6 +6,7 @@ pub mod fault;
 mod fit;
 pub mod flat;
 mod instance;
+mod laying;
 mod learning;
 pub mod narrow;
 mod room;

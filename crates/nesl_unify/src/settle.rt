@@ -1,13 +1,13 @@
 //! What each variable stands for, where equations say it of one after the other.
 
-ghost use Rattle.std.specs.Prelude.{◌≡◌, ◌<◌, length, IfOk, IfSome, OnOk};
-ghost use Rattle.nesl_types_bank.specs.Term.{seq_of, pair_of};
+ghost use Rattle.std.specs.Prelude.{◌≡◌, ◌<◌, length, slice_set, Some, IfOk, IfSome, OnOk};
+ghost use Rattle.nesl_types_bank.specs.Term.{seq_of, pair_of, variable as variable_type};
 ghost use Rattle.nesl_types_bank.specs.Numbering.{IsBelow};
 ghost use Rattle.nesl_types_bank.specs.Shapes.{IsShapeBelow, shape_type};
 ghost use Rattle.nesl_types_bank.specs.Types.{type_at};
 ghost use Rattle.nesl_unify.specs.Systems.{AreEquations};
 ghost use Rattle.nesl_unify.specs.Growth.{Grows};
-ghost use Rattle.nesl_unify.specs.Settled.{IsSettled, IsPutIn, IsStartOf, IsFound, AreSolved};
+ghost use Rattle.nesl_unify.specs.Settled.{StandsAt, AreNoted, IsPutIn, IsFound, AreSolved};
 
 use crate::equations::Equations;
 use crate::solve::MOST_NODES;
@@ -15,37 +15,45 @@ use crate::types::place_for;
 use nesl_types_bank::Shape;
 use std::alloc::{AllocError, Global};
 
-/// How many parts are looked at, to see what one variable stands for.
+/// How deep a type is looked into, to see what one variable stands for.
 const MOST_SETTLED: u64 = 64;
 
-/// The place of a type in which all that is known is put in, and how many parts more may be looked at.
-#[derive(Clone, Copy)]
-pub struct Settled {
-    pub place: usize,
-    pub room: u64,
+/// Notes the place of the type at a place with all that is known put in. `noted` has these by place; past its end
+/// nothing is noted.
+fn note(noted: &mut [Option<usize>], place: usize, settled: usize)
+    ensures { noted.new ≡ slice_set noted.old place (Some settled) }
+{
+    if place < noted.len() {
+        noted[place] = Some(settled);
+    }
 }
 
 impl Equations {
-    /// Puts the type of a shape in, and gives its place.
-    fn put_exactly(&mut self, shape: Shape) -> Result<usize, AllocError>
+    /// Puts the type of a shape in, and gives its place, or `None` where memory ran out.
+    fn put_exactly(&mut self, shape: Shape) -> Option<usize>
         requires made { AreEquations self.old }
         requires parts { IsShapeBelow (length self.old.types) shape }
         requires below { IsBelow (length self.old.known.items) (shape_type (type_at self.old.types) shape) }
-        ensures { IfOk result (IsPutIn self.old self.new (shape_type (type_at self.old.types) shape)) }
+        ensures grows { Grows self.old self.new }
+        ensures put { IfSome result (IsPutIn self.old self.new (shape_type (type_at self.old.types) shape)) }
     {
-        self.types.put(shape)
+        match self.types.put(shape) {
+            Ok(place) => Some(place),
+            Err(_) => None,
+        }
     }
 
     /// The place of the sequences of the type at a place, which is `place` if the items are those of the type there.
-    fn settled_seq(&mut self, place: usize, before: usize, item: usize) -> Result<usize, AllocError>
+    fn settled_seq(&mut self, place: usize, before: usize, item: usize) -> Option<usize>
         requires made { AreEquations self.old }
         requires place { place < length self.old.types }
         requires item { item < length self.old.types }
         requires here { type_at self.old.types place ≡ seq_of (type_at self.old.types before) }
-        ensures { IfOk result (IsPutIn self.old self.new (seq_of (type_at self.old.types item))) }
+        ensures grows { Grows self.old self.new }
+        ensures put { IfSome result (IsPutIn self.old self.new (seq_of (type_at self.old.types item))) }
     {
         if item == before {
-            return Ok(place);
+            return Some(place);
         }
         self.put_exactly(Shape::SeqOf(item))
     }
@@ -57,101 +65,109 @@ impl Equations {
         before: (usize, usize),
         first: usize,
         second: usize,
-    ) -> Result<usize, AllocError>
+    ) -> Option<usize>
         requires made { AreEquations self.old }
         requires place { place < length self.old.types }
         requires first { first < length self.old.types }
         requires second { second < length self.old.types }
         requires here { type_at self.old.types place
             ≡ pair_of (type_at self.old.types before.0) (type_at self.old.types before.1) }
-        ensures { IfOk result
+        ensures grows { Grows self.old self.new }
+        ensures put { IfSome result
             (IsPutIn self.old self.new (pair_of (type_at self.old.types first) (type_at self.old.types second))) }
     {
         if first == before.0 && second == before.1 {
-            return Ok(place);
+            return Some(place);
         }
         self.put_exactly(Shape::Both(first, second))
     }
 
-    /// The place of the type at a place with all that is known put in, or `None` where more than so many parts were to
-    /// be looked at.
-    fn settle(&mut self, place: usize, room: u64) -> Result<Option<Settled>, AllocError>
+    /// The place of the type at a place with all that is known put in, or `None` where it is deeper or memory ran out.
+    /// What is found is noted, and looked at no more.
+    #[cycle(settle)]
+    fn settle(&mut self, noted: &mut [Option<usize>], place: usize, depth: u64) -> Option<usize>
         requires made { AreEquations self.old }
         requires place { place < length self.old.types }
-        ensures grows { OnOk result (Grows self.old self.new) }
-        ensures settled { IfOk result (λ r. IfSome r (IsSettled self.old self.new place room)) }
+        requires noted { AreNoted self.old noted.old }
+        ensures grows { Grows self.old self.new }
+        ensures noted { AreNoted self.new noted.new }
+        ensures settled { IfSome result (StandsAt self.new (type_at self.new.types place)) }
     {
-        let room = match room.checked_sub(1) {
-            Some(less) => less,
-            None => return Ok(None),
-        };
+        if let Some(settled) = place_for(noted, place as u64) {
+            return Some(settled);
+        }
+        let less = depth.checked_sub(1)?;
+        let settled = self.settle_shape(noted, place, less)?;
+        note(noted, place, settled);
+        Some(settled)
+    }
+
+    /// Does for a place that isn't noted what `settle` does.
+    #[cycle(settle)]
+    fn settle_shape(
+        &mut self,
+        noted: &mut [Option<usize>],
+        place: usize,
+        depth: u64,
+    ) -> Option<usize>
+        requires made { AreEquations self.old }
+        requires place { place < length self.old.types }
+        requires noted { AreNoted self.old noted.old }
+        ensures grows { Grows self.old self.new }
+        ensures noted { AreNoted self.new noted.new }
+        ensures settled { IfSome result (StandsAt self.new (type_at self.new.types place)) }
+    {
         match self.types.shape(place) {
             Shape::Var(variable) => match place_for(self.known.as_slice(), variable) {
-                Some(next) => self.settle(next, room),
-                None => Ok(Some(Settled { place, room })),
+                Some(next) => self.settle(noted, next, depth),
+                None => Some(place),
             },
-            Shape::SeqOf(item) => match self.settle(item, room)? {
-                Some(inner) => {
-                    let place = self.settled_seq(place, item, inner.place)?;
-                    Ok(Some(Settled {
-                        place,
-                        room: inner.room,
-                    }))
-                }
-                None => Ok(None),
-            },
+            Shape::SeqOf(item) => {
+                let inner = self.settle(noted, item, depth)?;
+                self.settled_seq(place, item, inner)
+            }
             Shape::Both(first, second) => {
-                let left = match self.settle(first, room)? {
-                    Some(left) => left,
-                    None => return Ok(None),
-                };
-                let right = match self.settle(second, left.room)? {
-                    Some(right) => right,
-                    None => return Ok(None),
-                };
-                let place = self.settled_both(place, (first, second), left.place, right.place)?;
-                Ok(Some(Settled {
-                    place,
-                    room: right.room,
-                }))
+                let left = self.settle(noted, first, depth)?;
+                let right = self.settle(noted, second, depth)?;
+                self.settled_both(place, (first, second), left, right)
             }
-            Shape::Int | Shape::Bool | Shape::Char | Shape::Named(_) => {
-                Ok(Some(Settled { place, room }))
-            }
+            Shape::Int | Shape::Bool | Shape::Char | Shape::Named(_) => Some(place),
         }
     }
 
-    /// The place of what a variable is known to be, or of the variable, which is put in.
-    #[tactic(auto, using(crate::proofs::Settling::started_free))]
-    fn start_of(&mut self, variable: u64) -> Result<usize, AllocError>
+    /// The place of what a variable stands for with all that is known put in, or `None` where it isn't found at once.
+    fn settle_variable(&mut self, noted: &mut [Option<usize>], variable: u64) -> Option<usize>
         requires made { AreEquations self.old }
         requires variable { variable < length self.old.known.items }
-        ensures { IfOk result (IsStartOf self.old self.new variable) }
+        requires noted { AreNoted self.old noted.old }
+        ensures grows { Grows self.old self.new }
+        ensures noted { AreNoted self.new noted.new }
+        ensures settled { IfSome result (StandsAt self.new (variable_type variable)) }
     {
         match place_for(self.known.as_slice(), variable) {
-            Some(place) => Ok(place),
+            Some(start) => match place_for(noted, start as u64) {
+                Some(settled) => Some(settled),
+                None => self.settle(noted, start, MOST_SETTLED),
+            },
             None => self.put_exactly(Shape::Var(variable)),
         }
     }
 
     /// The place of what a variable stands for with all that is known put in, or `None` where it isn't found at once or
     /// has too many nodes.
-    fn find_settled(&mut self, variable: u64) -> Result<Option<usize>, AllocError>
+    fn find_settled(&mut self, noted: &mut [Option<usize>], variable: u64) -> Option<usize>
         requires made { AreEquations self.old }
         requires variable { variable < length self.old.known.items }
-        ensures grows { OnOk result (Grows self.old self.new) }
-        ensures found { IfOk result (λ r. IfSome r (IsFound self.old self.new variable)) }
+        requires noted { AreNoted self.old noted.old }
+        ensures grows { Grows self.old self.new }
+        ensures noted { AreNoted self.new noted.new }
+        ensures found { IfSome result (IsFound self.new variable) }
     {
-        let start = self.start_of(variable)?;
-        match self.settle(start, MOST_SETTLED)? {
-            Some(settled) => {
-                if self.types.nodes(settled.place) > MOST_NODES {
-                    return Ok(None);
-                }
-                Ok(Some(settled.place))
-            }
-            None => Ok(None),
+        let settled = self.settle_variable(noted, variable)?;
+        if self.types.nodes(settled) > MOST_NODES {
+            return None;
         }
+        Some(settled)
     }
 
     /// The places of the types of a most general solution where each equation says what a variable is, or `None` where
@@ -163,10 +179,10 @@ impl Equations {
         ensures solved { IfOk result (λ r. IfSome r (λ ps. AreSolved self.old self.new ps.items)) }
     {
         let count = self.known.len();
+        let mut noted: Vec<Option<usize>> = vec![in alloc; None; self.types.len()]?;
         let mut places = Vec::with_capacity(alloc, count)?;
         for variable in 0..count {
-            let found = self.find_settled(variable as u64)?;
-            match found {
+            match self.find_settled(noted.as_mut_slice(), variable as u64) {
                 Some(place) => places.push(place)?,
                 None => return Ok(None),
             }
