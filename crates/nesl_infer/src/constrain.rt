@@ -26,11 +26,11 @@ use std::alloc::AllocError;
 
 /// Adds what makes `target` a type of the expression.
 #[cycle(constrain)]
-pub fn constrain<P: Drop>(
+pub fn constrain<'a, P: Drop>(
     state: &mut State,
     outer: &Outer<'_, P>,
-    locals: &mut Vec<Local>,
-    exp: &Exp,
+    locals: &mut Vec<Local<'a>>,
+    exp: &'a Exp,
     target: u64,
 ) -> Result<(), AllocError>
     requires target { target < count state.old }
@@ -157,11 +157,11 @@ pub fn constrain<P: Drop>(
 
 /// Gives a variable for a type of the expression: a local name's own, which nothing has to be added for.
 #[cycle(constrain)]
-fn constrain_part<P: Drop>(
+fn constrain_part<'a, P: Drop>(
     state: &mut State,
     outer: &Outer<'_, P>,
-    locals: &mut Vec<Local>,
-    exp: &Exp,
+    locals: &mut Vec<Local<'a>>,
+    exp: &'a Exp,
 ) -> Result<u64, AllocError>
     requires locals { AreLocalsBelow (count state.old) locals.old.items }
     requires own { IsOwnBelow (count state.old) outer.now.own }
@@ -180,11 +180,11 @@ fn constrain_part<P: Drop>(
 
 /// Adds that the expression has this type.
 #[cycle(constrain)]
-fn constrain_exactly<P: Drop>(
+fn constrain_exactly<'a, P: Drop>(
     state: &mut State,
     outer: &Outer<'_, P>,
-    locals: &mut Vec<Local>,
-    exp: &Exp,
+    locals: &mut Vec<Local<'a>>,
+    exp: &'a Exp,
     flat: Flat,
 ) -> Result<(), AllocError>
     requires flat { IsBelow 0 (flat_type flat) }
@@ -202,12 +202,12 @@ fn constrain_exactly<P: Drop>(
 
 /// Adds that both ends of a range are integers, and gives a variable for their type.
 #[cycle(constrain)]
-fn constrain_bounds<P: Drop>(
+fn constrain_bounds<'a, P: Drop>(
     state: &mut State,
     outer: &Outer<'_, P>,
-    locals: &mut Vec<Local>,
-    from: &Exp,
-    to: &Exp,
+    locals: &mut Vec<Local<'a>>,
+    from: &'a Exp,
+    to: &'a Exp,
 ) -> Result<u64, AllocError>
     requires locals { AreLocalsBelow (count state.old) locals.old.items }
     requires own { IsOwnBelow (count state.old) outer.now.own }
@@ -225,11 +225,11 @@ fn constrain_bounds<P: Drop>(
 
 /// Adds what makes `target` a type of each of the expressions.
 #[cycle(constrain)]
-fn constrain_items<P: Drop>(
+fn constrain_items<'a, P: Drop>(
     state: &mut State,
     outer: &Outer<'_, P>,
-    locals: &mut Vec<Local>,
-    items: &[Exp],
+    locals: &mut Vec<Local<'a>>,
+    items: &'a [Exp],
     target: u64,
 ) -> Result<(), AllocError>
     requires target { target < count state.old }
@@ -248,11 +248,11 @@ fn constrain_items<P: Drop>(
 
 /// Adds the names of the bindings of a `let`.
 #[cycle(constrain)]
-fn constrain_bindings<P: Drop>(
+fn constrain_bindings<'a, P: Drop>(
     state: &mut State,
     outer: &Outer<'_, P>,
-    locals: &mut Vec<Local>,
-    bindings: &[Binding],
+    locals: &mut Vec<Local<'a>>,
+    bindings: &'a [Binding],
 ) -> Result<(), AllocError>
     requires locals { AreLocalsBelow (count state.old) locals.old.items }
     requires own { IsOwnBelow (count state.old) outer.now.own }
@@ -271,11 +271,11 @@ fn constrain_bindings<P: Drop>(
 /// Adds that the values of the binders of an apply-to-each are sequences, and gives the variables of their elements'
 /// types.
 #[cycle(constrain)]
-fn constrain_values<P: Drop>(
+fn constrain_values<'a, P: Drop>(
     state: &mut State,
     outer: &Outer<'_, P>,
-    locals: &mut Vec<Local>,
-    bindings: &[Binding],
+    locals: &mut Vec<Local<'a>>,
+    bindings: &'a [Binding],
 ) -> Result<Vec<u64>, AllocError>
     requires locals { AreLocalsBelow (count state.old) locals.old.items }
     requires own { IsOwnBelow (count state.old) outer.now.own }
@@ -298,12 +298,12 @@ fn constrain_values<P: Drop>(
 
 /// The equations of a `let`.
 #[cycle(constrain)]
-fn constrain_let<P: Drop>(
+fn constrain_let<'a, P: Drop>(
     state: &mut State,
     outer: &Outer<'_, P>,
-    locals: &mut Vec<Local>,
-    bindings: &[Binding],
-    body: &Exp,
+    locals: &mut Vec<Local<'a>>,
+    bindings: &'a [Binding],
+    body: &'a Exp,
     target: u64,
 ) -> Result<(), AllocError>
     requires target { target < count state.old }
@@ -323,12 +323,12 @@ fn constrain_let<P: Drop>(
 
 /// The equations of an apply-to-each.
 #[cycle(constrain)]
-fn constrain_each<P: Drop>(
+fn constrain_each<'a, P: Drop>(
     state: &mut State,
     outer: &Outer<'_, P>,
-    locals: &mut Vec<Local>,
-    body: &Exp,
-    bindings: &[Binding],
+    locals: &mut Vec<Local<'a>>,
+    body: &'a Exp,
+    bindings: &'a [Binding],
     target: u64,
 ) -> Result<(), AllocError>
     requires target { target < count state.old }
@@ -348,13 +348,13 @@ fn constrain_each<P: Drop>(
 
 /// Gives a variable for a type of the items of an apply-to-each with a filter.
 #[cycle(constrain)]
-fn constrain_filtered_items<P: Drop>(
+fn constrain_filtered_items<'a, P: Drop>(
     state: &mut State,
     outer: &Outer<'_, P>,
-    locals: &mut Vec<Local>,
-    body: &Exp,
-    bindings: &[Binding],
-    filter: &Exp,
+    locals: &mut Vec<Local<'a>>,
+    body: &'a Exp,
+    bindings: &'a [Binding],
+    filter: &'a Exp,
 ) -> Result<u64, AllocError>
     requires locals { AreLocalsBelow (count state.old) locals.old.items }
     requires own { IsOwnBelow (count state.old) outer.now.own }
@@ -374,11 +374,11 @@ fn constrain_filtered_items<P: Drop>(
 
 /// Adds the names of the binders of an apply-to-each, whose values are sequences.
 #[cycle(constrain)]
-fn constrain_binders<P: Drop>(
+fn constrain_binders<'a, P: Drop>(
     state: &mut State,
     outer: &Outer<'_, P>,
-    locals: &mut Vec<Local>,
-    bindings: &[Binding],
+    locals: &mut Vec<Local<'a>>,
+    bindings: &'a [Binding],
 ) -> Result<(), AllocError>
     requires locals { AreLocalsBelow (count state.old) locals.old.items }
     requires own { IsOwnBelow (count state.old) outer.now.own }

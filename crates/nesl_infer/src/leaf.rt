@@ -23,7 +23,7 @@ pub fn is_text(state: &mut State, target: u64) -> Result<(), AllocError>
 }
 
 /// The variable of a local name, if the expression is one.
-pub fn local_variable(locals: &[Local], exp: &Exp) -> Option<u64>
+pub fn local_variable(locals: &[Local<'_>], exp: &Exp) -> Option<u64>
     ensures found { IfSome result (λ v. (x : List ℕ) × (shape_of exp.now.node ≡ variable x)
         × ((s : ℕ → Term) → local_type x (scope_at s locals.now) ≡ Some (s v))) }
     ensures below { IfSome result (λ v. (n : ℕ) → AreLocalsBelow n locals.now → v < n) }

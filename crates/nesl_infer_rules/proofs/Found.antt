@@ -1,7 +1,7 @@
 -- Local names, found from the newest on.
-use Rattle.std.proofs.Common.{◌≡◌, ◌<◌, ◌+◌, ℕ, Bool, true, false, cond, List, [], ◌∷◌, ◌++◌, length, take, get_or, refl, sym, ap, ◌∙◌, subst}
+use Rattle.std.proofs.Common.{◌≡◌, ◌<◌, ◌≤◌, ◌+◌, ◌-◌, ℕ, Bool, true, false, cond, List, [], ◌∷◌, ◌++◌, length, take, get_or, refl, sym, ap, ◌∙◌, subst, arith}
 use Rattle.std.specs.Prelude.{Option, Some}
-use Rattle.std.proofs.lemmas.List.{take_more}
+use Rattle.std.proofs.lemmas.List.{get_or_default, take_more}
 use Rattle.nesl_types_bank.specs.Term.{Term}
 use Rattle.nesl_infer_rules.specs.declared.state.Local.{Local}
 use Rattle.nesl_infer_rules.specs.Typing.{Key, LocalTypes, newest_type}
@@ -24,6 +24,22 @@ pub found_before : (s : ℕ → Term) (test : Key → Bool) (ls : List Local) (i
     o ≡ newest_type test (scope_at s (take i ls)) → o ≡ newest_type test (scope_at s (take (i + 1) ls))
 found_before s test ls i l o b e h p =
     p ∙ sym (ap (newest_type test) (one_more s ls i l b e) ∙ ap (λ (t : Bool). cond t (Some (s l.variable)) (newest_type test (scope_at s (take i ls)))) h)
+
+-- the last of the first n
+pub found_last : (s : ℕ → Term) (test : Key → Bool) (ls : List Local) (n : ℕ) (d : Local) → 0 < n → n ≤ length ls → test (key_of (get_or ls (n - 1) d).key) ≡ true →
+    Some (s (get_or ls (n - 1) d).variable) ≡ newest_type test (scope_at s (take n ls))
+found_last s test ls n d p b h =
+    let l : Local = get_or ls (n - 1) d in
+    let e : n - 1 + 1 ≡ n = omega arith in
+    subst (λ (k : ℕ). Some (s l.variable) ≡ newest_type test (scope_at s (take k ls))) e (found_here s test ls (n - 1) l (omega arith) (get_or_default ls (n - 1) d l (omega arith)) h)
+
+pub found_rest : (s : ℕ → Term) (test : Key → Bool) (ls : List Local) (n : ℕ) (d : Local) → 0 < n → n ≤ length ls → test (key_of (get_or ls (n - 1) d).key) ≡ false →
+    newest_type test (scope_at s (take (n - 1) ls)) ≡ newest_type test (scope_at s (take n ls))
+found_rest s test ls n d p b h =
+    let l : Local = get_or ls (n - 1) d in
+    let o = newest_type test (scope_at s (take (n - 1) ls)) in
+    let e : n - 1 + 1 ≡ n = omega arith in
+    subst (λ (k : ℕ). o ≡ newest_type test (scope_at s (take k ls))) e (found_before s test ls (n - 1) l o (omega arith) (get_or_default ls (n - 1) d l (omega arith)) h refl)
 
 pub item_below : (n : ℕ) (ls : List Local) (i : ℕ) (l : Local) → i < length ls → l ≡ get_or ls i l → AreLocalsBelow n ls → l.variable < n
 item_below n ls i l b e h = subst (λ (k : Local). k.variable < n) (sym e) (h i l b)

@@ -45,7 +45,7 @@ abbrev pub Adds : State → State → ((ℕ → Term) → (ℕ → Class) → Ty
 Adds old new P = Gives {X = Unit {0}} old new (λ s. tt) (λ s of x. P s of)
 
 abbrev pub key_of : Key → typing.Key
-key_of (Name x) = typing.name x.items
+key_of (Name x) = typing.name x.now
 key_of Element = typing.element
 
 -- the types of local names under a substitution, the newest first

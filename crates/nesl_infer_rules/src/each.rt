@@ -13,11 +13,11 @@ use nesl_syntax_tree::tree::Binding;
 use std::alloc::AllocError;
 
 /// Adds the names of the patterns, which take elements of the types of the variables apart.
-pub fn bind_patterns<P: Drop>(
+pub fn bind_patterns<'a, P: Drop>(
     state: &mut State,
     outer: &Outer<'_, P>,
-    locals: &mut Vec<Local>,
-    bindings: &[Binding],
+    locals: &mut Vec<Local<'a>>,
+    bindings: &'a [Binding],
     items: &[u64],
 ) -> Result<(), AllocError>
     requires items { All (λ v. v < count state.old) items.now }
@@ -33,11 +33,11 @@ pub fn bind_patterns<P: Drop>(
 }
 
 /// Adds the names that the binders of an apply-to-each add, over the first one's element.
-pub fn bind_items<P: Drop>(
+pub fn bind_items<'a, P: Drop>(
     state: &mut State,
     outer: &Outer<'_, P>,
-    locals: &mut Vec<Local>,
-    bindings: &[Binding],
+    locals: &mut Vec<Local<'a>>,
+    bindings: &'a [Binding],
     items: &[u64],
 ) -> Result<(), AllocError>
     requires items { All (λ v. v < count state.old) items.now }

@@ -22,7 +22,7 @@ pub fn instantiate(state: &mut State, classes: &[Class]) -> Result<Vec<u64>, All
     ensures below { IfOk result (λ vs. All (λ v. v < count state.new) vs.items) }
     ensures len { IfOk result (λ vs. length vs.items ≡ length classes.now) }
 {
-    let mut fresh = Vec::new(state.alloc);
+    let mut fresh = Vec::with_capacity(state.alloc, classes.len())?;
     for class in classes {
         let variable = state.fresh(*class)?;
         fresh.push(variable)?;

@@ -23,7 +23,7 @@ use std::alloc::AllocError;
 pub fn constrain_variable<P: Drop>(
     state: &mut State,
     outer: &Outer<'_, P>,
-    locals: &[Local],
+    locals: &[Local<'_>],
     name: &[u8],
     target: u64,
 ) -> Result<(), AllocError>
@@ -46,7 +46,11 @@ pub fn constrain_variable<P: Drop>(
 }
 
 /// Adds what makes `target` the type of the innermost apply-to-each's element.
-pub fn constrain_element(state: &mut State, locals: &[Local], target: u64) -> Result<(), AllocError>
+pub fn constrain_element(
+    state: &mut State,
+    locals: &[Local<'_>],
+    target: u64,
+) -> Result<(), AllocError>
     requires target { target < count state.old }
     requires locals { AreLocalsBelow (count state.old) locals.now }
     ensures { OnOk result (Adds state.old state.new (λ s of. newest_type is_element (scope_at s locals.now)

@@ -7,13 +7,13 @@ ghost use Rattle.nesl_infer_rules.specs.Typing.{is_name, is_element, local_type,
 
 use crate::state::{Key, Local};
 
-impl Key {
+impl Key<'_> {
     /// Whether it is this name.
     fn is_name(&self, name: &[u8]) -> bool
         ensures { result ≡ is_name name.now (key_of self.now) }
     {
         match self {
-            Key::Name(own) => name == own.as_slice(),
+            Key::Name(own) => name == *own,
             Key::Element => false,
         }
     }
@@ -29,29 +29,33 @@ impl Key {
 }
 
 /// The variable of a local name's type: the newest of that name.
-pub fn look_up(locals: &[Local], name: &[u8]) -> Option<u64>
+pub fn look_up(locals: &[Local<'_>], name: &[u8]) -> Option<u64>
     ensures found { (s : ℕ → Term) → option_map s result ≡ local_type name.now (scope_at s locals.now) }
     ensures below { MatchOption result (Unit {0}) (λ v. (n : ℕ) → AreLocalsBelow n locals.now → v < n) }
 {
-    let mut found = None;
-    for local in locals {
+    let mut next = locals.len();
+    while next > 0 {
+        next -= 1;
+        let local = &locals[next];
         if local.key.is_name(name) {
-            found = Some(local.variable);
+            return Some(local.variable);
         }
     }
-    found
+    None
 }
 
 /// The variable of the element's type in the innermost apply-to-each.
-pub fn look_up_element(locals: &[Local]) -> Option<u64>
+pub fn look_up_element(locals: &[Local<'_>]) -> Option<u64>
     ensures found { (s : ℕ → Term) → option_map s result ≡ newest_type is_element (scope_at s locals.now) }
     ensures below { MatchOption result (Unit {0}) (λ v. (n : ℕ) → AreLocalsBelow n locals.now → v < n) }
 {
-    let mut found = None;
-    for local in locals {
+    let mut next = locals.len();
+    while next > 0 {
+        next -= 1;
+        let local = &locals[next];
         if local.key.is_element() {
-            found = Some(local.variable);
+            return Some(local.variable);
         }
     }
-    found
+    None
 }

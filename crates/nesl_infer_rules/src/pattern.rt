@@ -13,11 +13,11 @@ use nesl_syntax_tree::tree::{Pattern, PatternNode};
 use std::alloc::AllocError;
 
 /// Adds what makes `target` a type of the pattern, and the pattern's names.
-pub fn constrain_pattern<P: Drop>(
+pub fn constrain_pattern<'a, P: Drop>(
     state: &mut State,
     outer: &Outer<'_, P>,
-    locals: &mut Vec<Local>,
-    pattern: &Pattern,
+    locals: &mut Vec<Local<'a>>,
+    pattern: &'a Pattern,
     target: u64,
 ) -> Result<(), AllocError>
     requires target { target < count state.old }
@@ -27,9 +27,8 @@ pub fn constrain_pattern<P: Drop>(
 {
     match &pattern.node {
         PatternNode::Name(name) => {
-            let name = Vec::from_slice(state.alloc, name.as_slice())?;
             locals.push(Local {
-                key: Key::Name(name),
+                key: Key::Name(name.as_slice()),
                 variable: target,
             })?;
             Ok(())

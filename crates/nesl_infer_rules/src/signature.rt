@@ -22,10 +22,10 @@ use nesl_unify::Flat;
 use std::alloc::AllocError;
 
 /// Adds a variable for each name of a written type.
-fn name_types(
+fn name_types<'a>(
     state: &mut State,
-    names: &mut Vec<Local>,
-    written: &TypeExp,
+    names: &mut Vec<Local<'a>>,
+    written: &'a TypeExp,
 ) -> Result<(), AllocError>
     ensures { OnOk result (AddsNames state.old state.new names.old.items names.new.items
         (λ s of ns. FreeNames (type_tree written.now) ns)) }
@@ -36,9 +36,8 @@ fn name_types(
         TypeNode::Char => Ok(()),
         TypeNode::Name { name, .. } => {
             let variable = state.add_any()?;
-            let name = Vec::from_slice(state.alloc, name.as_slice())?;
             names.push(Local {
-                key: Key::Name(name),
+                key: Key::Name(name.as_slice()),
                 variable,
             })?;
             Ok(())
@@ -71,7 +70,7 @@ fn tag_of<P: Drop>(context: &Context<P>, name: &[u8]) -> Option<u64>
 }
 
 /// What a name stands for: its datatype, else its variable; `int` where it has none.
-fn name_type<P: Drop>(context: &Context<P>, names: &[Local], name: &[u8]) -> Flat
+fn name_type<P: Drop>(context: &Context<P>, names: &[Local<'_>], name: &[u8]) -> Flat
     ensures is { (s : ℕ → Term) →
         substitute s (flat_type result)
         ≡ name_in_signature (datatype_in context.now name.now) (put_in (scope_at s names.now) name.now) }
@@ -91,7 +90,7 @@ fn name_type<P: Drop>(context: &Context<P>, names: &[Local], name: &[u8]) -> Fla
 fn constrain_written<P: Drop>(
     state: &mut State,
     context: &Context<P>,
-    names: &[Local],
+    names: &[Local<'_>],
     written: &TypeExp,
     target: u64,
 ) -> Result<(), AllocError>
@@ -152,7 +151,7 @@ fn class_of(class: syntax::Class) -> Class
 fn constrain_member<P: Drop>(
     state: &mut State,
     context: &Context<P>,
-    names: &[Local],
+    names: &[Local<'_>],
     member: &Member,
 ) -> Result<(), AllocError>
     requires names { AreLocalsBelow (count state.old) names.now }
@@ -168,7 +167,7 @@ fn constrain_member<P: Drop>(
 fn constrain_members<P: Drop>(
     state: &mut State,
     context: &Context<P>,
-    names: &[Local],
+    names: &[Local<'_>],
     members: &[Member],
 ) -> Result<(), AllocError>
     requires names { AreLocalsBelow (count state.old) names.now }

@@ -26,18 +26,18 @@ pub struct State {
     pub ghost made: { is_whole ≡ true → IsSystem system } by { Prim.hlevel facts },
 }
 
-/// What has a local type.
-#[derive(Drop)]
-pub enum Key {
-    Name(Vec<u8>),
+/// What has a local type. Its name is that of the text.
+#[derive(Clone, Copy)]
+pub enum Key<'a> {
+    Name(&'a [u8]),
     /// The element that an apply-to-each without a body gives.
     Element,
 }
 
 /// A local name, and the variable of its type.
-#[derive(Drop)]
-pub struct Local {
-    pub key: Key,
+#[derive(Clone, Copy)]
+pub struct Local<'a> {
+    pub key: Key<'a>,
     pub variable: u64,
 }
 

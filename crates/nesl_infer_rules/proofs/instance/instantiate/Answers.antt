@@ -13,9 +13,9 @@ pub loop-class-init : goal.loop-class-init
 loop-class-init c =
     let s = c.args.state.now in
     record {
-      gives = subst (λ (vs : List ℕ). Fresh s s [] vs) (sym c.new-fresh.ensures.items) fresh_none;
-      below = subst (λ (vs : List ℕ). All (λ (w : ℕ). w < count s) vs) (sym c.new-fresh.ensures.items) (All-nil (λ (w : ℕ). w < count s));
-      len = ap length c.new-fresh.ensures.items;
+      gives = subst (λ (vs : List ℕ). Fresh s s [] vs) (sym c.in_ok-fresh.ensures.items) fresh_none;
+      below = subst (λ (vs : List ℕ). All (λ (w : ℕ). w < count s) vs) (sym c.in_ok-fresh.ensures.items) (All-nil (λ (w : ℕ). w < count s));
+      len = ap length c.in_ok-fresh.ensures.items;
     }
 
 pub loop-class-preserved : goal.loop-class-preserved

@@ -1,29 +1,17 @@
-use Rattle.std.proofs.Common.{◌≡◌, ◌<◌, ℕ, sym, ap, ◌∙◌, true, false, subst}
-use Rattle.std.specs.Prelude.{Option, option_map, MatchOption}
+use Rattle.std.proofs.Common.{sym, ◌∙◌, arith}
 use Rattle.nesl_infer_rules.specs.Typing.{is_element}
-use Rattle.nesl_infer_rules.specs.Steps.{key_of, AreLocalsBelow}
-use Rattle.nesl_infer_rules.proofs.Found.{found_here, found_before, item_below}
+use Rattle.nesl_infer_rules.proofs.Found.{found_last, found_rest}
 use Rattle.nesl_infer_rules.proofs.names.look_up_element.Goals as goal
-use Rattle.nesl_infer_rules.proofs.names.look_up_element.Goals.{then-is_element, else-is_element}
 
-pub loop-local-preserved : goal.loop-local-preserved
-loop-local-preserved c =
-    let ls = c.args.locals.now in
-    let test = is_element in
-    let i = c.loop-local.local-index in
-    let l = c.local-item.result in
-    let h = c.loop-local.invariant in
-    elim c.if-is_element.branch [
-      | then-is_element w ↦
-          let same : test (key_of l.key) ≡ true = sym c.is_element.ensures ∙ w.if-is_element.true in
-          record {
-            found = λ s. ap (option_map s) w.found-is ∙ found_here s test ls i l c.loop-local-test.true c.local-item.is same;
-            below = subst (λ (o : Option ℕ). MatchOption o (Unit {0}) (λ v. (n : ℕ) → AreLocalsBelow n ls → v < n)) (sym w.found-is) (λ n h. item_below n ls i l c.loop-local-test.true c.local-item.is h);
-          }
-      | else-is_element w ↦
-          let same : test (key_of l.key) ≡ false = sym c.is_element.ensures ∙ w.if-is_element.false in
-          record {
-            found = λ s. found_before s test ls i l (option_map s c.if-is_element.found) c.loop-local-test.true c.local-item.is same (ap (option_map s) w.found-is ∙ h.found s);
-            below = subst (λ (o : Option ℕ). MatchOption o (Unit {0}) (λ v. (n : ℕ) → AreLocalsBelow n ls → v < n)) (sym w.found-is) h.below;
-          }
-    ]
+pub returns-then-is_element-clause-found : goal.returns-then-is_element-clause-found
+returns-then-is_element-clause-found c = λ s.
+    let i = c.loop-next.invariant in
+    found_last s is_element c.args.locals.now c.loop-next.next _ (omega (arith, c.loop-next-test.true)) i.bound (sym c.is_element.ensures ∙ c.if-is_element.true) ∙ i.found s
+
+pub loop-next-preserved : goal.loop-next-preserved
+loop-next-preserved c =
+    let i = c.loop-next.invariant in
+    record {
+      found = λ s. found_rest s is_element c.args.locals.now c.loop-next.next _ (omega (arith, c.loop-next-test.true)) i.bound (sym c.is_element.ensures ∙ c.if-is_element.false) ∙ i.found s;
+      bound = omega (arith, i.bound);
+    }

@@ -1,12 +1,14 @@
-use Rattle.std.proofs.Common.{◌≡◌, ◌<◌, ℕ, take}
-use Rattle.std.specs.Prelude.{MatchOption, option_map}
+use Rattle.std.proofs.Common.{◌≡◌, ◌≤◌, ℕ, length, take}
 use Rattle.nesl_types_bank.specs.Term.{Term}
-use Rattle.nesl_infer_rules.specs.Steps.{scope_at, AreLocalsBelow}
+use Rattle.nesl_infer_rules.specs.Steps.{scope_at}
 use Rattle.nesl_infer_rules.specs.Typing.{is_element, newest_type}
 use Rattle.nesl_infer_rules.proofs.names.look_up_element.Given as goal
 
-abbrev pub invariant-loop-local : goal.invariant-loop-local
-invariant-loop-local l = record {
-  found : (s : ℕ → Term) → option_map s l.found ≡ newest_type is_element (scope_at s (take l.local-index l.locals));
-  below : MatchOption l.found (Unit {0}) (λ v. (n : ℕ) → AreLocalsBelow n l.locals → v < n);
+abbrev pub invariant-loop-next : goal.invariant-loop-next
+invariant-loop-next l = record {
+  found : (s : ℕ → Term) → newest_type is_element (scope_at s (take l.next l.locals)) ≡ newest_type is_element (scope_at s l.locals);
+  bound : l.next ≤ length l.locals;
 }
+
+abbrev pub decreases-loop-next : goal.decreases-loop-next
+decreases-loop-next l = l.next

@@ -17,10 +17,10 @@ use Rattle.nesl_infer_rules.proofs.pattern.+constrain_pattern.Goals as goal
 pub returns-in_ok-push-in-Name : goal.returns-in_ok-push-in-Name
 returns-in_ok-push-in-Name g t c =
     let N : (ℕ → Term) → TypedNames = λ s. meanings_in c.args.outer.now.context.now (own_at s c.args.outer.now.own) in
-    let l : Local = record { key = Name c.in_ok-name-in-Name.name; variable = c.args.target } in
+    let l : Local = record { key = Name c.as_slice.result; variable = c.args.target } in
     subst (λ (k : PatternNode). NamesOf c.args.state.now c.args.state.now c.args.locals.now.items c.push.new.self.items N (pattern c.args.pattern.now.span (pattern_shape k)) c.args.target) (sym c.in-Name.is)
     (arm_name N c.args.pattern.now.span c.in-Name.name.items c.args.target c.args.locals.now.items c.push.new.self.items l c.requires.target c.in_ok-push-in-Name.ensures.items
-    (ap name (c.in_ok-name-in-Name.ensures.items ∙ c.as_slice.ensures.value)) refl)
+    (ap name c.as_slice.ensures.value) refl)
 
 pub returns-in_ok-equate_pair-in-Pair : goal.returns-in_ok-equate_pair-in-Pair
 returns-in_ok-equate_pair-in-Pair g t c =
