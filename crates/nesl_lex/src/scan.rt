@@ -150,6 +150,7 @@ fn number(digits: &[u8]) -> Option<u64>
 }
 
 // The reserved word of these two bytes.
+#[inline(never)]
 fn word_of_two(bytes: &[u8]) -> Option<Word>
     ensures { result ≡ word_among (words_of 2) bytes.now }
 {
@@ -165,6 +166,7 @@ fn word_of_two(bytes: &[u8]) -> Option<Word>
 }
 
 // The reserved word of these three bytes.
+#[inline(never)]
 fn word_of_three(bytes: &[u8]) -> Option<Word>
     ensures { result ≡ word_among (words_of 3) bytes.now }
 {
@@ -184,6 +186,7 @@ fn word_of_three(bytes: &[u8]) -> Option<Word>
 }
 
 // The reserved word of these four bytes.
+#[inline(never)]
 fn word_of_four(bytes: &[u8]) -> Option<Word>
     ensures { result ≡ word_among (words_of 4) bytes.now }
 {
@@ -203,6 +206,7 @@ fn word_of_four(bytes: &[u8]) -> Option<Word>
 }
 
 // The reserved word of these eight bytes.
+#[inline(never)]
 fn word_of_eight(bytes: &[u8]) -> Option<Word>
     ensures { result ≡ word_among (words_of 8) bytes.now }
 {
@@ -215,7 +219,8 @@ fn word_of_eight(bytes: &[u8]) -> Option<Word>
     }
 }
 
-// The reserved word of these bytes.
+// The reserved word of these bytes. Few names have as many bytes as one, which is told in place.
+#[inline(always)]
 fn word(bytes: &[u8]) -> Option<Word>
     ensures { result ≡ word_in bytes.now }
 {
@@ -253,6 +258,7 @@ fn small(alloc: Global, text: &[u8]) -> Result<Vec<u8>, AllocError>
 }
 
 // The sign of one byte.
+#[inline(always)]
 fn single(b: u8) -> Option<Sign>
     ensures { result ≡ single b }
 {
