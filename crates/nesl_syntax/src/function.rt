@@ -1,6 +1,6 @@
 // A function's line, from its head and its body.
 
-ghost use Rattle.std.specs.Prelude.{◌≡◌, ◌≤◌, ◌<◌, Some, Err, Option};
+ghost use Rattle.std.specs.Prelude.{◌≡◌, ◌≤◌, ◌<◌, Some, None, Err, Option, IfOk, MatchOption};
 ghost use Rattle.nesl_syntax_tree.specs.Trees.{Tree, SignatureTree, height, pattern_height};
 ghost use Rattle.nesl_syntax_tree.specs.Trees as trees;
 ghost use Rattle.nesl_syntax_tree.specs.Views.{tree_of, pattern_tree};
@@ -8,6 +8,7 @@ ghost use Rattle.nesl_syntax_open.specs.Parts.{Sees, SeesPattern};
 ghost use Rattle.nesl_syntax.specs.Reading as reading;
 ghost use Rattle.nesl_syntax.specs.declared.cut.Divider.TheVariants as divider;
 ghost use Rattle.nesl_syntax.specs.Given.{Given, SeesOptional, SeesHead, GivesLine};
+ghost use Rattle.nesl_syntax_tree.specs.Patterns.{pattern_in};
 ghost use Rattle.nesl_lex.specs.Tokens.{placed};
 
 use crate::cut::{Divider, cut};
@@ -17,9 +18,9 @@ use crate::signature::{SignaturePart, signature};
 use nesl_lex::token::{Kind, Token};
 use nesl_syntax_open::ParseFault;
 use nesl_syntax_open::part::Part;
-use nesl_syntax_open::pattern::{PatternPart, pattern_of};
+use nesl_syntax_open::pattern::{PatternPart, pattern_from, pattern_of};
 use nesl_syntax_tree::tree::{Exp, Pattern};
-use std::alloc::Global;
+use std::alloc::{AllocError, Global};
 
 /// A function's parameter and its signature.
 #[derive(Drop)]
@@ -33,9 +34,20 @@ fn pattern(alloc: Global, tokens: &[Token]) -> Result<PatternPart, ParseFault>
     ensures { Given SeesPattern result (reading.pattern_read (placed tokens.now)) }
 {
     let part = expression(alloc, tokens)?;
-    match pattern_of(alloc, part)? {
+    match pattern_of(part) {
         Some(pattern) => Ok(pattern),
         None => Err(ParseFault::Syntax),
+    }
+}
+
+// The pattern with an expression's tokens on the heap, if they are one's.
+fn on_heap(alloc: Global, exp: Box<Exp>) -> Result<Option<Box<Pattern>>, AllocError>
+    ensures { IfOk result (λ r. let wanted = pattern_in (tree_of exp.value) in
+        MatchOption r (wanted ≡ None) (λ p. wanted ≡ Some (pattern_tree p.value))) }
+{
+    match pattern_from(alloc, Box::into_inner(exp))? {
+        Some(pattern) => Ok(Some(Box::new(alloc, pattern)?)),
+        None => Ok(None),
     }
 }
 
@@ -100,15 +112,18 @@ fn function_with(
 }
 
 // The line of a function's parts.
-fn function_of(name: Vec<u8>, head: Head, body: Part) -> Result<Line, ParseFault>
+fn function_of(alloc: Global, name: Vec<u8>, head: Head, body: Part) -> Result<Line, ParseFault>
     ensures { (h : reading.Heads) (e : Tree) → SeesHead head h → Sees body e →
         GivesLine result (Some (reading.function_of name.items h e)) }
 {
     let Head { pattern, signature } = head;
     match pattern {
-        PatternPart::Built { pattern, .. } => match body {
-            Part::Built { exp, .. } => function_with(name, pattern, signature, exp),
-            Part::High(_) => too_high((name, pattern, signature)),
+        PatternPart::Built { exp: parameter, .. } => match body {
+            Part::Built { exp, .. } => match on_heap(alloc, parameter)? {
+                Some(pattern) => function_with(name, pattern, signature, exp),
+                None => Err(ParseFault::Syntax),
+            },
+            Part::High(_) => too_high((name, parameter, signature)),
         },
         PatternPart::High => too_high((name, signature, body)),
     }
@@ -124,7 +139,7 @@ fn function_named(alloc: Global, name: &Vec<u8>, tokens: &[Token]) -> Result<Lin
     let name = name.clone()?;
     let head = read_head(alloc, front)?;
     let body = expression(alloc, behind)?;
-    function_of(name, head, body)
+    function_of(alloc, name, head, body)
 }
 
 /// A function's line behind its first word.

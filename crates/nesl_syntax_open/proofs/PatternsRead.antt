@@ -1,11 +1,11 @@
 -- Patterns that are read from expressions.
 use Rattle.std.proofs.Common.{◌≡◌, ℕ, ◌≤◌, ◌<◌, subst, Bool, true, false, ◌&&◌, Option, Some, None, ◌⊎◌, inl, inr, refl, ap, sym, ◌∙◌, arith, Box, Global}
-use Rattle.nesl_syntax_tree.specs.declared.tree.Pattern.{Pattern}
+use Rattle.nesl_syntax_tree.specs.declared.tree.Exp.{Exp}
 use Rattle.nesl_syntax_open.specs.declared.pattern.PatternPart.TheVariants as patterns
 use Rattle.nesl_syntax_open.specs.Parts.{PatternGiven}
 use Rattle.nesl_syntax_tree.specs.Trees.{Tree, Shape, PatternTree, PatternShape, node, pattern, height, height_of, pattern_height, pattern_height_of}
 use Rattle.nesl_syntax_tree.specs.Trees as trees
-use Rattle.nesl_syntax_tree.specs.Views.{pattern_tree}
+use Rattle.nesl_syntax_tree.specs.Views.{tree_of}
 use Rattle.nesl_syntax_tree.specs.Patterns.{is_pattern, is_pattern_shape, pattern_in, pattern_shape_in, shape_pair, shape_record, with_span}
 
 -- an expression that may be a pattern is read as one, as high as it is
@@ -59,15 +59,8 @@ mutual
   no_reads_shape (trees.call x a) h = ap (shape_record x) (no_reads a h)
   no_reads_shape _ h = refl
 
-pub height_kept : (t : Tree) (p : PatternTree) → pattern_in t ≡ Some p → pattern_height p ≡ height t
-height_kept t p h = by_flag (is_pattern t) refl
-  where
-    by_flag : (b : Bool) → is_pattern t ≡ b → pattern_height p ≡ height t
-    by_flag true e = let r = reads_of t e in let f : r.form ≡ p = let k = r.reads in cc in ap pattern_height (sym f) ∙ r.high
-    by_flag false e = let k = no_reads t e in cc
-
-pub given_some : (p : Box Pattern Global) (h : ℕ) (x : Tree) → Some (pattern_tree p.value) ≡ pattern_in x → h ≡ height x → h ≤ 100 → PatternGiven (Some (patterns.Built h p)) (pattern_in x)
-given_some p h x e f l = let g = height_kept x (pattern_tree p.value) (sym e) in subst (λ (o : Option PatternTree). PatternGiven (Some (patterns.Built h p)) o) e (refl, omega arith, l)
+pub given_some : (e : Box Exp Global) (h : ℕ) (x : Tree) → tree_of e.value ≡ x → h ≡ height x → h ≤ 100 → true ≡ is_pattern x → PatternGiven (Some (patterns.Built h e)) (pattern_in x)
+given_some e h x same high low flag = let r = reads_of x (sym flag) in subst (λ (o : Option PatternTree). PatternGiven (Some (patterns.Built h e)) o) (sym r.reads) (ap pattern_in same ∙ r.reads, omega (arith, r.high), low)
 
 pub given_high : (x : Tree) → 100 < height x → true ≡ is_pattern x → PatternGiven (Some patterns.High) (pattern_in x)
 given_high x l e = let r = reads_of x (sym e) in subst (λ (o : Option PatternTree). PatternGiven (Some patterns.High) o) (sym r.reads) (omega (arith, r.high))

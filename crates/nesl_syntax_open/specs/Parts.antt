@@ -13,8 +13,8 @@ use Rattle.nesl_syntax_open.specs.declared.types.TypePart.TheVariants as types
 use Rattle.nesl_syntax_tree.specs.Trees.{Tree, Trees, Binders, PatternTree, TypeTree, height, greatest_height}
 use Rattle.nesl_syntax_tree.specs.Trees.{greatest_binder_height}
 use Rattle.nesl_syntax_tree.specs.Trees.{pattern_height, type_height}
-use Rattle.nesl_syntax_tree.specs.Views.{tree_of, trees_in, binders_in, pattern_tree, type_tree}
-use Rattle.nesl_syntax_tree.specs.Patterns.{is_pattern}
+use Rattle.nesl_syntax_tree.specs.Views.{tree_of, trees_in, binders_in, type_tree}
+use Rattle.nesl_syntax_tree.specs.Patterns.{is_pattern, pattern_in}
 
 abbrev pub Sees : Part → Tree → Type 0
 Sees (part.Built b h e) t = (tree_of e.value ≡ t) × (h ≡ height t) × (h ≤ 100) × (b ≡ is_pattern t)
@@ -34,7 +34,7 @@ SeesBound (bindings.Built h v) bs = (binders_in v.items ≡ bs) × (h ≡ greate
 SeesBound bindings.High bs = 100 < greatest_binder_height bs
 
 abbrev pub SeesPattern : PatternPart → PatternTree → Type 0
-SeesPattern (patterns.Built h p) t = (pattern_tree p.value ≡ t) × (h ≡ pattern_height t) × (h ≤ 100)
+SeesPattern (patterns.Built h e) t = (pattern_in (tree_of e.value) ≡ Some t) × (h ≡ pattern_height t) × (h ≤ 100)
 SeesPattern patterns.High t = 100 < pattern_height t
 
 abbrev pub SeesType : TypePart → TypeTree → Type 0

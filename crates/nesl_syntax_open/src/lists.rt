@@ -1,6 +1,7 @@
 // Lists of parts: the elements of a sequence, and binders with what they are bound to.
 
 ghost use Rattle.std.specs.Prelude.{◌≡◌, ◌≤◌, ◌<◌, ◌∷◌, [], ◌++◌, max, IfOk, IfSome, MatchOption, Option};
+ghost use Rattle.std.specs.Prelude.{vec_len, vec_capacity};
 ghost use Rattle.nesl_syntax_tree.specs.Trees.{Tree, Trees, Binders, PatternTree, height, greatest_binder_height, node};
 ghost use Rattle.nesl_syntax_tree.specs.Trees.{span_of, with_last, with_last_binder};
 ghost use Rattle.nesl_syntax_tree.specs.Trees as trees;
@@ -12,7 +13,7 @@ ghost use Rattle.nesl_syntax_open.specs.Machine.{body_or};
 ghost use Rattle.nesl_syntax_open.specs.Parts.{Sees, SeesAll, SeesBound, SeesBody, SeesPattern};
 
 use crate::part::{LIMIT, Part, boxed, built, low_enough, make_node, none, over, too_high};
-use crate::pattern::PatternPart;
+use crate::pattern::{PatternPart, pattern_from};
 use nesl_lex::token::Span;
 use nesl_syntax_tree::tree::{Binding, Exp, Node};
 use std::alloc::{AllocError, Global};
@@ -31,13 +32,33 @@ pub enum Bindings {
     High,
 }
 
-// A list with one more.
-#[inline]
-fn pushed<T: Drop>(list: Vec<T>, item: T) -> Result<Vec<T>, AllocError>
+/// How many elements room is taken for at first.
+const FIRST_ELEMENTS: usize = 2;
+
+/// The same of binders, which are large: most lists of them have one.
+const FIRST_BINDERS: usize = 1;
+
+// Takes room in a list that has none left: for so many at first, and later for as many again.
+#[inline(never)]
+fn take_room<T>(list: &mut Vec<T>, first: usize) -> Result<(), AllocError>
+    requires { 1 ≤ first }
+    ensures items { list.new.items ≡ list.old.items }
+    ensures room { IfOk result (λ u. vec_len list.new < vec_capacity list.new) }
+{
+    list.reserve_exact(first.max(list.len()))
+}
+
+// A list with one more, in which room for so many is taken at first.
+#[inline(always)]
+fn pushed<T: Drop>(list: Vec<T>, first: usize, item: T) -> Result<Vec<T>, AllocError>
+    requires { 1 ≤ first }
     ensures { IfOk result (λ v. v.items ≡ list.items ++ item ∷ []) }
 {
     let mut list = list;
-    list.push(item)?;
+    if list.len() >= list.capacity() {
+        take_room(&mut list, first)?;
+    }
+    list.push_reserved(item);
     Ok(list)
 }
 
@@ -62,7 +83,7 @@ pub fn push_part(elements: Elements, part: Part) -> Result<Elements, AllocError>
     };
     Ok(Elements::Built {
         height: m.max(n),
-        items: pushed(items, Box::into_inner(exp))?,
+        items: pushed(items, FIRST_ELEMENTS, Box::into_inner(exp))?,
     })
 }
 
@@ -76,6 +97,7 @@ fn not_built<T: Drop>(parts: T) -> Bindings
 
 #[tactic(auto, using(nesl_syntax_tree::proofs::Rows::greatest_and_bind, nesl_syntax_tree::proofs::Rows::binders_push))]
 pub fn push_binding(
+    alloc: Global,
     bindings: Bindings,
     pattern: PatternPart,
     value: Part,
@@ -87,7 +109,11 @@ pub fn push_binding(
     let Bindings::Built { items, height: m } = bindings else {
         return Ok(not_built((pattern, value)));
     };
-    let PatternPart::Built { pattern, height: n } = pattern else {
+    let PatternPart::Built {
+        exp: pattern,
+        height: n,
+    } = pattern
+    else {
         return Ok(not_built((items, value)));
     };
     let Part::Built {
@@ -98,11 +124,13 @@ pub fn push_binding(
     else {
         return Ok(not_built((items, pattern)));
     };
-    let pattern = Box::into_inner(pattern);
+    let Some(pattern) = pattern_from(alloc, Box::into_inner(pattern))? else {
+        return Ok(not_built((items, value)));
+    };
     let value = Box::into_inner(value);
     Ok(Bindings::Built {
         height: m.max(n.max(k)),
-        items: pushed(items, Binding { pattern, value })?,
+        items: pushed(items, FIRST_BINDERS, Binding { pattern, value })?,
     })
 }
 

@@ -78,6 +78,7 @@ pub(crate) fn low_enough(part: Part) -> Option<(Box<Exp>, u8)>
 }
 
 // Two expressions with their greater height, where a node may stand over them.
+#[inline(always)]
 fn both(left: Part, right: Part) -> Option<(Box<Exp>, Box<Exp>, u8)>
     ensures low { IfSome result (λ r. r.2 < 100) }
     ensures seen { (x y : Tree) → Sees left x → Sees right y → let greater = max (height x) (height y) in

@@ -11,10 +11,11 @@ use nesl_lex::token::Span;
 use nesl_syntax_tree::tree::{Exp, Node, Pattern, PatternNode};
 use std::alloc::{AllocError, Global};
 
-/// A pattern with its height, or one that is too high and isn't built.
+/// An expression with a pattern's tokens and its height, or a pattern that is too high and isn't built. The pattern
+/// itself is made once its place is there.
 #[derive(Drop)]
 pub enum PatternPart {
-    Built { height: u8, pattern: Box<Pattern> },
+    Built { height: u8, exp: Box<Exp> },
     High,
 }
 
@@ -65,8 +66,8 @@ fn record_from(
     Ok(Some(Pattern { span, node }))
 }
 
-// The pattern with an expression's tokens. It recurs over a tree that is at most 100 high.
-fn pattern_from(alloc: Global, exp: Exp) -> Result<Option<Pattern>, AllocError>
+/// The pattern with an expression's tokens. It recurs over a tree that is at most 100 high.
+pub fn pattern_from(alloc: Global, exp: Exp) -> Result<Option<Pattern>, AllocError>
     ensures { IfOk result (λ r. option_map pattern_tree r ≡ pattern_in (tree_of exp)) }
 {
     let (span, node) = exp.into_parts();
@@ -93,19 +94,23 @@ fn pattern_from(alloc: Global, exp: Exp) -> Result<Option<Pattern>, AllocError>
     }
 }
 
-/// The pattern with a part's tokens.
-pub fn pattern_of(alloc: Global, part: Part) -> Result<Option<PatternPart>, AllocError>
-    ensures { IfOk result (λ r. (x : Tree) → Sees part x → PatternGiven r (pattern_in x)) }
+/// The part as a pattern, where its tokens are one's.
+pub fn pattern_of(part: Part) -> Option<PatternPart>
+    ensures { (x : Tree) → Sees part x → PatternGiven result (pattern_in x) }
 {
     match part {
-        Part::Built { exp, height, .. } => match pattern_from(alloc, Box::into_inner(exp))? {
-            Some(found) => {
-                let pattern = boxed(alloc, found)?;
-                Ok(Some(PatternPart::Built { height, pattern }))
+        Part::Built {
+            pattern,
+            height,
+            exp,
+        } => {
+            if pattern {
+                Some(PatternPart::Built { height, exp })
+            } else {
+                none(exp)
             }
-            None => Ok(None),
-        },
-        Part::High(true) => Ok(Some(PatternPart::High)),
-        Part::High(false) => Ok(None),
+        }
+        Part::High(true) => Some(PatternPart::High),
+        Part::High(false) => None,
     }
 }

@@ -1,6 +1,6 @@
 // What comes of the newest opening when an expression and a token that ends a part stand behind it.
 
-ghost use Rattle.std.specs.Prelude.{◌≡◌, ◌∷◌, List, Option, Some, None, Err, false, true};
+ghost use Rattle.std.specs.Prelude.{◌≡◌, ◌∷◌, List, Option, Some, None, Err, false, true, if◌then◌else◌};
 ghost use Rattle.nesl_syntax_tree.specs.Trees.{Tree, Trees, Binders, PatternTree, no_binders, with_last};
 ghost use Rattle.nesl_syntax_tree.specs.Trees.{with_last_binder};
 ghost use Rattle.nesl_syntax_tree.specs.Patterns.{pattern_in};
@@ -13,6 +13,7 @@ ghost use Rattle.nesl_syntax_open.specs.Stack.{some_elements, some_binders};
 ghost use Rattle.nesl_syntax_open.specs.Turns.{let_turned, each_turned};
 ghost use Rattle.nesl_syntax_open.specs.declared.pending.Pending as pending;
 ghost use Rattle.nesl_syntax_open.specs.declared.mode.Mode.TheVariants as mode;
+ghost use Rattle.nesl_lex.specs.declared.token.Span.{Span};
 
 use crate::fault::ParseFault;
 use crate::lists::{
@@ -22,7 +23,7 @@ use crate::mark::Mark;
 use crate::mode::{Mode, wait};
 use crate::part::{Part, call_of, index_of, over, range_of, strided_range_of, widen};
 use crate::pattern::{PatternPart, pattern_of};
-use crate::pending::{Group, Opening, Pending};
+use crate::pending::{Group, Opening, Pending, newest};
 use nesl_lex::token::Span;
 use std::alloc::Global;
 
@@ -67,7 +68,7 @@ fn becomes(stack: &mut Vec<Pending>, opening: Opening) -> Result<Mode, ParseFaul
     wait(stack, Pending::Open(opening))
 }
 
-#[inline(never)]
+#[inline(always)]
 fn end_round(from: Span, part: Part, end: End) -> Result<Mode, ParseFault>
     ensures { (ps : List pending.Pending) (ws : List Waiting) (x : Tree) → SeesStack ps ws → Sees part x →
         Follows result ps (taken_up ws (turned end.mark end.at (machine.round from) x)) }
@@ -78,7 +79,7 @@ fn end_round(from: Span, part: Part, end: End) -> Result<Mode, ParseFault>
     }
 }
 
-#[inline(never)]
+#[inline(always)]
 fn end_call(name: Vec<u8>, from: Span, part: Part, end: End) -> Result<Mode, ParseFault>
     ensures { (ps : List pending.Pending) (ws : List Waiting) (x : Tree) → SeesStack ps ws → Sees part x →
         Follows result ps (taken_up ws (turned end.mark end.at (machine.call name.items from) x)) }
@@ -136,7 +137,7 @@ fn end_branch(
     }
 }
 
-#[inline(never)]
+#[inline(always)]
 #[tactic(auto, using(crate::proofs::Turns::no_elements))]
 fn end_list(
     stack: &mut Vec<Pending>,
@@ -218,7 +219,6 @@ fn end_range_to(
 // A pattern, where an expression may be one.
 #[inline(always)]
 fn bind(
-    alloc: Global,
     stack: &mut Vec<Pending>,
     group: Group,
     bindings: Bindings,
@@ -228,8 +228,8 @@ fn bind(
         SeesGroup group g → SeesBound bindings bs → Sees part x →
         Follows result stack.new.items (taken_up ws (machine.bound g bs (pattern_in x))) }
 {
-    match pattern_of(alloc, part) {
-        Ok(Some(pattern)) => becomes(
+    match pattern_of(part) {
+        Some(pattern) => becomes(
             stack,
             Opening::Value {
                 group,
@@ -237,8 +237,7 @@ fn bind(
                 pattern,
             },
         ),
-        Ok(None) => refuse((group, bindings)),
-        Err(_) => run_out((group, bindings)),
+        None => refuse((group, bindings)),
     }
 }
 
@@ -276,13 +275,30 @@ fn end_brace(stack: &mut Vec<Pending>, from: Span, part: Part, end: End) -> Resu
         }
         Mark::In => {
             let group = Group::Each { from, body: None };
-            bind(end.alloc, stack, group, no_bindings(end.alloc), part)
+            bind(stack, group, no_bindings(end.alloc), part)
         }
         _ => refuse(part),
     }
 }
 
-#[inline(never)]
+// Whether the token stands between a binder's pattern and its value.
+fn begins_value(group: &Group, mark: Mark) -> bool
+    ensures { (g : machine.Group) (bs : Binders) (s : Span) (x : Tree) → SeesGroup group.now g →
+        turned mark s (machine.binders g bs) x ≡ (if result then machine.bound g bs (pattern_in x) else None) }
+{
+    match group {
+        Group::Let(_) => match mark {
+            Mark::Equal => true,
+            _ => false,
+        },
+        Group::Each { .. } => match mark {
+            Mark::In => true,
+            _ => false,
+        },
+    }
+}
+
+#[inline(always)]
 fn end_pattern(
     stack: &mut Vec<Pending>,
     group: Group,
@@ -294,16 +310,10 @@ fn end_pattern(
         SeesGroup group g → SeesBound bindings bs → Sees part x →
         Follows result stack.new.items (taken_up ws (turned end.mark end.at (machine.binders g bs) x)) }
 {
-    match group {
-        Group::Let(word) => match end.mark {
-            Mark::Equal => bind(end.alloc, stack, Group::Let(word), bindings, part),
-            _ => refuse((bindings, part)),
-        },
-        Group::Each { from, body } => match end.mark {
-            Mark::In => bind(end.alloc, stack, Group::Each { from, body }, bindings, part),
-            _ => refuse((body, bindings, part)),
-        },
+    if !begins_value(&group, end.mark) {
+        return refuse((group, bindings, part));
     }
+    bind(stack, group, bindings, part)
 }
 
 // Behind the value of a binder of a let.
@@ -371,7 +381,7 @@ fn end_each_value(
     }
 }
 
-#[inline(never)]
+#[inline(always)]
 #[tactic(auto, using(crate::proofs::Turns::at_let, crate::proofs::Turns::at_each, crate::proofs::Turns::some_bound))]
 fn end_value(
     stack: &mut Vec<Pending>,
@@ -386,7 +396,7 @@ fn end_value(
         Sees part x →
         Follows result stack.new.items (taken_up ws (turned end.mark end.at (machine.value g bs p) x)) }
 {
-    let Ok(bindings) = push_binding(bindings, pattern, part) else {
+    let Ok(bindings) = push_binding(end.alloc, bindings, pattern, part) else {
         return run_out(group);
     };
     match group {
@@ -461,7 +471,7 @@ fn end_opening(
 }
 
 // What the newest is, with its last part.
-#[inline(always)]
+#[inline(never)]
 fn end_popped(
     stack: &mut Vec<Pending>,
     popped: Pending,
@@ -478,7 +488,141 @@ fn end_popped(
     }
 }
 
-/// What a token leaves that ends a part of the newest opening, with that part.
+// The newest opening, whatever it is, with its last part.
+#[inline(never)]
+fn end_any(stack: &mut Vec<Pending>, part: Part, end: End) -> Result<Mode, ParseFault>
+    ensures { (ws : List Waiting) (x : Tree) → SeesStack stack.old.items ws → Sees part x →
+        Follows result stack.new.items (marked end.mark end.at ws x) }
+{
+    match stack.pop() {
+        Some(popped) => end_popped(stack, popped, part, end),
+        None => refuse(part),
+    }
+}
+
+// The newest opening, which is a `(`, with its last part.
+#[inline(never)]
+fn end_newest_round(stack: &mut Vec<Pending>, part: Part, end: End) -> Result<Mode, ParseFault>
+    ensures { (ws : List Waiting) (x : Tree) → SeesStack stack.old.items ws → Sees part x →
+        Follows result stack.new.items (marked end.mark end.at ws x) }
+{
+    match stack.pop() {
+        Some(Pending::Open(Opening::Round(from))) => end_round(from, part, end),
+        Some(other) => end_popped(stack, other, part, end),
+        None => refuse(part),
+    }
+}
+
+// The newest opening, which is a call, with its last part.
+#[inline(never)]
+fn end_newest_call(stack: &mut Vec<Pending>, part: Part, end: End) -> Result<Mode, ParseFault>
+    ensures { (ws : List Waiting) (x : Tree) → SeesStack stack.old.items ws → Sees part x →
+        Follows result stack.new.items (marked end.mark end.at ws x) }
+{
+    match stack.pop() {
+        Some(Pending::Open(Opening::Call { name, from })) => end_call(name, from, part, end),
+        Some(other) => end_popped(stack, other, part, end),
+        None => refuse(part),
+    }
+}
+
+// The newest opening, which is a list, with its last part.
+#[inline(never)]
+fn end_newest_list(stack: &mut Vec<Pending>, part: Part, end: End) -> Result<Mode, ParseFault>
+    ensures { (ws : List Waiting) (x : Tree) → SeesStack stack.old.items ws → Sees part x →
+        Follows result stack.new.items (marked end.mark end.at ws x) }
+{
+    match stack.pop() {
+        Some(
+            Pending::Open(
+                Opening::List {
+                    from,
+                    some,
+                    elements,
+                },
+            ),
+        ) => end_list(stack, some, elements, from, part, end),
+        Some(other) => end_popped(stack, other, part, end),
+        None => refuse(part),
+    }
+}
+
+// The newest opening, which is a pattern that is to come, with its last part.
+#[inline(never)]
+fn end_newest_binders(stack: &mut Vec<Pending>, part: Part, end: End) -> Result<Mode, ParseFault>
+    ensures { (ws : List Waiting) (x : Tree) → SeesStack stack.old.items ws → Sees part x →
+        Follows result stack.new.items (marked end.mark end.at ws x) }
+{
+    match stack.pop() {
+        Some(
+            Pending::Open(
+                Opening::Binders {
+                    group,
+                    bindings,
+                    ..
+                },
+            ),
+        ) => end_pattern(stack, group, bindings, part, end),
+        Some(other) => end_popped(stack, other, part, end),
+        None => refuse(part),
+    }
+}
+
+// The newest opening, which is a binder, with its last part.
+#[inline(never)]
+fn end_newest_value(stack: &mut Vec<Pending>, part: Part, end: End) -> Result<Mode, ParseFault>
+    ensures { (ws : List Waiting) (x : Tree) → SeesStack stack.old.items ws → Sees part x →
+        Follows result stack.new.items (marked end.mark end.at ws x) }
+{
+    match stack.pop() {
+        Some(
+            Pending::Open(
+                Opening::Value {
+                    group,
+                    bindings,
+                    pattern,
+                },
+            ),
+        ) => end_value(stack, group, bindings, pattern, part, end),
+        Some(other) => end_popped(stack, other, part, end),
+        None => refuse(part),
+    }
+}
+
+/// The openings that most tokens end a part of.
+#[derive(Clone, Copy)]
+enum Usual {
+    Round,
+    Call,
+    List,
+    Binders,
+    Value,
+}
+
+// Which of these an opening is.
+#[inline(always)]
+fn usual_of(opening: &Opening) -> Option<Usual> {
+    match opening {
+        Opening::Round(_) => Some(Usual::Round),
+        Opening::Call { .. } => Some(Usual::Call),
+        Opening::List { .. } => Some(Usual::List),
+        Opening::Binders { .. } => Some(Usual::Binders),
+        Opening::Value { .. } => Some(Usual::Value),
+        _ => None,
+    }
+}
+
+// Which of these the newest is.
+#[inline(always)]
+fn newest_usual(stack: &[Pending]) -> Option<Usual> {
+    match newest(stack) {
+        Some(Pending::Open(opening)) => usual_of(opening),
+        _ => None,
+    }
+}
+
+/// What a token leaves that ends a part of the newest opening, with that part. That is looked at before it is taken
+/// off: a function pays at each call for all that it may hold, so each of the usual ones has a function of its own.
 #[inline(always)]
 pub fn end_part(
     alloc: Global,
@@ -491,8 +635,12 @@ pub fn end_part(
         Follows result stack.new.items (marked mark at ws x) }
 {
     let end = End { alloc, mark, at };
-    match stack.pop() {
-        Some(popped) => end_popped(stack, popped, part, end),
-        None => refuse(part),
+    match newest_usual(stack.as_slice()) {
+        Some(Usual::Round) => end_newest_round(stack, part, end),
+        Some(Usual::Call) => end_newest_call(stack, part, end),
+        Some(Usual::List) => end_newest_list(stack, part, end),
+        Some(Usual::Binders) => end_newest_binders(stack, part, end),
+        Some(Usual::Value) => end_newest_value(stack, part, end),
+        None => end_any(stack, part, end),
     }
 }
