@@ -1,6 +1,6 @@
 //! Which built-in function a name or a sign is.
 
-ghost use Rattle.std.specs.Prelude.{◌≡◌, map};
+ghost use Rattle.std.specs.Prelude.{◌≡◌, ◌∷◌, ℕ, List, map};
 ghost use Rattle.nesl_builtins.specs.Named.{look_up, builtin_named, infix_builtin, prefix_builtin};
 
 use nesl_scalars::{Binary, Unary};
@@ -18,54 +18,70 @@ pub enum Builtin {
     OfSequences(SeqFn),
 }
 
-/// The built-in functions that are called by a name.
-const NAMES: [(&[u8], Builtin); 46] = [
-    (b"not", Builtin::OfOne(Unary::Not)),
-    (b"plusp", Builtin::OfOne(Unary::Plusp)),
-    (b"minusp", Builtin::OfOne(Unary::Minusp)),
-    (b"zerop", Builtin::OfOne(Unary::Zerop)),
-    (b"oddp", Builtin::OfOne(Unary::Oddp)),
-    (b"evenp", Builtin::OfOne(Unary::Evenp)),
-    (b"negate", Builtin::OfOne(Unary::Negate)),
+/// The built-in functions whose names begin with a to c.
+const TO_C: [(&[u8], Builtin); 9] = [
     (b"abs", Builtin::OfOne(Unary::Abs)),
-    (b"isqrt", Builtin::OfOne(Unary::Isqrt)),
     (b"btoi", Builtin::OfOne(Unary::Btoi)),
     (b"char_code", Builtin::OfOne(Unary::CharCode)),
     (b"code_char", Builtin::OfOne(Unary::CodeChar)),
-    (b"rem", Builtin::OfTwo(Binary::Rem)),
-    (b"max", Builtin::OfTwo(Binary::Max)),
-    (b"min", Builtin::OfTwo(Binary::Min)),
-    (b"lshift", Builtin::OfTwo(Binary::Lshift)),
-    (b"rshift", Builtin::OfTwo(Binary::Rshift)),
-    (b"dist", Builtin::OfSequences(SeqFn::Dist)),
-    (b"index", Builtin::OfSequences(SeqFn::Index)),
-    (b"sum", Builtin::OfSequences(SeqFn::Sum)),
-    (b"max_val", Builtin::OfSequences(SeqFn::MaxVal)),
-    (b"min_val", Builtin::OfSequences(SeqFn::MinVal)),
     (b"any", Builtin::OfSequences(SeqFn::Any)),
     (b"all", Builtin::OfSequences(SeqFn::All)),
     (b"count", Builtin::OfSequences(SeqFn::Count)),
-    (b"max_index", Builtin::OfSequences(SeqFn::MaxIndex)),
-    (b"min_index", Builtin::OfSequences(SeqFn::MinIndex)),
-    (b"plus_scan", Builtin::OfSequences(SeqFn::PlusScan)),
-    (b"or_scan", Builtin::OfSequences(SeqFn::OrScan)),
     (b"and_scan", Builtin::OfSequences(SeqFn::AndScan)),
-    (b"flatten", Builtin::OfSequences(SeqFn::Flatten)),
-    (b"partition", Builtin::OfSequences(SeqFn::Partition)),
-    (b"split", Builtin::OfSequences(SeqFn::Split)),
     (b"bottop", Builtin::OfSequences(SeqFn::Bottop)),
-    (b"take", Builtin::OfSequences(SeqFn::Take)),
+];
+
+/// The built-in functions whose names begin with d to l.
+const TO_L: [(&[u8], Builtin); 10] = [
+    (b"evenp", Builtin::OfOne(Unary::Evenp)),
+    (b"isqrt", Builtin::OfOne(Unary::Isqrt)),
+    (b"lshift", Builtin::OfTwo(Binary::Lshift)),
+    (b"dist", Builtin::OfSequences(SeqFn::Dist)),
+    (b"index", Builtin::OfSequences(SeqFn::Index)),
+    (b"flatten", Builtin::OfSequences(SeqFn::Flatten)),
     (b"drop", Builtin::OfSequences(SeqFn::Drop)),
-    (b"reverse", Builtin::OfSequences(SeqFn::Reverse)),
-    (b"rotate", Builtin::OfSequences(SeqFn::Rotate)),
-    (b"odd_elts", Builtin::OfSequences(SeqFn::OddElts)),
     (b"even_elts", Builtin::OfSequences(SeqFn::EvenElts)),
     (b"interleave", Builtin::OfSequences(SeqFn::Interleave)),
-    (b"zip", Builtin::OfSequences(SeqFn::Zip)),
-    (b"unzip", Builtin::OfSequences(SeqFn::Unzip)),
+    (b"eql", Builtin::OfSequences(SeqFn::Eql)),
+];
+
+/// The built-in functions whose names begin with m to o.
+const TO_O: [(&[u8], Builtin); 12] = [
+    (b"not", Builtin::OfOne(Unary::Not)),
+    (b"minusp", Builtin::OfOne(Unary::Minusp)),
+    (b"oddp", Builtin::OfOne(Unary::Oddp)),
+    (b"negate", Builtin::OfOne(Unary::Negate)),
+    (b"max", Builtin::OfTwo(Binary::Max)),
+    (b"min", Builtin::OfTwo(Binary::Min)),
+    (b"max_val", Builtin::OfSequences(SeqFn::MaxVal)),
+    (b"min_val", Builtin::OfSequences(SeqFn::MinVal)),
+    (b"max_index", Builtin::OfSequences(SeqFn::MaxIndex)),
+    (b"min_index", Builtin::OfSequences(SeqFn::MinIndex)),
+    (b"or_scan", Builtin::OfSequences(SeqFn::OrScan)),
+    (b"odd_elts", Builtin::OfSequences(SeqFn::OddElts)),
+];
+
+/// The built-in functions whose names begin with p to r.
+const TO_R: [(&[u8], Builtin); 9] = [
+    (b"plusp", Builtin::OfOne(Unary::Plusp)),
+    (b"rem", Builtin::OfTwo(Binary::Rem)),
+    (b"rshift", Builtin::OfTwo(Binary::Rshift)),
+    (b"plus_scan", Builtin::OfSequences(SeqFn::PlusScan)),
+    (b"partition", Builtin::OfSequences(SeqFn::Partition)),
+    (b"reverse", Builtin::OfSequences(SeqFn::Reverse)),
+    (b"rotate", Builtin::OfSequences(SeqFn::Rotate)),
     (b"permute", Builtin::OfSequences(SeqFn::Permute)),
     (b"rep", Builtin::OfSequences(SeqFn::Rep)),
-    (b"eql", Builtin::OfSequences(SeqFn::Eql)),
+];
+
+/// The built-in functions whose names begin with s on.
+const TO_Z: [(&[u8], Builtin); 6] = [
+    (b"zerop", Builtin::OfOne(Unary::Zerop)),
+    (b"sum", Builtin::OfSequences(SeqFn::Sum)),
+    (b"split", Builtin::OfSequences(SeqFn::Split)),
+    (b"take", Builtin::OfSequences(SeqFn::Take)),
+    (b"zip", Builtin::OfSequences(SeqFn::Zip)),
+    (b"unzip", Builtin::OfSequences(SeqFn::Unzip)),
 ];
 
 /// What the table has beside the name.
@@ -81,11 +97,30 @@ fn entry(mut table: &[(&[u8], Builtin)], name: &[u8]) -> Option<Builtin>
     None
 }
 
+/// The built-in functions whose names begin with letters near this one, so that few names are gone over.
+fn names_near(first: u8) -> &'static [(&'static [u8], Builtin)]
+    ensures { (rest : List ℕ) → builtin_named (first ∷ rest)
+        ≡ look_up (first ∷ rest) (map (λ e. (e.0.now, e.1)) result.now) }
+{
+    if first < b'm' {
+        if first < b'd' { &TO_C } else { &TO_L }
+    } else if first < b'p' {
+        &TO_O
+    } else if first < b's' {
+        &TO_R
+    } else {
+        &TO_Z
+    }
+}
+
 /// The built-in function that is called by the name.
 pub fn named(name: &[u8]) -> Option<Builtin>
     ensures { result ≡ builtin_named name.now }
 {
-    entry(&NAMES, name)
+    match name {
+        [] => None,
+        [first, ..] => entry(names_near(*first), name),
+    }
 }
 
 /// The built-in function that the operator between two expressions is. The two are a pair for it.

@@ -1,6 +1,5 @@
-use Rattle.nesl_builtins.specs.Named.{builtin_named}
+use Rattle.nesl_builtins.proofs.Near.{unnamed}
 use Rattle.nesl_builtins.proofs.builtin.named.Goals as goal
 
-pub returns : goal.returns
-unfolding builtin_named
-returns c = c.entry.ensures
+pub returns-in-empty : goal.returns-in-empty
+returns-in-empty c = unnamed c.args.name.now c.in-empty.len_below
