@@ -24,7 +24,7 @@ pub fn no_memory() -> &'static [u8]
 }
 
 /// For how many bytes a reply takes room at first.
-const ROOM: usize = 64;
+const ROOM: usize = 128;
 
 /// How many there are of how many that there may be.
 #[derive(Clone, Copy, PartialEq, Eq, Debug)]

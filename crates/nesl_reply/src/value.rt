@@ -21,6 +21,9 @@ use nesl_types::{Context, Kind, Part, Top, Ty};
 use nesl_values::{Items, Shape, Value};
 use std::alloc::{AllocError, Global};
 
+/// For how many tasks there is room at first.
+const TASKS: usize = 8;
+
 /// What is still to be written.
 #[derive(Drop)]
 pub enum Task<'a> {
@@ -57,8 +60,12 @@ pub(crate) fn write_value<P: Drop>(
     ensures { OnOk result (out.new.items ≡ out.old.items
         ++ text_of_value (datatypes context.now) true ty.now (tree_of value.now)) }
 {
-    let mut tasks = Vec::new(alloc);
-    plan(&mut tasks, Task::Value(value, ty.whole(), true))?;
+    let room = match value.shape() {
+        Shape::Int(_) | Shape::Bool(_) | Shape::Char(_) => 0,
+        _ => TASKS,
+    };
+    let mut tasks = Vec::with_capacity(alloc, room)?;
+    write_front(out, &mut tasks, context, value, &ty.whole(), true)?;
     while let Some(task) = next_task(&mut tasks) {
         write_task(out, &mut tasks, context, task)?;
     }

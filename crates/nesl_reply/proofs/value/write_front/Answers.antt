@@ -1,4 +1,4 @@
-use Rattle.std.proofs.Common.{◌≡◌, ◌++◌, ap, sym, ◌∙◌, subst}
+use Rattle.std.proofs.Common.{◌≡◌, ◌++◌, ap, sym, ◌∙◌}
 use Rattle.nesl_values.specs.Tree.{sequence}
 use Rattle.nesl_values.specs.View.{tree_of, item_trees}
 use Rattle.nesl_reply.specs.Values.{datatypes, value_text as text_of_value}

@@ -1,6 +1,6 @@
 use Rattle.std.proofs.Common.{◌≡◌, map, ap, sym}
 use Rattle.nesl_values.specs.Tree.{int, boolean, character, sequence}
-use Rattle.nesl_values.specs.View.{tree_of, item_trees}
+use Rattle.nesl_values.specs.View.{item_trees}
 use Rattle.nesl_reply.specs.Tasks.{tasks_text}
 use Rattle.nesl_reply.proofs.Lists.{front_written}
 use Rattle.nesl_reply.proofs.value.write_items.Goals as goal
