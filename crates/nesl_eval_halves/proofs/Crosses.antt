@@ -15,7 +15,8 @@ use Rattle.nesl_eval_ops.specs.contracts.ops.Ops as ops_row
 use Rattle.nesl_eval_code.specs.contracts.code.Code as code_row
 use Rattle.nesl_eval_code.proofs.code.Code.TheLaws.TheKnot as code_knot
 use Rattle.nesl_eval_ops.specs.contracts.ops.Body as body_row
-use Rattle.nesl_eval_ops.specs.contracts.ops.Leaf as leaf_row
+use Rattle.nesl_eval_ops.proofs.ops.Leaf.TheSendSync as leaf_crosses
+use Rattle.nesl_eval_ops.proofs.spans.ShortSpan.TheSendSync as short_span_crosses
 use Rattle.nesl_eval_ops.proofs.ops.Block.TheLaws.TheKnot as ops_knot
 use Rattle.nesl_eval_halves.specs.contracts.turns.Interval as interval_row
 use Rattle.nesl_eval_halves.proofs.crew.Crew.TheSendSync as crew_crosses
@@ -27,14 +28,11 @@ value_sync = search (sendable, standard.crosses, value_knot.crosses) depth 20
 code_sync : IsSync (as_row code_row.the_field)
 code_sync = search (sendable, standard.crosses, code_knot.crosses, span_crosses.the_field_sync, builtin_crosses.the_field_sync, step_crosses.the_sync) depth 20 fits 100000
 
-leaf_sync : IsSync (as_row leaf_row.the_field)
-leaf_sync = search (sendable, standard.crosses, span_crosses.the_field_sync, step_crosses.the_sync) depth 20 fits 100000
-
 pub ops_sync : IsSync ops_row.the_row
-ops_sync = search (sendable, standard.crosses, ops_knot.crosses, code_sync, leaf_sync, span_crosses.the_field_sync, builtin_crosses.the_field_sync) depth 40 fits 1000000
+ops_sync = search (sendable, standard.crosses, ops_knot.crosses, code_sync, leaf_crosses.the_sync, span_crosses.the_field_sync, short_span_crosses.the_sync, builtin_crosses.the_field_sync) depth 40 fits 1000000
 
 pub body_sync : IsSync body_row.the_row
-body_sync = search (sendable, standard.crosses, ops_knot.crosses, code_sync, leaf_sync, span_crosses.the_field_sync, builtin_crosses.the_field_sync) depth 40 fits 1000000
+body_sync = search (sendable, standard.crosses, ops_knot.crosses, code_sync, leaf_crosses.the_sync, span_crosses.the_field_sync, short_span_crosses.the_sync, builtin_crosses.the_field_sync) depth 40 fits 1000000
 
 -- places, with what stands around them
 pub interval_sync : (a : NamedLft) (R H G T : RattleType) → IsSync R → IsSync H → IsSync G → IsSync T → IsSync (interval_row.the_row a R H G T)

@@ -1,15 +1,12 @@
 -- What leaves are found to be.
 use Rattle.std.proofs.Common.{◌≡◌, ℕ, zero, suc, ◌+◌, ◌≤◌, subst, Ok, Err, refl, sym, ◌∙◌, ap, arith, List, [], ◌∷◌, map, drop, length, Option, Some, None, Result}
-use Rattle.std.specs.Prelude.{slice_get, option_and_then, MatchResult, ◌==◌, true}
+use Rattle.std.specs.Prelude.{slice_get, option_and_then, MatchResult}
 use Rattle.std.proofs.lemmas.List.{length-map}
-use Rattle.std.proofs.lemmas.Bool.Decides.{nat_tests}
 use Rattle.std.proofs.lemmas.Option.{slice_get_past}
 use Rattle.nesl_values.specs.View.{tree_of}
 use Rattle.nesl_values.specs.declared.value.Value as code
 use Rattle.nesl_eval_meaning.specs.Names.{Value}
-use Rattle.nesl_eval_meaning.specs.Out.{Out, value, given}
-use Rattle.nesl_eval_code.specs.declared.code.Step.{Step}
-use Rattle.nesl_eval_code.specs.Frames.{followed}
+use Rattle.nesl_eval_meaning.specs.Out.{value}
 use Rattle.nesl_eval_blocks.specs.Exec.{value_at}
 use Rattle.nesl_eval_nodes.specs.declared.meter.Stop.{Stop}
 use Rattle.nesl_eval_nodes.specs.declared.meter.Stop.TheVariants.{Memory}
@@ -37,15 +34,6 @@ at_some (x ∷ xs) (suc k) = at_some xs k
 pub value_there : {A : Type 0} (xs : List (code.Value A)) (b i k : ℕ) (o : Option Value) → k ≡ b + i → o ≡ slice_get (map tree_of xs) k → value_at (drop b (places_of xs)) i ≡ o
 value_there xs b i k o e at =
     ap (option_and_then (λ q. q)) (further (places_of xs) b i) ∙ at_some (map tree_of xs) (b + i) ∙ ap (slice_get (map tree_of xs)) (sym e) ∙ sym at
-
--- no steps lead on
-no_steps : (o : Option Value) (k : Value → Out Value) → given (option_and_then (followed []) o) k ≡ given o k
-no_steps None k = refl
-no_steps (Some v) k = refl
-
-pub no_path : (o : Option Value) (steps : List Step) (k : Value → Out Value) → (length steps == 0) ≡ true → given o k ≡ given (option_and_then (followed steps) o) k
-no_path o [] k e = sym (no_steps o k)
-no_path o (s ∷ steps) k e = let none : suc (length steps) ≡ 0 = grind (arith, nat_tests) in absurd (omega arith)
 
 -- another owner of a value
 pub owned : {A : Type 0} (m : Meter) (r : Result (code.Value A) Stop) (x : Value) → MatchResult r (λ v. tree_of v ≡ x) (λ e. e ≡ Memory) → Meets Is m r m (value x 0 0)

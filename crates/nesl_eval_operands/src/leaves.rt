@@ -1,9 +1,10 @@
 //! The values of leaves.
-ghost use Rattle.std.specs.Prelude.{◌≡◌, ◌+◌, ◌<◌, ◌≤◌, ◌^◌, drop, map, slice_get, option_and_then, option_map};
-ghost use Rattle.std.specs.Prelude.{MatchResult};
+ghost use Rattle.std.specs.Prelude.{◌≡◌, ◌∷◌, [], ◌+◌, ◌<◌, ◌≤◌, ◌^◌, drop, map, slice_get};
+ghost use Rattle.std.specs.Prelude.{MatchResult, option_and_then, option_map};
 ghost use Rattle.nesl_values.specs.View.{tree_of};
 ghost use Rattle.nesl_eval_meaning.specs.Out.{value, given};
 ghost use Rattle.nesl_eval_code.specs.Frames.{followed};
+ghost use Rattle.nesl_eval_code.specs.declared.code.Step.TheVariants.{Left, Right};
 ghost use Rattle.nesl_eval_blocks.specs.Exec.{admitted, value_at, leaf_value, leaf_out};
 ghost use Rattle.nesl_eval_ops.specs.View.{what_is, leaf_is};
 ghost use Rattle.nesl_eval_nodes.specs.declared.meter.Meter.{Meter};
@@ -15,7 +16,7 @@ use nesl_eval_nodes::held::Tops;
 use nesl_eval_nodes::meter::{Meter, Stop};
 use nesl_eval_nodes::nodes::{find_top, make_empty, make_text, named_top, share};
 use nesl_eval_nodes::scope::part_of;
-use nesl_eval_ops::{Leaf, What};
+use nesl_eval_ops::{Leaf, Part, What};
 use nesl_lex::token::Span;
 use nesl_scalars::Trap;
 use nesl_values::Value;
@@ -82,7 +83,7 @@ fn lent_at<'x, A: Allocator>(slots: &'x Vec<Value<A>, A>, index: usize) -> Optio
     slots.get(index)
 }
 
-// The value of a local name.
+// The value of a local name without steps.
 #[inline(always)]
 fn whole_local<A: Allocator>(
     slots: &Vec<Value<A>, A>,
@@ -90,7 +91,8 @@ fn whole_local<A: Allocator>(
     place: usize,
 ) -> Result<Value<A>, Stop>
     ensures { (m : Meter) → Meets Is m result m
-        (given (value_at (drop base (places_of slots.now.items)) place) (λ v. value v 0 0)) }
+        (given (option_and_then (followed []) (value_at (drop base (places_of slots.now.items)) place))
+        (λ v. value v 0 0)) }
 {
     match base.checked_add(place) {
         Some(index) => match lent_at(slots, index) {
@@ -116,9 +118,9 @@ fn lent_part<'x, A: Allocator>(
     part_of(whole, steps)
 }
 
-// The value of a local name, which `steps` reach from what stands at a place.
-#[inline(never)]
-fn part_of_local<A: Allocator>(
+// What `steps` reach from what stands at a place.
+#[inline(always)]
+fn part_at<A: Allocator>(
     slots: &Vec<Value<A>, A>,
     base: usize,
     place: usize,
@@ -134,38 +136,74 @@ fn part_of_local<A: Allocator>(
     }
 }
 
-// The value of a local name, where it is called.
-#[inline(always)]
-fn part_apart<A: Allocator>(
+// A part of what stands at a place.
+#[inline(never)]
+fn part_of_local<A: Allocator>(
     slots: &Vec<Value<A>, A>,
     base: usize,
-    place: usize,
-    steps: &[Step],
+    part: &Part,
 ) -> Result<Value<A>, Stop>
-    ensures { (m : Meter) → Meets Is m result m
-        (given (option_and_then (followed steps.now) (value_at (drop base (places_of slots.now.items)) place))
+    ensures { let p = part.now in (m : Meter) → Meets Is m result m
+        (given (option_and_then (followed p.steps.items) (value_at (drop base (places_of slots.now.items)) p.place))
         (λ v. value v 0 0)) }
 {
-    part_of_local(slots, base, place, steps)
+    part_at(slots, base, part.place, &part.steps)
 }
 
-// The value of a local name, which `steps` reach from what stands at a place. Mostly there are none.
-#[inline(always)]
-fn local_value<A: Allocator>(
+// The left part of the pair at a place.
+#[inline(never)]
+fn left_of_local<A: Allocator>(
     slots: &Vec<Value<A>, A>,
     base: usize,
     place: usize,
-    steps: &[Step],
 ) -> Result<Value<A>, Stop>
     ensures { (m : Meter) → Meets Is m result m
-        (given (option_and_then (followed steps.now) (value_at (drop base (places_of slots.now.items)) place))
+        (given (option_and_then (followed (Left ∷ [])) (value_at (drop base (places_of slots.now.items)) place))
         (λ v. value v 0 0)) }
 {
-    if steps.is_empty() {
-        whole_local(slots, base, place)
-    } else {
-        part_apart(slots, base, place, steps)
-    }
+    part_at(slots, base, place, &[Step::Left])
+}
+
+// The left part of the pair at a place, where it is called.
+#[inline(always)]
+fn left_apart<A: Allocator>(
+    slots: &Vec<Value<A>, A>,
+    base: usize,
+    place: usize,
+) -> Result<Value<A>, Stop>
+    ensures { (m : Meter) → Meets Is m result m
+        (given (option_and_then (followed (Left ∷ [])) (value_at (drop base (places_of slots.now.items)) place))
+        (λ v. value v 0 0)) }
+{
+    left_of_local(slots, base, place)
+}
+
+// The right part of the pair at a place.
+#[inline(never)]
+fn right_of_local<A: Allocator>(
+    slots: &Vec<Value<A>, A>,
+    base: usize,
+    place: usize,
+) -> Result<Value<A>, Stop>
+    ensures { (m : Meter) → Meets Is m result m
+        (given (option_and_then (followed (Right ∷ [])) (value_at (drop base (places_of slots.now.items)) place))
+        (λ v. value v 0 0)) }
+{
+    part_at(slots, base, place, &[Step::Right])
+}
+
+// The right part of the pair at a place, where it is called.
+#[inline(always)]
+fn right_apart<A: Allocator>(
+    slots: &Vec<Value<A>, A>,
+    base: usize,
+    place: usize,
+) -> Result<Value<A>, Stop>
+    ensures { (m : Meter) → Meets Is m result m
+        (given (option_and_then (followed (Right ∷ [])) (value_at (drop base (places_of slots.now.items)) place))
+        (λ v. value v 0 0)) }
+{
+    right_of_local(slots, base, place)
 }
 
 // The value of a leaf that was entered, of any kind.
@@ -186,7 +224,10 @@ fn any_leaf_value<A: Allocator + Copy, T: Tops<A>>(
         What::Character(character) => Ok(Value::Char(*character)),
         What::Text(bytes) => make_text(bytes, meter, *sight.alloc),
         What::Empty => make_empty(*sight.alloc),
-        What::Local { place, steps } => local_value(sight.slots, sight.base, *place, steps),
+        What::Local(place) => whole_local(sight.slots, sight.base, *place),
+        What::Left(place) => left_of_local(sight.slots, sight.base, *place),
+        What::Right(place) => right_of_local(sight.slots, sight.base, *place),
+        What::Part(part) => part_of_local(sight.slots, sight.base, part),
         What::Missing => Err(Stop::Stuck),
         What::Top(place) => find_top(sight.tops, *place),
         What::Named(name) => named_top(sight.tops, name),
@@ -224,7 +265,9 @@ fn leaf_value<A: Allocator + Copy, T: Tops<A>>(
 {
     match what {
         What::Number(number) => Ok(Value::Int(*number)),
-        What::Local { place, steps } => local_value(sight.slots, sight.base, *place, steps),
+        What::Local(place) => whole_local(sight.slots, sight.base, *place),
+        What::Left(place) => left_apart(sight.slots, sight.base, *place),
+        What::Right(place) => right_apart(sight.slots, sight.base, *place),
         _ => value_apart(sight, what, meter),
     }
 }
@@ -242,6 +285,6 @@ pub fn enter_leaf<A: Allocator + Copy, T: Tops<A>>(
         (drop sight.now.base (places_of sight.now.slots.now.items)) (leaf_is leaf.now)) }
     ensures spent { meter.new.fuel + meter.new.depth ≤ meter.old.fuel + meter.old.depth }
 {
-    enter_at(meter, sight.levels, height, leaf.span)?;
+    enter_at(meter, sight.levels, height, leaf.span.whole())?;
     leaf_value(sight, &leaf.what, meter)
 }

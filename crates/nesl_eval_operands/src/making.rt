@@ -217,8 +217,8 @@ pub fn make_of_two<A: Allocator + Copy>(
         (made_of node.now.span (two_is node.now.two) (tree_of left ∷ tree_of right ∷ [])) }
     ensures spent { meter.new.fuel + meter.new.depth ≤ meter.old.fuel + meter.old.depth }
 {
-    match node.two {
-        Two::Of(function) => apply_to_both(function, left, right, node.span, meter, alloc),
+    match &node.two {
+        Two::Of(function) => apply_to_both(*function, left, right, node.span.whole(), meter, alloc),
         _ => make_apart(node, left, right, meter, alloc),
     }
 }
@@ -254,13 +254,13 @@ fn make_any_of_two<A: Allocator + Copy>(
         (made_of node.now.span (two_is node.now.two) (tree_of left ∷ tree_of right ∷ [])) }
     ensures spent { meter.new.fuel + meter.new.depth ≤ meter.old.fuel + meter.old.depth }
 {
-    match node.two {
-        Two::Of(function) => apply_to_both(function, left, right, node.span, meter, alloc),
-        Two::OfPair(within, function) => {
-            fit_in_pair(&left, &right, within)?;
-            apply_to_both(function, left, right, node.span, meter, alloc)
+    match &node.two {
+        Two::Of(function) => apply_to_both(*function, left, right, node.span.whole(), meter, alloc),
+        Two::OfPair(function, within) => {
+            fit_in_pair(&left, &right, within.whole())?;
+            apply_to_both(*function, left, right, node.span.whole(), meter, alloc)
         }
-        Two::Pair => make_pair(left, right, node.span, alloc),
+        Two::Pair => make_pair(left, right, node.span.whole(), alloc),
     }
 }
 

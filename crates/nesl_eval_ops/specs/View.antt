@@ -2,6 +2,7 @@
 use Rattle.std.specs.Prelude.{◌≡◌, ℕ, List, [], ◌∷◌, map, slice_get, Option, Some, None}
 use Rattle.std.specs.Global.{Box}
 use Rattle.nesl_eval_code.specs.declared.code.Code.{Code}
+use Rattle.nesl_eval_code.specs.declared.code.Step.TheVariants as step
 use Rattle.nesl_eval_code.specs.Run.{Table, slot_at, function_slot}
 use Rattle.nesl_eval_blocks.specs.Block as block
 use Rattle.nesl_eval_blocks.specs.Block.{Block, finish, push, enter, make, choose, last, call, bind, forget, each}
@@ -9,8 +10,8 @@ use Rattle.nesl_eval_blocks.specs.Block.{filtered}
 use Rattle.nesl_eval_blocks.specs.Flat.{flat}
 use Rattle.nesl_eval_blocks.specs.Flat as laying
 use Rattle.nesl_eval_ops.specs.declared.ops.What.{What}
-use Rattle.nesl_eval_ops.specs.declared.ops.What.TheVariants.{Number, Truth, Character, Text, Empty, Local, Missing}
-use Rattle.nesl_eval_ops.specs.declared.ops.What.TheVariants.{Top, Named}
+use Rattle.nesl_eval_ops.specs.declared.ops.What.TheVariants.{Number, Truth, Character, Text, Empty, Local, Left, Right}
+use Rattle.nesl_eval_ops.specs.declared.ops.What.TheVariants.{Part, Missing, Top, Named}
 use Rattle.nesl_eval_ops.specs.declared.ops.Leaf.{Leaf}
 use Rattle.nesl_eval_ops.specs.declared.ops.Two.{Two}
 use Rattle.nesl_eval_ops.specs.declared.ops.Two.TheVariants as two
@@ -31,19 +32,22 @@ abbrev pub what_is : What → block.What
 what_is (Number z) = block.number z
 what_is (Truth b) = block.truth b
 what_is (Character c) = block.character c
-what_is (Text cs) = block.text cs.items
+what_is (Text cs) = block.text cs.value.items
 what_is Empty = block.empty
-what_is (Local k steps) = block.local k steps.items
+what_is (Local k) = block.local k []
+what_is (Left k) = block.local k (step.Left ∷ [])
+what_is (Right k) = block.local k (step.Right ∷ [])
+what_is (Part p) = block.local p.value.place p.value.steps.items
 what_is Missing = block.missing
 what_is (Top k) = block.top k
-what_is (Named x) = block.by_name x.items
+what_is (Named x) = block.by_name x.value.items
 
 abbrev pub leaf_is : Leaf → block.Leaf
 leaf_is l = record { span = l.span; what = what_is l.what }
 
 abbrev pub two_is : Two → block.Maker
 two_is (two.Of g) = block.of_two g
-two_is (two.OfPair s g) = block.of_pair s g
+two_is (two.OfPair g s) = block.of_pair s g
 two_is two.Pair = block.pairing
 
 abbrev pub many_is : Many → block.Maker

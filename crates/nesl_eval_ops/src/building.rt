@@ -2,16 +2,19 @@
 //!
 //! None of them is inlined into those that recur over code: each holds an operation on the stack until it is boxed.
 ghost use Rattle.std.specs.Prelude.{◌≡◌, ◌∷◌, [], IfOk, IfSome, None, map, option_map};
-ghost use Rattle.nesl_eval_blocks.specs.Block.{push, enter, make, call, bind, each, filtered, of_one, called_by};
+ghost use Rattle.nesl_eval_blocks.specs.Block.{push, enter, make, call, bind, each, filtered};
+ghost use Rattle.nesl_eval_blocks.specs.Block.{of_one, of_pair, called_by};
 ghost use Rattle.nesl_eval_blocks.specs.Flat.{rest, deciding, forgetting, flat, room};
 ghost use Rattle.nesl_eval_ops.specs.Copies.{IsLaidAs};
 ghost use Rattle.nesl_eval_ops.specs.View.{block_of, block_in, body_block, sizes_of};
 ghost use Rattle.nesl_eval_ops.specs.View.{leaf_is, two_is, many_is, callee_is};
 
 use crate::copying::{NoCopy, copy_plain, is_plain};
-use crate::ops::{Block, Body, Callee, Leaf, ManyNode, OneNode, Ops, Plain, TwoNode};
+use crate::ops::{Block, Body, Callee, Leaf, ManyNode, OneNode, Ops, Plain, Two, TwoNode};
 use crate::places::Place;
 use crate::sizes::{list_of, room};
+use crate::spans::ShortSpan;
+use nesl_builtins::Builtin;
 use nesl_eval_code::Code;
 use nesl_lex::token::Span;
 use std::alloc::{AllocError, Global};
@@ -82,6 +85,33 @@ pub(crate) fn of_top(
     ensures { IfOk result (λ o. block_in o ≡ make node.height node.span (of_one node.function) 1 [] (block_in next)) }
 {
     boxed(alloc, Ops::OfTop { node, next })
+}
+
+/// A node of two values, at the height of its parts.
+#[inline(never)]
+pub(crate) fn two_node(at: &Place<'_>, span: Span, two: Two) -> Result<TwoNode, AllocError>
+    ensures { IfOk result (λ n. (n.height ≡ at.now.height) × (n.span ≡ span) × (two_is n.two ≡ two_is two)) }
+{
+    Ok(TwoNode {
+        height: at.height,
+        span: ShortSpan::new(span)?,
+        two,
+    })
+}
+
+/// A function of a pair that is written out with the span `within`, at the height of its parts.
+#[inline(never)]
+pub(crate) fn pair_node(
+    at: &Place<'_>,
+    span: Span,
+    function: Builtin,
+    within: Span,
+) -> Result<TwoNode, AllocError>
+    ensures { IfOk result (λ n. (n.height ≡ at.now.height) × (n.span ≡ span)
+        × (two_is n.two ≡ of_pair within function)) }
+{
+    let within = ShortSpan::new(within)?;
+    two_node(at, span, Two::OfPair(function, within))
 }
 
 /// A node of the two values on top.

@@ -10,7 +10,7 @@ ghost use Rattle.nesl_eval_ops.specs.Lists.{part_on, parts_on, binding_on};
 
 use crate::building::{
     bound, calling, deciding, each_of, enter, filtered_of, forgetting, kept, named, of_leaf,
-    of_leaves, of_many, of_top, of_top_and_leaf, of_tops, push, rest,
+    of_leaves, of_many, of_top, of_top_and_leaf, of_tops, pair_node, push, rest, two_node,
 };
 use crate::leaves::{is_leaf, leaf, leaf_alone, leaves, three_leaves, two_leaves, with_parts};
 use crate::ops::{Block, Body, Callee, Many, ManyNode, OneNode, Ops, Two, TwoNode};
@@ -203,11 +203,7 @@ fn enter_two(
         (part_on (suc h) ks left.now ∷ part_on (suc h) ks right.now ∷ []) (rest (option_map block_in next)))) }
 {
     let inner = at.above()?;
-    let node = TwoNode {
-        height: inner.height,
-        span,
-        two,
-    };
+    let node = two_node(&inner, span, two)?;
     let after = rest(at, next)?;
     let made = of_two(&inner, node, left, right, after)?;
     enter(at, span, made)
@@ -520,11 +516,7 @@ fn applying(
             right,
         } => {
             let inner = at.above()?;
-            let node = TwoNode {
-                height: inner.height,
-                span,
-                two: Two::OfPair(*within, function),
-            };
+            let node = pair_node(&inner, span, function, *within)?;
             let made = of_two(&inner, node, left, right, next)?;
             enter(at, *within, made)
         }

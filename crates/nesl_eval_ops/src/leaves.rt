@@ -1,13 +1,17 @@
 //! Code that has no parts.
 ghost use Rattle.std.specs.Prelude.{◌≡◌, ◌∷◌, ◌≤◌, [], false, IfOk, Some, map, option_map, length};
+ghost use Rattle.nesl_eval_blocks.specs.Block.{local};
+ghost use Rattle.nesl_eval_blocks.specs.Flat as laying;
 ghost use Rattle.nesl_eval_blocks.specs.Flat.{local_what, leaf_of, leaves_of, place_of};
 ghost use Rattle.nesl_eval_ops.specs.View.{what_is, leaf_is, sizes_of};
 ghost use Rattle.nesl_eval_ops.specs.Lists.{parts_on, IsNoLeaf, EndsAt};
 
-use crate::ops::{Leaf, What};
+use crate::ops::{Leaf, Part, What};
 use crate::places::Place;
 use crate::sizes::place_of;
+use crate::spans::ShortSpan;
 use nesl_eval_code::{Code, Step};
+use nesl_lex::token::Span;
 use std::alloc::{AllocError, Global};
 
 /// Whether code has no parts.
@@ -39,17 +43,48 @@ pub(crate) fn copied(alloc: Global, steps: &[Step]) -> Result<Vec<Step>, AllocEr
     }
 }
 
+/// What steps reach from the value at a place.
+fn part(alloc: Global, place: usize, steps: &[Step]) -> Result<What, AllocError>
+    ensures { IfOk result (λ w. what_is w ≡ local place steps.now) }
+{
+    match steps {
+        [] => Ok(What::Local(place)),
+        [Step::Left] => Ok(What::Left(place)),
+        [Step::Right] => Ok(What::Right(place)),
+        _ => {
+            let steps = Vec::from_slice(alloc, steps)?;
+            let part = Box::new(alloc, Part { place, steps })?;
+            Ok(What::Part(part))
+        }
+    }
+}
+
+/// A copy of a text or a name, in a box.
+fn boxed(alloc: Global, bytes: &[u8]) -> Result<Box<Vec<u8>>, AllocError>
+    ensures { IfOk result (λ b. b.value.items ≡ bytes.now) }
+{
+    let copy = Vec::from_slice(alloc, bytes)?;
+    let boxed = Box::new(alloc, copy)?;
+    Ok(boxed)
+}
+
 /// A local name, by the place of its value.
 fn local(at: &Place<'_>, up: usize, index: usize, steps: &[Step]) -> Result<What, AllocError>
     ensures { IfOk result (λ w. what_is w ≡ local_what (place_of (sizes_of at.now.sizes.now) up index) steps.now) }
 {
     match place_of(at.sizes, up, index)? {
-        Some(place) => Ok(What::Local {
-            place,
-            steps: copied(at.alloc, steps)?,
-        }),
+        Some(place) => part(at.alloc, place, steps),
         None => Ok(What::Missing),
     }
+}
+
+/// A leaf of this span.
+#[inline(always)]
+fn made(span: Span, what: What) -> Result<Option<Leaf>, AllocError>
+    ensures { IfOk result (λ l. option_map leaf_is l ≡ Some (laying.leaf span (what_is what))) }
+{
+    let span = ShortSpan::new(span)?;
+    Ok(Some(Leaf { span, what }))
 }
 
 /// The leaf that code is, if it is one.
@@ -58,43 +93,19 @@ pub(crate) fn leaf(at: &Place<'_>, code: &Code) -> Result<Option<Leaf>, AllocErr
     ensures { IfOk result (λ l. option_map leaf_is l ≡ leaf_of (sizes_of at.now.sizes.now) code.now) }
 {
     match code {
-        Code::Number { span, value } => Ok(Some(Leaf {
-            span: *span,
-            what: What::Number(*value),
-        })),
-        Code::Truth { span, value } => Ok(Some(Leaf {
-            span: *span,
-            what: What::Truth(*value),
-        })),
-        Code::Character { span, value } => Ok(Some(Leaf {
-            span: *span,
-            what: What::Character(*value),
-        })),
-        Code::Text { span, bytes } => Ok(Some(Leaf {
-            span: *span,
-            what: What::Text(Vec::from_slice(at.alloc, bytes)?),
-        })),
+        Code::Number { span, value } => made(*span, What::Number(*value)),
+        Code::Truth { span, value } => made(*span, What::Truth(*value)),
+        Code::Character { span, value } => made(*span, What::Character(*value)),
+        Code::Text { span, bytes } => made(*span, What::Text(boxed(at.alloc, bytes)?)),
         Code::Local {
             span,
             up,
             index,
             steps,
-        } => Ok(Some(Leaf {
-            span: *span,
-            what: local(at, *up, *index, steps)?,
-        })),
-        Code::Top { span, place } => Ok(Some(Leaf {
-            span: *span,
-            what: What::Top(*place),
-        })),
-        Code::Named { span, name } => Ok(Some(Leaf {
-            span: *span,
-            what: What::Named(Vec::from_slice(at.alloc, name)?),
-        })),
-        Code::Empty { span } => Ok(Some(Leaf {
-            span: *span,
-            what: What::Empty,
-        })),
+        } => made(*span, local(at, *up, *index, steps)?),
+        Code::Top { span, place } => made(*span, What::Top(*place)),
+        Code::Named { span, name } => made(*span, What::Named(boxed(at.alloc, name)?)),
+        Code::Empty { span } => made(*span, What::Empty),
         _ => Ok(None),
     }
 }

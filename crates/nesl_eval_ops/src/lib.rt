@@ -8,8 +8,10 @@ mod leaves;
 pub mod ops;
 mod places;
 mod sizes;
+mod spans;
 
 pub use laying::{body_ops, expression_ops};
 pub use ops::{
-    Block, Body, Callee, Laid, Leaf, Many, ManyNode, OneNode, Ops, Plain, Two, TwoNode, What,
+    Block, Body, Callee, Laid, Leaf, Many, ManyNode, OneNode, Ops, Part, Plain, Two, TwoNode, What,
 };
+pub use spans::ShortSpan;

@@ -6,44 +6,58 @@ ghost use Rattle.nesl_eval_ops.specs.View.{block_of, body_block};
 ghost use Rattle.nesl_eval_ops.specs.Weight.{weight};
 ghost use Rattle.nesl_eval_ops.specs.declared.ops.Block.TheDeep.{deep-Ops};
 
+use crate::spans::ShortSpan;
 use nesl_builtins::Builtin;
 use nesl_eval_code::{Code, Step};
 use nesl_lex::token::Span;
 use std::marker::Model;
 
 /// What has no parts: a literal, a local name by the place of its value and the steps from there, or a name of the top
-/// level.
+/// level. What takes more than a word is in a box, so that a leaf is small.
 #[derive(Drop)]
 pub enum What {
     Number(i64),
     Truth(bool),
     Character(u8),
-    Text(Vec<u8>),
+    Text(Box<Vec<u8>>),
     Empty,
-    /// A local name. The values of local names stand one after the other, those of the newest frame last.
-    Local { place: usize, steps: Vec<Step> },
+    /// A local name without steps. The values of local names stand one after the other, those of the newest frame last.
+    Local(usize),
+    /// The left part of the pair at a place.
+    Left(usize),
+    /// The right part of the pair at a place.
+    Right(usize),
+    /// A local name with steps of any other kind.
+    Part(Box<Part>),
     /// A local name without a place (only in expressions without a type).
     Missing,
     /// A top-level name, by its place.
     Top(usize),
     /// A top-level name that has no place yet: looked up when it is run.
-    Named(Vec<u8>),
+    Named(Box<Vec<u8>>),
+}
+
+/// What steps reach from the value at a place.
+#[derive(Drop)]
+pub struct Part {
+    pub place: usize,
+    pub steps: Vec<Step>,
 }
 
 /// A node without parts, with its span.
 #[derive(Drop)]
 pub struct Leaf {
-    pub span: Span,
+    pub span: ShortSpan,
     pub what: What,
 }
 
 /// What is made of two values.
-#[derive(Clone, Copy)]
+#[derive(Drop)]
 pub enum Two {
     /// A built-in function of their pair, which is no node.
     Of(Builtin),
     /// A built-in function of their pair, which is written out with this span.
-    OfPair(Span, Builtin),
+    OfPair(Builtin, ShortSpan),
     /// Their pair.
     Pair,
 }
@@ -66,10 +80,10 @@ pub struct OneNode {
 }
 
 /// A node of two values.
-#[derive(Clone, Copy)]
+#[derive(Drop)]
 pub struct TwoNode {
     pub height: u32,
-    pub span: Span,
+    pub span: ShortSpan,
     pub two: Two,
 }
 
@@ -348,17 +362,17 @@ impl Drop for Ops {
                 } => next,
                 Ops::OfTop { node: _, next } => next,
                 Ops::OfLeaves {
-                    node: _,
+                    node: _node,
                     left: _left,
                     right: _right,
                     next,
                 } => next,
                 Ops::OfTopAndLeaf {
-                    node: _,
+                    node: _node,
                     right: _right,
                     next,
                 } => next,
-                Ops::OfTops { node: _, next } => next,
+                Ops::OfTops { node: _node, next } => next,
                 Ops::OfMany {
                     node: _,
                     count: _,

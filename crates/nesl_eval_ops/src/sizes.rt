@@ -9,7 +9,7 @@ use std::alloc::{AllocError, Global};
 const MOST_FRAMES: usize = 64;
 
 /// Most bodies are inside no more frames than these.
-const FEW_FRAMES: usize = 4;
+const FEW_FRAMES: usize = 3;
 
 /// The sizes of frames, the newest first.
 #[derive(Clone, Copy)]

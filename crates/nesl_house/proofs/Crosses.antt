@@ -24,7 +24,8 @@ use Rattle.nesl_eval_code.specs.contracts.code.Code as code_row
 use Rattle.nesl_eval_code.proofs.code.Code.TheLaws.TheKnot as code_knot
 use Rattle.nesl_eval_code.proofs.code.Step.TheSendSync as step_crosses
 use Rattle.nesl_eval_ops.specs.contracts.ops.Ops as ops_row
-use Rattle.nesl_eval_ops.specs.contracts.ops.Leaf as leaf_row
+use Rattle.nesl_eval_ops.proofs.ops.Leaf.TheSendSync as leaf_crosses
+use Rattle.nesl_eval_ops.proofs.spans.ShortSpan.TheSendSync as short_span_crosses
 use Rattle.nesl_eval_ops.proofs.ops.Block.TheLaws.TheKnot as ops_knot
 use Rattle.nesl_eval_env.specs.contracts.env.Payload as payload_row
 use Rattle.nesl_eval_env.specs.contracts.env.Env as env_row
@@ -37,11 +38,8 @@ code_send = search (sendable, standard.crosses, code_knot.crosses, span_crosses.
 code_field_send : IsSend (as_row code_row.the_field)
 code_field_send = search (sendable, standard.crosses, code_knot.crosses, span_crosses.the_field_send, builtin_crosses.the_field_send, step_crosses.the_send) depth 20 fits 100000
 
-leaf_field_send : IsSend (as_row leaf_row.the_field)
-leaf_field_send = search (sendable, standard.crosses, span_crosses.the_field_send, step_crosses.the_send) depth 20 fits 100000
-
 ops_send : IsSend ops_row.the_row
-ops_send = search (sendable, standard.crosses, ops_knot.crosses, code_field_send, leaf_field_send, span_crosses.the_field_send, builtin_crosses.the_field_send) depth 40 fits 1000000
+ops_send = search (sendable, standard.crosses, ops_knot.crosses, code_field_send, leaf_crosses.the_send, span_crosses.the_field_send, short_span_crosses.the_send, builtin_crosses.the_field_send) depth 40 fits 1000000
 
 pattern_send : IsSend (pattern_row.the_field).row
 pattern_send = search (sendable, standard.crosses, pattern_knot.crosses, span_crosses.the_field_send) depth 20 fits 100000
@@ -80,11 +78,8 @@ code_sync = search (sendable, standard.crosses, code_knot.crosses, span_crosses.
 code_field_sync : IsSync (as_row code_row.the_field)
 code_field_sync = search (sendable, standard.crosses, code_knot.crosses, span_crosses.the_field_sync, builtin_crosses.the_field_sync, step_crosses.the_sync) depth 20 fits 100000
 
-leaf_field_sync : IsSync (as_row leaf_row.the_field)
-leaf_field_sync = search (sendable, standard.crosses, span_crosses.the_field_sync, step_crosses.the_sync) depth 20 fits 100000
-
 ops_sync : IsSync ops_row.the_row
-ops_sync = search (sendable, standard.crosses, ops_knot.crosses, code_field_sync, leaf_field_sync, span_crosses.the_field_sync, builtin_crosses.the_field_sync) depth 40 fits 1000000
+ops_sync = search (sendable, standard.crosses, ops_knot.crosses, code_field_sync, leaf_crosses.the_sync, span_crosses.the_field_sync, short_span_crosses.the_sync, builtin_crosses.the_field_sync) depth 40 fits 1000000
 
 pattern_sync : IsSync (pattern_row.the_field).row
 pattern_sync = search (sendable, standard.crosses, pattern_knot.crosses, span_crosses.the_field_sync) depth 20 fits 100000

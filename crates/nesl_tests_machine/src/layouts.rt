@@ -67,7 +67,7 @@ fn second_leaf(ops: &Ops) -> Option<&What> {
 // The name of a layout.
 fn name_of(ops: &Ops) -> &'static str {
     match (ops, second_leaf(ops)) {
-        (_, Some(What::Local { place: 0, .. })) => "a place",
+        (_, Some(What::Local(0))) => "a place",
         (_, Some(What::Missing)) => "no place",
         (Ops::Enter { height: 0, .. }, None) => "entered",
         _ => "other",

@@ -1,9 +1,8 @@
 use Rattle.std.proofs.Common.{drop, [], ◌∷◌}
 use Rattle.std.proofs.lemmas.Result.{err_from_is_err_and}
-use Rattle.nesl_values.specs.View.{tree_of}
 use Rattle.nesl_eval_blocks.specs.Block.{of_one}
 use Rattle.nesl_eval_blocks.specs.Exec.{leaf_out, with_leaves, made_of}
-use Rattle.nesl_eval_ops.specs.View.{leaf_is, two_is}
+use Rattle.nesl_eval_ops.specs.View.{leaf_is}
 use Rattle.nesl_eval_nodes.specs.Meets.{Is}
 use Rattle.nesl_eval_nodes.proofs.Runs.{meets_then, meets_err}
 use Rattle.nesl_eval_operands.specs.Slots.{places_of}
