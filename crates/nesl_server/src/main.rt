@@ -36,8 +36,9 @@ use std::{env, thread};
 /// The bytes of an answer that are gathered before they are written.
 const ANSWER_BYTES: usize = 8192;
 
-/// The bytes of the stack that a batch is evaluated on. What recurs goes over trees at most 100 high, and takes at most
-/// 3 KiB of it for each level. An evaluation takes no stack for calls.
+/// The bytes of the stack that a batch is evaluated on. What recurs goes over trees at most 100 high, or over 128 nodes
+/// in one another if bodies are evaluated in columns through calls. It takes at most 3 KiB for each level. Other calls
+/// take no stack.
 const STACK_BYTES: usize = 1_048_576;
 
 fn main(rt: HostRuntime) -> ExitCode {
