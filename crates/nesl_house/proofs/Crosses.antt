@@ -4,6 +4,7 @@ use denote.Param.Send.{IsSend, IsSync, sendable}
 use Rattle.std.proofs.Crossing as standard
 use Rattle.std.proofs.MapsCrossing as maps
 use Rattle.nesl_lex.proofs.token.Span.TheSendSync as span_crosses
+use Rattle.nesl_lex.proofs.token.Name.TheSendSync as name_crosses
 use Rattle.nesl_syntax_tree.specs.contracts.tree.Exp as exp_row
 use Rattle.nesl_syntax_tree.specs.contracts.tree.Pattern as pattern_row
 use Rattle.nesl_syntax_tree.proofs.tree.Node.TheLaws.TheKnot as exp_knot
@@ -42,10 +43,10 @@ ops_send : IsSend ops_row.the_row
 ops_send = search (sendable, standard.crosses, ops_knot.crosses, code_field_send, leaf_crosses.the_send, span_crosses.the_field_send, short_span_crosses.the_send, builtin_crosses.the_field_send) depth 40 fits 1000000
 
 pattern_send : IsSend (pattern_row.the_field).row
-pattern_send = search (sendable, standard.crosses, pattern_knot.crosses, span_crosses.the_field_send) depth 20 fits 100000
+pattern_send = search (sendable, standard.crosses, pattern_knot.crosses, span_crosses.the_field_send, name_crosses.the_field_send) depth 20 fits 100000
 
 exp_send : IsSend (exp_row.the_field).row
-exp_send = search (sendable, standard.crosses, exp_knot.crosses, type_knot.crosses, pattern_knot.crosses, pattern_send, span_crosses.the_field_send, operator_crosses.the_field_send, prefix_crosses.the_field_send) depth 20 fits 100000
+exp_send = search (sendable, standard.crosses, exp_knot.crosses, type_knot.crosses, pattern_knot.crosses, pattern_send, span_crosses.the_field_send, name_crosses.the_field_send, operator_crosses.the_field_send, prefix_crosses.the_field_send) depth 20 fits 100000
 
 ty_send : IsSend ty_row.the_row
 ty_send = search (sendable, standard.crosses, shape_crosses.the_send, shape_crosses.the_sync) depth 20 fits 100000
@@ -82,10 +83,10 @@ ops_sync : IsSync ops_row.the_row
 ops_sync = search (sendable, standard.crosses, ops_knot.crosses, code_field_sync, leaf_crosses.the_sync, span_crosses.the_field_sync, short_span_crosses.the_sync, builtin_crosses.the_field_sync) depth 40 fits 1000000
 
 pattern_sync : IsSync (pattern_row.the_field).row
-pattern_sync = search (sendable, standard.crosses, pattern_knot.crosses, span_crosses.the_field_sync) depth 20 fits 100000
+pattern_sync = search (sendable, standard.crosses, pattern_knot.crosses, span_crosses.the_field_sync, name_crosses.the_field_sync) depth 20 fits 100000
 
 exp_sync : IsSync (exp_row.the_field).row
-exp_sync = search (sendable, standard.crosses, exp_knot.crosses, type_knot.crosses, pattern_knot.crosses, pattern_sync, span_crosses.the_field_sync, operator_crosses.the_field_sync, prefix_crosses.the_field_sync) depth 20 fits 100000
+exp_sync = search (sendable, standard.crosses, exp_knot.crosses, type_knot.crosses, pattern_knot.crosses, pattern_sync, span_crosses.the_field_sync, name_crosses.the_field_sync, operator_crosses.the_field_sync, prefix_crosses.the_field_sync) depth 20 fits 100000
 
 ty_sync : IsSync ty_row.the_row
 ty_sync = search (sendable, standard.crosses, shape_crosses.the_send, shape_crosses.the_sync) depth 20 fits 100000

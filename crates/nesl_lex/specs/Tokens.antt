@@ -25,7 +25,7 @@ pub record Placed : Type 0 where
 
 abbrev pub lexeme_of : Kind → Lexeme
 lexeme_of (Number n) = number n
-lexeme_of (Name bytes) = name bytes.items
+lexeme_of (Name x) = name x.letters.items
 lexeme_of (Reserved w) = reserved w
 lexeme_of (Truth value) = truth value
 lexeme_of (Character c) = character c

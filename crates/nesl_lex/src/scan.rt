@@ -9,7 +9,8 @@ ghost use Rattle.nesl_lex.specs.Reading.{word_among, words_of, word_in, truth_in
 ghost use Rattle.nesl_lex.specs.Scan.{start_of, test_of, front_len, PieceStands, single, double, sign_in};
 ghost use Rattle.nesl_lex.specs.declared.scan.Start.TheVariants as start;
 
-use crate::token::{Kind, Sign, Word};
+use crate::token::{Kind, Name, Sign, Word};
+use smallvec::SmallVec;
 use std::alloc::{AllocError, Global};
 
 /// What a first byte begins.
@@ -247,14 +248,14 @@ fn truth(bytes: &[u8]) -> Option<bool>
 }
 
 // The text in small letters.
-fn small(alloc: Global, text: &[u8]) -> Result<Vec<u8>, AllocError>
-    ensures { IfOk result (λ v. v.items ≡ map small_letter text.now) }
+fn small(alloc: Global, text: &[u8]) -> Result<Name, AllocError>
+    ensures { IfOk result (λ name. name.letters.items ≡ map small_letter text.now) }
 {
-    let mut letters = Vec::with_capacity(alloc, text.len())?;
+    let mut letters = SmallVec::with_capacity(alloc, text.len())?;
     for b in text {
         letters.push(small_letter(*b))?;
     }
-    Ok(letters)
+    Ok(Name { letters })
 }
 
 // The sign of one byte.
@@ -359,15 +360,15 @@ fn digits(bytes: &[u8]) -> Piece
 }
 
 // What a name's text is in small letters: a reserved word, a truth value or a name.
-fn named(text: Vec<u8>) -> Kind
-    ensures { SpellsName text.items (lexeme_of result) }
+fn named(name: Name) -> Kind
+    ensures { SpellsName name.letters.items (lexeme_of result) }
 {
-    if let Some(word) = word(text.as_slice()) {
+    if let Some(word) = word(name.as_slice()) {
         return Kind::Reserved(word);
     }
-    match truth(text.as_slice()) {
+    match truth(name.as_slice()) {
         Some(value) => Kind::Truth(value),
-        None => Kind::Name(text),
+        None => Kind::Name(name),
     }
 }
 

@@ -1,5 +1,10 @@
 // The tokens of a line.
 
+ghost use Rattle.std.specs.Prelude.{◌≡◌, ◌≤◌, length};
+
+use smallvec::SmallVec;
+use std::alloc::AllocError;
+
 /// The bytes of a line from `start` on and before `end`.
 #[derive(Clone, Copy, PartialEq, Eq, Debug)]
 pub struct Span {
@@ -84,13 +89,47 @@ pub enum Sign {
     Hash,
 }
 
+/// A name. One of at most 16 bytes stands in the value itself, and a longer one takes memory of its own.
+#[derive(PartialEq, Eq, Debug)]
+pub struct Name {
+    pub letters: SmallVec<u8, 16>,
+}
+
+// By hand, so that no crate above has to prove how the letters are dropped.
+impl Drop for Name {
+    fn drop(self) {
+        let Name { letters } = self;
+        drop(letters);
+    }
+}
+
+impl Clone for Name {
+    ghost is_clone = { λ one other. other.letters.items ≡ one.letters.items };
+
+    ghost is_infallible = { λ one. length one.letters.items ≤ 16 };
+
+    fn clone(&self) -> Result<Self, AllocError> {
+        let letters = SmallVec::from_slice(*self.letters.allocator(), self.letters.as_slice())?;
+        Ok(Name { letters })
+    }
+}
+
+impl Name {
+    /// Its letters.
+    pub fn as_slice(&self) -> &[u8]
+        ensures value { result.now ≡ self.now.letters.items }
+    {
+        self.letters.as_slice()
+    }
+}
+
 /// What a token is.
 #[derive(PartialEq, Eq, Debug, Drop)]
 pub enum Kind {
     /// A number's value, which is below 2 ^ 63.
     Number(u64),
     /// A name in small letters.
-    Name(Vec<u8>),
+    Name(Name),
     Reserved(Word),
     Truth(bool),
     /// A character's code.

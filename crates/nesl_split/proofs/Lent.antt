@@ -3,6 +3,7 @@ use denote.Param.Send.{IsSync, sendable}
 use Rattle.std.proofs.Crossing as standard
 use Rattle.std.proofs.MapsCrossing as maps
 use Rattle.nesl_lex.proofs.token.Span.TheSendSync as span_crosses
+use Rattle.nesl_lex.proofs.token.Name.TheSendSync as name_crosses
 use Rattle.nesl_syntax_tree.specs.contracts.tree.Exp as exp_row
 use Rattle.nesl_syntax_tree.specs.contracts.tree.Pattern as pattern_row
 use Rattle.nesl_syntax_tree.proofs.tree.Node.TheLaws.TheKnot as exp_knot
@@ -28,10 +29,10 @@ pub code_sync : IsSync code_row.the_row
 code_sync = search (sendable, standard.crosses, code_knot.crosses, span_crosses.the_field_sync, builtin_crosses.the_field_sync, step_crosses.the_sync) depth 20 fits 100000
 
 pattern_sync : IsSync (pattern_row.the_field).row
-pattern_sync = search (sendable, standard.crosses, pattern_knot.crosses, span_crosses.the_field_sync) depth 20 fits 100000
+pattern_sync = search (sendable, standard.crosses, pattern_knot.crosses, span_crosses.the_field_sync, name_crosses.the_field_sync) depth 20 fits 100000
 
 exp_sync : IsSync (exp_row.the_field).row
-exp_sync = search (sendable, standard.crosses, exp_knot.crosses, type_knot.crosses, pattern_knot.crosses, pattern_sync, span_crosses.the_field_sync, operator_crosses.the_field_sync, prefix_crosses.the_field_sync) depth 20 fits 100000
+exp_sync = search (sendable, standard.crosses, exp_knot.crosses, type_knot.crosses, pattern_knot.crosses, pattern_sync, span_crosses.the_field_sync, name_crosses.the_field_sync, operator_crosses.the_field_sync, prefix_crosses.the_field_sync) depth 20 fits 100000
 
 ty_sync : IsSync ty_row.the_row
 ty_sync = search (sendable, standard.crosses, shape_crosses.the_send, shape_crosses.the_sync) depth 20 fits 100000

@@ -1,9 +1,10 @@
 -- A line by its first token.
-use Rattle.std.proofs.Common.{◌≡◌, ℕ, ◌-◌, ◌≤◌, length, take, drop, get_or, List, [], ◌∷◌, Result, Vec, Global, refl, ap, sym, ◌∙◌, arith}
+use Rattle.std.proofs.Common.{◌≡◌, ℕ, ◌-◌, ◌≤◌, length, take, drop, get_or, List, [], ◌∷◌, Result, refl, ap, sym, ◌∙◌, arith}
 use Rattle.std.specs.Option.{option_map}
 use Rattle.std.proofs.lemmas.List.{take_rest}
 use Rattle.nesl_lex.specs.Tokens.{Placed, Lexeme, reserved, symbol, placed, lexeme_of}
 use Rattle.nesl_lex.specs.declared.token.Kind.{Kind}
+use Rattle.nesl_lex.specs.declared.token.Name.{Name}
 use Rattle.nesl_lex.specs.declared.token.Kind.TheVariants as kind
 use Rattle.nesl_lex.specs.declared.token.Sign.{Sign}
 use Rattle.nesl_lex.specs.declared.token.Sign.TheVariants as sign
@@ -35,7 +36,7 @@ plain_sign : (s : Sign) (all ts : List Placed) → (s ≡ sign.Colon → ⊥) �
 plain_sign sign.Colon all ts f = absurd (f refl)
 plain_sign _ all ts f = refl
 
-plain_kind : (k : Kind) (all ts : List Placed) → ((x : Vec ℕ Global) → k ≡ kind.Name x → ⊥) → ((w : Word) → k ≡ kind.Reserved w → ⊥) → ((s : Sign) → k ≡ kind.Symbol s → ⊥) → begun_line (lexeme_of k) all ts ≡ option_map evaluate (expression all)
+plain_kind : (k : Kind) (all ts : List Placed) → ((x : Name) → k ≡ kind.Name x → ⊥) → ((w : Word) → k ≡ kind.Reserved w → ⊥) → ((s : Sign) → k ≡ kind.Symbol s → ⊥) → begun_line (lexeme_of k) all ts ≡ option_map evaluate (expression all)
 plain_kind (kind.Name x) all ts f g h = absurd (f x refl)
 plain_kind (kind.Reserved w) all ts f g h = absurd (g w refl)
 plain_kind (kind.Symbol s) all ts f g h = absurd (h s refl)
@@ -51,5 +52,5 @@ word_line r ts t w h e j f d g = rw (line_from ts t (kind.Reserved w) h e j ∙ 
 pub sign_line : (r : Result Line ParseFault) (ts : List Token) (t : Token) (s : Sign) → 1 ≤ length ts → t ≡ get_or ts 0 t → t.kind ≡ kind.Symbol s → (s ≡ sign.Colon → ⊥) → GivesLine r (option_map evaluate (expression (placed ts))) → GivesLine r (line_in (placed ts))
 sign_line r ts t s h e j f g = rw (line_from ts t (kind.Symbol s) h e j ∙ plain_sign s (placed ts) _ f) g
 
-pub kind_line : (r : Result Line ParseFault) (ts : List Token) (t : Token) → 1 ≤ length ts → t ≡ get_or ts 0 t → ((x : Vec ℕ Global) → t.kind ≡ kind.Name x → ⊥) → ((w : Word) → t.kind ≡ kind.Reserved w → ⊥) → ((s : Sign) → t.kind ≡ kind.Symbol s → ⊥) → GivesLine r (option_map evaluate (expression (placed ts))) → GivesLine r (line_in (placed ts))
+pub kind_line : (r : Result Line ParseFault) (ts : List Token) (t : Token) → 1 ≤ length ts → t ≡ get_or ts 0 t → ((x : Name) → t.kind ≡ kind.Name x → ⊥) → ((w : Word) → t.kind ≡ kind.Reserved w → ⊥) → ((s : Sign) → t.kind ≡ kind.Symbol s → ⊥) → GivesLine r (option_map evaluate (expression (placed ts))) → GivesLine r (line_in (placed ts))
 kind_line r ts t h e i j k g = rw (line_from ts t t.kind h e refl ∙ plain_kind t.kind (placed ts) _ i j k) g

@@ -15,10 +15,10 @@ use crate::function::function;
 use crate::line::{Line, form_of};
 use crate::parse::{expression, written_type};
 use crate::text::is_text;
-use nesl_lex::token::{Kind, Sign, Token, Word};
+use nesl_lex::token::{Kind, Name, Sign, Token, Word};
 use nesl_syntax_open::ParseFault;
-use nesl_syntax_open::part::Part;
-use nesl_syntax_open::types::TypePart;
+use nesl_syntax_parts::part::Part;
+use nesl_syntax_parts::types::TypePart;
 use nesl_syntax_tree::tree::{Exp, Form};
 use std::alloc::Global;
 
@@ -40,10 +40,11 @@ fn eval(alloc: Global, tokens: &[Token]) -> Result<Line, ParseFault>
 }
 
 // A line that binds this name to what the tokens are.
-fn bind(alloc: Global, name: &Vec<u8>, tokens: &[Token]) -> Result<Line, ParseFault>
-    ensures { GivesLine result (option_map (trees.bind name.now.items) (machine.expression (placed tokens.now))) }
+fn bind(alloc: Global, name: &Name, tokens: &[Token]) -> Result<Line, ParseFault>
+    ensures { GivesLine result (option_map (trees.bind name.now.letters.items)
+        (machine.expression (placed tokens.now))) }
 {
-    let name = name.clone()?;
+    let name = Vec::from_slice(alloc, name.as_slice())?;
     Ok(Line::Bind {
         name,
         value: body(alloc, tokens)?,
@@ -51,13 +52,8 @@ fn bind(alloc: Global, name: &Vec<u8>, tokens: &[Token]) -> Result<Line, ParseFa
 }
 
 // A line that begins with a name: a binding, where a `=` stands behind it, or else an expression.
-fn named(
-    alloc: Global,
-    name: &Vec<u8>,
-    tokens: &[Token],
-    behind: &[Token],
-) -> Result<Line, ParseFault>
-    ensures { GivesLine result (reading.bound_in name.now.items (placed tokens.now) (placed behind.now)) }
+fn named(alloc: Global, name: &Name, tokens: &[Token], behind: &[Token]) -> Result<Line, ParseFault>
+    ensures { GivesLine result (reading.bound_in name.now.letters.items (placed tokens.now) (placed behind.now)) }
 {
     let [first, rest @ ..] = behind else {
         return eval(alloc, tokens);
@@ -72,10 +68,11 @@ fn named(
 }
 
 // A datatype's line behind its name.
-fn datatype_named(alloc: Global, name: &Vec<u8>, tokens: &[Token]) -> Result<Line, ParseFault>
-    ensures { GivesLine result (option_map (trees.datatype name.now.items) (machine.written_type (placed tokens.now))) }
+fn datatype_named(alloc: Global, name: &Name, tokens: &[Token]) -> Result<Line, ParseFault>
+    ensures { GivesLine result (option_map (trees.datatype name.now.letters.items)
+        (machine.written_type (placed tokens.now))) }
 {
-    let name = name.clone()?;
+    let name = Vec::from_slice(alloc, name.as_slice())?;
     match written_type(alloc, tokens)? {
         TypePart::Built { written, .. } => Ok(Line::Datatype {
             name,
@@ -106,8 +103,8 @@ fn is_type(name: &[u8]) -> bool
 }
 
 // The command that asks for a type, behind its word.
-fn show_named(alloc: Global, name: &Vec<u8>, tokens: &[Token]) -> Result<Line, ParseFault>
-    ensures { GivesLine result (reading.typed_named (lexemes.name name.now.items) (placed tokens.now)) }
+fn show_named(alloc: Global, name: &Name, tokens: &[Token]) -> Result<Line, ParseFault>
+    ensures { GivesLine result (reading.typed_named (lexemes.name name.now.letters.items) (placed tokens.now)) }
 {
     if !is_type(name.as_slice()) {
         return Err(ParseFault::Syntax);

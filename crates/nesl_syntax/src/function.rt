@@ -4,7 +4,7 @@ ghost use Rattle.std.specs.Prelude.{◌≡◌, ◌≤◌, ◌<◌, Some, None, E
 ghost use Rattle.nesl_syntax_tree.specs.Trees.{Tree, SignatureTree, height, pattern_height};
 ghost use Rattle.nesl_syntax_tree.specs.Trees as trees;
 ghost use Rattle.nesl_syntax_tree.specs.Views.{tree_of, pattern_tree};
-ghost use Rattle.nesl_syntax_open.specs.Parts.{Sees, SeesPattern};
+ghost use Rattle.nesl_syntax_parts.specs.Parts.{Sees, SeesPattern};
 ghost use Rattle.nesl_syntax.specs.Reading as reading;
 ghost use Rattle.nesl_syntax.specs.declared.cut.Divider.TheVariants as divider;
 ghost use Rattle.nesl_syntax.specs.Given.{Given, SeesOptional, SeesHead, GivesLine};
@@ -15,10 +15,10 @@ use crate::cut::{Divider, cut};
 use crate::line::Line;
 use crate::parse::expression;
 use crate::signature::{SignaturePart, signature};
-use nesl_lex::token::{Kind, Token};
+use nesl_lex::token::{Kind, Name, Token};
 use nesl_syntax_open::ParseFault;
-use nesl_syntax_open::part::Part;
-use nesl_syntax_open::pattern::{PatternPart, pattern_from, pattern_of};
+use nesl_syntax_parts::part::Part;
+use nesl_syntax_parts::pattern::{PatternPart, pattern_from, pattern_of};
 use nesl_syntax_tree::tree::{Exp, Pattern};
 use std::alloc::{AllocError, Global};
 
@@ -130,13 +130,14 @@ fn function_of(alloc: Global, name: Vec<u8>, head: Head, body: Part) -> Result<L
 }
 
 // A function's line behind its name.
-fn function_named(alloc: Global, name: &Vec<u8>, tokens: &[Token]) -> Result<Line, ParseFault>
-    ensures { GivesLine result (reading.function_with name.now.items (reading.cut divider.Equal (placed tokens.now))) }
+fn function_named(alloc: Global, name: &Name, tokens: &[Token]) -> Result<Line, ParseFault>
+    ensures { GivesLine result (reading.function_with name.now.letters.items
+        (reading.cut divider.Equal (placed tokens.now))) }
 {
     let Some((front, behind)) = cut(Divider::Equal, tokens) else {
         return Err(ParseFault::Syntax);
     };
-    let name = name.clone()?;
+    let name = Vec::from_slice(alloc, name.as_slice())?;
     let head = read_head(alloc, front)?;
     let body = expression(alloc, behind)?;
     function_of(alloc, name, head, body)

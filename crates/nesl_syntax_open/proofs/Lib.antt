@@ -2,4 +2,3 @@ pub mod Complete
 pub mod Stacks
 pub mod Turns
 mod PatternTrees
-pub mod PatternsRead

@@ -19,7 +19,8 @@ use Rattle.nesl_syntax_tree.specs.Trees.{binder}
 use Rattle.nesl_syntax_tree.specs.Trees as trees
 use Rattle.nesl_syntax_tree.specs.Patterns.{pattern_in}
 use Rattle.nesl_syntax_open.specs.Marks.{follow_of}
-use Rattle.nesl_syntax_tree.specs.Grammar.{level_of, spanning, unwritten_body}
+use Rattle.nesl_syntax_parts.specs.Made.{body_or, type_pair}
+use Rattle.nesl_syntax_tree.specs.Grammar.{level_of, spanning}
 
 -- what has binders: a let, or an apply-to-each with its body, if it has one
 pub data Group : Type 0 where
@@ -152,11 +153,6 @@ pub data Turn : Type 0 where
 abbrev pub bound : Group → Binders → Option PatternTree → Option Turn
 bound g bs (Some p) = Some (becomes (open_at (value g bs p)))
 bound g bs None = None
-
--- the body of an apply-to-each
-abbrev pub body_or : Option Tree → Binders → Tree
-body_or (Some e) bs = e
-body_or None bs = unwritten_body bs
 
 -- an opening with an expression and this token at t behind it
 abbrev pub turned : Mark → Span → Opening → Tree → Option Turn
@@ -310,9 +306,6 @@ done_with ws None = None
 abbrev pub type_bracketed : List Waiting → Span → TypeTree → Option State
 type_bracketed (type_at o ∷ ws) t a = done_with ws (bracket_type o t a)
 type_bracketed _ t a = None
-
-abbrev pub type_pair : TypeTree → TypeTree → TypeTree
-type_pair a b = written (spanning (type_span a) (type_span b)) (trees.pair_type a b)
 
 abbrev pub type_closed : List Waiting → Span → TypeTree → Option State
 type_closed (type_at (type_comma b) ∷ ws) t a = type_closed ws t (type_pair b a)

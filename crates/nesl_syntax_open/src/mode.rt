@@ -6,9 +6,9 @@ ghost use Rattle.nesl_syntax_open.specs.Stack.{SeesPending, SeesStack};
 ghost use Rattle.nesl_syntax_open.specs.Modes.{Follows};
 
 use crate::fault::ParseFault;
-use crate::part::Part;
 use crate::pending::Pending;
-use crate::types::TypePart;
+use nesl_syntax_parts::part::Part;
+use nesl_syntax_parts::types::TypePart;
 
 /// What the tokens so far leave.
 #[derive(Drop)]

@@ -8,14 +8,14 @@ ghost use Rattle.nesl_syntax_tree.specs.Grammar as grammar;
 ghost use Rattle.nesl_syntax_open.specs.Machine.{Waiting, opening_wants, opening_begins, wanted_by, begun_by};
 ghost use Rattle.nesl_syntax_open.specs.Machine.{completed, folded};
 ghost use Rattle.nesl_syntax_open.specs.Machine as machine;
-ghost use Rattle.nesl_syntax_open.specs.Parts.{Sees};
+ghost use Rattle.nesl_syntax_parts.specs.Parts.{Sees};
 ghost use Rattle.nesl_syntax_open.specs.Stack.{SeesGroup, SeesOpening, SeesPending, SeesStack};
 
-use crate::lists::{Bindings, Elements, let_of};
-use crate::part::{Part, choice_of, infix_of, pair_of, prefix_of};
-use crate::pattern::PatternPart;
-use crate::types::TypePart;
-use nesl_lex::token::Span;
+use nesl_lex::token::{Name, Span};
+use nesl_syntax_parts::lists::{Bindings, Elements, let_of};
+use nesl_syntax_parts::part::{Part, choice_of, infix_of, pair_of, prefix_of};
+use nesl_syntax_parts::pattern::PatternPart;
+use nesl_syntax_parts::types::TypePart;
 use nesl_syntax_tree::tree::{Operator, Prefix};
 use std::alloc::{AllocError, Global};
 
@@ -31,7 +31,7 @@ pub enum Group {
 pub enum Opening {
     Round(Span),
     Call {
-        name: Vec<u8>,
+        name: Name,
         from: Span,
     },
     Index(Part),

@@ -7,7 +7,7 @@ ghost use Rattle.nesl_syntax_tree.specs.Patterns.{pattern_in};
 ghost use Rattle.nesl_syntax_open.specs.Machine.{Waiting, before, marked, open_at, taken_up, turned};
 ghost use Rattle.nesl_syntax_open.specs.Machine as machine;
 ghost use Rattle.nesl_syntax_open.specs.Modes.{Follows};
-ghost use Rattle.nesl_syntax_open.specs.Parts.{Sees, SeesAll, SeesBody, SeesBound, SeesPattern};
+ghost use Rattle.nesl_syntax_parts.specs.Parts.{Sees, SeesAll, SeesBody, SeesBound, SeesPattern};
 ghost use Rattle.nesl_syntax_open.specs.Stack.{SeesGroup, SeesOpening, SeesPending, SeesStack};
 ghost use Rattle.nesl_syntax_open.specs.Stack.{some_elements, some_binders};
 ghost use Rattle.nesl_syntax_open.specs.Turns.{let_turned, each_turned};
@@ -16,15 +16,15 @@ ghost use Rattle.nesl_syntax_open.specs.declared.mode.Mode.TheVariants as mode;
 ghost use Rattle.nesl_lex.specs.declared.token.Span.{Span};
 
 use crate::fault::ParseFault;
-use crate::lists::{
-    Bindings, Elements, each_of, filtered_each_of, push_binding, push_part, sequence_of,
-};
 use crate::mark::Mark;
 use crate::mode::{Mode, wait};
-use crate::part::{Part, call_of, index_of, over, range_of, strided_range_of, widen};
-use crate::pattern::{PatternPart, pattern_of};
 use crate::pending::{Group, Opening, Pending, newest};
-use nesl_lex::token::Span;
+use nesl_lex::token::{Name, Span};
+use nesl_syntax_parts::lists::{
+    Bindings, Elements, each_of, filtered_each_of, push_binding, push_part, sequence_of,
+};
+use nesl_syntax_parts::part::{Part, call_of, index_of, over, range_of, strided_range_of, widen};
+use nesl_syntax_parts::pattern::{PatternPart, pattern_of};
 use std::alloc::Global;
 
 /// A token that ends a part, and where it stands; and where memory for what it makes comes from.
@@ -80,9 +80,9 @@ fn end_round(from: Span, part: Part, end: End) -> Result<Mode, ParseFault>
 }
 
 #[inline(always)]
-fn end_call(name: Vec<u8>, from: Span, part: Part, end: End) -> Result<Mode, ParseFault>
+fn end_call(name: Name, from: Span, part: Part, end: End) -> Result<Mode, ParseFault>
     ensures { (ps : List pending.Pending) (ws : List Waiting) (x : Tree) → SeesStack ps ws → Sees part x →
-        Follows result ps (taken_up ws (turned end.mark end.at (machine.call name.items from) x)) }
+        Follows result ps (taken_up ws (turned end.mark end.at (machine.call name.letters.items from) x)) }
 {
     match end.mark {
         Mark::CloseParenthesis => Ok(whole(call_of(end.alloc, name, part, over(from, end.at))?)),

@@ -23,7 +23,7 @@ abbrev pub type_shape : TypeNode → TypeShape
 type_shape types.Int = trees.int
 type_shape types.Bool = trees.bool
 type_shape types.Char = trees.char
-type_shape (types.Name x s) = trees.named x.items s
+type_shape (types.Name x s) = trees.named x.letters.items s
 type_shape (types.Sequence' p s a) = trees.sequence_type (written s (type_shape a))
 type_shape (types.Pair' p s a q t b) = trees.pair_type (written s (type_shape a)) (written t (type_shape b))
 
@@ -31,10 +31,10 @@ abbrev pub type_tree : TypeExp → TypeTree
 type_tree a = written a.span (type_shape a.node)
 
 abbrev pub pattern_shape : PatternNode → PatternShape
-pattern_shape (patterns.Name x) = trees.name_pattern x.items
+pattern_shape (patterns.Name x) = trees.name_pattern x.letters.items
 pattern_shape (patterns.Pair' p s a q t b) =
     trees.pair_pattern (pattern s (pattern_shape a)) (pattern t (pattern_shape b))
-pattern_shape (patterns.Record' x p s a) = trees.record_pattern x.items (pattern s (pattern_shape a))
+pattern_shape (patterns.Record' x p s a) = trees.record_pattern x.letters.items (pattern s (pattern_shape a))
 
 abbrev pub pattern_tree : Pattern → PatternTree
 pattern_tree p = pattern p.span (pattern_shape p.node)
@@ -45,8 +45,8 @@ abbrev mutual
   shape_of (declared.Truth b) = trees.truth b
   shape_of (declared.Character c) = trees.character c
   shape_of (declared.Text bytes) = trees.text bytes.items
-  shape_of (declared.Variable x) = trees.variable x.items
-  shape_of (declared.Call' x p s a) = trees.call x.items (node s (shape_of a))
+  shape_of (declared.Variable x) = trees.variable x.letters.items
+  shape_of (declared.Call' x p s a) = trees.call x.letters.items (node s (shape_of a))
   shape_of (declared.Pair' p s a q t b) = trees.pair (node s (shape_of a)) (node t (shape_of b))
   shape_of (declared.Prefix' o p s a) = trees.prefix_of o (node s (shape_of a))
   shape_of (declared.Infix' o p s a q t b) = trees.infix_of o (node s (shape_of a)) (node t (shape_of b))
@@ -84,7 +84,7 @@ binders_in [] = no_binders
 binders_in (b ∷ bs) = binder (pattern_tree b.pattern) (tree_of b.value) (binders_in bs)
 
 abbrev pub member_tree : Member → MemberTree
-member_tree m = record { name = m.name.items; class = m.class }
+member_tree m = record { name = m.name.letters.items; class = m.class }
 
 abbrev pub signature_tree : Signature → SignatureTree
 signature_tree s = record { from = type_tree s.from; to = type_tree s.to; members = map member_tree s.members.items }

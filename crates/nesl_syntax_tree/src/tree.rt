@@ -2,7 +2,7 @@
 
 ghost use Rattle.std.specs.Prelude.{◌≡◌};
 
-use nesl_lex::token::Span;
+use nesl_lex::token::{Name, Span};
 
 /// An operator between two expressions.
 #[derive(Clone, Copy, PartialEq, Eq, Debug)]
@@ -69,7 +69,7 @@ pub enum TypeNode {
     Char,
     /// A name, and where its token stands, which parentheses don't widen.
     Name {
-        name: Vec<u8>,
+        name: Name,
         token: Span,
     },
     Sequence(Box<TypeExp>),
@@ -100,14 +100,14 @@ impl Drop for Pattern {
 #[cycle(pattern)]
 #[derive(Debug, Drop)]
 pub enum PatternNode {
-    Name(Vec<u8>),
+    Name(Name),
     Pair {
         left: Box<Pattern>,
         right: Box<Pattern>,
     },
     /// A datatype's name before `(`.
     Record {
-        name: Vec<u8>,
+        name: Name,
         part: Box<Pattern>,
     },
 }
@@ -156,10 +156,10 @@ pub enum Node {
     Truth(bool),
     Character(u8),
     Text(Vec<u8>),
-    Variable(Vec<u8>),
+    Variable(Name),
     /// A name before `(`: a built-in function, a user's function or a datatype.
     Call {
-        name: Vec<u8>,
+        name: Name,
         argument: Box<Exp>,
     },
     Pair {
@@ -226,7 +226,7 @@ pub struct Signature {
 /// A name and the class that it is put in.
 #[derive(Debug, Drop)]
 pub struct Member {
-    pub name: Vec<u8>,
+    pub name: Name,
     pub class: Class,
 }
 

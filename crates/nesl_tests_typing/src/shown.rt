@@ -14,7 +14,7 @@ pub fn form_of(alloc: Global, line: &str) -> Option<Form> {
 
 /// What a form's text has too much of, and behind a `~` what stands for it.
 const SHORTER: &str =
-    "TypeExp { span: Span { start: ~\nExp { span: Span { start: ~\nPattern { span: Span { start: ~\n\
+    "Name { letters: ~\nTypeExp { span: Span { start: ~\nExp { span: Span { start: ~\nPattern { span: Span { start: ~\n\
     Span { start: ~\n, end: ~..\n }, node: ~ \n { ~ \n }~";
 
 /// Writes a form into an empty text.

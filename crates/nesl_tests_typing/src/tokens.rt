@@ -103,13 +103,23 @@ fn push_tokens(text: &mut String, tokens: &[Token]) -> Result<(), AllocError> {
     Ok(())
 }
 
+/// Takes off what a name's text has too much of.
+fn shorten_names(alloc: Global, text: &mut String) -> Result<(), AllocError> {
+    *text = text.replace(alloc, "Name { letters: ", "")?;
+    *text = text.replace(alloc, "] })", "])")?;
+    Ok(())
+}
+
 /// The tokens of lines or the places of their faults.
 struct Tokens;
 
 impl Subject for Tokens {
     fn tell(&self, alloc: Global, line: &str, text: &mut String) -> Result<(), AllocError> {
         match lex(alloc, line.as_bytes()) {
-            Ok(tokens) => push_tokens(text, tokens.as_slice()),
+            Ok(tokens) => {
+                push_tokens(text, tokens.as_slice())?;
+                shorten_names(alloc, text)
+            }
             Err(LexFault::Lexical { at }) => write!(text, "lexical at {at}"),
             Err(LexFault::Memory) => Err(AllocError),
         }

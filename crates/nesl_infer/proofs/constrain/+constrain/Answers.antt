@@ -172,7 +172,7 @@ constrain-returns-in-Variable-clause-adds g t c =
     let S : (ℕ → Term) → LocalTypes = λ s. scope_at s ls in
     let v = c.args.target in
     let e = c.args.exp.now in
-    typed _ _ N S e (declared.Variable c.in-Variable.name) (trees.variable c.in-Variable.name.items) v c.constrain_variable.result c.in-Variable.is refl
+    typed _ _ N S e (declared.Variable c.in-Variable.name) (trees.variable c.in-Variable.name.letters.items) v c.constrain_variable.result c.in-Variable.is refl
     (subst (λ (x : List ℕ). OnOk c.constrain_variable.result (Adds c.args.state.now c.constrain_variable.new.state (λ s of. IsVariable (bounded (N s) of) x (local_type x (scope_at s ls)) (s v)))) c.as_slice-in-Variable.ensures.value
     (subst (λ (ks : List Local). OnOk c.constrain_variable.result (Adds c.args.state.now c.constrain_variable.new.state (λ s of. IsVariable (bounded (N s) of) c.as_slice-in-Variable.result.now (local_type c.as_slice-in-Variable.result.now (scope_at s ks)) (s v)))) c.as_slice.ensures.value c.constrain_variable.ensures))
 
@@ -206,8 +206,8 @@ constrain-returns-in_ok-given-in-Call-clause-adds g t c =
     let e = c.args.exp.now in
     let a = c.in-Call.argument.value in
     let u = c.in_ok-given-in-Call.given in
-    typed _ _ N S e (declared.Call c.in-Call.name c.in-Call.argument) (trees.call c.in-Call.name.items (tree_of a)) v c.constrain_call.result c.in-Call.is refl
-    (on_ok_weaker c.constrain_call.result (arm_call N S f v c.requires.target c.in-Call.name.items (tree_of a) u
+    typed _ _ N S e (declared.Call c.in-Call.name c.in-Call.argument) (trees.call c.in-Call.name.letters.items (tree_of a)) v c.constrain_call.result c.in-Call.is refl
+    (on_ok_weaker c.constrain_call.result (arm_call N S f v c.requires.target c.in-Call.name.letters.items (tree_of a) u
     (part_as N ls ls a c.deref.result.now u (λ i. ls) c.deref.ensures c.in_ok-given-in-Call.ensures.gives))
     (subst (λ (x : List ℕ). OnOk c.constrain_call.result (Applies c.constrain_part.new.state c.constrain_call.new.state N x u v)) c.as_slice-in-Call.ensures.value c.constrain_call.ensures))
 

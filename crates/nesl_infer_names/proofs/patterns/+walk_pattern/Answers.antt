@@ -33,6 +33,6 @@ returns-in-Record g t c =
     let s = c.args.pattern.now.span in
     let p = c.in-Record.held.value in
     subst (λ (k : PatternNode). c.walk_pattern-in-Record.new.found ≡ earlier f (first (unknown_records_in ds s (pattern_shape k)))) (sym c.in-Record.is)
-    (joined f h c.walk_pattern-in-Record.new.found (span_unless_known (is_some (ds c.in-Record.name.items)) s) (unknown_records ds (pattern_tree p))
+    (joined f h c.walk_pattern-in-Record.new.found (span_unless_known (is_some (ds c.in-Record.name.letters.items)) s) (unknown_records ds (pattern_tree p))
     (c.note.ensures ∙ ap (λ (b : Bool). earlier f (first (span_unless_known b s))) (c.is_datatype.ensures ∙ ap (λ (x : List ℕ). is_some (ds x)) c.as_slice.ensures.value))
     (c.walk_pattern-in-Record.ensures ∙ ap (λ (x : Pattern). earlier h (first (unknown_records ds (pattern_tree x)))) c.deref-in-Record.ensures))

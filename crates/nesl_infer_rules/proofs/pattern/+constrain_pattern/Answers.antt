@@ -19,7 +19,7 @@ returns-in_ok-push-in-Name g t c =
     let N : (ℕ → Term) → TypedNames = λ s. meanings_in c.args.outer.now.context.now (own_at s c.args.outer.now.own) in
     let l : Local = record { key = Name c.as_slice.result; variable = c.args.target } in
     subst (λ (k : PatternNode). NamesOf c.args.state.now c.args.state.now c.args.locals.now.items c.push.new.self.items N (pattern c.args.pattern.now.span (pattern_shape k)) c.args.target) (sym c.in-Name.is)
-    (arm_name N c.args.pattern.now.span c.in-Name.name.items c.args.target c.args.locals.now.items c.push.new.self.items l c.requires.target c.in_ok-push-in-Name.ensures.items
+    (arm_name N c.args.pattern.now.span c.in-Name.name.letters.items c.args.target c.args.locals.now.items c.push.new.self.items l c.requires.target c.in_ok-push-in-Name.ensures.items
     (ap name c.as_slice.ensures.value) refl)
 
 pub returns-in_ok-equate_pair-in-Pair : goal.returns-in_ok-equate_pair-in-Pair
@@ -43,7 +43,7 @@ returns-in_ok-constrain_pattern-in-Record g t c =
     let n = count c.args.state.now in
     let f = fixed c.args.outer.now.context.now n c.args.outer.now.own [] c.requires.own (All-nil (λ (x : Local). x.variable < n)) in
     let p = c.in-Record.inner.value in
-    let x = c.in-Record.name.items in
+    let x = c.in-Record.name.letters.items in
     let h = c.in_ok-held-in-Record.held in
     let ls = c.args.locals.now.items in
     let ms = c.constrain_pattern-in-Record.new.locals.items in

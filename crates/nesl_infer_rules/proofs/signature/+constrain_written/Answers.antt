@@ -39,7 +39,7 @@ pub returns-in_ok-equate_flat-in-Name : goal.returns-in_ok-equate_flat-in-Name
 returns-in_ok-equate_flat-in-Name g t c =
     let ds = datatype_in c.args.context.now in
     let ks = c.args.names.now in
-    let x = c.in-Name.name.items in
+    let x = c.in-Name.name.letters.items in
     subst (λ (k : TypeNode). Adds c.args.state.now c.equate_flat-in-Name.new.self (λ s of. s c.args.target ≡ signed_shape ds (put_in (scope_at s ks)) (type_shape k))) (sym c.in-Name.is)
     (adds_is c.args.target (λ s. substitute s (flat_type c.name_type.result)) (λ s. name_in_signature (ds x) (put_in (scope_at s ks) x))
     (λ s. c.name_type.ensures.is s ∙ ap (λ (y : List ℕ). name_in_signature (ds y) (put_in (scope_at s ks) y)) c.as_slice.ensures.value) c.in_ok-equate_flat-in-Name.ensures)

@@ -31,7 +31,7 @@ returns-in_ok-push-in-Name t c =
     let v = c.in_ok-variable-in-Name.variable in
     let l : Local = record { key = Name c.as_slice.result; variable = v } in
     subst (λ (k : TypeNode). NamesIn c.args.state.now c.add_any.new.self ls c.push.new.self.items (λ ns. FreeNames (written c.args.written.now.span (type_shape k)) ns)) (sym c.in-Name.is)
-    (one_name ls c.push.new.self.items c.in-Name.name.items v l c.in_ok-push-in-Name.ensures.items
+    (one_name ls c.push.new.self.items c.in-Name.name.letters.items v l c.in_ok-push-in-Name.ensures.items
     (ap name c.as_slice.ensures.value) refl c.in_ok-variable-in-Name.ensures.below c.in_ok-variable-in-Name.ensures.gives)
 
 pub returns-in_ok-name_types-in-Sequence : goal.returns-in_ok-name_types-in-Sequence

@@ -21,7 +21,7 @@ returns-in_ok-put-in-Some-Datatype-default-clause-written g t c =
     let d = c.in-Some-Datatype-default in
     let put = c.in_ok-put-in-Some-Datatype-default.ensures.ok in
     let is : ds c.as_slice.result.now ≡ Some (d.tag, d.field-0-0-1) = ap (λ k. as_datatype (option_map (λ b. b.0) k)) (sym d.ensures) ∙ ap (λ (u : Top). as_datatype (Some u)) d.field-0-0-is in
-    let found : ds c.in-Name.name.items ≡ Some (d.tag, d.field-0-0-1) = ap ds (sym c.as_slice.ensures.value) ∙ is in
+    let found : ds c.in-Name.name.letters.items ≡ Some (d.tag, d.field-0-0-1) = ap ds (sym c.as_slice.ensures.value) ∙ is in
     let written = subst (λ (k : TypeNode). IsWrittenShape ds (type_shape k) (named d.tag)) (sym c.in-Name.is) ((d.tag, d.field-0-0-1), found, refl) in (
       put.within,
       subst (λ (u : Term). IsWrittenShape ds (type_shape c.args.written.now.node) u) (sym put.here) written,

@@ -3,14 +3,14 @@
 ghost use Rattle.std.specs.Prelude.{◌≡◌, ◌≤◌, ◌<◌, ◌+◌, max, None, IfOk, IfSome, MatchOption};
 ghost use Rattle.nesl_syntax_tree.specs.Trees.{Tree, TypeTree, height, node, span_of, type_span, tree_on};
 ghost use Rattle.nesl_syntax_tree.specs.Trees as trees;
-ghost use Rattle.nesl_syntax_open.specs.declared.part.Part.TheVariants as part;
+ghost use Rattle.nesl_syntax_parts.specs.declared.part.Part.TheVariants as part;
 ghost use Rattle.nesl_syntax_tree.specs.Patterns.{is_pattern};
 ghost use Rattle.nesl_syntax_tree.specs.Grammar.{spanning};
-ghost use Rattle.nesl_syntax_open.specs.Parts.{Sees, SeesType};
+ghost use Rattle.nesl_syntax_parts.specs.Parts.{Sees, SeesType};
 ghost use Rattle.nesl_syntax_tree.specs.Views.{tree_of};
 
 use crate::types::TypePart;
-use nesl_lex::token::Span;
+use nesl_lex::token::{Name, Span};
 use nesl_syntax_tree::tree::{Exp, Node, Operator, Prefix};
 use std::alloc::{AllocError, Global};
 
@@ -155,8 +155,8 @@ pub fn widen(part: Part, span: Span) -> Part
     }
 }
 
-pub fn call_of(alloc: Global, name: Vec<u8>, part: Part, span: Span) -> Result<Part, AllocError>
-    ensures { IfOk result (λ r. (x : Tree) → Sees part x → Sees r (node span (trees.call name.items x))) }
+pub fn call_of(alloc: Global, name: Name, part: Part, span: Span) -> Result<Part, AllocError>
+    ensures { IfOk result (λ r. (x : Tree) → Sees part x → Sees r (node span (trees.call name.letters.items x))) }
 {
     let pattern = may_be_pattern(&part);
     let Some((argument, height)) = low_enough(part) else {

@@ -1,15 +1,15 @@
 -- What the code's parts stand for: a tree, or that the tree is too high to be built.
 use Rattle.std.specs.Prelude.{◌≡◌, ◌≤◌, ◌<◌, Option, Some, None}
-use Rattle.nesl_syntax_open.specs.declared.part.Part.{Part}
-use Rattle.nesl_syntax_open.specs.declared.part.Part.TheVariants as part
-use Rattle.nesl_syntax_open.specs.declared.lists.Elements.{Elements}
-use Rattle.nesl_syntax_open.specs.declared.lists.Elements.TheVariants as elements
-use Rattle.nesl_syntax_open.specs.declared.lists.Bindings.{Bindings}
-use Rattle.nesl_syntax_open.specs.declared.lists.Bindings.TheVariants as bindings
-use Rattle.nesl_syntax_open.specs.declared.pattern.PatternPart.{PatternPart}
-use Rattle.nesl_syntax_open.specs.declared.pattern.PatternPart.TheVariants as patterns
-use Rattle.nesl_syntax_open.specs.declared.types.TypePart.{TypePart}
-use Rattle.nesl_syntax_open.specs.declared.types.TypePart.TheVariants as types
+use Rattle.nesl_syntax_parts.specs.declared.part.Part.{Part}
+use Rattle.nesl_syntax_parts.specs.declared.part.Part.TheVariants as part
+use Rattle.nesl_syntax_parts.specs.declared.lists.Elements.{Elements}
+use Rattle.nesl_syntax_parts.specs.declared.lists.Elements.TheVariants as elements
+use Rattle.nesl_syntax_parts.specs.declared.lists.Bindings.{Bindings}
+use Rattle.nesl_syntax_parts.specs.declared.lists.Bindings.TheVariants as bindings
+use Rattle.nesl_syntax_parts.specs.declared.pattern.PatternPart.{PatternPart}
+use Rattle.nesl_syntax_parts.specs.declared.pattern.PatternPart.TheVariants as patterns
+use Rattle.nesl_syntax_parts.specs.declared.types.TypePart.{TypePart}
+use Rattle.nesl_syntax_parts.specs.declared.types.TypePart.TheVariants as types
 use Rattle.nesl_syntax_tree.specs.Trees.{Tree, Trees, Binders, PatternTree, TypeTree, height, greatest_height}
 use Rattle.nesl_syntax_tree.specs.Trees.{greatest_binder_height}
 use Rattle.nesl_syntax_tree.specs.Trees.{pattern_height, type_height}

@@ -1,6 +1,6 @@
 use Rattle.std.proofs.Common.{sym, ◌∙◌}
-use Rattle.nesl_syntax_open.proofs.PatternsRead.{given_some, given_high, given_none}
-use Rattle.nesl_syntax_open.proofs.pattern.pattern_of.Goals as goal
+use Rattle.nesl_syntax_parts.proofs.PatternsRead.{given_some, given_high, given_none}
+use Rattle.nesl_syntax_parts.proofs.pattern.pattern_of.Goals as goal
 
 pub returns-in-High-true : goal.returns-in-High-true
 returns-in-High-true c = λ x s. let k = rw c.in-High-true.is at s in given_high x k.0 (sym c.in-High-true.field-0-test ∙ k.1)

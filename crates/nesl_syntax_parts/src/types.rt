@@ -1,11 +1,11 @@
 // Parts of a type, built only up to height 100.
 
 ghost use Rattle.std.specs.Prelude.{◌≡◌, ◌≤◌, ◌<◌, ◌+◌, IfOk, IfSome, MatchOption};
-ghost use Rattle.nesl_syntax_open.specs.declared.types.TypePart.TheVariants as types;
+ghost use Rattle.nesl_syntax_parts.specs.declared.types.TypePart.TheVariants as types;
 ghost use Rattle.nesl_syntax_tree.specs.Trees.{TypeTree, type_height, written, sequence_type, type_on};
 ghost use Rattle.nesl_syntax_tree.specs.Views.{type_tree};
-ghost use Rattle.nesl_syntax_open.specs.Machine.{type_pair};
-ghost use Rattle.nesl_syntax_open.specs.Parts.{SeesType};
+ghost use Rattle.nesl_syntax_parts.specs.Made.{type_pair};
+ghost use Rattle.nesl_syntax_parts.specs.Parts.{SeesType};
 
 use crate::part::{LIMIT, boxed, none, over};
 use nesl_lex::token::Span;

@@ -1,8 +1,8 @@
 -- Patterns that are read from expressions.
 use Rattle.std.proofs.Common.{◌≡◌, ℕ, ◌≤◌, ◌<◌, subst, Bool, true, false, ◌&&◌, Option, Some, None, ◌⊎◌, inl, inr, refl, ap, sym, ◌∙◌, arith, Box, Global}
 use Rattle.nesl_syntax_tree.specs.declared.tree.Exp.{Exp}
-use Rattle.nesl_syntax_open.specs.declared.pattern.PatternPart.TheVariants as patterns
-use Rattle.nesl_syntax_open.specs.Parts.{PatternGiven}
+use Rattle.nesl_syntax_parts.specs.declared.pattern.PatternPart.TheVariants as patterns
+use Rattle.nesl_syntax_parts.specs.Parts.{PatternGiven}
 use Rattle.nesl_syntax_tree.specs.Trees.{Tree, Shape, PatternTree, PatternShape, node, pattern, height, height_of, pattern_height, pattern_height_of}
 use Rattle.nesl_syntax_tree.specs.Trees as trees
 use Rattle.nesl_syntax_tree.specs.Views.{tree_of}

@@ -4,10 +4,10 @@ ghost use Rattle.std.specs.Prelude.{◌≡◌, ◌≤◌, ◌<◌, IfOk, Option,
 ghost use Rattle.nesl_syntax_tree.specs.Trees.{Tree, PatternTree};
 ghost use Rattle.nesl_syntax_tree.specs.Patterns.{pattern_in, shape_pair, shape_record, with_span};
 ghost use Rattle.nesl_syntax_tree.specs.Views.{tree_of, pattern_tree};
-ghost use Rattle.nesl_syntax_open.specs.Parts.{Sees, SeesPattern, PatternGiven};
+ghost use Rattle.nesl_syntax_parts.specs.Parts.{Sees, SeesPattern, PatternGiven};
 
 use crate::part::{Part, boxed, boxes, none};
-use nesl_lex::token::Span;
+use nesl_lex::token::{Name, Span};
 use nesl_syntax_tree::tree::{Exp, Node, Pattern, PatternNode};
 use std::alloc::{AllocError, Global};
 
@@ -52,11 +52,11 @@ fn pair_from(
 fn record_from(
     alloc: Global,
     span: Span,
-    name: Vec<u8>,
+    name: Name,
     part: Option<Pattern>,
 ) -> Result<Option<Pattern>, AllocError>
     ensures { IfOk result (λ r. option_map pattern_tree r ≡
-        with_span span (shape_record name.items (option_map pattern_tree part))) }
+        with_span span (shape_record name.letters.items (option_map pattern_tree part))) }
 {
     let Some(part) = part else {
         return Ok(none(name));

@@ -1,5 +1,5 @@
 use Rattle.std.proofs.Common.{arith}
-use Rattle.nesl_syntax_open.proofs.part.all_three.Goals as goal
+use Rattle.nesl_syntax_parts.proofs.part.all_three.Goals as goal
 
 pub returns-in_default-clause-seen : goal.returns-in_default-clause-seen
 returns-in_default-clause-seen c = λ x y z s t u. let k = c.in_default.ensures.seen x y s t in rw c.none.ensures (omega arith)

@@ -5,12 +5,12 @@ ghost use Rattle.std.specs.Prelude.{vec_len, vec_capacity};
 ghost use Rattle.nesl_syntax_tree.specs.Trees.{Tree, Trees, Binders, PatternTree, height, greatest_binder_height, node};
 ghost use Rattle.nesl_syntax_tree.specs.Trees.{span_of, with_last, with_last_binder};
 ghost use Rattle.nesl_syntax_tree.specs.Trees as trees;
-ghost use Rattle.nesl_syntax_open.specs.declared.lists.Elements.TheVariants as elements;
-ghost use Rattle.nesl_syntax_open.specs.declared.lists.Bindings.TheVariants as many;
+ghost use Rattle.nesl_syntax_parts.specs.declared.lists.Elements.TheVariants as elements;
+ghost use Rattle.nesl_syntax_parts.specs.declared.lists.Bindings.TheVariants as many;
 ghost use Rattle.nesl_syntax_tree.specs.Views.{shape_of, trees_in, binders_in, tree_of};
 ghost use Rattle.nesl_syntax_tree.specs.Grammar.{spanning, unwritten_body};
-ghost use Rattle.nesl_syntax_open.specs.Machine.{body_or};
-ghost use Rattle.nesl_syntax_open.specs.Parts.{Sees, SeesAll, SeesBound, SeesBody, SeesPattern};
+ghost use Rattle.nesl_syntax_parts.specs.Made.{body_or};
+ghost use Rattle.nesl_syntax_parts.specs.Parts.{Sees, SeesAll, SeesBound, SeesBody, SeesPattern};
 
 use crate::part::{LIMIT, Part, boxed, built, low_enough, make_node, none, over, too_high};
 use crate::pattern::{PatternPart, pattern_from};
@@ -35,7 +35,7 @@ pub enum Bindings {
 /// How many elements room is taken for at first.
 const FIRST_ELEMENTS: usize = 2;
 
-/// The same of binders, which are large: most lists of them have one.
+/// How many binders room is taken for at first. They are large, and most lists of them have one.
 const FIRST_BINDERS: usize = 1;
 
 // Takes room in a list that has none left: for so many at first, and later for as many again.
