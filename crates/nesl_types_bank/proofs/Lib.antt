@@ -3,6 +3,7 @@ pub mod Substitutions
 pub mod Numbers
 pub mod Made
 pub mod Placed
+pub mod Absent
 pub mod Once
 pub mod Visited
 pub mod Listed

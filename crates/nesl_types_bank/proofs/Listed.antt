@@ -5,6 +5,7 @@ use Rattle.std.proofs.lemmas.List.Folds.{list_any-append}
 use Rattle.std.specs.List.{list_any}
 use Rattle.nesl_types_bank.specs.Term.{Term, int, bool, char, variable, seq_of, pair_of, named}
 use Rattle.nesl_types_bank.specs.Lists.{is_same, with_type, with_parts}
+pub use Rattle.nesl_types_bank.specs.Moving.{Has, HasParts, IsClosed}
 use Rattle.nesl_types_bank.proofs.Visited.{or_cases, or_left, or_right}
 
 and_left : (a b : Bool) → (a && b) ≡ true → a ≡ true
@@ -42,10 +43,6 @@ same_itself (variable v) = equal_itself v
 same_itself (named n) = equal_itself n
 same_itself (seq_of t) = same_itself t
 same_itself (pair_of t u) = ap (λ b. b && is_same u u) (same_itself t) ∙ same_itself u
-
--- a type is in a list
-abbrev pub Has : List Term → Term → Type 0
-Has ts t = list_any (is_same t) ts ≡ true
 
 has_left : (ts us : List Term) (v : Term) → Has ts v → Has (ts ++ us) v
 has_left ts us v h = list_any-append (is_same v) ts us ∙ or_left (list_any (is_same v) ts) (list_any (is_same v) us) h
@@ -104,16 +101,6 @@ parts_itself ts (seq_of t) = added_itself (with_parts ts t) (seq_of t)
 parts_itself ts (pair_of t u) = added_itself (with_parts (with_parts ts t) u) (pair_of t u)
 parts_itself ts (named n) = added_itself ts (named n)
 
--- what a type is made of is in a list
-abbrev pub HasParts : List Term → Term → Type 0
-HasParts ts int = Unit {0}
-HasParts ts bool = Unit {0}
-HasParts ts char = Unit {0}
-HasParts ts (variable v) = Unit {0}
-HasParts ts (seq_of t) = Has ts t
-HasParts ts (pair_of t u) = Has ts t × Has ts u
-HasParts ts (named n) = Unit {0}
-
 has_parts_wider : (ts us : List Term) (t : Term) → ((v : Term) → Has ts v → Has us v) → HasParts ts t → HasParts us t
 has_parts_wider ts us int w h = tt
 has_parts_wider ts us bool w h = tt
@@ -122,10 +109,6 @@ has_parts_wider ts us (variable v) w h = tt
 has_parts_wider ts us (seq_of t) w h = w t h
 has_parts_wider ts us (pair_of t u) w h = (w t h.0, w u h.1)
 has_parts_wider ts us (named n) w h = tt
-
--- with each type its parts are in the list
-abbrev pub IsClosed : List Term → Type 0
-IsClosed ts = (t : Term) → Has ts t → HasParts ts t
 
 closed_added : (ts : List Term) (t : Term) → IsClosed ts → HasParts ts t → IsClosed (with_type ts t)
 closed_added ts t c h v i = elim (added_either ts t v i) [

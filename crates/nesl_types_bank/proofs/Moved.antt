@@ -8,8 +8,9 @@ use Rattle.nesl_types_bank.specs.Term.{Term, int, seq_of, pair_of}
 use Rattle.nesl_types_bank.specs.declared.shape.Shape.{Shape}
 use Rattle.nesl_types_bank.specs.declared.shape.Shape.TheVariants.{Int, Bool as Bool', Char, Var, Named, SeqOf, Both}
 use Rattle.nesl_types_bank.specs.Shapes.{shape_type, shape_at, IsShapeBelow}
-use Rattle.nesl_types_bank.specs.Types.{type_at, types, AreMade, StandOnce, AreDistinct}
-use Rattle.nesl_types_bank.specs.Lists.{is_same, with_parts, parts_of, last_type, AreParts, moved_to, IsMoved, IsFirstLeft}
+use Rattle.nesl_types_bank.specs.Types.{type_at, types, StandOnce, AreDistinct}
+use Rattle.nesl_types_bank.specs.Lists.{is_same, with_parts, last_type, AreParts, moved_to, IsMoved, IsFirstLeft}
+pub use Rattle.nesl_types_bank.specs.Moving.{finished, IsMoving}
 use Rattle.nesl_types_bank.proofs.Made.{length-types, type_made, types-push}
 use Rattle.nesl_types_bank.proofs.Placed.{made_push}
 use Rattle.nesl_types_bank.proofs.Visited.{cases_eq}
@@ -21,29 +22,9 @@ has_at [] a l = absurd (omega arith)
 has_at (t ∷ ts) zero l = or_left (is_same t t) (list_any (is_same t) ts) (same_itself t)
 has_at (t ∷ ts) (suc a) l = or_right (is_same (type_at ts a) t) (list_any (is_same (type_at ts a)) ts) (has_at ts a (omega arith))
 
--- the types so far, with the parts of those at places, the last one's first
-abbrev pub finished : (ℕ → Term) → List Term → List ℕ → List Term
-finished f ts [] = ts
-finished f ts (p ∷ ps) = with_parts (finished f ts ps) (f p)
-
 finished-push : (f : ℕ → Term) (ts : List Term) (ps : List ℕ) (p : ℕ) → finished f ts (ps ++ p ∷ []) ≡ finished f (with_parts ts (f p)) ps
 finished-push f ts [] p = refl
 finished-push f ts (q ∷ ps) p = ap (λ us. with_parts us (f q)) (finished-push f ts ps p)
-
--- the shapes of the types that were moved to a list, and the places of those that wait, each a part of the one before
-pub record IsMoving (from : List Term) (root : ℕ) (shapes : List Shape) (places : List (Option ℕ)) (stack : List ℕ) : Type 0 where
-  pub made : AreMade shapes
-  pub once : StandOnce shapes
-  pub len : length places ≡ length from
-  pub moved : (p a : ℕ) → moved_to places p ≡ Some a → (a < length shapes) × (type_at (types shapes) a ≡ type_at from p)
-  pub all : (p : ℕ) → p < length from → Has (types shapes) (type_at from p) → (a : ℕ) × (moved_to places p ≡ Some a)
-  pub closed : IsClosed (types shapes)
-  pub below : (i : ℕ) → i < length stack → get_or stack i 0 < length from
-  pub left : (i : ℕ) → i < length stack → moved_to places (get_or stack i 0) ≡ None
-  pub falls : (i j : ℕ) → i < j → j < length stack → get_or stack j 0 < get_or stack i 0
-  pub order : finished (type_at from) (types shapes) stack ≡ parts_of (type_at from root)
-  pub bottom : 0 < length stack → get_or stack 0 0 ≡ root
-  pub last : length stack ≡ 0 → (0 < length shapes) × (last_type (types shapes) ≡ type_at from root)
 
 module _ (from : List Term) (root : ℕ) (shapes : List Shape) (places : List (Option ℕ)) (ps qs : List ℕ) (p : ℕ) (x : Shape) (i : IsMoving from root shapes places qs) (popped : qs ≡ ps ++ p ∷ []) (below : IsShapeBelow p x) (here : type_at from p ≡ shape_type (type_at from) x) where
   abbrev pub out : List Term

@@ -110,13 +110,19 @@ type_placed old new s p added m i l =
           }
     ]
 
+-- the type at the place at which a shape is
+pub place_type : (ns : List Shape) (ts : List Term) (s : Shape) (o : Option ℕ) → IfSome o (λ p. (p < length ns) × (shape_at ns p ≡ s)) → types ns ≡ ts → AreMade ns →
+    IfSome o (λ p. (p < length ts) × (type_at ts p ≡ shape_type (type_at ts) s))
+place_type ns ts s None h e m = tt
+place_type ns ts s (Some p) h e m =
+    let k = ap length e in
+    let made = type_made ns p h.0 (m p h.0) ∙ ap (shape_type (type_at (types ns))) h.1 in
+    (omega (arith, h.0, length-types ns), subst (λ us. type_at us p ≡ shape_type (type_at us) s) e made)
+
 -- the place at which a set has a shape
 pub found_place : (is : Shape → Bool) (ns : List Shape) (ts : List Term) (s : Shape) (o : Option ℕ) → o ≡ position is ns → ((x : Shape) → is x ≡ true → s ≡ x) → types ns ≡ ts → AreMade ns →
     IfSome o (λ p. (p < length ts) × (type_at ts p ≡ shape_type (type_at ts) s))
 found_place is ns ts s None h same e m = tt
 found_place is ns ts s (Some p) h same e m =
     let at = position-Some is ns p Int (sym h) in
-    let k = ap length e in
-    let here : shape_at ns p ≡ s = sym (same (shape_at ns p) at.1) in
-    let made = type_made ns p at.0 (m p at.0) ∙ ap (shape_type (type_at (types ns))) here in
-    (omega (arith, at.0, length-types ns), subst (λ us. type_at us p ≡ shape_type (type_at us) s) e made)
+    place_type ns ts s (Some p) (at.0, sym (same (shape_at ns p) at.1)) e m

@@ -9,4 +9,5 @@ pub mod Visits
 pub mod Graph
 pub mod Readings
 pub mod Lists
+pub mod Moving
 pub mod Kinds

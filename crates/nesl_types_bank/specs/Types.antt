@@ -30,6 +30,10 @@ abbrev pub StandOnce : List Shape → Type 0
 StandOnce shapes =
     (p q : ℕ) → p < length shapes → q < length shapes → shape_at shapes p ≡ shape_at shapes q → p ≡ q
 
+-- a shape is at none of the places
+abbrev pub IsAbsent : List Shape → Shape → Type 0
+IsAbsent shapes shape = (p : ℕ) → p < length shapes → shape_at shapes p ≡ shape → ⊥
+
 -- shapes of types: each is made of earlier ones, and none stands twice
 pub record AreTypes (shapes : List Shape) : Type 0 where
   pub made : AreMade shapes

@@ -3,13 +3,16 @@
 use crate::part::Part;
 use crate::parts::Parts;
 use crate::shape::Shape;
+use crate::shapes::{index_with, place_in, place_of};
 use indexmap::IndexSet;
 use std::alloc::{AllocError, Global};
 use std::marker::Model;
 
 /// Types, each made of earlier ones, no two of them equal. A type is known by its place.
 pub struct Bank {
-    shapes: IndexSet<Shape>,
+    shapes: Vec<Shape>,
+    /// The same shapes with their places by their hashes, where they are many.
+    index: Option<Box<IndexSet<Shape>>>,
     /// How many nodes the type at each place has.
     sizes: Vec<u64>,
 }
@@ -17,8 +20,12 @@ pub struct Bank {
 // By hand, so that no crate above has to prove how the parts are dropped.
 impl Drop for Bank {
     fn drop(self) {
-        let Bank { shapes, sizes } = self;
-        drop((shapes, sizes));
+        let Bank {
+            shapes,
+            index,
+            sizes,
+        } = self;
+        drop((shapes, index, sizes));
     }
 }
 
@@ -34,16 +41,19 @@ impl Model for Bank {
 
     ghost use Rattle.nesl_types_bank.specs.Types.{types, IsBank};
 
-    ghost view = { λ b. types b.shapes.keys };
+    ghost view = { λ b. types b.shapes.items };
 
-    ghost invariant = { λ b. IsBank b.shapes.keys b.sizes.items };
+    ghost use Rattle.std.specs.Prelude.{◌≡◌, IfSome};
+
+    ghost invariant = { λ b. IsBank b.shapes.items b.sizes.items
+        × IfSome b.index (λ index. index.value.keys ≡ b.shapes.items) };
 }
 
-ghost use Rattle.std.specs.Prelude.{◌≡◌, ◌<◌, ◌↔◌, ℕ, IsTrue, length, slice_index, IfSome, IfOk, OnOk, OnErr};
-ghost use Rattle.std.specs.Prelude.{vec_len};
+ghost use Rattle.std.specs.Prelude.{◌≡◌, ◌<◌, ◌↔◌, ◌++◌, ◌∷◌, [], IsTrue, length, slice_index};
+ghost use Rattle.std.specs.Prelude.{IfSome, IfOk, OnOk, OnErr, vec_len};
 ghost use Rattle.std.specs.Vec.{vec_capacity};
 ghost use Rattle.nesl_types_bank.specs.Shapes.{IsShapeBelow, shape_type, shape_size};
-ghost use Rattle.nesl_types_bank.specs.Types.{type_at, size_of, AreDistinct, IsPlaced, Extends, IsPut};
+ghost use Rattle.nesl_types_bank.specs.Types.{type_at, size_of, AreDistinct, StandOnce, IsAbsent, Extends, IsPut};
 
 /// How many nodes the type of a shape has, where `sizes` has those of its parts.
 fn size_of(sizes: &[u64], shape: Shape) -> u64
@@ -60,31 +70,53 @@ fn size_of(sizes: &[u64], shape: Shape) -> u64
 /// How many types a bank takes room for at its first.
 const FIRST_ROOM: usize = 36;
 
-/// Room for the shapes of the first types.
-fn reserve_shapes(shapes: &mut IndexSet<Shape>) -> Result<(), AllocError>
-    ensures { shapes.new.keys ≡ shapes.old.keys }
+/// Room for one type more.
+fn reserve(shapes: &mut Vec<Shape>, sizes: &mut Vec<u64>) -> Result<(), AllocError>
+    ensures shapes { shapes.new.items ≡ shapes.old.items }
+    ensures sizes { sizes.new.items ≡ sizes.old.items }
+    ensures room { OnOk result ((vec_len shapes.new < vec_capacity shapes.new)
+        × (vec_len sizes.new < vec_capacity sizes.new)) }
 {
-    if shapes.is_empty() {
-        shapes.reserve(FIRST_ROOM)?;
-    }
+    let room = if shapes.is_empty() { FIRST_ROOM } else { 1 };
+    shapes.reserve(room)?;
+    sizes.reserve(room)
+}
+
+/// Puts a shape and its size behind the others, where room for them was taken.
+fn push(shapes: &mut Vec<Shape>, sizes: &mut Vec<u64>, shape: Shape)
+    requires below { IsShapeBelow (length sizes.old.items) shape }
+    requires room { vec_len shapes.old < vec_capacity shapes.old }
+    requires sizes { vec_len sizes.old < vec_capacity sizes.old }
+    ensures shapes { shapes.new.items ≡ shapes.old.items ++ shape ∷ [] }
+    ensures sizes { sizes.new.items ≡ sizes.old.items ++ shape_size (slice_index sizes.old.items) shape ∷ [] }
+{
+    let size = size_of(sizes.as_slice(), shape);
+    sizes.push_reserved(size);
+    shapes.push_reserved(shape);
+}
+
+/// Adds a shape that isn't there, and its size.
+fn add(
+    shapes: &mut Vec<Shape>,
+    index: &mut Option<Box<IndexSet<Shape>>>,
+    sizes: &mut Vec<u64>,
+    shape: Shape,
+) -> Result<(), AllocError>
+    requires below { IsShapeBelow (length sizes.old.items) shape }
+    requires once { StandOnce shapes.old.items }
+    requires absent { IsAbsent shapes.old.items shape }
+    ensures shapes { OnOk result (shapes.new.items ≡ shapes.old.items ++ shape ∷ []) }
+    ensures sizes { OnOk result (sizes.new.items
+        ≡ sizes.old.items ++ shape_size (slice_index sizes.old.items) shape ∷ []) }
+    ensures index { OnOk result (IfSome index.new (λ i. i.value.keys ≡ shapes.new.items)) }
+    ensures err { OnErr result ((shapes.new.items ≡ shapes.old.items) × (sizes.new.items ≡ sizes.old.items)
+        × (index.new ≡ index.old)) }
+{
+    reserve(shapes, sizes)?;
+    let alloc = *shapes.allocator();
+    *index = index_with(alloc, shapes.as_slice(), shape)?;
+    push(shapes, sizes, shape);
     Ok(())
-}
-
-/// Room for the size of one type more.
-fn reserve_sizes(sizes: &mut Vec<u64>) -> Result<(), AllocError>
-    ensures items { sizes.new.items ≡ sizes.old.items }
-    ensures ok { OnOk result (vec_len sizes.new < vec_capacity sizes.new) }
-{
-    sizes.reserve(if sizes.is_empty() { FIRST_ROOM } else { 1 })
-}
-
-/// The place of a shape, which is added where it isn't there, and whether it was added.
-fn place_of(shapes: &mut IndexSet<Shape>, shape: Shape) -> Result<(usize, bool), AllocError>
-    ensures ok { IfOk result (λ r. IsPlaced shapes.old.keys shapes.new.keys shape r.0 r.1) }
-    ensures err { OnErr result (shapes.new.keys ≡ shapes.old.keys) }
-{
-    reserve_shapes(shapes)?;
-    Ok(shapes.insert_full(shape)?)
 }
 
 impl Bank {
@@ -95,7 +127,8 @@ impl Bank {
         ensures { result ≡ [] }
     {
         Bank {
-            shapes: IndexSet::new(alloc),
+            shapes: Vec::new(alloc),
+            index: None,
             sizes: Vec::new(alloc),
         }
     }
@@ -156,7 +189,10 @@ impl Bank {
         ensures { IfSome result (λ place. (place < length self.now)
             × (type_at self.now place ≡ shape_type (type_at self.now) shape)) }
     {
-        self.shapes.get_index_of(&shape)
+        match &self.index {
+            Some(index) => index.get_index_of(&shape),
+            None => place_in(self.shapes.as_slice(), shape),
+        }
     }
 
     /// The place of the type of a shape, which is added where it isn't there.
@@ -166,12 +202,19 @@ impl Bank {
         ensures ok { IfOk result (λ place. IsPut self.old self.new (shape_type (type_at self.old) shape) place) }
         ensures err { OnErr result (self.new ≡ self.old) }
     {
-        reserve_sizes(&mut self.sizes)?;
-        let (place, added) = place_of(&mut self.shapes, shape)?;
-        if added {
-            let size = size_of(&self.sizes, shape);
-            self.sizes.push_reserved(size);
+        if let Some(index) = &mut self.index {
+            reserve(&mut self.shapes, &mut self.sizes)?;
+            let (place, added) = place_of(index, shape)?;
+            if added {
+                push(&mut self.shapes, &mut self.sizes, shape);
+            }
+            return Ok(place);
         }
+        if let Some(place) = place_in(self.shapes.as_slice(), shape) {
+            return Ok(place);
+        }
+        let place = self.shapes.len();
+        add(&mut self.shapes, &mut self.index, &mut self.sizes, shape)?;
         Ok(place)
     }
 }

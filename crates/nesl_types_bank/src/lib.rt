@@ -1,4 +1,4 @@
-//! Types in a bank, each made of earlier ones, so that equal parts stand once and nothing recurs over a type.
+//! Types in a bank, each made of earlier ones, so that equal parts stand once and nothing recurs deep over a type.
 #![tactic(auto)]
 
 pub mod bank;
@@ -8,6 +8,7 @@ pub mod part;
 pub mod parts;
 pub mod renaming;
 pub mod shape;
+mod shapes;
 pub mod types;
 pub mod visiting;
 

@@ -1,10 +1,11 @@
 //! The parts of types, in lists.
 
-ghost use Rattle.std.specs.Prelude.{◌≡◌, ◌<◌, ◌≤◌, ◌↔◌, [], None, IsTrue, length, replicate, IfOk, OnOk};
+ghost use Rattle.std.specs.Prelude.{◌≡◌, ◌<◌, ◌≤◌, ◌↔◌, [], None, IsTrue, length, replicate, IfSome, IfOk, OnOk};
 ghost use Rattle.nesl_types_bank.specs.Shapes.{IsShapeBelow};
 ghost use Rattle.nesl_types_bank.specs.Term.{Term, seq_of};
 ghost use Rattle.nesl_types_bank.specs.Types.{type_at, types, AreDistinct};
 ghost use Rattle.nesl_types_bank.specs.Lists.{AreParts, IsCount, IsStep, moved_to, last_type};
+ghost use Rattle.nesl_types_bank.specs.Moving.{IsListed};
 
 use crate::bank::Bank;
 use crate::parts::Parts;
@@ -47,6 +48,12 @@ fn next_step(places: &[Option<usize>], shape: Shape) -> Step
         _ => Step::Push(shape),
     }
 }
+
+/// How many steps are taken for a type at most: one for each of its parts, and one for the type itself.
+const MOST_STEPS: u64 = 3;
+
+/// How deep a type is listed without a stack.
+const DEPTH: u64 = 32;
 
 /// For how many parts that are being moved room is taken at first.
 const STACK_ROOM: usize = 8;
@@ -94,26 +101,67 @@ fn push_listed(
     Ok(())
 }
 
-/// Among how many types the parts of one are listed with little memory of their own.
+/// Among how many types the parts of one are listed without memory but for the list.
 const FEW: usize = 32;
 
-/// The shapes of the parts of the type at a place of few types, as `list_parts` gives them.
+/// Puts the shapes of the type at a place and of its parts that aren't there yet into a list, each behind those that
+/// it is made of. In `places` is the place in the list of each part that is there. Whether it was no deeper than
+/// `depth`.
+fn list_within(
+    from: &Parts<'_>,
+    place: usize,
+    shapes: &mut Vec<Shape>,
+    places: &mut [Option<usize>],
+    depth: u64,
+) -> Result<bool, AllocError>
+    requires place { place < length from.now }
+    requires distinct { AreDistinct from.now }
+    requires places { length places.old ≡ length from.now }
+    ensures places { OnOk result (length places.new ≡ length from.now) }
+    ensures listed { IfOk result (λ done. IsTrue done
+        → IsListed from.now shapes.old.items places.old shapes.new.items places.new place) }
+{
+    let less = match depth.checked_sub(1) {
+        Some(less) => less,
+        None => return Ok(false),
+    };
+    let shape = from.shape(place);
+    for _ in 0..MOST_STEPS {
+        match next_step(places, shape) {
+            Step::Push(shape) => {
+                places[place] = Some(shapes.len());
+                shapes.push(shape)?;
+                return Ok(true);
+            }
+            Step::Part(part) => {
+                if !list_within(from, part, shapes, places, less)? {
+                    return Ok(false);
+                }
+            }
+        }
+    }
+    Ok(false)
+}
+
+/// The shapes of the parts of the type at a place of few types, as `list_parts` gives them, or `None` where it is too
+/// deep.
 fn list_of_few(
     alloc: Global,
     from: &Parts<'_>,
     place: usize,
     room: usize,
-) -> Result<Vec<Shape>, AllocError>
+) -> Result<Option<Vec<Shape>>, AllocError>
     requires place { place < length from.now }
     requires few { length from.now ≤ 32 }
-    ensures { IfOk result (λ shapes. AreParts shapes.items (type_at from.now place)) }
+    ensures { IfOk result (λ o. IfSome o (λ shapes. AreParts shapes.items (type_at from.now place))) }
 {
     let count = from.len();
     let mut shapes = Vec::with_capacity(alloc, room)?;
     let mut places: [Option<usize>; FEW] = [None; FEW];
-    let mut stack = Vec::with_capacity(alloc, STACK_ROOM)?;
-    push_listed(from, place, &mut shapes, &mut places[..count], &mut stack)?;
-    Ok(shapes)
+    if list_within(from, place, &mut shapes, &mut places[..count], DEPTH)? {
+        return Ok(Some(shapes));
+    }
+    Ok(None)
 }
 
 /// The shapes of the parts of the type at a place, each behind those that it is made of, and its own last. Equal types
@@ -129,7 +177,9 @@ pub(crate) fn list_parts(
 {
     let count = from.len();
     if count <= FEW {
-        return list_of_few(alloc, from, place, room);
+        if let Some(shapes) = list_of_few(alloc, from, place, room)? {
+            return Ok(shapes);
+        }
     }
     let mut shapes = Vec::with_capacity(alloc, room)?;
     let mut places: Vec<Option<usize>> = vec![in alloc; None; count]?;

@@ -9,5 +9,5 @@ returns c =
     let p = c.args.first in
     let q = c.args.second in (
       λ h. ap (type_at c.args.self.now) (eqb-true p q h),
-      λ h. eq-eqb p q (same_place c.self.inside.shapes.keys c.args.self.now c.self.invariant.made c.self.invariant.once c.self.view_is p q c.requires.first c.requires.second h),
+      λ h. eq-eqb p q (same_place c.self.inside.shapes.items c.args.self.now c.self.invariant.0.made c.self.invariant.0.once c.self.view_is p q c.requires.first c.requires.second h),
     )
