@@ -89,11 +89,31 @@ pub fn put_part(
     part.put(alloc, types, of)
 }
 
+/// The places of instances, where there are any.
+pub type Instances = Option<Box<IndexMap<Instance, usize>>>;
+
+/// Notes the place of an instance.
+fn note_instance(
+    alloc: Global,
+    instances: &mut Instances,
+    instance: Instance,
+    place: usize,
+) -> Result<(), AllocError> {
+    if let Some(noted) = instances {
+        noted.insert(instance, place)?;
+        return Ok(());
+    }
+    let mut noted = IndexMap::new(alloc);
+    noted.insert(instance, place)?;
+    *instances = Some(Box::new(alloc, noted)?);
+    Ok(())
+}
+
 /// Puts an instance of a type in, where it isn't there, and gives its place.
 pub fn put_instance(
     alloc: Global,
     types: &mut Bank,
-    instances: &mut IndexMap<Instance, usize>,
+    instances: &mut Instances,
     instance: Instance,
     part: &Part<'_>,
 ) -> Result<usize, AllocError>
@@ -101,13 +121,15 @@ pub fn put_instance(
     ensures { IfOk result
         (IsAdded types.old types.new (substitute (replacement types.old instance.of.items) part.now)) }
 {
-    if let Some(place) = instances.get(&instance) {
-        let place = *place;
-        if stands_at(alloc, types, place, instance.of.as_slice(), part)? {
-            return Ok(place);
+    if let Some(noted) = instances {
+        if let Some(place) = noted.get(&instance) {
+            let place = *place;
+            if stands_at(alloc, types, place, instance.of.as_slice(), part)? {
+                return Ok(place);
+            }
         }
     }
     let place = put_part(alloc, types, instance.of.as_slice(), part)?;
-    instances.insert(instance, place)?;
+    note_instance(alloc, instances, instance, place)?;
     Ok(place)
 }

@@ -13,11 +13,10 @@ ghost use Rattle.nesl_unify.specs.Systems.{count, IsSolvedBy, SolvesSystem, IsSy
 use crate::equations::Equations;
 use crate::fault::SolveFault;
 use crate::flat::Flat;
-use crate::instance::{Instance, flat_instance, put_instance};
+use crate::instance::{Instance, Instances, flat_instance, put_instance};
 use crate::narrow::Member;
 use crate::room::push_with_room;
 use crate::solve::{Equation, Solution, solve_equations};
-use indexmap::IndexMap;
 use nesl_types::{Class, Part};
 use std::alloc::{AllocError, Global};
 
@@ -27,7 +26,7 @@ pub struct System {
     equations: Equations,
     members: Vec<Member>,
     /// Where instances of types were put, so that the same isn't put again.
-    instances: IndexMap<Instance, usize>,
+    instances: Instances,
 }
 
 // By hand, so that no crate above has to prove how the parts are dropped.
@@ -52,7 +51,7 @@ impl System {
         System {
             equations: Equations::new(alloc),
             members: Vec::new(alloc),
-            instances: IndexMap::new(alloc),
+            instances: None,
         }
     }
 
