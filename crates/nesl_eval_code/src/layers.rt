@@ -1,6 +1,6 @@
 //! Where the values of local names are.
 
-ghost use Rattle.std.specs.Prelude.{◌≡◌, ◌++◌, ◌∷◌, ◌<◌, [], IfOk, IfSome, suc, length};
+ghost use Rattle.std.specs.Prelude.{◌≡◌, ◌++◌, ◌∷◌, ◌<◌, [], IfOk, OnOk, IfSome, suc, length};
 ghost use Rattle.nesl_syntax_tree.specs.Views.{pattern_tree, binders_in};
 ghost use Rattle.nesl_eval_code.specs.Means.{bindings, binders, binds, steps_to, last_binding, patterns, spot};
 ghost use Rattle.nesl_eval_code.specs.Means.{IsElementSpot};
@@ -74,6 +74,9 @@ fn part_binds(pattern: &Pattern, name: &[u8]) -> bool
     }
 }
 
+/// Most names are no more than so many steps from the value of their pattern.
+const FEW_STEPS: usize = 8;
+
 /// The steps from the value of a pattern to what the name stands for.
 pub(crate) fn steps_in(
     alloc: Global,
@@ -84,33 +87,38 @@ pub(crate) fn steps_in(
 {
     match &pattern.node {
         PatternNode::Name(_) => Ok(Vec::new(alloc)),
-        _ => add_steps(pattern, name, Vec::new(alloc)),
+        _ => {
+            let mut steps = Vec::with_capacity(alloc, FEW_STEPS)?;
+            add_steps(&mut steps, pattern, name)?;
+            Ok(steps)
+        }
     }
 }
 
 /// Adds the steps to what the name stands for. A name on the right hides one on the left.
-fn add_steps(pattern: &Pattern, name: &[u8], mut steps: Vec<Step>) -> Result<Vec<Step>, AllocError>
-    ensures { IfOk result (λ r. r.items ≡ steps.items ++ steps_to name.now (pattern_tree pattern.now)) }
+fn add_steps(steps: &mut Vec<Step>, pattern: &Pattern, name: &[u8]) -> Result<(), AllocError>
+    ensures { OnOk result (steps.new.items ≡ steps.old.items ++ steps_to name.now (pattern_tree pattern.now)) }
 {
     match &pattern.node {
-        PatternNode::Name(_) => Ok(steps),
+        PatternNode::Name(_) => Ok(()),
         PatternNode::Pair { left, right } => {
             if binds(right, name) {
                 steps.push(Step::Right)?;
-                add_steps(right, name, steps)
+                add_steps(steps, right, name)
             } else {
                 steps.push(Step::Left)?;
-                add_steps(left, name, steps)
+                add_steps(steps, left, name)
             }
         }
         PatternNode::Record { part, .. } => {
             steps.push(Step::Inside)?;
-            add_steps(part, name, steps)
+            add_steps(steps, part, name)
         }
     }
 }
 
 /// The last of the bindings that binds the name.
+#[inline(always)]
 fn last_binding(bindings: &[Binding], name: &[u8]) -> Option<usize>
     ensures last { result ≡ last_binding name.now (patterns (binders_in bindings.now)) }
     ensures within { IfSome result (λ i. i < length bindings.now) }
@@ -139,6 +147,7 @@ fn place_in_pattern<'a>(pattern: &'a Pattern, name: &[u8]) -> Option<LocalPlace<
 }
 
 /// Where the value is in a frame of bindings.
+#[inline(always)]
 fn place_in_bindings<'a>(bindings: &'a [Binding], name: &[u8]) -> Option<LocalPlace<'a>>
     ensures { FindsIn (patterns (binders_in bindings.now)) name.now result }
 {

@@ -29,7 +29,7 @@ struct Preparing<'a> {
 
 /// The code of an expression whose local names stand in these frames. It recurs as deep as the expression is high.
 #[cycle(prepare)]
-#[inline(never)]
+#[inline(always)]
 fn code_of(at: &Preparing<'_>, exp: &Exp) -> Result<Code, AllocError>
     ensures { IfOk result (λ c. Means (known at.now.places.now) (layers_of at.now.layers.now) c (tree_of exp.now)) }
 {
@@ -80,10 +80,23 @@ fn code_of(at: &Preparing<'_>, exp: &Exp) -> Result<Code, AllocError>
     }
 }
 
-/// The code of an expression, in a box.
+/// The code of an expression, in a box. That of a name, which most parts are, is made in its place.
 #[cycle(prepare)]
 #[inline(never)]
 fn boxed_code_of(at: &Preparing<'_>, exp: &Exp) -> Result<Box<Code>, AllocError>
+    ensures { IfOk result (λ b. Means (known at.now.places.now) (layers_of at.now.layers.now) b.value
+        (tree_of exp.now)) }
+{
+    match &exp.node {
+        Node::Variable(name) => boxed_variable(at, exp.span, name.as_slice()),
+        _ => box_code_of(at, exp),
+    }
+}
+
+/// The code of an expression, put into a box.
+#[cycle(prepare)]
+#[inline(never)]
+fn box_code_of(at: &Preparing<'_>, exp: &Exp) -> Result<Box<Code>, AllocError>
     ensures { IfOk result (λ b. Means (known at.now.places.now) (layers_of at.now.layers.now) b.value
         (tree_of exp.now)) }
 {
@@ -420,9 +433,29 @@ fn code_of_text(at: &Preparing<'_>, span: Span, bytes: &[u8]) -> Result<Code, Al
     Ok(Code::Text { span, bytes })
 }
 
-/// The code of a name: a local one, or else one of the top level.
+/// The code of a name.
 #[inline(never)]
 fn code_of_variable(at: &Preparing<'_>, span: Span, name: &[u8]) -> Result<Code, AllocError>
+    ensures { IfOk result (λ c. Means (known at.now.places.now) (layers_of at.now.layers.now) c
+        (node span (variable name.now))) }
+{
+    variable(at, span, name)
+}
+
+/// The code of a name, in a box.
+#[inline(never)]
+fn boxed_variable(at: &Preparing<'_>, span: Span, name: &[u8]) -> Result<Box<Code>, AllocError>
+    ensures { IfOk result (λ b. Means (known at.now.places.now) (layers_of at.now.layers.now) b.value
+        (node span (variable name.now))) }
+{
+    let code = variable(at, span, name)?;
+    let boxed = Box::new(at.alloc, code)?;
+    Ok(boxed)
+}
+
+/// The code of a name: a local one, or else one of the top level.
+#[inline(always)]
+fn variable(at: &Preparing<'_>, span: Span, name: &[u8]) -> Result<Code, AllocError>
     ensures { IfOk result (λ c. Means (known at.now.places.now) (layers_of at.now.layers.now) c
         (node span (variable name.now))) }
 {
@@ -445,7 +478,7 @@ fn code_of_variable(at: &Preparing<'_>, span: Span, name: &[u8]) -> Result<Code,
 }
 
 /// The code of a name before `(`: a built-in function, or else a function or a datatype of the top level.
-#[inline(never)]
+#[inline(always)]
 fn code_of_call(
     at: &Preparing<'_>,
     span: Span,

@@ -180,6 +180,7 @@ fn code_of_payload(
 }
 
 /// The name as a key, and the code of its payload. Room is made for one more name.
+#[inline(never)]
 fn entry_of(
     alloc: Global,
     codes: &mut IndexMap<Vec<u8>, Option<Code>>,
@@ -200,6 +201,7 @@ fn entry_of(
 }
 
 /// The operations of a body. Room is made for one more.
+#[inline(never)]
 fn body_of(
     alloc: Global,
     bodies: &mut Vec<Option<Ops>>,
@@ -268,7 +270,7 @@ fn store_body(bodies: &mut Vec<Option<Ops>>, place: Option<usize>, body: Option<
 }
 
 impl Env {
-    ghost use Rattle.nesl_types.specs.Names.{found, with_name};
+    ghost use Rattle.nesl_types.specs.Names.{found, with_name, with_name_at};
 
     /// No names.
     pub fn new(alloc: Global) -> Self
@@ -336,12 +338,28 @@ impl Env {
     {
         let place = place_in(&self.prepared, name);
         if let Some(there) = place_without_code(place, &payload) {
-            self.context.replace(alloc, there, top, payload)?;
-            clear_code(&mut self.prepared, there);
-            clear_body(&mut self.bodies, there);
-            return Ok(());
+            return self.set_there(alloc, there, top, payload);
         }
         self.set_prepared(alloc, name, place, top, payload)
+    }
+
+    // Makes the name at this place what is given, which has no code.
+    #[inline(never)]
+    fn set_there(
+        &mut self,
+        alloc: Global,
+        there: usize,
+        top: Top,
+        payload: Payload,
+    ) -> Result<(), AllocError>
+        requires { (names : List Name) → HasCode names payload None }
+        ensures ok { OnOk result (self.new ≡ with_name_at there top payload self.old) }
+        ensures err { OnErr result (self.new ≡ self.old) }
+    {
+        self.context.replace(alloc, there, top, payload)?;
+        clear_code(&mut self.prepared, there);
+        clear_body(&mut self.bodies, there);
+        Ok(())
     }
 
     // Makes the name what is given, and prepares a function's body. The place is the one that the name has, if any.

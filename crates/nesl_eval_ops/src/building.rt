@@ -1,6 +1,6 @@
 //! Functions that make one operation each, or what it holds.
 //!
-//! None of them is inlined into those that recur over code: each holds an operation on the stack until it is boxed.
+//! None that holds an operation on the stack until it is boxed is inlined into those that recur over code.
 ghost use Rattle.std.specs.Prelude.{◌≡◌, ◌∷◌, [], IfOk, IfSome, None, map, option_map};
 ghost use Rattle.nesl_eval_blocks.specs.Block.{push, enter, make, call, bind, each, filtered};
 ghost use Rattle.nesl_eval_blocks.specs.Block.{of_one, of_pair, called_by};
@@ -9,7 +9,7 @@ ghost use Rattle.nesl_eval_ops.specs.Copies.{IsLaidAs};
 ghost use Rattle.nesl_eval_ops.specs.View.{block_of, block_in, body_block, sizes_of};
 ghost use Rattle.nesl_eval_ops.specs.View.{leaf_is, two_is, many_is, callee_is};
 
-use crate::copying::{NoCopy, copy_plain, is_plain};
+use crate::copying::{copy_plain, is_plain};
 use crate::ops::{Block, Body, Callee, Leaf, ManyNode, OneNode, Ops, Plain, Two, TwoNode};
 use crate::places::Place;
 use crate::sizes::{list_of, room};
@@ -37,7 +37,7 @@ pub(crate) fn rest(at: &Place<'_>, next: Option<Box<Block>>) -> Result<Box<Block
     }
 }
 
-#[inline(never)]
+#[inline(always)]
 pub(crate) fn push(at: &Place<'_>, leaf: Leaf, next: Box<Block>) -> Result<Box<Block>, AllocError>
     ensures { IfOk result (λ o. block_in o ≡ push at.now.height (leaf_is leaf) (block_in next)) }
 {
@@ -88,7 +88,7 @@ pub(crate) fn of_top(
 }
 
 /// A node of two values, at the height of its parts.
-#[inline(never)]
+#[inline(always)]
 pub(crate) fn two_node(at: &Place<'_>, span: Span, two: Two) -> Result<TwoNode, AllocError>
     ensures { IfOk result (λ n. (n.height ≡ at.now.height) × (n.span ≡ span) × (two_is n.two ≡ two_is two)) }
 {
@@ -127,7 +127,7 @@ pub(crate) fn of_tops(
 }
 
 /// A node of the value on top and a leaf.
-#[inline(never)]
+#[inline(always)]
 pub(crate) fn of_top_and_leaf(
     alloc: Global,
     node: TwoNode,
@@ -141,7 +141,7 @@ pub(crate) fn of_top_and_leaf(
 }
 
 /// A node of two leaves.
-#[inline(never)]
+#[inline(always)]
 pub(crate) fn of_leaves(
     alloc: Global,
     node: TwoNode,
@@ -300,7 +300,8 @@ struct Source {
     sizes: Vec<usize>,
 }
 
-/// A copy of the code with the sizes of the frames round it, if it may have columns and these are few.
+/// A copy of the code with the sizes of the frames round it, if it may have columns and these are few. Without memory
+/// for a copy there is none: operations mean the same without.
 fn source_of(at: &Place<'_>, code: &Code) -> Result<Option<Source>, AllocError>
     ensures { IfOk result (λ o. IfSome o (λ s. (s.sizes.items ≡ sizes_of at.now.sizes.now)
         × IsLaidAs s.code code.now)) }
@@ -313,8 +314,7 @@ fn source_of(at: &Place<'_>, code: &Code) -> Result<Option<Source>, AllocError>
     };
     match copy_plain(at.alloc, code) {
         Ok(code) => Ok(Some(Source { code, sizes })),
-        Err(NoCopy::NotPlain) => Ok(None),
-        Err(NoCopy::Memory) => Err(AllocError),
+        Err(_) => Ok(None),
     }
 }
 
@@ -324,24 +324,34 @@ pub(crate) fn kept(at: &Place<'_>, ops: Box<Block>, code: &Code) -> Result<Box<B
     requires { block_in ops ≡ flat at.now.height (sizes_of at.now.sizes.now) code.now None }
     ensures { IfOk result (λ b. body_block b.value ≡ flat at.now.height (sizes_of at.now.sizes.now) code.now None) }
 {
-    let source = source_of(at, code)?;
-    let body = body_of(at.height, Box::into_inner(ops), source);
-    let boxed = Box::new(at.alloc, body)?;
+    match source_of(at, code)? {
+        Some(source) => with_source(at, Box::into_inner(ops), source),
+        None => without_source(at, Box::into_inner(ops)),
+    }
+}
+
+/// A body of these operations, with the code that they are laid from.
+#[inline(always)]
+fn with_source(at: &Place<'_>, block: Block, source: Source) -> Result<Box<Body>, AllocError>
+    requires { block ≡ flat at.now.height source.sizes.items source.code None }
+    ensures { IfOk result (λ b. body_block b.value ≡ block) }
+{
+    let Source { code, sizes } = source;
+    let plain = Plain {
+        ops: block.into_ops(),
+        height: at.height,
+        sizes,
+        code,
+    };
+    let boxed = Box::new(at.alloc, Body::Plain(plain))?;
     Ok(boxed)
 }
 
-/// A body of these operations, with the code that they are laid from, if that is kept.
-fn body_of(height: u32, block: Block, source: Option<Source>) -> Body
-    requires { IfSome source (λ s. block ≡ flat height s.sizes.items s.code None) }
-    ensures { body_block result ≡ block }
+/// A body of these operations alone.
+#[inline(never)]
+fn without_source(at: &Place<'_>, block: Block) -> Result<Box<Body>, AllocError>
+    ensures { IfOk result (λ b. body_block b.value ≡ block) }
 {
-    match source {
-        Some(Source { code, sizes }) => Body::Plain(Plain {
-            ops: block.into_ops(),
-            height,
-            sizes,
-            code,
-        }),
-        None => Body::Any(block),
-    }
+    let boxed = Box::new(at.alloc, Body::Any(block))?;
+    Ok(boxed)
 }

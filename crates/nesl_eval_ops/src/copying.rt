@@ -5,16 +5,7 @@ ghost use Rattle.nesl_eval_ops.specs.Copies.{IsLaidAs, AreLaidAs};
 
 use crate::leaves::copied;
 use nesl_eval_code::Code;
-use std::alloc::Global;
-
-/// Why code has no copy.
-#[derive(Clone, Copy)]
-pub(crate) enum NoCopy {
-    /// Some part of it never has columns.
-    NotPlain,
-    /// There is no memory.
-    Memory,
-}
+use std::alloc::{AllocError, Global};
 
 /// Whether code may have columns: it is made of what `copy_plain` copies. It recurs as deep as the code is high, and
 /// allocates nothing.
@@ -50,9 +41,10 @@ fn are_plain(codes: &[Code]) -> bool {
 }
 
 /// A copy of code, if it is made of constants, names, functions of one value and of two, calls, pairs, choices and
-/// `let`s. It recurs as deep as the code is high.
+/// `let`s. It recurs as deep as the code is high. Any other code has no copy, as if there were no memory for one.
 #[cycle(copying)]
-pub(crate) fn copy_plain(alloc: Global, code: &Code) -> Result<Code, NoCopy>
+#[inline(always)]
+pub(crate) fn copy_plain(alloc: Global, code: &Code) -> Result<Code, AllocError>
     ensures { IfOk result (λ c. IsLaidAs c code.now) }
 {
     match code {
@@ -69,7 +61,7 @@ pub(crate) fn copy_plain(alloc: Global, code: &Code) -> Result<Code, NoCopy>
 /// A copy of a pair, a function or a call if its parts have one.
 #[cycle(copying)]
 #[inline(never)]
-fn copy_applied(alloc: Global, code: &Code) -> Result<Code, NoCopy>
+fn copy_applied(alloc: Global, code: &Code) -> Result<Code, AllocError>
     ensures { IfOk result (λ c. IsLaidAs c code.now) }
 {
     match code {
@@ -121,14 +113,14 @@ fn copy_applied(alloc: Global, code: &Code) -> Result<Code, NoCopy>
                 argument,
             })
         }
-        _ => Err(NoCopy::NotPlain),
+        _ => Err(AllocError),
     }
 }
 
 /// A copy of a choice or a `let` if its parts have one.
 #[cycle(copying)]
 #[inline(never)]
-fn copy_choice_or_let(alloc: Global, code: &Code) -> Result<Code, NoCopy>
+fn copy_choice_or_let(alloc: Global, code: &Code) -> Result<Code, AllocError>
     ensures { IfOk result (λ c. IsLaidAs c code.now) }
 {
     match code {
@@ -161,57 +153,39 @@ fn copy_choice_or_let(alloc: Global, code: &Code) -> Result<Code, NoCopy>
                 body,
             })
         }
-        _ => Err(NoCopy::NotPlain),
+        _ => Err(AllocError),
     }
 }
 
 /// A copy of code in a box. That of a local name, which most parts are, is made in its place.
 #[cycle(copying)]
-fn copy_boxed(alloc: Global, code: &Code) -> Result<Box<Code>, NoCopy>
+#[inline(never)]
+fn copy_boxed(alloc: Global, code: &Code) -> Result<Box<Code>, AllocError>
     ensures { IfOk result (λ b. IsLaidAs b.value code.now) }
 {
-    if let Code::Local {
-        span,
-        up,
-        index,
-        steps,
-    } = code
-    {
-        return match copied(alloc, steps) {
-            Ok(steps) => boxed(
-                alloc,
-                Code::Local {
-                    span: *span,
-                    up: *up,
-                    index: *index,
-                    steps,
-                },
-            ),
-            Err(_) => Err(NoCopy::Memory),
-        };
+    match code {
+        Code::Local { .. } => copy_local(alloc, code),
+        _ => copy_into_box(alloc, code),
     }
-    let copy = copy_plain(alloc, code)?;
-    boxed(alloc, copy)
 }
 
-#[inline(always)]
-fn boxed(alloc: Global, code: Code) -> Result<Box<Code>, NoCopy>
-    ensures { IfOk result (λ b. b.value ≡ code) }
+/// A copy of code, put into a box.
+#[cycle(copying)]
+#[inline(never)]
+fn copy_into_box(alloc: Global, code: &Code) -> Result<Box<Code>, AllocError>
+    ensures { IfOk result (λ b. IsLaidAs b.value code.now) }
 {
-    match Box::new(alloc, code) {
-        Ok(boxed) => Ok(boxed),
-        Err(_) => Err(NoCopy::Memory),
-    }
+    let copy = copy_plain(alloc, code)?;
+    let boxed = Box::new(alloc, copy)?;
+    Ok(boxed)
 }
 
 /// Copies of codes, if each of them has one.
 #[cycle(copying)]
-fn copy_all(alloc: Global, codes: &[Code]) -> Result<Vec<Code>, NoCopy>
+fn copy_all(alloc: Global, codes: &[Code]) -> Result<Vec<Code>, AllocError>
     ensures { IfOk result (λ cs. AreLaidAs cs.items codes.now) }
 {
-    let Ok(mut copies) = Vec::with_capacity(alloc, codes.len()) else {
-        return Err(NoCopy::Memory);
-    };
+    let mut copies = Vec::with_capacity(alloc, codes.len())?;
     for code in codes {
         add_copy(alloc, &mut copies, code)?;
     }
@@ -220,19 +194,43 @@ fn copy_all(alloc: Global, codes: &[Code]) -> Result<Vec<Code>, NoCopy>
 
 /// One more copy.
 #[cycle(copying)]
-fn add_copy(alloc: Global, copies: &mut Vec<Code>, code: &Code) -> Result<(), NoCopy>
+fn add_copy(alloc: Global, copies: &mut Vec<Code>, code: &Code) -> Result<(), AllocError>
     ensures { OnOk result ((c : Code) × (copies.new.items ≡ copies.old.items ++ c ∷ []) × IsLaidAs c code.now) }
 {
     let copy = copy_plain(alloc, code)?;
-    match copies.push(copy) {
-        Ok(()) => Ok(()),
-        Err(_) => Err(NoCopy::Memory),
+    copies.push(copy)?;
+    Ok(())
+}
+
+/// A copy of a local name, in a box.
+#[inline(never)]
+fn copy_local(alloc: Global, code: &Code) -> Result<Box<Code>, AllocError>
+    ensures { IfOk result (λ b. IsLaidAs b.value code.now) }
+{
+    match code {
+        Code::Local {
+            span,
+            up,
+            index,
+            steps,
+        } => {
+            let steps = copied(alloc, steps)?;
+            let copy = Code::Local {
+                span: *span,
+                up: *up,
+                index: *index,
+                steps,
+            };
+            let boxed = Box::new(alloc, copy)?;
+            Ok(boxed)
+        }
+        _ => Err(AllocError),
     }
 }
 
 /// A copy of a number, a truth value, a character, or a name that has a place.
 #[inline(never)]
-fn copy_leaf(alloc: Global, code: &Code) -> Result<Code, NoCopy>
+fn copy_leaf(alloc: Global, code: &Code) -> Result<Code, AllocError>
     ensures { IfOk result (λ c. IsLaidAs c code.now) }
 {
     match code {
@@ -253,19 +251,19 @@ fn copy_leaf(alloc: Global, code: &Code) -> Result<Code, NoCopy>
             up,
             index,
             steps,
-        } => match copied(alloc, steps) {
-            Ok(steps) => Ok(Code::Local {
+        } => {
+            let steps = copied(alloc, steps)?;
+            Ok(Code::Local {
                 span: *span,
                 up: *up,
                 index: *index,
                 steps,
-            }),
-            Err(_) => Err(NoCopy::Memory),
-        },
+            })
+        }
         Code::Top { span, place } => Ok(Code::Top {
             span: *span,
             place: *place,
         }),
-        _ => Err(NoCopy::NotPlain),
+        _ => Err(AllocError),
     }
 }

@@ -1,7 +1,7 @@
 //! Code laid out in the order of evaluation.
 //!
-//! It recurs as deep as the code is high. So that a level takes little of the stack, operations are passed in boxes,
-//! and no function that makes some is inlined into those that recur.
+//! It recurs as deep as the code is high. So that a level takes little of the stack, operations are passed in boxes, no
+//! function that makes some is inlined into those that recur, and there is a function for each kind of node.
 ghost use Rattle.std.specs.Prelude.{◌≡◌, ◌∷◌, [], IfOk, Some, None, suc, option_map, length};
 ghost use Rattle.nesl_eval_blocks.specs.Block.{enter, call, called_by, each, filtered, listing, of_three};
 ghost use Rattle.nesl_eval_blocks.specs.Flat.{making, pushing, rest, deciding, forgetting, flat, applying, block, room};
@@ -69,18 +69,69 @@ fn laid(at: &Place<'_>, code: &Code, next: Option<Box<Block>>) -> Result<Box<Blo
         ≡ flat at.now.height (sizes_of at.now.sizes.now) code.now (option_map block_in next)) }
 {
     match code {
-        Code::Pair { span, left, right } => enter_two(at, *span, Two::Pair, left, right, next),
+        Code::Pair { .. } => laid_two(at, code, next),
+        Code::Apply { .. } => laid_one(at, code, next),
+        Code::ApplyTwo { .. } => laid_two(at, code, next),
+        Code::ApplyThree { .. } => laid_three(at, code, next),
+        Code::Call { .. } => laid_call(at, code, next),
+        Code::CallNamed { .. } => laid_named(at, code, next),
+        Code::Choice { .. } => laid_choice(at, code, next),
+        Code::Sequence { .. } => laid_sequence(at, code, next),
+        Code::Let { .. } => laid_let(at, code, next),
+        Code::Each { .. } => laid_each(at, code, next),
+        Code::FilteredEach { .. } => laid_filtered(at, code, next),
+        _ => alone(at, code, next),
+    }
+}
+
+/// A function of one value.
+#[cycle(laying)]
+#[inline(never)]
+fn laid_one(at: &Place<'_>, code: &Code, next: Option<Box<Block>>) -> Result<Box<Block>, AllocError>
+    ensures { IfOk result (λ o. block_in o
+        ≡ flat at.now.height (sizes_of at.now.sizes.now) code.now (option_map block_in next)) }
+{
+    match code {
         Code::Apply {
             span,
             function,
             argument,
         } => enter_one(at, *span, *function, argument, next),
+        _ => Err(AllocError),
+    }
+}
+
+/// A pair, or a function of two parts.
+#[cycle(laying)]
+#[inline(never)]
+fn laid_two(at: &Place<'_>, code: &Code, next: Option<Box<Block>>) -> Result<Box<Block>, AllocError>
+    ensures { IfOk result (λ o. block_in o
+        ≡ flat at.now.height (sizes_of at.now.sizes.now) code.now (option_map block_in next)) }
+{
+    match code {
+        Code::Pair { span, left, right } => enter_two(at, *span, Two::Pair, left, right, next),
         Code::ApplyTwo {
             span,
             function,
             left,
             right,
         } => enter_two(at, *span, Two::Of(*function), left, right, next),
+        _ => Err(AllocError),
+    }
+}
+
+/// A function of three parts.
+#[cycle(laying)]
+#[inline(never)]
+fn laid_three(
+    at: &Place<'_>,
+    code: &Code,
+    next: Option<Box<Block>>,
+) -> Result<Box<Block>, AllocError>
+    ensures { IfOk result (λ o. block_in o
+        ≡ flat at.now.height (sizes_of at.now.sizes.now) code.now (option_map block_in next)) }
+{
+    match code {
         Code::ApplyThree {
             span,
             function,
@@ -91,40 +142,148 @@ fn laid(at: &Place<'_>, code: &Code, next: Option<Box<Block>>) -> Result<Box<Blo
             let node = node_of_three(at, *span, *function)?;
             enter_three(at, node, first, second, third, next)
         }
+        _ => Err(AllocError),
+    }
+}
+
+/// A call.
+#[cycle(laying)]
+#[inline(never)]
+fn laid_call(
+    at: &Place<'_>,
+    code: &Code,
+    next: Option<Box<Block>>,
+) -> Result<Box<Block>, AllocError>
+    ensures { IfOk result (λ o. block_in o
+        ≡ flat at.now.height (sizes_of at.now.sizes.now) code.now (option_map block_in next)) }
+{
+    match code {
         Code::Call {
             span,
             place,
             argument,
         } => of_call(at, *span, Callee::Placed(*place), argument, next),
+        _ => Err(AllocError),
+    }
+}
+
+/// A call of a name that has no place yet.
+#[cycle(laying)]
+#[inline(never)]
+fn laid_named(
+    at: &Place<'_>,
+    code: &Code,
+    next: Option<Box<Block>>,
+) -> Result<Box<Block>, AllocError>
+    ensures { IfOk result (λ o. block_in o
+        ≡ flat at.now.height (sizes_of at.now.sizes.now) code.now (option_map block_in next)) }
+{
+    match code {
         Code::CallNamed {
             span,
             name,
             argument,
         } => of_call_named(at, *span, name, argument, next),
+        _ => Err(AllocError),
+    }
+}
+
+/// A choice.
+#[cycle(laying)]
+#[inline(never)]
+fn laid_choice(
+    at: &Place<'_>,
+    code: &Code,
+    next: Option<Box<Block>>,
+) -> Result<Box<Block>, AllocError>
+    ensures { IfOk result (λ o. block_in o
+        ≡ flat at.now.height (sizes_of at.now.sizes.now) code.now (option_map block_in next)) }
+{
+    match code {
         Code::Choice {
             span,
             test,
             yes,
             no,
         } => of_choice(at, *span, test, yes, no, next),
+        _ => Err(AllocError),
+    }
+}
+
+/// A sequence.
+#[cycle(laying)]
+#[inline(never)]
+fn laid_sequence(
+    at: &Place<'_>,
+    code: &Code,
+    next: Option<Box<Block>>,
+) -> Result<Box<Block>, AllocError>
+    ensures { IfOk result (λ o. block_in o
+        ≡ flat at.now.height (sizes_of at.now.sizes.now) code.now (option_map block_in next)) }
+{
+    match code {
         Code::Sequence { span, parts } => enter_sequence(at, *span, parts, next),
+        _ => Err(AllocError),
+    }
+}
+
+/// A `let`.
+#[cycle(laying)]
+#[inline(never)]
+fn laid_let(at: &Place<'_>, code: &Code, next: Option<Box<Block>>) -> Result<Box<Block>, AllocError>
+    ensures { IfOk result (λ o. block_in o
+        ≡ flat at.now.height (sizes_of at.now.sizes.now) code.now (option_map block_in next)) }
+{
+    match code {
         Code::Let {
             span,
             bindings,
             body,
         } => enter_let(at, *span, bindings, body, next),
+        _ => Err(AllocError),
+    }
+}
+
+/// An apply-to-each.
+#[cycle(laying)]
+#[inline(never)]
+fn laid_each(
+    at: &Place<'_>,
+    code: &Code,
+    next: Option<Box<Block>>,
+) -> Result<Box<Block>, AllocError>
+    ensures { IfOk result (λ o. block_in o
+        ≡ flat at.now.height (sizes_of at.now.sizes.now) code.now (option_map block_in next)) }
+{
+    match code {
         Code::Each {
             span,
             sources,
             body,
         } => of_each(at, *span, sources, body, next),
+        _ => Err(AllocError),
+    }
+}
+
+/// An apply-to-each with a filter.
+#[cycle(laying)]
+#[inline(never)]
+fn laid_filtered(
+    at: &Place<'_>,
+    code: &Code,
+    next: Option<Box<Block>>,
+) -> Result<Box<Block>, AllocError>
+    ensures { IfOk result (λ o. block_in o
+        ≡ flat at.now.height (sizes_of at.now.sizes.now) code.now (option_map block_in next)) }
+{
+    match code {
         Code::FilteredEach {
             span,
             sources,
             body,
             filter,
         } => of_filtered(at, *span, sources, body, filter, next),
-        _ => alone(at, code, next),
+        _ => Err(AllocError),
     }
 }
 
@@ -169,7 +328,7 @@ fn before_leaf(
 
 /// Enters a function of one value, and lays it out.
 #[cycle(laying)]
-#[inline(never)]
+#[inline(always)]
 fn enter_one(
     at: &Place<'_>,
     span: Span,
@@ -189,7 +348,7 @@ fn enter_one(
 
 /// Enters a node of two parts, and lays it out.
 #[cycle(laying)]
-#[inline(never)]
+#[inline(always)]
 fn enter_two(
     at: &Place<'_>,
     span: Span,
@@ -225,7 +384,7 @@ fn node_of_three(at: &Place<'_>, span: Span, function: Builtin) -> Result<ManyNo
 
 /// Enters a node of three parts, and lays it out.
 #[cycle(laying)]
-#[inline(never)]
+#[inline(always)]
 fn enter_three(
     at: &Place<'_>,
     node: ManyNode,
@@ -247,7 +406,7 @@ fn enter_three(
 
 /// Enters a sequence, and lays it out.
 #[cycle(laying)]
-#[inline(never)]
+#[inline(always)]
 fn enter_sequence(
     at: &Place<'_>,
     span: Span,
@@ -266,7 +425,7 @@ fn enter_sequence(
 
 /// Enters a `let`, and lays it out.
 #[cycle(laying)]
-#[inline(never)]
+#[inline(always)]
 fn enter_let(
     at: &Place<'_>,
     span: Span,
@@ -285,7 +444,7 @@ fn enter_let(
 
 /// A call, whose argument comes before it.
 #[cycle(laying)]
-#[inline(never)]
+#[inline(always)]
 fn of_call(
     at: &Place<'_>,
     span: Span,
@@ -306,7 +465,7 @@ fn of_call(
 
 /// A call of a name that has no place yet.
 #[cycle(laying)]
-#[inline(never)]
+#[inline(always)]
 fn of_call_named(
     at: &Place<'_>,
     span: Span,
@@ -324,7 +483,7 @@ fn of_call_named(
 
 /// A choice, whose test comes before it.
 #[cycle(laying)]
-#[inline(never)]
+#[inline(always)]
 fn of_choice(
     at: &Place<'_>,
     span: Span,
@@ -347,7 +506,7 @@ fn of_choice(
 
 /// An apply-to-each, whose sequences come before it.
 #[cycle(laying)]
-#[inline(never)]
+#[inline(always)]
 fn of_each(
     at: &Place<'_>,
     span: Span,
@@ -369,7 +528,7 @@ fn of_each(
 
 /// An apply-to-each with a filter, whose sequences come before it.
 #[cycle(laying)]
-#[inline(never)]
+#[inline(always)]
 fn of_filtered(
     at: &Place<'_>,
     span: Span,

@@ -1,5 +1,5 @@
 //! How many values the frames round a node hold.
-ghost use Rattle.std.specs.Prelude.{◌≡◌, ◌++◌, IfOk, IfSome, IsTrue};
+ghost use Rattle.std.specs.Prelude.{◌≡◌, ◌+◌, ◌++◌, ℕ, IfOk, IfSome, IsTrue};
 ghost use Rattle.nesl_eval_blocks.specs.Flat.{room, place_of};
 ghost use Rattle.nesl_eval_ops.specs.View.{sizes_of};
 
@@ -20,44 +20,60 @@ pub(crate) enum Sizes<'a> {
     Frame(usize, &'a Sizes<'a>),
 }
 
-/// How many values the frames hold. It recurs over the frames.
+/// How many values the frames hold.
+#[inline(always)]
 pub(crate) fn room(sizes: &Sizes<'_>) -> Result<usize, AllocError>
     ensures { IfOk result (λ n. n ≡ room (sizes_of sizes.now)) }
 {
+    room_and(sizes, 0)
+}
+
+/// How many values the frames hold, and so many more. It recurs over the frames.
+fn room_and(sizes: &Sizes<'_>, more: usize) -> Result<usize, AllocError>
+    ensures { IfOk result (λ n. n ≡ room (sizes_of sizes.now) + more) }
+{
     match sizes {
-        Sizes::Top => Ok(0),
-        Sizes::Frame(size, outer) => {
-            let below = room(*outer)?;
-            match below.checked_add(*size) {
-                Some(all) => Ok(all),
-                None => Err(AllocError),
+        Sizes::Top => Ok(more),
+        Sizes::Frame(size, outer) => match size.checked_add(more) {
+            Some(all) => room_and(*outer, all),
+            None => Err(AllocError),
+        },
+    }
+}
+
+/// The frames from the one on that is so many frames up. It recurs over the frames.
+fn frames_up<'a>(sizes: &'a Sizes<'a>, up: usize) -> &'a Sizes<'a>
+    ensures { (index : ℕ) → place_of (sizes_of result.now) 0 index ≡ place_of (sizes_of sizes.now) up index }
+{
+    match sizes {
+        Sizes::Top => sizes,
+        Sizes::Frame(_, outer) => {
+            if up > 0 {
+                frames_up(*outer, up - 1)
+            } else {
+                sizes
             }
         }
     }
 }
 
-/// The place of the value so many frames up, at that index of the frame, if there is one. It recurs over the frames.
-pub(crate) fn place_of(
-    sizes: &Sizes<'_>,
+/// The place of the value so many frames up, at that index of the frame, if there is one.
+#[inline(always)]
+pub(crate) fn place_of<'a>(
+    sizes: &'a Sizes<'a>,
     up: usize,
     index: usize,
 ) -> Result<Option<usize>, AllocError>
     ensures { IfOk result (λ p. p ≡ place_of (sizes_of sizes.now) up index) }
 {
-    match sizes {
+    match frames_up(sizes, up) {
         Sizes::Top => Ok(None),
         Sizes::Frame(size, outer) => {
-            if up > 0 {
-                return place_of(*outer, up - 1, index);
-            }
             if index >= *size {
                 return Ok(None);
             }
-            let below = room(*outer)?;
-            match below.checked_add(index) {
-                Some(place) => Ok(Some(place)),
-                None => Err(AllocError),
-            }
+            let place = room_and(*outer, index)?;
+            Ok(Some(place))
         }
     }
 }

@@ -14,7 +14,7 @@ use Rattle.nesl_eval_code.specs.Resolving.{layers_of, known}
 use Rattle.nesl_eval_code.proofs.Nodes as nodes
 use Rattle.nesl_eval_code.proofs.Lists as lists
 use Rattle.nesl_eval_code.proofs.Resolved.{if_ok}
-use Rattle.nesl_eval_code.proofs.Prepared.{sequence_shape, let_shape, each_shape, filtered_shape, item_step, source_step, binding_step, inner_means, read_number, shown, applied, of_two, of_three, of_list}
+use Rattle.nesl_eval_code.proofs.Prepared.{sequence_shape, let_shape, each_shape, filtered_shape, item_step, source_step, binding_step, inner_means, read_number, shown, boxed_shown, applied, of_two, of_three, of_list}
 use Rattle.nesl_eval_code.proofs.preparing.+prepare.Goals as goal
 
 pub code_of-returns-in-Number : goal.code_of-returns-in-Number
@@ -56,6 +56,14 @@ code_of-returns-in-Variable t c =
     let s = c.args.exp.now.span in
     shown names ls c.code_of_variable.result s _ c.args.exp.now.node
     (ap shape_of c.in-Variable.is ∙ ap (λ (x : Name). trees.variable x) (sym c.as_slice-in-Variable.ensures.value)) c.code_of_variable.ensures
+
+pub boxed_code_of-returns-in-Variable : goal.boxed_code_of-returns-in-Variable
+boxed_code_of-returns-in-Variable t c =
+    let names = known c.args.at.now.places.now in
+    let ls = layers_of c.args.at.now.layers.now in
+    let s = c.args.exp.now.span in
+    boxed_shown names ls c.boxed_variable.result s _ c.args.exp.now.node
+    (ap shape_of c.in-Variable.is ∙ ap (λ (x : Name). trees.variable x) (sym c.as_slice.ensures.value)) c.boxed_variable.ensures
 
 pub code_of-returns-in-Call : goal.code_of-returns-in-Call
 code_of-returns-in-Call t c =

@@ -20,28 +20,31 @@ abbrev pub decreases-code_of : goal.decreases-code_of
 decreases-code_of l = 4 * size l.exp.now
 
 abbrev pub decreases-boxed_code_of : goal.decreases-boxed_code_of
-decreases-boxed_code_of l = 4 * size l.exp.now + 1
+decreases-boxed_code_of l = 4 * size l.exp.now + 2
+
+abbrev pub decreases-box_code_of : goal.decreases-box_code_of
+decreases-box_code_of l = 4 * size l.exp.now + 1
 
 abbrev pub decreases-code_of_applied : goal.decreases-code_of_applied
-decreases-code_of_applied l = 4 * size l.argument.now + 2
+decreases-code_of_applied l = 4 * size l.argument.now + 3
 
 abbrev pub decreases-code_of_prefix : goal.decreases-code_of_prefix
-decreases-code_of_prefix l = 4 * size l.operand.now + 2
+decreases-code_of_prefix l = 4 * size l.operand.now + 3
 
 abbrev pub decreases-code_of_sequence : goal.decreases-code_of_sequence
 decreases-code_of_sequence l = 4 * most (λ (e : Exp). size e) l.items.now + 3
 
 abbrev pub decreases-code_of_pair : goal.decreases-code_of_pair
-decreases-code_of_pair l = 4 * max (size l.left.now) (size l.right.now) + 2
+decreases-code_of_pair l = 4 * max (size l.left.now) (size l.right.now) + 3
 
 abbrev pub decreases-code_of_two : goal.decreases-code_of_two
-decreases-code_of_two l = 4 * max (size l.left.now) (size l.right.now) + 2
+decreases-code_of_two l = 4 * max (size l.left.now) (size l.right.now) + 3
 
 abbrev pub decreases-code_of_strided : goal.decreases-code_of_strided
-decreases-code_of_strided l = 4 * max (size l.from.now) (max (size l.to.now) (size l.stride.now)) + 2
+decreases-code_of_strided l = 4 * max (size l.from.now) (max (size l.to.now) (size l.stride.now)) + 3
 
 abbrev pub decreases-code_of_choice : goal.decreases-code_of_choice
-decreases-code_of_choice l = 4 * max (size l.test.now) (max (size l.yes.now) (size l.no.now)) + 2
+decreases-code_of_choice l = 4 * max (size l.test.now) (max (size l.yes.now) (size l.no.now)) + 3
 
 abbrev pub decreases-code_of_let : goal.decreases-code_of_let
 decreases-code_of_let l = 4 * max (most_of l.bound.now) (size l.body.now) + 3

@@ -18,7 +18,10 @@ abbrev pub decreases-copy_choice_or_let : goal.decreases-copy_choice_or_let
 decreases-copy_choice_or_let l = 4 * size l.code.now
 
 abbrev pub decreases-copy_boxed : goal.decreases-copy_boxed
-decreases-copy_boxed l = 4 * size l.code.now + 2
+decreases-copy_boxed l = 4 * size l.code.now + 3
+
+abbrev pub decreases-copy_into_box : goal.decreases-copy_into_box
+decreases-copy_into_box l = 4 * size l.code.now + 2
 
 abbrev pub decreases-copy_all : goal.decreases-copy_all
 decreases-copy_all l = 4 * most (λ (c : Code). size c) l.codes.now + 3

@@ -10,23 +10,23 @@ use Rattle.nesl_eval_ops.proofs.Lists.{making_all, three_pushed, tail_is, pushed
 use Rattle.nesl_eval_ops.proofs.Lists.{sequence_laid, let_laid, let_above, each_laid, filtered_laid}
 use Rattle.nesl_eval_ops.proofs.laying.+laying.Goals as goal
 
-pub laid-returns-in-Sequence : goal.laid-returns-in-Sequence
-laid-returns-in-Sequence t c =
+pub laid_sequence-returns-in-Sequence : goal.laid_sequence-returns-in-Sequence
+laid_sequence-returns-in-Sequence t c =
     let p = c.args.at.now in
     if_ok c.enter_sequence.result c.enter_sequence.ensures (λ o e. e
     ∙ sequence_laid p.height (sizes_of p.sizes.now)
-    c.in-Sequence.span c.in-Sequence.parts c.deref-in-Sequence.result.now c.args.code.now
+    c.in-Sequence.span c.in-Sequence.parts c.deref.result.now c.args.code.now
     (option_map block_in c.args.next)
-    c.deref-in-Sequence.ensures.value c.in-Sequence.is)
+    c.deref.ensures.value c.in-Sequence.is)
 
-pub laid-returns-in-Let : goal.laid-returns-in-Let
-laid-returns-in-Let t c =
+pub laid_let-returns-in-Let : goal.laid_let-returns-in-Let
+laid_let-returns-in-Let t c =
     let p = c.args.at.now in
     if_ok c.enter_let.result c.enter_let.ensures (λ o e. e
     ∙ let_laid p.height (sizes_of p.sizes.now)
-    c.in-Let.span c.in-Let.bindings c.in-Let.body c.deref-in-Let.result.now c.deref-in-Let-2.result.now
+    c.in-Let.span c.in-Let.bindings c.in-Let.body c.deref.result.now c.deref-in-Let.result.now
     c.args.code.now (option_map block_in c.args.next)
-    c.deref-in-Let.ensures.value c.deref-in-Let-2.ensures c.in-Let.is)
+    c.deref.ensures.value c.deref-in-Let.ensures c.in-Let.is)
 
 pub enter_let-returns : goal.enter_let-returns
 enter_let-returns t c =
@@ -38,24 +38,24 @@ enter_let-returns t c =
     (block_in c.in_ok-made.made) (option_map block_in c.args.next)
     c.in_ok-inner.ensures.0 (ap (λ z. sizes_of z.now) c.in_ok-inner.ensures.1) c.in_ok-made.ensures)
 
-pub laid-returns-in-Each : goal.laid-returns-in-Each
-laid-returns-in-Each t c =
+pub laid_each-returns-in-Each : goal.laid_each-returns-in-Each
+laid_each-returns-in-Each t c =
     let p = c.args.at.now in
     if_ok c.of_each.result c.of_each.ensures (λ o e. e
     ∙ each_laid p.height (sizes_of p.sizes.now)
-    c.in-Each.span c.in-Each.sources c.in-Each.body c.deref-in-Each.result.now c.deref-in-Each-2.result.now
+    c.in-Each.span c.in-Each.sources c.in-Each.body c.deref.result.now c.deref-in-Each.result.now
     c.args.code.now (option_map block_in c.args.next)
-    c.deref-in-Each.ensures.value c.deref-in-Each-2.ensures c.in-Each.is)
+    c.deref.ensures.value c.deref-in-Each.ensures c.in-Each.is)
 
-pub laid-returns-in-FilteredEach : goal.laid-returns-in-FilteredEach
-laid-returns-in-FilteredEach t c =
+pub laid_filtered-returns-in-FilteredEach : goal.laid_filtered-returns-in-FilteredEach
+laid_filtered-returns-in-FilteredEach t c =
     let p = c.args.at.now in
     if_ok c.of_filtered.result c.of_filtered.ensures (λ o e. e
     ∙ filtered_laid p.height (sizes_of p.sizes.now)
     c.in-FilteredEach.span c.in-FilteredEach.sources c.in-FilteredEach.body c.in-FilteredEach.filter
-    c.deref-in-FilteredEach.result.now c.deref-in-FilteredEach-2.result.now c.deref-in-FilteredEach-3.result.now
+    c.deref.result.now c.deref-in-FilteredEach.result.now c.deref-in-FilteredEach-2.result.now
     c.args.code.now (option_map block_in c.args.next)
-    c.deref-in-FilteredEach.ensures.value c.deref-in-FilteredEach-2.ensures c.deref-in-FilteredEach-3.ensures
+    c.deref.ensures.value c.deref-in-FilteredEach.ensures c.deref-in-FilteredEach-2.ensures
     c.in-FilteredEach.is)
 
 pub of_sequence-returns : goal.of_sequence-returns

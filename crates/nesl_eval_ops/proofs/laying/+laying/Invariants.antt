@@ -8,6 +8,36 @@ use Rattle.nesl_eval_ops.proofs.laying.+laying.Given as goal
 abbrev pub decreases-laid : goal.decreases-laid
 decreases-laid l = (2 ^ 32 - l.at.now.height) * 8 + 5
 
+abbrev pub decreases-laid_one : goal.decreases-laid_one
+decreases-laid_one l = (2 ^ 32 - l.at.now.height) * 8 + 4
+
+abbrev pub decreases-laid_two : goal.decreases-laid_two
+decreases-laid_two l = (2 ^ 32 - l.at.now.height) * 8 + 4
+
+abbrev pub decreases-laid_three : goal.decreases-laid_three
+decreases-laid_three l = (2 ^ 32 - l.at.now.height) * 8 + 4
+
+abbrev pub decreases-laid_call : goal.decreases-laid_call
+decreases-laid_call l = (2 ^ 32 - l.at.now.height) * 8 + 4
+
+abbrev pub decreases-laid_named : goal.decreases-laid_named
+decreases-laid_named l = (2 ^ 32 - l.at.now.height) * 8 + 4
+
+abbrev pub decreases-laid_choice : goal.decreases-laid_choice
+decreases-laid_choice l = (2 ^ 32 - l.at.now.height) * 8 + 4
+
+abbrev pub decreases-laid_sequence : goal.decreases-laid_sequence
+decreases-laid_sequence l = (2 ^ 32 - l.at.now.height) * 8 + 4
+
+abbrev pub decreases-laid_let : goal.decreases-laid_let
+decreases-laid_let l = (2 ^ 32 - l.at.now.height) * 8 + 4
+
+abbrev pub decreases-laid_each : goal.decreases-laid_each
+decreases-laid_each l = (2 ^ 32 - l.at.now.height) * 8 + 4
+
+abbrev pub decreases-laid_filtered : goal.decreases-laid_filtered
+decreases-laid_filtered l = (2 ^ 32 - l.at.now.height) * 8 + 4
+
 abbrev pub decreases-enter_one : goal.decreases-enter_one
 decreases-enter_one l = (2 ^ 32 - l.at.now.height) * 8 + 3
 
@@ -24,10 +54,10 @@ abbrev pub decreases-enter_let : goal.decreases-enter_let
 decreases-enter_let l = (2 ^ 32 - l.at.now.height) * 8 + 3
 
 abbrev pub decreases-of_call : goal.decreases-of_call
-decreases-of_call l = (2 ^ 32 - l.at.now.height) * 8 + 3
+decreases-of_call l = (2 ^ 32 - l.at.now.height) * 8 + 2
 
 abbrev pub decreases-of_call_named : goal.decreases-of_call_named
-decreases-of_call_named l = (2 ^ 32 - l.at.now.height) * 8 + 4
+decreases-of_call_named l = (2 ^ 32 - l.at.now.height) * 8 + 3
 
 abbrev pub decreases-of_choice : goal.decreases-of_choice
 decreases-of_choice l = (2 ^ 32 - l.at.now.height) * 8 + 3

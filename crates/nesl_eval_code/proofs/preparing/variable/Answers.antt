@@ -4,7 +4,7 @@ use Rattle.nesl_eval_code.specs.declared.layers.LocalPlace.{LocalPlace}
 use Rattle.nesl_eval_code.specs.Means.{spot, steps_to}
 use Rattle.nesl_eval_code.specs.Resolving.{known, layers_of, FindsLocal}
 use Rattle.nesl_eval_code.proofs.Nodes.{means_local, means_top, means_named}
-use Rattle.nesl_eval_code.proofs.preparing.code_of_variable.Goals as goal
+use Rattle.nesl_eval_code.proofs.preparing.variable.Goals as goal
 
 pub returns-in-Some : goal.returns-in-Some
 returns-in-Some c =
