@@ -1,11 +1,11 @@
 -- Texts of lists that grow at their end.
-use Rattle.std.proofs.Common.{◌≡◌, ℕ, zero, suc, ℤ, Some, ◌+◌, ◌<◌, Bool, true, false, ◌&&◌, ◌==◌, List, [], ◌∷◌, ◌++◌, length, take, map, refl, ap, sym, ◌∙◌, append_assoc, append-nil, arith, codes, cond, slice_get, if◌then◌else◌, Global, Result, Ok, Err, OnOk}
+use Rattle.std.proofs.Common.{◌≡◌, ℕ, zero, suc, ℤ, Some, ◌+◌, ◌<◌, Bool, true, false, ◌&&◌, ◌==◌, List, [], ◌∷◌, ◌++◌, length, take, map, refl, ap, sym, ◌∙◌, append_assoc, append-nil, arith, codes, cond, slice_get, get_or, if◌then◌else◌, Global, Result, Ok, Err, OnOk}
 use Rattle.std.specs.List.{list_all}
 use Rattle.std.proofs.lemmas.List.Folds.{list_all-map}
 use Rattle.nesl_values.specs.Parts.{list_of}
 use Rattle.nesl_values.specs.View.{tree_of}
 use Rattle.nesl_values.specs.declared.value.Value.{Value}
-use Rattle.std.proofs.lemmas.List.{take_more}
+use Rattle.std.proofs.lemmas.List.{take_more, map-append}
 use Rattle.std.proofs.lemmas.Bool.Decides.{nat_tests}
 use Rattle.std.proofs.lemmas.Grind.{flat_map-append}
 use Rattle.std.proofs.lemmas.Option.{slice_get_within, get_or_from_slice_get}
@@ -128,3 +128,19 @@ front_written o p known brackets t u v ts e f = ap (λ x. x ++ ts) (f ∙ ap (λ
 pub less_after : {E : Type 0} → (r : Result Unit E) (x : Task) (ys xs zs : List Task) (m n : ℕ) → OnOk r (IsNext x ys xs) → tasks_work xs ≡ m + tasks_work zs → task_work x + m < n → OnOk r (tasks_work ys < n + tasks_work zs)
 less_after (Ok u) x ys xs zs m n h work less = omega (arith, h.work)
 less_after (Err e) x ys xs zs m n h work less = tt
+
+-- a value was written where another is read, of another type: both are the same
+pub same_written : (o p : List ℕ) (known : DatatypesByTag) (brackets : Bool) (t u : Term) (x y : ValueTree) → t ≡ u → x ≡ y → p ≡ o ++ value_text known brackets t x → p ≡ o ++ value_text known brackets u y
+same_written o p known brackets t u x y e f h = h ∙ ap (λ s. o ++ value_text known brackets s x) e ∙ ap (λ z. o ++ value_text known brackets u z) f
+
+-- one element more was written, behind a comma
+pub element_written : (known : DatatypesByTag) (t u : Term) (vs : List (Value Global)) (i : ℕ) (v : Value Global) (o p q r : List ℕ) → i < length vs → v ≡ get_or vs i v → u ≡ t → p ≡ o ++ later_elements_text known t (trees_of (map tree_of (take i vs))) → q ≡ p ++ codes ", " → r ≡ q ++ value_text known true u (tree_of v) → r ≡ o ++ later_elements_text known t (trees_of (map tree_of (take (i + 1) vs)))
+element_written known t u vs i v o p q r l e same f g h =
+    let longer : take (i + 1) vs ≡ take i vs ++ v ∷ [] = take_more vs i v l ∙ ap (λ y. take i vs ++ y ∷ []) (sym e) in
+    let trees : map tree_of (take (i + 1) vs) ≡ map tree_of (take i vs) ++ tree_of v ∷ [] = ap (map tree_of) longer ∙ map-append tree_of (take i vs) (v ∷ []) in
+    let before : List ℕ = later_elements_text known t (trees_of (map tree_of (take i vs))) in
+    let text : List ℕ = value_text known true t (tree_of v) in
+    let more : later_elements_text known t (trees_of (map tree_of (take (i + 1) vs))) ≡ before ++ (codes ", " ++ text) = ap (λ ts. later_elements_text known t (trees_of ts)) trees ∙ others_text_push known t (map tree_of (take i vs)) (tree_of v) in
+    let wrote : r ≡ q ++ text = h ∙ ap (λ s. q ++ value_text known true s (tree_of v)) same in
+    let all : r ≡ o ++ (before ++ (codes ", " ++ text)) = wrote ∙ ap (λ z. z ++ text) (g ∙ ap (λ z. z ++ codes ", ") f) ∙ append_assoc (o ++ before) (codes ", ") text ∙ append_assoc o before (codes ", " ++ text) in
+    all ∙ ap (λ z. o ++ z) (sym more)

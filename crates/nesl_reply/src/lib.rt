@@ -5,6 +5,7 @@ pub mod fault;
 mod leaf;
 pub mod reply;
 pub mod value;
+mod whole;
 mod writing;
 
 pub use fault::{Fault, Stop};

@@ -9,7 +9,7 @@ ghost use Rattle.nesl_reply.specs.Replies.{told_of, budget_text, reply_text as t
 ghost use Rattle.nesl_reply.specs.Replies.{names_text};
 
 use crate::fault::{Fault, write_fault};
-use crate::value::write_value;
+use crate::whole::write_value;
 use crate::writing::{write_bytes, write_number};
 use nesl_scalars::Cost;
 use nesl_types::{Context, Scheme, Ty, scheme_text, type_text};
@@ -83,7 +83,7 @@ fn write_reply<P: Drop>(
         Reply::Bound(name, value, ty, cost) => {
             write_bytes(out, name)?;
             write_bytes(out, b" = ")?;
-            write_value(out, alloc, value, ty, context)?;
+            write_value(out, value, ty, context)?;
             write_bytes(out, b" : ")?;
             write_type(out, alloc, ty, context)?;
             write_cost(out, cost)

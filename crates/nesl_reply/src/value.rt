@@ -16,6 +16,7 @@ ghost use Rattle.nesl_reply.specs.Tasks.{task_text, tasks_text, task_work, tasks
 ghost use Rattle.nesl_reply.specs.Tasks.{list_text};
 
 use crate::leaf::{Leaf, is_printable, write_character, write_other_leaves, write_truth};
+use crate::whole::write_value;
 use crate::writing::{write_bytes, write_integer};
 use nesl_types::{Context, Kind, Part, Top, Ty};
 use nesl_values::{Items, Shape, Value};
@@ -34,8 +35,7 @@ pub enum Task<'a> {
     Bytes(&'static [u8]),
 }
 
-/// The text of a value of a type. The context has the names of the datatypes, and what their records hold. What is
-/// still to be written stands in a list, so that a value of any depth takes no call depth.
+/// The text of a value of a type. The context has the names of the datatypes, and what their records hold.
 pub fn value_text<P: Drop>(
     alloc: Global,
     value: &Value,
@@ -45,27 +45,24 @@ pub fn value_text<P: Drop>(
     ensures { IfOk result (λ text. text.items ≡ text_of_value (datatypes context.now) true ty.now (tree_of value.now)) }
 {
     let mut out = Vec::new(alloc);
-    write_value(&mut out, alloc, value, ty, context)?;
+    write_value(&mut out, value, ty, context)?;
     Ok(out)
 }
 
-/// Writes a value of a type.
-pub(crate) fn write_value<P: Drop>(
+/// Writes a value of a type; a pair has brackets where they are asked for. What is still to be written stands in a
+/// list, so that a value of any depth takes no call depth.
+pub(crate) fn write_by_tasks<'a, P: Drop>(
     out: &mut Vec<u8>,
-    alloc: Global,
-    value: &Value,
-    ty: &Ty,
-    context: &Context<P>,
+    context: &'a Context<P>,
+    value: &'a Value,
+    ty: &Part<'a>,
+    brackets: bool,
 ) -> Result<(), AllocError>
     ensures { OnOk result (out.new.items ≡ out.old.items
-        ++ text_of_value (datatypes context.now) true ty.now (tree_of value.now)) }
+        ++ text_of_value (datatypes context.now) brackets ty.now (tree_of value.now)) }
 {
-    let room = match value.shape() {
-        Shape::Int(_) | Shape::Bool(_) | Shape::Char(_) => 0,
-        _ => TASKS,
-    };
-    let mut tasks = Vec::with_capacity(alloc, room)?;
-    write_front(out, &mut tasks, context, value, &ty.whole(), true)?;
+    let mut tasks = Vec::with_capacity(*out.allocator(), TASKS)?;
+    write_front(out, &mut tasks, context, value, ty, brackets)?;
     while let Some(task) = next_task(&mut tasks) {
         write_task(out, &mut tasks, context, task)?;
     }
@@ -315,7 +312,11 @@ fn write_first<L: Leaf>(out: &mut Vec<u8>, first: L, others: &[L]) -> Result<(),
 }
 
 // Writes a packed sequence of numbers.
-fn write_integers(out: &mut Vec<u8>, items: &[i64], ty: &Part<'_>) -> Result<(), AllocError>
+pub(crate) fn write_integers(
+    out: &mut Vec<u8>,
+    items: &[i64],
+    ty: &Part<'_>,
+) -> Result<(), AllocError>
     ensures { OnOk result ((known : DatatypesByTag) (brackets : Bool)
         → out.new.items ≡ out.old.items ++ text_of_value known brackets ty.now (seq (trees_of (map int items.now)))) }
 {
@@ -324,7 +325,11 @@ fn write_integers(out: &mut Vec<u8>, items: &[i64], ty: &Part<'_>) -> Result<(),
 }
 
 // Writes a packed sequence of truth values.
-fn write_truths(out: &mut Vec<u8>, items: &[bool], ty: &Part<'_>) -> Result<(), AllocError>
+pub(crate) fn write_truths(
+    out: &mut Vec<u8>,
+    items: &[bool],
+    ty: &Part<'_>,
+) -> Result<(), AllocError>
     ensures { OnOk result ((known : DatatypesByTag) (brackets : Bool)
         → out.new.items ≡ out.old.items ++ text_of_value known brackets ty.now
         (seq (trees_of (map boolean items.now)))) }
@@ -334,7 +339,11 @@ fn write_truths(out: &mut Vec<u8>, items: &[bool], ty: &Part<'_>) -> Result<(), 
 }
 
 // Writes a packed sequence of characters: as a text where its type and its bytes allow it.
-fn write_characters(out: &mut Vec<u8>, bytes: &[u8], ty: &Part<'_>) -> Result<(), AllocError>
+pub(crate) fn write_characters(
+    out: &mut Vec<u8>,
+    bytes: &[u8],
+    ty: &Part<'_>,
+) -> Result<(), AllocError>
     ensures { OnOk result ((known : DatatypesByTag) (brackets : Bool)
         → out.new.items ≡ out.old.items ++ text_of_value known brackets ty.now
         (seq (trees_of (map character bytes.now)))) }
@@ -359,7 +368,7 @@ fn write_text(out: &mut Vec<u8>, bytes: &[u8]) -> Result<(), AllocError>
 }
 
 // Writes characters that are values of their own between double quotes.
-fn write_quoted(out: &mut Vec<u8>, items: &[Value]) -> Result<(), AllocError>
+pub(crate) fn write_quoted(out: &mut Vec<u8>, items: &[Value]) -> Result<(), AllocError>
     ensures { OnOk result (out.new.items ≡ out.old.items ++ quoted (list_of (trees_view items.now))) }
 {
     write_bytes(out, b"\"")?;
@@ -378,7 +387,7 @@ fn write_codes(out: &mut Vec<u8>, items: &[Value]) -> Result<(), AllocError>
 }
 
 // Whether the sequence is written as a text.
-fn is_text(items: &[Value], ty: &Part<'_>) -> bool
+pub(crate) fn is_text(items: &[Value], ty: &Part<'_>) -> bool
     ensures { result ≡ (is_text_type ty.now && list_all is_quotable (list_of (trees_view items.now))) }
 {
     is_text_type(ty) && can_be_quoted(items)
@@ -442,7 +451,7 @@ fn is_text_type(ty: &Part<'_>) -> bool
     }
 }
 
-fn left_type<'a>(ty: &Part<'a>) -> Part<'a>
+pub(crate) fn left_type<'a>(ty: &Part<'a>) -> Part<'a>
     ensures { result ≡ left_type ty.now }
 {
     match ty.kind() {
@@ -451,7 +460,7 @@ fn left_type<'a>(ty: &Part<'a>) -> Part<'a>
     }
 }
 
-fn right_type<'a>(ty: &Part<'a>) -> Part<'a>
+pub(crate) fn right_type<'a>(ty: &Part<'a>) -> Part<'a>
     ensures { result ≡ right_type ty.now }
 {
     match ty.kind() {
@@ -460,7 +469,7 @@ fn right_type<'a>(ty: &Part<'a>) -> Part<'a>
     }
 }
 
-fn element_type<'a>(ty: &Part<'a>) -> Part<'a>
+pub(crate) fn element_type<'a>(ty: &Part<'a>) -> Part<'a>
     ensures { result ≡ element_type ty.now }
 {
     match ty.kind() {
@@ -470,7 +479,7 @@ fn element_type<'a>(ty: &Part<'a>) -> Part<'a>
 }
 
 // The type of what the records of a datatype hold, or `ty` where the tag stands for no datatype.
-fn held_type<'a, P: Drop>(context: &'a Context<P>, tag: u64, ty: &Part<'a>) -> Part<'a>
+pub(crate) fn held_type<'a, P: Drop>(context: &'a Context<P>, tag: u64, ty: &Part<'a>) -> Part<'a>
     ensures { result ≡ unwrap_or (held_by (datatype_at context.now tag)) ty.now }
 {
     match context.datatype(tag) {
