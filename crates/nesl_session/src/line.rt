@@ -152,6 +152,7 @@ fn find_read<A: Allocator, E: Evaluator<A>>(
 }
 
 // What the line comes to, behind the parts before it.
+#[inline]
 fn sense(standing: &Standing, alloc: Global, text: &[u8]) -> Result<Sense, AllocError>
     ensures { IfOk result (λ sense. HasSense (standing.now.pending.items ++ text.now) (seen_sense sense)) }
 {

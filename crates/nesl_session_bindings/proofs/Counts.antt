@@ -55,10 +55,22 @@ beside_none x (e ∷ es) h = by (bytes_eq x e.0) (beside_none x es) h ∙ sym (m
     by true i h = absurd cc
     by false i h = omega (arith, i h)
 
+-- those beside a name are no more than all
+pub beside_few : (x : Name) (bs : List Binding) → elements_beside x bs ≤ elements_of bs
+beside_few x [] = omega arith
+beside_few x (b ∷ bs) = by (bytes_eq x b.name) (beside_few x bs)
+  where
+    by : (q : Bool) → elements_beside x bs ≤ elements_of bs → (if q then elements_of bs else elements_in b.meaning + elements_beside x bs) ≤ elements_of (b ∷ bs)
+    by true i = omega (arith, more_elements b bs)
+    by false i = omega (arith, more_elements b bs, i)
+
 -- whether the elements are within a limit, by the room that the others leave
 module _ (x : Name) (m : Meaning) (bs : List Binding) (limit : ℕ) where
   pub fits_not : limit < elements_beside x bs → false ≡ nat_le (elements_of (put_binding x m bs)) limit
   fits_not h = sym (lt-leb (elements_of (put_binding x m bs)) limit (omega (arith, put_elements x m bs)))
+
+  pub fits_beside : elements_of bs + elements_in m ≤ limit → true ≡ nat_le (elements_of (put_binding x m bs)) limit
+  fits_beside h = sym (le-leb (elements_of (put_binding x m bs)) limit (omega (arith, h, put_elements x m bs, beside_few x bs)))
 
   pub fits_when : (room : ℕ) → room + elements_beside x bs ≡ limit → elements_in m ≤ room → true ≡ nat_le (elements_of (put_binding x m bs)) limit
   fits_when room r h = sym (le-leb (elements_of (put_binding x m bs)) limit (omega (arith, put_elements x m bs)))

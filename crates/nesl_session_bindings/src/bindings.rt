@@ -1,6 +1,7 @@
 //! The top-level names of a session.
 
-ghost use Rattle.std.specs.Prelude.{◌≡◌, ◌<◌, ◌++◌, ◌^◌, ℕ, [], None, Option, IfOk, OnOk, OnErr, codes, length, map};
+ghost use Rattle.std.specs.Prelude.{◌≡◌, ◌<◌, ◌≤◌, ◌+◌, ◌++◌, ◌^◌, ℕ, [], None, Option, IsTrue, IfOk, OnOk};
+ghost use Rattle.std.specs.Prelude.{OnErr, codes, length, map};
 ghost use Rattle.std.specs.Prelude.{nat_le, slice_get};
 ghost use Rattle.std.specs.Option.{option_map};
 ghost use Rattle.nesl_types_bank.specs.Term.{Term};
@@ -16,7 +17,8 @@ ghost use Rattle.nesl_eval_env.specs.Stored as stored;
 ghost use Rattle.nesl_reply.specs.Replies.{report_of, report_text};
 ghost use Rattle.nesl_session_bindings.specs.Beside.{elements_beside};
 ghost use Rattle.nesl_session_bindings.specs.Known.{datatype_count, datatypes_of, environment, known, put_binding};
-ghost use Rattle.nesl_session_bindings.specs.Meanings.{datatype, elements_of, function, variable};
+ghost use Rattle.nesl_session_bindings.specs.Meanings.{datatype, elements_in, elements_of, function, variable};
+ghost use Rattle.nesl_session_bindings.specs.Nodes.{expression_nodes};
 ghost use Rattle.nesl_session_bindings.specs.Redefinition.{RefusesDefinition, a_datatype, a_function, a_variable};
 ghost use Rattle.nesl_session_bindings.specs.Stored.{IsComputed, bindings_of, kind_of};
 
@@ -151,10 +153,11 @@ impl Bindings {
     pub fn refusal(&self, name: &[u8], kind: Kind<'_>) -> Option<Refusal>
         ensures { RefusesDefinition (bindings_of self.now) name.now (kind_of kind.entry) result }
     {
-        if redefinition::is_retyped(&self.env, name, kind) {
+        let there = self.env.get(name);
+        if redefinition::is_retyped(&self.env, name, there, kind) {
             return Some(Refusal::Retype);
         }
-        if redefinition::is_taken(&self.env, name, kind) {
+        if redefinition::is_taken(&self.env, name, there, kind) {
             return Some(Refusal::Taken);
         }
         None
@@ -167,11 +170,38 @@ impl Bindings {
         beside::elements_beside(&self.env, self.elements, name)
     }
 
+    // Whether all names have at most so many elements where a further one has this value.
+    fn has_room_for_value<A: Allocator>(&self, value: &Value<A>, limit: u64) -> bool
+        ensures { IsTrue result → (t : Term)
+            → elements_of (bindings_of self.now) + elements_in (variable t (value_tree value.now)) ≤ limit }
+    {
+        let Some(room) = limit.checked_sub(self.elements()) else {
+            return false;
+        };
+        value.nodes() <= room
+    }
+
+    // Whether all names have at most so many elements where a further one has this body.
+    fn has_room_for_body(&self, body: &Exp, limit: u64) -> bool
+        ensures { IsTrue result → elements_of (bindings_of self.now) + expression_nodes (tree_of body.now) ≤ limit }
+    {
+        let Some(room) = limit.checked_sub(self.elements()) else {
+            return false;
+        };
+        match nodes::room_left(body, room) {
+            Some(_) => true,
+            None => false,
+        }
+    }
+
     /// Whether all names have at most so many elements where the name is a variable with this value.
     pub fn fits_variable<A: Allocator>(&self, name: &[u8], value: &Value<A>, limit: u64) -> bool
         ensures { (t : Term) → result ≡ nat_le (elements_of
             (put_binding name.now (variable t (value_tree value.now)) (bindings_of self.now))) limit }
     {
+        if self.has_room_for_value(value, limit) {
+            return true;
+        }
         match limit.checked_sub(self.elements_beside(name)) {
             Some(room) => value.nodes() <= room,
             None => false,
@@ -185,6 +215,9 @@ impl Bindings {
             ≡ nat_le (elements_of (put_binding name.now (function f p (tree_of body.now)) (bindings_of self.now)))
             limit }
     {
+        if self.has_room_for_body(body, limit) {
+            return true;
+        }
         match limit.checked_sub(self.elements_beside(name)) {
             Some(room) => nodes::room_left(body, room).is_some(),
             None => false,

@@ -17,9 +17,30 @@ pub fn nodes(exp: &Exp) -> u64
     }
 }
 
-/// What is left of `room` after the nodes of the expression, or `None` where they are more.
+/// What is left of `room` after the nodes of the expression, or `None` where they are more. The most frequent leaves
+/// are counted where this is called.
 #[cycle(rooms)]
+#[inline(always)]
 pub fn room_left(exp: &Exp, room: u64) -> Option<u64>
+    ensures { MatchOption result (room < expression_nodes (tree_of exp.now))
+        (λ left. left + expression_nodes (tree_of exp.now) ≡ room) }
+{
+    match &exp.node {
+        Node::Number(_) => {
+            let left = room.checked_sub(1)?;
+            Some(left)
+        }
+        Node::Variable(_) => {
+            let left = room.checked_sub(1)?;
+            Some(left)
+        }
+        _ => room_left_by_node(exp, room),
+    }
+}
+
+/// What is left of `room` after the nodes of an expression of any kind, or `None` where they are more.
+#[cycle(rooms)]
+fn room_left_by_node(exp: &Exp, room: u64) -> Option<u64>
     ensures { MatchOption result (room < expression_nodes (tree_of exp.now))
         (λ left. left + expression_nodes (tree_of exp.now) ≡ room) }
 {

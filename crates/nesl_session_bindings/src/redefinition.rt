@@ -1,8 +1,9 @@
 //! Definitions that are refused because of what stands already.
 
 ghost use Rattle.std.specs.Prelude.{◌≡◌, ◌↔◌, ◌&&◌, IsTrue, Some, not, false, slice_get};
-ghost use Rattle.std.specs.Option.{option_map_or};
+ghost use Rattle.std.specs.Option.{option_map, option_map_or};
 ghost use Rattle.std.specs.Str.{bytes_eq};
+ghost use Rattle.nesl_types.specs.Names.{found};
 ghost use Rattle.nesl_types.specs.declared.bindings.Top.{Top};
 ghost use Rattle.nesl_eval_env.specs.declared.env.Payload.{Payload};
 ghost use Rattle.nesl_eval_env.specs.Stored.{environment, top_of};
@@ -72,23 +73,26 @@ fn is_referred(env: &Env, name: &[u8]) -> bool
     false
 }
 
-/// Whether its type would change, though the body of another function refers to it. Bodies are looked through last.
-pub fn is_retyped(env: &Env, name: &[u8], kind: Kind<'_>) -> bool
-    requires { AllFit env.now }
+/// Whether the type of what stands there under the name would change, though the body of another function refers to
+/// it. Bodies are looked through last.
+pub fn is_retyped(env: &Env, name: &[u8], there: Option<(&Top, &Payload)>, kind: Kind<'_>) -> bool
+    requires fit { AllFit env.now }
+    requires stands { option_map (λ b. (b.0.now, b.1.now)) there ≡ found name.now env.now }
     ensures { IsTrue result ↔ IsRetyped (bindings_of env.now) name.now (kind_of kind.entry) }
 {
-    match env.get(name) {
+    match there {
         None => false,
         Some((top, _)) => is_other(top, kind) && is_referred(env, name),
     }
 }
 
-/// Whether the name is a datatype's, or any that is bound where a datatype is to be defined.
-fn is_kept(env: &Env, name: &[u8], kind: Kind<'_>) -> bool
-    requires { AllFit env.now }
-    ensures { result ≡ is_in_use (meaning_in (bindings_of env.now) name.now) (kind_of kind.entry) }
+/// Whether what stands there under the name is a datatype, or anything where a datatype is to be defined.
+fn is_kept(_env: &Env, _name: &[u8], there: Option<(&Top, &Payload)>, kind: Kind<'_>) -> bool
+    requires fit { AllFit _env.now }
+    requires stands { option_map (λ b. (b.0.now, b.1.now)) there ≡ found _name.now _env.now }
+    ensures { result ≡ is_in_use (meaning_in (bindings_of _env.now) _name.now) (kind_of kind.entry) }
 {
-    match env.get(name) {
+    match there {
         None => false,
         Some((top, _)) => match top {
             Top::Variable(_) => kind.is_datatype(),
@@ -98,13 +102,14 @@ fn is_kept(env: &Env, name: &[u8], kind: Kind<'_>) -> bool
     }
 }
 
-/// Whether the name may not be this because of what it is.
-pub fn is_taken(env: &Env, name: &[u8], kind: Kind<'_>) -> bool
-    requires { AllFit env.now }
+/// Whether the name may not be this because of what it is, and of what stands there under it.
+pub fn is_taken(env: &Env, name: &[u8], there: Option<(&Top, &Payload)>, kind: Kind<'_>) -> bool
+    requires fit { AllFit env.now }
+    requires stands { option_map (λ b. (b.0.now, b.1.now)) there ≡ found name.now env.now }
     ensures { result ≡ is_taken (bindings_of env.now) name.now (kind_of kind.entry) }
 {
     named(name).is_some()
-        || is_kept(env, name, kind)
+        || is_kept(env, name, there, kind)
         || (name == b"it".as_slice() && kind.is_no_variable())
 }
 

@@ -22,6 +22,7 @@ pub enum Sense {
 }
 
 /// What the line comes to by the grammar.
+#[inline(always)]
 pub fn sense_of(alloc: Global, line: &[u8]) -> Result<Sense, AllocError>
     ensures { IfOk result (λ sense. HasSense line.now (seen_sense sense)) }
 {

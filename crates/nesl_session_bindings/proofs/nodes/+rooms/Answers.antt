@@ -4,15 +4,15 @@ use Rattle.nesl_session_bindings.specs.Nodes.{expression_nodes, nodes_of_all, no
 use Rattle.nesl_session_bindings.proofs.Rooms.{leaves_one, leaves_two, leaves_three, at_sequence, at_let, at_each, at_filtered, same_all, same_bound, same_exp}
 use Rattle.nesl_session_bindings.proofs.nodes.+rooms.Goals as goal
 
-pub room_left-returns-in-Sequence : goal.room_left-returns-in-Sequence
-room_left-returns-in-Sequence t c =
+pub room_left_by_node-returns-in-Sequence : goal.room_left_by_node-returns-in-Sequence
+room_left_by_node-returns-in-Sequence t c =
     let e : c.args.room ≡ c.in_ok-room.room + 1 = omega (arith, c.in_ok-room.ensures) in
     at_sequence c.args.room c.room_left_by_all.result c.args.exp.now.node c.in-Sequence.items c.in-Sequence.is
     (leaves_one c.args.room c.in_ok-room.room (nodes_of_all (trees_in c.in-Sequence.items.items)) c.room_left_by_all.result e
     (same_all c.in_ok-room.room c.room_left_by_all.result c.as_slice.result.now c.in-Sequence.items.items c.as_slice.ensures.value c.room_left_by_all.ensures))
 
-pub room_left-returns-in_err-room-in-Let : goal.room_left-returns-in_err-room-in-Let
-room_left-returns-in_err-room-in-Let t c =
+pub room_left_by_node-returns-in_err-room-in-Let : goal.room_left_by_node-returns-in_err-room-in-Let
+room_left_by_node-returns-in_err-room-in-Let t c =
     let e : c.args.room ≡ c.in_ok-room.room + 1 = omega (arith, c.in_ok-room.ensures) in
     let bs = c.in-Let.bindings.items in
     let few : c.in_ok-room.room < nodes_bound (binders_in bs) =
@@ -20,8 +20,8 @@ room_left-returns-in_err-room-in-Let t c =
     rw c.from_residual-in_err-room-in-Let.ensures
     (at_let c.args.room None c.args.exp.now.node c.in-Let.bindings c.in-Let.body c.in-Let.is (omega (arith, e, few)))
 
-pub room_left-returns-in_ok-room-in-Let : goal.room_left-returns-in_ok-room-in-Let
-room_left-returns-in_ok-room-in-Let t c =
+pub room_left_by_node-returns-in_ok-room-in-Let : goal.room_left_by_node-returns-in_ok-room-in-Let
+room_left_by_node-returns-in_ok-room-in-Let t c =
     let e : c.args.room ≡ c.in_ok-room.room + 1 = omega (arith, c.in_ok-room.ensures) in
     let bs = c.in-Let.bindings.items in
     let body = c.in-Let.body.value in
@@ -31,8 +31,8 @@ room_left-returns-in_ok-room-in-Let t c =
     (leaves_two c.args.room c.in_ok-room.room c.in_ok-room-in-Let.room (nodes_bound (binders_in bs)) (expression_nodes (tree_of body)) c.room_left-in-Let.result e left
     (same_exp c.in_ok-room-in-Let.room c.room_left-in-Let.result c.deref-in-Let.result.now body c.deref-in-Let.ensures c.room_left-in-Let.ensures))
 
-pub room_left-returns-in_err-room-in-Each : goal.room_left-returns-in_err-room-in-Each
-room_left-returns-in_err-room-in-Each t c =
+pub room_left_by_node-returns-in_err-room-in-Each : goal.room_left_by_node-returns-in_err-room-in-Each
+room_left_by_node-returns-in_err-room-in-Each t c =
     let e : c.args.room ≡ c.in_ok-room.room + 1 = omega (arith, c.in_ok-room.ensures) in
     let body = c.in-Each.body.value in
     let few : c.in_ok-room.room < expression_nodes (tree_of body) =
@@ -40,8 +40,8 @@ room_left-returns-in_err-room-in-Each t c =
     rw c.from_residual-in_err-room-in-Each.ensures
     (at_each c.args.room None c.args.exp.now.node c.in-Each.body c.in-Each.bindings c.in-Each.is (omega (arith, e, few)))
 
-pub room_left-returns-in_ok-room-in-Each : goal.room_left-returns-in_ok-room-in-Each
-room_left-returns-in_ok-room-in-Each t c =
+pub room_left_by_node-returns-in_ok-room-in-Each : goal.room_left_by_node-returns-in_ok-room-in-Each
+room_left_by_node-returns-in_ok-room-in-Each t c =
     let e : c.args.room ≡ c.in_ok-room.room + 1 = omega (arith, c.in_ok-room.ensures) in
     let bs = c.in-Each.bindings.items in
     let body = c.in-Each.body.value in
@@ -51,8 +51,8 @@ room_left-returns-in_ok-room-in-Each t c =
     (leaves_two c.args.room c.in_ok-room.room c.in_ok-room-in-Each.room (expression_nodes (tree_of body)) (nodes_bound (binders_in bs)) c.room_left_bound-in-Each.result e left
     (same_bound c.in_ok-room-in-Each.room c.room_left_bound-in-Each.result c.as_slice-in-Each.result.now bs c.as_slice-in-Each.ensures.value c.room_left_bound-in-Each.ensures))
 
-pub room_left-returns-in_err-room-in-FilteredEach : goal.room_left-returns-in_err-room-in-FilteredEach
-room_left-returns-in_err-room-in-FilteredEach t c =
+pub room_left_by_node-returns-in_err-room-in-FilteredEach : goal.room_left_by_node-returns-in_err-room-in-FilteredEach
+room_left_by_node-returns-in_err-room-in-FilteredEach t c =
     let e : c.args.room ≡ c.in_ok-room.room + 1 = omega (arith, c.in_ok-room.ensures) in
     let body = c.in-FilteredEach.body.value in
     let few : c.in_ok-room.room < expression_nodes (tree_of body) =
@@ -60,8 +60,8 @@ room_left-returns-in_err-room-in-FilteredEach t c =
     rw c.from_residual-in_err-room-in-FilteredEach.ensures
     (at_filtered c.args.room None c.args.exp.now.node c.in-FilteredEach.body c.in-FilteredEach.bindings c.in-FilteredEach.filter c.in-FilteredEach.is (omega (arith, e, few)))
 
-pub room_left-returns-in_err-room-in-FilteredEach-2 : goal.room_left-returns-in_err-room-in-FilteredEach-2
-room_left-returns-in_err-room-in-FilteredEach-2 t c =
+pub room_left_by_node-returns-in_err-room-in-FilteredEach-2 : goal.room_left_by_node-returns-in_err-room-in-FilteredEach-2
+room_left_by_node-returns-in_err-room-in-FilteredEach-2 t c =
     let e : c.args.room ≡ c.in_ok-room.room + 1 = omega (arith, c.in_ok-room.ensures) in
     let bs = c.in-FilteredEach.bindings.items in
     let body = c.in-FilteredEach.body.value in
@@ -73,8 +73,8 @@ room_left-returns-in_err-room-in-FilteredEach-2 t c =
     rw c.from_residual-in_err-room-in-FilteredEach-2.ensures
     (at_filtered c.args.room None c.args.exp.now.node c.in-FilteredEach.body c.in-FilteredEach.bindings c.in-FilteredEach.filter c.in-FilteredEach.is (omega (arith, e, left, few)))
 
-pub room_left-returns-in_ok-room-in-FilteredEach-2 : goal.room_left-returns-in_ok-room-in-FilteredEach-2
-room_left-returns-in_ok-room-in-FilteredEach-2 t c =
+pub room_left_by_node-returns-in_ok-room-in-FilteredEach-2 : goal.room_left_by_node-returns-in_ok-room-in-FilteredEach-2
+room_left_by_node-returns-in_ok-room-in-FilteredEach-2 t c =
     let e : c.args.room ≡ c.in_ok-room.room + 1 = omega (arith, c.in_ok-room.ensures) in
     let bs = c.in-FilteredEach.bindings.items in
     let body = c.in-FilteredEach.body.value in

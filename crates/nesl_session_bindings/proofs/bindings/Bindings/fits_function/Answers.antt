@@ -3,7 +3,7 @@ use Rattle.nesl_syntax_tree.specs.Views.{tree_of}
 use Rattle.nesl_session_bindings.specs.Meanings.{function}
 use Rattle.nesl_session_bindings.specs.Beside.{elements_beside}
 use Rattle.nesl_session_bindings.specs.Stored.{bindings_of}
-use Rattle.nesl_session_bindings.proofs.Counts.{fits_not, fits_left}
+use Rattle.nesl_session_bindings.proofs.Counts.{fits_not, fits_left, fits_beside}
 use Rattle.nesl_session_bindings.proofs.bindings.Bindings.fits_function.Goals as goal
 
 pub returns-in-Some : goal.returns-in-Some
@@ -15,3 +15,7 @@ pub returns-in-None : goal.returns-in-None
 returns-in-None c = λ f p.
     let more : c.args.limit < elements_beside c.args.name.now (bindings_of c.args.self.now) = omega (arith, c.in-None.ensures, c.elements_beside.ensures) in
     fits_not c.args.name.now (function f p (tree_of c.args.body.now)) (bindings_of c.args.self.now) c.args.limit more
+
+pub returns-then-has_room_for_body : goal.returns-then-has_room_for_body
+returns-then-has_room_for_body c = λ f p.
+    fits_beside c.args.name.now (function f p (tree_of c.args.body.now)) (bindings_of c.args.self.now) c.args.limit (c.has_room_for_body.ensures c.if-has_room_for_body.true)

@@ -4,7 +4,7 @@ use Rattle.nesl_values.specs.View.{tree_of}
 use Rattle.nesl_session_bindings.specs.Meanings.{variable}
 use Rattle.nesl_session_bindings.specs.Beside.{elements_beside}
 use Rattle.nesl_session_bindings.specs.Stored.{bindings_of}
-use Rattle.nesl_session_bindings.proofs.Counts.{fits_not, fits_by}
+use Rattle.nesl_session_bindings.proofs.Counts.{fits_not, fits_by, fits_beside}
 use Rattle.nesl_session_bindings.proofs.bindings.Bindings.fits_variable.Goals as goal
 
 pub returns-in-Some : goal.returns-in-Some
@@ -16,3 +16,7 @@ pub returns-in-None : goal.returns-in-None
 returns-in-None g c = λ t.
     let more : c.args.limit < elements_beside c.args.name.now (bindings_of c.args.self.now) = omega (arith, c.in-None.ensures, c.elements_beside.ensures) in
     fits_not c.args.name.now (variable t (tree_of c.args.value.now)) (bindings_of c.args.self.now) c.args.limit more
+
+pub returns-then-has_room_for_value : goal.returns-then-has_room_for_value
+returns-then-has_room_for_value g c = λ t.
+    fits_beside c.args.name.now (variable t (tree_of c.args.value.now)) (bindings_of c.args.self.now) c.args.limit (c.has_room_for_value.ensures c.if-has_room_for_value.true t)
