@@ -1,59 +1,60 @@
--- Places that come to leaves.
-use Rattle.std.proofs.Common.{◌≡◌, ℕ, zero, suc, ◌+◌, ◌-◌, ◌*◌, ◌<◌, max, Bool, cond, List, [], ◌∷◌, ◌++◌, map, length, refl, ap, ◌∙◌, arith, subst}
-use Rattle.std.specs.Prelude.{sum}
-use Rattle.std.proofs.lemmas.List.Sums.{sum_by-cons}
-use Rattle.nesl_lex.specs.declared.token.Span.{Span}
-use Rattle.nesl_values.specs.Tree.{boolean, pair, size}
-use Rattle.nesl_scalars.specs.declared.binary.Binary.{Binary}
-use Rattle.nesl_scalars.specs.Outcomes.{gives}
-use Rattle.nesl_scalars.specs.Scalars.{binary}
-use Rattle.nesl_builtins.specs.declared.builtin.Builtin.{Builtin}
-use Rattle.nesl_builtins.specs.declared.builtin.Builtin.TheVariants.{OfTwo}
-use Rattle.nesl_eval_code.specs.declared.code.Code.{Code}
+-- Places that come to values, with the same work and depth.
+use Rattle.std.proofs.Common.{◌≡◌, ℕ, suc, ◌+◌, ◌-◌, ◌*◌, ◌<◌, max, Bool, cond, List, [], ◌∷◌, ◌++◌, map, length, refl, ap, ◌∙◌, arith, subst, ◌≤◌, replicate, Vec, Option, Some, None, sym}
+use Rattle.std.specs.Prelude.{sum, slice_get, option_map}
+use Rattle.nesl_values.specs.Tree.{boolean, size}
 use Rattle.nesl_eval_meaning.specs.Names.{Value}
 use Rattle.nesl_eval_code.specs.Frames.{Frames}
-use Rattle.nesl_eval_meaning.specs.Out.{Out, value, fault, stuck, after_cost, and_then, beside, all_beside}
-use Rattle.nesl_eval_meaning.specs.Outcome.{apply_builtin, on_scalars, body_value, place_if_true}
-use Rattle.nesl_eval_code.specs.Run.{Runs, Table, run, run_node, run_two}
-use Rattle.nesl_eval_columns.specs.Each.{EachTwo}
-use Rattle.nesl_eval_plain.specs.Comes.{Comes, greatest, chosen}
-use Rattle.nesl_eval_plain.specs.Values.{AreOfSize}
+use Rattle.nesl_eval_meaning.specs.Out.{Out, value, and_then, beside, all_beside}
+use Rattle.nesl_eval_meaning.specs.Outcome.{body_value, place_if_true}
+use Rattle.nesl_eval_columns.specs.Each.{EachThree}
+use Rattle.nesl_eval_plain.specs.Comes.{Comes, chosen}
+use Rattle.nesl_eval_plain_results.specs.Costs.{greatest, cost_in, costs_in, costs_at, each_cost}
+use Rattle.nesl_eval_plain_results.specs.Values.{AreOfSize}
+use Rattle.std.proofs.lemmas.Option.{same_Some, slice_get-map, slice_get-get_or, slice_get_within}
+use Rattle.std.proofs.lemmas.List.{length-replicate, get_or-replicate}
+use Rattle.nesl_eval_plain_results.proofs.Costing.{sum_next}
+use Rattle.nesl_eval_plain_results.proofs.Framed.{frames-Rows}
+use Rattle.nesl_eval_plain_results.specs.Frames.{AreAt, frames_in}
+use Rattle.nesl_eval_plain_parts.proofs.Costed.{cost_is}
+use Rattle.nesl_eval_nodes.specs.Sides.{places_of}
+use Rattle.nesl_eval_plain_results.specs.declared.block.Block.{Block}
+use Rattle.nesl_eval_plain_results.specs.declared.scopes.Scopes.{Rows}
+use Rattle.nesl_eval_plain_results.specs.declared.costs.Costs.{Costs}
+use Rattle.nesl_eval_plain_results.specs.Blocks.{block_places, frames_at, IsWithin}
+use Rattle.nesl_eval_plain_results.proofs.Places.{len_range}
 
--- what follows at each place
-pub each_so : {X Y : Type 0} (P Q : X → Y → Type 0) → ((x : X) (y : Y) → P x y → Q x y) → (xs : List X) (ys : List Y) → EachTwo P xs ys → EachTwo Q xs ys
-each_so P Q law [] [] h = tt
-each_so P Q law (x ∷ xs) (y ∷ ys) h = (law x y h.0, each_so P Q law xs ys h.1)
-each_so P Q law _ _ h = absurd h
+-- one leaf at all turns
+pub replicated : {X : Type 0} (n k : ℕ) (v : X) → k < n → slice_get (replicate n v) k ≡ Some v
+replicated n k v h = slice_get-get_or (replicate n v) k v (omega (arith, length-replicate n v)) ∙ ap Some (get_or-replicate n k v v h)
 
--- a value with other numbers
-pub cost_is : {X : Type 0} (v : X) (m n i j : ℕ) → m ≡ n → i ≡ j → value v m i ≡ value v n j
-cost_is v m n i j e f = cc
+-- the work of each turn is at most that of all
+pub greatest_le_sum : (ns : List ℕ) → greatest ns ≤ sum ns
+greatest_le_sum [] = omega arith
+greatest_le_sum (n ∷ ns) = omega (arith, greatest_le_sum ns, sum_next n ns)
 
--- a node that is entered
-pub entered_at : (n m : ℕ) (t : Table) (fs : Frames) (c : Code) (v : Value) → 0 < n → run_node (run (n - 1) t) t fs c ≡ value v m m → run n t fs c ≡ value v (m + 1) (m + 1)
-unfolding run
-entered_at zero m t fs c v some h = absurd (omega arith)
-entered_at (suc n) m t fs c v some h =
-    let same : suc n - 1 ≡ n = omega arith in
-    let e : run_node (run n t) t fs c ≡ value v m m = subst (λ k. run_node (run k t) t fs c ≡ value v m m) same h in
-    ap (after_cost 1 1) e ∙ cost_is v (1 + m) (m + 1) (1 + m) (m + 1) (omega arith) (omega arith)
+-- the cost at a turn is one of the costs
+pub cost_listed : {A : Type 0} (n count : ℕ) (a : Option (Vec ℕ A)) (k m : ℕ) → k < count → cost_in n a k ≡ Some m → slice_get (costs_in n a count) k ≡ Some m
+cost_listed n count None k m h e = replicated count k n h ∙ e
+cost_listed n count (Some v) k m h e = slice_get-map (λ j. n + j) v.items k ∙ e
 
--- a function of two scalars at a place
-pub two_at : (f : Runs) (fs : Frames) (a b : Code) (s : Span) (g : Binary) (x y z : Value) (m n : ℕ) → f fs a ≡ value x m m → f fs b ≡ value y n n → binary g x y ≡ gives z → run_two f fs a b (λ x y. apply_builtin s (OfTwo g) (pair x y)) ≡ value z (m + n) (m + n)
-two_at f fs a b s g x y z m n h k e =
-    ap (λ o. and_then o (λ x. and_then (f fs b) (λ y. apply_builtin s (OfTwo g) (pair x y)))) h
-    ∙ ap (λ o. after_cost m m (and_then o (λ y. apply_builtin s (OfTwo g) (pair x y)))) k
-    ∙ ap (λ o. after_cost m m (after_cost n n (on_scalars s o))) e
-    ∙ cost_is z (m + (n + 0)) (m + n) (m + (n + 0)) (m + n) (omega arith) (omega arith)
+-- what was found, as a relation of places, leaves and costs
+three_from : {X Y Z : Type 0} (P : X → Y → Z → Type 0) (xs : List X) (ys : List Y) (zs : List Z) → length ys ≡ length xs → length zs ≡ length xs → ((k : ℕ) (x : X) → slice_get xs k ≡ Some x → (y : Y) × (z : Z) × (slice_get ys k ≡ Some y) × (slice_get zs k ≡ Some z) × P x y z) → EachThree P xs ys zs
+three_from P [] [] [] l m h = tt
+three_from P [] (y ∷ ys) zs l m h = absurd (omega arith)
+three_from P [] [] (z ∷ zs) l m h = absurd (omega arith)
+three_from P (x ∷ xs) [] zs l m h = absurd (omega arith)
+three_from P (x ∷ xs) (y ∷ ys) [] l m h = absurd (omega arith)
+three_from P (x ∷ xs) (y ∷ ys) (z ∷ zs) l m h =
+    let w = h 0 x refl in
+    (subst (λ u. P x u z) (sym (same_Some y w.0 w.2)) (subst (λ u. P x w.0 u) (sym (same_Some z w.1 w.3)) w.4), three_from P xs ys zs (omega arith) (omega arith) (λ k u e. h (suc k) u e))
 
--- a function of one argument that costs nothing more
-pub applied_at : (o : Out Value) (s : Span) (g : Builtin) (x z : Value) (m : ℕ) → o ≡ value x m m → apply_builtin s g x ≡ value z 0 0 → and_then o (apply_builtin s g) ≡ value z m m
-applied_at o s g x z m h e =
-    ap (λ o. and_then o (apply_builtin s g)) h ∙ ap (after_cost m m) e ∙ cost_is z (m + 0) m (m + 0) m (omega arith) (omega arith)
-
--- numbers, of which one stands before the others
-pub sum_next : (n : ℕ) (ns : List ℕ) → sum (n ∷ ns) ≡ n + sum ns
-sum_next n ns = sum_by-cons (λ x. x) n ns
+pub rows_come : {A T : Type 0} (b : Block A T) (p : Frames → Out Value) (c : Costs A) (count : ℕ) (vs : List Value) → IsWithin b → length vs ≡ b.to - b.from → count ≡ b.to - b.from → length (each_cost c count) ≡ count → AreAt p (frames_in b Rows) (slice_get vs) (costs_at c) → Comes (λ i. p (frames_at b i)) (block_places b) vs (each_cost c count)
+rows_come b p c count vs within len turns costs h =
+    let all = len_range (places_of b.places) b.from b.to within.0 within.1 in
+    three_from (λ i v n. p (frames_at b i) ≡ value v n n) (block_places b) vs (each_cost c count) (len ∙ sym all) (costs ∙ turns ∙ sym all)
+    (λ k i e. let x = h k (frames_at b i) (frames-Rows b k ∙ ap (option_map (frames_at b)) e) in
+    let inside : k < count = omega (arith, slice_get_within (block_places b) k i e, all, turns) in
+    (x.0, x.1, x.2, cost_listed c.same count c.more k x.1 inside x.3, x.4))
 
 -- the bodies, whose values have so many nodes each
 pub bodies_of : (p : ℕ → Out Value) (is : List ℕ) (vs : List Value) (ns : List ℕ) (m : ℕ) → Comes p is vs ns → AreOfSize m vs → all_beside (λ i. and_then (p i) body_value) is ≡ value vs (sum ns + m * length is) (greatest ns)
@@ -75,9 +76,3 @@ filters_of p [] [] (n ∷ ns) h = absurd h
 filters_of p [] (b ∷ bs) ns h = absurd h
 filters_of p (i ∷ is) [] ns h = absurd h
 filters_of p (i ∷ is) (b ∷ bs) [] h = absurd h
-
--- costs one after the other
-pub added_added : {X : Type 0} (w d w' d' : ℕ) (o : Out X) → after_cost (w + w') (d + d') o ≡ after_cost w d (after_cost w' d' o)
-added_added w d w' d' (value x v e) = cost_is x (w + w' + v) (w + (w' + v)) (d + d' + e) (d + (d' + e)) (omega arith) (omega arith)
-added_added w d w' d' (fault t s v) = ap (λ a. fault t s a) (omega arith)
-added_added w d w' d' stuck = refl

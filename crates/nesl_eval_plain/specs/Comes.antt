@@ -1,5 +1,5 @@
 -- Code that comes to a leaf at each place, with the same work and depth.
-use Rattle.std.specs.Prelude.{◌≡◌, ℕ, max, Bool, cond, List, [], ◌∷◌, ◌++◌}
+use Rattle.std.specs.Prelude.{◌≡◌, ℕ, Bool, cond, List, [], ◌∷◌, ◌++◌}
 use Rattle.nesl_eval_meaning.specs.Names.{Value}
 use Rattle.nesl_eval_meaning.specs.Out.{Out, value}
 use Rattle.nesl_eval_columns.specs.Each.{EachThree}
@@ -7,11 +7,6 @@ use Rattle.nesl_eval_columns.specs.Each.{EachThree}
 -- at each of the places this is the value, and both the work and the depth are the number beside it
 abbrev pub Comes : (ℕ → Out Value) → List ℕ → List Value → List ℕ → Type 0
 Comes p = EachThree (λ i v n. p i ≡ value v n n)
-
--- the greatest of numbers
-abbrev pub greatest : List ℕ → ℕ
-greatest [] = 0
-greatest (n ∷ ns) = max n (greatest ns)
 
 -- the places where a truth value is true
 abbrev pub chosen : List ℕ → List Bool → List ℕ

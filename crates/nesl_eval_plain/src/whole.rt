@@ -1,6 +1,6 @@
 //! An apply-to-each whose body or filter is plain, block by block.
-ghost use Rattle.std.specs.Prelude.{◌≡◌, ◌+◌, ◌-◌, ◌<◌, ◌≤◌, ◌^◌, ◌++◌, Ok, IfSome, MatchOption, IsTrue};
-ghost use Rattle.std.specs.Prelude.{cond, map, length, take, drop};
+ghost use Rattle.std.specs.Prelude.{◌≡◌, ◌+◌, ◌-◌, ◌<◌, ◌≤◌, ◌^◌, ◌++◌, Ok, IfSome, MatchOption, IsTrue, cond, map};
+ghost use Rattle.std.specs.Prelude.{length, take, drop};
 ghost use Rattle.nesl_values.specs.Tree.{boolean};
 ghost use Rattle.nesl_values.specs.View.{tree_of};
 ghost use Rattle.nesl_values_builder.specs.Elements.{elements_of};
@@ -11,19 +11,19 @@ ghost use Rattle.nesl_eval_nodes.specs.Sides.{places_of, Has};
 ghost use Rattle.nesl_eval_nodes.specs.Meets.{Meets};
 ghost use Rattle.nesl_eval_columns.specs.Columns.{leaves_of};
 ghost use Rattle.nesl_eval_plain.specs.Comes.{chosen};
-ghost use Rattle.nesl_eval_plain.specs.Blocks.{block_places, IsWithin, IsPartOf};
+ghost use Rattle.nesl_eval_plain_results.specs.Blocks.{block_places, IsWithin};
+ghost use Rattle.nesl_eval_plain.specs.Blocks.{IsPartOf};
 
-use crate::block::Block;
-use crate::bodies::{Bodies, bodies_at, filter_at};
-use crate::costs::{Paid, total_of};
-use crate::found::Found;
-use crate::plain::is_plain;
-use crate::values::extended;
 use nesl_eval_code::Code;
 use nesl_eval_columns::Column;
 use nesl_eval_nodes::held::Tops;
 use nesl_eval_nodes::meter::Meter;
 use nesl_eval_nodes::places::Places;
+use nesl_eval_plain_parts::{Bodies, bodies_at, filter_at, is_plain};
+use nesl_eval_plain_results::block::Block;
+use nesl_eval_plain_results::costs::{Paid, total_of};
+use nesl_eval_plain_results::found::Found;
+use nesl_eval_plain_results::values::extended;
 use nesl_values_builder::SequenceBuilder;
 use std::alloc::Allocator;
 

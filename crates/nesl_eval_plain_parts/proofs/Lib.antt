@@ -1,0 +1,5 @@
+mod Choosing
+pub mod Costed
+mod Finding
+mod Framing
+mod Sized
