@@ -298,8 +298,7 @@ pub fn empty_of(alloc: Global, written: TypePart, from: Span) -> Result<Part, Al
     match written {
         TypePart::Built { written, height } if height < LIMIT => {
             let span = over(from, written.span);
-            let node = Node::Empty(Box::into_inner(written));
-            Ok(built(make_node(alloc, span, node)?, height, false))
+            Ok(built(make_node(alloc, span, Node::Empty(written))?, height, false))
         }
         other => Ok(too_high(other, false)),
     }

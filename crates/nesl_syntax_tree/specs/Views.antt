@@ -54,7 +54,7 @@ abbrev mutual
   shape_of (declared.Choice' p s a q t b r u c) =
       trees.choice (node s (shape_of a)) (node t (shape_of b)) (node u (shape_of c))
   shape_of (declared.Sequence' v all) = trees.sequence (trees_of all)
-  shape_of (declared.Empty t) = trees.empty (type_tree t)
+  shape_of (declared.Empty t) = trees.empty (type_tree t.value)
   shape_of (declared.Range' p s a q t b) = trees.range (node s (shape_of a)) (node t (shape_of b))
   shape_of (declared.StridedRange' p s a q t b r u c) =
       trees.strided_range (node s (shape_of a)) (node t (shape_of b)) (node u (shape_of c))

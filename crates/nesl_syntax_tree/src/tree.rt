@@ -185,8 +185,8 @@ pub enum Node {
         no: Box<Exp>,
     },
     Sequence(Vec<Exp>),
-    /// An empty sequence, with the type of its elements.
-    Empty(TypeExp),
+    /// An empty sequence, with the type of its elements. It is in a box, since it is larger than all other nodes.
+    Empty(Box<TypeExp>),
     Range {
         from: Box<Exp>,
         to: Box<Exp>,

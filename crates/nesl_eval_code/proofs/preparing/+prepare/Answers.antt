@@ -186,7 +186,7 @@ code_of-returns-in-Empty t c =
     let ls = layers_of c.args.at.now.layers.now in
     let s = c.args.exp.now.span in
     subst (λ (k : declared.Node). Means names ls (code.Empty s) (node s (shape_of k))) (sym c.in-Empty.is)
-    (nodes.means_empty names ls s (type_tree c.in-Empty.field-0))
+    (nodes.means_empty names ls s (type_tree c.in-Empty.field-0.value))
 
 pub code_of-returns-in-Let : goal.code_of-returns-in-Let
 code_of-returns-in-Let t c =

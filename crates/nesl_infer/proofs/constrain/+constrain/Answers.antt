@@ -4,6 +4,7 @@ use Rattle.std.proofs.lemmas.Result.{on_ok_weaker}
 use Rattle.std.proofs.lemmas.List.Elements.{All-nil, All-push, All-weaker}
 use Rattle.std.proofs.lemmas.Grind.{common_steps}
 use Rattle.nesl_types_bank.specs.Term.{Term, int, bool, pair_of}
+use Rattle.nesl_syntax_tree.specs.declared.tree.TypeExp.{TypeExp}
 use Rattle.nesl_syntax_tree.specs.declared.tree.Node as declared
 use Rattle.nesl_syntax_tree.specs.Views.{type_tree, shape_of, trees_in, tree_of, binders_in, pattern_tree}
 use Rattle.nesl_syntax_tree.specs.declared.tree.Binding.{Binding}
@@ -193,8 +194,8 @@ constrain-returns-in-Empty-clause-adds g t c =
     let S : (ℕ → Term) → LocalTypes = λ s. scope_at s ls in
     let v = c.args.target in
     let e = c.args.exp.now in
-    typed _ _ N S e (declared.Empty c.in-Empty.written) (trees.empty (type_tree c.in-Empty.written)) v c.constrain_empty.result c.in-Empty.is refl
-    c.constrain_empty.ensures
+    typed _ _ N S e (declared.Empty c.in-Empty.written) (trees.empty (type_tree c.deref-in-Empty.result.now)) v c.constrain_empty.result c.in-Empty.is
+    (ap (λ (a : TypeExp). trees.empty (type_tree a)) (sym c.deref-in-Empty.ensures)) c.constrain_empty.ensures
 
 pub constrain-returns-in_ok-given-in-Call-clause-adds : goal.constrain-returns-in_ok-given-in-Call-clause-adds
 constrain-returns-in_ok-given-in-Call-clause-adds g t c =

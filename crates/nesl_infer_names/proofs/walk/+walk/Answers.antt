@@ -7,9 +7,11 @@ use Rattle.std.specs.Str.{bytes_eq}
 use Rattle.nesl_lex.specs.declared.token.Span.{Span}
 use Rattle.nesl_syntax_tree.specs.declared.tree.Exp.{Exp}
 use Rattle.nesl_syntax_tree.specs.declared.tree.Binding.{Binding}
+use Rattle.nesl_syntax_tree.specs.declared.tree.TypeExp.{TypeExp}
 use Rattle.nesl_syntax_tree.specs.declared.tree.Node as declared
 use Rattle.nesl_syntax_tree.specs.Trees.{Shape}
-use Rattle.nesl_syntax_tree.specs.Views.{shape_of, tree_of, trees_in, binders_in, pattern_tree}
+use Rattle.nesl_syntax_tree.specs.Trees as trees
+use Rattle.nesl_syntax_tree.specs.Views.{shape_of, type_tree, tree_of, trees_in, binders_in, pattern_tree}
 use Rattle.nesl_infer_names.specs.Firsts.{first, earlier}
 use Rattle.nesl_infer_names.specs.Names.{Names, OwnName, names_in, span_unless_known, names_bound, all_names_bound, unknown_names, unknown_in, all_unknown_names, unknown_in_let, unknown_in_each}
 use Rattle.nesl_infer_names.specs.Scopes.{locals}
@@ -42,8 +44,9 @@ walk-returns-in-Empty-clause-found g t c =
     let ls = locals c.args.scope.now in
     let f = c.args.found.now in
     let s = c.args.exp.now.span in
-    subst (λ (k : declared.Node). c.walk_type.new.found ≡ earlier f (first (unknown_in ns ls s (shape_of k)))) (sym c.in-Empty.is)
-    c.walk_type.ensures
+    let found : c.walk_type.new.found ≡ earlier f (first (unknown_in ns ls s (shape_of (declared.Empty c.in-Empty.item)))) =
+    subst (λ (a : TypeExp). c.walk_type.new.found ≡ earlier f (first (unknown_in ns ls s (trees.empty (type_tree a))))) c.deref-in-Empty.ensures c.walk_type.ensures in
+    subst (λ (k : declared.Node). c.walk_type.new.found ≡ earlier f (first (unknown_in ns ls s (shape_of k)))) (sym c.in-Empty.is) found
 
 pub walk-returns-in_ok-walk-in-Let-clause-found : goal.walk-returns-in_ok-walk-in-Let-clause-found
 walk-returns-in_ok-walk-in-Let-clause-found g t c =

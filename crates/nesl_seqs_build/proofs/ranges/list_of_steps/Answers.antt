@@ -1,9 +1,8 @@
 use Rattle.std.proofs.Common.{arith, ◌∙◌, ◌++◌, ◌∷◌, [], ap, rules, w64, FitsSigned}
 use Rattle.std.proofs.lemmas.Int.{to_z-of_z}
 use Rattle.nesl_seqs_base.specs.Ranges.{progression}
-use Rattle.nesl_seqs_base.proofs.Made.{made}
 use Rattle.nesl_seqs_build.proofs.Numbers.{number_pushed}
-use Rattle.nesl_seqs_build.proofs.ranges.sequence_of_steps.Goals as goal
+use Rattle.nesl_seqs_build.proofs.ranges.list_of_steps.Goals as goal
 
 pub loop-place-preserved : goal.loop-place-preserved
 loop-place-preserved g c =
@@ -17,4 +16,4 @@ loop-place-preserved g c =
 
 pub returns : goal.returns
 returns g c =
-    made _ _ _ c.ints.ensures (c.loop-place.invariant.made ∙ ap (progression c.args.numbers.first c.args.numbers.step) (omega arith))
+    c.loop-place.invariant.made ∙ ap (progression c.args.numbers.first c.args.numbers.step) (omega arith)
