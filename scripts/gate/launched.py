@@ -17,7 +17,7 @@ BASE = "/usr/local/sbin:/usr/sbin:/sbin:/usr/bin:/bin"
 SAID = b"user ann\n2 * 3 + 1;\n"
 TOLD = "user ann\nit = 7 : int (work 5, depth 5)\n"
 CRATES = "# two crates\nnesl_cli: clap\nnesl_server may_wait=3: nesl_cli clap\nnesl_other: nesl_cli\n"
-SCRIPTS = ["sources", "build", "release", "gate/check_release", "gate/timed"]
+SCRIPTS = ["sources", "build", "release", "gate/check_release", "gate/prove", "gate/timed"]
 VERSION = "rattle-kit-0 logic 0"
 # A kit: `rt ci` says what there is to say, and gives out what stands beside it as the program.
 KIT = """#!/bin/sh
@@ -419,7 +419,8 @@ def gate(program):
         (it.top / ".ci").mkdir()
         shutil.copy(TOP / ".ci" / "run", it.top / ".ci" / "run")
         refusing = [f"stress/refuse_memory_{where}" for where in ("beyond_sessions", "in_sessions", "in_halves")]
-        for name in ("check_definitions", "check_examples", "page_lessons", "page_files", "test", *refusing):
+        parts = "check_definitions", "check_examples", "page_lessons", "page_files", "gate/edits", "test"
+        for name in (*parts, *refusing):
             it.write(f"scripts/{name}", "#!/bin/sh\n" + ("echo 5 passed, 0 failed\n" if name == "test" else ""))
             (it.top / "scripts" / name).chmod(0o755)
 
@@ -446,7 +447,10 @@ def gate(program):
             it.write("scripts/stress/refuse_memory_in_halves", "#!/bin/sh\nexit 1\n")
             ends("4 passed, 1 failed")
             it.write("scripts/stress/refuse_memory_in_halves", "#!/bin/sh\n")
-        (it.kit / "rt").write_text(KIT + "echo new >>crates/nesl_cli/src/lib.rt\n")
+        it.write("scripts/gate/edits", "#!/bin/sh\necho 1 passed, 1 failed\nexit 1\n")
+        ends("3 passed, 1 failed", "the release is not held to anything", without=["byte for byte"])
+        it.write("scripts/gate/edits", "#!/bin/sh\n")
+        (it.kit / "rt").write_text(KIT + f"echo new >>{it.top}/crates/nesl_cli/src/lib.rt\n")
         ends("2 passed, 1 failed", "the sources have changed while the gate ran", without=["byte for byte"])
         (it.kit / "rt").write_text(KIT)
         (it.kit / "refuses").touch()
