@@ -63,6 +63,8 @@ class Checkout:
         (self.kit / "version").write_text(VERSION + "\n")
         (self.kit / "rt").write_text(KIT)
         (self.kit / "rt").chmod(0o755)
+        self.write("scripts/gate/kit.py", '#!/bin/sh\nexec rt "$@"\n')
+        (self.top / "scripts" / "gate" / "kit.py").chmod(0o755)
         if released:
             self.release()
 
@@ -419,8 +421,6 @@ def gate(program):
         (it.top / ".ci").mkdir()
         shutil.copy(TOP / ".ci" / "run", it.top / ".ci" / "run")
         refusing = [f"stress/refuse_memory_{where}" for where in ("beyond_sessions", "in_sessions", "in_halves")]
-        it.write("scripts/gate/kit.py", '#!/bin/sh\nexec rt "$@"\n')
-        (it.top / "scripts" / "gate" / "kit.py").chmod(0o755)
         parts = "check_definitions", "check_examples", "page_lessons", "page_files", "gate/edits", "test"
         for name in (*parts, *refusing):
             it.write(f"scripts/{name}", "#!/bin/sh\n" + ("echo 5 passed, 0 failed\n" if name == "test" else ""))
