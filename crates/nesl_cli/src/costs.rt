@@ -3,7 +3,7 @@ ghost use Rattle.std.specs.Prelude.{◌≡◌, ℕ, Bool, List, Option, IfErr, f
 ghost use Rattle.nesl_cli.specs.Program.{Fails};
 
 use crate::failure::Failure;
-use crate::run::{house_of, run};
+use crate::run::{house_of, run_new_house};
 use nesl_line::device::{Device, Sink, Source};
 use nesl_line::exchange::MOST_READS;
 use std::alloc::{AllocError, Global};
@@ -179,7 +179,7 @@ fn script_for(alloc: Global, said: &Said<'_>, value: &str) -> Result<Vec<u8>, Al
 fn replies_to(alloc: Global, said: &Said<'_>, script: &[u8]) -> Result<Vec<u8>, CostsFault> {
     let mut reader = Device::new(script);
     let mut writer = Device::new(Vec::new(alloc));
-    match run(
+    match run_new_house(
         alloc,
         said.users,
         said.heap,
@@ -187,7 +187,7 @@ fn replies_to(alloc: Global, said: &Said<'_>, script: &[u8]) -> Result<Vec<u8>, 
         &mut reader,
         &mut writer,
     ) {
-        Ok(()) => Ok(writer.into_inner()),
+        Ok(_) => Ok(writer.into_inner()),
         Err(_) => Err(CostsFault::Memory),
     }
 }

@@ -90,9 +90,8 @@ pub fn carry_out<'a, S: Source, W: Sink, F: Shelf>(
     }
 }
 
-// A house for these users, and a batch of its lines, evaluated in a heap where one is wanted, with hints where these
-// are.
-pub(crate) fn run<'a, S: Source, W: Sink>(
+// Runs a batch of the lines of these users, evaluated in a heap where one is wanted, with hints where these are.
+fn run<'a, S: Source, W: Sink>(
     alloc: Global,
     users: &[&'a str],
     heap: Option<usize>,
@@ -105,15 +104,32 @@ pub(crate) fn run<'a, S: Source, W: Sink>(
     ensures failed { IfErr result (λ failure. Fails failure is_hinted (map (λ user. user.now) users.now)
         (S.left reader.old) (S.left reader.new) (W.held writer.old) (W.held writer.new)) }
 {
-    let mut house = house_of(alloc, users)?;
-    let tried = ran(alloc, reader, writer, &mut house, heap, is_hinted);
+    let house = run_new_house(alloc, users, heap, is_hinted, reader, writer)?;
     // The program ends behind a batch: the system takes back all memory of the house at once.
     let _house = ManuallyDrop::new(house);
-    let Ok(ran) = tried else {
+    Ok(())
+}
+
+// Says the lines of a batch to a new house of these users, and gives the house that they leave.
+pub(crate) fn run_new_house<'a, S: Source, W: Sink>(
+    alloc: Global,
+    users: &[&'a str],
+    heap: Option<usize>,
+    is_hinted: bool,
+    reader: &mut S,
+    writer: &mut W,
+) -> Result<House, Failure<'a>>
+    ensures served { OnOk result (Served is_hinted end.Input (map (λ user. user.now) users.now)
+        (S.left reader.old) (S.left reader.new) (W.held writer.old) (W.held writer.new)) }
+    ensures failed { IfErr result (λ failure. Fails failure is_hinted (map (λ user. user.now) users.now)
+        (S.left reader.old) (S.left reader.new) (W.held writer.old) (W.held writer.new)) }
+{
+    let mut house = house_of(alloc, users)?;
+    let Ok(ran) = ran(alloc, reader, writer, &mut house, heap, is_hinted) else {
         return Err(Failure::Memory);
     };
     match Failure::of_end(ran.end) {
-        None => Ok(()),
+        None => Ok(house),
         Some(failure) => Err(failure),
     }
 }
