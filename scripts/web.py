@@ -10,7 +10,7 @@ import struct
 
 from lib import PATIENCE, Client, Failed, demand, short
 
-TEXT, BINARY, CLOSE = 1, 2, 8
+TEXT, BINARY, CLOSE, PING = 1, 2, 8, 9
 
 
 def asked(port, text, wait=PATIENCE):

@@ -6,7 +6,7 @@ import socket
 import time
 
 from lib import ONE, PATIENCE, TOP, Process, Service, demand, loaded, names, seated, short, sockets_end
-from web import BINARY, TEXT, WebClient, asked, page_port, request, upgrade
+from web import BINARY, PING, TEXT, WebClient, asked, frame, page_port, request, upgrade
 
 PAGE = TOP / "crates" / "nesl_web" / "page"
 HEADERS = {"content-security-policy": "default-src 'none'; script-src 'self'; style-src 'self'; connect-src 'self'; "
@@ -115,6 +115,25 @@ def mute_browsers(program):
             demand(rest == "" and took < 8, f"who says no first line is told {short(rest)} after {took:.1f} s")
         service.must_live()
     return f"a user waited {waited:.1f} s"
+
+
+@check("pings whose answers nobody takes")
+def untaken_answers(program):
+    """Who asks by pings before a first line, and takes no answer, is let go after --first-line. So is who does so
+    after the first line, after --idle."""
+    pings, figures = frame(PING, bytes(125)) * 500, []
+    for user, words in ((None, ["--first-line", "2"]), ("ann", ["--idle", "2"])):
+        with shown(program, *words) as (service, port):
+            with WebClient(port, user) as client:
+                begun = time.monotonic()
+                with contextlib.suppress(ConnectionError, TimeoutError):
+                    while time.monotonic() - begun < PATIENCE:
+                        client.socket.sendall(pings)
+                took = time.monotonic() - begun
+            demand(took < 12, f"who takes no answer isn't let go in {took:.1f} s, with {words}")
+            figures.append(f"{took:.1f} s")
+            seated(service, "ann", PATIENCE)[0].leave()
+    return "let go after " + " and ".join(figures)
 
 
 @check("users on sockets and on WebSockets")

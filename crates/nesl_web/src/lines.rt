@@ -40,7 +40,7 @@ impl<'s, R: Clock> Ears<'s, R> {
         patience: Patience,
     ) -> Ears<'s, R> {
         Ears {
-            messages: Incoming::new(rt, alloc, stream, first, patience.idle),
+            messages: Incoming::new(rt, alloc, stream, first, Some(patience.first_line)),
             alloc,
             patience,
             is_first: true,
@@ -86,10 +86,10 @@ impl<'s, R: Clock> Ears<'s, R> {
         let allowed = self.allowed();
         match self.messages.next(allowed) {
             Ok(Some(line)) => {
-                self.is_first = false;
                 let begun = self.begin(line.as_str().as_bytes());
                 drop(line);
-                begun
+                begun?;
+                Ok(true)
             }
             Ok(None) => Ok(false),
             Err(error) => {
@@ -99,10 +99,14 @@ impl<'s, R: Clock> Ears<'s, R> {
         }
     }
 
-    // A line has come. True.
-    fn begin(&mut self, line: &[u8]) -> io::Result<bool> {
+    // A line has come. Behind the first one a piece of what is answered may take as long as a line.
+    fn begin(&mut self, line: &[u8]) -> io::Result<()> {
+        if self.is_first {
+            self.is_first = false;
+            self.messages.be_patient(self.patience.idle)?;
+        }
         self.rest = Rest::of(self.alloc, line)?;
-        Ok(true)
+        Ok(())
     }
 }
 

@@ -18,6 +18,9 @@ pub const MOST_BYTES: usize = 65_537;
 /// How many bytes are asked for at once.
 const READ_BYTES: usize = 4096;
 
+/// How many seconds the peer may take to take the last message.
+const FAREWELL_SECONDS: u64 = 2;
+
 /// What a read gave.
 #[derive(Drop)]
 pub enum Heard {
@@ -91,19 +94,19 @@ pub struct Incoming<'s, R> {
 
 impl<'s, R: Clock> Incoming<'s, R> {
     /// Those of a connection whose first bytes have come. What is asked for besides, as by a ping, is answered, and a
-    /// piece of that may take as long as `idle`.
+    /// piece of that may take so long.
     pub fn new(
         rt: &'s R,
         alloc: Global,
         stream: &'s TcpStream,
         first: Vec<u8>,
-        idle: Option<Duration>,
+        piece: Option<Duration>,
     ) -> Incoming<'s, R> {
         let config = WebSocketConfig::default()
             .read_buffer_size(READ_BYTES)
             .max_message_size(Some(MOST_BYTES))
             .max_frame_size(Some(MOST_BYTES));
-        let wire = Wire::new(rt, stream, idle);
+        let wire = Wire::new(rt, stream, piece);
         let socket = WebSocket::from_partially_read(
             alloc,
             wire,
@@ -113,6 +116,11 @@ impl<'s, R: Clock> Incoming<'s, R> {
             Some(config),
         );
         Incoming { rt, socket }
+    }
+
+    /// From now on a piece of what is answered may take so long.
+    pub fn be_patient(&mut self, piece: Option<Duration>) -> io::Result<()> {
+        self.socket.get_mut().be_patient(piece)
     }
 
     /// The next line, which may take so long; none after the peer's farewell. What can't be a line ends the connection.
@@ -146,9 +154,12 @@ impl<'s, R: Clock> Incoming<'s, R> {
         drop(self.socket.get_mut().hear_out());
     }
 
-    // Says why the connection ends.
+    // Says why the connection ends, to a peer that takes it soon.
     fn close(&mut self, code: CloseCode) {
-        drop(self.socket.close(Some(farewell(code))));
+        let time = Some(Duration::from_secs(FAREWELL_SECONDS));
+        if self.be_patient(time).is_ok() {
+            drop(self.socket.close(Some(farewell(code))));
+        }
     }
 }
 
