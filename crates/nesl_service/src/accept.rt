@@ -10,6 +10,10 @@ use std::{io, thread};
 /// What the system calls want of descriptors, of the process and of all, and of memory.
 const SCARCE: [i32; 4] = [24, 23, 105, 12];
 
+/// What the system tells of a connection that failed before it was taken up, as Linux does: a rule forbids it, its
+/// protocol or its network failed, or its host can't be reached.
+const FAILED: [i32; 7] = [1, 71, 64, 100, 101, 112, 113];
+
 /// How many milliseconds are waited where the system lacks something, and how often: a minute in all.
 const PAUSE_MILLIS: u64 = 100;
 
@@ -35,13 +39,13 @@ impl<'x> Door<'x> {
     }
 
     /// Waits for the next connection, and tells the port that it comes from. What the system lacks, another process may
-    /// have: so it is asked again for a minute. One that was gone before it was taken up doesn't count.
+    /// have: so it is asked again for a minute. One that was gone before it was taken up, or failed, doesn't count.
     pub(crate) fn next<R: Wait + Clock>(&self, rt: &R) -> io::Result<(TcpStream, u16)> {
         let mut pauses = 0;
         for _ in rt.forever() {
             match self.listener.accept() {
                 Ok((stream, address)) => return Ok((stream, address.port())),
-                Err(error) if error.kind() == ErrorKind::ConnectionAborted => {}
+                Err(error) if is_over(&error) => {}
                 Err(error) if is_scarce(&error) && pauses < MOST_PAUSES => {
                     thread::sleep(rt, Duration::from_millis(PAUSE_MILLIS));
                     pauses += 1;
@@ -49,14 +53,24 @@ impl<'x> Door<'x> {
                 Err(error) => return Err(error),
             }
         }
-        unreachable!()
+        Err(io::Error::from(ErrorKind::TimedOut))
     }
+}
+
+// Whether a connection has ended before it was taken up.
+fn is_over(error: &io::Error) -> bool {
+    error.kind() == ErrorKind::ConnectionAborted || has_code(error, &FAILED)
 }
 
 // Whether the system lacks something.
 fn is_scarce(error: &io::Error) -> bool {
+    has_code(error, &SCARCE)
+}
+
+// Whether the system tells one of these errors.
+fn has_code(error: &io::Error, codes: &[i32]) -> bool {
     match error.raw_os_error() {
-        Some(code) => SCARCE.contains(&code),
+        Some(code) => codes.contains(&code),
         None => false,
     }
 }

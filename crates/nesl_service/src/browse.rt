@@ -101,6 +101,9 @@ impl<
     /// Receives browsers until none is let in any more.
     pub(crate) fn receive_all(&self, lobby: &Lobby<'_>) {
         for _ in self.rt.forever() {
+            if lobby.is_over(self.terms.threads) {
+                break;
+            }
             match lobby.door.next(self.rt) {
                 Ok((stream, port)) => self.receive(lobby, &stream, port),
                 Err(_) => {
