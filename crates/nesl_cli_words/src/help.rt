@@ -6,8 +6,8 @@ pub(crate) const ABOUT: &str = "NESL sessions for many users, every reply of whi
 pub(crate) const BATCH: &str = "Answers the lines of standard input on standard output";
 
 pub(crate) const USERS: &str = "\
-A user's name: a letter a to z, then letters and digits, at most
-16 in all; 1 to 64 users, each named once";
+A user's name: 1 to 16 small letters and digits, a letter
+first; 1 to 64 users, each named once";
 
 pub(crate) const HEAP: &str = "Evaluates in one heap of so many bytes: 16 to 1073741824";
 
@@ -68,7 +68,7 @@ pub(crate) const REPL: &str = "\
 Opens a session of one's own, with a prompt, help, and hints below
 faults";
 
-pub(crate) const REPL_HINTS: &str = "Tells hints also where standard output is no terminal";
+pub(crate) const REPL_HINTS: &str = "Tells hints also if standard output is no terminal";
 
 pub(crate) const BATCH_EXAMPLE: &str = "For example: pazkindu batch ann bob < lines";
 
@@ -93,8 +93,8 @@ is answered by
 A line that ends in a backslash goes on in the user's next one. :names, :budget
 and :type tell of the session, and :reset clears it.
 
-Exit status: 0 at the end of input, 1 where a device or memory failed, 2 where
-the words or the users' names are wrong.";
+Exit status: 0 at the end of input, 1 if a device or memory failed, 2 if the
+words or the users' names are wrong.";
 
 pub(crate) const SERVE_AFTER: &str = "\
 It prints `listening on 127.0.0.1:7000` once it listens on that port. The first
@@ -114,8 +114,8 @@ A user has one connection at a time, and the session waits for the next. There
 are no passwords, so only this machine is listened to; docs/OPERATING.md says
 how others are let in, and what it costs.
 
-Exit status: 0 after the last of the connections, 1 where a socket or memory
-failed, 2 where the words or the users' names are wrong.";
+Exit status: 0 after the last of the connections, 1 if a socket or memory
+failed, 2 if the words or the users' names are wrong.";
 
 pub(crate) const REPL_AFTER: &str = "\
 A form may go on over several lines, until its `;` or an empty line. It is
@@ -129,15 +129,15 @@ and where:
       hint: an argument stands in parentheses: `sum(..)`; between two values an
             operator stands
 
-:help tells what there is, and :help take what take is, and what it costs;
-:type NAME tells a type, :list what was said and kept. :save FILE and
-:load FILE keep that in a file, and :quit ends.
+:help tells what there is, and :help take what take is, and what it costs.
+:type NAME tells a type, and :list the forms that bound a name. :save FILE
+writes these into a file, :load FILE says the lines of one, and :quit ends.
 
 There is no line editor: `rlwrap pazkindu repl` has one, and keeps a history.
-Where standard input or standard output is no terminal, there are no prompts.
+If standard input or standard output is no terminal, there are no prompts.
 
-Exit status: 0 at :quit and at the end of input, 1 where a device or memory
-failed, 2 where the words are wrong.";
+Exit status: 0 at :quit and at the end of input, 1 if a device or memory
+failed, 2 if the words are wrong.";
 
 pub(crate) const PROGRAM_AFTER: &str = "\
 `pazkindu repl` opens a session to try things in. For others, with one user

@@ -21,6 +21,7 @@ impl<R: Files> Shelf for Disk<'_, R> {
         }
     }
 
+    // What a link leads to, and what is no file, as a device, is written in place.
     fn write(&self, alloc: Global, path: &str, bytes: &[u8]) -> Result<(), ShelfFault> {
         let written = match fs::symlink_metadata(self.rt, path) {
             Ok(there) if !there.is_file() => fs::write(self.rt, path, bytes),
