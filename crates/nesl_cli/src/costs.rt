@@ -3,9 +3,10 @@ ghost use Rattle.std.specs.Prelude.{◌≡◌, ℕ, Bool, List, Option, IfErr, f
 ghost use Rattle.nesl_cli.specs.Program.{Fails};
 
 use crate::failure::Failure;
-use crate::run::{house_of, run_new_house};
+use crate::run::{open_house, run_in_new_house};
 use nesl_line::device::{Device, Sink, Source};
 use nesl_line::exchange::MOST_READS;
+use nesl_line::tell;
 use std::alloc::{AllocError, Global};
 use thiserror::Error;
 
@@ -35,10 +36,10 @@ const MOST_DIGITS: usize = 18;
 /// How many bytes are asked for at once.
 const CHUNK: usize = 4096;
 
-// What is said for each value: these lines, for these users, evaluated in a heap of so many bytes, if there is to be
-// one.
+// The batch that is run for each value: these lines, for these users. They are evaluated in a heap of so many bytes, if
+// there is to be one.
 #[derive(Clone, Copy)]
-struct Said<'a> {
+struct Batch<'a> {
     users: &'a [&'a str],
     heap: Option<usize>,
     lines: &'a [u8],
@@ -58,16 +59,16 @@ pub(crate) fn write_costs<'a, S: Source, W: Sink>(
     ensures failed { IfErr result (λ failure. Fails failure false (map (λ user. user.now) users.now)
         (S.left reader.old) (S.left reader.new) (W.held writer.old) (W.held writer.new)) }
 {
-    let values = values_in(alloc, values)?;
-    let _ = house_of(alloc, users)?;
-    match read_and_write(alloc, users, heap, values.as_slice(), reader, writer) {
+    let values = split_values(alloc, values)?;
+    let _ = open_house(alloc, users)?;
+    match write_table(alloc, users, heap, values.as_slice(), reader, writer) {
         Ok(()) => Ok(()),
         Err(fault) => Err(Failure::Costs(fault)),
     }
 }
 
-// Reads the lines, and writes the rows.
-fn read_and_write<S: Source, W: Sink>(
+// Reads the lines, and writes the first row and one for each of the values.
+fn write_table<S: Source, W: Sink>(
     alloc: Global,
     users: &[&str],
     heap: Option<usize>,
@@ -75,22 +76,22 @@ fn read_and_write<S: Source, W: Sink>(
     reader: &mut S,
     writer: &mut W,
 ) -> Result<(), CostsFault> {
-    let lines = lines_of(alloc, reader)?;
-    let said = Said {
+    let lines = read_lines(alloc, reader)?;
+    let batch = Batch {
         users,
         heap,
         lines: lines.as_slice(),
     };
-    write_whole(writer, HEAD)?;
+    write_row(writer, HEAD)?;
     for value in values {
-        let row = row_for(alloc, &said, value)?;
-        write_whole(writer, row.as_slice())?;
+        let row = make_row(alloc, &batch, value)?;
+        write_row(writer, row.as_slice())?;
     }
     Ok(())
 }
 
-// The values that a text has between commas, each of 1 to 18 digits.
-fn values_in<'a>(alloc: Global, text: &'a str) -> Result<Vec<&'a str>, Failure<'a>>
+// Splits a text into the values that it has between commas, each of 1 to 18 digits.
+fn split_values<'a>(alloc: Global, text: &'a str) -> Result<Vec<&'a str>, Failure<'a>>
     ensures { IfErr result (λ failure. (is_hinted : Bool) (users : List (List ℕ)) (left held : Option (List ℕ))
         → Fails failure is_hinted users left left held held) }
 {
@@ -115,8 +116,8 @@ fn are_digits(bytes: &[u8]) -> bool {
     bytes.iter().all(|byte| byte.is_ascii_digit())
 }
 
-// All that a reader has.
-fn lines_of<S: Source>(alloc: Global, reader: &mut S) -> Result<Vec<u8>, CostsFault> {
+// Reads all that a reader has.
+fn read_lines<S: Source>(alloc: Global, reader: &mut S) -> Result<Vec<u8>, CostsFault> {
     let mut lines = Vec::new(alloc);
     let mut chunk = [0u8; CHUNK];
     for _ in 0..MOST_READS {
@@ -129,60 +130,50 @@ fn lines_of<S: Source>(alloc: Global, reader: &mut S) -> Result<Vec<u8>, CostsFa
     Err(CostsFault::Read)
 }
 
-// Writes all of the bytes, and hands them on.
-fn write_whole<W: Sink>(writer: &mut W, bytes: &[u8]) -> Result<(), CostsFault> {
-    let mut rest = bytes;
-    for _ in 0..bytes.len() {
-        if rest.is_empty() {
-            break;
-        }
-        match writer.write(rest) {
-            Err(_) => return Err(CostsFault::Write),
-            Ok(0) => return Err(CostsFault::Write),
-            Ok(count) => rest = rest.get(count..).unwrap_or(&[]),
-        }
-    }
-    match writer.flush() {
-        Ok(()) => Ok(()),
-        Err(_) => Err(CostsFault::Write),
+// Writes a row whole, and hands it on.
+fn write_row<W: Sink>(writer: &mut W, row: &[u8]) -> Result<(), CostsFault> {
+    if tell::say(writer, row) {
+        Ok(())
+    } else {
+        Err(CostsFault::Write)
     }
 }
 
-// The row of a value.
-fn row_for(alloc: Global, said: &Said<'_>, value: &str) -> Result<Vec<u8>, CostsFault> {
-    let script = script_for(alloc, said, value)?;
-    let replies = replies_to(alloc, said, script.as_slice())?;
-    Ok(row_of(alloc, value, last_line(replies.as_slice()))?)
+// Runs the batch for a value, and makes the row of it.
+fn make_row(alloc: Global, batch: &Batch<'_>, value: &str) -> Result<Vec<u8>, CostsFault> {
+    let script = make_script(alloc, batch, value)?;
+    let replies = run_script(alloc, batch, script.as_slice())?;
+    Ok(format_row(alloc, value, find_last_line(replies.as_slice()))?)
 }
 
-// The lines behind those that select the first user and give `n` this value.
-fn script_for(alloc: Global, said: &Said<'_>, value: &str) -> Result<Vec<u8>, AllocError> {
-    let first = match said.users.first() {
+// Puts the lines behind those that select the first user and give `n` this value.
+fn make_script(alloc: Global, batch: &Batch<'_>, value: &str) -> Result<Vec<u8>, AllocError> {
+    let first = match batch.users.first() {
         Some(user) => *user,
         None => "",
     };
-    let mut script = Vec::with_capacity(alloc, said.lines.len().saturating_add(64))?;
+    let mut script = Vec::with_capacity(alloc, batch.lines.len().saturating_add(64))?;
     for part in [
         b"user ".as_slice(),
         first.as_bytes(),
         b"\nn = ",
         value.as_bytes(),
         b";\n",
-        said.lines,
+        batch.lines,
     ] {
         script.extend_from_slice(part)?;
     }
     Ok(script)
 }
 
-// What a new house of the users answers to these bytes.
-fn replies_to(alloc: Global, said: &Said<'_>, script: &[u8]) -> Result<Vec<u8>, CostsFault> {
+// Says these bytes to a new house of the users, and gives what it answers.
+fn run_script(alloc: Global, batch: &Batch<'_>, script: &[u8]) -> Result<Vec<u8>, CostsFault> {
     let mut reader = Device::new(script);
     let mut writer = Device::new(Vec::new(alloc));
-    match run_new_house(
+    match run_in_new_house(
         alloc,
-        said.users,
-        said.heap,
+        batch.users,
+        batch.heap,
         false,
         &mut reader,
         &mut writer,
@@ -192,8 +183,8 @@ fn replies_to(alloc: Global, said: &Said<'_>, script: &[u8]) -> Result<Vec<u8>, 
     }
 }
 
-// The last line of a text each line of which has a line end.
-fn last_line(text: &[u8]) -> &[u8] {
+// Finds the last line of a text each line of which has a line end.
+fn find_last_line(text: &[u8]) -> &[u8] {
     let lines = text.strip_suffix(b"\n".as_slice()).unwrap_or(text);
     match lines.iter().rposition(|byte| *byte == b'\n') {
         Some(end) => lines.get(end.saturating_add(1)..).unwrap_or(&[]),
@@ -201,12 +192,12 @@ fn last_line(text: &[u8]) -> &[u8] {
     }
 }
 
-// The row of a value, by the last answer: the work and the depth that it tells, or else its fault.
-fn row_of(alloc: Global, value: &str, answer: &[u8]) -> Result<Vec<u8>, AllocError> {
+// Formats the row of a value by the last answer: the work and the depth that it tells, or else its fault.
+fn format_row(alloc: Global, value: &str, answer: &[u8]) -> Result<Vec<u8>, AllocError> {
     let none = b"".as_slice();
-    let (work, depth, fault) = match cost_in(answer) {
+    let (work, depth, fault) = match find_cost(answer) {
         Some((work, depth)) => (work, depth, none),
-        None => (none, none, fault_in(answer)),
+        None => (none, none, find_fault(answer)),
     };
     let mut row = Vec::new(alloc);
     for part in [
@@ -224,8 +215,8 @@ fn row_of(alloc: Global, value: &str, answer: &[u8]) -> Result<Vec<u8>, AllocErr
     Ok(row)
 }
 
-// The work and the depth at the end of an answer.
-fn cost_in(answer: &[u8]) -> Option<(&[u8], &[u8])> {
+// Finds the work and the depth at the end of an answer.
+fn find_cost(answer: &[u8]) -> Option<(&[u8], &[u8])> {
     let inner = answer.strip_suffix(b")".as_slice())?;
     let open = inner.iter().rposition(|byte| *byte == b'(')?;
     let inner = inner.get(open..)?.strip_prefix(b"(work ".as_slice())?;
@@ -234,8 +225,8 @@ fn cost_in(answer: &[u8]) -> Option<(&[u8], &[u8])> {
     Some((inner.get(..comma)?, depth))
 }
 
-// The fault that an answer is, by its name, or that it tells no cost.
-fn fault_in(answer: &[u8]) -> &[u8] {
+// Finds the name of the fault that an answer is; of any other answer, that it tells no cost.
+fn find_fault(answer: &[u8]) -> &[u8] {
     match answer.strip_prefix(b"fault ".as_slice()) {
         Some(name) => match name.iter().position(|byte| *byte == b' ') {
             Some(end) => name.get(..end).unwrap_or(name),

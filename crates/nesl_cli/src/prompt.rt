@@ -61,19 +61,19 @@ impl Terminals {
     }
 }
 
-/// What the program has besides its reader and its writer.
+/// What a prompt has besides its reader and its writer.
 #[derive(Drop)]
-pub struct Room<'x, F> {
+pub struct PromptDevices<'x, F> {
     pub terminals: Terminals,
-    /// The files that a prompt loads and saves.
-    pub shelf: &'x F,
+    /// The files that it loads and saves.
+    pub files: &'x F,
 }
 
-/// Hears the lines of the reader at a prompt over an empty session.
+/// Runs a prompt over an empty session: it hears the lines of the reader to their end.
 #[tactic(auto, using(crate::proofs::Ends::heard, crate::proofs::Ends::broken, crate::proofs::Ends::unmade))]
-pub(crate) fn prompt<'a, S: Source, W: Sink, F: Shelf>(
+pub(crate) fn run_prompt<'a, S: Source, W: Sink, F: Shelf>(
     alloc: Global,
-    shelf: &F,
+    files: &F,
     style: Style,
     reader: &mut S,
     writer: &mut W,
@@ -86,7 +86,7 @@ pub(crate) fn prompt<'a, S: Source, W: Sink, F: Shelf>(
     let Ok(mut session) = Session::new(alloc, LIMITS) else {
         return Err(Failure::Prompt(PromptFault::Memory));
     };
-    let ran = converse(alloc, reader, writer, &mut session, shelf, style);
+    let ran = converse(alloc, reader, writer, &mut session, files, style);
     match PromptFault::of_end(ran.end) {
         None => Ok(()),
         Some(fault) => Err(Failure::Prompt(fault)),

@@ -11,7 +11,7 @@ ghost use Rattle.nesl_cli.specs.declared.failure.Refusal.TheVariants as refusal;
 
 use crate::costs::write_costs;
 use crate::failure::{Failure, Refusal};
-use crate::prompt::{Room, prompt};
+use crate::prompt::{PromptDevices, run_prompt};
 use linked_list_allocator::LocalHeap;
 use nesl_cli_words::words::{self, Service, Task};
 use nesl_house::house::House;
@@ -47,14 +47,14 @@ pub struct Offer<'a> {
 pub fn carry_out<'a, S: Source, W: Sink, F: Shelf>(
     alloc: Global,
     words: &'a [&'a str],
-    room: &Room<'_, F>,
+    devices: &PromptDevices<'_, F>,
     reader: &mut S,
     writer: &mut W,
 ) -> Result<Option<Offer<'a>>, Refusal<'a>>
-    ensures comes { IfOk result (λ offer. Comes room.now.terminals offer (map (λ word. word.now) words.entry.now)
+    ensures comes { IfOk result (λ offer. Comes devices.now.terminals offer (map (λ word. word.now) words.entry.now)
         (S.left reader.old) (S.left reader.new) (W.held writer.old) (W.held writer.new)) }
     ensures failed { (failure : Failure) → result ≡ Err (refusal.Run failure)
-        → TaskFails room.now.terminals (task_of (map (λ word. word.now) words.entry.now)) failure
+        → TaskFails devices.now.terminals (task_of (map (λ word. word.now) words.entry.now)) failure
         (users_of (map (λ word. word.now) words.entry.now))
         (S.left reader.old) (S.left reader.new) (W.held writer.old) (W.held writer.new) }
     ensures words { (error : clap.Error) → result ≡ Err (refusal.Words error)
@@ -68,7 +68,7 @@ pub fn carry_out<'a, S: Source, W: Sink, F: Shelf>(
     let users = wanted.users;
     match wanted.task {
         Task::Batch { heap, is_hinted } => {
-            match run(alloc, users.as_slice(), heap, is_hinted, reader, writer) {
+            match run_batch(alloc, users.as_slice(), heap, is_hinted, reader, writer) {
                 Ok(()) => Ok(None),
                 Err(failure) => Err(Refusal::Run(failure)),
             }
@@ -80,8 +80,8 @@ pub fn carry_out<'a, S: Source, W: Sink, F: Shelf>(
             }
         }
         Task::Prompt { is_hinted } => {
-            let style = room.terminals.style(is_hinted);
-            match prompt(alloc, room.shelf, style, reader, writer) {
+            let style = devices.terminals.style(is_hinted);
+            match run_prompt(alloc, devices.files, style, reader, writer) {
                 Ok(()) => Ok(None),
                 Err(failure) => Err(Refusal::Run(failure)),
             }
@@ -91,7 +91,7 @@ pub fn carry_out<'a, S: Source, W: Sink, F: Shelf>(
 }
 
 // Runs a batch of the lines of these users, evaluated in a heap where one is wanted, with hints where these are.
-fn run<'a, S: Source, W: Sink>(
+fn run_batch<'a, S: Source, W: Sink>(
     alloc: Global,
     users: &[&'a str],
     heap: Option<usize>,
@@ -104,14 +104,14 @@ fn run<'a, S: Source, W: Sink>(
     ensures failed { IfErr result (λ failure. Fails failure is_hinted (map (λ user. user.now) users.now)
         (S.left reader.old) (S.left reader.new) (W.held writer.old) (W.held writer.new)) }
 {
-    let house = run_new_house(alloc, users, heap, is_hinted, reader, writer)?;
+    let house = run_in_new_house(alloc, users, heap, is_hinted, reader, writer)?;
     // The program ends behind a batch: the system takes back all memory of the house at once.
     let _house = ManuallyDrop::new(house);
     Ok(())
 }
 
 // Says the lines of a batch to a new house of these users, and gives the house that they leave.
-pub(crate) fn run_new_house<'a, S: Source, W: Sink>(
+pub(crate) fn run_in_new_house<'a, S: Source, W: Sink>(
     alloc: Global,
     users: &[&'a str],
     heap: Option<usize>,
@@ -124,8 +124,8 @@ pub(crate) fn run_new_house<'a, S: Source, W: Sink>(
     ensures failed { IfErr result (λ failure. Fails failure is_hinted (map (λ user. user.now) users.now)
         (S.left reader.old) (S.left reader.new) (W.held writer.old) (W.held writer.new)) }
 {
-    let mut house = house_of(alloc, users)?;
-    let Ok(ran) = ran(alloc, reader, writer, &mut house, heap, is_hinted) else {
+    let mut house = open_house(alloc, users)?;
+    let Ok(ran) = answer_lines(alloc, reader, writer, &mut house, heap, is_hinted) else {
         return Err(Failure::Memory);
     };
     match Failure::of_end(ran.end) {
@@ -134,24 +134,24 @@ pub(crate) fn run_new_house<'a, S: Source, W: Sink>(
     }
 }
 
-// A house for these users; nothing was read or written where it is refused.
-pub(crate) fn house_of<'a>(alloc: Global, users: &[&'a str]) -> Result<House, Failure<'a>>
+// Opens a house for these users. Nothing was read or written where it is refused.
+pub(crate) fn open_house<'a>(alloc: Global, users: &[&'a str]) -> Result<House, Failure<'a>>
     ensures roster { OnOk result (IsRoster (map (λ user. user.now) users.now)) }
     ensures opened { IfOk result (λ house. house ≡ new_house limits (map (λ user. user.now) users.now)) }
     ensures failed { IfErr result (λ failure. (is_hinted : Bool) (left held : Option (List ℕ))
         → Fails failure is_hinted (map (λ user. user.now) users.now) left left held held) }
 {
-    let Ok(roster) = roster(alloc, users) else {
+    let Ok(names) = copy_names(alloc, users) else {
         return Err(Failure::Memory);
     };
-    match House::new(alloc, roster.as_slice(), LIMITS) {
+    match House::new(alloc, names.as_slice(), LIMITS) {
         Ok(house) => Ok(house),
         Err(fault) => Err(Failure::of_roster(fault, users)),
     }
 }
 
-// A batch of a house, evaluated in one heap of this size where there is to be one, with hints where they are wanted.
-fn ran<S: Source, W: Sink>(
+// Has the lines of a batch answered by a house. They are evaluated in one heap of this size, if there is to be one.
+fn answer_lines<S: Source, W: Sink>(
     alloc: Global,
     reader: &mut S,
     writer: &mut W,
@@ -165,16 +165,16 @@ fn ran<S: Source, W: Sink>(
         (W.held writer.new)) }
 {
     match heap {
-        None => Ok(answered(alloc, reader, writer, house, &Plainly, is_hinted)),
+        None => Ok(answer_lines_by(alloc, reader, writer, house, &Plainly, is_hinted)),
         Some(size) => {
             let heap = LocalHeap::new(alloc, size)?;
-            Ok(answered(alloc, reader, writer, house, &InHeap(&heap), is_hinted))
+            Ok(answer_lines_by(alloc, reader, writer, house, &InHeap(&heap), is_hinted))
         }
     }
 }
 
-// A batch of a house, each line of which is said in this manner.
-fn answered<S: Source, W: Sink, M: Manner>(
+// Has the lines of a batch answered by a house, to which each is said in this manner.
+fn answer_lines_by<S: Source, W: Sink, M: Manner>(
     alloc: Global,
     reader: &mut S,
     writer: &mut W,
@@ -192,13 +192,13 @@ fn answered<S: Source, W: Sink, M: Manner>(
     }
 }
 
-/// The users' names as bytes.
-pub fn roster(alloc: Global, users: &[&str]) -> Result<Vec<Vec<u8>>, AllocError>
+/// Copies the users' names as bytes, in order.
+pub fn copy_names(alloc: Global, users: &[&str]) -> Result<Vec<Vec<u8>>, AllocError>
     ensures { IfOk result (λ names. map (λ name. name.items) names.items ≡ map (λ user. user.now) users.now) }
 {
-    let mut roster = Vec::new(alloc);
+    let mut names = Vec::new(alloc);
     for user in users {
-        roster.push(Vec::from_slice(alloc, user.as_bytes())?)?;
+        names.push(Vec::from_slice(alloc, user.as_bytes())?)?;
     }
-    Ok(roster)
+    Ok(names)
 }

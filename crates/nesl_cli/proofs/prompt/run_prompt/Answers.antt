@@ -1,5 +1,5 @@
 use Rattle.nesl_cli.proofs.Ends.{heard, broken}
-use Rattle.nesl_cli.proofs.prompt.prompt.Goals as goal
+use Rattle.nesl_cli.proofs.prompt.run_prompt.Goals as goal
 
 pub returns-in-None-clause-prompted : goal.returns-in-None-clause-prompted
 returns-in-None-clause-prompted g c =
