@@ -17,7 +17,7 @@ impl<R: Files> Shelf for Disk<'_, R> {
         match read_up_to(self.rt, alloc, path, MOST_BYTES) {
             Ok(bytes) if bytes.len() > MOST_BYTES => Err(ShelfFault::Large),
             Ok(bytes) => Ok(bytes),
-            Err(error) => Err(fault_of(&error)),
+            Err(error) => Err(name_fault(&error)),
         }
     }
 
@@ -29,7 +29,7 @@ impl<R: Files> Shelf for Disk<'_, R> {
         };
         match written {
             Ok(()) => Ok(()),
-            Err(error) => Err(fault_of(&error)),
+            Err(error) => Err(name_fault(&error)),
         }
     }
 }
@@ -64,8 +64,8 @@ fn replace<R: Files>(rt: &R, alloc: Global, path: &str, bytes: &[u8]) -> io::Res
     placed
 }
 
-// Why the system refuses a file.
-fn fault_of(error: &io::Error) -> ShelfFault {
+// Names the fault for which the system refuses a file.
+fn name_fault(error: &io::Error) -> ShelfFault {
     match error.kind() {
         io::ErrorKind::NotFound => ShelfFault::Absent,
         io::ErrorKind::PermissionDenied | io::ErrorKind::ReadOnlyFilesystem => ShelfFault::Denied,

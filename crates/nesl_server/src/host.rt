@@ -10,11 +10,18 @@ use std::io::Print;
 use std::sync::{Arc, Wait};
 use std::time::Clock;
 
+/// The ports on which is listened.
+#[derive(Clone, Copy, PartialEq, Eq, Debug)]
+pub struct Ports {
+    pub service: u16,
+    /// Where the page is, if there is one.
+    pub page: Option<u16>,
+}
+
 /// Tells on which ports is listened, of connections where there is a log, and counts where there is a file for that.
 pub struct Host<'x, R> {
     pub rt: &'x R,
-    pub port: u16,
-    pub page_port: Option<u16>,
+    pub ports: Ports,
     pub log: Option<Log<'x, R>>,
     pub stats: Option<Stats<'x, R>>,
     pub counters: Arc<Counters>,
@@ -25,8 +32,7 @@ impl<R: Wait + Clock + Replace> Host<'_, R> {
     pub fn close(self) {
         let Host {
             rt: _,
-            port: _,
-            page_port: _,
+            ports: _,
             log,
             stats,
             counters: _,
@@ -43,8 +49,8 @@ impl<R: Wait + Clock + Replace> Host<'_, R> {
 impl<R: Print> Host<'_, R> {
     // Where the service listens, and where its page is.
     fn tell_ports(&self) -> io::Result<()> {
-        println!(self.rt; "listening on 127.0.0.1:{}", self.port)?;
-        match self.page_port {
+        println!(self.rt; "listening on 127.0.0.1:{}", self.ports.service)?;
+        match self.ports.page {
             Some(port) => println!(self.rt; "page at http://127.0.0.1:{port}/"),
             None => Ok(()),
         }
@@ -59,21 +65,21 @@ impl<R: Print + Wait + Clock> Journal for Host<'_, R> {
     fn begun(&self, caller: Caller) {
         self.counters.begun();
         if let Some(log) = &self.log {
-            self.counters.told(log.begun(caller));
+            self.counters.told(log.tell_begin(caller));
         }
     }
 
     fn seated(&self, caller: Caller, seat: Seat<'_>) {
         self.counters.seated(seat);
         if let Some(log) = &self.log {
-            self.counters.told(log.seated(caller, seat));
+            self.counters.told(log.tell_seat(caller, seat));
         }
     }
 
     fn ended(&self, caller: Caller, visit: &Visit<'_>) {
         self.counters.ended(visit.ending);
         if let Some(log) = &self.log {
-            self.counters.told(log.ended(caller, visit));
+            self.counters.told(log.tell_end(caller, visit));
         }
     }
 

@@ -107,24 +107,24 @@ impl<R: Wait + Clock> Log<'_, R> {
         }
     }
 
-    /// A connection begins. False where the line is lost, here and below.
-    pub fn begun(&self, caller: Caller) -> bool {
+    /// Tells that a connection begins. False where the line is lost, here and below.
+    pub fn tell_begin(&self, caller: Caller) -> bool {
         self.tell(caller, String::from_str(self.alloc, "began"))
     }
 
-    /// A connection was seated.
-    pub fn seated(&self, caller: Caller, seat: Seat<'_>) -> bool {
-        self.tell(caller, seat_text(self.alloc, seat))
+    /// Tells who was seated on a connection, or why nobody was.
+    pub fn tell_seat(&self, caller: Caller, seat: Seat<'_>) -> bool {
+        self.tell(caller, describe_seat(self.alloc, seat))
     }
 
-    /// A connection has ended.
-    pub fn ended(&self, caller: Caller, visit: &Visit<'_>) -> bool {
-        self.tell(caller, end_text(self.alloc, visit))
+    /// Tells that a connection has ended.
+    pub fn tell_end(&self, caller: Caller, visit: &Visit<'_>) -> bool {
+        self.tell(caller, describe_end(self.alloc, visit))
     }
 
     // Hands a line to the thread that writes them.
     fn tell(&self, caller: Caller, what: Result<String, AllocError>) -> bool {
-        let is_told = match self.line(caller, what) {
+        let is_told = match self.make_line(caller, what) {
             Ok(line) => self.to.try_send(self.rt, line).is_ok(),
             Err(_) => false,
         };
@@ -134,8 +134,12 @@ impl<R: Wait + Clock> Log<'_, R> {
         is_told
     }
 
-    // A line: the time, the connection, and what is told of it.
-    fn line(&self, caller: Caller, what: Result<String, AllocError>) -> Result<String, AllocError> {
+    // Makes a line of the time, the connection, and what is told of it.
+    fn make_line(
+        &self,
+        caller: Caller,
+        what: Result<String, AllocError>,
+    ) -> Result<String, AllocError> {
         let (stamp, what) = (Stamp::now(self.rt), what?);
         let Caller {
             number,
@@ -165,8 +169,8 @@ fn write_lost(rt: &impl Eprint, counts: &Counts) {
     }
 }
 
-// Who was seated, or why nobody was.
-fn seat_text(alloc: Global, seat: Seat<'_>) -> Result<String, AllocError> {
+// Says who was seated, or why nobody was.
+fn describe_seat(alloc: Global, seat: Seat<'_>) -> Result<String, AllocError> {
     match seat {
         Seat::User(name) => {
             let name = str::from_utf8(name).unwrap_or("?");
@@ -177,8 +181,8 @@ fn seat_text(alloc: Global, seat: Seat<'_>) -> Result<String, AllocError> {
     }
 }
 
-// Who was there, how many lines were answered, how it ended, and how long it took.
-fn end_text(alloc: Global, visit: &Visit<'_>) -> Result<String, AllocError> {
+// Says who was there, how many lines were answered, how it ended, and how long it took.
+fn describe_end(alloc: Global, visit: &Visit<'_>) -> Result<String, AllocError> {
     let user = match visit.user {
         Some(name) => str::from_utf8(name).unwrap_or("?"),
         None => "no user",

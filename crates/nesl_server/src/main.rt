@@ -14,13 +14,12 @@ mod standard;
 mod stats;
 
 use crate::disk::Disk;
-use crate::offer::keep;
 use crate::standard::fill_standard;
 use crate::stats::Replace;
 use clap::error::ErrorKind;
 use nesl_cli::failure::{Failure, Refusal, status_after, words_status};
-use nesl_cli::prompt::{Room, Terminals};
-use nesl_cli::run::carry_out;
+use nesl_cli::prompt::{PromptDevices, Terminals};
+use nesl_cli::run;
 use nesl_cli_words::words::example;
 use nesl_line::device::{Device, Sink, Source};
 use nesl_prompt::shelf::Shelf;
@@ -48,76 +47,76 @@ fn main(rt: HostRuntime) -> ExitCode {
     thread::scope(thread::scope_env(), &rt, |scope| {
         let work = || {
             let alloc = rt.alloc();
-            let args = match arguments(&rt, alloc) {
+            let args = match read_arguments(&rt, alloc) {
                 Ok(args) => args,
-                Err(failure) => return told(&rt, failure),
+                Err(failure) => return report_failure(&rt, failure),
             };
-            let Ok(words) = words_of(alloc, args.as_slice()) else {
-                return told(&rt, Failure::Memory);
+            let Ok(words) = borrow_words(alloc, args.as_slice()) else {
+                return report_failure(&rt, Failure::Memory);
             };
             let words = words.as_slice();
             let Ok(writer) = BufWriter::with_capacity(alloc, ANSWER_BYTES, rt.stdout()) else {
-                return told(&rt, Failure::of_memory(words));
+                return report_failure(&rt, Failure::of_memory(words));
             };
             let mut reader = Device::new(rt.stdin());
             let mut writer = Device::new(writer);
             let disk = Disk { rt: &rt };
-            let room = Room {
-                terminals: terminals(&rt),
-                shelf: &disk,
+            let devices = PromptDevices {
+                terminals: find_terminals(&rt),
+                files: &disk,
             };
-            run(&rt, alloc, words, &room, &mut reader, &mut writer)
+            run_program(&rt, alloc, words, &devices, &mut reader, &mut writer)
         };
         let builder = Builder::new().stack_size(STACK_BYTES);
         match builder.spawn_scoped(scope, work) {
             Ok(running) => running.join(&rt),
-            Err(_) => without_thread(&rt),
+            Err(_) => report_no_thread(&rt),
         }
     })
 }
 
-// Which of standard input and output are terminals.
-fn terminals(rt: &HostRuntime) -> Terminals {
+// Finds which of standard input and output are terminals.
+fn find_terminals(rt: &HostRuntime) -> Terminals {
     Terminals {
         input: rt.stdin().is_terminal(),
         output: rt.stdout().is_terminal(),
     }
 }
 
-// The thread of a run can't be made, which is told as want of memory.
-fn without_thread(rt: &HostRuntime) -> ExitCode {
+// Reports that the thread of a run can't be made, as want of memory.
+fn report_no_thread(rt: &HostRuntime) -> ExitCode {
     let alloc = rt.alloc();
-    let Ok(args) = arguments(rt, alloc) else {
-        return told(rt, Failure::Memory);
+    let Ok(args) = read_arguments(rt, alloc) else {
+        return report_failure(rt, Failure::Memory);
     };
-    match words_of(alloc, args.as_slice()) {
-        Ok(words) => told(rt, Failure::of_memory(words.as_slice())),
-        Err(_) => told(rt, Failure::Memory),
+    match borrow_words(alloc, args.as_slice()) {
+        Ok(words) => report_failure(rt, Failure::of_memory(words.as_slice())),
+        Err(_) => report_failure(rt, Failure::Memory),
     }
 }
 
-// The words of the command line, the program's name first.
-fn arguments(rt: &HostRuntime, alloc: Global) -> Result<Vec<String>, Failure<'static>> {
-    match collected(rt, alloc) {
+// Reads the words of the command line, the program's name first.
+fn read_arguments(rt: &HostRuntime, alloc: Global) -> Result<Vec<String>, Failure<'static>> {
+    match collect_arguments(rt, alloc) {
         Ok(args) => Ok(args),
         Err(error) if error.kind() == io::ErrorKind::InvalidData => Err(Failure::Encoding),
         Err(_) => Err(Failure::Memory),
     }
 }
 
-fn collected(rt: &HostRuntime, alloc: Global) -> io::Result<Vec<String>> {
+fn collect_arguments(rt: &HostRuntime, alloc: Global) -> io::Result<Vec<String>> {
     let args = env::args(rt)?;
     Ok(args.collect::<Vec<String>>(alloc)?)
 }
 
-fn words_of(alloc: Global, args: &[String]) -> Result<Vec<&str>, AllocError> {
+fn borrow_words(alloc: Global, args: &[String]) -> Result<Vec<&str>, AllocError> {
     args.iter()
         .map(|arg| arg.as_str())
         .collect::<Vec<&str>>(alloc)
 }
 
-// Does what the words ask for.
-fn run<
+// Does what the words ask for, reports what failed of it, and gives the exit status.
+fn run_program<
     R: Net<Stream = TcpStream, Listener = TcpListener>
         + Threads
         + Wait
@@ -137,34 +136,34 @@ fn run<
     rt: &R,
     alloc: Global,
     words: &[&str],
-    room: &Room<'_, F>,
+    devices: &PromptDevices<'_, F>,
     reader: &mut S,
     writer: &mut W,
 ) -> ExitCode {
-    match carry_out(alloc, words, room, reader, writer) {
+    match run::carry_out(alloc, words, devices, reader, writer) {
         Ok(None) => ExitCode::SUCCESS,
-        Ok(Some(offer)) => ended(rt, keep(rt, alloc, &offer)),
-        Err(Refusal::Words(error)) => refused(rt, words, &error),
-        Err(Refusal::Run(failure)) => told(rt, failure),
+        Ok(Some(offer)) => finish_offer(rt, offer::keep(rt, alloc, &offer)),
+        Err(Refusal::Words(error)) => report_refusal(rt, words, &error),
+        Err(Refusal::Run(failure)) => report_failure(rt, failure),
     }
 }
 
-// A refusal of the words, or a request for help, told by its own text; want of memory is told as such. Where the text
-// can't be written, the status is 1.
-fn refused<R: Print + Eprint>(rt: &R, words: &[&str], error: &clap::Error) -> ExitCode
+// Reports a refusal of the words, or answers a request for help, by its own text. Want of memory is reported as such.
+// Where the text can't be written, the status is 1.
+fn report_refusal<R: Print + Eprint>(rt: &R, words: &[&str], error: &clap::Error) -> ExitCode
     ensures { (exit_status result ≡ words_status_of (kind_of error.now)) ⊎ (exit_status result ≡ 1) }
 {
     if error.kind() == ErrorKind::OutOfMemory {
-        return told(rt, Failure::of_memory(words));
+        return report_failure(rt, Failure::of_memory(words));
     }
-    match print(rt, words, error) {
+    match print_refusal(rt, words, error) {
         Ok(()) => ExitCode::from(words_status(error)),
         Err(_) => ExitCode::FAILURE,
     }
 }
 
 // Prints the text of a refusal, and behind it an example where it has none.
-fn print<R: Print + Eprint>(rt: &R, words: &[&str], error: &clap::Error) -> io::Result<()> {
+fn print_refusal<R: Print + Eprint>(rt: &R, words: &[&str], error: &clap::Error) -> io::Result<()> {
     error.print(rt)?;
     match error.kind() {
         ErrorKind::DisplayHelp | ErrorKind::DisplayVersion => Ok(()),
@@ -173,19 +172,19 @@ fn print<R: Print + Eprint>(rt: &R, words: &[&str], error: &clap::Error) -> io::
     }
 }
 
-// What came of an offer: a failure is told.
-fn ended(rt: &impl Eprint, kept: Result<(), Failure<'_>>) -> ExitCode
+// Gives the exit status of an offer that was kept, and reports it if it failed.
+fn finish_offer(rt: &impl Eprint, kept: Result<(), Failure<'_>>) -> ExitCode
     ensures { exit_status result ≡ status_after kept.entry }
 {
     let status = status_after(&kept);
     match kept {
         Ok(()) => ExitCode::from(status),
-        Err(failure) => told(rt, failure),
+        Err(failure) => report_failure(rt, failure),
     }
 }
 
-// A failure, told on standard error.
-fn told(rt: &impl Eprint, failure: Failure<'_>) -> ExitCode
+// Reports a failure on standard error, and gives its exit status.
+fn report_failure(rt: &impl Eprint, failure: Failure<'_>) -> ExitCode
     ensures { exit_status result ≡ status_of failure.entry }
 {
     match rt.eprintln(failure) {

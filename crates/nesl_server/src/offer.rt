@@ -4,11 +4,11 @@ ghost use Rattle.nesl_house.specs.Roster.{IsRoster};
 ghost use Rattle.nesl_cli.specs.Program.{limits};
 ghost use Rattle.nesl_cli.specs.declared.failure.Failure.TheVariants.{Serve};
 
-use crate::host::Host;
+use crate::host::{Host, Ports};
 use crate::log::Log;
 use crate::stats::{Replace, Stats};
 use nesl_cli::failure::Failure;
-use nesl_cli::run::{LIMITS, Offer, roster};
+use nesl_cli::run::{LIMITS, Offer, copy_names};
 use nesl_cli::terms::local_address;
 use nesl_house::roster::NewFault;
 use nesl_house::table::{Closed, Table};
@@ -40,26 +40,43 @@ pub fn keep<
         + Sync
         + 'static,
 >(rt: &R, alloc: Global, offer: &Offer<'a>) -> Result<(), Failure<'a>> {
-    let table = table(alloc, offer.users.as_slice())?;
-    let (listener, port) = listening(rt, offer.address())?;
-    let page = page_listening(rt, offer)?;
-    let page_port = match &page {
-        Some((_, port)) => Some(*port),
-        None => None,
+    let table = make_table(alloc, offer.users.as_slice())?;
+    let doors = Doors {
+        service: listen(rt, offer.address())?,
+        page: listen_for_page(rt, offer)?,
     };
-    let host = host(rt, alloc, offer, (port, page_port))?;
-    let doors = Doors { listener, page };
+    let host = make_host(rt, alloc, offer, doors.ports())?;
     let served = serve_offer(rt, alloc, &*offer, &doors, table, &host);
     host.close();
-    ending(rt, offer, served)
+    finish(rt, offer, served)
 }
 
-/// Where a service listens.
+/// A listener, with the port on which it listens.
+#[derive(Drop)]
+struct Listening {
+    listener: TcpListener,
+    port: u16,
+}
+
+/// Where an offer listens.
 #[derive(Drop)]
 struct Doors {
-    listener: TcpListener,
-    /// Where browsers connect, and on which port, if there is a page.
-    page: Option<(TcpListener, u16)>,
+    service: Listening,
+    /// Where browsers connect, if there is a page.
+    page: Option<Listening>,
+}
+
+impl Doors {
+    // The ports of both.
+    fn ports(&self) -> Ports {
+        Ports {
+            service: self.service.port,
+            page: match &self.page {
+                Some(page) => Some(page.port),
+                None => None,
+            },
+        }
+    }
 }
 
 // Serves an offer where it listens, and tells the host of it.
@@ -81,19 +98,19 @@ fn serve_offer<
     let site = Site {
         rt,
         alloc,
-        listener: &doors.listener,
+        listener: &doors.service.listener,
     };
     serve_at(
         site,
-        page_of(offer, &doors.page),
+        make_page(offer, &doors.page),
         table,
         offer.terms(),
         observers,
     )
 }
 
-// What came of a service, which says what it served where it ended well.
-fn ending<'a, R: Print>(
+// Says what a service served, if it ended well, and gives what came of it.
+fn finish<'a, R: Print>(
     rt: &R,
     offer: &Offer<'_>,
     served: Result<Closed, ServeFault>,
@@ -101,7 +118,7 @@ fn ending<'a, R: Print>(
     ensures { IfErr served (λ fault. result ≡ Err (Serve fault)) }
 {
     match served {
-        Ok(closed) => match told(rt, offer, &closed) {
+        Ok(closed) => match print_served(rt, offer, &closed) {
             Ok(()) => Ok(()),
             Err(_) => Err(Failure::Serve(ServeFault::Socket)),
         },
@@ -109,30 +126,30 @@ fn ending<'a, R: Print>(
     }
 }
 
-// A table for these users.
-fn table<'a>(alloc: Global, users: &[&'a str]) -> Result<Table, Failure<'a>>
+// Makes a table for these users.
+fn make_table<'a>(alloc: Global, users: &[&'a str]) -> Result<Table, Failure<'a>>
     ensures roster { OnOk result (IsRoster (map (λ user. user.now) users.now)) }
     ensures made { IfOk result (λ t. t ≡ record { roster = map (λ user. user.now) users.now; limits = limits }) }
 {
-    let Ok(roster) = roster(alloc, users) else {
+    let Ok(names) = copy_names(alloc, users) else {
         return Err(Failure::Serve(ServeFault::Memory));
     };
-    match Table::new(alloc, roster.as_slice(), LIMITS) {
+    match Table::new(alloc, names.as_slice(), LIMITS) {
         Ok(table) => Ok(table),
         Err(NewFault::Memory) => Err(Failure::Serve(ServeFault::Memory)),
         Err(fault) => Err(Failure::of_roster(fault, users)),
     }
 }
 
-// Listens at an address, and answers on which port.
-fn listening<'a, R: Net<Stream = TcpStream, Listener = TcpListener>>(
+// Listens at an address; `None` is one that there isn't.
+fn listen<'a, R: Net<Stream = TcpStream, Listener = TcpListener>>(
     rt: &R,
     address: Option<SocketAddr>,
-) -> Result<(TcpListener, u16), Failure<'a>> {
+) -> Result<Listening, Failure<'a>> {
     let Some(address) = address else {
         return Err(Failure::Serve(ServeFault::Socket));
     };
-    match listener(rt, address) {
+    match bind(rt, address) {
         Ok(listening) => Ok(listening),
         Err(error) if error.kind() == io::ErrorKind::AddrInUse => {
             Err(Failure::Taken(address.port()))
@@ -141,35 +158,33 @@ fn listening<'a, R: Net<Stream = TcpStream, Listener = TcpListener>>(
     }
 }
 
-fn listener<R: Net<Stream = TcpStream, Listener = TcpListener>>(
+// Binds a listener to an address, where port 0 is one that is free.
+fn bind<R: Net<Stream = TcpStream, Listener = TcpListener>>(
     rt: &R,
     address: SocketAddr,
-) -> io::Result<(TcpListener, u16)> {
+) -> io::Result<Listening> {
     let listener = TcpListener::bind(rt, address)?;
     let port = listener.local_addr()?.port();
-    Ok((listener, port))
+    Ok(Listening { listener, port })
 }
 
 // Listens where the page is, if one is offered.
-fn page_listening<'a, R: Net<Stream = TcpStream, Listener = TcpListener>>(
+fn listen_for_page<'a, R: Net<Stream = TcpStream, Listener = TcpListener>>(
     rt: &R,
     offer: &Offer<'a>,
-) -> Result<Option<(TcpListener, u16)>, Failure<'a>> {
+) -> Result<Option<Listening>, Failure<'a>> {
     match offer.service.web {
-        Some(port) => Ok(Some(listening(rt, local_address(port))?)),
+        Some(port) => Ok(Some(listen(rt, local_address(port))?)),
         None => Ok(None),
     }
 }
 
-// The page, if one is offered.
-fn page_of<'x>(
-    offer: &'x Offer<'_>,
-    listening: &'x Option<(TcpListener, u16)>,
-) -> Option<Page<'x>> {
+// Makes the page, if one is offered.
+fn make_page<'x>(offer: &'x Offer<'_>, listening: &'x Option<Listening>) -> Option<Page<'x>> {
     match listening {
-        Some((listener, _)) => Some(Page {
-            listener,
-            host: host_of(offer),
+        Some(listening) => Some(Page {
+            listener: &listening.listener,
+            host: web_host(offer),
             threads: offer.page_threads(),
         }),
         None => None,
@@ -177,43 +192,42 @@ fn page_of<'x>(
 }
 
 // The name by which the page may be asked for beside those of each machine.
-fn host_of<'x>(offer: &'x Offer<'_>) -> Option<&'x [u8]> {
+fn web_host<'x>(offer: &'x Offer<'_>) -> Option<&'x [u8]> {
     match &offer.service.web_host {
         Some(name) => Some(name.as_bytes()),
         None => None,
     }
 }
 
-// Who tells of the service.
-fn host<'x, 'a, R: Threads + Wait + Clock + Eprint + Replace + Clone + Send + Drop + 'static>(
+// Makes the host, who tells of the service.
+fn make_host<'x, 'a, R: Threads + Wait + Clock + Eprint + Replace + Clone + Send + Drop + 'static>(
     rt: &'x R,
     alloc: Global,
     offer: &Offer<'a>,
-    (port, page_port): (u16, Option<u16>),
+    ports: Ports,
 ) -> Result<Host<'x, R>, Failure<'a>> {
-    let Ok(counters) = shared_counters(alloc) else {
+    let Ok(counters) = make_counters(alloc) else {
         return Err(Failure::Serve(ServeFault::Memory));
     };
-    let stats = stats(rt, alloc, offer, &counters)?;
-    let Ok(log) = log(rt, alloc, offer) else {
+    let stats = start_stats(rt, alloc, offer, &counters)?;
+    let Ok(log) = start_log(rt, alloc, offer) else {
         return Err(Failure::Serve(ServeFault::Memory));
     };
     Ok(Host {
         rt,
-        port,
-        page_port,
+        ports,
         log,
         stats,
         counters,
     })
 }
 
-fn shared_counters(alloc: Global) -> Result<Arc<Counters>, AllocError> {
+fn make_counters(alloc: Global) -> Result<Arc<Counters>, AllocError> {
     Ok(Arc::new(alloc, Counters::new(alloc)?)?)
 }
 
-// The log, where one is wanted.
-fn log<'x, R: Threads + Wait + Clock + Eprint + Clone + Send + Drop + 'static>(
+// Starts the log, where one is wanted.
+fn start_log<'x, R: Threads + Wait + Clock + Eprint + Clone + Send + Drop + 'static>(
     rt: &'x R,
     alloc: Global,
     offer: &Offer<'_>,
@@ -224,8 +238,8 @@ fn log<'x, R: Threads + Wait + Clock + Eprint + Clone + Send + Drop + 'static>(
     Ok(Some(Log::new(rt, alloc)?))
 }
 
-// The file for the counters, where one is wanted.
-fn stats<'x, 'a, R: Threads + Wait + Clock + Replace + Clone + Send + Drop + 'static>(
+// Starts the file for the counters, where one is wanted.
+fn start_stats<'x, 'a, R: Threads + Wait + Clock + Replace + Clone + Send + Drop + 'static>(
     rt: &'x R,
     alloc: Global,
     offer: &Offer<'a>,
@@ -247,7 +261,7 @@ fn stats<'x, 'a, R: Threads + Wait + Clock + Replace + Clone + Send + Drop + 'st
 }
 
 // Says how many connections were served, and the lines in all.
-fn told<R: Print>(rt: &R, offer: &Offer<'_>, closed: &Closed) -> io::Result<()> {
+fn print_served<R: Print>(rt: &R, offer: &Offer<'_>, closed: &Closed) -> io::Result<()> {
     let lines = closed.lines;
     match offer.service.connections {
         Some(connections) => println!(rt; "served {connections} connections, {lines} lines"),
