@@ -5,7 +5,7 @@ ghost use Rattle.nesl_house.specs.Table.{IsClosed};
 use crate::accept::Door;
 use crate::browse::{Lobby, Page};
 use crate::crowd::{Start, run_crowd};
-use crate::wire::{Patience, Reader, Writer, hear_out};
+use crate::wire::{Patience, Reader, Writer, drain_after_shutdown};
 use nesl_house::table::{CloseFault, Closed, Table};
 use nesl_line::device::{Device, Sink, Source};
 use nesl_line::exchange::End;
@@ -165,7 +165,7 @@ impl<
         let _ = stream.set_nodelay(true).is_ok();
         let (served, missed) = self.attend(caller, stream);
         if was_turned_away(&served) {
-            let _ = hear_out(self.rt, stream).is_ok();
+            let _ = drain_after_shutdown(self.rt, stream).is_ok();
         }
         self.settle(caller, since, &served, missed);
     }

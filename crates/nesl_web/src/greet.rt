@@ -4,7 +4,7 @@ use crate::answer::{Refusal, file_head, refused, upgrade};
 use crate::files::File;
 use crate::head::{HeadFault, read_head};
 use crate::route::{Route, route_for};
-use crate::wire::Wire;
+use crate::wire::{BROWSER_DRAIN, Wire};
 use std::alloc::Global;
 use std::io;
 use std::io::{ErrorKind, Write};
@@ -61,7 +61,7 @@ fn page<R: Clock>(alloc: Global, mut wire: Wire<'_, R>, file: File) -> io::Resul
     };
     wire.write_all(head.as_slice())?;
     wire.write_all(file.text.as_bytes())?;
-    let _ = wire.hear_out().is_ok();
+    let _ = wire.drain_after_shutdown(BROWSER_DRAIN).is_ok();
     Ok(Greeted::Answered(200))
 }
 
@@ -71,7 +71,7 @@ fn refuse<R: Clock>(alloc: Global, mut wire: Wire<'_, R>, refusal: Refusal) -> i
         return Err(lost());
     };
     wire.write_all(answer.as_slice())?;
-    let _ = wire.hear_out().is_ok();
+    let _ = wire.drain_after_shutdown(BROWSER_DRAIN).is_ok();
     Ok(Greeted::Answered(refusal.status()))
 }
 

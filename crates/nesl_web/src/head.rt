@@ -4,9 +4,10 @@ ghost use Rattle.nesl_web.specs.Route.{HasHead};
 
 use crate::answer::Refusal;
 use crate::route::is_whole;
+use crate::wire::is_late;
 use std::alloc::{AllocError, Global};
 use std::io;
-use std::io::{ErrorKind, Read};
+use std::io::Read;
 
 /// The most bytes of a head.
 const MOST_BYTES: usize = 8192;
@@ -70,8 +71,9 @@ fn read_piece<R: Read>(alloc: Global, reader: &mut R, room: usize) -> Result<Vec
 
 // What a read that failed is: a wait that came to its end is told to the peer.
 fn fault_of(error: &io::Error) -> HeadFault {
-    match error.kind() {
-        ErrorKind::WouldBlock | ErrorKind::TimedOut => HeadFault::Refused(Refusal::Slow),
-        _ => HeadFault::Lost,
+    if is_late(error) {
+        HeadFault::Refused(Refusal::Slow)
+    } else {
+        HeadFault::Lost
     }
 }

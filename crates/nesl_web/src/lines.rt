@@ -2,6 +2,7 @@
 
 use crate::messages::{Incoming, Outgoing};
 use crate::rest::Rest;
+use crate::wire::is_late;
 use std::alloc::Global;
 use std::io::{ErrorKind, Read, Write};
 use std::net::TcpStream;
@@ -178,9 +179,4 @@ impl<R: Clock> Write for Mouth<'_, R> {
             Err(_) => Err(io::Error::from(ErrorKind::InvalidData)),
         }
     }
-}
-
-// Whether something wasn't done in time.
-fn is_late(error: &io::Error) -> bool {
-    matches!(error.kind(), ErrorKind::TimedOut | ErrorKind::WouldBlock)
 }

@@ -2,7 +2,7 @@
 ghost use Rattle.std.specs.Prelude.{length, IfSome};
 ghost use Rattle.nesl_web.specs.Messages.{IfLine};
 
-use crate::wire::Wire;
+use crate::wire::{BROWSER_DRAIN, Wire};
 use std::alloc::Global;
 use std::io;
 use std::io::ErrorKind;
@@ -151,7 +151,7 @@ impl<'s, R: Clock> Incoming<'s, R> {
         if self.socket.can_write() {
             self.close(CloseCode::Normal);
         }
-        drop(self.socket.get_mut().hear_out());
+        drop(self.socket.get_mut().drain_after_shutdown(BROWSER_DRAIN));
     }
 
     // Says why the connection ends, to a peer that takes it soon.

@@ -8,10 +8,22 @@ use std::time::{Clock, Duration, Instant};
 /// The bytes of a piece of an answer, which has a time of its own.
 const PIECE_BYTES: usize = 16_384;
 
-/// What is heard of a peer after the end was told: so many milliseconds, and so many reads at most.
-const MOMENT_MILLIS: u64 = 2_000;
+/// How much is read at most of what a peer still sends after the end was told.
+#[derive(Clone, Copy, PartialEq, Eq, Debug)]
+pub struct DrainLimits {
+    /// How long all reads may take.
+    pub millis: u64,
+    pub reads: u32,
+    /// How many bytes a read asks for. More than 16,384 count as so many.
+    pub read_bytes: usize,
+}
 
-const MOST_READS: u32 = 4_096;
+/// What is read of a browser.
+pub(crate) const BROWSER_DRAIN: DrainLimits = DrainLimits {
+    millis: 2_000,
+    reads: 4_096,
+    read_bytes: PIECE_BYTES,
+};
 
 /// A connection. A read fails once what is waited for hasn't come in time, and a write if a piece isn't taken in time.
 #[derive(Drop)]
@@ -53,14 +65,15 @@ impl<'s, R: Clock> Wire<'s, R> {
         self.stream.set_write_timeout(idle)
     }
 
-    /// Nothing more is said. What the peer still says is heard for a moment: a connection that is closed with bytes
-    /// unread is reset, and then the peer might not read what it was told.
-    pub fn hear_out(&mut self) -> io::Result<()> {
+    /// Nothing more is written. What the peer still sends is read within these limits, and let go. A connection that is
+    /// closed with bytes unread is reset, and then the peer might not read what it was told.
+    pub fn drain_after_shutdown(&mut self, limits: DrainLimits) -> io::Result<()> {
         self.stream.shutdown(Shutdown::Write)?;
-        self.wait(Some(Duration::from_millis(MOMENT_MILLIS)))?;
+        self.wait(Some(Duration::from_millis(limits.millis)))?;
         let mut piece = [0u8; PIECE_BYTES];
-        for _ in 0..MOST_READS {
-            if self.read(&mut piece)? == 0 {
+        let room = limits.read_bytes.min(PIECE_BYTES);
+        for _ in 0..limits.reads {
+            if self.read(&mut piece[..room])? == 0 {
                 break;
             }
         }
@@ -125,6 +138,11 @@ fn in_time(error: io::Error) -> io::Error {
     } else {
         error
     }
+}
+
+/// Whether what failed so wasn't done in time.
+pub fn is_late(error: &io::Error) -> bool {
+    matches!(error.kind(), ErrorKind::TimedOut | ErrorKind::WouldBlock)
 }
 
 // When so much time will have passed.
