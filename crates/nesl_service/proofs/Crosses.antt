@@ -9,16 +9,16 @@ use Rattle.nesl_split_helpers.proofs.pool.Kept.TheSendSync as kept_crosses
 use Rattle.nesl_house.proofs.Crosses.{table_sync}
 use Rattle.nesl_service_counts.proofs.Crosses.{receipts_send}
 use Rattle.nesl_service_counts.proofs.numbers.Numbers.TheSendSync as numbers_crosses
-use Rattle.nesl_service.specs.contracts.accept.Door as door_row
-use Rattle.nesl_service.specs.contracts.browse.Lobby as lobby_row
+use Rattle.nesl_service.specs.contracts.accept.Acceptor as acceptor_row
+use Rattle.nesl_service.specs.contracts.browse.PageAcceptor as page_acceptor_row
 use Rattle.nesl_service.specs.contracts.crowd.Start as start_row
 use Rattle.nesl_service.specs.contracts.service.Service as service_row
 
-pub door_sync : (a : NamedLft) → IsSync (door_row.the_row a)
-door_sync a = search (sendable, standard.crosses) depth 30 fits 100000
+pub acceptor_sync : (a : NamedLft) → IsSync (acceptor_row.the_row a)
+acceptor_sync a = search (sendable, standard.crosses) depth 30 fits 100000
 
-pub lobby_sync : (a : NamedLft) → IsSync (lobby_row.the_row a)
-lobby_sync a = search (sendable, standard.crosses, door_sync) depth 30 fits 100000
+pub page_acceptor_sync : (a : NamedLft) → IsSync (page_acceptor_row.the_row a)
+page_acceptor_sync a = search (sendable, standard.crosses, acceptor_sync) depth 30 fits 100000
 
 pub start_sync : IsSync start_row.the_row
 start_sync = search (sendable, standard.crosses) depth 30 fits 100000
@@ -27,4 +27,4 @@ pub pool_sync : (L : RattleType) (g : Ghosts L.Denot) → IsSync L → IsSync (p
 pool_sync L g l = search (sendable, standard.crosses, kept_crosses.the_send) depth 30 fits 100000
 
 pub service_sync : (a : NamedLft) (R L G J : RattleType) (g : Ghosts L.Denot) → IsSync R → IsSync L → IsSync G → IsSync J → IsSync (service_row.the_row a R L G J g)
-service_sync a R L G J g r l t j = search (sendable, standard.crosses, table_sync, pool_sync, door_sync, lobby_sync, start_sync, numbers_crosses.the_send, receipts_send) depth 60 fits 1000000
+service_sync a R L G J g r l t j = search (sendable, standard.crosses, table_sync, pool_sync, acceptor_sync, page_acceptor_sync, start_sync, numbers_crosses.the_send, receipts_send) depth 60 fits 1000000

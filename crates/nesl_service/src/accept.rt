@@ -19,18 +19,25 @@ const PAUSE_MILLIS: u64 = 100;
 
 const MOST_PAUSES: u32 = 600;
 
-/// Where connections come from.
+/// A connection that was taken up, and the port that it comes from.
 #[derive(Drop)]
-pub(crate) struct Door<'x> {
+pub(crate) struct Accepted {
+    pub(crate) stream: TcpStream,
+    pub(crate) port: u16,
+}
+
+/// Takes connections of a listener up.
+#[derive(Drop)]
+pub(crate) struct Acceptor<'x> {
     listener: &'x TcpListener,
     /// The listener's socket once more, by which waiting for connections is ended.
     closer: TcpStream,
 }
 
-impl<'x> Door<'x> {
-    pub(crate) fn new(listener: &'x TcpListener) -> io::Result<Door<'x>> {
+impl<'x> Acceptor<'x> {
+    pub(crate) fn new(listener: &'x TcpListener) -> io::Result<Acceptor<'x>> {
         let closer = TcpStream::from(OwnedFd::from(listener.try_clone()?));
-        Ok(Door { listener, closer })
+        Ok(Acceptor { listener, closer })
     }
 
     /// Ends each wait for a connection, and lets none begin.
@@ -38,13 +45,18 @@ impl<'x> Door<'x> {
         let _ = self.closer.shutdown(Shutdown::Both).is_ok();
     }
 
-    /// Waits for the next connection, and tells the port that it comes from. What the system lacks, another process may
-    /// have: so it is asked again for a minute. One that was gone before it was taken up, or failed, doesn't count.
-    pub(crate) fn next<R: Wait + Clock>(&self, rt: &R) -> io::Result<(TcpStream, u16)> {
+    /// Waits for the next connection. What the system lacks, another process may have: so it is asked again for a
+    /// minute. One that was gone before it was taken up, or failed, doesn't count.
+    pub(crate) fn next<R: Wait + Clock>(&self, rt: &R) -> io::Result<Accepted> {
         let mut pauses = 0;
         for _ in rt.forever() {
             match self.listener.accept() {
-                Ok((stream, address)) => return Ok((stream, address.port())),
+                Ok((stream, address)) => {
+                    return Ok(Accepted {
+                        stream,
+                        port: address.port(),
+                    });
+                }
                 Err(error) if is_over(&error) => {}
                 Err(error) if is_scarce(&error) && pauses < MOST_PAUSES => {
                     thread::sleep(rt, Duration::from_millis(PAUSE_MILLIS));

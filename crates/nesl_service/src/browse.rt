@@ -1,17 +1,16 @@
 //! Browsers: the files of the page, and users over WebSockets.
 
-use crate::accept::Door;
-use crate::service::Service;
+use crate::accept::{Accepted, Acceptor};
+use crate::service::{Attended, Service};
 use nesl_line::device::Device;
 use nesl_line::exchange::End;
-use nesl_line::serve::Served;
 use nesl_service_counts::numbers::Fault;
-use nesl_service_journal::answers::{Ear, Overheard};
+use nesl_service_journal::answers::{AnswerObserver, ObservedWriter};
 use nesl_service_journal::journal::{Caller, Journal, Missed};
 use nesl_service_journal::watch::{Timed, Watch};
 use nesl_split_helpers::Gate;
 use nesl_web::greet::{Greeted, greet};
-use nesl_web::lines::{Ears, Mouth};
+use nesl_web::lines::{MessageReader, MessageWriter};
 use std::io;
 use std::net::{TcpListener, TcpStream};
 use std::sync::Wait;
@@ -29,10 +28,10 @@ pub struct Page<'x> {
     pub threads: usize,
 }
 
-/// Where browsers are received.
+/// Takes connections of browsers up, and counts their threads and sessions.
 #[derive(Drop)]
-pub(crate) struct Lobby<'x> {
-    door: Door<'x>,
+pub(crate) struct PageAcceptor<'x> {
+    acceptor: Acceptor<'x>,
     host: Option<&'x [u8]>,
     threads: usize,
     /// How many threads have begun: the first ones serve the lines' connections, and the others browsers.
@@ -43,10 +42,10 @@ pub(crate) struct Lobby<'x> {
     sessions: AtomicU64,
 }
 
-impl<'x> Lobby<'x> {
-    pub(crate) fn new(page: Page<'x>) -> io::Result<Lobby<'x>> {
-        Ok(Lobby {
-            door: Door::new(page.listener)?,
+impl<'x> PageAcceptor<'x> {
+    pub(crate) fn new(page: Page<'x>) -> io::Result<PageAcceptor<'x>> {
+        Ok(PageAcceptor {
+            acceptor: Acceptor::new(page.listener)?,
             host: page.host,
             threads: page.threads,
             begun: AtomicU64::new(0),
@@ -60,8 +59,8 @@ impl<'x> Lobby<'x> {
         self.threads
     }
 
-    /// Whether the next thread is one for browsers, by how many there are for the lines' connections.
-    pub(crate) fn has_next(&self, lines: usize) -> bool {
+    /// One more thread has begun. The answer is whether it serves browsers: so many serve the lines' connections.
+    pub(crate) fn claim_browser_thread(&self, lines: usize) -> bool {
         self.begun.fetch_add(1, Ordering::SeqCst) >= lines as u64
     }
 
@@ -75,7 +74,7 @@ impl<'x> Lobby<'x> {
 
     /// No browser is let in any more.
     pub(crate) fn close(&self) {
-        self.door.close();
+        self.acceptor.close();
     }
 
     // Whether all threads of so many for the lines' connections have ended.
@@ -99,15 +98,15 @@ impl<
     J: Journal + Sync,
 > Service<'x, R, L, G, J> {
     /// Receives browsers until none is let in any more.
-    pub(crate) fn receive_all(&self, lobby: &Lobby<'_>) {
+    pub(crate) fn receive_all(&self, page: &PageAcceptor<'_>) {
         for _ in self.rt.forever() {
-            if lobby.is_over(self.terms.threads) {
+            if page.is_over(self.terms.threads) {
                 break;
             }
-            match lobby.door.next(self.rt) {
-                Ok((stream, port)) => self.receive(lobby, &stream, port),
+            match page.acceptor.next(self.rt) {
+                Ok(accepted) => self.receive(page, &accepted),
                 Err(_) => {
-                    if !lobby.is_over(self.terms.threads) && !self.has_ended() {
+                    if !page.is_over(self.terms.threads) && !self.has_ended() {
                         self.end(Fault::Socket);
                     }
                     break;
@@ -116,73 +115,69 @@ impl<
         }
     }
 
-    // Hears what a browser asks for, and answers it.
-    fn greet(&self, lobby: &Lobby<'_>, stream: &TcpStream) -> io::Result<Greeted> {
+    // Reads what a browser asks for, and answers it.
+    fn greet(&self, page: &PageAcceptor<'_>, stream: &TcpStream) -> io::Result<Greeted> {
         let idle = self.terms.patience.idle;
-        match lobby.host {
+        match page.host {
             Some(name) => greet(self.rt, self.alloc, stream, &[name], idle),
             None => greet(self.rt, self.alloc, stream, &[], idle),
         }
     }
 
     // Receives a browser: it is shown a file of the page, or is served as a user, or neither.
-    fn receive(&self, lobby: &Lobby<'_>, stream: &TcpStream, port: u16) {
+    fn receive(&self, page: &PageAcceptor<'_>, accepted: &Accepted) {
+        let stream = &accepted.stream;
         // An answer is sent at once, where the system can.
         let _ = stream.set_nodelay(true).is_ok();
-        if let Ok(Greeted::Session(first)) = self.greet(lobby, stream) {
+        if let Ok(Greeted::Session(first)) = self.greet(page, stream) {
             let caller = Caller {
-                number: lobby.next_session(),
-                port,
+                number: page.next_session(),
+                port: accepted.port,
                 is_web: true,
             };
             self.journal.begun(caller);
             let since = Instant::now(self.rt).ok();
-            let (served, missed) = self.attend_messages(caller, stream, first);
-            self.settle(caller, since, &served, missed);
+            let attended = self.attend_messages(caller, stream, first);
+            self.settle(caller, since, &attended);
         }
     }
 
-    // The messages of one connection, served whole, and what was waited for in vain; `first` came behind its head.
-    fn attend_messages(
-        &self,
-        caller: Caller,
-        stream: &TcpStream,
-        first: Vec<u8>,
-    ) -> (Served, Option<Missed>) {
+    // Serves the messages of one connection; `first` came behind its head.
+    fn attend_messages(&self, caller: Caller, stream: &TcpStream, first: Vec<u8>) -> Attended {
         let patience = self.terms.patience;
         let watch = Watch::new(self.rt, self.journal.is_counting());
         let mut reader = Device::new(Timed {
-            reader: Ears::new(self.rt, self.alloc, stream, first, patience),
+            reader: MessageReader::new(self.rt, self.alloc, stream, first, patience),
             watch: &watch,
         });
-        let mut writer = Device::new(Overheard {
-            writer: Mouth::new(self.rt, self.alloc, stream, patience),
-            ear: Ear::new(&watch, self.journal, caller),
+        let mut writer = Device::new(ObservedWriter {
+            writer: MessageWriter::new(self.rt, self.alloc, stream, patience),
+            observer: AnswerObserver::new(&watch, self.journal, caller),
         });
         let served = self.serve(&mut reader, &mut writer);
-        let Timed { reader: ears, .. } = reader.into_inner();
-        let Overheard { writer: mouth, .. } = writer.into_inner();
-        let missed = missed_by(&ears).or(untaken_of(&mouth));
+        let Timed { reader, .. } = reader.into_inner();
+        let ObservedWriter { writer, .. } = writer.into_inner();
+        let missed = missed_by(&reader).or(untaken_by(&writer));
         // What could not be written whole is followed by nothing.
         if served.end != End::WriteFault {
-            ears.end();
+            reader.end();
         }
-        (served, missed)
+        Attended { served, missed }
     }
 }
 
 // Which line hasn't come in time.
-fn missed_by<R: Clock>(ears: &Ears<'_, R>) -> Option<Missed> {
-    match ears.is_late() {
-        true if ears.is_first() => Some(Missed::FirstLine),
+fn missed_by<R: Clock>(reader: &MessageReader<'_, R>) -> Option<Missed> {
+    match reader.is_late() {
+        true if reader.is_first() => Some(Missed::FirstLine),
         true => Some(Missed::Line),
         false => None,
     }
 }
 
 // Whether an answer wasn't taken in time.
-fn untaken_of<R: Clock>(mouth: &Mouth<'_, R>) -> Option<Missed> {
-    if mouth.is_late() {
+fn untaken_by<R: Clock>(writer: &MessageWriter<'_, R>) -> Option<Missed> {
+    if writer.is_late() {
         Some(Missed::Taking)
     } else {
         None

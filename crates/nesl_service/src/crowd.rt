@@ -40,8 +40,8 @@ impl Start {
         self.begun.wait_and_decrement(rt);
     }
 
-    /// Waits for so many threads, and tells whether all of them are ready.
-    pub fn are_ready<R: Wait>(&self, rt: &R, threads: usize) -> bool {
+    /// Waits until so many threads are there, and tells whether all of them are ready.
+    pub fn wait_for_all<R: Wait>(&self, rt: &R, threads: usize) -> bool {
         for _ in 0..threads {
             self.there.wait_and_decrement(rt);
         }

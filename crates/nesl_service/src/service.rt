@@ -2,8 +2,8 @@
 ghost use Rattle.std.specs.Prelude.{◌≡◌, IfOk};
 ghost use Rattle.nesl_house.specs.Table.{IsClosed};
 
-use crate::accept::Door;
-use crate::browse::{Lobby, Page};
+use crate::accept::{Accepted, Acceptor};
+use crate::browse::{Page, PageAcceptor};
 use crate::crowd::{Start, run_crowd};
 use crate::wire::{Patience, Reader, Writer, drain_after_shutdown};
 use nesl_house::table::{CloseFault, Closed, Table};
@@ -12,7 +12,7 @@ use nesl_line::exchange::End;
 use nesl_line::serve::{Served, serve};
 use nesl_service_counts::numbers::{Fault, Numbers};
 use nesl_service_counts::receipts::Receipts;
-use nesl_service_journal::answers::{Ear, Overheard};
+use nesl_service_journal::answers::{AnswerObserver, ObservedWriter};
 use nesl_service_journal::asking::Told;
 use nesl_service_journal::journal::{Caller, Ending, Journal, Missed, NoJournal, Visit};
 use nesl_service_journal::watch::Watch;
@@ -81,13 +81,20 @@ pub struct Observers<'x, G, J> {
     pub journal: &'x J,
 }
 
+/// What came of a connection: how its lines were served, and what was waited for in vain.
+#[derive(Clone, Copy)]
+pub(crate) struct Attended {
+    pub(crate) served: Served,
+    pub(crate) missed: Option<Missed>,
+}
+
 /// What the threads of a service share.
 #[derive_where(Clone, Copy)]
 pub(crate) struct Service<'x, R, L: Ledger, G, J> {
     pub(crate) rt: &'x R,
     pub(crate) alloc: Global,
-    door: &'x Door<'x>,
-    lobby: Option<&'x Lobby<'x>>,
+    acceptor: &'x Acceptor<'x>,
+    page: Option<&'x PageAcceptor<'x>>,
     table: &'x Table,
     numbers: &'x Mutex<Numbers>,
     receipts: &'x Mutex<Receipts>,
@@ -108,9 +115,9 @@ impl<
     /// No further number is given out, and who waits for a connection waits no longer.
     pub(crate) fn end(&self, fault: Fault) {
         self.numbers.lock(self.rt).end(fault);
-        self.door.close();
-        if let Some(lobby) = self.lobby {
-            lobby.close();
+        self.acceptor.close();
+        if let Some(page) = self.page {
+            page.close();
         }
     }
 
@@ -119,30 +126,35 @@ impl<
         self.numbers.lock(self.rt).fault.is_some()
     }
 
-    // One connection, served whole, and what was waited for in vain. Where there is no memory for its answers, nothing
-    // is read.
-    fn attend(&self, caller: Caller, stream: &TcpStream) -> (Served, Option<Missed>) {
+    // Serves one connection. Where there is no memory for its answers, nothing is read.
+    fn attend(&self, caller: Caller, stream: &TcpStream) -> Attended {
         let patience = self.terms.patience;
         let watch = Watch::new(self.rt, self.journal.is_counting());
-        let overheard = Overheard {
+        let observed = ObservedWriter {
             writer: Writer::new(self.rt, stream, patience),
-            ear: Ear::new(&watch, self.journal, caller),
+            observer: AnswerObserver::new(&watch, self.journal, caller),
         };
-        let Ok(writer) = BufWriter::with_capacity(self.alloc, ANSWER_BYTES, overheard) else {
+        let Ok(writer) = BufWriter::with_capacity(self.alloc, ANSWER_BYTES, observed) else {
             let served = Served {
                 lines: 0,
                 receipt: None,
                 end: End::NoMemory,
             };
-            return (served, None);
+            return Attended {
+                served,
+                missed: None,
+            };
         };
         let mut reader = Device::new(Reader::new(self.rt, stream, &watch, patience));
         let mut writer = Device::new(writer);
         let served = self.serve(&mut reader, &mut writer);
         // What could not be written is not tried again.
-        let (overheard, _) = writer.into_inner().into_parts();
+        let (observed, _) = writer.into_inner().into_parts();
         let missed = reader.into_inner().missed();
-        (served, missed.or(overheard.writer.missed()))
+        Attended {
+            served,
+            missed: missed.or(observed.writer.missed()),
+        }
     }
 
     /// The lines of one connection, served by the session of the user whom the first one names.
@@ -163,31 +175,25 @@ impl<
         let since = Instant::now(self.rt).ok();
         // An answer is sent at once, where the system can.
         let _ = stream.set_nodelay(true).is_ok();
-        let (served, missed) = self.attend(caller, stream);
-        if was_turned_away(&served) {
+        let attended = self.attend(caller, stream);
+        if was_turned_away(&attended.served) {
             let _ = drain_after_shutdown(self.rt, stream).is_ok();
         }
-        self.settle(caller, since, &served, missed);
+        self.settle(caller, since, &attended);
     }
 
     /// Tells the journal of a connection that has ended, and takes in what the user's session was told.
-    pub(crate) fn settle(
-        &self,
-        caller: Caller,
-        since: Option<Instant>,
-        served: &Served,
-        missed: Option<Missed>,
-    ) {
+    pub(crate) fn settle(&self, caller: Caller, since: Option<Instant>, attended: &Attended) {
         let took = match since {
             Some(since) => since.elapsed(self.rt).ok(),
             None => None,
         };
         let visit = Visit {
             took,
-            ..self.visit(served, missed)
+            ..self.visit(attended)
         };
         self.journal.ended(caller, &visit);
-        if let Some(receipt) = served.receipt {
+        if let Some(receipt) = attended.served.receipt {
             if !self.receipts.lock(self.rt).take_in(receipt) {
                 self.end(Fault::Memory);
             }
@@ -195,7 +201,8 @@ impl<
     }
 
     // What is told of a connection that has ended.
-    fn visit(&self, served: &Served, missed: Option<Missed>) -> Visit<'x> {
+    fn visit(&self, attended: &Attended) -> Visit<'x> {
+        let served = &attended.served;
         let user = match served.receipt {
             Some(receipt) => self.name_of(receipt.place),
             None => None,
@@ -203,7 +210,7 @@ impl<
         Visit {
             user,
             lines: served.lines,
-            ending: Ending::of(served.end, was_turned_away(served), missed),
+            ending: Ending::of(served.end, was_turned_away(served), attended.missed),
             took: None,
         }
     }
@@ -214,10 +221,10 @@ impl<
         Some(name.as_slice())
     }
 
-    // The next connection, and the port that it comes from; none where the service has ended.
-    fn next_stream(&self) -> Option<(TcpStream, u16)> {
-        match self.door.next(self.rt) {
-            Ok(taken_up) => Some(taken_up),
+    // The next connection; none where the service has ended.
+    fn next_accepted(&self) -> Option<Accepted> {
+        match self.acceptor.next(self.rt) {
+            Ok(accepted) => Some(accepted),
             Err(_) => {
                 if !self.has_ended() {
                     self.end(Fault::Socket);
@@ -233,11 +240,11 @@ impl<
         self.start.wait(self.rt, room.is_ok());
         drop(room);
         let lines = self.terms.threads;
-        match self.lobby {
-            Some(lobby) if lobby.has_next(lines) => self.receive_all(lobby),
-            Some(lobby) => {
+        match self.page {
+            Some(page) if page.claim_browser_thread(lines) => self.receive_all(page),
+            Some(page) => {
                 self.attend_all();
-                lobby.leave(lines);
+                page.leave(lines);
             }
             None => self.attend_all(),
         }
@@ -249,23 +256,23 @@ impl<
             let Some(number) = self.numbers.lock(self.rt).next() else {
                 break;
             };
-            let Some((stream, port)) = self.next_stream() else {
+            let Some(accepted) = self.next_accepted() else {
                 break;
             };
             self.attend_told(
                 Caller {
                     number,
-                    port,
+                    port: accepted.port,
                     is_web: false,
                 },
-                &stream,
+                &accepted.stream,
             );
         }
     }
 
     // Has so many threads begin, if they are all that were wanted and all are ready; else the service has ended.
     fn open(&self, made: usize) {
-        let are_ready = self.start.are_ready(self.rt, made);
+        let are_ready = self.start.wait_for_all(self.rt, made);
         if made < self.threads() || !are_ready {
             self.end(Fault::Memory);
         } else if !self.journal.opened() {
@@ -276,8 +283,8 @@ impl<
 
     // How many threads are wanted.
     fn threads(&self) -> usize {
-        match self.lobby {
-            Some(lobby) => self.terms.threads.saturating_add(lobby.threads()),
+        match self.page {
+            Some(page) => self.terms.threads.saturating_add(page.threads()),
             None => self.terms.threads,
         }
     }
@@ -311,9 +318,9 @@ pub struct Site<'x, R> {
 }
 
 // Where browsers are received, where there is a page for them.
-fn lobby_of(page: Option<Page<'_>>) -> io::Result<Option<Lobby<'_>>> {
+fn page_acceptor_of(page: Option<Page<'_>>) -> io::Result<Option<PageAcceptor<'_>>> {
     match page {
-        Some(page) => Ok(Some(Lobby::new(page)?)),
+        Some(page) => Ok(Some(PageAcceptor::new(page)?)),
         None => Ok(None),
     }
 }
@@ -340,10 +347,10 @@ fn serve_in<
         alloc,
         listener,
     } = site;
-    let Ok(door) = Door::new(listener) else {
+    let Ok(acceptor) = Acceptor::new(listener) else {
         return Err(ServeFault::Socket);
     };
-    let Ok(lobby) = lobby_of(page) else {
+    let Ok(page) = page_acceptor_of(page) else {
         return Err(ServeFault::Socket);
     };
     let start = Start::new();
@@ -356,8 +363,8 @@ fn serve_in<
     let service = Service {
         rt,
         alloc,
-        door: &door,
-        lobby: lobby.as_ref(),
+        acceptor: &acceptor,
+        page: page.as_ref(),
         table: &table,
         numbers: &numbers,
         receipts: &receipts,

@@ -12,7 +12,7 @@ use std::io::{Read, Write};
 use std::net::TcpStream;
 use std::time::{Clock, Duration};
 
-/// What is read of a peer that was turned away.
+/// How much is read of a peer that was turned away.
 const TURNED_AWAY_DRAIN: DrainLimits = DrainLimits {
     millis: 500,
     reads: 256,
@@ -158,7 +158,7 @@ impl<R: Clock> Write for Writer<'_, R> {
     }
 }
 
-/// Tells a peer that was turned away the end, and reads for a moment what it still sends.
+/// Ends what is written to a peer that was turned away, and reads for a moment what it still sends.
 pub(crate) fn drain_after_shutdown<R: Clock>(rt: &R, stream: &TcpStream) -> io::Result<()> {
     Wire::new(rt, stream, None).drain_after_shutdown(TURNED_AWAY_DRAIN)
 }

@@ -167,7 +167,7 @@ impl Heard {
 
 /// Tells a journal of answers: of the first whom it seats, and of each one where the journal counts.
 #[derive(Drop)]
-pub struct Ear<'x, R, J> {
+pub struct AnswerObserver<'x, R, J> {
     watch: &'x Watch<'x, R>,
     journal: &'x J,
     caller: Caller,
@@ -177,10 +177,14 @@ pub struct Ear<'x, R, J> {
     took: Option<Duration>,
 }
 
-impl<'x, R: Clock, J: Journal> Ear<'x, R, J> {
-    /// Nothing was heard yet; the watch runs since the last line was there.
-    pub fn new(watch: &'x Watch<'x, R>, journal: &'x J, caller: Caller) -> Ear<'x, R, J> {
-        Ear {
+impl<'x, R: Clock, J: Journal> AnswerObserver<'x, R, J> {
+    /// Nothing was observed yet; the watch runs since the last line was there.
+    pub fn new(
+        watch: &'x Watch<'x, R>,
+        journal: &'x J,
+        caller: Caller,
+    ) -> AnswerObserver<'x, R, J> {
+        AnswerObserver {
             watch,
             journal,
             caller,
@@ -199,7 +203,7 @@ impl<'x, R: Clock, J: Journal> Ear<'x, R, J> {
     }
 
     // These bytes were written.
-    fn hear(&mut self, bytes: &[u8]) {
+    fn observe(&mut self, bytes: &[u8]) {
         if !self.is_first && !self.is_counting {
             return;
         }
@@ -235,16 +239,16 @@ impl<'x, R: Clock, J: Journal> Ear<'x, R, J> {
 
 /// A writer of answers of which a journal is told, once their bytes were written.
 #[derive(Drop)]
-pub struct Overheard<'x, W, R, J> {
+pub struct ObservedWriter<'x, W, R, J> {
     pub writer: W,
-    pub ear: Ear<'x, R, J>,
+    pub observer: AnswerObserver<'x, R, J>,
 }
 
-impl<W: Write, R: Clock, J: Journal> Write for Overheard<'_, W, R, J> {
+impl<W: Write, R: Clock, J: Journal> Write for ObservedWriter<'_, W, R, J> {
     fn write(&mut self, buf: &[u8]) -> io::Result<usize> {
-        self.ear.begin();
+        self.observer.begin();
         let taken = self.writer.write(buf)?;
-        self.ear.hear(&buf[..taken]);
+        self.observer.observe(&buf[..taken]);
         Ok(taken)
     }
 

@@ -9,7 +9,7 @@ fn status_of(alloc: Global, request: &str) -> Result<u16, AllocError> {
     let given = [b"page.example.org".as_slice()];
     Ok(match route_for(alloc, &given, request.as_bytes())? {
         Route::Page(_) => 200,
-        Route::Session(..) => 101,
+        Route::Session { .. } => 101,
         Route::Refused(refusal) => refusal.status(),
     })
 }

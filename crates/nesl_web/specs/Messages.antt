@@ -2,12 +2,12 @@
 use Rattle.std.specs.Prelude.{◌≢◌}
 use Rattle.std.specs.List.{AllByRecursion}
 use Rattle.nesl_web.specs.declared.messages.Heard.{Heard}
-use Rattle.nesl_web.specs.declared.messages.Heard.TheVariants.{Line, Aside, Farewell, Unfit, Lost}
+use Rattle.nesl_web.specs.declared.messages.Heard.TheVariants.{Line, Control, Closed, NotALine, Lost}
 
 -- no line ends within a line
 abbrev pub IfLine : Heard → Type 0
 IfLine (Line text) = AllByRecursion (λ b. b ≢ 10) text
-IfLine Aside = Unit {0}
-IfLine Farewell = Unit {0}
-IfLine (Unfit code) = Unit {0}
+IfLine Control = Unit {0}
+IfLine Closed = Unit {0}
+IfLine (NotALine code) = Unit {0}
 IfLine (Lost error) = Unit {0}

@@ -26,5 +26,5 @@ pub record BeginAllowed (given : List (List ℕ)) (bytes : List ℕ) : Type 0 wh
 -- by what a request came to: it was let in only where it is allowed
 abbrev pub LetsIn : List (List ℕ) → List ℕ → Route → Type 0
 LetsIn given bytes (Page file) = BeginAllowed given bytes
-LetsIn given bytes (Session key rest) = BeginAllowed given bytes
+LetsIn given bytes (Session accept_key head_bytes) = BeginAllowed given bytes
 LetsIn given bytes (Refused refusal) = Unit {0}

@@ -114,7 +114,7 @@ fn upgrade_fields() -> [Header<'static>; 6] {
 }
 
 // The head of an answer that a text of so many bytes follows, and then the end of the connection.
-fn head(
+fn text_head(
     alloc: Global,
     status: u16,
     words: &str,
@@ -126,11 +126,11 @@ fn head(
         name: b"Content-Length",
         value: length.as_bytes(),
     };
-    written(alloc, status, words, &text_fields(kind), length_field)
+    write_head(alloc, status, words, &text_fields(kind), length_field)
 }
 
 // The head of an answer with these fields.
-fn written(
+fn write_head(
     alloc: Global,
     status: u16,
     words: &str,
@@ -144,14 +144,14 @@ fn written(
 
 /// The head of the answer that has this file.
 pub fn file_head(alloc: Global, file: File) -> Result<Vec<u8>, WriteError> {
-    head(alloc, 200, "OK", file.kind, file.text.len())
+    text_head(alloc, 200, "OK", file.kind, file.text.len())
 }
 
 /// The answer that refuses a request.
-pub fn refused(alloc: Global, refusal: Refusal) -> Result<Vec<u8>, WriteError> {
+pub fn refusal_answer(alloc: Global, refusal: Refusal) -> Result<Vec<u8>, WriteError> {
     let words = refusal.words();
     let text = format!(in alloc; "{words}\n")?;
-    let mut bytes = head(
+    let mut bytes = text_head(
         alloc,
         refusal.status(),
         words,
@@ -163,12 +163,12 @@ pub fn refused(alloc: Global, refusal: Refusal) -> Result<Vec<u8>, WriteError> {
 }
 
 /// The answer after which the connection is a WebSocket, with the key that accepts it.
-pub fn upgrade(alloc: Global, key: &[u8; 28]) -> Result<Vec<u8>, WriteError> {
+pub fn upgrade_answer(alloc: Global, key: &[u8; 28]) -> Result<Vec<u8>, WriteError> {
     let accept_field = Header {
         name: b"Sec-WebSocket-Accept",
         value: key.as_slice(),
     };
-    written(
+    write_head(
         alloc,
         101,
         "Switching Protocols",

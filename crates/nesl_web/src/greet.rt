@@ -1,6 +1,6 @@
 //! A connection of a browser, as it begins.
 
-use crate::answer::{Refusal, file_head, refused, upgrade};
+use crate::answer::{Refusal, file_head, refusal_answer, upgrade_answer};
 use crate::files::File;
 use crate::head::{HeadFault, read_head};
 use crate::route::{Route, route_for};
@@ -37,11 +37,14 @@ pub fn greet<'s, R: Clock>(
     wire.wait(time)?;
     match read_head(alloc, &mut wire) {
         Ok(bytes) => match route_for(alloc, given, bytes.as_slice())? {
-            Route::Page(file) => page(alloc, wire, file),
+            Route::Page(file) => send_file(alloc, wire, file),
             Route::Refused(refusal) => refuse(alloc, wire, refusal),
-            Route::Session(key, end) => {
-                wire.be_patient(idle)?;
-                session(alloc, wire, &key, bytes, end)
+            Route::Session {
+                accept_key,
+                head_bytes,
+            } => {
+                wire.set_write_limit(idle)?;
+                accept_session(alloc, wire, &accept_key, bytes, head_bytes)
             }
         },
         Err(HeadFault::Refused(refusal)) => refuse(alloc, wire, refusal),
@@ -55,7 +58,7 @@ fn lost() -> io::Error {
 }
 
 // Sends a file of the page, and ends.
-fn page<R: Clock>(alloc: Global, mut wire: Wire<'_, R>, file: File) -> io::Result<Greeted> {
+fn send_file<R: Clock>(alloc: Global, mut wire: Wire<'_, R>, file: File) -> io::Result<Greeted> {
     let Ok(head) = file_head(alloc, file) else {
         return Err(lost());
     };
@@ -67,7 +70,7 @@ fn page<R: Clock>(alloc: Global, mut wire: Wire<'_, R>, file: File) -> io::Resul
 
 // Says why a request is refused, and ends.
 fn refuse<R: Clock>(alloc: Global, mut wire: Wire<'_, R>, refusal: Refusal) -> io::Result<Greeted> {
-    let Ok(answer) = refused(alloc, refusal) else {
+    let Ok(answer) = refusal_answer(alloc, refusal) else {
         return Err(lost());
     };
     wire.write_all(answer.as_slice())?;
@@ -75,18 +78,18 @@ fn refuse<R: Clock>(alloc: Global, mut wire: Wire<'_, R>, refusal: Refusal) -> i
     Ok(Greeted::Answered(refusal.status()))
 }
 
-// Accepts a WebSocket whose head ends at this place.
-fn session<R: Clock>(
+// Accepts a WebSocket. Of these bytes so many are the head of its request.
+fn accept_session<R: Clock>(
     alloc: Global,
     mut wire: Wire<'_, R>,
-    key: &[u8; 28],
+    accept_key: &[u8; 28],
     bytes: Vec<u8>,
-    end: usize,
+    head_bytes: usize,
 ) -> io::Result<Greeted> {
-    let Ok(answer) = upgrade(alloc, key) else {
+    let Ok(answer) = upgrade_answer(alloc, accept_key) else {
         return Err(lost());
     };
-    let first = Vec::from_slice(alloc, bytes.get(end..).unwrap_or(&[]))?;
+    let first = Vec::from_slice(alloc, bytes.get(head_bytes..).unwrap_or(&[]))?;
     wire.write_all(answer.as_slice())?;
     Ok(Greeted::Session(first))
 }

@@ -20,7 +20,7 @@ pub struct Patience {
 
 /// The lines of a WebSocket, as bytes to read: each message is one, and its line end is put behind it.
 #[derive(Drop)]
-pub struct Ears<'s, R> {
+pub struct MessageReader<'s, R> {
     messages: Incoming<'s, R>,
     alloc: Global,
     patience: Patience,
@@ -31,7 +31,7 @@ pub struct Ears<'s, R> {
     rest: Rest,
 }
 
-impl<'s, R: Clock> Ears<'s, R> {
+impl<'s, R: Clock> MessageReader<'s, R> {
     /// Those of a connection whose first bytes have come.
     pub fn new(
         rt: &'s R,
@@ -39,8 +39,8 @@ impl<'s, R: Clock> Ears<'s, R> {
         stream: &'s TcpStream,
         first: Vec<u8>,
         patience: Patience,
-    ) -> Ears<'s, R> {
-        Ears {
+    ) -> MessageReader<'s, R> {
+        MessageReader {
             messages: Incoming::new(rt, alloc, stream, first, Some(patience.first_line)),
             alloc,
             patience,
@@ -52,7 +52,7 @@ impl<'s, R: Clock> Ears<'s, R> {
 
     /// Ends the connection.
     pub fn end(self) {
-        let Ears {
+        let MessageReader {
             messages,
             alloc: _,
             patience: _,
@@ -83,7 +83,7 @@ impl<'s, R: Clock> Ears<'s, R> {
     }
 
     // Waits for a line. False where no more comes.
-    fn hear(&mut self) -> io::Result<bool> {
+    fn wait_for_line(&mut self) -> io::Result<bool> {
         let allowed = self.allowed();
         match self.messages.next(allowed) {
             Ok(Some(line)) => {
@@ -104,16 +104,16 @@ impl<'s, R: Clock> Ears<'s, R> {
     fn begin(&mut self, line: &[u8]) -> io::Result<()> {
         if self.is_first {
             self.is_first = false;
-            self.messages.be_patient(self.patience.idle)?;
+            self.messages.set_write_limit(self.patience.idle)?;
         }
         self.rest = Rest::of(self.alloc, line)?;
         Ok(())
     }
 }
 
-impl<R: Clock> Read for Ears<'_, R> {
+impl<R: Clock> Read for MessageReader<'_, R> {
     fn read(&mut self, buf: &mut [u8]) -> io::Result<usize> {
-        if self.rest.is_empty() && !self.hear()? {
+        if self.rest.is_empty() && !self.wait_for_line()? {
             return Ok(0);
         }
         Ok(self.rest.give(buf))
@@ -122,7 +122,7 @@ impl<R: Clock> Read for Ears<'_, R> {
 
 /// The answers on a WebSocket: what is written until a flush is one message, without its line end.
 #[derive(Drop)]
-pub struct Mouth<'s, R> {
+pub struct MessageWriter<'s, R> {
     messages: Outgoing<'s, R>,
     alloc: Global,
     text: Vec<u8>,
@@ -130,15 +130,15 @@ pub struct Mouth<'s, R> {
     is_late: bool,
 }
 
-impl<'s, R: Clock> Mouth<'s, R> {
+impl<'s, R: Clock> MessageWriter<'s, R> {
     /// Nothing was written yet.
     pub fn new(
         rt: &'s R,
         alloc: Global,
         stream: &'s TcpStream,
         patience: Patience,
-    ) -> Mouth<'s, R> {
-        Mouth {
+    ) -> MessageWriter<'s, R> {
+        MessageWriter {
             messages: Outgoing::new(rt, alloc, stream, patience.idle),
             alloc,
             text: Vec::new(alloc),
@@ -152,8 +152,8 @@ impl<'s, R: Clock> Mouth<'s, R> {
     }
 
     // Sends a text as a message.
-    fn tell(&mut self, text: String) -> io::Result<()> {
-        match self.messages.tell(text) {
+    fn send(&mut self, text: String) -> io::Result<()> {
+        match self.messages.send(text) {
             Ok(()) => Ok(()),
             Err(error) => {
                 self.is_late = is_late(&error);
@@ -163,7 +163,7 @@ impl<'s, R: Clock> Mouth<'s, R> {
     }
 }
 
-impl<R: Clock> Write for Mouth<'_, R> {
+impl<R: Clock> Write for MessageWriter<'_, R> {
     fn write(&mut self, buf: &[u8]) -> io::Result<usize> {
         self.text.extend_from_slice(buf)?;
         Ok(buf.len())
@@ -175,7 +175,7 @@ impl<R: Clock> Write for Mouth<'_, R> {
             text.pop();
         }
         match String::from_utf8(text) {
-            Ok(text) => self.tell(text),
+            Ok(text) => self.send(text),
             Err(_) => Err(io::Error::from(ErrorKind::InvalidData)),
         }
     }

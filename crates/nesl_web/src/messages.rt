@@ -19,19 +19,19 @@ pub const MOST_BYTES: usize = 65_537;
 const READ_BYTES: usize = 4096;
 
 /// How many seconds the peer may take to take the last message.
-const FAREWELL_SECONDS: u64 = 2;
+const CLOSE_SECONDS: u64 = 2;
 
 /// What a read gave.
 #[derive(Drop)]
 pub enum Heard {
     /// A line, without its line end.
     Line(Utf8Bytes),
-    /// What no line is, and needs no answer here.
-    Aside,
-    /// The peer says that it ends the connection.
-    Farewell,
-    /// What no line can be, and how the connection is ended for it.
-    Unfit(CloseCode),
+    /// A message that is no line, and needs no answer here: a ping, a pong or a close.
+    Control,
+    /// The peer has ended the connection.
+    Closed,
+    /// What can't be a line, and how the connection is ended for it.
+    NotALine(CloseCode),
     /// The connection is lost, a message hasn't come in time, or memory ran out.
     Lost(io::Error),
 }
@@ -53,8 +53,8 @@ impl Heard {
     {
         match message {
             Message::Text(text) => line_of(text),
-            Message::Binary(_) => Heard::Unfit(CloseCode::Unsupported),
-            Message::Ping(_) | Message::Pong(_) | Message::Close(_) => Heard::Aside,
+            Message::Binary(_) => Heard::NotALine(CloseCode::Unsupported),
+            Message::Ping(_) | Message::Pong(_) | Message::Close(_) => Heard::Control,
         }
     }
 
@@ -76,10 +76,10 @@ impl Heard {
         ensures { IfSome result IfLine }
     {
         match error {
-            Error::ConnectionClosed => Some(Heard::Farewell),
-            Error::Capacity(_) => Some(Heard::Unfit(CloseCode::Size)),
-            Error::Utf8 => Some(Heard::Unfit(CloseCode::Invalid)),
-            Error::Protocol(_) => Some(Heard::Unfit(CloseCode::Protocol)),
+            Error::ConnectionClosed => Some(Heard::Closed),
+            Error::Capacity(_) => Some(Heard::NotALine(CloseCode::Size)),
+            Error::Utf8 => Some(Heard::NotALine(CloseCode::Invalid)),
+            Error::Protocol(_) => Some(Heard::NotALine(CloseCode::Protocol)),
             _ => None,
         }
     }
@@ -119,19 +119,20 @@ impl<'s, R: Clock> Incoming<'s, R> {
     }
 
     /// From now on a piece of what is answered may take so long.
-    pub fn be_patient(&mut self, piece: Option<Duration>) -> io::Result<()> {
-        self.socket.get_mut().be_patient(piece)
+    pub fn set_write_limit(&mut self, piece: Option<Duration>) -> io::Result<()> {
+        self.socket.get_mut().set_write_limit(piece)
     }
 
-    /// The next line, which may take so long; none after the peer's farewell. What can't be a line ends the connection.
+    /// The next line, which may take so long; none after the peer has ended the connection. What can't be a line ends
+    /// it, too.
     pub fn next(&mut self, time: Option<Duration>) -> io::Result<Option<Utf8Bytes>> {
         self.socket.get_mut().wait(time)?;
         for _ in 0..u64::MAX {
             match Heard::of(self.socket.read()) {
                 Heard::Line(line) => return Ok(Some(line)),
-                Heard::Aside => {}
-                Heard::Farewell => return Ok(None),
-                Heard::Unfit(code) => {
+                Heard::Control => {}
+                Heard::Closed => return Ok(None),
+                Heard::NotALine(code) => {
                     self.close(code);
                     return Err(lost());
                 }
@@ -141,13 +142,13 @@ impl<'s, R: Clock> Incoming<'s, R> {
         Err(lost())
     }
 
-    /// Ends the connection: says so, if that wasn't said, and hears the peer out.
+    /// Ends the connection: says so, if that wasn't said, and reads what the peer still sends.
     pub fn end(mut self) {
-        self.say_farewell();
+        self.close_and_drain();
         drop(self);
     }
 
-    fn say_farewell(&mut self) {
+    fn close_and_drain(&mut self) {
         if self.socket.can_write() {
             self.close(CloseCode::Normal);
         }
@@ -156,9 +157,9 @@ impl<'s, R: Clock> Incoming<'s, R> {
 
     // Says why the connection ends, to a peer that takes it soon.
     fn close(&mut self, code: CloseCode) {
-        let time = Some(Duration::from_secs(FAREWELL_SECONDS));
-        if self.be_patient(time).is_ok() {
-            drop(self.socket.close(Some(farewell(code))));
+        let time = Some(Duration::from_secs(CLOSE_SECONDS));
+        if self.set_write_limit(time).is_ok() {
+            drop(self.socket.close(Some(close_frame(code))));
         }
     }
 }
@@ -184,7 +185,7 @@ impl<'s, R: Clock> Outgoing<'s, R> {
     }
 
     /// Sends one message.
-    pub fn tell(&mut self, text: String) -> io::Result<()> {
+    pub fn send(&mut self, text: String) -> io::Result<()> {
         let Ok(text) = Utf8Bytes::from_string(text) else {
             return Err(lost());
         };
@@ -212,7 +213,7 @@ fn failure_of(error: Error) -> io::Error {
 }
 
 // The end of a connection, as it is told.
-fn farewell(code: CloseCode) -> CloseFrame {
+fn close_frame(code: CloseCode) -> CloseFrame {
     CloseFrame {
         code,
         reason: Utf8Bytes::new(),
@@ -224,7 +225,7 @@ fn line_of(text: Utf8Bytes) -> Heard
     ensures { IfLine result }
 {
     if text.as_str().as_bytes().contains(&b'\n') {
-        Heard::Unfit(CloseCode::Unsupported)
+        Heard::NotALine(CloseCode::Unsupported)
     } else {
         Heard::Line(text)
     }

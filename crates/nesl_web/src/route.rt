@@ -19,8 +19,13 @@ const MOST_FIELDS: usize = 64;
 pub enum Route {
     /// A file of the page.
     Page(File),
-    /// A WebSocket, with the key that accepts it, and where the bytes begin that came behind the head.
-    Session([u8; 28], usize),
+    /// A WebSocket.
+    Session {
+        /// The key that accepts it.
+        accept_key: [u8; 28],
+        /// The bytes of the head; more may have come behind it.
+        head_bytes: usize,
+    },
     Refused(Refusal),
 }
 
@@ -102,7 +107,10 @@ fn session(bytes: &[u8], request: &RequestSpans, fields: &[HeaderSpan]) -> Route
     requires { IsRequestWithin bytes.now fields.now request.now }
 {
     match check_request(bytes, request, fields) {
-        Ok(key) => Route::Session(key, request.len),
+        Ok(accept_key) => Route::Session {
+            accept_key,
+            head_bytes: request.len,
+        },
         Err(_) => Route::Refused(Refusal::Unreadable),
     }
 }

@@ -8,8 +8,8 @@ use std::time::{Clock, Duration, Instant};
 /// The bytes of a piece of an answer, which has a time of its own.
 const PIECE_BYTES: usize = 16_384;
 
-/// How much is read at most of what a peer still sends after the end was told.
-#[derive(Clone, Copy, PartialEq, Eq, Debug)]
+/// How much is read at most of what a peer still sends after nothing more is written to it.
+#[derive(Clone, Copy)]
 pub struct DrainLimits {
     /// How long all reads may take.
     pub millis: u64,
@@ -18,7 +18,7 @@ pub struct DrainLimits {
     pub read_bytes: usize,
 }
 
-/// What is read of a browser.
+/// How much is read then of a browser.
 pub(crate) const BROWSER_DRAIN: DrainLimits = DrainLimits {
     millis: 2_000,
     reads: 4_096,
@@ -59,7 +59,7 @@ impl<'s, R: Clock> Wire<'s, R> {
     }
 
     /// From now on a piece of what is written may take so long.
-    pub fn be_patient(&mut self, idle: Option<Duration>) -> io::Result<()> {
+    pub fn set_write_limit(&mut self, idle: Option<Duration>) -> io::Result<()> {
         self.idle = idle;
         self.piece_until = None;
         self.stream.set_write_timeout(idle)
@@ -140,7 +140,7 @@ fn in_time(error: io::Error) -> io::Error {
     }
 }
 
-/// Whether what failed so wasn't done in time.
+/// Whether a read or a write failed because its time was over.
 pub fn is_late(error: &io::Error) -> bool {
     matches!(error.kind(), ErrorKind::TimedOut | ErrorKind::WouldBlock)
 }
