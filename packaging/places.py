@@ -23,7 +23,7 @@ INCLUDED = "systemd,systemd-sysv,man-db,iproute2"
 MIRROR = "http://deb.debian.org/debian"
 SECONDS = 20
 # What a Debian keeps of its own accord, whatever is installed or removed.
-CHANGING = re.compile(r"(proc|sys|dev|run|tmp|root|(etc|var)/\.updated|var/(lib/(dpkg|systemd)|cache|log|tmp))/")
+CHANGING = re.compile(r"(proc|sys|dev|run|tmp|root|srv|(etc|var)/\.updated|var/(lib/(dpkg|systemd)|cache|log|tmp))/")
 
 
 def said(words, data=b"", may_fail=False):
@@ -86,8 +86,8 @@ class Debian(Bare):
         return said(["chroot", self.folder, *words], **how)
 
     def lent(self, file):
-        shutil.copy(file, self.folder / "root")
-        return f"/root/{Path(file).name}"
+        shutil.copy(file, self.folder / "srv")
+        return f"/srv/{Path(file).name}"
 
     def dpkg(self, *words):
         return self.run("dpkg", *words)
