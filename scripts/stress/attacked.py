@@ -2,7 +2,9 @@
 import subprocess
 import time
 
-from lib import Service, compare, demand, ending, prepared
+from lib import Service, compare, demand, ending, prepared, short
+from stress.shapes import LONGEST, WORST, filled, local_names, made, tree
+from stress.spent import spent
 
 
 def in_batch(program, said, limits=None, user="ann"):
@@ -61,3 +63,40 @@ LARGE = {  # three functions d, whose results have types of 4,095 nodes: equal h
               "function p3(x) = p2(p2(p2(p2(x))));", "function p4(x) = p3(p3(p3(p3(x))));",
               "function d(x) = p4(p4(p4(p4(p4(p4(p4(p3(p3(p3(p2(p2(p2(p1(p1(p1(p(p(p(x)))))))))))))))))));"],
 }
+
+
+# Lines that are hard to type.
+
+def over_names(count, call):
+    """The start and the end of what is answered to a function that calls another with each of its names, and the line."""
+    names = local_names(count)
+    line = f"function hh{tree(names)} = [{','.join(call.format(name) for name in names)}];"
+    return "hh : ((", ") -> [int]", line
+
+
+def hard_lines():
+    """Lines that took up to 26 s and 3.4 GB, each with what is said before and how its answer starts and ends."""
+    wide, many, fault = local_names(2000), local_names(2000), "fault type (work 0)"
+    sequences = LARGE["sequences"]
+    for count in (90, 500, 2000):
+        yield f"{count} names", sequences, *over_names(count, "#d({})")
+    yield "4,600 names", sequences, fault, "", over_names(4600, "#d({})")[2]
+    yield "400 trees", [f"function e{tree(wide)} = 1;"], fault, "", over_names(400, "e({})")[2]
+    yield "24,000 uses", [], "hh : ((", "]", filled(59_000, f"function hh{tree(many)} = [", many[:1], "];")
+    yield "a let", [], "hh : ((", "]", filled(59_000, f"function hh(x) = let {tree(many)} = x in [", many[:1], "];")
+    for title, (name, genes) in WORST.items():
+        before, line = made(name, LONGEST, genes)
+        yield title, before, "", "", line
+
+
+def typed_dearly(program, seconds, megabytes):
+    """What of the hard lines takes more, or is answered wrong; and the figures. A session is ended after 10 s."""
+    wrong, figures = [], []
+    for title, before, start, end, line in hard_lines():
+        took = spent([program, "batch", "ann"], before, line, 10)
+        figures.append(f"{title} {took.seconds:.2f} s, {took.megabytes:.0f} MB")
+        if took.seconds > seconds or took.megabytes > megabytes:
+            wrong.append(figures[-1])
+        elif not took.reply.startswith(start) or not took.reply.endswith(end):
+            wrong.append(f"{title}: {short(took.reply)}")
+    return wrong, "; ".join(figures)
