@@ -68,7 +68,7 @@ LARGE = {  # three functions d, whose results have types of 4,095 nodes: equal h
 # Lines that are hard to type.
 
 def over_names(count, call):
-    """The start and the end of what is answered to a function that calls another with each of its names, and the line."""
+    """A function that calls another with each of its names: how its answer starts and ends, and the line."""
     names = local_names(count)
     line = f"function hh{tree(names)} = [{','.join(call.format(name) for name in names)}];"
     return "hh : ((", ") -> [int]", line
@@ -90,9 +90,12 @@ def hard_lines():
 
 
 def typed_dearly(program, seconds, megabytes):
-    """What of the hard lines takes more, or is answered wrong; and the figures. A session is ended after 10 s."""
+    """The first three hard lines that take more or are answered wrong, and the figures of all until then. A session is
+    ended after 10 s."""
     wrong, figures = [], []
     for title, before, start, end, line in hard_lines():
+        if len(wrong) == 3:
+            break
         took = spent([program, "batch", "ann"], before, line, 10)
         figures.append(f"{title} {took.seconds:.2f} s, {took.megabytes:.0f} MB")
         if took.seconds > seconds or took.megabytes > megabytes:

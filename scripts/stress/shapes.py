@@ -94,8 +94,8 @@ def powers(kind, depth, name="zd"):
 
 
 def scheme(kind, nodes, names=2):
-    """Functions of which `zd` gives a type of so many nodes and more: of one variable, or of as many as there are names,
-    in the second case with a parameter of all."""
+    """Functions of which `zd` gives a type of about so many nodes: of one variable, or of as many as there are names,
+    in which case its parameter has all of them."""
     if kind in NODES:
         return powers(kind, max(1, min(nodes, MOST_NODES - 4) // NODES[kind]))
     if kind in ("twice", "both"):
@@ -379,8 +379,8 @@ def written_types(size, nodes, parts, kind, names):
     return before, filled(size, "function hh(x)=[", ["#[zrecord(x)]"] * parts, "];")
 
 
-@shape(length=(1, 60_000), leaves=(1, 2000), form=("function", "type", "empty"), side=("same", "many"))
-def long_replies(size, length, leaves, form, side):
+@shape(length=(1, 60_000), leaves=(1, 2000), form=("function", "type", "row"))
+def long_replies(size, length, leaves, form):
     """A type of many nodes whose datatypes have long names."""
     before = [f"datatype z{'y' * min(length, size - 30)} int;"]
     name = before[0].split()[1]
@@ -388,7 +388,8 @@ def long_replies(size, length, leaves, form, side):
     count = min(leaves, 2000)
     calls = tree(["x"] * count)
     before += [f"function zall(x) = let x = zone(1) in {calls};"]
-    return before, {"function": "function hh(x) = zall(x);", "type": ":type zall(1);", "empty": ":type [zall(1)];"}[form]
+    forms = {"function": "function hh(x) = zall(x);", "type": ":type zall(1);", "row": ":type [zall(1)];"}
+    return before, forms[form]
 
 
 # Sessions.

@@ -1,4 +1,5 @@
-"""What a line takes of a program that is at work: the processor's seconds and the memory, on top of the lines before."""
+"""What a line takes of a program that is at work: the processor's seconds, and the memory besides that of the lines
+before."""
 import os
 import resource
 import subprocess
