@@ -89,7 +89,7 @@ def hard_lines():
         yield title, before, "", "", line
 
 
-def typed_dearly(program, seconds, megabytes):
+def typed_slowly(program, seconds, megabytes):
     """The first three hard lines that take more or are answered wrong, and the figures of all until then. A session is
     ended after 10 s."""
     wrong, figures = [], []
