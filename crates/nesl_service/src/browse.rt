@@ -146,12 +146,17 @@ impl<
     fn attend_messages(&self, caller: Caller, stream: &TcpStream, first: Vec<u8>) -> Attended {
         let patience = self.terms.patience;
         let watch = Watch::new(self.rt, self.journal.is_counting());
+        let reader = MessageReader::new(self.rt, self.alloc, stream, first, patience);
+        let Ok(writer) = MessageWriter::new(self.rt, self.alloc, stream, patience) else {
+            reader.end();
+            return Attended::without_memory();
+        };
         let mut reader = Device::new(Timed {
-            reader: MessageReader::new(self.rt, self.alloc, stream, first, patience),
+            reader,
             watch: &watch,
         });
         let mut writer = Device::new(ObservedWriter {
-            writer: MessageWriter::new(self.rt, self.alloc, stream, patience),
+            writer,
             observer: AnswerObserver::new(&watch, self.journal, caller),
         });
         let served = self.serve(&mut reader, &mut writer);

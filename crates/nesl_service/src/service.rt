@@ -88,6 +88,20 @@ pub(crate) struct Attended {
     pub(crate) missed: Option<Missed>,
 }
 
+impl Attended {
+    /// Of a connection for whose answers there was no memory.
+    pub(crate) fn without_memory() -> Attended {
+        Attended {
+            served: Served {
+                lines: 0,
+                receipt: None,
+                end: End::NoMemory,
+            },
+            missed: None,
+        }
+    }
+}
+
 /// What the threads of a service share.
 #[derive_where(Clone, Copy)]
 pub(crate) struct Service<'x, R, L: Ledger, G, J> {
@@ -135,15 +149,7 @@ impl<
             observer: AnswerObserver::new(&watch, self.journal, caller),
         };
         let Ok(writer) = BufWriter::with_capacity(self.alloc, ANSWER_BYTES, observed) else {
-            let served = Served {
-                lines: 0,
-                receipt: None,
-                end: End::NoMemory,
-            };
-            return Attended {
-                served,
-                missed: None,
-            };
+            return Attended::without_memory();
         };
         let mut reader = Device::new(Reader::new(self.rt, stream, &watch, patience));
         let mut writer = Device::new(writer);

@@ -4,6 +4,7 @@
 pub mod access;
 pub mod answer;
 pub mod files;
+pub mod frames;
 pub mod greet;
 pub mod head;
 pub mod lines;

@@ -1,13 +1,14 @@
 //! Lines and answers, a message for each.
 
-use crate::messages::{Incoming, Outgoing};
+use crate::frames::FrameWriter;
+use crate::messages::Incoming;
 use crate::rest::Rest;
-use crate::wire::is_late;
-use std::alloc::Global;
-use std::io::{ErrorKind, Read, Write};
+use crate::wire::{Wire, is_late};
+use std::alloc::{AllocError, Global};
+use std::io;
+use std::io::{Read, Write};
 use std::net::TcpStream;
 use std::time::{Clock, Duration};
-use std::{io, mem};
 
 /// How long a line may take to come.
 #[derive(Clone, Copy, PartialEq, Eq, Debug)]
@@ -123,60 +124,50 @@ impl<R: Clock> Read for MessageReader<'_, R> {
 /// The answers on a WebSocket: what is written until a flush is one message, without its line end.
 #[derive(Drop)]
 pub struct MessageWriter<'s, R> {
-    messages: Outgoing<'s, R>,
-    alloc: Global,
-    text: Vec<u8>,
+    frames: FrameWriter<Wire<'s, R>>,
     /// Whether an answer wasn't taken in time.
     is_late: bool,
 }
 
 impl<'s, R: Clock> MessageWriter<'s, R> {
-    /// Nothing was written yet.
+    /// Nothing was written yet. What it needs of memory it takes now.
     pub fn new(
         rt: &'s R,
         alloc: Global,
         stream: &'s TcpStream,
         patience: Patience,
-    ) -> MessageWriter<'s, R> {
-        MessageWriter {
-            messages: Outgoing::new(rt, alloc, stream, patience.idle),
-            alloc,
-            text: Vec::new(alloc),
+    ) -> Result<MessageWriter<'s, R>, AllocError> {
+        let wire = Wire::new(rt, stream, patience.idle);
+        Ok(MessageWriter {
+            frames: FrameWriter::new(alloc, wire)?,
             is_late: false,
-        }
+        })
     }
 
     /// Whether an answer wasn't taken in time.
     pub fn is_late(&self) -> bool {
         self.is_late
     }
+}
 
-    // Sends a text as a message.
-    fn send(&mut self, text: String) -> io::Result<()> {
-        match self.messages.send(text) {
-            Ok(()) => Ok(()),
+impl<R: Clock> Write for MessageWriter<'_, R> {
+    fn write(&mut self, buf: &[u8]) -> io::Result<usize> {
+        match self.frames.write(buf) {
+            Ok(taken) => Ok(taken),
             Err(error) => {
                 self.is_late = is_late(&error);
                 Err(error)
             }
         }
     }
-}
-
-impl<R: Clock> Write for MessageWriter<'_, R> {
-    fn write(&mut self, buf: &[u8]) -> io::Result<usize> {
-        self.text.extend_from_slice(buf)?;
-        Ok(buf.len())
-    }
 
     fn flush(&mut self) -> io::Result<()> {
-        let mut text = mem::replace(&mut self.text, Vec::new(self.alloc));
-        if text.last() == Some(&b'\n') {
-            text.pop();
-        }
-        match String::from_utf8(text) {
-            Ok(text) => self.send(text),
-            Err(_) => Err(io::Error::from(ErrorKind::InvalidData)),
+        match self.frames.flush() {
+            Ok(()) => Ok(()),
+            Err(error) => {
+                self.is_late = is_late(&error);
+                Err(error)
+            }
         }
     }
 }

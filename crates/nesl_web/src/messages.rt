@@ -164,38 +164,6 @@ impl<'s, R: Clock> Incoming<'s, R> {
     }
 }
 
-/// The messages that go out on a WebSocket, which `Incoming` reads.
-#[derive(Drop)]
-pub struct Outgoing<'s, R> {
-    rt: &'s R,
-    socket: WebSocket<Wire<'s, R>, NoMask>,
-}
-
-impl<'s, R: Clock> Outgoing<'s, R> {
-    /// Those of a connection that has begun. A piece of one may take as long as `idle`.
-    pub fn new(
-        rt: &'s R,
-        alloc: Global,
-        stream: &'s TcpStream,
-        idle: Option<Duration>,
-    ) -> Outgoing<'s, R> {
-        let wire = Wire::new(rt, stream, idle);
-        let socket = WebSocket::from_raw_socket(alloc, wire, NoMask, Role::Server, None);
-        Outgoing { rt, socket }
-    }
-
-    /// Sends one message.
-    pub fn send(&mut self, text: String) -> io::Result<()> {
-        let Ok(text) = Utf8Bytes::from_string(text) else {
-            return Err(lost());
-        };
-        match self.socket.send(Message::Text(text)) {
-            Ok(()) => Ok(()),
-            Err(error) => Err(failure_of(error)),
-        }
-    }
-}
-
 // A message could not be read or sent.
 fn lost() -> io::Error {
     io::Error::from(ErrorKind::ConnectionAborted)

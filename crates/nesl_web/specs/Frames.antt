@@ -1,0 +1,16 @@
+-- The frames of a text that a server sends.
+use Rattle.std.specs.Prelude.{Bool, cond, false, None}
+use Rattle.websocket.specs.declared.protocol.frame.header.FrameHeader.{FrameHeader}
+use Rattle.websocket.specs.declared.protocol.frame.coding.OpCode.TheVariants as opcode
+use Rattle.websocket.specs.declared.protocol.frame.coding.Data.TheVariants.{Continue, Text}
+
+-- the head of a frame, which is the last one of its text or not, and before which another was sent or not
+abbrev pub text_header : (is_last is_begun : Bool) → FrameHeader
+text_header is_last is_begun = record {
+  is_final = is_last;
+  rsv1 = false;
+  rsv2 = false;
+  rsv3 = false;
+  opcode = opcode.Data (cond is_begun Continue Text);
+  mask = None;
+}
