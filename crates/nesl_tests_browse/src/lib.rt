@@ -6,6 +6,8 @@ mod browser;
 #[cfg(test)]
 mod conversations;
 #[cfg(test)]
+mod frames;
+#[cfg(test)]
 mod heads;
 #[cfg(test)]
 mod requests;

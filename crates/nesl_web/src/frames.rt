@@ -1,5 +1,5 @@
 //! Texts that go out on a WebSocket, frame by frame.
-ghost use Rattle.std.specs.Prelude.{◌≡◌, [], false, length, take, IfOk, OnOk};
+ghost use Rattle.std.specs.Prelude.{◌≡◌, [], false, true, not, length, take, IfOk, OnOk};
 ghost use Rattle.std.specs.Io.{WritesAtMost};
 ghost use Rattle.std.specs.Io.KnownBytes.{Appends};
 ghost use Rattle.websocket.specs.Frame.{encode_frame};
@@ -63,6 +63,7 @@ impl<W: Write> FrameWriter<W> {
         ensures sent { OnOk result (Appends (W.contents self.old.writer) (W.contents self.new.writer)
             (encode_frame (text_header is_last self.old.is_begun) self.old.gathered.items)) }
         ensures rest { OnOk result (self.new.gathered.items ≡ []) }
+        ensures begun { OnOk result (self.new.is_begun ≡ not is_last) }
     {
         check_text(self.gathered.as_slice())?;
         let header = text_header(is_last, self.is_begun);
@@ -78,6 +79,7 @@ impl<W: Write> FrameWriter<W> {
         ensures bound { WritesAtMost result text.now }
         ensures sent { IfOk result (λ count. Appends (W.contents self.old.writer) (W.contents self.new.writer)
             (encode_frame (text_header false self.old.is_begun) (take count text.now))) }
+        ensures begun { OnOk result (self.new.is_begun ≡ true) }
     {
         let front = front_of(text)?;
         let header = text_header(false, self.is_begun);
@@ -119,11 +121,7 @@ impl<W: Write> Write for FrameWriter<W> {
 fn text_header(is_last: bool, is_begun: bool) -> FrameHeader
     ensures { result ≡ text_header is_last is_begun }
 {
-    let kind = if is_begun {
-        Data::Continue
-    } else {
-        Data::Text
-    };
+    let kind = if is_begun { Data::Continue } else { Data::Text };
     FrameHeader {
         is_final: is_last,
         ..FrameHeader::new(OpCode::Data(kind), None)
