@@ -3,6 +3,7 @@
 
 use crate::log::Log;
 use crate::stats::{Replace, Stats};
+use nesl_service_journal::accepting::AcceptFault;
 use nesl_service_journal::counters::Counters;
 use nesl_service_journal::journal::{Answered, Caller, Journal, Seat, Visit};
 use std::io;
@@ -93,5 +94,11 @@ impl<R: Print + Wait + Clock> Journal for Host<'_, R> {
 
     fn asked(&self, is_granted: bool) {
         self.counters.asked(is_granted);
+    }
+
+    fn accept_failed(&self, fault: AcceptFault) {
+        if let Some(log) = &self.log {
+            self.counters.told(log.tell_fault(fault));
+        }
     }
 }

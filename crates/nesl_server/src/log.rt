@@ -2,6 +2,7 @@
 
 use crossbeam_channel::{Receiver, Sender, bounded};
 use jiff_core::civil::DateTime;
+use nesl_service_journal::accepting::AcceptFault;
 use nesl_service_journal::journal::{Caller, Seat, Visit};
 use std::alloc::{AllocError, Global};
 use std::io::Eprint;
@@ -122,9 +123,20 @@ impl<R: Wait + Clock> Log<'_, R> {
         self.tell(caller, describe_end(self.alloc, visit))
     }
 
-    // Hands a line to the thread that writes them.
+    /// Tells why no connection is taken up any more.
+    pub fn tell_fault(&self, fault: AcceptFault) -> bool {
+        let stamp = Stamp::now(self.rt);
+        self.hand_on(format!(in self.alloc; "{stamp} {fault}"))
+    }
+
+    // Tells something of a connection.
     fn tell(&self, caller: Caller, what: Result<String, AllocError>) -> bool {
-        let is_told = match self.make_line(caller, what) {
+        self.hand_on(self.make_line(caller, what))
+    }
+
+    // Hands a line to the thread that writes them.
+    fn hand_on(&self, line: Result<String, AllocError>) -> bool {
+        let is_told = match line {
             Ok(line) => self.to.try_send(self.rt, line).is_ok(),
             Err(_) => false,
         };

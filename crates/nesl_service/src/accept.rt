@@ -4,6 +4,7 @@ use std::io::ErrorKind;
 use std::net::{Shutdown, TcpListener, TcpStream};
 use std::os::fd::OwnedFd;
 use std::sync::Wait;
+use std::sync::atomic::{AtomicU64, Ordering};
 use std::time::{Clock, Duration};
 use std::{io, thread};
 
@@ -32,12 +33,22 @@ pub(crate) struct Acceptor<'x> {
     listener: &'x TcpListener,
     /// The listener's socket once more, by which waiting for connections is ended.
     closer: TcpStream,
+    /// After how many connections no further one is let in.
+    most: u64,
+    /// How many were taken up.
+    taken: AtomicU64,
 }
 
 impl<'x> Acceptor<'x> {
-    pub(crate) fn new(listener: &'x TcpListener) -> io::Result<Acceptor<'x>> {
+    /// Takes up so many connections, or as many as come.
+    pub(crate) fn new(listener: &'x TcpListener, most: Option<u64>) -> io::Result<Acceptor<'x>> {
         let closer = TcpStream::from(OwnedFd::from(listener.try_clone()?));
-        Ok(Acceptor { listener, closer })
+        Ok(Acceptor {
+            listener,
+            closer,
+            most: most.unwrap_or(u64::MAX),
+            taken: AtomicU64::new(0),
+        })
     }
 
     /// Ends each wait for a connection, and lets none begin.
@@ -46,12 +57,14 @@ impl<'x> Acceptor<'x> {
     }
 
     /// Waits for the next connection. What the system lacks, another process may have: so it is asked again for a
-    /// minute. One that was gone before it was taken up, or failed, doesn't count.
+    /// minute. One that was gone before it was taken up, or failed, doesn't count. After the last that is taken up the
+    /// port is closed, so that nobody connects whom nobody answers.
     pub(crate) fn next<R: Wait + Clock>(&self, rt: &R) -> io::Result<Accepted> {
         let mut pauses = 0;
         for _ in rt.forever() {
             match self.listener.accept() {
                 Ok((stream, address)) => {
+                    self.count();
                     return Ok(Accepted {
                         stream,
                         port: address.port(),
@@ -66,6 +79,14 @@ impl<'x> Acceptor<'x> {
             }
         }
         Err(io::Error::from(ErrorKind::TimedOut))
+    }
+
+    // One more connection was taken up.
+    fn count(&self) {
+        let before = self.taken.fetch_add(1, Ordering::SeqCst);
+        if before.saturating_add(1) == self.most {
+            self.close();
+        }
     }
 }
 

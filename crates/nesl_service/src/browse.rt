@@ -2,25 +2,28 @@
 
 use crate::accept::{Accepted, Acceptor};
 use crate::service::{Attended, Service};
+use crate::wire::Patience;
 use nesl_line::device::Device;
 use nesl_line::exchange::End;
-use nesl_service_counts::numbers::Fault;
+use nesl_service_journal::accepting::AcceptFault;
 use nesl_service_journal::answers::{AnswerObserver, ObservedWriter};
 use nesl_service_journal::journal::{Caller, Journal, Missed};
 use nesl_service_journal::watch::{Timed, Watch};
 use nesl_split_helpers::Gate;
 use nesl_web::greet::{Greeted, greet};
 use nesl_web::lines::{MessageReader, MessageWriter};
+use nesl_web::wire::{BROWSER_DRAIN, REFUSED_DRAIN};
 use std::io;
 use std::net::{TcpListener, TcpStream};
 use std::sync::Wait;
 use std::sync::atomic::{AtomicU64, Ordering};
 use std::sync::ledger::Ledger;
 use std::thread::Threads;
-use std::time::{Clock, Instant};
+use std::time::{Clock, Duration, Instant};
 
 /// Where browsers connect, by which name they are let in beside those by which each machine calls itself, if there is
-/// one, and how many threads serve them.
+/// one, and how many threads serve those who are seated and the page's files. As many again are there for connections
+/// that are not seated yet.
 #[derive(Clone, Copy)]
 pub struct Page<'x> {
     pub listener: &'x TcpListener,
@@ -40,23 +43,26 @@ pub(crate) struct PageAcceptor<'x> {
     ended: AtomicU64,
     /// How many WebSockets have begun.
     sessions: AtomicU64,
+    /// How many connections are there.
+    there: AtomicU64,
 }
 
 impl<'x> PageAcceptor<'x> {
     pub(crate) fn new(page: Page<'x>) -> io::Result<PageAcceptor<'x>> {
         Ok(PageAcceptor {
-            acceptor: Acceptor::new(page.listener)?,
+            acceptor: Acceptor::new(page.listener, None)?,
             host: page.host,
             threads: page.threads,
             begun: AtomicU64::new(0),
             ended: AtomicU64::new(0),
             sessions: AtomicU64::new(0),
+            there: AtomicU64::new(0),
         })
     }
 
     /// How many threads it wants.
     pub(crate) fn threads(&self) -> usize {
-        self.threads
+        self.threads.saturating_mul(2)
     }
 
     /// One more thread has begun. The answer is whether it serves browsers: so many serve the lines' connections.
@@ -75,6 +81,21 @@ impl<'x> PageAcceptor<'x> {
     /// No browser is let in any more.
     pub(crate) fn close(&self) {
         self.acceptor.close();
+    }
+
+    // One more connection is there. The answer is how long it is waited for: where half of the threads have one
+    // already, a head and a first line together may take a tenth of the time, so that strangers keep nobody waiting.
+    fn enter(&self, patience: Patience) -> Patience {
+        if self.there.fetch_add(1, Ordering::SeqCst) < self.threads as u64 {
+            patience
+        } else {
+            patience.hurried()
+        }
+    }
+
+    // A connection is there no more.
+    fn exit(&self) {
+        self.there.fetch_sub(1, Ordering::SeqCst);
     }
 
     // Whether all threads of so many for the lines' connections have ended.
@@ -105,9 +126,9 @@ impl<
             }
             match page.acceptor.next(self.rt) {
                 Ok(accepted) => self.receive(page, &accepted),
-                Err(_) => {
-                    if !page.is_over(self.terms.threads) && !self.has_ended() {
-                        self.end(Fault::Socket);
+                Err(error) => {
+                    if !page.is_over(self.terms.threads) {
+                        self.end_by(AcceptFault::new(&error, true));
                     }
                     break;
                 }
@@ -116,39 +137,66 @@ impl<
     }
 
     // Reads what a browser asks for, and answers it.
-    fn greet(&self, page: &PageAcceptor<'_>, stream: &TcpStream) -> io::Result<Greeted> {
-        let idle = self.terms.patience.idle;
+    fn greet(
+        &self,
+        page: &PageAcceptor<'_>,
+        stream: &TcpStream,
+        patience: Patience,
+    ) -> io::Result<Greeted> {
         match page.host {
-            Some(name) => greet(self.rt, self.alloc, stream, &[name], idle),
-            None => greet(self.rt, self.alloc, stream, &[], idle),
+            Some(name) => greet(self.rt, self.alloc, stream, &[name], patience),
+            None => greet(self.rt, self.alloc, stream, &[], patience),
         }
     }
 
-    // Receives a browser: it is shown a file of the page, or is served as a user, or neither.
+    // Receives a browser, and counts it for as long.
     fn receive(&self, page: &PageAcceptor<'_>, accepted: &Accepted) {
+        let patience = page.enter(self.terms.patience);
+        self.receive_within(page, accepted, patience);
+        page.exit();
+    }
+
+    // Receives a browser: it is shown a file of the page, or is served as a user, or neither.
+    fn receive_within(&self, page: &PageAcceptor<'_>, accepted: &Accepted, patience: Patience) {
         let stream = &accepted.stream;
+        let since = Instant::now(self.rt).ok();
         // An answer is sent at once, where the system can.
         let _ = stream.set_nodelay(true).is_ok();
-        if let Ok(Greeted::Session(first)) = self.greet(page, stream) {
+        if let Ok(Greeted::Session(first)) = self.greet(page, stream, patience) {
             let caller = Caller {
                 number: page.next_session(),
                 port: accepted.port,
                 is_web: true,
             };
             self.journal.begun(caller);
-            let since = Instant::now(self.rt).ok();
-            let attended = self.attend_messages(caller, stream, first);
-            self.settle(caller, since, &attended);
+            let begun = Instant::now(self.rt).ok();
+            let left = self.after_head(patience, since);
+            let attended = self.attend_messages(caller, stream, first, left);
+            self.settle(caller, begun, &attended);
         }
     }
 
+    // How long a first line may take whose connection came at this time.
+    fn after_head(&self, patience: Patience, since: Option<Instant>) -> Patience {
+        let took = match since {
+            Some(since) => since.elapsed(self.rt).ok(),
+            None => None,
+        };
+        patience.after(took.unwrap_or(Duration::ZERO))
+    }
+
     // Serves the messages of one connection; `first` came behind its head.
-    fn attend_messages(&self, caller: Caller, stream: &TcpStream, first: Vec<u8>) -> Attended {
-        let patience = self.terms.patience;
+    fn attend_messages(
+        &self,
+        caller: Caller,
+        stream: &TcpStream,
+        first: Vec<u8>,
+        patience: Patience,
+    ) -> Attended {
         let watch = Watch::new(self.rt, self.journal.is_counting());
         let reader = MessageReader::new(self.rt, self.alloc, stream, first, patience);
         let Ok(writer) = MessageWriter::new(self.rt, self.alloc, stream, patience) else {
-            reader.end();
+            reader.end(REFUSED_DRAIN);
             return Attended::without_memory();
         };
         let mut reader = Device::new(Timed {
@@ -163,9 +211,13 @@ impl<
         let Timed { reader, .. } = reader.into_inner();
         let ObservedWriter { writer, .. } = writer.into_inner();
         let missed = missed_by(&reader).or(untaken_by(&writer));
+        let limits = match served.receipt {
+            Some(_) => BROWSER_DRAIN,
+            None => REFUSED_DRAIN,
+        };
         // What could not be written whole is followed by nothing.
         if served.end != End::WriteFault {
-            reader.end();
+            reader.end(limits);
         }
         Attended { served, missed }
     }

@@ -12,6 +12,7 @@ use nesl_line::exchange::End;
 use nesl_line::serve::{Served, serve};
 use nesl_service_counts::numbers::{Fault, Numbers};
 use nesl_service_counts::receipts::Receipts;
+use nesl_service_journal::accepting::AcceptFault;
 use nesl_service_journal::answers::{AnswerObserver, ObservedWriter};
 use nesl_service_journal::asking::Told;
 use nesl_service_journal::journal::{Caller, Ending, Journal, Missed, NoJournal, Visit};
@@ -135,8 +136,16 @@ impl<
         }
     }
 
-    /// Whether a fault ended the numbers.
-    pub(crate) fn has_ended(&self) -> bool {
+    /// No connection can be taken up: that ends the numbers, and is told, if they haven't ended by a fault.
+    pub(crate) fn end_by(&self, fault: AcceptFault) {
+        if !self.has_ended() {
+            self.journal.accept_failed(fault);
+            self.end(Fault::Socket);
+        }
+    }
+
+    // Whether a fault ended the numbers.
+    fn has_ended(&self) -> bool {
         self.numbers.lock(self.rt).fault.is_some()
     }
 
@@ -231,10 +240,8 @@ impl<
     fn next_accepted(&self) -> Option<Accepted> {
         match self.acceptor.next(self.rt) {
             Ok(accepted) => Some(accepted),
-            Err(_) => {
-                if !self.has_ended() {
-                    self.end(Fault::Socket);
-                }
+            Err(error) => {
+                self.end_by(AcceptFault::new(&error, false));
                 None
             }
         }
@@ -353,7 +360,7 @@ fn serve_in<
         alloc,
         listener,
     } = site;
-    let Ok(acceptor) = Acceptor::new(listener) else {
+    let Ok(acceptor) = Acceptor::new(listener, terms.connections) else {
         return Err(ServeFault::Socket);
     };
     let Ok(page) = page_acceptor_of(page) else {

@@ -2,6 +2,7 @@
 ghost use Rattle.std.specs.Prelude.{◌≡◌};
 ghost use Rattle.nesl_service_journal.specs.Ends.{ending_of};
 
+use crate::accepting::AcceptFault;
 use nesl_line::exchange::End;
 use std::time::Duration;
 
@@ -141,6 +142,9 @@ pub trait Journal {
 
     /// A helper was asked for.
     fn asked(&self, is_granted: bool);
+
+    /// No connection is taken up any more, as that has failed for good. Who keeps no log is not concerned.
+    fn accept_failed(&self, _fault: AcceptFault) {}
 }
 
 /// Writes nothing down.

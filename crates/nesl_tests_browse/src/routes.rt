@@ -9,6 +9,7 @@ fn status_of(alloc: Global, request: &str) -> Result<u16, AllocError> {
     let given = [b"page.example.org".as_slice()];
     Ok(match route_for(alloc, &given, request.as_bytes())? {
         Route::Page(_) => 200,
+        Route::Methods => 204,
         Route::Session { .. } => 101,
         Route::Refused(refusal) => refusal.status(),
     })
@@ -100,7 +101,17 @@ GET /../main.js HTTP/1.1 | Host: localhost => 404
 GET //main.js HTTP/1.1 | Host: localhost => 404
 GET http://localhost/ HTTP/1.1 | Host: localhost => 404
 POST / HTTP/1.1 | Host: localhost => 405
-HEAD /main.js HTTP/1.1 | Host: localhost => 405
+HEAD /main.js HTTP/1.1 | Host: localhost => 200
+HEAD /nothing HTTP/1.1 | Host: localhost => 404
+HEAD /session HTTP/1.1 | Host: localhost => 400
+HEAD / HTTP/1.1 | Host: example.org => 403
+OPTIONS / HTTP/1.1 | Host: localhost => 204
+OPTIONS * HTTP/1.1 | Host: localhost => 204
+OPTIONS /session HTTP/1.1 | Host: localhost => 204
+OPTIONS /nothing HTTP/1.1 | Host: localhost => 404
+OPTIONS / HTTP/1.1 | Host: localhost | Origin: http://evil.example => 403
+GET * HTTP/1.1 | Host: localhost => 404
+options / HTTP/1.1 | Host: localhost => 405
 get / HTTP/1.1 | Host: localhost => 405
 POST /nothing HTTP/1.1 | Host: localhost => 404
 POST /session HTTP/1.1 | Host: localhost => 405
@@ -129,6 +140,8 @@ Connection: Upgrade | Upgrade: websocket | Sec-WebSocket-Version: 13 | Origin: h
 Connection: keep-alive | Upgrade: websocket | Sec-WebSocket-Version: 13 => 400
 Connection: Upgrade | Upgrade: h2c | Sec-WebSocket-Version: 13 => 400
 Connection: Upgrade | Upgrade: websocket | Sec-WebSocket-Version: 12 => 400
+Connection: Upgrade | Upgrade: websocket | Sec-WebSocket-Version: 13 | Sec-WebSocket-Key: dGhlIHNhbXBsZSBub25jZQ== => 400
+Connection: Upgrade | Upgrade: websocket | Sec-WebSocket-Version: 13 | sec-websocket-key: AQIDBAUGBwgJCgsMDQ4PEA== => 400
 Connection: Upgrade | Upgrade: websocket => 400";
 
 #[test]

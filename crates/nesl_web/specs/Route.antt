@@ -4,7 +4,7 @@ use Rattle.httparse.specs.Grammar.{ReadsRequest, RequestHead}
 use Rattle.httparse.specs.Spans.{name_and_value}
 use Rattle.nesl_web.specs.Access.{IsAllowed, values_of}
 use Rattle.nesl_web.specs.declared.route.Route.{Route}
-use Rattle.nesl_web.specs.declared.route.Route.TheVariants.{Page, Session, Refused}
+use Rattle.nesl_web.specs.declared.route.Route.TheVariants.{Page, Methods, Session, Refused}
 
 -- these bytes begin with the head of a request
 pub record HasHead (bytes : List ℕ) : Type 0 where
@@ -26,5 +26,6 @@ pub record BeginAllowed (given : List (List ℕ)) (bytes : List ℕ) : Type 0 wh
 -- by what a request came to: it was let in only where it is allowed
 abbrev pub LetsIn : List (List ℕ) → List ℕ → Route → Type 0
 LetsIn given bytes (Page file) = BeginAllowed given bytes
+LetsIn given bytes Methods = BeginAllowed given bytes
 LetsIn given bytes (Session accept_key head_bytes) = BeginAllowed given bytes
 LetsIn given bytes (Refused refusal) = Unit {0}

@@ -13,7 +13,7 @@ pub enum Refusal {
     /// It was sent for another host, or by another page.
     Forbidden,
     NotFound,
-    /// Another method than GET.
+    /// Another method than these that there are.
     Method,
     /// Its head took too long.
     Slow,
@@ -46,6 +46,13 @@ impl Refusal {
     }
 }
 
+/// Whether the text of an answer is sent, or left out as HEAD asks for it.
+#[derive(Clone, Copy, PartialEq, Eq, Debug)]
+pub enum Content {
+    Sent,
+    LeftOut,
+}
+
 /// What a page may do that has this policy: it loads files of its own and connects to where it came from, and nothing
 /// else; and no other page shows it within itself.
 const POLICY: &[u8] =
@@ -73,6 +80,16 @@ const REFERRER_FIELD: Header<'static> = Header {
     value: b"no-referrer",
 };
 
+const ALLOW_FIELD: Header<'static> = Header {
+    name: b"Allow",
+    value: b"GET, HEAD, OPTIONS",
+};
+
+const CLOSE_FIELD: Header<'static> = Header {
+    name: b"Connection",
+    value: b"close",
+};
+
 // The fields of an answer with a text of this kind, but for the text's length.
 fn text_fields(kind: &'static str) -> [Header<'static>; 7] {
     [
@@ -84,14 +101,8 @@ fn text_fields(kind: &'static str) -> [Header<'static>; 7] {
             name: b"Content-Type",
             value: kind.as_bytes(),
         },
-        Header {
-            name: b"Allow",
-            value: b"GET",
-        },
-        Header {
-            name: b"Connection",
-            value: b"close",
-        },
+        ALLOW_FIELD,
+        CLOSE_FIELD,
     ]
 }
 
@@ -147,8 +158,24 @@ pub fn file_head(alloc: Global, file: File) -> Result<Vec<u8>, WriteError> {
     text_head(alloc, 200, "OK", file.kind, file.text.len())
 }
 
-/// The answer that refuses a request.
-pub fn refusal_answer(alloc: Global, refusal: Refusal) -> Result<Vec<u8>, WriteError> {
+/// The answer that tells which methods there are, and has no text.
+pub fn methods_answer(alloc: Global) -> Result<Vec<u8>, WriteError> {
+    let fields = [
+        POLICY_FIELD,
+        TYPE_FIELD,
+        CACHE_FIELD,
+        REFERRER_FIELD,
+        ALLOW_FIELD,
+    ];
+    write_head(alloc, 204, "No Content", &fields, CLOSE_FIELD)
+}
+
+/// The answer that refuses a request, with its text or without.
+pub fn refusal_answer(
+    alloc: Global,
+    refusal: Refusal,
+    content: Content,
+) -> Result<Vec<u8>, WriteError> {
     let words = refusal.words();
     let text = format!(in alloc; "{words}\n")?;
     let mut bytes = text_head(
@@ -158,7 +185,9 @@ pub fn refusal_answer(alloc: Global, refusal: Refusal) -> Result<Vec<u8>, WriteE
         "text/plain; charset=utf-8",
         text.len(),
     )?;
-    bytes.extend_from_slice(text.as_bytes())?;
+    if content == Content::Sent {
+        bytes.extend_from_slice(text.as_bytes())?;
+    }
     Ok(bytes)
 }
 

@@ -1,18 +1,19 @@
 //! A connection of a browser, as it begins.
 
-use crate::answer::{Refusal, file_head, refusal_answer, upgrade_answer};
+use crate::answer::{Content, Refusal, file_head, methods_answer, refusal_answer, upgrade_answer};
 use crate::files::File;
 use crate::head::{HeadFault, read_head};
-use crate::route::{Route, route_for};
-use crate::wire::{BROWSER_DRAIN, Wire};
+use crate::lines::Patience;
+use crate::route::{Route, content_for, route_for};
+use crate::wire::{BROWSER_DRAIN, DrainLimits, REFUSED_DRAIN, Wire};
 use std::alloc::Global;
 use std::io;
 use std::io::{ErrorKind, Write};
 use std::net::TcpStream;
 use std::time::{Clock, Duration};
 
-/// How many seconds a head may take to come, and a piece of an answer to be taken.
-const HEAD_SECONDS: u64 = 10;
+/// How many seconds a piece of an answer may take to be taken that is no WebSocket's.
+const PIECE_SECONDS: u64 = 10;
 
 /// What became of a connection.
 #[derive(Drop)]
@@ -24,30 +25,33 @@ pub enum Greeted {
 }
 
 /// Reads what a browser asks for, and answers it. The names of the host that were `given` are let in beside those by
-/// which each machine calls itself. On a WebSocket a piece of an answer may take as long as `idle`.
+/// which each machine calls itself. The head may take as long as a first line, and on a WebSocket a piece of an answer
+/// as long as a line.
 pub fn greet<'s, R: Clock>(
     rt: &'s R,
     alloc: Global,
     stream: &'s TcpStream,
     given: &[&[u8]],
-    idle: Option<Duration>,
+    patience: Patience,
 ) -> io::Result<Greeted> {
-    let time = Some(Duration::from_secs(HEAD_SECONDS));
-    let mut wire = Wire::new(rt, stream, time);
-    wire.wait(time)?;
+    let mut wire = Wire::new(rt, stream, Some(Duration::from_secs(PIECE_SECONDS)));
+    wire.wait(Some(patience.first_line))?;
     match read_head(alloc, &mut wire) {
         Ok(bytes) => match route_for(alloc, given, bytes.as_slice())? {
-            Route::Page(file) => send_file(alloc, wire, file),
-            Route::Refused(refusal) => refuse(alloc, wire, refusal),
             Route::Session {
                 accept_key,
                 head_bytes,
             } => {
-                wire.set_write_limit(idle)?;
+                wire.set_write_limit(patience.idle)?;
                 accept_session(alloc, wire, &accept_key, bytes, head_bytes)
             }
+            Route::Page(file) => send_file(alloc, wire, file, content_for(bytes.as_slice())),
+            Route::Methods => tell_methods(alloc, wire),
+            Route::Refused(refusal) => {
+                refuse(alloc, wire, refusal, content_for(bytes.as_slice()))
+            }
         },
-        Err(HeadFault::Refused(refusal)) => refuse(alloc, wire, refusal),
+        Err(HeadFault::Refused(refusal)) => refuse(alloc, wire, refusal, Content::Sent),
         Err(HeadFault::Lost) => Err(lost()),
     }
 }
@@ -57,25 +61,50 @@ fn lost() -> io::Error {
     io::Error::from(ErrorKind::ConnectionAborted)
 }
 
-// Sends a file of the page, and ends.
-fn send_file<R: Clock>(alloc: Global, mut wire: Wire<'_, R>, file: File) -> io::Result<Greeted> {
+// Sends a file of the page, or what is told of it, and ends.
+fn send_file<R: Clock>(
+    alloc: Global,
+    mut wire: Wire<'_, R>,
+    file: File,
+    content: Content,
+) -> io::Result<Greeted> {
     let Ok(head) = file_head(alloc, file) else {
         return Err(lost());
     };
     wire.write_all(head.as_slice())?;
-    wire.write_all(file.text.as_bytes())?;
-    let _ = wire.drain_after_shutdown(BROWSER_DRAIN).is_ok();
-    Ok(Greeted::Answered(200))
+    if content == Content::Sent {
+        wire.write_all(file.text.as_bytes())?;
+    }
+    Ok(finish(wire, 200, BROWSER_DRAIN))
 }
 
-// Says why a request is refused, and ends.
-fn refuse<R: Clock>(alloc: Global, mut wire: Wire<'_, R>, refusal: Refusal) -> io::Result<Greeted> {
-    let Ok(answer) = refusal_answer(alloc, refusal) else {
+// Tells which methods there are, and ends.
+fn tell_methods<R: Clock>(alloc: Global, mut wire: Wire<'_, R>) -> io::Result<Greeted> {
+    let Ok(answer) = methods_answer(alloc) else {
         return Err(lost());
     };
     wire.write_all(answer.as_slice())?;
-    let _ = wire.drain_after_shutdown(BROWSER_DRAIN).is_ok();
-    Ok(Greeted::Answered(refusal.status()))
+    Ok(finish(wire, 204, REFUSED_DRAIN))
+}
+
+// Says why a request is refused, and ends.
+fn refuse<R: Clock>(
+    alloc: Global,
+    mut wire: Wire<'_, R>,
+    refusal: Refusal,
+    content: Content,
+) -> io::Result<Greeted> {
+    let Ok(answer) = refusal_answer(alloc, refusal, content) else {
+        return Err(lost());
+    };
+    wire.write_all(answer.as_slice())?;
+    Ok(finish(wire, refusal.status(), REFUSED_DRAIN))
+}
+
+// Ends a connection that was answered with this status.
+fn finish<R: Clock>(mut wire: Wire<'_, R>, status: u16, limits: DrainLimits) -> Greeted {
+    let _ = wire.drain_after_shutdown(limits).is_ok();
+    Greeted::Answered(status)
 }
 
 // Accepts a WebSocket. Of these bytes so many are the head of its request.

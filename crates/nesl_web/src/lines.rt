@@ -1,9 +1,11 @@
 //! Lines and answers, a message for each.
+ghost use Rattle.std.specs.Prelude.{◌≡◌, ◌-◌, ◌/◌};
+ghost use Rattle.std.specs.Duration.{as_nanos};
 
 use crate::frames::FrameWriter;
 use crate::messages::Incoming;
 use crate::rest::Rest;
-use crate::wire::{Wire, is_late};
+use crate::wire::{DrainLimits, Wire, is_late};
 use std::alloc::{AllocError, Global};
 use std::io;
 use std::io::{Read, Write};
@@ -17,6 +19,33 @@ pub struct Patience {
     pub first_line: Duration,
     /// Until each after that has come, and until each piece of an answer is taken; without bound where there is none.
     pub idle: Option<Duration>,
+}
+
+/// What part of its time a first line has in a hurry.
+const HURRIED_PART: u32 = 10;
+
+impl Patience {
+    /// In a hurry: a first line may take a tenth of its time.
+    pub fn hurried(self) -> Patience
+        ensures first_line { as_nanos result.first_line ≡ as_nanos self.first_line / 10 }
+        ensures idle { result.idle ≡ self.idle }
+    {
+        Patience {
+            first_line: self.first_line / HURRIED_PART,
+            idle: self.idle,
+        }
+    }
+
+    /// After so long, where the first line hasn't come yet: it may take what is left.
+    pub fn after(self, took: Duration) -> Patience
+        ensures first_line { as_nanos result.first_line ≡ as_nanos self.first_line - as_nanos took }
+        ensures idle { result.idle ≡ self.idle }
+    {
+        Patience {
+            first_line: self.first_line.saturating_sub(took),
+            idle: self.idle,
+        }
+    }
 }
 
 /// The lines of a WebSocket, as bytes to read: each message is one, and its line end is put behind it.
@@ -51,8 +80,8 @@ impl<'s, R: Clock> MessageReader<'s, R> {
         }
     }
 
-    /// Ends the connection.
-    pub fn end(self) {
+    /// Ends the connection, and reads what still comes within these limits.
+    pub fn end(self, limits: DrainLimits) {
         let MessageReader {
             messages,
             alloc: _,
@@ -61,7 +90,7 @@ impl<'s, R: Clock> MessageReader<'s, R> {
             is_late: _,
             rest: _,
         } = self;
-        messages.end();
+        messages.end(limits);
     }
 
     /// Whether no line has come yet.

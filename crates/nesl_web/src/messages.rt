@@ -2,7 +2,7 @@
 ghost use Rattle.std.specs.Prelude.{length, IfSome};
 ghost use Rattle.nesl_web.specs.Messages.{IfLine};
 
-use crate::wire::{BROWSER_DRAIN, Wire};
+use crate::wire::{DrainLimits, Wire};
 use std::alloc::Global;
 use std::io;
 use std::io::ErrorKind;
@@ -142,17 +142,17 @@ impl<'s, R: Clock> Incoming<'s, R> {
         Err(lost())
     }
 
-    /// Ends the connection: says so, if that wasn't said, and reads what the peer still sends.
-    pub fn end(mut self) {
-        self.close_and_drain();
+    /// Ends the connection: says so, if that wasn't said, and reads what the peer still sends, within these limits.
+    pub fn end(mut self, limits: DrainLimits) {
+        self.close_and_drain(limits);
         drop(self);
     }
 
-    fn close_and_drain(&mut self) {
+    fn close_and_drain(&mut self, limits: DrainLimits) {
         if self.socket.can_write() {
             self.close(CloseCode::Normal);
         }
-        drop(self.socket.get_mut().drain_after_shutdown(BROWSER_DRAIN));
+        drop(self.socket.get_mut().drain_after_shutdown(limits));
     }
 
     // Says why the connection ends, to a peer that takes it soon.

@@ -4,7 +4,7 @@ ghost use Rattle.httparse.specs.Spans.{IsRequestOf, IsRequestWithin};
 ghost use Rattle.nesl_web.specs.Route.{HasHead, LetsIn};
 
 use crate::access::{is_allowed, values_of};
-use crate::answer::Refusal;
+use crate::answer::{Content, Refusal};
 use crate::files::{File, file_at};
 use httparse::spans::{EMPTY_HEADER_SPAN, HeaderSpan, RequestSpans, parse_request};
 use httparse::{Error, Status};
@@ -19,6 +19,8 @@ const MOST_FIELDS: usize = 64;
 pub enum Route {
     /// A file of the page.
     Page(File),
+    /// Which methods there are.
+    Methods,
     /// A WebSocket.
     Session {
         /// The key that accepts it.
@@ -79,26 +81,68 @@ fn route_of(
     if !is_allowed(given, hosts.as_slice(), origins.as_slice()) {
         return Ok(Route::Refused(Refusal::Forbidden));
     }
-    Ok(found(bytes, request, fields))
+    let keys = values_of(alloc, bytes, all, b"Sec-WebSocket-Key")?;
+    let route = found(bytes, request, fields);
+    match route {
+        // A key that comes twice is none.
+        Route::Session { .. } if keys.len() > 1 => Ok(Route::Refused(Refusal::Unreadable)),
+        route => Ok(route),
+    }
+}
+
+/// Whether the answer to a request that begins with these bytes has its text.
+pub fn content_for(bytes: &[u8]) -> Content {
+    let mut fields = [EMPTY_HEADER_SPAN; MOST_FIELDS];
+    match parse_request(bytes, &mut fields) {
+        Ok(Status::Complete(request)) if Method::of(request.method.of(bytes)) == Method::Head => {
+            Content::LeftOut
+        }
+        _ => Content::Sent,
+    }
+}
+
+// What is asked for.
+#[derive(Clone, Copy, PartialEq, Eq, Debug)]
+enum Method {
+    Get,
+    Head,
+    Options,
+    Other,
+}
+
+impl Method {
+    fn of(name: &[u8]) -> Method {
+        if name == b"GET".as_slice() {
+            Method::Get
+        } else if name == b"HEAD".as_slice() {
+            Method::Head
+        } else if name == b"OPTIONS".as_slice() {
+            Method::Options
+        } else {
+            Method::Other
+        }
+    }
 }
 
 // What an allowed request comes to.
 fn found(bytes: &[u8], request: &RequestSpans, fields: &[HeaderSpan]) -> Route
     requires { IsRequestWithin bytes.now fields.now request.now }
 {
+    let method = Method::of(request.method.of(bytes));
     let Ok(path) = str::from_utf8(without_query(request.path.of(bytes))) else {
         return Route::Refused(Refusal::NotFound);
     };
     let file = file_at(path);
-    if path != "/session" && file.is_none() {
-        return Route::Refused(Refusal::NotFound);
-    }
-    if request.method.of(bytes) != b"GET".as_slice() {
-        return Route::Refused(Refusal::Method);
-    }
-    match file {
-        Some(file) => Route::Page(file),
-        None => session(bytes, request, fields),
+    let is_found = path == "/session" || file.is_some();
+    match method {
+        // A star stands for all paths.
+        Method::Options if is_found || path == "*" => Route::Methods,
+        _ if !is_found => Route::Refused(Refusal::NotFound),
+        Method::Options | Method::Other => Route::Refused(Refusal::Method),
+        Method::Get | Method::Head => match file {
+            Some(file) => Route::Page(file),
+            None => session(bytes, request, fields),
+        },
     }
 }
 

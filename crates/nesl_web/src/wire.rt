@@ -1,4 +1,5 @@
 //! The bytes of a connection, each wait for which is bounded in time.
+ghost use Rattle.std.specs.Io.{WritesAtMost};
 
 use std::io;
 use std::io::{ErrorKind, Read, Write};
@@ -7,6 +8,9 @@ use std::time::{Clock, Duration, Instant};
 
 /// The bytes of a piece of an answer, which has a time of its own.
 const PIECE_BYTES: usize = 16_384;
+
+/// How often a call is made at most that signals interrupt.
+const MOST_TRIES: u64 = 4_294_967_296;
 
 /// How much is read at most of what a peer still sends after nothing more is written to it.
 #[derive(Clone, Copy)]
@@ -18,14 +22,22 @@ pub struct DrainLimits {
     pub read_bytes: usize,
 }
 
-/// How much is read then of a browser.
-pub(crate) const BROWSER_DRAIN: DrainLimits = DrainLimits {
+/// How much is read then of a browser that was refused. Who is refused may hold a thread for no longer.
+pub const REFUSED_DRAIN: DrainLimits = DrainLimits {
+    millis: 500,
+    reads: 256,
+    read_bytes: 4_096,
+};
+
+/// How much is read then of another browser.
+pub const BROWSER_DRAIN: DrainLimits = DrainLimits {
     millis: 2_000,
     reads: 4_096,
     read_bytes: PIECE_BYTES,
 };
 
 /// A connection. A read fails once what is waited for hasn't come in time, and a write if a piece isn't taken in time.
+/// Neither fails because a signal interrupted it: it goes on for the time that is left.
 #[derive(Drop)]
 pub struct Wire<'s, R> {
     rt: &'s R,
@@ -98,18 +110,11 @@ impl<'s, R: Clock> Wire<'s, R> {
         self.stream
             .set_write_timeout(left_until(self.rt, self.piece_until)?)
     }
-}
 
-impl<R: Clock> Read for Wire<'_, R> {
-    fn read(&mut self, buf: &mut [u8]) -> io::Result<usize> {
-        self.begin_read()?;
-        let mut stream = self.stream;
-        stream.read(buf)
-    }
-}
-
-impl<R: Clock> Write for Wire<'_, R> {
-    fn write(&mut self, buf: &[u8]) -> io::Result<usize> {
+    // Writes some bytes, or of a piece that has a time as much as is taken of it.
+    fn write_once(&mut self, buf: &[u8]) -> io::Result<usize>
+        ensures { WritesAtMost result buf.now }
+    {
         let mut stream = self.stream;
         if self.idle.is_none() {
             return stream.write(buf);
@@ -124,6 +129,32 @@ impl<R: Clock> Write for Wire<'_, R> {
             self.piece_until = None;
         }
         Ok(taken)
+    }
+}
+
+impl<R: Clock> Read for Wire<'_, R> {
+    fn read(&mut self, buf: &mut [u8]) -> io::Result<usize> {
+        let mut stream = self.stream;
+        'tries: for _ in 0..MOST_TRIES {
+            self.begin_read()?;
+            match stream.read(buf) {
+                Err(error) if error.kind() == ErrorKind::Interrupted => {}
+                ended => return ended,
+            }
+        }
+        Err(io::Error::from(ErrorKind::Interrupted))
+    }
+}
+
+impl<R: Clock> Write for Wire<'_, R> {
+    fn write(&mut self, buf: &[u8]) -> io::Result<usize> {
+        'tries: for _ in 0..MOST_TRIES {
+            match self.write_once(buf) {
+                Err(error) if error.kind() == ErrorKind::Interrupted => {}
+                ended => return ended,
+            }
+        }
+        Err(io::Error::from(ErrorKind::Interrupted))
     }
 
     fn flush(&mut self) -> io::Result<()> {
