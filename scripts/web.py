@@ -10,7 +10,7 @@ import struct
 
 from lib import PATIENCE, Client, Failed, demand, short
 
-TEXT, BINARY, CLOSE, PING = 1, 2, 8, 9
+MORE, TEXT, BINARY, CLOSE, PING = 0, 1, 2, 8, 9
 
 
 def asked(port, text, wait=PATIENCE):
@@ -71,15 +71,28 @@ class WebClient(Client):
     def say(self, kind, data):
         self.socket.sendall(frame(kind, data))
 
-    def message(self):
-        """The next message, whatever it is: its kind, and what it has."""
+    def next_frame(self):
+        """The next frame: its kind, what it has, and whether it is the last one of its message."""
         front = self.replies.read(2)
         if len(front) < 2:
-            return None, b""
+            return None, b"", True
         size = front[1]
         if size > 125:
             size = int.from_bytes(self.replies.read(2 if size == 126 else 8), "big")
-        return front[0] & 15, self.replies.read(size)
+        data = self.replies.read(size)
+        return (front[0] & 15 if len(data) == size else None), data, front[0] > 127
+
+    def message(self):
+        """The next message, whatever it is: its kind, and what it has. One that is cut off is told as an end."""
+        kind, data, is_last = self.next_frame()
+        pieces = [data]
+        while not is_last:
+            more, data, is_last = self.next_frame()
+            if more is None:
+                return None, b""
+            demand(more == MORE, f"within a message there is a frame of the kind {more}")
+            pieces.append(data)
+        return kind, b"".join(pieces)
 
     def line(self):
         """The next answer; an end is told as such, with its code."""

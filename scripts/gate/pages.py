@@ -42,7 +42,9 @@ def files_and_guests(program):
         here = f"127.0.0.1:{port}"
         cases = [(request("/", host=f"{name}:80"), 200), (request("/index.html", host="[::1]"), 200),
                  (request("/style.css?x", host="LOCALHOST"), 200), (request("/nothing"), 404),
-                 (request("/../src/lib.rt"), 404), (request("/", "POST"), 405), (request("/", "HEAD"), 405),
+                 (request("/../src/lib.rt"), 404), (request("/", "POST"), 405), (request("/nothing", "HEAD"), 404),
+                 (request("/", "OPTIONS"), 204), (request("*", "OPTIONS"), 204),
+                 (request("/", "OPTIONS", Origin=evil), 403),
                  (request("/", host="localhost.evil.example"), 403), (request("/", host=""), 403),
                  (request("/", host=here, Origin=evil), 403), (request("/", host=here, Origin=f"http://{here}"), 200),
                  (request("/", host=here, Origin=f"http://127.0.0.1:{port + 1}"), 403),
@@ -55,9 +57,15 @@ def files_and_guests(program):
             same(f"the headers of {short(text)}", {name: headers.get(name) for name in HEADERS}, HEADERS)
         for file in sorted(PAGE.iterdir()):
             if file.suffix != ".md":
-                status, headers, data = asked(port, request(f"/{file.name}"))
-                same(file.name, (status, int(headers["content-length"])), (200, file.stat().st_size))
-                demand(data == file.read_bytes(), f"{file.name} isn't the file of the repository")
+                for method, wanted in (("GET", file.read_bytes()), ("HEAD", b"")):
+                    status, headers, data = asked(port, request(f"/{file.name}", method))
+                    same(file.name, (status, int(headers["content-length"])), (200, file.stat().st_size))
+                    demand(data == wanted, f"{method} {file.name} isn't answered by the file of the repository")
+        status, headers, data = asked(port, request("/", "OPTIONS"))
+        same("OPTIONS", (status, headers["allow"], data), (204, "GET, HEAD, OPTIONS", b""))
+        same("HEAD of nothing", asked(port, request("/nothing", "HEAD"))[2], b"")
+        twice = upgrade().replace("Upgrade: ", "Sec-WebSocket-Key: AQIDBAUGBwgJCgsMDQ4PEA==\r\nUpgrade: ", 1)
+        same("two keys of a WebSocket", asked(port, twice)[0], 400)
     return f"{len(cases)} requests"
 
 
@@ -96,23 +104,27 @@ def conversation(program):
 
 @check("browsers that say nothing")
 def mute_browsers(program):
-    """A head has ten seconds, and as many that don't come as there are threads keep nobody waiting for longer. A user
-    over a WebSocket has the times of --first-line and --idle."""
-    with shown(program, "--first-line", "1", "--idle", "2") as (service, port):
-        mute = [socket.create_connection(("127.0.0.1", port)) for _ in range(5)]
+    """A head and a first line have the time of --first-line together, and a tenth of it where half of the threads are
+    taken. So who doesn't send them keeps nobody waiting for long. A user has the time of --idle."""
+    with shown(program, "--first-line", "2", "--idle", "3") as (service, port):
+        mute = [socket.create_connection(("127.0.0.1", port)) for _ in range(10)]
         begun = time.monotonic()
         with WebClient(port, "ann") as client:
             waited = time.monotonic() - begun
             client.must(*ONE)
             rest, took = sockets_end(client)
-            demand(rest == "" and 1 < took < 10, f"who says no other line is told {short(rest)} after {took:.1f} s")
-        demand(9 < waited < 15, f"behind five who say nothing a user waited {waited:.1f} s")
+            demand(rest == "" and 2 < took < 9, f"who says no other line is told {short(rest)} after {took:.1f} s")
+        demand(waited < 1.8, f"behind as many as there are threads, who say nothing, a user waited {waited:.1f} s")
         for line in mute:
             demand(line.recv(100).startswith(b"HTTP/1.1 408 "), "who is slow isn't told so")
             line.close()
-        with WebClient(port) as client:
-            rest, took = sockets_end(client)
-            demand(rest == "" and took < 8, f"who says no first line is told {short(rest)} after {took:.1f} s")
+        late, begun = socket.create_connection(("127.0.0.1", port), timeout=PATIENCE), time.monotonic()
+        time.sleep(1.5)
+        late.sendall(upgrade().encode())
+        while late.recv(1000):
+            pass
+        took = time.monotonic() - begun
+        demand(1.5 < took < 2.9, f"who says no first line behind a late head is let go after {took:.1f} s")
         service.must_live()
     return f"a user waited {waited:.1f} s"
 
@@ -164,6 +176,13 @@ def log_and_ports(program):
         told = [rest.split(" ", 1)[1].rsplit(",", 1)[0] for front, rest in rows if front == who]
         same(f"the log of {who}", told, ["began", "seated ann", f"ended: ann, {lines} lines, end of input"])
     same("lines of the log", len(rows), 6)
+    with shown(program, "--connections", "1", may_end=True) as (service, port), WebClient(port, "ann") as sitting:
+        service.client().close()
+        sitting.must(*ONE)
+        time.sleep(0.3)
+        with contextlib.suppress(ConnectionRefusedError), service.client(wait=2) as late:
+            demand(False, f"after the last connection another is taken up, and told {short(late.ask('user ann'))}")
+        sitting.must(*ONE)
     with socket.create_server(("127.0.0.1", 0)) as taken:
         port = taken.getsockname()[1]
         with Process(program, "--web", str(port)) as process:

@@ -2,9 +2,30 @@
 import subprocess
 import time
 
-from lib import Service, compare, demand, ending, prepared, short
+from lib import Service, Skipped, available_megabytes, compare, demand, ending, prepared, short
 from stress.shapes import LONGEST, WORST, filled, local_names, made, tree
 from stress.spent import spent
+
+WANTING = "fault memory (work 0)"
+
+
+def need(megabytes):
+    free = available_megabytes()
+    if free < megabytes:
+        raise Skipped(f"{free} MB of memory are available, and it may take {megabytes}")
+
+
+def swallow(client):
+    """Takes in an answer without keeping it: its first bytes, its last ones, and how many there are."""
+    piece = bytearray(1 << 20)
+    first, last, count = b"", b"", 0
+    while not last.endswith(b"\n"):
+        got = client.socket.recv_into(piece)
+        demand(got, f"the answer ends after {count} bytes")
+        first = (first + piece[:min(got, 100)])[:100] if len(first) < 100 else first
+        last = (last + piece[max(0, got - 100):got])[-100:]
+        count += got
+    return first.decode("latin-1"), last.decode("latin-1"), count
 
 
 def in_batch(program, said, limits=None, user="ann"):
