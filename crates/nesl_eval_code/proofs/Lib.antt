@@ -4,6 +4,8 @@ pub mod Locals
 pub mod Nodes
 pub mod Lists
 pub mod Bodies
+pub mod Framed
+pub mod Noting
 pub mod Resolved
 pub mod Prepared
 pub mod Placed

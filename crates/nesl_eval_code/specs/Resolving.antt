@@ -1,37 +1,31 @@
 -- What resolving a name gives.
-use Rattle.std.specs.Prelude.{◌≡◌, ℕ, List, [], ◌∷◌, ◌++◌, map, Option, Some, None, slice_get, option_map}
+use Rattle.std.specs.Prelude.{ℕ, List, [], ◌∷◌, ◌++◌, map, Option, Some, None, option_map}
 use Rattle.std.proofs.Common.{Vec, Global}
-use Rattle.nesl_syntax_tree.specs.Trees.{PatternTree}
-use Rattle.nesl_syntax_tree.specs.Views.{pattern_tree, binders_in}
+use Rattle.nesl_syntax_tree.specs.Views.{pattern_tree}
 use Rattle.nesl_eval_code.specs.declared.layers.Layers.{Layers, fold-Layers}
 use Rattle.nesl_eval_code.specs.declared.layers.Layers.TheOpen.{Layers-F}
 use Rattle.nesl_eval_code.specs.declared.layers.LocalPlace.{LocalPlace}
 use Rattle.nesl_eval_code.specs.declared.code.Code.{Code}
 use Rattle.nesl_eval_code.specs.declared.places.Places.{Places}
 use Rattle.nesl_eval_meaning.specs.Names.{Name}
-use Rattle.nesl_eval_code.specs.Means.{Layer, bindings, binders, patterns, last_binding, steps_to, spot, IsSpotOf}
+use Rattle.nesl_eval_code.specs.Frame.{patterns_before}
+use Rattle.nesl_eval_code.specs.Means.{Layer, bindings, binders, spot, IsSpotOf}
 use Rattle.nesl_eval_code.specs.Means.{IsNoLocal}
 
 -- the layers that a value of the program stands for
 abbrev pub layers_step : Layers-F (List Layer) → List Layer
 layers_step Layers-F.Top = []
-layers_step (Layers-F.Parameter p) = bindings (pattern_tree p.now ∷ []) ∷ []
-layers_step (Layers-F.Let bs outer) = bindings (patterns (binders_in bs.now)) ∷ outer.now
-layers_step (Layers-F.Row bs outer) = binders (patterns (binders_in bs.now)) ∷ outer.now
+layers_step (Layers-F.Parameter p) = bindings (pattern_tree p.now.pattern.now ∷ []) ∷ []
+layers_step (Layers-F.Let f outer) = bindings (patterns_before f.now.bound.now f.now.seen) ∷ outer.now
+layers_step (Layers-F.Row f outer) = binders (patterns_before f.now.bound.now f.now.seen) ∷ outer.now
 
 abbrev pub layers_of : Layers → List Layer
 layers_of = fold-Layers (List Layer) layers_step
 
--- the last of these patterns that binds the name
-abbrev pub FindsIn : List PatternTree → Name → Option LocalPlace → Type 0
-FindsIn ps x None = last_binding x ps ≡ None
-FindsIn ps x (Some p) =
-    (last_binding x ps ≡ Some p.index) × (slice_get ps p.index ≡ Some (pattern_tree p.pattern.now)) × (p.up ≡ 0)
-
 -- where the value of a name is, or that it is no local one
 abbrev pub FindsLocal : List Layer → Name → Option LocalPlace → Type 0
 FindsLocal ls x None = IsNoLocal ls x
-FindsLocal ls x (Some p) = IsSpotOf ls x (spot p.up p.index (steps_to x (pattern_tree p.pattern.now)))
+FindsLocal ls x (Some p) = IsSpotOf ls x (spot p.up p.index p.steps.items)
 
 -- the names of a map in order
 abbrev pub keys_of : List (Vec ℕ Global × Option Code) → List Name

@@ -2,8 +2,10 @@
 #![tactic(auto)]
 
 pub mod code;
+mod frames;
 mod laws;
 mod layers;
+mod names;
 mod places;
 mod preparing;
 

@@ -1,6 +1,6 @@
 //! Preparing expressions: their names are resolved.
 
-ghost use Rattle.std.specs.Prelude.{◌≡◌, ◌∷◌, ◌++◌, [], IfOk, OnOk, pos, min, List};
+ghost use Rattle.std.specs.Prelude.{◌≡◌, ◌∷◌, ◌++◌, [], IfOk, OnOk, pos, min, List, length};
 ghost use Rattle.std.proofs.Common.{Box, Global as Heap};
 ghost use Rattle.nesl_syntax_tree.specs.Trees.{Tree, node, text, variable, call, element, pair, choice, strided_range};
 ghost use Rattle.nesl_syntax_tree.specs.Trees.{prefix_of, sequence, let_in, each, filtered_each};
@@ -11,7 +11,8 @@ ghost use Rattle.nesl_eval_code.specs.Means.{Means, AllMean, BindingsMean, Layer
 ghost use Rattle.nesl_eval_code.specs.Resolving.{layers_of, known};
 
 use crate::code::Code;
-use crate::layers::{Layers, behind, element_up, inside, of_body, place_of_local, steps_in};
+use crate::frames::{Frame, Parameter};
+use crate::layers::{Layers, LocalPlace, element_up, place_of_local};
 use crate::places::{Places, place_of};
 use nesl_builtins::{Builtin, named, of_infix, of_prefix};
 use nesl_lex::token::Span;
@@ -238,8 +239,8 @@ fn code_of_let(
     ensures { IfOk result (λ c. Means (known at.now.places.now) (layers_of at.now.layers.now) c
         (node span (let_in (binders_in bound.now) (tree_of body.now)))) }
 {
-    let bindings = codes_of_bindings(at, bound)?;
-    let layers = behind(bound, at.layers);
+    let BoundCodes { codes, frame } = codes_of_bindings(at, bound)?;
+    let layers = Layers::Let(&frame, at.layers);
     let inner = Preparing {
         alloc: at.alloc,
         places: at.places,
@@ -248,7 +249,7 @@ fn code_of_let(
     let body = boxed_code_of(&inner, body)?;
     Ok(Code::Let {
         span,
-        bindings,
+        bindings: codes,
         body,
     })
 }
@@ -266,7 +267,8 @@ fn code_of_each(
         (node span (each (tree_of body.now) (binders_in drawn.now)))) }
 {
     let sources = codes_of_sources(at, drawn)?;
-    let layers = inside(drawn, at.layers);
+    let frame = Frame::of(at.alloc, drawn)?;
+    let layers = Layers::Row(&frame, at.layers);
     let inner = Preparing {
         alloc: at.alloc,
         places: at.places,
@@ -294,7 +296,8 @@ fn code_of_filtered(
         (node span (filtered_each (tree_of body.now) (binders_in drawn.now) (tree_of filter.now)))) }
 {
     let sources = codes_of_sources(at, drawn)?;
-    let layers = inside(drawn, at.layers);
+    let frame = Frame::of(at.alloc, drawn)?;
+    let layers = Layers::Row(&frame, at.layers);
     let inner = Preparing {
         alloc: at.alloc,
         places: at.places,
@@ -361,24 +364,38 @@ fn codes_of_sources(at: &Preparing<'_>, drawn: &[Binding]) -> Result<Vec<Code>, 
     Ok(codes)
 }
 
+/// The codes of the bindings of a `let`, and the frame with all their names.
+#[derive(Drop)]
+struct BoundCodes<'a> {
+    codes: Vec<Code>,
+    frame: Frame<'a>,
+}
+
 /// The codes of the bindings of a `let`, each of which sees the names before it.
 #[cycle(prepare)]
 #[inline(never)]
-fn codes_of_bindings(at: &Preparing<'_>, bound: &[Binding]) -> Result<Vec<Code>, AllocError>
-    ensures { IfOk result (λ cs. BindingsMean (known at.now.places.now) (layers_of at.now.layers.now) [] cs.items
-        (binders_in bound.now)) }
+fn codes_of_bindings<'a>(
+    at: &Preparing<'_>,
+    bound: &'a [Binding],
+) -> Result<BoundCodes<'a>, AllocError>
+    ensures codes { IfOk result (λ b. BindingsMean (known at.now.places.now) (layers_of at.now.layers.now) []
+        b.codes.items (binders_in bound.now)) }
+    ensures bound { IfOk result (λ b. b.frame.bound.now ≡ bound.now) }
+    ensures seen { IfOk result (λ b. b.frame.seen ≡ length bound.now) }
 {
     let mut codes = Vec::with_capacity(at.alloc, bound.len())?;
-    for (index, binding) in bound.iter().enumerate() {
-        let layers = behind(&bound[..index], at.layers);
+    let mut frame = Frame::new(bound);
+    for binding in bound {
+        let layers = Layers::Let(&frame, at.layers);
         let inner = Preparing {
             alloc: at.alloc,
             places: at.places,
             layers: &layers,
         };
         add_code(&inner, &mut codes, &binding.value)?;
+        frame = frame.with_next(at.alloc)?;
     }
-    Ok(codes)
+    Ok(BoundCodes { codes, frame })
 }
 
 /// The code of an expression of the top level.
@@ -403,7 +420,8 @@ pub fn code_of_body(
     ensures { IfOk result (λ c. Means (known places.now) (layer (pattern_tree parameter.now ∷ []) ∷ []) c
         (tree_of body.now)) }
 {
-    let layers = of_body(parameter);
+    let parameter = Parameter::new(alloc, parameter)?;
+    let layers = Layers::Parameter(&parameter);
     let at = Preparing {
         alloc,
         places,
@@ -459,12 +477,11 @@ fn variable(at: &Preparing<'_>, span: Span, name: &[u8]) -> Result<Code, AllocEr
     ensures { IfOk result (λ c. Means (known at.now.places.now) (layers_of at.now.layers.now) c
         (node span (variable name.now))) }
 {
-    if let Some(place) = place_of_local(at.layers, name)? {
-        let steps = steps_in(at.alloc, place.pattern, name)?;
+    if let Some(LocalPlace { up, index, steps }) = place_of_local(at.alloc, at.layers, name)? {
         return Ok(Code::Local {
             span,
-            up: place.up,
-            index: place.index,
+            up,
+            index,
             steps,
         });
     }

@@ -1,4 +1,4 @@
-use Rattle.std.proofs.Common.{◌≡◌, ◌∙◌, ap, sym, subst, refl, ℕ, List, ◌∷◌, take, to_z, of_z, w64}
+use Rattle.std.proofs.Common.{◌≡◌, ◌∙◌, ap, sym, subst, refl, arith, ℕ, List, [], ◌∷◌, length, take, to_z, of_z, w64}
 use Rattle.nesl_syntax_tree.specs.declared.tree.Exp.{Exp}
 use Rattle.nesl_syntax_tree.specs.declared.tree.Node as declared
 use Rattle.nesl_syntax_tree.specs.Trees.{Shape, node}
@@ -8,13 +8,15 @@ use Rattle.nesl_builtins.specs.declared.builtin.Builtin.{Builtin}
 use Rattle.nesl_builtins.specs.declared.builtin.Builtin.TheVariants.{OfSequences}
 use Rattle.nesl_seqs_base.specs.declared.seq_fn.SeqFn.TheVariants as seq
 use Rattle.nesl_eval_code.specs.declared.code.Code as code
+use Rattle.nesl_syntax_tree.specs.Trees.{PatternTree}
 use Rattle.nesl_eval_meaning.specs.Names.{Name}
 use Rattle.nesl_eval_code.specs.Means.{Means, bindings, binders, patterns}
 use Rattle.nesl_eval_code.specs.Resolving.{layers_of, known}
 use Rattle.nesl_eval_code.proofs.Nodes as nodes
 use Rattle.nesl_eval_code.proofs.Lists as lists
-use Rattle.nesl_eval_code.proofs.Resolved.{if_ok}
-use Rattle.nesl_eval_code.proofs.Prepared.{sequence_shape, let_shape, each_shape, filtered_shape, item_step, source_step, binding_step, inner_means, read_number, shown, boxed_shown, applied, of_two, of_three, of_list}
+use Rattle.nesl_eval_code.proofs.Framed.{before_is, all_seen}
+use Rattle.nesl_eval_code.proofs.Resolved.{if_ok, layers-Let, layers-Row}
+use Rattle.nesl_eval_code.proofs.Prepared.{sequence_shape, let_shape, each_shape, filtered_shape, item_step, source_step, binding_step, bindings_done, inner_means, read_number, shown, boxed_shown, applied, of_two, of_three, of_list}
 use Rattle.nesl_eval_code.proofs.preparing.+prepare.Goals as goal
 
 pub code_of-returns-in-Number : goal.code_of-returns-in-Number
@@ -246,26 +248,32 @@ code_of_let-returns t c =
     let names = known c.args.at.now.places.now in
     let ls = layers_of c.args.at.now.layers.now in
     let bs = binders_in c.args.bound.now in
-    lists.means_let names ls c.args.span c.in_ok-bindings.bindings c.in_ok-body.body bs (tree_of c.args.body.now) c.in_ok-bindings.ensures
-    (inner_means names (layers_of c.behind-layers.result) (bindings (patterns bs) ∷ ls) c.in_ok-body.body.value (tree_of c.args.body.now) c.behind-layers.ensures c.in_ok-body.ensures)
+    let k = c.in_ok-codes in
+    let f = k.field-0.frame in
+    let seen = all_seen f.bound.now c.args.bound.now f.seen k.ensures.bound k.ensures.seen in
+    lists.means_let names ls c.args.span k.field-0.codes c.in_ok-body.body bs (tree_of c.args.body.now) k.ensures.codes
+    (inner_means names _ (bindings (patterns bs) ∷ ls) c.in_ok-body.body.value (tree_of c.args.body.now) (layers-Let _ _ ∙ ap (λ (ps : List PatternTree). bindings ps ∷ ls) seen) c.in_ok-body.ensures)
 
 pub code_of_each-returns : goal.code_of_each-returns
 code_of_each-returns t c =
     let names = known c.args.at.now.places.now in
     let ls = layers_of c.args.at.now.layers.now in
     let bs = binders_in c.args.drawn.now in
+    let f = c.in_ok-frame in
+    let seen = all_seen f.frame.bound.now c.args.drawn.now f.frame.seen f.ensures.bound f.ensures.seen in
     lists.means_each names ls c.args.span c.in_ok-sources.sources c.in_ok-body.body bs (tree_of c.args.body.now) c.in_ok-sources.ensures
-    (inner_means names (layers_of c.inside-layers.result) (binders (patterns bs) ∷ ls) c.in_ok-body.body.value (tree_of c.args.body.now) c.inside-layers.ensures c.in_ok-body.ensures)
+    (inner_means names _ (binders (patterns bs) ∷ ls) c.in_ok-body.body.value (tree_of c.args.body.now) (layers-Row _ _ ∙ ap (λ (ps : List PatternTree). binders ps ∷ ls) seen) c.in_ok-body.ensures)
 
 pub code_of_filtered-returns : goal.code_of_filtered-returns
 code_of_filtered-returns t c =
     let names = known c.args.at.now.places.now in
     let ls = layers_of c.args.at.now.layers.now in
     let bs = binders_in c.args.drawn.now in
-    let inner = inner_means names (layers_of c.inside-layers.result) (binders (patterns bs) ∷ ls) in
+    let f = c.in_ok-frame in
+    let seen = all_seen f.frame.bound.now c.args.drawn.now f.frame.seen f.ensures.bound f.ensures.seen in
     lists.means_filtered names ls c.args.span c.in_ok-sources.sources c.in_ok-body.body c.in_ok-filter.filter bs (tree_of c.args.body.now) (tree_of c.args.filter.now) c.in_ok-sources.ensures
-    (inner c.in_ok-body.body.value (tree_of c.args.body.now) c.inside-layers.ensures c.in_ok-body.ensures)
-    (inner c.in_ok-filter.filter.value (tree_of c.args.filter.now) c.inside-layers.ensures c.in_ok-filter.ensures)
+    (inner_means names _ (binders (patterns bs) ∷ ls) c.in_ok-body.body.value (tree_of c.args.body.now) (layers-Row _ _ ∙ ap (λ (ps : List PatternTree). binders ps ∷ ls) seen) c.in_ok-body.ensures)
+    (inner_means names _ (binders (patterns bs) ∷ ls) c.in_ok-filter.filter.value (tree_of c.args.filter.now) (layers-Row _ _ ∙ ap (λ (ps : List PatternTree). binders ps ∷ ls) seen) c.in_ok-filter.ensures)
 
 pub codes_of-loop-item-preserved : goal.codes_of-loop-item-preserved
 codes_of-loop-item-preserved t c =
@@ -281,14 +289,34 @@ codes_of_sources-loop-binder-preserved t c =
     let added = c.in_ok-add_code.ensures in
     source_step names ls c.args.drawn.now c.loop-binder.binder-index c.binder-item.result c.loop-binder.codes.items c.add_code.new.codes.items added.0 c.loop-binder-test.true c.binder-item.is c.loop-binder.invariant added.2 added.1
 
-pub codes_of_bindings-loop-index-preserved : goal.codes_of_bindings-loop-index-preserved
-codes_of_bindings-loop-index-preserved t c =
+pub codes_of_bindings-loop-binding-preserved : goal.codes_of_bindings-loop-binding-preserved
+codes_of_bindings-loop-binding-preserved t c =
     let names = known c.args.at.now.places.now in
     let ls = layers_of c.args.at.now.layers.now in
-    let i = c.loop-index.index in
+    let i = c.loop-binding.binding-index in
+    let inv = c.loop-binding.invariant in
+    let f = c.loop-binding.frame in
     let added = c.in_ok-add_code.ensures in
-    let same : layers_of c.behind-layers.result ≡ bindings (patterns (binders_in (take i c.args.bound.now))) ∷ ls =
-    c.behind-layers.ensures in
-    binding_step names ls c.args.bound.now i c.index-bound-index.result c.loop-index.codes.items c.add_code.new.codes.items added.0 c.loop-index-test.true c.index-bound-index.is c.loop-index.invariant
-    (inner_means names (layers_of c.behind-layers.result) (bindings (patterns (binders_in (take i c.args.bound.now))) ∷ ls) added.0 (tree_of c.index-bound-index.result.value) same added.2)
-    added.1
+    let seen = before_is f.bound.now c.args.bound.now f.seen i inv.bound inv.seen in
+    record {
+      codes = binding_step names ls c.args.bound.now i c.binding-item.result c.loop-binding.codes.items c.add_code.new.codes.items added.0 c.loop-binding-test.true c.binding-item.is inv.codes
+          (inner_means names _ (bindings (patterns (binders_in (take i c.args.bound.now))) ∷ ls) added.0 (tree_of c.binding-item.result.value) (layers-Let _ _ ∙ ap (λ (ps : List PatternTree). bindings ps ∷ ls) seen) added.2)
+          added.1;
+      bound = c.in_ok-frame.ensures.bound ∙ inv.bound;
+      seen = omega (arith, c.in_ok-frame.ensures.seen, inv.seen);
+    }
+
+pub codes_of_bindings-returns-clause-codes : goal.codes_of_bindings-returns-clause-codes
+codes_of_bindings-returns-clause-codes t c =
+    bindings_done (known c.args.at.now.places.now) (layers_of c.args.at.now.layers.now) c.args.bound.now c.loop-binding.binding-index c.loop-binding.codes.items c.loop-binding-test.false c.loop-binding.invariant.codes
+
+pub codes_of_bindings-returns-clause-bound : goal.codes_of_bindings-returns-clause-bound
+codes_of_bindings-returns-clause-bound t c = c.loop-binding.invariant.bound
+
+pub codes_of_bindings-returns-clause-seen : goal.codes_of_bindings-returns-clause-seen
+codes_of_bindings-returns-clause-seen t c = omega (arith, c.loop-binding.invariant.seen, c.loop-binding-test.false, c.loop-binding.auto.binding-index-end)
+
+pub codes_of_bindings-with_next-requires : goal.codes_of_bindings-with_next-requires
+codes_of_bindings-with_next-requires t c =
+    let same : length c.loop-binding.frame.bound.now ≡ length c.args.bound.now = ap length c.loop-binding.invariant.bound in
+    omega (arith, same, c.loop-binding.invariant.seen, c.loop-binding-test.true)

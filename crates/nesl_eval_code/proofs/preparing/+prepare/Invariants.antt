@@ -1,4 +1,4 @@
-use Rattle.std.proofs.Common.{ℕ, ◌+◌, ◌*◌, max, List, [], take}
+use Rattle.std.proofs.Common.{◌≡◌, ℕ, ◌+◌, ◌*◌, max, List, [], take}
 use denote.Param.Weighed.{most}
 use Rattle.nesl_syntax_tree.specs.declared.tree.Exp.{Exp}
 use Rattle.nesl_syntax_tree.specs.declared.tree.Binding.{Binding}
@@ -73,5 +73,9 @@ invariant-codes_of-loop-item l = AllMean (known l.at.places.now) (layers_of l.at
 abbrev pub invariant-codes_of_sources-loop-binder : goal.invariant-codes_of_sources-loop-binder
 invariant-codes_of_sources-loop-binder l = AllMean (known l.at.places.now) (layers_of l.at.layers.now) l.codes.items (sources (binders_in (take l.binder-index l.drawn)))
 
-abbrev pub invariant-codes_of_bindings-loop-index : goal.invariant-codes_of_bindings-loop-index
-invariant-codes_of_bindings-loop-index l = BindingsMean (known l.at.places.now) (layers_of l.at.layers.now) [] l.codes.items (binders_in (take l.index l.bound))
+abbrev pub invariant-codes_of_bindings-loop-binding : goal.invariant-codes_of_bindings-loop-binding
+invariant-codes_of_bindings-loop-binding l = record {
+  codes : BindingsMean (known l.at.places.now) (layers_of l.at.layers.now) [] l.codes.items (binders_in (take l.binding-index l.bound));
+  bound : l.frame.bound.now ≡ l.bound;
+  seen : l.frame.seen ≡ l.binding-index;
+}

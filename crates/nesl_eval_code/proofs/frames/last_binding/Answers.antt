@@ -1,7 +1,7 @@
 use Rattle.std.proofs.Common.{◌∙◌, ◌≤◌, length, arith}
-use Rattle.nesl_eval_code.proofs.Resolved.{last_here, last_before, last_all}
-use Rattle.nesl_eval_code.proofs.layers.last_binding.Goals as goal
-use Rattle.nesl_eval_code.proofs.layers.last_binding.Goals.{then-binds, else-binds}
+use Rattle.nesl_eval_code.proofs.Framed.{last_here, last_before, last_all}
+use Rattle.nesl_eval_code.proofs.frames.last_binding.Goals as goal
+use Rattle.nesl_eval_code.proofs.frames.last_binding.Goals.{then-binds, else-binds}
 
 pub loop-index-preserved : goal.loop-index-preserved
 loop-index-preserved c = elim c.if-binds.branch [
