@@ -43,12 +43,12 @@ costs_failed terminals values heap known asked failure users named left left' he
     asked_of (λ t us. TaskFails terminals t failure us left left' held held') (some_costs (record { values = values; heap = heap })) asked users named (sym r ∙ a) u s
 
 -- a prompt was heard, or failed
-pub prompt_done : (terminals : Terminals) (read : Code) (is_hinted : Bool) (asked : Task) (named : List (List ℕ)) (left left' held held' : Option (List ℕ)) → read ≡ code.Prompt is_hinted → task_wanted read ≡ asked
-    → Prompted (is_plain_at terminals (record { is_hinted = is_hinted })) Input left left' held held' → TaskDone terminals asked named left left' held held'
-prompt_done terminals read is_hinted asked named left left' held held' r a s =
-    asked_of (λ t us. TaskDone terminals t us left left' held held') (a_prompt (record { is_hinted = is_hinted })) asked named named (task_read read _ asked (ap task_wanted r) a) refl s
+pub prompt_done : (terminals : Terminals) (read : Code) (is_hinted has_files : Bool) (asked : Task) (named : List (List ℕ)) (left left' held held' : Option (List ℕ)) → read ≡ code.Prompt is_hinted has_files → task_wanted read ≡ asked
+    → Prompted (is_plain_at terminals (record { is_hinted = is_hinted; has_files = has_files })) Input left left' held held' → TaskDone terminals asked named left left' held held'
+prompt_done terminals read is_hinted has_files asked named left left' held held' r a s =
+    asked_of (λ t us. TaskDone terminals t us left left' held held') (a_prompt (record { is_hinted = is_hinted; has_files = has_files })) asked named named (task_read read _ asked (ap task_wanted r) a) refl s
 
-pub prompt_failed : (terminals : Terminals) (read : Code) (is_hinted : Bool) (asked : Task) (failure : Failure) (named : List (List ℕ)) (left left' held held' : Option (List ℕ)) → read ≡ code.Prompt is_hinted → task_wanted read ≡ asked
-    → PromptFails (is_plain_at terminals (record { is_hinted = is_hinted })) failure left left' held held' → TaskFails terminals asked failure named left left' held held'
-prompt_failed terminals read is_hinted asked failure named left left' held held' r a s =
-    asked_of (λ t us. TaskFails terminals t failure us left left' held held') (a_prompt (record { is_hinted = is_hinted })) asked named named (task_read read _ asked (ap task_wanted r) a) refl s
+pub prompt_failed : (terminals : Terminals) (read : Code) (is_hinted has_files : Bool) (asked : Task) (failure : Failure) (named : List (List ℕ)) (left left' held held' : Option (List ℕ)) → read ≡ code.Prompt is_hinted has_files → task_wanted read ≡ asked
+    → PromptFails (is_plain_at terminals (record { is_hinted = is_hinted; has_files = has_files })) failure left left' held held' → TaskFails terminals asked failure named left left' held held'
+prompt_failed terminals read is_hinted has_files asked failure named left left' held held' r a s =
+    asked_of (λ t us. TaskFails terminals t failure us left left' held held') (a_prompt (record { is_hinted = is_hinted; has_files = has_files })) asked named named (task_read read _ asked (ap task_wanted r) a) refl s

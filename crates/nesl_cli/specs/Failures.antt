@@ -27,7 +27,7 @@ status_of Encoding = 2
 status_of (Costs fault) = 1
 status_of (Value text) = 2
 status_of (Taken port) = 1
-status_of (Stats file) = 1
+status_of (Stats file fault) = 1
 status_of (Prompt fault) = 1
 
 -- 0 where a service that was offered ended well

@@ -1,5 +1,7 @@
--- How a prompt looks.
-use Rattle.std.specs.Prelude.{Bool, ◌&&◌, ◌||◌}
+-- How a prompt looks, and whether it opens files.
+use Rattle.std.specs.Prelude.{Bool, ◌&&◌, ◌||◌, if◌then◌else◌}
+use Rattle.nesl_prompt.specs.declared.shelf.Access.{Access}
+use Rattle.nesl_prompt.specs.declared.shelf.Access.TheVariants.{Granted, Refused}
 use Rattle.nesl_prompt.specs.declared.style.Style.{Style}
 use Rattle.nesl_cli.specs.declared.prompt.Terminals.{Terminals}
 
@@ -10,3 +12,7 @@ style_for terminals is_hinted = record {
   prompts = terminals.input && terminals.output;
   hints = terminals.output || is_hinted;
 }
+
+-- Files are opened where standard input is a terminal, or where they are asked for.
+abbrev pub access_for : Terminals → (has_files : Bool) → Access
+access_for terminals has_files = if terminals.input || has_files then Granted else Refused

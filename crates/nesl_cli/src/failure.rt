@@ -10,6 +10,7 @@ use crate::prompt::PromptFault;
 use clap::error::ErrorKind;
 use nesl_house::roster::NewFault;
 use nesl_line::exchange::End;
+use nesl_prompt::shelf::ShelfFault;
 use nesl_service::service::ServeFault;
 use thiserror::Error;
 
@@ -41,9 +42,9 @@ pub enum Failure<'a> {
     /// Another listens on this port.
     #[error("serve: socket fault\nport {0} is taken")]
     Taken(u16),
-    /// The counters of a service can't be written into this file.
-    #[error("serve: can't write {0}")]
-    Stats(&'a str),
+    /// The counters of a service can't be written into this file, for this fault.
+    #[error("serve: can't write {0}\n{1}")]
+    Stats(&'a str, ShelfFault),
     /// A prompt ended before its input did.
     #[error("{0}")]
     Prompt(PromptFault),
@@ -105,7 +106,7 @@ impl<'a> Failure<'a> {
         match self {
             Failure::Read | Failure::Write | Failure::Memory | Failure::Serve(_) => 1,
             Failure::Encoding | Failure::Count | Failure::Name(_) | Failure::Twice(_) => 2,
-            Failure::Costs(_) | Failure::Taken(_) | Failure::Stats(_) | Failure::Prompt(_) => 1,
+            Failure::Costs(_) | Failure::Taken(_) | Failure::Stats(_, _) | Failure::Prompt(_) => 1,
             Failure::Value(_) => 2,
         }
     }

@@ -4,14 +4,14 @@ ghost use Rattle.nesl_line.specs.declared.exchange.End.TheVariants as end;
 ghost use Rattle.nesl_prompt.specs.Points.{is_plain};
 ghost use Rattle.nesl_cli.specs.Failures.{prompt_failure_of};
 ghost use Rattle.nesl_cli.specs.Program.{PromptFails, Prompted};
-ghost use Rattle.nesl_cli.specs.Prompted.{style_for};
+ghost use Rattle.nesl_cli.specs.Prompted.{access_for, style_for};
 
 use crate::failure::Failure;
 use crate::run::LIMITS;
 use nesl_line::device::{Sink, Source};
 use nesl_line::exchange::End;
 use nesl_prompt::converse::converse;
-use nesl_prompt::shelf::Shelf;
+use nesl_prompt::shelf::{Access, Guarded, Shelf};
 use nesl_prompt::style::Style;
 use nesl_session::session::Session;
 use std::alloc::Global;
@@ -59,6 +59,17 @@ impl Terminals {
             hints: self.output || is_hinted,
         }
     }
+
+    /// Whether a prompt may open files, for which `--files` may be given.
+    pub fn access(self, has_files: bool) -> Access
+        ensures { result ≡ access_for self has_files }
+    {
+        if self.input || has_files {
+            Access::Granted
+        } else {
+            Access::Refused
+        }
+    }
 }
 
 /// What a prompt has besides its reader and its writer.
@@ -67,6 +78,18 @@ pub struct PromptDevices<'x, F> {
     pub terminals: Terminals,
     /// The files that it loads and saves.
     pub files: &'x F,
+}
+
+impl<'x, F> PromptDevices<'x, F> {
+    /// The files as far as a prompt may open them, for which `--files` may be given.
+    pub fn guarded(&self, has_files: bool) -> Guarded<'x, F>
+        ensures { result.access ≡ access_for self.now.terminals has_files }
+    {
+        Guarded {
+            files: self.files,
+            access: self.terminals.access(has_files),
+        }
+    }
 }
 
 /// Runs a prompt over an empty session: it hears the lines of the reader to their end.

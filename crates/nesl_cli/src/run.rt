@@ -79,9 +79,12 @@ pub fn carry_out<'a, S: Source, W: Sink, F: Shelf>(
                 Err(failure) => Err(Refusal::Run(failure)),
             }
         }
-        Task::Prompt { is_hinted } => {
+        Task::Prompt {
+            is_hinted,
+            has_files,
+        } => {
             let style = devices.terminals.style(is_hinted);
-            match run_prompt(alloc, devices.files, style, reader, writer) {
+            match run_prompt(alloc, &devices.guarded(has_files), style, reader, writer) {
                 Ok(()) => Ok(None),
                 Err(failure) => Err(Refusal::Run(failure)),
             }

@@ -25,7 +25,7 @@ abbrev pub task_wanted : Code → Task
 task_wanted (code.Batch heap is_hinted) = a_batch (record { heap = heap; is_hinted = is_hinted })
 task_wanted (code.Costs values heap) = some_costs (record { values = values.now; heap = heap })
 task_wanted (code.Service service) = a_service (service_wanted service)
-task_wanted (code.Prompt is_hinted) = a_prompt (record { is_hinted = is_hinted })
+task_wanted (code.Prompt is_hinted has_files) = a_prompt (record { is_hinted = is_hinted; has_files = has_files })
 
 -- the users, in order
 abbrev pub users_wanted : Wanted → List (List ℕ)

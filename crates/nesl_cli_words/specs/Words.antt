@@ -54,9 +54,16 @@ hints_rule = record (new_rule (codes "HINTS")) {
 abbrev pub batch : Shape
 batch = record (new_shape (codes "batch")) { rules = heap_rule ∷ csv_rule ∷ hints_rule ∷ users_rule ∷ [] }
 
--- the subcommand `repl [--hints]`
+-- `--files`, at most once
+abbrev pub files_rule : Rule
+files_rule = record (new_rule (codes "FILES")) {
+  long = Some (codes "files");
+  action = Some SetTrue;
+}
+
+-- the subcommand `repl [--hints] [--files]`
 abbrev pub repl : Shape
-repl = record (new_shape (codes "repl")) { rules = hints_rule ∷ [] }
+repl = record (new_shape (codes "repl")) { rules = hints_rule ∷ files_rule ∷ [] }
 
 -- `--port P`: a number from 0 to 65535, once
 abbrev pub port_rule : Rule
@@ -152,9 +159,10 @@ pub record Batch : Type 0 where
   pub heap : Option ℕ
   pub is_hinted : Bool
 
--- a prompt, and whether hints are told wherever it writes to
+-- a prompt, whether hints are told wherever it writes to, and whether it opens files wherever it reads from
 pub record Prompt : Type 0 where
   pub is_hinted : Bool
+  pub has_files : Bool
 
 -- the costs of a batch, for the values of `n` in this text, with the bytes of its heap, if there is one
 pub record Costs : Type 0 where
@@ -189,7 +197,7 @@ batch_among None heap is_hinted = a_batch (record { heap = heap; is_hinted = is_
 batch_among (Some values) heap is_hinted = some_costs (record { values = values; heap = heap })
 
 abbrev pub prompt_among : List Row → Prompt
-prompt_among rows = record { is_hinted = is_among (codes "HINTS") rows }
+prompt_among rows = record { is_hinted = is_among (codes "HINTS") rows; has_files = is_among (codes "FILES") rows }
 
 abbrev pub service_among : List Row → Service
 service_among rows = record {
@@ -226,8 +234,8 @@ program_is_simple = refl
 
 -- worked: two users; no heap, a heap, and one that is too small; costs, and twice; hints; users behind `--`; a service
 -- that ends and one that doesn't, without a port, with too many workers, and with no second for the first line; a
--- prompt, with hints, and with a user, whom it doesn't take; no word, no user, an unknown subcommand, and calls for
--- help and for the version
+-- prompt, with hints, with files, and with a user, whom it doesn't take; no word, no user, an unknown subcommand, and
+-- calls for help and for the version
 abbrev pub asked : List (List ℕ) → List (List ℕ)
 asked words = codes "pazkindu" ∷ words
 
@@ -345,14 +353,21 @@ no_second :
 unfolding walked walk_fault defaults_fault
 no_second = refl
 
-at_prompt : task_of (asked (codes "repl" ∷ [])) ≡ a_prompt (record { is_hinted = false })
+at_prompt : task_of (asked (codes "repl" ∷ [])) ≡ a_prompt (record { is_hinted = false; has_files = false })
 unfolding walked
 at_prompt = refl
 
 prompt_with_hints :
-    task_of (asked (codes "repl" ∷ codes "--hints" ∷ [])) ≡ a_prompt (record { is_hinted = true })
+    task_of (asked (codes "repl" ∷ codes "--hints" ∷ []))
+    ≡ a_prompt (record { is_hinted = true; has_files = false })
 unfolding walked
 prompt_with_hints = refl
+
+prompt_with_files :
+    task_of (asked (codes "repl" ∷ codes "--files" ∷ []))
+    ≡ a_prompt (record { is_hinted = false; has_files = true })
+unfolding walked
+prompt_with_files = refl
 
 prompt_for_user :
     fault_of program (asked (codes "repl" ∷ codes "ann" ∷ [])) ≡ kind.UnknownArgument ∷ []

@@ -70,6 +70,10 @@ faults";
 
 pub(crate) const REPL_HINTS: &str = "Tells hints also if standard output is no terminal";
 
+pub(crate) const REPL_FILES: &str = "\
+Lets :load and :save open files also if standard input is no
+terminal";
+
 pub(crate) const BATCH_EXAMPLE: &str = "For example: pazkindu batch ann bob < lines";
 
 pub(crate) const SERVE_EXAMPLE: &str =
@@ -134,7 +138,8 @@ and where:
 writes these into a file, :load FILE says the lines of one, and :quit ends.
 
 There is no line editor: `rlwrap pazkindu repl` has one, and keeps a history.
-If standard input or standard output is no terminal, there are no prompts.
+If standard input or standard output is no terminal, there are no prompts. If
+standard input is none, :load and :save are refused, but with --files.
 
 Exit status: 0 at :quit and at the end of input, 1 if a device or memory
 failed, 2 if the words are wrong.";

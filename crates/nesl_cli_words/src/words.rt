@@ -6,7 +6,7 @@ ghost use Rattle.clap.specs.Matches.{found_of};
 ghost use Rattle.clap.specs.Simple.{App, Shape, with_subcommand};
 ghost use Rattle.clap.specs.Words.{app_of, fault_of, FailsBy, subcommand_rows_of};
 ghost use Rattle.nesl_cli_words.specs.Shapes.{IsShaped, with_rule};
-ghost use Rattle.nesl_cli_words.specs.Words.{batch, connections_rule, csv_rule, first_line_rule, heap_rule};
+ghost use Rattle.nesl_cli_words.specs.Words.{batch, connections_rule, csv_rule, files_rule, first_line_rule, heap_rule};
 ghost use Rattle.nesl_cli_words.specs.Words.{hints_rule, idle_rule, is_among, log_rule, number_among, number_rule};
 ghost use Rattle.nesl_cli_words.specs.Words.{port_rule, program, repl, serve, service_among, stats_rule, task_among};
 ghost use Rattle.nesl_cli_words.specs.Words.{web_host_rule, web_rule, batch_among, task_in, task_of, text_among};
@@ -59,6 +59,8 @@ pub enum Task<'a> {
     Prompt {
         /// Whether hints are told wherever it writes to.
         is_hinted: bool,
+        /// Whether it opens files wherever it reads from.
+        has_files: bool,
     },
 }
 
@@ -170,7 +172,8 @@ fn repl<'a>(alloc: Global) -> Result<Command<'a>, AllocError>
     let named = Command::new(alloc, "repl")
         .about(help::REPL)
         .after_help(help::REPL_AFTER);
-    with_option(Ok(named), hints(alloc, help::REPL_HINTS))
+    let with_hints = with_option(Ok(named), hints(alloc, help::REPL_HINTS));
+    with_option(with_hints, files(alloc))
 }
 
 fn serve<'a>(alloc: Global) -> Result<Command<'a>, AllocError>
@@ -296,6 +299,16 @@ fn hints<'a>(alloc: Global, help: &'a str) -> Arg<'a>
         .action(ArgAction::SetTrue)
 }
 
+fn files<'a>(alloc: Global) -> Arg<'a>
+    ensures rule { rule_of result ≡ files_rule }
+    ensures local { result.global ≡ false }
+{
+    Arg::new(alloc, "FILES")
+        .long("files")
+        .help(help::REPL_FILES)
+        .action(ArgAction::SetTrue)
+}
+
 fn user<'a>(alloc: Global) -> Arg<'a>
     ensures rule { rule_of result ≡ users_rule }
     ensures local { result.global ≡ false }
@@ -366,6 +379,7 @@ fn task_behind<'a>(name: &str, matches: &ArgMatches<'a>) -> Task<'a>
     } else if name == "repl" {
         Task::Prompt {
             is_hinted: is_behind(matches, "HINTS"),
+            has_files: is_behind(matches, "FILES"),
         }
     } else {
         batch_behind(matches)

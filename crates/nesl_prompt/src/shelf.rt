@@ -1,6 +1,10 @@
 //! The files that a prompt loads and saves.
+ghost use Rattle.std.specs.Prelude.{◌≡◌, Err};
+ghost use Rattle.nesl_prompt.specs.declared.shelf.Access.TheVariants.{Refused};
+ghost use Rattle.nesl_prompt.specs.declared.shelf.ShelfFault.TheVariants.{Closed};
 
-use std::alloc::Global;
+use std::alloc::{AllocError, AllocFailed, Global};
+use std::io;
 use thiserror::Error;
 
 /// The most bytes of a file that is loaded.
@@ -21,10 +25,46 @@ pub enum ShelfFault {
     Full,
     #[error("it is a folder")]
     Folder,
-    #[error("a file of this name with `.new` behind it is in the way")]
+    #[error("it is a link")]
+    Link,
+    #[error("it is no regular file")]
+    Irregular,
+    #[error("files of this name with `.1.new` to `.100.new` behind it are in the way")]
     Beside,
+    #[error("its owner or its group can't be kept")]
+    Owner,
+    #[error("standard input is no terminal, and `--files` isn't given")]
+    Closed,
     #[error("the system refuses it")]
     Other,
+}
+
+impl From<AllocError> for ShelfFault {
+    fn from(_error: AllocError) -> ShelfFault {
+        ShelfFault::Memory
+    }
+}
+
+impl<T: Drop> From<AllocFailed<T>> for ShelfFault {
+    fn from(_error: AllocFailed<T>) -> ShelfFault {
+        ShelfFault::Memory
+    }
+}
+
+// The fault for which the system refuses a file.
+impl From<io::Error> for ShelfFault {
+    fn from(error: io::Error) -> ShelfFault {
+        match error.kind() {
+            io::ErrorKind::NotFound => ShelfFault::Absent,
+            io::ErrorKind::PermissionDenied | io::ErrorKind::ReadOnlyFilesystem => {
+                ShelfFault::Denied
+            }
+            io::ErrorKind::OutOfMemory => ShelfFault::Memory,
+            io::ErrorKind::StorageFull => ShelfFault::Full,
+            io::ErrorKind::IsADirectory => ShelfFault::Folder,
+            _ => ShelfFault::Other,
+        }
+    }
 }
 
 /// Where files are.
@@ -35,4 +75,38 @@ pub trait Shelf {
     /// Writes the bytes of a file, which is made where there is none. One that is there loses what it had, once the new
     /// bytes are written.
     fn write(&self, alloc: Global, path: &str, bytes: &[u8]) -> Result<(), ShelfFault>;
+}
+
+/// Whether files are opened.
+#[derive(Clone, Copy, PartialEq, Eq, Debug)]
+pub enum Access {
+    Granted,
+    Refused,
+}
+
+/// Files that are opened where access to them is granted, and only there.
+#[derive(Drop)]
+pub struct Guarded<'x, F> {
+    pub files: &'x F,
+    pub access: Access,
+}
+
+impl<F: Shelf> Shelf for Guarded<'_, F> {
+    fn read(&self, alloc: Global, path: &str) -> Result<Vec<u8>, ShelfFault>
+        ensures { self.now.access ≡ Refused → result ≡ Err Closed }
+    {
+        match self.access {
+            Access::Granted => self.files.read(alloc, path),
+            Access::Refused => Err(ShelfFault::Closed),
+        }
+    }
+
+    fn write(&self, alloc: Global, path: &str, bytes: &[u8]) -> Result<(), ShelfFault>
+        ensures { self.now.access ≡ Refused → result ≡ Err Closed }
+    {
+        match self.access {
+            Access::Granted => self.files.write(alloc, path, bytes),
+            Access::Refused => Err(ShelfFault::Closed),
+        }
+    }
 }

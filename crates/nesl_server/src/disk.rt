@@ -1,9 +1,10 @@
 //! The files that a prompt loads and saves.
 
+use crate::replace::{Rights, replace_file, require_regular};
 use nesl_prompt::shelf::{MOST_BYTES, Shelf, ShelfFault};
 use std::alloc::Global;
-use std::fs::{self, OpenOptions};
-use std::io::{self, Read, Write};
+use std::fs::{self, File, Metadata, OpenOptions};
+use std::io::{self, Read};
 use std::rt::Files;
 
 /// The files of this machine.
@@ -12,67 +13,68 @@ pub struct Disk<'x, R> {
     pub rt: &'x R,
 }
 
-impl<R: Files> Shelf for Disk<'_, R> {
+impl<R: Files<File = File>> Shelf for Disk<'_, R> {
     fn read(&self, alloc: Global, path: &str) -> Result<Vec<u8>, ShelfFault> {
-        match read_up_to(self.rt, alloc, path, MOST_BYTES) {
-            Ok(bytes) if bytes.len() > MOST_BYTES => Err(ShelfFault::Large),
-            Ok(bytes) => Ok(bytes),
-            Err(error) => Err(name_fault(&error)),
+        let bytes = read_up_to(self.rt, alloc, path, MOST_BYTES)?;
+        if bytes.len() > MOST_BYTES {
+            return Err(ShelfFault::Large);
         }
+        Ok(bytes)
     }
 
-    // What a link leads to, and what is no file, as a device, is written in place.
     fn write(&self, alloc: Global, path: &str, bytes: &[u8]) -> Result<(), ShelfFault> {
-        let written = match fs::symlink_metadata(self.rt, path) {
-            Ok(there) if !there.is_file() => fs::write(self.rt, path, bytes),
-            _ => replace(self.rt, alloc, path, bytes),
-        };
-        match written {
-            Ok(()) => Ok(()),
-            Err(error) => Err(name_fault(&error)),
+        match fs::symlink_metadata(self.rt, path) {
+            Ok(there) if there.is_symlink() => write_behind(self.rt, alloc, path, bytes),
+            Ok(there) => overwrite(self.rt, alloc, path, bytes, &there),
+            Err(error) if error.kind() == io::ErrorKind::NotFound => {
+                replace_file(self.rt, alloc, path, bytes, &Rights::New)
+            }
+            Err(error) => Err(ShelfFault::from(error)),
         }
     }
 }
 
-// The bytes of a file; of one that has more than `most`, one more than these.
-fn read_up_to<R: Files>(rt: &R, alloc: Global, path: &str, most: usize) -> io::Result<Vec<u8>> {
-    let mut bytes = Vec::new(alloc);
+// The bytes of a file; of one that has more than `most`, one more than these. What is no regular file isn't opened, so
+// nobody waits for a pipe; what took the file's place since then isn't read.
+fn read_up_to<R: Files<File = File>>(
+    rt: &R,
+    alloc: Global,
+    path: &str,
+    most: usize,
+) -> Result<Vec<u8>, ShelfFault> {
+    require_regular(&fs::metadata(rt, path)?)?;
     let file = fs::open(rt, path)?;
+    require_regular(&file.metadata()?)?;
+    let mut bytes = Vec::new(alloc);
     let _ = file
         .take((most as u64).saturating_add(1))
         .read_to_end(&mut bytes)?;
     Ok(bytes)
 }
 
-// Writes the bytes into a file of a name that is free, which then takes the place of the one that is there. So that one
-// is lost only where the new one is whole.
-fn replace<R: Files>(rt: &R, alloc: Global, path: &str, bytes: &[u8]) -> io::Result<()> {
-    let beside = format!(in alloc; "{path}.new")?;
-    let mut file = OpenOptions::new()
-        .write(true)
-        .create_new(true)
-        .open(rt, beside.as_str())?;
-    let written = file.write_all(bytes);
-    drop(file);
-    let placed = match written {
-        Ok(()) => fs::rename(rt, beside.as_str(), path),
-        Err(error) => Err(error),
-    };
-    if placed.is_err() {
-        let _ = fs::remove_file(rt, beside.as_str()).is_ok();
-    }
-    placed
+// Writes the bytes of the file that a link leads to, which stays a link.
+fn write_behind<R: Files<File = File>>(
+    rt: &R,
+    alloc: Global,
+    link: &str,
+    bytes: &[u8],
+) -> Result<(), ShelfFault> {
+    let there = fs::metadata(rt, link)?;
+    require_regular(&there)?;
+    let path = rt.canonicalize(alloc, link)?;
+    overwrite(rt, alloc, path.as_str(), bytes, &there)
 }
 
-// Names the fault for which the system refuses a file.
-fn name_fault(error: &io::Error) -> ShelfFault {
-    match error.kind() {
-        io::ErrorKind::NotFound => ShelfFault::Absent,
-        io::ErrorKind::PermissionDenied | io::ErrorKind::ReadOnlyFilesystem => ShelfFault::Denied,
-        io::ErrorKind::OutOfMemory => ShelfFault::Memory,
-        io::ErrorKind::AlreadyExists => ShelfFault::Beside,
-        io::ErrorKind::StorageFull => ShelfFault::Full,
-        io::ErrorKind::IsADirectory => ShelfFault::Folder,
-        _ => ShelfFault::Other,
-    }
+// Writes the bytes of a file that is there, if it is a regular one that may be written. It is opened for that question
+// alone, and is lost only where the new one is whole.
+fn overwrite<R: Files<File = File>>(
+    rt: &R,
+    alloc: Global,
+    path: &str,
+    bytes: &[u8],
+    there: &Metadata,
+) -> Result<(), ShelfFault> {
+    require_regular(there)?;
+    let _ = OpenOptions::new().write(true).open(rt, path)?;
+    replace_file(rt, alloc, path, bytes, &Rights::Kept(there))
 }

@@ -10,6 +10,7 @@ mod disk;
 mod host;
 mod log;
 mod offer;
+mod replace;
 mod standard;
 mod stats;
 

@@ -12,6 +12,7 @@ use nesl_cli::run::{LIMITS, Offer, copy_names};
 use nesl_cli::terms::local_address;
 use nesl_house::roster::NewFault;
 use nesl_house::table::{Closed, Table};
+use nesl_prompt::shelf::ShelfFault;
 use nesl_service::browse::Page;
 use nesl_service::service::{Observers, ServeFault, Site, serve_at};
 use nesl_service_journal::counters::Counters;
@@ -253,10 +254,8 @@ fn start_stats<'x, 'a, R: Threads + Wait + Clock + Replace + Clone + Send + Drop
     };
     match Stats::new(rt, alloc, file, counters) {
         Ok(stats) => Ok(Some(stats)),
-        Err(error) if error.kind() == io::ErrorKind::OutOfMemory => Err(Failure::Serve(
-            ServeFault::Memory,
-        )),
-        Err(_) => Err(Failure::Stats(file)),
+        Err(ShelfFault::Memory) => Err(Failure::Serve(ServeFault::Memory)),
+        Err(fault) => Err(Failure::Stats(file, fault)),
     }
 }
 

@@ -1,26 +1,34 @@
 //! The file that tells how the service is doing.
 
+use crate::replace::{Rights, replace_file, require_regular};
+use nesl_prompt::shelf::ShelfFault;
 use nesl_service_journal::counters::Counters;
 use std::alloc::{AllocError, Global};
+use std::fs::{self, File};
 use std::rt::Files;
 use std::sync::{Arc, Mutex, Wait};
 use std::thread::Threads;
 use std::time::{Clock, Duration, Instant};
-use std::{fs, io, thread};
+use std::{io, thread};
 
 /// How many seconds lie between two writings of the file.
 const SECONDS: u64 = 10;
 
 /// What can replace the content of a file.
 pub trait Replace {
-    /// Writes a text to the file `beside`, which then takes the place of the file at `path`.
-    fn replace(&self, path: &str, beside: &str, text: &str) -> io::Result<()>;
+    /// Writes a text into a file that everybody may read. What is there is replaced if it is a regular file, and stays
+    /// if it is anything else.
+    fn replace(&self, alloc: Global, path: &str, text: &str) -> Result<(), ShelfFault>;
 }
 
-impl<R: Files> Replace for R {
-    fn replace(&self, path: &str, beside: &str, text: &str) -> io::Result<()> {
-        fs::write(self, beside, text)?;
-        fs::rename(self, beside, path)
+impl<R: Files<File = File>> Replace for R {
+    fn replace(&self, alloc: Global, path: &str, text: &str) -> Result<(), ShelfFault> {
+        match fs::symlink_metadata(self, path) {
+            Ok(there) => require_regular(&there)?,
+            Err(error) if error.kind() == io::ErrorKind::NotFound => {}
+            Err(error) => return Err(ShelfFault::from(error)),
+        }
+        replace_file(self, alloc, path, text.as_bytes(), &Rights::Public)
     }
 }
 
@@ -28,8 +36,6 @@ impl<R: Files> Replace for R {
 #[derive(Drop)]
 struct Sheet {
     path: String,
-    /// Where the next content is written before it takes the place of the one that is there.
-    beside: String,
     begun: Instant,
     counters: Arc<Counters>,
     /// Whether the last content was written.
@@ -46,11 +52,11 @@ pub struct Stats<'x, R> {
 
 impl Sheet {
     // Replaces the content of the file.
-    fn write<R: Replace + Clock>(&self, rt: &R, alloc: Global) -> io::Result<()> {
+    fn write<R: Replace + Clock>(&self, rt: &R, alloc: Global) -> Result<(), ShelfFault> {
         let uptime = self.begun.elapsed(rt)?;
         let mut text = self.counters.json(alloc, uptime)?;
         text.push_str("\n")?;
-        rt.replace(self.path.as_str(), self.beside.as_str(), text.as_str())
+        rt.replace(alloc, self.path.as_str(), text.as_str())
     }
 }
 
@@ -61,10 +67,9 @@ impl<'x, R: Threads + Wait + Clock + Replace + Clone + Send + Drop + 'static> St
         alloc: Global,
         path: &str,
         counters: Arc<Counters>,
-    ) -> io::Result<Stats<'x, R>> {
+    ) -> Result<Stats<'x, R>, ShelfFault> {
         let sheet = Sheet {
             path: String::from_str(alloc, path)?,
-            beside: format!(in alloc; "{path}.new")?,
             begun: Instant::now(rt)?,
             counters,
             is_over: false,
@@ -74,8 +79,10 @@ impl<'x, R: Threads + Wait + Clock + Replace + Clone + Send + Drop + 'static> St
         let theirs = Arc::try_clone(&sheet)?;
         let own = rt.clone()?;
         let write = move || write_now_and_then(&own, alloc, &theirs);
-        let _ = thread::spawn(rt, write)?;
-        Ok(Stats { rt, alloc, sheet })
+        match thread::spawn(rt, write) {
+            Ok(_) => Ok(Stats { rt, alloc, sheet }),
+            Err(_) => Err(ShelfFault::Memory),
+        }
     }
 }
 

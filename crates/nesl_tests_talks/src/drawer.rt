@@ -14,13 +14,16 @@ const FILES: [(&str, &[u8]); 2] = [
 ];
 
 /// Files that can't be read or written.
-const FAULTS: [(&str, ShelfFault); 7] = [
+const FAULTS: [(&str, ShelfFault); 10] = [
     ("denied", ShelfFault::Denied),
     ("large", ShelfFault::Large),
     ("memory", ShelfFault::Memory),
     ("full", ShelfFault::Full),
     ("folder", ShelfFault::Folder),
+    ("link", ShelfFault::Link),
+    ("irregular", ShelfFault::Irregular),
     ("beside", ShelfFault::Beside),
+    ("owner", ShelfFault::Owner),
     ("other", ShelfFault::Other),
 ];
 

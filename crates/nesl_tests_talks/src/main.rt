@@ -27,6 +27,7 @@
 //! a hint on each fault (`src/alone.rt`). The words of the other titles say how a text is said:
 //!
 //! - `prompts` and `hints`: at a prompt that writes these; without either, at one that writes replies alone;
+//! - `closed`: at a prompt that may open no files;
 //! - `batch`: in a batch of ann and bob, with the hints of a prompt; `loud`: with one hint that has line ends;
 //! - `heap`: a batch whose lines are evaluated in a heap of 65,536 bytes;
 //! - `torn`: the read behind the text fails; `short`: the writer takes 100 bytes and then fails.

@@ -14,6 +14,7 @@ use nesl_line::exchange::{End, Ran};
 use nesl_line::hinted::batch_with_hints;
 use nesl_prompt::converse::converse;
 use nesl_prompt::hints::Hints;
+use nesl_prompt::shelf::{Access, Guarded};
 use nesl_prompt::style::Style;
 use nesl_session::session::Session;
 use std::alloc::{AllocError, Global};
@@ -61,7 +62,15 @@ fn prompt<S: Source, W: Sink>(
     };
     let mut session = Session::new(alloc, LIMITS)?;
     let drawer = Drawer::new(alloc)?;
-    Ok(converse(alloc, reader, writer, &mut session, &drawer, style))
+    let files = Guarded {
+        files: &drawer,
+        access: if has_word(title, b"closed") {
+            Access::Refused
+        } else {
+            Access::Granted
+        },
+    };
+    Ok(converse(alloc, reader, writer, &mut session, &files, style))
 }
 
 // Says a text in a batch of ann and bob.

@@ -11,4 +11,4 @@ pub returns-in-Ok-run_prompt-clause-comes : goal.returns-in-Ok-run_prompt-clause
 returns-in-Ok-run_prompt-clause-comes g c =
     let words = map (λ word. word.now) c.args.words.now in
     let P : Style → Type 0 = λ style. Prompted (is_plain style) Input (g.S.Source.left c.args.reader.now) (g.S.Source.left c.run_prompt.new.reader) (g.W.Sink.held c.args.writer.now) (g.W.Sink.held c.run_prompt.new.writer) in
-    prompt_done c.args.devices.now.terminals c.in-Ok.wanted.task c.in-Prompt.is_hinted (task_of words) (users_of words) _ _ _ _ c.in-Prompt.is c.in-Ok.ensures.task (subst P c.style-style.ensures c.in-Ok-run_prompt.ensures.prompted)
+    prompt_done c.args.devices.now.terminals c.in-Ok.wanted.task c.in-Prompt.is_hinted c.in-Prompt.has_files (task_of words) (users_of words) _ _ _ _ c.in-Prompt.is c.in-Ok.ensures.task (subst P c.style-style.ensures c.in-Ok-run_prompt.ensures.prompted)

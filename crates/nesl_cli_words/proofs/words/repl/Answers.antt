@@ -1,6 +1,6 @@
 use Rattle.std.proofs.Common.{◌∙◌, ap, codes}
 use Rattle.clap.specs.Simple.{new_shape, shape_of_fields}
-use Rattle.nesl_cli_words.specs.Words.{hints_rule}
+use Rattle.nesl_cli_words.specs.Words.{files_rule, hints_rule}
 use Rattle.nesl_cli_words.specs.Shapes.{IsShaped}
 use Rattle.nesl_cli_words.proofs.words.repl.Goals as goal
 
@@ -10,4 +10,5 @@ returns c =
       ap shape_of_fields c.after_help-named.ensures ∙ ap shape_of_fields c.about.ensures ∙ ap (λ app. app.top) c.new.ensures.app,
       ap (λ fields. fields.has_globals) c.after_help-named.ensures ∙ ap (λ fields. fields.has_globals) c.about.ensures ∙ c.new.ensures.local,
     ) in
-    c.with_option.ensures (new_shape (codes "repl")) hints_rule c.hints.ensures.rule is_named
+    let has_hints = c.with_option-with_hints.ensures (new_shape (codes "repl")) hints_rule c.hints.ensures.rule is_named in
+    c.with_option.ensures _ files_rule c.files.ensures.rule has_hints

@@ -1,0 +1,149 @@
+//! Files that are written whole, and then take the place of those that were there.
+
+use nesl_prompt::shelf::ShelfFault;
+use std::alloc::Global;
+use std::fs::{self, File, Metadata, OpenOptions, Permissions};
+use std::io::{self, Write};
+use std::os::fd::AsFd;
+use std::os::unix::fs::{MetadataExt, OpenOptionsExt, PermissionsExt, fchown};
+use std::rt::Files;
+
+/// How many names are tried for a new file beside another one.
+const NAMES: u32 = 100;
+
+/// The mode of a file that only its owner may open.
+const PRIVATE: u32 = 0o600;
+
+/// The mode of a file that everybody may read.
+const READABLE: u32 = 0o644;
+
+/// The mode that is asked for where the process's mask says who may open a new file.
+const ANY: u32 = 0o666;
+
+/// The bits of a mode that are no kind of file.
+const MODE_BITS: u32 = 0o7777;
+
+/// Who may open a file that is written.
+#[derive(Drop)]
+pub enum Rights<'x> {
+    /// As the process's mask has it.
+    New,
+    /// Everybody may read it.
+    Public,
+    /// As it was of the file that was there, whose owner and group it keeps.
+    Kept(&'x Metadata),
+}
+
+impl Rights<'_> {
+    // The mode of the new file while it is written.
+    fn first_mode(&self) -> u32 {
+        match self {
+            Rights::New => ANY,
+            Rights::Public | Rights::Kept(_) => PRIVATE,
+        }
+    }
+}
+
+/// A file that is not yet where it belongs.
+#[derive(Drop)]
+struct Beside {
+    name: String,
+    file: File,
+}
+
+/// Refuses what is no regular file.
+pub fn require_regular(there: &Metadata) -> Result<(), ShelfFault> {
+    if there.is_file() {
+        Ok(())
+    } else if there.is_dir() {
+        Err(ShelfFault::Folder)
+    } else if there.is_symlink() {
+        Err(ShelfFault::Link)
+    } else {
+        Err(ShelfFault::Irregular)
+    }
+}
+
+/// Writes the bytes into a new file beside the path. It takes the place of what is there once it is whole; else it is
+/// removed.
+pub fn replace_file<R: Files<File = File>>(
+    rt: &R,
+    alloc: Global,
+    path: &str,
+    bytes: &[u8],
+    rights: &Rights<'_>,
+) -> Result<(), ShelfFault> {
+    let Beside { name, file } = make_beside(rt, alloc, path, rights.first_mode())?;
+    let placed = match fill(file, bytes, rights) {
+        Ok(()) => place(rt, name.as_str(), path),
+        Err(fault) => Err(fault),
+    };
+    if placed.is_err() {
+        let _ = fs::remove_file(rt, name.as_str()).is_ok();
+    }
+    placed
+}
+
+// Makes a file beside the path, by the first name that is free.
+fn make_beside<R: Files<File = File>>(
+    rt: &R,
+    alloc: Global,
+    path: &str,
+    mode: u32,
+) -> Result<Beside, ShelfFault> {
+    for number in 1..=NAMES {
+        let name = format!(in alloc; "{path}.{number}.new")?;
+        match make(rt, name.as_str(), mode) {
+            Ok(file) => return Ok(Beside { name, file }),
+            Err(error) if error.kind() == io::ErrorKind::AlreadyExists => {}
+            Err(error) => return Err(ShelfFault::from(error)),
+        }
+    }
+    Err(ShelfFault::Beside)
+}
+
+// Makes a file where there is nothing.
+fn make<R: Files<File = File>>(rt: &R, name: &str, mode: u32) -> io::Result<File> {
+    OpenOptions::new()
+        .write(true)
+        .create_new(true)
+        .mode(mode)
+        .open(rt, name)
+}
+
+// Writes the bytes of a new file, and then says who may open it.
+fn fill(file: File, bytes: &[u8], rights: &Rights<'_>) -> Result<(), ShelfFault> {
+    let mut file = file;
+    file.write_all(bytes)?;
+    match rights {
+        Rights::New => {}
+        Rights::Public => {
+            file.set_permissions(Permissions::from_mode(READABLE))?;
+            return Ok(());
+        }
+        Rights::Kept(there) => {
+            keep_owner(&file, there)?;
+            let mode = there.mode() & MODE_BITS;
+            file.set_permissions(Permissions::from_mode(mode))?;
+        }
+    }
+    // Some systems find only now that there is no room.
+    Ok(file.sync_all()?)
+}
+
+// Gives a file the owner and the group of another one.
+fn keep_owner(file: &File, there: &Metadata) -> Result<(), ShelfFault> {
+    let own = file.metadata()?;
+    if own.uid() == there.uid() && own.gid() == there.gid() {
+        return Ok(());
+    }
+    match fchown(file.as_fd(), Some(there.uid()), Some(there.gid())) {
+        Ok(()) => Ok(()),
+        Err(_) => Err(ShelfFault::Owner),
+    }
+}
+
+// Puts a file in the place of what is at the path.
+fn place<R: Files>(rt: &R, name: &str, path: &str) -> Result<(), ShelfFault> {
+    Ok(fs::rename(rt, name, path)?)
+}
