@@ -28,6 +28,7 @@ use std::alloc::{AllocError, Global};
 use std::io::{self, BufWriter, Eprint, IsTerminal, Print};
 use std::net::{Net, TcpListener, TcpStream};
 use std::process::ExitCode;
+use std::rt::Env;
 use std::sync::Wait;
 use std::thread::{Builder, Threads};
 use std::time::Clock;
@@ -41,6 +42,9 @@ const ANSWER_BYTES: usize = 8192;
 /// take no stack.
 const STACK_BYTES: usize = 1_048_576;
 
+/// More bytes than the word of any command has.
+const COMMAND_BYTES: usize = 16;
+
 fn main(rt: HostRuntime) -> ExitCode {
     if fill_standard(&rt).is_err() {
         return ExitCode::FAILURE;
@@ -53,11 +57,11 @@ fn main(rt: HostRuntime) -> ExitCode {
                 Err(failure) => return report_failure(&rt, failure),
             };
             let Ok(words) = borrow_words(alloc, args.as_slice()) else {
-                return report_failure(&rt, Failure::Memory);
+                return report_failure(&rt, want_of_memory(&rt));
             };
             let words = words.as_slice();
             let Ok(writer) = BufWriter::with_capacity(alloc, ANSWER_BYTES, rt.stdout()) else {
-                return report_failure(&rt, Failure::of_memory(words));
+                return report_failure(&rt, want_of_memory(&rt));
             };
             let mut reader = Device::new(rt.stdin());
             let mut writer = Device::new(writer);
@@ -71,7 +75,8 @@ fn main(rt: HostRuntime) -> ExitCode {
         let builder = Builder::new().stack_size(STACK_BYTES);
         match builder.spawn_scoped(scope, work) {
             Ok(running) => running.join(&rt),
-            Err(_) => report_no_thread(&rt),
+            // As for memory that can't be had.
+            Err(_) => report_failure(&rt, want_of_memory(&rt)),
         }
     })
 }
@@ -84,15 +89,15 @@ fn find_terminals(rt: &HostRuntime) -> Terminals {
     }
 }
 
-// Reports that the thread of a run can't be made, as want of memory.
-fn report_no_thread(rt: &HostRuntime) -> ExitCode {
-    let alloc = rt.alloc();
-    let Ok(args) = read_arguments(rt, alloc) else {
-        return report_failure(rt, Failure::Memory);
+// Names want of memory by the first word behind the program's name. It is read without any.
+fn want_of_memory(rt: &impl Env) -> Failure<'static> {
+    let mut word = [0u8; COMMAND_BYTES];
+    let Ok(len) = rt.arg(1, &mut word) else {
+        return Failure::of_memory(&[]);
     };
-    match borrow_words(alloc, args.as_slice()) {
-        Ok(words) => report_failure(rt, Failure::of_memory(words.as_slice())),
-        Err(_) => report_failure(rt, Failure::Memory),
+    match word.get(..len).map(str::from_utf8) {
+        Some(Ok(word)) => Failure::of_memory(&["", word]),
+        Some(Err(_)) | None => Failure::of_memory(&[]),
     }
 }
 
@@ -101,7 +106,7 @@ fn read_arguments(rt: &HostRuntime, alloc: Global) -> Result<Vec<String>, Failur
     match collect_arguments(rt, alloc) {
         Ok(args) => Ok(args),
         Err(error) if error.kind() == io::ErrorKind::InvalidData => Err(Failure::Encoding),
-        Err(_) => Err(Failure::Memory),
+        Err(_) => Err(want_of_memory(rt)),
     }
 }
 
