@@ -13,10 +13,8 @@ import select
 import signal
 import struct
 import subprocess
-import tempfile
 import termios
 import time
-from pathlib import Path
 
 from lib import PATIENCE, TOP, demand, ending, loaded, prepared, short
 
@@ -35,8 +33,8 @@ def check(name):
 
 def ran(program, *words, text=b"", **how):
     """What a run says on standard output and on standard error, and its status."""
-    it = subprocess.run([program, *words], stderr=subprocess.PIPE, timeout=PATIENCE, check=False,
-                        **{"input": text, "stdout": subprocess.PIPE, **how})
+    it = subprocess.run([program, *words], stderr=subprocess.PIPE, check=False,
+                        **{"input": text, "stdout": subprocess.PIPE, "timeout": PATIENCE, **how})
     return it.stdout or b"", it.returncode, it.stderr.decode("latin-1").strip()
 
 
@@ -279,36 +277,6 @@ def batch_hints(program):
     return f"{count} hints"
 
 
-@check("files of a prompt")
-def files(program):
-    """What was kept is saved whole and loaded; a file that can't be is told of, and what was there stays."""
-    with tempfile.TemporaryDirectory(prefix="pazkindu-test-") as room:
-        def at(*lines):
-            return told(program, "".join(line + "\n" for line in lines).encode()).decode("latin-1").split("\n")[:-1]
-        path, other = f"{room}/kept", f"{room}/other"
-        forms = ["function g(v) = {a * a : a in v};", "x = g([1, 2]);", "3;"]
-        demand(at(*forms, "y;", f":save {path}")[-1] == "saved: forms 3", "it isn't saved")
-        same("the file", Path(path).read_text(), "".join(form + "\n" for form in forms))
-        same("a file that is loaded", at(f":load {path}", "x;")[-1], "it = [1, 4] : [int] (work 1, depth 1)")
-        demand(at("x = 1;", f":save {path}")[-1] == "saved: forms 1", "it isn't saved again")
-        same("the file", Path(path).read_text(), "x = 1;\n")
-        Path(path + ".new").write_text("mine")
-        same("in the way", at("x = 2;", f":save {path}")[-1],
-             f"save: a file of this name with `.new` behind it is in the way: {path}")
-        same("both", Path(path).read_text() + Path(path + ".new").read_text(), "x = 1;\nmine")
-        for word, name, why in (("load", f"{room}/none", "there is no such file"), ("load", room, "it is a folder"),
-                                ("save", f"{room}/none/x", "there is no such file"), ("save", room, "it is a folder"),
-                                ("save", "/dev/full", "there is no room for it"),
-                                ("load", "", "there is no such file")):
-            same(f"{word} {name}", "\n".join(at("x = 2;", f":{word} {name}".strip(), "x;")[1:]),
-                 f"{word}: {why}: {name}\nit = 2 : int (work 1, depth 1)")
-        Path(other).write_bytes(b"1;\n" * 6_000_000)
-        same("a large file", at(f":load {other}")[-1], f"load: it has more than 16777216 bytes: {other}")
-        os.symlink(path, f"{room}/link")
-        demand(at("x = 3;", f":save {room}/link")[-1] == "saved: forms 1", "a link isn't written through")
-        same("behind a link", Path(path).read_text(), "x = 3;\n")
-
-
 @check("words and devices of a prompt")
 def ends(program):
     """Statuses and what is said on standard error are as those of the other words."""
@@ -341,7 +309,7 @@ def limited(program):
                 answers = [row for row in rows if row.startswith((b"it = ", b"fault "))]
                 if len(answers) < 4 or rows[0] not in (b"it = 2 : int (work 3, depth 3)", MEMORY):
                     wrong.append(f"{where}: {short(out)}")
-            elif (status, complaint) in ((1, "repl: no memory"), (1, "batch: no memory"), (1, "")):
+            elif (status, complaint) in ((1, "repl: no memory"), (1, "")):
                 ended.append(where)
             else:
                 wrong.append(f"{where}: {ending(status)} {short(complaint)}")
