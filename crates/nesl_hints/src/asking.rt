@@ -9,6 +9,7 @@ ghost use Rattle.nesl_hints_places.specs.Within.{IsWithin};
 
 use nesl_hints_faults::{Asked, hint_on_fault};
 use nesl_hints_places::Hint;
+use nesl_session::Fault;
 use nesl_session::session::Session;
 use std::alloc::{AllocError, Global};
 
@@ -40,6 +41,32 @@ pub fn hint(alloc: Global, session: &Session, text: &[u8]) -> Result<Option<Hint
     };
     let hint = hint_on_fault(&asked, fault)?;
     Ok(Some(hint.within(form.len())))
+}
+
+/// What a person is told of a whole form that the session has just refused for this fault; `None` where the fault says
+/// nothing of the form. The fault is not found once more, so the session may be another by now: the form may have used
+/// up its work, or the last of its lines.
+///
+/// # Errors
+/// Memory ran out, in an evaluation or for the sentence.
+pub fn hint_below(
+    alloc: Global,
+    session: &Session,
+    form: &[u8],
+    fault: Fault,
+) -> Result<Option<Hint>, AllocError>
+    ensures { IfOk result (λ hint. IfSome hint (IsWithin (length form.now))) }
+{
+    if let Fault::Memory | Fault::User | Fault::Busy = fault {
+        return Ok(None);
+    }
+    let asked = Asked {
+        alloc,
+        session,
+        text: form,
+    };
+    let found = hint_on_fault(&asked, fault)?;
+    Ok(Some(found.within(form.len())))
 }
 
 // The parts of a form, and the line behind them.

@@ -3,5 +3,5 @@
 
 mod asking;
 
-pub use asking::hint;
+pub use asking::{hint, hint_below};
 pub use nesl_hints_places::Hint;

@@ -7,8 +7,11 @@ use nesl_eval_sound::refers_to;
 use nesl_hints_places::{Hint, add_parts, join_parts};
 use nesl_lex::token::{Kind, Span, Token};
 use nesl_syntax_tree::tree::Form;
-use nesl_types::{Top, scheme_text, type_text};
+use nesl_types::{Scheme, Top, scheme_text, type_text};
 use std::alloc::AllocError;
+
+/// The most nodes of a type that a sentence has.
+const MOST_NODES: u64 = 96;
 
 /// The name that a form binds.
 fn name_of(form: &Form) -> &[u8] {
@@ -51,14 +54,26 @@ fn payload_refers(payload: &Payload, name: &[u8]) -> bool {
     }
 }
 
-// What the name is now, in words.
-fn known_as(asked: &Asked<'_>, name: &[u8]) -> Result<Vec<u8>, AllocError> {
+// What the name is now, in words, where its type isn't large.
+fn known_as(asked: &Asked<'_>, name: &[u8]) -> Result<Option<Vec<u8>>, AllocError> {
     let context = asked.environment().context();
     match context.get(name) {
-        Some((Top::Variable(ty), _)) => type_text(asked.alloc, ty, context),
-        Some((Top::Function(scheme), _)) => scheme_text(asked.alloc, scheme, context),
-        _ => Ok(Vec::new(asked.alloc)),
+        Some((Top::Variable(ty), _)) if ty.nodes() <= MOST_NODES => {
+            Ok(Some(type_text(asked.alloc, ty, context)?))
+        }
+        Some((Top::Function(scheme), _)) if nodes_of(scheme) <= MOST_NODES => {
+            Ok(Some(scheme_text(asked.alloc, scheme, context)?))
+        }
+        _ => Ok(None),
     }
+}
+
+// The nodes of what a function takes and gives.
+fn nodes_of(scheme: &Scheme) -> u64 {
+    scheme
+        .argument
+        .nodes()
+        .saturating_add(scheme.result.nodes())
 }
 
 /// The type of a name would change to which another function refers.
@@ -69,14 +84,11 @@ pub(crate) fn retyped(
 ) -> Result<Hint, AllocError> {
     let name = name_of(form);
     let other = referring(asked, name).unwrap_or(b"");
-    let known = known_as(asked, name)?;
     let mut sentence = join_parts(asked.alloc, b"`", other, b"` refers to `")?;
-    add_parts(
-        &mut sentence,
-        name,
-        b"`, so this keeps its type, which is ",
-        known.as_slice(),
-    )?;
+    add_parts(&mut sentence, name, b"`, so this keeps its type", b"")?;
+    if let Some(known) = known_as(asked, name)? {
+        add_parts(&mut sentence, b", which is ", known.as_slice(), b"")?;
+    }
     sentence.extend_from_slice(b": take another name")?;
     Ok(Hint {
         place: place_of(tokens),

@@ -2,10 +2,10 @@
 //! evaluated once more.
 
 use crate::asked::{Asked, bytes_of};
+use crate::effort::Effort;
 use crate::finding::{expression_of, node_at};
 use crate::sources::{Source, form_of, source_of};
-use crate::values::LEVELS;
-use nesl_eval::{Outcome, eval_one};
+use nesl_eval::Outcome;
 use nesl_hints_names::bound_names;
 use nesl_hints_places::{add_parts, join_parts};
 use nesl_lex::lex;
@@ -16,9 +16,6 @@ use std::alloc::{AllocError, Global};
 
 /// The most calls that are replaced, one in the body of the other.
 const MOST_CALLS: u64 = 4;
-
-/// The most bytes of a form that calls were replaced in.
-const MOST_BYTES: usize = 65_536;
 
 /// The most pairs of names that are compared.
 const MOST_COMPARED: usize = 100_000;
@@ -36,15 +33,17 @@ pub(crate) struct Unfolded {
 /// Where in a called function a form is refused at this place, or `None` where no defined function is called there.
 pub(crate) fn unfold_calls(
     asked: &Asked<'_>,
+    effort: &mut Effort,
     form: &Form,
     place: Span,
     fault: Fault,
 ) -> Result<Option<Unfolded>, AllocError> {
-    let mut last = unfold_call(asked, asked.text, form, place, fault)?;
+    let mut last = unfold_call(asked, effort, asked.text, form, place, fault)?;
     for _ in 1..MOST_CALLS {
         let next = match &last {
             Some(inside) => unfold_call(
                 asked,
+                effort,
                 inside.text.as_slice(),
                 &inside.form,
                 inside.place,
@@ -63,6 +62,7 @@ pub(crate) fn unfold_calls(
 // The form with the call at a place replaced, and where it is refused for the same reason.
 fn unfold_call(
     asked: &Asked<'_>,
+    effort: &mut Effort,
     text: &[u8],
     form: &Form,
     place: Span,
@@ -71,14 +71,14 @@ fn unfold_call(
     let Some((name, argument)) = call_at(form, place) else {
         return Ok(None);
     };
-    let Some(source) = source_of(asked, name)? else {
+    let Some(source) = source_of(asked, effort, name)? else {
         return Ok(None);
     };
     if hides(asked.alloc, form, &source)? {
         return Ok(None);
     }
     let text = with_body(asked.alloc, text, place, argument, &source)?;
-    let Some((form, place)) = refused_again(asked, text.as_slice(), fault)? else {
+    let Some((form, place)) = refused_again(asked, effort, text.as_slice(), fault)? else {
         return Ok(None);
     };
     Ok(Some(Unfolded {
@@ -137,7 +137,8 @@ fn hides_one(bound: &[&[u8]], own: &[Token], used: &[Token]) -> bool {
         .iter()
         .filter(|token| name_in(*token).is_some())
         .count();
-    if bound.len().saturating_mul(count) > MOST_COMPARED {
+    let known = bound.len().saturating_add(own.len());
+    if known.saturating_mul(count) > MOST_COMPARED {
         return true;
     }
     for token in used {
@@ -181,37 +182,34 @@ fn name_in(token: &Token) -> Option<&[u8]> {
 // The form that the text is, and where it is refused, if it is for the same reason.
 fn refused_again(
     asked: &Asked<'_>,
+    effort: &mut Effort,
     text: &[u8],
     fault: Fault,
 ) -> Result<Option<(Form, Span)>, AllocError> {
-    if text.len() > MOST_BYTES {
+    if !effort.reaches(text.len()) {
         return Ok(None);
     }
     let Some(form) = form_of(asked.alloc, text) else {
         return Ok(None);
     };
-    match refused_at(asked, &form, fault)? {
+    match refused_at(asked, effort, &form, fault)? {
         Some(place) => Ok(Some((form, place))),
         None => Ok(None),
     }
 }
 
 // Where the evaluation of a form is refused, if it is for the same reason.
-fn refused_at(asked: &Asked<'_>, form: &Form, fault: Fault) -> Result<Option<Span>, AllocError> {
+fn refused_at(
+    asked: &Asked<'_>,
+    effort: &mut Effort,
+    form: &Form,
+    fault: Fault,
+) -> Result<Option<Span>, AllocError> {
     let Some(exp) = expression_of(form) else {
         return Ok(None);
     };
-    let Ok(_) = asked.session.meanings().infer_exp(asked.alloc, exp) else {
-        return Ok(None);
-    };
-    match eval_one(
-        asked.alloc,
-        asked.environment(),
-        exp,
-        LEVELS,
-        asked.budget(),
-    ) {
-        Outcome::Fault { trap, span, work } => {
+    match effort.evaluate(asked, exp) {
+        Some((_, Outcome::Fault { trap, span, work })) => {
             let found = Fault::of_trap(trap, Stop { span, work });
             if found.number() == fault.number() {
                 Ok(Some(span))
@@ -219,7 +217,7 @@ fn refused_at(asked: &Asked<'_>, form: &Form, fault: Fault) -> Result<Option<Spa
                 Ok(None)
             }
         }
-        Outcome::Memory => Err(AllocError),
+        Some((_, Outcome::Memory)) => Err(AllocError),
         _ => Ok(None),
     }
 }

@@ -3,6 +3,7 @@
 
 mod asked;
 mod definitions;
+mod effort;
 mod faults;
 mod finding;
 mod inside;

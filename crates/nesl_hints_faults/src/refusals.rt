@@ -1,6 +1,7 @@
 //! Evaluations that a function refuses.
 
 use crate::asked::{Asked, bytes_of};
+use crate::effort::Effort;
 use crate::finding::{expression_of, node_at};
 use crate::inside::{Unfolded, unfold_calls};
 use crate::values::value_of;
@@ -43,12 +44,14 @@ pub(crate) fn refused(asked: &Asked<'_>, form: &Form, fault: Fault) -> Result<Hi
     let Some(stop) = stop_of(fault) else {
         return asked.whole(b"there is no room for what this would be");
     };
-    let sentence = match fault {
-        Fault::Deep(_) => outside_sentence(asked, form, stop.span, fault)?,
-        _ => match unfold_calls(asked, form, stop.span, fault)? {
-            Some(inside) => inside_sentence(asked, &inside, fault)?,
-            None => outside_sentence(asked, form, stop.span, fault)?,
-        },
+    let mut effort = Effort::whole();
+    let inside = match fault {
+        Fault::Deep(_) => None,
+        _ => unfold_calls(asked, &mut effort, form, stop.span, fault)?,
+    };
+    let sentence = match inside {
+        Some(inside) => inside_sentence(asked, &inside, fault)?,
+        None => outside_sentence(asked, &mut effort, form, stop.span, fault)?,
     };
     Ok(Hint {
         place: stop.span,
@@ -65,6 +68,7 @@ fn part_at(form: &Form, place: Span) -> Option<&Exp> {
 // What is said of a part of the form.
 fn outside_sentence(
     asked: &Asked<'_>,
+    effort: &mut Effort,
     form: &Form,
     place: Span,
     fault: Fault,
@@ -75,7 +79,7 @@ fn outside_sentence(
     let said = said_of(fault, part);
     let mut sentence = join_parts(asked.alloc, said.front, said.name, said.back)?;
     sentence.extend_from_slice(said.said)?;
-    put_values(asked, &mut sentence, fault, part)?;
+    put_values(asked, effort, &mut sentence, fault, part)?;
     Ok(sentence)
 }
 
@@ -228,6 +232,7 @@ fn said(fault: Fault) -> &'static [u8] {
 // Writes the values of the parts that a function refuses, where they are short.
 fn put_values(
     asked: &Asked<'_>,
+    effort: &mut Effort,
     sentence: &mut Vec<u8>,
     fault: Fault,
     part: &Exp,
@@ -237,18 +242,18 @@ fn put_values(
     }
     match &part.node {
         Node::Infix { left, right, .. } => {
-            put_value(asked, sentence, b"; the left side is ", left)?;
-            put_value(asked, sentence, b"; the right side is ", right)
+            put_value(asked, effort, sentence, b"; the left side is ", left)?;
+            put_value(asked, effort, sentence, b"; the right side is ", right)
         }
         Node::Prefix { operand, .. } => {
-            put_value(asked, sentence, b"; it stands before ", operand)
+            put_value(asked, effort, sentence, b"; it stands before ", operand)
         }
         Node::Index { sequence, index } => {
-            put_value(asked, sentence, b"; the place is ", index)?;
-            put_value(asked, sentence, b"; the sequence is ", sequence)
+            put_value(asked, effort, sentence, b"; the place is ", index)?;
+            put_value(asked, effort, sentence, b"; the sequence is ", sequence)
         }
         Node::Call { argument, .. } => {
-            put_value(asked, sentence, b"; the argument is ", argument)
+            put_value(asked, effort, sentence, b"; the argument is ", argument)
         }
         _ => Ok(()),
     }
@@ -257,11 +262,12 @@ fn put_values(
 // Writes the value of a part, where it is short.
 fn put_value(
     asked: &Asked<'_>,
+    effort: &mut Effort,
     sentence: &mut Vec<u8>,
     front: &[u8],
     part: &Exp,
 ) -> Result<(), AllocError> {
-    if let Some(text) = value_of(asked, part)? {
+    if let Some(text) = value_of(asked, effort, part)? {
         sentence.extend_from_slice(front)?;
         sentence.extend_from_slice(text.as_slice())?;
     }

@@ -1,6 +1,7 @@
 //! The text of a function's definition.
 
 use crate::asked::Asked;
+use crate::effort::Effort;
 use nesl_eval_env::Payload;
 use nesl_lex::lex;
 use nesl_lex::token::Span;
@@ -19,8 +20,13 @@ pub(crate) struct Source {
     pub(crate) body: Span,
 }
 
-/// The last definition of a function of the session, or `None` where the name is none.
-pub(crate) fn source_of(asked: &Asked<'_>, name: &[u8]) -> Result<Option<Source>, AllocError> {
+/// The last definition of a function of the session, or `None` where the name is none, or the definition too long to be
+/// read once more.
+pub(crate) fn source_of(
+    asked: &Asked<'_>,
+    effort: &Effort,
+    name: &[u8],
+) -> Result<Option<Source>, AllocError> {
     let Some((_, payload)) = asked.environment().get(name) else {
         return Ok(None);
     };
@@ -29,6 +35,9 @@ pub(crate) fn source_of(asked: &Asked<'_>, name: &[u8]) -> Result<Option<Source>
         _ => return Ok(None),
     };
     let text = last_definition(asked, name)?;
+    if !effort.reaches(text.len()) {
+        return Ok(None);
+    }
     if is_definition(asked.alloc, text.as_slice(), name, parameter, body) {
         return Ok(Some(Source {
             text,

@@ -1,30 +1,27 @@
 //! Values of parts of a form, where they are short.
 
 use crate::asked::Asked;
-use nesl_eval::{Outcome, eval_one};
+use crate::effort::Effort;
+use nesl_eval::Outcome;
 use nesl_reply::value_text;
 use nesl_syntax_tree::tree::Exp;
 use nesl_types::Ty;
 use nesl_values::Value;
 use std::alloc::AllocError;
 
-/// The levels of an evaluation.
-pub(crate) const LEVELS: u32 = 1000;
-
 /// The most nodes of a value that a sentence has.
 const MOST_NODES: u64 = 16;
 
 /// What a part of a form comes to, in words: a short value, or how many elements it has. A part that has a local name
 /// in it comes to nothing.
-pub(crate) fn value_of(asked: &Asked<'_>, part: &Exp) -> Result<Option<Vec<u8>>, AllocError> {
-    let meanings = asked.session.meanings();
-    let Ok(ty) = meanings.infer_exp(asked.alloc, part) else {
-        return Ok(None);
-    };
-    let environment = asked.environment();
-    match eval_one(asked.alloc, environment, part, LEVELS, asked.budget()) {
-        Outcome::Done { value, .. } => in_words(asked, &value, &ty),
-        Outcome::Memory => Err(AllocError),
+pub(crate) fn value_of(
+    asked: &Asked<'_>,
+    effort: &mut Effort,
+    part: &Exp,
+) -> Result<Option<Vec<u8>>, AllocError> {
+    match effort.evaluate(asked, part) {
+        Some((ty, Outcome::Done { value, .. })) => in_words(asked, &value, &ty),
+        Some((_, Outcome::Memory)) => Err(AllocError),
         _ => Ok(None),
     }
 }

@@ -1,9 +1,13 @@
 //! Names that are near to one another.
 
-/// Whether two names differ by one byte more, one less, another one, or two neighbours that changed places.
+/// The most bytes of a name that is compared with others, of which a session may have many.
+const MOST_BYTES: usize = 256;
+
+/// Whether two names differ by one byte more, one less, another one, or two neighbours that changed places. Long names
+/// are near to none.
 pub fn near(first: &[u8], second: &[u8]) -> bool {
     let longest = first.len().max(second.len());
-    if first.len().min(second.len()).saturating_add(1) < longest {
+    if longest > MOST_BYTES || first.len().min(second.len()).saturating_add(1) < longest {
         return false;
     }
     let front = first

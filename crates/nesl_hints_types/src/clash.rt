@@ -63,8 +63,8 @@ pub struct Clash<'e> {
 /// What there isn't enough of.
 #[derive(Clone, Copy)]
 pub enum Shortage {
-    /// Types that may be guessed: the form is too large to be looked at.
-    Guesses,
+    /// Steps: the form is too large to be looked at.
+    Steps,
     /// Memory.
     Memory,
 }

@@ -42,6 +42,7 @@ impl Guesses {
         places: &[usize],
         variables: &[usize],
     ) -> Result<usize, Shortage> {
+        self.step()?;
         match shape {
             Shape::Int => self.add(Guess::Int),
             Shape::Bool => self.add(Guess::Bool),

@@ -2,7 +2,8 @@
 
 use crate::clash::{Clash, Halt, Role};
 use crate::guesses::of_class;
-use crate::walk::{Local, Own, Walk};
+use crate::names::Names;
+use crate::walk::{Own, Walk};
 use nesl_lex::token::Span;
 use nesl_syntax_tree::tree as syntax;
 use nesl_syntax_tree::tree::{Exp, Form, Pattern, Signature};
@@ -78,7 +79,7 @@ impl<'e> Walk<'e> {
         signature: &'e Signature,
         takes: usize,
     ) -> Result<(Span, usize), Halt<'e>> {
-        let mut names = Vec::new(self.alloc);
+        let mut names = Names::new(self.alloc);
         let from = self.written(&signature.from, &mut names)?;
         let to = self.written(&signature.to, &mut names)?;
         self.sign_members(signature, &mut names)?;
@@ -94,7 +95,7 @@ impl<'e> Walk<'e> {
     fn sign_members(
         &mut self,
         signature: &'e Signature,
-        names: &mut Vec<Local<'e>>,
+        names: &mut Names<'e>,
     ) -> Result<(), Halt<'e>> {
         for member in &signature.members {
             let wanted = self.add(of_class(class_of(member.class)))?;

@@ -7,6 +7,12 @@ use std::alloc::Global;
 /// The most guesses that are made of one form.
 const MOST_GUESSES: usize = 500_000;
 
+/// The steps that are taken for each byte of a form.
+const STEPS_PER_BYTE: u64 = 128;
+
+/// The fewest bytes that a form is taken to have, since a short one may call functions with large types.
+const FEWEST_BYTES: usize = 8_192;
+
 /// What is known of a type so far. Its parts are given by their places.
 #[derive(Clone, Copy)]
 pub enum Guess {
@@ -28,13 +34,27 @@ pub enum Guess {
     Pair(usize, usize),
 }
 
+/// What stands at a place.
+#[derive(Clone, Copy)]
+struct Slot {
+    guess: Guess,
+    /// How many places have their type here, this one included.
+    weight: usize,
+    /// The number of the search that came by last.
+    seen: u64,
+}
+
 /// Types that are being found, each known by its place.
 #[derive(Drop)]
 pub struct Guesses {
     pub(crate) alloc: Global,
-    guesses: Vec<Guess>,
+    slots: Vec<Slot>,
     /// What stood before at the places that were changed since the last mark.
     before: Vec<(usize, Guess)>,
+    /// The steps that are left.
+    steps: u64,
+    /// The number of the last search.
+    searches: u64,
 }
 
 /// What is known of a type of this class.
@@ -46,22 +66,46 @@ pub(crate) fn of_class(class: Class) -> Guess {
 }
 
 impl Guesses {
-    /// No types.
-    pub(crate) fn new(alloc: Global) -> Guesses {
+    /// No types of a form of so many bytes.
+    pub(crate) fn new(alloc: Global, bytes: usize) -> Guesses {
+        let counted = bytes.max(FEWEST_BYTES) as u64;
         Guesses {
             alloc,
-            guesses: Vec::new(alloc),
+            slots: Vec::new(alloc),
             before: Vec::new(alloc),
+            steps: counted.saturating_mul(STEPS_PER_BYTE),
+            searches: 0,
         }
+    }
+
+    /// Takes a step, if one is left.
+    pub(crate) fn step(&mut self) -> Result<(), Shortage> {
+        match self.steps.checked_sub(1) {
+            Some(left) => {
+                self.steps = left;
+                Ok(())
+            }
+            None => Err(Shortage::Steps),
+        }
+    }
+
+    /// The steps that are left.
+    pub(crate) fn steps(&self) -> u64 {
+        self.steps
     }
 
     /// One more type.
     pub(crate) fn add(&mut self, guess: Guess) -> Result<usize, Shortage> {
-        let place = self.guesses.len();
+        self.step()?;
+        let place = self.slots.len();
         if place >= MOST_GUESSES {
-            return Err(Shortage::Guesses);
+            return Err(Shortage::Steps);
         }
-        self.guesses.push(guess)?;
+        self.slots.push(Slot {
+            guess,
+            weight: 1,
+            seen: 0,
+        })?;
         Ok(place)
     }
 
@@ -80,17 +124,37 @@ impl Guesses {
         Ok(places)
     }
 
+    // What stands at a place.
+    fn at(&self, place: usize) -> Guess {
+        match self.slots.get(place) {
+            Some(slot) => slot.guess,
+            None => Guess::Open(Class::Any),
+        }
+    }
+
     /// What is known of the type at a place, and the place where that stands.
     pub fn find(&self, place: usize) -> (usize, Guess) {
         let mut at = place;
-        for _ in 0..self.guesses.len() {
-            match self.guesses.get(at) {
-                Some(Guess::Same(next)) => at = *next,
-                Some(guess) => return (at, *guess),
-                None => return (at, Guess::Open(Class::Any)),
+        for _ in 0..self.slots.len() {
+            match self.at(at) {
+                Guess::Same(next) => at = next,
+                guess => return (at, guess),
             }
         }
         (at, Guess::Open(Class::Any))
+    }
+
+    /// The same, where each link that is followed is a step.
+    pub(crate) fn look(&mut self, place: usize) -> Result<(usize, Guess), Shortage> {
+        let mut at = place;
+        for _ in 0..self.slots.len() {
+            self.step()?;
+            match self.at(at) {
+                Guess::Same(next) => at = next,
+                guess => return Ok((at, guess)),
+            }
+        }
+        Ok((at, Guess::Open(Class::Any)))
     }
 
     /// What is known of the type at a place.
@@ -99,14 +163,61 @@ impl Guesses {
         guess
     }
 
+    /// A search begins, which has come by no place yet.
+    pub(crate) fn search(&mut self) {
+        self.searches = self.searches.saturating_add(1);
+    }
+
+    /// Whether the search comes by a place for the first time.
+    pub(crate) fn is_new(&mut self, place: usize) -> bool {
+        let search = self.searches;
+        match self.slots.get_mut(place) {
+            Some(slot) if slot.seen < search => {
+                slot.seen = search;
+                true
+            }
+            _ => false,
+        }
+    }
+
     /// What stands from now on is noted, until it is taken back or marked again.
     pub(crate) fn mark(&mut self) {
         self.before.clear();
     }
 
-    /// This is known from now on of the type at a place.
-    pub(crate) fn set(&mut self, place: usize, guess: Guess) -> Result<(), Shortage> {
-        let (_, old) = self.find(place);
+    /// The types that stand at two places are one from now on, of which this is known. The one that fewer places have
+    /// refers to the other, so no path is longer than the binary digits of the number of places.
+    pub(crate) fn unite(
+        &mut self,
+        first: usize,
+        second: usize,
+        known: Guess,
+    ) -> Result<(), Shortage> {
+        let (less, more) = if self.weight(first) > self.weight(second) {
+            (second, first)
+        } else {
+            (first, second)
+        };
+        let weight = self.weight(less).saturating_add(self.weight(more));
+        self.set(less, Guess::Same(more))?;
+        self.set(more, known)?;
+        if let Some(slot) = self.slots.get_mut(more) {
+            slot.weight = weight;
+        }
+        Ok(())
+    }
+
+    // How many places have their type at this one.
+    fn weight(&self, place: usize) -> usize {
+        match self.slots.get(place) {
+            Some(slot) => slot.weight,
+            None => 0,
+        }
+    }
+
+    // This stands from now on at a place.
+    fn set(&mut self, place: usize, guess: Guess) -> Result<(), Shortage> {
+        let old = self.at(place);
         self.before.push((place, old))?;
         self.put(place, guess);
         Ok(())
@@ -122,8 +233,8 @@ impl Guesses {
     }
 
     fn put(&mut self, place: usize, guess: Guess) {
-        if place < self.guesses.len() {
-            self.guesses[place] = guess;
+        if let Some(slot) = self.slots.get_mut(place) {
+            slot.guess = guess;
         }
     }
 }

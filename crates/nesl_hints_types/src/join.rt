@@ -5,9 +5,6 @@ use crate::guesses::{Guess, Guesses, of_class};
 use nesl_types::{Class, meet};
 use std::alloc::AllocError;
 
-/// The most parts that are looked at when two types are made the same.
-const MOST_PARTS: usize = 20_000;
-
 /// Whether the type is in the class, whose parts don't matter.
 fn is_in(class: Class, guess: Guess) -> bool {
     match class {
@@ -50,13 +47,26 @@ fn join_closed(
     }
 }
 
+// Leaves the parts of a type over.
+fn leave_parts(guess: Guess, rest: &mut Vec<usize>) -> Result<(), AllocError> {
+    match guess {
+        Guess::Sequence(item) => rest.push(item)?,
+        Guess::Pair(left, right) => {
+            rest.push(right)?;
+            rest.push(left)?;
+        }
+        _ => {}
+    }
+    Ok(())
+}
+
 impl Guesses {
     /// Makes two types the same, if they can be; if they can't, nothing changes.
     pub(crate) fn join(&mut self, first: usize, second: usize) -> Result<bool, Shortage> {
         self.mark();
         let mut rest = Vec::new(self.alloc);
         let mut next = Some((first, second));
-        for _ in 0..MOST_PARTS {
+        for _ in 0..self.steps() {
             let Some((one, other)) = next else {
                 return Ok(true);
             };
@@ -66,7 +76,7 @@ impl Guesses {
             }
             next = rest.pop();
         }
-        Err(Shortage::Guesses)
+        Err(Shortage::Steps)
     }
 
     // Makes two types the same but for their parts, which are left over.
@@ -76,88 +86,72 @@ impl Guesses {
         other: usize,
         rest: &mut Vec<(usize, usize)>,
     ) -> Result<bool, Shortage> {
-        let (first, left) = self.find(one);
-        let (second, right) = self.find(other);
+        let (first, left) = self.look(one)?;
+        let (second, right) = self.look(other)?;
         if first == second {
             return Ok(true);
         }
-        match (class_of(left), class_of(right)) {
-            (Some(class), Some(more)) => {
-                self.set(second, of_class(meet(class, more)))?;
-                self.set(first, Guess::Same(second))?;
-                Ok(true)
-            }
-            (Some(class), None) => self.close(first, class, second, right),
-            (None, Some(class)) => self.close(second, class, first, left),
-            (None, None) => {
-                if !join_closed(left, right, rest)? {
-                    return Ok(false);
-                }
-                self.set(first, Guess::Same(second))?;
-                Ok(true)
-            }
+        let (fits, known) = match (class_of(left), class_of(right)) {
+            (Some(class), Some(more)) => (true, of_class(meet(class, more))),
+            (Some(class), None) => (self.closes(first, class, second, right)?, right),
+            (None, Some(class)) => (self.closes(second, class, first, left)?, left),
+            (None, None) => (join_closed(left, right, rest)?, right),
+        };
+        if fits {
+            self.unite(first, second, known)?;
         }
+        Ok(fits)
     }
 
-    // Makes an open type this one.
-    fn close(
+    // Whether an open type of a class can be the one at a place, of which this is known.
+    fn closes(
         &mut self,
         open: usize,
         class: Class,
         place: usize,
         known: Guess,
     ) -> Result<bool, Shortage> {
-        if !is_in(class, known) || self.is_within(open, place)? {
-            return Ok(false);
-        }
-        self.set(open, Guess::Same(place))?;
-        Ok(true)
+        Ok(is_in(class, known) && !self.is_within(open, place)?)
     }
 
-    // Whether the type at a place is a part of another one.
-    fn is_within(&self, part: usize, place: usize) -> Result<bool, AllocError> {
+    // Whether the type at a place is a part of another one. A part that has several places is looked at once.
+    fn is_within(&mut self, part: usize, place: usize) -> Result<bool, Shortage> {
+        self.search();
         let mut rest = Vec::new(self.alloc);
         let mut next = Some(place);
-        for _ in 0..MOST_PARTS {
+        for _ in 0..self.steps() {
             let Some(here) = next else {
                 return Ok(false);
             };
-            let (at, guess) = self.find(here);
+            let (at, guess) = self.look(here)?;
             if at == part {
                 return Ok(true);
             }
-            match guess {
-                Guess::Sequence(item) => rest.push(item)?,
-                Guess::Pair(left, right) => {
-                    rest.push(right)?;
-                    rest.push(left)?;
-                }
-                _ => {}
+            if self.is_new(at) {
+                leave_parts(guess, &mut rest)?;
             }
             next = rest.pop();
         }
-        Ok(false)
+        Err(Shortage::Steps)
     }
 
-    /// Whether a part of the type is open still.
-    pub fn is_open(&self, place: usize) -> Result<bool, AllocError> {
+    /// Whether a part of the type is open still that the search hasn't come by.
+    pub(crate) fn is_open(&mut self, place: usize) -> Result<bool, Shortage> {
         let mut rest = Vec::new(self.alloc);
         let mut next = Some(place);
-        for _ in 0..MOST_PARTS {
+        for _ in 0..self.steps() {
             let Some(here) = next else {
                 return Ok(false);
             };
-            match self.guess(here) {
-                Guess::Open(_) => return Ok(true),
-                Guess::Sequence(item) => rest.push(item)?,
-                Guess::Pair(left, right) => {
-                    rest.push(right)?;
-                    rest.push(left)?;
+            let (at, guess) = self.look(here)?;
+            if self.is_new(at) {
+                match guess {
+                    Guess::Open(_) => return Ok(true),
+                    closed => leave_parts(closed, &mut rest)?,
                 }
-                _ => {}
             }
             next = rest.pop();
         }
-        Ok(false)
+        Err(Shortage::Steps)
     }
 }

@@ -7,6 +7,7 @@ mod copies;
 mod functions;
 pub mod guesses;
 mod join;
+mod names;
 mod patterns;
 pub mod walk;
 

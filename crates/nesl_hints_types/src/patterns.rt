@@ -2,7 +2,8 @@
 
 use crate::clash::{Clash, Halt, Role, Shortage};
 use crate::guesses::Guess;
-use crate::walk::{Local, Walk};
+use crate::names::Names;
+use crate::walk::Walk;
 use nesl_syntax_tree::tree::{Pattern, PatternNode, TypeExp, TypeNode};
 
 impl<'e> Walk<'e> {
@@ -23,8 +24,7 @@ impl<'e> Walk<'e> {
     }
 
     fn bind_name(&mut self, name: &'e [u8], place: usize) -> Result<(), Halt<'e>> {
-        self.locals.push(Local { name, place })?;
-        Ok(())
+        Ok(self.names.bind(name, place)?)
     }
 
     // The parts of the type at a place, which has to be a pair.
@@ -63,7 +63,7 @@ impl<'e> Walk<'e> {
     pub(crate) fn written(
         &mut self,
         written: &'e TypeExp,
-        names: &mut Vec<Local<'e>>,
+        names: &mut Names<'e>,
     ) -> Result<usize, Shortage> {
         match &written.node {
             TypeNode::Int => self.guesses.add(Guess::Int),
@@ -86,18 +86,16 @@ impl<'e> Walk<'e> {
     pub(crate) fn named_type(
         &mut self,
         name: &'e [u8],
-        names: &mut Vec<Local<'e>>,
+        names: &mut Names<'e>,
     ) -> Result<usize, Shortage> {
         if let Some((tag, _)) = self.datatype(name) {
             return self.guesses.add(Guess::Named(tag));
         }
-        for known in names.iter() {
-            if known.name == name {
-                return Ok(known.place);
-            }
+        if let Some(place) = names.place_of(name) {
+            return Ok(place);
         }
         let place = self.guesses.open()?;
-        names.push(Local { name, place })?;
+        names.bind(name, place)?;
         Ok(place)
     }
 }

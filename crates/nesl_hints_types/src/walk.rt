@@ -3,18 +3,12 @@
 use crate::clash::{Clash, Halt, Role, Shortage};
 use crate::copies::Ends;
 use crate::guesses::{Guess, Guesses};
+use crate::names::Names;
 use nesl_eval_env::Payload;
 use nesl_lex::token::Span;
 use nesl_syntax_tree::tree::{Binding, Exp, Node};
 use nesl_types::{Context, Top, Ty};
 use std::alloc::Global;
-
-/// A local name, and the place of its type.
-#[derive(Clone, Copy)]
-pub(crate) struct Local<'e> {
-    pub(crate) name: &'e [u8],
-    pub(crate) place: usize,
-}
 
 /// A function in whose body the walk is.
 #[derive(Clone, Copy)]
@@ -30,20 +24,20 @@ pub struct Walk<'e> {
     pub(crate) context: &'e Context<Payload>,
     /// The types of the parts.
     pub guesses: Guesses,
-    pub(crate) locals: Vec<Local<'e>>,
+    pub(crate) names: Names<'e>,
     pub(crate) own: Option<Own<'e>>,
     /// The calls so far, and the places of their types.
-    pub calls: Vec<(Span, usize)>,
+    pub(crate) calls: Vec<(Span, usize)>,
 }
 
 impl<'e> Walk<'e> {
-    /// A walk that has yet to begin, where names mean what they mean in this context.
-    pub fn new(alloc: Global, context: &'e Context<Payload>) -> Walk<'e> {
+    /// A walk that has yet to begin, over a form of so many bytes, where names mean what they mean in this context.
+    pub fn new(alloc: Global, context: &'e Context<Payload>, bytes: usize) -> Walk<'e> {
         Walk {
             alloc,
             context,
-            guesses: Guesses::new(alloc),
-            locals: Vec::new(alloc),
+            guesses: Guesses::new(alloc, bytes),
+            names: Names::new(alloc),
             own: None,
             calls: Vec::new(alloc),
         }
@@ -95,6 +89,17 @@ impl<'e> Walk<'e> {
         }
     }
 
+    /// The first call whose type is open, and the place of its type.
+    pub fn first_open(&mut self) -> Result<Option<(Span, usize)>, Shortage> {
+        self.guesses.search();
+        for (span, place) in &self.calls {
+            if self.guesses.is_open(*place)? {
+                return Ok(Some((*span, *place)));
+            }
+        }
+        Ok(None)
+    }
+
     // The place of the type of an expression without parts.
     fn check_leaf(&mut self, node: &'e Node) -> Result<usize, Halt<'e>> {
         Ok(self.leaf(node)?)
@@ -108,7 +113,7 @@ impl<'e> Walk<'e> {
             Node::Text(_) => self.text(),
             Node::Variable(name) => self.variable(name.as_slice()),
             Node::Empty(written) => {
-                let mut names = Vec::new(self.alloc);
+                let mut names = Names::new(self.alloc);
                 let item = self.written(written, &mut names)?;
                 self.guesses.add(Guess::Sequence(item))
             }
@@ -157,10 +162,10 @@ impl<'e> Walk<'e> {
 
     #[cycle(walk)]
     fn check_let(&mut self, bindings: &'e [Binding], body: &'e Exp) -> Result<usize, Halt<'e>> {
-        let before = self.locals.len();
+        let before = self.names.len();
         self.check_bindings(bindings)?;
         let found = self.check(body)?;
-        self.locals.truncate(before);
+        self.names.forget_behind(before)?;
         Ok(found)
     }
 
@@ -170,9 +175,9 @@ impl<'e> Walk<'e> {
         body: &'e Exp,
         bindings: &'e [Binding],
     ) -> Result<usize, Halt<'e>> {
-        let before = self.locals.len();
+        let before = self.names.len();
         let item = self.check_each(body, bindings)?;
-        self.locals.truncate(before);
+        self.names.forget_behind(before)?;
         self.add(Guess::Sequence(item))
     }
 
@@ -183,10 +188,10 @@ impl<'e> Walk<'e> {
         bindings: &'e [Binding],
         filter: &'e Exp,
     ) -> Result<usize, Halt<'e>> {
-        let before = self.locals.len();
+        let before = self.names.len();
         let item = self.check_each(body, bindings)?;
         self.check_as(filter, Guess::Bool, Role::Filter)?;
-        self.locals.truncate(before);
+        self.names.forget_behind(before)?;
         self.add(Guess::Sequence(item))
     }
 
@@ -293,11 +298,9 @@ impl<'e> Walk<'e> {
     }
 
     // The place of the type of a variable.
-    fn variable(&mut self, name: &[u8]) -> Result<usize, Shortage> {
-        for local in self.locals.iter().rev() {
-            if local.name == name {
-                return Ok(local.place);
-            }
+    fn variable(&mut self, name: &'e [u8]) -> Result<usize, Shortage> {
+        if let Some(place) = self.names.place_of(name) {
+            return Ok(place);
         }
         let context = self.context;
         match context.get(name) {

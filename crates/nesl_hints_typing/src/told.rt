@@ -12,8 +12,9 @@ use nesl_syntax_tree::tree::Form;
 use nesl_types::Context;
 use std::alloc::{AllocError, Global};
 
-/// The first part of a form, by parts, whose type is not what the rest of the form wants, or `None` where none was
-/// found. Places are cut off behind so many bytes.
+/// The first part of a form, by parts, whose type is not what the rest of the form wants, or the whole form where it
+/// takes too many steps to find one. It is `None` where there is none. The form has so many bytes, behind which places
+/// are cut off.
 pub fn ill_typed(
     alloc: Global,
     context: &Context<Payload>,
@@ -22,20 +23,36 @@ pub fn ill_typed(
 ) -> Result<Option<Hint>, AllocError>
     ensures { IfOk result (λ hint. IfSome hint (IsWithin len)) }
 {
-    let mut walk = Walk::new(alloc, context);
+    let mut walk = Walk::new(alloc, context, len);
     match walk.form(form) {
         Err(Halt::Found(clash)) => {
             let hint = hint_of(alloc, &walk.guesses, context, clash)?;
             Ok(Some(hint.within(len)))
         }
         Err(Halt::Short(Shortage::Memory)) => Err(AllocError),
-        Err(Halt::Short(Shortage::Guesses)) => Ok(None),
+        Err(Halt::Short(Shortage::Steps)) => {
+            let hint = unplaced(alloc, len)?;
+            Ok(Some(hint.within(len)))
+        }
         Ok(_) => Ok(None),
     }
 }
 
-/// The first call in a form whose type nothing decides, or `None` where none was found. Places are cut off behind so
-/// many bytes.
+// What is said of a form that is too large to be looked at.
+fn unplaced(alloc: Global, len: usize) -> Result<Hint, AllocError> {
+    let sentence = Vec::from_slice(
+        alloc,
+        b"two types don't fit, or one would have more than 4,096 nodes: the form is too large to find where",
+    )?;
+    Ok(Hint {
+        place: Span { start: 0, end: len },
+        second: None,
+        sentence,
+    })
+}
+
+/// The first call in a form whose type nothing decides, or `None` where none was found. The form has so many bytes,
+/// behind which places are cut off.
 pub fn ambiguous(
     alloc: Global,
     context: &Context<Payload>,
@@ -44,11 +61,11 @@ pub fn ambiguous(
 ) -> Result<Option<Hint>, AllocError>
     ensures { IfOk result (λ hint. IfSome hint (IsWithin len)) }
 {
-    let mut walk = Walk::new(alloc, context);
+    let mut walk = Walk::new(alloc, context, len);
     match walk.form(form) {
         Err(Halt::Short(Shortage::Memory)) => Err(AllocError),
         Ok(Some(whole)) => {
-            let (span, place) = first_open(&walk, whole)?;
+            let (span, place) = first_open(&mut walk, whole)?;
             let hint = undecided(alloc, &walk.guesses, context, span, place)?;
             Ok(Some(hint.within(len)))
         }
@@ -56,14 +73,13 @@ pub fn ambiguous(
     }
 }
 
-// The first call whose type is open, or the whole where there is none.
-fn first_open(walk: &Walk<'_>, whole: (Span, usize)) -> Result<(Span, usize), AllocError> {
-    for (span, place) in &walk.calls {
-        if walk.guesses.is_open(*place)? {
-            return Ok((*span, *place));
-        }
+// The first call whose type is open, or the whole where none was found.
+fn first_open(walk: &mut Walk<'_>, whole: (Span, usize)) -> Result<(Span, usize), AllocError> {
+    match walk.first_open() {
+        Ok(Some(call)) => Ok(call),
+        Ok(None) | Err(Shortage::Steps) => Ok(whole),
+        Err(Shortage::Memory) => Err(AllocError),
     }
-    Ok(whole)
 }
 
 // What is said of a part whose type is open.

@@ -8,6 +8,9 @@ use std::alloc::{AllocError, Global};
 /// The most pieces of a type that a sentence has.
 const MOST_PIECES: usize = 96;
 
+/// The bytes behind which a type goes on by no other piece, since the names of datatypes may be long.
+const MOST_BYTES: usize = 4_096;
+
 /// A piece of a text that is still to be written.
 #[derive(Clone, Copy)]
 enum Piece {
@@ -61,6 +64,9 @@ impl<'a> Words<'a> {
             let Some(piece) = next else {
                 return Ok(out);
             };
+            if out.len() > MOST_BYTES {
+                break;
+            }
             self.write(piece, &mut out, &mut pieces)?;
             next = pieces.pop();
         }

@@ -1,6 +1,6 @@
 //! The hints on forms that were answered by a fault.
 
-use nesl_hints::{Hint, hint};
+use nesl_hints::{Hint, hint_below};
 use nesl_line::hinted::Hinter;
 use nesl_session::answer::Answer;
 use nesl_session::session::Session;
@@ -41,21 +41,15 @@ fn placed_sentence(
     Ok(Some(text))
 }
 
-/// A hint on a form that the session has just answered so. There is none where the session, as it is now, would refuse
-/// the form for another reason: the form may have used up its work, or the last of its lines.
+/// A hint on a form that the session has just answered so.
 pub(crate) fn hint_on(
     alloc: Global,
     session: &Session,
     form: &[u8],
     answer: &Answer,
 ) -> Result<Option<Hint>, AllocError> {
-    let Some(fault) = answer.fault() else {
-        return Ok(None);
-    };
-    // A fault that leaves the session as it was leaves it the parts of the form, too.
-    let line = form.strip_prefix(session.pending()).unwrap_or(form);
-    if session.fault_of(alloc, line)? != Some(fault) {
-        return Ok(None);
+    match answer.fault() {
+        Some(fault) => hint_below(alloc, session, form, fault),
+        None => Ok(None),
     }
-    hint(alloc, session, line)
 }
