@@ -1,6 +1,6 @@
 //! Principal types.
 
-ghost use Rattle.std.specs.Prelude.{◌≡◌, ℕ, option_map, IfOk, IsErrOf, MatchOption};
+ghost use Rattle.std.specs.Prelude.{◌≡◌, ℕ, Err, option_map, IfErr, IfOk, IsErrOf, MatchOption};
 ghost use Rattle.nesl_infer_rules.specs.Steps.{Gives};
 ghost use Rattle.nesl_syntax_tree.specs.Views.{tree_of, pattern_tree, signature_tree, type_tree};
 ghost use Rattle.nesl_infer.specs.Verdicts.{IsTypeOf, IsSchemeFor, IsDatatypeFor};
@@ -122,6 +122,48 @@ fn principal_scheme<P: Drop>(
     Ok(scheme)
 }
 
+/// From how many bytes on an expression is searched for unknown names before its equations are made. A long line can
+/// have so many that solving them takes seconds, which nobody needs where a name is unknown.
+const LONG: usize = 512;
+
+/// Whether an expression is long.
+fn is_long(exp: &Exp) -> bool {
+    exp.span.end.saturating_sub(exp.span.start) >= LONG
+}
+
+/// Refuses a long expression in which a name is unknown.
+fn check_names<P: Drop>(alloc: Global, context: &Context<P>, exp: &Exp) -> Result<(), InferFault>
+    ensures { IfErr result (λ f. IsTypeOf context.now (tree_of exp.now) (Err f)) }
+{
+    if is_long(exp) {
+        if let Some(span) = unknown_in_exp(alloc, context, exp)? {
+            return Err(InferFault::Unknown { span });
+        }
+    }
+    Ok(())
+}
+
+/// Refuses a function with a long body in which a name is unknown.
+fn check_names_in_function<P: Drop>(
+    alloc: Global,
+    context: &Context<P>,
+    name: &[u8],
+    pattern: &Pattern,
+    signature: &Option<Signature>,
+    body: &Exp,
+) -> Result<(), InferFault>
+    ensures { IfErr result (λ f. IsSchemeFor context.now name.now (pattern_tree pattern.now)
+        (option_map signature_tree signature.now) (tree_of body.now) (Err f)) }
+{
+    let _ = signature;
+    if is_long(body) {
+        if let Some(span) = unknown_in_function(alloc, context, name, pattern, body)? {
+            return Err(InferFault::Unknown { span });
+        }
+    }
+    Ok(())
+}
+
 /// The type of an expression at the top level.
 ///
 /// # Errors In this order: the first unknown name in the text; no type of at most 4,096 nodes for each node, name and
@@ -133,6 +175,7 @@ pub fn infer_exp<P: Drop>(alloc: Global, context: &Context<P>, exp: &Exp) -> Res
     if is_integer(context, exp) {
         return Ok(Ty::int(alloc)?);
     }
+    check_names(alloc, context, exp)?;
     match principal_type(alloc, context, exp) {
         Ok(PrincipalType { ty, classes: _ }) => {
             if is_below(0, &ty) {
@@ -165,6 +208,7 @@ pub fn infer_function<P: Drop>(
     ensures { IsSchemeFor context.now name.now (pattern_tree pattern.now) (option_map signature_tree signature.now)
         (tree_of body.now) result }
 {
+    check_names_in_function(alloc, context, name, pattern, signature, body)?;
     match principal_scheme(alloc, context, name, pattern, signature, body) {
         Ok(scheme) => Ok(scheme),
         Err(SolveFault::NoSolution) => {
