@@ -173,7 +173,8 @@ def stats_file(program, room):
                        (room / "none" / "stats", "there is no such file")):
         with Process(program, "--stats", str(place)) as process:
             status, printed = process.ended(SOON)
-            same(f"--stats {place}", (status, printed, process.complaint()), (1, "", f"serve: can't write {place}\n{why}"))
+            same(f"--stats {place}", (status, printed, process.complaint()),
+                 (1, "", f"serve: can't write {place}\n{why}"))
     same("what lies there", kinds(room), before)
     with Process(program, "--stats", str(path), "--connections", "1") as process:
         demand(process.listens(), f"it doesn't listen: {short(process.complaint())}")
@@ -198,7 +199,8 @@ def want_of_memory(program, room):
                 _, status, complaint = ran(program, *words, cwd=room, timeout=1,
                                            preexec_fn=prepared({"DATA": kilobytes << 10}, ()))
                 wanted = [(0, ""), (1, f"{words[0]}: no memory"), (1, "")]
-                demand((status, complaint) in wanted, f"{words[0]} in {kilobytes} KB: {ending(status)} {short(complaint)}")
+                demand((status, complaint) in wanted,
+                       f"{words[0]} in {kilobytes} KB: {ending(status)} {short(complaint)}")
                 found.append(complaint)
     demand(any(found), "memory was never refused")
     return f"{len(found) - found.count('')} times"
