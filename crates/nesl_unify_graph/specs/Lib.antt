@@ -1,0 +1,4 @@
+pub mod Instances
+pub mod Graph
+pub mod Tables
+pub mod Readings
