@@ -1,0 +1,4 @@
+pub mod Tables
+pub mod Expansions
+pub mod Steps
+pub mod Joins

@@ -1,4 +1,5 @@
 pub mod Instances
 pub mod Graph
 pub mod Tables
+pub mod Steps
 pub mod Readings

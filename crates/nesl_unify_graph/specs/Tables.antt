@@ -4,6 +4,7 @@ use Rattle.nesl_types_bank.specs.Term.{Term, nodes}
 use Rattle.nesl_unify_graph.specs.declared.node.Node.{Node}
 use Rattle.nesl_unify_graph.specs.declared.node.Node.TheVariants.{Free, Same, Int, Bool, Char, Named, SeqOf, Both, Part}
 use Rattle.nesl_unify_graph.specs.declared.instances.Instances.{Instances}
+use Rattle.nesl_unify_graph.specs.declared.unify.Pair.{Pair}
 use Rattle.nesl_unify_graph.specs.Instances.{IsPart}
 use Rattle.nesl_unify_graph.specs.Graph.{node_at, Fits}
 
@@ -27,3 +28,17 @@ IsTable i count ns = (p : ℕ) → p < length ns → IsPlaced i count (length ns
 pub record Continues (n : ℕ) (w z : ℕ → Term) : Type 0 where
   pub agrees : (p : ℕ) → p < n → z p ≡ w p
   pub bounded : (most : ℕ) → ((p : ℕ) → nodes (w p) ≤ most) → (p : ℕ) → nodes (z p) ≤ most
+
+-- both are places of a table of n places
+abbrev pub IsPairBelow : ℕ → Pair → Type 0
+IsPairBelow n p = (p.first < n) × (p.second < n)
+
+-- the types at the places of each pair are equal
+abbrev pub AreEqual : (ℕ → Term) → List Pair → Type 0
+AreEqual w pairs = All (λ p. w p.first ≡ w p.second) pairs
+
+-- new says what old says, and that the types at the places of each pair are equal; it may have more places
+pub record Joins (i : Instances) (old : List Node) (pending : List Pair) (new : List Node) : Type 0 where
+  pub longer : length old ≤ length new
+  pub sound : (w : ℕ → Term) → Fits i w new → Fits i w old × AreEqual w pending
+  pub complete : (w : ℕ → Term) → Fits i w old → AreEqual w pending → (z : ℕ → Term) × (Continues (length old) w z × Fits i z new)

@@ -2,8 +2,14 @@
 //! and the most general types that fit.
 #![tactic(auto)]
 
+mod expand;
+pub mod fault;
 pub mod instances;
 pub mod node;
+mod table;
+pub mod unify;
 
+pub use fault::SolveFault;
 pub use instances::{Instance, Instances, Source};
 pub use node::Node;
+pub use unify::Pair;
