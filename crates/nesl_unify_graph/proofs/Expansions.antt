@@ -164,6 +164,21 @@ spread_both i old mid new r k j h p q below above e a b =
       fewer = let d : nodes (part_type i r k) ≡ 1 + nodes (part_type i r j) + nodes (part_type i r h) = ap nodes e in omega (arith, d, a.fewer, b.fewer);
     }
 
+-- the part at a place of a table
+pub part_at : (i : Instances) (ns : List Node) (p r k : ℕ) → IsGraph i ns → p < length ns → node_at ns p ≡ Part r k → IsPart i r k
+part_at i ns p r k g l e = subst (IsPlaced i (length ns) (length ns) p) e (g.table p l)
+
+pub expandable_none : (n : Node) → ((r k : ℕ) → n ≡ Part r k → ⊥) → expandable n ≡ 0
+expandable_none Free h = refl
+expandable_none (Same q) h = refl
+expandable_none Int h = refl
+expandable_none Boolean h = refl
+expandable_none Char h = refl
+expandable_none (Named m) h = refl
+expandable_none (SeqOf q) h = refl
+expandable_none (Both q r) h = refl
+expandable_none (Part r k) h = absurd (h r k refl)
+
 -- the types of a table's places, continued to those after the first n
 continued : Instances → (ℕ → Term) → List Node → ℕ → ℕ → Term
 continued i w ns n p = cond (ltb p n) (w p) (node_type i w (w p) (node_at ns p))

@@ -1,9 +1,9 @@
 -- Two places that are made one.
 use Rattle.std.proofs.Common.{◌≡◌, ◌≢◌, ℕ, ◌+◌, ◌<◌, ◌≤◌, ◌↔◌, ◌++◌, inl, inr, List, [], ◌∷◌, length, get_or, set, sum_by, All, refl, sym, ap, ◌∙◌, subst, arith, length-append}
 use Rattle.std.proofs.lemmas.Bool.{cases_eq}
-use Rattle.std.proofs.lemmas.List.{get_or-set_other, length-set, length_push}
+use Rattle.std.proofs.lemmas.List.{get_or-set_other, get_or_read, length-set, length_push}
 use Rattle.std.proofs.lemmas.List.Sums.{sum_by-set}
-use Rattle.std.proofs.lemmas.List.Elements.{All-nil, All-cons, All-append}
+use Rattle.std.proofs.lemmas.List.Elements.{All-nil, All-cons, All-append, All-push}
 use Rattle.nesl_types_bank.specs.Term.{Term, seq_of, nodes}
 use Rattle.nesl_types_bank.proofs.Nodes.{nodes_positive}
 use Rattle.nesl_unify_graph.specs.declared.node.Node.{Node}
@@ -12,14 +12,15 @@ use Rattle.nesl_unify_graph.specs.declared.instances.Instances.{Instances}
 use Rattle.nesl_unify_graph.specs.declared.unify.Pair.{Pair}
 use Rattle.nesl_unify_graph.specs.declared.unify.Rest.{Rest}
 use Rattle.nesl_unify_graph.specs.declared.unify.Rest.TheVariants.{Nothing, One, Two}
+use Rattle.nesl_unify_graph.specs.declared.unify.Meeting.{Meeting}
 use Rattle.nesl_unify_graph.specs.Graph.{node_at, node_type, Fits, IsRoot}
 use Rattle.nesl_unify_graph.specs.Tables.{IsPlaced, IsTable, IsPairBelow, AreEqual, Continues}
-use Rattle.nesl_unify_graph.specs.Steps.{IsGraph, Agree, LieBelow, Moves, AreContinued, merged, pairs_of, part_type, weight}
+use Rattle.nesl_unify_graph.specs.Steps.{IsGraph, IsMeeting, Agree, LieBelow, Differ, Moves, AreContinued, merged, pairs_of, part_type, weight, expandable}
 use Rattle.nesl_unify_graph.proofs.Tables.{Describes, each_set, here_set, other_set}
-use Rattle.nesl_unify_graph.proofs.Steps.{Equals, All_left, All_right, equal_first, equal_second, popped_equal, continues_none}
+use Rattle.nesl_unify_graph.proofs.Steps.{Equals, All_left, All_right, equal_first, equal_second, popped_equal, continues_none, moves_more, moves_with, pairs_longer}
 
 -- two nodes one of which says nothing, or that are equal
-pub agree_free : (i : Instances) (n : Node) → Agree i Free n Nothing
+agree_free : (i : Instances) (n : Node) → Agree i Free n Nothing
 agree_free i n w t = (λ h. (h.1, All-nil (Equals w)), λ h. (refl, h.0))
 
 merged_free : (n : Node) → merged n Free ≡ n
@@ -44,11 +45,17 @@ merged_same (SeqOf q) = refl
 merged_same (Both q r) = refl
 merged_same (Part r k) = refl
 
-pub agree_with_free : (i : Instances) (n : Node) → Agree i n Free Nothing
+agree_with_free : (i : Instances) (n : Node) → Agree i n Free Nothing
 agree_with_free i n w t = rw (merged_free n) (λ h. (h.0, All-nil (Equals w)), λ h. (h.0, refl))
 
 pub agree_same : (i : Instances) (a b : Node) → a ≡ b → Agree i a b Nothing
 agree_same i a b e = rw (← e) (λ w t. rw (merged_same a) (λ h. (h.0, All-nil (Equals w)), λ h. (h.0, h.0)))
+
+pub agree_first_free : (i : Instances) (a b : Node) → a ≡ Free → Agree i a b Nothing
+agree_first_free i a b e = rw e (agree_free i b)
+
+pub agree_second_free : (i : Instances) (a b : Node) → b ≡ Free → Agree i a b Nothing
+agree_second_free i a b e = rw e (agree_with_free i a)
 
 pub below_nothing : (i : Instances) (a b : Node) → LieBelow i a b Nothing
 below_nothing i a b n low high h k = All-nil (IsPairBelow n)
@@ -91,6 +98,58 @@ agree_both i a b q r j k e d = rw (e, d) (agree_both_of i (record { first = q; s
 pub below_both : (i : Instances) (a b : Node) (q r j k : ℕ) → a ≡ Both q r → b ≡ Both j k → LieBelow i a b (Two (record { first = q; second = j }) (record { first = r; second = k }))
 below_both i a b q r j k e d =
     rw (e, d) (λ n low high h l. All-cons (IsPairBelow n) (record { first = q; second = j }) (record { first = r; second = k } ∷ []) (h.0, l.0) (one_below n (record { first = r; second = k }) (h.1, l.1)))
+
+-- nodes of different kinds
+
+pub differ_int : (i : Instances) → (a b : Node) → a ≡ Int → IsRoot b → (b ≡ Free → ⊥) → (b ≡ Int → ⊥) → ((r k : ℕ) → b ≡ Part r k → ⊥) → Differ i a b
+differ_int i a Free e r f n p w t h k = absurd (f refl)
+differ_int i a (Same u) e r f n p w t h k = absurd r
+differ_int i a Int e r f n p w t h k = absurd (n refl)
+differ_int i a (Part j u) e r f n p w t h k = absurd (p j u refl)
+differ_int i a b e r f n p w t h k = let g = h ∙ ap (node_type i w t) e in absurd cc
+
+pub differ_bool : (i : Instances) → (a b : Node) → a ≡ Bool → IsRoot b → (b ≡ Free → ⊥) → (b ≡ Bool → ⊥) → ((r k : ℕ) → b ≡ Part r k → ⊥) → Differ i a b
+differ_bool i a Free e r f n p w t h k = absurd (f refl)
+differ_bool i a (Same u) e r f n p w t h k = absurd r
+differ_bool i a Bool e r f n p w t h k = absurd (n refl)
+differ_bool i a (Part j u) e r f n p w t h k = absurd (p j u refl)
+differ_bool i a b e r f n p w t h k = let g = h ∙ ap (node_type i w t) e in absurd cc
+
+pub differ_char : (i : Instances) → (a b : Node) → a ≡ Char → IsRoot b → (b ≡ Free → ⊥) → (b ≡ Char → ⊥) → ((r k : ℕ) → b ≡ Part r k → ⊥) → Differ i a b
+differ_char i a Free e r f n p w t h k = absurd (f refl)
+differ_char i a (Same u) e r f n p w t h k = absurd r
+differ_char i a Char e r f n p w t h k = absurd (n refl)
+differ_char i a (Part j u) e r f n p w t h k = absurd (p j u refl)
+differ_char i a b e r f n p w t h k = let g = h ∙ ap (node_type i w t) e in absurd cc
+
+pub differ_named : (i : Instances) → (m : ℕ) → (a b : Node) → a ≡ Named m → IsRoot b → (b ≡ Free → ⊥) → ((x : ℕ) → b ≡ Named x → ⊥) → ((r k : ℕ) → b ≡ Part r k → ⊥) → Differ i a b
+differ_named i m a Free e r f n p w t h k = absurd (f refl)
+differ_named i m a (Same u) e r f n p w t h k = absurd r
+differ_named i m a (Named x) e r f n p w t h k = absurd (n x refl)
+differ_named i m a (Part j u) e r f n p w t h k = absurd (p j u refl)
+differ_named i m a b e r f n p w t h k = let g = h ∙ ap (node_type i w t) e in absurd cc
+
+pub differ_seq : (i : Instances) → (m : ℕ) → (a b : Node) → a ≡ SeqOf m → IsRoot b → (b ≡ Free → ⊥) → ((x : ℕ) → b ≡ SeqOf x → ⊥) → ((r k : ℕ) → b ≡ Part r k → ⊥) → Differ i a b
+differ_seq i m a Free e r f n p w t h k = absurd (f refl)
+differ_seq i m a (Same u) e r f n p w t h k = absurd r
+differ_seq i m a (SeqOf x) e r f n p w t h k = absurd (n x refl)
+differ_seq i m a (Part j u) e r f n p w t h k = absurd (p j u refl)
+differ_seq i m a b e r f n p w t h k = let g = h ∙ ap (node_type i w t) e in absurd cc
+
+pub differ_both : (i : Instances) → (m : ℕ) (l : ℕ) → (a b : Node) → a ≡ Both m l → IsRoot b → (b ≡ Free → ⊥) → ((x y : ℕ) → b ≡ Both x y → ⊥) → ((r k : ℕ) → b ≡ Part r k → ⊥) → Differ i a b
+differ_both i m l a Free e r f n p w t h k = absurd (f refl)
+differ_both i m l a (Same u) e r f n p w t h k = absurd r
+differ_both i m l a (Both x y) e r f n p w t h k = absurd (n x y refl)
+differ_both i m l a (Part j u) e r f n p w t h k = absurd (p j u refl)
+differ_both i m l a b e r f n p w t h k = let g = h ∙ ap (node_type i w t) e in absurd cc
+
+-- what is read of a table
+pub read_node : (ns : List Node) (p : ℕ) (x : Node) → p < length ns → x ≡ get_or ns p x → x ≡ node_at ns p
+read_node ns p x l e = get_or_read ns p x l e Free
+
+pub meeting_at : (ns : List Node) (p q : ℕ) (x y : Node) (m : Meeting) → p < length ns → q < length ns → x ≡ get_or ns p x → y ≡ get_or ns q y → IsMeeting x y m →
+    IsMeeting (node_at ns p) (node_at ns q) m
+meeting_at ns p q x y m j k e d h = subst (λ (n : Node). IsMeeting n (node_at ns q) m) (read_node ns p x j e) (subst (λ (n : Node). IsMeeting x n m) (read_node ns q y k d) h)
 
 -- a table with the place `high` linked to `low`, at which n stands
 abbrev linked : List Node → ℕ → ℕ → Node → List Node
@@ -246,3 +305,27 @@ module _ (i : Instances) (ns new : List Node) (pair : Pair) (rest : Rest) (pendi
 
   pub join_fewer : IsRoot (node_at ns pair.first) → IsRoot (node_at ns pair.second) → sum_by (weight i) new + length more ≤ sum_by (weight i) ns + length pending
   join_fewer lower higher = rw (at, left) (linked_fewer i ns pair.first pair.second rest pending order inside lower higher)
+
+-- what stands after the parts of instances at a pair's places are expanded, where `mid` is the table in between
+module _ (i : Instances) (old mid new : List Node) (pair : Pair) (pending more : List Pair) (left : more ≡ pending ++ pair ∷ []) (order : pair.first < pair.second) (inside : pair.second < length old)
+  (below : All (IsPairBelow (length old)) pending) (first : Moves i old [] mid []) (second : Moves i mid [] new []) where
+
+  later_all : All (IsPairBelow (length old)) (pending ++ pair ∷ [])
+  later_all = let x : pair.first < length old = omega arith in All-push (IsPairBelow (length old)) pending pair below (x, inside)
+
+  pub later_moves : Moves i old (pending ++ pair ∷ []) new more
+  later_moves =
+      let ps = pending ++ pair ∷ [] in
+      rw left (moves_more i old mid new ps ps ps (moves_with i old mid ps later_all first)
+      (moves_with i mid new ps (pairs_longer (length old) (length mid) ps first.longer later_all) second))
+
+  pub later_pending : All (IsPairBelow (length new)) more
+  later_pending = let l : length old ≤ length new = omega (arith, first.longer, second.longer) in rw left (pairs_longer (length old) (length new) (pending ++ pair ∷ []) l later_all)
+
+  pub later_fewer : node_at mid pair.second ≡ node_at old pair.second → 1 ≤ expandable (node_at old pair.first) + expandable (node_at old pair.second) →
+      sum_by (weight i) mid + expandable (node_at old pair.first) ≤ sum_by (weight i) old → sum_by (weight i) new + expandable (node_at mid pair.second) ≤ sum_by (weight i) mid →
+      sum_by (weight i) new + length more ≤ sum_by (weight i) old + length pending
+  later_fewer kept some a b =
+      let e : expandable (node_at mid pair.second) ≡ expandable (node_at old pair.second) = ap expandable kept in
+      let l : length more ≡ length pending + 1 = ap length left ∙ length_push pending pair in
+      omega (arith, e, l, some, a, b)

@@ -1,5 +1,5 @@
 -- One step after another, by which places are made one.
-use Rattle.std.proofs.Common.{◌≡◌, ℕ, ◌<◌, ◌≤◌, ◌↔◌, ◌++◌, List, [], ◌∷◌, All, length, sum_by, refl, sym, ap, ◌∙◌, subst, arith, length-append}
+use Rattle.std.proofs.Common.{◌≡◌, ℕ, ◌+◌, ◌<◌, ◌≤◌, ◌↔◌, ◌++◌, List, [], ◌∷◌, All, length, sum_by, refl, sym, ap, ◌∙◌, subst, arith, length-append}
 use Rattle.std.proofs.lemmas.List.{get_or_append_left, get_or-append-add}
 use Rattle.std.proofs.lemmas.List.Elements.{All-nil, All-push, All-same, All-weaker}
 use Rattle.nesl_types_bank.specs.Term.{Term, nodes}
@@ -8,9 +8,9 @@ use Rattle.nesl_unify_graph.specs.declared.node.Node.TheVariants.{Free, Same, In
 use Rattle.nesl_unify_graph.specs.declared.instances.Instances.{Instances}
 use Rattle.nesl_unify_graph.specs.declared.unify.Pair.{Pair}
 use Rattle.nesl_unify_graph.specs.Instances.{AreBelow}
-use Rattle.nesl_unify_graph.specs.Graph.{Fits}
+use Rattle.nesl_unify_graph.specs.Graph.{Fits, IsFlat}
 use Rattle.nesl_unify_graph.specs.Tables.{IsPlaced, IsTable, AreEqual, IsPairBelow, Continues, Joins}
-use Rattle.nesl_unify_graph.specs.Steps.{IsGraph, Moves, AreContinued}
+use Rattle.nesl_unify_graph.specs.Steps.{IsGraph, IsFound, Moves, AreContinued}
 
 abbrev pub Equals : (ℕ → Term) → Pair → Type 0
 Equals w p = w p.first ≡ w p.second
@@ -159,3 +159,37 @@ graph_of i count ns l below t = record {
 
 pub graph_after : (i : Instances) (old new : List Node) → length old ≤ length new → ((count : ℕ) → IsTable i count old → IsTable i count new) → IsGraph i old → IsGraph i new
 graph_after i old new l t g = graph_of i (length old) new l g.below (t (length old) g.table)
+
+-- two places and where their links end
+pub ends_equal : (w : ℕ → Term) (p q x y : ℕ) → w p ≡ w x → w q ≡ w y → (w p ≡ w q) ↔ (w x ≡ w y)
+ends_equal w p q x y a b = (λ e. sym a ∙ e ∙ b, λ e. a ∙ e ∙ sym b)
+
+pub ends_turned : (w : ℕ → Term) (p q x y : ℕ) → w p ≡ w x → w q ≡ w y → (w p ≡ w q) ↔ (w y ≡ w x)
+ends_turned w p q x y a b = (λ e. sym (sym a ∙ e ∙ b), λ e. a ∙ sym e ∙ sym b)
+
+-- the table that a slice is of
+pub found_of : (i : Instances) (old given put new : List Node) (pair ends : Pair) → given ≡ old → new ≡ put → IsFound i given put pair ends → IsFound i old new pair ends
+found_of i old given put new pair ends e d f = rw (← e, d) f
+
+pub found_moves : (i : Instances) (old new : List Node) (pending : List Pair) (pair ends : Pair) → IsFound i old new pair ends → Moves i old (pending ++ pair ∷ []) new (pending ++ ends ∷ [])
+found_moves i old new pending pair ends f = moves_found i old new pending pair ends f.len f.same f.equal
+
+pub found_graph : (i : Instances) (old new : List Node) (pair ends : Pair) → IsFound i old new pair ends → IsGraph i old → IsGraph i new
+found_graph i old new pair ends f g = graph_after i old new (omega (arith, f.len)) f.table g
+
+pub found_pending : (i : Instances) (old new : List Node) (pair ends : Pair) (pending : List Pair) → IsFound i old new pair ends → All (IsPairBelow (length old)) pending → All (IsPairBelow (length new)) pending
+found_pending i old new pair ends pending f h = subst (λ (n : ℕ). All (IsPairBelow n) pending) (sym f.len) h
+
+pub found_none : (i : Instances) (old new : List Node) (pair ends : Pair) → IsFound i old new pair ends → ((w : ℕ → Term) → Fits i w new → w ends.first ≡ w ends.second → ⊥) →
+    (w : ℕ → Term) → Fits i w old → w pair.first ≡ w pair.second → ⊥
+found_none i old new pair ends f none w h e = let g = (f.same w).1 h in none w g ((f.equal w g).0 e)
+
+-- a table in which all links are short
+pub record IsFlattened (i : Instances) (old new : List Node) : Type 0 where
+  pub len : length new ≡ length old
+  pub same : (w : ℕ → Term) → Fits i w new ↔ Fits i w old
+  pub table : (count : ℕ) → IsTable i count old → IsTable i count new
+  pub flat : IsFlat new
+
+pub flattened_of : (i : Instances) (old given put new : List Node) → given ≡ old → new ≡ put → IsFlattened i given put → IsFlattened i old new
+flattened_of i old given put new e d f = rw (← e, d) f

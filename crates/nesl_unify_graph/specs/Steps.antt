@@ -113,6 +113,14 @@ pub record Moves (i : Instances) (old : List Node) (before : List Pair) (new : L
   pub sound : (w : ℕ → Term) → Fits i w new → AreEqual w after → Fits i w old × AreEqual w before
   pub complete : (w : ℕ → Term) → Fits i w old → AreEqual w before → AreContinued i (length old) w new after
 
+-- new has shorter links than old, in which the links from a pair's places end at the places `ends`
+pub record IsFound (i : Instances) (old new : List Node) (pair ends : Pair) : Type 0 where
+  pub len : length new ≡ length old
+  pub same : (w : ℕ → Term) → Fits i w new ↔ Fits i w old
+  pub equal : (w : ℕ → Term) → Fits i w new → (w pair.first ≡ w pair.second) ↔ (w ends.first ≡ w ends.second)
+  pub table : (count : ℕ) → IsTable i count old → IsTable i count new
+  pub weight : sum_by (weight i) new ≡ sum_by (weight i) old
+
 -- of two nodes the one that isn't free
 abbrev pub merged : Node → Node → Node
 merged Free n = n

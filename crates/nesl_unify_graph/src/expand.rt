@@ -67,9 +67,12 @@ pub fn expand(instances: &Instances, nodes: &mut Vec<Node>, place: usize) -> Res
     ensures fewer { OnOk result (sum_by (weight instances.now) nodes.new.items
         + expandable (node_at nodes.old.items place) ≤ sum_by (weight instances.now) nodes.old.items) }
 {
-    if let Node::Part { instance, part } = nodes[place] {
-        let node = spread(instances, nodes, instance, part)?;
-        nodes[place] = node;
+    match nodes[place] {
+        Node::Part { instance, part } => {
+            let node = spread(instances, nodes, instance, part)?;
+            nodes[place] = node;
+            Ok(())
+        }
+        _ => Ok(()),
     }
-    Ok(())
 }

@@ -46,6 +46,7 @@ pub fn find(nodes: &mut [Node], place: usize) -> usize
     requires place { place < length nodes.old }
     ensures root { IsRoot (node_at nodes.new result) }
     ensures within { result < length nodes.new }
+    ensures links { LeadDown nodes.new }
     ensures same { (i : Instances) → (w : ℕ → Term) → Fits i w nodes.new ↔ Fits i w nodes.old }
     ensures equal { (i : Instances) → (w : ℕ → Term) → Fits i w nodes.new → w place ≡ w result }
     ensures table { (i : Instances) → (count : ℕ) → IsTable i count nodes.old → IsTable i count nodes.new }

@@ -1,12 +1,13 @@
 //! Places of a table made equal.
 
-ghost use Rattle.std.specs.Prelude.{◌≡◌, ◌<◌, ◌≤◌, ◌↔◌, ◌+◌, ◌++◌, ℕ, [], ◌∷◌, All, length, sum_by};
+ghost use Rattle.std.specs.Prelude.{◌≡◌, ◌<◌, ◌≤◌, ◌+◌, ◌++◌, ℕ, [], ◌∷◌, All, length, sum_by};
 ghost use Rattle.std.specs.Prelude.{IsErrOf, OnOk};
 ghost use Rattle.nesl_types_bank.specs.Term.{Term};
 ghost use Rattle.nesl_unify_graph.specs.Graph.{IsRoot, IsFlat, Fits, node_at};
 ghost use Rattle.nesl_unify_graph.specs.Instances.{AreBelow};
 ghost use Rattle.nesl_unify_graph.specs.Tables.{IsTable, IsPairBelow, AreEqual, Joins};
-ghost use Rattle.nesl_unify_graph.specs.Steps.{IsGraph, LeadDown, Moves, IsMeeting, joined, merged, pairs_of, weight};
+ghost use Rattle.nesl_unify_graph.specs.Steps.{IsFound, IsGraph, IsMeeting, LeadDown, Moves, joined, merged};
+ghost use Rattle.nesl_unify_graph.specs.Steps.{pairs_of, weight};
 
 use crate::expand::expand;
 use crate::fault::SolveFault;
@@ -174,11 +175,7 @@ fn find_both(nodes: &mut [Node], pair: Pair) -> Pair
     ensures within { result.second < length nodes.new }
     ensures first { IsRoot (node_at nodes.new result.first) }
     ensures second { IsRoot (node_at nodes.new result.second) }
-    ensures same { (i : Instances) → (w : ℕ → Term) → Fits i w nodes.new ↔ Fits i w nodes.old }
-    ensures equal { (i : Instances) → (w : ℕ → Term) → Fits i w nodes.new
-        → (w pair.first ≡ w pair.second) ↔ (w result.first ≡ w result.second) }
-    ensures table { (i : Instances) → (count : ℕ) → IsTable i count nodes.old → IsTable i count nodes.new }
-    ensures weight { (i : Instances) → sum_by (weight i) nodes.new ≡ sum_by (weight i) nodes.old }
+    ensures found { (i : Instances) → IsFound i nodes.old nodes.new pair result }
 {
     let first = find(nodes, pair.first);
     let second = find(nodes, pair.second);
@@ -190,6 +187,19 @@ fn find_both(nodes: &mut [Node], pair: Pair) -> Pair
             second: first,
         }
     }
+}
+
+/// The places without links where the links from two places of a growing table end, the smaller first.
+fn find_ends(nodes: &mut Vec<Node>, pair: Pair) -> Pair
+    requires links { LeadDown nodes.old.items }
+    requires pair { IsPairBelow (length nodes.old.items) pair }
+    ensures order { result.first ≤ result.second }
+    ensures within { result.second < length nodes.new.items }
+    ensures first { IsRoot (node_at nodes.new.items result.first) }
+    ensures second { IsRoot (node_at nodes.new.items result.second) }
+    ensures found { (i : Instances) → IsFound i nodes.old.items nodes.new.items pair result }
+{
+    find_both(nodes.as_mut_slice(), pair)
 }
 
 /// Makes the types at two places one.
@@ -212,7 +222,7 @@ fn equate(
     ensures fewer { OnOk result (sum_by (weight instances.now) nodes.new.items + length pending.new.items
         ≤ sum_by (weight instances.now) nodes.old.items + length pending.old.items) }
 {
-    let roots = find_both(nodes.as_mut_slice(), pair);
+    let roots = find_ends(nodes, pair);
     if roots.first < roots.second {
         meet(instances, nodes, pending, roots)?;
     }
