@@ -1,8 +1,8 @@
 -- Parts of instances that are expanded in a table.
-use Rattle.std.proofs.Common.{◌≡◌, ◌≢◌, ℕ, ◌+◌, ◌-◌, ◌*◌, ◌<◌, ◌≤◌, ◌++◌, Bool, true, false, cond, inl, inr, List, [], ◌∷◌, length, get_or, set, sum_by, refl, sym, ap, ◌∙◌, subst, arith, length-append}
+use Rattle.std.proofs.Common.{◌≡◌, ℕ, ◌+◌, ◌-◌, ◌*◌, ◌<◌, ◌≤◌, ◌++◌, cond, inl, inr, List, [], ◌∷◌, length, get_or, set, sum_by, refl, sym, ap, ◌∙◌, subst, arith}
 use Rattle.std.proofs.Math.Dec.{ltb}
 use Rattle.std.proofs.lemmas.Bool.{cases_eq, cases_lt, lt-ltb, le-ltb}
-use Rattle.std.proofs.lemmas.List.{get_or-set_other, get_or-set_same, get_or_past, get_or_push, get_or_append_left, length-set, length_push}
+use Rattle.std.proofs.lemmas.List.{get_or-set_other, get_or_past, get_or_push, get_or_append_left, length-set, length_push}
 use Rattle.std.proofs.lemmas.List.Sums.{sum_by-set, sum_by_push}
 use Rattle.std.proofs.lemmas.List.Elements.{All-nil}
 use Rattle.nesl_types_bank.specs.Term.{Term, int, bool, char, variable, seq_of, pair_of, named, nodes}
@@ -13,10 +13,10 @@ use Rattle.nesl_unify_graph.specs.declared.node.Node.{Node}
 use Rattle.nesl_unify_graph.specs.declared.node.Node.TheVariants.{Free, Same, Int, Bool as Boolean, Char, Named, SeqOf, Both, Part}
 use Rattle.nesl_unify_graph.specs.declared.instances.Instances.{Instances}
 use Rattle.nesl_unify_graph.specs.declared.unify.Pair.{Pair}
-use Rattle.nesl_unify_graph.specs.Instances.{parts_in, base_in, place_in, instance_type, IsPart, AreBelow}
+use Rattle.nesl_unify_graph.specs.Instances.{base_in, place_in, instance_type, IsPart, AreBelow}
 use Rattle.nesl_unify_graph.specs.Graph.{node_at, node_type, Fits}
-use Rattle.nesl_unify_graph.specs.Tables.{IsPlaced, IsTable, Continues, AreEqual}
-use Rattle.nesl_unify_graph.specs.Steps.{IsGraph, IsPiece, IsPut, IsPieceOf, IsSpread, FitsFrom, Moves, AreContinued, part_type, weight, expandable}
+use Rattle.nesl_unify_graph.specs.Tables.{IsPlaced, IsTable}
+use Rattle.nesl_unify_graph.specs.Steps.{IsGraph, IsPiece, IsPut, IsSpread, FitsFrom, Moves, AreContinued, part_type, weight, expandable}
 use Rattle.nesl_unify_graph.proofs.Tables.{Describes, each_set, here_set, other_set}
 
 -- types of the variables of a type are all that it sees
@@ -193,8 +193,7 @@ continued_from i w ns n p l = rw (le-ltb p n l)
 
 -- what node n of place `at` of old is expanded to, where mid has the new places
 module _ (i : Instances) (old mid : List Node) (r k at : ℕ) (n : Node) (graph : IsGraph i old) (inside : at < length old) (part : IsPart i r k) (here : node_at old at ≡ Part r k)
-  (spread : IsSpread i old mid r k n) where
-
+    (spread : IsSpread i old mid r k n) where
   inside_mid : at < length mid
   inside_mid = omega (arith, spread.longer)
 

@@ -1,10 +1,10 @@
 -- Two places that are made one.
-use Rattle.std.proofs.Common.{◌≡◌, ◌≢◌, ℕ, ◌+◌, ◌<◌, ◌≤◌, ◌↔◌, ◌++◌, inl, inr, List, [], ◌∷◌, length, get_or, set, sum_by, All, refl, sym, ap, ◌∙◌, subst, arith, length-append}
+use Rattle.std.proofs.Common.{◌≡◌, ◌≢◌, ℕ, ◌+◌, ◌<◌, ◌≤◌, ◌++◌, inl, inr, List, [], ◌∷◌, length, get_or, set, sum_by, All, refl, sym, ap, ◌∙◌, subst, arith, length-append}
 use Rattle.std.proofs.lemmas.Bool.{cases_eq}
 use Rattle.std.proofs.lemmas.List.{get_or-set_other, get_or_read, length-set, length_push}
 use Rattle.std.proofs.lemmas.List.Sums.{sum_by-set}
 use Rattle.std.proofs.lemmas.List.Elements.{All-nil, All-cons, All-append, All-push}
-use Rattle.nesl_types_bank.specs.Term.{Term, seq_of, nodes}
+use Rattle.nesl_types_bank.specs.Term.{Term, seq_of}
 use Rattle.nesl_types_bank.proofs.Nodes.{nodes_positive}
 use Rattle.nesl_unify_graph.specs.declared.node.Node.{Node}
 use Rattle.nesl_unify_graph.specs.declared.node.Node.TheVariants.{Free, Same, Int, Bool, Char, Named, SeqOf, Both, Part}
@@ -14,8 +14,8 @@ use Rattle.nesl_unify_graph.specs.declared.unify.Rest.{Rest}
 use Rattle.nesl_unify_graph.specs.declared.unify.Rest.TheVariants.{Nothing, One, Two}
 use Rattle.nesl_unify_graph.specs.declared.unify.Meeting.{Meeting}
 use Rattle.nesl_unify_graph.specs.Graph.{node_at, node_type, Fits, IsRoot}
-use Rattle.nesl_unify_graph.specs.Tables.{IsPlaced, IsTable, IsPairBelow, AreEqual, Continues}
-use Rattle.nesl_unify_graph.specs.Steps.{IsGraph, IsMeeting, Agree, LieBelow, Differ, Moves, AreContinued, merged, pairs_of, part_type, weight, expandable}
+use Rattle.nesl_unify_graph.specs.Tables.{IsPlaced, IsTable, IsPairBelow, AreEqual}
+use Rattle.nesl_unify_graph.specs.Steps.{IsGraph, IsMeeting, Agree, LieBelow, Differ, Moves, merged, pairs_of, part_type, weight, expandable}
 use Rattle.nesl_unify_graph.proofs.Tables.{Describes, each_set, here_set, other_set}
 use Rattle.nesl_unify_graph.proofs.Steps.{Equals, All_left, All_right, equal_first, equal_second, popped_equal, continues_none, moves_more, moves_with, pairs_longer}
 
@@ -288,8 +288,7 @@ linked_fewer i ns low high rest pending order inside lower higher =
 
 -- what stands after a join: `new` is the table, and `more` the pairs that are left then
 module _ (i : Instances) (ns new : List Node) (pair : Pair) (rest : Rest) (pending more : List Pair) (at : new ≡ linked ns pair.first pair.second (merged (node_at ns pair.first) (node_at ns pair.second)))
-  (left : more ≡ pending ++ pairs_of rest) (order : pair.first < pair.second) (inside : pair.second < length ns) where
-
+    (left : more ≡ pending ++ pairs_of rest) (order : pair.first < pair.second) (inside : pair.second < length ns) where
   pub join_moves : Agree i (node_at ns pair.first) (node_at ns pair.second) rest → Moves i ns (pending ++ pair ∷ []) new more
   join_moves agree = rw (at, left) (linked_moves i ns pair rest pending order inside agree)
 
@@ -308,8 +307,7 @@ module _ (i : Instances) (ns new : List Node) (pair : Pair) (rest : Rest) (pendi
 
 -- what stands after the parts of instances at a pair's places are expanded, where `mid` is the table in between
 module _ (i : Instances) (old mid new : List Node) (pair : Pair) (pending more : List Pair) (left : more ≡ pending ++ pair ∷ []) (order : pair.first < pair.second) (inside : pair.second < length old)
-  (below : All (IsPairBelow (length old)) pending) (first : Moves i old [] mid []) (second : Moves i mid [] new []) where
-
+    (below : All (IsPairBelow (length old)) pending) (first : Moves i old [] mid []) (second : Moves i mid [] new []) where
   later_all : All (IsPairBelow (length old)) (pending ++ pair ∷ [])
   later_all = let x : pair.first < length old = omega arith in All-push (IsPairBelow (length old)) pending pair below (x, inside)
 

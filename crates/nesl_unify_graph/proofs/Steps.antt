@@ -1,8 +1,8 @@
 -- One step after another, by which places are made one.
-use Rattle.std.proofs.Common.{◌≡◌, ℕ, ◌+◌, ◌<◌, ◌≤◌, ◌↔◌, ◌++◌, List, [], ◌∷◌, All, length, sum_by, refl, sym, ap, ◌∙◌, subst, arith, length-append}
+use Rattle.std.proofs.Common.{◌≡◌, ℕ, ◌+◌, ◌<◌, ◌≤◌, ◌↔◌, ◌++◌, List, [], ◌∷◌, All, length, refl, sym, ap, ◌∙◌, subst, arith, length-append}
 use Rattle.std.proofs.lemmas.List.{get_or_append_left, get_or-append-add}
 use Rattle.std.proofs.lemmas.List.Elements.{All-nil, All-push, All-same, All-weaker}
-use Rattle.nesl_types_bank.specs.Term.{Term, nodes}
+use Rattle.nesl_types_bank.specs.Term.{Term}
 use Rattle.nesl_unify_graph.specs.declared.node.Node.{Node}
 use Rattle.nesl_unify_graph.specs.declared.node.Node.TheVariants.{Free, Same, Int, Bool, Char, Named, SeqOf, Both, Part}
 use Rattle.nesl_unify_graph.specs.declared.instances.Instances.{Instances}
@@ -10,7 +10,7 @@ use Rattle.nesl_unify_graph.specs.declared.unify.Pair.{Pair}
 use Rattle.nesl_unify_graph.specs.Instances.{AreBelow}
 use Rattle.nesl_unify_graph.specs.Graph.{Fits, IsFlat}
 use Rattle.nesl_unify_graph.specs.Tables.{IsPlaced, IsTable, AreEqual, IsPairBelow, Continues, Joins}
-use Rattle.nesl_unify_graph.specs.Steps.{IsGraph, IsFound, Moves, AreContinued}
+use Rattle.nesl_unify_graph.specs.Steps.{IsGraph, IsFound, Moves}
 
 abbrev pub Equals : (ℕ → Term) → Pair → Type 0
 Equals w p = w p.first ≡ w p.second

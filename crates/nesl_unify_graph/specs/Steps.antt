@@ -1,6 +1,6 @@
 -- How places of a table are made one, step by step.
-use Rattle.std.specs.Prelude.{◌≡◌, ◌⊎◌, ◌↔◌, ◌<◌, ◌≤◌, ◌+◌, ◌-◌, ◌*◌, ℕ, List, [], ◌∷◌, All, length, slice_set, sum_by}
-use Rattle.nesl_types_bank.specs.Term.{Term, variable, nodes}
+use Rattle.std.specs.Prelude.{◌≡◌, ◌↔◌, ◌<◌, ◌≤◌, ◌+◌, ◌-◌, ◌*◌, ℕ, List, [], ◌∷◌, All, length, slice_set, sum_by}
+use Rattle.nesl_types_bank.specs.Term.{Term, nodes}
 use Rattle.nesl_types_bank.specs.Numbering.{IsBelow}
 use Rattle.nesl_types_bank.specs.Substitution.{substitute}
 use Rattle.nesl_types_bank.specs.Types.{type_at}
@@ -96,7 +96,9 @@ pub record IsSpread (i : Instances) (old new : List Node) (r k : ℕ) (n : Node)
   pub longer : length old ≤ length new
   pub kept : (p : ℕ) → p < length old → node_at new p ≡ node_at old p
   pub added : (p : ℕ) → length old ≤ p → p < length new → IsPieceOf i r k (node_at new p)
-  pub here : (w : ℕ → Term) (t : Term) → FitsFrom i w (length old) new → node_type i w t n ≡ instance_type i w r (part_type i r k)
+  pub here :
+      (w : ℕ → Term) (t : Term) → FitsFrom i w (length old) new →
+      node_type i w t n ≡ instance_type i w r (part_type i r k)
   pub placed : (count p : ℕ) → IsPlaced i count (length new) p n
   pub fewer : sum_by (weight i) new + weight i n ≤ sum_by (weight i) old + 4 * nodes (part_type i r k)
 
@@ -107,11 +109,11 @@ pub record AreContinued (i : Instances) (n : ℕ) (w : ℕ → Term) (ns : List 
   pub fits : Fits i types ns
   pub equal : AreEqual types pairs
 
--- new with the pairs `after` says what old says with the pairs `before`; it may have more places
-pub record Moves (i : Instances) (old : List Node) (before : List Pair) (new : List Node) (after : List Pair) : Type 0 where
+-- new with the pairs qs says what old says with the pairs ps; it may have more places
+pub record Moves (i : Instances) (old : List Node) (ps : List Pair) (new : List Node) (qs : List Pair) : Type 0 where
   pub longer : length old ≤ length new
-  pub sound : (w : ℕ → Term) → Fits i w new → AreEqual w after → Fits i w old × AreEqual w before
-  pub complete : (w : ℕ → Term) → Fits i w old → AreEqual w before → AreContinued i (length old) w new after
+  pub sound : (w : ℕ → Term) → Fits i w new → AreEqual w qs → Fits i w old × AreEqual w ps
+  pub complete : (w : ℕ → Term) → Fits i w old → AreEqual w ps → AreContinued i (length old) w new qs
 
 -- new has shorter links than old, in which the links from a pair's places end at the places `ends`
 pub record IsFound (i : Instances) (old new : List Node) (pair ends : Pair) : Type 0 where
@@ -146,7 +148,8 @@ pairs_of (Two p q) = p ∷ (q ∷ [])
 abbrev pub Agree : Instances → Node → Node → Rest → Type 0
 Agree i a b rest =
     (w : ℕ → Term) (t : Term) →
-    ((t ≡ node_type i w t a) × (t ≡ node_type i w t b)) ↔ ((t ≡ node_type i w t (merged a b)) × AreEqual w (pairs_of rest))
+    ((t ≡ node_type i w t a) × (t ≡ node_type i w t b)) ↔
+    ((t ≡ node_type i w t (merged a b)) × AreEqual w (pairs_of rest))
 
 -- the places of the rest are places of a table of which the nodes are
 abbrev pub LieBelow : Instances → Node → Node → Rest → Type 0

@@ -41,4 +41,5 @@ AreEqual w pairs = All (λ p. w p.first ≡ w p.second) pairs
 pub record Joins (i : Instances) (old : List Node) (pending : List Pair) (new : List Node) : Type 0 where
   pub longer : length old ≤ length new
   pub sound : (w : ℕ → Term) → Fits i w new → Fits i w old × AreEqual w pending
-  pub complete : (w : ℕ → Term) → Fits i w old → AreEqual w pending → (z : ℕ → Term) × (Continues (length old) w z × Fits i z new)
+  pub complete :
+      (w : ℕ → Term) → Fits i w old → AreEqual w pending → (z : ℕ → Term) × (Continues (length old) w z × Fits i z new)

@@ -1,6 +1,4 @@
-use Rattle.std.proofs.Common.{◌≡◌, length}
-use Rattle.nesl_types_bank.specs.Term.{pair_of}
-use Rattle.nesl_unify_graph.specs.Steps.{part_type}
+use Rattle.std.proofs.Common.{length}
 use Rattle.nesl_unify_graph.proofs.Expansions.{spread_both, spread_seq}
 use Rattle.nesl_unify_graph.proofs.Steps.{below_more}
 use Rattle.nesl_unify_graph.proofs.expand.spread.Goals as goal

@@ -1,4 +1,4 @@
-use Rattle.std.proofs.Common.{◌≡◌, ◌≤◌, ◌+◌, sym, ap, ◌∙◌, subst, arith}
+use Rattle.std.proofs.Common.{◌≡◌, sym, ap, ◌∙◌, subst, arith}
 use Rattle.nesl_unify_graph.specs.Graph.{IsRoot}
 use Rattle.nesl_unify_graph.specs.Steps.{expandable}
 use Rattle.nesl_unify_graph.proofs.Joins.{agree_same, below_nothing, agree_seq, below_seq, agree_both, below_both, agree_first_free, agree_second_free, differ_int, differ_bool, differ_char, differ_named, differ_seq, differ_both}

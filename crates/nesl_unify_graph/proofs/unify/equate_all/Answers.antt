@@ -2,7 +2,7 @@ use Rattle.std.proofs.Common.{◌≡◌, ◌+◌, List, [], length, sym, ap, ◌
 use Rattle.std.proofs.lemmas.List.{nil_from_length, length_push}
 use Rattle.nesl_unify_graph.specs.declared.unify.Pair.{Pair}
 use Rattle.nesl_unify_graph.specs.Steps.{Moves}
-use Rattle.nesl_unify_graph.proofs.Steps.{moves_none, moves_more, none_after, popped_below, popped_equal, graph_after}
+use Rattle.nesl_unify_graph.proofs.Steps.{moves_more, none_after, popped_below, popped_equal, graph_after}
 use Rattle.nesl_unify_graph.proofs.unify.equate_all.Goals as goal
 
 pub equate-requires-clause-graph : goal.equate-requires-clause-graph

@@ -1,4 +1,4 @@
-use Rattle.std.proofs.Common.{◌≡◌, ◌≤◌, ◌+◌, ℕ, length, sum_by, All}
+use Rattle.std.proofs.Common.{◌+◌, ℕ, length, sum_by, All}
 use Rattle.nesl_unify_graph.specs.Tables.{IsTable, IsPairBelow}
 use Rattle.nesl_unify_graph.specs.Steps.{Moves, weight}
 use Rattle.nesl_unify_graph.proofs.unify.equate_all.Given as goal

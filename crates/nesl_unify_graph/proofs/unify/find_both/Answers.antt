@@ -1,4 +1,4 @@
-use Rattle.std.proofs.Common.{◌≡◌, ◌∙◌, sym, subst}
+use Rattle.std.proofs.Common.{◌∙◌, sym, subst}
 use Rattle.nesl_unify_graph.specs.Graph.{IsRoot}
 use Rattle.nesl_unify_graph.proofs.Steps.{ends_equal, ends_turned}
 use Rattle.nesl_unify_graph.proofs.unify.find_both.Goals as goal
