@@ -3,3 +3,5 @@ pub mod Graph
 pub mod Tables
 pub mod Steps
 pub mod Readings
+pub mod Forms
+pub mod Outlines

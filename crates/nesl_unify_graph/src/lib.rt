@@ -4,12 +4,16 @@
 
 mod expand;
 pub mod fault;
+pub mod form;
 pub mod instances;
 pub mod node;
+pub mod read;
 mod table;
 pub mod unify;
+pub mod walk;
 
 pub use fault::SolveFault;
 pub use instances::{Instance, Instances, Source};
 pub use node::Node;
 pub use unify::Pair;
+pub use walk::are_within;
