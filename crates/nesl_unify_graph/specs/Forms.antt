@@ -1,5 +1,6 @@
 -- Types of a graph, looked at one node at a time.
-use Rattle.std.specs.Prelude.{◌≡◌, ◌⊎◌, ◌<◌, ◌≤◌, ◌-◌, ◌+◌, ◌*◌, ℕ, suc, Bool as Bool', true, false, List, [], ◌∷◌, length, slice_index_or}
+use Rattle.std.specs.Prelude.{◌≡◌, ◌⊎◌, ◌<◌, ◌≤◌, ◌-◌, ◌+◌, ◌*◌, ℕ}
+use Rattle.std.specs.Prelude.{suc, Bool as Bool', true, false, List, [], ◌∷◌, length, slice_index_or}
 use Rattle.nesl_types_bank.specs.Term.{Term, int, bool, char, variable, seq_of, pair_of, named, nodes}
 use Rattle.nesl_types_bank.specs.Numbering.{IsBelow}
 use Rattle.nesl_types_bank.specs.Types.{type_at}
@@ -124,7 +125,8 @@ abbrev pub AreMarkedRead : Instances → List Node → ℕ → List Bool' → Ty
 AreMarkedRead i ns most marks = (p : ℕ) → is_marked marks p → IsReadWithin i ns most p
 
 -- place p and others were marked, whose types have at most `most` nodes; the stack is empty again
-pub record IsWalked (i : Instances) (ns : List Node) (most : ℕ) (old new : List Bool') (stack : List Item) (p : ℕ) : Type 0 where
+pub record IsWalked (i : Instances) (ns : List Node) (most : ℕ) (old new : List Bool')
+    (stack : List Item) (p : ℕ) : Type 0 where
   pub read : AreMarkedRead i ns most new
   pub stays : (q : ℕ) → is_marked old q → is_marked new q
   pub here : is_marked new p

@@ -81,7 +81,8 @@ fn shape_form(instance: usize, shape: Shape) -> Form
 /// The form of a part of an instance's type, which is no variable.
 fn whole_form(instances: &Instances, instance: usize, part: usize) -> Form
     requires { IsPart instances.now instance part }
-    ensures form { (w : ℕ → Term) → instance_type instances.now w instance (type_at (parts_in instances.now instance) part)
+    ensures form { (w : ℕ → Term)
+        → instance_type instances.now w instance (type_at (parts_in instances.now instance) part)
         ≡ form_type instances.now w result }
     ensures within { (n : ℕ) → AreItems instances.now n result }
 {
