@@ -1,14 +1,13 @@
 -- Parts of instances that are expanded in a table.
-use Rattle.std.proofs.Common.{◌≡◌, ℕ, ◌+◌, ◌-◌, ◌*◌, ◌<◌, ◌≤◌, ◌++◌, cond, inl, inr, List, [], ◌∷◌, length, get_or, set, sum_by, refl, sym, ap, ◌∙◌, subst, arith}
+use Rattle.std.proofs.Common.{◌≡◌, ℕ, ◌+◌, ◌-◌, ◌*◌, ◌<◌, ◌≤◌, cond, inl, inr, List, [], length, get_or, set, sum_by, refl, sym, ap, ◌∙◌, subst, arith}
 use Rattle.std.proofs.Math.Dec.{ltb}
 use Rattle.std.proofs.lemmas.Bool.{cases_eq, cases_lt, lt-ltb, le-ltb}
-use Rattle.std.proofs.lemmas.List.{get_or-set_other, get_or_past, get_or_push, get_or_append_left, length-set, length_push}
-use Rattle.std.proofs.lemmas.List.Sums.{sum_by-set, sum_by_push}
+use Rattle.std.proofs.lemmas.List.{get_or-set_other, get_or_past, length-set}
+use Rattle.std.proofs.lemmas.List.Sums.{sum_by-set}
 use Rattle.std.proofs.lemmas.List.Elements.{All-nil}
 use Rattle.nesl_types_bank.specs.Term.{Term, int, bool, char, variable, seq_of, pair_of, named, nodes}
 use Rattle.nesl_types_bank.specs.Numbering.{IsBelow}
 use Rattle.nesl_types_bank.specs.Substitution.{substitute}
-use Rattle.nesl_types_bank.proofs.Nodes.{nodes_positive}
 use Rattle.nesl_unify_graph.specs.declared.node.Node.{Node}
 use Rattle.nesl_unify_graph.specs.declared.node.Node.TheVariants.{Free, Same, Int, Bool as Boolean, Char, Named, SeqOf, Both, Part}
 use Rattle.nesl_unify_graph.specs.declared.instances.Instances.{Instances}
@@ -16,7 +15,7 @@ use Rattle.nesl_unify_graph.specs.declared.unify.Pair.{Pair}
 use Rattle.nesl_unify_graph.specs.Instances.{base_in, place_in, instance_type, IsPart, AreBelow}
 use Rattle.nesl_unify_graph.specs.Graph.{node_at, node_type, Fits}
 use Rattle.nesl_unify_graph.specs.Tables.{IsPlaced, IsTable}
-use Rattle.nesl_unify_graph.specs.Steps.{IsGraph, IsPiece, IsPut, IsSpread, FitsFrom, Moves, AreContinued, part_type, weight, expandable}
+use Rattle.nesl_unify_graph.specs.Steps.{IsGraph, IsPut, IsSpread, FitsFrom, Moves, AreContinued, part_type, weight, expandable}
 use Rattle.nesl_unify_graph.proofs.Tables.{Describes, each_set, here_set, other_set}
 
 -- types of the variables of a type are all that it sees
@@ -60,48 +59,6 @@ placed_longer i count n m p (Named j) l h = h
 placed_longer i count n m p (SeqOf q) l h = omega arith
 placed_longer i count n m p (Both q r) l h = let x : q < m = omega (arith, h.0) in let y : r < m = omega (arith, h.1) in (x, y)
 placed_longer i count n m p (Part r j) l h = h
-
--- a variable's place is there
-pub put_variable : (i : Instances) (ns : List Node) (r k v : ℕ) → IsPiece i r k → part_type i r k ≡ variable v → IsPut i ns ns r k (place_in i r v)
-put_variable i ns r k v piece e = record {
-  longer = omega arith;
-  kept = λ p l. refl;
-  added = λ p l u. absurd (omega arith);
-  within = λ a. place_below i (length ns) r v a (subst (IsBelow (length i.fresh.items - base_in i r)) e piece.below);
-  here = λ w f. sym (ap (substitute (λ u. w (place_in i r u))) e);
-  fewer = omega arith;
-}
-
--- a new place at the end
-pub put_new : (i : Instances) (ns : List Node) (r k : ℕ) → IsPiece i r k → ((v : ℕ) → part_type i r k ≡ variable v → ⊥) → IsPut i ns (ns ++ Part r k ∷ []) r k (length ns)
-put_new i ns r k piece whole =
-    let new = ns ++ Part r k ∷ [] in
-    let n = length_push ns (Part r k) in
-    let at : node_at new (length ns) ≡ Part r k = get_or_push ns (Part r k) Free (length ns) refl in
-    record {
-      longer = omega (arith, n);
-      kept = λ p l. get_or_append_left ns (Part r k ∷ []) Free p l;
-      added = λ p l u.
-          let e : p ≡ length ns = omega (arith, n) in (
-            ap (node_at new) e ∙ at,
-            record { made = piece.made; within = piece.within; below = piece.below; whole = whole },
-          );
-      within = λ _. omega (arith, n);
-      here = λ w f. subst (λ (m : Node). w (length ns) ≡ node_type i w (w (length ns)) m) at (f (length ns) (omega arith));
-      fewer = let s = sum_by_push (weight i) ns (Part r k) in omega (arith, s);
-    }
-
--- a part without parts
-pub spread_leaf : (i : Instances) (ns : List Node) (r k : ℕ) (n : Node) → ((w : ℕ → Term) (t : Term) → node_type i w t n ≡ instance_type i w r (part_type i r k)) →
-    ((count p : ℕ) → IsPlaced i count (length ns) p n) → weight i n ≡ 2 → IsSpread i ns ns r k n
-spread_leaf i ns r k n here placed small = record {
-  longer = omega arith;
-  kept = λ p l. refl;
-  added = λ p l u. absurd (omega arith);
-  here = λ w t f. here w t;
-  placed = placed;
-  fewer = omega (arith, small, nodes_positive (part_type i r k));
-}
 
 -- sequences
 pub spread_seq : (i : Instances) (old new : List Node) (r k j place : ℕ) → AreBelow (length old) i → part_type i r k ≡ seq_of (part_type i r j) → IsPut i old new r j place →

@@ -7,7 +7,7 @@ use Rattle.nesl_types_bank.specs.Term.{Term}
 use Rattle.nesl_unify_graph.specs.declared.node.Node.{Node}
 use Rattle.nesl_unify_graph.specs.declared.node.Node.TheVariants.{Free, Same, Int, Bool, Char, Named, SeqOf, Both, Part}
 use Rattle.nesl_unify_graph.specs.declared.instances.Instances.{Instances}
-use Rattle.nesl_unify_graph.specs.Graph.{node_at, node_type, Fits, IsRoot, IsFlat, link_or, target}
+use Rattle.nesl_unify_graph.specs.Graph.{node_at, node_type, Fits, IsRoot, link_or, target}
 use Rattle.nesl_unify_graph.specs.Tables.{IsPlaced, IsTable}
 use Rattle.nesl_unify_graph.specs.Steps.{LeadDown, shortened, weight}
 
@@ -133,15 +133,6 @@ pub record Relinks (old new : List Node) : Type 0 where
   pub kept : (p : ℕ) → IsRoot (node_at old p) → node_at new p ≡ node_at old p
   pub weight : (i : Instances) → sum_by (weight i) new ≡ sum_by (weight i) old
 
-pub relinks_none : (ns : List Node) → Relinks ns ns
-relinks_none ns = record {
-  len = refl;
-  same = λ i w. (λ f. f, λ f. f);
-  table = λ i count t. t;
-  kept = λ p r. refl;
-  weight = λ i. refl;
-}
-
 table_shortened : (i : Instances) (ns : List Node) (p count : ℕ) → p < length ns → LeadDown ns → IsTable i count ns → IsTable i count (set ns p (shortened ns (node_at ns p)))
 table_shortened i ns p count inside l t =
     let n = shortened ns (node_at ns p) in
@@ -192,28 +183,6 @@ relinks_more old mid new a b = record {
   kept = λ p r. b.kept p (subst IsRoot (sym (a.kept p r)) r) ∙ a.kept p r;
   weight = λ i. b.weight i ∙ a.weight i;
 }
-
--- a place without a link leads to itself
-pub root_target : (p : ℕ) (n : Node) → IsRoot n → link_or p n ≡ p
-root_target p Free h = refl
-root_target p (Same q) h = absurd h
-root_target p Int h = refl
-root_target p Bool h = refl
-root_target p Char h = refl
-root_target p (Named m) h = refl
-root_target p (SeqOf q) h = refl
-root_target p (Both q r) h = refl
-root_target p (Part r k) h = refl
-
--- links up to a place lead to places without links
-pub flat_past : (ns : List Node) → ((p : ℕ) → p < length ns → IsRoot (node_at ns (target ns p))) → IsFlat ns
-flat_past ns h p =
-    elim (cases_lt p (length ns)) [
-      | inl l ↦ h p l
-      | inr g ↦
-          let e : node_at ns p ≡ Free = get_or_past ns p Free g in
-          rw (e, e) tt
-    ]
 
 -- the place itself
 flat_here : (ns new : List Node) (i : ℕ) (n : Node) → n ≡ node_at ns i → node_at new i ≡ shortened ns n → LeadDown ns →
