@@ -151,7 +151,7 @@ pub meeting_at : (ns : List Node) (p q : ℕ) (x y : Node) (m : Meeting) → p <
     IsMeeting (node_at ns p) (node_at ns q) m
 meeting_at ns p q x y m j k e d h = subst (λ (n : Node). IsMeeting n (node_at ns q) m) (read_node ns p x j e) (subst (λ (n : Node). IsMeeting x n m) (read_node ns q y k d) h)
 
--- a table with the place `high` linked to `low`, at which n stands
+-- a table with the place `high` linked to `low`, where n is
 abbrev linked : List Node → ℕ → ℕ → Node → List Node
 linked ns low high n = set (set ns low n) high (Same low)
 
@@ -286,7 +286,7 @@ linked_fewer i ns low high rest pending order inside lower higher =
     let p : weight i (get_or (set ns low n) high Free) ≡ weight i (node_at ns high) = ap (weight i) o in
     omega (arith, s, t, p, weight_merged i (node_at ns low) (node_at ns high) lower higher, length_rest rest, length-append pending (pairs_of rest))
 
--- what stands after a join: `new` is the table, and `more` the pairs that are left then
+-- what holds after a join: `new` is the table, and `more` the pairs that are left then
 module _ (i : Instances) (ns new : List Node) (pair : Pair) (rest : Rest) (pending more : List Pair) (at : new ≡ linked ns pair.first pair.second (merged (node_at ns pair.first) (node_at ns pair.second)))
     (left : more ≡ pending ++ pairs_of rest) (order : pair.first < pair.second) (inside : pair.second < length ns) where
   pub join_moves : Agree i (node_at ns pair.first) (node_at ns pair.second) rest → Moves i ns (pending ++ pair ∷ []) new more
@@ -305,7 +305,7 @@ module _ (i : Instances) (ns new : List Node) (pair : Pair) (rest : Rest) (pendi
   pub join_fewer : IsRoot (node_at ns pair.first) → IsRoot (node_at ns pair.second) → sum_by (weight i) new + length more ≤ sum_by (weight i) ns + length pending
   join_fewer lower higher = rw (at, left) (linked_fewer i ns pair.first pair.second rest pending order inside lower higher)
 
--- what stands after the parts of instances at a pair's places are expanded, where `mid` is the table in between
+-- what holds after the parts of instances at a pair's places are expanded, where `mid` is the table in between
 module _ (i : Instances) (old mid new : List Node) (pair : Pair) (pending more : List Pair) (left : more ≡ pending ++ pair ∷ []) (order : pair.first < pair.second) (inside : pair.second < length old)
     (below : All (IsPairBelow (length old)) pending) (first : Moves i old [] mid []) (second : Moves i mid [] new []) where
   later_all : All (IsPairBelow (length old)) (pending ++ pair ∷ [])
