@@ -15,6 +15,13 @@ const MOST_BYTES: usize = 8_192;
 /// The most work of all evaluations together.
 const MOST_WORK: u64 = 1_000_000;
 
+/// What an expression evaluates to, and its type.
+#[derive(Drop)]
+pub(crate) struct Evaluated {
+    pub ty: Ty,
+    pub outcome: Outcome<Global>,
+}
+
 /// How much a hint may find out once more: what is left of it.
 #[derive(Clone, Copy)]
 pub(crate) struct Effort {
@@ -38,11 +45,7 @@ impl Effort {
 
     /// What an expression of the form evaluates to, and its type; `None` where it has none, or where too little is left
     /// to find it.
-    pub(crate) fn evaluate(
-        &mut self,
-        asked: &Asked<'_>,
-        exp: &Exp,
-    ) -> Option<(Ty, Outcome<Global>)> {
+    pub(crate) fn evaluate(&mut self, asked: &Asked<'_>, exp: &Exp) -> Option<Evaluated> {
         let bytes = exp.span.end.saturating_sub(exp.span.start);
         self.bytes = self.bytes.checked_sub(bytes)?;
         let meanings = asked.session.meanings();
@@ -57,6 +60,6 @@ impl Effort {
             _ => most,
         };
         self.work = self.work.saturating_sub(spent);
-        Some((ty, outcome))
+        Some(Evaluated { ty, outcome })
     }
 }

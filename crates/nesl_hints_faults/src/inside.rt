@@ -208,8 +208,11 @@ fn refused_at(
     let Some(exp) = expression_of(form) else {
         return Ok(None);
     };
-    match effort.evaluate(asked, exp) {
-        Some((_, Outcome::Fault { trap, span, work })) => {
+    let Some(evaluated) = effort.evaluate(asked, exp) else {
+        return Ok(None);
+    };
+    match evaluated.outcome {
+        Outcome::Fault { trap, span, work } => {
             let found = Fault::of_trap(trap, Stop { span, work });
             if found.number() == fault.number() {
                 Ok(Some(span))
@@ -217,7 +220,7 @@ fn refused_at(
                 Ok(None)
             }
         }
-        Some((_, Outcome::Memory)) => Err(AllocError),
+        Outcome::Memory => Err(AllocError),
         _ => Ok(None),
     }
 }

@@ -1,7 +1,7 @@
 //! Values of parts of a form, where they are short.
 
 use crate::asked::Asked;
-use crate::effort::Effort;
+use crate::effort::{Effort, Evaluated};
 use nesl_eval::Outcome;
 use nesl_reply::value_text;
 use nesl_syntax_tree::tree::Exp;
@@ -19,9 +19,12 @@ pub(crate) fn value_of(
     effort: &mut Effort,
     part: &Exp,
 ) -> Result<Option<Vec<u8>>, AllocError> {
-    match effort.evaluate(asked, part) {
-        Some((ty, Outcome::Done { value, .. })) => in_words(asked, &value, &ty),
-        Some((_, Outcome::Memory)) => Err(AllocError),
+    let Some(Evaluated { ty, outcome }) = effort.evaluate(asked, part) else {
+        return Ok(None);
+    };
+    match outcome {
+        Outcome::Done { value, .. } => in_words(asked, &value, &ty),
+        Outcome::Memory => Err(AllocError),
         _ => Ok(None),
     }
 }
