@@ -2,7 +2,7 @@
 use nesl_web::frames::FrameWriter;
 use std::alloc::Global;
 use std::io;
-use std::io::Write;
+use std::io::{Cursor, Write};
 use std::test::Fail;
 use tungstenite::{Duplex, Message, NoMask, Role, WebSocket};
 
@@ -18,19 +18,30 @@ fn sent(alloc: Global, texts: &[&str]) -> Result<Vec<u8>, Fail> {
 }
 
 // Whether these messages are read of the bytes, and then no other.
-fn are_read(alloc: Global, bytes: &[u8], texts: &[&str]) -> bool {
+fn are_read(alloc: Global, bytes: Vec<u8>, texts: &[&str]) -> bool {
     let stream = Duplex {
-        reader: bytes,
+        reader: Cursor::new(bytes),
         writer: io::sink(),
     };
     let mut socket = WebSocket::from_raw_socket(alloc, stream, NoMask, Role::Client, None);
     for text in texts {
-        match socket.read() {
-            Ok(Message::Text(read)) if read.as_str() == *text => {}
-            _ => return false,
+        let is_next = match socket.read() {
+            Ok(message) => is_text(&message, text),
+            Err(_) => false,
+        };
+        if !is_next {
+            return false;
         }
     }
     socket.read().is_err()
+}
+
+// Whether a message is this text.
+fn is_text(message: &Message, text: &str) -> bool {
+    match message {
+        Message::Text(read) => read.as_str() == text,
+        _ => false,
+    }
 }
 
 // A text of so many characters.
@@ -54,7 +65,7 @@ fn a_text_is_read_as_it_was_sent(rt: HostRuntime) -> Result<(), Fail> {
         let text = text_of(rt.alloc(), 'a', length)?;
         let texts = [text.as_str(), "user ann", text.as_str()];
         let bytes = sent(rt.alloc(), &texts)?;
-        assert!(rt; are_read(rt.alloc(), bytes.as_slice(), &texts), "{length}");
+        assert!(rt; are_read(rt.alloc(), bytes, &texts), "{length}");
     }
     Ok(())
 }
@@ -67,7 +78,7 @@ fn no_frame_ends_within_a_character(rt: HostRuntime) -> Result<(), Fail> {
             let text = format!(in rt.alloc(); "{front}{letters}")?;
             let bytes = sent(rt.alloc(), &[text.as_str()])?;
             assert!(rt;
-                are_read(rt.alloc(), bytes.as_slice(), &[text.as_str()]),
+                are_read(rt.alloc(), bytes, &[text.as_str()]),
                 "{front}{letter}"
             );
         }
