@@ -83,7 +83,7 @@ class WebClient(Client):
         return (front[0] & 15 if len(data) == size else None), data, front[0] > 127
 
     def message(self):
-        """The next message, whatever it is: its kind, and what it has. One that is cut off is told as an end."""
+        """The next message, whatever it is: its kind, and what it has. One that is cut off is returned as an end."""
         kind, data, is_last = self.next_frame()
         pieces = [data]
         while not is_last:

@@ -60,7 +60,7 @@ def odd_places(room):
 
 @check("files of a prompt")
 def files(program, room):
-    """What was kept is saved whole and loaded; a file that can't be is told of, and what was there stays."""
+    """What was kept is saved whole and loaded; a file that can't be is reported, and what was there stays."""
     path, other = room / "kept", room / "other"
     forms = ["function g(v) = {a * a : a in v};", "x = g([1, 2]);", "3;"]
     same("saved", at(program, *forms, "y;", f":save {path}")[-1], "saved: forms 3")
@@ -122,7 +122,7 @@ def kept_rights(program, room):
 
 @check("a file that has no room")
 def no_room(program, room):
-    """Where the disk is full a file behind a link was lost: it stays, and nothing lies beside it."""
+    """Where the disk is full the file that a link leads to was lost: it stays, and nothing lies beside it."""
     path, link = room / "kept", room / "link"
     link.symlink_to(path)
     path.write_text("it was here before\n")

@@ -7,7 +7,7 @@ from stress.attacked import LARGE
 
 
 def filled(first, part, last, size=65_000):
-    """A line of so many bytes: the part as often as there is room for it."""
+    """A line of this number of bytes: the part as often as there is room for it."""
     return first + part * ((size - len(first) - len(last)) // len(part)) + last
 
 
@@ -22,7 +22,7 @@ def doubled(first, levels):
 
 
 def met(count):
-    """A function's parameter of so many names, and sequences in which their types meet one by one."""
+    """A function's parameter of this number of names, and sequences in which their types meet one by one."""
     parts = [f"u{place}" for place in range(count)]
     return balanced(parts), ", ".join(f"#[{one}, {other}]" for one, other in zip(parts[1:], parts))
 
@@ -53,7 +53,7 @@ def processor_seconds():
 
 
 def hints_beside_none(program, most=3):
-    """Each of these lines takes at most so many processor seconds more with hints, and has one; figures."""
+    """Each of these lines takes at most this number of processor seconds more with hints, and has one; figures."""
     worst = 0
     for name, (before, line) in hinted_lines().items():
         text = "".join(f"{said}\n" for said in ["user ann", *before, line]).encode()

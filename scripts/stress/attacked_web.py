@@ -13,7 +13,7 @@ WEB_CASES = {}
 
 
 def case(seconds):
-    """A case that may take so many seconds, as in scripts/stress/attack."""
+    """A case that may take this number of seconds, as in scripts/stress/attack."""
     def add(function):
         WEB_CASES[function.__name__] = (function, seconds)
         return function
@@ -106,7 +106,7 @@ NAME = "z" * 60_000
 
 
 def named(count):
-    """A line whose answer has so many times a name of 60,000 bytes, and the bytes of that answer, as it is told."""
+    """A line whose answer has a name of 60,000 bytes this number of times, and the bytes of that answer."""
     return f"dist({NAME}(1), {count});", 7 + (len(NAME) + 5) * count - 2 + 4 + len(NAME) + 24
 
 

@@ -80,7 +80,7 @@ NODES = {"sequence": 1, "pair": 2, "left": 2, "list": 4}
 
 
 def powers(kind, depth, name="zd"):
-    """Functions of which the last, of that name, puts its argument so many levels deep."""
+    """Functions of which the last, of that name, puts its argument this number of levels deep."""
     lines = [f"function {name}w0(x) = {STEPS[kind]};"]
     calls, left, level = [], depth, 0
     while left:
@@ -94,7 +94,7 @@ def powers(kind, depth, name="zd"):
 
 
 def scheme(kind, nodes, names=2):
-    """Functions of which `zd` gives a type of about so many nodes: of one variable, or of as many as there are names,
+    """Functions of which `zd` gives a type of about that many nodes: of one variable, or of as many as there are names,
     in which case its parameter has all of them."""
     if kind in NODES:
         return powers(kind, max(1, min(nodes, MOST_NODES - 4) // NODES[kind]))
@@ -224,7 +224,7 @@ def uses(size, names, pattern, used, part):
 
 @shape(names=(2, 9000), levels=(1, 90), side=("right", "left"), used=("low", "high"))
 def deep_pattern(size, names, levels, side, used):
-    """Uses of a name that stands deep in a pattern, beside a tree of others."""
+    """Uses of a name deep in a pattern, beside a tree of others."""
     variables = local_names(names)
     levels = min(levels, names - 1)
     low = tree(variables[levels:])

@@ -11,7 +11,7 @@ PIPE = 32_768
 
 
 def limited(limit):
-    """A process that the system ends when it has computed for so many seconds, and that is refused too much memory."""
+    """A process that the system ends when it has computed for that long, and that is refused too much memory."""
     def limit_it():
         resource.setrlimit(resource.RLIMIT_CPU, (limit, limit))
         resource.setrlimit(resource.RLIMIT_AS, (ADDRESSES, ADDRESSES))
@@ -92,7 +92,7 @@ class Speaker:
 
 
 def spent(words, before, line, limit=LIMIT):
-    """What a line takes of a program that is called so, behind others. A program that the system ends takes all that it
+    """What a line takes of a program that is called so, after others. A program that the system ends takes all that it
     may."""
     with Speaker(words, limit) as speaker:
         speaker.say_all(before)

@@ -67,10 +67,10 @@ fn part_binds(pattern: &Pattern, name: &[u8]) -> bool
     }
 }
 
-/// Most names are no more than so many steps from the value of their pattern.
+/// Most names are at most this number of steps from the value of their pattern.
 const FEW_STEPS: usize = 8;
 
-/// The steps from the value of a pattern to what the name stands for.
+/// The steps from the value of a pattern to what the name means.
 fn steps_in(alloc: Global, pattern: &Pattern, name: &[u8]) -> Result<Vec<Step>, AllocError>
     ensures { IfOk result (λ r. r.items ≡ steps_to name.now (pattern_tree pattern.now)) }
 {
@@ -84,7 +84,7 @@ fn steps_in(alloc: Global, pattern: &Pattern, name: &[u8]) -> Result<Vec<Step>, 
     }
 }
 
-/// Adds the steps to what the name stands for. A name on the right hides one on the left.
+/// Adds the steps to what the name means. A name on the right hides one on the left.
 fn add_steps(steps: &mut Vec<Step>, pattern: &Pattern, name: &[u8]) -> Result<(), AllocError>
     ensures { OnOk result (steps.new.items ≡ steps.old.items ++ steps_to name.now (pattern_tree pattern.now)) }
 {

@@ -43,7 +43,7 @@ pub fn hint(alloc: Global, session: &Session, text: &[u8]) -> Result<Option<Hint
     Ok(Some(hint.within(form.len())))
 }
 
-/// What a person is told of a whole form that the session has just refused for this fault; `None` where the fault says
+/// What a person reads about a whole form that the session has just refused for this fault; `None` where the fault says
 /// nothing of the form. The fault is not found once more, so the session may be another by now: the form may have used
 /// up its work, or the last of its lines.
 ///

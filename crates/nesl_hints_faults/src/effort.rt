@@ -38,7 +38,7 @@ impl Effort {
         }
     }
 
-    /// Whether so many bytes may still be read.
+    /// Whether this number of bytes may still be read.
     pub(crate) fn reaches(&self, bytes: usize) -> bool {
         bytes <= self.bytes
     }

@@ -34,7 +34,7 @@ pub enum Guess {
     Pair(usize, usize),
 }
 
-/// What stands at a place.
+/// What is at a place.
 #[derive(Clone, Copy)]
 struct Slot {
     guess: Guess,
@@ -66,7 +66,7 @@ pub(crate) fn of_class(class: Class) -> Guess {
 }
 
 impl Guesses {
-    /// No types of a form of so many bytes.
+    /// No types yet, of a form with this number of bytes.
     pub(crate) fn new(alloc: Global, bytes: usize) -> Guesses {
         let counted = bytes.max(FEWEST_BYTES) as u64;
         Guesses {
@@ -124,7 +124,7 @@ impl Guesses {
         Ok(places)
     }
 
-    // What stands at a place.
+    // What is at a place.
     fn at(&self, place: usize) -> Guess {
         match self.slots.get(place) {
             Some(slot) => slot.guess,
@@ -185,7 +185,7 @@ impl Guesses {
         self.before.clear();
     }
 
-    /// The types that stand at two places are one from now on, of which this is known. The one that fewer places have
+    /// The types at two places are one from now on, of which this is known. The one that fewer places have
     /// refers to the other, so no path is longer than the binary digits of the number of places.
     pub(crate) fn unite(
         &mut self,
@@ -215,7 +215,7 @@ impl Guesses {
         }
     }
 
-    // This stands from now on at a place.
+    // This is at a place from now on.
     fn set(&mut self, place: usize, guess: Guess) -> Result<(), Shortage> {
         let old = self.at(place);
         self.before.push((place, old))?;

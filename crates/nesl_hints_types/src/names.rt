@@ -11,7 +11,7 @@ struct Local<'e> {
     hidden: Option<usize>,
 }
 
-/// Local names, each of which stands for the type at a place.
+/// Local names, each of which means the type at a place.
 #[derive(Drop)]
 pub(crate) struct Names<'e> {
     places: BTreeMap<&'e [u8], usize>,
@@ -27,7 +27,7 @@ impl<'e> Names<'e> {
         }
     }
 
-    /// The place that a name stands for.
+    /// The place that a name means.
     pub(crate) fn place_of(&self, name: &'e [u8]) -> Option<usize> {
         match self.places.get(&name) {
             Some(place) => Some(*place),
@@ -35,7 +35,7 @@ impl<'e> Names<'e> {
         }
     }
 
-    /// A name stands for the type at a place from now on.
+    /// A name means the type at a place from now on.
     pub(crate) fn bind(&mut self, name: &'e [u8], place: usize) -> Result<(), Shortage> {
         let hidden = self.places.insert(name, place)?;
         self.locals.push(Local { name, hidden })?;

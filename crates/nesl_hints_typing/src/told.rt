@@ -13,7 +13,7 @@ use nesl_types::Context;
 use std::alloc::{AllocError, Global};
 
 /// The first part of a form, by parts, whose type is not what the rest of the form wants, or the whole form where it
-/// takes too many steps to find one. It is `None` where there is none. The form has so many bytes, behind which places
+/// takes too many steps to find one. It is `None` where there is none. The form has so many bytes, after which places
 /// are cut off.
 pub fn ill_typed(
     alloc: Global,
@@ -52,7 +52,7 @@ fn unplaced(alloc: Global, len: usize) -> Result<Hint, AllocError> {
 }
 
 /// The first call in a form whose type nothing decides, or `None` where none was found. The form has so many bytes,
-/// behind which places are cut off.
+/// after which places are cut off.
 pub fn ambiguous(
     alloc: Global,
     context: &Context<Payload>,

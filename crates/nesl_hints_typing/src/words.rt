@@ -8,7 +8,7 @@ use std::alloc::{AllocError, Global};
 /// The most pieces of a type that a sentence has.
 const MOST_PIECES: usize = 96;
 
-/// The bytes behind which a type goes on by no other piece, since the names of datatypes may be long.
+/// The bytes after which a type goes on by no other piece, since the names of datatypes may be long.
 const MOST_BYTES: usize = 4_096;
 
 /// A piece of a text that is still to be written.

@@ -89,7 +89,7 @@ fn find_terminals(rt: &HostRuntime) -> Terminals {
     }
 }
 
-// Names want of memory by the first word behind the program's name. It is read without any.
+// Reports that there is no memory, by the first word after the program's name, which is read without any.
 fn want_of_memory(rt: &impl Env) -> Failure<'static> {
     let mut word = [0u8; COMMAND_BYTES];
     let Ok(len) = rt.arg(1, &mut word) else {

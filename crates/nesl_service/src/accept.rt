@@ -40,7 +40,7 @@ pub(crate) struct Acceptor<'x> {
 }
 
 impl<'x> Acceptor<'x> {
-    /// Takes up so many connections, or as many as come.
+    /// Takes up this number of connections, or as many as come.
     pub(crate) fn new(listener: &'x TcpListener, most: Option<u64>) -> io::Result<Acceptor<'x>> {
         let closer = TcpStream::from(OwnedFd::from(listener.try_clone()?));
         Ok(Acceptor {

@@ -136,7 +136,7 @@ impl<
         }
     }
 
-    /// No connection can be taken up: that ends the numbers, and is told, if they haven't ended by a fault.
+    /// No connection can be taken up: that ends the numbers, and is reported, if they haven't ended by a fault.
     pub(crate) fn end_by(&self, fault: AcceptFault) {
         if !self.has_ended() {
             self.journal.accept_failed(fault);

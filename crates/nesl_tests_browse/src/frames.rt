@@ -44,7 +44,7 @@ fn is_text(message: &Message, text: &str) -> bool {
     }
 }
 
-// A text of so many characters.
+// A text with this number of characters.
 fn text_of(alloc: Global, letter: char, count: usize) -> Result<String, Fail> {
     let mut text = String::new(alloc);
     for _ in 0..count {

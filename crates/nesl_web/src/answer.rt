@@ -158,7 +158,7 @@ pub fn file_head(alloc: Global, file: File) -> Result<Vec<u8>, WriteError> {
     text_head(alloc, 200, "OK", file.kind, file.text.len())
 }
 
-/// The answer that tells which methods there are, and has no text.
+/// The answer that names the methods there are, and has no text.
 pub fn methods_answer(alloc: Global) -> Result<Vec<u8>, WriteError> {
     let fields = [
         POLICY_FIELD,

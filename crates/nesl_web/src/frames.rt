@@ -74,7 +74,7 @@ impl<W: Write> FrameWriter<W> {
         self.writer.write_all(self.frame.as_slice())
     }
 
-    // Sends the front of a long text as a frame, from where it is, and tells how long that is.
+    // Sends the front of a long text as a frame, from where it is, and returns how long that is.
     fn send_front(&mut self, text: &[u8]) -> io::Result<usize>
         ensures bound { WritesAtMost result text.now }
         ensures sent { IfOk result (λ count. Appends (W.contents self.old.writer) (W.contents self.new.writer)

@@ -61,7 +61,7 @@ fn lost() -> io::Error {
     io::Error::from(ErrorKind::ConnectionAborted)
 }
 
-// Sends a file of the page, or what is told of it, and ends.
+// Sends a file of the page, or its head alone, and ends.
 fn send_file<R: Clock>(
     alloc: Global,
     mut wire: Wire<'_, R>,

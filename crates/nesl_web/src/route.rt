@@ -135,7 +135,7 @@ fn found(bytes: &[u8], request: &RequestSpans, fields: &[HeaderSpan]) -> Route
     let file = file_at(path);
     let is_found = path == "/session" || file.is_some();
     match method {
-        // A star stands for all paths.
+        // A star means all paths.
         Method::Options if is_found || path == "*" => Route::Methods,
         _ if !is_found => Route::Refused(Refusal::NotFound),
         Method::Options | Method::Other => Route::Refused(Refusal::Method),
