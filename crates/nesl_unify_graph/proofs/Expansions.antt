@@ -28,7 +28,7 @@ substitute_below n f g (seq_of t) b h = ap seq_of (substitute_below n f g t b h)
 substitute_below n f g (pair_of t u) b h = let x = substitute_below n f g t b.0 h in let y = substitute_below n f g u b.1 h in cc
 substitute_below n f g (named m) b h = refl
 
-place_below : (i : Instances) (n r v : ℕ) → AreBelow n i → v < length i.fresh.items - base_in i r → place_in i r v < n
+pub place_below : (i : Instances) (n r v : ℕ) → AreBelow n i → v < length i.fresh.items - base_in i r → place_in i r v < n
 place_below i n r v a l = a (base_in i r + v) 0 (omega arith)
 
 instance_same : (i : Instances) (n r : ℕ) (w z : ℕ → Term) (t : Term) → AreBelow n i → IsBelow (length i.fresh.items - base_in i r) t → ((q : ℕ) → q < n → z q ≡ w q) →

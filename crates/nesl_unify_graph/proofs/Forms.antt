@@ -10,7 +10,7 @@ use Rattle.nesl_unify_graph.specs.declared.node.Node.{Node}
 use Rattle.nesl_unify_graph.specs.declared.node.Node.TheVariants as node
 use Rattle.nesl_unify_graph.specs.declared.instances.Instances.{Instances}
 use Rattle.nesl_unify_graph.specs.declared.form.Item.{Item}
-use Rattle.nesl_unify_graph.specs.declared.form.Item.TheVariants.{At, Part}
+use Rattle.nesl_unify_graph.specs.declared.form.Item.TheVariants.{At}
 use Rattle.nesl_unify_graph.specs.declared.form.Form.{Form}
 use Rattle.nesl_unify_graph.specs.Instances.{parts_in, base_in, instance_type, IsPart}
 use Rattle.nesl_unify_graph.specs.Graph.{node_at, node_type, IsRoot, IsFlat, target, link_or}
@@ -55,7 +55,7 @@ variable_place i r k v e h =
     omega arith
 
 -- a link is one step
-link_step : (i : Instances) (ns : List Node) (far : ℕ → Term) (n p : ℕ) (d : Node) → node_at ns p ≡ d →
+pub link_step : (i : Instances) (ns : List Node) (far : ℕ → Term) (n p : ℕ) (d : Node) → node_at ns p ≡ d →
     (m : ℕ) × ((n ≤ m) × (unrolled i ns far (suc (suc n)) p ≡ unrolled i ns far (suc m) (link_or p d)))
 link_step i ns far n p node.Free e = (suc n, (omega arith, refl))
 link_step i ns far n p (node.Same q) e = (n, (omega arith, ap (node_type i (unrolled i ns far (suc n)) (variable p)) e))
@@ -87,9 +87,8 @@ form_of_same i ns x y f e h = record {
       (s.0, (s.1.0, e (unrolled i ns far (suc (suc n))) ∙ s.1.1));
 }
 
-pub form_of_whole : (i : Instances) (ns : List Node) (r k : ℕ) (f : Form) →
-    ((w : ℕ → Term) → instance_type i w r (type_at (parts_in i r) k) ≡ form_type i w f) → IsForm i ns (Part r k) f
-form_of_whole i ns r k f h = record { reads = λ far n. (suc (suc n), (omega arith, h (unrolled i ns far (suc (suc n))))) }
+pub form_of_made : (i : Instances) (ns : List Node) (x : Item) (f : Form) → ((w : ℕ → Term) → item_type i w x ≡ form_type i w f) → IsForm i ns x f
+form_of_made i ns x f h = record { reads = λ far n. (suc (suc n), (omega arith, h (unrolled i ns far (suc (suc n))))) }
 
 -- a place to which a place is linked
 target_of : (i : Instances) (count n p : ℕ) (d : Node) → IsPlaced i count n p d → p < n → link_or p d < n

@@ -15,7 +15,7 @@ use Rattle.nesl_unify_graph.specs.declared.unify.Rest.TheVariants.{Nothing, One,
 use Rattle.nesl_unify_graph.specs.declared.unify.Meeting.{Meeting}
 use Rattle.nesl_unify_graph.specs.Graph.{node_at, node_type, Fits, IsRoot}
 use Rattle.nesl_unify_graph.specs.Tables.{IsPlaced, IsTable, IsPairBelow, AreEqual}
-use Rattle.nesl_unify_graph.specs.Steps.{IsGraph, IsMeeting, Agree, LieBelow, Differ, Moves, merged, pairs_of, part_type, weight, expandable}
+use Rattle.nesl_unify_graph.specs.Steps.{IsGraph, IsMeeting, AgreeWhere, Agree, LieBelow, Differ, Moves, merged, pairs_of, part_type, weight, expandable}
 use Rattle.nesl_unify_graph.proofs.Tables.{Describes, each_set, here_set, other_set}
 use Rattle.nesl_unify_graph.proofs.Steps.{Equals, All_left, All_right, equal_first, equal_second, popped_equal, continues_none, moves_more, moves_with, pairs_longer}
 
@@ -173,14 +173,14 @@ linked_high P ns low high n order inside h = here_set P (set ns low n) high (Sam
 linked_other : (P : Node → Type 0) (ns : List Node) (low high : ℕ) (n : Node) (q : ℕ) → q ≢ low → q ≢ high → P (node_at (linked ns low high n) q) → P (node_at ns q)
 linked_other P ns low high n q d e h = other_set P ns low n q d (other_set P (set ns low n) high (Same low) q e h)
 
-fits_linked : (i : Instances) (w : ℕ → Term) (ns : List Node) (low high : ℕ) (rest : Rest) → low < high → high < length ns → Agree i (node_at ns low) (node_at ns high) rest →
-    Fits i w ns → w low ≡ w high → Fits i w (linked ns low high (merged (node_at ns low) (node_at ns high))) × AreEqual w (pairs_of rest)
+fits_linked : (i : Instances) (w : ℕ → Term) (ns : List Node) (low high : ℕ) (rest : List Pair) → low < high → high < length ns → AgreeWhere i (node_at ns low) (node_at ns high) rest →
+    Fits i w ns → w low ≡ w high → Fits i w (linked ns low high (merged (node_at ns low) (node_at ns high))) × AreEqual w rest
 fits_linked i w ns low high rest order inside agree f e =
     let h = (agree w (w low)).0 (f low, subst (λ (t : Term). Describes i w t (node_at ns high)) (sym e) (f high)) in
     (each_linked (λ q m. Describes i w (w q) m) ns low high (merged (node_at ns low) (node_at ns high)) order inside h.0 (sym e) f, h.1)
 
-fits_unlinked : (i : Instances) (w : ℕ → Term) (ns : List Node) (low high : ℕ) (rest : Rest) → low < high → high < length ns → Agree i (node_at ns low) (node_at ns high) rest →
-    Fits i w (linked ns low high (merged (node_at ns low) (node_at ns high))) → AreEqual w (pairs_of rest) → Fits i w ns × (w low ≡ w high)
+fits_unlinked : (i : Instances) (w : ℕ → Term) (ns : List Node) (low high : ℕ) (rest : List Pair) → low < high → high < length ns → AgreeWhere i (node_at ns low) (node_at ns high) rest →
+    Fits i w (linked ns low high (merged (node_at ns low) (node_at ns high))) → AreEqual w rest → Fits i w ns × (w low ≡ w high)
 fits_unlinked i w ns low high rest order inside agree f k =
     let n = merged (node_at ns low) (node_at ns high) in
     let e : w high ≡ w low = linked_high (Describes i w (w high)) ns low high n order inside (f high) in
@@ -196,14 +196,14 @@ fits_unlinked i w ns low high rest order inside agree f k =
       sym e,
     )
 
-linked_moves : (i : Instances) (ns : List Node) (pair : Pair) (rest : Rest) (pending : List Pair) → pair.first < pair.second → pair.second < length ns →
-    Agree i (node_at ns pair.first) (node_at ns pair.second) rest →
-    Moves i ns (pending ++ pair ∷ []) (linked ns pair.first pair.second (merged (node_at ns pair.first) (node_at ns pair.second))) (pending ++ pairs_of rest)
+linked_moves : (i : Instances) (ns : List Node) (pair : Pair) (rest : List Pair) (pending : List Pair) → pair.first < pair.second → pair.second < length ns →
+    AgreeWhere i (node_at ns pair.first) (node_at ns pair.second) rest →
+    Moves i ns (pending ++ pair ∷ []) (linked ns pair.first pair.second (merged (node_at ns pair.first) (node_at ns pair.second))) (pending ++ rest)
 linked_moves i ns pair rest pending order inside agree = record {
   longer = omega (arith, length_linked ns pair.first pair.second (merged (node_at ns pair.first) (node_at ns pair.second)));
   sound = λ w f h.
-      let u = fits_unlinked i w ns pair.first pair.second rest order inside agree f (All_right (Equals w) pending (pairs_of rest) h) in
-      (u.0, (popped_equal w (pending ++ pair ∷ []) pending pair refl).1 (All_left (Equals w) pending (pairs_of rest) h, u.1));
+      let u = fits_unlinked i w ns pair.first pair.second rest order inside agree f (All_right (Equals w) pending rest h) in
+      (u.0, (popped_equal w (pending ++ pair ∷ []) pending pair refl).1 (All_left (Equals w) pending rest h, u.1));
   complete = λ w f h.
       let p = (popped_equal w (pending ++ pair ∷ []) pending pair refl).0 h in
       let j = fits_linked i w ns pair.first pair.second rest order inside agree f p.1 in
@@ -211,7 +211,7 @@ linked_moves i ns pair rest pending order inside agree = record {
         types = w;
         continues = continues_none (length ns) w;
         fits = j.0;
-        equal = All-append (Equals w) pending (pairs_of rest) p.0 j.1;
+        equal = All-append (Equals w) pending rest p.0 j.1;
       };
 }
 
@@ -270,40 +270,47 @@ weight_merged i (SeqOf q) b h k = omega (arith, weight_root i b k)
 weight_merged i (Both q r) b h k = omega (arith, weight_root i b k)
 weight_merged i (Part r j) b h k = omega (arith, weight_root i b k)
 
-length_rest : (rest : Rest) → length (pairs_of rest) ≤ 2
+pub length_rest : (rest : Rest) → length (pairs_of rest) ≤ 2
 length_rest Nothing = omega arith
 length_rest (One p) = omega arith
 length_rest (Two p q) = omega arith
 
-linked_fewer : (i : Instances) (ns : List Node) (low high : ℕ) (rest : Rest) (pending : List Pair) → low < high → high < length ns → IsRoot (node_at ns low) → IsRoot (node_at ns high) →
-    sum_by (weight i) (linked ns low high (merged (node_at ns low) (node_at ns high))) + length (pending ++ pairs_of rest) ≤ sum_by (weight i) ns + length pending
-linked_fewer i ns low high rest pending order inside lower higher =
+linked_fewer : (i : Instances) (ns : List Node) (low high : ℕ) (rest : List Pair) (pending : List Pair) → low < high → high < length ns → weight i (merged (node_at ns low) (node_at ns high)) + length rest ≤ weight i (node_at ns low) + weight i (node_at ns high) →
+    sum_by (weight i) (linked ns low high (merged (node_at ns low) (node_at ns high))) + length (pending ++ rest) ≤ sum_by (weight i) ns + length pending
+linked_fewer i ns low high rest pending order inside few =
     let n = merged (node_at ns low) (node_at ns high) in
     let l : high < length (set ns low n) = omega (arith, length-set ns low n) in
     let s = sum_by-set (weight i) ns low n Free (omega arith) in
     let t = sum_by-set (weight i) (set ns low n) high (Same low) Free l in
     let o : get_or (set ns low n) high Free ≡ get_or ns high Free = get_or-set_other ns low high n Free (omega arith) in
     let p : weight i (get_or (set ns low n) high Free) ≡ weight i (node_at ns high) = ap (weight i) o in
-    omega (arith, s, t, p, weight_merged i (node_at ns low) (node_at ns high) lower higher, length_rest rest, length-append pending (pairs_of rest))
+    omega (arith, s, t, p, few, length-append pending rest)
 
 -- what holds after a join: `new` is the table, and `more` the pairs that are left then
-module _ (i : Instances) (ns new : List Node) (pair : Pair) (rest : Rest) (pending more : List Pair) (at : new ≡ linked ns pair.first pair.second (merged (node_at ns pair.first) (node_at ns pair.second)))
-    (left : more ≡ pending ++ pairs_of rest) (order : pair.first < pair.second) (inside : pair.second < length ns) where
-  pub join_moves : Agree i (node_at ns pair.first) (node_at ns pair.second) rest → Moves i ns (pending ++ pair ∷ []) new more
+module _ (i : Instances) (ns new : List Node) (pair : Pair) (rest : List Pair) (pending more : List Pair) (at : new ≡ linked ns pair.first pair.second (merged (node_at ns pair.first) (node_at ns pair.second)))
+    (left : more ≡ pending ++ rest) (order : pair.first < pair.second) (inside : pair.second < length ns) where
+  pub join_moves : AgreeWhere i (node_at ns pair.first) (node_at ns pair.second) rest → Moves i ns (pending ++ pair ∷ []) new more
   join_moves agree = rw (at, left) (linked_moves i ns pair rest pending order inside agree)
 
   pub join_table : IsRoot (node_at ns pair.second) → (count : ℕ) → IsTable i count ns → IsTable i count new
   join_table root = rw at (λ count. linked_table i count ns pair.first pair.second order inside root)
 
-  pub join_pending : IsGraph i ns → LieBelow i (node_at ns pair.first) (node_at ns pair.second) rest → All (IsPairBelow (length ns)) pending → All (IsPairBelow (length new)) more
-  join_pending graph lie h =
-      let below : pair.first < length ns = omega arith in
+  pub pending_below : All (IsPairBelow (length ns)) rest → All (IsPairBelow (length ns)) pending → All (IsPairBelow (length new)) more
+  pending_below below h =
       let e : length new ≡ length ns = ap length at ∙ length_linked ns pair.first pair.second (merged (node_at ns pair.first) (node_at ns pair.second)) in
-      let all : All (IsPairBelow (length ns)) more = rw left (All-append (IsPairBelow (length ns)) pending (pairs_of rest) h (lie (length ns) pair.first pair.second (graph.table pair.first below) (graph.table pair.second inside))) in
+      let all : All (IsPairBelow (length ns)) more = rw left (All-append (IsPairBelow (length ns)) pending rest h below) in
       subst (λ (n : ℕ). All (IsPairBelow n) more) (sym e) all
 
-  pub join_fewer : IsRoot (node_at ns pair.first) → IsRoot (node_at ns pair.second) → sum_by (weight i) new + length more ≤ sum_by (weight i) ns + length pending
-  join_fewer lower higher = rw (at, left) (linked_fewer i ns pair.first pair.second rest pending order inside lower higher)
+  pub join_pending : IsGraph i ns → ((n low high : ℕ) → IsPlaced i n n low (node_at ns pair.first) → IsPlaced i n n high (node_at ns pair.second) → All (IsPairBelow n) rest) → All (IsPairBelow (length ns)) pending → All (IsPairBelow (length new)) more
+  join_pending graph lie h =
+      let below : pair.first < length ns = omega arith in
+      pending_below (lie (length ns) pair.first pair.second (graph.table pair.first below) (graph.table pair.second inside)) h
+
+  pub join_fewer : weight i (merged (node_at ns pair.first) (node_at ns pair.second)) + length rest ≤ weight i (node_at ns pair.first) + weight i (node_at ns pair.second) → sum_by (weight i) new + length more ≤ sum_by (weight i) ns + length pending
+  join_fewer few = rw (at, left) (linked_fewer i ns pair.first pair.second rest pending order inside few)
+
+pub fewer_rest : (i : Instances) (a b : Node) (rest : Rest) → IsRoot a → IsRoot b → weight i (merged a b) + length (pairs_of rest) ≤ weight i a + weight i b
+fewer_rest i a b rest h k = omega (arith, weight_merged i a b h k, length_rest rest)
 
 -- what holds after the parts of instances at a pair's places are expanded, where `mid` is the table in between
 module _ (i : Instances) (old mid new : List Node) (pair : Pair) (pending more : List Pair) (left : more ≡ pending ++ pair ∷ []) (order : pair.first < pair.second) (inside : pair.second < length old)

@@ -5,3 +5,6 @@ pub mod Joins
 pub mod Forms
 pub mod Walks
 pub mod Outlines
+pub mod Parts
+pub mod Matches
+pub mod Sizes

@@ -18,7 +18,7 @@ use Rattle.nesl_unify_graph.specs.declared.form.Form.TheVariants.{Free, Int, Boo
 use Rattle.nesl_unify_graph.specs.Readings.{unrolled, Reads}
 use Rattle.nesl_unify_graph.specs.Forms.{item_type, form_type, form_parts, IsItem, AreItems, IsForm, IsItemRead, near, IsLarger}
 use Rattle.nesl_unify_graph.specs.Outlines.{form_shape, placed_shape, IsShapeAfter, IsOutline, FitsOutline, IsOutlineOf}
-use Rattle.nesl_unify_graph.proofs.Walks.{IsCounted, count_first, count_item, weight, weight-append, read_form, near_read, items_of_parts}
+use Rattle.nesl_unify_graph.proofs.Walks.{IsCounted, count_first, count_item, measured_form, weight, weight-append, read_form, near_read, items_of_parts}
 
 abbrev pub item_at : List Item → ℕ → Item
 item_at xs k = get_or xs k (At 0)
@@ -141,11 +141,10 @@ outline_on i ns start xs ys shapes more next f l d h a e o w =
       inside = omega arith;
       few = omega arith;
       within = All-append (IsItem i (length ns)) xs (form_parts f) w.within (items_of_parts i (length ns) f a);
-      counted = subst (λ c. IsCounted i ns start c (drop (next + 1) zs)) (omega arith)
-          (count_item i ns start next (item_at xs next) f (drop (next + 1) xs) (drop next xs) (drop (next + 1) zs) h
+      counted = count_item i ns start next 1 (item_at xs next) (drop (next + 1) xs) (form_parts f) (drop next xs) (drop (next + 1) zs) (measured_form i ns (item_at xs next) f h)
           (λ n. first_of_more i ns xs next n l)
           (λ n. ap (weight i ns n) (drop-append-le (next + 1) xs (form_parts f) (omega arith)) ∙ weight-append i ns n (drop (next + 1) xs) (form_parts f))
-          w.counted);
+          w.counted;
       first = get_or_append_left xs (form_parts f) (At 0) 0 w.some ∙ w.first;
       noted = λ k b. elim (cases_lt k next) [
         | inl g ↦

@@ -1,7 +1,6 @@
 -- Walks over the nodes of a type.
-use Rattle.std.proofs.Common.{◌≡◌, ◌⊎◌, inl, inr, ℕ, zero, suc, ◌+◌, ◌-◌, ◌*◌, ◌<◌, ◌≤◌, Bool as Bool', true, false, List, [], ◌∷◌, ◌++◌, All, length, replicate, take, drop, set, Some, refl, append-nil, sym, ap, subst, ◌∙◌, arith}
-use Rattle.std.proofs.lemmas.Bool.{cases_lt, cases_eq}
-use Rattle.std.proofs.lemmas.List.{get_or-set_same, get_or-set_other, length-set, length-replicate, get_or-replicate, get_or_past, take_all, drop_all}
+use Rattle.std.proofs.Common.{◌≡◌, inl, inr, ℕ, zero, suc, ◌+◌, ◌-◌, ◌*◌, ◌<◌, ◌≤◌, List, [], ◌∷◌, ◌++◌, All, length, Some, refl, sym, ap, subst, ◌∙◌, arith}
+use Rattle.std.proofs.lemmas.Bool.{cases_lt}
 use Rattle.std.proofs.lemmas.List.Elements.{All-nil, All-cons, All-append, All-pop}
 use Rattle.nesl_types_bank.specs.Term.{Term, int, bool, char, variable, seq_of, pair_of, named, nodes}
 use Rattle.nesl_types_bank.specs.Substitution.{substitute}
@@ -14,10 +13,13 @@ use Rattle.nesl_unify_graph.specs.declared.form.Item.{Item}
 use Rattle.nesl_unify_graph.specs.declared.form.Item.TheVariants.{At, Part}
 use Rattle.nesl_unify_graph.specs.declared.form.Form.{Form}
 use Rattle.nesl_unify_graph.specs.declared.form.Form.TheVariants.{Free, Int, Bool, Char, Named, SeqOf, Both}
+use Rattle.nesl_unify_graph.specs.declared.walk.Look.{Look}
+use Rattle.nesl_unify_graph.specs.declared.walk.Look.TheVariants.{Known, Open}
 use Rattle.nesl_unify_graph.specs.Instances.{parts_in, place_in}
 use Rattle.nesl_unify_graph.specs.Graph.{node_at, node_type, Fits}
 use Rattle.nesl_unify_graph.specs.Readings.{unrolled, Reads}
-use Rattle.nesl_unify_graph.specs.Forms.{item_type, form_type, form_parts, IsItem, AreItems, IsForm, is_marked, AreMarked, IsItemRead, AreItemsRead, IsReadWithin, near, IsLarger, AreMarkedRead, IsWalked}
+use Rattle.nesl_unify_graph.specs.Forms.{item_type, form_type, form_parts, IsItem, AreItems, IsForm, IsFormAt, IsItemRead, AreItemsRead, near, IsLarger}
+use Rattle.nesl_unify_graph.specs.Sizes.{look_nodes, look_parts, IsRootRead, IsRootSize, IsItemSize, IsSizeWithin, IsRootLook, IsLook}
 
 -- larger types put in place of variables
 substitute_grows : (f g : ℕ → Term) → ((v : ℕ) → nodes (f v) ≤ nodes (g v)) → (t : Term) → nodes (substitute f t) ≤ nodes (substitute g t)
@@ -111,41 +113,48 @@ IsCounted i ns start counted xs = (n : ℕ) → (m : ℕ) × (counted + weight i
 pub count_first : (i : Instances) (ns : List Node) (start : ℕ) → IsCounted i ns start 0 (At start ∷ [])
 count_first i ns start n = (n, omega arith)
 
+-- a nodes of an item's type, and the items of a list, are no more than it has
+abbrev pub IsMeasured : Instances → List Node → Item → ℕ → List Item → Type 0
+IsMeasured i ns x a zs = (n : ℕ) → (m : ℕ) × ((n ≤ m) × (a + weight i ns n zs ≤ nodes (item_type i (near i ns m) x)))
+
+pub measured_form : (i : Instances) (ns : List Node) (x : Item) (f : Form) → IsForm i ns x f → IsMeasured i ns x 1 (form_parts f)
+measured_form i ns x f h n = let p = weight_of_parts i ns n x f h in (suc (suc n), (omega arith, omega arith))
+
 -- an item is looked at
-pub count_item : (i : Instances) (ns : List Node) (start counted : ℕ) (x : Item) (f : Form) (xs olds news : List Item) → IsForm i ns x f →
+pub count_item : (i : Instances) (ns : List Node) (start counted a : ℕ) (x : Item) (xs zs olds news : List Item) → IsMeasured i ns x a zs →
     ((n : ℕ) → weight i ns n olds ≡ weight i ns n xs + nodes (item_type i (near i ns n) x)) →
-    ((n : ℕ) → weight i ns n news ≡ weight i ns n xs + weight i ns n (form_parts f)) →
-    IsCounted i ns start counted olds → IsCounted i ns start (suc counted) news
-count_item i ns start counted x f xs olds news h o e c n =
-    let k = c (suc (suc n)) in
-    let a = o (suc (suc n)) in
+    ((n : ℕ) → weight i ns n news ≡ weight i ns n xs + weight i ns n zs) →
+    IsCounted i ns start counted olds → IsCounted i ns start (counted + a) news
+count_item i ns start counted a x xs zs olds news h o e c n =
+    let s = h n in
+    let l = s.1.1 in
+    let k = c s.0 in
+    let d = o s.0 in
     let b = e n in
-    let p = weight_of_parts i ns n x f h in
-    let g = weight_grows i ns (suc (suc n)) n (omega arith) xs in
+    let g = weight_grows i ns s.0 n s.1.0 xs in
     (k.0, omega (arith, k.1))
 
-weight_one : (i : Instances) (ns : List Node) (n : ℕ) (x : Item) → weight i ns n (x ∷ []) ≡ nodes (item_type i (near i ns n) x)
-weight_one i ns n x = omega arith
+weight_top : (i : Instances) (ns : List Node) (n : ℕ) (x : Item) (xs olds : List Item) → olds ≡ xs ++ x ∷ [] →
+    weight i ns n olds ≡ weight i ns n xs + nodes (item_type i (near i ns n) x)
+weight_top i ns n x xs olds o =
+    let one : weight i ns n (x ∷ []) ≡ nodes (item_type i (near i ns n) x) = omega arith in
+    ap (weight i ns n) o ∙ weight-append i ns n xs (x ∷ []) ∙ ap (λ k. weight i ns n xs + k) one
 
 -- the item on top of a stack
-pub count_top : (i : Instances) (ns : List Node) (start counted : ℕ) (x : Item) (f : Form) (xs olds news : List Item) → IsForm i ns x f →
-    olds ≡ xs ++ x ∷ [] → news ≡ xs ++ form_parts f → IsCounted i ns start counted olds → IsCounted i ns start (suc counted) news
-count_top i ns start counted x f xs olds news h o e c =
-    count_item i ns start counted x f xs olds news h
-    (λ n. ap (weight i ns n) o ∙ weight-append i ns n xs (x ∷ []) ∙ ap (λ k. weight i ns n xs + k) (weight_one i ns n x))
-    (λ n. ap (weight i ns n) e ∙ weight-append i ns n xs (form_parts f))
-    c
+count_top : (i : Instances) (ns : List Node) (start counted a : ℕ) (x : Item) (xs zs olds news : List Item) → IsMeasured i ns x a zs →
+    olds ≡ xs ++ x ∷ [] → news ≡ xs ++ zs → IsCounted i ns start counted olds → IsCounted i ns start (counted + a) news
+count_top i ns start counted a x xs zs olds news h o e c =
+    count_item i ns start counted a x xs zs olds news h (λ n. weight_top i ns n x xs olds o)
+    (λ n. ap (weight i ns n) e ∙ weight-append i ns n xs zs) c
 
-weight_positive : (i : Instances) (ns : List Node) (n : ℕ) (x : Item) (xs : List Item) → 0 < weight i ns n (xs ++ x ∷ [])
-weight_positive i ns n x xs =
-    omega (arith, weight-append i ns n xs (x ∷ []), weight_one i ns n x, nodes_positive (item_type i (near i ns n) x))
-
--- an item is left
-pub too_large : (i : Instances) (ns : List Node) (start counted : ℕ) (x : Item) (xs olds : List Item) →
-    olds ≡ xs ++ x ∷ [] → IsCounted i ns start counted olds → IsLarger i ns counted start
-too_large i ns start counted x xs olds o c =
-    let k = c 0 in
-    let p = subst (λ ys. 0 < weight i ns 0 ys) (sym o) (weight_positive i ns 0 x xs) in
+-- it is larger than the room that is left
+too_large : (i : Instances) (ns : List Node) (most start counted a : ℕ) (x : Item) (xs zs olds : List Item) → IsMeasured i ns x a zs →
+    olds ≡ xs ++ x ∷ [] → most < counted + a → IsCounted i ns start counted olds → IsLarger i ns most start
+too_large i ns most start counted a x xs zs olds h o m c =
+    let s = h 0 in
+    let l = s.1.1 in
+    let k = c s.0 in
+    let d = weight_top i ns s.0 x xs olds o in
     (k.0, omega (arith, k.1))
 
 -- a type whose form is known is read, where those of its parts are
@@ -155,29 +164,39 @@ read_form i ns x f t h e far zero l = absurd (omega (arith, nodes_positive t))
 read_form i ns x f t h e far (suc zero) l = absurd (omega (arith, nodes_positive t))
 read_form i ns x f t h e far (suc (suc n)) l = let s = h.reads far n in s.1.1 ∙ e far s.0 (omega (arith, s.1.0))
 
-pub read_parts : (i : Instances) (ns : List Node) (x : Item) (f : Form) (k : ℕ) → IsForm i ns x f → AreItemsRead i ns (form_parts f) k →
-    (t : Term) × (IsItemRead i ns x t × (nodes t ≡ suc k))
-read_parts i ns x (Free p) k h r = (variable p, (read_form i ns x (Free p) (variable p) h (λ far m l. refl), omega arith))
-read_parts i ns x Int k h r = (int, (read_form i ns x Int int h (λ far m l. refl), omega arith))
-read_parts i ns x Bool k h r = (bool, (read_form i ns x Bool bool h (λ far m l. refl), omega arith))
-read_parts i ns x Char k h r = (char, (read_form i ns x Char char h (λ far m l. refl), omega arith))
-read_parts i ns x (Named n) k h r = (named n, (read_form i ns x (Named n) (named n) h (λ far m l. refl), omega arith))
-read_parts i ns x (SeqOf y) k h r =
+-- the type of a form, where those of its parts are read
+pub parts_type : (i : Instances) (ns : List Node) (f : Form) (k : ℕ) → AreItemsRead i ns (form_parts f) k →
+    (t : Term) × (((far : ℕ → Term) (m : ℕ) → 2 * nodes t ≤ m + 2 → form_type i (unrolled i ns far m) f ≡ t) × (nodes t ≡ suc k))
+parts_type i ns (Free p) k r = (variable p, ((λ far m l. refl), omega arith))
+parts_type i ns Int k r = (int, ((λ far m l. refl), omega arith))
+parts_type i ns Bool k r = (bool, ((λ far m l. refl), omega arith))
+parts_type i ns Char k r = (char, ((λ far m l. refl), omega arith))
+parts_type i ns (Named n) k r = (named n, ((λ far m l. refl), omega arith))
+parts_type i ns (SeqOf y) k r =
     let t = r.0 in let j = r.1.0 in let a = r.1.1.0 in let z = r.1.1.1.0 in let s = r.1.1.1.1 in
-    (seq_of t, (read_form i ns x (SeqOf y) (seq_of t) h (λ far m l. ap seq_of (a far m (omega arith))), omega arith))
-read_parts i ns x (Both y z) k h r =
+    (seq_of t, ((λ far m l. ap seq_of (a far m (omega arith))), omega arith))
+parts_type i ns (Both y z) k r =
     let t = r.0 in let a = r.1.1.0 in let s = r.1.1.1.1 in
     let q = r.1.1.1.0 in
     let u = q.0 in let b = q.1.1.0 in let o = q.1.1.1.0 in let v = q.1.1.1.1 in (
       pair_of t u,
       (
-        read_form i ns x (Both y z) (pair_of t u) h (λ far m l.
+        (λ far m l.
             let c = a far m (omega arith) in
             let d = b far m (omega arith) in
             cc),
         omega arith,
       ),
     )
+
+read_parts : (i : Instances) (ns : List Node) (x : Item) (f : Form) (k : ℕ) → IsForm i ns x f → AreItemsRead i ns (form_parts f) k → IsItemSize i ns x (1 + k)
+read_parts i ns x f k h r = let s = parts_type i ns f k r in let e = s.1.1 in (s.0, (read_form i ns x f s.0 h s.1.0, omega arith))
+
+-- the same at a place without a link, where the form is one step away
+read_root : (i : Instances) (ns : List Node) (p : ℕ) (f : Form) (t : Term) → IsFormAt i ns p f →
+    ((far : ℕ → Term) (m : ℕ) → 2 * nodes t ≤ m + 2 → form_type i (unrolled i ns far m) f ≡ t) → IsRootRead i ns p t
+read_root i ns p f t h e far zero l = absurd (omega (arith, nodes_positive t))
+read_root i ns p f t h e far (suc n) l = h (unrolled i ns far n) ∙ e far n (omega arith)
 
 read_split : (i : Instances) (ns : List Node) (xs ys : List Item) (k : ℕ) → AreItemsRead i ns (xs ++ ys) k →
     (a : ℕ) × ((b : ℕ) × (AreItemsRead i ns xs a × (AreItemsRead i ns ys b × (k ≡ a + b))))
@@ -198,77 +217,23 @@ read_join i ns (x ∷ xs) ys a b r s =
 read_one : (i : Instances) (ns : List Node) (x : Item) (t : Term) → IsItemRead i ns x t → AreItemsRead i ns (x ∷ []) (nodes t)
 read_one i ns x t r = (t, (0, (r, (refl, omega arith))))
 
--- the type at place p is read within `most`, where those of the items are read and have at most `room` nodes
-abbrev pub IsPending : Instances → List Node → ℕ → List Item → ℕ → ℕ → Type 0
-IsPending i ns most xs room p = (k : ℕ) → AreItemsRead i ns xs k → k ≤ room → IsReadWithin i ns most p
+-- what is known of an item that was looked at
+measured_look : (i : Instances) (ns : List Node) (x : Item) (look : Look) → IsLook i ns x look → IsMeasured i ns x (look_nodes look) (look_parts look)
+measured_look i ns x (Known k) h n =
+    let m : ℕ = n + 2 * nodes h.0 in
+    let e = ap nodes (h.1.0 (λ q. int) m (omega arith)) in
+    let s = h.1.1 in
+    (m, (omega arith, omega arith))
+measured_look i ns x (Open f) h n = measured_form i ns x f h.0 n
 
--- the item on top of a stack is looked at
-pending_top : (i : Instances) (ns : List Node) (most room p : ℕ) (x : Item) (f : Form) (xs olds news : List Item) → IsForm i ns x f →
-    olds ≡ xs ++ x ∷ [] → news ≡ xs ++ form_parts f → IsPending i ns most olds (suc room) p → IsPending i ns most news room p
-pending_top i ns most room p x f xs olds news h o e d k r l =
-    let s = read_split i ns xs (form_parts f) k (subst (λ ys. AreItemsRead i ns ys k) e r) in
-    let g = s.1.1.1.1 in
-    let t = read_parts i ns x f s.1.0 h s.1.1.1.0 in
-    let j = read_join i ns xs (x ∷ []) s.0 (nodes t.0) s.1.1.0 (read_one i ns x t.0 t.1.0) in
-    let q = t.1.1 in
-    d (s.0 + nodes t.0) (subst (λ ys. AreItemsRead i ns ys (s.0 + nodes t.0)) (sym o) j) (omega arith)
+read_look : (i : Instances) (ns : List Node) (x : Item) (look : Look) (k : ℕ) → IsLook i ns x look → AreItemsRead i ns (look_parts look) k →
+    IsItemSize i ns x (look_nodes look + k)
+read_look i ns x (Known n) k h r = let z : k ≡ 0 = r in let s = h.1.1 in (h.0, (h.1.0, omega arith))
+read_look i ns x (Open f) k h r = read_parts i ns x f k h.0 r
 
--- a place that was marked with it
-pending_here : (i : Instances) (ns : List Node) (most room p : ℕ) (f : Form) (xs news : List Item) → IsForm i ns (At p) f →
-    news ≡ xs ++ form_parts f → suc room ≤ most → IsPending i ns most news room p
-pending_here i ns most room p f xs news h e m k r l =
-    let s = read_split i ns xs (form_parts f) k (subst (λ ys. AreItemsRead i ns ys k) e r) in
-    let g = s.1.1.1.1 in
-    let t = read_parts i ns (At p) f s.1.0 h s.1.1.1.0 in
-    let q = t.1.1 in
-    (t.0, (t.1.0, omega arith))
-
--- a walk from `start`: the items on the stack are still to be looked at, and have room for `room` nodes
-pub record IsWalking (i : Instances) (ns : List Node) (most : ℕ) (old marks : List Bool') (stack : List Item) (room start : ℕ) : Type 0 where
-  pub left : room ≤ most
-  pub within : All (IsItem i (length ns)) stack
-  pub counted : IsCounted i ns start (most - room) stack
-  pub pending : (p : ℕ) → is_marked marks p → IsPending i ns most stack room p
-  pub stays : (p : ℕ) → is_marked old p → is_marked marks p
-  pub here : is_marked marks start
-
-marked_cases : (marks : List Bool') (p q : ℕ) → p < length marks → is_marked (set marks p true) q → (q ≡ p) ⊎ is_marked marks q
-marked_cases marks p q l h = elim (cases_eq q p) [
-  | inl e ↦ inl e
-  | inr d ↦ inr (sym (get_or-set_other marks p q true false d) ∙ h)
-]
-
-pub marked_here : (marks : List Bool') (p : ℕ) → p < length marks → is_marked (set marks p true) p
-marked_here marks p l = get_or-set_same marks p true false l
-
-pub marked_stays : (marks : List Bool') (p q : ℕ) → p < length marks → is_marked marks q → is_marked (set marks p true) q
-marked_stays marks p q l h = elim (cases_eq q p) [
-  | inl e ↦ subst (is_marked (set marks p true)) (sym e) (marked_here marks p l)
-  | inr d ↦ get_or-set_other marks p q true false d ∙ h
-]
-
-pub walk_first : (i : Instances) (ns : List Node) (most : ℕ) (old : List Bool') (olds stack : List Item) (start : ℕ) →
-    start < length ns → length old ≡ length ns → AreMarkedRead i ns most old → olds ≡ [] → stack ≡ olds ++ At start ∷ [] →
-    IsWalking i ns most old (set old start true) stack most start
-walk_first i ns most old olds stack start l len r o e =
-    let inside : start < length old = omega arith in
-    let one : stack ≡ At start ∷ [] = e ∙ ap (λ xs. xs ++ At start ∷ []) o in
-    let goal : IsWalking i ns most old (set old start true) (At start ∷ []) most start = record {
-      left = omega arith;
-      within = All-cons (IsItem i (length ns)) (At start) [] l (All-nil (IsItem i (length ns)));
-      counted = λ n. (n, omega arith);
-      pending = λ p m k a b. elim (marked_cases old start p inside m) [
-        | inl s ↦
-            let t = a.0 in
-            let z : a.1.0 ≡ 0 = a.1.1.1.0 in
-            let g = a.1.1.1.1 in
-            (t, (subst (λ q. Reads i ns q t) (sym s) a.1.1.0, omega arith))
-        | inr q ↦ r p q
-      ];
-      stays = λ p h. marked_stays old start p inside h;
-      here = marked_here old start inside;
-    } in
-    subst (λ xs. IsWalking i ns most old (set old start true) xs most start) (sym one) goal
+pub look_positive : (i : Instances) (ns : List Node) (x : Item) (look : Look) → IsLook i ns x look → 0 < look_nodes look
+look_positive i ns x (Known k) h = let p = nodes_positive h.0 in let s = h.1.1 in omega arith
+look_positive i ns x (Open f) h = omega arith
 
 pub items_of_parts : (i : Instances) (n : ℕ) (f : Form) → AreItems i n f → All (IsItem i n) (form_parts f)
 items_of_parts i n (Free p) h = All-nil (IsItem i n)
@@ -283,78 +248,91 @@ items_of_parts i n (Both x y) h = All-cons (IsItem i n) x (y ∷ []) h.0 (All-co
 pub rest_within : (i : Instances) (n : ℕ) (x : Item) (xs olds : List Item) → olds ≡ xs ++ x ∷ [] → All (IsItem i n) olds → All (IsItem i n) xs × IsItem i n x
 rest_within i n x xs olds o a = All-pop (IsItem i n) olds xs (Some x) o a
 
-pub walk_on : (i : Instances) (ns : List Node) (most : ℕ) (old marks more : List Bool') (xs olds news : List Item) (room start : ℕ) (x : Item) (f : Form) →
-    olds ≡ xs ++ x ∷ [] → news ≡ xs ++ form_parts f → IsForm i ns x f → AreItems i (length ns) f → AreMarked i ns marks more f → 0 < room →
-    IsWalking i ns most old marks olds room start → IsWalking i ns most old more news (room - 1) start
-walk_on i ns most old marks more xs olds news room start x f o e h a d some w =
-    let left = w.left in
-    let same : room ≡ suc (room - 1) = omega arith in
-    let count : suc (most - room) ≡ most - (room - 1) = omega arith in
+items_of_look : (i : Instances) (ns : List Node) (x : Item) (look : Look) → IsLook i ns x look → All (IsItem i (length ns)) (look_parts look)
+items_of_look i ns x (Known k) h = All-nil (IsItem i (length ns))
+items_of_look i ns x (Open f) h = items_of_parts i (length ns) f h.1
+
+-- the type at place `start` has `counted` nodes, and those of the items
+abbrev pub IsPending : Instances → List Node → ℕ → ℕ → List Item → Type 0
+IsPending i ns start counted xs = (k : ℕ) → AreItemsRead i ns xs k → IsRootSize i ns start (counted + k)
+
+-- the item on top of a stack is looked at
+pending_top : (i : Instances) (ns : List Node) (start counted : ℕ) (x : Item) (look : Look) (xs olds news : List Item) → IsLook i ns x look →
+    olds ≡ xs ++ x ∷ [] → news ≡ xs ++ look_parts look → IsPending i ns start counted olds → IsPending i ns start (counted + look_nodes look) news
+pending_top i ns start counted x look xs olds news h o e d k r =
+    let s = read_split i ns xs (look_parts look) k (subst (λ ys. AreItemsRead i ns ys k) e r) in
+    let g = s.1.1.1.1 in
+    let t = read_look i ns x look s.1.0 h s.1.1.1.0 in
+    let j = read_join i ns xs (x ∷ []) s.0 (nodes t.0) s.1.1.0 (read_one i ns x t.0 t.1.0) in
+    let q = t.1.1 in
+    subst (IsRootSize i ns start) (omega arith) (d (s.0 + nodes t.0) (subst (λ ys. AreItemsRead i ns ys (s.0 + nodes t.0)) (sym o) j))
+
+-- what is known of a place that was looked at
+root_counted : (i : Instances) (ns : List Node) (p : ℕ) (look : Look) → IsRootLook i ns p look → IsCounted i ns p (look_nodes look) (look_parts look)
+root_counted i ns p (Known k) h n =
+    let m : ℕ = 2 * nodes h.0 in
+    let e = ap nodes (h.1.0 (λ q. int) m (omega arith)) in
+    let s = h.1.1 in
+    (m, omega arith)
+root_counted i ns p (Open f) h n =
+    let e = ap nodes (h.0 (near i ns n)) in
+    let g = weight_of_form i ns n f in
+    (suc n, omega arith)
+
+root_pending : (i : Instances) (ns : List Node) (p : ℕ) (look : Look) → IsRootLook i ns p look → IsPending i ns p (look_nodes look) (look_parts look)
+root_pending i ns p (Known n) h k r = let z : k ≡ 0 = r in let s = h.1.1 in (h.0, (h.1.0, omega arith))
+root_pending i ns p (Open f) h k r = let s = parts_type i ns f k r in let e = s.1.1 in (s.0, (read_root i ns p f s.0 h.0 s.1.0, omega arith))
+
+items_of_root : (i : Instances) (ns : List Node) (p : ℕ) (look : Look) → IsRootLook i ns p look → All (IsItem i (length ns)) (look_parts look)
+items_of_root i ns p (Known k) h = All-nil (IsItem i (length ns))
+items_of_root i ns p (Open f) h = items_of_parts i (length ns) f h.1
+
+-- a walk from `start`: the items on the stack are still to be looked at, and have room for `room` nodes
+pub record IsWalking (i : Instances) (ns : List Node) (most : ℕ) (stack : List Item) (room start : ℕ) : Type 0 where
+  pub left : room ≤ most
+  pub within : All (IsItem i (length ns)) stack
+  pub counted : IsCounted i ns start (most - room) stack
+  pub pending : IsPending i ns start (most - room) stack
+
+pub walk_first : (i : Instances) (ns : List Node) (most : ℕ) (look : Look) (olds stack : List Item) (left start : ℕ) →
+    IsRootLook i ns start look → olds ≡ [] → stack ≡ olds ++ look_parts look → left + look_nodes look ≡ most → IsWalking i ns most stack left start
+walk_first i ns most look olds stack left start h o e l =
+    let same : look_nodes look ≡ most - left = omega arith in
+    let goal : IsWalking i ns most (look_parts look) left start = record {
+      left = omega arith;
+      within = items_of_root i ns start look h;
+      counted = subst (λ c. IsCounted i ns start c (look_parts look)) same (root_counted i ns start look h);
+      pending = subst (λ c. IsPending i ns start c (look_parts look)) same (root_pending i ns start look h);
+    } in
+    subst (λ xs. IsWalking i ns most xs left start) (sym (e ∙ ap (λ xs. xs ++ look_parts look) o)) goal
+
+pub first_fails : (i : Instances) (ns : List Node) (most : ℕ) (look : Look) (start : ℕ) → IsRootLook i ns start look → most < look_nodes look → IsLarger i ns most start
+first_fails i ns most look start h l = let k = root_counted i ns start look h 0 in let g = k.1 in (k.0, omega arith)
+
+pub walk_on : (i : Instances) (ns : List Node) (most : ℕ) (xs olds news : List Item) (room left start : ℕ) (x : Item) (look : Look) →
+    olds ≡ xs ++ x ∷ [] → news ≡ xs ++ look_parts look → IsLook i ns x look → left + look_nodes look ≡ room →
+    IsWalking i ns most olds room start → IsWalking i ns most news left start
+walk_on i ns most xs olds news room left start x look o e h l w =
+    let some = w.left in
+    let same : most - room + look_nodes look ≡ most - left = omega arith in
     record {
       left = omega arith;
-      within = subst (All (IsItem i (length ns))) (sym e) (All-append (IsItem i (length ns)) xs (form_parts f) (rest_within i (length ns) x xs olds o w.within).0 (items_of_parts i (length ns) f a));
-      counted = subst (λ c. IsCounted i ns start c news) count (count_top i ns start (most - room) x f xs olds news h o e w.counted);
-      pending = λ p m. elim (d.added p m) [
-        | inl b ↦ pending_top i ns most (room - 1) p x f xs olds news h o e (subst (λ r. IsPending i ns most olds r p) same (w.pending p b))
-        | inr g ↦ pending_here i ns most (room - 1) p f xs news g e (omega arith)
-      ];
-      stays = λ p b. d.stays p (w.stays p b);
-      here = d.stays start w.here;
+      within = subst (All (IsItem i (length ns))) (sym e) (All-append (IsItem i (length ns)) xs (look_parts look) (rest_within i (length ns) x xs olds o w.within).0 (items_of_look i ns x look h));
+      counted = subst (λ c. IsCounted i ns start c news) same
+          (count_top i ns start (most - room) (look_nodes look) x xs (look_parts look) olds news (measured_look i ns x look h) o e w.counted);
+      pending = subst (λ c. IsPending i ns start c news) same (pending_top i ns start (most - room) x look xs olds news h o e w.pending);
     }
 
-pub walk_last : (i : Instances) (ns : List Node) (most : ℕ) (old marks : List Bool') (stack : List Item) (room start : ℕ) →
-    stack ≡ [] → IsWalking i ns most old marks stack room start → IsWalked i ns most old marks stack start
-walk_last i ns most old marks stack room start e w = record {
-  read = λ p m. w.pending p m 0 (subst (λ xs. AreItemsRead i ns xs 0) (sym e) refl) (omega arith);
-  stays = w.stays;
-  here = w.here;
-  empty = e;
-}
+pub walk_fails : (i : Instances) (ns : List Node) (most : ℕ) (xs olds : List Item) (room start : ℕ) (x : Item) (look : Look) →
+    olds ≡ xs ++ x ∷ [] → IsLook i ns x look → room < look_nodes look → IsWalking i ns most olds room start → IsLarger i ns most start
+walk_fails i ns most xs olds room start x look o h l w =
+    let some = w.left in
+    too_large i ns most start (most - room) (look_nodes look) x xs (look_parts look) olds (measured_look i ns x look h) o (omega arith) w.counted
 
-pub walk_fails : (i : Instances) (ns : List Node) (most : ℕ) (old marks : List Bool') (xs olds : List Item) (room start : ℕ) (x : Item) →
-    olds ≡ xs ++ x ∷ [] → room ≡ 0 → IsWalking i ns most old marks olds room start → IsLarger i ns most start
-walk_fails i ns most old marks xs olds room start x o z w =
-    let e : most - room ≡ most = omega arith in
-    subst (λ c. IsLarger i ns c start) e (too_large i ns start (most - room) x xs olds o w.counted)
-
--- two marks
-pub both_marked : (i : Instances) (ns : List Node) (marks : List Bool') (p q : ℕ) (f : Form) → p < length marks → q < length marks →
-    IsForm i ns (At p) f → IsForm i ns (At q) f → AreMarked i ns marks (set (set marks p true) q true) f
-both_marked i ns marks p q f lp lq hp hq =
-    let lq' : q < length (set marks p true) = omega (arith, length-set marks p true) in
-    record {
-      stays = λ k h. marked_stays (set marks p true) q k lq' (marked_stays marks p k lp h);
-      added = λ k h. elim (marked_cases (set marks p true) q k lq' h) [
-        | inl e ↦ inr (subst (λ j. IsForm i ns (At j) f) (sym e) hq)
-        | inr m ↦ elim (marked_cases marks p k lp m) [
-          | inl e ↦ inr (subst (λ j. IsForm i ns (At j) f) (sym e) hp)
-          | inr b ↦ inl b
-        ]
-      ];
-    }
-
-pub none_marked : (i : Instances) (ns : List Node) (marks : List Bool') (f : Form) → AreMarked i ns marks marks f
-none_marked i ns marks f = record { stays = λ p h. h; added = λ p h. inl h }
-
--- nothing is marked at first
-pub none_marked_first : (n p : ℕ) → is_marked (replicate n false) p → ⊥
-none_marked_first n p h = elim (cases_lt p n) [
-  | inl l ↦ let e = get_or-replicate n p false false l in cc
-  | inr g ↦ let e = get_or_past (replicate n false) p false (omega (arith, length-replicate n false)) in cc
-]
-
--- one place more is marked
-pub marked_from : (marks : List Bool') (n k start : ℕ) → k + 1 ≡ start → is_marked marks k →
-    ((p : ℕ) → start ≤ p → p < n → is_marked marks p) → (p : ℕ) → k ≤ p → p < n → is_marked marks p
-marked_from marks n k start e h m p a b = elim (cases_eq p k) [
-  | inl q ↦ subst (is_marked marks) (sym q) h
-  | inr d ↦ m p (omega arith) b
-]
+pub walk_last : (i : Instances) (ns : List Node) (most : ℕ) (stack : List Item) (room start : ℕ) →
+    stack ≡ [] → IsWalking i ns most stack room start → IsSizeWithin i ns most start (most - room)
+walk_last i ns most stack room start e w =
+    (subst (IsRootSize i ns start) (omega arith) (w.pending 0 (subst (λ xs. AreItemsRead i ns xs 0) (sym e) refl)), omega arith)
 
 pub larger_fits : (i : Instances) (ns : List Node) (w : ℕ → Term) (most p : ℕ) → Fits i w ns → IsLarger i ns most p → most < nodes (w p)
 larger_fits i ns w most p f h = let a = h.1 in let b = near_fits i ns w f h.0 p in omega arith
-
--- a list that was written over as a whole
-pub written_over : (n : ℕ) (old new : List Bool') → n ≡ length old → length new ≡ length old → take n (new ++ drop (length new) old) ≡ new
-written_over n old new e l =
-    ap (λ (xs : List Bool'). take n (new ++ xs)) (drop_all (length new) old (omega arith)) ∙ ap (take n) (append-nil new) ∙ take_all n new (omega arith)

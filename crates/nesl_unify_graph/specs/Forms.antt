@@ -1,6 +1,6 @@
 -- Types of a graph, looked at one node at a time.
-use Rattle.std.specs.Prelude.{◌≡◌, ◌⊎◌, ◌<◌, ◌≤◌, ◌-◌, ◌+◌, ◌*◌, ℕ}
-use Rattle.std.specs.Prelude.{suc, Bool as Bool', true, false, List, [], ◌∷◌, length, slice_index_or}
+use Rattle.std.specs.Prelude.{◌≡◌, ◌<◌, ◌≤◌, ◌-◌, ◌+◌, ◌*◌, ℕ}
+use Rattle.std.specs.Prelude.{suc, List, [], ◌∷◌, length}
 use Rattle.nesl_types_bank.specs.Term.{Term, int, bool, char, variable, seq_of, pair_of, named, nodes}
 use Rattle.nesl_types_bank.specs.Numbering.{IsBelow}
 use Rattle.nesl_types_bank.specs.Types.{type_at}
@@ -12,9 +12,11 @@ use Rattle.nesl_unify_graph.specs.declared.form.Item.{Item}
 use Rattle.nesl_unify_graph.specs.declared.form.Item.TheVariants.{At, Part}
 use Rattle.nesl_unify_graph.specs.declared.form.Form.{Form}
 use Rattle.nesl_unify_graph.specs.declared.form.Form.TheVariants.{Free, Int, Bool, Char, Named, SeqOf, Both}
-use Rattle.nesl_unify_graph.specs.Instances.{parts_in, base_in, instance_type, IsPart}
+use Rattle.nesl_unify_graph.specs.declared.form.Settled.{Settled}
+use Rattle.nesl_unify_graph.specs.declared.form.Settled.TheVariants as settled
+use Rattle.nesl_unify_graph.specs.Instances.{parts_in, base_in, instance_type}
 use Rattle.nesl_unify_graph.specs.Graph.{node_at, node_type}
-use Rattle.nesl_unify_graph.specs.Readings.{unrolled, Reads}
+use Rattle.nesl_unify_graph.specs.Readings.{unrolled}
 use Rattle.nesl_unify_graph.specs.Tables.{IsTable}
 
 -- a table, whichever of its places may be free
@@ -57,11 +59,6 @@ abbrev pub IsItem : Instances → ℕ → Item → Type 0
 IsItem i n (At p) = p < n
 IsItem i n (Part r k) = HasPart i r k
 
--- it is no variable of an instance's type
-abbrev pub IsWhole : Instances → Item → Type 0
-IsWhole i (At p) = Unit {0}
-IsWhole i (Part r k) = IsPart i r k
-
 -- the parts of a form
 abbrev pub form_parts : Form → List Item
 form_parts (Free p) = []
@@ -81,6 +78,15 @@ AreItems i n (Named m) = Unit {0}
 AreItems i n (SeqOf x) = IsItem i n x
 AreItems i n (Both x y) = IsItem i n x × IsItem i n y
 
+-- the type of an item is the one that was settled
+abbrev pub IsSettled : Instances → Item → Settled → Type 0
+IsSettled i x (settled.At p) = (w : ℕ → Term) → item_type i w x ≡ w p
+IsSettled i x (settled.Made f) = (w : ℕ → Term) → item_type i w x ≡ form_type i w f
+
+abbrev pub IsSettledBelow : Instances → ℕ → Settled → Type 0
+IsSettledBelow i n (settled.At p) = p < n
+IsSettledBelow i n (settled.Made f) = AreItems i n f
+
 -- the type at a place has a form, one step away
 abbrev pub IsFormAt : Instances → List Node → ℕ → Form → Type 0
 IsFormAt i ns p f = (w : ℕ → Term) → node_type i w (variable p) (node_at ns p) ≡ form_type i w f
@@ -89,14 +95,6 @@ IsFormAt i ns p f = (w : ℕ → Term) → node_type i w (variable p) (node_at n
 pub record IsForm (i : Instances) (ns : List Node) (x : Item) (f : Form) : Type 0 where
   pub reads : (far : ℕ → Term) (n : ℕ) →
       (m : ℕ) × ((n ≤ m) × (item_type i (unrolled i ns far (suc (suc n))) x ≡ form_type i (unrolled i ns far m) f))
-
-abbrev pub is_marked : List Bool' → ℕ → Type 0
-is_marked marks p = slice_index_or marks p false ≡ true
-
--- places were marked whose types have a form
-pub record AreMarked (i : Instances) (ns : List Node) (old new : List Bool') (f : Form) : Type 0 where
-  pub stays : (p : ℕ) → is_marked old p → is_marked new p
-  pub added : (p : ℕ) → is_marked new p → is_marked old p ⊎ IsForm i ns (At p) f
 
 -- t is the type of an item, however far one reads on
 abbrev pub IsItemRead : Instances → List Node → Item → Term → Type 0
@@ -108,10 +106,6 @@ AreItemsRead i ns [] k = k ≡ 0
 AreItemsRead i ns (x ∷ xs) k =
     (t : Term) × ((j : ℕ) × (IsItemRead i ns x t × (AreItemsRead i ns xs j × (k ≡ nodes t + j))))
 
--- the type at place p is read, and has at most `most` nodes
-abbrev pub IsReadWithin : Instances → List Node → ℕ → ℕ → Type 0
-IsReadWithin i ns most p = (t : Term) × (Reads i ns p t × (nodes t ≤ most))
-
 -- the type at place p, as far as n steps away
 abbrev pub near : Instances → List Node → ℕ → ℕ → Term
 near i ns n p = unrolled i ns (λ q. int) n p
@@ -119,15 +113,3 @@ near i ns n p = unrolled i ns (λ q. int) n p
 -- the type at place p has more than `most` nodes, if it is read far enough
 abbrev pub IsLarger : Instances → List Node → ℕ → ℕ → Type 0
 IsLarger i ns most p = (n : ℕ) × (most < nodes (near i ns n p))
-
--- the types at the marked places have at most `most` nodes
-abbrev pub AreMarkedRead : Instances → List Node → ℕ → List Bool' → Type 0
-AreMarkedRead i ns most marks = (p : ℕ) → is_marked marks p → IsReadWithin i ns most p
-
--- place p and others were marked, whose types have at most `most` nodes; the stack is empty again
-pub record IsWalked (i : Instances) (ns : List Node) (most : ℕ) (old new : List Bool')
-    (stack : List Item) (p : ℕ) : Type 0 where
-  pub read : AreMarkedRead i ns most new
-  pub stays : (q : ℕ) → is_marked old q → is_marked new q
-  pub here : is_marked new p
-  pub empty : stack ≡ []

@@ -5,3 +5,4 @@ pub mod Steps
 pub mod Readings
 pub mod Forms
 pub mod Outlines
+pub mod Sizes

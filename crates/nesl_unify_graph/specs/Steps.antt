@@ -1,13 +1,15 @@
 -- How places of a table are made one, step by step.
-use Rattle.std.specs.Prelude.{◌≡◌, ◌↔◌, ◌<◌, ◌≤◌, ◌+◌, ◌-◌, ◌*◌, ℕ, List, [], ◌∷◌, All, length, slice_set, sum_by}
+use Rattle.std.specs.Prelude.{◌≡◌, ◌↔◌, ◌<◌, ◌≤◌, ◌+◌, ◌-◌, ◌*◌, ℕ, List, [], ◌∷◌, ◌++◌, All, length, slice_set, sum_by}
 use Rattle.nesl_types_bank.specs.Term.{Term, nodes}
 use Rattle.nesl_types_bank.specs.Numbering.{IsBelow}
 use Rattle.nesl_types_bank.specs.Substitution.{substitute}
 use Rattle.nesl_types_bank.specs.Types.{type_at}
+use Rattle.nesl_types_bank.specs.Lists.{parts_of}
 use Rattle.nesl_unify_graph.specs.declared.node.Node.{Node}
 use Rattle.nesl_unify_graph.specs.declared.node.Node.TheVariants.{Free, Same, Int, Bool, Char, Named, SeqOf, Both, Part}
 use Rattle.nesl_unify_graph.specs.declared.instances.Instances.{Instances}
 use Rattle.nesl_unify_graph.specs.declared.unify.Pair.{Pair}
+use Rattle.nesl_unify_graph.specs.declared.twins.Twins.{Twins}
 use Rattle.nesl_unify_graph.specs.declared.unify.Rest.{Rest}
 use Rattle.nesl_unify_graph.specs.declared.unify.Rest.TheVariants.{Nothing, One, Two}
 use Rattle.nesl_unify_graph.specs.declared.unify.Meeting.{Meeting}
@@ -144,12 +146,14 @@ pairs_of Nothing = []
 pairs_of (One p) = p ∷ []
 pairs_of (Two p q) = p ∷ (q ∷ [])
 
--- what two nodes say of a type is what one of them says of it, where the pairs of the rest are equal
-abbrev pub Agree : Instances → Node → Node → Rest → Type 0
-Agree i a b rest =
+-- what two nodes say of a type is what one of them says of it, where these pairs are equal
+abbrev pub AgreeWhere : Instances → Node → Node → List Pair → Type 0
+AgreeWhere i a b pairs =
     (w : ℕ → Term) (t : Term) →
-    ((t ≡ node_type i w t a) × (t ≡ node_type i w t b)) ↔
-    ((t ≡ node_type i w t (merged a b)) × AreEqual w (pairs_of rest))
+    ((t ≡ node_type i w t a) × (t ≡ node_type i w t b)) ↔ ((t ≡ node_type i w t (merged a b)) × AreEqual w pairs)
+
+abbrev pub Agree : Instances → Node → Node → Rest → Type 0
+Agree i a b rest = AgreeWhere i a b (pairs_of rest)
 
 -- the places of the rest are places of a table of which the nodes are
 abbrev pub LieBelow : Instances → Node → Node → Rest → Type 0
@@ -165,3 +169,31 @@ abbrev pub IsMeeting : Node → Node → Meeting → Type 0
 IsMeeting a b (Where rest) = (i : Instances) → Agree i a b rest × LieBelow i a b rest
 IsMeeting a b Never = (i : Instances) → Differ i a b
 IsMeeting a b Later = 1 ≤ expandable a + expandable b
+
+-- the nodes are two instances of one whole type
+pub record AreTwins (i : Instances) (a b : Node) (x : Twins) : Type 0 where
+  pub part : ℕ
+  pub whole : Term
+  pub first : a ≡ Part x.first part
+  pub second : b ≡ Part x.second part
+  pub parts : parts_in i x.first ≡ parts_of whole
+  pub same : parts_in i x.second ≡ parts_of whole
+  pub here : type_at (parts_of whole) part ≡ whole
+
+-- both instances are of the type t, with a place for each variable of it
+pub record HaveWhole (i : Instances) (x : Twins) (t : Term) : Type 0 where
+  pub parts : parts_in i x.first ≡ parts_of t
+  pub same : parts_in i x.second ≡ parts_of t
+  pub first : IsBelow (length i.fresh.items - base_in i x.first) t
+  pub second : IsBelow (length i.fresh.items - base_in i x.second) t
+  pub place : ℕ
+  pub within : place < length (parts_of t)
+  pub here : type_at (parts_of t) place ≡ t
+
+-- the instances are one just where these pairs are equal, which were added
+pub record IsMatched (i : Instances) (x : Twins) (t : Term) (old new : List Pair) : Type 0 where
+  pub pairs : List Pair
+  pub is : new ≡ old ++ pairs
+  pub one : (w : ℕ → Term) → (instance_type i w x.first t ≡ instance_type i w x.second t) ↔ AreEqual w pairs
+  pub below : (n : ℕ) → AreBelow n i → All (IsPairBelow n) pairs
+  pub few : length pairs ≤ nodes t

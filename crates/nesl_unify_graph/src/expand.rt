@@ -11,6 +11,10 @@ use crate::node::Node;
 use nesl_types_bank::Shape;
 use std::alloc::AllocError;
 
+/// For how many places of a table parts are expanded. Typing is charged no work, so what takes more than that is
+/// refused as out of memory.
+const MOST_PLACES: usize = 1 << 21;
+
 /// The place of a part of an instance's type: that of its variable, or a new one at the end of the table.
 fn put_part(
     instances: &Instances,
@@ -56,6 +60,7 @@ fn spread(
 }
 
 /// Where a part of an instance is at a place, puts what it is made of there instead, with new places for its parts.
+/// `AllocError` also where the table has `MOST_PLACES`.
 pub fn expand(instances: &Instances, nodes: &mut Vec<Node>, place: usize) -> Result<(), AllocError>
     requires graph { IsGraph instances.now nodes.old.items }
     requires place { place < length nodes.old.items }
@@ -69,6 +74,9 @@ pub fn expand(instances: &Instances, nodes: &mut Vec<Node>, place: usize) -> Res
 {
     match nodes[place] {
         Node::Part { instance, part } => {
+            if nodes.len() >= MOST_PLACES {
+                return Err(AllocError);
+            }
             let node = spread(instances, nodes, instance, part)?;
             nodes[place] = node;
             Ok(())

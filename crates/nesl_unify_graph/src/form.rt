@@ -2,6 +2,7 @@
 
 use crate::instances::Instances;
 use crate::node::Node;
+use crate::table::{node_at, target};
 use nesl_types_bank::Shape;
 
 /// A type that is still to be looked at.
@@ -26,33 +27,20 @@ pub(crate) enum Form {
     Both(Item, Item),
 }
 
-ghost use Rattle.std.specs.Prelude.{◌≡◌, ◌<◌, ℕ, length, slice_index_or, true, false, ◌⊎◌};
+/// A type: the one at a place, or one whose form is known.
+#[derive(Clone, Copy)]
+pub(crate) enum Settled {
+    At(usize),
+    Made(Form),
+}
+
+ghost use Rattle.std.specs.Prelude.{◌≡◌, ◌<◌, ℕ, length};
 ghost use Rattle.nesl_types_bank.specs.Term.{Term};
 ghost use Rattle.nesl_types_bank.specs.Types.{type_at};
 ghost use Rattle.nesl_unify_graph.specs.Instances.{IsPart, AreBelow, instance_type, parts_in};
 ghost use Rattle.nesl_unify_graph.specs.Graph.{node_at, target, IsRoot, IsFlat};
-ghost use Rattle.nesl_unify_graph.specs.Forms.{item_type, form_type, shape_form, IsItem, IsWhole, AreItems, IsForm};
-ghost use Rattle.nesl_unify_graph.specs.Forms.{IsFormAt, IsTableOf, AreMarked};
-
-/// What is said of a place: nothing past the end.
-fn node_at(nodes: &[Node], place: usize) -> Node
-    ensures { result ≡ node_at nodes.now place }
-{
-    match nodes.get(place) {
-        Some(node) => *node,
-        None => Node::Free,
-    }
-}
-
-/// The place to which a place is linked, or the place itself where it has no link.
-fn target(nodes: &[Node], place: usize) -> usize
-    ensures { result ≡ target nodes.now place }
-{
-    match node_at(nodes, place) {
-        Node::Same(other) => other,
-        _ => place,
-    }
-}
+ghost use Rattle.nesl_unify_graph.specs.Forms.{form_type, shape_form, HasPart, IsItem, AreItems, IsForm};
+ghost use Rattle.nesl_unify_graph.specs.Forms.{IsFormAt, IsSettled, IsSettledBelow, IsTableOf};
 
 /// The form of a part of an instance's type that has a shape other than a variable.
 fn shape_form(instance: usize, shape: Shape) -> Form
@@ -91,7 +79,7 @@ fn whole_form(instances: &Instances, instance: usize, part: usize) -> Form
 }
 
 /// The form of the type at a place without a link.
-fn root_form(instances: &Instances, nodes: &[Node], place: usize) -> Form
+pub(crate) fn root_form(instances: &Instances, nodes: &[Node], place: usize) -> Form
     requires table { IsTableOf instances.now nodes.now }
     requires place { place < length nodes.now }
     requires root { IsRoot (node_at nodes.now place) }
@@ -110,19 +98,28 @@ fn root_form(instances: &Instances, nodes: &[Node], place: usize) -> Form
     }
 }
 
+/// A part of an instance's type: the type at a place where it is a variable.
+fn settle_part(instances: &Instances, instance: usize, part: usize) -> Settled
+    requires { HasPart instances.now instance part }
+    ensures same { IsSettled instances.now (Item.Part instance part) result }
+    ensures within { (n : ℕ) → AreBelow n instances.now → IsSettledBelow instances.now n result }
+{
+    match instances.parts(instance).shape(part) {
+        Shape::Var(variable) => Settled::At(instances.place(instance, variable)),
+        shape => Settled::Made(shape_form(instance, shape)),
+    }
+}
+
 /// The same type, as the one at a place where it is a variable of an instance's type.
-fn settle(instances: &Instances, item: Item) -> Item
+pub(crate) fn settle(instances: &Instances, item: Item) -> Settled
     requires { (n : ℕ) × IsItem instances.now n item }
-    ensures same { (w : ℕ → Term) → item_type instances.now w item ≡ item_type instances.now w result }
-    ensures within { (n : ℕ) → AreBelow n instances.now → IsItem instances.now n item → IsItem instances.now n result }
-    ensures whole { IsWhole instances.now result }
+    ensures same { IsSettled instances.now item result }
+    ensures within { (n : ℕ) → AreBelow n instances.now → IsItem instances.now n item
+        → IsSettledBelow instances.now n result }
 {
     match item {
-        Item::At(place) => Item::At(place),
-        Item::Part { instance, part } => match instances.parts(instance).shape(part) {
-            Shape::Var(variable) => Item::At(instances.place(instance, variable)),
-            _ => Item::Part { instance, part },
-        },
+        Item::At(place) => Settled::At(place),
+        Item::Part { instance, part } => settle_part(instances, instance, part),
     }
 }
 
@@ -136,29 +133,7 @@ pub(crate) fn form_of(instances: &Instances, nodes: &[Node], item: Item) -> Form
     ensures within { AreItems instances.now (length nodes.now) result }
 {
     match settle(instances, item) {
-        Item::At(place) => root_form(instances, nodes, target(nodes, place)),
-        Item::Part { instance, part } => whole_form(instances, instance, part),
-    }
-}
-
-/// The form of a type. Where the type is one at a place, the place is marked.
-pub(crate) fn look(instances: &Instances, nodes: &[Node], marks: &mut [bool], item: Item) -> Form
-    requires made { AreBelow (length nodes.now) instances.now }
-    requires table { IsTableOf instances.now nodes.now }
-    requires flat { IsFlat nodes.now }
-    requires item { IsItem instances.now (length nodes.now) item }
-    requires len { length marks.old ≡ length nodes.now }
-    ensures form { IsForm instances.now nodes.now item result }
-    ensures within { AreItems instances.now (length nodes.now) result }
-    ensures marked { AreMarked instances.now nodes.now marks.old marks.new result }
-{
-    match settle(instances, item) {
-        Item::At(place) => {
-            let root = target(nodes, place);
-            marks[place] = true;
-            marks[root] = true;
-            root_form(instances, nodes, root)
-        }
-        Item::Part { instance, part } => whole_form(instances, instance, part),
+        Settled::At(place) => root_form(instances, nodes, target(nodes, place)),
+        Settled::Made(form) => form,
     }
 }

@@ -9,6 +9,7 @@ pub mod instances;
 pub mod node;
 pub mod read;
 mod table;
+mod twins;
 pub mod unify;
 pub mod walk;
 

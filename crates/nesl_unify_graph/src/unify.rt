@@ -6,7 +6,8 @@ ghost use Rattle.nesl_types_bank.specs.Term.{Term};
 ghost use Rattle.nesl_unify_graph.specs.Graph.{IsRoot, IsFlat, Fits, node_at};
 ghost use Rattle.nesl_unify_graph.specs.Instances.{AreBelow};
 ghost use Rattle.nesl_unify_graph.specs.Tables.{IsTable, IsPairBelow, AreEqual, Joins};
-ghost use Rattle.nesl_unify_graph.specs.Steps.{IsFound, IsGraph, IsMeeting, LeadDown, Moves, joined, merged};
+ghost use Rattle.nesl_unify_graph.specs.Steps.{IsFound, IsGraph, IsMeeting, LeadDown, Moves};
+ghost use Rattle.nesl_unify_graph.specs.Steps.{expandable, joined, merged};
 ghost use Rattle.nesl_unify_graph.specs.Steps.{pairs_of, weight};
 
 use crate::expand::expand;
@@ -14,6 +15,7 @@ use crate::fault::SolveFault;
 use crate::instances::Instances;
 use crate::node::Node;
 use crate::table::{find, flatten};
+use crate::twins::{match_variables, twins_of};
 use std::alloc::AllocError;
 
 /// Two places whose types have to be one.
@@ -127,6 +129,40 @@ fn link(nodes: &mut Vec<Node>, pair: Pair)
     nodes[pair.second] = Node::Same(pair.first);
 }
 
+/// Makes the types at two places without links one, at least one of which is a part of an instance. Two instances of
+/// one whole type are one where their variables are. Else expands the parts, and leaves the pair for later.
+fn meet_later(
+    instances: &Instances,
+    nodes: &mut Vec<Node>,
+    pending: &mut Vec<Pair>,
+    pair: Pair,
+) -> Result<(), AllocError>
+    requires graph { IsGraph instances.now nodes.old.items }
+    requires pending { All (IsPairBelow (length nodes.old.items)) pending.old.items }
+    requires order { pair.first < pair.second }
+    requires within { pair.second < length nodes.old.items }
+    requires root { IsRoot (node_at nodes.old.items pair.second) }
+    requires some { 1 ≤ expandable (node_at nodes.old.items pair.first)
+        + expandable (node_at nodes.old.items pair.second) }
+    ensures moves { OnOk result (Moves instances.now nodes.old.items (pending.old.items ++ pair ∷ []) nodes.new.items
+        pending.new.items) }
+    ensures table { OnOk result ((count : ℕ) → IsTable instances.now count nodes.old.items
+        → IsTable instances.now count nodes.new.items) }
+    ensures pending { OnOk result (All (IsPairBelow (length nodes.new.items)) pending.new.items) }
+    ensures fewer { OnOk result (sum_by (weight instances.now) nodes.new.items + length pending.new.items
+        ≤ sum_by (weight instances.now) nodes.old.items + length pending.old.items) }
+{
+    if let Some(twins) = twins_of(instances, nodes[pair.first], nodes[pair.second]) {
+        link(nodes, pair);
+        match_variables(instances, twins, pending)?;
+        return Ok(());
+    }
+    expand(instances, nodes, pair.first)?;
+    expand(instances, nodes, pair.second)?;
+    pending.push(pair)?;
+    Ok(())
+}
+
 /// Makes the types at two places without links one, the first of which is the smaller: what is known goes there, and
 /// the other is linked to it. Where parts of instances have to be expanded first, only does that.
 fn meet(
@@ -159,9 +195,7 @@ fn meet(
         }
         Meeting::Never => Err(SolveFault::NoSolution),
         Meeting::Later => {
-            expand(instances, nodes, pair.first)?;
-            expand(instances, nodes, pair.second)?;
-            pending.push(pair)?;
+            meet_later(instances, nodes, pending, pair)?;
             Ok(())
         }
     }

@@ -1,0 +1,192 @@
+-- How many nodes the types of a graph have.
+use Rattle.std.proofs.Common.{◌≡◌, ◌≢◌, inl, inr, ℕ, zero, suc, ◌+◌, ◌-◌, ◌*◌, ◌<◌, ◌≤◌, Bool as Bool', true, false, cond, List, [], ◌∷◌, ◌++◌, All, length, get_or, set, replicate, refl, sym, ap, subst, ◌∙◌, arith}
+use Rattle.std.proofs.lemmas.Bool.{cases_lt, cases_eq}
+use Rattle.std.proofs.lemmas.List.{get_or-set_same, get_or-set_other, length-replicate, get_or-replicate, get_or_past}
+use Rattle.std.proofs.lemmas.List.Elements.{All-nil, All-cons, All-append, All-get_or}
+use Rattle.std.specs.List.{list_any}
+use Rattle.nesl_types_bank.specs.Term.{Term, int, bool, char, variable, seq_of, pair_of, named, nodes}
+use Rattle.nesl_types_bank.specs.Numbering.{IsBelow}
+use Rattle.nesl_types_bank.specs.Substitution.{substitute}
+use Rattle.nesl_types_bank.specs.Types.{type_at, size_of}
+use Rattle.nesl_types_bank.specs.Shapes.{largest}
+use Rattle.nesl_types_bank.specs.Lists.{is_same, with_parts, parts_of, last_type}
+use Rattle.nesl_types_bank.proofs.Nodes.{nodes_positive}
+use Rattle.nesl_unify_graph.specs.declared.node.Node.{Node}
+use Rattle.nesl_unify_graph.specs.declared.node.Node.TheVariants as node
+use Rattle.nesl_unify_graph.specs.declared.instances.Instances.{Instances}
+use Rattle.nesl_unify_graph.specs.declared.form.Item.{Item}
+use Rattle.nesl_unify_graph.specs.declared.form.Item.TheVariants.{At}
+use Rattle.nesl_unify_graph.specs.declared.walk.Look.{Look}
+use Rattle.nesl_unify_graph.specs.declared.walk.Look.TheVariants.{Known, Open}
+use Rattle.nesl_unify_graph.specs.Instances.{parts_in, base_in, place_in, instance_type, IsPart}
+use Rattle.nesl_unify_graph.specs.Graph.{node_at, node_type, link_or, target}
+use Rattle.nesl_unify_graph.specs.Readings.{unrolled, Reads, AreReadWithin}
+use Rattle.nesl_unify_graph.specs.Forms.{item_type, near}
+use Rattle.nesl_unify_graph.specs.Sizes.{IsLeaf, IsRootRead, IsRootSize, IsSizeWithin, AreSizes, HasLeaves, HasParts, IsRootLook, IsLook}
+use Rattle.nesl_unify_graph.proofs.Forms.{link_step, form_at, form_of_same}
+
+-- a type without a link is read a step later where a link leads to it
+read_linked : (i : Instances) (ns : List Node) (p : ℕ) (t : Term) (d : Node) → node_at ns p ≡ d → IsRootRead i ns (link_or p d) t → Reads i ns p t
+read_linked i ns p t d e r far zero l = absurd (omega (arith, nodes_positive t))
+read_linked i ns p t node.Free e r far (suc n) l = r far (suc n) (omega arith)
+read_linked i ns p t (node.Same q) e r far (suc n) l = ap (node_type i (unrolled i ns far n) (variable p)) e ∙ r far n l
+read_linked i ns p t node.Int e r far (suc n) l = r far (suc n) (omega arith)
+read_linked i ns p t node.Bool e r far (suc n) l = r far (suc n) (omega arith)
+read_linked i ns p t node.Char e r far (suc n) l = r far (suc n) (omega arith)
+read_linked i ns p t (node.Named m) e r far (suc n) l = r far (suc n) (omega arith)
+read_linked i ns p t (node.SeqOf q) e r far (suc n) l = r far (suc n) (omega arith)
+read_linked i ns p t (node.Both q s) e r far (suc n) l = r far (suc n) (omega arith)
+read_linked i ns p t (node.Part s k) e r far (suc n) l = r far (suc n) (omega arith)
+
+pub read_target : (i : Instances) (ns : List Node) (p : ℕ) (t : Term) → IsRootRead i ns (target ns p) t → Reads i ns p t
+read_target i ns p t r = read_linked i ns p t (node_at ns p) refl r
+
+-- the type of an item is that at a place
+pub look_through : (i : Instances) (ns : List Node) (x : Item) (p : ℕ) (look : Look) → ((w : ℕ → Term) → item_type i w x ≡ w p) →
+    IsRootLook i ns (target ns p) look → IsLook i ns x look
+look_through i ns x p (Known k) e h = (h.0, ((λ far n l. e (unrolled i ns far n) ∙ read_target i ns p h.0 h.1.0 far n l), h.1.1))
+look_through i ns x p (Open f) e h = (form_of_same i ns x (At p) f e (form_at i ns p f h.0), h.1)
+
+-- a type with those of the variables of an instance, which have one node each
+abbrev pub freed : Instances → List Node → ℕ → Term → Term
+freed i ns r t = substitute (λ v. near i ns 1 (target ns (place_in i r v))) t
+
+free_place : (i : Instances) (ns : List Node) (far : ℕ → Term) (n p : ℕ) → IsLeaf i ns (target ns p) → 2 ≤ n → unrolled i ns far n p ≡ near i ns 1 (target ns p)
+free_place i ns far zero p h l = absurd (omega arith)
+free_place i ns far (suc zero) p h l = absurd (omega arith)
+free_place i ns far (suc (suc n)) p h l = let s = link_step i ns far n p (node_at ns p) refl in s.1.1 ∙ h.same (unrolled i ns far s.0)
+
+free_read : (i : Instances) (ns : List Node) (r : ℕ) (far : ℕ → Term) (n : ℕ) (t : Term) → HasLeaves i ns r t → 2 * nodes t ≤ n →
+    instance_type i (unrolled i ns far n) r t ≡ freed i ns r t
+free_read i ns r far n int h l = refl
+free_read i ns r far n bool h l = refl
+free_read i ns r far n char h l = refl
+free_read i ns r far n (variable v) h l = free_place i ns far n (place_in i r v) h (omega arith)
+free_read i ns r far n (seq_of t) h l = ap seq_of (free_read i ns r far n t h (omega arith))
+free_read i ns r far n (pair_of t u) h l =
+    let a = free_read i ns r far n t h.0 (omega arith) in
+    let b = free_read i ns r far n u h.1 (omega arith) in
+    cc
+free_read i ns r far n (named m) h l = refl
+
+-- the parts of a type are read sooner
+whole_read : (i : Instances) (ns : List Node) (r : ℕ) (far : ℕ → Term) (n : ℕ) (t : Term) → ((v : ℕ) → t ≡ variable v → ⊥) → HasLeaves i ns r t → 2 * nodes t ≤ n + 2 →
+    instance_type i (unrolled i ns far n) r t ≡ freed i ns r t
+whole_read i ns r far n int w h l = refl
+whole_read i ns r far n bool w h l = refl
+whole_read i ns r far n char w h l = refl
+whole_read i ns r far n (variable v) w h l = absurd (w v refl)
+whole_read i ns r far n (seq_of t) w h l = ap seq_of (free_read i ns r far n t h (omega arith))
+whole_read i ns r far n (pair_of t u) w h l =
+    let a = free_read i ns r far n t h.0 (omega arith) in
+    let b = free_read i ns r far n u h.1 (omega arith) in
+    cc
+whole_read i ns r far n (named m) w h l = refl
+
+freed_nodes : (i : Instances) (ns : List Node) (r : ℕ) (t : Term) → HasLeaves i ns r t → nodes (freed i ns r t) ≡ nodes t
+freed_nodes i ns r int h = refl
+freed_nodes i ns r bool h = refl
+freed_nodes i ns r char h = refl
+freed_nodes i ns r (variable v) h = h.one
+freed_nodes i ns r (seq_of t) h = let a = freed_nodes i ns r t h in omega arith
+freed_nodes i ns r (pair_of t u) h = let a = freed_nodes i ns r t h.0 in let b = freed_nodes i ns r u h.1 in omega arith
+freed_nodes i ns r (named m) h = refl
+
+root_whole : (i : Instances) (ns : List Node) (p r : ℕ) (t u : Term) (d : Node) → node_at ns p ≡ d →
+    ((w : ℕ → Term) → node_type i w (variable p) d ≡ instance_type i w r t) → ((v : ℕ) → t ≡ variable v → ⊥) → HasLeaves i ns r t → IsRootRead i ns p (freed i ns r t)
+root_whole i ns p r t u d e g w h far zero l = absurd (omega (arith, nodes_positive (freed i ns r t)))
+root_whole i ns p r t u d e g w h far (suc n) l =
+    let s = freed_nodes i ns r t h in
+    ap (node_type i (unrolled i ns far n) (variable p)) e ∙ g (unrolled i ns far n) ∙ whole_read i ns r far n t w h (omega arith)
+
+-- a place of a whole type, where those of its variables have one node each
+pub whole_size : (i : Instances) (ns : List Node) (p r k size : ℕ) → node_at ns p ≡ node.Part r k → IsPart i r k → HasLeaves i ns r (type_at (parts_in i r) k) →
+    size ≡ nodes (type_at (parts_in i r) k) → IsRootSize i ns p size
+whole_size i ns p r k size e h f s =
+    let t = type_at (parts_in i r) k in
+    (freed i ns r t, (root_whole i ns p r t t (node.Part r k) e (λ w. refl) h.whole f, freed_nodes i ns r t f ∙ sym s))
+
+-- the variables of a type's parts are variables of it
+below_with_type : (n : ℕ) (b : Bool') (ts : List Term) (t : Term) → All (IsBelow n) ts → IsBelow n t → All (IsBelow n) (cond b ts (ts ++ t ∷ []))
+below_with_type n true ts t a h = a
+below_with_type n false ts t a h = All-append (IsBelow n) ts (t ∷ []) a (All-cons (IsBelow n) t [] h (All-nil (IsBelow n)))
+
+below_with_parts : (n : ℕ) (ts : List Term) (t : Term) → All (IsBelow n) ts → IsBelow n t → All (IsBelow n) (with_parts ts t)
+below_with_parts n ts int a h = below_with_type n (list_any (is_same int) ts) ts int a h
+below_with_parts n ts bool a h = below_with_type n (list_any (is_same bool) ts) ts bool a h
+below_with_parts n ts char a h = below_with_type n (list_any (is_same char) ts) ts char a h
+below_with_parts n ts (variable v) a h = below_with_type n (list_any (is_same (variable v)) ts) ts (variable v) a h
+below_with_parts n ts (seq_of t) a h =
+    let us = with_parts ts t in
+    below_with_type n (list_any (is_same (seq_of t)) us) us (seq_of t) (below_with_parts n ts t a h) h
+below_with_parts n ts (pair_of t u) a h =
+    let us = with_parts (with_parts ts t) u in
+    below_with_type n (list_any (is_same (pair_of t u)) us) us (pair_of t u) (below_with_parts n (with_parts ts t) u (below_with_parts n ts t a h.0) h.1) h
+below_with_parts n ts (named m) a h = below_with_type n (list_any (is_same (named m)) ts) ts (named m) a h
+
+-- an instance of a whole type has all its parts
+pub has_parts : (i : Instances) (r k : ℕ) (t : Term) → parts_in i r ≡ parts_of t → type_at (parts_in i r) k ≡ t → IsPart i r k → HasParts i r
+has_parts i r k t e l h j b =
+    let n : ℕ = length i.fresh.items - base_in i r in
+    let below : IsBelow n t = subst (IsBelow n) l h.below in
+    let all : All (IsBelow n) (parts_in i r) = subst (All (IsBelow n)) (sym e) (below_with_parts n [] t (All-nil (IsBelow n)) below) in
+    record { made = h.made; within = b; below = All-get_or (IsBelow n) (parts_in i r) j int b all }
+
+pub last_part : (ps qs : List Term) (k : ℕ) (t : Term) → ps ≡ qs → k ≡ length qs - 1 → last_type qs ≡ t → type_at ps k ≡ t
+last_part ps qs k t e l h = ap (λ ts. type_at ts k) e ∙ ap (type_at qs) l ∙ h
+
+-- a size that is told
+pub exact_size : (t : Term) (k : ℕ) → k ≡ size_of t → k ≢ largest → k ≡ nodes t
+exact_size t k e l = omega arith
+
+-- a size is noted
+pub sizes_on : (i : Instances) (ns : List Node) (most : ℕ) (sizes : List ℕ) (p k : ℕ) → p < length sizes → IsSizeWithin i ns most p k →
+    AreSizes i ns most sizes → AreSizes i ns most (set sizes p k)
+sizes_on i ns most sizes p k l h a q s = elim (cases_eq q p) [
+  | inl e ↦
+      let here : get_or (set sizes p k) q 0 ≡ k = ap (λ j. get_or (set sizes p k) j 0) e ∙ get_or-set_same sizes p k 0 l in
+      subst (IsSizeWithin i ns most q) (sym here) (subst (λ j. IsSizeWithin i ns most j k) (sym e) h)
+  | inr d ↦
+      let other : get_or (set sizes p k) q 0 ≡ get_or sizes q 0 = get_or-set_other sizes p q k 0 d in
+      subst (IsSizeWithin i ns most q) (sym other) (a q (subst (λ j. 0 < j) other s))
+]
+
+pub size_positive : (i : Instances) (ns : List Node) (most p k : ℕ) → IsSizeWithin i ns most p k → 0 < k
+size_positive i ns most p k h = let e = h.0.1.1 in let l = nodes_positive h.0.0 in omega arith
+
+-- none is known at first
+pub sizes_first : (i : Instances) (ns : List Node) (most n : ℕ) → AreSizes i ns most (replicate n 0)
+sizes_first i ns most n p s =
+    let none : ℕ = 0 in
+    let some : none < get_or (replicate n none) p none = s in absurd (elim (cases_lt p n) [
+      | inl l ↦ let e = get_or-replicate n p none none l in omega (arith, e, some)
+      | inr g ↦ let e = get_or_past (replicate n none) p none (omega (arith, length-replicate n none)) in omega (arith, e, some)
+    ])
+
+-- the size at the place to which each place from `start` on is linked is known
+abbrev pub AreKnown : List Node → List ℕ → ℕ → Type 0
+AreKnown ns sizes start = (p : ℕ) → start ≤ p → p < length ns → 0 < get_or sizes (target ns p) 0
+
+pub known_more : (ns : List Node) (sizes : List ℕ) (k start : ℕ) → k + 1 ≡ start → 0 < get_or sizes (target ns k) 0 → AreKnown ns sizes start → AreKnown ns sizes k
+known_more ns sizes k start e h a p l b = elim (cases_eq p k) [
+  | inl q ↦ subst (λ j. 0 < get_or sizes (target ns j) 0) (sym q) h
+  | inr d ↦ a p (omega arith) b
+]
+
+pub known_set : (ns : List Node) (sizes : List ℕ) (r k start : ℕ) → r < length sizes → 0 < k → AreKnown ns sizes start → AreKnown ns (set sizes r k) start
+known_set ns sizes r k start l s a p m b = elim (cases_eq (target ns p) r) [
+  | inl e ↦
+      let here : get_or (set sizes r k) (target ns p) 0 ≡ k = ap (λ j. get_or (set sizes r k) j 0) e ∙ get_or-set_same sizes r k 0 l in
+      subst (λ j. 0 < j) (sym here) s
+  | inr d ↦
+      let other : get_or (set sizes r k) (target ns p) 0 ≡ get_or sizes (target ns p) 0 = get_or-set_other sizes r (target ns p) k 0 d in
+      subst (λ j. 0 < j) (sym other) (a p m b)
+]
+
+pub all_read : (i : Instances) (ns : List Node) (most : ℕ) (sizes : List ℕ) → AreSizes i ns most sizes → AreKnown ns sizes 0 → AreReadWithin i ns most
+all_read i ns most sizes a k p l =
+    let h = a (target ns p) (k p (omega arith) l) in
+    let t = h.0.0 in
+    let e = h.0.1.1 in
+    let m = h.1 in
+    (t, (read_target i ns p t h.0.1.0, omega arith))
