@@ -3,23 +3,24 @@
 ghost use Rattle.std.specs.Prelude.{OnOk};
 ghost use Rattle.nesl_unify.specs.Systems.{IsSystem};
 
-use crate::made::{class_named, seq_of, type_of, variable};
+use crate::made::{class_named, type_of, variable};
 use crate::rows::{Subject, all_hold};
 use nesl_types::{Class, Kind, Ty};
+use nesl_unify::Flat;
 use nesl_unify::narrow::{Member, members_are_below};
 use nesl_unify::solve::{Equation, Solution, are_below, is_below, solve};
 use nesl_unify::system::System;
 use std::alloc::{AllocError, Global};
 
-/// Adds an equation, `VARIABLE = TYPE`.
+/// Adds an equation, `TYPE = TYPE`.
 fn push_equation(
     alloc: Global,
     equations: &mut Vec<Equation>,
     words: &str,
 ) -> Result<(), AllocError> {
     if let Some((left, right)) = words.split_once(" = ") {
+        let left = type_of(alloc, left)?;
         let right = type_of(alloc, right)?;
-        let left = Ty::variable(alloc, variable(left))?;
         equations.push(Equation { left, right })?;
     }
     Ok(())
@@ -82,8 +83,7 @@ fn push_solution(
 ) -> Result<(), AllocError> {
     text.push_str(first_class(solution))?;
     for word in asked.split_whitespace() {
-        let asked = Ty::variable(alloc, variable(word))?;
-        push_variable_or_size(text, solution.apply(alloc, &asked))?;
+        push_variable_or_size(text, solution.variable(alloc, variable(word)))?;
     }
     Ok(())
 }
@@ -157,9 +157,17 @@ const LARGE_AND_EQUAL: &str = "12000|\
 const SEQUENCES: &str = "2|v0 = seq d3, v1 = seq d4||v0 v1 => any 2 2
 2|v0 = seq d3, v1 = seq d4, v0 = v1|| => no solution";
 
+/// Equations neither side of which is a variable.
+const APART: &str = "2|both v0 seq v0 = both bool v1||v0 v1 => any 1 2
+1|both v0 int = seq int|| => no solution
+1|both v0 d1 = both int d2|| => no solution
+2|both v0 v1 = both seq v1 seq v0|| => no solution
+0|int = bool|| => no solution
+0|seq d1 = seq d1|| => any";
+
 #[test]
 fn equations_are_solved(rt: HostRuntime) {
-    let tables = [SMALL, LARGE, CHAIN, LARGE_AND_EQUAL, SEQUENCES];
+    let tables = [SMALL, LARGE, CHAIN, LARGE_AND_EQUAL, SEQUENCES, APART];
     all_hold(&rt, rt.alloc(), &Solutions, &tables);
 }
 
@@ -171,14 +179,14 @@ fn stands_for(alloc: Global, solution: &Solution, variable: u64, wanted: &Ty) ->
     }
 }
 
-/// Adds the equation, where its variables are the system's.
-fn equate(system: &mut System, equation: &Equation) -> Result<(), AllocError>
+/// Adds that the first variable is the sequences of the second, where both are the system's.
+fn equate_sequence(system: &mut System, list: u64, item: u64) -> Result<(), AllocError>
     requires { IsSystem system.old }
     ensures { OnOk result (IsSystem system.new) }
 {
     let count = system.len();
-    if is_below(count, &equation.left) && is_below(count, &equation.right) {
-        system.equate(equation)
+    if list < count && item < count {
+        system.equate_flat(list, Flat::SeqOf(item))
     } else {
         Err(AllocError)
     }
@@ -208,9 +216,7 @@ fn add_sequences(alloc: Global, system: &mut System, ty: &Ty) -> Result<u64, All
 {
     let list = system.fresh(Class::Any)?;
     let item = system.fresh(Class::Number)?;
-    let left = Ty::variable(alloc, list)?;
-    let right = seq_of(alloc, Ty::variable(alloc, item)?)?;
-    equate(system, &Equation { left, right })?;
+    equate_sequence(system, list, item)?;
     equate_instance(alloc, system, list, ty)?;
     Ok(list)
 }

@@ -56,7 +56,3 @@ module _ (old new : ℕ → Class) (x : ℕ) (c : Class) (here : (of : ℕ → C
     | inl same ↦ subst (λ k. IsIn of (new k) (w k)) (sym same) ((here of (w x)).1 (h x, e))
     | inr other ↦ subst (λ d. IsIn of d (w v)) (sym (others v other)) (h v)
   ]
-
--- what stands for a variable that has a place
-pub replaced_at : (ts : List Term) (of : List ℕ) (v : ℕ) → v < length of → replacement ts of v ≡ type_at ts (get_or of v 0)
-replaced_at ts of v l = ap (λ o. option_map_or (type_at ts) o (variable v)) (slice_get-get_or of v 0 l)

@@ -1,64 +1,76 @@
--- Solutions of equations that were settled, or of those that these grew to.
-use Rattle.std.proofs.Common.{◌≡◌, ℕ, List, sym, subst}
-use Rattle.std.specs.Prelude.{Option, Some, Result, Ok, Err, IfOk, IfSome}
+-- Solutions of systems.
+use Rattle.std.proofs.Common.{◌≡◌, ℕ, ◌*◌, ◌<◌, ◌≤◌, inl, inr, List, All, length, get_or, refl, sym, ap, ◌∙◌, subst, arith}
+use Rattle.std.specs.Prelude.{nat_lt, if◌then◌else◌}
+use Rattle.std.proofs.lemmas.Bool.{cases_lt, lt-ltb, le-ltb}
 use Rattle.nesl_types.specs.declared.classes.Class.{Class}
 use Rattle.nesl_types.specs.Class.{IsIn}
-use Rattle.nesl_types_bank.specs.Term.{Term}
+use Rattle.nesl_types_bank.specs.Term.{Term, int, variable, nodes}
 use Rattle.nesl_types_bank.specs.Substitution.{substitute}
-use Rattle.nesl_types_bank.specs.Renames.{replacement}
-use Rattle.nesl_unify.specs.declared.equations.Equations.{Equations}
+use Rattle.nesl_unify_graph.specs.declared.node.Node.{Node}
+use Rattle.nesl_unify_graph.specs.declared.instances.Instances.{Instances}
+use Rattle.nesl_unify_graph.specs.Graph.{Fits}
+use Rattle.nesl_unify_graph.specs.Readings.{unrolled, Reads, AreReadWithin}
+use Rattle.nesl_unify.specs.declared.fact.Fact.{Fact}
 use Rattle.nesl_unify.specs.declared.narrow.Member.{Member}
-use Rattle.nesl_unify.specs.declared.solution.Solution.{Solution}
-use Rattle.nesl_unify.specs.Bounds.{IsBounded}
-use Rattle.nesl_unify.specs.Growth.{Grows}
 use Rattle.nesl_unify.specs.Members.{IsInAll}
-use Rattle.nesl_unify.specs.Settled.{AreSolved}
-use Rattle.nesl_unify.specs.Solves.{IsInstance, type_of, class_of}
-use Rattle.nesl_unify.specs.Systems.{AreEquations, Hold}
-use Rattle.nesl_unify.proofs.Known.{grows_hold}
-use Rattle.nesl_unify.proofs.Solved.{members_general}
+use Rattle.nesl_unify.specs.Facts.{AreFacts, AreTrue}
+use Rattle.nesl_unify.specs.Solved.{IsSolved}
+use Rattle.nesl_unify.specs.Solves.{type_in, IsReading}
+use Rattle.nesl_unify.proofs.Facts.{true_same}
+use Rattle.nesl_unify.proofs.Unrolled.{read_fits, read_free, read_general_below}
 
-module _ (a b : Equations) (places : List ℕ) (x : Solution) (members : List Member) (k : AreSolved a b places) (t : x.types ≡ b.types) (p : x.places.items ≡ places) where
-  as_found : (P : (ℕ → Term) → Type 0) → P (replacement b.types places) → P (type_of x)
-  as_found P h = subst (λ (ts : List Term). P (replacement ts x.places.items)) (sym t) (subst (λ (l : List ℕ). P (replacement b.types l)) (sym p) h)
+-- what is read of a type that is small enough
+pub read_is : (i : Instances) (ns : List Node) (p : ℕ) (t : Term) → AreReadWithin i ns 4096 → p < length ns → ((u : Term) → Reads i ns p u → nodes u ≤ 4096 → t ≡ u) → t ≡ type_in i ns p
+read_is i ns p t a l h =
+    let r = a p l in
+    let far : 2 * nodes r.0 ≤ 8192 = omega (arith, r.1.1) in
+    h r.0 r.1.0 r.1.1 ∙ sym (r.1.0 (λ q. int) 8192 far)
 
-  pub settled_holds : Hold a (type_of x)
-  settled_holds = as_found (Hold a) k.holds
+-- what variable v stands for in a graph with places for the first `count`
+abbrev pub type_of_variable : Instances → ℕ → List Node → ℕ → Term
+type_of_variable i count ns v = if nat_lt v count then type_in i ns v else variable v
 
-  pub settled_bounded : IsBounded (type_of x)
-  settled_bounded = as_found IsBounded k.bounded
+pub type_below : (i : Instances) (count : ℕ) (ns : List Node) (v : ℕ) → v < count → type_of_variable i count ns v ≡ type_in i ns v
+type_below i count ns v l = rw (lt-ltb v count l)
 
-  pub settled_within : IsInAll (replacement b.types places) (class_of x) members → IsInAll (type_of x) (class_of x) members
-  settled_within h = as_found (λ s. IsInAll s (class_of x) members) h
+pub type_past : (i : Instances) (count : ℕ) (ns : List Node) (v : ℕ) → count ≤ v → type_of_variable i count ns v ≡ variable v
+type_past i count ns v l = rw (le-ltb v count l)
 
-  pub settled_general : ((s : ℕ → Term) → (of : ℕ → Class) → IsInAll (λ v. substitute s (replacement b.types places v)) of members → (v : ℕ) → IsIn of (class_of x v) (s v)) →
-      (s : ℕ → Term) → (of : ℕ → Class) → Hold a s → IsInAll s of members → IsInstance (type_of x) (class_of x) s of
-  settled_general h s of i m = record {
-    put = s;
-    same = as_found (λ (f : ℕ → Term). (v : ℕ) → s v ≡ substitute s (f v)) (k.general s i);
-    within = h s of (members_general places b.types members s of (k.general s i) m);
-  }
+module _ (i : Instances) (count : ℕ) (ns : List Node) (k : IsSolved i count ns) where
+  pub solved_reading : IsReading i ns (type_in i ns)
+  solved_reading = record { fits = read_fits i ns 4096 8192 k.read (omega arith) (omega arith); free = read_free i ns 4096 8192 k.read (omega arith) (omega arith) }
 
-pub settled_none : (a b : Equations) (places : List ℕ) (members : List Member) → AreSolved a b places → ((s : ℕ → Term) → (of : ℕ → Class) → IsInAll (λ v. substitute s (replacement b.types places v)) of members → ⊥) →
-    (s : ℕ → Term) → (of : ℕ → Class) → Hold a s → IsInAll s of members → ⊥
-settled_none a b places members k h s of i m = h s of (members_general places b.types members s of (k.general s i) m)
+  -- what is read makes the facts true
+  pub solved_true : (facts : List Fact) → AreFacts i count facts → ((w : ℕ → Term) → Fits i w ns → AreTrue i facts w) → AreTrue i facts (type_of_variable i count ns)
+  solved_true facts made h = true_same i count facts (type_in i ns) (type_of_variable i count ns) made (λ v l. sym (type_below i count ns v l)) (h (type_in i ns) solved_reading.fits)
 
-pub some_is : {X : Type 0} (o : Option X) (x : X) (P : X → Type 0) → o ≡ Some x → IfSome o P → P x
-some_is o x P e h = subst (λ i. IfSome i P) e h
+  -- and is as general as all types that do
+  pub solved_general : (s z : ℕ → Term) → Fits i z ns → ((v : ℕ) → v < count → z v ≡ s v) → (v : ℕ) → s v ≡ substitute s (type_of_variable i count ns v)
+  solved_general s z f e v = elim (cases_lt v count) [
+    | inl l ↦
+        let inside : v < length ns = omega (arith, k.within) in
+        sym (e v l) ∙ read_general_below i ns 4096 8192 k.read (omega arith) (omega arith) count z s k.below k.table f e v inside ∙ ap (substitute s) (sym (type_below i count ns v l))
+    | inr g ↦ ap (substitute s) (sym (type_past i count ns v g))
+  ]
 
-pub result_general : {E : Type 0} (a b : Equations) (places : List ℕ) (members : List Member) → AreSolved a b places → (r : Result Solution E) → IfOk r (λ x. x.types ≡ b.types) → IfOk r (λ x. x.places.items ≡ places) →
-    IfOk r (λ x. (s : ℕ → Term) → (of : ℕ → Class) → IsInAll (λ v. substitute s (replacement b.types places v)) of members → (v : ℕ) → IsIn of (class_of x v) (s v)) →
-    IfOk r (λ x. (s : ℕ → Term) → (of : ℕ → Class) → Hold a s → IsInAll s of members → IsInstance (type_of x) (class_of x) s of)
-result_general a b places members k (Ok x) t p h = settled_general a b places x members k t p h
-result_general a b places members k (Err e) t p h = tt
+  pub solved_bounded : (v : ℕ) → nodes (type_of_variable i count ns v) ≤ 4096
+  solved_bounded v = elim (cases_lt v count) [
+    | inl l ↦
+        let r = k.read v (omega (arith, k.within)) in
+        let far : 2 * nodes r.0 ≤ 8192 = omega (arith, r.1.1) in
+        let e : type_of_variable i count ns v ≡ r.0 = type_below i count ns v l ∙ r.1.0 (λ q. int) 8192 far in
+        omega (arith, ap nodes e, r.1.1)
+    | inr g ↦ omega (arith, ap nodes (type_past i count ns v g))
+  ]
 
--- of equations that these grew to
-pub grown_holds : {E : Type 0} (a b : Equations) → AreEquations a → Grows a b → (r : Result Solution E) → IfOk r (λ x. Hold b (type_of x)) → IfOk r (λ x. Hold a (type_of x))
-grown_holds a b m g (Ok x) h = (grows_hold (type_of x) a b m g).0 h
-grown_holds a b m g (Err e) h = tt
+  -- classes of what is read are those of what variables stand for
+  pub solved_within : (members : List Member) (of : ℕ → Class) → All (λ m. m.variable < count) members → IsInAll (type_in i ns) of members → IsInAll (type_of_variable i count ns) of members
+  solved_within members of below h j d l =
+      let m = get_or members j d in
+      subst (IsIn of m.class) (sym (type_below i count ns m.variable (below j d l))) (h j d l)
 
-pub grown_general : {E : Type 0} (a b : Equations) (members : List Member) → AreEquations a → Grows a b → (r : Result Solution E) →
-    IfOk r (λ x. (s : ℕ → Term) → (of : ℕ → Class) → Hold b s → IsInAll s of members → IsInstance (type_of x) (class_of x) s of) →
-    IfOk r (λ x. (s : ℕ → Term) → (of : ℕ → Class) → Hold a s → IsInAll s of members → IsInstance (type_of x) (class_of x) s of)
-grown_general a b members m g (Ok x) h = λ s of i k. h s of ((grows_hold s a b m g).1 i) k
-grown_general a b members m g (Err e) h = tt
+  pub solved_members : (members : List Member) (s z : ℕ → Term) (of : ℕ → Class) → Fits i z ns → ((v : ℕ) → v < count → z v ≡ s v) → All (λ m. m.variable < count) members → IsInAll s of members →
+      IsInAll (λ v. substitute s (type_in i ns v)) of members
+  solved_members members s z of f e below h j d l =
+      let m = get_or members j d in
+      subst (IsIn of m.class) (solved_general s z f e m.variable ∙ ap (substitute s) (type_below i count ns m.variable (below j d l))) (h j d l)

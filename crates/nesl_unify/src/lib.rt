@@ -1,24 +1,19 @@
-//! Equations between types and classes of their variables, solved.
+//! Equations between types and classes of their variables, which are recorded as facts and solved by a graph.
 #![tactic(auto)]
 
-mod equations;
-pub mod fault;
-mod fit;
+mod equation;
+mod fact;
 pub mod flat;
 mod instance;
-mod laying;
-mod learning;
 pub mod narrow;
 mod room;
-mod settle;
+mod shapes;
 mod solution;
 pub mod solve;
 mod start;
 pub mod system;
-mod table;
 mod types;
-mod unify;
 
-pub use fault::SolveFault;
 pub use flat::Flat;
+pub use nesl_unify_graph::SolveFault;
 pub use system::System;

@@ -5,14 +5,17 @@ ghost use Rattle.nesl_types.specs.declared.classes.Class.{Class};
 ghost use Rattle.nesl_types_bank.specs.Term.{Term, variable as variable_type};
 ghost use Rattle.nesl_types_bank.specs.Substitution.{substitute};
 ghost use Rattle.nesl_types_bank.specs.Shapes.{shape_type};
-ghost use Rattle.nesl_types_bank.specs.Renames.{replacement};
 ghost use Rattle.nesl_types.specs.Class.{IsIn};
 ghost use Rattle.nesl_types.specs.Class.{class_at};
+ghost use Rattle.nesl_unify_graph.specs.Graph.{IsFlat};
+ghost use Rattle.nesl_unify_graph.specs.Forms.{IsTableOf};
 ghost use Rattle.nesl_unify.specs.Members.{IsInAll};
+ghost use Rattle.nesl_unify.specs.Solves.{IsReading};
 
-use crate::fault::SolveFault;
+use crate::shapes::top_shape;
 use nesl_types::{Class, meet};
-use nesl_types_bank::{Bank, Shape};
+use nesl_types_bank::Shape;
+use nesl_unify_graph::{Instances, Node, SolveFault};
 use std::alloc::{AllocError, Global};
 
 /// What a variable stands for has to be in a class.
@@ -90,57 +93,61 @@ fn restrict_shape(classes: &mut Vec<Class>, shape: Shape, class: Class) -> Resul
 }
 
 /// Restricts the variable that stands for a member's variable, if one does, so that the type is in the member's class.
-/// The type of each variable is at its place of the bank.
 #[tactic(auto, using(crate::proofs::Narrowing::all_in_any))]
 fn restrict_member(
     classes: &mut Vec<Class>,
-    types: &Bank,
-    places: &[usize],
+    instances: &Instances,
+    nodes: &[Node],
     member: &Member,
 ) -> Result<(), SolveFault>
-    requires places { All (λ p. p < length types.now) places.now }
-    requires member { member.now.variable < length places.now }
-    ensures within { OnOk result (IsIn (class_at classes.new.items) member.now.class
-        (replacement types.now places.now member.now.variable)) }
+    requires table { IsTableOf instances.now nodes.now }
+    requires flat { IsFlat nodes.now }
+    requires member { member.now.variable < length nodes.now }
+    ensures within { OnOk result ((g : ℕ → Term) → IsReading instances.now nodes.now g
+        → IsIn (class_at classes.new.items) member.now.class (g member.now.variable)) }
     ensures narrower { OnOk result ((v : ℕ) → (of : ℕ → Class) → (t : Term) → IsIn of (class_at classes.new.items v) t
         → IsIn of (class_at classes.old.items v) t) }
-    ensures general { OnOk result ((w : ℕ → Term) → (of : ℕ → Class)
-        → IsIn of member.now.class (substitute w (replacement types.now places.now member.now.variable))
+    ensures general { OnOk result ((g : ℕ → Term) → IsReading instances.now nodes.now g
+        → (w : ℕ → Term) → (of : ℕ → Class)
+        → IsIn of member.now.class (substitute w (g member.now.variable))
         → ((v : ℕ) → IsIn of (class_at classes.old.items v) (w v)) → (v : ℕ)
         → IsIn of (class_at classes.new.items v) (w v)) }
-    ensures none { IsErrOf result SolveFault.NoSolution → (w : ℕ → Term) → (of : ℕ → Class)
-        → IsIn of member.now.class (substitute w (replacement types.now places.now member.now.variable)) → ⊥ }
+    ensures none { IsErrOf result SolveFault.NoSolution → (g : ℕ → Term) → IsReading instances.now nodes.now g
+        → (w : ℕ → Term) → (of : ℕ → Class)
+        → IsIn of member.now.class (substitute w (g member.now.variable)) → ⊥ }
 {
     if let Class::Any = member.class {
         return Ok(());
     }
-    let place = places[member.variable as usize];
-    let shape = types.shape(place);
+    let shape = top_shape(instances, nodes, member.variable as usize);
     restrict_shape(classes, shape, member.class)?;
     Ok(())
 }
 
-/// The classes of the variables in the types at these places of a bank, which are those of the members' variables, as
+/// The classes of the variables in the types of a graph, whose first places are those of the members' variables, as
 /// wide as the members allow.
 pub(crate) fn narrow(
     alloc: Global,
-    types: &Bank,
-    places: &[usize],
+    instances: &Instances,
+    nodes: &[Node],
     members: &[Member],
 ) -> Result<Vec<Class>, SolveFault>
-    requires places { All (λ p. p < length types.now) places.now }
-    requires members { All (λ m. m.variable < length places.now) members.now }
-    ensures within { IfOk result
-        (λ cs. IsInAll (replacement types.now places.now) (class_at cs.items) members.now) }
-    ensures general { IfOk result (λ cs. (w : ℕ → Term) → (of : ℕ → Class)
-        → IsInAll (λ v. substitute w (replacement types.now places.now v)) of members.now → (v : ℕ)
+    requires table { IsTableOf instances.now nodes.now }
+    requires flat { IsFlat nodes.now }
+    requires members { All (λ m. m.variable < length nodes.now) members.now }
+    ensures within { IfOk result (λ cs. (g : ℕ → Term) → IsReading instances.now nodes.now g
+        → IsInAll g (class_at cs.items) members.now) }
+    ensures general { IfOk result (λ cs. (g : ℕ → Term) → IsReading instances.now nodes.now g
+        → (w : ℕ → Term) → (of : ℕ → Class)
+        → IsInAll (λ v. substitute w (g v)) of members.now → (v : ℕ)
         → IsIn of (class_at cs.items v) (w v)) }
-    ensures none { IsErrOf result SolveFault.NoSolution → (w : ℕ → Term) → (of : ℕ → Class)
-        → IsInAll (λ v. substitute w (replacement types.now places.now v)) of members.now → ⊥ }
+    ensures none { IsErrOf result SolveFault.NoSolution → (g : ℕ → Term) → IsReading instances.now nodes.now g
+        → (w : ℕ → Term) → (of : ℕ → Class)
+        → IsInAll (λ v. substitute w (g v)) of members.now → ⊥ }
 {
     let mut classes = Vec::new(alloc);
     for member in members {
-        restrict_member(&mut classes, types, places, member)?;
+        restrict_member(&mut classes, instances, nodes, member)?;
     }
     Ok(classes)
 }

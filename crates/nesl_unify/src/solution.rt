@@ -1,57 +1,45 @@
-//! Most general solutions of equations.
+//! Most general solutions of systems.
 
-ghost use Rattle.std.specs.Prelude.{◌≡◌, ◌<◌, All, length, map, slice_index, IfOk};
+ghost use Rattle.std.specs.Prelude.{◌≡◌, ◌≤◌, length, IfOk};
+ghost use Rattle.nesl_unify_graph.specs.Graph.{IsFlat};
+ghost use Rattle.nesl_unify_graph.specs.Instances.{AreBelow};
+ghost use Rattle.nesl_unify_graph.specs.Readings.{AreReadWithin};
+ghost use Rattle.nesl_unify_graph.specs.Tables.{IsTable};
+ghost use Rattle.nesl_unify.specs.Solved.{graph_props};
 
 use nesl_types::{Class, Ty};
-use nesl_types_bank::{Bank, rename};
+use nesl_unify_graph::read::read;
+use nesl_unify_graph::{Instances, Node};
 use std::alloc::{AllocError, Global};
 
 /// A most general solution: a type for each variable, and the class of each variable that is left in these types.
 #[derive(Drop)]
 pub struct Solution {
-    /// The types and their parts.
-    pub(crate) types: Bank,
-    /// The place of the type of each variable.
-    pub(crate) places: Vec<usize>,
+    pub(crate) instances: Instances,
+    /// The graph of the types: the first `count` places are those of the variables.
+    pub(crate) nodes: Vec<Node>,
+    pub(crate) count: usize,
     /// The class of each variable at the variable's place; a variable past the end is in `Any`.
     pub classes: Vec<Class>,
-    pub ghost within: { All (λ p. p < length types) places.items },
-}
-
-/// The item at each of these places.
-fn items_at(alloc: Global, items: &[usize], places: &[usize]) -> Result<Vec<usize>, AllocError>
-    requires { All (λ p. p < length items.now) places.now }
-    ensures { IfOk result (λ found. found.items ≡ map (slice_index items.now) places.now) }
-{
-    let mut found = Vec::with_capacity(alloc, places.len())?;
-    for place in places {
-        found.push(items[*place])?;
-    }
-    Ok(found)
+    pub ghost below: { AreBelow (length nodes.items) instances },
+    pub ghost table: { IsTable instances count nodes.items } by { Prim.hlevel graph_props },
+    pub ghost flat: { IsFlat nodes.items } by { Prim.hlevel graph_props },
+    pub ghost read: { ∥ AreReadWithin instances nodes.items 4096 ∥₁ },
+    pub ghost within: { count ≤ length nodes.items },
 }
 
 impl Solution {
-    ghost use Rattle.nesl_types_bank.specs.Substitution.{substitute};
     ghost use Rattle.nesl_unify.specs.Solves.{type_of};
 
     /// What a variable stands for.
     pub fn variable(&self, alloc: Global, variable: u64) -> Result<Ty, AllocError>
         ensures { IfOk result (λ t. t ≡ type_of self.now variable) }
     {
-        match self.places.get(variable as usize) {
-            Some(place) => Ty::read(alloc, &self.types, *place),
-            None => Ty::variable(alloc, variable),
+        let place = variable as usize;
+        if place < self.count {
+            read(alloc, &self.instances, self.nodes.as_slice(), place)
+        } else {
+            Ty::variable(alloc, variable)
         }
-    }
-
-    /// The type with what stands for its variables in their place. It costs as much as the whole solution.
-    pub fn apply(&self, alloc: Global, ty: &Ty) -> Result<Ty, AllocError>
-        ensures { IfOk result (λ t. t ≡ substitute (type_of self.now) ty.now) }
-    {
-        let mut types = Bank::new(alloc);
-        let moved = rename(alloc, &self.types, &mut types, &[])?;
-        let of = items_at(alloc, moved.as_slice(), self.places.as_slice())?;
-        let place = ty.put(alloc, &mut types, of.as_slice())?;
-        Ty::read(alloc, &types, place)
     }
 }

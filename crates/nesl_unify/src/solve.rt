@@ -1,37 +1,82 @@
-//! Equations between types, and what solves them.
+//! Equations between types and classes of their variables, solved by a graph.
 
-ghost use Rattle.std.specs.Prelude.{◌≡◌, ◌<◌, ℕ, All, IfOk, IsErrOf};
+ghost use Rattle.std.specs.Prelude.{◌≡◌, ◌<◌, ◌↔◌, ℕ, [], All, length, IfOk, IsErrOf, IsTrue};
 ghost use Rattle.nesl_types.specs.declared.classes.Class.{Class};
-ghost use Rattle.nesl_types.specs.Class.{IsIn, class_at};
-ghost use Rattle.nesl_types_bank.specs.Substitution.{substitute};
 ghost use Rattle.nesl_types_bank.specs.Term.{Term};
-ghost use Rattle.nesl_types_bank.specs.Numbering.{IsBelow};
+ghost use Rattle.nesl_unify_graph.specs.Graph.{Fits};
 ghost use Rattle.nesl_unify.specs.Bounds.{IsBounded};
+ghost use Rattle.nesl_unify.specs.Facts.{AreFacts, AreTrue};
+ghost use Rattle.nesl_unify.specs.Solved.{IsSolved, IsMet};
+ghost use Rattle.nesl_unify.specs.Members.{IsInAll};
+ghost use Rattle.nesl_unify.specs.Equations.{HasOwnPlaces};
+ghost use Rattle.nesl_unify.specs.Solves.{AreBelow, SolvesAll, IsSolution, IsInstance, type_of, class_of};
 
-use crate::equations::Equations;
-use crate::fault::SolveFault;
+pub use crate::equation::Equation;
+use crate::equation::equate;
+use crate::fact::Fact;
 use crate::narrow::{Member, narrow};
 pub use crate::solution::Solution;
-use crate::start::{start_nodes, start_pairs};
+use crate::start::{Start, start_table};
 pub use crate::types::is_below;
-use crate::unify::{Pair, unify};
-use nesl_types::Ty;
-use nesl_types_bank::{Bank, Node, Read, read_types};
+use nesl_types_bank::Bank;
+use nesl_unify_graph::unify::unify;
+use nesl_unify_graph::{Instances, Node, SolveFault, are_within};
 use std::alloc::{AllocError, Global};
-use std::mem::replace;
 
 /// The greatest number of nodes of a type.
-pub(crate) const MOST_NODES: u64 = 4096;
+const MOST_NODES: u64 = 4096;
 
-/// Two types that have to be one.
-#[derive(Drop)]
-pub struct Equation {
-    pub left: Ty,
-    pub right: Ty,
+/// The graph in which the facts are true, and nothing else is said, where its types have at most 4,096 nodes.
+fn solve_graph(
+    alloc: Global,
+    instances: &Instances,
+    count: usize,
+    facts: &[Fact],
+) -> Result<Vec<Node>, SolveFault>
+    requires { AreFacts instances.now count facts.now }
+    ensures solved { IfOk result (λ ns. IsSolved instances.now count ns.items) }
+    ensures holds { IfOk result (λ ns. (w : ℕ → Term) → Fits instances.now w ns.items
+        → AreTrue instances.now facts.now w) }
+    ensures general { IfOk result (λ ns. (s : ℕ → Term) → AreTrue instances.now facts.now s
+        → IsMet instances.now count ns.items s) }
+    ensures none { IsErrOf result SolveFault.NoSolution → (s : ℕ → Term) → IsBounded s
+        → AreTrue instances.now facts.now s → ⊥ }
+{
+    let Start { mut nodes, pairs } = start_table(alloc, count, facts)?;
+    unify(instances, count, &mut nodes, pairs)?;
+    if !are_within(alloc, instances, nodes.as_slice(), MOST_NODES)? {
+        return Err(SolveFault::NoSolution);
+    }
+    Ok(nodes)
 }
 
-ghost use Rattle.std.specs.Prelude.{◌↔◌, IsTrue};
-ghost use Rattle.nesl_unify.specs.Solves.{AreBelow, SolvesAll, IsSolution, IsInstance, type_of, class_of};
+/// A most general solution of the facts in which each member's variable has a type of its class.
+pub(crate) fn solve_facts(
+    alloc: Global,
+    instances: Instances,
+    count: usize,
+    facts: &[Fact],
+    members: &[Member],
+) -> Result<Solution, SolveFault>
+    requires facts { AreFacts instances count facts.now }
+    requires members { All (λ m. m.variable < count) members.now }
+    ensures holds { IfOk result (λ a. AreTrue instances facts.now (type_of a)) }
+    ensures within { IfOk result (λ a. IsInAll (type_of a) (class_of a) members.now) }
+    ensures general { IfOk result (λ a. (s : ℕ → Term) → (of : ℕ → Class) → AreTrue instances facts.now s
+        → IsInAll s of members.now → IsInstance (type_of a) (class_of a) s of) }
+    ensures bounded { IfOk result (λ a. IsBounded (type_of a)) }
+    ensures none { IsErrOf result SolveFault.NoSolution → (s : ℕ → Term) → (of : ℕ → Class) → IsBounded s
+        → AreTrue instances facts.now s → IsInAll s of members.now → ⊥ }
+{
+    let nodes = solve_graph(alloc, &instances, count, facts)?;
+    let classes = narrow(alloc, &instances, nodes.as_slice(), members)?;
+    Ok(Solution {
+        instances,
+        nodes,
+        count,
+        classes,
+    })
+}
 
 /// Whether each variable of the equations is below the count.
 pub fn are_below(count: u64, equations: &[Equation]) -> bool
@@ -45,161 +90,45 @@ pub fn are_below(count: u64, equations: &[Equation]) -> bool
     true
 }
 
-ghost use Rattle.std.specs.Prelude.{length, replicate};
-ghost use Rattle.nesl_unify.specs.Extends.{Extends};
-ghost use Rattle.nesl_unify.specs.Members.{IsInAll};
-ghost use Rattle.nesl_unify.specs.Met.{AreMet};
-ghost use Rattle.nesl_unify.specs.Pairs.{IsPairBelow};
-ghost use Rattle.nesl_unify.specs.Systems.{AreEquations, Hold};
-
-/// A most general solution of a table in which the places of each pair are one, and each member's variable has a type
-/// of its class. The first `count` places are those of the variables.
-pub(crate) fn solve_table(
-    alloc: Global,
-    count: usize,
-    mut nodes: Vec<Node>,
-    pending: Vec<Pair>,
-    members: &[Member],
-) -> Result<Solution, SolveFault>
-    requires nodes { Extends (replicate count Node.Free) nodes.items }
-    requires pending { All (IsPairBelow (length nodes.items)) pending.items }
-    requires members { All (λ m. m.variable < count) members.now }
-    ensures met { IfOk result (λ a. AreMet count nodes.items pending.items (type_of a)) }
-    ensures within { IfOk result (λ a. IsInAll (type_of a) (class_of a) members.now) }
-    ensures general { IfOk result (λ a. (s : ℕ → Term) → (of : ℕ → Class) → AreMet count nodes.items pending.items s
-        → IsInAll s of members.now → IsInstance (type_of a) (class_of a) s of) }
-    ensures bounded { IfOk result (λ a. IsBounded (type_of a)) }
-    ensures none { IsErrOf result SolveFault.NoSolution → (s : ℕ → Term) → (of : ℕ → Class) → IsBounded s
-        → AreMet count nodes.items pending.items s → IsInAll s of members.now → ⊥ }
+/// No instances, and the places of as many variables.
+fn own_places(alloc: Global, count: u64) -> Result<Instances, AllocError>
+    ensures { IfOk result (HasOwnPlaces count) }
 {
-    unify(nodes.as_mut_slice(), pending)?;
-    let Read {
-        bank: types,
-        places,
-    } = match read_types(alloc, nodes.as_slice(), count, MOST_NODES)? {
-        Some(read) => read,
-        None => return Err(SolveFault::NoSolution),
-    };
-    let classes = narrow(alloc, &types, places.as_slice(), members)?;
-    Ok(Solution {
-        types,
-        places,
-        classes,
+    let mut fresh = Vec::with_capacity(alloc, count as usize)?;
+    for variable in 0..count {
+        fresh.push(variable as usize)?;
+    }
+    Ok(Instances {
+        shared: Bank::new(alloc),
+        made: Vec::new(alloc),
+        fresh,
     })
 }
 
-/// A most general solution of the equations in which each member's variable has a type of its class, found by a table
-/// of all nodes.
-fn solve_by_table(
-    alloc: Global,
-    equations: &Equations,
-    members: &[Member],
-) -> Result<Solution, SolveFault>
-    requires made { AreEquations equations.now }
-    requires members { All (λ m. m.variable < length equations.now.known.items) members.now }
-    ensures holds { IfOk result (λ a. Hold equations.now (type_of a)) }
-    ensures within { IfOk result (λ a. IsInAll (type_of a) (class_of a) members.now) }
-    ensures general { IfOk result (λ a. (s : ℕ → Term) → (of : ℕ → Class) → Hold equations.now s
-        → IsInAll s of members.now → IsInstance (type_of a) (class_of a) s of) }
-    ensures bounded { IfOk result (λ a. IsBounded (type_of a)) }
-    ensures none { IsErrOf result SolveFault.NoSolution → (s : ℕ → Term) → (of : ℕ → Class) → IsBounded s
-        → Hold equations.now s → IsInAll s of members.now → ⊥ }
-{
-    let count = equations.known.len();
-    let nodes = start_nodes(alloc, count, &equations.types)?;
-    let pending = start_pairs(
-        alloc,
-        count,
-        equations.sides.as_slice(),
-        equations.known.as_slice(),
-    )?;
-    let solution = solve_table(alloc, count, nodes, pending, members)?;
-    Ok(solution)
+/// What equations say.
+struct Posed {
+    instances: Instances,
+    facts: Vec<Fact>,
 }
 
-ghost use Rattle.std.specs.Prelude.{◌≡◌};
-ghost use Rattle.nesl_types_bank.specs.Renames.{replacement};
-
-/// The solution that has the types of these equations at the places of its variables, and the classes of the variables
-/// that are left.
-fn solution_at(
-    alloc: Global,
-    equations: &mut Equations,
-    places: Vec<usize>,
-    members: &[Member],
-) -> Result<Solution, SolveFault>
-    requires places { All (λ p. p < length equations.old.types) places.items }
-    requires members { All (λ m. m.variable < length places.items) members.now }
-    ensures types { IfOk result (λ a. a.types ≡ equations.old.types) }
-    ensures places { IfOk result (λ a. a.places.items ≡ places.items) }
-    ensures within { IfOk result
-        (λ a. IsInAll (replacement equations.old.types places.items) (class_of a) members.now) }
-    ensures general { IfOk result (λ a. (s : ℕ → Term) → (of : ℕ → Class)
-        → IsInAll (λ v. substitute s (replacement equations.old.types places.items v)) of members.now → (v : ℕ)
-        → IsIn of (class_of a v) (s v)) }
-    ensures none { IsErrOf result SolveFault.NoSolution → (s : ℕ → Term) → (of : ℕ → Class)
-        → IsInAll (λ v. substitute s (replacement equations.old.types places.items v)) of members.now → ⊥ }
-{
-    let classes = narrow(alloc, &equations.types, places.as_slice(), members)?;
-    let types = replace(&mut equations.types, Bank::new(alloc));
-    Ok(Solution {
-        types,
-        places,
-        classes,
-    })
-}
-
-/// A most general solution of the equations in which each member's variable has a type of its class.
-pub(crate) fn solve_equations(
-    alloc: Global,
-    equations: &mut Equations,
-    members: &[Member],
-) -> Result<Solution, SolveFault>
-    requires made { AreEquations equations.old }
-    requires members { All (λ m. m.variable < length equations.old.known.items) members.now }
-    ensures holds { IfOk result (λ a. Hold equations.old (type_of a)) }
-    ensures within { IfOk result (λ a. IsInAll (type_of a) (class_of a) members.now) }
-    ensures general { IfOk result (λ a. (s : ℕ → Term) → (of : ℕ → Class) → Hold equations.old s
-        → IsInAll s of members.now → IsInstance (type_of a) (class_of a) s of) }
-    ensures bounded { IfOk result (λ a. IsBounded (type_of a)) }
-    ensures none { IsErrOf result SolveFault.NoSolution → (s : ℕ → Term) → (of : ℕ → Class) → IsBounded s
-        → Hold equations.old s → IsInAll s of members.now → ⊥ }
-{
-    match equations.settle_all(alloc)? {
-        Some(places) => solution_at(alloc, equations, places, members),
-        None => solve_by_table(alloc, equations, members),
-    }
-}
-
-/// Equations in as many variables, of which there are none.
-fn no_equations(alloc: Global, count: u64) -> Result<Equations, AllocError>
-    ensures made { IfOk result AreEquations }
-    ensures count { IfOk result (λ a. length a.known.items ≡ count) }
-    ensures holds { IfOk result (λ a. (s : ℕ → Term) → Hold a s) }
-{
-    let mut none = Equations::new(alloc);
-    for _ in 0..count {
-        none.fresh()?;
-    }
-    Ok(none)
-}
-
-/// The equations in as many variables.
-fn equations_of(alloc: Global, count: u64, equations: &[Equation]) -> Result<Equations, AllocError>
+/// What the equations say, where it isn't plain that nothing solves them.
+fn pose(alloc: Global, count: u64, equations: &[Equation]) -> Result<Posed, SolveFault>
     requires { AreBelow count equations.now }
-    ensures made { IfOk result AreEquations }
-    ensures count { IfOk result (λ a. length a.known.items ≡ count) }
-    ensures holds { IfOk result (λ a. (s : ℕ → Term) → Hold a s ↔ SolvesAll s equations.now) }
+    ensures facts { IfOk result (λ a. AreFacts a.instances count a.facts.items) }
+    ensures same { IfOk result (λ a. (s : ℕ → Term)
+        → AreTrue a.instances a.facts.items s ↔ SolvesAll s equations.now) }
+    ensures none { IsErrOf result SolveFault.NoSolution → (s : ℕ → Term) → SolvesAll s equations.now → ⊥ }
 {
-    let mut all = no_equations(alloc, count)?;
+    let mut instances = own_places(alloc, count)?;
+    let mut facts = Vec::new(alloc);
     for equation in equations {
-        all.equate(alloc, &equation.left, &equation.right)?;
+        equate(alloc, &mut instances, &mut facts, equation)?;
     }
-    Ok(all)
+    Ok(Posed { instances, facts })
 }
 
 /// A most general solution of the equations in which each member's variable has a type of its class. The variables are
-/// numbers below `count`.
+/// numbers below `count`. An equation whose sides are both no variables takes as long as the smaller of them has nodes.
 pub fn solve(
     alloc: Global,
     count: u64,
@@ -215,7 +144,6 @@ pub fn solve(
     ensures none { IsErrOf result SolveFault.NoSolution → (s : ℕ → Term) → (of : ℕ → Class) → IsBounded s
         → IsSolution equations.now members.now s of → ⊥ }
 {
-    let mut equations = equations_of(alloc, count, equations)?;
-    let solution = solve_equations(alloc, &mut equations, members)?;
-    Ok(solution)
+    let Posed { instances, facts } = pose(alloc, count, equations)?;
+    solve_facts(alloc, instances, count as usize, facts.as_slice(), members)
 }

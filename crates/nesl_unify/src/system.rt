@@ -5,39 +5,72 @@ ghost use Rattle.nesl_types.specs.declared.classes.Class.{Class};
 ghost use Rattle.nesl_types_bank.specs.Term.{Term};
 ghost use Rattle.nesl_types_bank.specs.Substitution.{substitute};
 ghost use Rattle.nesl_types_bank.specs.Numbering.{IsBelow};
-ghost use Rattle.nesl_unify.specs.Bounds.{IsBounded};
 ghost use Rattle.nesl_unify.specs.Flat.{flat_type};
+ghost use Rattle.nesl_unify.specs.Facts.{flat_node};
+ghost use Rattle.nesl_unify.specs.Bounds.{IsBounded};
 ghost use Rattle.nesl_unify.specs.Solves.{IsInstance, type_of, class_of};
 ghost use Rattle.nesl_unify.specs.Systems.{count, IsSolvedBy, SolvesSystem, IsSystem};
 
-use crate::equations::Equations;
-use crate::fault::SolveFault;
+use crate::fact::Fact;
 use crate::flat::Flat;
-use crate::instance::{Instance, Instances, flat_instance, put_instance};
+use crate::instance::{own_node, shared_node};
 use crate::narrow::Member;
 use crate::room::push_with_room;
-use crate::solve::{Equation, Solution, solve_equations};
-use nesl_types::{Class, Part};
+use crate::solution::Solution;
+use crate::solve::solve_facts;
+use nesl_types::{Class, Part, Ty};
+use nesl_types_bank::Bank;
+use nesl_unify_graph::{Instances, Node, SolveFault};
 use std::alloc::{AllocError, Global};
+use std::mem::replace;
 
-/// Equations between types, and the class of each variable. Equal types stand once. After want of memory a system is of
-/// no more use.
+/// How many variables a system has at most. Typing is charged no work, so a line that needs more is refused as out of
+/// memory.
+const MOST_VARIABLES: usize = 1 << 19;
+
+/// Equations between types, and the class of each variable. Types that stand for many are copied nowhere. After memory
+/// ran out, a system is of no more use.
 pub struct System {
-    equations: Equations,
-    members: Vec<Member>,
-    /// Where instances of types were put, so that the same isn't put again.
+    facts: Vec<Fact>,
     instances: Instances,
+    members: Vec<Member>,
 }
 
 // By hand, so that no crate above has to prove how the parts are dropped.
 impl Drop for System {
     fn drop(self) {
         let System {
-            equations,
-            members,
+            facts,
             instances,
+            members,
         } = self;
-        drop((equations, members, instances));
+        drop((facts, instances, members));
+    }
+}
+
+/// The node of a type whose parts are variables.
+fn flat_node(flat: Flat) -> Node
+    ensures { result ≡ flat_node flat }
+{
+    match flat {
+        Flat::Int => Node::Int,
+        Flat::Bool => Node::Bool,
+        Flat::Char => Node::Char,
+        Flat::Var(variable) => Node::Same(variable as usize),
+        Flat::Named(tag) => Node::Named(tag),
+        Flat::SeqOf(item) => Node::SeqOf(item as usize),
+        Flat::Both(first, second) => Node::Both(first as usize, second as usize),
+    }
+}
+
+/// No instances.
+fn no_instances(alloc: Global) -> Instances
+    ensures { result.fresh.items ≡ [] }
+{
+    Instances {
+        shared: Bank::new(alloc),
+        made: Vec::new(alloc),
+        fresh: Vec::new(alloc),
     }
 }
 
@@ -49,9 +82,9 @@ impl System {
         ensures holds { (s : ℕ → Term) → IsSolvedBy result s }
     {
         System {
-            equations: Equations::new(alloc),
+            facts: Vec::new(alloc),
+            instances: no_instances(alloc),
             members: Vec::new(alloc),
-            instances: None,
         }
     }
 
@@ -69,7 +102,7 @@ impl System {
         self.members.len() as u64
     }
 
-    /// A variable more, for types of a class.
+    /// A variable more, for types of a class. `AllocError` also where there are `MOST_VARIABLES`.
     pub fn fresh(&mut self, class: Class) -> Result<u64, AllocError>
         requires { IsSystem self.old }
         ensures system { OnOk result (IsSystem self.new) }
@@ -78,26 +111,12 @@ impl System {
             ≡ self.old.members.items ++ record { variable = v; class = class } ∷ []) }
         ensures holds { OnOk result ((s : ℕ → Term) → IsSolvedBy self.new s ↔ IsSolvedBy self.old s) }
     {
+        if self.members.len() >= MOST_VARIABLES {
+            return Err(AllocError);
+        }
         let variable = self.members.len() as u64;
-        self.equations.fresh()?;
         push_with_room(&mut self.members, Member { variable, class })?;
         Ok(variable)
-    }
-
-    /// An equation more.
-    pub fn equate(&mut self, equation: &Equation) -> Result<(), AllocError>
-        requires system { IsSystem self.old }
-        requires left { IsBelow (count self.old) equation.now.left }
-        requires right { IsBelow (count self.old) equation.now.right }
-        ensures system { OnOk result (IsSystem self.new) }
-        ensures members { OnOk result (self.new.members.items ≡ self.old.members.items) }
-        ensures holds { OnOk result ((s : ℕ → Term) → IsSolvedBy self.new s
-            ↔ (IsSolvedBy self.old s × (substitute s equation.now.left ≡ substitute s equation.now.right))) }
-    {
-        let alloc = *self.members.allocator();
-        self.equations
-            .equate(alloc, &equation.left, &equation.right)?;
-        Ok(())
     }
 
     /// An equation more: the variable stands for a type whose parts are variables.
@@ -111,12 +130,14 @@ impl System {
             ((s : ℕ → Term) → IsSolvedBy self.new s
             ↔ (IsSolvedBy self.old s × (s variable ≡ substitute s (flat_type flat)))) }
     {
-        self.equations.equate_flat(variable, flat)?;
+        let node = flat_node(flat);
+        let variable = variable as usize;
+        push_with_room(&mut self.facts, Fact { variable, node })?;
         Ok(())
     }
 
     /// An equation more: the variable stands for an instance of a type, in which `fresh` gives each variable the one
-    /// that stands for it.
+    /// that stands for it. The type is put among those that all instances share.
     pub fn equate_instance(
         &mut self,
         alloc: Global,
@@ -135,45 +156,35 @@ impl System {
             IsSolvedBy self.new s
             ↔ (IsSolvedBy self.old s × (s variable ≡ substitute (λ v. s (slice_index fresh.now v)) part.now))) }
     {
-        match flat_instance(fresh, part) {
-            Some(flat) => self.equations.equate_flat(variable, flat)?,
-            None => self
-                .equations
-                .equate_instance(alloc, variable, fresh, part)?,
-        }
+        let node = shared_node(alloc, &mut self.instances, fresh, part)?;
+        let variable = variable as usize;
+        push_with_room(&mut self.facts, Fact { variable, node })?;
         Ok(())
     }
 
-    /// An equation more: the variable stands for an instance of a type, in which `fresh` gives each variable the one
-    /// that stands for it. `number` tells types apart, so that an instance that was put in before is found.
-    pub fn equate_noted_instance(
+    /// An equation more: the variable stands for an instance of a whole type, in which `fresh` gives each variable the
+    /// one that stands for it. It costs no more for a large type.
+    pub fn equate_whole(
         &mut self,
         alloc: Global,
         variable: u64,
         fresh: &[u64],
-        part: &Part<'_>,
-        number: usize,
+        ty: &Ty,
     ) -> Result<(), AllocError>
         requires system { IsSystem self.old }
         requires variable { variable < count self.old }
         requires fresh { All (λ v. v < count self.old) fresh.now }
-        requires part { IsBelow (length fresh.now) part.now }
+        requires ty { IsBelow (length fresh.now) ty.now }
         ensures system { OnOk result (IsSystem self.new) }
         ensures members { OnOk result (self.new.members.items ≡ self.old.members.items) }
         ensures holds { OnOk result
             ((s : ℕ → Term) →
             IsSolvedBy self.new s
-            ↔ (IsSolvedBy self.old s × (s variable ≡ substitute (λ v. s (slice_index fresh.now v)) part.now))) }
+            ↔ (IsSolvedBy self.old s × (s variable ≡ substitute (λ v. s (slice_index fresh.now v)) ty.now))) }
     {
-        let of = self.equations.begin_instance(alloc, variable, fresh, part)?;
-        let right = put_instance(
-            alloc,
-            &mut self.equations.types,
-            &mut self.instances,
-            Instance { number, of },
-            part,
-        )?;
-        self.equations.equate_variable(variable, right)?;
+        let node = own_node(alloc, &mut self.instances, fresh, ty)?;
+        let variable = variable as usize;
+        push_with_room(&mut self.facts, Fact { variable, node })?;
         Ok(())
     }
 
@@ -187,7 +198,13 @@ impl System {
         ensures none { IsErrOf result SolveFault.NoSolution → (s : ℕ → Term) → (of : ℕ → Class) → IsBounded s
             → SolvesSystem self s of → ⊥ }
     {
-        let solution = solve_equations(alloc, &mut self.equations, self.members.as_slice())?;
-        Ok(solution)
+        let instances = replace(&mut self.instances, no_instances(alloc));
+        solve_facts(
+            alloc,
+            instances,
+            self.members.len(),
+            self.facts.as_slice(),
+            self.members.as_slice(),
+        )
     }
 }

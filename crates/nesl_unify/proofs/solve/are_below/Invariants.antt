@@ -1,5 +1,5 @@
 use Rattle.std.proofs.Common.{ℕ, ◌<◌, get_or}
-use Rattle.nesl_unify.specs.declared.solve.Equation.{Equation}
+use Rattle.nesl_unify.specs.declared.equation.Equation.{Equation}
 use Rattle.nesl_types_bank.specs.Numbering.{IsBelow}
 use Rattle.nesl_unify.proofs.solve.are_below.Given as goal
 

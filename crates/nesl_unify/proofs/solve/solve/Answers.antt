@@ -1,14 +1,21 @@
 use Rattle.std.proofs.Common.{rules}
-use Rattle.nesl_unify.specs.Solves.{type_of}
+use Rattle.nesl_unify.proofs.Systems.{solves_equations, general_equations, lent_same}
 use Rattle.nesl_unify.proofs.solve.solve.Goals as goal
-
-pub returns-in_err-solution-clause-none : goal.returns-in_err-solution-clause-none
-returns-in_err-solution-clause-none c = λ e s of b h. c.in_err-solution.ensures.none (search rules) s of b ((c.in_ok-equations.ensures.holds s).1 h.equal) h.within
 
 pub returns-clause-solves : goal.returns-clause-solves
 returns-clause-solves c =
-    let q = c.in_ok-solution.ensures in
-    record { equal = (c.in_ok-equations.ensures.holds (type_of c.in_ok-solution.solution)).0 q.holds; within = q.within }
+    let i = c.in_ok-instances.field-0.instances in
+    let same = lent_same i c.in_ok-instances.field-0.facts.items c.as_slice.result.now c.args.equations.now (search rules) c.in_ok-instances.ensures.same in
+    solves_equations i c.as_slice.result.now c.args.members.now c.args.equations.now same c.solve_facts.result c.solve_facts.ensures.holds c.solve_facts.ensures.within
 
 pub returns-clause-general : goal.returns-clause-general
-returns-clause-general c = λ s of h. c.in_ok-solution.ensures.general s of ((c.in_ok-equations.ensures.holds s).1 h.equal) h.within
+returns-clause-general c =
+    let i = c.in_ok-instances.field-0.instances in
+    let same = lent_same i c.in_ok-instances.field-0.facts.items c.as_slice.result.now c.args.equations.now (search rules) c.in_ok-instances.ensures.same in
+    general_equations i c.as_slice.result.now c.args.members.now c.args.equations.now same c.solve_facts.result c.solve_facts.ensures.general
+
+pub returns-clause-none : goal.returns-clause-none
+returns-clause-none c = λ e s of b h.
+    let i = c.in_ok-instances.field-0.instances in
+    let same = lent_same i c.in_ok-instances.field-0.facts.items c.as_slice.result.now c.args.equations.now (search rules) c.in_ok-instances.ensures.same in
+    c.solve_facts.ensures.none e s of b ((same s).1 h.equal) h.within

@@ -1,14 +1,21 @@
-use Rattle.std.proofs.Common.{ℕ, ◌<◌, All, length, sym, ◌∙◌, subst}
+use Rattle.std.proofs.Common.{length}
+use Rattle.nesl_unify.specs.declared.fact.Fact.{Fact}
+use Rattle.nesl_unify.proofs.Facts.{instance_facts, instance_true}
 use Rattle.nesl_unify.proofs.system.System.equate_instance.Goals as goal
 
-pub equate_flat-requires-clause-flat : goal.equate_flat-requires-clause-flat
-equate_flat-requires-clause-flat c =
-    c.in-Some.ensures.below (length c.args.self.now.equations.known.items) (subst (λ (n : ℕ). All (λ v. v < n) c.args.fresh.now) (sym c.requires.system.count) c.requires.fresh)
+pub returns-clause-system : goal.returns-clause-system
+returns-clause-system c =
+    let a = c.args.self.now in
+    let f : Fact = record { variable = c.args.variable; node = c.in_ok-node.node } in
+    record {
+      facts = instance_facts a.instances c.shared_node.new.instances (length a.members.items) a.facts.items c.push_with_room.new.items.items f c.args.fresh.now c.args.part.now c.requires.system.facts c.requires.variable c.requires.fresh
+          c.in_ok-node.ensures c.in_ok-push_with_room.ensures;
+      members = c.requires.system.members;
+    }
 
-pub returns-in_ok-equate_flat-in-Some-clause-holds :
-    goal.returns-in_ok-equate_flat-in-Some-clause-holds
-returns-in_ok-equate_flat-in-Some-clause-holds c = λ s.
-    let q = c.in_ok-equate_flat-in-Some.ensures in
-    let h = q.holds s in
-    let e = c.in-Some.ensures.same s in
-    (λ i. let j = h.0 i in (j.0, j.1 ∙ e), λ i. h.1 (i.0, i.1 ∙ sym e))
+pub returns-clause-holds : goal.returns-clause-holds
+returns-clause-holds c = λ s.
+    let a = c.args.self.now in
+    let f : Fact = record { variable = c.args.variable; node = c.in_ok-node.node } in
+    instance_true a.instances c.shared_node.new.instances (length a.members.items) a.facts.items c.push_with_room.new.items.items f c.args.fresh.now c.args.part.now s c.requires.system.facts
+    c.in_ok-node.ensures c.in_ok-push_with_room.ensures

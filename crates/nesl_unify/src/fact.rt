@@ -1,0 +1,10 @@
+//! What is recorded of the types of variables.
+
+use nesl_unify_graph::Node;
+
+/// The type of a variable is what the node says. The places in the node are variables too.
+#[derive(Clone, Copy)]
+pub struct Fact {
+    pub variable: usize,
+    pub node: Node,
+}
