@@ -17,7 +17,7 @@ use Rattle.nesl_types.proofs.Members.{IsIn-substitute}
 use Rattle.nesl_syntax_tree.specs.Trees.{PatternTree, Tree, SignatureTree}
 use Rattle.nesl_unify.specs.Bounds.{IsBounded}
 use Rattle.nesl_unify.specs.Solves.{IsInstance}
-use Rattle.nesl_unify.proofs.Known.{holds_with}
+use Rattle.nesl_unify.proofs.Facts.{true_with}
 use Rattle.nesl_unify.specs.declared.narrow.Member.{Member}
 use Rattle.nesl_infer_rules.specs.declared.state.State.{State}
 use Rattle.nesl_infer_rules.specs.declared.state.Local.{Local}
@@ -126,7 +126,7 @@ holds_numbered : (C : State) (s : ℕ → Term) (of : ℕ → Class) (vs : List 
 holds_numbered C s of vs h = record {
   whole = h.whole;
   solves = record {
-    equal = holds_with (numbered vs) C.system s h.solves.equal;
+    equal = true_with (numbered vs) C.system.instances C.system.facts.items s h.solves.equal;
     within = All-weaker (λ (m : Member). IsIn of m.class (s m.variable)) (λ (m : Member). IsIn (class_at (map of vs)) m.class (substitute (numbered vs) (s m.variable)))
         (λ m k. IsIn-substitute of (class_at (map of vs)) (numbered vs) m.class (s m.variable) k (numbered-in of vs)) C.system.members.items h.solves.within;
   };

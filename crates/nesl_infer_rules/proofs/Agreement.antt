@@ -9,7 +9,7 @@ use Rattle.nesl_types_bank.specs.Substitution.{substitute}
 use Rattle.nesl_types_bank.specs.Numbering.{IsBelow}
 use Rattle.nesl_types.specs.Class.{IsIn}
 use Rattle.nesl_unify.specs.Bounds.{IsBounded}
-use Rattle.nesl_unify.proofs.Known.{holds_below}
+use Rattle.nesl_unify.proofs.Facts.{true_same}
 use Rattle.nesl_infer_rules.specs.declared.state.State.{State}
 use Rattle.nesl_infer_rules.specs.Steps.{Agrees, count, IsSolution}
 
@@ -41,7 +41,7 @@ holds-agrees state s z of a h =
     record {
       whole = h.whole;
       solves = record {
-        equal = holds_below state.system s z made a h.solves.equal;
+        equal = true_same state.system.instances (count state) state.system.facts.items s z made.facts a h.solves.equal;
         within = λ k d l.
             let e = get_or state.system.members.items k d in
             subst (λ (u : Term). IsIn of e.class u) (a e.variable (made.members k d l)) (h.solves.within k d l);

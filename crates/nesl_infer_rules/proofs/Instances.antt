@@ -10,7 +10,7 @@ use Rattle.nesl_types.specs.Class.{IsIn, class_at}
 use Rattle.nesl_types_bank.specs.Numbering.{IsBelow}
 use Rattle.nesl_types_bank.specs.Substitution.{substitute, occurs}
 use Rattle.nesl_types_bank.proofs.Substitutions.{substitute-substitute, nodes_of_part}
-use Rattle.nesl_unify.proofs.Solved.{substitute_below}
+use Rattle.nesl_unify.proofs.Facts.{substitute_below}
 use Rattle.nesl_builtins.specs.FunctionTypes.{FunctionType}
 use Rattle.nesl_infer_rules.specs.declared.state.State.{State}
 use Rattle.nesl_infer_rules.specs.Typing.{IsInstanceOf}

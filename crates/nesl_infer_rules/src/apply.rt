@@ -8,7 +8,7 @@ ghost use Rattle.nesl_infer_rules.specs.Typing.{NameTakes, IsInstanceOf};
 ghost use Rattle.nesl_infer_rules.specs.Contexts.{IsOther};
 ghost use Rattle.nesl_infer_rules.specs.Outers.{meant_at};
 
-use crate::instance::{equate_part, instantiate, shared_instance};
+use crate::instance::{equate_part, function_instance, instantiate};
 use crate::outer::Outer;
 use crate::state::State;
 use nesl_builtins::{Builtin, classes, gives, named, takes};
@@ -109,11 +109,11 @@ fn constrain_other_call<P: Drop>(
     }
     match outer.context.get(name) {
         Some((Top::Function(scheme), _)) => {
-            shared_instance(state, name, scheme, given, target)?;
+            function_instance(state, scheme, given, target)?;
             Ok(())
         }
         Some((Top::Datatype(tag, held), _)) => {
-            state.equate_closed(name, given, held)?;
+            state.equate_closed(given, held)?;
             state.equate_flat(target, Flat::Named(*tag))?;
             Ok(())
         }

@@ -11,7 +11,7 @@ ghost use Rattle.nesl_infer_rules.specs.Typing.{IsInstanceOf};
 ghost use Rattle.nesl_builtins.specs.FunctionTypes.{function_type};
 
 use crate::state::State;
-use nesl_types::{Class, Kind, Part, Scheme};
+use nesl_types::{Class, Kind, Part, Scheme, Ty};
 use nesl_unify::Flat;
 use std::alloc::AllocError;
 
@@ -86,11 +86,30 @@ pub fn equate_part(
     }
 }
 
-/// Adds what makes the types of the variables an instance of what a function of the top level takes and gives. Its
-/// types are put in once a line.
-pub fn shared_instance(
+/// The variable stands for a whole type with what the fresh variables stand for in place of its variables. Nothing of
+/// the type is copied.
+fn equate_type(state: &mut State, variable: u64, fresh: &[u64], ty: &Ty) -> Result<(), AllocError>
+    requires variable { variable < count state.old }
+    requires fresh { All (λ v. v < count state.old) fresh.now }
+    requires ty { IsBelow (length fresh.now) ty.now }
+    ensures { OnOk result (Adds state.old state.new (λ s of. s variable
+        ≡ substitute (type_in (map s fresh.now)) ty.now)) }
+{
+    match flat_of(fresh, &ty.whole()) {
+        Some(flat) => {
+            state.equate_flat(variable, flat)?;
+            Ok(())
+        }
+        None => {
+            state.equate_whole(variable, fresh, ty)?;
+            Ok(())
+        }
+    }
+}
+
+/// Adds what makes the types of the variables an instance of what a function of the top level takes and gives.
+pub fn function_instance(
     state: &mut State,
-    name: &[u8],
     scheme: &Scheme,
     given: u64,
     target: u64,
@@ -102,7 +121,7 @@ pub fn shared_instance(
 {
     scheme.variables_have_classes();
     let fresh = instantiate(state, scheme.classes.as_slice())?;
-    state.equate_shared(name, 0, given, fresh.as_slice(), &scheme.argument)?;
-    state.equate_shared(name, 1, target, fresh.as_slice(), &scheme.result)?;
+    equate_type(state, given, fresh.as_slice(), &scheme.argument)?;
+    equate_type(state, target, fresh.as_slice(), &scheme.result)?;
     Ok(())
 }

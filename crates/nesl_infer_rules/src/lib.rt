@@ -6,7 +6,6 @@ pub mod each;
 mod instance;
 pub mod leaf;
 pub mod names;
-mod numbers;
 pub mod outer;
 pub mod pattern;
 mod record;

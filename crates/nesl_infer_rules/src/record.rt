@@ -30,7 +30,7 @@ pub fn constrain_record<P: Drop>(
     match outer.context.get(name) {
         Some((Top::Datatype(tag, ty), _)) => {
             state.equate_flat(target, Flat::Named(*tag))?;
-            state.equate_closed(name, held, ty)?;
+            state.equate_closed(held, ty)?;
             Ok(())
         }
         Some((Top::Variable(_), _)) => {
@@ -75,7 +75,7 @@ pub fn constrain_top_variable<P: Drop>(
     }
     match outer.context.get(name) {
         Some((Top::Variable(ty), _)) => {
-            state.equate_closed(name, target, ty)?;
+            state.equate_closed(target, ty)?;
             Ok(())
         }
         Some((Top::Function(_), _)) => {

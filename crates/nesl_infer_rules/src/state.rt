@@ -4,23 +4,17 @@ ghost use Rattle.std.specs.Prelude.{◌≡◌, true};
 ghost use Rattle.nesl_unify.specs.Systems.{IsSystem};
 ghost use Rattle.nesl_infer_rules.specs.Facts.{facts};
 
-use crate::numbers::number_of;
 use nesl_types::{Class, Part, Ty};
 use nesl_unify::solve::Solution;
 use nesl_unify::{Flat, SolveFault, System};
 use std::alloc::{AllocError, Global};
-use std::collections::BTreeMap;
 
-/// How many parts a type has at most that is put in anew each time.
-const FEW_PARTS: usize = 16;
-
-/// The equations, the class of each variable, and a number for each top-level name whose types were used.
+/// The equations, and the class of each variable.
 #[derive(Drop)]
 pub struct State {
     /// What makes the lists of a line.
     pub alloc: Global,
     pub system: System,
-    numbers: BTreeMap<Vec<u8>, usize>,
     /// Whether all equations are there: after want of memory they aren't, and nothing more is added.
     pub is_whole: bool,
     pub ghost made: { is_whole ≡ true → IsSystem system } by { Prim.hlevel facts },
@@ -69,7 +63,6 @@ impl State {
         State {
             alloc,
             system: System::new(alloc),
-            numbers: BTreeMap::new(alloc),
             is_whole: true,
         }
     }
@@ -157,40 +150,9 @@ impl State {
         Ok(())
     }
 
-    /// The variable stands for a type of a top-level name with what the fresh variables stand for in place of its
-    /// variables. A type of many parts is put in once a line; `part` tells the types of one name apart.
-    pub fn equate_shared(
-        &mut self,
-        name: &[u8],
-        part: usize,
-        variable: u64,
-        fresh: &[u64],
-        ty: &Ty,
-    ) -> Result<(), AllocError>
-        requires variable { variable < count self.old }
-        requires fresh { All (λ v. v < count self.old) fresh.now }
-        requires ty { IsBelow (length fresh.now) ty.now }
-        ensures { OnOk result (Adds self.old self.new (λ s of. s variable
-            ≡ substitute (type_in (map s fresh.now)) ty.now)) }
-    {
-        if ty.parts().len() <= FEW_PARTS {
-            self.equate_instance(variable, fresh, &ty.whole())?;
-            return Ok(());
-        }
-        self.equate_noted(name, part, variable, fresh, ty)?;
-        Ok(())
-    }
-
-    /// Adds that the variable is an instance of a type. The type's place is noted by the name and `part`, so that it
-    /// isn't put in again.
-    fn equate_noted(
-        &mut self,
-        name: &[u8],
-        part: usize,
-        variable: u64,
-        fresh: &[u64],
-        ty: &Ty,
-    ) -> Result<(), AllocError>
+    /// The variable stands for a whole type with what the fresh variables stand for in place of its variables. Nothing
+    /// of the type is copied.
+    pub fn equate_whole(&mut self, variable: u64, fresh: &[u64], ty: &Ty) -> Result<(), AllocError>
         requires variable { variable < count self.old }
         requires fresh { All (λ v. v < count self.old) fresh.now }
         requires ty { IsBelow (length fresh.now) ty.now }
@@ -200,22 +162,20 @@ impl State {
         if !self.is_whole {
             return Err(AllocError);
         }
-        let number = number_of(self.alloc, &mut self.numbers, name, part)?;
         self.is_whole = false;
-        self.system
-            .equate_noted_instance(self.alloc, variable, fresh, &ty.whole(), number)?;
+        self.system.equate_whole(self.alloc, variable, fresh, ty)?;
         self.is_whole = true;
         Ok(())
     }
 
-    /// The variable stands for the type of a top-level name, in which there are no variables.
-    pub fn equate_closed(&mut self, name: &[u8], variable: u64, ty: &Ty) -> Result<(), AllocError>
+    /// The variable stands for a type in which there are no variables.
+    pub fn equate_closed(&mut self, variable: u64, ty: &Ty) -> Result<(), AllocError>
         requires variable { variable < count self.old }
         requires ty { IsBelow 0 ty.now }
         ensures { OnOk result (Adds self.old self.new (λ s of. s variable ≡ ty.now)) }
     {
         let none: [u64; 0] = [];
-        self.equate_shared(name, 0, variable, &none, ty)?;
+        self.equate_whole(variable, &none, ty)?;
         Ok(())
     }
 

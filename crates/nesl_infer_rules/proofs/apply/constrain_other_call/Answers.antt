@@ -25,8 +25,8 @@ equate_closed-requires-clause-ty g c =
     let closed = c.args.outer.now.closed c.args.name.now d.field-0-0.now d.field-0-1.now (sym d.ensures) in
     subst (λ (t : Top). IsClosed t) d.field-0-0-is closed
 
-pub returns-in_ok-shared_instance-in-Some-Function-default : goal.returns-in_ok-shared_instance-in-Some-Function-default
-returns-in_ok-shared_instance-in-Some-Function-default g c =
+pub returns-in_ok-function_instance-in-Some-Function-default : goal.returns-in_ok-function_instance-in-Some-Function-default
+returns-in_ok-function_instance-in-Some-Function-default g c =
     let context = c.args.outer.now.context.now in
     let own = c.args.outer.now.own in
     let x = c.args.name.now in
@@ -35,7 +35,7 @@ returns-in_ok-shared_instance-in-Some-Function-default g c =
     let d = c.in-Some-Function-default in
     applied_general N x (function_type d.scheme) c.args.given c.args.target
     (λ s. top_means context own x s (Some (d.field-0-0.now, d.field-0-1.now)) c.requires.other none d.ensures ∙ ap (λ (t : Top). callable_of (own_at s own) (as_function (Some t))) d.field-0-0-is)
-    c.in_ok-shared_instance-in-Some-Function-default.ensures
+    c.in_ok-function_instance-in-Some-Function-default.ensures
 
 pub returns-in_ok-equate_flat-in-Some-Datatype-default : goal.returns-in_ok-equate_flat-in-Some-Datatype-default
 returns-in_ok-equate_flat-in-Some-Datatype-default g c =

@@ -8,4 +8,4 @@ use Rattle.nesl_infer_rules.proofs.state.State.equate_closed.Goals as goal
 pub returns : goal.returns
 returns c =
     let t = c.args.ty.now in
-    adds_is c.args.variable (λ s. substitute (type_in (map s [])) t) (λ s. t) (λ s. closed-kept (type_in (map s [])) t c.requires.ty) c.in_ok-equate_shared.ensures
+    adds_is c.args.variable (λ s. substitute (type_in (map s [])) t) (λ s. t) (λ s. closed-kept (type_in (map s [])) t c.requires.ty) c.in_ok-equate_whole.ensures
