@@ -26,7 +26,7 @@ use std::mem::replace;
 
 /// How many variables a system has at most. Typing is charged no work, so a line that needs more is refused as out of
 /// memory.
-const MOST_VARIABLES: usize = 1 << 19;
+const MOST_VARIABLES: usize = 1 << 20;
 
 /// Equations between types, and the class of each variable. Types that stand for many are copied nowhere. After memory
 /// ran out, a system is of no more use.

@@ -24,7 +24,7 @@ const STACK_ROOM: usize = 64;
 
 /// How many steps are taken over the types of a graph at most. Typing is charged nothing, so its time is bounded here:
 /// what takes more steps is refused as out of memory.
-const MOST_STEPS: u64 = 1 << 24;
+const MOST_STEPS: u64 = 3 << 24;
 
 /// How many parts of a type are looked through for its variables in the time of a step.
 const PARTS_IN_A_STEP: u64 = 16;
@@ -293,7 +293,7 @@ fn walk(
 }
 
 /// Whether the type at each place has at most `most` nodes. The size of a type is found once a place. `AllocError` is
-/// also for types that take more than 2^24 steps, which are those of `Work`.
+/// also for types that take more than `MOST_STEPS`, which are counted as those of `Work`.
 pub fn are_within(
     alloc: Global,
     instances: &Instances,
