@@ -9,6 +9,7 @@ use crate::turns::{Interval, Turns};
 use nesl_eval_nodes::held::Tops;
 use nesl_eval_nodes::meter::Meter;
 use nesl_eval_plain::{Block, bodies_in_columns, filters_in_columns};
+use nesl_eval_plain_parts::is_plain;
 use nesl_eval_rounds::scope_round;
 use std::alloc::Global;
 
@@ -59,4 +60,28 @@ pub(crate) fn find_by_columns<R, H, G, T: Tops<Global>>(
             Some(Found::Values(values))
         }
     }
+}
+
+/// Whether these turns are taken in columns, most likely.
+pub(crate) fn are_in_columns<R, H, G, T: Tops<Global>>(
+    interval: &Interval<'_, R, H, G, T>,
+    turns: Turns,
+) -> bool {
+    let Some(laid) = interval.block.plain() else {
+        return false;
+    };
+    let Some(scope) = scope_round(interval.room.names, interval.sources, laid.sizes) else {
+        return false;
+    };
+    let block = Block {
+        tops: interval.crew.tops,
+        scope: &scope,
+        values: interval.sources,
+        places: interval.places,
+        from: turns.from,
+        to: turns.to,
+        alloc: &interval.crew.alloc,
+    };
+    let levels = interval.room.levels.saturating_sub(laid.height);
+    is_plain(&block, laid.code, levels)
 }

@@ -1,5 +1,5 @@
 //! A machine whose rounds are cut in halves.
-ghost use Rattle.std.specs.Prelude.{◌≡◌, ◌+◌, ◌<◌, ◌≤◌, ◌^◌, List};
+ghost use Rattle.std.specs.Prelude.{◌≡◌, ◌+◌, ◌<◌, ◌≤◌, ◌^◌, List, IfSome};
 ghost use Rattle.nesl_values.specs.Tree.{ValueTree};
 ghost use Rattle.nesl_eval_blocks.specs.Block.{Block};
 ghost use Rattle.nesl_eval_ops.specs.View.{block_of};
@@ -9,10 +9,11 @@ ghost use Rattle.nesl_eval_machine.specs.State.{frames_of, slots_of, stack_of, e
 ghost use Rattle.nesl_eval_machine.specs.Steps.{Steps, Moves};
 ghost use Rattle.nesl_eval_halves.specs.Halves.{Came, Ran};
 
+use crate::asker::Moment;
 use crate::crew::Crew;
-use crate::grant::ask_for;
+use crate::grant::{Grant, ask_for};
 use crate::intervals::find_in_halves;
-use crate::reached::{Reached, count_left, may_be_cut, reach};
+use crate::reached::{Reached, may_be_cut, reach, waits_for_turn};
 use crate::rounds::{begin_turns, end_turns, goes_to_body, interval_of, turns_left};
 use nesl_eval_machine::state::{Hand, Machine};
 use nesl_eval_nodes::held::Tops;
@@ -44,7 +45,7 @@ pub(crate) fn make_moves<
 {
     let mut hand = Hand::Empty;
     for _ in 0..u64::MAX {
-        if may_be_cut(machine, &hand, cuts) {
+        if may_be_cut(machine, &hand, cuts, crew.helpers) {
             hand = move_in_halves(machine, hand, cuts, crew)?;
             continue;
         }
@@ -80,8 +81,8 @@ fn move_in_halves<'a, R: Threads + Sync, H: Helpers + Sync, G: Gate + Sync, T: T
     }
 }
 
-// Goes on with a round at its beginning, or where a filter had its last turn: all turns are taken in halves, if a
-// helper is granted.
+// Goes on with a round at its beginning, after a turn of it, or where a filter had its last one: all turns that are
+// left are taken in halves, if a helper is granted.
 #[cycle(halves)]
 fn go_round_in_halves<
     'a,
@@ -137,6 +138,37 @@ fn rounds_in_halves<
     turns_in_halves(machine, round, cuts, crew)
 }
 
+// The interval that is timed has ended, unless a turn of it goes on.
+fn end_timed_unless_inside<H: Helpers>(machine: &Machine<'_, Global>, helpers: &H) {
+    if let Some(height) = helpers.timed_at() {
+        if !waits_for_turn(&machine.frames, height) {
+            helpers.end_timed(machine.meter.fuel);
+        }
+    }
+}
+
+// A helper for the turns that a round has left, if they are two or more, may be cut, and one is granted.
+fn ask_at<R, H: Helpers, G, T: Tops<Global>>(
+    machine: &Machine<'_, Global>,
+    round: &Round<'_, Global>,
+    cuts: u32,
+    crew: &Crew<'_, R, H, G, T>,
+) -> Option<Grant<H::Permit>>
+    ensures { IfSome result (λ grant. cuts ≡ grant.cuts + 1) }
+{
+    if round.turns == 0 {
+        end_timed_unless_inside(machine, crew.helpers);
+    }
+    let (room, _) = begin_turns(machine);
+    let whole = interval_of(&room, round, crew);
+    let moment = Moment {
+        fuel: machine.meter.fuel,
+        height: machine.frames.len(),
+        taken: round.turns,
+    };
+    ask_for(&whole, turns_left(round), moment, cuts)
+}
+
 // Takes all turns that a round has left: in halves, if they are two or more and a helper is granted, else in columns,
 // if they can be.
 #[cycle(halves)]
@@ -160,7 +192,7 @@ fn turns_in_halves<
     ensures spent { machine.new.meter.fuel ≤ machine.old.meter.fuel }
     ensures depth { machine.new.meter.depth ≤ machine.old.meter.depth }
 {
-    let Some(grant) = ask_for(crew.helpers, count_left(&**round), cuts) else {
+    let Some(grant) = ask_at(machine, &**round, cuts, crew) else {
         return machine.take_new_turns(crew.tops, round);
     };
     let (room, mut meter) = begin_turns(machine);

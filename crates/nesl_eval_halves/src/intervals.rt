@@ -8,6 +8,7 @@ ghost use Rattle.nesl_eval_halves.specs.Finding.{Are, Adds, kind_of, IsOf, of_va
 ghost use Rattle.nesl_eval_halves.specs.Intervals.{at_turn, found_in, AreIn};
 ghost use Rattle.nesl_eval_halves.specs.Halves.{Within, HalfFinds};
 
+use crate::asker::Moment;
 use crate::columns::{find_by_columns, room_for};
 use crate::crew::fork;
 use crate::found::{Found, join_found};
@@ -110,7 +111,12 @@ fn find<R: Threads + Sync, H: Helpers + Sync, G: Gate + Sync, T: Tops<Global> + 
         → Meets (Are interval.now.wanted) meter.old result meter.new (found_in T.table interval.now turns) }
     ensures spent { meter.new.fuel + meter.new.depth ≤ meter.old.fuel + meter.old.depth }
 {
-    match ask_for(interval.crew.helpers, turns.count(), cuts) {
+    let moment = Moment {
+        fuel: meter.fuel,
+        height: 0,
+        taken: 0,
+    };
+    match ask_for(interval, turns, moment, cuts) {
         Some(grant) => find_in_halves(interval, turns, grant, meter),
         None => find_in_order(interval, turns, cuts, meter),
     }
@@ -174,5 +180,6 @@ fn find_half<R: Threads + Sync, H: Helpers + Sync, G: Gate + Sync, T: Tops<Globa
     let mut meter = begun;
     let found = find(interval, turns, cuts, &mut meter);
     let cost = cost_since(begun, meter);
+    interval.crew.helpers.end_half();
     Half { found, cost }
 }

@@ -1,6 +1,7 @@
 //! Evaluation in halves: a machine whose rounds are cut in two where a helper is granted.
 #![tactic(auto)]
 
+mod asker;
 mod columns;
 mod crew;
 mod found;

@@ -18,6 +18,7 @@ use nesl_eval_nodes::nodes::keep;
 use nesl_eval_ops::{Body, Ops};
 use nesl_eval_rounds::Round;
 use nesl_lex::token::Span;
+use nesl_split_helpers::Helpers;
 use nesl_values::Value;
 use std::alloc::Global;
 
@@ -39,29 +40,49 @@ struct Parts<'a> {
     next: &'a Ops,
 }
 
-/// How many turns a round has left.
-pub(crate) fn count_left(round: &Round<'_, Global>) -> usize {
+// How many turns a round has left.
+fn count_left(round: &Round<'_, Global>) -> usize {
     round.chosen.places().len().saturating_sub(round.turns)
 }
 
-// Whether the innermost frame waits for the last turn of a filter.
+// The round for a turn of which a frame waits, if it does.
 #[inline(always)]
-fn ends_filter(frames: &[Frame<'_, Global>]) -> bool {
-    match frames.last() {
-        Some(frame) => match &frame.purpose {
-            Purpose::Turn(round) => round.body.is_some() && count_left(&**round) < 2,
-            Purpose::Push | Purpose::Return(_) => false,
-        },
+fn round_of_turn<'m, 'a>(frame: Option<&'m Frame<'a, Global>>) -> Option<&'m Round<'a, Global>> {
+    match &frame?.purpose {
+        Purpose::Turn(round) => Some(&**round),
+        Purpose::Push | Purpose::Return(_) => None,
+    }
+}
+
+/// Whether there is a frame above so many, and it waits for a turn.
+pub(crate) fn waits_for_turn(frames: &[Frame<'_, Global>], height: usize) -> bool {
+    round_of_turn(frames.get(height)).is_some()
+}
+
+// Whether the innermost frame waits for the last turn of a filter, or for one after which its round is to ask again.
+#[inline(always)]
+fn may_be_cut_after_turn<H: Helpers>(machine: &Machine<'_, Global>, helpers: &H) -> bool {
+    match round_of_turn(machine.frames.last()) {
+        Some(round) => {
+            let left = count_left(round);
+            if left < 2 {
+                return round.body.is_some();
+            }
+            left > 2
+                && helpers.asks_again(machine.meter.fuel, machine.frames.len().saturating_sub(1))
+        }
         None => false,
     }
 }
 
-/// Whether turns may be cut by what comes next: an apply-to-each, or the end of the last turn of a filter.
+/// Whether turns may be cut by what comes next: an apply-to-each, the end of the last turn of a filter, or that of a
+/// turn after which the apply-to-each is to ask again.
 #[inline(always)]
-pub(crate) fn may_be_cut(
+pub(crate) fn may_be_cut<H: Helpers>(
     machine: &Machine<'_, Global>,
     hand: &Hand<'_, Global>,
     cuts: u32,
+    helpers: &H,
 ) -> bool {
     if cuts == 0 {
         return false;
@@ -74,7 +95,7 @@ pub(crate) fn may_be_cut(
     match next {
         Ops::Each { .. } => true,
         Ops::Filtered { .. } => true,
-        Ops::Finish => ends_filter(&machine.frames),
+        Ops::Finish => may_be_cut_after_turn(machine, helpers),
         _ => false,
     }
 }
@@ -112,7 +133,7 @@ fn set_down<'a>(
     Ok(Reached::Moved(Hand::Empty))
 }
 
-// The round of an apply-to-each, or one whose filter ends, if that is next. Else nothing is done.
+// The round of an apply-to-each, or one of which a turn ends, if that is next. Else nothing is done.
 fn reach_round<'a>(machine: &mut Machine<'a, Global>) -> Result<Reached<'a>, Stop>
     requires { machine.old.meter.fuel + machine.old.meter.depth < 2 ^ 64 }
     ensures reaches { (t : Table) → Fits t machine.old
@@ -151,7 +172,7 @@ fn reach_round<'a>(machine: &mut Machine<'a, Global>) -> Result<Reached<'a>, Sto
             };
             begin_each(machine, &parts)
         }
-        Ops::Finish if ends_filter(&machine.frames) => end_filter(machine),
+        Ops::Finish if round_of_turn(machine.frames.last()).is_some() => end_turn(machine),
         _ => Ok(Reached::Moved(Hand::Empty)),
     }
 }
@@ -172,21 +193,21 @@ fn begin_each<'a>(machine: &mut Machine<'a, Global>, parts: &Parts<'a>) -> Resul
     Ok(Reached::Round(round, parts.next))
 }
 
-// The end of the last turn of a filter, whose value is on the stack.
-fn end_filter<'a>(machine: &mut Machine<'a, Global>) -> Result<Reached<'a>, Stop>
+// The end of a turn, whose value is on the stack.
+fn end_turn<'a>(machine: &mut Machine<'a, Global>) -> Result<Reached<'a>, Stop>
     requires { machine.old.meter.fuel + machine.old.meter.depth < 2 ^ 64 }
     ensures reaches { (t : Table) → Fits t machine.old
         → Reaches t machine.old result machine.new (left_at t machine.old finish) }
     ensures bounded { machine.new.meter.fuel + machine.new.meter.depth < 2 ^ 64 }
 {
     match machine.frames.pop() {
-        Some(frame) => leave_filter(machine, frame),
+        Some(frame) => leave_turn(machine, frame),
         None => Err(Stop::Memory),
     }
 }
 
 // The same with the frame that waited for it.
-fn leave_filter<'a>(
+fn leave_turn<'a>(
     machine: &mut Machine<'a, Global>,
     frame: Frame<'a, Global>,
 ) -> Result<Reached<'a>, Stop>

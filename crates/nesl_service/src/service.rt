@@ -18,9 +18,8 @@ use nesl_service_journal::asking::Told;
 use nesl_service_journal::journal::{Caller, Ending, Journal, Missed, NoJournal, Visit};
 use nesl_service_journal::watch::Watch;
 use nesl_split_helpers::sparing::Sparing;
-use nesl_split_helpers::{Free, Gate, Pool};
+use nesl_split_helpers::{Common, Free, Gate, Pool};
 use std::alloc::{AllocError, Global};
-use std::io;
 use std::io::BufWriter;
 use std::marker::Brand;
 use std::net::{TcpListener, TcpStream};
@@ -28,6 +27,7 @@ use std::sync::ledger::{Blank, Ledger};
 use std::sync::{Mutex, Wait};
 use std::thread::Threads;
 use std::time::{Clock, Duration, Instant};
+use std::{io, thread};
 use thiserror::Error;
 
 /// Why a service has no sessions to answer with.
@@ -114,6 +114,7 @@ pub(crate) struct Service<'x, R, L: Ledger, G, J> {
     numbers: &'x Mutex<Numbers>,
     receipts: &'x Mutex<Receipts>,
     pool: &'x Pool<L>,
+    common: &'x Common,
     start: &'x Start,
     pub(crate) terms: Terms,
     gate: &'x G,
@@ -178,9 +179,9 @@ impl<
             helpers: self.pool.by(self.rt),
             journal: self.journal,
         };
-        let sparing = Sparing::new(self.rt, helpers, self.terms.workers, self.gate);
+        let sparing = Sparing::new(self.rt, helpers, self.terms.workers, self.common);
         serve(
-            self.rt, self.alloc, reader, writer, self.table, &sparing, &sparing,
+            self.rt, self.alloc, reader, writer, self.table, &sparing, self.gate,
         )
     }
 
@@ -330,6 +331,14 @@ pub struct Site<'x, R> {
     pub listener: &'x TcpListener,
 }
 
+// How many threads can run at once: one where that is not known.
+fn processors<R: Threads>(rt: &R) -> usize {
+    match thread::available_parallelism(rt) {
+        Ok(count) => count.get(),
+        Err(_) => 1,
+    }
+}
+
 // Where browsers are received, where there is a page for them.
 fn page_acceptor_of(page: Option<Page<'_>>) -> io::Result<Option<PageAcceptor<'_>>> {
     match page {
@@ -372,6 +381,7 @@ fn serve_in<
     };
     let receipts = Mutex::new(receipts);
     let pool: Pool<L> = Pool::new(terms.workers, blank);
+    let common = Common::new(processors(rt));
     let numbers = Mutex::new(Numbers::new(terms.connections.unwrap_or(u64::MAX)));
     let service = Service {
         rt,
@@ -382,6 +392,7 @@ fn serve_in<
         numbers: &numbers,
         receipts: &receipts,
         pool: &pool,
+        common: &common,
         start: &start,
         terms,
         gate: observers.gate,

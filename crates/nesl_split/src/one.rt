@@ -73,6 +73,8 @@ pub fn eval_split<R: Threads + Sync, H: Helpers + Sync, G: Gate + Sync>(
         tops: &tops,
         alloc,
     };
+    helpers.begin();
     let (found, meter) = evaluate_in_halves(top_level.bodies(), &ops, levels, fuel, CUTS, &crew);
+    helpers.end(meter.fuel);
     outcome_of(found, fuel, meter)
 }

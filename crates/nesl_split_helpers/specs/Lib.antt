@@ -1,2 +1,2 @@
 pub mod Halves
-pub mod Sparing
+pub mod Learnt

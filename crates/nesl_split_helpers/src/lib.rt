@@ -2,13 +2,16 @@
 //! interval of places come to together.
 #![tactic(auto)]
 
+mod common;
 mod halving;
 mod helpers;
+mod learnt;
 mod permits;
 mod pool;
 pub mod sparing;
 
+pub use common::Common;
 pub use halving::{Half, begin_meter, cost_since, join_places, join_values};
-pub use helpers::{Free, Gate, Helpers, NoHelpers, NoPermit, Place};
+pub use helpers::{Advice, Asker, Free, Gate, Helpers, NoHelpers, NoPermit, Place};
 pub use permits::Permits;
 pub use pool::{Asking, Permit, Pool};

@@ -1,269 +1,210 @@
-//! Helpers, asked for only where they do enough.
-ghost use Rattle.std.specs.Prelude.{◌≡◌};
-ghost use Rattle.nesl_split_helpers.specs.Sparing.{longer};
+//! Helpers, asked for only where an interval takes long.
 
-use crate::{Gate, Helpers, Place};
+use crate::learnt::{Part, WORTH, WORTH_INSIDE, believed, rate_of, time_for};
+use crate::{Advice, Asker, Common, Helpers};
 use std::sync::atomic::{AtomicU64, Ordering};
-use std::thread;
-use std::time::{Clock, Duration};
+use std::time::Clock;
 
-/// How many microseconds a helper has to take to be worth its thread, which takes some tens of them to make.
-const WORTH: u64 = 500;
+/// After how many units of work an interval that isn't known to take long is looked at again, and how many microseconds
+/// it has to have taken until then for what it has left to be estimated.
+const FIRST_LOOK: u64 = 4000;
 
-/// In how many lines helpers are asked for after one that lasted as long as that.
-const HOPE: u64 = 8;
+const LEAST_SEEN: u64 = 30;
 
-/// After how many helpers in a row that weren't worth their threads there is a pause.
-const PATIENCE: u64 = 4;
+/// The clock isn't read again before so much work was done. Until then so many units take a microsecond.
+const UNREAD: u64 = 1000;
 
-/// What the last pause counts as where there was none, in milliseconds: the first one is about twice as long.
-const FIRST_PAUSE: u64 = 15;
+const WORK_OF_MICROSECOND: u64 = 80;
 
-/// The longest pause, in milliseconds.
-const LONGEST_PAUSE: u64 = 127;
-
-/// How many asks are passed over in a pause before the clock is read again.
-const UNTIMED: u64 = 64;
-
-/// How many microseconds after the grant a half is late. Then most likely its thread was put on its maker's processor,
-/// where it waits for the other half.
-const LATE: u64 = 200;
-
-/// How many microseconds halves sleep before they begin, where such as didn't were late: a scheduler that puts a new
-/// thread on its maker's processor places it anew when it wakes, if its maker sleeps too.
-const NAP: u64 = 1;
-
-/// The halves of how many intervals sleep after one was late.
-const NAPS: u64 = 64;
-
-/// Asks others for helpers, for one connection, and stops asking where that doesn't pay.
+/// Asks others for helpers, for one connection, where an interval is likely to take 300 microseconds or longer and a
+/// processor is free.
 ///
-/// Helpers are asked for in a connection's first line, and in the 8 lines after one that lasted 500 microseconds or
-/// longer, until the next one began. So short lines pay nothing for trials, and all lines of a slow user count as long.
+/// The first interval of a line, and each that begins when the one before has ended, is an outer one. It has helpers
+/// from its beginning if those of its apply-to-each that have about as many elements took long: the shorter of the last
+/// two times without helpers counts. Otherwise it is looked at again after a turn of it, each time that its work has
+/// doubled. It has helpers for the turns that are left, if these take 300 microseconds at the rate of those before.
 ///
-/// The first ask of a line is most often for its longest interval, so it is judged apart from the others. After four
-/// helpers in a row that came back within 500 microseconds of their grants, no ask of their kind is put for a pause: 31
-/// milliseconds the first time, and then twice as long and one more than the pause before, up to 127. A helper in vain
-/// takes some 150 microseconds, so four of them take two hundredths of the time before the first pause ends, and half a
-/// hundredth later, however many asks there are. After a helper that took longer the next ask of its kind is put, and
-/// the last pause counts as a sixteenth.
+/// Of the intervals inside it those have helpers that are of the same apply-to-each, as in a recursion, and take a
+/// millisecond by how many elements they have and how many calls deeper they are. Intervals that can be taken in
+/// columns have none, nor have such of two elements, one of which has less than an eighth of what both have: the better
+/// cut is inside the other one.
 ///
-/// A half of an interval asks as it is entered. Its ask is put whatever came of others, and its helper isn't judged:
-/// the interval was worth one or wasn't. But no ask is put for a half that is one thread's share of the interval, where
-/// all helpers and the asking thread take part: else the thread that cuts first would take the helper that the other
-/// half is about to ask for. While all helpers are out for this connection no ask is put at all, which is told without
-/// a write to memory, since all its threads ask at every interval inside.
+/// After an outer interval that was not faster with helpers, those of its kind have none for 4 times as long as it
+/// took, and for twice as many times if it happens again, up to 64: other programs use the processors, or the halves
+/// wait for each other. After one that was faster it is half as many times. Of 32 intervals one has no helpers from its
+/// beginning, so that the time without them stays known.
 ///
-/// This is also the connection's gate, by which it sees that a line begins and that halves are entered, and how long
-/// they are; it tells another gate of each place. Where a half was entered 200 microseconds after its grant or later,
-/// the halves of the next 64 intervals sleep for a microsecond, and theirs too, so that the scheduler places their
-/// threads. Where the clock can't be read it stands at 0, and no line is long.
+/// Where the clock can't be read it stands at 0, and no interval takes long.
 #[derive(Drop)]
-pub struct Sparing<'a, C, H, G> {
+pub struct Sparing<'a, C, H> {
     clock: &'a C,
     helpers: H,
-    gate: &'a G,
-    // How many helpers there are, and how many of them are out for this connection.
+    common: &'a Common,
+    // How many helpers there are; how many of them are out for this connection, and how many ever were.
     workers: u64,
     out: AtomicU64,
-    line: Line,
-    halves: Halves,
-    naps: Naps,
-    firsts: Pauses,
-    others: Pauses,
-    // How many of the other asks are passed over before the clock is read again.
-    untimed: AtomicU64,
-}
-
-/// The connection's line, and in how many of them helpers are asked for.
-#[derive(Drop)]
-struct Line {
-    // The microsecond at which it began.
-    since: AtomicU64,
-    // 1 as long as it has put or passed over no ask.
-    begun: AtomicU64,
-    // In how many lines helpers are asked for, this one included; before the first line it is one more.
-    hopeful: AtomicU64,
-}
-
-/// The halves of the interval that was cut last.
-#[derive(Drop)]
-struct Halves {
-    // How many were entered that are about to ask, and how many places the last of them has.
-    waiting: AtomicU64,
-    entered: AtomicU64,
-    // The places of the longest one.
-    longest: AtomicU64,
-}
-
-/// Whether halves sleep before they begin, since such as didn't were late.
-#[derive(Drop)]
-struct Naps {
-    // The microsecond of the last grant.
     granted: AtomicU64,
-    // 1 where the halves of the interval sleep, and of how many further ones they do.
-    sleeps: AtomicU64,
-    left: AtomicU64,
+    outer: Outer,
+    // The microsecond at which the clock was read, and the fuel that was left then; 0 where the line has read none.
+    read_at: AtomicU64,
+    read_fuel: AtomicU64,
 }
 
-/// When asks of a kind are put.
+/// The last outer interval.
 #[derive(Drop)]
-struct Pauses {
-    // How many helpers in a row weren't worth their threads, since the last pause.
-    vain: AtomicU64,
-    // The milliseconds of the last pause, a sixteenth for each helper since that was worth its thread.
-    last: AtomicU64,
-    // The microsecond until which no ask is put.
-    until: AtomicU64,
+struct Outer {
+    mark: AtomicU64,
+    size: AtomicU64,
+    fuel: AtomicU64,
+    height: AtomicU64,
+    levels: AtomicU64,
+    // How many levels a call takes, if it is a recursion.
+    step: AtomicU64,
+    // The rate that it is expected to have.
+    rate: AtomicU64,
+    // The microsecond at which it began, if it has no helper and hasn't ended; else 0.
+    since: AtomicU64,
+    // Below how much fuel it asks once more; 0 if it doesn't.
+    look: AtomicU64,
 }
 
-/// What an ask is for: the first interval of a line, a half of an interval, or another one.
-#[derive(Clone, Copy, PartialEq, Eq)]
-enum Kind {
-    First,
-    Half,
-    Other,
+/// Turns of an outer interval that have a helper, after how many others, and since which microsecond.
+#[derive(Clone, Copy)]
+struct Judged {
+    part: Part,
+    before: u64,
+    since: u64,
 }
 
-/// A helper that others granted, at which microsecond, and for what.
-pub struct Timed<P> {
+/// A helper that others granted, and the outer interval that it is for, if it is for one.
+pub struct Granted<P> {
     permit: P,
-    granted: u64,
-    kind: Kind,
+    judged: Option<Judged>,
 }
 
-impl Line {
-    fn new() -> Line {
-        Line {
-            since: AtomicU64::new(u64::MAX),
-            begun: AtomicU64::new(0),
-            hopeful: AtomicU64::new(2),
-        }
-    }
-
-    // A line begins at this microsecond, and the one before is over.
-    fn begin(&self, now: u64) {
-        let lasted = now.saturating_sub(self.since.load(Ordering::SeqCst));
-        let left = self.hopeful.load(Ordering::SeqCst).saturating_sub(1);
-        let hopeful = if lasted >= WORTH { HOPE } else { left };
-        self.hopeful.store(hopeful, Ordering::SeqCst);
-        self.since.store(now, Ordering::SeqCst);
-        self.begun.store(1, Ordering::SeqCst);
-    }
-
-    // Whether helpers are asked for in it.
-    fn is_hopeful(&self) -> bool {
-        self.hopeful.load(Ordering::SeqCst) > 0
-    }
+// Whether the smaller half of an interval has an eighth of its elements at least.
+fn is_even(asker: Asker) -> bool {
+    asker.least >= asker.size / 8
 }
 
-impl Halves {
-    fn new() -> Halves {
-        Halves {
-            waiting: AtomicU64::new(0),
-            entered: AtomicU64::new(0),
-            longest: AtomicU64::new(0),
+impl Outer {
+    fn new() -> Outer {
+        Outer {
+            mark: AtomicU64::new(0),
+            size: AtomicU64::new(0),
+            fuel: AtomicU64::new(0),
+            height: AtomicU64::new(0),
+            levels: AtomicU64::new(0),
+            step: AtomicU64::new(u64::MAX),
+            rate: AtomicU64::new(0),
+            since: AtomicU64::new(0),
+            look: AtomicU64::new(0),
         }
     }
 
-    // An interval is cut that is no half of another.
-    fn begin(&self) {
-        self.longest.store(0, Ordering::SeqCst);
+    fn begin(&self, asker: Asker, rate: u64, now: u64) {
+        self.mark.store(asker.mark, Ordering::Relaxed);
+        self.size.store(asker.size, Ordering::Relaxed);
+        self.fuel.store(asker.fuel, Ordering::Relaxed);
+        self.height.store(asker.height as u64, Ordering::Relaxed);
+        self.levels.store(asker.levels, Ordering::Relaxed);
+        self.step.store(u64::MAX, Ordering::Relaxed);
+        self.rate.store(rate, Ordering::Relaxed);
+        self.look.store(0, Ordering::Relaxed);
+        self.since.store(now, Ordering::Relaxed);
     }
 
-    // A half of so many places is entered, which asks next unless it has one place alone.
-    fn enter(&self, places: u64) {
-        let longest = self.longest.load(Ordering::SeqCst);
-        self.longest.store(longest.max(places), Ordering::SeqCst);
-        if places > 1 {
-            self.entered.store(places, Ordering::SeqCst);
-            self.waiting.fetch_add(1, Ordering::SeqCst);
+    fn asker(&self) -> Asker {
+        Asker {
+            mark: self.mark.load(Ordering::Relaxed),
+            size: self.size.load(Ordering::Relaxed),
+            fuel: self.fuel.load(Ordering::Relaxed),
+            height: self.height.load(Ordering::Relaxed) as usize,
+            levels: self.levels.load(Ordering::Relaxed),
+            least: 0,
+            taken: 0,
         }
     }
 
-    // Whether the half that was entered last is one thread's share of the interval, of so many. Halves of an odd
-    // interval differ by one.
-    fn is_share(&self, threads: u64) -> bool {
-        let places = self.entered.load(Ordering::SeqCst);
-        let whole = self.longest.load(Ordering::SeqCst).saturating_mul(2);
-        places.saturating_mul(threads) <= whole.saturating_add(threads)
+    fn is_timed(&self) -> bool {
+        self.since.load(Ordering::Relaxed) > 0
     }
-}
 
-impl Naps {
-    fn new() -> Naps {
-        Naps {
-            granted: AtomicU64::new(0),
-            sleeps: AtomicU64::new(0),
-            left: AtomicU64::new(0),
+    fn stop(&self) {
+        self.since.store(0, Ordering::Relaxed);
+        self.look.store(0, Ordering::Relaxed);
+    }
+
+    // It asks once more when so much work is done from this fuel on.
+    fn look_after(&self, work: u64, fuel: u64) {
+        self.look
+            .store(fuel.saturating_sub(work), Ordering::Relaxed);
+    }
+
+    // The same, when it has done twice as much work as up to this fuel.
+    fn look_later(&self, fuel: u64) {
+        let work = self.fuel.load(Ordering::Relaxed).saturating_sub(fuel);
+        self.look_after(work, fuel);
+    }
+
+    fn is_looked_at(&self, fuel: u64, height: usize) -> bool {
+        fuel < self.look.load(Ordering::Relaxed)
+            && height as u64 == self.height.load(Ordering::Relaxed)
+    }
+
+    // The microseconds that so many of its elements take, most likely, where the others took so many.
+    fn time_left(&self, size: u64, micros: u64) -> u64 {
+        let taken = self.size.load(Ordering::Relaxed).saturating_sub(size);
+        match micros.saturating_mul(size).checked_div(taken) {
+            Some(left) => left,
+            None => 0,
         }
     }
 
-    // An interval is cut that is no half of another.
-    fn begin(&self) {
-        let sleeps = take_one(&self.left);
-        self.sleeps.store(u64::from(sleeps), Ordering::SeqCst);
+    // How many microseconds it has taken up to this one, with this fuel left.
+    fn micros(&self, fuel: u64, now: u64) -> u64 {
+        let work = self.fuel.load(Ordering::Relaxed).saturating_sub(fuel);
+        believed(now.saturating_sub(self.since.load(Ordering::Relaxed)), work)
     }
 
-    // Whether the halves of the interval sleep.
-    fn is_due(&self) -> bool {
-        self.sleeps.load(Ordering::SeqCst) != 0
-    }
-
-    // A half that didn't sleep is entered at this microsecond: if it is late, later ones sleep.
-    fn note_entry(&self, now: u64) {
-        let granted = self.granted.load(Ordering::SeqCst);
-        if now.saturating_sub(granted) >= LATE {
-            self.left.store(NAPS, Ordering::SeqCst);
+    // How many calls deeper an interval inside it is. The first one of a recursion is one call deeper.
+    fn calls(&self, asker: Asker) -> u64 {
+        let levels = self.levels.load(Ordering::Relaxed);
+        let used = levels.saturating_sub(asker.levels);
+        let step = self.step.load(Ordering::Relaxed);
+        if used > 0 && used < step {
+            self.step.store(used, Ordering::Relaxed);
+            return 1;
         }
+        used / step.max(1)
     }
-}
 
-impl Pauses {
-    fn new() -> Pauses {
-        Pauses {
-            vain: AtomicU64::new(0),
-            last: AtomicU64::new(FIRST_PAUSE),
-            until: AtomicU64::new(0),
+    // The microseconds that an interval of the same apply-to-each takes inside it, most likely: by its elements, but
+    // with each call half as many at most, since a recursion need not have fewer elements where it takes less.
+    fn time_inside(&self, asker: Asker) -> u64 {
+        if self.mark.load(Ordering::Relaxed) != asker.mark {
+            return 0;
         }
-    }
-
-    // A helper came back that was worth its thread.
-    fn hail(&self) {
-        let last = self.last.load(Ordering::SeqCst);
-        self.last.store(last / 16, Ordering::SeqCst);
-        self.vain.store(0, Ordering::SeqCst);
-        self.until.store(0, Ordering::SeqCst);
-    }
-
-    // One came back at this microsecond that wasn't.
-    fn blame(&self, now: u64) {
-        let before = self.vain.fetch_add(1, Ordering::SeqCst);
-        if before.saturating_add(1) >= PATIENCE {
-            let next = longer(self.last.load(Ordering::SeqCst));
-            let until = now.saturating_add(next.saturating_mul(1000));
-            self.last.store(next, Ordering::SeqCst);
-            self.vain.store(0, Ordering::SeqCst);
-            self.until.store(until, Ordering::SeqCst);
-        }
+        let rate = self.rate.load(Ordering::Relaxed);
+        let whole = time_for(rate, self.size.load(Ordering::Relaxed));
+        let most = whole >> self.calls(asker).min(63);
+        most.min(time_for(rate, asker.size))
     }
 }
 
-impl<'a, C: Clock, H: Helpers, G: Gate> Sparing<'a, C, H, G> {
-    /// Nothing is known of so many helpers yet.
-    pub fn new(clock: &'a C, helpers: H, workers: u32, gate: &'a G) -> Sparing<'a, C, H, G> {
+impl<'a, C: Clock, H: Helpers> Sparing<'a, C, H> {
+    /// No interval has begun yet.
+    pub fn new(clock: &'a C, helpers: H, workers: u32, common: &'a Common) -> Sparing<'a, C, H> {
         Sparing {
             clock,
             helpers,
-            gate,
+            common,
             workers: u64::from(workers),
             out: AtomicU64::new(0),
-            line: Line::new(),
-            halves: Halves::new(),
-            naps: Naps::new(),
-            firsts: Pauses::new(),
-            others: Pauses::new(),
-            untimed: AtomicU64::new(0),
+            granted: AtomicU64::new(0),
+            outer: Outer::new(),
+            read_at: AtomicU64::new(0),
+            read_fuel: AtomicU64::new(0),
         }
     }
 
@@ -275,148 +216,167 @@ impl<'a, C: Clock, H: Helpers, G: Gate> Sparing<'a, C, H, G> {
         }
     }
 
-    // A line begins, and the one before is over.
-    fn begin_line(&self) {
-        self.line.begin(self.now());
-        self.halves.waiting.store(0, Ordering::SeqCst);
-        self.halves.begin();
-        self.untimed.store(0, Ordering::SeqCst);
-    }
-
-    // A half of so many places is entered.
-    fn enter_half(&self, places: u64) {
-        if self.naps.is_due() {
-            thread::sleep(self.clock, Duration::from_micros(NAP));
-        } else {
-            self.naps.note_entry(self.now());
+    // The microsecond that it is when so much fuel is left: by the work, where little was done since the clock was read.
+    fn now_at(&self, fuel: u64) -> u64 {
+        let read = self.read_fuel.load(Ordering::Relaxed);
+        if fuel <= read && read - fuel < UNREAD {
+            let done = (read - fuel) / WORK_OF_MICROSECOND;
+            return self.read_at.load(Ordering::Relaxed).saturating_add(done);
         }
-        self.halves.enter(places);
+        let now = self.now();
+        self.read_fuel.store(fuel, Ordering::Relaxed);
+        self.read_at.store(now, Ordering::Relaxed);
+        now
     }
 
-    // What an ask is for that is put now. The next one is for something else.
-    fn take_kind(&self) -> Kind {
-        if take_one(&self.line.begun) {
-            Kind::First
-        } else if take_one(&self.halves.waiting) {
-            Kind::Half
-        } else {
-            Kind::Other
+    // Whether an outer interval takes long, most likely. It is timed from now on.
+    fn takes_long(&self, asker: Asker) -> bool {
+        let rate = self.common.learnt.rate(asker);
+        self.outer.begin(asker, rate, self.now_at(asker.fuel));
+        let takes_long = time_for(rate, asker.size) >= WORTH;
+        if !takes_long {
+            self.outer.look_after(FIRST_LOOK, asker.fuel);
         }
+        takes_long
     }
 
-    // Whether an ask of the kind is put.
-    fn is_put(&self, kind: Kind) -> bool {
-        match kind {
-            Kind::First => self.line.is_hopeful() && self.is_first_put(),
-            Kind::Half => !self.halves.is_share(self.workers.saturating_add(1)),
-            Kind::Other => {
-                self.line.is_hopeful() && !take_one(&self.untimed) && self.is_pause_over()
-            }
+    // Whether the outer interval is to ask once more, by what it has left and how long its first turns took.
+    fn advise_again(&self, asker: Asker) -> Advice {
+        let micros = self.outer.micros(asker.fuel, self.now_at(asker.fuel));
+        let left = self.outer.time_left(asker.size, micros);
+        self.outer.look_later(asker.fuel);
+        if micros < LEAST_SEEN || left < WORTH || self.common.is_full() {
+            return Advice::Pass;
         }
+        let rate = rate_of(left, asker.size);
+        self.outer.rate.store(rate, Ordering::Relaxed);
+        let whole = micros.saturating_add(left);
+        self.common.learnt.note(self.outer.asker(), whole);
+        Advice::Ask
     }
 
-    // Whether the pause of the first asks was over when the line began.
-    fn is_first_put(&self) -> bool {
-        let until = self.firsts.until.load(Ordering::SeqCst);
-        self.line.since.load(Ordering::SeqCst) >= until
-    }
-
-    // Whether the pause of the other asks is over. If it isn't, so many of them are passed over with no look at the
-    // clock.
-    fn is_pause_over(&self) -> bool {
-        let until = self.others.until.load(Ordering::SeqCst);
-        if until == 0 || self.now() >= until {
-            return true;
-        }
-        self.untimed.store(UNTIMED, Ordering::SeqCst);
-        false
-    }
-
-    // The pauses of a kind; none where its helpers aren't judged.
-    fn pauses_of(&self, kind: Kind) -> Option<&Pauses> {
-        match kind {
-            Kind::First => Some(&self.firsts),
-            Kind::Half => None,
-            Kind::Other => Some(&self.others),
-        }
-    }
-
-    // A helper came back that was granted at this microsecond, for that.
-    fn judge(&self, granted: u64, kind: Kind) {
-        if let Some(pauses) = self.pauses_of(kind) {
-            let now = self.now();
-            if now.saturating_sub(granted) >= WORTH {
-                pauses.hail();
-            } else {
-                pauses.blame(now);
-            }
-        }
-    }
-}
-
-impl<C: Clock, H: Helpers, G: Gate> Helpers for Sparing<'_, C, H, G> {
-    type Permit = Timed<H::Permit>;
-
-    fn ask(&self) -> Option<Timed<H::Permit>> {
-        let kind = self.take_kind();
-        if self.out.load(Ordering::SeqCst) >= self.workers || !self.is_put(kind) {
+    // What is judged when the helpers of an interval come back: it is, unless it is inside of one that has helpers.
+    fn judged(&self, asker: Asker) -> Option<Judged> {
+        if self.out.load(Ordering::Relaxed) > 0 {
             return None;
         }
-        let Some(permit) = self.helpers.ask() else {
-            self.untimed.store(UNTIMED, Ordering::SeqCst);
-            return None;
+        let rate = self.outer.rate.load(Ordering::Relaxed);
+        let part = Part {
+            whole: self.outer.asker(),
+            size: asker.size,
+            expected: time_for(rate, asker.size),
         };
-        self.out.fetch_add(1, Ordering::SeqCst);
-        if kind != Kind::Half {
-            self.naps.begin();
-            self.halves.begin();
-        }
-        let granted = self.now();
-        self.naps.granted.store(granted, Ordering::SeqCst);
-        Some(Timed {
-            permit,
-            granted,
-            kind,
+        Some(Judged {
+            part,
+            before: self.granted.load(Ordering::Relaxed),
+            since: self.now(),
         })
     }
 
-    fn done(&self, permit: Timed<H::Permit>) {
-        let Timed {
-            permit,
-            granted,
-            kind,
-        } = permit;
-        self.helpers.done(permit);
-        self.out.fetch_sub(1, Ordering::SeqCst);
-        self.judge(granted, kind);
-    }
-}
-
-impl<C: Clock, H: Helpers, G: Gate> Gate for Sparing<'_, C, H, G> {
-    fn enter(&self, place: Place) {
-        match place {
-            Place::Line(_) => self.begin_line(),
-            Place::Half(from, to) => self.enter_half(to.saturating_sub(from) as u64),
+    // A helper, once a processor is taken for it. An outer interval isn't timed then.
+    fn grant(&self, judged: Option<Judged>) -> Option<Granted<H::Permit>> {
+        let permit = self.helpers.ask()?;
+        if judged.is_some() {
+            self.outer.stop();
         }
-        self.gate.enter(place);
+        self.out.fetch_add(1, Ordering::Relaxed);
+        self.granted.fetch_add(1, Ordering::Relaxed);
+        Some(Granted { permit, judged })
     }
 }
 
-// Whether there is one left to take; then there is one fewer from now on.
-fn take_one(left: &AtomicU64) -> bool {
-    left.fetch_update(Ordering::SeqCst, Ordering::SeqCst, |count| {
-        count.checked_sub(1)
-    })
-    .is_ok()
-}
+impl<C: Clock, H: Helpers> Helpers for Sparing<'_, C, H> {
+    type Permit = Granted<H::Permit>;
 
-// The milliseconds of the pause after a helper that did little, where so many were the last.
-fn longer(last: u64) -> u64
-    ensures { result ≡ longer last }
-{
-    if last >= LONGEST_PAUSE / 2 {
-        LONGEST_PAUSE
-    } else {
-        2 * last + 1
+    /// None, for nothing is known of the interval.
+    fn ask(&self) -> Option<Granted<H::Permit>> {
+        None
+    }
+
+    fn done(&self, permit: Granted<H::Permit>) {
+        let Granted { permit, judged } = permit;
+        self.helpers.done(permit);
+        self.common.begin();
+        self.out.fetch_sub(1, Ordering::Relaxed);
+        if let Some(judged) = judged {
+            let helpers = self
+                .granted
+                .load(Ordering::Relaxed)
+                .saturating_sub(judged.before);
+            let threads = helpers.saturating_add(1);
+            let now = self.now();
+            let micros = now.saturating_sub(judged.since);
+            self.common.learnt.judge(judged.part, micros, threads, now);
+        }
+    }
+
+    fn begin(&self) {
+        self.common.begin();
+        self.read_fuel.store(0, Ordering::Relaxed);
+    }
+
+    fn end(&self, fuel: u64) {
+        self.common.end();
+        self.end_timed(fuel);
+    }
+
+    fn timed_at(&self) -> Option<usize> {
+        if self.outer.is_timed() {
+            Some(self.outer.height.load(Ordering::Relaxed) as usize)
+        } else {
+            None
+        }
+    }
+
+    fn end_timed(&self, fuel: u64) {
+        if self.outer.is_timed() {
+            let micros = self.outer.micros(fuel, self.now_at(fuel));
+            self.common.learnt.note(self.outer.asker(), micros);
+            self.outer.stop();
+        }
+    }
+
+    fn advise(&self, asker: Asker) -> Advice {
+        if self.workers == 0 {
+            return Advice::Pass;
+        }
+        if asker.taken > 0 {
+            return self.advise_again(asker);
+        }
+        let is_inside = self.outer.is_timed() || self.out.load(Ordering::Relaxed) > 0;
+        let takes_long = if is_inside {
+            self.outer.time_inside(asker) >= WORTH_INSIDE
+        } else {
+            self.takes_long(asker)
+        };
+        if takes_long && is_even(asker) && !self.common.is_full() {
+            Advice::AskUnlessInColumns
+        } else {
+            Advice::Pass
+        }
+    }
+
+    fn ask_for(&self, asker: Asker) -> Option<Granted<H::Permit>> {
+        let judged = self.judged(asker);
+        if judged.is_some_and(|it| !self.common.learnt.allows(it.part.whole, it.since)) {
+            self.outer.rate.store(0, Ordering::Relaxed);
+            return None;
+        }
+        if !self.common.begin_on_free() {
+            return None;
+        }
+        let granted = self.grant(judged);
+        if granted.is_none() {
+            self.common.end();
+        }
+        granted
+    }
+
+    fn asks_again(&self, fuel: u64, height: usize) -> bool {
+        self.outer.is_looked_at(fuel, height)
+    }
+
+    fn end_half(&self) {
+        self.common.end();
     }
 }

@@ -1,23 +1,25 @@
 // Asks for helpers by a clock that the tests set.
 use nesl_split_helpers::sparing::Sparing;
-use nesl_split_helpers::{Free, Gate, Helpers, Place};
+use nesl_split_helpers::{Advice, Asker, Common, Helpers};
 use std::io;
 use std::sync::atomic::{AtomicU64, Ordering};
 use std::time::{Clock, Duration};
 
-// Stands at a microsecond until it is set, and counts how often something sleeps.
+// Stands at a microsecond until it is set.
 #[derive(Drop)]
 struct Still {
     at: AtomicU64,
-    sleeps: AtomicU64,
 }
 
 impl Still {
     fn new() -> Still {
         Still {
-            at: AtomicU64::new(0),
-            sleeps: AtomicU64::new(0),
+            at: AtomicU64::new(1),
         }
+    }
+
+    fn pass(&self, micros: u64) {
+        self.at.fetch_add(micros, Ordering::SeqCst);
     }
 }
 
@@ -30,9 +32,7 @@ impl Clock for Still {
         Ok(Duration::ZERO)
     }
 
-    fn sleep(&self, _duration: Duration) {
-        self.sleeps.fetch_add(1, Ordering::SeqCst);
-    }
+    fn sleep(&self, _duration: Duration) {}
 }
 
 // Grants whatever is asked for.
@@ -55,13 +55,37 @@ impl Helpers for Granting {
     }
 }
 
-// Whether the first ask of a line is granted that begins at this microsecond; its helper takes so many.
-fn is_granted_at<H: Helpers + Gate>(clock: &Still, sparing: &H, at: u64, takes: u64) -> bool {
-    clock.at.store(at, Ordering::SeqCst);
-    sparing.enter(Place::Line(0));
-    match sparing.ask() {
+// The fuel of a line, and what each interval here takes of it.
+const FUEL: u64 = 1_000_000;
+
+const WORK: u64 = 100_000;
+
+fn asker(mark: u64, size: u64) -> Asker {
+    Asker {
+        mark,
+        size,
+        least: size / 2,
+        fuel: FUEL,
+        height: 1,
+        levels: 1000,
+        taken: 0,
+    }
+}
+
+fn ask<H: Helpers>(sparing: &H, asker: Asker) -> Option<H::Permit> {
+    match sparing.advise(asker) {
+        Advice::Pass => None,
+        Advice::Ask => sparing.ask_for(asker),
+        Advice::AskUnlessInColumns => sparing.ask_for(asker),
+    }
+}
+
+// Ends both halves of an interval, if it had a helper. Whether it had one.
+fn end<H: Helpers>(sparing: &H, permit: Option<H::Permit>) -> bool {
+    match permit {
         Some(permit) => {
-            clock.at.fetch_add(takes, Ordering::SeqCst);
+            sparing.end_half();
+            sparing.end_half();
             sparing.done(permit);
             true
         }
@@ -69,161 +93,285 @@ fn is_granted_at<H: Helpers + Gate>(clock: &Still, sparing: &H, at: u64, takes: 
     }
 }
 
-#[test]
-fn helpers_are_asked_for_in_the_lines_after_a_long_one(rt: HostRuntime) {
-    let clock = Still::new();
-    let sparing = Sparing::new(&clock, Granting, 1, &Free);
-    let first = is_granted_at(&clock, &sparing, 0, 0);
-    let after_short = is_granted_at(&clock, &sparing, 499, 0);
-    let after_long = is_granted_at(&clock, &sparing, 999, 0);
-    assert!(rt; first && !after_short && after_long);
-    for at in 1000..1006 {
-        clock.at.store(at, Ordering::SeqCst);
-        sparing.enter(Place::Line(0));
-    }
-    let eighth = is_granted_at(&clock, &sparing, 1006, 0);
-    let ninth = is_granted_at(&clock, &sparing, 1007, 0);
-    assert!(rt; eighth && !ninth);
+// Whether an interval has a helper. If so, its halves end at once.
+fn has_helper<H: Helpers>(sparing: &H, asker: Asker) -> bool {
+    let permit = ask(sparing, asker);
+    end(sparing, permit)
 }
 
-// How many lines ask of six that begin 500 microseconds one after the other, whose helpers are back at once.
-fn granted_from<H: Helpers + Gate>(clock: &Still, sparing: &H, at: u64) -> usize {
-    let lines = [0, 500, 1000, 1500, 2000, 2500];
-    lines
-        .iter()
-        .filter(|after| is_granted_at(clock, sparing, at.saturating_add(**after), 0))
-        .count()
+// A line of one interval, which takes so many microseconds alone, or so many with a helper. Whether it had one.
+fn is_helped<H: Helpers>(
+    clock: &Still,
+    sparing: &H,
+    asker: Asker,
+    alone: u64,
+    helped: u64,
+) -> bool {
+    sparing.begin();
+    let permit = ask(sparing, asker);
+    let micros = if permit.is_some() { helped } else { alone };
+    clock.pass(micros);
+    let is_helped = end(sparing, permit);
+    sparing.end(FUEL - WORK);
+    is_helped
 }
 
 #[test]
-fn after_four_short_helpers_no_line_asks_for_longer_and_longer(rt: HostRuntime) {
-    let clock = Still::new();
-    let sparing = Sparing::new(&clock, Granting, 1, &Free);
-    for (at, early) in [
-        (0, 32_499),
-        (32_500, 96_999),
-        (97_000, 225_499),
-        (225_500, 353_999),
-    ] {
-        let asks = granted_from(&clock, &sparing, at);
-        let asks_early = is_granted_at(&clock, &sparing, early, 0);
-        assert!(rt; asks == 4 && !asks_early, "{asks} from {at}");
+fn an_interval_has_a_helper_once_it_took_long_twice(rt: HostRuntime) {
+    let (clock, common) = (Still::new(), Common::new(2));
+    let sparing = Sparing::new(&clock, Granting, 1, &common);
+    for (micros, wanted) in [(400, false), (400, false), (400, true), (400, true)] {
+        assert!(rt; is_helped(&clock, &sparing, asker(1, 16), micros, 200) == wanted);
+    }
+    for _ in 0..9 {
+        assert!(rt; !is_helped(&clock, &sparing, asker(2, 16), 290, 200));
+    }
+}
+
+// An interval of 16 elements that has done so much work in some turns, and has so many elements left.
+fn asker_again(work: u64, left: u64) -> Asker {
+    Asker {
+        fuel: FUEL - work,
+        taken: 1,
+        ..asker(1, left)
     }
 }
 
 #[test]
-fn a_long_helper_makes_up_for_short_ones(rt: HostRuntime) {
-    let clock = Still::new();
-    let sparing = Sparing::new(&clock, Granting, 1, &Free);
-    for (at, takes) in [
-        (0, 499),
-        (500, 0),
-        (1000, 0),
-        (1500, 500),
-        (2000, 0),
-        (2500, 0),
-        (3000, 0),
-        (3500, 0),
-    ] {
-        let asks = is_granted_at(&clock, &sparing, at, takes);
-        assert!(rt; asks, "at {at}");
-    }
-    let early = is_granted_at(&clock, &sparing, 4499, 0);
-    let later = is_granted_at(&clock, &sparing, 4500, 0);
-    assert!(rt; !early && later);
-}
-
-// How often halves sleep in an interval of which the second is entered so many microseconds after its grant.
-fn sleeps_in<H: Helpers + Gate>(clock: &Still, sparing: &H, after: u64) -> u64 {
-    let before = clock.sleeps.load(Ordering::SeqCst);
-    if let Some(permit) = sparing.ask() {
-        sparing.enter(Place::Half(0, 1));
-        clock.at.fetch_add(after, Ordering::SeqCst);
-        sparing.enter(Place::Half(1, 2));
-        clock.at.fetch_add(500, Ordering::SeqCst);
-        sparing.done(permit);
-    }
-    clock.sleeps.load(Ordering::SeqCst).saturating_sub(before)
+fn one_that_is_not_known_asks_again_after_some_turns(rt: HostRuntime) {
+    let (clock, common) = (Still::new(), Common::new(2));
+    let sparing = Sparing::new(&clock, Granting, 1, &common);
+    sparing.begin();
+    assert!(rt; !has_helper(&sparing, asker(1, 16)));
+    assert!(rt; !sparing.asks_again(FUEL - 4000, 1));
+    assert!(rt;
+        !sparing.asks_again(FUEL - 4001, 2),
+        "a turn of an inner one"
+    );
+    assert!(rt; sparing.asks_again(FUEL - 4001, 1));
+    clock.pass(29);
+    assert!(rt;
+        !has_helper(&sparing, asker_again(5000, 15)),
+        "29 microseconds say little"
+    );
+    assert!(rt; !sparing.asks_again(FUEL - 10_000, 1));
+    assert!(rt; sparing.asks_again(FUEL - 10_001, 1));
+    clock.pass(29);
+    assert!(rt;
+        !has_helper(&sparing, asker_again(10_000, 13)),
+        "13 take 251 microseconds"
+    );
+    assert!(rt; sparing.asks_again(FUEL - 20_001, 1));
+    clock.pass(58);
+    let permit = ask(&sparing, asker_again(20_000, 12));
+    assert!(rt; !sparing.asks_again(0, 1), "the halves don't");
+    clock.pass(174);
+    assert!(rt; end(&sparing, permit), "12 take 348 microseconds");
+    sparing.end(FUEL - WORK);
 }
 
 #[test]
-fn after_a_late_half_the_halves_of_some_intervals_sleep(rt: HostRuntime) {
-    let clock = Still::new();
-    let sparing = Sparing::new(&clock, Granting, 1, &Free);
-    let early = sleeps_in(&clock, &sparing, 199);
-    let late = sleeps_in(&clock, &sparing, 200);
-    assert!(rt; early == 0 && late == 0);
-    for interval in 0..64 {
-        assert!(rt; sleeps_in(&clock, &sparing, 0) == 2, "interval {interval}");
+fn others_of_the_same_size_and_smaller_inner_ones_have_one(rt: HostRuntime) {
+    let (clock, common) = (Still::new(), Common::new(4));
+    let sparing = Sparing::new(&clock, Granting, 3, &common);
+    for _ in 0..2 {
+        assert!(rt; !is_helped(&clock, &sparing, asker(1, 1000), 4000, 2000));
     }
-    assert!(rt; sleeps_in(&clock, &sparing, 0) == 0);
+    assert!(rt; !is_helped(&clock, &sparing, asker(1, 2000), 8000, 4000));
+    assert!(rt; !is_helped(&clock, &sparing, asker(1, 500), 2000, 1000));
+    sparing.begin();
+    let outer = ask(&sparing, asker(1, 800));
+    for (mark, size, levels) in [(1, 249, 1000), (2, 800, 1000), (1, 249, 993), (1, 990, 986)] {
+        let inner = Asker {
+            levels,
+            ..asker(mark, size)
+        };
+        assert!(rt; !has_helper(&sparing, inner), "{size} of {levels}");
+    }
+    let inner = ask(&sparing, asker(1, 251));
+    clock.pass(2000);
+    assert!(rt; end(&sparing, inner), "251 elements take a millisecond");
+    assert!(rt;
+        end(&sparing, outer),
+        "800 elements take 3,200 microseconds"
+    );
+    sparing.end(FUEL - WORK);
 }
 
-// Whether an ask is granted, whose helper is then back at once.
-fn is_granted<H: Helpers>(sparing: &H) -> bool {
-    match sparing.ask() {
-        Some(permit) => {
-            sparing.done(permit);
-            true
+#[test]
+fn one_that_takes_long_now_and_then_has_none(rt: HostRuntime) {
+    let (clock, common) = (Still::new(), Common::new(2));
+    let sparing = Sparing::new(&clock, Granting, 1, &common);
+    for turn in 0..9 {
+        let micros = if turn % 2 == 0 { 2000 } else { 20 };
+        assert!(rt;
+            !is_helped(&clock, &sparing, asker(1, 16), micros, micros),
+            "turn {turn}"
+        );
+    }
+}
+
+#[test]
+fn a_wait_is_no_work(rt: HostRuntime) {
+    let (clock, common) = (Still::new(), Common::new(2));
+    let sparing = Sparing::new(&clock, Granting, 1, &common);
+    for _ in 0..9 {
+        sparing.begin();
+        assert!(rt; !has_helper(&sparing, asker(1, 16)));
+        clock.pass(9000);
+        sparing.end(FUEL - 2000);
+    }
+}
+
+#[test]
+fn after_helpers_in_vain_there_is_none_for_longer_and_longer(rt: HostRuntime) {
+    let (clock, common) = (Still::new(), Common::new(2));
+    let sparing = Sparing::new(&clock, Granting, 1, &common);
+    for _ in 0..2 {
+        assert!(rt; !is_helped(&clock, &sparing, asker(1, 16), 1000, 940));
+    }
+    for alone in [4, 8] {
+        assert!(rt; is_helped(&clock, &sparing, asker(1, 16), 1000, 940));
+        for _ in 0..alone {
+            assert!(rt; !is_helped(&clock, &sparing, asker(1, 16), 1000, 500));
         }
-        None => false,
     }
-}
-
-// How many of so many asks are granted, whose helpers are all back at once.
-fn granted_of<H: Helpers>(sparing: &H, asks: u32) -> u32 {
-    let mut granted = 0;
-    for _ in 0..asks {
-        if is_granted(sparing) && granted < asks {
-            granted += 1;
-        }
-    }
-    granted
+    assert!(rt; is_helped(&clock, &sparing, asker(1, 16), 1000, 930));
+    assert!(rt; !is_helped(&clock, &sparing, asker(1, 16), 1000, 930));
+    assert!(rt; is_helped(&clock, &sparing, asker(1, 16), 1000, 940));
+    assert!(rt; !is_helped(&clock, &sparing, asker(1, 16), 8 * 940, 500));
+    assert!(rt; is_helped(&clock, &sparing, asker(1, 16), 1000, 500));
 }
 
 #[test]
-fn asks_in_a_line_wait_too_and_look_at_the_clock_now_and_then(rt: HostRuntime) {
-    let clock = Still::new();
-    let sparing = Sparing::new(&clock, Granting, 1, &Free);
-    assert!(rt; granted_of(&sparing, 1000) == 4);
-    clock.at.store(31_000, Ordering::SeqCst);
-    assert!(rt; granted_of(&sparing, 1000) == 4);
-    clock.at.store(93_999, Ordering::SeqCst);
-    assert!(rt; granted_of(&sparing, 1000) == 0);
+fn one_of_32_has_none(rt: HostRuntime) {
+    let (clock, common) = (Still::new(), Common::new(2));
+    let sparing = Sparing::new(&clock, Granting, 1, &common);
+    for turn in 0..70 {
+        let is_timed = turn < 2 || turn == 5 || turn == 37 || turn == 69;
+        let is_helped = is_helped(&clock, &sparing, asker(1, 16), 1000, 500);
+        assert!(rt; is_helped != is_timed, "turn {turn}");
+    }
 }
 
 #[test]
-fn no_more_are_asked_for_than_there_are(rt: HostRuntime) {
-    let clock = Still::new();
-    let sparing = Sparing::new(&clock, Granting, 1, &Free);
-    sparing.enter(Place::Line(0));
-    let Some(permit) = sparing.ask() else {
-        assert!(rt; false, "the first ask is passed over");
-        return;
+fn one_that_has_become_short_has_none(rt: HostRuntime) {
+    let (clock, common) = (Still::new(), Common::new(2));
+    let sparing = Sparing::new(&clock, Granting, 1, &common);
+    for wanted in [false, false, true, false, false] {
+        assert!(rt; is_helped(&clock, &sparing, asker(1, 16), 1000, 140) == wanted);
+    }
+}
+
+#[test]
+fn no_more_threads_work_than_there_are_processors(rt: HostRuntime) {
+    let (clock, common) = (Still::new(), Common::new(2));
+    let sparing = Sparing::new(&clock, Granting, 8, &common);
+    let other = Sparing::new(&clock, Granting, 8, &common);
+    for _ in 0..2 {
+        assert!(rt; !is_helped(&clock, &sparing, asker(1, 16), 2000, 1000));
+    }
+    other.begin();
+    assert!(rt; !is_helped(&clock, &sparing, asker(1, 16), 2000, 1000));
+    other.end(FUEL);
+    sparing.begin();
+    let first = ask(&sparing, asker(1, 16));
+    assert!(rt; !has_helper(&sparing, asker(1, 16)));
+    sparing.end_half();
+    let second = ask(&sparing, asker(1, 16));
+    clock.pass(1200);
+    assert!(rt; end(&sparing, second), "a half has ended");
+    sparing.end_half();
+    match first {
+        Some(permit) => sparing.done(permit),
+        None => assert!(rt; false, "a processor is free"),
+    }
+    sparing.end(FUEL - WORK);
+    assert!(rt; is_helped(&clock, &sparing, asker(1, 16), 2000, 1000));
+}
+
+#[test]
+fn intervals_inside_of_one_are_not_timed(rt: HostRuntime) {
+    let (clock, common) = (Still::new(), Common::new(2));
+    let sparing = Sparing::new(&clock, Granting, 1, &common);
+    let inner = Asker {
+        height: 2,
+        ..asker(2, 16)
     };
-    let second = is_granted(&sparing);
-    clock.at.store(500, Ordering::SeqCst);
-    sparing.done(permit);
-    let third = is_granted(&sparing);
-    assert!(rt; !second && third);
-}
-
-// Whether a half's own ask is granted.
-fn is_granted_to<H: Helpers + Gate>(sparing: &H, from: usize, to: usize) -> bool {
-    sparing.enter(Place::Half(from, to));
-    is_granted(sparing)
+    for _ in 0..2 {
+        sparing.begin();
+        assert!(rt; !has_helper(&sparing, asker(1, 16)));
+        assert!(rt; sparing.timed_at() == Some(1));
+        assert!(rt; !has_helper(&sparing, inner));
+        clock.pass(400);
+        sparing.end(FUEL - WORK);
+    }
+    assert!(rt; !is_helped(&clock, &sparing, asker(2, 16), 400, 200));
+    assert!(rt; is_helped(&clock, &sparing, asker(1, 16), 400, 200));
 }
 
 #[test]
-fn halves_ask_whatever_came_of_other_intervals(rt: HostRuntime) {
-    let clock = Still::new();
-    let sparing = Sparing::new(&clock, Granting, 3, &Free);
-    sparing.enter(Place::Line(0));
-    let line = is_granted(&sparing);
-    let left = is_granted_to(&sparing, 0, 50);
-    let share = is_granted_to(&sparing, 0, 25);
-    assert!(rt; line && left && !share);
-    let others = granted_of(&sparing, 9);
-    let right = is_granted_to(&sparing, 50, 100);
-    assert!(rt; others == 4 && right);
+fn one_that_begins_after_another_is_timed(rt: HostRuntime) {
+    let (clock, common) = (Still::new(), Common::new(2));
+    let sparing = Sparing::new(&clock, Granting, 1, &common);
+    let later = Asker {
+        fuel: FUEL - WORK,
+        height: 2,
+        ..asker(2, 16)
+    };
+    for _ in 0..2 {
+        sparing.begin();
+        assert!(rt; !has_helper(&sparing, asker(1, 16)));
+        clock.pass(20);
+        sparing.end_timed(FUEL - WORK);
+        assert!(rt; sparing.timed_at().is_none());
+        assert!(rt; !has_helper(&sparing, later));
+        clock.pass(400);
+        sparing.end(FUEL - 2 * WORK);
+    }
+    assert!(rt; !is_helped(&clock, &sparing, asker(1, 16), 20, 20));
+    assert!(rt; is_helped(&clock, &sparing, asker(2, 16), 400, 200));
+}
+
+#[test]
+fn an_uneven_one_leaves_the_helper_to_one_inside(rt: HostRuntime) {
+    let (clock, common) = (Still::new(), Common::new(2));
+    let sparing = Sparing::new(&clock, Granting, 1, &common);
+    for _ in 0..2 {
+        assert!(rt; !is_helped(&clock, &sparing, asker(1, 1000), 4000, 2000));
+    }
+    sparing.begin();
+    let uneven = Asker {
+        least: 124,
+        ..asker(1, 1000)
+    };
+    assert!(rt; !has_helper(&sparing, uneven));
+    assert!(rt; !has_helper(&sparing, asker(1, 249)));
+    assert!(rt; has_helper(&sparing, asker(1, 900)));
+    sparing.end(FUEL - WORK);
+    let even = Asker {
+        least: 125,
+        ..asker(1, 1000)
+    };
+    sparing.begin();
+    assert!(rt; has_helper(&sparing, even));
+    sparing.end(FUEL - WORK);
+}
+
+#[test]
+fn what_one_connection_has_seen_counts_for_others(rt: HostRuntime) {
+    let (clock, common) = (Still::new(), Common::new(2));
+    for wanted in [false, false, true, true] {
+        let sparing = Sparing::new(&clock, Granting, 1, &common);
+        assert!(rt; is_helped(&clock, &sparing, asker(1, 16), 400, 200) == wanted);
+    }
+}
+
+#[test]
+fn without_workers_nobody_asks(rt: HostRuntime) {
+    let (clock, common) = (Still::new(), Common::new(2));
+    let sparing = Sparing::new(&clock, Granting, 0, &common);
+    for _ in 0..9 {
+        assert!(rt; !is_helped(&clock, &sparing, asker(1, 16), 9000, 9000));
+    }
 }
