@@ -216,7 +216,8 @@ impl<'a, C: Clock, H: Helpers> Sparing<'a, C, H> {
         }
     }
 
-    // The microsecond that it is when so much fuel is left: by the work, where little was done since the clock was read.
+    // The microsecond that it is when so much fuel is left: by the work, where little was done since the clock was
+    // read.
     fn now_at(&self, fuel: u64) -> u64 {
         let read = self.read_fuel.load(Ordering::Relaxed);
         if fuel <= read && read - fuel < UNREAD {
