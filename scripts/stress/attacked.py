@@ -1,8 +1,8 @@
-"""What scripts/stress/attack says to the program: sessions in both ways, and lines of deep and large types."""
+"""What scripts/stress/attack says to the program: sessions, lines of deep and large types, and long answers."""
 import subprocess
 import time
 
-from lib import Service, Skipped, available_megabytes, compare, demand, ending, prepared, short
+from lib import ONE, Service, Skipped, available_megabytes, compare, demand, ending, prepared, short
 from stress.shapes import LONGEST, WORST, filled, local_names, made, tree
 from stress.spent import spent
 
@@ -124,3 +124,31 @@ def typed_slowly(program, seconds, megabytes):
         elif not took.reply.startswith(start) or not took.reply.endswith(end):
             wrong.append(f"{title}: {short(took.reply)}")
     return wrong, "; ".join(figures)
+
+
+# Long answers.
+
+def long_names(program, settings):
+    name, count = "z" * 60_000, 20_000
+    with Service(program, settings=settings) as service:
+        with service.client("ann", wait=250) as client:
+            client.must(f"datatype {name}(int);", f"{name} : int -> {name}")
+            begun = time.monotonic()
+            client.send(f"dist({name}(1), {count});\n")
+            first, last, size = swallow(client)
+            took = time.monotonic() - begun
+            after = [service.megabytes("VmRSS")]
+            if first != WANTING + "\n":
+                demand(first.startswith("it = [zzz") and last.endswith(f"zzz] (work {2 * count + 5}, depth 5)\n"),
+                       f"the answer is {short(first)} .. {short(last)}")
+                demand(size == 7 + (len(name) + 5) * count - 2 + 4 + len(name) + 24, f"it has {size} bytes")
+            client.must(":reset", "reset: lines 2")
+            after.append(service.megabytes("VmRSS"))
+            client.leave()
+        for _ in range(50):
+            with service.client("ann") as client:
+                client.must(*ONE)
+                client.leave()
+        after.append(service.megabytes("VmRSS"))
+        left = ", ".join(f"{figure:.0f}" for figure in after)
+        return f"{size >> 20} MB in {took:.1f} s, at most {service.megabytes('VmHWM'):.0f} MB, left {left} MB"
