@@ -54,7 +54,7 @@ fn round_of_turn<'m, 'a>(frame: Option<&'m Frame<'a, Global>>) -> Option<&'m Rou
     }
 }
 
-/// Whether there is a frame above so many, and it waits for a turn.
+/// Whether there is a frame above these, and it waits for a turn.
 pub(crate) fn waits_for_turn(frames: &[Frame<'_, Global>], height: usize) -> bool {
     round_of_turn(frames.get(height)).is_some()
 }

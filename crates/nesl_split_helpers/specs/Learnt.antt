@@ -5,10 +5,10 @@ use Rattle.std.specs.Prelude.{ℕ, ◌*◌, ◌-◌, ◌/◌, ◌^◌, min, max}
 abbrev pub most : ℕ
 most = 2 ^ 64 - 1
 
--- the microseconds that so many elements take, at so many for 1024 of them
+-- the microseconds that elements take, by their number and by what 1024 of them take
 abbrev pub time_for : ℕ → ℕ → ℕ
 time_for rate size = min (rate * size) most / 1024
 
--- how many microseconds 1024 elements take, of which so many took so many
+-- how many microseconds 1024 elements take, by what some number of them took
 abbrev pub rate_of : ℕ → ℕ → ℕ
 rate_of micros size = min (micros * 1024) most / max size 1

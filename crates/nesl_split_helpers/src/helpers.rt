@@ -55,11 +55,11 @@ pub trait Helpers {
         None
     }
 
-    /// The interval that is timed has ended, or so has the evaluation. So much fuel is left.
+    /// The interval that is timed has ended, or so has the evaluation. `fuel` is what is left of it.
     fn end_timed(&self, _fuel: u64) {}
 
-    /// Whether an interval is to ask once more after one of its turns, if it has two or more left. So much fuel is left
-    /// then, and its machine has still to end so many blocks, that of the turn left out.
+    /// Whether an interval is to ask once more after one of its turns, if it has two or more left. `fuel` is what is
+    /// left then, and `height` how many blocks its machine has still to end, that of the turn left out.
     fn asks_again(&self, _fuel: u64, _height: usize) -> bool {
         false
     }

@@ -24,29 +24,29 @@ const FIRST_REST: u64 = 4;
 
 const LONGEST_REST: u64 = 64;
 
-/// Of so many intervals that may have helpers one has none, so that it is seen again how long it takes: the fourth.
+/// Of this number of intervals that may have helpers one has none, the fourth: its time without them stays known.
 const TURNS: u64 = 32;
 
 const TIMED: u64 = 3;
 
-/// Rates are microseconds for so many elements.
+/// Rates are microseconds for this number of elements.
 const ELEMENTS: u64 = 1024;
 
-/// The microseconds that so many elements take at this rate.
+/// The microseconds that elements take at this rate, by their number.
 pub(crate) fn time_for(rate: u64, size: u64) -> u64
     ensures { result ≡ time_for rate size }
 {
     rate.saturating_mul(size) / ELEMENTS
 }
 
-/// The rate of so many elements that took so many microseconds.
+/// The rate of elements that took these microseconds, by their number.
 pub(crate) fn rate_of(micros: u64, size: u64) -> u64
     ensures { result ≡ rate_of micros size }
 {
     micros.saturating_mul(ELEMENTS) / size.max(1)
 }
 
-/// The microseconds of an interval that took so many for so much work: no more than the work can take.
+/// The microseconds that an interval is believed to have taken for its work: no more than the work can take.
 pub(crate) fn believed(micros: u64, work: u64) -> u64 {
     micros.min(work / LEAST_WORK)
 }
@@ -112,7 +112,7 @@ impl Seen {
         self.last.store(rate, Ordering::Relaxed);
     }
 
-    // A helper was in vain, and the interval took so many microseconds, up to this one.
+    // A helper was in vain. The interval took these microseconds, and ended at this one.
     fn begin_rest(&self, micros: u64, now: u64) {
         let rest = self.rest.load(Ordering::Relaxed);
         let until = now.saturating_add(micros.saturating_mul(rest));
@@ -174,7 +174,7 @@ impl Learnt {
             && seen.helped.fetch_add(1, Ordering::Relaxed) % TURNS != TIMED
     }
 
-    /// An interval took so many microseconds without helpers. A short one makes no other forgotten.
+    /// An interval took these microseconds without helpers. A short one makes no other forgotten.
     pub(crate) fn note(&self, asker: Asker, micros: u64) {
         let kind = kind_of(asker);
         let seen = self.seen(kind);
@@ -184,7 +184,7 @@ impl Learnt {
         }
     }
 
-    /// These turns took so many microseconds with so many threads at most, up to this microsecond.
+    /// These turns took these microseconds with this number of threads at most, and ended at this microsecond.
     pub(crate) fn judge(&self, part: Part, micros: u64, threads: u64, now: u64) {
         let kind = kind_of(part.whole);
         let seen = self.seen(kind);

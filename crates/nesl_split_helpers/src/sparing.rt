@@ -11,7 +11,7 @@ const FIRST_LOOK: u64 = 4000;
 
 const LEAST_SEEN: u64 = 30;
 
-/// The clock isn't read again before so much work was done. Until then so many units take a microsecond.
+/// The clock isn't read again before this work was done. Until then this number of units takes a microsecond.
 const UNREAD: u64 = 1000;
 
 const WORK_OF_MICROSECOND: u64 = 80;
@@ -135,7 +135,7 @@ impl Outer {
         self.look.store(0, Ordering::Relaxed);
     }
 
-    // It asks once more when so much work is done from this fuel on.
+    // It asks once more when this work is done from this fuel on.
     fn look_after(&self, work: u64, fuel: u64) {
         self.look
             .store(fuel.saturating_sub(work), Ordering::Relaxed);
@@ -152,7 +152,7 @@ impl Outer {
             && height as u64 == self.height.load(Ordering::Relaxed)
     }
 
-    // The microseconds that so many of its elements take, most likely, where the others took so many.
+    // The microseconds that this number of its elements takes, most likely, where the others took `micros`.
     fn time_left(&self, size: u64, micros: u64) -> u64 {
         let taken = self.size.load(Ordering::Relaxed).saturating_sub(size);
         match micros.saturating_mul(size).checked_div(taken) {
@@ -216,7 +216,7 @@ impl<'a, C: Clock, H: Helpers> Sparing<'a, C, H> {
         }
     }
 
-    // The microsecond that it is when so much fuel is left: by the work, where little was done since the clock was
+    // The microsecond that it is when this fuel is left: by the work, where little was done since the clock was
     // read.
     fn now_at(&self, fuel: u64) -> u64 {
         let read = self.read_fuel.load(Ordering::Relaxed);

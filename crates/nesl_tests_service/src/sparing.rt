@@ -99,7 +99,7 @@ fn has_helper<H: Helpers>(sparing: &H, asker: Asker) -> bool {
     end(sparing, permit)
 }
 
-// A line of one interval, which takes so many microseconds alone, or so many with a helper. Whether it had one.
+// A line of one interval, by the microseconds that it takes alone and with a helper. Whether it had one.
 fn is_helped<H: Helpers>(
     clock: &Still,
     sparing: &H,
@@ -128,7 +128,7 @@ fn an_interval_has_a_helper_once_it_took_long_twice(rt: HostRuntime) {
     }
 }
 
-// An interval of 16 elements that has done so much work in some turns, and has so many elements left.
+// An interval of 16 elements, by the work that it has done in some turns and the elements that it has left.
 fn asker_again(work: u64, left: u64) -> Asker {
     Asker {
         fuel: FUEL - work,
