@@ -132,7 +132,8 @@ fn are_answered_at_once<L: Ledger + Send + Sync, R: Threads + Wait + Clock + Syn
     );
     let late = entered.late.load(Ordering::SeqCst);
     let halves = entered.halves.load(Ordering::SeqCst);
-    Ok(ann == ANN_TOLD && bob == BOB_TOLD && late == 0 && halves == 2)
+    let are_answered = ann.as_slice() == ANN_TOLD && bob.as_slice() == BOB_TOLD;
+    Ok(are_answered && late == 0 && halves == 2)
 }
 
 #[test]

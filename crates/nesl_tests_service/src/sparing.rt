@@ -347,7 +347,12 @@ fn an_uneven_one_leaves_the_helper_to_one_inside(rt: HostRuntime) {
     };
     assert!(rt; !has_helper(&sparing, uneven));
     assert!(rt; !has_helper(&sparing, asker(1, 249)));
-    assert!(rt; has_helper(&sparing, asker(1, 900)));
+    let inner = ask(&sparing, asker(1, 900));
+    clock.pass(1800);
+    assert!(rt;
+        end(&sparing, inner),
+        "900 elements take 3,600 microseconds"
+    );
     sparing.end(FUEL - WORK);
     let even = Asker {
         least: 125,
