@@ -1,12 +1,12 @@
 -- Equations that are taken apart.
-use Rattle.std.proofs.Common.{◌≡◌, ◌↔◌, ℕ, ◌+◌, ◌-◌, ◌<◌, ◌≤◌, ◌++◌, inl, inr, List, [], ◌∷◌, All, Option, Some, length, get_or, sum_by, refl, sym, ap, ◌∙◌, subst, arith, append-nil, append_assoc}
+use Rattle.std.proofs.Common.{◌≡◌, ◌↔◌, ℕ, ◌+◌, ◌-◌, ◌<◌, ◌++◌, inl, inr, List, [], ◌∷◌, All, Some, length, get_or, sum_by, refl, sym, ap, ◌∙◌, subst, arith, append-nil, append_assoc}
 use Rattle.std.specs.Prelude.{slice_get, slice_index, Result, Ok, Err, OnOk}
 use Rattle.std.proofs.lemmas.Bool.{cases_lt}
 use Rattle.std.proofs.lemmas.List.{get_or_default, get_or_append_left, length_push, get_or_push}
 use Rattle.std.proofs.lemmas.List.Sums.{sum_by-append}
 use Rattle.std.proofs.lemmas.List.Elements.{All-nil, All-cons, All-append, All-push}
 use Rattle.std.proofs.lemmas.Option.{slice_get-get_or}
-use Rattle.nesl_types_bank.specs.Term.{Term, int, variable, seq_of, pair_of, nodes}
+use Rattle.nesl_types_bank.specs.Term.{Term, variable, seq_of, nodes}
 use Rattle.nesl_types_bank.specs.Numbering.{IsBelow}
 use Rattle.nesl_types_bank.specs.Substitution.{substitute}
 use Rattle.nesl_types_bank.specs.Types.{type_at, Extends}
@@ -21,13 +21,13 @@ use Rattle.nesl_unify_graph.specs.declared.instances.Source.TheVariants.{Own}
 use Rattle.nesl_unify_graph.specs.declared.instances.Instance.{Instance}
 use Rattle.nesl_unify_graph.specs.declared.instances.Instances.{Instances}
 use Rattle.nesl_unify_graph.specs.Graph.{node_type}
-use Rattle.nesl_unify_graph.specs.Instances.{parts_in, base_in, place_in, instance_type, IsPart, AreBelow}
+use Rattle.nesl_unify_graph.specs.Instances.{parts_in, base_in, place_in, instance_type, AreBelow}
 use Rattle.nesl_unify_graph.proofs.Steps.{All_left, All_right}
 use Rattle.nesl_unify.specs.declared.fact.Fact.{Fact}
 use Rattle.nesl_unify.specs.declared.equation.Ends.{Ends}
 use Rattle.nesl_unify.specs.declared.equation.Sides.{Sides}
 use Rattle.nesl_unify.specs.declared.equation.Equation.{Equation}
-use Rattle.nesl_unify.specs.Facts.{IsSaid, IsFact, AreFacts, AreTrue, IsKept}
+use Rattle.nesl_unify.specs.Facts.{IsSaid, IsFact, AreFacts, IsKept}
 use Rattle.nesl_unify.specs.Equations.{IsInner, part_node, AreEnds, IsAlike, AreAlike, Differ, IsSplit, IsTakenApart, AreTakenApart, AreSides, HasParts, IsAdded, AreOwnPlaces, HasOwnPlaces, AreBothBelow, IsEqual, IsEquated, weight}
 use Rattle.nesl_unify.proofs.Below.{part_below}
 use Rattle.nesl_unify.proofs.Facts.{below_more, substitute_below, kept_none, facts_push, true_push, true_kept, facts_kept}

@@ -1,12 +1,9 @@
 -- Facts of a system.
-use Rattle.std.proofs.Common.{◌≡◌, ◌↔◌, ℕ, ◌+◌, ◌-◌, ◌<◌, ◌≤◌, ◌++◌, inl, inr, List, [], ◌∷◌, All, length, get_or, refl, sym, ap, ◌∙◌, subst, arith}
-use Rattle.std.specs.Prelude.{slice_get, slice_index, slice_index_or, Option, Some}
-use Rattle.std.specs.Option.{option_map_or}
-use Rattle.std.proofs.lemmas.Bool.{cases_lt}
-use Rattle.std.proofs.lemmas.List.{get_or_append_left, get_or_push, get_or-append-add, length-append, length_push}
-use Rattle.std.proofs.lemmas.List.Elements.{All-nil, All-cons, All-append, All-get_or}
-use Rattle.std.proofs.lemmas.Option.{slice_get-get_or}
-use Rattle.nesl_types_bank.specs.Term.{Term, int, bool, char, variable, seq_of, pair_of, named, nodes}
+use Rattle.std.proofs.Common.{◌≡◌, ◌↔◌, ℕ, ◌+◌, ◌-◌, ◌<◌, ◌≤◌, ◌++◌, List, [], ◌∷◌, All, length, get_or, refl, sym, ap, ◌∙◌, subst, arith}
+use Rattle.std.specs.Prelude.{slice_index}
+use Rattle.std.proofs.lemmas.List.{get_or_append_left, get_or_push, length_push}
+use Rattle.std.proofs.lemmas.List.Elements.{All-nil, All-cons, All-append}
+use Rattle.nesl_types_bank.specs.Term.{Term, int, bool, char, variable, seq_of, pair_of, named}
 use Rattle.nesl_types_bank.specs.Numbering.{IsBelow}
 use Rattle.nesl_types_bank.specs.Substitution.{substitute}
 use Rattle.nesl_types_bank.specs.Types.{type_at}
@@ -14,17 +11,14 @@ use Rattle.nesl_types_bank.specs.Renames.{replacement}
 use Rattle.nesl_types_bank.proofs.Substitutions.{substitute-same, substitute-substitute}
 use Rattle.nesl_unify_graph.specs.declared.node.Node.{Node}
 use Rattle.nesl_unify_graph.specs.declared.node.Node.TheVariants.{Free, Same, Int, Bool as Boolean, Char, Named, SeqOf, Both, Part}
-use Rattle.nesl_unify_graph.specs.declared.instances.Source.{Source}
-use Rattle.nesl_unify_graph.specs.declared.instances.Source.TheVariants.{Shared, Own}
-use Rattle.nesl_unify_graph.specs.declared.instances.Instance.{Instance}
 use Rattle.nesl_unify_graph.specs.declared.instances.Instances.{Instances}
 use Rattle.nesl_unify_graph.specs.Graph.{node_type}
-use Rattle.nesl_unify_graph.specs.Instances.{parts_from, parts_in, base_in, place_in, instance_type, IsPart, AreBelow}
+use Rattle.nesl_unify_graph.specs.Instances.{parts_in, base_in, place_in, AreBelow}
 use Rattle.nesl_unify.specs.declared.fact.Fact.{Fact}
 use Rattle.nesl_unify.specs.declared.flat.Flat.{Flat}
 use Rattle.nesl_unify.specs.declared.flat.Flat.TheVariants as flat
 use Rattle.nesl_unify.specs.Flat.{flat_type}
-use Rattle.nesl_unify.specs.Facts.{IsSaid, Holds, IsFact, AreFacts, AreTrue, flat_node, IsKept, IsPutIn, IsInstanceNode}
+use Rattle.nesl_unify.specs.Facts.{IsSaid, Holds, IsFact, AreFacts, AreTrue, flat_node, IsKept, IsInstanceNode}
 
 -- types of the variables of a type are all that it sees
 pub substitute_below : (n : ℕ) (f g : ℕ → Term) (t : Term) → IsBelow n t → ((v : ℕ) → v < n → f v ≡ g v) → substitute f t ≡ substitute g t

@@ -1,5 +1,5 @@
 -- Instances that are added.
-use Rattle.std.proofs.Common.{◌≡◌, ℕ, ◌+◌, ◌-◌, ◌<◌, ◌≤◌, ◌++◌, List, [], ◌∷◌, All, Option, Some, IfSome, length, get_or, refl, sym, ap, ◌∙◌, subst, arith}
+use Rattle.std.proofs.Common.{◌≡◌, ℕ, ◌+◌, ◌-◌, ◌<◌, ◌++◌, List, [], ◌∷◌, All, Option, Some, IfSome, length, get_or, refl, sym, ap, ◌∙◌, subst, arith}
 use Rattle.std.specs.Prelude.{slice_get, slice_index}
 use Rattle.std.specs.Option.{option_map_or}
 use Rattle.std.proofs.lemmas.List.{get_or_append_left, get_or_push, get_or-append-add, length-append, length_push}
@@ -16,7 +16,7 @@ use Rattle.nesl_unify_graph.specs.declared.instances.Source.{Source}
 use Rattle.nesl_unify_graph.specs.declared.instances.Source.TheVariants.{Shared, Own}
 use Rattle.nesl_unify_graph.specs.declared.instances.Instance.{Instance}
 use Rattle.nesl_unify_graph.specs.declared.instances.Instances.{Instances}
-use Rattle.nesl_unify_graph.specs.Instances.{parts_from, parts_in, base_in, place_in, instance_type, IsPart, AreBelow}
+use Rattle.nesl_unify_graph.specs.Instances.{parts_from, parts_in, base_in, place_in, instance_type, IsPart}
 use Rattle.nesl_types_bank.specs.Lists.{last_type, parts_of}
 use Rattle.nesl_unify_graph.specs.Graph.{node_type}
 use Rattle.nesl_unify_graph.proofs.Outlines.{at_some}

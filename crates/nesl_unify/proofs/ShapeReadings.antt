@@ -1,5 +1,5 @@
 -- The shapes of the types at the places of a graph.
-use Rattle.std.proofs.Common.{◌≡◌, ℕ, ◌<◌, List, length, refl, sym, ap, ◌∙◌, subst, arith}
+use Rattle.std.proofs.Common.{◌≡◌, ℕ, List, refl, sym, ap, ◌∙◌}
 use Rattle.nesl_types_bank.specs.Term.{Term, variable}
 use Rattle.nesl_types_bank.specs.Types.{type_at}
 use Rattle.nesl_types_bank.specs.Shapes.{shape_type}

@@ -1,5 +1,5 @@
 -- Solutions of systems.
-use Rattle.std.proofs.Common.{◌≡◌, ℕ, ◌*◌, ◌<◌, ◌≤◌, inl, inr, List, All, length, get_or, refl, sym, ap, ◌∙◌, subst, arith}
+use Rattle.std.proofs.Common.{◌≡◌, ℕ, ◌*◌, ◌<◌, ◌≤◌, inl, inr, List, All, length, get_or, sym, ap, ◌∙◌, subst, arith}
 use Rattle.std.specs.Prelude.{nat_lt, if◌then◌else◌}
 use Rattle.std.proofs.lemmas.Bool.{cases_lt, lt-ltb, le-ltb}
 use Rattle.nesl_types.specs.declared.classes.Class.{Class}
@@ -9,7 +9,7 @@ use Rattle.nesl_types_bank.specs.Substitution.{substitute}
 use Rattle.nesl_unify_graph.specs.declared.node.Node.{Node}
 use Rattle.nesl_unify_graph.specs.declared.instances.Instances.{Instances}
 use Rattle.nesl_unify_graph.specs.Graph.{Fits}
-use Rattle.nesl_unify_graph.specs.Readings.{unrolled, Reads, AreReadWithin}
+use Rattle.nesl_unify_graph.specs.Readings.{Reads, AreReadWithin}
 use Rattle.nesl_unify.specs.declared.fact.Fact.{Fact}
 use Rattle.nesl_unify.specs.declared.narrow.Member.{Member}
 use Rattle.nesl_unify.specs.Members.{IsInAll}

@@ -1,5 +1,5 @@
 -- Types that are read from a graph.
-use Rattle.std.proofs.Common.{◌≡◌, ℕ, zero, suc, ◌+◌, ◌-◌, ◌*◌, ◌<◌, ◌≤◌, inl, inr, List, All, length, refl, sym, ap, ◌∙◌, subst, arith}
+use Rattle.std.proofs.Common.{◌≡◌, ℕ, zero, suc, ◌-◌, ◌*◌, ◌<◌, ◌≤◌, inl, inr, List, length, refl, sym, ap, ◌∙◌, arith}
 use Rattle.std.proofs.lemmas.Bool.{cases_lt}
 use Rattle.std.proofs.lemmas.List.{get_or_past}
 use Rattle.nesl_types_bank.specs.Term.{Term, int, bool, char, variable, seq_of, pair_of, named, nodes}
@@ -11,8 +11,8 @@ use Rattle.nesl_unify_graph.specs.declared.node.Node.{Node}
 use Rattle.nesl_unify_graph.specs.declared.node.Node.TheVariants.{Free, Same, Int, Bool as Boolean, Char, Named, SeqOf, Both, Part}
 use Rattle.nesl_unify_graph.specs.declared.instances.Instances.{Instances}
 use Rattle.nesl_unify_graph.specs.Graph.{node_at, node_type, Fits}
-use Rattle.nesl_unify_graph.specs.Instances.{parts_in, base_in, place_in, IsPart, AreBelow}
-use Rattle.nesl_unify_graph.specs.Readings.{unrolled, Reads, AreReadWithin}
+use Rattle.nesl_unify_graph.specs.Instances.{parts_in, base_in, place_in, AreBelow}
+use Rattle.nesl_unify_graph.specs.Readings.{unrolled, AreReadWithin}
 use Rattle.nesl_unify_graph.specs.Tables.{IsPlaced, IsTable}
 use Rattle.nesl_unify.proofs.Facts.{place_below, substitute_below}
 

@@ -6,7 +6,6 @@ use Rattle.nesl_types_bank.specs.Types.{type_at}
 use Rattle.nesl_unify_graph.specs.declared.node.Node.{Node}
 use Rattle.nesl_unify_graph.specs.declared.node.Node.TheVariants.{Free, Same, Int, Bool, Char, Named, SeqOf, Both, Part}
 use Rattle.nesl_unify_graph.specs.declared.instances.Source.{Source}
-use Rattle.nesl_unify_graph.specs.declared.instances.Instance.{Instance}
 use Rattle.nesl_unify_graph.specs.declared.instances.Instances.{Instances}
 use Rattle.nesl_unify_graph.specs.Graph.{node_type}
 use Rattle.nesl_unify_graph.specs.Instances.{parts_in, instance_type, IsPart, AreBelow}

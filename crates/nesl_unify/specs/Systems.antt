@@ -1,5 +1,5 @@
 -- Systems: facts of the types of variables, and classes of variables.
-use Rattle.std.specs.Prelude.{◌≡◌, ◌<◌, ℕ, All, length}
+use Rattle.std.specs.Prelude.{◌<◌, ℕ, All, length}
 use Rattle.nesl_types.specs.declared.classes.Class.{Class}
 use Rattle.nesl_types_bank.specs.Term.{Term}
 use Rattle.nesl_unify.specs.declared.system.System.{System}

@@ -1,15 +1,12 @@
 -- How many nodes the types of a graph have.
-use Rattle.std.proofs.Common.{◌≡◌, ◌≢◌, inl, inr, ℕ, zero, suc, ◌+◌, ◌-◌, ◌*◌, ◌<◌, ◌≤◌, Bool as Bool', true, false, cond, List, [], ◌∷◌, ◌++◌, All, length, get_or, set, replicate, refl, sym, ap, subst, ◌∙◌, arith}
+use Rattle.std.proofs.Common.{◌≡◌, inl, inr, ℕ, zero, suc, ◌+◌, ◌*◌, ◌<◌, ◌≤◌, List, [], ◌∷◌, ◌++◌, length, get_or, set, replicate, slice_index, refl, sym, ap, subst, ◌∙◌, arith}
 use Rattle.std.proofs.lemmas.Bool.{cases_lt, cases_eq}
-use Rattle.std.proofs.lemmas.List.{get_or-set_same, get_or-set_other, length-replicate, get_or-replicate, get_or_past}
-use Rattle.std.proofs.lemmas.List.Elements.{All-nil, All-cons, All-append, All-get_or}
-use Rattle.std.specs.List.{list_any}
+use Rattle.std.proofs.lemmas.List.{get_or-set_same, get_or-set_other, length-replicate, get_or-replicate, get_or_past, get_or_append_left, get_or_push}
 use Rattle.nesl_types_bank.specs.Term.{Term, int, bool, char, variable, seq_of, pair_of, named, nodes}
-use Rattle.nesl_types_bank.specs.Numbering.{IsBelow}
 use Rattle.nesl_types_bank.specs.Substitution.{substitute}
-use Rattle.nesl_types_bank.specs.Types.{type_at, size_of}
-use Rattle.nesl_types_bank.specs.Shapes.{largest}
-use Rattle.nesl_types_bank.specs.Lists.{is_same, with_parts, parts_of, last_type}
+use Rattle.nesl_types_bank.specs.Types.{type_at}
+use Rattle.nesl_types_bank.specs.declared.shape.Shape.{Shape}
+use Rattle.nesl_types_bank.specs.Shapes.{shape_type}
 use Rattle.nesl_types_bank.proofs.Nodes.{nodes_positive}
 use Rattle.nesl_unify_graph.specs.declared.node.Node.{Node}
 use Rattle.nesl_unify_graph.specs.declared.node.Node.TheVariants as node
@@ -18,11 +15,11 @@ use Rattle.nesl_unify_graph.specs.declared.form.Item.{Item}
 use Rattle.nesl_unify_graph.specs.declared.form.Item.TheVariants.{At}
 use Rattle.nesl_unify_graph.specs.declared.walk.Look.{Look}
 use Rattle.nesl_unify_graph.specs.declared.walk.Look.TheVariants.{Known, Open}
-use Rattle.nesl_unify_graph.specs.Instances.{parts_in, base_in, place_in, instance_type, IsPart}
+use Rattle.nesl_unify_graph.specs.Instances.{parts_in, place_in, instance_type, IsPart}
 use Rattle.nesl_unify_graph.specs.Graph.{node_at, node_type, link_or, target}
 use Rattle.nesl_unify_graph.specs.Readings.{unrolled, Reads, AreReadWithin}
 use Rattle.nesl_unify_graph.specs.Forms.{item_type, near}
-use Rattle.nesl_unify_graph.specs.Sizes.{IsLeaf, IsRootRead, IsRootSize, IsSizeWithin, AreSizes, HasLeaves, HasParts, IsRootLook, IsLook}
+use Rattle.nesl_unify_graph.specs.Sizes.{IsLeaf, IsRootRead, IsRootSize, IsSizeWithin, AreSizes, HasLeaves, IsLeafSize, AreLeafSizes, IsRootLook, IsLook}
 use Rattle.nesl_unify_graph.proofs.Forms.{link_step, form_at, form_of_same}
 
 -- a type without a link is read a step later where a link leads to it
@@ -106,38 +103,26 @@ whole_size i ns p r k size e h f s =
     let t = type_at (parts_in i r) k in
     (freed i ns r t, (root_whole i ns p r t t (node.Part r k) e (λ w. refl) h.whole f, freed_nodes i ns r t f ∙ sym s))
 
--- the variables of a type's parts are variables of it
-below_with_type : (n : ℕ) (b : Bool') (ts : List Term) (t : Term) → All (IsBelow n) ts → IsBelow n t → All (IsBelow n) (cond b ts (ts ++ t ∷ []))
-below_with_type n true ts t a h = a
-below_with_type n false ts t a h = All-append (IsBelow n) ts (t ∷ []) a (All-cons (IsBelow n) t [] h (All-nil (IsBelow n)))
+-- sizes of the parts of an instance's type, one after the other
+pub leaf_size_at : (i : Instances) (ns : List Node) (r n k : ℕ) (ts us : List Term) (s : Shape) (lent sizes : List ℕ) → us ≡ ts → lent ≡ sizes → length sizes ≡ n → type_at us n ≡ shape_type (type_at us) s →
+    ((f : ℕ → Term) → AreLeafSizes i ns r f (length lent) lent → IsLeafSize i ns r (shape_type f s) k) → AreLeafSizes i ns r (type_at ts) n sizes → IsLeafSize i ns r (type_at ts n) k
+leaf_size_at i ns r n k ts us s lent sizes same value long shape h a =
+    let here : type_at ts n ≡ shape_type (type_at ts) s = subst (λ (xs : List Term). type_at xs n ≡ shape_type (type_at xs) s) same shape in
+    let given = subst (λ (xs : List ℕ). (f : ℕ → Term) → AreLeafSizes i ns r f (length xs) xs → IsLeafSize i ns r (shape_type f s) k) value h in
+    let all : AreLeafSizes i ns r (type_at ts) (length sizes) sizes = subst (λ (m : ℕ). AreLeafSizes i ns r (type_at ts) m sizes) (sym long) a in
+    subst (λ (t : Term). IsLeafSize i ns r t k) (sym here) (given (type_at ts) all)
 
-below_with_parts : (n : ℕ) (ts : List Term) (t : Term) → All (IsBelow n) ts → IsBelow n t → All (IsBelow n) (with_parts ts t)
-below_with_parts n ts int a h = below_with_type n (list_any (is_same int) ts) ts int a h
-below_with_parts n ts bool a h = below_with_type n (list_any (is_same bool) ts) ts bool a h
-below_with_parts n ts char a h = below_with_type n (list_any (is_same char) ts) ts char a h
-below_with_parts n ts (variable v) a h = below_with_type n (list_any (is_same (variable v)) ts) ts (variable v) a h
-below_with_parts n ts (seq_of t) a h =
-    let us = with_parts ts t in
-    below_with_type n (list_any (is_same (seq_of t)) us) us (seq_of t) (below_with_parts n ts t a h) h
-below_with_parts n ts (pair_of t u) a h =
-    let us = with_parts (with_parts ts t) u in
-    below_with_type n (list_any (is_same (pair_of t u)) us) us (pair_of t u) (below_with_parts n (with_parts ts t) u (below_with_parts n ts t a h.0) h.1) h
-below_with_parts n ts (named m) a h = below_with_type n (list_any (is_same (named m)) ts) ts (named m) a h
-
--- an instance of a whole type has all its parts
-pub has_parts : (i : Instances) (r k : ℕ) (t : Term) → parts_in i r ≡ parts_of t → type_at (parts_in i r) k ≡ t → IsPart i r k → HasParts i r
-has_parts i r k t e l h j b =
-    let n : ℕ = length i.fresh.items - base_in i r in
-    let below : IsBelow n t = subst (IsBelow n) l h.below in
-    let all : All (IsBelow n) (parts_in i r) = subst (All (IsBelow n)) (sym e) (below_with_parts n [] t (All-nil (IsBelow n)) below) in
-    record { made = h.made; within = b; below = All-get_or (IsBelow n) (parts_in i r) j int b all }
-
-pub last_part : (ps qs : List Term) (k : ℕ) (t : Term) → ps ≡ qs → k ≡ length qs - 1 → last_type qs ≡ t → type_at ps k ≡ t
-last_part ps qs k t e l h = ap (λ ts. type_at ts k) e ∙ ap (type_at qs) l ∙ h
-
--- a size that is told
-pub exact_size : (t : Term) (k : ℕ) → k ≡ size_of t → k ≢ largest → k ≡ nodes t
-exact_size t k e l = omega arith
+pub leaf_sizes_more : (i : Instances) (ns : List Node) (r n k : ℕ) (f : ℕ → Term) (sizes more : List ℕ) → length sizes ≡ n → more ≡ sizes ++ k ∷ [] → IsLeafSize i ns r (f n) k → AreLeafSizes i ns r f n sizes →
+    AreLeafSizes i ns r f (n + 1) more
+leaf_sizes_more i ns r n k f sizes more long is h a p l = elim (cases_lt p n) [
+  | inl m ↦
+      let e : slice_index more p ≡ slice_index sizes p = ap (λ (xs : List ℕ). slice_index xs p) is ∙ get_or_append_left sizes (k ∷ []) 0 p (omega (arith, long)) in
+      subst (IsLeafSize i ns r (f p)) (sym e) (a p m)
+  | inr m ↦
+      let same : n ≡ p = omega arith in
+      let e : slice_index more p ≡ k = ap (λ (xs : List ℕ). slice_index xs p) is ∙ get_or_push sizes k 0 p (long ∙ same) in
+      subst (IsLeafSize i ns r (f p)) (sym e) (subst (λ (q : ℕ). IsLeafSize i ns r (f q) k) same h)
+]
 
 -- a size is noted
 pub sizes_on : (i : Instances) (ns : List Node) (most : ℕ) (sizes : List ℕ) (p k : ℕ) → p < length sizes → IsSizeWithin i ns most p k →

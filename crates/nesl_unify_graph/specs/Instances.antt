@@ -8,7 +8,6 @@ use Rattle.nesl_types_bank.specs.Types.{type_at}
 use Rattle.nesl_types_bank.specs.Lists.{parts_of}
 use Rattle.nesl_unify_graph.specs.declared.instances.Source.{Source}
 use Rattle.nesl_unify_graph.specs.declared.instances.Source.TheVariants.{Shared, Own}
-use Rattle.nesl_unify_graph.specs.declared.instances.Instance.{Instance}
 use Rattle.nesl_unify_graph.specs.declared.instances.Instances.{Instances}
 
 -- the types among which the parts of an instance are

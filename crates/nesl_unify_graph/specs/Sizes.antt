@@ -1,16 +1,15 @@
 -- How many nodes the types of a graph have.
 use Rattle.std.specs.Prelude.{◌≡◌, ◌<◌, ◌≤◌, ◌*◌, ℕ, suc, List, [], slice_index, length}
 use Rattle.nesl_types_bank.specs.Term.{Term, int, bool, char, variable, seq_of, pair_of, named, nodes}
-use Rattle.nesl_types_bank.specs.Types.{type_at}
 use Rattle.nesl_unify_graph.specs.declared.node.Node.{Node}
 use Rattle.nesl_unify_graph.specs.declared.instances.Instances.{Instances}
 use Rattle.nesl_unify_graph.specs.declared.form.Item.{Item}
 use Rattle.nesl_unify_graph.specs.declared.walk.Look.{Look}
 use Rattle.nesl_unify_graph.specs.declared.walk.Look.TheVariants.{Known, Open}
-use Rattle.nesl_unify_graph.specs.Instances.{parts_in, place_in}
+use Rattle.nesl_unify_graph.specs.Instances.{place_in}
 use Rattle.nesl_unify_graph.specs.Graph.{node_at, node_type, target}
 use Rattle.nesl_unify_graph.specs.Readings.{unrolled}
-use Rattle.nesl_unify_graph.specs.Forms.{near, form_parts, HasPart, AreItems, IsForm, IsFormAt, IsItemRead}
+use Rattle.nesl_unify_graph.specs.Forms.{near, form_parts, AreItems, IsForm, IsFormAt, IsItemRead}
 
 -- t is the type at a place without a link, read one step sooner than at a place that is linked to it
 abbrev pub IsRootRead : Instances → List Node → ℕ → Term → Type 0
@@ -47,13 +46,13 @@ HasLeaves i ns r (seq_of t) = HasLeaves i ns r t
 HasLeaves i ns r (pair_of t u) = HasLeaves i ns r t × HasLeaves i ns r u
 HasLeaves i ns r (named n) = Unit {0}
 
--- so have those of the first n parts of an instance
-abbrev pub HaveLeaves : Instances → List Node → ℕ → ℕ → Type 0
-HaveLeaves i ns r n = (k : ℕ) → k < n → HasLeaves i ns r (type_at (parts_in i r) k)
+-- k is how many nodes a type of an instance has, where the types of its variables have one node each; 0 says nothing
+abbrev pub IsLeafSize : Instances → List Node → ℕ → Term → ℕ → Type 0
+IsLeafSize i ns r t k = 0 < k → HasLeaves i ns r t × (k ≡ nodes t)
 
--- an instance has all its parts, and a place for each variable of them
-abbrev pub HasParts : Instances → ℕ → Type 0
-HasParts i r = (k : ℕ) → k < length (parts_in i r) → HasPart i r k
+-- so are the sizes of the first n types that `f` gives
+abbrev pub AreLeafSizes : Instances → List Node → ℕ → (ℕ → Term) → ℕ → List ℕ → Type 0
+AreLeafSizes i ns r f n sizes = (p : ℕ) → p < n → IsLeafSize i ns r (f p) (slice_index sizes p)
 
 -- the nodes of a type that were counted when it was looked at
 abbrev pub look_nodes : Look → ℕ

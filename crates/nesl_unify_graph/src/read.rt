@@ -18,6 +18,9 @@ use std::alloc::{AllocError, Global};
 /// The most nodes of a type that is read.
 const MOST: usize = 4096;
 
+/// For how many nodes of a type room is taken at first.
+const ROOM: usize = 16;
+
 /// The shape of a form, whose parts are added to the items.
 fn push_parts(items: &mut Vec<Item>, form: Form) -> Result<Shape, AllocError>
     ensures items { OnOk result (items.new.items ≡ items.old.items ++ form_parts form) }
@@ -58,8 +61,8 @@ fn outline(
     ensures some { IfOk result (λ r. IfSome r (λ shapes. IsOutlineOf instances.now nodes.now place shapes.items)) }
     ensures none { IfOk result (λ r. IfNone r (IsLarger instances.now nodes.now 4096 place)) }
 {
-    let mut items = Vec::new(alloc);
-    let mut shapes = Vec::new(alloc);
+    let mut items = Vec::with_capacity(alloc, ROOM)?;
+    let mut shapes = Vec::with_capacity(alloc, ROOM)?;
     items.push(Item::At(place))?;
     let mut next = 0;
     while next < items.len() {

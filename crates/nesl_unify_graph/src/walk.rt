@@ -2,21 +2,21 @@
 
 ghost use Rattle.std.specs.Prelude.{◌≡◌, ◌+◌, ◌<◌, ◌++◌, ℕ, [], length, false};
 ghost use Rattle.std.specs.Prelude.{IsTrue, IfOk, IfSome, IfNone, OnOk, MatchOption};
-ghost use Rattle.nesl_types_bank.specs.Lists.{parts_of};
+ghost use Rattle.nesl_types_bank.specs.Shapes.{IsShapeBelow, shape_type};
 ghost use Rattle.nesl_types_bank.specs.Term.{Term, nodes as nodes_of};
 ghost use Rattle.nesl_types_bank.specs.Types.{type_at};
-ghost use Rattle.nesl_unify_graph.specs.Instances.{IsPart, AreBelow, parts_in};
+ghost use Rattle.nesl_unify_graph.specs.Instances.{IsPart, AreBelow, base_in, parts_in, place_in};
 ghost use Rattle.nesl_unify_graph.specs.Graph.{Fits, IsFlat, IsRoot, node_at, target};
 ghost use Rattle.nesl_unify_graph.specs.Readings.{AreReadWithin};
-ghost use Rattle.nesl_unify_graph.specs.Forms.{form_parts, HasPart, IsItem, IsTableOf, IsLarger};
-ghost use Rattle.nesl_unify_graph.specs.Sizes.{look_nodes, look_parts, AreSizes, HasLeaves, HaveLeaves, HasParts};
+ghost use Rattle.nesl_unify_graph.specs.Forms.{form_parts, IsItem, IsTableOf, IsLarger};
+ghost use Rattle.nesl_unify_graph.specs.Sizes.{look_nodes, look_parts, AreLeafSizes, AreSizes, IsLeaf, IsLeafSize};
 ghost use Rattle.nesl_unify_graph.specs.Sizes.{IsLook, IsRootLook, IsRootSize, IsSizeWithin};
 
 use crate::form::{Form, Item, Settled, root_form, settle};
-use crate::instances::{Instances, Source};
+use crate::instances::Instances;
 use crate::node::Node;
 use crate::table::{node_at, target};
-use nesl_types_bank::{Shape, Ty};
+use nesl_types_bank::Shape;
 use std::alloc::{AllocError, Global};
 
 /// For how many types that are still to be looked at room is taken at first.
@@ -24,10 +24,13 @@ const STACK_ROOM: usize = 64;
 
 /// How many steps are taken over the types of a graph at most. Typing is charged nothing, so its time is bounded here:
 /// what takes more steps is refused as out of memory.
-const MOST_STEPS: u64 = 3 << 24;
+const MOST_STEPS: u64 = 1 << 24;
 
-/// How many parts of a type are looked through for its variables in the time of a step.
-const PARTS_IN_A_STEP: u64 = 16;
+/// For how many parts of a type sizes are added up in the time of a step.
+const PARTS_IN_A_STEP: u64 = 8;
+
+/// A type of fewer parts is walked, which takes less time than to add up sizes.
+const FEW_PARTS: usize = 16;
 
 /// A type that was looked at.
 enum Look {
@@ -41,8 +44,8 @@ enum Look {
 #[derive(Drop)]
 struct Work {
     items: Vec<Item>,
-    /// How many steps may be taken yet: one for each type, and one for every `PARTS_IN_A_STEP` parts of a type whose
-    /// variables are sought.
+    /// How many steps may be taken yet: one for each type, and one for every `PARTS_IN_A_STEP` parts whose sizes are
+    /// added up.
     steps: u64,
 }
 
@@ -84,58 +87,124 @@ fn is_leaf(form: Form) -> bool
     }
 }
 
-/// Whether a part of an instance's type is no variable, or one whose type has one node.
-fn has_leaf(instances: &Instances, nodes: &[Node], instance: usize, part: usize) -> bool
-    requires made { AreBelow (length nodes.now) instances.now }
-    requires table { IsTableOf instances.now nodes.now }
-    requires flat { IsFlat nodes.now }
-    requires part { HasPart instances.now instance part }
-    ensures { IsTrue result → HaveLeaves instances.now nodes.now instance part
-        → HasLeaves instances.now nodes.now instance (type_at (parts_in instances.now instance) part) }
+/// Whether a variable of an instance has a place.
+fn has_place(instances: &Instances, instance: usize, variable: u64) -> bool
+    requires { instance < length instances.now.made.items }
+    ensures { IsTrue result → base_in instances.now instance + variable < length instances.now.fresh.items }
 {
-    match instances.parts(instance).shape(part) {
-        Shape::Var(variable) => {
-            let root = target(nodes, instances.place(instance, variable));
-            is_leaf(root_form(instances, nodes, root))
-        }
-        _ => true,
+    let base = instances.made[instance].base;
+    match base.checked_add(variable as usize) {
+        Some(at) => at < instances.fresh.len(),
+        None => false,
     }
 }
 
-/// Whether the types of all variables of an instance have one node each.
-fn have_leaves(instances: &Instances, nodes: &[Node], instance: usize) -> bool
+/// Whether the type of a variable of an instance has one node.
+fn is_leaf_variable(instances: &Instances, nodes: &[Node], instance: usize, variable: u64) -> bool
     requires below { AreBelow (length nodes.now) instances.now }
     requires table { IsTableOf instances.now nodes.now }
     requires flat { IsFlat nodes.now }
     requires made { instance < length instances.now.made.items }
-    requires parts { HasParts instances.now instance }
-    ensures { IsTrue result
-        → HaveLeaves instances.now nodes.now instance (length (parts_in instances.now instance)) }
+    ensures { IsTrue result → IsLeaf instances.now nodes.now
+        (target nodes.now (place_in instances.now instance variable)) }
 {
-    let count = instances.parts(instance).len();
-    let mut part = 0;
-    while part < count {
-        if !has_leaf(instances, nodes, instance, part) {
-            return false;
+    if !has_place(instances, instance, variable) {
+        return false;
+    }
+    let root = target(nodes, instances.place(instance, variable));
+    is_leaf(root_form(instances, nodes, root))
+}
+
+/// One more than the sizes of a type's parts, or 0 where one of them isn't known or the sum is too large.
+fn one_more(first: u64, second: u64) -> u64
+    ensures { 0 < result → (0 < first) × ((0 < second) × (result ≡ 1 + first + second)) }
+{
+    if first == 0 || second == 0 {
+        return 0;
+    }
+    match first.checked_add(second) {
+        Some(sum) => match sum.checked_add(1) {
+            Some(size) => size,
+            None => 0,
+        },
+        None => 0,
+    }
+}
+
+/// One more than the size of the only part of a type, or 0 where it isn't known or too large.
+fn one_above(part: u64) -> u64
+    ensures { 0 < result → (0 < part) × (result ≡ 1 + part) }
+{
+    if part == 0 {
+        return 0;
+    }
+    match part.checked_add(1) {
+        Some(size) => size,
+        None => 0,
+    }
+}
+
+/// How many nodes a type of an instance has by its shape and by the sizes of earlier ones, or 0 where that isn't known:
+/// the type of one of its variables has more than one node.
+fn shape_nodes(
+    instances: &Instances,
+    nodes: &[Node],
+    sizes: &[u64],
+    instance: usize,
+    shape: Shape,
+) -> u64
+    requires below { AreBelow (length nodes.now) instances.now }
+    requires table { IsTableOf instances.now nodes.now }
+    requires flat { IsFlat nodes.now }
+    requires made { instance < length instances.now.made.items }
+    requires shape { IsShapeBelow (length sizes.now) shape }
+    ensures { (f : ℕ → Term) → AreLeafSizes instances.now nodes.now instance f (length sizes.now) sizes.now
+        → IsLeafSize instances.now nodes.now instance (shape_type f shape) result }
+{
+    match shape {
+        Shape::Var(variable) => {
+            if is_leaf_variable(instances, nodes, instance, variable) {
+                1
+            } else {
+                0
+            }
         }
-        part += 1;
+        Shape::SeqOf(item) => one_above(sizes[item]),
+        Shape::Both(first, second) => one_more(sizes[first], sizes[second]),
+        _ => 1,
     }
-    true
 }
 
-/// The type of an instance, where it has one of its own.
-fn own_type(instances: &Instances, instance: usize) -> Option<&Ty>
-    requires { instance < length instances.now.made.items }
-    ensures { IfSome result (λ ty. parts_in instances.now instance ≡ parts_of ty.now) }
+/// How many nodes a part of an instance's type has, or 0 where that isn't known: the type of one of its variables has
+/// more than one node.
+fn part_nodes(
+    instances: &Instances,
+    nodes: &[Node],
+    instance: usize,
+    part: usize,
+) -> Result<u64, AllocError>
+    requires below { AreBelow (length nodes.now) instances.now }
+    requires table { IsTableOf instances.now nodes.now }
+    requires flat { IsFlat nodes.now }
+    requires part { IsPart instances.now instance part }
+    ensures { IfOk result
+        (IsLeafSize instances.now nodes.now instance (type_at (parts_in instances.now instance) part)) }
 {
-    match &instances.made[instance].source {
-        Source::Shared => None,
-        Source::Own(ty) => Some(ty),
+    let parts = instances.parts(instance);
+    let mut sizes = Vec::with_capacity(*instances.fresh.allocator(), part)?;
+    for place in 0..parts.len() {
+        let shape = parts.shape(place);
+        let size = shape_nodes(instances, nodes, sizes.as_slice(), instance, shape);
+        if place == part {
+            return Ok(size);
+        }
+        sizes.push(size)?;
     }
+    Ok(0)
 }
 
-/// How many nodes a part of an instance's type has, where it is a whole type and those of its variables have one each.
-fn whole_nodes(
+/// How many nodes a part of an instance's type has, where the types of its variables have one each.
+fn leafy_nodes(
     instances: &Instances,
     nodes: &[Node],
     steps: &mut u64,
@@ -149,21 +218,9 @@ fn whole_nodes(
     ensures { IfOk result (λ r. IfSome r (λ k. (p : ℕ) → node_at nodes.now p ≡ Node.Part instance part
         → IsRootSize instances.now nodes.now p k)) }
 {
-    let ty = match own_type(instances, instance) {
-        Some(ty) => ty,
-        None => return Ok(None),
-    };
-    let count = ty.parts().len();
-    let size = ty.nodes();
-    if part != count - 1 || size == u64::MAX {
-        return Ok(None);
-    }
-    take_steps(steps, 1 + count as u64 / PARTS_IN_A_STEP)?;
-    if have_leaves(instances, nodes, instance) {
-        Ok(Some(size))
-    } else {
-        Ok(None)
-    }
+    take_steps(steps, 1 + part as u64 / PARTS_IN_A_STEP)?;
+    let size = part_nodes(instances, nodes, instance, part)?;
+    if size > 0 { Ok(Some(size)) } else { Ok(None) }
 }
 
 /// How many nodes the type at a place without a link has, where it is found at once.
@@ -187,7 +244,12 @@ fn known_nodes(
         return Ok(Some(size));
     }
     match node_at(nodes, root) {
-        Node::Part { instance, part } => whole_nodes(instances, nodes, steps, instance, part),
+        Node::Part { instance, part } => {
+            if part < FEW_PARTS {
+                return Ok(None);
+            }
+            leafy_nodes(instances, nodes, steps, instance, part)
+        }
         _ => Ok(None),
     }
 }

@@ -1,7 +1,6 @@
-use Rattle.std.proofs.Common.{◌≡◌, ◌-◌, ◌++◌, ◌∷◌, List, [], length, ap, ◌∙◌, refl, sym, subst, arith}
+use Rattle.std.proofs.Common.{◌≡◌, ◌-◌, ◌++◌, ◌∷◌, List, [], length, ap, ◌∙◌, arith}
 use Rattle.nesl_unify.specs.declared.equation.Ends.{Ends}
 use Rattle.nesl_unify.specs.declared.equation.Sides.{Sides}
-use Rattle.nesl_unify.specs.Equations.{AreAlike}
 use Rattle.nesl_unify.proofs.Equations.{equated_ok, equated_never}
 use Rattle.nesl_unify.proofs.equation.equate.Goals as goal
 

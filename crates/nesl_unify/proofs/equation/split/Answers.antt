@@ -1,6 +1,4 @@
-use Rattle.std.proofs.Common.{◌∙◌}
 use Rattle.nesl_unify.specs.declared.equation.Ends.{Ends}
-use Rattle.nesl_unify.specs.Equations.{IsSplit}
 use Rattle.nesl_unify.proofs.Equations.{split_both, split_is}
 use Rattle.nesl_unify.proofs.equation.split.Goals as goal
 

@@ -1,4 +1,4 @@
-use Rattle.std.proofs.Common.{ℕ, sum_by}
+use Rattle.std.proofs.Common.{sum_by}
 use Rattle.nesl_unify.specs.Equations.{AreTakenApart, weight}
 use Rattle.nesl_unify.proofs.equation.take_all_apart.Given as goal
 

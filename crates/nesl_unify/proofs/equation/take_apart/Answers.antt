@@ -1,5 +1,3 @@
-use Rattle.std.specs.Prelude.{OnOk, Result, Ok, Err}
-use Rattle.std.proofs.Common.{◌∙◌}
 use Rattle.nesl_unify.proofs.Equations.{apart_left, apart_right, apart_split_ok}
 use Rattle.nesl_unify.proofs.equation.take_apart.Goals as goal
 

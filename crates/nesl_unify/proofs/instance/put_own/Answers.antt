@@ -1,4 +1,4 @@
-use Rattle.std.proofs.Common.{◌≡◌, ◌-◌, length, ap, ◌∙◌, refl, arith}
+use Rattle.std.proofs.Common.{◌≡◌, ◌-◌, length, arith}
 use Rattle.nesl_unify.proofs.Instances.{own_instance}
 use Rattle.nesl_unify.proofs.instance.put_own.Goals as goal
 

@@ -1,4 +1,3 @@
-use Rattle.std.proofs.Common.{ℕ}
 use Rattle.nesl_unify.specs.Equations.{AreOwnPlaces}
 use Rattle.nesl_unify.proofs.solve.own_places.Given as goal
 

@@ -1,4 +1,4 @@
-use Rattle.std.proofs.Common.{◌≡◌, ℕ, List, sym, subst, rules}
+use Rattle.std.proofs.Common.{List, sym, subst, rules}
 use Rattle.nesl_types.specs.Class.{class_at}
 use Rattle.nesl_unify_graph.specs.declared.node.Node.{Node}
 use Rattle.nesl_unify.specs.Solves.{type_in, IsReading}

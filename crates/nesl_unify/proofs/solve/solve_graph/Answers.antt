@@ -1,4 +1,4 @@
-use Rattle.std.proofs.Common.{◌≡◌, ◌<◌, ℕ, List, length, subst, rules}
+use Rattle.std.proofs.Common.{◌<◌, ℕ, List, length, subst, rules}
 use Rattle.nesl_types_bank.specs.Term.{Term, nodes}
 use Rattle.nesl_unify_graph.specs.declared.node.Node.{Node}
 use Rattle.nesl_unify_graph.specs.Graph.{Fits}

@@ -1,4 +1,4 @@
-use Rattle.std.proofs.Common.{◌≡◌, ◌∙◌, refl, ap, length, ℕ, get_or, subst, arith}
+use Rattle.std.proofs.Common.{◌≡◌, ap, length, ℕ, get_or, subst, arith}
 use Rattle.std.proofs.lemmas.List.{get_or_default}
 use Rattle.nesl_unify_graph.specs.declared.unify.Pair.{Pair}
 use Rattle.nesl_unify.specs.declared.fact.Fact.{Fact}

@@ -9,8 +9,8 @@ use Rattle.nesl_unify_graph.proofs.read.outline.Goals as goal
 
 pub loop-next-init : goal.loop-next-init
 loop-next-init c =
-    outline_first c.args.instances.now c.args.nodes.now c.args.place c.push.new.self.items c.new-shapes.result.items c.requires.place
-    (c.in_ok-push.ensures.items ∙ ap (λ (ys : List Item). ys ++ At c.args.place ∷ []) c.new-items.ensures.items) c.new-shapes.ensures.items
+    outline_first c.args.instances.now c.args.nodes.now c.args.place c.push.new.self.items c.in_ok-shapes.shapes.items c.requires.place
+    (c.in_ok-push.ensures.items ∙ ap (λ (ys : List Item). ys ++ At c.args.place ∷ []) c.in_ok-items.ensures.items) c.in_ok-shapes.ensures.items
 
 pub returns-then-next-eq-MOST-clause-none : goal.returns-then-next-eq-MOST-clause-none
 returns-then-next-eq-MOST-clause-none c =

@@ -1,7 +1,7 @@
-use Rattle.std.proofs.Common.{◌≡◌, ◌<◌, ◌∙◌, length, refl, sym, ap, subst, arith, ◌+◌}
+use Rattle.std.proofs.Common.{◌≡◌, ◌<◌, ◌∙◌, length, sym, ap, subst, arith, ◌+◌}
 use Rattle.std.specs.Prelude.{List}
 use Rattle.nesl_unify_graph.specs.declared.unify.Pair.{Pair}
-use Rattle.nesl_unify_graph.proofs.Matches.{AreMatched, matched_none, matched_other, matched_variable, matched_all, variable_place}
+use Rattle.nesl_unify_graph.proofs.Matches.{AreMatched, matched_other, matched_variable, matched_all, variable_place}
 use Rattle.nesl_unify_graph.proofs.twins.match_variables.Goals.{in-Var+in_ok-push, in_default}
 use Rattle.nesl_unify_graph.proofs.twins.match_variables.Goals as goal
 

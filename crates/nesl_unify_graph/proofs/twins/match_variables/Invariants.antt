@@ -1,4 +1,3 @@
-use Rattle.std.proofs.Common.{ℕ}
 use Rattle.nesl_types_bank.specs.Term.{Term}
 use Rattle.nesl_unify_graph.specs.Steps.{HaveWhole}
 use Rattle.nesl_unify_graph.proofs.Matches.{AreMatched}

@@ -1,6 +1,5 @@
-use Rattle.std.proofs.Common.{ap, arith, rules}
-use Rattle.nesl_unify_graph.specs.Graph.{node_at}
-use Rattle.nesl_unify_graph.proofs.Joins.{later_moves, read_node}
+use Rattle.std.proofs.Common.{arith, rules}
+use Rattle.nesl_unify_graph.proofs.Joins.{later_moves}
 use Rattle.nesl_unify_graph.proofs.Matches.{twins_at, met_whole, met_moves, met_table, met_pending, met_fewer}
 use Rattle.nesl_unify_graph.proofs.Steps.{graph_after}
 use Rattle.nesl_unify_graph.proofs.unify.meet_later.Goals as goal
