@@ -128,10 +128,10 @@ fn an_interval_has_a_helper_once_it_took_long_twice(rt: HostRuntime) {
     }
 }
 
-// An interval of 16 elements, by the work that it has done in some turns and the elements that it has left.
-fn asker_again(work: u64, left: u64) -> Asker {
+// An interval of 16 elements that asks again, by the fuel and the elements that it has left.
+fn asker_again(fuel: u64, left: u64) -> Asker {
     Asker {
-        fuel: FUEL - work,
+        fuel,
         taken: 1,
         ..asker(1, left)
     }
@@ -151,19 +151,19 @@ fn one_that_is_not_known_asks_again_after_some_turns(rt: HostRuntime) {
     assert!(rt; sparing.asks_again(FUEL - 4001, 1));
     clock.pass(29);
     assert!(rt;
-        !has_helper(&sparing, asker_again(5000, 15)),
+        !has_helper(&sparing, asker_again(FUEL - 5000, 15)),
         "29 microseconds say little"
     );
     assert!(rt; !sparing.asks_again(FUEL - 10_000, 1));
     assert!(rt; sparing.asks_again(FUEL - 10_001, 1));
     clock.pass(29);
     assert!(rt;
-        !has_helper(&sparing, asker_again(10_000, 13)),
+        !has_helper(&sparing, asker_again(FUEL - 10_000, 13)),
         "13 take 251 microseconds"
     );
     assert!(rt; sparing.asks_again(FUEL - 20_001, 1));
     clock.pass(58);
-    let permit = ask(&sparing, asker_again(20_000, 12));
+    let permit = ask(&sparing, asker_again(FUEL - 20_000, 12));
     assert!(rt; !sparing.asks_again(0, 1), "the halves don't");
     clock.pass(174);
     assert!(rt; end(&sparing, permit), "12 take 348 microseconds");
