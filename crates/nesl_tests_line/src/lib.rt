@@ -2,8 +2,6 @@
 #![tactic(auto)]
 
 #[cfg(test)]
-mod at_once;
-#[cfg(test)]
 mod batches;
 #[cfg(test)]
 mod conversation;
