@@ -9,7 +9,7 @@ use nesl_split_helpers::Asker;
 use nesl_values::{Element, Value};
 use std::alloc::Global;
 
-/// By how many operations one block is told from another.
+/// By how many operations one block is distinguished from another.
 const TOLD: usize = 3;
 
 /// Where a machine is that has reached an interval: the fuel that it has left, how many blocks it has still to end, and
@@ -70,7 +70,7 @@ fn len_at(source: &Value<Global>, place: usize) -> u64 {
     }
 }
 
-// A number by which a block is told from others, by where its first operations stand in the text and what they call.
+// A number that distinguishes a block from others, by the places of its first operations and by what they call.
 fn mark_of(block: &Body) -> u64 {
     let mut mark = 0;
     let mut ops = block.ops();

@@ -60,7 +60,7 @@ fn flat_of(fresh: &[u64], part: &Part<'_>) -> Option<Flat>
     }
 }
 
-/// The variable stands for the type with what the fresh variables stand for in place of its variables. It allocates
+/// The variable is the type with what the fresh variables stand for in place of its variables. It allocates
 /// nothing for a type whose parts are variables.
 pub fn equate_part(
     state: &mut State,
@@ -86,7 +86,7 @@ pub fn equate_part(
     }
 }
 
-/// The variable stands for a whole type with what the fresh variables stand for in place of its variables. Nothing of
+/// The variable is a whole type with what the fresh variables stand for in place of its variables. Nothing of
 /// the type is copied.
 fn equate_type(state: &mut State, variable: u64, fresh: &[u64], ty: &Ty) -> Result<(), AllocError>
     requires variable { variable < count state.old }

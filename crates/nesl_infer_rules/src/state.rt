@@ -102,7 +102,7 @@ impl State {
         Ok(variable)
     }
 
-    /// The variable stands for the type.
+    /// The variable is the type.
     pub fn equate_flat(&mut self, variable: u64, flat: Flat) -> Result<(), AllocError>
         requires variable { variable < count self.old }
         requires flat { IsBelow (count self.old) (flat_type flat) }
@@ -127,7 +127,7 @@ impl State {
         Ok(())
     }
 
-    /// The variable stands for a type with what the fresh variables stand for in place of its variables.
+    /// The variable is a type with what the fresh variables stand for in place of its variables.
     pub fn equate_instance(
         &mut self,
         variable: u64,
@@ -150,7 +150,7 @@ impl State {
         Ok(())
     }
 
-    /// The variable stands for a whole type with what the fresh variables stand for in place of its variables. Nothing
+    /// The variable is a whole type with what the fresh variables stand for in place of its variables. Nothing
     /// of the type is copied.
     pub fn equate_whole(&mut self, variable: u64, fresh: &[u64], ty: &Ty) -> Result<(), AllocError>
         requires variable { variable < count self.old }
@@ -168,7 +168,7 @@ impl State {
         Ok(())
     }
 
-    /// The variable stands for a type in which there are no variables.
+    /// The variable is a type in which there are no variables.
     pub fn equate_closed(&mut self, variable: u64, ty: &Ty) -> Result<(), AllocError>
         requires variable { variable < count self.old }
         requires ty { IsBelow 0 ty.now }
@@ -179,7 +179,7 @@ impl State {
         Ok(())
     }
 
-    /// The variable stands for the pairs of what the others stand for.
+    /// The variable is the pairs of what the others stand for.
     pub fn equate_pair(&mut self, variable: u64, first: u64, second: u64) -> Result<(), AllocError>
         requires variable { variable < count self.old }
         requires first { first < count self.old }
@@ -190,7 +190,7 @@ impl State {
         Ok(())
     }
 
-    /// The variable stands for the sequences of what the other stands for.
+    /// The variable is the sequences of what the other stands for.
     pub fn equate_sequence(&mut self, variable: u64, item: u64) -> Result<(), AllocError>
         requires variable { variable < count self.old }
         requires item { item < count self.old }

@@ -13,7 +13,7 @@ pub struct Asker {
     pub fuel: u64,
     /// How many blocks its machine has still to end.
     pub height: usize,
-    /// How many calls may still stand one within another.
+    /// How many calls may still be nested one within another.
     pub levels: u64,
     /// How many turns it has had.
     pub taken: usize,

@@ -34,7 +34,7 @@ const WORK_OF_MICROSECOND: u64 = 80;
 /// wait for each other. After one that was faster it is half as many times. Of 32 intervals one has no helpers from its
 /// beginning, so that the time without them stays known.
 ///
-/// Where the clock can't be read it stands at 0, and no interval takes long.
+/// Where the clock can't be read it is 0, and no interval takes long.
 #[derive(Drop)]
 pub struct Sparing<'a, C, H> {
     clock: &'a C,

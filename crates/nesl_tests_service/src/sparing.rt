@@ -5,7 +5,7 @@ use std::io;
 use std::sync::atomic::{AtomicU64, Ordering};
 use std::time::{Clock, Duration};
 
-// Stands at a microsecond until it is set.
+// Shows a microsecond until it is set.
 #[derive(Drop)]
 struct Still {
     at: AtomicU64,

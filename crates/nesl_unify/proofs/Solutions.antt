@@ -26,7 +26,7 @@ read_is i ns p t a l h =
     let far : 2 * nodes r.0 ≤ 8192 = omega (arith, r.1.1) in
     h r.0 r.1.0 r.1.1 ∙ sym (r.1.0 (λ q. int) 8192 far)
 
--- what variable v stands for in a graph with places for the first `count`
+-- what variable v means in a graph with places for the first `count`
 abbrev pub type_of_variable : Instances → ℕ → List Node → ℕ → Term
 type_of_variable i count ns v = if nat_lt v count then type_in i ns v else variable v
 
@@ -63,7 +63,7 @@ module _ (i : Instances) (count : ℕ) (ns : List Node) (k : IsSolved i count ns
     | inr g ↦ omega (arith, ap nodes (type_past i count ns v g))
   ]
 
-  -- classes of what is read are those of what variables stand for
+  -- classes of what is read are those of what variables mean
   pub solved_within : (members : List Member) (of : ℕ → Class) → All (λ m. m.variable < count) members → IsInAll (type_in i ns) of members → IsInAll (type_of_variable i count ns) of members
   solved_within members of below h j d l =
       let m = get_or members j d in

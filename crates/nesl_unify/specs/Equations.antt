@@ -42,7 +42,7 @@ part_node r k (shape.Both p q) = Part r k
 abbrev pub AreEnds : Sides → Ends → Type 0
 AreEnds x e = (e.left < length x.left) × (e.right < length x.right)
 
--- the types at the ends are one, where `s v` stands for each variable v
+-- the types at the ends are one, where each variable v means `s v`
 abbrev pub IsAlike : (ℕ → Term) → Sides → Ends → Type 0
 IsAlike s x e = substitute s (type_at x.left e.left) ≡ substitute s (type_at x.right e.right)
 
@@ -109,7 +109,7 @@ pub record IsAdded (i j : Instances) (t : Term) (r : ℕ) : Type 0 where
   pub fresh : j.fresh.items ≡ i.fresh.items
   pub place : r ≡ length i.made.items
 
--- both sides are the same type, where `s v` stands for each variable v
+-- both sides are the same type, where each variable v means `s v`
 abbrev pub IsEqual : (ℕ → Term) → Equation → Type 0
 IsEqual s e = substitute s e.left ≡ substitute s e.right
 

@@ -119,7 +119,7 @@ impl System {
         Ok(variable)
     }
 
-    /// An equation more: the variable stands for a type whose parts are variables.
+    /// An equation more: the variable is a type whose parts are variables.
     pub fn equate_flat(&mut self, variable: u64, flat: Flat) -> Result<(), AllocError>
         requires system { IsSystem self.old }
         requires variable { variable < count self.old }
@@ -136,7 +136,7 @@ impl System {
         Ok(())
     }
 
-    /// An equation more: the variable stands for an instance of a type, in which `fresh` gives each variable the one
+    /// An equation more: the variable is an instance of a type, in which `fresh` gives each variable the one
     /// that stands for it. The type is put among those that all instances share.
     pub fn equate_instance(
         &mut self,
@@ -162,7 +162,7 @@ impl System {
         Ok(())
     }
 
-    /// An equation more: the variable stands for an instance of a whole type, in which `fresh` gives each variable the
+    /// An equation more: the variable is an instance of a whole type, in which `fresh` gives each variable the
     /// one that stands for it. It costs no more for a large type.
     pub fn equate_whole(
         &mut self,
