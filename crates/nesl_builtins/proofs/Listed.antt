@@ -2,10 +2,10 @@
 use Rattle.std.proofs.Common.{◌≡◌, ℕ, zero, suc, ◌+◌, ◌<◌, Bool as Bool', true, false, not, ◌||◌, nat_eq, nat_lt, List, [], ◌∷◌, length, refl, sym, ap, subst, ◌∙◌, arith}
 use Rattle.std.proofs.lemmas.Bool.{and_parts, not-true, ltb-true, eq-eqb, and_from, true≢false}
 use Rattle.std.specs.List.{list_any}
-use Rattle.nesl_types_bank.specs.declared.shape.Shape.{Shape}
-use Rattle.nesl_types_bank.specs.declared.shape.Shape.TheVariants.{Int, Bool, Char, Var, Named, SeqOf, Both}
-use Rattle.nesl_types_bank.specs.Shapes.{shape_at, IsShapeBelow}
-use Rattle.nesl_types_bank.specs.Types.{StandOnce, AreTypes}
+use Rattle.nesl_types_shared.specs.declared.shape.Shape.{Shape}
+use Rattle.nesl_types_shared.specs.declared.shape.Shape.TheVariants.{Int, Bool, Char, Var, Named, SeqOf, Both}
+use Rattle.nesl_types_shared.specs.Shapes.{shape_at, IsShapeBelow}
+use Rattle.nesl_types_shared.specs.Types.{StandOnce, AreTypes}
 use Rattle.nesl_builtins.specs.Lists.{is_below, is_equal, are_made, are_apart, are_types}
 
 below : (n : ℕ) (s : Shape) → is_below n s ≡ true → IsShapeBelow n s

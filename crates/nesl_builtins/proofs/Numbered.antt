@@ -1,7 +1,7 @@
 -- The variables of each built-in are numbered in the order in which they first occur, and each has a class.
 use Rattle.std.proofs.Common.{◌≡◌, ◌++◌, length, refl}
-use Rattle.nesl_types_bank.specs.Numbering.{IsBelow, variables, first_occurrences, numbers_below}
-use Rattle.nesl_types_bank.proofs.Numbers.{numbered-below}
+use Rattle.nesl_types_shared.specs.Numbering.{IsBelow, variables, first_occurrences, numbers_below}
+use Rattle.nesl_types_shared.proofs.Numbers.{numbered-below}
 use Rattle.nesl_builtins.specs.declared.builtin.Builtin.{Builtin}
 use Rattle.nesl_builtins.specs.declared.builtin.Builtin.TheVariants.{OfOne, OfTwo, OfSequences}
 use Rattle.nesl_builtins.specs.FunctionTypes.{FunctionType, builtin_type}

@@ -1,11 +1,11 @@
 -- Lists of shapes, told whether they are types.
 use Rattle.std.specs.Prelude.{◌≡◌, ◌<◌, length, ℕ, suc, Bool as Bool', true, false, not, ◌&&◌, nat_eq, nat_lt, List, [], ◌∷◌}
 use Rattle.std.specs.List.{list_any}
-use Rattle.nesl_types_bank.specs.Lists.{last_type}
-use Rattle.nesl_types_bank.specs.Term.{Term}
-use Rattle.nesl_types_bank.specs.Types.{types}
-use Rattle.nesl_types_bank.specs.declared.shape.Shape.{Shape}
-use Rattle.nesl_types_bank.specs.declared.shape.Shape.TheVariants.{Int, Bool, Char, Var, Named, SeqOf, Both}
+use Rattle.nesl_types_shared.specs.Lists.{last_type}
+use Rattle.nesl_types_shared.specs.Term.{Term}
+use Rattle.nesl_types_shared.specs.Types.{types}
+use Rattle.nesl_types_shared.specs.declared.shape.Shape.{Shape}
+use Rattle.nesl_types_shared.specs.declared.shape.Shape.TheVariants.{Int, Bool, Char, Var, Named, SeqOf, Both}
 
 -- whether its parts are at places below n
 abbrev pub is_below : ℕ → Shape → Bool'

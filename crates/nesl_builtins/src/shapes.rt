@@ -1,12 +1,12 @@
 //! The lists of the types that built-in functions take and give.
 
 ghost use Rattle.std.specs.Prelude.{◌≡◌, ◌<◌, true, length};
-ghost use Rattle.nesl_types_bank.specs.Types.{types};
-ghost use Rattle.nesl_types_bank.specs.Lists.{last_type};
+ghost use Rattle.nesl_types_shared.specs.Types.{types};
+ghost use Rattle.nesl_types_shared.specs.Lists.{last_type};
 ghost use Rattle.nesl_builtins.specs.Lists.{are_types};
 
 use nesl_types::Part;
-use nesl_types_bank::{Parts, Shape};
+use nesl_types_shared::{Parts, Shape};
 
 pub const INT: [Shape; 1] = [Shape::Int];
 

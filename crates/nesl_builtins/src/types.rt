@@ -14,7 +14,7 @@ use crate::shapes::{
 use nesl_scalars::{Binary, Unary};
 use nesl_seqs_base::seq_fn::SeqFn;
 use nesl_types::{Class, Part, Scheme, Ty};
-use nesl_types_bank::{Bank, Shape};
+use nesl_types_shared::{Bank, Shape};
 use std::alloc::{AllocError, Global};
 
 /// What a built-in function takes.

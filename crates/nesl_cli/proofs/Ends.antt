@@ -1,6 +1,6 @@
 -- How a prompt ends.
 use Rattle.std.proofs.Common.{◌≡◌, ℕ, List, Bool, Option, Some, None, option_map, refl, sym, ap, ◌∙◌, subst}
-use Rattle.nesl_session_step.specs.State.{Log, empty_log}
+use Rattle.nesl_session_meaning.specs.State.{Log, empty_log}
 use Rattle.nesl_line.specs.declared.exchange.End.{End}
 use Rattle.nesl_line.specs.declared.exchange.End.TheVariants.{Input, ReadFault, WriteFault, NoMemory}
 use Rattle.nesl_prompt.specs.Conversation.{IsPrompt}

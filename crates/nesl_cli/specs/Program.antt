@@ -1,8 +1,8 @@
 -- What the program does.
 use Rattle.std.specs.Prelude.{◌≡◌, ℕ, List, [], Option, Some, None, Bool, true, false, slice_get, option_map}
 use Rattle.std.specs.Io.KnownBytes.{Consumes, Appends}
-use Rattle.nesl_session_step.specs.declared.limits.Limits.{Limits}
-use Rattle.nesl_session_step.specs.State.{Log, empty_log}
+use Rattle.nesl_session_meaning.specs.declared.limits.Limits.{Limits}
+use Rattle.nesl_session_meaning.specs.State.{Log, empty_log}
 use Rattle.nesl_house.specs.declared.roster.NewFault.TheVariants as refusal
 use Rattle.nesl_house.specs.Roster.{IsRoster, IsRefused, new_house}
 use Rattle.nesl_house.specs.Runs.{Account}

@@ -6,8 +6,8 @@ ghost use Rattle.nesl_eval_code.specs.Means.{IsTableOf, names_of};
 ghost use Rattle.nesl_eval_meaning.specs.Names.{outside};
 ghost use Rattle.nesl_eval_meaning.specs.Out.{within};
 ghost use Rattle.nesl_eval_meaning.specs.Outcome.{out};
-ghost use Rattle.nesl_eval_env.specs.Stored.{environment, names_in};
-ghost use Rattle.nesl_eval_env.specs.TopLevels.{table_in, bodies_in};
+ghost use Rattle.nesl_eval_top_level.specs.Stored.{environment, names_in};
+ghost use Rattle.nesl_eval_top_level.specs.TopLevels.{table_in, bodies_in};
 ghost use Rattle.nesl_eval_ops.specs.View.{HasBodies};
 ghost use Rattle.nesl_eval.specs.Outcomes.{OutcomeIs};
 ghost use Rattle.nesl_eval.specs.Copied.{AreCopies, copies-prop, tree_at};
@@ -15,7 +15,7 @@ ghost use Rattle.nesl_eval.specs.Copied.{AreCopies, copies-prop, tree_at};
 use crate::outcome::{Outcome, evaluate};
 use crate::reached::places_reached;
 use nesl_eval_code::{Code, runs_as_meant};
-use nesl_eval_env::{Env, TopLevel, prepare};
+use nesl_eval_top_level::{Env, TopLevel, prepare};
 use nesl_eval_nodes::held::{Held, Tops};
 use nesl_eval_ops::expression_ops;
 use nesl_syntax_tree::tree::Exp;
@@ -32,24 +32,24 @@ struct Copies<'e, A: Allocator> {
 }
 
 impl<'e, A: Allocator> Tops<A> for Copies<'e, A> {
-    ghost use Rattle.nesl_eval_env.specs.TopLevels.{table_in};
+    ghost use Rattle.nesl_eval_top_level.specs.TopLevels.{table_in};
 
     ghost table = { λ c. table_in c.tops };
 
     #[tactic(auto, using(crate::proofs::Copying::copy_stands))]
     fn held(&self, place: usize) -> Result<Held<'_, A>, AllocError> {
         match self.tops.held(place) {
-            nesl_eval_env::Held::Variable(_) => match lent_copy(&self.values, place) {
+            nesl_eval_top_level::Held::Variable(_) => match lent_copy(&self.values, place) {
                 Some(copy) => Ok(Held::Variable(copy)),
                 None => Err(AllocError),
             },
-            nesl_eval_env::Held::Function(code) => Ok(Held::Function(code)),
-            nesl_eval_env::Held::Datatype(tag) => Ok(Held::Datatype(tag)),
-            nesl_eval_env::Held::Nothing => Ok(Held::Nothing),
+            nesl_eval_top_level::Held::Function(code) => Ok(Held::Function(code)),
+            nesl_eval_top_level::Held::Datatype(tag) => Ok(Held::Datatype(tag)),
+            nesl_eval_top_level::Held::Nothing => Ok(Held::Nothing),
         }
     }
 
-    #[tactic(auto, using(nesl_eval_env::proofs::Lent::place_named))]
+    #[tactic(auto, using(nesl_eval_top_level::proofs::Lent::place_named))]
     fn place_of(&self, name: &[u8]) -> Option<usize> {
         self.tops.place_of(name)
     }
@@ -126,7 +126,7 @@ fn copy_at<A: Allocator + Copy>(
         return None;
     }
     match tops.held(place) {
-        nesl_eval_env::Held::Variable(value) => match value.copy_into(heap) {
+        nesl_eval_top_level::Held::Variable(value) => match value.copy_into(heap) {
             Ok(copy) => Some(copy),
             Err(_) => None,
         },

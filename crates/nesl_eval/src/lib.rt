@@ -7,6 +7,6 @@ mod outcome;
 mod reached;
 
 pub use copies::eval_one_in;
-pub use nesl_eval_env::Env;
+pub use nesl_eval_top_level::Env;
 pub use one::eval_one;
 pub use outcome::{Outcome, outcome_of};

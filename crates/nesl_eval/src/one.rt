@@ -4,12 +4,12 @@ ghost use Rattle.nesl_syntax_tree.specs.Views.{tree_of};
 ghost use Rattle.nesl_eval_meaning.specs.Names.{outside};
 ghost use Rattle.nesl_eval_meaning.specs.Out.{within};
 ghost use Rattle.nesl_eval_meaning.specs.Outcome.{out};
-ghost use Rattle.nesl_eval_env.specs.Stored.{environment};
+ghost use Rattle.nesl_eval_top_level.specs.Stored.{environment};
 ghost use Rattle.nesl_eval.specs.Outcomes.{OutcomeIs};
 
 use crate::outcome::{Outcome, evaluate};
 use nesl_eval_code::runs_as_meant;
-use nesl_eval_env::{Env, prepare};
+use nesl_eval_top_level::{Env, prepare};
 use nesl_eval_ops::expression_ops;
 use nesl_syntax_tree::tree::Exp;
 use std::alloc::Global;

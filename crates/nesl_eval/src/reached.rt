@@ -3,11 +3,11 @@ ghost use Rattle.std.specs.Prelude.{◌≡◌, ◌<◌, ℕ, Some, IfOk, OnOk, l
 ghost use Rattle.std.specs.List.{AllByRecursion};
 ghost use Rattle.nesl_eval_code.specs.Means.{names_of, place_of};
 ghost use Rattle.nesl_eval_code.specs.Run.{function_slot, slot_at};
-ghost use Rattle.nesl_eval_env.specs.TopLevels.{table_in};
+ghost use Rattle.nesl_eval_top_level.specs.TopLevels.{table_in};
 ghost use Rattle.nesl_eval.specs.Reached.{count_of, AreQueued, Grows, IsMarked, Marks, Reaches};
 
 use nesl_eval_code::Code;
-use nesl_eval_env::{Held, TopLevel};
+use nesl_eval_top_level::{Held, TopLevel};
 use std::alloc::{AllocError, Global};
 
 /// Which places were met, and these in the order in which they were.

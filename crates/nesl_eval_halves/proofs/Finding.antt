@@ -20,8 +20,8 @@ use Rattle.nesl_eval_halves.specs.declared.found.Wanted.{Wanted}
 use Rattle.nesl_eval_halves.specs.declared.found.Wanted.TheVariants.{Places, Values}
 use Rattle.nesl_eval_halves.specs.declared.found.Found.{Found}
 use Rattle.nesl_eval_halves.specs.declared.found.Found.TheVariants as found
-use Rattle.nesl_split_helpers.specs.Halves.{after_cost}
-use Rattle.nesl_split_helpers.specs.declared.halving.Half.{Half}
+use Rattle.nesl_eval_helpers.specs.Halves.{after_cost}
+use Rattle.nesl_eval_helpers.specs.declared.halving.Half.{Half}
 use Rattle.nesl_eval_halves.specs.Finding.{Element, of_value, found_at, IsOf, Are, Adds}
 
 -- the same run in other words

@@ -10,8 +10,8 @@ use Rattle.nesl_eval_nodes.specs.declared.meter.Meter.{Meter}
 use Rattle.nesl_eval_nodes.specs.declared.meter.Stop.{Stop}
 use Rattle.nesl_eval_nodes.specs.declared.meter.Stop.TheVariants.{Fault, Over, Memory, Stuck}
 use Rattle.nesl_eval_nodes.specs.Meets.{Meets}
-use Rattle.nesl_split_helpers.specs.Halves.{after_cost}
-use Rattle.nesl_split_helpers.specs.declared.halving.Half.{Half}
+use Rattle.nesl_eval_helpers.specs.Halves.{after_cost}
+use Rattle.nesl_eval_helpers.specs.declared.halving.Half.{Half}
 use Rattle.nesl_eval_halves.specs.declared.turns.Turns.{Turns}
 use Rattle.nesl_eval_halves.specs.declared.turns.Interval.{Interval}
 use Rattle.nesl_eval_halves.specs.Finding.{of_value}

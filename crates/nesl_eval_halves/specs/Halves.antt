@@ -6,8 +6,8 @@ use Rattle.nesl_eval_nodes.specs.declared.meter.Meter.{Meter}
 use Rattle.nesl_eval_nodes.specs.declared.meter.Stop.{Stop}
 use Rattle.nesl_eval_nodes.specs.declared.meter.Stop.TheVariants.{Fault, Over, Memory, Stuck}
 use Rattle.nesl_eval_nodes.specs.Meets.{Meets}
-use Rattle.nesl_split_helpers.specs.declared.halving.Half.{Half}
-use Rattle.nesl_split_helpers.specs.Halves.{after_cost as after, IsWithin}
+use Rattle.nesl_eval_helpers.specs.declared.halving.Half.{Half}
+use Rattle.nesl_eval_helpers.specs.Halves.{after_cost as after, IsWithin}
 use Rattle.nesl_eval_rounds.specs.Leads.{Leads}
 use Rattle.nesl_eval_code.specs.Run.{Table}
 use Rattle.nesl_eval_ops.specs.View.{block_of}

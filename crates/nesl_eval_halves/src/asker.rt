@@ -5,7 +5,7 @@ ghost use Rattle.nesl_eval_halves.specs.Intervals.{AreIn};
 use crate::turns::{Interval, Turns};
 use nesl_eval_ops::{Body, Callee, Ops};
 use nesl_lex::token::Span;
-use nesl_split_helpers::Asker;
+use nesl_eval_helpers::Asker;
 use nesl_values::{Element, Value};
 use std::alloc::Global;
 

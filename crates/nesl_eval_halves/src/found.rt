@@ -7,12 +7,12 @@ ghost use Rattle.nesl_eval_meaning.specs.Out.{Out, beside};
 ghost use Rattle.nesl_eval_meaning.specs.Outcome.{place_if_true, body_value};
 ghost use Rattle.nesl_eval_nodes.specs.Meets.{Meets};
 ghost use Rattle.nesl_eval_nodes.specs.Sides.{Has};
-ghost use Rattle.nesl_split_helpers.specs.Halves.{after_cost, IsWithin};
+ghost use Rattle.nesl_eval_helpers.specs.Halves.{after_cost, IsWithin};
 ghost use Rattle.nesl_eval_halves.specs.Finding.{Element, kind_of, IsOf, Are, Adds, of_value};
 
 use nesl_eval_nodes::meter::{Meter, Stop};
 use nesl_eval_nodes::nodes::{add, keep_if, pay, read_truth};
-use nesl_split_helpers::{Half, join_places, join_values};
+use nesl_eval_helpers::{Half, join_places, join_values};
 use nesl_values::Value;
 use nesl_values_builder::SequenceBuilder;
 use std::alloc::Global;

@@ -6,7 +6,7 @@ use crate::asker::{Moment, asker_of};
 use crate::columns::are_in_columns;
 use crate::turns::{Interval, Turns};
 use nesl_eval_nodes::held::Tops;
-use nesl_split_helpers::{Advice, Helpers};
+use nesl_eval_helpers::{Advice, Helpers};
 use std::alloc::Global;
 
 /// A helper that was granted for turns, and how many intervals may still be cut one within another.

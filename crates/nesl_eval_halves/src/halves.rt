@@ -20,7 +20,7 @@ use nesl_eval_nodes::held::Tops;
 use nesl_eval_nodes::meter::Stop;
 use nesl_eval_ops::Ops;
 use nesl_eval_rounds::Round;
-use nesl_split_helpers::{Gate, Helpers};
+use nesl_eval_helpers::{Gate, Helpers};
 use nesl_values::Value;
 use std::alloc::Global;
 use std::thread::Threads;

@@ -18,7 +18,7 @@ use crate::turns::{Interval, Turns, end_turn, idle_machine, set_at_turn};
 use nesl_eval_machine::state::Machine;
 use nesl_eval_nodes::held::Tops;
 use nesl_eval_nodes::meter::{Meter, Stop};
-use nesl_split_helpers::{Gate, Half, Helpers, Place, begin_meter, cost_since};
+use nesl_eval_helpers::{Gate, Half, Helpers, Place, begin_meter, cost_since};
 use std::alloc::Global;
 use std::thread::Threads;
 

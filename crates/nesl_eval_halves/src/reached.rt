@@ -18,7 +18,7 @@ use nesl_eval_nodes::nodes::keep;
 use nesl_eval_ops::{Body, Ops};
 use nesl_eval_rounds::Round;
 use nesl_lex::token::Span;
-use nesl_split_helpers::Helpers;
+use nesl_eval_helpers::Helpers;
 use nesl_values::Value;
 use std::alloc::Global;
 

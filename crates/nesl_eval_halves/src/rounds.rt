@@ -17,7 +17,7 @@ use crate::turns::{Interval, Room, Turns};
 use nesl_eval_machine::state::Machine;
 use nesl_eval_nodes::meter::{Meter, Stop};
 use nesl_eval_rounds::{Round, go_to_body};
-use nesl_split_helpers::begin_meter;
+use nesl_eval_helpers::begin_meter;
 use std::alloc::Global;
 
 /// What turns stand in that a machine takes together, and the meter that they begin with: they have all its fuel.

@@ -14,7 +14,7 @@ use nesl_eval_machine::state::Machine;
 use nesl_eval_nodes::held::Tops;
 use nesl_eval_nodes::meter::{Meter, Stop};
 use nesl_eval_ops::Ops;
-use nesl_split_helpers::{Gate, Helpers};
+use nesl_eval_helpers::{Gate, Helpers};
 use nesl_values::Value;
 use std::alloc::Global;
 use std::thread::Threads;

@@ -8,20 +8,20 @@ use Rattle.nesl_eval_meaning.specs.Out.{Out, value, and_then, beside, all_beside
 use Rattle.nesl_eval_meaning.specs.Outcome.{body_value, place_if_true}
 use Rattle.nesl_eval_columns.specs.Each.{EachThree}
 use Rattle.nesl_eval_plain.specs.Comes.{Comes, chosen}
-use Rattle.nesl_eval_plain_results.specs.Costs.{greatest, cost_in, costs_in, costs_at, each_cost}
-use Rattle.nesl_eval_plain_results.specs.Values.{AreOfSize}
+use Rattle.nesl_eval_column_results.specs.Costs.{greatest, cost_in, costs_in, costs_at, each_cost}
+use Rattle.nesl_eval_column_results.specs.Values.{AreOfSize}
 use Rattle.std.proofs.lemmas.Option.{same_Some, slice_get-map, slice_get-get_or, slice_get_within}
 use Rattle.std.proofs.lemmas.List.{length-replicate, get_or-replicate}
-use Rattle.nesl_eval_plain_results.proofs.Costing.{sum_next}
-use Rattle.nesl_eval_plain_results.proofs.Framed.{frames-Rows}
-use Rattle.nesl_eval_plain_results.specs.Frames.{AreAt, frames_in}
+use Rattle.nesl_eval_column_results.proofs.Costing.{sum_next}
+use Rattle.nesl_eval_column_results.proofs.Framed.{frames-Rows}
+use Rattle.nesl_eval_column_results.specs.Frames.{AreAt, frames_in}
 use Rattle.nesl_eval_plain_parts.proofs.Costed.{cost_is}
 use Rattle.nesl_eval_nodes.specs.Sides.{places_of}
-use Rattle.nesl_eval_plain_results.specs.declared.block.Block.{Block}
-use Rattle.nesl_eval_plain_results.specs.declared.scopes.Scopes.{Rows}
-use Rattle.nesl_eval_plain_results.specs.declared.costs.Costs.{Costs}
-use Rattle.nesl_eval_plain_results.specs.Blocks.{block_places, frames_at, IsWithin}
-use Rattle.nesl_eval_plain_results.proofs.Places.{len_range}
+use Rattle.nesl_eval_column_results.specs.declared.block.Block.{Block}
+use Rattle.nesl_eval_column_results.specs.declared.scopes.Scopes.{Rows}
+use Rattle.nesl_eval_column_results.specs.declared.costs.Costs.{Costs}
+use Rattle.nesl_eval_column_results.specs.Blocks.{block_places, frames_at, IsWithin}
+use Rattle.nesl_eval_column_results.proofs.Places.{len_range}
 
 -- one leaf at all turns
 pub replicated : {X : Type 0} (n k : ℕ) (v : X) → k < n → slice_get (replicate n v) k ≡ Some v

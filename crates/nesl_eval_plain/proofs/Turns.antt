@@ -10,10 +10,10 @@ use Rattle.nesl_eval_meaning.specs.Out.{Out, value, and_then, beside, all_beside
 use Rattle.nesl_eval_meaning.specs.Outcome.{body_value, place_if_true}
 use Rattle.nesl_eval_meaning.proofs.Joins.{all_halved}
 use Rattle.nesl_eval_plain.specs.Comes.{Comes, chosen}
-use Rattle.nesl_eval_plain_results.specs.Costs.{greatest}
-use Rattle.nesl_eval_plain_results.specs.Values.{AreOfSize}
+use Rattle.nesl_eval_column_results.specs.Costs.{greatest}
+use Rattle.nesl_eval_column_results.specs.Values.{AreOfSize}
 use Rattle.nesl_eval_plain.proofs.Comes.{bodies_of, filters_of}
-use Rattle.nesl_eval_plain_results.proofs.Places.{len_range}
+use Rattle.nesl_eval_column_results.proofs.Places.{len_range}
 
 value_is : {X : Type 0} (xs ys : X) (m n i j : ℕ) → xs ≡ ys → m ≡ n → i ≡ j → value xs m i ≡ value ys n j
 value_is xs ys m n i j e f h = cc

@@ -4,5 +4,5 @@
 
 mod whole;
 
-pub use nesl_eval_plain_results::block::Block;
+pub use nesl_eval_column_results::block::Block;
 pub use whole::{LEAST, bodies_in_columns, filters_in_columns};

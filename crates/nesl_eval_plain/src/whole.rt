@@ -11,7 +11,7 @@ ghost use Rattle.nesl_eval_nodes.specs.Sides.{places_of, Has};
 ghost use Rattle.nesl_eval_nodes.specs.Meets.{Meets};
 ghost use Rattle.nesl_eval_columns.specs.Columns.{leaves_of};
 ghost use Rattle.nesl_eval_plain.specs.Comes.{chosen};
-ghost use Rattle.nesl_eval_plain_results.specs.Blocks.{block_places, IsWithin};
+ghost use Rattle.nesl_eval_column_results.specs.Blocks.{block_places, IsWithin};
 ghost use Rattle.nesl_eval_plain.specs.Blocks.{IsPartOf};
 
 use nesl_eval_code::Code;
@@ -20,10 +20,10 @@ use nesl_eval_nodes::held::Tops;
 use nesl_eval_nodes::meter::Meter;
 use nesl_eval_nodes::places::Places;
 use nesl_eval_plain_parts::{Bodies, bodies_at, filter_at, is_plain};
-use nesl_eval_plain_results::block::Block;
-use nesl_eval_plain_results::costs::{Paid, total_of};
-use nesl_eval_plain_results::found::Found;
-use nesl_eval_plain_results::values::extended;
+use nesl_eval_column_results::block::Block;
+use nesl_eval_column_results::costs::{Paid, total_of};
+use nesl_eval_column_results::found::Found;
+use nesl_eval_column_results::values::extended;
 use nesl_values_builder::SequenceBuilder;
 use std::alloc::Allocator;
 

@@ -11,10 +11,10 @@ use Rattle.nesl_eval_code.specs.declared.code.Code.{Code}
 use Rattle.nesl_eval_code.specs.Frames.{Frames}
 use Rattle.nesl_eval_code.specs.Run.{Runs}
 use Rattle.nesl_eval_columns.specs.Sides.{Ranks}
-use Rattle.nesl_eval_plain_results.specs.Costs.{Sums, Merges}
-use Rattle.nesl_eval_plain_results.specs.Frames.{IsAt, AreAt}
+use Rattle.nesl_eval_column_results.specs.Costs.{Sums, Merges}
+use Rattle.nesl_eval_column_results.specs.Frames.{IsAt, AreAt}
 use Rattle.nesl_eval_plain_parts.specs.Found.{Chooses}
-use Rattle.nesl_eval_plain_results.proofs.Framed.{mapped_some}
+use Rattle.nesl_eval_column_results.proofs.Framed.{mapped_some}
 
 -- the test, and then the side that it tells
 pub choice_finds : (f : Runs) (at : ℕ → Option Frames) (a b c : Code) (bs : List Bool) (xs : List Value) (vs : ℕ → Option Value) (ms ns os : ℕ → Option ℕ) → AreAt (λ fs. f fs a) at (slice_get xs) ms → map boolean bs ≡ xs → Chooses (slice_get bs) (λ fs. f fs b) (λ fs. f fs c) at vs ns → Sums ms ns os → AreAt (λ fs. and_then (f fs a) (λ x. branch (as_bool x) (f fs b) (f fs c))) at vs os

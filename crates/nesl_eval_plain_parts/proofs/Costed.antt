@@ -14,7 +14,7 @@ use Rattle.nesl_eval_meaning.specs.Out.{Out, value, fault, stuck, after_cost, an
 use Rattle.nesl_eval_meaning.specs.Outcome.{apply_builtin, on_scalars, on_sequence, small_enough}
 use Rattle.nesl_eval_code.specs.Run.{Runs, Table, run, run_node, run_two}
 use Rattle.nesl_seqs_base.specs.declared.seq_fn.SeqFn.TheVariants.{ElementAt}
-use Rattle.nesl_eval_plain_results.specs.Picked.{Picks}
+use Rattle.nesl_eval_column_results.specs.Picked.{Picks}
 use Rattle.std.proofs.lemmas.Bool.Decides.{nat_tests}
 
 -- a value with other numbers

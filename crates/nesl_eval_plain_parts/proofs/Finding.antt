@@ -19,13 +19,13 @@ use Rattle.nesl_eval_meaning.specs.Outcome.{small_enough, apply_builtin}
 use Rattle.nesl_eval_code.specs.Run.{Runs, Table, run, run_node, run_two, run_let, run_called, Slot, function_slot}
 use Rattle.nesl_eval_columns.specs.Each.{EachTwo}
 use Rattle.nesl_eval_columns.specs.Columns.{Makes}
-use Rattle.nesl_eval_plain_results.specs.declared.columns.Columns.{Columns}
-use Rattle.nesl_eval_plain_results.specs.Columns.{value_at, SameUpTo, Pairs, Applies}
-use Rattle.nesl_eval_plain_results.specs.Costs.{Sums}
-use Rattle.nesl_eval_plain_results.specs.Picked.{Picks}
-use Rattle.nesl_eval_plain_results.specs.Frames.{bound_at, IsAt, AreAt}
+use Rattle.nesl_eval_column_results.specs.declared.columns.Columns.{Columns}
+use Rattle.nesl_eval_column_results.specs.Columns.{value_at, SameUpTo, Pairs, Applies}
+use Rattle.nesl_eval_column_results.specs.Costs.{Sums}
+use Rattle.nesl_eval_column_results.specs.Picked.{Picks}
+use Rattle.nesl_eval_column_results.specs.Frames.{bound_at, IsAt, AreAt}
 use Rattle.nesl_eval_plain_parts.proofs.Costed.{entered_at, applied_at, two_at, added_added, element_at, made_at}
-use Rattle.nesl_eval_plain_results.proofs.Each.{each_at, three_at}
+use Rattle.nesl_eval_column_results.proofs.Each.{each_at, three_at}
 
 -- the same outcomes
 pub at_so : (p q : Frames → Out Value) (at : ℕ → Option Frames) (vs : ℕ → Option Value) (ns : ℕ → Option ℕ) → ((fs : Frames) → p fs ≡ q fs) → AreAt q at vs ns → AreAt p at vs ns

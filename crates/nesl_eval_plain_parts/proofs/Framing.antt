@@ -2,12 +2,12 @@
 use Rattle.std.proofs.Common.{◌≡◌, ℕ, List, [], ◌∷◌, Some, Bor, ap, ◌∙◌}
 use Rattle.std.specs.Prelude.{slice_get, option_map, option_and_then}
 use Rattle.nesl_eval_code.specs.Frames.{Frames}
-use Rattle.nesl_eval_plain_results.specs.declared.block.Block.{Block}
-use Rattle.nesl_eval_plain_results.specs.declared.columns.Columns.{Columns}
-use Rattle.nesl_eval_plain_results.specs.declared.scopes.Scopes.{Scopes, Let, Call, Turns}
-use Rattle.nesl_eval_plain_results.specs.Columns.{value_at}
-use Rattle.nesl_eval_plain_results.specs.Frames.{bound_at, frames_in}
-use Rattle.nesl_eval_plain_results.proofs.Framed.{frames-Let, frames-Call, frames-Turns}
+use Rattle.nesl_eval_column_results.specs.declared.block.Block.{Block}
+use Rattle.nesl_eval_column_results.specs.declared.columns.Columns.{Columns}
+use Rattle.nesl_eval_column_results.specs.declared.scopes.Scopes.{Scopes, Let, Call, Turns}
+use Rattle.nesl_eval_column_results.specs.Columns.{value_at}
+use Rattle.nesl_eval_column_results.specs.Frames.{bound_at, frames_in}
+use Rattle.nesl_eval_column_results.proofs.Framed.{frames-Let, frames-Call, frames-Turns}
 
 -- the frames at some of the turns
 pub turns_at : {A T : Type 0} (b : Block A T) (ts : Bor (List ℕ)) (us : List ℕ) (rest : Bor (Scopes A)) (s : Scopes A) (k : ℕ) → ts.now ≡ us → rest.now ≡ s → frames_in b (Turns ts rest) k ≡ option_and_then (frames_in b s) (slice_get us k)

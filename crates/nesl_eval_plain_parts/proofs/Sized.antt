@@ -4,8 +4,8 @@ use Rattle.std.specs.Prelude.{slice_get}
 use Rattle.std.proofs.lemmas.Option.{slice_get_within}
 use Rattle.nesl_values.specs.Tree.{size}
 use Rattle.nesl_eval_meaning.specs.Names.{Value}
-use Rattle.nesl_eval_plain_results.specs.Columns.{SameUpTo}
-use Rattle.nesl_eval_plain_results.specs.Values.{AreOfSize}
+use Rattle.nesl_eval_column_results.specs.Columns.{SameUpTo}
+use Rattle.nesl_eval_column_results.specs.Values.{AreOfSize}
 
 -- how many nodes values have
 sized_each : (n : ℕ) (vs : List Value) → ((k : ℕ) (v : Value) → slice_get vs k ≡ Some v → size v ≡ n) → AreOfSize n vs

@@ -4,13 +4,13 @@ use Rattle.nesl_eval_meaning.specs.Names.{Value}
 use Rattle.nesl_eval_code.specs.Frames.{Frames}
 use Rattle.nesl_eval_meaning.specs.Out.{Out}
 use Rattle.nesl_eval_meaning.specs.Outcome.{branch}
-use Rattle.nesl_eval_plain_results.specs.declared.found.Found.{Found}
-use Rattle.nesl_eval_plain_results.specs.declared.found.Results.{Results}
-use Rattle.nesl_eval_plain_results.specs.Columns.{value_at}
-use Rattle.nesl_eval_plain_results.specs.Costs.{costs_at}
+use Rattle.nesl_eval_column_results.specs.declared.found.Found.{Found}
+use Rattle.nesl_eval_column_results.specs.declared.found.Results.{Results}
+use Rattle.nesl_eval_column_results.specs.Columns.{value_at}
+use Rattle.nesl_eval_column_results.specs.Costs.{costs_at}
 use Rattle.nesl_eval_plain_parts.specs.declared.bodies.Bodies.{Bodies}
-use Rattle.nesl_eval_plain_results.specs.Frames.{AreAt, IsAt, leaf_at, cost_at}
-use Rattle.nesl_eval_plain_results.specs.Values.{trees_in, AreOfSize}
+use Rattle.nesl_eval_column_results.specs.Frames.{AreAt, IsAt, leaf_at, cost_at}
+use Rattle.nesl_eval_column_results.specs.Values.{trees_in, AreOfSize}
 
 -- what was found at the turns, as leaves
 abbrev pub Finds : {A : Type 0} → (Frames → Out Value) → (ℕ → Option Frames) → Found A → Type 0

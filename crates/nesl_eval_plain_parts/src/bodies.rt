@@ -1,20 +1,20 @@
 // The values of bodies, and the truth values of filters.
 ghost use Rattle.std.specs.Prelude.{IfSome};
 ghost use Rattle.nesl_eval_code.specs.Run.{run};
-ghost use Rattle.nesl_eval_plain_results.specs.Blocks.{IsWithin};
-ghost use Rattle.nesl_eval_plain_results.specs.Frames.{frames_in};
+ghost use Rattle.nesl_eval_column_results.specs.Blocks.{IsWithin};
+ghost use Rattle.nesl_eval_column_results.specs.Frames.{frames_in};
 ghost use Rattle.nesl_eval_plain_parts.specs.Found.{Finds, FindsValues};
 
 use crate::parts::{column, results};
 use nesl_eval_code::Code;
 use nesl_eval_nodes::held::Tops;
-use nesl_eval_plain_results::block::Block;
-use nesl_eval_plain_results::columns::nodes;
-use nesl_eval_plain_results::costs::Costs;
-use nesl_eval_plain_results::found::{Found, Results};
-use nesl_eval_plain_results::reach::at_root;
-use nesl_eval_plain_results::scopes::Scopes;
-use nesl_eval_plain_results::values::{Values, values_of};
+use nesl_eval_column_results::block::Block;
+use nesl_eval_column_results::columns::nodes;
+use nesl_eval_column_results::costs::Costs;
+use nesl_eval_column_results::found::{Found, Results};
+use nesl_eval_column_results::reach::at_root;
+use nesl_eval_column_results::scopes::Scopes;
+use nesl_eval_column_results::values::{Values, values_of};
 use std::alloc::Allocator;
 
 /// The values of a body at the turns of a block, how many nodes each of them has, and what they cost.

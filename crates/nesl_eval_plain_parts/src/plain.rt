@@ -3,8 +3,8 @@
 use nesl_builtins::Builtin;
 use nesl_eval_code::Code;
 use nesl_eval_nodes::held::{Held, Tops};
-use nesl_eval_plain_results::block::Block;
-use nesl_eval_plain_results::reach::HEIGHT;
+use nesl_eval_column_results::block::Block;
+use nesl_eval_column_results::reach::HEIGHT;
 use nesl_seqs_base::seq_fn::SeqFn;
 use std::alloc::Allocator;
 

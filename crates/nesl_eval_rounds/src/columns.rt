@@ -11,7 +11,7 @@ ghost use Rattle.nesl_eval_ops.specs.View.{body_block};
 ghost use Rattle.nesl_eval_nodes.specs.Scopes.{frames_of};
 ghost use Rattle.nesl_eval_nodes.specs.Sides.{Has};
 ghost use Rattle.nesl_eval_nodes.specs.Meets.{Meets};
-ghost use Rattle.nesl_eval_plain_results.specs.Blocks.{block_places, IsWithin};
+ghost use Rattle.nesl_eval_column_results.specs.Blocks.{block_places, IsWithin};
 ghost use Rattle.nesl_eval_operands.specs.Slots as slots;
 ghost use Rattle.nesl_eval_rounds.specs.Rounds.{between, chosen_places, all_values, turn_of, places_left};
 ghost use Rattle.nesl_eval_rounds.specs.Leads.{Took, ArePlaces};

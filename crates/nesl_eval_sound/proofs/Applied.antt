@@ -1,15 +1,15 @@
 -- A built-in function at a value of its argument's type.
 use Rattle.std.proofs.Common.{◌≡◌, ℕ, Option, ap, subst, sym, ◌∙◌, arith}
 use Rattle.std.proofs.lemmas.Grind.{common_steps}
-use Rattle.nesl_types_bank.specs.Term as type
+use Rattle.nesl_types_shared.specs.Term as type
 use Rattle.nesl_scalars.specs.declared.binary.Binary.{Binary}
 use Rattle.nesl_lex.specs.declared.token.Span.{Span}
 use Rattle.nesl_values.specs.Tree as values
 use Rattle.nesl_types.specs.declared.classes.Class.{Class}
-use Rattle.nesl_types_bank.specs.Term.{Term}
+use Rattle.nesl_types_shared.specs.Term.{Term}
 use Rattle.nesl_types.specs.Class.{class_at}
-use Rattle.nesl_types_bank.specs.Substitution.{substitute}
-use Rattle.nesl_types_bank.proofs.Substitutions.{substitute-substitute}
+use Rattle.nesl_types_shared.specs.Substitution.{substitute}
+use Rattle.nesl_types_shared.proofs.Substitutions.{substitute-substitute}
 use Rattle.nesl_scalars.specs.Scalars.{unary, binary}
 use Rattle.nesl_seqs_base.specs.Meaning.{outcome_of}
 use Rattle.nesl_builtins.specs.declared.builtin.Builtin.{Builtin}

@@ -6,7 +6,7 @@ use Rattle.nesl_seqs_base.specs.declared.joint.Joint.TheVariants.{Or, And}
 use Rattle.nesl_eval_sound.specs.Functions.{SequencesKeepTypes}
 use Rattle.nesl_eval_sound.proofs.Sequences.{keeps_length, keeps_index, keeps_append, keeps_dist, keeps_bottop, keeps_take, keeps_drop, keeps_reverse, keeps_rotate, keeps_rep, keeps_eql, keeps_flatten, keeps_odd, keeps_even, keeps_interleave, keeps_gather, keeps_permute, keeps_split, keeps_partition, keeps_write, keeps_zip, keeps_unzip, keeps_range, keeps_range_by, keeps_iota, keeps_any, keeps_all, keeps_count, keeps_sum, keeps_plus_scan, keeps_best, keeps_place, keeps_scan}
 use Rattle.std.proofs.Common.{subst, sym}
-use Rattle.nesl_types_bank.specs.Term as type
+use Rattle.nesl_types_shared.specs.Term as type
 use Rattle.nesl_eval_sound.specs.HasType.{HasType}
 use Rattle.nesl_eval_sound.specs.Keeps.{OutcomeHasType}
 

@@ -3,11 +3,11 @@ use Rattle.std.proofs.Common.{◌≡◌, ℕ, Bool, true, false, not, ◌&&◌, 
 use Rattle.std.specs.Str.{bytes_eq}
 use Rattle.std.proofs.lemmas.Slice.Eq.{bytes_eq-Decides}
 use Rattle.nesl_types.specs.declared.classes.Class.{Class}
-use Rattle.nesl_types_bank.specs.Term.{Term, int, bool, seq_of, pair_of}
+use Rattle.nesl_types_shared.specs.Term.{Term, int, bool, seq_of, pair_of}
 use Rattle.nesl_types.specs.Class.{IsIn, class_at}
-use Rattle.nesl_types_bank.specs.Substitution.{substitute}
+use Rattle.nesl_types_shared.specs.Substitution.{substitute}
 use Rattle.nesl_types.proofs.Members.{IsIn-substitute}
-use Rattle.nesl_types_bank.proofs.Substitutions.{substitute-substitute}
+use Rattle.nesl_types_shared.proofs.Substitutions.{substitute-substitute}
 use Rattle.nesl_syntax_tree.specs.Trees.{TypeTree, TypeShape, written, PatternTree, PatternShape, pattern, Tree, Shape, Trees, Binders, node, none, more, no_binders, binder}
 use Rattle.nesl_syntax_tree.specs.Trees as trees
 use Rattle.nesl_builtins.specs.FunctionTypes.{FunctionType, builtin_type}

@@ -11,9 +11,9 @@ use Rattle.nesl_types.specs.declared.classes.Class.{Class}
 use Rattle.nesl_types.specs.declared.schemes.Scheme.{Scheme}
 use Rattle.nesl_types.specs.Class.{IsIn, class_at}
 use Rattle.nesl_types.specs.Scheme.{IsSameScheme}
-use Rattle.nesl_types_bank.specs.Substitution.{substitute}
-use Rattle.nesl_types_bank.specs.Term.{Term, int, bool, char, variable, seq_of, pair_of}
-use Rattle.nesl_types_bank.specs.Term as type
+use Rattle.nesl_types_shared.specs.Substitution.{substitute}
+use Rattle.nesl_types_shared.specs.Term.{Term, int, bool, char, variable, seq_of, pair_of}
+use Rattle.nesl_types_shared.specs.Term as type
 use Rattle.nesl_syntax_tree.specs.Trees.{PatternTree, Tree}
 use Rattle.nesl_builtins.specs.declared.builtin.Builtin.{Builtin}
 use Rattle.nesl_builtins.specs.Named.{builtin_named}

@@ -6,8 +6,8 @@ use Rattle.std.proofs.lemmas.Slice.Eq.{bytes_eq-Decides}
 use Rattle.nesl_types.specs.declared.bindings.Top.{Top}
 use Rattle.nesl_types.specs.declared.bindings.Top.TheVariants as top
 use Rattle.nesl_types.specs.Names.{found, with_name, is_datatype, datatype_at}
-use Rattle.nesl_types_bank.specs.Term.{Term}
-use Rattle.nesl_types_bank.specs.Term as type
+use Rattle.nesl_types_shared.specs.Term.{Term}
+use Rattle.nesl_types_shared.specs.Term as type
 use Rattle.nesl_syntax_tree.specs.Trees.{PatternTree, Tree}
 use Rattle.nesl_infer_names.specs.Names.{top_in, as_datatype}
 use Rattle.nesl_eval_meaning.specs.Names.{Name, Environment, variable_of, function_of, datatype_of, look_up}

@@ -2,7 +2,7 @@
 use Rattle.std.proofs.Common.{◌≡◌, Option, Some, None, refl}
 use Rattle.nesl_types.specs.declared.bindings.Top.{Top}
 use Rattle.nesl_types.specs.declared.bindings.Top.TheVariants as top
-use Rattle.nesl_types_bank.specs.Term.{named}
+use Rattle.nesl_types_shared.specs.Term.{named}
 use Rattle.nesl_builtins.specs.declared.builtin.Builtin.{Builtin}
 use Rattle.nesl_builtins.specs.FunctionTypes.{builtin_type, function_type}
 use Rattle.nesl_infer_names.specs.Names.{as_function, built_in_or}

@@ -14,8 +14,8 @@ use Rattle.nesl_types.specs.declared.bindings.Top.{Top}
 use Rattle.nesl_types.specs.declared.bindings.Top.TheVariants as top
 use Rattle.nesl_types.specs.declared.classes.Class.{Class}
 use Rattle.nesl_types.specs.declared.schemes.Scheme.{Scheme}
-use Rattle.nesl_types_bank.specs.Term.{Term, seq_of}
-use Rattle.nesl_types_bank.specs.Term as type
+use Rattle.nesl_types_shared.specs.Term.{Term, seq_of}
+use Rattle.nesl_types_shared.specs.Term as type
 use Rattle.nesl_scalars.specs.declared.trap.Trap.TheVariants as trap
 use Rattle.nesl_seqs_base.specs.declared.seq_fn.SeqFn.TheVariants as seq
 use Rattle.nesl_seqs_base.specs.Meaning.{outcome_of}

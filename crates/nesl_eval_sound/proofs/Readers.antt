@@ -3,8 +3,8 @@ use Rattle.std.proofs.Common.{ℕ, List, [], ◌∷◌, Option, Some, None, opti
 use Rattle.nesl_values.specs.Tree.{ValueTree, ValueTrees, int, boolean, character, pair, seq, no_trees, tree_then}
 use Rattle.nesl_values.specs.Tree.{trees_of}
 use Rattle.nesl_values.specs.Parts.{list_of, as_int, as_bool, as_char, as_pair, as_sequence}
-use Rattle.nesl_types_bank.specs.Term.{Term}
-use Rattle.nesl_types_bank.specs.Term as type
+use Rattle.nesl_types_shared.specs.Term.{Term}
+use Rattle.nesl_types_shared.specs.Term as type
 use Rattle.nesl_seqs_base.specs.Outcome.{Outcome, if_there}
 use Rattle.nesl_seqs_base.specs.Arguments.{both_parts, sequence_and_int, two_sequences, tree_and_int, sequence_item_place, two_ints, three_ints, numbers, truths}
 use Rattle.nesl_seqs_base.specs.Reductions.{all_of}

@@ -4,7 +4,7 @@ use Rattle.nesl_lex.specs.declared.token.Span.{Span}
 use Rattle.std.specs.Str.{bytes_eq}
 use Rattle.nesl_values.specs.Tree as values
 use Rattle.nesl_values.specs.Parts.{as_pair, as_tagged}
-use Rattle.nesl_types_bank.specs.Term.{Term, named, pair_of}
+use Rattle.nesl_types_shared.specs.Term.{Term, named, pair_of}
 use Rattle.nesl_syntax_tree.specs.Trees.{PatternTree, PatternShape, pattern, name_pattern, pair_pattern, record_pattern}
 use Rattle.nesl_infer_rules.specs.World.{Assumptions}
 use Rattle.nesl_infer_rules.specs.Typing.{LocalTypes, local_type, newest_type, is_element, name, element, PatternAdds}

@@ -5,8 +5,8 @@ use Rattle.std.specs.List.{flat_map, list_all, enumerate_from, range_with_len}
 use Rattle.nesl_values.specs.Tree.{ValueTree, ValueTrees, int, boolean, character, pair, seq, no_trees, tree_then}
 use Rattle.nesl_values.specs.Tree.{sequence}
 use Rattle.nesl_values.specs.Parts.{list_of, as_int, as_pair, as_sequence}
-use Rattle.nesl_types_bank.specs.Term.{Term}
-use Rattle.nesl_types_bank.specs.Term as type
+use Rattle.nesl_types_shared.specs.Term.{Term}
+use Rattle.nesl_types_shared.specs.Term as type
 use Rattle.nesl_scalars.specs.declared.trap.Trap.{Trap}
 use Rattle.nesl_scalars.specs.declared.trap.Trap.TheVariants as trap
 use Rattle.nesl_seqs_base.specs.Outcome.{Outcome, gives, traps, if_there, if_there_or, fits, number}

@@ -5,17 +5,17 @@ use Rattle.nesl_types.specs.declared.classes.Class.{Class}
 use Rattle.nesl_types.specs.declared.classes.Class.TheVariants.{Any, Number}
 use Rattle.nesl_types.specs.declared.schemes.Scheme.{Scheme}
 use Rattle.nesl_types.specs.Class.{IsIn, class_at}
-use Rattle.nesl_types_bank.specs.Substitution.{substitute}
-use Rattle.nesl_types_bank.specs.Term as type
+use Rattle.nesl_types_shared.specs.Substitution.{substitute}
+use Rattle.nesl_types_shared.specs.Term as type
 use Rattle.nesl_syntax_tree.specs.declared.tree.Operator.TheVariants as sign
-use Rattle.nesl_types_bank.specs.Term.{Term, int, bool, char, seq_of, pair_of}
+use Rattle.nesl_types_shared.specs.Term.{Term, int, bool, char, seq_of, pair_of}
 use Rattle.nesl_builtins.specs.Named.{builtin_named, infix_builtin}
 use Rattle.nesl_builtins.specs.FunctionTypes.{function_type, builtin_type}
 use Rattle.nesl_infer_names.specs.Names.{built_in_or, as_function, top_in}
 use Rattle.nesl_infer_rules.specs.World.{general, callable_of, Assumptions, single, IsAllowed}
 use Rattle.nesl_infer_rules.specs.Typing.{HasType, IsInstanceOf, NameTakes, IsVariable, BindingsAdd, local_type, name, element, LocalTypes, PatternAdds}
 use Rattle.nesl_eval_meaning.specs.Names.{function_of, datatype_of}
-use Rattle.nesl_types_bank.specs.Numbering.{IsBelow}
+use Rattle.nesl_types_shared.specs.Numbering.{IsBelow}
 use Rattle.nesl_eval_sound.proofs.Ground.{int_member}
 use Rattle.nesl_eval_sound.specs.Sound.{HasBodyType, world}
 use Rattle.nesl_eval_sound.specs.Lines.{IsSound, held_in, values_of}

@@ -4,7 +4,7 @@ use Rattle.nesl_types.specs.declared.bindings.Top.{Top}
 use Rattle.nesl_types.specs.declared.bindings.Top.TheVariants as top
 use Rattle.nesl_types.specs.declared.schemes.Scheme.{Scheme}
 use Rattle.nesl_types.specs.Names.{found, with_name}
-use Rattle.nesl_types_bank.specs.Term.{Term}
+use Rattle.nesl_types_shared.specs.Term.{Term}
 use Rattle.nesl_syntax_tree.specs.Trees.{PatternTree, Tree, TypeTree, SignatureTree}
 use Rattle.nesl_infer_names.specs.Names.{datatype_in}
 use Rattle.nesl_infer_rules.specs.Contexts.{AreClosed}

@@ -1,9 +1,9 @@
 -- What a function's type promises.
 use Rattle.std.specs.Prelude.{ℕ, Option}
 use Rattle.nesl_values.specs.Tree.{ValueTree}
-use Rattle.nesl_types_bank.specs.Term.{Term}
+use Rattle.nesl_types_shared.specs.Term.{Term}
 use Rattle.nesl_types.specs.Class.{IsMember, class_at}
-use Rattle.nesl_types_bank.specs.Substitution.{substitute}
+use Rattle.nesl_types_shared.specs.Substitution.{substitute}
 use Rattle.nesl_scalars.specs.Outcomes.{Outcome, gives, traps, undefined}
 use Rattle.nesl_eval_sound.specs.HasType.{HasType}
 use Rattle.nesl_builtins.specs.FunctionTypes.{FunctionType}

@@ -8,7 +8,7 @@ use Rattle.nesl_types.specs.declared.schemes.Scheme.{Scheme}
 use Rattle.nesl_types.specs.Class.{class_at}
 use Rattle.nesl_types.specs.Names.{found, with_name, datatype_at}
 use Rattle.nesl_types.specs.Scheme.{IsSameScheme}
-use Rattle.nesl_types_bank.specs.Term.{Term}
+use Rattle.nesl_types_shared.specs.Term.{Term}
 use Rattle.nesl_syntax_tree.specs.Trees.{PatternTree, Tree}
 use Rattle.nesl_infer_names.specs.Names.{top_in}
 use Rattle.nesl_infer_rules.specs.Typing.{HasType}

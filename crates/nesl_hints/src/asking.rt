@@ -2,8 +2,8 @@
 ghost use Rattle.std.specs.Prelude.{◌≡◌, ◌+◌, Option, IfOk, IfSome, length, vec_len};
 ghost use Rattle.std.specs.Option.{is_some};
 ghost use Rattle.nesl_reply.specs.declared.fault.Fault.{Fault};
-ghost use Rattle.nesl_session_step.specs.State.{State};
-ghost use Rattle.nesl_session_step.specs.Solo.{Replays};
+ghost use Rattle.nesl_session_meaning.specs.State.{State};
+ghost use Rattle.nesl_session_meaning.specs.Solo.{Replays};
 ghost use Rattle.nesl_session.specs.Asking.{AnswersWith};
 ghost use Rattle.nesl_hints_places.specs.Within.{IsWithin};
 

@@ -1,6 +1,6 @@
 //! A form that is refused.
 
-use nesl_eval_env::Env;
+use nesl_eval_top_level::Env;
 use nesl_hints_places::Hint;
 use nesl_lex::token::Span;
 use nesl_session::session::Session;

@@ -2,7 +2,7 @@
 
 use crate::asked::Asked;
 use nesl_builtins::named;
-use nesl_eval_env::Payload;
+use nesl_eval_top_level::Payload;
 use nesl_eval_sound::refers_to;
 use nesl_hints_places::{Hint, add_parts, join_parts};
 use nesl_lex::token::{Kind, Span, Token};

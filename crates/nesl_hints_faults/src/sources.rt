@@ -2,7 +2,7 @@
 
 use crate::asked::Asked;
 use crate::effort::Effort;
-use nesl_eval_env::Payload;
+use nesl_eval_top_level::Payload;
 use nesl_lex::lex;
 use nesl_lex::token::Span;
 use nesl_syntax::parse_form;

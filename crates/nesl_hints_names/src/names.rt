@@ -1,7 +1,7 @@
 //! Names that are known.
 
 use crate::near::near;
-use nesl_eval_env::Payload;
+use nesl_eval_top_level::Payload;
 use nesl_syntax_tree::tree::{Binding, Exp, Form, Node, Pattern, PatternNode};
 use nesl_types::{Context, Top};
 use std::alloc::{AllocError, Global};

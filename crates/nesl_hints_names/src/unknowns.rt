@@ -5,7 +5,7 @@ ghost use Rattle.nesl_hints_places.specs.Within.{IsWithin};
 use crate::elsewhere::{known_elsewhere, type_elsewhere};
 use crate::names::{bound_names, is_called, near_binding, near_builtin, near_local};
 use nesl_builtins::named;
-use nesl_eval_env::Payload;
+use nesl_eval_top_level::Payload;
 use nesl_hints_places::{Hint, add_parts, join_parts};
 use nesl_lex::token::{Kind, Sign, Span, Token};
 use nesl_syntax_tree::tree::Form;

@@ -4,7 +4,7 @@ use crate::clash::Shortage;
 use crate::guesses::{Guess, Guesses};
 use nesl_builtins::{Builtin, classes, gives, takes};
 use nesl_types::{Class, Part, Scheme, Ty};
-use nesl_types_bank::Shape;
+use nesl_types_shared::Shape;
 
 /// What a function takes and gives.
 #[derive(Clone, Copy)]

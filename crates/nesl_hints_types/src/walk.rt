@@ -4,7 +4,7 @@ use crate::clash::{Clash, Halt, Role, Shortage};
 use crate::copies::Ends;
 use crate::guesses::{Guess, Guesses};
 use crate::names::Names;
-use nesl_eval_env::Payload;
+use nesl_eval_top_level::Payload;
 use nesl_lex::token::Span;
 use nesl_syntax_tree::tree::{Binding, Exp, Node};
 use nesl_types::{Context, Top, Ty};

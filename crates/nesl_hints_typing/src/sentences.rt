@@ -1,7 +1,7 @@
 //! What is said of parts that don't fit.
 
 use crate::words::Words;
-use nesl_eval_env::Payload;
+use nesl_eval_top_level::Payload;
 use nesl_hints_places::{Hint, add_parts, join_parts};
 use nesl_hints_types::{Clash, Guess, Guesses, Role};
 use nesl_syntax_tree::tree::{Operator, Prefix};

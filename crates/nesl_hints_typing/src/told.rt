@@ -4,7 +4,7 @@ ghost use Rattle.nesl_hints_places.specs.Within.{IsWithin};
 
 use crate::sentences::hint_of;
 use crate::words::Words;
-use nesl_eval_env::Payload;
+use nesl_eval_top_level::Payload;
 use nesl_hints_places::{Hint, join_parts};
 use nesl_hints_types::{Guesses, Halt, Shortage, Walk};
 use nesl_lex::token::Span;

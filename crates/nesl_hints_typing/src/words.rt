@@ -1,6 +1,6 @@
 //! Types in the language's words.
 
-use nesl_eval_env::Payload;
+use nesl_eval_top_level::Payload;
 use nesl_hints_types::{Guess, Guesses};
 use nesl_types::{Class, Context};
 use std::alloc::{AllocError, Global};

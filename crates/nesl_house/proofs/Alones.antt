@@ -7,10 +7,10 @@ use Rattle.std.specs.Bool.{MatchBool}
 use Rattle.std.proofs.lemmas.List.{map-append}
 use Rattle.std.proofs.lemmas.List.Elements.{filter-append}
 use Rattle.std.proofs.lemmas.Slice.Eq.{bytes_eq-Decides}
-use Rattle.nesl_session_step.specs.State.{State, Log}
-use Rattle.nesl_session_step.specs.Response.{Reply, no_memory, no_user, is_memory}
-use Rattle.nesl_session_step.specs.Solo.{Replays, SessionAnswers, Responds}
-use Rattle.nesl_session_step.specs.Laws.{GoesOn, OneRun, OneState}
+use Rattle.nesl_session_meaning.specs.State.{State, Log}
+use Rattle.nesl_session_meaning.specs.Response.{Reply, no_memory, no_user, is_memory}
+use Rattle.nesl_session_meaning.specs.Solo.{Replays, SessionAnswers, Responds}
+use Rattle.nesl_session_meaning.specs.Laws.{GoesOn, OneRun, OneState}
 use Rattle.nesl_house.specs.Script.{Event, lines_of, replies_of, own_events, kept_events}
 use Rattle.nesl_house.specs.Laws.{ScriptsFollow, SameBindings, OwnLinesDecide}
 use Rattle.nesl_house.specs.Runs.{Account, roster_of, session_of, AllReplay, RunsAlone, IsReplied, Runs}

@@ -9,9 +9,9 @@ use Rattle.std.proofs.lemmas.List.{append_assoc, append-nil, length-map}
 use Rattle.std.proofs.lemmas.List.Elements.{All-set}
 use Rattle.std.proofs.lemmas.List.FromFn.{length-map-range_with_len, map-range_with_len_more}
 use Rattle.std.proofs.lemmas.List.Sums.{sum_by-le, sum_by-cons, sum_by-set, get_or-le-sum_by}
-use Rattle.nesl_session_step.specs.declared.limits.Limits.{Limits}
-use Rattle.nesl_session_step.specs.State.{State, recorded_lines, empty_log}
-use Rattle.nesl_session_step.specs.Solo.{Replays}
+use Rattle.nesl_session_meaning.specs.declared.limits.Limits.{Limits}
+use Rattle.nesl_session_meaning.specs.State.{State, recorded_lines, empty_log}
+use Rattle.nesl_session_meaning.specs.Solo.{Replays}
 use Rattle.nesl_house.specs.declared.slots.Slot.{Slot}
 use Rattle.nesl_house.specs.declared.slots.Slot.TheVariants.{Home, Away}
 use Rattle.nesl_house.specs.Register.{Seat}

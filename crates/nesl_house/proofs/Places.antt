@@ -8,11 +8,11 @@ use Rattle.std.proofs.Math.ListN.{set}
 use Rattle.std.proofs.lemmas.List.{take_more}
 use Rattle.std.specs.Bool.{MatchBool}
 use Rattle.std.proofs.lemmas.Slice.Eq.{bytes_eq-Decides}
-use Rattle.nesl_session_step.specs.Response.{Reply, is_memory, no_memory, no_user}
+use Rattle.nesl_session_meaning.specs.Response.{Reply, is_memory, no_memory, no_user}
 use Rattle.nesl_house.specs.declared.house.Said.{Said}
 use Rattle.nesl_house.specs.Script.{Event}
-use Rattle.nesl_session_step.specs.State.{State, Log}
-use Rattle.nesl_session_step.specs.Solo.{Replays, SessionAnswers, Responds}
+use Rattle.nesl_session_meaning.specs.State.{State, Log}
+use Rattle.nesl_session_meaning.specs.Solo.{Replays, SessionAnswers, Responds}
 use Rattle.nesl_house.specs.Runs.{Account, roster_of, session_of, AllReplay, Runs}
 use Rattle.nesl_house.specs.Laws.{ScriptsFollow}
 use Rattle.nesl_house.proofs.Alones.{session_replays, runs_one, runs_stranger}

@@ -1,7 +1,7 @@
 -- Laws of houses.
 use Rattle.std.specs.Prelude.{◌≡◌, ◌++◌, ℕ, List, Some}
 use Rattle.nesl_session_bindings.specs.Meanings.{Binding}
-use Rattle.nesl_session_step.specs.State.{Log}
+use Rattle.nesl_session_meaning.specs.State.{Log}
 use Rattle.nesl_house.specs.Script.{Event, kept_events, lines_of, replies_of}
 use Rattle.nesl_house.specs.Runs.{Account, session_of, HasBindings, Runs}
 

@@ -1,7 +1,7 @@
 -- What tables, seats and leases are to their callers.
 use Rattle.std.specs.Prelude.{ℕ, List}
-use Rattle.nesl_session_step.specs.declared.limits.Limits.{Limits}
-use Rattle.nesl_session_step.specs.State.{Log}
+use Rattle.nesl_session_meaning.specs.declared.limits.Limits.{Limits}
+use Rattle.nesl_session_meaning.specs.State.{Log}
 
 -- a table: its users in order, and the limits of their sessions
 pub record Register : Type 0 where

@@ -3,8 +3,8 @@ use Rattle.std.specs.Prelude.{◌≡◌, ◌≢◌, ℕ, ◌≤◌, List, [], �
 use Rattle.std.specs.Prelude.{length, map, All, AllPairs, Contains, Option, position}
 use Rattle.std.specs.List.{list_all}
 use Rattle.std.specs.Str.{bytes_eq}
-use Rattle.nesl_session_step.specs.declared.limits.Limits.{Limits}
-use Rattle.nesl_session_step.specs.State.{empty_log}
+use Rattle.nesl_session_meaning.specs.declared.limits.Limits.{Limits}
+use Rattle.nesl_session_meaning.specs.State.{empty_log}
 use Rattle.nesl_house.specs.declared.roster.NewFault.{NewFault}
 use Rattle.nesl_house.specs.declared.roster.NewFault.TheVariants.{Count, Name, Twice, Memory}
 use Rattle.nesl_house.specs.Runs.{Account}

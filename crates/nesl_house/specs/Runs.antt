@@ -3,9 +3,9 @@ use Rattle.std.specs.Prelude.{◌≡◌, ℕ, List, [], ◌∷◌, Option, Some,
 use Rattle.std.specs.List.{AllByRecursion}
 use Rattle.std.specs.Str.{bytes_eq}
 use Rattle.nesl_session_bindings.specs.Meanings.{Binding}
-use Rattle.nesl_session_step.specs.State.{State, Log}
-use Rattle.nesl_session_step.specs.Response.{no_memory, no_user, is_memory}
-use Rattle.nesl_session_step.specs.Solo.{Replays, SessionAnswers}
+use Rattle.nesl_session_meaning.specs.State.{State, Log}
+use Rattle.nesl_session_meaning.specs.Response.{no_memory, no_user, is_memory}
+use Rattle.nesl_session_meaning.specs.Solo.{Replays, SessionAnswers}
 use Rattle.nesl_house.specs.Script.{Event, lines_of, replies_of, kept_events}
 
 -- A house is a list of accounts: a user's name, and that user's session.

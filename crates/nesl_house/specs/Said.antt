@@ -1,6 +1,6 @@
 -- What users say to a house in the code.
 use Rattle.std.specs.Prelude.{List, [], ◌∷◌}
-use Rattle.nesl_session_step.specs.Response.{Reply}
+use Rattle.nesl_session_meaning.specs.Response.{Reply}
 use Rattle.nesl_house.specs.declared.house.Said.{Said}
 use Rattle.nesl_house.specs.Script.{Event}
 

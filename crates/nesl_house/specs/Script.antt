@@ -1,7 +1,7 @@
 -- What users say, and what they are told.
 use Rattle.std.specs.Prelude.{ℕ, List, not, filter, map}
 use Rattle.std.specs.Str.{bytes_eq}
-use Rattle.nesl_session_step.specs.Response.{Reply, is_memory}
+use Rattle.nesl_session_meaning.specs.Response.{Reply, is_memory}
 
 -- a user said this line, and was told this
 pub record Event : Type 0 where

@@ -1,7 +1,7 @@
 -- Places for seats, each of which is at home or away.
 use Rattle.std.specs.Prelude.{◌≡◌, ℕ, List, [], ◌∷◌, Bool, true, false, Some, map, slice_get, slice_index_or}
-use Rattle.nesl_session_step.specs.declared.limits.Limits.{Limits}
-use Rattle.nesl_session_step.specs.State.{recorded_lines, empty_log}
+use Rattle.nesl_session_meaning.specs.declared.limits.Limits.{Limits}
+use Rattle.nesl_session_meaning.specs.State.{recorded_lines, empty_log}
 use Rattle.nesl_house.specs.declared.slots.Slot.{Slot}
 use Rattle.nesl_house.specs.declared.slots.Slot.TheVariants.{Home, Away}
 use Rattle.nesl_house.specs.Register.{Seat}

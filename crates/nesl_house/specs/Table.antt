@@ -1,8 +1,8 @@
 -- Seats that are taken out of a table and given back.
 use Rattle.std.specs.Prelude.{◌≡◌, ◌≢◌, ℕ, List, [], ◌∷◌, map, sum_by}
 use Rattle.std.specs.List.{AllByRecursion, range_with_len}
-use Rattle.nesl_session_step.specs.State.{State, recorded_lines}
-use Rattle.nesl_session_step.specs.Solo.{Replays}
+use Rattle.nesl_session_meaning.specs.State.{State, recorded_lines}
+use Rattle.nesl_session_meaning.specs.Solo.{Replays}
 use Rattle.nesl_house.specs.Runs.{Account, roster_of}
 use Rattle.nesl_house.specs.Register.{Register, Seat}
 use Rattle.nesl_house.specs.declared.lease.Receipt.{Receipt}

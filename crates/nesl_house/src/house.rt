@@ -1,7 +1,7 @@
 //! Users and their sessions.
 ghost use Rattle.std.specs.Prelude.{◌≡◌, ℕ, [], ◌∷◌, IfOk, IfErr, OnErr, map, length, option_map, position, OnOk};
 ghost use Rattle.std.specs.Str.{bytes_eq};
-ghost use Rattle.nesl_session_step.specs.Solo.{Responds};
+ghost use Rattle.nesl_session_meaning.specs.Solo.{Responds};
 ghost use Rattle.nesl_house.specs.Runs.{session_of, Runs, AllReplay};
 ghost use Rattle.nesl_house.specs.Roster.{IsRoster, IsRefused, new_house};
 
@@ -12,7 +12,7 @@ use crate::user::User;
 use nesl_session::answer::Answer;
 use nesl_session::limits::Limits;
 use nesl_session::session::Session;
-use nesl_split_helpers::{Gate, Helpers};
+use nesl_eval_helpers::{Gate, Helpers};
 use std::alloc::{AllocError, Allocator, Global};
 use std::marker::Model;
 use std::thread::Threads;

@@ -1,13 +1,13 @@
 //! A seat that is out of the table.
 ghost use Rattle.std.specs.Prelude.{◌≡◌, ◌+◌};
-ghost use Rattle.nesl_session_step.specs.State.{recorded_lines};
-ghost use Rattle.nesl_session_step.specs.Solo.{Responds};
+ghost use Rattle.nesl_session_meaning.specs.State.{recorded_lines};
+ghost use Rattle.nesl_session_meaning.specs.Solo.{Responds};
 
 use crate::seat::Seat;
 use nesl_session::answer::Answer;
 use nesl_session::laws::recorded_lines_grow;
 use nesl_session::session::Session;
-use nesl_split_helpers::{Gate, Helpers};
+use nesl_eval_helpers::{Gate, Helpers};
 use std::alloc::Global;
 use std::marker::Model;
 use std::thread::Threads;
@@ -21,7 +21,7 @@ pub struct Lease {
 
 impl Model for Lease {
     ghost use Rattle.std.specs.Prelude.{◌≤◌};
-    ghost use Rattle.nesl_session_step.specs.State.{recorded_lines};
+    ghost use Rattle.nesl_session_meaning.specs.State.{recorded_lines};
     ghost use Rattle.nesl_house.specs.Register.{Leased};
 
     ghost Value = { Leased };

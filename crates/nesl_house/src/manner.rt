@@ -1,6 +1,6 @@
 //! How a line is said to a session.
 ghost use Rattle.std.specs.Prelude.{⊤};
-ghost use Rattle.nesl_session_step.specs.Solo.{Responds};
+ghost use Rattle.nesl_session_meaning.specs.Solo.{Responds};
 
 use nesl_session::answer::Answer;
 use nesl_session::session::Session;

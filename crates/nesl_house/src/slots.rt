@@ -3,8 +3,8 @@ ghost use Rattle.std.specs.Prelude.{◌≡◌, ℕ, ◌+◌, ◌<◌, ◌^◌, I
 ghost use Rattle.std.specs.Prelude.{slice_set, sum_by, false};
 ghost use Rattle.std.specs.List.{range_with_len};
 ghost use Rattle.std.specs.Option.{IfNone};
-ghost use Rattle.nesl_session_step.specs.State.{State, recorded_lines};
-ghost use Rattle.nesl_session_step.specs.Solo.{Replays};
+ghost use Rattle.nesl_session_meaning.specs.State.{State, recorded_lines};
+ghost use Rattle.nesl_session_meaning.specs.Solo.{Replays};
 ghost use Rattle.nesl_house.specs.Slots.{counted, counted_at, is_away, opened_at, AreInPlace};
 
 use crate::roster::MOST_USERS;

@@ -3,7 +3,7 @@ ghost use Rattle.std.specs.Prelude.{◌≡◌, ◌+◌, ◌≤◌, ◌<◌, ◌�
 ghost use Rattle.std.specs.Prelude.{length, map, position};
 ghost use Rattle.std.specs.Str.{bytes_eq};
 ghost use Rattle.std.specs.Vec.{vec_capacity};
-ghost use Rattle.nesl_session_step.specs.State.{recorded_lines};
+ghost use Rattle.nesl_session_meaning.specs.State.{recorded_lines};
 ghost use Rattle.nesl_house.specs.Roster.{IsRefused, IsRoster, place_of};
 ghost use Rattle.nesl_house.specs.Slots.{at_home, AreHome};
 ghost use Rattle.nesl_house.specs.Runs.{AllReplay};

@@ -1,7 +1,7 @@
 //! One user of a house.
 ghost use Rattle.std.specs.Prelude.{◌≡◌, IfOk};
-ghost use Rattle.nesl_session_step.specs.State.{State};
-ghost use Rattle.nesl_session_step.specs.Solo.{Replays, Responds};
+ghost use Rattle.nesl_session_meaning.specs.State.{State};
+ghost use Rattle.nesl_session_meaning.specs.Solo.{Replays, Responds};
 ghost use Rattle.nesl_house.specs.Roster.{new_account};
 
 use crate::manner::Saying;

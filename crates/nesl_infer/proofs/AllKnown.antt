@@ -7,7 +7,7 @@ use Rattle.std.specs.Str.{bytes_eq}
 use Rattle.nesl_lex.specs.declared.token.Span.{Span}
 use Rattle.nesl_types.specs.declared.bindings.Top.{Top}
 use Rattle.nesl_types.specs.declared.classes.Class.{Class}
-use Rattle.nesl_types_bank.specs.Term.{Term, int, bool, seq_of}
+use Rattle.nesl_types_shared.specs.Term.{Term, int, bool, seq_of}
 use Rattle.nesl_syntax_tree.specs.Trees.{TypeTree, TypeShape, PatternTree, PatternShape, SignatureTree, Tree, Shape, Trees, Binders, written, pattern, node, none, more, no_binders, binder}
 use Rattle.nesl_syntax_tree.specs.Trees as trees
 use Rattle.nesl_infer_names.specs.Names.{Names, Referent, names_in, span_unless_known, unknown_types, unknown_types_in, unknown_records, unknown_records_in, names_bound, all_names_bound}

@@ -3,8 +3,8 @@ use Rattle.std.proofs.Common.{◌≡◌, ℕ, List, [], ◌++◌, map, refl, sym
 use Rattle.nesl_types.specs.declared.classes.Class.{Class}
 use Rattle.nesl_types.specs.declared.schemes.Scheme.{Scheme}
 use Rattle.nesl_types.specs.Scheme.{IsSchemeOf, scheme_variables}
-use Rattle.nesl_types_bank.specs.Term.{Term, int, bool, char, variable, seq_of, pair_of, named}
-use Rattle.nesl_types_bank.specs.Numbering.{IsBelow, variables, first_occurrences, number_of}
+use Rattle.nesl_types_shared.specs.Term.{Term, int, bool, char, variable, seq_of, pair_of, named}
+use Rattle.nesl_types_shared.specs.Numbering.{IsBelow, variables, first_occurrences, number_of}
 use Rattle.nesl_infer_rules.proofs.Applied.{closed-kept}
 
 no_variables : (t : Term) → IsBelow 0 t → variables t ≡ []

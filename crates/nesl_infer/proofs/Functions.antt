@@ -8,10 +8,10 @@ use Rattle.nesl_types.specs.declared.classes.Class.{Class}
 use Rattle.nesl_types.specs.declared.classes.Class.TheVariants.{Any}
 use Rattle.nesl_types.specs.declared.bindings.Top.{Top}
 use Rattle.nesl_types.specs.declared.schemes.Scheme.{Scheme}
-use Rattle.nesl_types_bank.specs.Term.{Term, int, bool, char, variable, seq_of, pair_of, named, nodes}
-use Rattle.nesl_types_bank.specs.Numbering.{IsBelow, variables, first_occurrences, number_of}
+use Rattle.nesl_types_shared.specs.Term.{Term, int, bool, char, variable, seq_of, pair_of, named, nodes}
+use Rattle.nesl_types_shared.specs.Numbering.{IsBelow, variables, first_occurrences, number_of}
 use Rattle.nesl_types.specs.Scheme.{IsSchemeOf}
-use Rattle.nesl_types_bank.specs.Substitution.{substitute}
+use Rattle.nesl_types_shared.specs.Substitution.{substitute}
 use Rattle.nesl_types.specs.Class.{IsIn, IsWithin, class_at}
 use Rattle.nesl_types.proofs.Members.{IsIn-substitute}
 use Rattle.nesl_syntax_tree.specs.Trees.{PatternTree, Tree, SignatureTree}

@@ -2,10 +2,10 @@
 use Rattle.std.proofs.Common.{◌≡◌, ℕ, Bool, true, false, cond, List, [], ◌∷◌, ◌++◌, map, refl, sym, ap, ◌∙◌, subst}
 use Rattle.std.specs.Prelude.{Option, Some, None, option_map}
 use Rattle.nesl_types.specs.declared.classes.Class.{Class}
-use Rattle.nesl_types_bank.specs.Term.{Term, int, bool, seq_of, pair_of}
-use Rattle.nesl_types_bank.specs.Substitution.{substitute}
+use Rattle.nesl_types_shared.specs.Term.{Term, int, bool, seq_of, pair_of}
+use Rattle.nesl_types_shared.specs.Substitution.{substitute}
 use Rattle.nesl_types.specs.Class.{IsIn, class_at}
-use Rattle.nesl_types_bank.proofs.Substitutions.{substitute-substitute}
+use Rattle.nesl_types_shared.proofs.Substitutions.{substitute-substitute}
 use Rattle.nesl_types.proofs.Members.{IsIn-substitute}
 use Rattle.nesl_syntax_tree.specs.Trees.{TypeTree, TypeShape, PatternTree, PatternShape, Tree, Shape, Trees, Binders, written, pattern, node, none, more, no_binders, binder}
 use Rattle.nesl_syntax_tree.specs.Trees as trees

@@ -7,8 +7,8 @@ use Rattle.nesl_types.specs.declared.bindings.Top.{Top}
 use Rattle.nesl_types.specs.declared.classes.Class.{Class}
 use Rattle.nesl_types.specs.declared.classes.Class.TheVariants.{Any, Number}
 use Rattle.nesl_types.specs.Class.{IsIn, class_at}
-use Rattle.nesl_types_bank.specs.Term.{Term, int, pair_of}
-use Rattle.nesl_types_bank.specs.Substitution.{substitute}
+use Rattle.nesl_types_shared.specs.Term.{Term, int, pair_of}
+use Rattle.nesl_types_shared.specs.Substitution.{substitute}
 use Rattle.nesl_syntax_tree.specs.declared.tree.Operator.{Operator}
 use Rattle.nesl_syntax_tree.specs.Trees.{Tree, Shape, node}
 use Rattle.nesl_syntax_tree.specs.Trees as trees

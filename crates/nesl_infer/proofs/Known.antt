@@ -3,7 +3,7 @@ use Rattle.std.proofs.Common.{◌≡◌, ℕ, List, [], ◌∷◌, ◌++◌, ref
 use Rattle.std.specs.Prelude.{Option, Some, None}
 use Rattle.std.specs.Option.{is_some}
 use Rattle.nesl_lex.specs.declared.token.Span.{Span}
-use Rattle.nesl_types_bank.specs.Term.{Term, int, bool, char, named, seq_of, pair_of}
+use Rattle.nesl_types_shared.specs.Term.{Term, int, bool, char, named, seq_of, pair_of}
 use Rattle.nesl_syntax_tree.specs.Trees.{TypeTree, TypeShape, written}
 use Rattle.nesl_syntax_tree.specs.Trees as trees
 use Rattle.nesl_infer_names.specs.Names.{span_unless_known, unknown_types, unknown_types_in}

@@ -3,7 +3,7 @@ use Rattle.std.proofs.Common.{◌≡◌, ◌<◌, ◌≤◌, ℕ, List, ◌++◌
 use Rattle.std.specs.Prelude.{Result, OnOk, Option, Some}
 use Rattle.std.proofs.lemmas.Result.{on_ok_weaker}
 use Rattle.nesl_types.specs.declared.classes.Class.{Class}
-use Rattle.nesl_types_bank.specs.Term.{Term, int, bool, seq_of, pair_of, nodes}
+use Rattle.nesl_types_shared.specs.Term.{Term, int, bool, seq_of, pair_of, nodes}
 use Rattle.nesl_syntax_tree.specs.Trees.{Tree, Shape, Binders}
 use Rattle.nesl_syntax_tree.specs.Trees as trees
 use Rattle.nesl_syntax_tree.specs.Views.{tree_of, shape_of}

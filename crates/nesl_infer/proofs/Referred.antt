@@ -5,7 +5,7 @@ use Rattle.std.specs.List.{list_any}
 use Rattle.std.specs.Str.{bytes_eq}
 use Rattle.nesl_lex.specs.declared.token.Span.{Span}
 use Rattle.nesl_types.specs.declared.classes.Class.{Class}
-use Rattle.nesl_types_bank.specs.Term.{Term, int, bool, seq_of}
+use Rattle.nesl_types_shared.specs.Term.{Term, int, bool, seq_of}
 use Rattle.nesl_syntax_tree.specs.Trees.{TypeTree, TypeShape, PatternTree, PatternShape, Tree, Shape, Trees, Binders, written, pattern, node, none, more, no_binders, binder}
 use Rattle.nesl_syntax_tree.specs.Trees as trees
 use Rattle.nesl_infer_names.specs.Names.{names_bound, all_names_bound}

@@ -8,10 +8,10 @@ use Rattle.std.proofs.lemmas.List.Folds.{list_any-append}
 use Rattle.std.specs.List.{list_any}
 use Rattle.nesl_types.specs.declared.classes.Class.{Class}
 use Rattle.nesl_types.specs.declared.classes.Class.TheVariants.{Any, Ordinal, Number, Logical}
-use Rattle.nesl_types_bank.specs.Term.{Term, int, bool, char, variable, seq_of, pair_of, named}
+use Rattle.nesl_types_shared.specs.Term.{Term, int, bool, char, variable, seq_of, pair_of, named}
 use Rattle.nesl_types.specs.Class.{IsIn, IsWithin, class_at}
-use Rattle.nesl_types_bank.specs.Substitution.{substitute}
-use Rattle.nesl_types_bank.specs.Numbering.{variables, with_number, first_occurrences, numbers_below, number_of}
+use Rattle.nesl_types_shared.specs.Substitution.{substitute}
+use Rattle.nesl_types_shared.specs.Numbering.{variables, with_number, first_occurrences, numbers_below, number_of}
 use Rattle.nesl_builtins.specs.FunctionTypes.{FunctionType}
 use Rattle.nesl_infer_rules.specs.Principal.{IsPrincipalFunction, IsNumbered}
 

@@ -1,7 +1,7 @@
 -- From a typing to a solution.
 use Rattle.std.proofs.Common.{◌≡◌, ◌<◌, ℕ, [], sym, ◌∙◌, subst, arith}
 use Rattle.nesl_types.specs.declared.classes.Class.{Class}
-use Rattle.nesl_types_bank.specs.Term.{Term, int}
+use Rattle.nesl_types_shared.specs.Term.{Term, int}
 use Rattle.nesl_syntax_tree.specs.Trees.{Tree}
 use Rattle.nesl_unify.specs.Bounds.{IsBounded}
 use Rattle.nesl_infer_rules.specs.declared.state.State.{State}

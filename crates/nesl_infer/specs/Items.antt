@@ -1,6 +1,6 @@
 -- What an apply-to-each with a filter gives.
 use Rattle.std.specs.Prelude.{List, ◌++◌}
-use Rattle.nesl_types_bank.specs.Term.{Term, bool}
+use Rattle.nesl_types_shared.specs.Term.{Term, bool}
 use Rattle.nesl_syntax_tree.specs.Trees.{Tree, Binders}
 use Rattle.nesl_infer_rules.specs.World.{Assumptions}
 use Rattle.nesl_infer_rules.specs.Typing.{LocalTypes, HasType, HaveElements, BindersAdd}

@@ -1,9 +1,9 @@
 -- Laws of typing.
 use Rattle.std.specs.Prelude.{◌≡◌, ℕ, List, [], ◌∷◌, Option, Some, None}
 use Rattle.nesl_types.specs.declared.classes.Class.{Class}
-use Rattle.nesl_types_bank.specs.Term.{Term}
+use Rattle.nesl_types_shared.specs.Term.{Term}
 use Rattle.nesl_types.specs.Class.{IsIn}
-use Rattle.nesl_types_bank.specs.Substitution.{substitute}
+use Rattle.nesl_types_shared.specs.Substitution.{substitute}
 use Rattle.nesl_syntax_tree.specs.Trees.{TypeTree, PatternTree, SignatureTree, Tree}
 use Rattle.nesl_types.specs.declared.bindings.Top.{Top}
 use Rattle.nesl_builtins.specs.FunctionTypes.{FunctionType}

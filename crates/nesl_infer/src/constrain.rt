@@ -1,8 +1,8 @@
 //! The equations of an expression.
 
 ghost use Rattle.std.specs.Prelude.{◌≡◌, ◌<◌, ◌≤◌, ℕ, List, All, map, length, IfOk, OnOk};
-ghost use Rattle.nesl_types_bank.specs.Term.{Term, int, nodes};
-ghost use Rattle.nesl_types_bank.specs.Numbering.{IsBelow};
+ghost use Rattle.nesl_types_shared.specs.Term.{Term, int, nodes};
+ghost use Rattle.nesl_types_shared.specs.Numbering.{IsBelow};
 ghost use Rattle.nesl_unify.specs.Flat.{flat_type};
 ghost use Rattle.nesl_infer.specs.Items.{HaveItemType};
 ghost use Rattle.nesl_syntax_tree.specs.Trees.{let_in, each};

@@ -6,7 +6,7 @@ ghost use Rattle.nesl_syntax_tree.specs.Views.{tree_of, pattern_tree, signature_
 ghost use Rattle.nesl_infer.specs.Verdicts.{IsTypeOf, IsSchemeFor, IsDatatypeFor};
 ghost use Rattle.nesl_types.specs.declared.classes.Class.{Class};
 ghost use Rattle.nesl_types.specs.Class.{class_at};
-ghost use Rattle.nesl_types_bank.specs.Term.{Term};
+ghost use Rattle.nesl_types_shared.specs.Term.{Term};
 ghost use Rattle.nesl_infer_rules.specs.Contexts.{AreClosed};
 ghost use Rattle.nesl_infer_rules.specs.Typing.{IsWritten};
 ghost use Rattle.nesl_infer_names.specs.Names.{datatype_in};
@@ -25,7 +25,7 @@ use nesl_infer_rules::state::{OwnName, State};
 use nesl_infer_rules::written::written_type;
 use nesl_syntax_tree::tree::{Exp, Pattern, Signature, TypeExp};
 use nesl_types::{Class, Context, Scheme, Ty};
-use nesl_types_bank::Bank;
+use nesl_types_shared::Bank;
 use nesl_unify::SolveFault;
 use nesl_unify::solve::is_below;
 use std::alloc::{AllocError, Global};

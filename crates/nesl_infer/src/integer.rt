@@ -2,7 +2,7 @@
 
 ghost use Rattle.std.specs.Prelude.{◌≡◌, IsTrue, None, Some};
 ghost use Rattle.nesl_types.specs.declared.classes.Class.TheVariants.{Number};
-ghost use Rattle.nesl_types_bank.specs.Term.{int, pair_of};
+ghost use Rattle.nesl_types_shared.specs.Term.{int, pair_of};
 ghost use Rattle.nesl_syntax_tree.specs.Views.{tree_of};
 ghost use Rattle.nesl_builtins.specs.Named.{infix_builtin};
 ghost use Rattle.nesl_builtins.specs.FunctionTypes.{a, builtin_type, in_class};

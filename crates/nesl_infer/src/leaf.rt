@@ -1,7 +1,7 @@
 //! The equations of leaves.
 
 ghost use Rattle.std.specs.Prelude.{◌≡◌, ◌<◌, ℕ, List, Some, IfSome, OnOk};
-ghost use Rattle.nesl_types_bank.specs.Term.{Term, char, seq_of};
+ghost use Rattle.nesl_types_shared.specs.Term.{Term, char, seq_of};
 ghost use Rattle.nesl_syntax_tree.specs.Trees.{variable};
 ghost use Rattle.nesl_syntax_tree.specs.Views.{shape_of};
 ghost use Rattle.nesl_infer_rules.specs.Steps.{count, scope_at, Adds, AreLocalsBelow};

@@ -2,7 +2,7 @@
 use Rattle.std.proofs.Common.{ℕ, ◌≤◌, Bool, true, false, List, [], ◌∷◌, ◌++◌, Option, arith}
 use Rattle.std.specs.Option.{is_some}
 use Rattle.nesl_lex.specs.declared.token.Span.{Span}
-use Rattle.nesl_types_bank.specs.Term.{Term}
+use Rattle.nesl_types_shared.specs.Term.{Term}
 use Rattle.nesl_syntax_tree.specs.Trees.{Tree, Shape, Trees, Binders, PatternTree, PatternShape, TypeTree, TypeShape, SignatureTree, FormTree, node, pattern, written, none, more, no_binders, binder}
 use Rattle.nesl_syntax_tree.specs.Trees as trees
 use Rattle.nesl_syntax_tree.specs.Spans.{Item, exp_item, pattern_item, type_item, item_span, items_of, bound_items, body_items, shape_items, pattern_items, type_items, Lined, none_lined, more_lined, Orderly, orderly, signature_items, line_items}

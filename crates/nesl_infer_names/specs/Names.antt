@@ -7,7 +7,7 @@ use Rattle.nesl_lex.specs.declared.token.Span.{Span}
 use Rattle.nesl_types.specs.declared.bindings.Top.{Top}
 use Rattle.nesl_types.specs.declared.bindings.Top.TheVariants as top
 use Rattle.nesl_types.specs.Names.{found}
-use Rattle.nesl_types_bank.specs.Term.{Term}
+use Rattle.nesl_types_shared.specs.Term.{Term}
 use Rattle.nesl_builtins.specs.declared.builtin.Builtin.{Builtin}
 use Rattle.nesl_builtins.specs.FunctionTypes.{FunctionType, function_type}
 use Rattle.nesl_builtins.specs.Named.{builtin_named}

@@ -2,7 +2,7 @@
 use Rattle.std.proofs.Common.{◌≡◌, ◌<◌, ◌≤◌, ℕ, List, [], ◌∷◌, ◌++◌, ◌+◌, refl, sym, ap, ◌∙◌, subst, arith}
 use Rattle.nesl_lex.specs.declared.token.Span.{Span}
 use Rattle.nesl_types.specs.declared.classes.Class.{Class}
-use Rattle.nesl_types_bank.specs.Term.{Term, int, bool, char, seq_of, pair_of, nodes}
+use Rattle.nesl_types_shared.specs.Term.{Term, int, bool, char, seq_of, pair_of, nodes}
 use Rattle.nesl_syntax_tree.specs.Trees.{Tree, Shape, Trees, node, none, more, with_last}
 use Rattle.nesl_syntax_tree.specs.Trees as trees
 use Rattle.nesl_syntax_tree.specs.declared.tree.Operator.{Operator}

@@ -4,8 +4,8 @@ use Rattle.std.specs.Prelude.{◌⊎◌, Option, Some, None}
 use Rattle.std.specs.Str.{bytes_eq}
 use Rattle.nesl_types.specs.declared.bindings.Top.{Top}
 use Rattle.nesl_types.specs.Names.{found, with_name}
-use Rattle.nesl_types_bank.specs.Numbering.{IsBelow}
-use Rattle.nesl_types_bank.specs.Term.{Term}
+use Rattle.nesl_types_shared.specs.Numbering.{IsBelow}
+use Rattle.nesl_types_shared.specs.Term.{Term}
 use Rattle.nesl_syntax_tree.specs.Trees.{TypeTree, TypeShape, written}
 use Rattle.nesl_syntax_tree.specs.Trees as trees
 use Rattle.nesl_infer_rules.specs.Contexts.{IsClosed, AreClosed}

@@ -2,7 +2,7 @@
 use Rattle.std.proofs.Common.{◌≡◌, ◌<◌, ◌≤◌, ℕ, List, [], ◌∷◌, ◌++◌, map, refl, sym, ap, ◌∙◌, subst, arith, append_assoc, append-nil}
 use Rattle.std.specs.Prelude.{All, Some, None, slice_get}
 use Rattle.nesl_lex.specs.declared.token.Span.{Span}
-use Rattle.nesl_types_bank.specs.Term.{Term, bool, seq_of, nodes}
+use Rattle.nesl_types_shared.specs.Term.{Term, bool, seq_of, nodes}
 use Rattle.nesl_syntax_tree.specs.Trees.{PatternTree, Tree, Binders, node, no_binders, binder, with_last_binder}
 use Rattle.nesl_syntax_tree.specs.Trees as trees
 use Rattle.nesl_infer_rules.specs.declared.state.State.{State}

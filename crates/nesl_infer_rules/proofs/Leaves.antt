@@ -2,7 +2,7 @@
 use Rattle.std.proofs.Common.{◌≡◌, ◌<◌, ◌≤◌, ◌+◌, ℕ, sym, ap, ◌∙◌, subst, arith}
 use Rattle.std.specs.Prelude.{Option, Some, None}
 use Rattle.nesl_types.specs.declared.classes.Class.{Class}
-use Rattle.nesl_types_bank.specs.Term.{Term, named, seq_of, pair_of, nodes}
+use Rattle.nesl_types_shared.specs.Term.{Term, named, seq_of, pair_of, nodes}
 use Rattle.nesl_syntax_tree.specs.Trees.{TypeTree, TypeShape, written}
 use Rattle.nesl_syntax_tree.specs.Trees as trees
 use Rattle.nesl_infer_rules.specs.declared.state.State.{State}

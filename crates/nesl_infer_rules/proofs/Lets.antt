@@ -4,7 +4,7 @@ use Rattle.std.proofs.lemmas.List.{take_more}
 use Rattle.std.proofs.lemmas.List.Elements.{All-nil}
 use Rattle.nesl_lex.specs.declared.token.Span.{Span}
 use Rattle.nesl_types.specs.declared.classes.Class.{Class}
-use Rattle.nesl_types_bank.specs.Term.{Term, nodes}
+use Rattle.nesl_types_shared.specs.Term.{Term, nodes}
 use Rattle.nesl_syntax_tree.specs.declared.tree.Binding.{Binding}
 use Rattle.nesl_syntax_tree.specs.Views.{tree_of, pattern_tree, binders_in}
 use Rattle.nesl_syntax_tree.specs.Trees.{PatternTree, Tree, Binders, node, no_binders, binder, with_last_binder}

@@ -3,7 +3,7 @@ use Rattle.std.proofs.Common.{◌≡◌, ◌<◌, ◌≤◌, ℕ, List, [], ◌�
 use Rattle.std.proofs.lemmas.List.Elements.{All-nil, All-cons, All-append, All-weaker}
 use Rattle.nesl_lex.specs.declared.token.Span.{Span}
 use Rattle.nesl_types.specs.declared.classes.Class.{Class}
-use Rattle.nesl_types_bank.specs.Term.{Term, pair_of, nodes}
+use Rattle.nesl_types_shared.specs.Term.{Term, pair_of, nodes}
 use Rattle.nesl_syntax_tree.specs.Trees.{PatternTree, pattern}
 use Rattle.nesl_syntax_tree.specs.Trees as trees
 use Rattle.nesl_infer_rules.specs.declared.state.State.{State}

@@ -8,7 +8,7 @@ use Rattle.std.proofs.lemmas.List.{take_more, map-append}
 use Rattle.nesl_syntax_tree.specs.declared.tree.Member.{Member}
 use Rattle.nesl_syntax_tree.specs.Views.{member_tree}
 use Rattle.nesl_types.specs.declared.classes.Class.{Class}
-use Rattle.nesl_types_bank.specs.Term.{Term, int, seq_of, pair_of, nodes}
+use Rattle.nesl_types_shared.specs.Term.{Term, int, seq_of, pair_of, nodes}
 use Rattle.nesl_types.specs.Class.{IsIn}
 use Rattle.nesl_syntax_tree.specs.Trees.{TypeTree, TypeShape, MemberTree, SignatureTree, written}
 use Rattle.nesl_syntax_tree.specs.Trees as trees

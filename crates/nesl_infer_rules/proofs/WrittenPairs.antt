@@ -1,8 +1,8 @@
 -- Types that are written, in a bank.
 use Rattle.std.proofs.Common.{◌<◌, ℕ, List, length, sym, subst, refl}
-use Rattle.nesl_types_bank.specs.Term.{Term, pair_of}
-use Rattle.nesl_types_bank.specs.Numbering.{IsBelow}
-use Rattle.nesl_types_bank.specs.Types.{type_at, Extends, IsPut}
+use Rattle.nesl_types_shared.specs.Term.{Term, pair_of}
+use Rattle.nesl_types_shared.specs.Numbering.{IsBelow}
+use Rattle.nesl_types_shared.specs.Types.{type_at, Extends, IsPut}
 use Rattle.nesl_syntax_tree.specs.Trees.{TypeTree, pair_type}
 use Rattle.nesl_infer_rules.specs.World.{DatatypesByName}
 use Rattle.nesl_infer_rules.specs.Typing.{IsWritten, IsWrittenShape}

@@ -3,8 +3,8 @@ use Rattle.std.specs.Prelude.{ℕ, List}
 use Rattle.std.specs.Coded.{×_prop, Unit-prop, le_prop}
 use Rattle.nesl_types.specs.declared.bindings.Top.{Top}
 use Rattle.nesl_types.specs.declared.bindings.Top.TheVariants as top
-use Rattle.nesl_types_bank.specs.Term.{Term, int, bool, char, variable, seq_of, pair_of, named}
-use Rattle.nesl_types_bank.specs.Numbering.{IsBelow}
+use Rattle.nesl_types_shared.specs.Term.{Term, int, bool, char, variable, seq_of, pair_of, named}
+use Rattle.nesl_types_shared.specs.Numbering.{IsBelow}
 use Rattle.nesl_infer_rules.specs.Contexts.{IsClosed, AreClosed}
 
 pub below-prop : (n : ℕ) (t : Term) → IsProp (IsBelow n t)

@@ -4,7 +4,7 @@ use Rattle.std.specs.Str.{bytes_eq}
 use Rattle.nesl_types.specs.declared.bindings.Top.{Top}
 use Rattle.nesl_types.specs.declared.bindings.Top.TheVariants as top
 use Rattle.nesl_types.specs.Names.{found}
-use Rattle.nesl_types_bank.specs.Numbering.{IsBelow}
+use Rattle.nesl_types_shared.specs.Numbering.{IsBelow}
 use Rattle.nesl_infer_rules.specs.declared.state.OwnName.{OwnName}
 
 -- no variable stands in the type of a top-level variable, nor in a datatype

@@ -1,7 +1,7 @@
 -- What names mean where an expression stands, by what stands outside of it.
 use Rattle.std.specs.Prelude.{ℕ}
 use Rattle.nesl_types.specs.declared.classes.Class.{Class}
-use Rattle.nesl_types_bank.specs.Term.{Term}
+use Rattle.nesl_types_shared.specs.Term.{Term}
 use Rattle.nesl_infer_rules.specs.declared.outer.Outer.{Outer}
 use Rattle.nesl_infer_rules.specs.World.{Assumptions, TypedNames, meanings_in}
 use Rattle.nesl_infer_rules.specs.Steps.{own_at, world_at}

@@ -3,10 +3,10 @@ use Rattle.std.specs.Prelude.{◌≡◌, ℕ, List, [], ◌++◌, length, Option
 use Rattle.nesl_types.specs.declared.bindings.Top.{Top}
 use Rattle.nesl_types.specs.declared.classes.Class.{Class}
 use Rattle.nesl_types.specs.declared.schemes.Scheme.{Scheme}
-use Rattle.nesl_types_bank.specs.Term.{Term}
+use Rattle.nesl_types_shared.specs.Term.{Term}
 use Rattle.nesl_types.specs.Class.{IsIn, class_at}
-use Rattle.nesl_types_bank.specs.Substitution.{substitute}
-use Rattle.nesl_types_bank.specs.Numbering.{IsBelow, variables, first_occurrences, numbers_below}
+use Rattle.nesl_types_shared.specs.Substitution.{substitute}
+use Rattle.nesl_types_shared.specs.Numbering.{IsBelow, variables, first_occurrences, numbers_below}
 use Rattle.nesl_syntax_tree.specs.Trees.{PatternTree, Tree, SignatureTree}
 use Rattle.nesl_builtins.specs.FunctionTypes.{FunctionType, function_type}
 use Rattle.nesl_infer_names.specs.Names.{Names, names_in}

@@ -1,6 +1,6 @@
 -- The names of a signature's types.
 use Rattle.std.specs.Prelude.{◌≡◌, ◌≤◌, ℕ, List, [], ◌∷◌, ◌++◌, unwrap_or}
-use Rattle.nesl_types_bank.specs.Term.{Term, int, nodes}
+use Rattle.nesl_types_shared.specs.Term.{Term, int, nodes}
 use Rattle.nesl_syntax_tree.specs.Trees.{TypeTree, TypeShape, written}
 use Rattle.nesl_syntax_tree.specs.Trees as trees
 use Rattle.nesl_infer_rules.specs.Typing.{LocalTypes, name, local_type}

@@ -3,9 +3,9 @@ use Rattle.std.specs.Prelude.{◌≡◌, ℕ, Bool, true, false, List, [], ◌�
 use Rattle.std.specs.Str.{bytes_eq}
 use Rattle.nesl_types.specs.declared.classes.Class.{Class}
 use Rattle.nesl_types.specs.declared.classes.Class.TheVariants as classes
-use Rattle.nesl_types_bank.specs.Term.{Term, int, bool, char, seq_of, pair_of, named}
+use Rattle.nesl_types_shared.specs.Term.{Term, int, bool, char, seq_of, pair_of, named}
 use Rattle.nesl_types.specs.Class.{IsIn, class_at}
-use Rattle.nesl_types_bank.specs.Substitution.{substitute}
+use Rattle.nesl_types_shared.specs.Substitution.{substitute}
 use Rattle.nesl_syntax_tree.specs.declared.tree.Class as written_classes
 use Rattle.nesl_syntax_tree.specs.Trees.{TypeTree, TypeShape, PatternTree, PatternShape, Tree, Shape, Trees, Binders}
 use Rattle.nesl_syntax_tree.specs.Trees.{MemberTree, SignatureTree}

@@ -2,7 +2,7 @@
 use Rattle.std.specs.Prelude.{ℕ, List, Option, Some, None, ◌≤◌}
 use Rattle.nesl_types.specs.declared.classes.Class.{Class}
 use Rattle.nesl_types.specs.declared.bindings.Top.{Top}
-use Rattle.nesl_types_bank.specs.Term.{Term, named, nodes}
+use Rattle.nesl_types_shared.specs.Term.{Term, named, nodes}
 use Rattle.nesl_builtins.specs.FunctionTypes.{FunctionType, builtin_type}
 use Rattle.nesl_infer_names.specs.Names.{Names, Referent, itself, built_in, function, record_of, names_in}
 

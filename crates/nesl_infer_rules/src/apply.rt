@@ -1,7 +1,7 @@
 //! The equations of a name before `(`.
 
 ghost use Rattle.std.specs.Prelude.{◌≡◌, ◌<◌, ℕ, OnOk};
-ghost use Rattle.nesl_types_bank.specs.Term.{Term, pair_of};
+ghost use Rattle.nesl_types_shared.specs.Term.{Term, pair_of};
 ghost use Rattle.nesl_builtins.specs.FunctionTypes.{builtin_type, function_type};
 ghost use Rattle.nesl_infer_rules.specs.Steps.{count, Adds, IsOwnBelow};
 ghost use Rattle.nesl_infer_rules.specs.Typing.{NameTakes, IsInstanceOf};

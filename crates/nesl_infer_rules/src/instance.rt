@@ -1,9 +1,9 @@
 //! Instances of the types of functions.
 
 ghost use Rattle.std.specs.Prelude.{◌≡◌, ◌<◌, All, length, map, slice_index, IfOk, IfSome, OnOk};
-ghost use Rattle.nesl_types_bank.specs.Term.{variable};
-ghost use Rattle.nesl_types_bank.specs.Numbering.{IsBelow};
-ghost use Rattle.nesl_types_bank.specs.Substitution.{substitute};
+ghost use Rattle.nesl_types_shared.specs.Term.{variable};
+ghost use Rattle.nesl_types_shared.specs.Numbering.{IsBelow};
+ghost use Rattle.nesl_types_shared.specs.Substitution.{substitute};
 ghost use Rattle.nesl_unify.specs.Flat.{flat_type};
 ghost use Rattle.nesl_infer_rules.specs.Steps.{count, Gives, Adds};
 ghost use Rattle.nesl_infer_rules.specs.Instances.{AreOf, type_in};

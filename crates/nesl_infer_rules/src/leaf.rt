@@ -1,7 +1,7 @@
 //! The equations of variables, elements and empty sequences.
 
 ghost use Rattle.std.specs.Prelude.{◌≡◌, ◌<◌, ℕ, Option, Some, OnOk};
-ghost use Rattle.nesl_types_bank.specs.Term.{Term, seq_of};
+ghost use Rattle.nesl_types_shared.specs.Term.{Term, seq_of};
 ghost use Rattle.nesl_syntax_tree.specs.Views.{type_tree};
 ghost use Rattle.nesl_infer_rules.specs.Steps.{count, Adds, scope_at, AreLocalsBelow};
 ghost use Rattle.nesl_infer_rules.specs.Outers.{assumed_at};
@@ -15,7 +15,7 @@ use crate::state::{Local, State};
 use crate::written::written_type;
 use nesl_syntax_tree::tree::TypeExp;
 use nesl_types::Context;
-use nesl_types_bank::Bank;
+use nesl_types_shared::Bank;
 use nesl_unify::Flat;
 use std::alloc::AllocError;
 

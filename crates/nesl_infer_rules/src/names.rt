@@ -1,7 +1,7 @@
 //! Local names.
 
 ghost use Rattle.std.specs.Prelude.{◌≡◌, ◌<◌, ℕ, MatchOption, option_map};
-ghost use Rattle.nesl_types_bank.specs.Term.{Term};
+ghost use Rattle.nesl_types_shared.specs.Term.{Term};
 ghost use Rattle.nesl_infer_rules.specs.Steps.{key_of, scope_at, AreLocalsBelow};
 ghost use Rattle.nesl_infer_rules.specs.Typing.{is_name, is_element, local_type, newest_type};
 

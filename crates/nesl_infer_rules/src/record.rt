@@ -1,7 +1,7 @@
 //! The equations of names of the top level.
 
 ghost use Rattle.std.specs.Prelude.{◌≡◌, ◌<◌, ℕ, Option, Some, OnOk};
-ghost use Rattle.nesl_types_bank.specs.Term.{Term};
+ghost use Rattle.nesl_types_shared.specs.Term.{Term};
 ghost use Rattle.nesl_infer_rules.specs.Steps.{count, Adds, own_at};
 ghost use Rattle.nesl_infer_rules.specs.Outers.{meant_at};
 ghost use Rattle.nesl_infer_rules.specs.Typing.{IsRecord};

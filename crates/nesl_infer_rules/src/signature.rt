@@ -1,9 +1,9 @@
 //! The equations of a signature.
 
 ghost use Rattle.std.specs.Prelude.{◌≡◌, ◌<◌, ◌≤◌, ℕ, List, All, map, option_map, IfOk, OnOk};
-ghost use Rattle.nesl_types_bank.specs.Term.{Term, nodes};
-ghost use Rattle.nesl_types_bank.specs.Numbering.{IsBelow};
-ghost use Rattle.nesl_types_bank.specs.Substitution.{substitute};
+ghost use Rattle.nesl_types_shared.specs.Term.{Term, nodes};
+ghost use Rattle.nesl_types_shared.specs.Numbering.{IsBelow};
+ghost use Rattle.nesl_types_shared.specs.Substitution.{substitute};
 ghost use Rattle.nesl_unify.specs.Bounds.{IsBounded};
 ghost use Rattle.nesl_unify.specs.Flat.{flat_type};
 ghost use Rattle.nesl_syntax_tree.specs.Views.{type_tree, member_tree, signature_tree};

@@ -46,10 +46,10 @@ pub struct OwnName {
 impl State {
     ghost use Rattle.std.specs.Prelude.{◌≡◌, ◌<◌, ◌≤◌, ℕ, All, length, map, IfOk, OnOk, IsErrOf};
     ghost use Rattle.nesl_types.specs.declared.classes.Class.{Class};
-    ghost use Rattle.nesl_types_bank.specs.Term.{Term, nodes, pair_of, seq_of};
-    ghost use Rattle.nesl_types_bank.specs.Numbering.{IsBelow};
+    ghost use Rattle.nesl_types_shared.specs.Term.{Term, nodes, pair_of, seq_of};
+    ghost use Rattle.nesl_types_shared.specs.Numbering.{IsBelow};
     ghost use Rattle.nesl_types.specs.Class.{IsIn};
-    ghost use Rattle.nesl_types_bank.specs.Substitution.{substitute};
+    ghost use Rattle.nesl_types_shared.specs.Substitution.{substitute};
     ghost use Rattle.nesl_unify.specs.Bounds.{IsBounded};
     ghost use Rattle.nesl_unify.specs.Flat.{flat_type};
     ghost use Rattle.nesl_unify.specs.Solves.{IsInstance, type_of, class_of};

@@ -1,16 +1,16 @@
 //! Types as they are written.
 
 ghost use Rattle.std.specs.Prelude.{◌≡◌, ◌<◌, length, IfOk, MatchOption};
-ghost use Rattle.nesl_types_bank.specs.Term.{Term};
-ghost use Rattle.nesl_types_bank.specs.Numbering.{IsBelow};
-ghost use Rattle.nesl_types_bank.specs.Types.{type_at, Extends};
+ghost use Rattle.nesl_types_shared.specs.Term.{Term};
+ghost use Rattle.nesl_types_shared.specs.Numbering.{IsBelow};
+ghost use Rattle.nesl_types_shared.specs.Types.{type_at, Extends};
 ghost use Rattle.nesl_syntax_tree.specs.Views.{type_tree};
 ghost use Rattle.nesl_infer_rules.specs.Typing.{IsWritten};
 ghost use Rattle.nesl_infer_names.specs.Names.{datatype_in};
 
 use nesl_syntax_tree::tree::{TypeExp, TypeNode};
 use nesl_types::{Context, Top};
-use nesl_types_bank::{Bank, Shape};
+use nesl_types_shared::{Bank, Shape};
 use std::alloc::AllocError;
 
 /// Puts the type that is written into a bank, and gives its place there, or `None` where a name in it is no datatype.

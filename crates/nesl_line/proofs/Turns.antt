@@ -5,8 +5,8 @@ use Rattle.std.specs.List.{AllByRecursion}
 use Rattle.std.specs.Str.{bytes_eq}
 use Rattle.std.proofs.lemmas.Slice.Eq.{bytes_eq-Decides}
 use Rattle.std.specs.Option.{option_map, is_some}
-use Rattle.nesl_session_step.specs.State.{Log}
-use Rattle.nesl_session_step.specs.Response.{Reply, no_user}
+use Rattle.nesl_session_meaning.specs.State.{Log}
+use Rattle.nesl_session_meaning.specs.Response.{Reply, no_user}
 use Rattle.nesl_house.specs.Script.{Event, kept_events}
 use Rattle.nesl_house.specs.Laws.{ScriptsFollow}
 use Rattle.nesl_house.specs.Runs.{Account, roster_of, session_of, AllReplay, Runs}

@@ -4,8 +4,8 @@ use Rattle.std.specs.Prelude.{flat_map}
 use Rattle.std.specs.List.{AllByRecursion}
 use Rattle.std.specs.Str.{bytes_eq}
 use Rattle.std.proofs.lemmas.List.{map-append}
-use Rattle.nesl_session_step.specs.State.{Log}
-use Rattle.nesl_session_step.specs.Response.{Reply}
+use Rattle.nesl_session_meaning.specs.State.{Log}
+use Rattle.nesl_session_meaning.specs.Response.{Reply}
 use Rattle.nesl_house.specs.Script.{Event, replies_of}
 use Rattle.nesl_house.specs.Runs.{Account, roster_of, session_of}
 use Rattle.nesl_line.specs.Lines.{HasNoFeed, with_feed, Splits, handed, last_line, AllLines, WholeLines}

@@ -7,11 +7,11 @@ use Rattle.std.specs.Str.{bytes_eq}
 use Rattle.std.proofs.lemmas.Slice.Eq.{bytes_eq-Decides}
 use Rattle.std.proofs.lemmas.List.{map-append}
 use Rattle.std.proofs.lemmas.List.Sums.{sum_by_push}
-use Rattle.nesl_session_step.specs.declared.limits.Limits.{Limits}
-use Rattle.nesl_session_step.specs.State.{State, Log, recorded_lines}
-use Rattle.nesl_session_step.specs.Response.{Reply, no_memory, is_memory}
-use Rattle.nesl_session_step.specs.Solo.{Replays, SessionAnswers, Responds}
-use Rattle.nesl_session_step.specs.Laws.{GoesOn, RecordedLinesGrow}
+use Rattle.nesl_session_meaning.specs.declared.limits.Limits.{Limits}
+use Rattle.nesl_session_meaning.specs.State.{State, Log, recorded_lines}
+use Rattle.nesl_session_meaning.specs.Response.{Reply, no_memory, is_memory}
+use Rattle.nesl_session_meaning.specs.Solo.{Replays, SessionAnswers, Responds}
+use Rattle.nesl_session_meaning.specs.Laws.{GoesOn, RecordedLinesGrow}
 use Rattle.nesl_house.specs.declared.lease.Receipt.{Receipt}
 use Rattle.nesl_house.specs.Register.{Leased, Register}
 use Rattle.nesl_house.specs.Roster.{place_of}

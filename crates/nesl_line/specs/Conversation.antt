@@ -2,7 +2,7 @@
 use Rattle.std.specs.Prelude.{◌≡◌, ◌≢◌, ℕ, ◌<◌, List, [], ◌∷◌, ◌++◌, Option, Some, None, Bool, true, ◌||◌, ◌&&◌}
 use Rattle.std.specs.Prelude.{length, codes, nat_le}
 use Rattle.std.specs.List.{AllByRecursion}
-use Rattle.nesl_session_step.specs.Response.{Reply, no_user}
+use Rattle.nesl_session_meaning.specs.Response.{Reply, no_user}
 use Rattle.nesl_house.specs.Script.{Event}
 use Rattle.nesl_house.specs.Runs.{Account, session_of, Runs}
 use Rattle.nesl_line.specs.Lines.{with_feed}

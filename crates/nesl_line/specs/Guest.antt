@@ -1,10 +1,10 @@
 -- What is told of the lines of one connection, which are one user's.
 use Rattle.std.specs.Prelude.{◌≡◌, ℕ, ◌+◌, List, [], ◌∷◌, Option, Some, true, map, sum_by, if◌then◌else◌}
 use Rattle.std.specs.List.{AllByRecursion}
-use Rattle.nesl_session_step.specs.declared.limits.Limits.{Limits}
-use Rattle.nesl_session_step.specs.State.{Log, recorded_lines}
-use Rattle.nesl_session_step.specs.Response.{Reply, no_memory, no_user, busy, is_memory}
-use Rattle.nesl_session_step.specs.Solo.{SessionAnswers}
+use Rattle.nesl_session_meaning.specs.declared.limits.Limits.{Limits}
+use Rattle.nesl_session_meaning.specs.State.{Log, recorded_lines}
+use Rattle.nesl_session_meaning.specs.Response.{Reply, no_memory, no_user, busy, is_memory}
+use Rattle.nesl_session_meaning.specs.Solo.{SessionAnswers}
 use Rattle.nesl_house.specs.Roster.{place_of}
 use Rattle.nesl_house.specs.Script.{Event, lines_of, replies_of, kept_events}
 use Rattle.nesl_line.specs.Lines.{with_feed}

@@ -2,7 +2,7 @@
 use Rattle.std.specs.Prelude.{◌≡◌, ◌≢◌, ℕ, ◌+◌, ◌==◌, List, [], ◌∷◌, ◌++◌, length, take, map, flat_map, if◌then◌else◌}
 use Rattle.std.specs.List.{AllByRecursion}
 use Rattle.std.specs.Str.Lines.{strip_carriage_return}
-use Rattle.nesl_session_step.specs.Step.{longest}
+use Rattle.nesl_session_meaning.specs.Step.{longest}
 
 -- no LF is among these bytes
 abbrev pub HasNoFeed : List ℕ → Type 0

@@ -1,7 +1,7 @@
 -- What one connection reads and writes, and what becomes of the session of its user.
 use Rattle.std.specs.Prelude.{ℕ, List, Option, Some, None, ◌⊎◌, true, false}
-use Rattle.nesl_session_step.specs.declared.limits.Limits.{Limits}
-use Rattle.nesl_session_step.specs.State.{Log}
+use Rattle.nesl_session_meaning.specs.declared.limits.Limits.{Limits}
+use Rattle.nesl_session_meaning.specs.State.{Log}
 use Rattle.nesl_house.specs.declared.lease.Receipt.{Receipt}
 use Rattle.nesl_line.specs.declared.exchange.End.{End}
 use Rattle.nesl_line.specs.Exchange.{IsExchange}

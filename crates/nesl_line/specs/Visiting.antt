@@ -2,10 +2,10 @@
 use Rattle.std.specs.Prelude.{◌≡◌, ℕ, ◌+◌, List, Option, Some, None, Bool, true, false}
 use Rattle.std.specs.Fn.{Shared}
 use denote.Ref.{Bor}
-use Rattle.nesl_session_step.specs.declared.limits.Limits.{Limits}
-use Rattle.nesl_session_step.specs.State.{Log, recorded_lines}
-use Rattle.nesl_session_step.specs.Response.{Reply}
-use Rattle.nesl_session_step.specs.Solo.{Responds}
+use Rattle.nesl_session_meaning.specs.declared.limits.Limits.{Limits}
+use Rattle.nesl_session_meaning.specs.State.{Log, recorded_lines}
+use Rattle.nesl_session_meaning.specs.Response.{Reply}
+use Rattle.nesl_session_meaning.specs.Solo.{Responds}
 use Rattle.nesl_house.specs.declared.lease.Receipt.{Receipt}
 use Rattle.nesl_house.specs.Register.{Leased}
 use Rattle.nesl_line.specs.declared.guest.Stage.{Stage}

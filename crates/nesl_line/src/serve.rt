@@ -9,7 +9,7 @@ use crate::guest::Guest;
 use nesl_house::lease::{Lease, Receipt};
 use nesl_house::table::Table;
 use nesl_session::answer::Answer;
-use nesl_split_helpers::{Gate, Helpers, Place};
+use nesl_eval_helpers::{Gate, Helpers, Place};
 use std::alloc::Global;
 use std::sync::Wait;
 use std::thread::Threads;

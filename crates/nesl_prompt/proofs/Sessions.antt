@@ -1,9 +1,9 @@
 -- A prompt without own words is its session.
 use Rattle.std.proofs.Common.{◌≡◌, ℕ, List, [], ◌∷◌, ◌++◌, Bool, true, false, refl, sym, ap, ◌∙◌, subst, append_assoc}
 use Rattle.std.specs.Prelude.{flat_map}
-use Rattle.nesl_session_step.specs.State.{Log}
-use Rattle.nesl_session_step.specs.Response.{Reply, no_memory}
-use Rattle.nesl_session_step.specs.Solo.{Responds}
+use Rattle.nesl_session_meaning.specs.State.{Log}
+use Rattle.nesl_session_meaning.specs.Response.{Reply, no_memory}
+use Rattle.nesl_session_meaning.specs.Solo.{Responds}
 use Rattle.nesl_line.specs.Exchange.{text_of}
 use Rattle.nesl_prompt.specs.Points.{Point, Said, Says, joined}
 use Rattle.nesl_prompt.specs.Words.{is_own}

@@ -3,10 +3,10 @@ use Rattle.std.specs.Prelude.{◌≡◌, ◌≢◌, ℕ, ◌≤◌, length, List
 use Rattle.std.specs.Prelude.{if◌then◌else◌}
 use Rattle.std.specs.Io.KnownBytes.{Appends}
 use Rattle.nesl_reply.specs.declared.fault.Fault.{Fault}
-use Rattle.nesl_session_step.specs.State.{Log}
-use Rattle.nesl_session_step.specs.Step.{longest}
-use Rattle.nesl_session_step.specs.Response.{Reply, no_memory}
-use Rattle.nesl_session_step.specs.Solo.{Responds}
+use Rattle.nesl_session_meaning.specs.State.{Log}
+use Rattle.nesl_session_meaning.specs.Step.{longest}
+use Rattle.nesl_session_meaning.specs.Response.{Reply, no_memory}
+use Rattle.nesl_session_meaning.specs.Solo.{Responds}
 use Rattle.nesl_line.specs.declared.exchange.End.{End}
 use Rattle.nesl_line.specs.declared.exchange.End.TheVariants.{Input, WriteFault}
 use Rattle.nesl_line.specs.Exchange.{IsExchange}

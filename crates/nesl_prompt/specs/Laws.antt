@@ -1,7 +1,7 @@
 -- What is told at a prompt without its own words.
 use Rattle.std.specs.Prelude.{◌≡◌, ℕ, List, flat_map, true, false}
 use Rattle.std.specs.List.{AllByRecursion}
-use Rattle.nesl_session_step.specs.State.{Log}
+use Rattle.nesl_session_meaning.specs.State.{Log}
 use Rattle.nesl_line.specs.Exchange.{text_of}
 use Rattle.nesl_prompt.specs.Points.{Point, Said, Says}
 use Rattle.nesl_prompt.specs.Words.{is_own}

@@ -1,8 +1,8 @@
 -- Where a conversation is, and what is said on the way.
 use Rattle.std.specs.Prelude.{◌≡◌, ℕ, List, [], ◌∷◌, ◌++◌, Bool, false, not, ◌&&◌}
-use Rattle.nesl_session_step.specs.State.{Log}
-use Rattle.nesl_session_step.specs.Response.{Reply}
-use Rattle.nesl_session_step.specs.Solo.{Responds}
+use Rattle.nesl_session_meaning.specs.State.{Log}
+use Rattle.nesl_session_meaning.specs.Response.{Reply}
+use Rattle.nesl_session_meaning.specs.Solo.{Responds}
 use Rattle.nesl_prompt.specs.declared.style.Style.{Style}
 
 -- the lines of a form that goes on, joined, and the session

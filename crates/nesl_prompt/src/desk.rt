@@ -2,8 +2,8 @@
 ghost use Rattle.std.specs.Prelude.{◌≡◌, ℕ, ◌<◌, ◌≤◌, ◌++◌, List, Option, [], None, false, true, ⊤, codes, length};
 ghost use Rattle.std.specs.Prelude.{IfSome, OnOk, OnErr, if◌then◌else◌};
 ghost use Rattle.nesl_reply.specs.declared.fault.Fault.{Fault};
-ghost use Rattle.nesl_session_step.specs.Solo.{Responds};
-ghost use Rattle.nesl_session_step.specs.Response.{Reply};
+ghost use Rattle.nesl_session_meaning.specs.Solo.{Responds};
+ghost use Rattle.nesl_session_meaning.specs.Response.{Reply};
 ghost use Rattle.nesl_line.specs.Told.{text_told};
 ghost use Rattle.nesl_prompt.specs.Conversation.{Conversed, IsBelow, IsSign, IsTold, Takes, Turn};
 ghost use Rattle.nesl_prompt.specs.Points.{Obeyed, Spoke, is_plain, joined};

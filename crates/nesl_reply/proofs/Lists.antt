@@ -10,7 +10,7 @@ use Rattle.std.proofs.lemmas.Bool.Decides.{nat_tests}
 use Rattle.std.proofs.lemmas.Grind.{flat_map-append}
 use Rattle.std.proofs.lemmas.Option.{slice_get_within, get_or_from_slice_get}
 use Rattle.nesl_values.specs.Tree.{ValueTree, int, boolean, character, seq, trees_of}
-use Rattle.nesl_types_bank.specs.Term.{Term}
+use Rattle.nesl_types_shared.specs.Term.{Term}
 use Rattle.nesl_reply.specs.declared.value.Task.{Task}
 use Rattle.nesl_reply.specs.Values.{DatatypesByTag, value_text, later_elements_text, is_quotable, code_of, is_text_type, element_type}
 use Rattle.nesl_reply.specs.Replies.{names_text}

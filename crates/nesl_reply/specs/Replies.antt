@@ -3,7 +3,7 @@ use Rattle.std.specs.Prelude.{ℕ, true, List, [], ◌∷◌, ◌++◌, map, fla
 use Rattle.nesl_values.specs.View.{tree_of}
 use Rattle.nesl_values.specs.Tree.{ValueTree}
 use Rattle.nesl_types.specs.declared.classes.Class.{Class}
-use Rattle.nesl_types_bank.specs.Term.{Term}
+use Rattle.nesl_types_shared.specs.Term.{Term}
 use Rattle.nesl_types.specs.Texts.{type_text, function_text}
 use Rattle.nesl_types.specs.declared.bindings.Top.{Top}
 use Rattle.nesl_scalars.specs.declared.cost.Cost.{Cost}

@@ -3,7 +3,7 @@ use Rattle.std.specs.Prelude.{ℕ, ◌+◌, ◌*◌, ◌-◌, ◌≡◌, codes, 
 use Rattle.std.specs.Fmt.{signed_decimal}
 use Rattle.nesl_values.specs.Tree.{ValueTree, int, boolean, character, size, sizes}
 use Rattle.nesl_values.specs.View.{tree_of, trees_view}
-use Rattle.nesl_types_bank.specs.Term.{Term}
+use Rattle.nesl_types_shared.specs.Term.{Term}
 use Rattle.nesl_reply.specs.declared.value.Task.{Task}
 use Rattle.nesl_reply.specs.Values.{DatatypesByTag, value_text, later_elements_text, character_text, is_text_type}
 

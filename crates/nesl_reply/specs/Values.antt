@@ -6,7 +6,7 @@ use Rattle.std.specs.List.{list_all}
 use Rattle.nesl_values.specs.Parts.{list_of}
 use Rattle.nesl_values.specs.Tree.{ValueTree, ValueTrees, int, boolean, character, pair, seq, tagged, no_trees}
 use Rattle.nesl_values.specs.Tree.{tree_then}
-use Rattle.nesl_types_bank.specs.Term.{Term, char, seq_of, pair_of}
+use Rattle.nesl_types_shared.specs.Term.{Term, char, seq_of, pair_of}
 use Rattle.nesl_types.specs.Names.{datatype_at}
 use Rattle.nesl_types.specs.Texts.{name_at}
 use Rattle.nesl_types.specs.declared.bindings.Top.{Top}

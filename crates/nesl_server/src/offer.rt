@@ -16,7 +16,7 @@ use nesl_prompt::shelf::ShelfFault;
 use nesl_service::browse::Page;
 use nesl_service::service::{Observers, ServeFault, Site, serve_at};
 use nesl_service_journal::counters::Counters;
-use nesl_split_helpers::Free;
+use nesl_eval_helpers::Free;
 use std::alloc::{AllocError, Global};
 use std::io;
 use std::io::{Eprint, Print};

@@ -4,8 +4,8 @@ use denote.Ref.{NamedLft}
 use denote.Param.Send.{IsSend, IsSync, sendable}
 use Rattle.std.proofs.Crossing as standard
 use Rattle.std.specs.declared.sync.ledger.Ledger.{Ghosts}
-use Rattle.nesl_split_helpers.specs.contracts.pool.Pool as pool_row
-use Rattle.nesl_split_helpers.proofs.pool.Kept.TheSendSync as kept_crosses
+use Rattle.nesl_eval_helpers.specs.contracts.pool.Pool as pool_row
+use Rattle.nesl_eval_helpers.proofs.pool.Kept.TheSendSync as kept_crosses
 use Rattle.nesl_house.proofs.Crosses.{table_sync}
 use Rattle.nesl_service_counts.proofs.Crosses.{receipts_send}
 use Rattle.nesl_service_counts.proofs.numbers.Numbers.TheSendSync as numbers_crosses

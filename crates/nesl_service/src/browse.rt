@@ -9,7 +9,7 @@ use nesl_service_journal::accepting::AcceptFault;
 use nesl_service_journal::answers::{AnswerObserver, ObservedWriter};
 use nesl_service_journal::journal::{Caller, Journal, Missed};
 use nesl_service_journal::watch::{Timed, Watch};
-use nesl_split_helpers::Gate;
+use nesl_eval_helpers::Gate;
 use nesl_web::greet::{Greeted, greet};
 use nesl_web::lines::{MessageReader, MessageWriter};
 use nesl_web::wire::{BROWSER_DRAIN, REFUSED_DRAIN};

@@ -1,7 +1,7 @@
 //! Asks for helpers of which a journal is told.
 
 use crate::journal::Journal;
-use nesl_split_helpers::Helpers;
+use nesl_eval_helpers::Helpers;
 
 /// Asks others for helpers, and tells a journal what came of it.
 #[derive(Drop)]

@@ -4,7 +4,7 @@ use Rattle.std.proofs.lemmas.Bool.{leb-true}
 use Rattle.nesl_values.specs.View.{tree_of}
 use Rattle.nesl_lex.specs.declared.token.Span.{Span}
 use Rattle.nesl_scalars.specs.declared.trap.Trap.{Trap}
-use Rattle.nesl_types_bank.specs.Term.{Term}
+use Rattle.nesl_types_shared.specs.Term.{Term}
 use Rattle.nesl_syntax_tree.specs.Trees.{Tree}
 use Rattle.nesl_eval_meaning.specs.Names.{Value, Name, Environment, outside}
 use Rattle.nesl_eval_meaning.specs.Outcome.{out}
@@ -12,9 +12,9 @@ use Rattle.nesl_reply.specs.declared.fault.Fault.TheVariants as faults
 use Rattle.nesl_reply.specs.Faults.{fault_of}
 use Rattle.nesl_reply.specs.Replies as replies
 use Rattle.nesl_session_bindings.specs.Meanings.{variable}
-use Rattle.nesl_session_step.specs.declared.limits.Limits.{Limits}
-use Rattle.nesl_session_step.specs.State.{State}
-use Rattle.nesl_session_step.specs.Finding.{Finding, refused, budget, bound_or_refused, FindsOutcome}
+use Rattle.nesl_session_meaning.specs.declared.limits.Limits.{Limits}
+use Rattle.nesl_session_meaning.specs.State.{State}
+use Rattle.nesl_session_meaning.specs.Finding.{Finding, refused, budget, bound_or_refused, FindsOutcome}
 use Rattle.nesl_eval_meaning.specs.Out.{Out, Budgeted, fits_budget, exceeds_budget, value, fault, stuck, within}
 use Rattle.nesl_eval_meaning.specs.Out.{work_of}
 use Rattle.nesl_eval.specs.declared.outcome.Outcome.{Outcome}

@@ -1,7 +1,7 @@
 -- Lines that are parts of a form.
 use Rattle.std.proofs.Common.{◌≡◌, ℕ, ◌-◌, ◌==◌, zero, suc, List, [], ◌∷◌, Some, length, sym, ap, arith}
 use Rattle.std.specs.Prelude.{slice_get}
-use Rattle.nesl_session_step.specs.Step.{is_part}
+use Rattle.nesl_session_meaning.specs.Step.{is_part}
 
 last_at : (t : List ℕ) (n b : ℕ) → suc n ≡ length t → slice_get t n ≡ Some b → (b == 92) ≡ is_part t
 last_at [] n b m e = absurd (omega arith)

@@ -5,9 +5,9 @@ use Rattle.nesl_reply.specs.declared.fault.Fault.TheVariants as faults
 use Rattle.nesl_reply.specs.Replies.{Report}
 use Rattle.nesl_session_bindings.specs.Meanings.{Meaning, elements_of}
 use Rattle.nesl_session_bindings.specs.Known.{put_binding}
-use Rattle.nesl_session_step.specs.declared.limits.Limits.{Limits}
-use Rattle.nesl_session_step.specs.State.{State}
-use Rattle.nesl_session_step.specs.Finding.{refused, answered, bound_or_refused}
+use Rattle.nesl_session_meaning.specs.declared.limits.Limits.{Limits}
+use Rattle.nesl_session_meaning.specs.State.{State}
+use Rattle.nesl_session_meaning.specs.Finding.{refused, answered, bound_or_refused}
 use Rattle.nesl_session_forms.specs.Found.{HasRoom}
 use Rattle.nesl_session_forms.proofs.Verdicts.{many, few, room}
 

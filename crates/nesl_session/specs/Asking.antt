@@ -1,10 +1,10 @@
 -- Why a session would refuse a line that it is not told.
 use Rattle.std.specs.Prelude.{◌≡◌, ℕ, List, Option}
 use Rattle.nesl_reply.specs.declared.fault.Fault.{Fault}
-use Rattle.nesl_session_step.specs.State.{State, Log}
-use Rattle.nesl_session_step.specs.Response.{Reply}
-use Rattle.nesl_session_step.specs.Step.{Step}
-use Rattle.nesl_session_step.specs.Solo.{Replays}
+use Rattle.nesl_session_meaning.specs.State.{State, Log}
+use Rattle.nesl_session_meaning.specs.Response.{Reply}
+use Rattle.nesl_session_meaning.specs.Step.{Step}
+use Rattle.nesl_session_meaning.specs.Solo.{Replays}
 
 -- told the line, a session would answer with this fault, or with none
 pub record AnswersWith (log : Log) (line : List ℕ) (fault : Option Fault) : Type 0 where

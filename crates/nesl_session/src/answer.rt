@@ -1,6 +1,6 @@
 //! What is told of a line.
 ghost use Rattle.std.specs.Prelude.{◌≡◌, codes};
-ghost use Rattle.nesl_session_step.specs.Response.{Reply, busy, no_memory, no_user};
+ghost use Rattle.nesl_session_meaning.specs.Response.{Reply, busy, no_memory, no_user};
 
 use nesl_reply::Fault;
 use std::marker::Model;
@@ -23,7 +23,7 @@ pub struct Answer {
 }
 
 impl Model for Answer {
-    ghost use Rattle.nesl_session_step.specs.Response.{Reply};
+    ghost use Rattle.nesl_session_meaning.specs.Response.{Reply};
     ghost use Rattle.nesl_session.specs.Text.{text_bytes};
 
     ghost Value = { Reply };

@@ -7,7 +7,7 @@ ghost use Rattle.nesl_eval_meaning.specs.Out.{within};
 ghost use Rattle.nesl_eval_meaning.specs.Outcome.{out};
 ghost use Rattle.nesl_session_bindings.specs.Known.{known, environment};
 ghost use Rattle.nesl_session_bindings.specs.Redefinition.{RefusesDefinition, a_variable, it};
-ghost use Rattle.nesl_session_step.specs.Finding.{budget, budget_report, FindsForm, FindsVariable, FindsOutcome};
+ghost use Rattle.nesl_session_meaning.specs.Finding.{budget, budget_report, FindsForm, FindsVariable, FindsOutcome};
 ghost use Rattle.nesl_session_forms.specs.Found.{finding_of, told_of, CanCharge};
 ghost use Rattle.nesl_session_standing.specs.Inside.{state_of, Counts};
 

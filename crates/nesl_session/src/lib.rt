@@ -9,4 +9,4 @@ pub mod session;
 
 pub use line::LONGEST;
 pub use nesl_reply::{Fault, Stop};
-pub use nesl_session_step::{laws, limits};
+pub use nesl_session_meaning::{laws, limits};

@@ -1,10 +1,10 @@
 //! One line: what is found of it before its form is looked at, and what is answered.
 ghost use Rattle.std.specs.Prelude.{◌≡◌, ◌+◌, ◌++◌, List, ℕ, IfOk, OnErr, IsFalse, nat_lt, if◌then◌else◌, length};
 ghost use Rattle.nesl_reply.specs.declared.fault.Fault.TheVariants as faults;
-ghost use Rattle.nesl_session_step.specs.Finding.{unread, reset};
-ghost use Rattle.nesl_session_step.specs.Step.{Finds, Step, is_reset, is_part, is_full, longest, most_recorded};
-ghost use Rattle.nesl_session_step.specs.Step.{recorded_by_reset, reply_of};
-ghost use Rattle.nesl_session_step.specs.Sense.{HasSense};
+ghost use Rattle.nesl_session_meaning.specs.Finding.{unread, reset};
+ghost use Rattle.nesl_session_meaning.specs.Step.{Finds, Step, is_reset, is_part, is_full, longest, most_recorded};
+ghost use Rattle.nesl_session_meaning.specs.Step.{recorded_by_reset, reply_of};
+ghost use Rattle.nesl_session_meaning.specs.Sense.{HasSense};
 ghost use Rattle.nesl_session_forms.specs.Found.{finding_of, seen_sense, CanCharge};
 ghost use Rattle.nesl_session.specs.Reading.{FindsRead};
 ghost use Rattle.nesl_session_standing.specs.Settling.{CanSettle, HasRoomFor};

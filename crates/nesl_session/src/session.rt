@@ -4,10 +4,10 @@ ghost use Rattle.nesl_syntax_tree.specs.Views.{tree_of};
 ghost use Rattle.nesl_eval_meaning.specs.Names.{outside};
 ghost use Rattle.nesl_eval_meaning.specs.Out.{within};
 ghost use Rattle.nesl_eval_meaning.specs.Outcome.{out};
-ghost use Rattle.nesl_eval_env.specs.Stored.{environment};
+ghost use Rattle.nesl_eval_top_level.specs.Stored.{environment};
 ghost use Rattle.nesl_eval.specs.Outcomes.{OutcomeIs};
-ghost use Rattle.nesl_session_step.specs.State.{State, names_of, remaining_of, recorded_lines, empty_log};
-ghost use Rattle.nesl_session_step.specs.Solo.{Replays, Responds};
+ghost use Rattle.nesl_session_meaning.specs.State.{State, names_of, remaining_of, recorded_lines, empty_log};
+ghost use Rattle.nesl_session_meaning.specs.Solo.{Replays, Responds};
 ghost use Rattle.nesl_session_bindings.specs.Stored.{bindings_of};
 ghost use Rattle.nesl_session.specs.Asking.{AnswersWith};
 ghost use Rattle.std.specs.Iterator.{item_count, YieldsFirstRef};
@@ -16,13 +16,13 @@ use crate::answer::Answer;
 use crate::evaluator::{ByCall, Evaluator, InHeap, InPlace};
 use crate::line::{find, step};
 use nesl_eval::Outcome;
-use nesl_eval_env::Env;
+use nesl_eval_top_level::Env;
 use nesl_reply::Fault;
 use nesl_session_bindings::Bindings;
 use nesl_session_standing::Standing;
-use nesl_session_step::limits::{Limits, Remaining};
+use nesl_session_meaning::limits::{Limits, Remaining};
 use nesl_split::eval_split;
-use nesl_split_helpers::{Gate, Helpers};
+use nesl_eval_helpers::{Gate, Helpers};
 use nesl_syntax_tree::tree::Exp;
 use std::alloc::{AllocError, Allocator, Global};
 use std::marker::Model;
@@ -43,7 +43,7 @@ impl Drop for Session {
 }
 
 impl Model for Session {
-    ghost use Rattle.nesl_session_step.specs.State.{Log};
+    ghost use Rattle.nesl_session_meaning.specs.State.{Log};
 
     ghost Value = { Log };
 

@@ -6,9 +6,9 @@ use Rattle.std.proofs.lemmas.Bool.{le-leb, lt-leb, cases_lt}
 use Rattle.std.proofs.lemmas.List.Sums.{sum_by-cons}
 use Rattle.nesl_types.specs.declared.bindings.Top as kinds
 use Rattle.nesl_types.specs.Names.{found}
-use Rattle.nesl_eval_env.specs.declared.env.Payload.{Payload}
+use Rattle.nesl_eval_top_level.specs.declared.env.Payload.{Payload}
 use Rattle.nesl_eval_meaning.specs.Names.{Name}
-use Rattle.nesl_eval_env.specs.Stored.{Entry}
+use Rattle.nesl_eval_top_level.specs.Stored.{Entry}
 use Rattle.nesl_session_bindings.specs.Beside.{elements_beside}
 use Rattle.nesl_session_bindings.specs.Known.{put_binding}
 use Rattle.nesl_session_bindings.specs.Meanings.{Meaning, Binding, elements_in, elements_of}

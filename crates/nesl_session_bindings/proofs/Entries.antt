@@ -9,11 +9,11 @@ use Rattle.nesl_types.specs.declared.bindings.Top.TheVariants as kind
 use Rattle.nesl_types.specs.Names as types
 use Rattle.nesl_types.specs.Names.{found, with_name}
 use Rattle.nesl_infer_names.specs.Names.{names_in, names_from, top_in, as_variable, as_function, as_datatype}
-use Rattle.nesl_eval_env.specs.declared.env.Payload.{Payload}
-use Rattle.nesl_eval_env.specs.declared.env.Payload.TheVariants as payload
+use Rattle.nesl_eval_top_level.specs.declared.env.Payload.{Payload}
+use Rattle.nesl_eval_top_level.specs.declared.env.Payload.TheVariants as payload
 use Rattle.nesl_eval_meaning.specs.Names.{Name}
-use Rattle.nesl_eval_env.specs.Stored as stored
-use Rattle.nesl_eval_env.specs.Stored.{Entry}
+use Rattle.nesl_eval_top_level.specs.Stored as stored
+use Rattle.nesl_eval_top_level.specs.Stored.{Entry}
 use Rattle.nesl_reply.specs.Values as replies
 use Rattle.nesl_eval_sound.specs.Lines as lines
 use Rattle.nesl_session_bindings.specs.Meanings.{Meaning}

@@ -3,7 +3,7 @@ use Rattle.std.proofs.Common.{◌≡◌, ℕ, true, false, refl, sym, ap, subst,
 use Rattle.std.specs.Prelude.{option_map, is_some, ◌||◌, ◌&&◌}
 use Rattle.std.specs.Str.{bytes_eq}
 use Rattle.std.proofs.lemmas.Bool.{both_ways, or_parts}
-use Rattle.nesl_types_bank.specs.Term.{Term}
+use Rattle.nesl_types_shared.specs.Term.{Term}
 use Rattle.nesl_types.specs.declared.bindings.Top as kinds
 use Rattle.nesl_types.specs.declared.bindings.Top.TheVariants as kind
 use Rattle.nesl_types.specs.declared.schemes.Scheme.{Scheme}
@@ -11,10 +11,10 @@ use Rattle.nesl_types.specs.Names.{found}
 use Rattle.nesl_builtins.specs.Named.{builtin_named}
 use Rattle.nesl_builtins.specs.FunctionTypes.{function_type}
 use Rattle.nesl_infer_names.specs.Names.{top_in}
-use Rattle.nesl_eval_env.specs.declared.env.Payload.{Payload}
-use Rattle.nesl_eval_env.specs.declared.env.Payload.TheVariants as payload
+use Rattle.nesl_eval_top_level.specs.declared.env.Payload.{Payload}
+use Rattle.nesl_eval_top_level.specs.declared.env.Payload.TheVariants as payload
 use Rattle.nesl_eval_meaning.specs.Names.{Name}
-use Rattle.nesl_eval_env.specs.Stored.{Entry, top_of}
+use Rattle.nesl_eval_top_level.specs.Stored.{Entry, top_of}
 use Rattle.nesl_eval_sound.specs.Refers.{is_referred}
 use Rattle.nesl_eval_sound.specs.Lines.{IsRedefinable, IsUnchanged, is_type, values_of}
 use Rattle.nesl_session_bindings.specs.Known.{meaning_in, environment}

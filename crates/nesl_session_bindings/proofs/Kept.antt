@@ -4,7 +4,7 @@ use Rattle.nesl_types.specs.declared.bindings.Top as kinds
 use Rattle.nesl_types.specs.declared.bindings.Top.TheVariants as kind
 use Rattle.nesl_types.specs.declared.schemes.Scheme.{Scheme}
 use Rattle.nesl_types.specs.Names.{with_name}
-use Rattle.nesl_types_bank.specs.Term.{Term, nodes}
+use Rattle.nesl_types_shared.specs.Term.{Term, nodes}
 use Rattle.nesl_values.specs.declared.value.Value.{Value}
 use Rattle.nesl_values.specs.Tree.{size}
 use Rattle.nesl_values.specs.View.{tree_of}
@@ -15,11 +15,11 @@ use Rattle.nesl_syntax_tree.specs.Views as syntax
 use Rattle.nesl_builtins.specs.FunctionTypes.{function_type}
 use Rattle.nesl_infer_names.specs.Names.{Names, OwnName}
 use Rattle.nesl_infer.specs.Verdicts.{IsTypeBy, IsFunctionBy, IsContentBy, typed}
-use Rattle.nesl_eval_env.specs.declared.env.Payload.{Payload}
-use Rattle.nesl_eval_env.specs.declared.env.Payload.TheVariants as payload
+use Rattle.nesl_eval_top_level.specs.declared.env.Payload.{Payload}
+use Rattle.nesl_eval_top_level.specs.declared.env.Payload.TheVariants as payload
 use Rattle.nesl_eval_meaning.specs.Names.{Name, Environment, outside}
 use Rattle.nesl_eval_meaning.specs.Outcome.{out}
-use Rattle.nesl_eval_env.specs.Stored.{Entry, top_of}
+use Rattle.nesl_eval_top_level.specs.Stored.{Entry, top_of}
 use Rattle.nesl_eval_sound.specs.Lines as lines
 use Rattle.nesl_eval_sound.specs.Lines.{IsSound}
 use Rattle.nesl_eval_sound.specs.Inferred.{InferredVariablesStaySound, InferredFunctionsStaySound, WrittenDatatypesStaySound}

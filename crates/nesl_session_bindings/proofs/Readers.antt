@@ -2,15 +2,15 @@
 use Rattle.std.proofs.Common.{◌≡◌, ℕ, ◌++◌, sym, ap, subst, ◌∙◌, List, [], map, Vec, Global, Result}
 use Rattle.std.specs.declared.alloc.AllocError.{AllocError}
 use Rattle.std.specs.Prelude.{IfOk, codes}
-use Rattle.nesl_types_bank.specs.Term.{Term}
+use Rattle.nesl_types_shared.specs.Term.{Term}
 use Rattle.nesl_syntax_tree.specs.Trees.{Tree}
 use Rattle.nesl_infer_names.specs.Names.{Names, OwnName, names_in}
 use Rattle.nesl_infer.specs.Verdicts.{IsTypeBy, typed}
-use Rattle.nesl_eval_env.specs.declared.env.Payload.{Payload}
+use Rattle.nesl_eval_top_level.specs.declared.env.Payload.{Payload}
 use Rattle.nesl_eval_meaning.specs.Names.{Environment, Value, outside}
 use Rattle.nesl_eval_meaning.specs.Out.{Out, stuck}
 use Rattle.nesl_eval_meaning.specs.Outcome.{out}
-use Rattle.nesl_eval_env.specs.Stored.{Entry, top_of}
+use Rattle.nesl_eval_top_level.specs.Stored.{Entry, top_of}
 use Rattle.nesl_reply.specs.declared.reply.Reply.{Reply}
 use Rattle.nesl_reply.specs.Replies.{report_of, report_text, reply_text}
 use Rattle.nesl_reply.specs.Values as replies

@@ -5,11 +5,11 @@ use Rattle.std.proofs.lemmas.Bool.{false_from_ne_true, and_parts, and_from}
 use Rattle.nesl_types.specs.declared.bindings.Top as kinds
 use Rattle.nesl_types.specs.declared.bindings.Top.TheVariants as kind
 use Rattle.nesl_types.specs.Names.{found}
-use Rattle.nesl_eval_env.specs.declared.env.Payload.{Payload}
-use Rattle.nesl_eval_env.specs.declared.env.Payload.TheVariants as payload
+use Rattle.nesl_eval_top_level.specs.declared.env.Payload.{Payload}
+use Rattle.nesl_eval_top_level.specs.declared.env.Payload.TheVariants as payload
 use Rattle.nesl_eval_meaning.specs.Names.{Name}
-use Rattle.nesl_eval_env.specs.Stored as stored
-use Rattle.nesl_eval_env.specs.Stored.{Entry}
+use Rattle.nesl_eval_top_level.specs.Stored as stored
+use Rattle.nesl_eval_top_level.specs.Stored.{Entry}
 use Rattle.nesl_eval_sound.specs.Lines.{is_type}
 use Rattle.nesl_eval_sound.specs.Refers.{is_referred}
 use Rattle.nesl_session_bindings.specs.Known.{meaning_in, environment}

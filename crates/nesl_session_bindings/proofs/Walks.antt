@@ -5,7 +5,7 @@ use Rattle.std.specs.List.{list_any}
 use Rattle.std.specs.Option.{option_map_or}
 use Rattle.std.specs.Str.{bytes_eq}
 use Rattle.nesl_eval_meaning.specs.Names.{Name}
-use Rattle.nesl_eval_env.specs.Stored.{Entry, environment, top_of}
+use Rattle.nesl_eval_top_level.specs.Stored.{Entry, environment, top_of}
 use Rattle.nesl_eval_sound.specs.Lines.{datatypes, is_type}
 use Rattle.nesl_eval_sound.specs.Refers.{is_referred, top_refers}
 

@@ -1,6 +1,6 @@
 -- What the top-level names of a session stand for, without where it lies in memory.
 use Rattle.std.specs.Prelude.{ℕ, List, sum_by}
-use Rattle.nesl_types_bank.specs.Term.{Term, nodes}
+use Rattle.nesl_types_shared.specs.Term.{Term, nodes}
 use Rattle.nesl_values.specs.Tree.{size}
 use Rattle.nesl_syntax_tree.specs.Trees.{PatternTree, Tree}
 use Rattle.nesl_builtins.specs.FunctionTypes.{FunctionType}

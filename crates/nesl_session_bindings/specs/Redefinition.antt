@@ -1,7 +1,7 @@
 -- Definitions that are refused because of what stands already. The two rules are this profile's.
 use Rattle.std.specs.Prelude.{◌≡◌, Bool, true, false, ◌&&◌, ◌||◌, is_some, List, Option, Some, None, codes}
 use Rattle.std.specs.Str.{bytes_eq}
-use Rattle.nesl_types_bank.specs.Term.{Term}
+use Rattle.nesl_types_shared.specs.Term.{Term}
 use Rattle.nesl_builtins.specs.FunctionTypes.{FunctionType}
 use Rattle.nesl_builtins.specs.Named.{builtin_named}
 use Rattle.nesl_eval_meaning.specs.Names.{Name}

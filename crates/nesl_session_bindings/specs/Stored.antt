@@ -2,18 +2,18 @@
 use Rattle.std.specs.Prelude.{◌≡◌, ℕ, List, [], ◌∷◌, map}
 use Rattle.nesl_types.specs.declared.bindings.Top as kinds
 use Rattle.nesl_types.specs.declared.bindings.Top.TheVariants as kind
-use Rattle.nesl_types_bank.specs.Term.{Term, int}
+use Rattle.nesl_types_shared.specs.Term.{Term, int}
 use Rattle.nesl_values.specs.View.{tree_of}
 use Rattle.nesl_syntax_tree.specs.Views as syntax
 use Rattle.nesl_syntax_tree.specs.Trees.{Tree}
 use Rattle.nesl_builtins.specs.FunctionTypes.{function_type}
 use Rattle.nesl_infer.specs.Verdicts.{IsTypeBy, typed}
-use Rattle.nesl_eval_env.specs.declared.env.Payload.{Payload}
-use Rattle.nesl_eval_env.specs.declared.env.Payload.TheVariants as payload
+use Rattle.nesl_eval_top_level.specs.declared.env.Payload.{Payload}
+use Rattle.nesl_eval_top_level.specs.declared.env.Payload.TheVariants as payload
 use Rattle.nesl_eval_meaning.specs.Names.{Value, outside}
 use Rattle.nesl_eval_meaning.specs.Out.{value}
 use Rattle.nesl_eval_meaning.specs.Outcome.{out}
-use Rattle.nesl_eval_env.specs.Stored.{Entry, top_of}
+use Rattle.nesl_eval_top_level.specs.Stored.{Entry, top_of}
 use Rattle.nesl_eval_sound.specs.Lines.{IsSound}
 use Rattle.nesl_session_bindings.specs.declared.kind.Kind.{Kind}
 use Rattle.nesl_session_bindings.specs.Meanings.{Meaning, Binding, variable, function, datatype, elements_of}

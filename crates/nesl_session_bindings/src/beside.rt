@@ -1,13 +1,13 @@
 //! How many elements names have.
 
 ghost use Rattle.std.specs.Prelude.{◌≡◌, ◌+◌, ◌<◌, ◌^◌, MatchOption};
-ghost use Rattle.nesl_types_bank.specs.Term.{nodes};
+ghost use Rattle.nesl_types_shared.specs.Term.{nodes};
 ghost use Rattle.nesl_session_bindings.specs.Beside.{elements_beside};
 ghost use Rattle.nesl_session_bindings.specs.Meanings.{elements_in};
 ghost use Rattle.nesl_session_bindings.specs.Stored.{AreKept, PayloadFits, bindings_of, meaning_of};
 
 use crate::nodes;
-use nesl_eval_env::{Env, Payload};
+use nesl_eval_top_level::{Env, Payload};
 use nesl_types::{Top, Ty};
 
 /// What is left of `room` after the elements of what stands there, or `None` where they are more.

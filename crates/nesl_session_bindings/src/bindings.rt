@@ -4,7 +4,7 @@ ghost use Rattle.std.specs.Prelude.{◌≡◌, ◌<◌, ◌≤◌, ◌+◌, ◌+
 ghost use Rattle.std.specs.Prelude.{OnErr, codes, length, map};
 ghost use Rattle.std.specs.Prelude.{nat_le, slice_get};
 ghost use Rattle.std.specs.Option.{option_map};
-ghost use Rattle.nesl_types_bank.specs.Term.{Term};
+ghost use Rattle.nesl_types_shared.specs.Term.{Term};
 ghost use Rattle.nesl_values.specs.View.{tree_of as value_tree};
 ghost use Rattle.nesl_syntax_tree.specs.Trees.{PatternTree, SignatureTree, Tree, TypeTree};
 ghost use Rattle.nesl_syntax_tree.specs.Views.{pattern_tree, signature_tree, tree_of, type_tree};
@@ -13,7 +13,7 @@ ghost use Rattle.nesl_infer.specs.Verdicts.{AnswersVerdict, IsContentBy, IsFunct
 ghost use Rattle.nesl_eval_meaning.specs.Names.{outside};
 ghost use Rattle.nesl_eval_meaning.specs.Out.{stuck};
 ghost use Rattle.nesl_eval_meaning.specs.Outcome.{out};
-ghost use Rattle.nesl_eval_env.specs.Stored as stored;
+ghost use Rattle.nesl_eval_top_level.specs.Stored as stored;
 ghost use Rattle.nesl_reply.specs.Replies.{report_of, report_text};
 ghost use Rattle.nesl_session_bindings.specs.Beside.{elements_beside};
 ghost use Rattle.nesl_session_bindings.specs.Known.{datatype_count, datatypes_of, environment, known, put_binding};
@@ -25,7 +25,7 @@ ghost use Rattle.nesl_session_bindings.specs.Stored.{IsComputed, bindings_of, ki
 use crate::kind::Kind;
 use crate::refusal::Refusal;
 use crate::{beside, nodes, redefinition};
-use nesl_eval_env::{Env, Payload};
+use nesl_eval_top_level::{Env, Payload};
 use nesl_eval_sound::laws::inferred_lines_keep_types;
 use nesl_infer::InferFault;
 use nesl_reply::Reply;
@@ -52,10 +52,10 @@ impl Drop for Bindings {
 impl Model for Bindings {
     ghost use Rattle.std.specs.Prelude.{ℕ, List};
     ghost use Rattle.nesl_types.specs.declared.bindings.Top.{Top};
-    ghost use Rattle.nesl_eval_env.specs.declared.env.Payload.{Payload};
+    ghost use Rattle.nesl_eval_top_level.specs.declared.env.Payload.{Payload};
     ghost use Rattle.std.specs.Coded.{codes};
-    ghost use Rattle.nesl_types_bank.specs.contracts.types.Ty as ty;
-    ghost use Rattle.nesl_eval_env.specs.contracts.env.Payload as payload;
+    ghost use Rattle.nesl_types_shared.specs.contracts.types.Ty as ty;
+    ghost use Rattle.nesl_eval_top_level.specs.contracts.env.Payload as payload;
 
     ghost Value = { List (List ℕ × Top × Payload) };
 

@@ -5,8 +5,8 @@ ghost use Rattle.std.specs.Option.{option_map, option_map_or};
 ghost use Rattle.std.specs.Str.{bytes_eq};
 ghost use Rattle.nesl_types.specs.Names.{found};
 ghost use Rattle.nesl_types.specs.declared.bindings.Top.{Top};
-ghost use Rattle.nesl_eval_env.specs.declared.env.Payload.{Payload};
-ghost use Rattle.nesl_eval_env.specs.Stored.{environment, top_of};
+ghost use Rattle.nesl_eval_top_level.specs.declared.env.Payload.{Payload};
+ghost use Rattle.nesl_eval_top_level.specs.Stored.{environment, top_of};
 ghost use Rattle.nesl_eval_sound.specs.Refers.{is_referred, top_refers};
 ghost use Rattle.nesl_eval_sound.specs.Lines.{datatypes, is_type};
 ghost use Rattle.nesl_session_bindings.specs.Known.{meaning_in};
@@ -15,7 +15,7 @@ ghost use Rattle.nesl_session_bindings.specs.Stored.{AllFit, PayloadFits, bindin
 
 use crate::kind::Kind;
 use nesl_builtins::named;
-use nesl_eval_env::{Env, Payload};
+use nesl_eval_top_level::{Env, Payload};
 use nesl_eval_sound::refers_to;
 use nesl_types::Top;
 

@@ -2,7 +2,7 @@
 use Rattle.std.proofs.Common.{◌≡◌, ℕ, ◌<◌, ◌^◌, List, Bool, true, false, cond, leb, nat_lt, Option, Some, None, Result, Ok, Err, refl, sym, ap, subst, arith}
 use Rattle.std.specs.Prelude.{IfOk}
 use Rattle.std.proofs.lemmas.Bool.{leb-false, leb-true, lt-ltb, le-ltb}
-use Rattle.nesl_types_bank.specs.Term.{Term}
+use Rattle.nesl_types_shared.specs.Term.{Term}
 use Rattle.nesl_types.specs.declared.schemes.Scheme.{Scheme}
 use Rattle.nesl_syntax_tree.specs.Trees.{Tree, PatternTree, SignatureTree, TypeTree}
 use Rattle.nesl_syntax_tree.specs.Trees as trees
@@ -19,9 +19,9 @@ use Rattle.nesl_session_bindings.specs.Known.{datatype_count, put_binding}
 use Rattle.nesl_session_bindings.specs.Redefinition.{Definition, RefusesDefinition}
 use Rattle.nesl_session_bindings.specs.declared.refusal.Refusal.{Refusal}
 use Rattle.nesl_session_bindings.specs.declared.refusal.Refusal.TheVariants.{Retype, Taken}
-use Rattle.nesl_session_step.specs.declared.limits.Limits.{Limits}
-use Rattle.nesl_session_step.specs.State.{State}
-use Rattle.nesl_session_step.specs.Finding.{Finding, refused, answered, bound_or_refused, IfTyped, IfFree, FindsDefinition, FindsForm}
+use Rattle.nesl_session_meaning.specs.declared.limits.Limits.{Limits}
+use Rattle.nesl_session_meaning.specs.State.{State}
+use Rattle.nesl_session_meaning.specs.Finding.{Finding, refused, answered, bound_or_refused, IfTyped, IfFree, FindsDefinition, FindsForm}
 use Rattle.nesl_session_forms.specs.declared.finding.Finding.{Finding as Found}
 use Rattle.nesl_session_forms.specs.declared.stops.Stopped.{Stopped}
 use Rattle.nesl_session_forms.specs.declared.stops.Stopped.TheVariants.{Refused, Memory}

@@ -1,6 +1,6 @@
 -- What is found of a form without evaluation, whatever the state but for its names.
 use Rattle.std.specs.Prelude.{◌≡◌, true, List, Option, None, Result, Ok, Err, nat_le}
-use Rattle.nesl_types_bank.specs.Term.{Term}
+use Rattle.nesl_types_shared.specs.Term.{Term}
 use Rattle.nesl_types.specs.declared.schemes.Scheme.{Scheme}
 use Rattle.nesl_syntax_tree.specs.Trees.{Tree, PatternTree, SignatureTree, TypeTree}
 use Rattle.nesl_syntax_tree.specs.Trees as trees
@@ -19,9 +19,9 @@ use Rattle.nesl_session_forms.specs.declared.finding.Finding.{Finding as Found}
 use Rattle.nesl_session_forms.specs.declared.finding.Finding.TheVariants as found
 use Rattle.nesl_session_forms.specs.declared.stops.Stopped.{Stopped}
 use Rattle.nesl_session_forms.specs.declared.stops.Stopped.TheVariants.{Refused, Memory}
-use Rattle.nesl_session_step.specs.declared.limits.Limits.{Limits}
-use Rattle.nesl_session_step.specs.State.{State}
-use Rattle.nesl_session_step.specs.Finding.{Finding, refused, FindsForm, FindsVariable}
+use Rattle.nesl_session_meaning.specs.declared.limits.Limits.{Limits}
+use Rattle.nesl_session_meaning.specs.State.{State}
+use Rattle.nesl_session_meaning.specs.Finding.{Finding, refused, FindsForm, FindsVariable}
 
 -- the state with these names
 abbrev pub with_names : List Binding → State → State

@@ -24,9 +24,9 @@ use Rattle.nesl_session_forms.specs.declared.finding.Shown.{Shown}
 use Rattle.nesl_session_forms.specs.declared.finding.Shown.TheVariants as shown
 use Rattle.nesl_session_forms.specs.declared.finding.Finding.{Finding as Found}
 use Rattle.nesl_session_forms.specs.declared.finding.Finding.TheVariants as found
-use Rattle.nesl_session_step.specs.Sense.{Sense, no_token, no_form, too_high, form}
-use Rattle.nesl_session_step.specs.Finding.{Finding, unread, reset, part, refused, answered}
-use Rattle.nesl_session_step.specs.State.{State}
+use Rattle.nesl_session_meaning.specs.Sense.{Sense, no_token, no_form, too_high, form}
+use Rattle.nesl_session_meaning.specs.Finding.{Finding, unread, reset, part, refused, answered}
+use Rattle.nesl_session_meaning.specs.State.{State}
 
 abbrev pub seen_sense : Seen → Sense
 seen_sense (seen.Stuck at) = no_token at

@@ -1,6 +1,6 @@
 //! What a line comes to by the grammar.
 ghost use Rattle.std.specs.Prelude.{IfOk};
-ghost use Rattle.nesl_session_step.specs.Sense.{HasSense};
+ghost use Rattle.nesl_session_meaning.specs.Sense.{HasSense};
 ghost use Rattle.nesl_session_forms.specs.Found.{seen_sense};
 
 use nesl_lex::{LexFault, lex};

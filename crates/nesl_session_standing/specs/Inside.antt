@@ -1,11 +1,11 @@
 -- The state that a session's fields hold.
 use Rattle.std.specs.Prelude.{◌≡◌, ◌≤◌, map, sum_by, length}
 use Rattle.nesl_session_bindings.specs.Stored.{bindings_of}
-use Rattle.nesl_session_step.specs.declared.limits.Limits.{Limits}
+use Rattle.nesl_session_meaning.specs.declared.limits.Limits.{Limits}
 use Rattle.nesl_session_standing.specs.declared.standing.Standing.{Standing}
-use Rattle.nesl_session_step.specs.State.{State, Log}
-use Rattle.nesl_session_step.specs.Step.{most_recorded}
-use Rattle.nesl_session_step.specs.Solo.{Replays}
+use Rattle.nesl_session_meaning.specs.State.{State, Log}
+use Rattle.nesl_session_meaning.specs.Step.{most_recorded}
+use Rattle.nesl_session_meaning.specs.Solo.{Replays}
 
 abbrev pub state_of : Standing → State
 state_of a = record {

@@ -1,7 +1,7 @@
 -- What a line has to be for what was found of it to change the state.
 use Rattle.std.specs.Prelude.{◌≡◌, ◌≤◌, ◌<◌, ◌+◌, ◌^◌, ℕ, true, List, length, sum_by}
-use Rattle.nesl_session_step.specs.State.{State}
-use Rattle.nesl_session_step.specs.Step.{recorded_by_reset, most_recorded, is_part}
+use Rattle.nesl_session_meaning.specs.State.{State}
+use Rattle.nesl_session_meaning.specs.Step.{recorded_by_reset, most_recorded, is_part}
 use Rattle.nesl_session_forms.specs.declared.finding.Finding.{Finding as Found}
 use Rattle.nesl_session_forms.specs.declared.finding.Finding.TheVariants as found
 use Rattle.nesl_session_forms.specs.Found.{work_of, CanBe}

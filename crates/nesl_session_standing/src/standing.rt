@@ -3,14 +3,14 @@ ghost use Rattle.std.specs.Prelude.{◌≡◌, ◌+◌, ◌-◌, ◌<◌, ◌≤
 ghost use Rattle.std.specs.Prelude.{take, sum_by, vec_len, vec_capacity};
 ghost use Rattle.nesl_session_bindings.specs.Known.{put_binding};
 ghost use Rattle.nesl_session_bindings.specs.Stored.{bindings_of};
-ghost use Rattle.nesl_session_step.specs.State.{opening};
-ghost use Rattle.nesl_session_step.specs.Step.{after, with_line, charged, is_part, recorded_by_reset, most_recorded};
+ghost use Rattle.nesl_session_meaning.specs.State.{opening};
+ghost use Rattle.nesl_session_meaning.specs.Step.{after, with_line, charged, is_part, recorded_by_reset, most_recorded};
 ghost use Rattle.nesl_session_forms.specs.Found.{finding_of, meaning_of, work_of, binding_of, CanBe};
 ghost use Rattle.nesl_session_standing.specs.Settling.{CanSettle, HasRoomFor};
 
 use nesl_session_bindings::Bindings;
 use nesl_session_forms::finding::{Definition, Finding, Meaning};
-use nesl_session_step::limits::Limits;
+use nesl_session_meaning::limits::Limits;
 use std::alloc::{AllocError, Global};
 
 /// How a session stands.

@@ -11,11 +11,11 @@ use Rattle.nesl_syntax_tree.proofs.tree.PatternNode.TheLaws.TheKnot as pattern_k
 use Rattle.nesl_syntax_tree.proofs.tree.TypeNode.TheLaws.TheKnot as type_knot
 use Rattle.nesl_syntax_tree.proofs.tree.Operator.TheSendSync as operator_crosses
 use Rattle.nesl_syntax_tree.proofs.tree.Prefix.TheSendSync as prefix_crosses
-use Rattle.nesl_types_bank.specs.contracts.types.Ty as ty_row
-use Rattle.nesl_types_bank.proofs.shape.Shape.TheSendSync as shape_crosses
+use Rattle.nesl_types_shared.specs.contracts.types.Ty as ty_row
+use Rattle.nesl_types_shared.proofs.shape.Shape.TheSendSync as shape_crosses
 use Rattle.nesl_types.proofs.classes.Class.TheSendSync as kind_crosses
 use Rattle.nesl_types.specs.contracts.bindings.Top as kind_row
-use Rattle.nesl_eval_env.specs.contracts.env.Payload as payload_row
+use Rattle.nesl_eval_top_level.specs.contracts.env.Payload as payload_row
 use Rattle.nesl_values.proofs.node.Node.TheLaws.TheKnot as value_knot
 use Rattle.nesl_types.specs.contracts.bindings.Entry as entry_row
 use Rattle.nesl_types.specs.contracts.bindings.Context as context_row

@@ -3,5 +3,5 @@
 
 mod one;
 
-pub use nesl_split_helpers::{Free, Gate, Helpers, NoHelpers, Permits, Place, Pool};
+pub use nesl_eval_helpers::{Free, Gate, Helpers, NoHelpers, Permits, Place, Pool};
 pub use one::eval_split;

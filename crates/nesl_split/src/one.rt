@@ -4,16 +4,16 @@ ghost use Rattle.nesl_syntax_tree.specs.Views.{tree_of};
 ghost use Rattle.nesl_eval_meaning.specs.Names.{outside};
 ghost use Rattle.nesl_eval_meaning.specs.Out.{within};
 ghost use Rattle.nesl_eval_meaning.specs.Outcome.{out};
-ghost use Rattle.nesl_eval_env.specs.Stored.{environment};
+ghost use Rattle.nesl_eval_top_level.specs.Stored.{environment};
 ghost use Rattle.nesl_eval.specs.Outcomes.{OutcomeIs};
 
 use nesl_eval::{Outcome, outcome_of};
 use nesl_eval_code::runs_as_meant;
-use nesl_eval_env::{Env, TopLevel, prepare};
+use nesl_eval_top_level::{Env, TopLevel, prepare};
 use nesl_eval_halves::{Crew, evaluate_in_halves};
 use nesl_eval_nodes::held::{Held, Tops};
 use nesl_eval_ops::expression_ops;
-use nesl_split_helpers::{Gate, Helpers};
+use nesl_eval_helpers::{Gate, Helpers};
 use nesl_syntax_tree::tree::Exp;
 use std::alloc::{AllocError, Global};
 use std::thread::Threads;
@@ -30,7 +30,7 @@ struct Shared<'a> {
 }
 
 impl Tops<Global> for Shared<'_> {
-    ghost use Rattle.nesl_eval_env.specs.TopLevels.{table_in};
+    ghost use Rattle.nesl_eval_top_level.specs.TopLevels.{table_in};
 
     ghost table = { λ s. table_in s.top_level };
 

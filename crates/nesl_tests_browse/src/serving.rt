@@ -6,7 +6,7 @@ use nesl_service::service::{Observers, Site, Terms, serve_at};
 use nesl_service::wire::Patience;
 use nesl_service_journal::journal::Journal;
 use nesl_session::limits::Limits;
-use nesl_split_helpers::Free;
+use nesl_eval_helpers::Free;
 use std::alloc::Global;
 use std::net::{Net, Shutdown, SocketAddr, TcpListener, TcpStream};
 use std::process::Abort;

@@ -4,7 +4,7 @@ use nesl_house::lease::Receipt;
 use nesl_house::roster::NewFault;
 use nesl_house::table::{CloseFault, Table, TakeFault};
 use nesl_session::limits::Limits;
-use nesl_split_helpers::{Free, NoHelpers};
+use nesl_eval_helpers::{Free, NoHelpers};
 use std::alloc::{AllocError, Global};
 use std::process::Abort;
 use std::sync::Wait;

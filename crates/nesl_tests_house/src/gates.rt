@@ -1,5 +1,5 @@
 //! A gate at which halves meet.
-use nesl_split_helpers::{Gate, Place};
+use nesl_eval_helpers::{Gate, Place};
 use std::sync::atomic::{AtomicU64, Ordering};
 use std::thread;
 use std::time::{Clock, Duration};

@@ -1,5 +1,5 @@
 //! Helpers that grant by a rule.
-use nesl_split_helpers::{Helpers, NoHelpers};
+use nesl_eval_helpers::{Helpers, NoHelpers};
 use std::sync::atomic::{AtomicU64, Ordering};
 
 /// Helpers of which it can be told whether all are back.

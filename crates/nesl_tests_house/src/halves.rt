@@ -6,7 +6,7 @@ use crate::granting::{Counted, Granting};
 use crate::rows::{LINES, answered_by};
 use crate::sample::LIMITS;
 use nesl_session::session::Session;
-use nesl_split_helpers::{Helpers, NoHelpers, Permit, Pool};
+use nesl_eval_helpers::{Helpers, NoHelpers, Permit, Pool};
 use std::alloc::{AllocError, Global};
 use std::marker::Brand;
 use std::sync::Wait;

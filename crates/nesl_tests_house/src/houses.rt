@@ -9,7 +9,7 @@ use nesl_house::roster::{NewFault, is_user_name};
 use nesl_session::Fault;
 use nesl_session::answer::Answer;
 use nesl_session::limits::Limits;
-use nesl_split_helpers::Free;
+use nesl_eval_helpers::Free;
 use std::alloc::{AllocError, Global};
 
 const LIMITS: Limits = Limits {

@@ -4,7 +4,7 @@ ghost use Rattle.std.specs.Prelude.{◌≡◌};
 use crate::granting::Granting;
 use crate::sample::{LIMITS, house_of};
 use crate::turns::{ORDERS, are_heard, is_order, script};
-use nesl_split_helpers::{Free, Helpers, NoHelpers, Pool};
+use nesl_eval_helpers::{Free, Helpers, NoHelpers, Pool};
 use std::alloc::{AllocError, Global};
 use std::marker::Brand;
 use std::sync::Wait;

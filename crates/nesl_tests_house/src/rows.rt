@@ -3,7 +3,7 @@ use crate::granting::Counted;
 use crate::sample::LIMITS;
 use nesl_session::limits::Limits;
 use nesl_session::session::Session;
-use nesl_split_helpers::Free;
+use nesl_eval_helpers::Free;
 use std::alloc::{AllocError, Global};
 use std::thread::Threads;
 

@@ -4,7 +4,7 @@ use nesl_house::house::House;
 use nesl_house::lease::Receipt;
 use nesl_house::table::Table;
 use nesl_session::limits::Limits;
-use nesl_split_helpers::Free;
+use nesl_eval_helpers::Free;
 use std::alloc::{AllocError, Global};
 use std::sync::Wait;
 use std::thread::Threads;

@@ -3,7 +3,7 @@ use crate::devices::{table, tape_of};
 use nesl_line::device::Device;
 use nesl_line::exchange::End;
 use nesl_line::serve::serve;
-use nesl_split_helpers::{Gate, Helpers, Place};
+use nesl_eval_helpers::{Gate, Helpers, Place};
 use std::io;
 use std::io::Write;
 use std::sync::atomic::{AtomicU64, Ordering};

@@ -1,6 +1,6 @@
 //! Helpers that are granted by a rule.
 
-use nesl_split_helpers::Helpers;
+use nesl_eval_helpers::Helpers;
 use std::sync::atomic::{AtomicU64, Ordering};
 
 /// A granted helper.

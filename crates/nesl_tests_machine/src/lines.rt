@@ -2,7 +2,7 @@
 
 use crate::comparing::{Count, LEVELS, WORK, compare};
 use nesl_eval::{Outcome, eval_one};
-use nesl_eval_env::{Env, Payload};
+use nesl_eval_top_level::{Env, Payload};
 use nesl_lex::lex;
 use nesl_syntax::parse_form;
 use nesl_syntax_tree::tree::{Exp, Form};

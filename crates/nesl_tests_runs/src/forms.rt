@@ -1,6 +1,6 @@
 //! Lines and their forms.
 
-use nesl_eval_env::{Env, Payload};
+use nesl_eval_top_level::{Env, Payload};
 use nesl_lex::{LexFault, lex};
 use nesl_syntax::{ParseFault, parse_form};
 use nesl_syntax_tree::tree::{Exp, Form, Pattern};

@@ -1,6 +1,6 @@
 //! A gate at which halves meet.
 
-use nesl_split_helpers::{Gate, Place};
+use nesl_eval_helpers::{Gate, Place};
 use std::rt::Clock;
 use std::sync::atomic::{AtomicU64, Ordering};
 use std::thread;

@@ -12,7 +12,7 @@ use crate::told::{LEVELS, WORK, is_same, put_outcome};
 use crate::writing::{put, put_done, put_line, put_wrong};
 use linked_list_allocator::LocalHeap;
 use nesl_eval::{Outcome, eval_one, eval_one_in};
-use nesl_eval_env::{Env, Payload};
+use nesl_eval_top_level::{Env, Payload};
 use nesl_syntax_tree::tree::{Exp, Form};
 use nesl_types::{Top, Ty};
 use nesl_values::{Items, Value};

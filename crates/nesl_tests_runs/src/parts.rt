@@ -8,7 +8,7 @@ use crate::halves::try_halves;
 use crate::outcomes::Outcomes;
 use crate::sessions::Sessions;
 use crate::writing::put_line;
-use nesl_split_helpers::Pool;
+use nesl_eval_helpers::Pool;
 use std::alloc::{AllocError, Global};
 use std::rt::Clock;
 use std::sync::Wait;

@@ -2,7 +2,7 @@
 ghost use Rattle.std.specs.Prelude.{◌≡◌};
 
 use crate::writing::put;
-use nesl_split_helpers::{Helpers, Permit, Pool};
+use nesl_eval_helpers::{Helpers, Permit, Pool};
 use std::alloc::{AllocError, Global};
 use std::marker::Brand;
 use std::sync::Wait;

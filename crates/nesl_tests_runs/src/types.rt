@@ -2,7 +2,7 @@
 //! directive `@new`.
 
 ghost use Rattle.std.specs.Prelude.{IfOk};
-ghost use Rattle.nesl_types_bank.specs.Numbering.{IsBelow};
+ghost use Rattle.nesl_types_shared.specs.Numbering.{IsBelow};
 
 use crate::definitions::Definitions;
 use crate::driver::Driver;

@@ -1,6 +1,6 @@
 // Asks for helpers by a clock that the tests set.
-use nesl_split_helpers::sparing::Sparing;
-use nesl_split_helpers::{Advice, Asker, Common, Helpers};
+use nesl_eval_helpers::sparing::Sparing;
+use nesl_eval_helpers::{Advice, Asker, Common, Helpers};
 use std::io;
 use std::sync::atomic::{AtomicU64, Ordering};
 use std::time::{Clock, Duration};

@@ -8,7 +8,7 @@ use nesl_service::wire::Patience;
 use nesl_service_journal::answers::FAULTS;
 use nesl_service_journal::counters::Counters;
 use nesl_service_journal::journal::{Answered, Caller, Ending, Journal, Seat, Visit};
-use nesl_split_helpers::Free;
+use nesl_eval_helpers::Free;
 use nesl_types::Context;
 use std::alloc::{AllocError, Global};
 use std::net::{Net, TcpListener, TcpStream};

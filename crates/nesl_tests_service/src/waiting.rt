@@ -4,7 +4,7 @@ use crate::in_turn::{lines_by, patient};
 use nesl_service::service::{Observers, ServeFault, Terms, serve_on, serve_through};
 use nesl_service::wire::Patience;
 use nesl_service_journal::journal::{Answered, Caller, Journal, Seat, Visit};
-use nesl_split_helpers::Free;
+use nesl_eval_helpers::Free;
 use std::alloc::{AllocError, Global};
 use std::net::TcpListener;
 use std::sync::atomic::{AtomicU64, Ordering};

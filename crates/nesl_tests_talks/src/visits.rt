@@ -8,7 +8,7 @@ use nesl_house::table::{Closed, Table};
 use nesl_line::device::Device;
 use nesl_line::exchange::End;
 use nesl_line::serve::{Served, serve};
-use nesl_split_helpers::{Free, NoHelpers};
+use nesl_eval_helpers::{Free, NoHelpers};
 use std::alloc::{AllocError, Global};
 use std::sync::Wait;
 use std::thread::Threads;

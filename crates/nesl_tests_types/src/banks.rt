@@ -3,7 +3,7 @@
 use crate::desk::Desk;
 use crate::texts::{push_number, push_shape, push_truth, push_type, push_variables};
 use indexmap::IndexSet;
-use nesl_types_bank::{Bank, Shape, Ty, note_variables, rename, rename_type, variables};
+use nesl_types_shared::{Bank, Shape, Ty, note_variables, rename, rename_type, variables};
 use std::alloc::{AllocError, Global};
 
 /// Puts a shape, whose parts are at places of the bank, and gives its place. What is no shape is put nowhere.

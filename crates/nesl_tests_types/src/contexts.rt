@@ -1,7 +1,7 @@
 //! Contexts.
 
 use nesl_types::{Context, Kind, Scheme, Top};
-use nesl_types_bank::Ty;
+use nesl_types_shared::Ty;
 use std::alloc::{AllocError, Global};
 
 // Binds a variable, a datatype, and the variable once more.

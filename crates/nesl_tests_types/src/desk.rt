@@ -1,7 +1,7 @@
 //! What the words of scripts do.
 
 use crate::banks::put;
-use nesl_types_bank::{Bank, Ty};
+use nesl_types_shared::{Bank, Ty};
 use std::alloc::{AllocError, Global};
 use std::mem;
 

@@ -1,11 +1,11 @@
 //! Types that are read from graphs.
 
 ghost use Rattle.std.specs.Prelude.{◌≤◌, IfOk, length};
-ghost use Rattle.nesl_types_bank.specs.Graph.{IsGraph, IsFlat};
-ghost use Rattle.nesl_types_bank.specs.Readings.{HasNoLinks};
+ghost use Rattle.nesl_types_shared.specs.Graph.{IsGraph, IsFlat};
+ghost use Rattle.nesl_types_shared.specs.Readings.{HasNoLinks};
 
 use crate::texts::{push_number, push_shape};
-use nesl_types_bank::{Node, Read, read_types};
+use nesl_types_shared::{Node, Read, read_types};
 use std::alloc::{AllocError, Global};
 
 // A graph of so many places, each but the last of which has the sequences of the next one's type.

@@ -2,7 +2,7 @@
 
 use indexmap::IndexSet;
 use nesl_types::{Class, Context, Scheme, Top, type_text};
-use nesl_types_bank::{Shape, Ty};
+use nesl_types_shared::{Shape, Ty};
 use std::alloc::{AllocError, Global};
 
 /// Writes a number behind a mark.

@@ -4,7 +4,7 @@ use crate::desk::Desk;
 use crate::texts::{push_number, push_scheme, push_truth, push_type_text, push_variables};
 use indexmap::IndexSet;
 use nesl_types::{Class, Scheme};
-use nesl_types_bank::{Bank, Kind, Part, Ty};
+use nesl_types_shared::{Bank, Kind, Part, Ty};
 use std::alloc::{AllocError, Global};
 
 // A type without parts.

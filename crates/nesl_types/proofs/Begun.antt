@@ -1,15 +1,15 @@
 -- The text of a type, written piece by piece.
 use Rattle.std.proofs.Common.{◌≡◌, ℕ, ◌+◌, ◌*◌, ◌<◌, Bool, true, false, cond, List, [], ◌∷◌, ◌++◌, All, Some, refl, sym, ap, subst, ◌∙◌, append_assoc, append-nil, arith}
 use Rattle.std.proofs.lemmas.List.Elements.{All-push, All-pop}
-use Rattle.nesl_types_bank.specs.Term.{Term, nodes}
+use Rattle.nesl_types_shared.specs.Term.{Term, nodes}
 use Rattle.nesl_types.specs.Texts.{type_text}
-use Rattle.nesl_types_bank.specs.declared.shape.Shape.{Shape}
-use Rattle.nesl_types_bank.specs.declared.shape.Shape.TheVariants.{SeqOf, Both}
+use Rattle.nesl_types_shared.specs.declared.shape.Shape.{Shape}
+use Rattle.nesl_types_shared.specs.declared.shape.Shape.TheVariants.{SeqOf, Both}
 use Rattle.nesl_types.specs.declared.texts.Piece.{Piece}
 use Rattle.nesl_types.specs.declared.texts.Piece.TheVariants.{Byte, TypeAt}
-use Rattle.nesl_types_bank.specs.Shapes.{shape_type, IsShapeBelow}
-use Rattle.nesl_types_bank.proofs.Made.{below_wider}
-use Rattle.nesl_types_bank.proofs.Nodes.{nodes_positive}
+use Rattle.nesl_types_shared.specs.Shapes.{shape_type, IsShapeBelow}
+use Rattle.nesl_types_shared.proofs.Made.{below_wider}
+use Rattle.nesl_types_shared.proofs.Nodes.{nodes_positive}
 use Rattle.nesl_types.specs.Pieces.{piece_text, rest_text, piece_size, rest_size, IsPieceBelow, IsBegun, IsWritten}
 
 pub rest_text-push : (names : ℕ → List ℕ) (f : ℕ → Term) (ps : List Piece) (p : Piece) → rest_text names f (ps ++ p ∷ []) ≡ piece_text names f p ++ rest_text names f ps

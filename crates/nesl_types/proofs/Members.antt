@@ -2,8 +2,8 @@
 use Rattle.std.proofs.Common.{◌↔◌, inl, inr, ℕ}
 use Rattle.nesl_types.specs.declared.classes.Class.{Class}
 use Rattle.nesl_types.specs.declared.classes.Class.TheVariants.{Any, Ordinal, Number, Logical}
-use Rattle.nesl_types_bank.specs.Term.{Term, int, bool, char, variable, seq_of, pair_of, named}
-use Rattle.nesl_types_bank.specs.Substitution.{substitute}
+use Rattle.nesl_types_shared.specs.Term.{Term, int, bool, char, variable, seq_of, pair_of, named}
+use Rattle.nesl_types_shared.specs.Substitution.{substitute}
 use Rattle.nesl_types.specs.Class.{IsMember, IsWithin, IsIn}
 
 -- a type is in `c` where all its members are in `d`, and it is in `d`

@@ -2,12 +2,12 @@
 use Rattle.std.proofs.Common.{◌≡◌, inl, inr, ℕ, ◌+◌, ◌<◌, List, [], ◌∷◌, ◌++◌, length, get_or, refl, sym, ap, subst, ◌∙◌, arith}
 use Rattle.std.proofs.lemmas.Bool.{cases_lt}
 use Rattle.std.proofs.lemmas.List.{get_or_append_left, get_or_push, length_push}
-use Rattle.nesl_types_bank.specs.Term.{Term, variable, seq_of}
-use Rattle.nesl_types_bank.specs.Substitution.{substitute}
-use Rattle.nesl_types_bank.specs.declared.shape.Shape.{Shape}
-use Rattle.nesl_types_bank.specs.declared.shape.Shape.TheVariants.{Int, Bool, Char, Var, Named, SeqOf, Both}
-use Rattle.nesl_types_bank.specs.Shapes.{shape_type, IsShapeBelow}
-use Rattle.nesl_types_bank.specs.Types.{type_at, Extends, IsPut}
+use Rattle.nesl_types_shared.specs.Term.{Term, variable, seq_of}
+use Rattle.nesl_types_shared.specs.Substitution.{substitute}
+use Rattle.nesl_types_shared.specs.declared.shape.Shape.{Shape}
+use Rattle.nesl_types_shared.specs.declared.shape.Shape.TheVariants.{Int, Bool, Char, Var, Named, SeqOf, Both}
+use Rattle.nesl_types_shared.specs.Shapes.{shape_type, IsShapeBelow}
+use Rattle.nesl_types_shared.specs.Types.{type_at, Extends, IsPut}
 use Rattle.nesl_types.specs.Numbered.{numbered_shape}
 
 -- the types at the first places got other numbers

@@ -1,7 +1,7 @@
 -- Types whose variables get other numbers.
 use Rattle.std.specs.Prelude.{ℕ, List, slice_index}
-use Rattle.nesl_types_bank.specs.declared.shape.Shape.{Shape}
-use Rattle.nesl_types_bank.specs.declared.shape.Shape.TheVariants.{Int, Bool, Char, Var, Named, SeqOf, Both}
+use Rattle.nesl_types_shared.specs.declared.shape.Shape.{Shape}
+use Rattle.nesl_types_shared.specs.declared.shape.Shape.TheVariants.{Int, Bool, Char, Var, Named, SeqOf, Both}
 
 -- a shape with the number `f v` in place of each variable v, and the places of its parts
 abbrev pub numbered_shape : (ℕ → ℕ) → List ℕ → Shape → Shape

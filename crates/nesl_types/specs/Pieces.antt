@@ -1,9 +1,9 @@
 -- Pieces of a text that are still to be written.
 use Rattle.std.specs.Prelude.{◌≡◌, ℕ, ◌+◌, ◌*◌, ◌<◌, Bool, All, List, [], ◌∷◌, ◌++◌}
-use Rattle.nesl_types_bank.specs.Term.{Term, nodes}
+use Rattle.nesl_types_shared.specs.Term.{Term, nodes}
 use Rattle.nesl_types.specs.Texts.{type_text}
-use Rattle.nesl_types_bank.specs.declared.shape.Shape.{Shape}
-use Rattle.nesl_types_bank.specs.Shapes.{shape_type, IsShapeBelow}
+use Rattle.nesl_types_shared.specs.declared.shape.Shape.{Shape}
+use Rattle.nesl_types_shared.specs.Shapes.{shape_type, IsShapeBelow}
 use Rattle.nesl_types.specs.declared.texts.Piece.{Piece}
 use Rattle.nesl_types.specs.declared.texts.Piece.TheVariants.{Byte, TypeAt}
 

@@ -7,7 +7,7 @@ use Rattle.nesl_types.specs.declared.classes.Class.TheVariants.{Any, Ordinal, Nu
 use Rattle.nesl_types.specs.declared.bindings.Top.{Top}
 use Rattle.nesl_types.specs.declared.schemes.Scheme.{Scheme}
 use Rattle.nesl_types.specs.Names.{datatype_at}
-use Rattle.nesl_types_bank.specs.Term.{Term, int, bool, char, variable, seq_of, pair_of, named}
+use Rattle.nesl_types_shared.specs.Term.{Term, int, bool, char, variable, seq_of, pair_of, named}
 
 -- the variables are a to z, then a1 to z1, a2 and so on
 abbrev pub variable_text : ℕ → List ℕ

@@ -3,7 +3,7 @@
 use crate::kept::{Kept, Marks};
 use crate::schemes::Scheme;
 use indexmap::IndexMap;
-use nesl_types_bank::Ty;
+use nesl_types_shared::Ty;
 use std::alloc::{AllocError, Global};
 use std::marker::Model;
 
@@ -61,7 +61,7 @@ impl<P> Model for Context<P> {
     ghost use Rattle.std.specs.Prelude.{ℕ, List, map};
     ghost use Rattle.nesl_types.specs.declared.bindings.Top.{Top};
     ghost use Rattle.std.specs.Coded.{codes};
-    ghost use Rattle.nesl_types_bank.specs.contracts.types.Ty as ty;
+    ghost use Rattle.nesl_types_shared.specs.contracts.types.Ty as ty;
 
     ghost Value = { List (List ℕ × Top × P) };
 

@@ -1,7 +1,7 @@
 //! Classes of types.
 
 ghost use Rattle.std.specs.Prelude.{◌↔◌};
-ghost use Rattle.nesl_types_bank.specs.Term.{Term};
+ghost use Rattle.nesl_types_shared.specs.Term.{Term};
 ghost use Rattle.nesl_types.specs.Class.{IsMember};
 
 /// A class of types.

@@ -3,7 +3,7 @@
 ghost use Rattle.std.specs.Prelude.{◌≡◌, IfOk};
 
 use indexmap::IndexMap;
-use nesl_types_bank::Ty;
+use nesl_types_shared::Ty;
 use std::alloc::{AllocError, Global};
 
 /// The numbers under which the types of a name are kept.

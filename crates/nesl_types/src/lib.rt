@@ -9,6 +9,6 @@ pub mod texts;
 
 pub use bindings::{Context, Top};
 pub use classes::{Class, meet};
-pub use nesl_types_bank::{Kind, Part, Ty};
+pub use nesl_types_shared::{Kind, Part, Ty};
 pub use schemes::Scheme;
 pub use texts::{scheme_text, type_text};

@@ -1,19 +1,19 @@
 //! The types of functions.
 
 ghost use Rattle.std.specs.Prelude.{◌≡◌, ◌<◌, ◌++◌, ◌↔◌, [], ℕ, IsTrue, map, length, IfOk};
-ghost use Rattle.nesl_types_bank.specs.Term.{variable};
+ghost use Rattle.nesl_types_shared.specs.Term.{variable};
 ghost use Rattle.nesl_types.specs.Class.{class_at};
-ghost use Rattle.nesl_types_bank.specs.Substitution.{substitute};
-ghost use Rattle.nesl_types_bank.specs.Shapes.{IsShapeBelow};
-ghost use Rattle.nesl_types_bank.specs.Types.{type_at};
-ghost use Rattle.nesl_types_bank.specs.Lists.{last_type};
+ghost use Rattle.nesl_types_shared.specs.Substitution.{substitute};
+ghost use Rattle.nesl_types_shared.specs.Shapes.{IsShapeBelow};
+ghost use Rattle.nesl_types_shared.specs.Types.{type_at};
+ghost use Rattle.nesl_types_shared.specs.Lists.{last_type};
 ghost use Rattle.nesl_types.specs.Numbered.{numbered_shape};
-ghost use Rattle.nesl_types_bank.specs.Numbering.{IsBelow, variables, first_occurrences, numbers_below, number_of};
+ghost use Rattle.nesl_types_shared.specs.Numbering.{IsBelow, variables, first_occurrences, numbers_below, number_of};
 
 use crate::classes::Class;
 use crate::kept::{Kept, Marks};
 use indexmap::IndexSet;
-use nesl_types_bank::{Bank, Parts, Shape, Ty};
+use nesl_types_shared::{Bank, Parts, Shape, Ty};
 use std::alloc::{AllocError, Global};
 
 /// The type of a function: what it takes, what it gives, and the class of each variable of these types.

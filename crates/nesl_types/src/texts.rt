@@ -3,7 +3,7 @@
 ghost use Rattle.std.specs.Prelude.{◌≡◌, ◌++◌, ◌∷◌, [], ◌<◌, ℕ, Bool, true, if◌then◌else◌, List, length, IfOk, OnOk};
 ghost use Rattle.std.specs.Prelude.{codes};
 ghost use Rattle.nesl_types.specs.Texts.{variable_text, type_text as text_of_type, member_texts, members_text};
-ghost use Rattle.nesl_types_bank.specs.Types.{type_at};
+ghost use Rattle.nesl_types_shared.specs.Types.{type_at};
 ghost use Rattle.nesl_types.specs.Texts.{name_at, scheme_text as text_of_scheme};
 ghost use Rattle.nesl_types.specs.Pieces.{IsPieceBelow, IsBegun, IsWritten};
 
@@ -11,7 +11,7 @@ use crate::bindings::Context;
 use crate::classes::Class;
 use crate::schemes::Scheme;
 use itoa::Buffer;
-use nesl_types_bank::{Parts, Shape, Ty};
+use nesl_types_shared::{Parts, Shape, Ty};
 use std::alloc::{AllocError, Global};
 
 /// How many bytes of a text room is taken for at first.

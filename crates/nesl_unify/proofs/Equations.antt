@@ -6,15 +6,15 @@ use Rattle.std.proofs.lemmas.List.{get_or_default, get_or_append_left, length_pu
 use Rattle.std.proofs.lemmas.List.Sums.{sum_by-append}
 use Rattle.std.proofs.lemmas.List.Elements.{All-nil, All-cons, All-append, All-push}
 use Rattle.std.proofs.lemmas.Option.{slice_get-get_or}
-use Rattle.nesl_types_bank.specs.Term.{Term, variable, seq_of, nodes}
-use Rattle.nesl_types_bank.specs.Numbering.{IsBelow}
-use Rattle.nesl_types_bank.specs.Substitution.{substitute}
-use Rattle.nesl_types_bank.specs.Types.{type_at, Extends}
-use Rattle.nesl_types_bank.specs.Lists.{last_type, parts_of}
-use Rattle.nesl_types_bank.specs.declared.shape.Shape.{Shape}
-use Rattle.nesl_types_bank.specs.declared.shape.Shape.TheVariants as shape
-use Rattle.nesl_types_bank.specs.Shapes.{IsShapeBelow, shape_type}
-use Rattle.nesl_types_bank.proofs.Nodes.{nodes_positive}
+use Rattle.nesl_types_shared.specs.Term.{Term, variable, seq_of, nodes}
+use Rattle.nesl_types_shared.specs.Numbering.{IsBelow}
+use Rattle.nesl_types_shared.specs.Substitution.{substitute}
+use Rattle.nesl_types_shared.specs.Types.{type_at, Extends}
+use Rattle.nesl_types_shared.specs.Lists.{last_type, parts_of}
+use Rattle.nesl_types_shared.specs.declared.shape.Shape.{Shape}
+use Rattle.nesl_types_shared.specs.declared.shape.Shape.TheVariants as shape
+use Rattle.nesl_types_shared.specs.Shapes.{IsShapeBelow, shape_type}
+use Rattle.nesl_types_shared.proofs.Nodes.{nodes_positive}
 use Rattle.nesl_unify_graph.specs.declared.node.Node.{Node}
 use Rattle.nesl_unify_graph.specs.declared.node.Node.TheVariants.{Same, Part}
 use Rattle.nesl_unify_graph.specs.declared.instances.Source.TheVariants.{Own}

@@ -3,12 +3,12 @@ use Rattle.std.proofs.Common.{◌≡◌, ◌↔◌, ℕ, ◌+◌, ◌-◌, ◌<�
 use Rattle.std.specs.Prelude.{slice_index}
 use Rattle.std.proofs.lemmas.List.{get_or_append_left, get_or_push, length_push}
 use Rattle.std.proofs.lemmas.List.Elements.{All-nil, All-cons, All-append}
-use Rattle.nesl_types_bank.specs.Term.{Term, int, bool, char, variable, seq_of, pair_of, named}
-use Rattle.nesl_types_bank.specs.Numbering.{IsBelow}
-use Rattle.nesl_types_bank.specs.Substitution.{substitute}
-use Rattle.nesl_types_bank.specs.Types.{type_at}
-use Rattle.nesl_types_bank.specs.Renames.{replacement}
-use Rattle.nesl_types_bank.proofs.Substitutions.{substitute-same, substitute-substitute}
+use Rattle.nesl_types_shared.specs.Term.{Term, int, bool, char, variable, seq_of, pair_of, named}
+use Rattle.nesl_types_shared.specs.Numbering.{IsBelow}
+use Rattle.nesl_types_shared.specs.Substitution.{substitute}
+use Rattle.nesl_types_shared.specs.Types.{type_at}
+use Rattle.nesl_types_shared.specs.Renames.{replacement}
+use Rattle.nesl_types_shared.proofs.Substitutions.{substitute-same, substitute-substitute}
 use Rattle.nesl_unify_graph.specs.declared.node.Node.{Node}
 use Rattle.nesl_unify_graph.specs.declared.node.Node.TheVariants.{Free, Same, Int, Bool as Boolean, Char, Named, SeqOf, Both, Part}
 use Rattle.nesl_unify_graph.specs.declared.instances.Instances.{Instances}

@@ -5,11 +5,11 @@ use Rattle.std.specs.Option.{option_map_or}
 use Rattle.std.proofs.lemmas.List.{get_or_append_left, get_or_push, get_or-append-add, length-append, length_push}
 use Rattle.std.proofs.lemmas.List.Elements.{All-append}
 use Rattle.std.proofs.lemmas.Option.{slice_get-get_or}
-use Rattle.nesl_types_bank.specs.Term.{Term, variable}
-use Rattle.nesl_types_bank.specs.Numbering.{IsBelow}
-use Rattle.nesl_types_bank.specs.Substitution.{substitute}
-use Rattle.nesl_types_bank.specs.Types.{type_at, Extends}
-use Rattle.nesl_types_bank.proofs.Substitutions.{substitute-same}
+use Rattle.nesl_types_shared.specs.Term.{Term, variable}
+use Rattle.nesl_types_shared.specs.Numbering.{IsBelow}
+use Rattle.nesl_types_shared.specs.Substitution.{substitute}
+use Rattle.nesl_types_shared.specs.Types.{type_at, Extends}
+use Rattle.nesl_types_shared.proofs.Substitutions.{substitute-same}
 use Rattle.nesl_unify_graph.specs.declared.node.Node.{Node}
 use Rattle.nesl_unify_graph.specs.declared.node.Node.TheVariants.{Part}
 use Rattle.nesl_unify_graph.specs.declared.instances.Source.{Source}
@@ -17,7 +17,7 @@ use Rattle.nesl_unify_graph.specs.declared.instances.Source.TheVariants.{Shared,
 use Rattle.nesl_unify_graph.specs.declared.instances.Instance.{Instance}
 use Rattle.nesl_unify_graph.specs.declared.instances.Instances.{Instances}
 use Rattle.nesl_unify_graph.specs.Instances.{parts_from, parts_in, base_in, place_in, instance_type, IsPart}
-use Rattle.nesl_types_bank.specs.Lists.{last_type, parts_of}
+use Rattle.nesl_types_shared.specs.Lists.{last_type, parts_of}
 use Rattle.nesl_unify_graph.specs.Graph.{node_type}
 use Rattle.nesl_unify_graph.proofs.Outlines.{at_some}
 use Rattle.nesl_unify.specs.Facts.{IsSaid, IsKept, IsPutIn, IsInstanceNode}

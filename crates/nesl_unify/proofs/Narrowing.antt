@@ -4,7 +4,7 @@ use Rattle.std.proofs.lemmas.Bool.{cases_eq, cases_lt}
 use Rattle.std.proofs.lemmas.List.{get_or_default}
 use Rattle.nesl_types.specs.declared.classes.Class.{Class}
 use Rattle.nesl_types.specs.declared.classes.Class.TheVariants.{Any}
-use Rattle.nesl_types_bank.specs.Term.{Term, int, bool, char, variable, seq_of, pair_of, named}
+use Rattle.nesl_types_shared.specs.Term.{Term, int, bool, char, variable, seq_of, pair_of, named}
 use Rattle.nesl_types.specs.Class.{IsIn}
 use Rattle.nesl_types.proofs.Members.{IsIn-narrowed, IsWithin-from_types}
 use Rattle.nesl_unify.specs.declared.narrow.Member.{Member}

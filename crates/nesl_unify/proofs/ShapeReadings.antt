@@ -1,10 +1,10 @@
 -- The shapes of the types at the places of a graph.
 use Rattle.std.proofs.Common.{◌≡◌, ℕ, List, refl, sym, ap, ◌∙◌}
-use Rattle.nesl_types_bank.specs.Term.{Term, variable}
-use Rattle.nesl_types_bank.specs.Types.{type_at}
-use Rattle.nesl_types_bank.specs.Shapes.{shape_type}
-use Rattle.nesl_types_bank.specs.declared.shape.Shape.{Shape}
-use Rattle.nesl_types_bank.specs.declared.shape.Shape.TheVariants as shape
+use Rattle.nesl_types_shared.specs.Term.{Term, variable}
+use Rattle.nesl_types_shared.specs.Types.{type_at}
+use Rattle.nesl_types_shared.specs.Shapes.{shape_type}
+use Rattle.nesl_types_shared.specs.declared.shape.Shape.{Shape}
+use Rattle.nesl_types_shared.specs.declared.shape.Shape.TheVariants as shape
 use Rattle.nesl_unify_graph.specs.declared.node.Node.{Node}
 use Rattle.nesl_unify_graph.specs.declared.node.Node.TheVariants.{Free, Same, Int, Bool as Boolean, Char, Named, SeqOf, Both, Part}
 use Rattle.nesl_unify_graph.specs.declared.instances.Instances.{Instances}

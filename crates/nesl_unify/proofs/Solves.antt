@@ -1,6 +1,6 @@
 -- Systems that were solved.
 use Rattle.std.proofs.Common.{ℕ, ◌<◌, ◌≤◌, List, length, ◌∙◌, arith}
-use Rattle.nesl_types_bank.specs.Term.{Term, nodes}
+use Rattle.nesl_types_shared.specs.Term.{Term, nodes}
 use Rattle.nesl_unify_graph.specs.declared.node.Node.{Node}
 use Rattle.nesl_unify_graph.specs.declared.instances.Instances.{Instances}
 use Rattle.nesl_unify_graph.specs.declared.unify.Pair.{Pair}

@@ -3,7 +3,7 @@ use Rattle.std.proofs.Common.{◌≡◌, ℕ, ◌+◌, ◌-◌, ◌<◌, ◌≤�
 use Rattle.std.proofs.Math.Dec.{ltb}
 use Rattle.std.proofs.lemmas.Bool.{cases_lt, lt-ltb, le-ltb}
 use Rattle.std.proofs.lemmas.List.{get_or_append_left, get_or_push, get_or_past, get_or_default, get_or-replicate, length-replicate, length_push}
-use Rattle.nesl_types_bank.specs.Term.{Term, nodes}
+use Rattle.nesl_types_shared.specs.Term.{Term, nodes}
 use Rattle.nesl_unify_graph.specs.declared.node.Node.{Node}
 use Rattle.nesl_unify_graph.specs.declared.node.Node.TheVariants.{Free, Same, Int, Bool as Boolean, Char, Named, SeqOf, Both, Part}
 use Rattle.nesl_unify_graph.specs.declared.instances.Instances.{Instances}

@@ -1,12 +1,12 @@
 -- Equations between types, and how they are taken apart.
 use Rattle.std.specs.Prelude.{◌≡◌, ◌↔◌, ◌<◌, ◌+◌, ◌++◌, ◌∷◌, ℕ, List, [], All, length, slice_index, sum_by}
-use Rattle.nesl_types_bank.specs.Term.{Term, variable, nodes}
-use Rattle.nesl_types_bank.specs.Numbering.{IsBelow}
-use Rattle.nesl_types_bank.specs.Substitution.{substitute}
-use Rattle.nesl_types_bank.specs.Types.{type_at}
-use Rattle.nesl_types_bank.specs.declared.shape.Shape.{Shape}
-use Rattle.nesl_types_bank.specs.declared.shape.Shape.TheVariants as shape
-use Rattle.nesl_types_bank.specs.Shapes.{IsShapeBelow, shape_type}
+use Rattle.nesl_types_shared.specs.Term.{Term, variable, nodes}
+use Rattle.nesl_types_shared.specs.Numbering.{IsBelow}
+use Rattle.nesl_types_shared.specs.Substitution.{substitute}
+use Rattle.nesl_types_shared.specs.Types.{type_at}
+use Rattle.nesl_types_shared.specs.declared.shape.Shape.{Shape}
+use Rattle.nesl_types_shared.specs.declared.shape.Shape.TheVariants as shape
+use Rattle.nesl_types_shared.specs.Shapes.{IsShapeBelow, shape_type}
 use Rattle.nesl_unify_graph.specs.declared.node.Node.{Node}
 use Rattle.nesl_unify_graph.specs.declared.node.Node.TheVariants.{Same, Part}
 use Rattle.nesl_unify_graph.specs.declared.instances.Source.TheVariants.{Own}

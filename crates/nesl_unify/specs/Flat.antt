@@ -1,5 +1,5 @@
 -- Types whose parts are variables.
-use Rattle.nesl_types_bank.specs.Term.{Term, int, bool, char, variable, seq_of, pair_of, named}
+use Rattle.nesl_types_shared.specs.Term.{Term, int, bool, char, variable, seq_of, pair_of, named}
 use Rattle.nesl_unify.specs.declared.flat.Flat.{Flat}
 use Rattle.nesl_unify.specs.declared.flat.Flat.TheVariants.{Int, Bool, Char, Var, Named, SeqOf, Both}
 

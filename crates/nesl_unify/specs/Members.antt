@@ -1,7 +1,7 @@
 -- Variables that stand for types of given classes.
 use Rattle.std.specs.Prelude.{ℕ, List, All}
 use Rattle.nesl_types.specs.declared.classes.Class.{Class}
-use Rattle.nesl_types_bank.specs.Term.{Term}
+use Rattle.nesl_types_shared.specs.Term.{Term}
 use Rattle.nesl_types.specs.Class.{IsIn}
 use Rattle.nesl_unify.specs.declared.narrow.Member.{Member}
 

@@ -2,18 +2,18 @@
 use Rattle.std.specs.Prelude.{◌≡◌, ℕ, List, All, nat_lt, if◌then◌else◌}
 use Rattle.nesl_types.specs.declared.classes.Class.{Class}
 use Rattle.nesl_types.specs.Class.{IsIn, class_at}
-use Rattle.nesl_types_bank.specs.Term.{Term, int, variable}
-use Rattle.nesl_types_bank.specs.Substitution.{substitute}
-use Rattle.nesl_types_bank.specs.Types.{type_at}
-use Rattle.nesl_types_bank.specs.Shapes.{shape_type}
-use Rattle.nesl_types_bank.specs.declared.shape.Shape.{Shape}
+use Rattle.nesl_types_shared.specs.Term.{Term, int, variable}
+use Rattle.nesl_types_shared.specs.Substitution.{substitute}
+use Rattle.nesl_types_shared.specs.Types.{type_at}
+use Rattle.nesl_types_shared.specs.Shapes.{shape_type}
+use Rattle.nesl_types_shared.specs.declared.shape.Shape.{Shape}
 use Rattle.nesl_unify_graph.specs.Instances.{parts_in, instance_type}
 use Rattle.nesl_unify_graph.specs.declared.node.Node.{Node}
 use Rattle.nesl_unify_graph.specs.declared.node.Node.TheVariants.{Free, Same, Int, Bool, Char, Named, SeqOf, Both, Part}
 use Rattle.nesl_unify_graph.specs.declared.instances.Instances.{Instances}
 use Rattle.nesl_unify_graph.specs.Graph.{node_at, Fits}
 use Rattle.nesl_unify_graph.specs.Readings.{unrolled}
-use Rattle.nesl_types_bank.specs.Numbering.{IsBelow}
+use Rattle.nesl_types_shared.specs.Numbering.{IsBelow}
 use Rattle.nesl_unify.specs.declared.equation.Equation.{Equation}
 use Rattle.nesl_unify.specs.declared.narrow.Member.{Member}
 use Rattle.nesl_unify.specs.declared.solution.Solution.{Solution}

@@ -1,7 +1,7 @@
 -- Systems: facts of the types of variables, and classes of variables.
 use Rattle.std.specs.Prelude.{◌<◌, ℕ, All, length}
 use Rattle.nesl_types.specs.declared.classes.Class.{Class}
-use Rattle.nesl_types_bank.specs.Term.{Term}
+use Rattle.nesl_types_shared.specs.Term.{Term}
 use Rattle.nesl_unify.specs.declared.system.System.{System}
 use Rattle.nesl_unify.specs.Facts.{AreFacts, AreTrue}
 use Rattle.nesl_unify.specs.Members.{IsInAll}

@@ -1,13 +1,13 @@
 //! Equations between two types, taken apart until one side of each is a variable.
 
 ghost use Rattle.std.specs.Prelude.{◌≡◌, ℕ, [], All, IfNone, IfOk, IfSome, IsErrOf, OnOk};
-ghost use Rattle.nesl_types_bank.specs.Term.{Term};
+ghost use Rattle.nesl_types_shared.specs.Term.{Term};
 ghost use Rattle.nesl_unify.specs.Equations.{IsInner, part_node, AreEnds, IsAlike, AreAlike, Differ, IsSplit};
 ghost use Rattle.nesl_unify.specs.Equations.{IsTakenApart, AreTakenApart, IsAdded, IsEqual, IsEquated};
 
 use crate::fact::Fact;
 use nesl_types::Ty;
-use nesl_types_bank::{Parts, Shape};
+use nesl_types_shared::{Parts, Shape};
 use nesl_unify_graph::{Instance, Instances, Node, SolveFault, Source};
 use std::alloc::{AllocError, Global};
 

@@ -1,9 +1,9 @@
 //! Types that stand for many, with variables of a system for theirs.
 
 ghost use Rattle.std.specs.Prelude.{◌≡◌, ◌<◌, ◌++◌, ℕ, All, length, slice_index, IfNone, IfOk, IfSome, OnOk};
-ghost use Rattle.nesl_types_bank.specs.Term.{Term, variable};
-ghost use Rattle.nesl_types_bank.specs.Numbering.{IsBelow};
-ghost use Rattle.nesl_types_bank.specs.Substitution.{substitute};
+ghost use Rattle.nesl_types_shared.specs.Term.{Term, variable};
+ghost use Rattle.nesl_types_shared.specs.Numbering.{IsBelow};
+ghost use Rattle.nesl_types_shared.specs.Substitution.{substitute};
 ghost use Rattle.nesl_unify_graph.specs.Graph.{node_type};
 ghost use Rattle.nesl_unify.specs.Facts.{IsSaid, IsPutIn, IsInstanceNode};
 

@@ -2,9 +2,9 @@
 
 ghost use Rattle.std.specs.Prelude.{◌≡◌, ◌≢◌, ◌<◌, ◌↔◌, ℕ, All, IsTrue, IfOk, IsErrOf, OnOk, length, vec_len};
 ghost use Rattle.nesl_types.specs.declared.classes.Class.{Class};
-ghost use Rattle.nesl_types_bank.specs.Term.{Term, variable as variable_type};
-ghost use Rattle.nesl_types_bank.specs.Substitution.{substitute};
-ghost use Rattle.nesl_types_bank.specs.Shapes.{shape_type};
+ghost use Rattle.nesl_types_shared.specs.Term.{Term, variable as variable_type};
+ghost use Rattle.nesl_types_shared.specs.Substitution.{substitute};
+ghost use Rattle.nesl_types_shared.specs.Shapes.{shape_type};
 ghost use Rattle.nesl_types.specs.Class.{IsIn};
 ghost use Rattle.nesl_types.specs.Class.{class_at};
 ghost use Rattle.nesl_unify_graph.specs.Graph.{IsFlat};
@@ -14,7 +14,7 @@ ghost use Rattle.nesl_unify.specs.Solves.{IsReading};
 
 use crate::shapes::top_shape;
 use nesl_types::{Class, meet};
-use nesl_types_bank::Shape;
+use nesl_types_shared::Shape;
 use nesl_unify_graph::{Instances, Node, SolveFault};
 use std::alloc::{AllocError, Global};
 

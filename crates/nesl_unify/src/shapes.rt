@@ -1,13 +1,13 @@
 //! The shapes of the types at the places of a graph.
 
 ghost use Rattle.std.specs.Prelude.{◌≡◌, ◌<◌, ℕ, length};
-ghost use Rattle.nesl_types_bank.specs.Term.{Term, variable};
-ghost use Rattle.nesl_types_bank.specs.Shapes.{shape_type};
+ghost use Rattle.nesl_types_shared.specs.Term.{Term, variable};
+ghost use Rattle.nesl_types_shared.specs.Shapes.{shape_type};
 ghost use Rattle.nesl_unify_graph.specs.Graph.{node_at, node_type, target, IsRoot, IsFlat};
 ghost use Rattle.nesl_unify_graph.specs.Forms.{IsTableOf};
 ghost use Rattle.nesl_unify.specs.Solves.{inner_types, HasShape, IsReading};
 
-use nesl_types_bank::Shape;
+use nesl_types_shared::Shape;
 use nesl_unify_graph::{Instances, Node};
 
 /// What is said of a place: nothing past the end.

@@ -2,7 +2,7 @@
 
 ghost use Rattle.std.specs.Prelude.{◌≡◌, ◌<◌, ◌↔◌, ℕ, [], All, length, IfOk, IsErrOf, IsTrue};
 ghost use Rattle.nesl_types.specs.declared.classes.Class.{Class};
-ghost use Rattle.nesl_types_bank.specs.Term.{Term};
+ghost use Rattle.nesl_types_shared.specs.Term.{Term};
 ghost use Rattle.nesl_unify_graph.specs.Graph.{Fits};
 ghost use Rattle.nesl_unify.specs.Bounds.{IsBounded};
 ghost use Rattle.nesl_unify.specs.Facts.{AreFacts, AreTrue};
@@ -18,7 +18,7 @@ use crate::narrow::{Member, narrow};
 pub use crate::solution::Solution;
 use crate::start::{Start, start_table};
 pub use crate::types::is_below;
-use nesl_types_bank::Bank;
+use nesl_types_shared::Bank;
 use nesl_unify_graph::unify::unify;
 use nesl_unify_graph::{Instances, Node, SolveFault, are_within};
 use std::alloc::{AllocError, Global};

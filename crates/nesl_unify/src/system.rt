@@ -2,9 +2,9 @@
 
 ghost use Rattle.std.specs.Prelude.{◌≡◌, ◌<◌, ◌++◌, ◌∷◌, [], ◌↔◌, ℕ, All, length, slice_index, IfOk, OnOk, IsErrOf};
 ghost use Rattle.nesl_types.specs.declared.classes.Class.{Class};
-ghost use Rattle.nesl_types_bank.specs.Term.{Term};
-ghost use Rattle.nesl_types_bank.specs.Substitution.{substitute};
-ghost use Rattle.nesl_types_bank.specs.Numbering.{IsBelow};
+ghost use Rattle.nesl_types_shared.specs.Term.{Term};
+ghost use Rattle.nesl_types_shared.specs.Substitution.{substitute};
+ghost use Rattle.nesl_types_shared.specs.Numbering.{IsBelow};
 ghost use Rattle.nesl_unify.specs.Flat.{flat_type};
 ghost use Rattle.nesl_unify.specs.Facts.{flat_node};
 ghost use Rattle.nesl_unify.specs.Bounds.{IsBounded};
@@ -19,7 +19,7 @@ use crate::room::push_with_room;
 use crate::solution::Solution;
 use crate::solve::solve_facts;
 use nesl_types::{Class, Part, Ty};
-use nesl_types_bank::Bank;
+use nesl_types_shared::Bank;
 use nesl_unify_graph::{Instances, Node, SolveFault};
 use std::alloc::{AllocError, Global};
 use std::mem::replace;

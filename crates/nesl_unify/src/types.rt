@@ -1,10 +1,10 @@
 //! The variables of types.
 
 ghost use Rattle.std.specs.Prelude.{◌↔◌, IsTrue};
-ghost use Rattle.nesl_types_bank.specs.Numbering.{IsBelow};
+ghost use Rattle.nesl_types_shared.specs.Numbering.{IsBelow};
 
 use nesl_types::Ty;
-use nesl_types_bank::Shape;
+use nesl_types_shared::Shape;
 
 /// Whether each variable of the type is below the count.
 pub fn is_below(count: u64, ty: &Ty) -> bool

@@ -3,12 +3,12 @@ use Rattle.std.proofs.Common.{◌≡◌, ◌≢◌, inl, inr, ℕ, zero, suc, �
 use Rattle.std.proofs.lemmas.Bool.{cases_lt, cases_eq}
 use Rattle.std.proofs.lemmas.List.{get_or-set_same, get_or-set_other, length-set, length-append, get_or_append_left, get_or-append-add, get_or_push, length_push, drop_more, drop-append-le}
 use Rattle.std.proofs.lemmas.List.Elements.{All-nil, All-cons, All-append, All-get_or}
-use Rattle.nesl_types_bank.specs.Term.{Term, nodes, seq_of}
-use Rattle.nesl_types_bank.specs.declared.shape.Shape.{Shape}
-use Rattle.nesl_types_bank.specs.declared.shape.Shape.TheVariants as shape
-use Rattle.nesl_types_bank.specs.Shapes.{shape_type, shape_at, IsShapeBelow}
-use Rattle.nesl_types_bank.specs.Types.{type_at, Extends, IsPut}
-use Rattle.nesl_types_bank.proofs.Nodes.{nodes_positive}
+use Rattle.nesl_types_shared.specs.Term.{Term, nodes, seq_of}
+use Rattle.nesl_types_shared.specs.declared.shape.Shape.{Shape}
+use Rattle.nesl_types_shared.specs.declared.shape.Shape.TheVariants as shape
+use Rattle.nesl_types_shared.specs.Shapes.{shape_type, shape_at, IsShapeBelow}
+use Rattle.nesl_types_shared.specs.Types.{type_at, Extends, IsPut}
+use Rattle.nesl_types_shared.proofs.Nodes.{nodes_positive}
 use Rattle.nesl_unify_graph.specs.declared.node.Node.{Node}
 use Rattle.nesl_unify_graph.specs.declared.instances.Instances.{Instances}
 use Rattle.nesl_unify_graph.specs.declared.form.Item.{Item}

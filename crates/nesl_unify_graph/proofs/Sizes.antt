@@ -2,12 +2,12 @@
 use Rattle.std.proofs.Common.{◌≡◌, inl, inr, ℕ, zero, suc, ◌+◌, ◌*◌, ◌<◌, ◌≤◌, List, [], ◌∷◌, ◌++◌, length, get_or, set, replicate, slice_index, refl, sym, ap, subst, ◌∙◌, arith}
 use Rattle.std.proofs.lemmas.Bool.{cases_lt, cases_eq}
 use Rattle.std.proofs.lemmas.List.{get_or-set_same, get_or-set_other, length-replicate, get_or-replicate, get_or_past, get_or_append_left, get_or_push}
-use Rattle.nesl_types_bank.specs.Term.{Term, int, bool, char, variable, seq_of, pair_of, named, nodes}
-use Rattle.nesl_types_bank.specs.Substitution.{substitute}
-use Rattle.nesl_types_bank.specs.Types.{type_at}
-use Rattle.nesl_types_bank.specs.declared.shape.Shape.{Shape}
-use Rattle.nesl_types_bank.specs.Shapes.{shape_type}
-use Rattle.nesl_types_bank.proofs.Nodes.{nodes_positive}
+use Rattle.nesl_types_shared.specs.Term.{Term, int, bool, char, variable, seq_of, pair_of, named, nodes}
+use Rattle.nesl_types_shared.specs.Substitution.{substitute}
+use Rattle.nesl_types_shared.specs.Types.{type_at}
+use Rattle.nesl_types_shared.specs.declared.shape.Shape.{Shape}
+use Rattle.nesl_types_shared.specs.Shapes.{shape_type}
+use Rattle.nesl_types_shared.proofs.Nodes.{nodes_positive}
 use Rattle.nesl_unify_graph.specs.declared.node.Node.{Node}
 use Rattle.nesl_unify_graph.specs.declared.node.Node.TheVariants as node
 use Rattle.nesl_unify_graph.specs.declared.instances.Instances.{Instances}

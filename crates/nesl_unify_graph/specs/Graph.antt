@@ -1,7 +1,7 @@
 -- Graphs of types: what is said of the type at each place.
 use Rattle.std.specs.Prelude.{◌≡◌, ℕ, List, slice_index_or}
-use Rattle.nesl_types_bank.specs.Term.{Term, int, bool, char, seq_of, pair_of, named}
-use Rattle.nesl_types_bank.specs.Types.{type_at}
+use Rattle.nesl_types_shared.specs.Term.{Term, int, bool, char, seq_of, pair_of, named}
+use Rattle.nesl_types_shared.specs.Types.{type_at}
 use Rattle.nesl_unify_graph.specs.declared.node.Node.{Node}
 use Rattle.nesl_unify_graph.specs.declared.node.Node.TheVariants.{Free, Same, Int, Bool, Char, Named, SeqOf, Both, Part}
 use Rattle.nesl_unify_graph.specs.declared.instances.Instances.{Instances}

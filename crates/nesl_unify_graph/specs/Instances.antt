@@ -1,11 +1,11 @@
 -- Types that stand for many, with places of a graph for their variables.
 use Rattle.std.specs.Prelude.{◌≡◌, ◌<◌, ◌-◌, ◌+◌, ℕ, List, [], All, length, slice_get, slice_index}
 use Rattle.std.specs.Option.{option_map_or}
-use Rattle.nesl_types_bank.specs.Term.{Term, variable}
-use Rattle.nesl_types_bank.specs.Numbering.{IsBelow}
-use Rattle.nesl_types_bank.specs.Substitution.{substitute}
-use Rattle.nesl_types_bank.specs.Types.{type_at}
-use Rattle.nesl_types_bank.specs.Lists.{parts_of}
+use Rattle.nesl_types_shared.specs.Term.{Term, variable}
+use Rattle.nesl_types_shared.specs.Numbering.{IsBelow}
+use Rattle.nesl_types_shared.specs.Substitution.{substitute}
+use Rattle.nesl_types_shared.specs.Types.{type_at}
+use Rattle.nesl_types_shared.specs.Lists.{parts_of}
 use Rattle.nesl_unify_graph.specs.declared.instances.Source.{Source}
 use Rattle.nesl_unify_graph.specs.declared.instances.Source.TheVariants.{Shared, Own}
 use Rattle.nesl_unify_graph.specs.declared.instances.Instances.{Instances}

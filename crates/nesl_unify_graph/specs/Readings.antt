@@ -1,6 +1,6 @@
 -- The types of a graph, read as far as some number of nodes from each place.
 use Rattle.std.specs.Prelude.{◌≡◌, ◌<◌, ◌≤◌, ◌*◌, ℕ, zero, suc, List, length}
-use Rattle.nesl_types_bank.specs.Term.{Term, variable, nodes}
+use Rattle.nesl_types_shared.specs.Term.{Term, variable, nodes}
 use Rattle.nesl_unify_graph.specs.declared.node.Node.{Node}
 use Rattle.nesl_unify_graph.specs.declared.instances.Instances.{Instances}
 use Rattle.nesl_unify_graph.specs.Graph.{node_at, node_type}

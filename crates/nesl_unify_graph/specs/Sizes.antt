@@ -1,6 +1,6 @@
 -- How many nodes the types of a graph have.
 use Rattle.std.specs.Prelude.{◌≡◌, ◌<◌, ◌≤◌, ◌*◌, ℕ, suc, List, [], slice_index, length}
-use Rattle.nesl_types_bank.specs.Term.{Term, int, bool, char, variable, seq_of, pair_of, named, nodes}
+use Rattle.nesl_types_shared.specs.Term.{Term, int, bool, char, variable, seq_of, pair_of, named, nodes}
 use Rattle.nesl_unify_graph.specs.declared.node.Node.{Node}
 use Rattle.nesl_unify_graph.specs.declared.instances.Instances.{Instances}
 use Rattle.nesl_unify_graph.specs.declared.form.Item.{Item}

@@ -8,7 +8,7 @@ ghost use Rattle.nesl_unify_graph.specs.Steps.{IsGraph, IsPiece, IsPut, IsSpread
 
 use crate::instances::Instances;
 use crate::node::Node;
-use nesl_types_bank::Shape;
+use nesl_types_shared::Shape;
 use std::alloc::AllocError;
 
 /// For how many places of a table parts are expanded. Typing is charged no work, so what takes more than that is

@@ -3,7 +3,7 @@
 use crate::instances::Instances;
 use crate::node::Node;
 use crate::table::{node_at, target};
-use nesl_types_bank::Shape;
+use nesl_types_shared::Shape;
 
 /// A type that is still to be looked at.
 #[derive(Clone, Copy)]
@@ -35,8 +35,8 @@ pub(crate) enum Settled {
 }
 
 ghost use Rattle.std.specs.Prelude.{◌≡◌, ◌<◌, ℕ, length};
-ghost use Rattle.nesl_types_bank.specs.Term.{Term};
-ghost use Rattle.nesl_types_bank.specs.Types.{type_at};
+ghost use Rattle.nesl_types_shared.specs.Term.{Term};
+ghost use Rattle.nesl_types_shared.specs.Types.{type_at};
 ghost use Rattle.nesl_unify_graph.specs.Instances.{IsPart, AreBelow, instance_type, parts_in};
 ghost use Rattle.nesl_unify_graph.specs.Graph.{node_at, target, IsRoot, IsFlat};
 ghost use Rattle.nesl_unify_graph.specs.Forms.{form_type, shape_form, HasPart, IsItem, AreItems, IsForm};

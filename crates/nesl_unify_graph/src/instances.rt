@@ -1,6 +1,6 @@
 //! Types that stand for many, with places of a graph for their variables.
 
-use nesl_types_bank::{Bank, Parts, Ty};
+use nesl_types_shared::{Bank, Parts, Ty};
 
 /// Where the parts of an instance's type are.
 #[derive(Drop)]

@@ -1,8 +1,8 @@
 //! Types read out of a graph.
 
 ghost use Rattle.std.specs.Prelude.{◌≡◌, ◌<◌, ◌≤◌, ◌++◌, ℕ, [], length, IfOk, IfSome, IfNone, OnOk};
-ghost use Rattle.nesl_types_bank.specs.Term.{Term, nodes as nodes_of};
-ghost use Rattle.nesl_types_bank.specs.Shapes.{IsShapeBelow};
+ghost use Rattle.nesl_types_shared.specs.Term.{Term, nodes as nodes_of};
+ghost use Rattle.nesl_types_shared.specs.Shapes.{IsShapeBelow};
 ghost use Rattle.nesl_unify_graph.specs.Instances.{AreBelow};
 ghost use Rattle.nesl_unify_graph.specs.Graph.{IsFlat};
 ghost use Rattle.nesl_unify_graph.specs.Readings.{Reads};
@@ -12,7 +12,7 @@ ghost use Rattle.nesl_unify_graph.specs.Outlines.{form_shape, placed_shape, IsOu
 use crate::form::{Form, Item, form_of};
 use crate::instances::Instances;
 use crate::node::Node;
-use nesl_types_bank::{Bank, Shape, Ty};
+use nesl_types_shared::{Bank, Shape, Ty};
 use std::alloc::{AllocError, Global};
 
 /// The most nodes of a type that is read.

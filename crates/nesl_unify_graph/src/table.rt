@@ -1,7 +1,7 @@
 //! Links of a table of nodes.
 
 ghost use Rattle.std.specs.Prelude.{◌≡◌, ◌<◌, ◌↔◌, ℕ, length, slice_set, sum_by};
-ghost use Rattle.nesl_types_bank.specs.Term.{Term};
+ghost use Rattle.nesl_types_shared.specs.Term.{Term};
 ghost use Rattle.nesl_unify_graph.specs.declared.instances.Instances.{Instances};
 ghost use Rattle.nesl_unify_graph.specs.Graph.{IsRoot, IsFlat, Fits, node_at, target};
 ghost use Rattle.nesl_unify_graph.specs.Tables.{IsTable};

@@ -1,16 +1,16 @@
 //! Two instances of one whole type, which are one where their variables are.
 
 ghost use Rattle.std.specs.Prelude.{◌≡◌, ◌<◌, ℕ, true, length, IfSome, OnOk};
-ghost use Rattle.nesl_types_bank.specs.Term.{Term};
-ghost use Rattle.nesl_types_bank.specs.Types.{type_at};
-ghost use Rattle.nesl_types_bank.specs.Lists.{parts_of};
+ghost use Rattle.nesl_types_shared.specs.Term.{Term};
+ghost use Rattle.nesl_types_shared.specs.Types.{type_at};
+ghost use Rattle.nesl_types_shared.specs.Lists.{parts_of};
 ghost use Rattle.nesl_unify_graph.specs.Instances.{parts_in};
 ghost use Rattle.nesl_unify_graph.specs.Steps.{AreTwins, HaveWhole, IsMatched};
 
 use crate::instances::{Instances, Source};
 use crate::node::Node;
 use crate::unify::Pair;
-use nesl_types_bank::Shape;
+use nesl_types_shared::Shape;
 use std::alloc::AllocError;
 
 /// Two instances of one type, by their places.

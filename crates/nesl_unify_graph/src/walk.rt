@@ -2,9 +2,9 @@
 
 ghost use Rattle.std.specs.Prelude.{◌≡◌, ◌+◌, ◌<◌, ◌++◌, ℕ, [], length, false};
 ghost use Rattle.std.specs.Prelude.{IsTrue, IfOk, IfSome, IfNone, OnOk, MatchOption};
-ghost use Rattle.nesl_types_bank.specs.Shapes.{IsShapeBelow, shape_type};
-ghost use Rattle.nesl_types_bank.specs.Term.{Term, nodes as nodes_of};
-ghost use Rattle.nesl_types_bank.specs.Types.{type_at};
+ghost use Rattle.nesl_types_shared.specs.Shapes.{IsShapeBelow, shape_type};
+ghost use Rattle.nesl_types_shared.specs.Term.{Term, nodes as nodes_of};
+ghost use Rattle.nesl_types_shared.specs.Types.{type_at};
 ghost use Rattle.nesl_unify_graph.specs.Instances.{IsPart, AreBelow, base_in, parts_in, place_in};
 ghost use Rattle.nesl_unify_graph.specs.Graph.{Fits, IsFlat, IsRoot, node_at, target};
 ghost use Rattle.nesl_unify_graph.specs.Readings.{AreReadWithin};
@@ -16,7 +16,7 @@ use crate::form::{Form, Item, Settled, root_form, settle};
 use crate::instances::Instances;
 use crate::node::Node;
 use crate::table::{node_at, target};
-use nesl_types_bank::Shape;
+use nesl_types_shared::Shape;
 use std::alloc::{AllocError, Global};
 
 /// For how many types that are still to be looked at room is taken at first.

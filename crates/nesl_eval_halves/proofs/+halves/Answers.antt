@@ -24,7 +24,7 @@ use denote.Param.Send.{param_sync, sendable}
 use Rattle.nesl_eval_halves.specs.declared.crew.Crew.{Crew}
 use Rattle.nesl_eval_halves.specs.declared.turns.Room.{Room}
 use Rattle.std.proofs.Crossing as standard
-use Rattle.nesl_split_helpers.specs.declared.halving.Half.{Half}
+use Rattle.nesl_eval_helpers.specs.declared.halving.Half.{Half}
 use Rattle.nesl_eval_halves.specs.declared.found.Found.{Found}
 use Rattle.nesl_eval_halves.specs.Finding.{Are, wanted_with, Adds, listed, of_value}
 use Rattle.nesl_eval_halves.specs.Intervals.{at_turn, found_in}

@@ -1,5 +1,5 @@
 use Rattle.std.proofs.Common.{length, ap, arith}
-use Rattle.nesl_types_bank.proofs.Made.{length-types}
+use Rattle.nesl_types_shared.proofs.Made.{length-types}
 use Rattle.nesl_builtins.proofs.Listed.{types}
 use Rattle.nesl_builtins.proofs.shapes.last.Goals as goal
 

@@ -1,6 +1,6 @@
 use Rattle.std.proofs.Common.{◌∙◌}
 use Rattle.std.proofs.lemmas.Result.{IfOk-weaker}
-use Rattle.nesl_types_bank.proofs.Same.{none_replaced}
+use Rattle.nesl_types_shared.proofs.Same.{none_replaced}
 use Rattle.nesl_builtins.proofs.types.copy.Goals as goal
 
 pub returns : goal.returns

@@ -1,5 +1,5 @@
 use Rattle.std.proofs.Common.{◌++◌, length, sym, ap, ◌∙◌}
-use Rattle.nesl_types_bank.specs.Numbering.{variables, first_occurrences, numbers_below}
+use Rattle.nesl_types_shared.specs.Numbering.{variables, first_occurrences, numbers_below}
 use Rattle.nesl_builtins.specs.FunctionTypes.{builtin_type}
 use Rattle.nesl_builtins.proofs.Numbered.{numbered}
 use Rattle.nesl_builtins.proofs.types.scheme.Goals as goal

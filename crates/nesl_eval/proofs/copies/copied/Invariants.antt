@@ -1,4 +1,4 @@
-use Rattle.nesl_eval_env.specs.TopLevels.{table_in}
+use Rattle.nesl_eval_top_level.specs.TopLevels.{table_in}
 use Rattle.nesl_eval.specs.Copied.{AreCopies}
 use Rattle.nesl_eval.proofs.copies.copied.Given as goal
 

@@ -1,8 +1,8 @@
 use Rattle.std.proofs.Common.{sym, subst}
 use Rattle.nesl_syntax_tree.specs.Views.{tree_of}
 use Rattle.nesl_eval_ops.specs.View.{HasBodies}
-use Rattle.nesl_eval_env.specs.Stored.{environment, names_in}
-use Rattle.nesl_eval_env.specs.TopLevels.{table_in}
+use Rattle.nesl_eval_top_level.specs.Stored.{environment, names_in}
+use Rattle.nesl_eval_top_level.specs.TopLevels.{table_in}
 use Rattle.nesl_eval.proofs.Meant.{tells_meant}
 use Rattle.nesl_eval.proofs.one.eval_one.Goals as goal
 

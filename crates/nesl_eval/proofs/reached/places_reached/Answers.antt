@@ -1,5 +1,5 @@
 use Rattle.std.proofs.Common.{◌∙◌, arith}
-use Rattle.nesl_eval_env.specs.TopLevels.{table_in}
+use Rattle.nesl_eval_top_level.specs.TopLevels.{table_in}
 use Rattle.nesl_eval.proofs.Reaching.{marks_kept, few_queued, bodies_more, all_reached}
 use Rattle.nesl_eval.proofs.reached.places_reached.Goals as goal
 

@@ -9,12 +9,12 @@ use Rattle.nesl_eval_code.specs.Run.{run, run_at}
 use Rattle.nesl_eval_nodes.specs.Scopes.{frames_of}
 use Rattle.nesl_eval_nodes.specs.Sides.{places_of}
 use Rattle.nesl_eval_columns.specs.Columns.{leaves_of}
-use Rattle.nesl_eval_plain_results.specs.declared.block.Block.{Block}
+use Rattle.nesl_eval_column_results.specs.declared.block.Block.{Block}
 use Rattle.nesl_eval_meaning.specs.Names.{Value}
 use Rattle.nesl_eval_plain.specs.Comes.{Comes, chosen}
-use Rattle.nesl_eval_plain_results.specs.Costs.{greatest, costs_at, each_cost}
-use Rattle.nesl_eval_plain_results.specs.declared.scopes.Scopes.{Rows}
-use Rattle.nesl_eval_plain_results.specs.Frames.{frames_in, AreAt}
+use Rattle.nesl_eval_column_results.specs.Costs.{greatest, costs_at, each_cost}
+use Rattle.nesl_eval_column_results.specs.declared.scopes.Scopes.{Rows}
+use Rattle.nesl_eval_column_results.specs.Frames.{frames_in, AreAt}
 use Rattle.nesl_eval_plain.proofs.Comes.{greatest_le_sum, rows_come}
 use Rattle.nesl_eval_plain.proofs.Turns.{next_block, block_filters, flags_len}
 use Rattle.nesl_eval_plain.proofs.whole.places_within.Goals as goal

@@ -8,12 +8,12 @@ use Rattle.nesl_eval_code.specs.Frames.{Frames}
 use Rattle.nesl_eval_code.specs.Run.{run, run_at}
 use Rattle.nesl_eval_nodes.specs.Scopes.{frames_of}
 use Rattle.nesl_eval_nodes.specs.Sides.{places_of}
-use Rattle.nesl_eval_plain_results.specs.declared.block.Block.{Block}
-use Rattle.nesl_eval_plain_results.specs.Costs.{greatest, costs_at, each_cost}
+use Rattle.nesl_eval_column_results.specs.declared.block.Block.{Block}
+use Rattle.nesl_eval_column_results.specs.Costs.{greatest, costs_at, each_cost}
 use Rattle.nesl_eval_plain.proofs.Comes.{greatest_le_sum, rows_come}
-use Rattle.nesl_eval_plain_results.specs.declared.scopes.Scopes.{Rows}
-use Rattle.nesl_eval_plain_results.specs.Frames.{frames_in, AreAt}
-use Rattle.nesl_eval_plain_results.specs.Values.{trees_in}
+use Rattle.nesl_eval_column_results.specs.declared.scopes.Scopes.{Rows}
+use Rattle.nesl_eval_column_results.specs.Frames.{frames_in, AreAt}
+use Rattle.nesl_eval_column_results.specs.Values.{trees_in}
 use Rattle.nesl_eval_plain.proofs.Turns.{next_block, block_bodies}
 use Rattle.nesl_eval_plain.proofs.whole.values_within.Goals as goal
 

@@ -1,13 +1,13 @@
 use Rattle.std.proofs.Common.{◌-◌, refl, sym, subst, ◌∙◌}
 use Rattle.std.specs.Prelude.{slice_get}
 use Rattle.nesl_eval_code.specs.Run.{run}
-use Rattle.nesl_eval_plain_results.specs.Columns.{value_at}
-use Rattle.nesl_eval_plain_results.specs.Costs.{costs_at}
-use Rattle.nesl_eval_plain_results.specs.Frames.{frames_in, AreAt}
-use Rattle.nesl_eval_plain_results.specs.Values.{trees_in}
-use Rattle.nesl_eval_plain_results.specs.declared.scopes.Scopes.{Rows}
+use Rattle.nesl_eval_column_results.specs.Columns.{value_at}
+use Rattle.nesl_eval_column_results.specs.Costs.{costs_at}
+use Rattle.nesl_eval_column_results.specs.Frames.{frames_in, AreAt}
+use Rattle.nesl_eval_column_results.specs.Values.{trees_in}
+use Rattle.nesl_eval_column_results.specs.declared.scopes.Scopes.{Rows}
 use Rattle.nesl_eval_plain_parts.proofs.Finding.{same_find}
-use Rattle.nesl_eval_plain_results.proofs.Places.{rows_count}
+use Rattle.nesl_eval_column_results.proofs.Places.{rows_count}
 use Rattle.nesl_eval_plain_parts.proofs.Sized.{sized_from}
 use Rattle.nesl_eval_plain_parts.proofs.bodies.bodies_at.Goals as goal
 

@@ -1,9 +1,9 @@
 use Rattle.std.proofs.Common.{subst}
 use Rattle.std.specs.Prelude.{IfSome}
 use Rattle.nesl_eval_code.specs.Run.{run}
-use Rattle.nesl_eval_plain_results.specs.Frames.{frames_in}
+use Rattle.nesl_eval_column_results.specs.Frames.{frames_in}
 use Rattle.nesl_eval_plain_parts.specs.Found.{Finds}
-use Rattle.nesl_eval_plain_results.specs.declared.scopes.Scopes.{Rows}
+use Rattle.nesl_eval_column_results.specs.declared.scopes.Scopes.{Rows}
 use Rattle.nesl_eval_plain_parts.proofs.bodies.filter_at.Goals as goal
 
 pub returns : goal.returns

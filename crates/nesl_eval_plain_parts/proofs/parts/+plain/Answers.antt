@@ -6,9 +6,9 @@ use Rattle.nesl_eval_code.specs.Run.{run, run_node, run_let, slot_at}
 use Rattle.nesl_eval_columns.specs.Columns.{leaves_of}
 use Rattle.nesl_eval_columns.proofs.Turns.{some_so}
 use Rattle.nesl_eval_nodes.proofs.Rows.{node-Let}
-use Rattle.nesl_eval_plain_results.specs.Columns.{value_at}
-use Rattle.nesl_eval_plain_results.specs.Costs.{costs_at}
-use Rattle.nesl_eval_plain_results.specs.Frames.{frames_in, AreAt, leaf_at, cost_at}
+use Rattle.nesl_eval_column_results.specs.Columns.{value_at}
+use Rattle.nesl_eval_column_results.specs.Costs.{costs_at}
+use Rattle.nesl_eval_column_results.specs.Frames.{frames_in, AreAt, leaf_at, cost_at}
 use Rattle.nesl_eval_plain_parts.proofs.Choosing.{choice_finds, all_yes, all_no, both_sides}
 use Rattle.nesl_values.specs.View.{tree_of}
 use Rattle.nesl_eval_plain_parts.proofs.Framing.{let_at, called_at, turns_at}

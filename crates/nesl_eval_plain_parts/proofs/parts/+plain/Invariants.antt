@@ -1,7 +1,7 @@
 use Rattle.std.proofs.Common.{◌+◌, ◌*◌, drop}
 use Rattle.nesl_eval_code.specs.Run.{run}
-use Rattle.nesl_eval_plain_results.specs.Costs.{costs_at}
-use Rattle.nesl_eval_plain_results.specs.Frames.{frames_in}
+use Rattle.nesl_eval_column_results.specs.Costs.{costs_at}
+use Rattle.nesl_eval_column_results.specs.Frames.{frames_in}
 use Rattle.nesl_eval_plain_parts.proofs.Finding.{Along}
 use Rattle.nesl_eval_plain_parts.proofs.parts.+plain.Given as goal
 

@@ -2,8 +2,8 @@ use Rattle.std.proofs.Common.{◌≡◌, Some, refl, ap, rules, w64, to_z, of_z}
 use Rattle.std.proofs.lemmas.Int.{to_z-of_z}
 use Rattle.nesl_values.specs.Tree.{int, boolean, character}
 use Rattle.nesl_eval_columns.proofs.Turns.{some_so}
-use Rattle.nesl_eval_plain_results.specs.Frames.{frames_in}
-use Rattle.nesl_eval_plain_results.proofs.Finding.{all_are}
+use Rattle.nesl_eval_column_results.specs.Frames.{frames_in}
+use Rattle.nesl_eval_column_results.proofs.Finding.{all_are}
 use Rattle.nesl_eval_plain_parts.proofs.parts.end.Goals as goal
 
 pub returns-in-Number : goal.returns-in-Number

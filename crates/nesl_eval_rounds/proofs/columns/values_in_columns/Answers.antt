@@ -4,7 +4,7 @@ use Rattle.nesl_eval_code.specs.Run.{run, run_bodies}
 use Rattle.nesl_eval_blocks.specs.Exec.{laid}
 use Rattle.nesl_eval_blocks.specs.Laws.{sizes}
 use Rattle.nesl_eval_nodes.specs.Scopes.{frames_of}
-use Rattle.nesl_eval_plain_results.specs.Blocks.{block_places}
+use Rattle.nesl_eval_column_results.specs.Blocks.{block_places}
 use Rattle.nesl_eval_nodes.specs.Sides.{Has}
 use Rattle.nesl_eval_rounds.proofs.Columned.{body_turns, some_meets}
 use Rattle.nesl_eval_rounds.proofs.columns.values_in_columns.Goals as goal

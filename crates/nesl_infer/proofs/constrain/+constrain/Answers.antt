@@ -3,7 +3,7 @@ use Rattle.std.specs.Prelude.{All, OnOk}
 use Rattle.std.proofs.lemmas.Result.{on_ok_weaker}
 use Rattle.std.proofs.lemmas.List.Elements.{All-nil, All-push, All-weaker}
 use Rattle.std.proofs.lemmas.Grind.{common_steps}
-use Rattle.nesl_types_bank.specs.Term.{Term, int, bool, pair_of}
+use Rattle.nesl_types_shared.specs.Term.{Term, int, bool, pair_of}
 use Rattle.nesl_syntax_tree.specs.declared.tree.TypeExp.{TypeExp}
 use Rattle.nesl_syntax_tree.specs.declared.tree.Node as declared
 use Rattle.nesl_syntax_tree.specs.Views.{type_tree, shape_of, trees_in, tree_of, binders_in, pattern_tree}

@@ -2,8 +2,8 @@ use Rattle.std.proofs.Common.{arith, refl, rules, sym, subst}
 use Rattle.std.proofs.lemmas.Grind.{common_steps}
 use Rattle.nesl_types.specs.Class.{class_at}
 use Rattle.nesl_types.specs.declared.classes.Class.TheVariants.{Any}
-use Rattle.nesl_types_bank.specs.Numbering.{IsBelow}
-use Rattle.nesl_types_bank.specs.Term.{Term, int}
+use Rattle.nesl_types_shared.specs.Numbering.{IsBelow}
+use Rattle.nesl_types_shared.specs.Term.{Term, int}
 use Rattle.nesl_syntax_tree.specs.Views.{tree_of}
 use Rattle.nesl_infer_rules.specs.Principal.{IsPrincipalType, Typed}
 use Rattle.nesl_infer.proofs.Integers.{only_principal}

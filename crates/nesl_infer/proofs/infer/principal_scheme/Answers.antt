@@ -3,7 +3,7 @@ use Rattle.std.specs.Prelude.{option_map}
 use Rattle.nesl_types.specs.declared.classes.Class.{Class}
 use Rattle.nesl_types.specs.Class.{class_at}
 use Rattle.nesl_types.specs.Scheme.{IsSchemeOf}
-use Rattle.nesl_types_bank.specs.Term.{Term}
+use Rattle.nesl_types_shared.specs.Term.{Term}
 use Rattle.nesl_syntax_tree.specs.Views.{tree_of, pattern_tree, signature_tree}
 use Rattle.nesl_unify.specs.Solves.{type_of, class_of}
 use Rattle.nesl_infer_rules.specs.declared.state.State.{State}

@@ -1,6 +1,6 @@
 use Rattle.std.proofs.Common.{◌∙◌, List, [], None, ap, sym, subst, rules}
-use Rattle.nesl_types_bank.specs.Term.{Term}
-use Rattle.nesl_types_bank.specs.Substitution.{substitute}
+use Rattle.nesl_types_shared.specs.Term.{Term}
+use Rattle.nesl_types_shared.specs.Substitution.{substitute}
 use Rattle.nesl_syntax_tree.specs.Views.{tree_of}
 use Rattle.nesl_unify.specs.Solves.{type_of, class_of}
 use Rattle.nesl_infer_rules.specs.declared.state.Local.{Local}

@@ -1,5 +1,5 @@
 use Rattle.std.proofs.Common.{sym, subst}
-use Rattle.nesl_types_bank.specs.Term.{int}
+use Rattle.nesl_types_shared.specs.Term.{int}
 use Rattle.nesl_syntax_tree.specs.declared.tree.Exp.{Exp}
 use Rattle.nesl_syntax_tree.specs.declared.tree.Node.{Node}
 use Rattle.nesl_syntax_tree.specs.Trees.{node}

@@ -1,6 +1,6 @@
 use Rattle.std.proofs.Common.{◌≡◌, refl, sym, ap, ◌∙◌}
 use Rattle.std.proofs.lemmas.Result.{on_ok_weaker}
-use Rattle.nesl_types_bank.specs.Term.{char, seq_of}
+use Rattle.nesl_types_shared.specs.Term.{char, seq_of}
 use Rattle.nesl_infer_rules.proofs.Steps.{gives_and, adds_as}
 use Rattle.nesl_infer.proofs.leaf.is_text.Goals as goal
 

@@ -1,7 +1,7 @@
 use Rattle.std.proofs.Common.{List, length, refl, sym, ap, ◌∙◌}
 use Rattle.nesl_types.specs.declared.classes.Class.{Class}
 use Rattle.nesl_types.specs.Class.{class_at}
-use Rattle.nesl_types_bank.specs.Numbering.{numbers_below}
+use Rattle.nesl_types_shared.specs.Numbering.{numbers_below}
 use Rattle.nesl_infer.proofs.Closed.{none_occur, own_scheme}
 use Rattle.nesl_infer.proofs.scheme.scheme_of.Goals as goal
 

@@ -1,6 +1,6 @@
 use Rattle.std.proofs.Common.{◌≡◌, ℕ, true, sym, ap, subst, ◌∙◌}
 use Rattle.std.specs.Str.{bytes_eq}
-use Rattle.nesl_types_bank.specs.Term.{Term}
+use Rattle.nesl_types_shared.specs.Term.{Term}
 use Rattle.nesl_infer_rules.specs.World.{TypedNames, meanings_in}
 use Rattle.nesl_infer_rules.specs.Steps.{own_at, IsOwnBelow, count}
 use Rattle.nesl_infer_rules.proofs.Applied.{applied_single, own_means}

@@ -1,8 +1,8 @@
 use Rattle.std.proofs.Common.{◌≡◌, ℕ, List, map, sym, ap, subst, ◌∙◌}
 use Rattle.nesl_types.specs.declared.classes.Class.{Class}
-use Rattle.nesl_types_bank.specs.Term.{Term}
-use Rattle.nesl_types_bank.specs.Kinds.{kind_type}
-use Rattle.nesl_types_bank.specs.Substitution.{substitute}
+use Rattle.nesl_types_shared.specs.Term.{Term}
+use Rattle.nesl_types_shared.specs.Kinds.{kind_type}
+use Rattle.nesl_types_shared.specs.Substitution.{substitute}
 use Rattle.nesl_builtins.specs.FunctionTypes.{builtin_type}
 use Rattle.nesl_builtins.proofs.Numbered.{within}
 use Rattle.nesl_infer_rules.specs.declared.state.State.{State}

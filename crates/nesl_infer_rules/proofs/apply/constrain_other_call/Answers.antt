@@ -1,7 +1,7 @@
 use Rattle.std.proofs.Common.{ℕ, Some, None, sym, ap, subst, ◌∙◌}
 use Rattle.nesl_types.specs.declared.bindings.Top.{Top}
 use Rattle.nesl_infer_rules.specs.Contexts.{IsClosed}
-use Rattle.nesl_types_bank.specs.Term.{Term, named}
+use Rattle.nesl_types_shared.specs.Term.{Term, named}
 use Rattle.nesl_builtins.specs.FunctionTypes.{function_type, builtin_type}
 use Rattle.nesl_infer_names.specs.Names.{as_function}
 use Rattle.nesl_infer_rules.specs.World.{TypedNames, callable_of, meanings_in}

@@ -1,7 +1,7 @@
 use Rattle.std.proofs.Common.{◌<◌, ◌++◌, ◌∷◌, [], ℕ, List, refl, sym, subst}
 use Rattle.std.specs.Prelude.{All}
 use Rattle.std.proofs.lemmas.List.Elements.{All-head}
-use Rattle.nesl_types_bank.specs.Term.{Term}
+use Rattle.nesl_types_shared.specs.Term.{Term}
 use Rattle.nesl_syntax_tree.specs.Views.{binders_in}
 use Rattle.nesl_infer_rules.specs.declared.state.Local.{Local}
 use Rattle.nesl_infer_rules.specs.declared.state.Key.TheVariants.{Element}

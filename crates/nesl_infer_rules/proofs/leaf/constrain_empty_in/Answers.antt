@@ -1,6 +1,6 @@
 use Rattle.std.proofs.Common.{[], map, ap, ◌∙◌}
-use Rattle.nesl_types_bank.specs.Substitution.{substitute}
-use Rattle.nesl_types_bank.specs.Types.{type_at}
+use Rattle.nesl_types_shared.specs.Substitution.{substitute}
+use Rattle.nesl_types_shared.specs.Types.{type_at}
 use Rattle.nesl_infer_names.specs.Names.{datatype_in}
 use Rattle.nesl_syntax_tree.specs.Views.{type_tree}
 use Rattle.nesl_infer_rules.specs.Instances.{type_in}

@@ -1,7 +1,7 @@
 use Rattle.std.proofs.Common.{ℕ}
 use Rattle.std.specs.Prelude.{Option, Some, None}
 use Rattle.nesl_types.specs.declared.classes.Class.{Class}
-use Rattle.nesl_types_bank.specs.Term.{Term}
+use Rattle.nesl_types_shared.specs.Term.{Term}
 use Rattle.nesl_infer_rules.specs.Steps.{scope_at, world_at}
 use Rattle.nesl_infer_rules.specs.Typing.{IsVariable, local_type}
 use Rattle.nesl_infer_rules.proofs.Leaves.{looked_up}

@@ -1,5 +1,5 @@
 use Rattle.std.proofs.Common.{◌≡◌, ◌≤◌, ℕ, length, take}
-use Rattle.nesl_types_bank.specs.Term.{Term}
+use Rattle.nesl_types_shared.specs.Term.{Term}
 use Rattle.nesl_infer_rules.specs.Steps.{scope_at}
 use Rattle.nesl_infer_rules.specs.Typing.{is_element, newest_type}
 use Rattle.nesl_infer_rules.proofs.names.look_up_element.Given as goal

@@ -1,6 +1,6 @@
 use Rattle.std.proofs.Common.{◌<◌, ℕ, List, [], sym, ap, subst, ◌∙◌, refl}
 use Rattle.std.proofs.lemmas.List.Elements.{All-nil}
-use Rattle.nesl_types_bank.specs.Term.{Term}
+use Rattle.nesl_types_shared.specs.Term.{Term}
 use Rattle.nesl_syntax_tree.specs.declared.tree.Pattern.{Pattern}
 use Rattle.nesl_syntax_tree.specs.declared.tree.PatternNode.{PatternNode}
 use Rattle.nesl_syntax_tree.specs.Views.{pattern_shape, pattern_tree}

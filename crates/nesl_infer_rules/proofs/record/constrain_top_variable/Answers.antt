@@ -1,6 +1,6 @@
 use Rattle.std.proofs.Common.{ℕ, Some, None, sym, ap, subst, ◌∙◌}
 use Rattle.nesl_types.specs.declared.bindings.Top.{Top}
-use Rattle.nesl_types_bank.specs.Term.{Term}
+use Rattle.nesl_types_shared.specs.Term.{Term}
 use Rattle.nesl_infer_names.specs.Names.{as_variable}
 use Rattle.nesl_infer_rules.specs.Contexts.{IsClosed}
 use Rattle.nesl_infer_rules.specs.World.{TypedNames, meanings_in}

@@ -1,6 +1,6 @@
 use Rattle.std.proofs.Common.{◌≡◌, ℕ, List, sym, ap, subst, ◌∙◌}
-use Rattle.nesl_types_bank.specs.Term.{Term}
-use Rattle.nesl_types_bank.specs.Substitution.{substitute}
+use Rattle.nesl_types_shared.specs.Term.{Term}
+use Rattle.nesl_types_shared.specs.Substitution.{substitute}
 use Rattle.nesl_infer_names.specs.Names.{datatype_in}
 use Rattle.nesl_syntax_tree.specs.declared.tree.TypeExp.{TypeExp}
 use Rattle.nesl_syntax_tree.specs.declared.tree.TypeNode.{TypeNode}

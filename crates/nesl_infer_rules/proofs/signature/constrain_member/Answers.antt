@@ -1,8 +1,8 @@
 use Rattle.std.proofs.Common.{◌≡◌, ◌≤◌, ℕ, List, ap, subst, ◌∙◌}
 use Rattle.nesl_types.specs.declared.classes.Class.{Class}
-use Rattle.nesl_types_bank.specs.Term.{Term, nodes}
+use Rattle.nesl_types_shared.specs.Term.{Term, nodes}
 use Rattle.nesl_types.specs.Class.{IsIn}
-use Rattle.nesl_types_bank.specs.Substitution.{substitute}
+use Rattle.nesl_types_shared.specs.Substitution.{substitute}
 use Rattle.nesl_unify.specs.Flat.{flat_type}
 use Rattle.nesl_infer_names.specs.Names.{datatype_in}
 use Rattle.nesl_infer_rules.specs.Signatures.{put_in}

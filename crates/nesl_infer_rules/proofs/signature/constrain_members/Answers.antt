@@ -2,7 +2,7 @@ use Rattle.std.proofs.Common.{◌≡◌, ℕ, List, take, map, sym, subst, arith
 use Rattle.std.specs.Prelude.{All}
 use Rattle.std.proofs.lemmas.Grind.{common_steps}
 use Rattle.nesl_types.specs.declared.classes.Class.{Class}
-use Rattle.nesl_types_bank.specs.Term.{Term}
+use Rattle.nesl_types_shared.specs.Term.{Term}
 use Rattle.nesl_infer_names.specs.Names.{datatype_in}
 use Rattle.nesl_syntax_tree.specs.declared.tree.Member.{Member}
 use Rattle.nesl_syntax_tree.specs.Trees.{MemberTree}

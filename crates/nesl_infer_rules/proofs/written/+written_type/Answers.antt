@@ -1,14 +1,14 @@
 use Rattle.std.proofs.Common.{◌≡◌, ◌∙◌, Some, sym, ap, subst, refl}
 use Rattle.std.proofs.Common.{◌<◌, ℕ, Option, length}
 use Rattle.std.specs.Prelude.{option_map, MatchOption}
-use Rattle.nesl_types_bank.specs.Types.{type_at}
+use Rattle.nesl_types_shared.specs.Types.{type_at}
 use Rattle.nesl_syntax_tree.specs.declared.tree.TypeExp.{TypeExp}
 use Rattle.nesl_syntax_tree.specs.Views.{type_tree}
 use Rattle.nesl_infer_rules.specs.Typing.{IsWritten}
 use Rattle.nesl_infer_rules.proofs.WrittenPairs.{IsAt, pair_at}
 use Rattle.nesl_types.specs.declared.bindings.Top.{Top}
-use Rattle.nesl_types_bank.specs.Term.{Term, named}
-use Rattle.nesl_types_bank.specs.Numbering.{IsBelow}
+use Rattle.nesl_types_shared.specs.Term.{Term, named}
+use Rattle.nesl_types_shared.specs.Numbering.{IsBelow}
 use Rattle.nesl_syntax_tree.specs.declared.tree.TypeNode.{TypeNode}
 use Rattle.nesl_syntax_tree.specs.Views.{type_shape}
 use Rattle.nesl_infer_names.specs.Names.{datatype_in, as_datatype}

@@ -1,6 +1,6 @@
 use Rattle.std.proofs.Common.{◌≡◌, Err, subst}
-use Rattle.nesl_session_step.specs.State.{State, Log}
-use Rattle.nesl_session_step.specs.Solo.{Replays}
+use Rattle.nesl_session_meaning.specs.State.{State, Log}
+use Rattle.nesl_session_meaning.specs.Solo.{Replays}
 use Rattle.nesl_line.specs.Guest.{stranger, away}
 use Rattle.nesl_line.proofs.Visits.{seated_first, turned_away, names_none, names_place}
 use Rattle.nesl_line.proofs.guest.greet.Goals as goal

@@ -3,9 +3,9 @@ use Rattle.std.specs.Prelude.{IfOk}
 use Rattle.nesl_syntax_tree.specs.declared.tree.Form.{Form}
 use Rattle.nesl_syntax_tree.specs.declared.tree.Form.TheVariants as forms
 use Rattle.nesl_syntax_tree.specs.Views.{line_of}
-use Rattle.nesl_session_step.specs.declared.limits.Limits.{Limits}
-use Rattle.nesl_session_step.specs.State.{State}
-use Rattle.nesl_session_step.specs.Finding.{FindsForm}
+use Rattle.nesl_session_meaning.specs.declared.limits.Limits.{Limits}
+use Rattle.nesl_session_meaning.specs.State.{State}
+use Rattle.nesl_session_meaning.specs.Finding.{FindsForm}
 use Rattle.nesl_session_forms.specs.Found.{finding_of, CanCharge}
 use Rattle.nesl_session_forms.specs.Forms.{with_names}
 use Rattle.nesl_session_forms.proofs.Verdicts.{found_answers}

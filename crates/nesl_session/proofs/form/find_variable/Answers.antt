@@ -5,7 +5,7 @@ use Rattle.nesl_eval_meaning.specs.Names.{Name, outside}
 use Rattle.nesl_eval_meaning.specs.Out.{within}
 use Rattle.nesl_eval_meaning.specs.Outcome.{out}
 use Rattle.nesl_session_bindings.specs.Known.{environment}
-use Rattle.nesl_session_step.specs.Finding.{Finding, budget, FindsOutcome, FindsVariable}
+use Rattle.nesl_session_meaning.specs.Finding.{Finding, budget, FindsOutcome, FindsVariable}
 use Rattle.nesl_session_forms.specs.Found.{finding_of}
 use Rattle.nesl_session_forms.specs.Forms.{IsVariable}
 use Rattle.nesl_session_forms.proofs.Verdicts.{stopped_finds, stopped_charges, found_answers}

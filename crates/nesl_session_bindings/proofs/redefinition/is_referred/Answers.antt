@@ -1,7 +1,7 @@
 use Rattle.std.proofs.Common.{◌≡◌, ◌∙◌, List, [], drop, sym, ap, arith}
 use Rattle.std.specs.List.{list_any}
 use Rattle.std.proofs.lemmas.Grind.{common_steps}
-use Rattle.nesl_eval_env.specs.Stored.{Entry}
+use Rattle.nesl_eval_top_level.specs.Stored.{Entry}
 use Rattle.nesl_session_bindings.proofs.Walks.{other_refers, any_step, any_here, referred_is}
 use Rattle.nesl_session_bindings.proofs.redefinition.is_referred.Goals as goal
 

@@ -6,7 +6,7 @@ use Rattle.nesl_session_bindings.specs.Known.{known, datatype_count}
 use Rattle.nesl_session_bindings.specs.Meanings.{datatype}
 use Rattle.nesl_session_bindings.specs.Redefinition.{a_datatype}
 use Rattle.nesl_session_bindings.specs.Stored.{bindings_of}
-use Rattle.nesl_session_step.specs.Finding.{bound_or_refused, FindsDefinition}
+use Rattle.nesl_session_meaning.specs.Finding.{bound_or_refused, FindsDefinition}
 use Rattle.nesl_session_forms.proofs.Verdicts.{untyped_stops, against_stops, many_stops}
 use Rattle.nesl_session_forms.proofs.forms.datatype_content.Goals as goal
 

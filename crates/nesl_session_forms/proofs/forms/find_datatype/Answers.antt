@@ -5,7 +5,7 @@ use Rattle.nesl_eval_meaning.specs.Names.{Name}
 use Rattle.nesl_session_bindings.specs.Stored.{bindings_of}
 use Rattle.nesl_session_bindings.specs.Meanings.{datatype, elements_of}
 use Rattle.nesl_session_bindings.specs.Known.{datatype_count, put_binding}
-use Rattle.nesl_session_step.specs.Finding.{FindsForm}
+use Rattle.nesl_session_meaning.specs.Finding.{FindsForm}
 use Rattle.nesl_session_forms.specs.Forms.{IsDatatype}
 use Rattle.nesl_session_forms.proofs.Verdicts.{datatype_finds, room, stopped_finds, stopped_charges}
 use Rattle.nesl_session_forms.proofs.forms.find_datatype.Goals as goal

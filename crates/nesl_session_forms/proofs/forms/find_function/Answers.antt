@@ -6,7 +6,7 @@ use Rattle.nesl_session_bindings.specs.Stored.{bindings_of}
 use Rattle.nesl_builtins.specs.FunctionTypes.{function_type}
 use Rattle.nesl_session_bindings.specs.Meanings.{function, elements_of}
 use Rattle.nesl_session_bindings.specs.Known.{put_binding}
-use Rattle.nesl_session_step.specs.Finding.{FindsForm}
+use Rattle.nesl_session_meaning.specs.Finding.{FindsForm}
 use Rattle.nesl_session_forms.specs.Forms.{IsFunction}
 use Rattle.nesl_session_forms.proofs.Verdicts.{function_finds, room, stopped_finds, stopped_charges}
 use Rattle.nesl_session_forms.proofs.forms.find_function.Goals as goal

@@ -4,7 +4,7 @@ use Rattle.nesl_infer.specs.Verdicts.{IsTypeBy, typed}
 use Rattle.nesl_session_bindings.specs.Known.{known}
 use Rattle.nesl_session_bindings.specs.Stored.{bindings_of}
 use Rattle.nesl_reply.specs.Replies as replies
-use Rattle.nesl_session_step.specs.Finding.{FindsReport}
+use Rattle.nesl_session_meaning.specs.Finding.{FindsReport}
 use Rattle.nesl_session_forms.proofs.Verdicts.{Judged, untyped_stops, stopped_finds, stopped_charges, found_answers}
 use Rattle.nesl_session_forms.proofs.forms.find_type.Goals as goal
 

@@ -1,5 +1,5 @@
 use Rattle.std.proofs.Common.{[]}
-use Rattle.nesl_types_bank.specs.Term.{Term}
+use Rattle.nesl_types_shared.specs.Term.{Term}
 use Rattle.nesl_syntax_tree.specs.Views.{tree_of}
 use Rattle.nesl_infer.specs.Verdicts.{IsTypeBy}
 use Rattle.nesl_eval_meaning.specs.Names.{outside}
@@ -8,8 +8,8 @@ use Rattle.nesl_eval_meaning.specs.Outcome.{out}
 use Rattle.nesl_session_bindings.specs.Known.{known, environment}
 use Rattle.nesl_session_bindings.specs.Redefinition.{a_variable}
 use Rattle.nesl_session_bindings.specs.Stored.{bindings_of}
-use Rattle.nesl_session_step.specs.State.{State}
-use Rattle.nesl_session_step.specs.Finding.{Finding, budget, FindsOutcome, IfFree}
+use Rattle.nesl_session_meaning.specs.State.{State}
+use Rattle.nesl_session_meaning.specs.Finding.{Finding, budget, FindsOutcome, IfFree}
 use Rattle.nesl_session_forms.proofs.Verdicts.{untyped_stops, against_stops}
 use Rattle.nesl_session_forms.proofs.forms.variable_type.Goals as goal
 

@@ -7,7 +7,7 @@ use Rattle.nesl_lex.specs.Faults.{OnLexical}
 use Rattle.nesl_syntax_tree.specs.Trees.{FormTree, form_height}
 use Rattle.nesl_syntax_tree.specs.Lines.{IsForm}
 use Rattle.nesl_syntax_tree.specs.Views.{line_of}
-use Rattle.nesl_session_step.specs.Sense.{HasSense, no_token, is_stuck, has_no_form, has_high_form, has_form, highest}
+use Rattle.nesl_session_meaning.specs.Sense.{HasSense, no_token, is_stuck, has_no_form, has_high_form, has_form, highest}
 use Rattle.nesl_session_forms.proofs.sense.sense_of.Goals as goal
 
 pub returns-in-Err-Lexical : goal.returns-in-Err-Lexical

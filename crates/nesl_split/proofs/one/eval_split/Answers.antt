@@ -5,8 +5,8 @@ use Rattle.std.proofs.Common.{sym, subst, []}
 use Rattle.nesl_syntax_tree.specs.Views.{tree_of}
 use Rattle.nesl_eval_code.specs.Run.{run}
 use Rattle.nesl_eval_ops.specs.View.{HasBodies}
-use Rattle.nesl_eval_env.specs.Stored.{environment, names_in}
-use Rattle.nesl_eval_env.specs.TopLevels.{table_in}
+use Rattle.nesl_eval_top_level.specs.Stored.{environment, names_in}
+use Rattle.nesl_eval_top_level.specs.TopLevels.{table_in}
 use Rattle.nesl_eval.proofs.Meant.{tells_meant}
 use Rattle.nesl_eval_halves.proofs.Crosses.{ops_sync}
 use Rattle.nesl_split.proofs.Lent.{code_sync, context_sync}

@@ -1,4 +1,4 @@
-use Rattle.nesl_types_bank.specs.Readings.{HasNoLinks}
+use Rattle.nesl_types_shared.specs.Readings.{HasNoLinks}
 use Rattle.nesl_tests_types.proofs.graphs.chain.Given as goal
 
 abbrev pub invariant-loop-place : goal.invariant-loop-place

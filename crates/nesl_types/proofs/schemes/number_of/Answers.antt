@@ -1,5 +1,5 @@
 use Rattle.std.proofs.Common.{◌∙◌}
-use Rattle.nesl_types_bank.proofs.Numbers.{number_of-place, number_of-absent}
+use Rattle.nesl_types_shared.proofs.Numbers.{number_of-place, number_of-absent}
 use Rattle.nesl_types.proofs.schemes.number_of.Goals as goal
 
 pub returns-in-Some : goal.returns-in-Some

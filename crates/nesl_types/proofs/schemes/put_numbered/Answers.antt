@@ -1,11 +1,11 @@
 use Rattle.std.proofs.Common.{◌≡◌, ◌<◌, ◌+◌, ◌-◌, ℕ, List, length, get_or, subst, sym, ap, ◌∙◌, arith}
 use Rattle.std.proofs.lemmas.List.{get_or_read}
-use Rattle.nesl_types_bank.specs.Term.{Term, variable}
-use Rattle.nesl_types_bank.specs.Substitution.{substitute}
-use Rattle.nesl_types_bank.specs.Numbering.{number_of}
-use Rattle.nesl_types_bank.specs.declared.shape.Shape.{Shape}
-use Rattle.nesl_types_bank.specs.Shapes.{shape_type}
-use Rattle.nesl_types_bank.specs.Types.{type_at, IsPut}
+use Rattle.nesl_types_shared.specs.Term.{Term, variable}
+use Rattle.nesl_types_shared.specs.Substitution.{substitute}
+use Rattle.nesl_types_shared.specs.Numbering.{number_of}
+use Rattle.nesl_types_shared.specs.declared.shape.Shape.{Shape}
+use Rattle.nesl_types_shared.specs.Shapes.{shape_type}
+use Rattle.nesl_types_shared.specs.Types.{type_at, IsPut}
 use Rattle.nesl_types.specs.Numbered.{numbered_shape}
 use Rattle.nesl_types.proofs.Numbered.{AreNumbered, numbered_push}
 use Rattle.nesl_types.proofs.schemes.put_numbered.Goals as goal

@@ -1,4 +1,4 @@
-use Rattle.nesl_types_bank.specs.Numbering.{number_of}
+use Rattle.nesl_types_shared.specs.Numbering.{number_of}
 use Rattle.nesl_types.proofs.Numbered.{AreNumbered}
 use Rattle.nesl_types.proofs.schemes.put_numbered.Given as goal
 

@@ -1,7 +1,7 @@
 use Rattle.std.proofs.Common.{◌++◌, length}
 use Rattle.nesl_types.specs.Texts.{type_text}
 use Rattle.nesl_types.specs.Texts.{name_at}
-use Rattle.nesl_types_bank.specs.Types.{type_at}
+use Rattle.nesl_types_shared.specs.Types.{type_at}
 use Rattle.nesl_types.proofs.Begun.{rest_after, below_after, less_after}
 use Rattle.nesl_types.proofs.texts.write_part.Goals as goal
 

@@ -1,6 +1,6 @@
 use Rattle.std.proofs.Common.{◌<◌, length, subst, sym}
 use Rattle.nesl_types.specs.Texts.{name_at}
-use Rattle.nesl_types_bank.specs.Types.{type_at}
+use Rattle.nesl_types_shared.specs.Types.{type_at}
 use Rattle.nesl_types.specs.Pieces.{IsWritten, IsPieceBelow}
 use Rattle.nesl_types.proofs.Begun.{type_written}
 use Rattle.nesl_types.proofs.texts.write_piece.Goals as goal

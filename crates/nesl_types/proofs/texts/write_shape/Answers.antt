@@ -1,8 +1,8 @@
 use Rattle.std.proofs.Common.{subst, sym, refl}
 use Rattle.std.specs.Prelude.{codes}
 use Rattle.nesl_types.specs.Texts.{variable_text, name_at}
-use Rattle.nesl_types_bank.specs.declared.shape.Shape.{Shape}
-use Rattle.nesl_types_bank.specs.declared.shape.Shape.TheVariants.{Int, Bool, Char, Var, Named}
+use Rattle.nesl_types_shared.specs.declared.shape.Shape.{Shape}
+use Rattle.nesl_types_shared.specs.declared.shape.Shape.TheVariants.{Int, Bool, Char, Var, Named}
 use Rattle.nesl_types.specs.Pieces.{IsBegun}
 use Rattle.nesl_types.proofs.Begun.{leaf_begun}
 use Rattle.nesl_types.proofs.texts.write_shape.Goals as goal

@@ -1,5 +1,5 @@
 use Rattle.std.proofs.Common.{subst}
-use Rattle.nesl_types_bank.specs.Term.{Term}
+use Rattle.nesl_types_shared.specs.Term.{Term}
 use Rattle.nesl_unify.specs.Facts.{IsInstanceNode}
 use Rattle.nesl_unify.proofs.Instances.{leaf_instance}
 use Rattle.nesl_unify.proofs.instance.own_node.Goals as goal

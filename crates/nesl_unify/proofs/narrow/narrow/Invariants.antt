@@ -1,8 +1,8 @@
 use Rattle.std.proofs.Common.{ℕ, ◌<◌, get_or}
 use Rattle.nesl_types.specs.declared.classes.Class.{Class}
 use Rattle.nesl_types.specs.Class.{IsIn, class_at}
-use Rattle.nesl_types_bank.specs.Term.{Term}
-use Rattle.nesl_types_bank.specs.Substitution.{substitute}
+use Rattle.nesl_types_shared.specs.Term.{Term}
+use Rattle.nesl_types_shared.specs.Substitution.{substitute}
 use Rattle.nesl_unify.specs.declared.narrow.Member.{Member}
 use Rattle.nesl_unify.specs.Members.{IsInAll}
 use Rattle.nesl_unify.specs.Solves.{IsReading}

@@ -1,6 +1,6 @@
 use Rattle.std.proofs.Common.{ℕ, ◌<◌, get_or}
 use Rattle.nesl_unify.specs.declared.equation.Equation.{Equation}
-use Rattle.nesl_types_bank.specs.Numbering.{IsBelow}
+use Rattle.nesl_types_shared.specs.Numbering.{IsBelow}
 use Rattle.nesl_unify.proofs.solve.are_below.Given as goal
 
 abbrev pub invariant-loop-equation : goal.invariant-loop-equation

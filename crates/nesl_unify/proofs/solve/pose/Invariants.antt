@@ -1,6 +1,6 @@
 use Rattle.std.proofs.Common.{ℕ}
 use Rattle.std.specs.Prelude.{◌↔◌}
-use Rattle.nesl_types_bank.specs.Term.{Term}
+use Rattle.nesl_types_shared.specs.Term.{Term}
 use Rattle.nesl_unify.specs.Facts.{AreFacts, AreTrue}
 use Rattle.nesl_unify.specs.Equations.{HasOwnPlaces}
 use Rattle.nesl_unify.proofs.Equations.{SolvesFirst}

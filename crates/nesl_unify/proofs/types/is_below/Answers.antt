@@ -1,7 +1,7 @@
 use Rattle.std.proofs.Common.{◌≡◌, ◌<◌, length, subst, arith}
-use Rattle.nesl_types_bank.specs.Term.{variable}
-use Rattle.nesl_types_bank.specs.Numbering.{IsBelow}
-use Rattle.nesl_types_bank.specs.Types.{type_at}
+use Rattle.nesl_types_shared.specs.Term.{variable}
+use Rattle.nesl_types_shared.specs.Numbering.{IsBelow}
+use Rattle.nesl_types_shared.specs.Types.{type_at}
 use Rattle.nesl_unify.proofs.Below.{part_below}
 use Rattle.nesl_unify.proofs.types.is_below.Goals as goal
 

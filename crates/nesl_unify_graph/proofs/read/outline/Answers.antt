@@ -1,6 +1,6 @@
 use Rattle.std.proofs.Common.{◌≡◌, ◌<◌, ◌≤◌, List, [], ◌∷◌, ◌++◌, length, ap, subst, ◌∙◌, arith}
 use Rattle.std.proofs.lemmas.List.{get_or_read}
-use Rattle.nesl_types_bank.specs.declared.shape.Shape.{Shape}
+use Rattle.nesl_types_shared.specs.declared.shape.Shape.{Shape}
 use Rattle.nesl_unify_graph.specs.declared.form.Item.{Item}
 use Rattle.nesl_unify_graph.specs.declared.form.Item.TheVariants.{At}
 use Rattle.nesl_unify_graph.specs.Forms.{IsForm}

@@ -1,10 +1,10 @@
 use Rattle.std.proofs.Common.{◌≡◌, ◌<◌, ◌+◌, ◌-◌, ℕ, List, length, get_or, ap, subst, ◌∙◌, arith}
 use Rattle.std.proofs.lemmas.List.{get_or_read}
 use Rattle.std.proofs.lemmas.Result.{IfOk-weaker}
-use Rattle.nesl_types_bank.specs.Shapes.{shape_type, shape_at}
-use Rattle.nesl_types_bank.specs.Types.{type_at, IsPut}
-use Rattle.nesl_types_bank.specs.declared.shape.Shape.{Shape}
-use Rattle.nesl_types_bank.specs.Term.{Term}
+use Rattle.nesl_types_shared.specs.Shapes.{shape_type, shape_at}
+use Rattle.nesl_types_shared.specs.Types.{type_at, IsPut}
+use Rattle.nesl_types_shared.specs.declared.shape.Shape.{Shape}
+use Rattle.nesl_types_shared.specs.Term.{Term}
 use Rattle.nesl_unify_graph.specs.Outlines.{placed_shape, FitsOutline}
 use Rattle.nesl_unify_graph.proofs.Outlines.{placing_on, placing_last}
 use Rattle.nesl_unify_graph.proofs.read.outline_type.Goals as goal

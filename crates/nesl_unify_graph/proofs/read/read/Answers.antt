@@ -1,6 +1,6 @@
 use Rattle.std.proofs.Common.{◌≡◌, ℕ, ◌≤◌, subst, sym}
 use Rattle.std.proofs.lemmas.Result.{IfOk-weaker}
-use Rattle.nesl_types_bank.specs.Term.{Term, int, nodes}
+use Rattle.nesl_types_shared.specs.Term.{Term, int, nodes}
 use Rattle.nesl_unify_graph.specs.Readings.{Reads}
 use Rattle.nesl_unify_graph.specs.Forms.{IsLarger}
 use Rattle.nesl_unify_graph.specs.Outlines.{FitsOutline, IsOutlineOf}

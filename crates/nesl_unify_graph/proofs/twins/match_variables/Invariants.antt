@@ -1,4 +1,4 @@
-use Rattle.nesl_types_bank.specs.Term.{Term}
+use Rattle.nesl_types_shared.specs.Term.{Term}
 use Rattle.nesl_unify_graph.specs.Steps.{HaveWhole}
 use Rattle.nesl_unify_graph.proofs.Matches.{AreMatched}
 use Rattle.nesl_unify_graph.proofs.twins.match_variables.Given as goal

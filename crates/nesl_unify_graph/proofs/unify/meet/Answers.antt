@@ -1,5 +1,5 @@
 use Rattle.std.proofs.Common.{sym, subst, arith}
-use Rattle.nesl_types_bank.specs.Term.{Term}
+use Rattle.nesl_types_shared.specs.Term.{Term}
 use Rattle.nesl_unify_graph.specs.Graph.{IsRoot, node_at}
 use Rattle.nesl_unify_graph.specs.Steps.{pairs_of}
 use Rattle.nesl_unify_graph.proofs.Tables.{Describes}

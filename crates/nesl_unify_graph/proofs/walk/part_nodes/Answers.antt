@@ -1,6 +1,6 @@
 use Rattle.std.proofs.Common.{length, ap, ℕ, subst, arith}
 use Rattle.std.proofs.lemmas.List.{length_push}
-use Rattle.nesl_types_bank.specs.Types.{type_at}
+use Rattle.nesl_types_shared.specs.Types.{type_at}
 use Rattle.nesl_unify_graph.specs.Instances.{parts_in}
 use Rattle.nesl_unify_graph.specs.Sizes.{IsLeafSize}
 use Rattle.nesl_unify_graph.proofs.Sizes.{leaf_size_at, leaf_sizes_more}

@@ -1,5 +1,5 @@
 use Rattle.std.proofs.Common.{◌≡◌, length}
-use Rattle.nesl_types_bank.specs.Types.{type_at}
+use Rattle.nesl_types_shared.specs.Types.{type_at}
 use Rattle.nesl_unify_graph.specs.Instances.{parts_in}
 use Rattle.nesl_unify_graph.specs.Sizes.{AreLeafSizes}
 use Rattle.nesl_unify_graph.proofs.walk.part_nodes.Given as goal

@@ -1,7 +1,7 @@
 use Rattle.std.proofs.Common.{◌≡◌, ◌∙◌, ap, sym, subst, arith, [], ◌∷◌, ◌++◌, append_assoc}
 use Rattle.std.specs.List.{AllByRecursion}
 use Rattle.nesl_eval_code.specs.Means.{names_of, place_of}
-use Rattle.nesl_eval_env.specs.TopLevels.{table_in}
+use Rattle.nesl_eval_top_level.specs.TopLevels.{table_in}
 use Rattle.nesl_eval.specs.Reached.{own_place, parts_of, Marks}
 use Rattle.nesl_eval.proofs.Reaching.{marks_kept, all_both, all_kept, grows_none, grows_then, names_none, names_place, last_part, all_parts, one_more, parts-Sequence, parts-Let, parts-Each, parts-FilteredEach}
 use Rattle.nesl_eval.proofs.reached.Reached.+marking.Goals as goal

@@ -1,5 +1,5 @@
 use Rattle.std.proofs.Common.{◌≡◌, ◌∙◌, sym, ap, rules, arith, length-set, ◌<◌, length}
-use Rattle.nesl_session_step.specs.State.{recorded_lines}
+use Rattle.nesl_session_meaning.specs.State.{recorded_lines}
 use Rattle.nesl_house.specs.declared.slots.Slot.TheVariants.{Home}
 use Rattle.nesl_house.specs.Register.{Seat}
 use Rattle.nesl_house.specs.Slots.{counted}

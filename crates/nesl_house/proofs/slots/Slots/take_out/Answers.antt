@@ -1,6 +1,6 @@
 use Rattle.std.proofs.Common.{◌≡◌, ◌∙◌, sym, ap, Some, arith, length-set, ◌<◌, length}
 use Rattle.std.proofs.lemmas.Option.{slice_get-get_or}
-use Rattle.nesl_session_step.specs.State.{recorded_lines}
+use Rattle.nesl_session_meaning.specs.State.{recorded_lines}
 use Rattle.nesl_house.specs.declared.slots.Slot.TheVariants.{Home, Away}
 use Rattle.nesl_house.specs.Slots.{counted}
 use Rattle.nesl_house.proofs.Boards.{same_count, small_set, in_place_set}

@@ -1,5 +1,5 @@
 use Rattle.std.proofs.Common.{◌≡◌, ◌∙◌, sym, ap, Some, rules}
-use Rattle.nesl_session_step.specs.State.{Log}
+use Rattle.nesl_session_meaning.specs.State.{Log}
 use Rattle.nesl_house.specs.Register.{Leased, Register}
 use Rattle.nesl_house.proofs.Boards.{lent_place}
 use Rattle.nesl_house.proofs.table.Table.take.Goals as goal

@@ -1,5 +1,5 @@
 use Rattle.std.proofs.Common.{[], map}
-use Rattle.nesl_types_bank.specs.Substitution.{substitute}
+use Rattle.nesl_types_shared.specs.Substitution.{substitute}
 use Rattle.nesl_infer_rules.specs.Instances.{type_in}
 use Rattle.nesl_infer_rules.proofs.Applied.{closed-kept}
 use Rattle.nesl_infer_rules.proofs.Steps.{adds_is}

@@ -1,5 +1,5 @@
 use Rattle.std.proofs.Common.{◌≡◌, true, refl, rules}
-use Rattle.nesl_types_bank.specs.Substitution.{substitute}
+use Rattle.nesl_types_shared.specs.Substitution.{substitute}
 use Rattle.nesl_unify.specs.Flat.{flat_type}
 use Rattle.nesl_infer_rules.proofs.Steps.{adds_equation}
 use Rattle.nesl_infer_rules.proofs.state.State.equate_flat.Goals as goal

@@ -1,5 +1,5 @@
 use Rattle.std.proofs.Common.{◌≡◌, true, map, slice_index, refl, rules}
-use Rattle.nesl_types_bank.specs.Substitution.{substitute}
+use Rattle.nesl_types_shared.specs.Substitution.{substitute}
 use Rattle.nesl_infer_rules.specs.Instances.{type_in}
 use Rattle.nesl_infer_rules.proofs.Steps.{adds_equation, adds_is}
 use Rattle.nesl_infer_rules.proofs.Instances.{shared_is}

@@ -1,5 +1,5 @@
 use Rattle.std.proofs.Common.{◌++◌, ◌∙◌, ◌≤◌, ℕ, List, ap, refl, subst, sym, length}
-use Rattle.nesl_session_step.specs.Step.{longest}
+use Rattle.nesl_session_meaning.specs.Step.{longest}
 use Rattle.nesl_prompt.specs.Conversation.{gathers, says, wants}
 use Rattle.nesl_prompt.proofs.Conversations.{begun, responds_to}
 use Rattle.nesl_prompt.proofs.desk.Desk.take.Goals as goal

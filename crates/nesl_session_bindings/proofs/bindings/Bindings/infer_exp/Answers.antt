@@ -3,7 +3,7 @@ use Rattle.nesl_syntax_tree.specs.Views.{tree_of}
 use Rattle.nesl_infer_names.specs.Names.{Names, OwnName}
 use Rattle.nesl_infer.specs.Verdicts.{AnswersVerdict, IsTypeBy}
 use Rattle.nesl_infer_rules.specs.Contexts.{AreClosed}
-use Rattle.nesl_eval_env.specs.Stored.{Entry, top_of}
+use Rattle.nesl_eval_top_level.specs.Stored.{Entry, top_of}
 use Rattle.nesl_session_bindings.proofs.Readers.{known_there}
 use Rattle.nesl_session_bindings.proofs.bindings.Bindings.infer_exp.Goals as goal
 

@@ -4,7 +4,7 @@ use Rattle.nesl_builtins.specs.FunctionTypes.{function_type}
 use Rattle.nesl_infer_names.specs.Names.{Names, OwnName}
 use Rattle.nesl_infer.specs.Verdicts.{AnswersVerdict, IsFunctionBy}
 use Rattle.nesl_infer_rules.specs.Contexts.{AreClosed}
-use Rattle.nesl_eval_env.specs.Stored.{Entry, top_of}
+use Rattle.nesl_eval_top_level.specs.Stored.{Entry, top_of}
 use Rattle.nesl_session_bindings.proofs.Readers.{known_there}
 use Rattle.nesl_session_bindings.proofs.bindings.Bindings.infer_function.Goals as goal
 

@@ -1,5 +1,5 @@
 use Rattle.std.proofs.Common.{◌∙◌, sym, ap, List}
-use Rattle.nesl_eval_env.specs.Stored.{Entry}
+use Rattle.nesl_eval_top_level.specs.Stored.{Entry}
 use Rattle.nesl_session_bindings.specs.Known.{datatype_count}
 use Rattle.nesl_session_bindings.specs.Stored.{bindings_of}
 use Rattle.nesl_session_bindings.proofs.Entries.{count_is}

@@ -1,7 +1,7 @@
 use Rattle.std.proofs.Common.{ℕ, ◌+◌, ◌<◌, ◌^◌, ◌∙◌, ap, arith}
 use Rattle.nesl_types.specs.declared.bindings.Top.TheVariants as kind
-use Rattle.nesl_eval_env.specs.declared.env.Payload.TheVariants as payload
-use Rattle.nesl_eval_env.specs.Stored.{top_of}
+use Rattle.nesl_eval_top_level.specs.declared.env.Payload.TheVariants as payload
+use Rattle.nesl_eval_top_level.specs.Stored.{top_of}
 use Rattle.nesl_session_bindings.specs.Known.{datatype_count, put_binding}
 use Rattle.nesl_session_bindings.specs.Meanings.{datatype}
 use Rattle.nesl_session_bindings.specs.Stored.{bindings_of}

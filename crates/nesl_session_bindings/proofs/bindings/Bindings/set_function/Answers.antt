@@ -2,8 +2,8 @@ use Rattle.std.proofs.Common.{◌+◌, ◌<◌, ◌^◌, arith}
 use Rattle.nesl_types.specs.declared.bindings.Top.TheVariants as kind
 use Rattle.nesl_syntax_tree.specs.Views.{pattern_tree, tree_of}
 use Rattle.nesl_builtins.specs.FunctionTypes.{function_type}
-use Rattle.nesl_eval_env.specs.declared.env.Payload.TheVariants as payload
-use Rattle.nesl_eval_env.specs.Stored.{top_of}
+use Rattle.nesl_eval_top_level.specs.declared.env.Payload.TheVariants as payload
+use Rattle.nesl_eval_top_level.specs.Stored.{top_of}
 use Rattle.nesl_session_bindings.specs.Nodes.{expression_nodes}
 use Rattle.nesl_session_bindings.specs.Meanings.{function}
 use Rattle.nesl_session_bindings.specs.Stored.{bindings_of}

@@ -1,8 +1,8 @@
 use Rattle.std.proofs.Common.{◌+◌, ◌<◌, ◌^◌, arith}
 use Rattle.nesl_types.specs.declared.bindings.Top.TheVariants as kind
 use Rattle.nesl_values.specs.View.{tree_of}
-use Rattle.nesl_eval_env.specs.declared.env.Payload.TheVariants as payload
-use Rattle.nesl_eval_env.specs.Stored.{top_of}
+use Rattle.nesl_eval_top_level.specs.declared.env.Payload.TheVariants as payload
+use Rattle.nesl_eval_top_level.specs.Stored.{top_of}
 use Rattle.nesl_session_bindings.specs.Meanings.{variable}
 use Rattle.nesl_session_bindings.proofs.Kept.{set_is, few_enough, variable_set}
 use Rattle.nesl_session_bindings.proofs.bindings.Bindings.set_variable.Goals as goal

@@ -1,4 +1,4 @@
-use Rattle.nesl_eval_env.specs.Stored.{top_of}
+use Rattle.nesl_eval_top_level.specs.Stored.{top_of}
 use Rattle.nesl_session_bindings.proofs.Readers.{never_stuck}
 use Rattle.nesl_session_bindings.proofs.bindings.Bindings.typed_never_stuck.Goals as goal
 

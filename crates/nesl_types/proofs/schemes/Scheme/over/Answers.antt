@@ -1,10 +1,10 @@
 use Rattle.std.proofs.Common.{◌≡◌, ℕ, List, ◌++◌, length, ap, sym, ◌∙◌, map}
 use Rattle.std.proofs.lemmas.List.{length-map}
-use Rattle.nesl_types_bank.specs.Term.{variable}
+use Rattle.nesl_types_shared.specs.Term.{variable}
 use Rattle.nesl_types.specs.Class.{class_at}
-use Rattle.nesl_types_bank.specs.Substitution.{substitute}
-use Rattle.nesl_types_bank.specs.Numbering.{variables, first_occurrences, numbers_below, number_of}
-use Rattle.nesl_types_bank.proofs.Numbers.{noted-both, numbered-renamed}
+use Rattle.nesl_types_shared.specs.Substitution.{substitute}
+use Rattle.nesl_types_shared.specs.Numbering.{variables, first_occurrences, numbers_below, number_of}
+use Rattle.nesl_types_shared.proofs.Numbers.{noted-both, numbered-renamed}
 use Rattle.nesl_types.proofs.schemes.Scheme.over.Goals as goal
 
 pub invariant_of-result : goal.invariant_of-result

@@ -1,5 +1,5 @@
 use Rattle.std.proofs.Common.{length}
-use Rattle.nesl_types_bank.proofs.Numbers.{numbered-below}
+use Rattle.nesl_types_shared.proofs.Numbers.{numbered-below}
 use Rattle.nesl_types.proofs.schemes.Scheme.variables_have_classes.Goals as goal
 
 pub returns : goal.returns

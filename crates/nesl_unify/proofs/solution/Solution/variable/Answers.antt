@@ -2,8 +2,8 @@ use Rattle.std.proofs.Common.{◌≡◌, ◌<◌, ◌≤◌, List, length, sym, 
 use Rattle.std.proofs.Math.Logic.{∥∥₁_elim}
 use base.Stored.{Coded-set}
 use Rattle.std.proofs.lemmas.Result.{IfOk-weaker}
-use Rattle.nesl_types_bank.specs.Term.{Term, variable, nodes}
-use Rattle.nesl_types_bank.specs.Codes.{term_code}
+use Rattle.nesl_types_shared.specs.Term.{Term, variable, nodes}
+use Rattle.nesl_types_shared.specs.Codes.{term_code}
 use Rattle.nesl_unify_graph.specs.declared.node.Node.{Node}
 use Rattle.nesl_unify_graph.specs.Readings.{Reads}
 use Rattle.nesl_unify.proofs.Solutions.{type_of_variable, type_below, type_past, read_is}

@@ -1,7 +1,7 @@
 use Rattle.std.proofs.Common.{◌∙◌, ap, length}
 use Rattle.nesl_unify_graph.specs.Graph.{node_type}
 use Rattle.nesl_unify.specs.declared.fact.Fact.{Fact}
-use Rattle.nesl_types_bank.specs.Substitution.{substitute}
+use Rattle.nesl_types_shared.specs.Substitution.{substitute}
 use Rattle.nesl_unify.specs.Flat.{flat_type}
 use Rattle.nesl_unify.proofs.Facts.{true_push, kept_none, flat_same}
 use Rattle.nesl_unify.proofs.system.System.equate_flat.Goals as goal

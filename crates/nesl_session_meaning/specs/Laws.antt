@@ -1,0 +1,41 @@
+-- Laws of a session.
+use Rattle.std.specs.Prelude.{◌≡◌, ◌++◌, ◌+◌, ℕ, List, if◌then◌else◌}
+use Rattle.nesl_session_meaning.specs.declared.limits.Limits.{Limits}
+use Rattle.nesl_session_meaning.specs.State.{State, Log, recorded_lines}
+use Rattle.nesl_session_meaning.specs.Response.{Reply}
+use Rattle.nesl_session_meaning.specs.Step.{Step}
+use Rattle.nesl_session_meaning.specs.Solo.{Replays, SessionAnswers, Responds}
+
+-- in one state a line has one answer, and leaves one state
+abbrev pub OneStep : Type 0
+OneStep =
+    (limits : Limits) (s t u : State) (line : List ℕ) (q r : Reply)
+    → Step limits s line q t → Step limits s line r u → (q ≡ r) × (t ≡ u)
+
+-- what a session stored has one replay: a session has one state
+abbrev pub OneState : Type 0
+OneState = (log : Log) (s t : State) → Replays log s → Replays log t → s ≡ t
+
+-- alone, a session answers the same lines by the same replies, and becomes the same session
+abbrev pub OneRun : Type 0
+OneRun =
+    (old new other : Log) (lines : List (List ℕ)) (replies others : List Reply)
+    → SessionAnswers old lines replies new → SessionAnswers old lines others other → (replies ≡ others) × (new ≡ other)
+
+-- told more, a session goes on from what it has become
+abbrev pub GoesOn : Type 0
+GoesOn =
+    (old mid new : Log) (lines more : List (List ℕ)) (replies others : List Reply)
+    → SessionAnswers old lines replies mid → SessionAnswers mid more others new
+    → SessionAnswers old (lines ++ more) (replies ++ others) new
+
+-- a line that is recorded is one told line more, a reset too; any other is none
+abbrev pub RecordedLinesGrow : Type 0
+RecordedLinesGrow =
+    (old new : Log) (line : List ℕ) (reply : Reply)
+    → Responds old line reply new → recorded_lines new ≡ recorded_lines old + (if reply.recorded then 1 else 0)
+
+-- a line changes no limit
+abbrev pub LimitsStay : Type 0
+LimitsStay =
+    (old new : Log) (line : List ℕ) (reply : Reply) → Responds old line reply new → new.limits ≡ old.limits

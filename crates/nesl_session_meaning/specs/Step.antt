@@ -1,0 +1,90 @@
+-- One line of a session: what is found, what is answered, and what changes.
+use Rattle.std.specs.Prelude.{◌≡◌, ℕ, ◌+◌, ◌-◌, ◌^◌, ◌==◌, List, [], ◌∷◌, ◌++◌, Bool, false, true, ◌||◌}
+use Rattle.std.specs.Prelude.{Option, Some, None}
+use Rattle.std.specs.Prelude.{length, take, sum_by, nat_lt, nat_le, if◌then◌else◌, codes}
+use Rattle.std.specs.Str.{bytes_eq}
+use Rattle.std.specs.Bool.{MatchBool}
+use Rattle.nesl_reply.specs.declared.fault.Fault.TheVariants as faults
+use Rattle.nesl_reply.specs.Replies as replies
+use Rattle.nesl_session_meaning.specs.declared.limits.Limits.{Limits}
+use Rattle.nesl_session_bindings.specs.Meanings.{Binding}
+use Rattle.nesl_session_meaning.specs.State.{State, opening}
+use Rattle.nesl_session_bindings.specs.Known.{put_binding}
+use Rattle.nesl_session_meaning.specs.Sense.{Sense, HasSense}
+use Rattle.nesl_session_meaning.specs.Finding.{Finding, unread, reset, part, refused, answered, FindsSense}
+use Rattle.nesl_session_meaning.specs.Response.{Reply, fault_reply, plain_reply}
+
+-- a reset is these six bytes, and no others
+abbrev pub is_reset : List ℕ → Bool
+is_reset line = bytes_eq line (codes ":reset")
+
+-- the most lines that a session may be told, resets included, where one is reset
+abbrev pub most_recorded : ℕ
+most_recorded = 2 ^ 56
+
+abbrev pub recorded_by_reset : State → ℕ
+recorded_by_reset s = s.cleared + length s.transcript + 1
+
+-- the transcript has no room for the line
+abbrev pub is_full : Limits → State → List ℕ → Bool
+is_full limits s line =
+    nat_le limits.transcript_lines (length s.transcript)
+    || nat_lt limits.transcript_bytes (sum_by length s.transcript + length line)
+
+-- the most bytes of a form, the parts that came before included
+abbrev pub longest : ℕ
+longest = 65536
+
+-- a line is part of a form that goes on where its last byte is `\`
+abbrev pub is_part : List ℕ → Bool
+is_part [] = false
+is_part (b ∷ []) = b == 92
+is_part (b ∷ c ∷ bs) = is_part (c ∷ bs)
+
+-- the text of the parts with this one, which has a blank in place of its last byte
+abbrev pub with_part : State → List ℕ → List ℕ
+with_part s line = s.pending ++ (take (length line - 1) line ++ codes " ")
+
+-- What is found of a line: a reset is looked for first; then the first check that fails is found, or what the sense of
+-- the text comes to, which is the parts before it and the line. A line that fails before it is read has no need to have
+-- any sense.
+unfoldable pub Finds : Limits → State → List ℕ → Finding → Type 0
+Finds limits s line finding =
+    MatchBool (is_reset line)
+    (finding ≡ (if nat_lt most_recorded (recorded_by_reset s) then unread faults.Transcript else reset))
+    (MatchBool (is_full limits s line) (finding ≡ unread faults.Transcript)
+    (MatchBool (nat_lt longest (length s.pending + length line)) (finding ≡ unread faults.Long)
+    (MatchBool (is_part line) (finding ≡ part)
+    ((sense : Sense) × HasSense (s.pending ++ line) sense × FindsSense limits s sense finding))))
+
+abbrev pub with_line : List ℕ → State → State
+with_line line s = record s { transcript = s.transcript ++ line ∷ [] }
+
+-- a line that was read is stored and charged, and no part is left
+abbrev pub charged : List ℕ → ℕ → State → State
+charged line work s = record (with_line line s) { work_left = s.work_left - work; pending = [] }
+
+abbrev pub with_binding : Option Binding → State → State
+with_binding None s = s
+with_binding (Some b) s = record s { bindings = put_binding b.name b.meaning s.bindings }
+
+-- the state after a line of which this was found
+abbrev pub after : List ℕ → State → Finding → State
+after line s (unread fault) = s
+after line s reset = opening s.work_left (recorded_by_reset s)
+after line s part = record (with_line line s) { pending = with_part s line }
+after line s (refused fault work) = charged line work s
+after line s (answered told work binding) = with_binding binding (charged line work s)
+
+-- what is told of it
+abbrev pub reply_of : State → Finding → Reply
+reply_of s (unread fault) = fault_reply fault false
+reply_of s reset = plain_reply s (replies.cleared (length s.transcript))
+reply_of s part = plain_reply s replies.more
+reply_of s (refused fault work) = fault_reply fault true
+reply_of s (answered told work binding) = plain_reply s told
+
+-- In the state `s` the line is answered by the reply, and leaves the state `s'`.
+unfoldable pub Step : Limits → State → List ℕ → Reply → State → Type 0
+Step limits s line reply s' =
+    (finding : Finding) × Finds limits s line finding × (reply ≡ reply_of s finding) × (s' ≡ after line s finding)

@@ -1,8 +1,0 @@
-use Rattle.nesl_session_step.proofs.Grows.{grows, limits_stay}
-use Rattle.nesl_session_step.proofs.laws.recorded_lines_grow.Goals as goal
-
-pub returns-clause-grow : goal.returns-clause-grow
-returns-clause-grow c = grows
-
-pub returns-clause-limits : goal.returns-clause-limits
-returns-clause-limits c = limits_stay

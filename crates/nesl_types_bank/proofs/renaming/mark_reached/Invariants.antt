@@ -1,8 +1,0 @@
-use Rattle.nesl_types_bank.proofs.Reached.{IsReaching}
-use Rattle.nesl_types_bank.proofs.renaming.mark_reached.Given as goal
-
-abbrev pub invariant-loop-next : goal.invariant-loop-next
-invariant-loop-next l = IsReaching l.from l.place l.next l.marks
-
-abbrev pub decreases-loop-next : goal.decreases-loop-next
-decreases-loop-next l = l.next

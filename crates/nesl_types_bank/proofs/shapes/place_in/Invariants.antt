@@ -1,6 +1,0 @@
-use Rattle.std.proofs.Common.{◌≡◌, ◌<◌, ℕ, length}
-use Rattle.nesl_types_bank.specs.Shapes.{shape_at}
-use Rattle.nesl_types_bank.proofs.shapes.place_in.Given as goal
-
-abbrev pub invariant-loop-place : goal.invariant-loop-place
-invariant-loop-place l = (p : ℕ) → p < l.place → p < length l.shapes → shape_at l.shapes p ≡ l.shape → ⊥
