@@ -3,10 +3,10 @@ use Rattle.std.proofs.Common.{◌≡◌, ℕ, List, Bool, false, Option, refl, s
 use Rattle.nesl_line.specs.declared.exchange.End.TheVariants.{Input}
 use Rattle.nesl_cli.specs.declared.failure.Failure.{Failure}
 use Rattle.nesl_cli.specs.declared.prompt.Terminals.{Terminals}
-use Rattle.nesl_cli_words.specs.declared.words.Task.{Task as Code}
-use Rattle.nesl_cli_words.specs.declared.words.Task.TheVariants as code
-use Rattle.nesl_cli_words.specs.Words.{Task, a_batch, a_prompt, some_costs}
-use Rattle.nesl_cli_words.specs.Wanted.{task_wanted}
+use Rattle.nesl_cli.specs.declared.words.Task.{Task as Code}
+use Rattle.nesl_cli.specs.declared.words.Task.TheVariants as code
+use Rattle.nesl_cli.specs.Words.{Task, a_batch, a_prompt, some_costs}
+use Rattle.nesl_cli.specs.Wanted.{task_wanted}
 use Rattle.nesl_cli.specs.Program.{Served, Prompted, Fails, PromptFails, TaskDone, TaskFails, is_plain_at}
 
 task_read : (read : Code) (known asked : Task) → task_wanted read ≡ known → task_wanted read ≡ asked → known ≡ asked

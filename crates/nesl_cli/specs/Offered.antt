@@ -1,7 +1,7 @@
 -- The service that is offered.
 use Rattle.std.specs.Prelude.{ℕ, ◌*◌, ◌^◌, List, Option, map, nat_lt, unwrap_or, if◌then◌else◌}
-use Rattle.nesl_cli_words.specs.Words.{Service}
-use Rattle.nesl_cli_words.specs.Wanted.{service_wanted}
+use Rattle.nesl_cli.specs.Words.{Service}
+use Rattle.nesl_cli.specs.Wanted.{service_wanted}
 use Rattle.nesl_cli.specs.declared.run.Offer.{Offer}
 
 -- the service that is offered, and to which users, in order

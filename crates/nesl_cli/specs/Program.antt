@@ -12,7 +12,7 @@ use Rattle.nesl_line.specs.declared.exchange.End.{End}
 use Rattle.nesl_line.specs.declared.exchange.End.TheVariants.{Input, ReadFault, WriteFault}
 use Rattle.nesl_prompt.specs.Conversation.{IsPrompt}
 use Rattle.nesl_prompt.specs.Points.{is_plain}
-use Rattle.nesl_cli_words.specs.Words.{Task, a_batch, some_costs, a_service, a_prompt, Prompt, users_of, task_of}
+use Rattle.nesl_cli.specs.Words.{Task, a_batch, some_costs, a_service, a_prompt, Prompt, users_of, task_of}
 use Rattle.nesl_cli.specs.Offered.{service_offered, users_offered}
 use Rattle.nesl_cli.specs.Prompted.{style_for}
 use Rattle.nesl_cli.specs.declared.prompt.Terminals.{Terminals}

@@ -4,7 +4,7 @@ ghost use Rattle.nesl_values.specs.Tree.{ValueTree};
 ghost use Rattle.nesl_eval_meaning.specs.Out.{Out, within};
 ghost use Rattle.nesl_eval_code.specs.declared.code.Code.{Code};
 ghost use Rattle.nesl_eval_code.specs.Run.{run};
-ghost use Rattle.nesl_eval_blocks.specs.Flat.{block};
+ghost use Rattle.nesl_eval_code.specs.Flat.{block};
 ghost use Rattle.nesl_eval_ops.specs.View.{block_of, HasBodies};
 ghost use Rattle.nesl_eval_nodes.specs.Meets.{Meets, Is};
 ghost use Rattle.nesl_eval.specs.Outcomes.{OutcomeIs};

@@ -9,3 +9,7 @@ pub mod Noting
 pub mod Resolved
 pub mod Prepared
 pub mod Placed
+pub mod Outs
+pub mod Places
+pub mod Parts
+pub mod Runs

@@ -5,3 +5,7 @@ pub mod Noted
 pub mod Frame
 pub mod Resolving
 pub mod Laws
+pub mod Block
+pub mod Exec
+pub mod Flat
+pub mod BlockLaws

@@ -1,6 +1,7 @@
-//! The prepared code that stands for expressions.
+//! The prepared code of expressions, as a tree and in the order of evaluation.
 #![tactic(auto)]
 
+mod blocks;
 pub mod code;
 mod frames;
 mod laws;
@@ -9,6 +10,7 @@ mod names;
 mod places;
 mod preparing;
 
+pub use blocks::blocks_run_as_code;
 pub use code::{Code, Step};
 pub use laws::runs_as_meant;
 pub use places::{Places, place_in};

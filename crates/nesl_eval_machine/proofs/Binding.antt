@@ -8,8 +8,8 @@ use Rattle.nesl_values.specs.declared.value.Value as code
 use Rattle.nesl_eval_meaning.specs.Names.{Value}
 use Rattle.nesl_eval_meaning.specs.Out.{Out, stuck}
 use Rattle.nesl_eval_code.specs.Run.{Table}
-use Rattle.nesl_eval_blocks.specs.Block.{Block, bind, forget}
-use Rattle.nesl_eval_blocks.specs.Exec.{Places, exec}
+use Rattle.nesl_eval_code.specs.Block.{Block, bind, forget}
+use Rattle.nesl_eval_code.specs.Exec.{Places, exec}
 use Rattle.nesl_eval_nodes.proofs.Arms.{drop_next, drop_past}
 use Rattle.nesl_eval_machine.specs.declared.state.Frame.{Frame}
 use Rattle.nesl_eval_machine.specs.declared.state.Machine.{Machine}

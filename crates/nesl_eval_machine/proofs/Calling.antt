@@ -10,9 +10,9 @@ use Rattle.nesl_eval_meaning.specs.Out.{Out, after_cost, and_then, at_call}
 use Rattle.nesl_eval_code.specs.declared.code.Code.{Code}
 use Rattle.nesl_eval_code.specs.Frames.{frame}
 use Rattle.nesl_eval_code.specs.Run.{Slot, Table, run, function_slot, nothing_slot}
-use Rattle.nesl_eval_blocks.specs.Exec.{exec}
-use Rattle.nesl_eval_blocks.specs.Flat.{block}
-use Rattle.nesl_eval_blocks.proofs.Runs.{runs_as_code}
+use Rattle.nesl_eval_code.specs.Exec.{exec}
+use Rattle.nesl_eval_code.specs.Flat.{block}
+use Rattle.nesl_eval_code.proofs.Runs.{runs_as_code}
 use Rattle.nesl_eval_machine.specs.State.{places_of}
 use Rattle.nesl_eval_rounds.proofs.Laws.{then_after, at_call_after}
 use Rattle.nesl_eval_rounds.proofs.Rows.{places_more}

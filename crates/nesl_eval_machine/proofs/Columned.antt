@@ -8,7 +8,7 @@ use Rattle.nesl_values.specs.declared.value.Value as code
 use Rattle.nesl_eval_meaning.specs.Names.{Value}
 use Rattle.nesl_eval_meaning.specs.Out.{Out}
 use Rattle.nesl_eval_code.specs.Run.{Table}
-use Rattle.nesl_eval_blocks.specs.Block.{Block, finish}
+use Rattle.nesl_eval_code.specs.Block.{Block, finish}
 use Rattle.nesl_eval_nodes.specs.declared.meter.Stop.{Stop}
 use Rattle.nesl_eval_nodes.specs.declared.meter.Stop.TheVariants.{Memory}
 use Rattle.nesl_eval_rounds.specs.declared.state.Round.{Round}

@@ -6,8 +6,8 @@ use Rattle.nesl_values.specs.declared.value.Value as code
 use Rattle.nesl_eval_meaning.specs.Names.{Value}
 use Rattle.nesl_eval_meaning.specs.Out.{Out, value, stuck, after_cost}
 use Rattle.nesl_eval_code.specs.Run.{Table}
-use Rattle.nesl_eval_blocks.specs.Block.{finish}
-use Rattle.nesl_eval_blocks.specs.Exec.{Places, exec}
+use Rattle.nesl_eval_code.specs.Block.{finish}
+use Rattle.nesl_eval_code.specs.Exec.{Places, exec}
 use Rattle.nesl_eval_machine.specs.declared.state.Frame.{Frame}
 use Rattle.nesl_eval_machine.specs.declared.state.Machine.{Machine}
 use Rattle.nesl_eval_machine.specs.State.{places_of, above, floor, resumed, unwound, Ordered, frames_of, slots_of, stack_of, env_of, local_of, left_with, Fits}

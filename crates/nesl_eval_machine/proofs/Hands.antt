@@ -7,8 +7,8 @@ use Rattle.nesl_values.specs.declared.value.Value as code
 use Rattle.nesl_eval_meaning.specs.Names.{Value}
 use Rattle.nesl_eval_meaning.specs.Out.{Out, value, fault, stuck, after_cost, and_then, given}
 use Rattle.nesl_eval_code.specs.Run.{Table}
-use Rattle.nesl_eval_blocks.specs.Block.{Block, finish}
-use Rattle.nesl_eval_blocks.specs.Exec.{Places, exec, taken}
+use Rattle.nesl_eval_code.specs.Block.{Block, finish}
+use Rattle.nesl_eval_code.specs.Exec.{Places, exec, taken}
 use Rattle.nesl_eval_ops.specs.declared.ops.Ops.{Ops}
 use Rattle.nesl_eval_ops.specs.View.{block_of}
 use Rattle.nesl_eval_nodes.specs.declared.meter.Meter.{Meter}

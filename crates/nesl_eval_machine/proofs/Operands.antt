@@ -5,9 +5,9 @@ use Rattle.nesl_lex.specs.declared.token.Span.{Span}
 use Rattle.nesl_eval_meaning.specs.Names.{Value}
 use Rattle.nesl_eval_meaning.specs.Out.{Out, and_then, given, stuck}
 use Rattle.nesl_eval_code.specs.Run.{Table}
-use Rattle.nesl_eval_blocks.specs.Block.{Leaf, Maker, Block, push, make}
-use Rattle.nesl_eval_blocks.specs.Exec.{Places, leaf_out, with_leaves, made_of, taken, exec}
-use Rattle.nesl_eval_blocks.proofs.Outs.{then_assoc, then_same}
+use Rattle.nesl_eval_code.specs.Block.{Leaf, Maker, Block, push, make}
+use Rattle.nesl_eval_code.specs.Exec.{Places, leaf_out, with_leaves, made_of, taken, exec}
+use Rattle.nesl_eval_code.proofs.Outs.{then_assoc, then_same}
 use Rattle.nesl_eval_machine.specs.declared.state.Machine.{Machine}
 use Rattle.nesl_eval_nodes.specs.declared.meter.Stop.{Stop}
 use Rattle.nesl_eval_machine.specs.State.{env_of, local_of, left_with, left_at, Fits}

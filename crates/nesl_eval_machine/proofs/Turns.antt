@@ -10,9 +10,9 @@ use Rattle.nesl_eval_meaning.specs.Names.{Value}
 use Rattle.nesl_eval_meaning.specs.Out.{Out, value, fault, stuck, after_cost, and_then, given}
 use Rattle.nesl_eval_meaning.specs.Outcome.{common_places, lengths}
 use Rattle.nesl_eval_code.specs.Run.{Table}
-use Rattle.nesl_eval_blocks.specs.Block.{Block, finish}
-use Rattle.nesl_eval_blocks.specs.Exec.{Places, exec, at_places, kept_of, values_of}
-use Rattle.nesl_eval_blocks.proofs.Outs.{then_assoc}
+use Rattle.nesl_eval_code.specs.Block.{Block, finish}
+use Rattle.nesl_eval_code.specs.Exec.{Places, exec, at_places, kept_of, values_of}
+use Rattle.nesl_eval_code.proofs.Outs.{then_assoc}
 use Rattle.nesl_eval_ops.specs.declared.ops.Body.{Body}
 use Rattle.nesl_eval_ops.specs.View.{block_of, body_block}
 use Rattle.nesl_eval_nodes.specs.declared.meter.Meter.{Meter}

@@ -10,8 +10,8 @@ use Rattle.nesl_eval_meaning.specs.Names.{Value}
 use Rattle.nesl_eval_meaning.specs.Out.{Out, fault, stuck, after_cost, and_then, at_call, beside}
 use Rattle.nesl_eval_meaning.specs.Outcome.{place_if_true, body_value}
 use Rattle.nesl_eval_code.specs.Run.{Table}
-use Rattle.nesl_eval_blocks.specs.Block.{Block}
-use Rattle.nesl_eval_blocks.specs.Exec.{Places, exec, kept_of, values_of}
+use Rattle.nesl_eval_code.specs.Block.{Block}
+use Rattle.nesl_eval_code.specs.Exec.{Places, exec, kept_of, values_of}
 use Rattle.nesl_eval_ops.specs.View.{block_of, body_block}
 use Rattle.nesl_eval_ops.specs.declared.ops.Body.{Body}
 use Rattle.nesl_eval_rounds.specs.declared.state.Round.{Round}

@@ -8,9 +8,9 @@ use Rattle.nesl_eval_meaning.specs.Names.{Value}
 use Rattle.nesl_eval_meaning.specs.Out.{Out, value, fault, stuck, after_cost}
 use Rattle.nesl_eval_code.specs.declared.code.Code.{Code}
 use Rattle.nesl_eval_code.specs.Run.{Table, run}
-use Rattle.nesl_eval_blocks.specs.Exec.{exec}
-use Rattle.nesl_eval_blocks.specs.Flat.{block}
-use Rattle.nesl_eval_blocks.proofs.Runs.{runs_as_code}
+use Rattle.nesl_eval_code.specs.Exec.{exec}
+use Rattle.nesl_eval_code.specs.Flat.{block}
+use Rattle.nesl_eval_code.proofs.Runs.{runs_as_code}
 use Rattle.nesl_eval_ops.specs.View.{block_of}
 use Rattle.nesl_eval_nodes.specs.declared.meter.Stop.{Stop}
 use Rattle.nesl_eval_nodes.specs.declared.meter.Stop.TheVariants.{Fault, Over, Memory, Stuck}

@@ -6,12 +6,12 @@ use Rattle.nesl_values.specs.View.{tree_of}
 use Rattle.nesl_eval_meaning.specs.Names.{Value}
 use Rattle.nesl_eval_meaning.specs.Out.{Out, value, after_cost, and_then, at_call}
 use Rattle.nesl_eval_code.specs.Run.{Table}
-use Rattle.nesl_eval_blocks.specs.Block.{Block}
-use Rattle.nesl_eval_blocks.specs.Exec.{Places, exec, kept_of, values_of}
+use Rattle.nesl_eval_code.specs.Block.{Block}
+use Rattle.nesl_eval_code.specs.Exec.{Places, exec, kept_of, values_of}
 use Rattle.nesl_eval_ops.specs.declared.ops.Body.{Body}
 use Rattle.nesl_eval_ops.specs.View.{block_of, body_block}
 pub use Rattle.nesl_eval_ops.specs.View.{HasBodies}
-pub use Rattle.nesl_eval_operands.specs.Slots.{places_of}
+pub use Rattle.nesl_eval_rounds.specs.Slots.{places_of}
 use Rattle.nesl_eval_rounds.specs.Rounds.{in_turn, at_place}
 use Rattle.nesl_eval_machine.specs.declared.state.Purpose.{Purpose}
 use Rattle.nesl_eval_machine.specs.declared.state.Purpose.TheVariants.{Push, Return, Turn}

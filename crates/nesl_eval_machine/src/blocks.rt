@@ -3,8 +3,8 @@ ghost use Rattle.std.specs.Prelude.{◌≡◌, ◌∷◌, ◌++◌, [], MatchRes
 ghost use Rattle.nesl_values.specs.View.{tree_of};
 ghost use Rattle.nesl_eval_meaning.specs.Out.{and_then};
 ghost use Rattle.nesl_eval_code.specs.Run.{Table};
-ghost use Rattle.nesl_eval_blocks.specs.Block.{choose, last, bind, forget};
-ghost use Rattle.nesl_eval_blocks.specs.Exec.{exec};
+ghost use Rattle.nesl_eval_code.specs.Block.{choose, last, bind, forget};
+ghost use Rattle.nesl_eval_code.specs.Exec.{exec};
 ghost use Rattle.nesl_eval_ops.specs.View.{block_of};
 ghost use Rattle.nesl_eval_machine.specs.State.{Fits, frames_of, env_of, local_of, left_with, left_at};
 ghost use Rattle.nesl_eval_machine.specs.Steps.{Steps, Moves, slots_below};

@@ -9,7 +9,7 @@ ghost use Rattle.nesl_eval_nodes.specs.Meets.{Meets, Is};
 ghost use Rattle.nesl_eval_code.specs.declared.code.Code.{Code};
 ghost use Rattle.nesl_eval_code.specs.Frames.{frame};
 ghost use Rattle.nesl_eval_code.specs.Run.{Table, run, run_called, slot_at, function_slot};
-ghost use Rattle.nesl_eval_blocks.specs.Exec.{exec, slot_of};
+ghost use Rattle.nesl_eval_code.specs.Exec.{exec, slot_of};
 ghost use Rattle.nesl_eval_ops.specs.View.{block_of, callee_is};
 ghost use Rattle.nesl_eval_machine.specs.State.{Fits, env_of, local_of, left_with};
 ghost use Rattle.nesl_eval_machine.specs.Steps.{Steps, Moves};

@@ -2,8 +2,8 @@
 ghost use Rattle.std.specs.Prelude.{◌≡◌, ◌+◌, ◌<◌, ◌^◌, ◌∷◌, ◌++◌, []};
 ghost use Rattle.std.specs.declared.vec.Vec.{Vec};
 ghost use Rattle.nesl_values.specs.View.{tree_of};
-ghost use Rattle.nesl_eval_blocks.specs.Block.{finish};
-ghost use Rattle.nesl_eval_blocks.specs.Exec.{exec};
+ghost use Rattle.nesl_eval_code.specs.Block.{finish};
+ghost use Rattle.nesl_eval_code.specs.Exec.{exec};
 ghost use Rattle.nesl_eval_machine.specs.State.{Fits, env_of, local_of, left_with};
 ghost use Rattle.nesl_eval_machine.specs.Steps.{Moves};
 

@@ -3,7 +3,7 @@ ghost use Rattle.std.specs.Prelude.{◌≡◌, ◌-◌, ◌∷◌, ◌++◌, [],
 ghost use Rattle.nesl_values.specs.Parts.{as_bool};
 ghost use Rattle.nesl_values.specs.View.{tree_of};
 ghost use Rattle.nesl_eval_code.specs.Run.{Table};
-ghost use Rattle.nesl_eval_blocks.specs.Exec.{exec};
+ghost use Rattle.nesl_eval_code.specs.Exec.{exec};
 ghost use Rattle.nesl_eval_ops.specs.View.{block_of};
 ghost use Rattle.nesl_eval_machine.specs.State.{Fits, env_of, local_of, left_with};
 ghost use Rattle.nesl_eval_machine.specs.Steps.{Steps, empty_handed, in_hand};

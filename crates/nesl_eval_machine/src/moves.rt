@@ -5,8 +5,8 @@ ghost use Rattle.nesl_values.specs.Tree.{ValueTree};
 ghost use Rattle.nesl_values.specs.View.{tree_of};
 ghost use Rattle.nesl_eval_meaning.specs.Out.{Out, and_then};
 ghost use Rattle.nesl_eval_code.specs.Run.{Table};
-ghost use Rattle.nesl_eval_blocks.specs.Block.{Block, Maker, push, enter, make, of_one};
-ghost use Rattle.nesl_eval_blocks.specs.Exec.{exec, made_of};
+ghost use Rattle.nesl_eval_code.specs.Block.{Block, Maker, push, enter, make, of_one};
+ghost use Rattle.nesl_eval_code.specs.Exec.{exec, made_of};
 ghost use Rattle.nesl_eval_ops.specs.View.{block_of, leaf_is, two_is, many_is};
 ghost use Rattle.nesl_eval_nodes.specs.declared.meter.Meter.{Meter};
 ghost use Rattle.nesl_eval_nodes.specs.Meets.{Meets, Is};
@@ -17,7 +17,7 @@ use crate::hand::{in_hand, push_value};
 use crate::state::{Hand, Machine};
 use nesl_eval_nodes::held::Tops;
 use nesl_eval_nodes::meter::Stop;
-use nesl_eval_operands::{
+use nesl_eval_rounds::{
     Sight, apply_to_value, enter_at, enter_leaf, make_of_many, make_of_two, of_one_leaf,
     of_two_leaves, of_value_and_leaf,
 };

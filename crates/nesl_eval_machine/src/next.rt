@@ -3,7 +3,7 @@
 ghost use Rattle.std.specs.Prelude.{◌+◌, ◌<◌, ◌^◌, ◌∷◌};
 ghost use Rattle.nesl_values.specs.Tree.{ValueTree};
 ghost use Rattle.nesl_values.specs.View.{tree_of};
-ghost use Rattle.nesl_eval_blocks.specs.Exec.{exec};
+ghost use Rattle.nesl_eval_code.specs.Exec.{exec};
 ghost use Rattle.nesl_eval_machine.specs.declared.state.Machine as declared;
 ghost use Rattle.nesl_eval_meaning.specs.Out.{Out};
 ghost use Rattle.nesl_eval_ops.specs.View.{block_of};

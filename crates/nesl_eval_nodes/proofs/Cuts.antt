@@ -3,9 +3,9 @@ use Rattle.std.proofs.Common.{◌≡◌, ℕ, ◌-◌, List, [], ◌∷◌, ◌+
 use Rattle.std.proofs.lemmas.List.{length-map, length-take, map-append, take-append-drop}
 use Rattle.nesl_eval_meaning.specs.Names.{Value}
 use Rattle.nesl_eval_code.specs.Frames.{frame}
-use Rattle.nesl_eval_blocks.specs.Flat.{room}
-use Rattle.nesl_eval_blocks.specs.Exec.{laid}
-use Rattle.nesl_eval_blocks.specs.Laws.{sizes}
+use Rattle.nesl_eval_code.specs.Flat.{room}
+use Rattle.nesl_eval_code.specs.Exec.{laid}
+use Rattle.nesl_eval_code.specs.BlockLaws.{sizes}
 use Rattle.nesl_eval_nodes.specs.Scopes.{cut}
 
 none_left : {X : Type 0} (xs : List X) → length xs ≡ 0 → [] ≡ xs

@@ -8,8 +8,8 @@ use Rattle.nesl_builtins.specs.declared.builtin.Builtin.{Builtin}
 use Rattle.nesl_eval_code.specs.declared.code.Step.{Step}
 use Rattle.nesl_eval_code.specs.declared.code.Code.{Code}
 use Rattle.nesl_eval_code.specs.declared.code.Code as nodes
-use Rattle.nesl_eval_blocks.specs.Block.{Block, enter, of_two, of_pair, pairing, placed, call, bind}
-use Rattle.nesl_eval_blocks.specs.Flat.{Part, part, leaf_of, flat, making, applying, rest, deciding, forgetting, room}
+use Rattle.nesl_eval_code.specs.Block.{Block, enter, of_two, of_pair, pairing, placed, call, bind}
+use Rattle.nesl_eval_code.specs.Flat.{Part, part, leaf_of, flat, making, applying, rest, deciding, forgetting, room}
 use Rattle.nesl_eval_ops.specs.Lists.{part_on, binding_on}
 use Rattle.nesl_eval_ops.specs.Copies.{IsLaidAs, AreLaidAs}
 use Rattle.nesl_eval_ops.proofs.Lists.{flat-Let}

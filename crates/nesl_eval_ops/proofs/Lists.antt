@@ -9,9 +9,9 @@ use Rattle.nesl_lex.specs.declared.token.Span.{Span}
 use Rattle.nesl_eval_code.specs.declared.code.Code.{Code, Pair', Row_of-Code, end_of-Code, more_of-Code}
 use Rattle.nesl_eval_code.specs.declared.code.Code.{items-the_row-Code}
 use Rattle.nesl_eval_code.specs.declared.code.Code as nodes
-use Rattle.nesl_eval_blocks.specs.Block.{Block, Leaf, Maker, enter, make, bind, listing, each, filtered}
-use Rattle.nesl_eval_blocks.specs.Flat.{Part, leaf_of, leaves_of, one_more, if_leaves, making, pushing, rest}
-use Rattle.nesl_eval_blocks.specs.Flat.{forgetting, room, flat, parts_in, binding, length_of}
+use Rattle.nesl_eval_code.specs.Block.{Block, Leaf, Maker, enter, make, bind, listing, each, filtered}
+use Rattle.nesl_eval_code.specs.Flat.{Part, leaf_of, leaves_of, one_more, if_leaves, making, pushing, rest}
+use Rattle.nesl_eval_code.specs.Flat.{forgetting, room, flat, parts_in, binding, length_of}
 use Rattle.nesl_eval_ops.specs.declared.ops.Leaf as code
 use Rattle.nesl_eval_ops.specs.View.{leaf_is}
 use Rattle.nesl_eval_ops.specs.Lists.{part_on, parts_on, binding_on, IsNoLeaf, EndsAt}

@@ -3,8 +3,8 @@ use Rattle.std.specs.Prelude.{◌≡◌, ℕ, List, [], ◌∷◌, refl}
 use Rattle.std.proofs.Common.{ap, ◌∙◌}
 use Rattle.std.specs.Coded.{Coded, code_by, coded_list}
 use Rattle.nesl_lex.specs.declared.token.Span.{Span}
-use Rattle.nesl_eval_blocks.specs.Block.{Leaf, Maker, Callee, Block, finish, push, enter, make, choose, last, call}
-use Rattle.nesl_eval_blocks.specs.Block.{bind, forget, each, filtered}
+use Rattle.nesl_eval_code.specs.Block.{Leaf, Maker, Callee, Block, finish, push, enter, make, choose, last, call}
+use Rattle.nesl_eval_code.specs.Block.{bind, forget, each, filtered}
 
 -- an operation without the blocks that it holds
 pub data Word : Type 0 where

@@ -3,8 +3,8 @@ use Rattle.std.specs.Prelude.{◌≡◌, ℕ, List, [], ◌∷◌, Option}
 use Rattle.nesl_lex.specs.declared.token.Span.{Span}
 use Rattle.nesl_builtins.specs.declared.builtin.Builtin.{Builtin}
 use Rattle.nesl_eval_code.specs.declared.code.Code.{Code}
-use Rattle.nesl_eval_blocks.specs.Block.{Block}
-use Rattle.nesl_eval_blocks.specs.Flat.{flat, leaf_of, applying}
+use Rattle.nesl_eval_code.specs.Block.{Block}
+use Rattle.nesl_eval_code.specs.Flat.{flat, leaf_of, applying}
 
 -- one code is laid out as the other is, wherever they stand: with what comes after it, as a leaf, and as an argument
 pub record IsLaidAs (c d : Code) : Type 0 where

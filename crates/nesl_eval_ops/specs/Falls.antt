@@ -1,7 +1,7 @@
 -- What operations hold has fewer operations than they.
 use Rattle.std.specs.Prelude.{◌≡◌, ◌≤◌, ◌+◌, max}
 use Rattle.std.proofs.Common.{arith, subst}
-use Rattle.nesl_eval_blocks.specs.Block.{Block}
+use Rattle.nesl_eval_code.specs.Block.{Block}
 use Rattle.nesl_eval_ops.specs.declared.ops.Body.{Body}
 use Rattle.nesl_eval_ops.specs.declared.ops.Body.TheVariants.{Any, Plain}
 use Rattle.nesl_eval_ops.specs.declared.ops.Ops.{Ops}

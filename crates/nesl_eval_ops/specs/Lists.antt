@@ -1,8 +1,8 @@
 -- The parts and the bindings of lists of codes.
 use Rattle.std.specs.Prelude.{◌≡◌, ℕ, suc, ◌-◌, List, [], ◌∷◌, map, slice_get, Some, None, ◌⊎◌}
 use Rattle.nesl_eval_code.specs.declared.code.Code.{Code}
-use Rattle.nesl_eval_blocks.specs.Block.{Block, bind}
-use Rattle.nesl_eval_blocks.specs.Flat.{Part, part, leaf_of, flat}
+use Rattle.nesl_eval_code.specs.Block.{Block, bind}
+use Rattle.nesl_eval_code.specs.Flat.{Part, part, leaf_of, flat}
 
 -- the part that code is at a height, where frames have these sizes
 abbrev pub part_on : ℕ → List ℕ → Code → Part

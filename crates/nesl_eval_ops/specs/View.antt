@@ -4,11 +4,11 @@ use Rattle.std.specs.Global.{Box}
 use Rattle.nesl_eval_code.specs.declared.code.Code.{Code}
 use Rattle.nesl_eval_code.specs.declared.code.Step.TheVariants as step
 use Rattle.nesl_eval_code.specs.Run.{Table, slot_at, function_slot}
-use Rattle.nesl_eval_blocks.specs.Block as block
-use Rattle.nesl_eval_blocks.specs.Block.{Block, finish, push, enter, make, choose, last, call, bind, forget, each}
-use Rattle.nesl_eval_blocks.specs.Block.{filtered}
-use Rattle.nesl_eval_blocks.specs.Flat.{flat}
-use Rattle.nesl_eval_blocks.specs.Flat as laying
+use Rattle.nesl_eval_code.specs.Block as block
+use Rattle.nesl_eval_code.specs.Block.{Block, finish, push, enter, make, choose, last, call, bind, forget, each}
+use Rattle.nesl_eval_code.specs.Block.{filtered}
+use Rattle.nesl_eval_code.specs.Flat.{flat}
+use Rattle.nesl_eval_code.specs.Flat as laying
 use Rattle.nesl_eval_ops.specs.declared.ops.What.{What}
 use Rattle.nesl_eval_ops.specs.declared.ops.What.TheVariants.{Number, Truth, Character, Text, Empty, Local, Left, Right}
 use Rattle.nesl_eval_ops.specs.declared.ops.What.TheVariants.{Part, Missing, Top, Named}

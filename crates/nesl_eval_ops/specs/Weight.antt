@@ -1,7 +1,7 @@
 -- How many operations a block has.
 use Rattle.std.specs.Prelude.{ℕ, suc, ◌+◌}
-use Rattle.nesl_eval_blocks.specs.Block.{Block, finish, push, enter, make, choose, last, call, bind, forget, each}
-use Rattle.nesl_eval_blocks.specs.Block.{filtered}
+use Rattle.nesl_eval_code.specs.Block.{Block, finish, push, enter, make, choose, last, call, bind, forget, each}
+use Rattle.nesl_eval_code.specs.Block.{filtered}
 
 -- those of sides, bodies and filters too
 abbrev pub weight : Block → ℕ

@@ -2,9 +2,9 @@
 //!
 //! None that holds an operation on the stack until it is boxed is inlined into those that recur over code.
 ghost use Rattle.std.specs.Prelude.{◌≡◌, ◌∷◌, [], IfOk, IfSome, None, map, option_map};
-ghost use Rattle.nesl_eval_blocks.specs.Block.{push, enter, make, call, bind, each, filtered};
-ghost use Rattle.nesl_eval_blocks.specs.Block.{of_one, of_pair, called_by};
-ghost use Rattle.nesl_eval_blocks.specs.Flat.{rest, deciding, forgetting, flat, room};
+ghost use Rattle.nesl_eval_code.specs.Block.{push, enter, make, call, bind, each, filtered};
+ghost use Rattle.nesl_eval_code.specs.Block.{of_one, of_pair, called_by};
+ghost use Rattle.nesl_eval_code.specs.Flat.{rest, deciding, forgetting, flat, room};
 ghost use Rattle.nesl_eval_ops.specs.Copies.{IsLaidAs};
 ghost use Rattle.nesl_eval_ops.specs.View.{block_of, block_in, body_block, sizes_of};
 ghost use Rattle.nesl_eval_ops.specs.View.{leaf_is, two_is, many_is, callee_is};

@@ -3,8 +3,8 @@
 //! It recurs as deep as the code is high. So that a level takes little of the stack, operations are passed in boxes, no
 //! function that makes some is inlined into those that recur, and there is a function for each kind of node.
 ghost use Rattle.std.specs.Prelude.{◌≡◌, ◌∷◌, [], IfOk, Some, None, suc, option_map, length};
-ghost use Rattle.nesl_eval_blocks.specs.Block.{enter, call, called_by, each, filtered, listing, of_three};
-ghost use Rattle.nesl_eval_blocks.specs.Flat.{making, pushing, rest, deciding, forgetting, flat, applying, block, room};
+ghost use Rattle.nesl_eval_code.specs.Block.{enter, call, called_by, each, filtered, listing, of_three};
+ghost use Rattle.nesl_eval_code.specs.Flat.{making, pushing, rest, deciding, forgetting, flat, applying, block, room};
 ghost use Rattle.nesl_eval_ops.specs.View.{two_is, many_is, callee_is, block_of, block_in, body_block, sizes_of};
 ghost use Rattle.nesl_eval_ops.specs.Lists.{part_on, parts_on, binding_on};
 

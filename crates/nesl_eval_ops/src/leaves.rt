@@ -1,8 +1,8 @@
 //! Code that has no parts.
 ghost use Rattle.std.specs.Prelude.{◌≡◌, ◌∷◌, ◌≤◌, [], false, IfOk, Some, map, option_map, length};
-ghost use Rattle.nesl_eval_blocks.specs.Block.{local};
-ghost use Rattle.nesl_eval_blocks.specs.Flat as laying;
-ghost use Rattle.nesl_eval_blocks.specs.Flat.{local_what, leaf_of, leaves_of, place_of};
+ghost use Rattle.nesl_eval_code.specs.Block.{local};
+ghost use Rattle.nesl_eval_code.specs.Flat as laying;
+ghost use Rattle.nesl_eval_code.specs.Flat.{local_what, leaf_of, leaves_of, place_of};
 ghost use Rattle.nesl_eval_ops.specs.View.{what_is, leaf_is, sizes_of};
 ghost use Rattle.nesl_eval_ops.specs.Lists.{parts_on, IsNoLeaf, EndsAt};
 

@@ -1,7 +1,7 @@
 //! Operations in the order of evaluation.
 
 ghost use Rattle.std.specs.Prelude.{◌≡◌, ◌≤◌, IfSome, None};
-ghost use Rattle.nesl_eval_blocks.specs.Flat.{flat};
+ghost use Rattle.nesl_eval_code.specs.Flat.{flat};
 ghost use Rattle.nesl_eval_ops.specs.View.{block_of, body_block};
 ghost use Rattle.nesl_eval_ops.specs.Weight.{weight};
 ghost use Rattle.nesl_eval_ops.specs.declared.ops.Block.TheDeep.{deep-Ops};
@@ -110,7 +110,7 @@ pub struct Block {
 }
 
 impl Model for Block {
-    ghost use Rattle.nesl_eval_blocks.specs.Block.{Block};
+    ghost use Rattle.nesl_eval_code.specs.Block.{Block};
     ghost use Rattle.nesl_eval_ops.specs.Codes.{block_code};
     ghost use Rattle.std.specs.Coded.{codes};
     ghost use Rattle.nesl_lex.specs.contracts.token.Span as span;
@@ -180,7 +180,7 @@ pub struct Plain {
 
 impl Model for Plain {
     ghost use Rattle.std.specs.Prelude.{◌≡◌, None};
-    ghost use Rattle.nesl_eval_blocks.specs.Flat.{flat};
+    ghost use Rattle.nesl_eval_code.specs.Flat.{flat};
     ghost use Rattle.nesl_eval_ops.specs.Kept.{Kept, kept_code};
     ghost use Rattle.std.specs.Coded.{codes};
     ghost use Rattle.nesl_eval_code.specs.contracts.code.Code as the_code;

@@ -1,6 +1,6 @@
 //! How many values the frames round a node hold.
 ghost use Rattle.std.specs.Prelude.{◌≡◌, ◌+◌, ◌++◌, ℕ, IfOk, IfSome, IsTrue};
-ghost use Rattle.nesl_eval_blocks.specs.Flat.{room, place_of};
+ghost use Rattle.nesl_eval_code.specs.Flat.{room, place_of};
 ghost use Rattle.nesl_eval_ops.specs.View.{sizes_of};
 
 use std::alloc::{AllocError, Global};

@@ -15,7 +15,7 @@ use Rattle.std.proofs.lemmas.List.{length-replicate, get_or-replicate}
 use Rattle.nesl_eval_column_results.proofs.Costing.{sum_next}
 use Rattle.nesl_eval_column_results.proofs.Framed.{frames-Rows}
 use Rattle.nesl_eval_column_results.specs.Frames.{AreAt, frames_in}
-use Rattle.nesl_eval_plain_parts.proofs.Costed.{cost_is}
+use Rattle.nesl_eval_plain.proofs.Costed.{cost_is}
 use Rattle.nesl_eval_nodes.specs.Sides.{places_of}
 use Rattle.nesl_eval_column_results.specs.declared.block.Block.{Block}
 use Rattle.nesl_eval_column_results.specs.declared.scopes.Scopes.{Rows}

@@ -14,16 +14,17 @@ ghost use Rattle.nesl_eval_plain.specs.Comes.{chosen};
 ghost use Rattle.nesl_eval_column_results.specs.Blocks.{block_places, IsWithin};
 ghost use Rattle.nesl_eval_plain.specs.Blocks.{IsPartOf};
 
+use crate::bodies::{Bodies, bodies_at, filter_at};
+use crate::plain::is_plain;
 use nesl_eval_code::Code;
-use nesl_eval_columns::Column;
-use nesl_eval_nodes::held::Tops;
-use nesl_eval_nodes::meter::Meter;
-use nesl_eval_nodes::places::Places;
-use nesl_eval_plain_parts::{Bodies, bodies_at, filter_at, is_plain};
 use nesl_eval_column_results::block::Block;
 use nesl_eval_column_results::costs::{Paid, total_of};
 use nesl_eval_column_results::found::Found;
 use nesl_eval_column_results::values::extended;
+use nesl_eval_columns::Column;
+use nesl_eval_nodes::held::Tops;
+use nesl_eval_nodes::meter::Meter;
+use nesl_eval_nodes::places::Places;
 use nesl_values_builder::SequenceBuilder;
 use std::alloc::Allocator;
 

@@ -14,19 +14,19 @@ use Rattle.nesl_eval_meaning.specs.Outcome.{place_if_true, body_value}
 use Rattle.nesl_eval_code.specs.declared.code.Code.{Code}
 use Rattle.nesl_eval_code.specs.Frames.{Frames, row}
 use Rattle.nesl_eval_code.specs.Run.{Table, run, run_at, run_filters, run_bodies}
-use Rattle.nesl_eval_blocks.specs.Block.{Block}
-use Rattle.nesl_eval_blocks.specs.Exec.{Places, laid, exec, kept_of}
-use Rattle.nesl_eval_blocks.specs.Flat.{room, flat}
-use Rattle.nesl_eval_blocks.specs.Laws.{sizes}
-use Rattle.nesl_eval_blocks.proofs.Outs.{all_same, then_value}
-use Rattle.nesl_eval_blocks.proofs.Runs.{flat_is}
+use Rattle.nesl_eval_code.specs.Block.{Block}
+use Rattle.nesl_eval_code.specs.Exec.{Places, laid, exec, kept_of}
+use Rattle.nesl_eval_code.specs.Flat.{room, flat}
+use Rattle.nesl_eval_code.specs.BlockLaws.{sizes}
+use Rattle.nesl_eval_code.proofs.Outs.{all_same, then_value}
+use Rattle.nesl_eval_code.proofs.Runs.{flat_is}
 use Rattle.nesl_eval_ops.specs.View.{body_block}
 use Rattle.nesl_eval_ops.specs.declared.ops.Body.{Body}
 use Rattle.nesl_eval_nodes.specs.declared.meter.Meter.{Meter}
 use Rattle.nesl_eval_nodes.specs.Meets.{Meets}
 use Rattle.nesl_eval_nodes.specs.Sides.{Has}
 use Rattle.nesl_eval_rounds.specs.declared.state.Round.{Round}
-use Rattle.nesl_eval_operands.specs.Slots.{places_of}
+use Rattle.nesl_eval_rounds.specs.Slots.{places_of}
 use Rattle.nesl_eval_rounds.specs.Rounds.{chosen_places, at_place, gathering, gathered_as, all_values, turn_of, places_left, between}
 use Rattle.nesl_eval_rounds.specs.Leads.{Took, ArePlaces}
 use Rattle.nesl_eval_rounds.proofs.Laws.{gathering_more, after_none, after_after}

@@ -11,9 +11,9 @@ use Rattle.nesl_eval_meaning.specs.Names.{Value}
 use Rattle.nesl_eval_meaning.specs.Out.{Out, value, stuck, after_cost, and_then, given, beside}
 use Rattle.nesl_eval_meaning.specs.Outcome.{place_if_true, body_value}
 use Rattle.nesl_eval_code.specs.Run.{Table}
-use Rattle.nesl_eval_blocks.specs.Block.{Block}
-use Rattle.nesl_eval_blocks.specs.Exec.{Places, exec, kept_of, values_of}
-use Rattle.nesl_eval_blocks.proofs.Outs.{then_assoc, then_same}
+use Rattle.nesl_eval_code.specs.Block.{Block}
+use Rattle.nesl_eval_code.specs.Exec.{Places, exec, kept_of, values_of}
+use Rattle.nesl_eval_code.proofs.Outs.{then_assoc, then_same}
 use Rattle.nesl_eval_ops.specs.declared.ops.Body.{Body}
 use Rattle.nesl_eval_ops.specs.View.{body_block}
 use Rattle.nesl_eval_nodes.specs.declared.meter.Meter.{Meter}

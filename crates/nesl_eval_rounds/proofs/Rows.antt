@@ -12,7 +12,7 @@ use Rattle.nesl_eval_meaning.specs.Names.{Value}
 use Rattle.nesl_eval_code.specs.Frames.{row}
 use Rattle.nesl_eval_nodes.specs.declared.meter.Stop.{Stop}
 use Rattle.nesl_eval_nodes.specs.declared.meter.Stop.TheVariants.{Memory}
-use Rattle.nesl_eval_operands.specs.Slots.{places_of}
+use Rattle.nesl_eval_rounds.specs.Slots.{places_of}
 
 -- the places of more values
 pub places_more : {A : Type 0} (xs ys : List (code.Value A)) → places_of (xs ++ ys) ≡ places_of xs ++ places_of ys

@@ -3,16 +3,16 @@ ghost use Rattle.std.specs.Prelude.{◌≡◌, ◌+◌, ◌<◌, ◌≤◌, ◌^
 ghost use Rattle.std.specs.Prelude.{Ok, None, IfSome, IsTrue, MatchResult, is_some, true};
 ghost use Rattle.nesl_values.specs.Tree.{ValueTree};
 ghost use Rattle.nesl_values_builder.specs.Elements.{elements_of};
-ghost use Rattle.nesl_eval_blocks.specs.Block as blocks;
-ghost use Rattle.nesl_eval_blocks.specs.Exec.{laid, kept_of};
-ghost use Rattle.nesl_eval_blocks.specs.Flat.{room, flat};
-ghost use Rattle.nesl_eval_blocks.specs.Laws.{sizes};
+ghost use Rattle.nesl_eval_code.specs.Block as blocks;
+ghost use Rattle.nesl_eval_code.specs.Exec.{laid, kept_of};
+ghost use Rattle.nesl_eval_code.specs.Flat.{room, flat};
+ghost use Rattle.nesl_eval_code.specs.BlockLaws.{sizes};
 ghost use Rattle.nesl_eval_ops.specs.View.{body_block};
 ghost use Rattle.nesl_eval_nodes.specs.Scopes.{frames_of};
 ghost use Rattle.nesl_eval_nodes.specs.Sides.{Has};
 ghost use Rattle.nesl_eval_nodes.specs.Meets.{Meets};
 ghost use Rattle.nesl_eval_column_results.specs.Blocks.{block_places, IsWithin};
-ghost use Rattle.nesl_eval_operands.specs.Slots as slots;
+ghost use Rattle.nesl_eval_rounds.specs.Slots as slots;
 ghost use Rattle.nesl_eval_rounds.specs.Rounds.{between, chosen_places, all_values, turn_of, places_left};
 ghost use Rattle.nesl_eval_rounds.specs.Leads.{Took, ArePlaces};
 

@@ -6,9 +6,9 @@ ghost use Rattle.nesl_values.specs.View.{tree_of, element_tree};
 ghost use Rattle.nesl_eval_meaning.specs.Out.{value};
 ghost use Rattle.nesl_eval_code.specs.Frames.{row};
 ghost use Rattle.nesl_eval_code.specs.Run.{Table};
-ghost use Rattle.nesl_eval_blocks.specs.Block.{Block};
-ghost use Rattle.nesl_eval_blocks.specs.Exec.{Places};
-ghost use Rattle.nesl_eval_operands.specs.Slots.{places_of};
+ghost use Rattle.nesl_eval_code.specs.Block.{Block};
+ghost use Rattle.nesl_eval_code.specs.Exec.{Places};
+ghost use Rattle.nesl_eval_rounds.specs.Slots.{places_of};
 ghost use Rattle.nesl_eval_rounds.specs.Rounds.{chosen_places, between, in_turn};
 ghost use Rattle.nesl_eval_rounds.specs.Leads.{Gave};
 

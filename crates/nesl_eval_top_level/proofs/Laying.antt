@@ -9,7 +9,7 @@ use Rattle.nesl_eval_code.specs.declared.code.Code.{Code}
 use Rattle.nesl_eval_code.specs.Run.{slot_at, function_slot}
 use Rattle.nesl_eval_code.specs.Means.{place_of}
 use Rattle.nesl_eval_code.specs.Resolving.{keys_of}
-use Rattle.nesl_eval_blocks.specs.Flat.{block}
+use Rattle.nesl_eval_code.specs.Flat.{block}
 use Rattle.nesl_eval_ops.specs.declared.ops.Ops.{Ops}
 use Rattle.nesl_eval_ops.specs.View.{block_of}
 use Rattle.nesl_eval_top_level.specs.declared.env.Payload.{Payload}

@@ -1,7 +1,7 @@
 -- The operations of the bodies, by place.
 use Rattle.std.specs.Prelude.{◌≡◌, ℕ, List, [], ◌∷◌, ◌++◌, set, Option, Some, None}
 use Rattle.nesl_eval_code.specs.declared.code.Code.{Code}
-use Rattle.nesl_eval_blocks.specs.Flat.{block}
+use Rattle.nesl_eval_code.specs.Flat.{block}
 use Rattle.nesl_eval_ops.specs.declared.ops.Ops.{Ops}
 use Rattle.nesl_eval_ops.specs.View.{block_of}
 use Rattle.nesl_eval_top_level.specs.Stored.{Codes}

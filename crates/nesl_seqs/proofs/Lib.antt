@@ -9,3 +9,10 @@ pub mod PlaceBounds
 pub mod Planned
 pub mod ScanBounds
 pub mod Standing
+pub mod Before
+pub mod Best
+pub mod Digits
+pub mod Folds
+pub mod Leaves
+pub mod FoldPlanned
+pub mod Sums

@@ -13,7 +13,7 @@ use Rattle.nesl_seqs_base.specs.Outcome.{gives}
 use Rattle.nesl_seqs_base.specs.Pieces.{places_on, rotated}
 use Rattle.nesl_seqs_base.specs.Ranges.{steps_below}
 use Rattle.nesl_seqs.specs.Laws.{modulo, PlacesOfRotate, NumbersOfRange}
-use Rattle.nesl_seqs_fold.proofs.Best.{get_front}
+use Rattle.nesl_seqs.proofs.Best.{get_front}
 
 below_gap : (s e : ℤ) (n : ℕ) → (n < int_gap s e) ↔ ((s +ℤ pos n) <ℤ e)
 below_gap (pos a) (pos b) n = (λ h. omega (arith, ints), λ h. omega (arith, ints, h))

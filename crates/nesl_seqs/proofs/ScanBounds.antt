@@ -9,7 +9,7 @@ use Rattle.nesl_seqs_base.specs.Reductions.{all_of, total}
 use Rattle.nesl_seqs_base.specs.Prices.{length_of}
 use Rattle.nesl_seqs_base.specs.Extremes.{key, element_of, best, or_empty, of_best}
 use Rattle.nesl_seqs_base.specs.Scans.{before_each, plus_scanned, joined_truths, joined_bits, logic_scanned}
-use Rattle.nesl_seqs_fold.specs.Leaves.{logic_of}
+use Rattle.nesl_seqs.specs.Leaves.{logic_of}
 use Rattle.nesl_seqs_base.specs.declared.order.Best.{Best}
 use Rattle.nesl_seqs_base.specs.declared.order.Order.{Order}
 use Rattle.nesl_seqs_base.specs.declared.order.Order.TheVariants.{Greatest, Least}
@@ -19,7 +19,7 @@ use Rattle.nesl_seqs_base.specs.declared.joint.Joint.{Joint}
 use Rattle.nesl_seqs_base.specs.declared.joint.Joint.TheVariants.{Or, And}
 use Rattle.nesl_seqs_base.specs.declared.seq_fn.SeqFn.TheVariants.{MaxVal, MinVal, MaxIndex, MinIndex, PlusScan, OrScan, AndScan}
 use Rattle.nesl_seqs.proofs.Bounds.{Fits, IsBounded, fits_if, length_below}
-use Rattle.nesl_seqs_fold.proofs.Leaves.{size_before, length_all}
+use Rattle.nesl_seqs.proofs.Leaves.{size_before, length_all}
 
 fits_given : {X : Type 0} (o : Option X) (g : X → Outcome) (n : ℕ) → ((x : X) → Fits (g x) n) → Fits (if_there o g) n
 fits_given None g n h = tt

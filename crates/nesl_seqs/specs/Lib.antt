@@ -2,3 +2,8 @@ pub mod Few
 pub mod Laws
 pub mod Plans
 pub mod Worked
+pub mod Better
+pub mod Elements
+pub mod Leaves
+pub mod FoldPlans
+pub mod Scalar

@@ -3,7 +3,7 @@ use Rattle.std.specs.Prelude.{◌≡◌, ℕ, ⊤, Result, Ok, Err}
 use Rattle.nesl_scalars.specs.declared.trap.Trap.{Trap}
 use Rattle.nesl_values.specs.Tree.{ValueTree}
 use Rattle.nesl_seqs_base.specs.Outcome.{Outcome, gives, traps, undefined}
-use Rattle.nesl_seqs_fold.specs.Plans as folds
+use Rattle.nesl_seqs.specs.FoldPlans as folds
 use Rattle.nesl_seqs_build.specs.Plans as builds
 use Rattle.nesl_seqs_index.specs.Plans as indexes
 use Rattle.nesl_seqs.specs.declared.plans.Plan.{Plan}

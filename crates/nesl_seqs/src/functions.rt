@@ -6,12 +6,14 @@ ghost use Rattle.nesl_seqs_base.specs.Lent.{argument_tree};
 ghost use Rattle.nesl_seqs_base.specs.Outcome.{Outcome, IsGiven, gives};
 ghost use Rattle.nesl_seqs_base.specs.Meaning.{outcome_of};
 ghost use Rattle.nesl_seqs_base.specs.Prices.{Prices, reads, depth_of};
-ghost use Rattle.nesl_seqs_fold.specs.Plans as folds;
+ghost use Rattle.nesl_seqs.specs.FoldPlans as folds;
 ghost use Rattle.nesl_seqs_build.specs.Plans as builds;
 ghost use Rattle.nesl_seqs_index.specs.Plans as indexes;
 ghost use Rattle.nesl_seqs.specs.Few.{HasFewNodes};
 ghost use Rattle.nesl_seqs.specs.Plans.{Plans, built, read_by, depth_by};
 
+use crate::fold::reductions::{self, plan_of_leaf};
+use crate::fold::{equal, extremes, scans};
 use crate::plans::Plan;
 use nesl_scalars::Trap;
 use nesl_seqs_base::argument::Argument;
@@ -19,8 +21,6 @@ use nesl_seqs_base::joint::Joint;
 use nesl_seqs_base::price::Price;
 use nesl_seqs_base::seq_fn::SeqFn;
 use nesl_seqs_build::{levels, pairs, pieces, ranges, replace, sides};
-use nesl_seqs_fold::reductions::{self, plan_of_leaf};
-use nesl_seqs_fold::{equal, extremes, scans};
 use nesl_seqs_index::{gather, permute, woven, write};
 use nesl_values::Value;
 use std::alloc::{AllocError, Allocator};
@@ -81,7 +81,7 @@ pub fn apply<A: Allocator + Copy>(
 }
 
 fn from_fold<'a, A: Allocator>(
-    plan: Result<nesl_seqs_fold::plan::Plan<'a, A>, Trap>,
+    plan: Result<crate::fold::plan::Plan<'a, A>, Trap>,
 ) -> Result<Plan<'a, A>, Trap>
     ensures { (o : Outcome) (read depth : ℕ) → folds.Plans o read depth plan.entry → Plans o read depth result }
 {

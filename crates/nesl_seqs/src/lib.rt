@@ -1,6 +1,7 @@
 //! The functions on sequences: planned, priced within a limit, and only then built.
 #![tactic(auto)]
 
+mod fold;
 mod functions;
 mod laws;
 mod plans;

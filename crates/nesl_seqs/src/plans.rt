@@ -13,7 +13,7 @@ use std::alloc::{AllocError, Allocator, Global};
 #[derive_where(Copy)]
 pub enum Plan<'a, A: Allocator = Global> {
     /// It is told from the elements.
-    Fold(nesl_seqs_fold::plan::Plan<'a, A>),
+    Fold(crate::fold::plan::Plan<'a, A>),
     /// It is made of parts.
     Build(nesl_seqs_build::plan::Plan<'a, A>),
     /// It has the elements at other places.

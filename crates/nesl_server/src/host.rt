@@ -3,9 +3,9 @@
 
 use crate::log::Log;
 use crate::stats::{Replace, Stats};
-use nesl_service_journal::accepting::AcceptFault;
-use nesl_service_journal::counters::Counters;
-use nesl_service_journal::journal::{Answered, Caller, Journal, Seat, Visit};
+use nesl_service_records::accepting::AcceptFault;
+use nesl_service_records::counters::Counters;
+use nesl_service_records::journal::{Answered, Caller, Journal, Seat, Visit};
 use std::io;
 use std::io::Print;
 use std::sync::{Arc, Wait};

@@ -2,8 +2,8 @@
 
 use crossbeam_channel::{Receiver, Sender, bounded};
 use jiff_core::civil::DateTime;
-use nesl_service_journal::accepting::AcceptFault;
-use nesl_service_journal::journal::{Caller, Seat, Visit};
+use nesl_service_records::accepting::AcceptFault;
+use nesl_service_records::journal::{Caller, Seat, Visit};
 use std::alloc::{AllocError, Global};
 use std::io::Eprint;
 use std::sync::atomic::{AtomicU64, Ordering};

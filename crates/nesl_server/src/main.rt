@@ -21,7 +21,7 @@ use clap::error::ErrorKind;
 use nesl_cli::failure::{Failure, Refusal, status_after, words_status};
 use nesl_cli::prompt::{PromptDevices, Terminals};
 use nesl_cli::run;
-use nesl_cli_words::words::example;
+use nesl_cli::words::example;
 use nesl_line::device::{Device, Sink, Source};
 use nesl_prompt::shelf::Shelf;
 use std::alloc::{AllocError, Global};

@@ -2,7 +2,7 @@
 
 use crate::replace::{Rights, replace_file, require_regular};
 use nesl_prompt::shelf::ShelfFault;
-use nesl_service_journal::counters::Counters;
+use nesl_service_records::counters::Counters;
 use std::alloc::{AllocError, Global};
 use std::fs::{self, File};
 use std::rt::Files;

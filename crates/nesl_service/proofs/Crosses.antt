@@ -7,8 +7,8 @@ use Rattle.std.specs.declared.sync.ledger.Ledger.{Ghosts}
 use Rattle.nesl_eval_helpers.specs.contracts.pool.Pool as pool_row
 use Rattle.nesl_eval_helpers.proofs.pool.Kept.TheSendSync as kept_crosses
 use Rattle.nesl_house.proofs.Crosses.{table_sync}
-use Rattle.nesl_service_counts.proofs.Crosses.{receipts_send}
-use Rattle.nesl_service_counts.proofs.numbers.Numbers.TheSendSync as numbers_crosses
+use Rattle.nesl_service_records.proofs.Crosses.{receipts_send}
+use Rattle.nesl_service_records.proofs.numbers.Numbers.TheSendSync as numbers_crosses
 use Rattle.nesl_service.specs.contracts.accept.Acceptor as acceptor_row
 use Rattle.nesl_service.specs.contracts.browse.PageAcceptor as page_acceptor_row
 use Rattle.nesl_service.specs.contracts.crowd.Start as start_row

@@ -3,8 +3,8 @@ ghost use Rattle.std.specs.Prelude.{◌≡◌};
 ghost use Rattle.std.specs.Io.{ReadsAtMost};
 
 use crate::opening::Opening;
-use nesl_service_journal::journal::Missed;
-use nesl_service_journal::watch::Watch;
+use nesl_service_records::journal::Missed;
+use nesl_service_records::watch::Watch;
 pub use nesl_web::lines::Patience;
 use nesl_web::wire::{DrainLimits, Wire, is_late};
 use std::io;

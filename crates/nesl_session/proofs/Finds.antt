@@ -4,14 +4,14 @@ use Rattle.std.specs.Prelude.{if◌then◌else◌}
 use Rattle.std.specs.Bool.{MatchBool}
 use Rattle.nesl_reply.specs.declared.fault.Fault.TheVariants as faults
 use Rattle.nesl_session_meaning.specs.declared.limits.Limits.{Limits}
-use Rattle.nesl_session_forms.specs.declared.finding.Finding.{Finding as Found}
-use Rattle.nesl_session_forms.specs.declared.finding.Finding.TheVariants as found
+use Rattle.nesl_session.specs.declared.forms.finding.Finding.{Finding as Found}
+use Rattle.nesl_session.specs.declared.forms.finding.Finding.TheVariants as found
 use Rattle.nesl_session_meaning.specs.State.{State}
 use Rattle.nesl_session_meaning.specs.Finding.{Finding, unread, reset, part}
 use Rattle.nesl_session_meaning.specs.Step.{Finds, is_reset, is_full, is_part, longest, most_recorded, recorded_by_reset}
-use Rattle.nesl_session_forms.specs.Found.{CanCharge}
+use Rattle.nesl_session.specs.Found.{CanCharge}
 use Rattle.nesl_session.specs.Reading.{FindsRead}
-use Rattle.nesl_session_standing.specs.Settling.{CanSettle, HasRoomFor}
+use Rattle.nesl_session.specs.Settling.{CanSettle, HasRoomFor}
 
 at_true : {P : Type 0} (Q : Type 0) (b : Bool) → b ≡ true → P → MatchBool b P Q
 at_true Q true e p = p

@@ -6,3 +6,4 @@ pub mod Told
 pub mod Lines
 pub mod Naming
 pub mod Opened
+pub mod Verdicts

@@ -1,16 +1,16 @@
 -- A line of a session: its step, its answer, and what the session keeps.
 use Rattle.std.proofs.Common.{◌≡◌, ℕ, List, Option, refl, sym, ◌∙◌, subst}
 use Rattle.nesl_session_meaning.specs.declared.limits.Limits.{Limits}
-use Rattle.nesl_session_standing.specs.declared.standing.Standing.{Standing}
+use Rattle.nesl_session.specs.declared.standing.Standing.{Standing}
 use Rattle.nesl_session_meaning.specs.State.{State, Log}
 use Rattle.nesl_session_meaning.specs.Response.{Reply, no_memory}
 use Rattle.nesl_session_meaning.specs.Finding.{Finding}
 use Rattle.nesl_session_meaning.specs.Step.{Step, Finds, after, reply_of}
 use Rattle.nesl_session_meaning.specs.Solo.{Replays, Responds}
 use Rattle.nesl_reply.specs.declared.fault.Fault.{Fault}
-use Rattle.nesl_session_forms.specs.declared.finding.Finding.{Finding as Found}
-use Rattle.nesl_session_forms.specs.Found.{finding_of, fault_in}
-use Rattle.nesl_session_standing.specs.Inside.{state_of, log_of, log_of_state, Counts, IsSound}
+use Rattle.nesl_session.specs.declared.forms.finding.Finding.{Finding as Found}
+use Rattle.nesl_session.specs.Found.{finding_of, fault_in}
+use Rattle.nesl_session.specs.Inside.{state_of, log_of, log_of_state, Counts, IsSound}
 use Rattle.nesl_session.specs.Asking.{AnswersWith}
 use Rattle.nesl_session.proofs.Told.{told_fault}
 use Rattle.nesl_session_meaning.proofs.Replayed.{replays_after, responds_after}

@@ -1,10 +1,10 @@
 -- A session to which nothing was said.
 use Rattle.std.proofs.Common.{◌≡◌, ℕ, sym, subst}
 use Rattle.nesl_session_meaning.specs.declared.limits.Limits.{Limits}
-use Rattle.nesl_session_standing.specs.declared.standing.Standing.{Standing}
+use Rattle.nesl_session.specs.declared.standing.Standing.{Standing}
 use Rattle.nesl_session_meaning.specs.State.{State, Log, opening, empty_log}
 use Rattle.nesl_session_meaning.specs.Solo.{Replays}
-use Rattle.nesl_session_standing.specs.Inside.{state_of, log_of, log_of_state, Counts, IsSound}
+use Rattle.nesl_session.specs.Inside.{state_of, log_of, log_of_state, Counts, IsSound}
 use Rattle.nesl_session_meaning.proofs.Replayed.{replays_none}
 
 pub opened_keeps : (a : Standing) (base cleared : ℕ) → state_of a ≡ opening base cleared → Counts a → IsSound a

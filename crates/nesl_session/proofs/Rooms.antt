@@ -8,8 +8,8 @@ use Rattle.nesl_session_bindings.specs.Known.{put_binding}
 use Rattle.nesl_session_meaning.specs.declared.limits.Limits.{Limits}
 use Rattle.nesl_session_meaning.specs.State.{State}
 use Rattle.nesl_session_meaning.specs.Finding.{refused, answered, bound_or_refused}
-use Rattle.nesl_session_forms.specs.Found.{HasRoom}
-use Rattle.nesl_session_forms.proofs.Verdicts.{many, few, room}
+use Rattle.nesl_session.specs.Found.{HasRoom}
+use Rattle.nesl_session.proofs.Verdicts.{many, few, room}
 
 pub many_named : (limits : Limits) (s : State) (t : Report) (w : ℕ) (n x : Name) (m : Meaning) → n ≡ x → false ≡ leb (elements_of (put_binding n m s.bindings)) limits.elements
     → refused (faults.Elements w) w ≡ bound_or_refused limits s t w (record { name = x; meaning = m })

@@ -3,12 +3,12 @@ use Rattle.std.proofs.Common.{◌≡◌, ℕ, ◌++◌, List, Bool, Option, code
 use Rattle.nesl_reply.specs.declared.fault.Fault.{Fault}
 use Rattle.nesl_reply.specs.Replies.{Report, report_text}
 use Rattle.nesl_session_bindings.specs.Known.{datatypes_of}
-use Rattle.nesl_session_forms.specs.declared.finding.Finding.{Finding as Found}
-use Rattle.nesl_session_forms.specs.declared.finding.Finding.TheVariants as found
+use Rattle.nesl_session.specs.declared.forms.finding.Finding.{Finding as Found}
+use Rattle.nesl_session.specs.declared.forms.finding.Finding.TheVariants as found
 use Rattle.nesl_session_meaning.specs.State.{State, names_of}
 use Rattle.nesl_session_meaning.specs.Response.{Reply}
 use Rattle.nesl_session_meaning.specs.Step.{reply_of}
-use Rattle.nesl_session_forms.specs.Found.{finding_of, told_after, fault_in, is_recorded}
+use Rattle.nesl_session.specs.Found.{finding_of, told_after, fault_in, is_recorded}
 
 plain : (s : State) (f : Found) → record { bytes = report_text (datatypes_of s.bindings) (names_of s) (told_after (length s.transcript) f) ++ codes "\n"; fault = fault_in f; recorded = is_recorded f } ≡ reply_of s (finding_of f)
 plain s (found.Unread fault) = refl

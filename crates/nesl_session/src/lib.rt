@@ -4,8 +4,10 @@
 pub mod answer;
 mod evaluator;
 mod form;
+mod forms;
 mod line;
 pub mod session;
+mod standing;
 
 pub use line::LONGEST;
 pub use nesl_reply::{Fault, Stop};

@@ -5,18 +5,18 @@ ghost use Rattle.nesl_session_meaning.specs.Finding.{unread, reset};
 ghost use Rattle.nesl_session_meaning.specs.Step.{Finds, Step, is_reset, is_part, is_full, longest, most_recorded};
 ghost use Rattle.nesl_session_meaning.specs.Step.{recorded_by_reset, reply_of};
 ghost use Rattle.nesl_session_meaning.specs.Sense.{HasSense};
-ghost use Rattle.nesl_session_forms.specs.Found.{finding_of, seen_sense, CanCharge};
+ghost use Rattle.nesl_session.specs.Found.{finding_of, seen_sense, CanCharge};
 ghost use Rattle.nesl_session.specs.Reading.{FindsRead};
-ghost use Rattle.nesl_session_standing.specs.Settling.{CanSettle, HasRoomFor};
-ghost use Rattle.nesl_session_standing.specs.Inside.{state_of, Counts};
+ghost use Rattle.nesl_session.specs.Settling.{CanSettle, HasRoomFor};
+ghost use Rattle.nesl_session.specs.Inside.{state_of, Counts};
 
 use crate::answer::Answer;
 use crate::evaluator::Evaluator;
 use crate::form::find_form;
+use crate::forms::finding::Finding;
+use crate::forms::{Sense, sense_of};
+use crate::standing::Standing;
 use nesl_reply::Fault;
-use nesl_session_forms::finding::Finding;
-use nesl_session_forms::{Sense, sense_of};
-use nesl_session_standing::Standing;
 use std::alloc::{AllocError, Allocator, Global};
 
 /// The most bytes of a form, the parts that came before included.

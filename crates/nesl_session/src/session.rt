@@ -15,14 +15,14 @@ ghost use Rattle.std.specs.Iterator.{item_count, YieldsFirstRef};
 use crate::answer::Answer;
 use crate::evaluator::{ByCall, Evaluator, InHeap, InPlace};
 use crate::line::{find, step};
+use crate::standing::Standing;
 use nesl_eval::Outcome;
+use nesl_eval_helpers::{Gate, Helpers};
 use nesl_eval_top_level::Env;
 use nesl_reply::Fault;
 use nesl_session_bindings::Bindings;
-use nesl_session_standing::Standing;
 use nesl_session_meaning::limits::{Limits, Remaining};
 use nesl_split::eval_split;
-use nesl_eval_helpers::{Gate, Helpers};
 use nesl_syntax_tree::tree::Exp;
 use std::alloc::{AllocError, Allocator, Global};
 use std::marker::Model;
@@ -47,7 +47,7 @@ impl Model for Session {
 
     ghost Value = { Log };
 
-    ghost use Rattle.nesl_session_standing.specs.Inside.{log_of, IsSound};
+    ghost use Rattle.nesl_session.specs.Inside.{log_of, IsSound};
 
     ghost view = { λ s. log_of s.standing };
 
@@ -82,7 +82,7 @@ impl<'a> Iterator for Names<'a> {
 }
 
 impl Session {
-    ghost use Rattle.nesl_session_standing.specs.Inside.{state_of, log_of, IsSound};
+    ghost use Rattle.nesl_session.specs.Inside.{state_of, log_of, IsSound};
     ghost use Rattle.nesl_session.specs.Names.{names_left};
 
     /// The empty session: nothing bound, nothing recorded, all of its work left.

@@ -1,7 +1,20 @@
-//! Evaluation whose intervals are cut in halves, which threads share.
+//! Evaluation in halves: a machine whose rounds are cut in two where a helper is granted, and threads share the halves.
 #![tactic(auto)]
 
+mod asker;
+mod columns;
+mod crew;
+mod found;
+mod grant;
+mod halves;
+mod intervals;
 mod one;
+mod reached;
+mod rounds;
+mod run;
+mod turns;
 
+pub use crew::{Crew, fork};
 pub use nesl_eval_helpers::{Free, Gate, Helpers, NoHelpers, Permits, Place, Pool};
 pub use one::eval_split;
+pub use run::evaluate_in_halves;

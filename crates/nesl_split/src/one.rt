@@ -7,13 +7,14 @@ ghost use Rattle.nesl_eval_meaning.specs.Outcome.{out};
 ghost use Rattle.nesl_eval_top_level.specs.Stored.{environment};
 ghost use Rattle.nesl_eval.specs.Outcomes.{OutcomeIs};
 
+use crate::crew::Crew;
+use crate::run::evaluate_in_halves;
 use nesl_eval::{Outcome, outcome_of};
 use nesl_eval_code::runs_as_meant;
-use nesl_eval_top_level::{Env, TopLevel, prepare};
-use nesl_eval_halves::{Crew, evaluate_in_halves};
+use nesl_eval_helpers::{Gate, Helpers};
 use nesl_eval_nodes::held::{Held, Tops};
 use nesl_eval_ops::expression_ops;
-use nesl_eval_helpers::{Gate, Helpers};
+use nesl_eval_top_level::{Env, TopLevel, prepare};
 use nesl_syntax_tree::tree::Exp;
 use std::alloc::{AllocError, Global};
 use std::thread::Threads;

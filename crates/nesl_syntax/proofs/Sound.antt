@@ -20,7 +20,7 @@ use Rattle.nesl_syntax_tree.specs.Trees as trees
 use Rattle.nesl_syntax_open.specs.Marks.{follow_of}
 use Rattle.nesl_syntax_tree.specs.Grammar as grammar
 use Rattle.nesl_syntax_tree.specs.Grammar.{operator_token, level_of, prefix_sign, spanning, token_at, sign_at, word_at, name_at, IsType, AreTypes, IsPattern, IsExpression, looser, AreElements, AreBinders, IsBody, unwritten_body}
-use Rattle.nesl_syntax_parts.specs.Made.{type_pair}
+use Rattle.nesl_syntax_tree.specs.Made.{type_pair}
 use Rattle.nesl_syntax_open.specs.Machine.{Group, let_group, each_group, Opening, round, call, index_of, test, branch, list, range_from, range_to, brace, binders, value, filter, empty_at, type_list, type_round, type_comma, Waiting, open_at, comma_behind, else_behind, body_of, prefix_at, sign_behind, type_at, opening_begins, wanted_by, begun_by, rank, completed, wanted, folded, Mode, before, behind, typing, typed, State, opened, called, Turn, becomes, ends, bound, turned, taken_up, marked, separated, mark_level, followed, let_closed, emptied, begun_with, type_done, typed_with, type_separated, type_bracketed, type_closed, typed_on, step, run, alone, tree_left_in, tree_left, expression, type_alone, type_left_in, type_left, written_type}
 use Rattle.nesl_syntax_open.proofs.Complete.{wanted_small, level_low, level_high, separator}
 use Rattle.nesl_syntax.proofs.Patterns.{pattern_of_phrase}

@@ -10,18 +10,18 @@ use Rattle.nesl_syntax_open.specs.declared.pending.Pending.{Pending}
 use Rattle.nesl_syntax_open.specs.declared.pending.Opening.{Opening}
 use Rattle.nesl_syntax_open.specs.declared.pending.TypeOpening.{TypeOpening}
 use Rattle.nesl_syntax_open.specs.declared.pending.TypeOpening.TheVariants as types
-use Rattle.nesl_syntax_parts.specs.declared.part.Part.{Part}
+use Rattle.nesl_syntax_tree.specs.declared.parts.part.Part.{Part}
 use Rattle.nesl_syntax_open.specs.declared.fault.ParseFault.{ParseFault}
 use Rattle.nesl_syntax_open.specs.declared.fault.ParseFault.TheVariants.{Syntax, Nested, Memory}
 use Rattle.nesl_syntax_open.specs.Modes.{SeesMode, Follows}
-use Rattle.nesl_syntax_parts.specs.declared.types.TypePart.{TypePart}
+use Rattle.nesl_syntax_tree.specs.declared.parts.types.TypePart.{TypePart}
 use Rattle.nesl_syntax_tree.specs.Trees.{Tree, TypeTree, type_on}
 use Rattle.nesl_syntax_tree.specs.Grammar.{spanning}
 use Rattle.nesl_syntax_open.specs.Machine as machine
-use Rattle.nesl_syntax_parts.specs.Parts.{Sees, SeesType}
+use Rattle.nesl_syntax_tree.specs.Parts.{Sees, SeesType}
 use Rattle.nesl_syntax_open.specs.Stack.{SeesOpening, SeesEach, SeesStack}
 use Rattle.nesl_syntax_tree.specs.Grammar.{level_of}
-use Rattle.nesl_syntax_parts.specs.Made.{type_pair}
+use Rattle.nesl_syntax_tree.specs.Made.{type_pair}
 use Rattle.nesl_syntax_open.specs.Machine.{round, call, binders, list, Waiting, open_at, comma_behind, else_behind, body_of, prefix_at, sign_behind, type_at, opening_wants, wanted, before, State, opened, separated, run, step, on_both, alone, type_alone, type_closed, type_comma, type_done, taken_up, turned, marked, listed, with_newest}
 use Rattle.nesl_syntax.specs.Steps.{list_newest, Runs, Closes, OpeningPopped, newest_opening, TypePopped, newest_type}
 use Rattle.nesl_syntax_open.proofs.Complete.{level_low}

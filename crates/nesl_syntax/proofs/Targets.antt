@@ -4,7 +4,7 @@ use Rattle.std.specs.Prelude.{Ok}
 use Rattle.nesl_lex.specs.Tokens.{Placed}
 use Rattle.nesl_syntax.specs.declared.cut.Divider.TheVariants as divider
 use Rattle.nesl_syntax_tree.specs.declared.tree.Member.{Member}
-use Rattle.nesl_syntax_parts.specs.declared.types.TypePart.{TypePart}
+use Rattle.nesl_syntax_tree.specs.declared.parts.types.TypePart.{TypePart}
 use Rattle.nesl_syntax_tree.specs.Trees.{TypeTree, MemberTree}
 use Rattle.nesl_syntax_open.specs.Machine.{written_type}
 use Rattle.nesl_syntax.specs.Steps.{TypeGiven}

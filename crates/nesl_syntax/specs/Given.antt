@@ -16,7 +16,7 @@ use Rattle.nesl_syntax_tree.specs.Trees.{Tree, MemberTree, SignatureTree, FormTr
 use Rattle.nesl_syntax_tree.specs.Trees.{signature_height, form_height}
 use Rattle.nesl_syntax_tree.specs.Trees as trees
 use Rattle.nesl_syntax_tree.specs.Views.{tree_of, pattern_tree, type_tree, member_tree, signature_tree}
-use Rattle.nesl_syntax_parts.specs.Parts.{SeesType, SeesPattern}
+use Rattle.nesl_syntax_tree.specs.Parts.{SeesType, SeesPattern}
 use Rattle.nesl_syntax.specs.Reading.{Targets, Heads, members_in}
 use Rattle.nesl_lex.specs.Tokens.{Placed}
 

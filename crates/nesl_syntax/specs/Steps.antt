@@ -1,11 +1,11 @@
 -- What a step of the code stands for.
 use Rattle.std.specs.Prelude.{◌≡◌, List, ◌∷◌, Option, Some, None, Result, Ok, Err}
-use Rattle.nesl_syntax_parts.specs.declared.part.Part.{Part}
+use Rattle.nesl_syntax_tree.specs.declared.parts.part.Part.{Part}
 use Rattle.nesl_syntax_open.specs.declared.pending.Opening.{Opening}
 use Rattle.nesl_syntax_open.specs.declared.pending.Pending.{Pending}
 use Rattle.nesl_syntax_open.specs.declared.pending.Pending.TheVariants as pendings
 use Rattle.nesl_syntax_open.specs.declared.pending.TypeOpening.{TypeOpening}
-use Rattle.nesl_syntax_parts.specs.declared.types.TypePart.{TypePart}
+use Rattle.nesl_syntax_tree.specs.declared.parts.types.TypePart.{TypePart}
 use Rattle.nesl_syntax_open.specs.declared.mode.Mode.{Mode}
 use Rattle.nesl_syntax_open.specs.declared.fault.ParseFault.{ParseFault}
 use Rattle.nesl_syntax_open.specs.declared.fault.ParseFault.TheVariants.{Syntax, Nested, Memory}
@@ -16,7 +16,7 @@ use Rattle.nesl_syntax_open.specs.Machine.{Waiting, State, before, run, with_new
 use Rattle.nesl_syntax_open.specs.Machine.{type_at, listed, type_closed}
 use Rattle.nesl_syntax_open.specs.Machine as machine
 use Rattle.nesl_syntax_open.specs.Modes.{SeesMode}
-use Rattle.nesl_syntax_parts.specs.Parts.{Sees, SeesType}
+use Rattle.nesl_syntax_tree.specs.Parts.{Sees, SeesType}
 use Rattle.nesl_syntax_open.specs.Stack.{SeesOpening, SeesTypeOpening, SeesPending, SeesStack}
 
 -- the newest, where it is an opening, and those that wait under it

@@ -17,8 +17,8 @@ use crate::parse::{expression, written_type};
 use crate::text::is_text;
 use nesl_lex::token::{Kind, Name, Sign, Token, Word};
 use nesl_syntax_open::ParseFault;
-use nesl_syntax_parts::part::Part;
-use nesl_syntax_parts::types::TypePart;
+use nesl_syntax_tree::parts::part::Part;
+use nesl_syntax_tree::parts::types::TypePart;
 use nesl_syntax_tree::tree::{Exp, Form};
 use std::alloc::Global;
 

@@ -4,7 +4,7 @@ ghost use Rattle.std.specs.Prelude.{◌≡◌, ◌≤◌, ◌<◌, Some, None, E
 ghost use Rattle.nesl_syntax_tree.specs.Trees.{Tree, SignatureTree, height, pattern_height};
 ghost use Rattle.nesl_syntax_tree.specs.Trees as trees;
 ghost use Rattle.nesl_syntax_tree.specs.Views.{tree_of, pattern_tree};
-ghost use Rattle.nesl_syntax_parts.specs.Parts.{Sees, SeesPattern};
+ghost use Rattle.nesl_syntax_tree.specs.Parts.{Sees, SeesPattern};
 ghost use Rattle.nesl_syntax.specs.Reading as reading;
 ghost use Rattle.nesl_syntax.specs.declared.cut.Divider.TheVariants as divider;
 ghost use Rattle.nesl_syntax.specs.Given.{Given, SeesOptional, SeesHead, GivesLine};
@@ -17,8 +17,8 @@ use crate::parse::expression;
 use crate::signature::{SignaturePart, signature};
 use nesl_lex::token::{Kind, Name, Token};
 use nesl_syntax_open::ParseFault;
-use nesl_syntax_parts::part::Part;
-use nesl_syntax_parts::pattern::{PatternPart, pattern_from, pattern_of};
+use nesl_syntax_tree::parts::part::Part;
+use nesl_syntax_tree::parts::pattern::{PatternPart, pattern_from, pattern_of};
 use nesl_syntax_tree::tree::{Exp, Pattern};
 use std::alloc::{AllocError, Global};
 

@@ -14,13 +14,13 @@ ghost use Rattle.nesl_syntax_open.specs.Machine.{let_closed, let_body, emptied, 
 ghost use Rattle.nesl_syntax_open.specs.Machine.{type_separated, type_bracketed, bracket_type, type_closed, begun_with};
 ghost use Rattle.nesl_syntax_open.specs.Machine.{typed_with, typed_on};
 ghost use Rattle.nesl_syntax_open.specs.Machine as machine;
-ghost use Rattle.nesl_syntax_parts.specs.Parts.{Sees, SeesType};
+ghost use Rattle.nesl_syntax_tree.specs.Parts.{Sees, SeesType};
 ghost use Rattle.nesl_syntax_open.specs.Stack.{SeesOpening, SeesTypeOpening, SeesPending, SeesStack};
 ghost use Rattle.nesl_syntax_open.specs.Modes.{SeesMode, Follows};
 ghost use Rattle.nesl_syntax.specs.Steps.{GivesTree, PendingGiven, TypeOpeningGiven, TypeGiven};
 ghost use Rattle.nesl_syntax.specs.Steps.{OpeningPopped, newest_opening, TypePopped, newest_type};
 ghost use Rattle.nesl_syntax_open.specs.declared.mode.Mode.TheVariants as mode;
-ghost use Rattle.nesl_syntax_parts.specs.declared.part.Part.TheVariants as part;
+ghost use Rattle.nesl_syntax_tree.specs.declared.parts.part.Part.TheVariants as part;
 ghost use Rattle.nesl_lex.specs.Tokens.{lexeme_of, placed_of, placed, symbol, reserved};
 
 use nesl_lex::token::{Kind, Sign, Span, Token, Word};
@@ -31,9 +31,9 @@ use nesl_syntax_open::pending::{
     Group, Opening, Pending, TypeOpening, fold, level_begun, level_of, newest, wanted,
 };
 use nesl_syntax_open::turn::{end_part, no_bindings};
-use nesl_syntax_parts::lists::{Elements, push_part};
-use nesl_syntax_parts::part::{Part, empty_of, make_node, over};
-use nesl_syntax_parts::types::{self, TypePart, make_type, pair_of, sequence_of};
+use nesl_syntax_tree::parts::lists::{Elements, push_part};
+use nesl_syntax_tree::parts::part::{Part, empty_of, make_node, over};
+use nesl_syntax_tree::parts::types::{self, TypePart, make_type, pair_of, sequence_of};
 use nesl_syntax_tree::tree::{Exp, Node, Operator, Prefix, TypeNode};
 use std::alloc::Global;
 

@@ -6,7 +6,7 @@ ghost use Rattle.nesl_syntax_tree.specs.Lines.{class_text};
 ghost use Rattle.nesl_syntax.specs.declared.signature.SignaturePart.TheVariants as signatures;
 ghost use Rattle.nesl_syntax_tree.specs.Trees.{TypeTree};
 ghost use Rattle.nesl_syntax_tree.specs.Views.{member_tree};
-ghost use Rattle.nesl_syntax_parts.specs.Parts.{SeesType};
+ghost use Rattle.nesl_syntax_tree.specs.Parts.{SeesType};
 ghost use Rattle.nesl_syntax.specs.Reading as reading;
 ghost use Rattle.nesl_syntax.specs.Given.{Given, SeesMember, SeesMembers, SeesTarget, SeesSignature};
 ghost use Rattle.nesl_lex.specs.Tokens.{lexeme_of, placed};
@@ -16,7 +16,7 @@ use crate::parse::written_type;
 use crate::text::is_text;
 use nesl_lex::token::{Kind, Sign, Token, Word};
 use nesl_syntax_open::ParseFault;
-use nesl_syntax_parts::types::TypePart;
+use nesl_syntax_tree::parts::types::TypePart;
 use nesl_syntax_tree::tree::{Class, Member, Signature, TypeExp};
 use std::alloc::Global;
 

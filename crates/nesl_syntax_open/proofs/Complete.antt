@@ -18,7 +18,7 @@ use Rattle.nesl_syntax_tree.specs.Trees as trees
 use Rattle.nesl_syntax_open.specs.Marks.{follow_of}
 use Rattle.nesl_syntax_tree.specs.Grammar as grammar
 use Rattle.nesl_syntax_tree.specs.Grammar.{operator_token, level_of, prefix_sign, spanning, token_at, sign_at, word_at, name_at, IsType, AreTypes, IsPattern, ArePatterns, IsExpression, AreElements, AreBinders, IsBody, unwritten_body}
-use Rattle.nesl_syntax_parts.specs.Made.{body_or}
+use Rattle.nesl_syntax_tree.specs.Made.{body_or}
 use Rattle.nesl_syntax_open.specs.Machine.{Group, let_group, each_group, Opening, round, call, index_of, test, branch, list, range_from, range_to, brace, binders, value, filter, empty_at, type_list, type_round, type_comma, Waiting, open_at, comma_behind, else_behind, body_of, prefix_at, sign_behind, type_at, opening_wants, wanted_by, begun_by, rank, completed, wanted, folded, before, behind, typing, typed, State, opened, becomes, ends, bound, turned, taken_up, marked, separated, mark_level, on_both, followed, let_closed, type_done, type_separated, type_closed, step, run, alone, expression, written_type}
 use Rattle.nesl_syntax_tree.specs.Patterns.{pattern_in, pattern_shape_in, with_span}
 use Rattle.nesl_syntax_open.proofs.PatternTrees.{shape_of_pattern, tree_of_pattern}

@@ -3,9 +3,9 @@ use Rattle.std.proofs.Common.{◌≡◌, ℕ, ◌+◌, ◌-◌, ◌≤◌, ◌<�
 use Rattle.std.proofs.lemmas.List.{reverse-append, take_more, take_all}
 use Rattle.std.proofs.lemmas.Option.{get_or_from_slice_get}
 use Rattle.nesl_syntax_open.specs.declared.pending.Pending.{Pending}
-use Rattle.nesl_syntax_parts.specs.declared.part.Part.{Part}
+use Rattle.nesl_syntax_tree.specs.declared.parts.part.Part.{Part}
 use Rattle.nesl_syntax_tree.specs.Trees.{Tree}
-use Rattle.nesl_syntax_parts.specs.Parts.{Sees}
+use Rattle.nesl_syntax_tree.specs.Parts.{Sees}
 use Rattle.nesl_syntax_open.specs.Machine.{Waiting, rank, completed, folded}
 use Rattle.nesl_syntax_open.proofs.Complete.{folded-once}
 use Rattle.nesl_syntax_open.specs.Stack.{SeesPending, SeesEach, SeesStack, SeesNewest, Folds}

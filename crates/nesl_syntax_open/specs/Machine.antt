@@ -19,7 +19,7 @@ use Rattle.nesl_syntax_tree.specs.Trees.{binder}
 use Rattle.nesl_syntax_tree.specs.Trees as trees
 use Rattle.nesl_syntax_tree.specs.Patterns.{pattern_in}
 use Rattle.nesl_syntax_open.specs.Marks.{follow_of}
-use Rattle.nesl_syntax_parts.specs.Made.{body_or, type_pair}
+use Rattle.nesl_syntax_tree.specs.Made.{body_or, type_pair}
 use Rattle.nesl_syntax_tree.specs.Grammar.{level_of, spanning}
 
 -- what has binders: a let, or an apply-to-each with its body, if it has one

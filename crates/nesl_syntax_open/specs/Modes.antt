@@ -8,7 +8,7 @@ use Rattle.nesl_syntax_open.specs.declared.fault.ParseFault.TheVariants.{Syntax,
 use Rattle.nesl_syntax_tree.specs.Trees.{Tree, TypeTree}
 use Rattle.nesl_syntax_open.specs.Machine.{State, before, behind, typing, typed}
 use Rattle.nesl_syntax_open.specs.Machine as machine
-use Rattle.nesl_syntax_parts.specs.Parts.{Sees, SeesType}
+use Rattle.nesl_syntax_tree.specs.Parts.{Sees, SeesType}
 use Rattle.nesl_syntax_open.specs.Stack.{SeesStack}
 
 abbrev pub SeesMode : Mode → machine.Mode → Type 0

@@ -1,6 +1,6 @@
 -- What the code's list of what is open stands for.
 use Rattle.std.specs.Prelude.{◌≡◌, ℕ, Bool, true, false, List, [], ◌∷◌, ◌++◌, reverse, Option}
-use Rattle.nesl_syntax_parts.specs.declared.part.Part.{Part}
+use Rattle.nesl_syntax_tree.specs.declared.parts.part.Part.{Part}
 use Rattle.nesl_syntax_open.specs.declared.pending.Group.{Group}
 use Rattle.nesl_syntax_open.specs.declared.pending.Group.TheVariants as groups
 use Rattle.nesl_syntax_open.specs.declared.pending.Opening.{Opening}
@@ -13,7 +13,7 @@ use Rattle.nesl_syntax_tree.specs.Trees.{Tree, Trees, Binders, PatternTree, Type
 use Rattle.nesl_syntax_open.specs.Machine as machine
 use Rattle.nesl_syntax_open.specs.Machine.{Waiting, open_at, comma_behind, else_behind, body_of, prefix_at, sign_behind}
 use Rattle.nesl_syntax_open.specs.Machine.{type_at, folded}
-use Rattle.nesl_syntax_parts.specs.Parts.{Sees, SeesBody, SeesAll, SeesBound, SeesPattern, SeesType}
+use Rattle.nesl_syntax_tree.specs.Parts.{Sees, SeesBody, SeesAll, SeesBound, SeesPattern, SeesType}
 
 abbrev pub some_elements : Trees → Bool
 some_elements none = false

@@ -7,7 +7,7 @@ use Rattle.nesl_syntax_tree.specs.Trees.{Tree, Binders, node}
 use Rattle.nesl_syntax_tree.specs.Trees as trees
 use Rattle.nesl_syntax_tree.specs.Grammar.{spanning}
 use Rattle.nesl_syntax_open.specs.Machine as machine
-use Rattle.nesl_syntax_parts.specs.Made.{body_or}
+use Rattle.nesl_syntax_tree.specs.Made.{body_or}
 use Rattle.nesl_syntax_open.specs.Machine.{becomes, ends, open_at, binders, body_of, filter}
 use Rattle.nesl_syntax_open.specs.Machine.{let_group, each_group}
 

@@ -7,8 +7,8 @@ ghost use Rattle.nesl_syntax_open.specs.Modes.{Follows};
 
 use crate::fault::ParseFault;
 use crate::pending::Pending;
-use nesl_syntax_parts::part::Part;
-use nesl_syntax_parts::types::TypePart;
+use nesl_syntax_tree::parts::part::Part;
+use nesl_syntax_tree::parts::types::TypePart;
 
 /// What the tokens so far leave.
 #[derive(Drop)]

@@ -8,14 +8,14 @@ ghost use Rattle.nesl_syntax_tree.specs.Grammar as grammar;
 ghost use Rattle.nesl_syntax_open.specs.Machine.{Waiting, opening_wants, opening_begins, wanted_by, begun_by};
 ghost use Rattle.nesl_syntax_open.specs.Machine.{completed, folded};
 ghost use Rattle.nesl_syntax_open.specs.Machine as machine;
-ghost use Rattle.nesl_syntax_parts.specs.Parts.{Sees};
+ghost use Rattle.nesl_syntax_tree.specs.Parts.{Sees};
 ghost use Rattle.nesl_syntax_open.specs.Stack.{SeesGroup, SeesOpening, SeesPending, SeesStack};
 
 use nesl_lex::token::{Name, Span};
-use nesl_syntax_parts::lists::{Bindings, Elements, let_of};
-use nesl_syntax_parts::part::{Part, choice_of, infix_of, pair_of, prefix_of};
-use nesl_syntax_parts::pattern::PatternPart;
-use nesl_syntax_parts::types::TypePart;
+use nesl_syntax_tree::parts::lists::{Bindings, Elements, let_of};
+use nesl_syntax_tree::parts::part::{Part, choice_of, infix_of, pair_of, prefix_of};
+use nesl_syntax_tree::parts::pattern::PatternPart;
+use nesl_syntax_tree::parts::types::TypePart;
 use nesl_syntax_tree::tree::{Operator, Prefix};
 use std::alloc::{AllocError, Global};
 

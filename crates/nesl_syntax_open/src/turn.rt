@@ -7,7 +7,7 @@ ghost use Rattle.nesl_syntax_tree.specs.Patterns.{pattern_in};
 ghost use Rattle.nesl_syntax_open.specs.Machine.{Waiting, before, marked, open_at, taken_up, turned};
 ghost use Rattle.nesl_syntax_open.specs.Machine as machine;
 ghost use Rattle.nesl_syntax_open.specs.Modes.{Follows};
-ghost use Rattle.nesl_syntax_parts.specs.Parts.{Sees, SeesAll, SeesBody, SeesBound, SeesPattern};
+ghost use Rattle.nesl_syntax_tree.specs.Parts.{Sees, SeesAll, SeesBody, SeesBound, SeesPattern};
 ghost use Rattle.nesl_syntax_open.specs.Stack.{SeesGroup, SeesOpening, SeesPending, SeesStack};
 ghost use Rattle.nesl_syntax_open.specs.Stack.{some_elements, some_binders};
 ghost use Rattle.nesl_syntax_open.specs.Turns.{let_turned, each_turned};
@@ -20,11 +20,11 @@ use crate::mark::Mark;
 use crate::mode::{Mode, wait};
 use crate::pending::{Group, Opening, Pending, newest};
 use nesl_lex::token::{Name, Span};
-use nesl_syntax_parts::lists::{
+use nesl_syntax_tree::parts::lists::{
     Bindings, Elements, each_of, filtered_each_of, push_binding, push_part, sequence_of,
 };
-use nesl_syntax_parts::part::{Part, call_of, index_of, over, range_of, strided_range_of, widen};
-use nesl_syntax_parts::pattern::{PatternPart, pattern_of};
+use nesl_syntax_tree::parts::part::{Part, call_of, index_of, over, range_of, strided_range_of, widen};
+use nesl_syntax_tree::parts::pattern::{PatternPart, pattern_of};
 use std::alloc::Global;
 
 /// A token that ends a part, and where it stands; and where memory for what it makes comes from.

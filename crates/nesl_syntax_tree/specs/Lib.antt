@@ -5,3 +5,5 @@ pub mod Patterns
 pub mod Views
 pub mod Spans
 pub mod Laws
+pub mod Made
+pub mod Parts

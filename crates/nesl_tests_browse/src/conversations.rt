@@ -1,6 +1,6 @@
 // Users over WebSockets.
 use crate::serving::{Act, served};
-use nesl_service_journal::journal::{Answered, Caller, Journal, NoJournal, Seat, Visit};
+use nesl_service_records::journal::{Answered, Caller, Journal, NoJournal, Seat, Visit};
 use std::alloc::Global;
 use std::net::{Net, TcpListener, TcpStream};
 use std::process::Abort;

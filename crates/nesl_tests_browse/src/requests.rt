@@ -1,6 +1,6 @@
 // What is answered to requests, over a socket.
 use crate::serving::{Act, served};
-use nesl_service_journal::journal::NoJournal;
+use nesl_service_records::journal::NoJournal;
 use std::alloc::Global;
 use std::net::{Net, TcpListener, TcpStream};
 use std::process::Abort;

@@ -4,7 +4,7 @@ use nesl_house::table::Table;
 use nesl_service::browse::Page;
 use nesl_service::service::{Observers, Site, Terms, serve_at};
 use nesl_service::wire::Patience;
-use nesl_service_journal::journal::Journal;
+use nesl_service_records::journal::Journal;
 use nesl_session::limits::Limits;
 use nesl_eval_helpers::Free;
 use std::alloc::Global;

@@ -4,7 +4,7 @@ use crate::helping::Granting;
 use crate::running::{Limits, ops_of, run_in_halves};
 use nesl_eval::{Outcome, eval_one};
 use nesl_eval_top_level::Env;
-use nesl_eval_halves::Crew;
+use nesl_split::Crew;
 use nesl_eval_ops::Ops;
 use nesl_split::eval_split;
 use nesl_eval_helpers::Free;

@@ -1,6 +1,6 @@
 // Receipts that are taken in.
 use nesl_house::lease::Receipt;
-use nesl_service_counts::receipts::Receipts;
+use nesl_service_records::receipts::Receipts;
 use std::alloc::AllocError;
 use std::test::Fail;
 

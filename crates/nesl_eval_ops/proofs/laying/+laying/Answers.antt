@@ -2,8 +2,8 @@ use Rattle.std.proofs.Common.{◌≡◌, ◌∙◌, ◌-◌, ap, sym, arith, ◌
 use Rattle.std.proofs.lemmas.Option.{slice_get-get_or}
 use Rattle.std.specs.Prelude.{option_map}
 use Rattle.nesl_eval_code.proofs.Resolved.{if_ok}
-use Rattle.nesl_eval_blocks.specs.Block.{listing}
-use Rattle.nesl_eval_blocks.specs.Flat.{flat, leaf_of, leaves_of, pushing, forgetting, room}
+use Rattle.nesl_eval_code.specs.Block.{listing}
+use Rattle.nesl_eval_code.specs.Flat.{flat, leaf_of, leaves_of, pushing, forgetting, room}
 use Rattle.nesl_eval_ops.specs.View.{block_in, leaf_is, sizes_of, many_is}
 use Rattle.nesl_eval_ops.specs.Lists.{parts_on}
 use Rattle.nesl_eval_ops.proofs.Lists.{making_all, three_pushed, tail_is, pushed_turn, bound_turn}

@@ -1,6 +1,6 @@
 use Rattle.std.proofs.Common.{◌≡◌, ◌+◌, ◌*◌, ◌-◌, ◌^◌, ◌∷◌, drop, length}
 use Rattle.std.specs.Prelude.{option_map}
-use Rattle.nesl_eval_blocks.specs.Flat.{pushing, flat, forgetting, room}
+use Rattle.nesl_eval_code.specs.Flat.{pushing, flat, forgetting, room}
 use Rattle.nesl_eval_ops.specs.View.{block_in, sizes_of}
 use Rattle.nesl_eval_ops.specs.Lists.{parts_on, binding_on}
 use Rattle.nesl_eval_ops.proofs.laying.+laying.Given as goal

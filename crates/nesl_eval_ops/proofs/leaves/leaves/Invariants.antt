@@ -1,5 +1,5 @@
 use Rattle.std.proofs.Common.{◌≡◌, Some, map, take}
-use Rattle.nesl_eval_blocks.specs.Flat.{leaves_of}
+use Rattle.nesl_eval_code.specs.Flat.{leaves_of}
 use Rattle.nesl_eval_ops.specs.View.{leaf_is, sizes_of}
 use Rattle.nesl_eval_ops.specs.Lists.{parts_on}
 use Rattle.nesl_eval_ops.proofs.leaves.leaves.Given as goal

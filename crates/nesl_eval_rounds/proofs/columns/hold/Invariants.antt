@@ -1,5 +1,5 @@
 use Rattle.std.proofs.Common.{◌≡◌, drop}
-use Rattle.nesl_eval_blocks.specs.Flat.{room}
+use Rattle.nesl_eval_code.specs.Flat.{room}
 use Rattle.nesl_eval_rounds.proofs.columns.hold.Given as goal
 
 abbrev pub invariant-loop-size : goal.invariant-loop-size

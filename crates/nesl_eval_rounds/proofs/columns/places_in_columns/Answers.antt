@@ -1,8 +1,8 @@
 use Rattle.std.proofs.Common.{sym, ap, ◌∙◌, ◌-◌, ◌∷◌, map, length}
 use Rattle.nesl_values.specs.View.{tree_of}
 use Rattle.nesl_eval_code.specs.Run.{run, run_filters}
-use Rattle.nesl_eval_blocks.specs.Exec.{laid}
-use Rattle.nesl_eval_blocks.specs.Laws.{sizes}
+use Rattle.nesl_eval_code.specs.Exec.{laid}
+use Rattle.nesl_eval_code.specs.BlockLaws.{sizes}
 use Rattle.nesl_eval_nodes.specs.Scopes.{frames_of}
 use Rattle.nesl_eval_column_results.specs.Blocks.{block_places}
 use Rattle.nesl_eval_rounds.specs.Leads.{ArePlaces}

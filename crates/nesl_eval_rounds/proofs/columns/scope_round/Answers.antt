@@ -1,7 +1,7 @@
 use Rattle.std.proofs.Common.{◌≡◌, ◌∷◌, refl, sym, ap, ◌∙◌, arith, length, map}
 use Rattle.std.proofs.lemmas.List.{length-map}
 use Rattle.nesl_values.specs.View.{tree_of}
-use Rattle.nesl_eval_blocks.specs.Flat.{room}
+use Rattle.nesl_eval_code.specs.Flat.{room}
 use Rattle.nesl_eval_nodes.proofs.Cuts.{laid_cut, sizes_cut}
 use Rattle.nesl_eval_rounds.proofs.columns.scope_round.Goals as goal
 

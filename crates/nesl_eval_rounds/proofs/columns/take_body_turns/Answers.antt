@@ -1,5 +1,5 @@
 use Rattle.std.proofs.Common.{refl}
-use Rattle.nesl_eval_operands.specs.Slots.{places_of}
+use Rattle.nesl_eval_rounds.specs.Slots.{places_of}
 use Rattle.nesl_eval_rounds.proofs.Gathering.{next_round}
 use Rattle.nesl_eval_rounds.proofs.Columned.{body_took, took_none}
 use Rattle.nesl_eval_rounds.proofs.columns.take_body_turns.Goals as goal

@@ -1,5 +1,5 @@
 use Rattle.std.proofs.Common.{refl, ap, ◌∙◌, ◌++◌}
-use Rattle.nesl_eval_operands.specs.Slots.{places_of}
+use Rattle.nesl_eval_rounds.specs.Slots.{places_of}
 use Rattle.nesl_eval_rounds.proofs.Gathering.{some_there, next_round}
 use Rattle.nesl_eval_rounds.proofs.Columned.{filter_took, took_none}
 use Rattle.nesl_eval_rounds.proofs.columns.take_filter_turns.Goals as goal

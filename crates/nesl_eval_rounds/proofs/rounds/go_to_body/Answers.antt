@@ -2,8 +2,8 @@ use Rattle.std.proofs.Common.{◌≡◌, ℕ, List, subst}
 use Rattle.std.specs.Prelude.{MatchResult}
 use Rattle.nesl_values.specs.Tree.{ValueTree}
 use Rattle.nesl_eval_code.specs.Run.{Table}
-use Rattle.nesl_eval_blocks.specs.Block.{Block}
-use Rattle.nesl_eval_blocks.specs.Exec.{Places}
+use Rattle.nesl_eval_code.specs.Block.{Block}
+use Rattle.nesl_eval_code.specs.Exec.{Places}
 use Rattle.nesl_eval_nodes.specs.declared.meter.Stop.TheVariants.{Memory}
 use Rattle.nesl_eval_rounds.specs.Rounds.{between}
 use Rattle.nesl_eval_rounds.proofs.rounds.go_to_body.Goals as goal

@@ -6,10 +6,10 @@ use Rattle.nesl_syntax_tree.specs.Views.{line_of}
 use Rattle.nesl_session_meaning.specs.declared.limits.Limits.{Limits}
 use Rattle.nesl_session_meaning.specs.State.{State}
 use Rattle.nesl_session_meaning.specs.Finding.{FindsForm}
-use Rattle.nesl_session_forms.specs.Found.{finding_of, CanCharge}
-use Rattle.nesl_session_forms.specs.Forms.{with_names}
-use Rattle.nesl_session_forms.proofs.Verdicts.{found_answers}
-use Rattle.nesl_session_standing.specs.Inside.{state_of}
+use Rattle.nesl_session.specs.Found.{finding_of, CanCharge}
+use Rattle.nesl_session.specs.Forms.{with_names}
+use Rattle.nesl_session.proofs.Verdicts.{found_answers}
+use Rattle.nesl_session.specs.Inside.{state_of}
 use Rattle.nesl_session.proofs.form.find_form.Goals as goal
 
 pub returns-in-Fun-clause-found : goal.returns-in-Fun-clause-found

@@ -7,7 +7,7 @@ use Rattle.nesl_eval_meaning.specs.Outcome.{out}
 use Rattle.nesl_eval_top_level.specs.Stored as code
 use Rattle.nesl_session_bindings.specs.Known.{environment, put_binding}
 use Rattle.nesl_session_bindings.specs.Meanings.{variable, elements_of}
-use Rattle.nesl_session_standing.specs.Inside.{state_of}
+use Rattle.nesl_session.specs.Inside.{state_of}
 use Rattle.nesl_session_meaning.specs.Finding.{budget, refused}
 use Rattle.nesl_eval.specs.declared.outcome.Outcome.TheVariants.{Done}
 use Rattle.nesl_reply.specs.Replies as replies

@@ -6,10 +6,10 @@ use Rattle.nesl_eval_meaning.specs.Out.{within}
 use Rattle.nesl_eval_meaning.specs.Outcome.{out}
 use Rattle.nesl_session_bindings.specs.Known.{environment}
 use Rattle.nesl_session_meaning.specs.Finding.{Finding, budget, FindsOutcome, FindsVariable}
-use Rattle.nesl_session_forms.specs.Found.{finding_of}
-use Rattle.nesl_session_forms.specs.Forms.{IsVariable}
-use Rattle.nesl_session_forms.proofs.Verdicts.{stopped_finds, stopped_charges, found_answers}
-use Rattle.nesl_session_standing.specs.Inside.{state_of}
+use Rattle.nesl_session.specs.Found.{finding_of}
+use Rattle.nesl_session.specs.Forms.{IsVariable}
+use Rattle.nesl_session.proofs.Verdicts.{stopped_finds, stopped_charges, found_answers}
+use Rattle.nesl_session.specs.Inside.{state_of}
 use Rattle.nesl_session.proofs.form.find_variable.Goals as goal
 
 pub returns-in-Ok-clause-found : goal.returns-in-Ok-clause-found

@@ -1,7 +1,7 @@
 use Rattle.std.proofs.Common.{◌≡◌, length, map, arith}
 use Rattle.std.proofs.lemmas.List.{length-map}
 use Rattle.nesl_reply.specs.Replies.{report_of}
-use Rattle.nesl_session_standing.specs.Inside.{state_of}
+use Rattle.nesl_session.specs.Inside.{state_of}
 use Rattle.nesl_session.proofs.Told.{told_response}
 use Rattle.nesl_session.proofs.line.answer.Goals as goal
 

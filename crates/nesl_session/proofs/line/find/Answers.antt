@@ -1,6 +1,6 @@
 use Rattle.std.proofs.Common.{sym}
-use Rattle.nesl_session_forms.specs.Found.{finding_of}
-use Rattle.nesl_session_standing.specs.Inside.{state_of}
+use Rattle.nesl_session.specs.Found.{finding_of}
+use Rattle.nesl_session.specs.Inside.{state_of}
 use Rattle.nesl_session.proofs.Finds.{finds_reset, finds_full, finds_long, finds_part, finds_read}
 use Rattle.nesl_session.proofs.line.find.Goals as goal
 

@@ -1,4 +1,4 @@
-use Rattle.nesl_session_forms.specs.Found.{finding_of}
+use Rattle.nesl_session.specs.Found.{finding_of}
 use Rattle.nesl_session.proofs.Lines.{step_from}
 use Rattle.nesl_session.proofs.line.step.Goals as goal
 

@@ -8,7 +8,7 @@ use Rattle.nesl_eval_ops.specs.View.{HasBodies}
 use Rattle.nesl_eval_top_level.specs.Stored.{environment, names_in}
 use Rattle.nesl_eval_top_level.specs.TopLevels.{table_in}
 use Rattle.nesl_eval.proofs.Meant.{tells_meant}
-use Rattle.nesl_eval_halves.proofs.Crosses.{ops_sync}
+use Rattle.nesl_split.proofs.Crosses.{ops_sync}
 use Rattle.nesl_split.proofs.Lent.{code_sync, context_sync}
 use Rattle.nesl_split.proofs.one.eval_split.Goals as goal
 

@@ -1,7 +1,7 @@
 use Rattle.std.proofs.Common.{List, vec_len}
 use Rattle.nesl_syntax_tree.specs.Trees.{TypeTree}
 use Rattle.nesl_syntax_open.specs.Machine.{Waiting}
-use Rattle.nesl_syntax_parts.specs.Parts.{SeesType}
+use Rattle.nesl_syntax_tree.specs.Parts.{SeesType}
 use Rattle.nesl_syntax_open.specs.Stack.{SeesStack}
 use Rattle.nesl_syntax.specs.Steps.{Closes}
 use Rattle.nesl_syntax.proofs.parse.close_types.Given as goal

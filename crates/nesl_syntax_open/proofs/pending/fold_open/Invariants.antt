@@ -1,7 +1,7 @@
 use Rattle.std.proofs.Common.{List, vec_len}
 use Rattle.nesl_syntax_tree.specs.Trees.{Tree}
 use Rattle.nesl_syntax_open.specs.Machine.{Waiting}
-use Rattle.nesl_syntax_parts.specs.Parts.{Sees}
+use Rattle.nesl_syntax_tree.specs.Parts.{Sees}
 use Rattle.nesl_syntax_open.specs.Stack.{SeesStack, Folds}
 use Rattle.nesl_syntax_open.proofs.pending.fold_open.Given as goal
 

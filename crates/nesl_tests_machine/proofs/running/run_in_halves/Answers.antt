@@ -1,7 +1,7 @@
 use denote.Param.Send.{sendable}
 use Rattle.std.proofs.Crossing as standard
 use Rattle.std.proofs.MapsCrossing as maps
-use Rattle.nesl_eval_halves.proofs.Crosses.{ops_sync}
+use Rattle.nesl_split.proofs.Crosses.{ops_sync}
 use Rattle.nesl_split.proofs.Lent.{code_sync, context_sync}
 use Rattle.nesl_tests_machine.proofs.running.run_in_halves.Goals as goal
 

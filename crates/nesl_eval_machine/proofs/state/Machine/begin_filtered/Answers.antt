@@ -1,7 +1,7 @@
 use Rattle.std.proofs.Common.{Ok, Err, Some, List, ◌∷◌, subst}
 use Rattle.nesl_eval_meaning.specs.Names.{Value}
 use Rattle.nesl_eval_meaning.specs.Out.{Out, and_then}
-use Rattle.nesl_eval_blocks.specs.Exec.{exec, at_places}
+use Rattle.nesl_eval_code.specs.Exec.{exec, at_places}
 use Rattle.nesl_eval_ops.specs.View.{block_of, body_block}
 use Rattle.nesl_eval_nodes.specs.declared.meter.Stop.TheVariants.{Stuck}
 use Rattle.nesl_eval_machine.specs.State.{in_rounds, env_of}

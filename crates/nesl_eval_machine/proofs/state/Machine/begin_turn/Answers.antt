@@ -4,7 +4,7 @@ use Rattle.std.proofs.lemmas.Result.{err_from_is_err_and}
 use Rattle.std.proofs.Math.ListN.{length-append}
 use Rattle.nesl_values.specs.View.{tree_of}
 use Rattle.nesl_eval_code.specs.Frames.{row}
-use Rattle.nesl_eval_blocks.specs.Exec.{Places, exec}
+use Rattle.nesl_eval_code.specs.Exec.{Places, exec}
 use Rattle.nesl_eval_ops.specs.View.{block_of, body_block}
 use Rattle.nesl_eval_rounds.specs.Rounds.{between}
 use Rattle.nesl_eval_machine.specs.State.{places_of, slots_of, env_of, local_of, frames_of}

@@ -5,7 +5,7 @@ use Rattle.nesl_eval_meaning.specs.Names.{Value}
 use Rattle.nesl_eval_meaning.specs.Out.{Out, and_then}
 use Rattle.nesl_eval_meaning.specs.Outcome.{small_enough}
 use Rattle.nesl_eval_code.specs.Run.{run, run_called, slot_at, variable_slot, datatype_slot, nothing_slot}
-use Rattle.nesl_eval_blocks.specs.Exec.{exec}
+use Rattle.nesl_eval_code.specs.Exec.{exec}
 use Rattle.nesl_eval_ops.specs.View.{block_of}
 use Rattle.nesl_eval_nodes.specs.declared.meter.Stop.TheVariants.{Stuck}
 use Rattle.nesl_eval_nodes.proofs.Making.{held_called}

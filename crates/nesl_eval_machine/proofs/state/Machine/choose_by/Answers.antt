@@ -5,7 +5,7 @@ use Rattle.nesl_values.specs.View.{tree_of}
 use Rattle.nesl_eval_meaning.specs.Names.{Value}
 use Rattle.nesl_eval_meaning.specs.Out.{Out, and_then}
 use Rattle.nesl_eval_meaning.specs.Outcome.{branch}
-use Rattle.nesl_eval_blocks.specs.Exec.{exec}
+use Rattle.nesl_eval_code.specs.Exec.{exec}
 use Rattle.nesl_eval_ops.specs.View.{block_of}
 use Rattle.nesl_eval_machine.specs.State.{env_of, local_of, left_with}
 use Rattle.nesl_eval_machine.proofs.Stepping.{steps_from, stuck_steps}

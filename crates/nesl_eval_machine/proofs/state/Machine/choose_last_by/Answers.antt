@@ -6,8 +6,8 @@ use Rattle.nesl_eval_meaning.specs.Names.{Value}
 use Rattle.nesl_eval_meaning.specs.Out.{Out, stuck}
 use Rattle.nesl_eval_meaning.specs.Outcome.{branch}
 use Rattle.nesl_eval_code.specs.Run.{Table}
-use Rattle.nesl_eval_blocks.specs.Block.{Block, last}
-use Rattle.nesl_eval_blocks.specs.Exec.{Places, exec}
+use Rattle.nesl_eval_code.specs.Block.{Block, last}
+use Rattle.nesl_eval_code.specs.Exec.{Places, exec}
 use Rattle.nesl_eval_ops.specs.View.{block_of}
 use Rattle.nesl_eval_machine.specs.State.{env_of, local_of}
 use Rattle.nesl_eval_machine.proofs.Stepping.{stuck_steps}

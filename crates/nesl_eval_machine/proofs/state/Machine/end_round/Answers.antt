@@ -4,7 +4,7 @@ use Rattle.nesl_values.specs.Tree.{sequence}
 use Rattle.nesl_values.specs.View.{tree_of}
 use Rattle.nesl_values_builder.specs.Elements.{elements_of}
 use Rattle.nesl_eval_meaning.specs.Out.{after_cost}
-use Rattle.nesl_eval_blocks.specs.Exec.{exec}
+use Rattle.nesl_eval_code.specs.Exec.{exec}
 use Rattle.nesl_eval_ops.specs.View.{block_of}
 use Rattle.nesl_eval_rounds.specs.Rounds.{between}
 use Rattle.nesl_eval_machine.specs.State.{env_of, local_of, frames_of}

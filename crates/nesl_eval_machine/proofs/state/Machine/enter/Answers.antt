@@ -1,8 +1,8 @@
 use Rattle.std.proofs.Common.{refl}
 use Rattle.std.proofs.lemmas.Result.{err_from_is_err_and}
-use Rattle.nesl_eval_blocks.specs.Exec.{exec, admitted}
+use Rattle.nesl_eval_code.specs.Exec.{exec, admitted}
 use Rattle.nesl_eval_ops.specs.View.{block_of}
-use Rattle.nesl_eval_operands.specs.Slots.{Anything}
+use Rattle.nesl_eval_rounds.specs.Slots.{Anything}
 use Rattle.nesl_eval_machine.specs.State.{env_of, local_of}
 use Rattle.nesl_eval_machine.proofs.Stepping.{run_goes, run_stops}
 use Rattle.nesl_eval_machine.proofs.state.Machine.enter.Goals as goal

@@ -5,8 +5,8 @@ use Rattle.nesl_eval_meaning.specs.Names.{Value}
 use Rattle.nesl_eval_meaning.specs.Out.{Out, after_cost, and_then, at_call}
 use Rattle.nesl_eval_code.specs.Frames.{frame}
 use Rattle.nesl_eval_code.specs.Run.{run}
-use Rattle.nesl_eval_blocks.specs.Exec.{exec}
-use Rattle.nesl_eval_blocks.specs.Flat.{block}
+use Rattle.nesl_eval_code.specs.Exec.{exec}
+use Rattle.nesl_eval_code.specs.Flat.{block}
 use Rattle.nesl_eval_ops.specs.View.{block_of}
 use Rattle.nesl_eval_machine.specs.State.{places_of, frames_of, slots_of, env_of, local_of}
 use Rattle.nesl_eval_machine.proofs.Stepping.{memory_any, one_longer}

@@ -7,7 +7,7 @@ use Rattle.nesl_values.specs.View.{tree_of}
 use Rattle.nesl_eval_meaning.specs.Names.{Value}
 use Rattle.nesl_eval_meaning.specs.Out.{Out, and_then, given}
 use Rattle.nesl_eval_meaning.specs.Outcome.{lengths, common_places}
-use Rattle.nesl_eval_blocks.specs.Exec.{exec, at_places}
+use Rattle.nesl_eval_code.specs.Exec.{exec, at_places}
 use Rattle.nesl_eval_ops.specs.View.{body_block}
 use Rattle.nesl_eval_nodes.specs.Meets.{Meets}
 use Rattle.nesl_eval_rounds.specs.Rounds.{between}

@@ -2,7 +2,7 @@ use Rattle.std.proofs.Common.{refl, sym, inr, arith, ◌∷◌, []}
 use Rattle.std.proofs.lemmas.List.{append-nil}
 use Rattle.nesl_eval_meaning.specs.Names.{Value}
 use Rattle.nesl_eval_meaning.specs.Out.{Out, after_cost, and_then}
-use Rattle.nesl_eval_blocks.specs.Exec.{exec}
+use Rattle.nesl_eval_code.specs.Exec.{exec}
 use Rattle.nesl_eval_ops.specs.View.{block_of}
 use Rattle.nesl_eval_machine.specs.State.{slots_of, env_of, local_of}
 use Rattle.nesl_eval_rounds.proofs.Laws.{then_after}

@@ -1,5 +1,5 @@
 use Rattle.std.proofs.Common.{sym, subst, ◌∙◌}
-use Rattle.nesl_eval_blocks.specs.Block.{enter}
+use Rattle.nesl_eval_code.specs.Block.{enter}
 use Rattle.nesl_eval_ops.specs.View.{block_of}
 use Rattle.nesl_eval_machine.specs.State.{Fits, left, left_at}
 use Rattle.nesl_eval_machine.specs.Steps.{Moves}

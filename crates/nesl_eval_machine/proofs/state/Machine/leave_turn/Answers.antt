@@ -1,8 +1,8 @@
 use Rattle.std.proofs.Common.{refl, Err, List}
 use Rattle.nesl_eval_meaning.specs.Names.{Value}
 use Rattle.nesl_eval_meaning.specs.Out.{Out}
-use Rattle.nesl_eval_blocks.specs.Block.{finish}
-use Rattle.nesl_eval_blocks.specs.Exec.{exec}
+use Rattle.nesl_eval_code.specs.Block.{finish}
+use Rattle.nesl_eval_code.specs.Exec.{exec}
 use Rattle.nesl_eval_ops.specs.View.{block_of}
 use Rattle.nesl_eval_nodes.specs.declared.meter.Stop.TheVariants.{Stuck}
 use Rattle.nesl_eval_machine.specs.State.{env_of}

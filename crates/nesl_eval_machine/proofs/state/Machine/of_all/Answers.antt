@@ -1,6 +1,6 @@
 use Rattle.std.proofs.Common.{map}
 use Rattle.nesl_values.specs.View.{tree_of}
-use Rattle.nesl_eval_blocks.specs.Exec.{made_of}
+use Rattle.nesl_eval_code.specs.Exec.{made_of}
 use Rattle.nesl_eval_ops.specs.View.{many_is}
 use Rattle.nesl_eval_machine.proofs.Hands.{found_moves}
 use Rattle.nesl_eval_machine.proofs.state.Machine.of_all.Goals as goal

@@ -2,7 +2,7 @@ use Rattle.std.proofs.Common.{Err, Ok, List, ◌∷◌, subst}
 use Rattle.std.proofs.lemmas.Result.{err_from_is_err_and}
 use Rattle.nesl_eval_meaning.specs.Names.{Value}
 use Rattle.nesl_eval_meaning.specs.Out.{Out, and_then}
-use Rattle.nesl_eval_blocks.specs.Exec.{exec, made_of}
+use Rattle.nesl_eval_code.specs.Exec.{exec, made_of}
 use Rattle.nesl_eval_ops.specs.View.{block_of, many_is}
 use Rattle.nesl_eval_nodes.specs.declared.meter.Stop.TheVariants.{Stuck}
 use Rattle.nesl_eval_machine.specs.State.{env_of, frames_of}

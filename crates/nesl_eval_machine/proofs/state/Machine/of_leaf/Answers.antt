@@ -1,6 +1,6 @@
 use Rattle.std.proofs.Common.{[], ◌∷◌}
-use Rattle.nesl_eval_blocks.specs.Block.{of_one}
-use Rattle.nesl_eval_blocks.specs.Exec.{with_leaves, made_of}
+use Rattle.nesl_eval_code.specs.Block.{of_one}
+use Rattle.nesl_eval_code.specs.Exec.{with_leaves, made_of}
 use Rattle.nesl_eval_ops.specs.View.{leaf_is}
 use Rattle.nesl_eval_machine.specs.State.{env_of}
 use Rattle.nesl_eval_machine.proofs.Hands.{found_moves}

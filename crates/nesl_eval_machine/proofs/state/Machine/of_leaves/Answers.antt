@@ -1,5 +1,5 @@
 use Rattle.std.proofs.Common.{[], ◌∷◌}
-use Rattle.nesl_eval_blocks.specs.Exec.{with_leaves, made_of}
+use Rattle.nesl_eval_code.specs.Exec.{with_leaves, made_of}
 use Rattle.nesl_eval_ops.specs.View.{leaf_is, two_is}
 use Rattle.nesl_eval_machine.specs.State.{env_of}
 use Rattle.nesl_eval_machine.proofs.Hands.{found_moves}

@@ -1,6 +1,6 @@
 use Rattle.std.proofs.Common.{◌≡◌, ◌+◌, Ok, subst, arith, [], map, length}
 use Rattle.std.proofs.lemmas.Result.{err_from_is_err_and}
-use Rattle.nesl_eval_blocks.specs.Block.{make}
+use Rattle.nesl_eval_code.specs.Block.{make}
 use Rattle.nesl_eval_ops.specs.View.{block_of, leaf_is, many_is}
 use Rattle.nesl_eval_machine.specs.State.{frames_of, left_at}
 use Rattle.nesl_eval_machine.specs.Steps.{Steps}

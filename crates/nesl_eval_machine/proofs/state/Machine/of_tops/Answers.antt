@@ -2,8 +2,8 @@ use Rattle.std.proofs.Common.{refl, List, Err, [], ◌∷◌}
 use Rattle.nesl_values.specs.View.{tree_of}
 use Rattle.nesl_eval_meaning.specs.Names.{Value}
 use Rattle.nesl_eval_meaning.specs.Out.{Out}
-use Rattle.nesl_eval_blocks.specs.Block.{make}
-use Rattle.nesl_eval_blocks.specs.Exec.{exec}
+use Rattle.nesl_eval_code.specs.Block.{make}
+use Rattle.nesl_eval_code.specs.Exec.{exec}
 use Rattle.nesl_eval_ops.specs.View.{block_of, two_is}
 use Rattle.nesl_eval_nodes.specs.declared.meter.Stop.TheVariants.{Stuck}
 use Rattle.nesl_eval_machine.specs.State.{env_of}

@@ -1,5 +1,5 @@
 use Rattle.std.proofs.Common.{refl, sym, subst, ◌∙◌, ◌∷◌, []}
-use Rattle.nesl_eval_blocks.specs.Block.{make, of_one}
+use Rattle.nesl_eval_code.specs.Block.{make, of_one}
 use Rattle.nesl_eval_ops.specs.View.{block_of, leaf_is, two_is}
 use Rattle.nesl_eval_machine.specs.State.{left_at}
 use Rattle.nesl_eval_machine.specs.Steps.{Moves}

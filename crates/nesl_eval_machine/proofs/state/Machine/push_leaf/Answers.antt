@@ -1,4 +1,4 @@
-use Rattle.nesl_eval_blocks.specs.Exec.{leaf_out}
+use Rattle.nesl_eval_code.specs.Exec.{leaf_out}
 use Rattle.nesl_eval_ops.specs.View.{leaf_is}
 use Rattle.nesl_eval_machine.specs.State.{env_of}
 use Rattle.nesl_eval_machine.proofs.Hands.{found_moves}

@@ -1,6 +1,6 @@
 use Rattle.std.proofs.Common.{subst, ◌∷◌}
 use Rattle.std.proofs.lemmas.Result.{err_from_is_err_and}
-use Rattle.nesl_eval_blocks.specs.Exec.{exec}
+use Rattle.nesl_eval_code.specs.Exec.{exec}
 use Rattle.nesl_eval_nodes.specs.Meets.{Meets, Is}
 use Rattle.nesl_eval_machine.specs.State.{env_of, local_of}
 use Rattle.nesl_eval_machine.proofs.Stepping.{run_stops, kept_steps}

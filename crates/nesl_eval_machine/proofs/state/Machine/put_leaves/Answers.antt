@@ -1,6 +1,6 @@
 use Rattle.std.proofs.Common.{◌≡◌, ap, sym, subst, arith, map, drop, Ok, Err, ◌+◌, [], length}
 use Rattle.std.proofs.lemmas.Result.{err_from_is_err_and}
-use Rattle.nesl_eval_blocks.specs.Block.{make}
+use Rattle.nesl_eval_code.specs.Block.{make}
 use Rattle.nesl_eval_ops.specs.View.{leaf_is}
 use Rattle.nesl_eval_nodes.proofs.Arms.{drop_past}
 use Rattle.nesl_eval_nodes.proofs.Loops.{next_item}

@@ -1,6 +1,6 @@
 use Rattle.std.proofs.Common.{ℕ, ◌+◌, ◌<◌, ◌^◌, Ok, drop, map}
 use Rattle.nesl_lex.specs.declared.token.Span.{Span}
-use Rattle.nesl_eval_blocks.specs.Block.{Block, Maker, make}
+use Rattle.nesl_eval_code.specs.Block.{Block, Maker, make}
 use Rattle.nesl_eval_ops.specs.View.{leaf_is}
 use Rattle.nesl_eval_machine.specs.State.{Fits, left_at}
 use Rattle.nesl_eval_machine.specs.Steps.{Steps}

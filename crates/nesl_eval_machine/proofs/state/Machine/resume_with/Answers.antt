@@ -3,8 +3,8 @@ use Rattle.nesl_lex.specs.declared.token.Span.{Span}
 use Rattle.nesl_eval_meaning.specs.Names.{Value}
 use Rattle.nesl_eval_meaning.specs.Out.{value, after_cost}
 use Rattle.nesl_eval_code.specs.Run.{Table}
-use Rattle.nesl_eval_blocks.specs.Block.{Block}
-use Rattle.nesl_eval_blocks.specs.Exec.{Places, exec}
+use Rattle.nesl_eval_code.specs.Block.{Block}
+use Rattle.nesl_eval_code.specs.Exec.{Places, exec}
 use Rattle.nesl_eval_ops.specs.View.{block_of}
 use Rattle.nesl_eval_machine.specs.declared.state.Purpose.{Purpose}
 use Rattle.nesl_eval_machine.specs.declared.state.Purpose.TheVariants.{Push, Return}

@@ -1,7 +1,7 @@
 use Rattle.std.proofs.Common.{sym, subst, ◌∙◌, ◌∷◌, []}
 use Rattle.nesl_values.specs.View.{tree_of}
-use Rattle.nesl_eval_blocks.specs.Block.{make}
-use Rattle.nesl_eval_blocks.specs.Exec.{exec}
+use Rattle.nesl_eval_code.specs.Block.{make}
+use Rattle.nesl_eval_code.specs.Exec.{exec}
 use Rattle.nesl_eval_ops.specs.View.{block_of, leaf_is, two_is}
 use Rattle.nesl_eval_machine.specs.State.{env_of, local_of, left_with}
 use Rattle.nesl_eval_machine.specs.Steps.{Moves}

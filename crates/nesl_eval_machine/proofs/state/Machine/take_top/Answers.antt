@@ -1,7 +1,7 @@
 use Rattle.std.proofs.Common.{List, Ok, Err}
 use Rattle.nesl_eval_meaning.specs.Names.{Value}
 use Rattle.nesl_eval_meaning.specs.Out.{Out}
-use Rattle.nesl_eval_blocks.specs.Exec.{exec}
+use Rattle.nesl_eval_code.specs.Exec.{exec}
 use Rattle.nesl_eval_ops.specs.View.{block_of}
 use Rattle.nesl_eval_nodes.specs.declared.meter.Stop.TheVariants.{Stuck}
 use Rattle.nesl_eval_machine.specs.declared.state.Hand.TheVariants.{Holds}

@@ -1,0 +1,450 @@
+//! The words of the command line.
+
+ghost use Rattle.std.specs.Prelude.{◌≡◌, IfOk, codes, false, map, option_map};
+ghost use Rattle.clap.specs.Walk.{rule_of, rows_of, Rule};
+ghost use Rattle.clap.specs.Matches.{found_of};
+ghost use Rattle.clap.specs.Simple.{App, Shape, with_subcommand};
+ghost use Rattle.clap.specs.Words.{app_of, fault_of, FailsBy, subcommand_rows_of};
+ghost use Rattle.nesl_cli.specs.Shapes.{IsShaped, with_rule};
+ghost use Rattle.nesl_cli.specs.Words.{batch, connections_rule, csv_rule, files_rule, first_line_rule, heap_rule};
+ghost use Rattle.nesl_cli.specs.Words.{hints_rule, idle_rule, is_among, log_rule, number_among, number_rule};
+ghost use Rattle.nesl_cli.specs.Words.{port_rule, program, repl, serve, service_among, stats_rule, task_among};
+ghost use Rattle.nesl_cli.specs.Words.{web_host_rule, web_rule, batch_among, task_in, task_of, text_among};
+ghost use Rattle.nesl_cli.specs.Words.{text_rule, users_among, users_in, users_of, users_rule};
+ghost use Rattle.nesl_cli.specs.Words.{without_subcommands, workers_rule};
+ghost use Rattle.nesl_cli.specs.Wanted.{service_wanted, task_wanted, users_wanted};
+
+use crate::help;
+use clap::builder::ValueParser;
+use clap::{Arg, ArgAction, ArgMatches, Command, Error};
+use std::alloc::{AllocError, Global};
+
+/// The program's version, which `--version` tells and scripts/package takes for the package's.
+pub const VERSION: &str = "1.0.0";
+
+/// The most seconds for a line to come or for an answer to be taken.
+const MOST_SECONDS: u64 = 86_400;
+
+/// The most that a port may be.
+const MOST_PORT: u64 = 65_535;
+
+/// The most helpers.
+const MOST_WORKERS: u64 = 64;
+
+/// The most connections after which a service ends.
+const MOST_CONNECTIONS: u64 = 1_000_000;
+
+/// The least bytes of a heap.
+const LEAST_HEAP: u64 = 16;
+
+/// The most bytes of a heap.
+const MOST_HEAP: u64 = 1_073_741_824;
+
+/// What is to be done.
+#[derive(Clone, Copy, PartialEq, Eq, Debug)]
+pub enum Task<'a> {
+    /// A batch, evaluated in a heap of so many bytes, if there is to be one.
+    Batch {
+        heap: Option<usize>,
+        /// Whether hints are told below faults.
+        is_hinted: bool,
+    },
+    /// The costs of a batch for each of these values of `n`, as CSV; evaluated in a heap likewise.
+    Costs {
+        values: &'a str,
+        heap: Option<usize>,
+    },
+    Service(Service<'a>),
+    /// A prompt.
+    Prompt {
+        /// Whether hints are told wherever it writes to.
+        is_hinted: bool,
+        /// Whether it opens files wherever it reads from.
+        has_files: bool,
+    },
+}
+
+/// A service on this port, with so many helpers, which ends after so many connections, if it is to end. Where there is
+/// one, its page is at the port `web`, and may be asked for by the name `web_host` too.
+///
+/// Where they are told, a line has so many `idle` seconds to come whole, and as many may pass while nothing of an
+/// answer is taken; the first line of a connection has so many `first_line` seconds. A connection that takes longer is
+/// ended. Where the service is logged, each connection is told of; where there is a file for `stats`, its counters are
+/// written there.
+#[derive(Clone, Copy, PartialEq, Eq, Debug)]
+pub struct Service<'a> {
+    pub port: Option<usize>,
+    pub workers: Option<usize>,
+    pub connections: Option<usize>,
+    pub web: Option<usize>,
+    pub web_host: Option<&'a str>,
+    pub idle: Option<usize>,
+    pub first_line: Option<usize>,
+    pub is_logged: bool,
+    pub stats: Option<&'a str>,
+}
+
+/// What the words ask for, and for which users, in order.
+#[derive(Drop)]
+pub struct Wanted<'a> {
+    pub users: Vec<&'a str>,
+    pub task: Task<'a>,
+}
+
+/// What the words ask for.
+pub fn read<'a>(alloc: Global, words: &'a [&'a str]) -> Result<Wanted<'a>, Error>
+    ensures users { IfOk result (λ wanted. users_wanted wanted ≡ users_of (map (λ word. word.now) words.entry.now)) }
+    ensures task { IfOk result (λ wanted. task_wanted wanted.task ≡ task_of (map (λ word. word.now) words.entry.now)) }
+    ensures faults { FailsBy (fault_of program (map (λ word. word.now) words.entry.now)) result }
+{
+    let matches = command(alloc)?.try_get_matches_from(words)?;
+    Ok(found(alloc, &matches)?)
+}
+
+/// An example of the words, of which the first is the program's name, for who got them wrong.
+pub fn example(words: &[&str]) -> &'static str {
+    match words.get(1) {
+        Some(word) if *word == "serve" => help::SERVE_EXAMPLE,
+        Some(word) if *word == "repl" => help::REPL_EXAMPLE,
+        _ => help::BATCH_EXAMPLE,
+    }
+}
+
+// The program's words: a subcommand and the users behind it.
+fn command<'a>(alloc: Global) -> Result<Command<'a>, AllocError>
+    ensures { IfOk result (λ command. app_of command ≡ program) }
+{
+    let with_batch = with_subcommand(Ok(without_subcommands(alloc)), batch(alloc));
+    let with_serve = with_subcommand(with_batch, serve(alloc));
+    with_subcommand(with_serve, repl(alloc))
+}
+
+// The program without its subcommands.
+fn without_subcommands<'a>(alloc: Global) -> Command<'a>
+    ensures { app_of result ≡ without_subcommands }
+{
+    Command::new(alloc, "pazkindu")
+        .version(VERSION)
+        .about(help::ABOUT)
+        .after_help(help::PROGRAM_AFTER)
+        .subcommand_required(true)
+        .arg_required_else_help(true)
+}
+
+// The program with one more subcommand, if there is memory for both.
+fn with_subcommand<'a>(
+    program: Result<Command<'a>, AllocError>,
+    subcommand: Result<Command<'a>, AllocError>,
+) -> Result<Command<'a>, AllocError>
+    ensures { (app : App) (shape : Shape) → IfOk program.entry (λ command. app_of command ≡ app)
+        → IfOk subcommand.entry (IsShaped shape) → IfOk result (λ command. app_of command ≡ with_subcommand app shape) }
+{
+    program?.subcommand(subcommand?)
+}
+
+// A command with one more option, if there is memory for it.
+fn with_option<'a>(
+    command: Result<Command<'a>, AllocError>,
+    option: Arg<'a>,
+) -> Result<Command<'a>, AllocError>
+    requires { option.global ≡ false }
+    ensures { (shape : Shape) (rule : Rule) → rule_of option.entry ≡ rule → IfOk command.entry (IsShaped shape)
+        → IfOk result (IsShaped (with_rule shape rule)) }
+{
+    command?.arg(option)
+}
+
+fn batch<'a>(alloc: Global) -> Result<Command<'a>, AllocError>
+    ensures { IfOk result (IsShaped batch) }
+{
+    let named = Command::new(alloc, "batch")
+        .about(help::BATCH)
+        .after_help(help::BATCH_AFTER);
+    let with_heap = with_option(Ok(named), heap(alloc));
+    let with_csv = with_option(with_heap, csv(alloc));
+    let with_hints = with_option(with_csv, hints(alloc, help::HINTS));
+    with_option(with_hints, user(alloc))
+}
+
+fn repl<'a>(alloc: Global) -> Result<Command<'a>, AllocError>
+    ensures { IfOk result (IsShaped repl) }
+{
+    let named = Command::new(alloc, "repl")
+        .about(help::REPL)
+        .after_help(help::REPL_AFTER);
+    let with_hints = with_option(Ok(named), hints(alloc, help::REPL_HINTS));
+    with_option(with_hints, files(alloc))
+}
+
+fn serve<'a>(alloc: Global) -> Result<Command<'a>, AllocError>
+    ensures { IfOk result (IsShaped serve) }
+{
+    let named = Command::new(alloc, "serve")
+        .about(help::SERVE)
+        .after_help(help::SERVE_AFTER);
+    let with_port = with_option(Ok(named), port(alloc));
+    let with_workers = with_option(with_port, workers(alloc));
+    let with_connections = with_option(with_workers, connections(alloc));
+    let with_web = with_option(with_connections, web(alloc));
+    let with_web_host = with_option(with_web, web_host(alloc));
+    let with_idle = with_option(with_web_host, idle(alloc));
+    let with_first_line = with_option(with_idle, first_line(alloc));
+    let with_log = with_option(with_first_line, log(alloc));
+    let with_stats = with_option(with_log, stats(alloc));
+    with_option(with_stats, user(alloc))
+}
+
+fn port<'a>(alloc: Global) -> Arg<'a>
+    ensures rule { rule_of result ≡ port_rule }
+    ensures local { result.global ≡ false }
+{
+    number(alloc, "PORT", "port", help::PORT, 0, MOST_PORT).required(true)
+}
+
+fn workers<'a>(alloc: Global) -> Arg<'a>
+    ensures rule { rule_of result ≡ workers_rule }
+    ensures local { result.global ≡ false }
+{
+    number(alloc, "WORKERS", "workers", help::WORKERS, 0, MOST_WORKERS).required(true)
+}
+
+fn connections<'a>(alloc: Global) -> Arg<'a>
+    ensures rule { rule_of result ≡ connections_rule }
+    ensures local { result.global ≡ false }
+{
+    number(
+        alloc,
+        "CONNECTIONS",
+        "connections",
+        help::CONNECTIONS,
+        1,
+        MOST_CONNECTIONS,
+    )
+}
+
+fn web<'a>(alloc: Global) -> Arg<'a>
+    ensures rule { rule_of result ≡ web_rule }
+    ensures local { result.global ≡ false }
+{
+    number(alloc, "WEB", "web", help::WEB, 0, MOST_PORT).value_name("PORT")
+}
+
+fn web_host<'a>(alloc: Global) -> Arg<'a>
+    ensures rule { rule_of result ≡ web_host_rule }
+    ensures local { result.global ≡ false }
+{
+    text(alloc, "HOST", "web-host", help::WEB_HOST).value_name("NAME")
+}
+
+fn idle<'a>(alloc: Global) -> Arg<'a>
+    ensures rule { rule_of result ≡ idle_rule }
+    ensures local { result.global ≡ false }
+{
+    number(alloc, "SECONDS", "idle", help::IDLE, 1, MOST_SECONDS)
+}
+
+fn first_line<'a>(alloc: Global) -> Arg<'a>
+    ensures rule { rule_of result ≡ first_line_rule }
+    ensures local { result.global ≡ false }
+{
+    number(
+        alloc,
+        "FIRST",
+        "first-line",
+        help::FIRST_LINE,
+        1,
+        MOST_SECONDS,
+    )
+    .value_name("SECONDS")
+}
+
+fn log<'a>(alloc: Global) -> Arg<'a>
+    ensures rule { rule_of result ≡ log_rule }
+    ensures local { result.global ≡ false }
+{
+    Arg::new(alloc, "LOG")
+        .long("log")
+        .help(help::LOG)
+        .action(ArgAction::SetTrue)
+}
+
+fn stats<'a>(alloc: Global) -> Arg<'a>
+    ensures rule { rule_of result ≡ stats_rule }
+    ensures local { result.global ≡ false }
+{
+    text(alloc, "FILE", "stats", help::STATS)
+}
+
+fn csv<'a>(alloc: Global) -> Arg<'a>
+    ensures rule { rule_of result ≡ csv_rule }
+    ensures local { result.global ≡ false }
+{
+    text(alloc, "VALUES", "csv", help::CSV)
+}
+
+fn heap<'a>(alloc: Global) -> Arg<'a>
+    ensures rule { rule_of result ≡ heap_rule }
+    ensures local { result.global ≡ false }
+{
+    number(alloc, "BYTES", "heap", help::HEAP, LEAST_HEAP, MOST_HEAP)
+}
+
+fn hints<'a>(alloc: Global, help: &'a str) -> Arg<'a>
+    ensures rule { rule_of result ≡ hints_rule }
+    ensures local { result.global ≡ false }
+{
+    Arg::new(alloc, "HINTS")
+        .long("hints")
+        .help(help)
+        .action(ArgAction::SetTrue)
+}
+
+fn files<'a>(alloc: Global) -> Arg<'a>
+    ensures rule { rule_of result ≡ files_rule }
+    ensures local { result.global ≡ false }
+{
+    Arg::new(alloc, "FILES")
+        .long("files")
+        .help(help::REPL_FILES)
+        .action(ArgAction::SetTrue)
+}
+
+fn user<'a>(alloc: Global) -> Arg<'a>
+    ensures rule { rule_of result ≡ users_rule }
+    ensures local { result.global ≡ false }
+{
+    Arg::new(alloc, "USER")
+        .help(help::USERS)
+        .required(true)
+        .num_args(1..)
+        .action(ArgAction::Append)
+}
+
+// An option that takes a number from `least` to `most`, at most once.
+fn number<'a>(
+    alloc: Global,
+    name: &'a str,
+    long: &'a str,
+    help: &'a str,
+    least: u64,
+    most: u64,
+) -> Arg<'a>
+    ensures rule { rule_of result ≡ number_rule name.now long.now least most }
+    ensures local { result.global ≡ false }
+{
+    Arg::new(alloc, name)
+        .long(long)
+        .help(help)
+        .value_parser(ValueParser::unsigned(least, most))
+        .action(ArgAction::Set)
+}
+
+// An option that takes a text, at most once.
+fn text<'a>(alloc: Global, name: &'a str, long: &'a str, help: &'a str) -> Arg<'a>
+    ensures rule { rule_of result ≡ text_rule name.now long.now }
+    ensures local { result.global ≡ false }
+{
+    Arg::new(alloc, name)
+        .long(long)
+        .help(help)
+        .action(ArgAction::Set)
+}
+
+// What stands behind the subcommand.
+fn found<'a>(alloc: Global, matches: &ArgMatches<'a>) -> Result<Wanted<'a>, AllocError>
+    ensures users { IfOk result (λ wanted. users_wanted wanted ≡ users_in (subcommand_rows_of matches.now)) }
+    ensures task { IfOk result (λ wanted. task_wanted wanted.task ≡ task_in (subcommand_rows_of matches.now)) }
+{
+    match matches.subcommand() {
+        Some((name, inner)) => {
+            let users = named_behind(alloc, inner)?;
+            let task = task_behind(name, inner);
+            Ok(Wanted { users, task })
+        }
+        None => Ok(Wanted {
+            users: Vec::new(alloc),
+            task: Task::Batch {
+                heap: None,
+                is_hinted: false,
+            },
+        }),
+    }
+}
+
+fn task_behind<'a>(name: &str, matches: &ArgMatches<'a>) -> Task<'a>
+    ensures { task_wanted result ≡ task_among name.now (rows_of (found_of matches.now)) }
+{
+    if name == "serve" {
+        Task::Service(service_behind(matches))
+    } else if name == "repl" {
+        Task::Prompt {
+            is_hinted: is_behind(matches, "HINTS"),
+            has_files: is_behind(matches, "FILES"),
+        }
+    } else {
+        batch_behind(matches)
+    }
+}
+
+fn batch_behind<'a>(matches: &ArgMatches<'a>) -> Task<'a>
+    ensures { task_wanted result ≡ batch_among (text_among (codes "VALUES") (rows_of (found_of matches.now)))
+        (number_among (codes "BYTES") (rows_of (found_of matches.now)))
+        (is_among (codes "HINTS") (rows_of (found_of matches.now))) }
+{
+    let heap = number_behind(matches, "BYTES");
+    let is_hinted = is_behind(matches, "HINTS");
+    match text_behind(matches, "VALUES") {
+        Some(values) => Task::Costs { values, heap },
+        None => Task::Batch { heap, is_hinted },
+    }
+}
+
+fn service_behind<'a>(matches: &ArgMatches<'a>) -> Service<'a>
+    ensures { service_wanted result ≡ service_among (rows_of (found_of matches.now)) }
+{
+    Service {
+        port: number_behind(matches, "PORT"),
+        workers: number_behind(matches, "WORKERS"),
+        connections: number_behind(matches, "CONNECTIONS"),
+        web: number_behind(matches, "WEB"),
+        web_host: text_behind(matches, "HOST"),
+        idle: number_behind(matches, "SECONDS"),
+        first_line: number_behind(matches, "FIRST"),
+        is_logged: is_behind(matches, "LOG"),
+        stats: text_behind(matches, "FILE"),
+    }
+}
+
+fn number_behind(matches: &ArgMatches<'_>, name: &str) -> Option<usize>
+    ensures { result ≡ number_among name.now (rows_of (found_of matches.now)) }
+{
+    matches.get_one(name)
+}
+
+fn text_behind<'a>(matches: &ArgMatches<'a>, name: &str) -> Option<&'a str>
+    ensures { option_map (λ text. text.now) result ≡ text_among name.now (rows_of (found_of matches.now)) }
+{
+    matches.get_str(name)
+}
+
+fn is_behind(matches: &ArgMatches<'_>, name: &str) -> bool
+    ensures { result ≡ is_among name.now (rows_of (found_of matches.now)) }
+{
+    match matches.get_strs(name) {
+        Some(texts) => match texts.first() {
+            Some(text) => *text == "true",
+            None => false,
+        },
+        None => false,
+    }
+}
+
+fn named_behind<'a>(alloc: Global, matches: &ArgMatches<'a>) -> Result<Vec<&'a str>, AllocError>
+    ensures { IfOk result (λ users. map (λ user. user.now) users.items
+        ≡ users_among (rows_of (found_of matches.now))) }
+{
+    match matches.get_strs("USER") {
+        Some(names) => Vec::from_slice(alloc, names),
+        None => Ok(Vec::new(alloc)),
+    }
+}

@@ -1,3 +1,0 @@
-pub mod Flags
-pub mod Numbers
-pub mod Tasks

@@ -1,4 +1,0 @@
-pub mod Outs
-pub mod Places
-pub mod Parts
-pub mod Runs

@@ -1,5 +1,0 @@
-use Rattle.nesl_eval_blocks.proofs.Runs.{runs_as_code, leaves_its_value}
-use Rattle.nesl_eval_blocks.proofs.laws.blocks_run_as_code.Goals as goal
-
-pub returns : goal.returns
-returns c = record { whole = runs_as_code; before = leaves_its_value }

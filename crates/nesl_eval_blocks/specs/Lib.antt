@@ -1,4 +1,0 @@
-pub mod Block
-pub mod Exec
-pub mod Flat
-pub mod Laws

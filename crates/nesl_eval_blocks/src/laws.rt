@@ -1,9 +1,0 @@
-//! The law of what blocks come to.
-
-ghost use Rattle.nesl_eval_blocks.specs.Laws.{RunsAsCode, LeavesItsValue};
-
-/// Code that is laid out in the order of evaluation comes to what it came to before.
-pub fn blocks_run_as_code()
-    ensures whole { RunsAsCode }
-    ensures before { LeavesItsValue }
-{}

@@ -1,0 +1,9 @@
+//! The law of what blocks come to.
+
+ghost use Rattle.nesl_eval_code.specs.BlockLaws.{RunsAsCode, LeavesItsValue};
+
+/// Code that is laid out in the order of evaluation comes to what it came to before.
+pub fn blocks_run_as_code()
+    ensures whole { RunsAsCode }
+    ensures before { LeavesItsValue }
+{}

@@ -1,4 +1,0 @@
-use Rattle.nesl_eval_operands.proofs.making.apply_to_both.Goals as goal
-
-pub returns-in-OfTwo-clause-meets : goal.returns-in-OfTwo-clause-meets
-returns-in-OfTwo-clause-meets g c = rw c.in-OfTwo.is (c.of_scalars.ensures c.args.meter.now)

@@ -1,4 +1,0 @@
-use Rattle.nesl_eval_operands.proofs.making.make_of_many.Goals as goal
-
-pub returns-in-Sequence-clause-meets : goal.returns-in-Sequence-clause-meets
-returns-in-Sequence-clause-meets g c = rw c.in-Sequence.is (c.sequence_of.ensures c.args.meter.now)

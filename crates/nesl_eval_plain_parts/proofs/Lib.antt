@@ -1,5 +1,0 @@
-mod Choosing
-pub mod Costed
-mod Finding
-mod Framing
-mod Sized

@@ -1,0 +1,31 @@
+use Rattle.std.proofs.Common.{drop, [], ◌∷◌}
+use Rattle.std.proofs.lemmas.Result.{err_from_is_err_and}
+use Rattle.nesl_eval_code.specs.Block.{of_one}
+use Rattle.nesl_eval_code.specs.Exec.{leaf_out, with_leaves, made_of}
+use Rattle.nesl_eval_ops.specs.View.{leaf_is}
+use Rattle.nesl_eval_nodes.specs.Meets.{Is}
+use Rattle.nesl_eval_nodes.proofs.Runs.{meets_then, meets_err}
+use Rattle.nesl_eval_rounds.specs.Slots.{places_of}
+use Rattle.nesl_eval_rounds.proofs.parts.of_one_leaf.Goals as goal
+
+pub returns-in_err-value-clause-meets : goal.returns-in_err-value-clause-meets
+returns-in_err-value-clause-meets g c =
+    let s = c.args.sight.now in
+    let t = g.T.Tops.table s.tops.now in
+    let k = c.args.node in
+    let env = drop s.base (places_of s.slots.now.items) in
+    let I = Is {A = g.row.A.Denot} in
+    let p = err_from_is_err_and c.from_residual.result c.from_residual.ensures.1 in
+    rw (p.1, p.2) (meets_err I I c.args.meter.now c.enter_leaf.new.meter c.in_err-value.field-0.0
+    (leaf_out t s.levels k.height env (leaf_is c.args.leaf.now)) (λ v. with_leaves t s.levels k.height env (v ∷ []) [] (made_of k.span (of_one k.function))) c.in_err-value.ensures.meets)
+
+pub returns-clause-meets : goal.returns-clause-meets
+returns-clause-meets g c =
+    let s = c.args.sight.now in
+    let t = g.T.Tops.table s.tops.now in
+    let k = c.args.node in
+    let env = drop s.base (places_of s.slots.now.items) in
+    let I = Is {A = g.row.A.Denot} in
+    meets_then I I c.args.meter.now c.enter_leaf.new.meter c.apply_to_value.new.meter c.in_ok-value.value c.apply_to_value.result
+    (leaf_out t s.levels k.height env (leaf_is c.args.leaf.now)) (λ v. with_leaves t s.levels k.height env (v ∷ []) [] (made_of k.span (of_one k.function))) c.in_ok-value.ensures.meets
+    (λ x e. rw (← e) c.apply_to_value.ensures.meets)

@@ -1,5 +1,0 @@
-use Rattle.nesl_seqs_fold.proofs.Planned.{numbers_packed}
-use Rattle.nesl_seqs_fold.proofs.scans.bits_before_each.Goals as goal
-
-pub returns-in-Packed : goal.returns-in-Packed
-returns-in-Packed g c = rw c.in-Packed.is (rw (numbers_packed c.in-Packed.ints.now) at c.bits_before.ensures)

@@ -1,9 +1,0 @@
-//! Functions that read a sequence: reductions, scans, the greatest and the least element, equality.
-#![tactic(auto)]
-
-pub mod elements;
-pub mod equal;
-pub mod extremes;
-pub mod plan;
-pub mod reductions;
-pub mod scans;

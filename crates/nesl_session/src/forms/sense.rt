@@ -1,0 +1,40 @@
+//! What a line comes to by the grammar.
+ghost use Rattle.std.specs.Prelude.{IfOk};
+ghost use Rattle.nesl_session_meaning.specs.Sense.{HasSense};
+ghost use Rattle.nesl_session.specs.Found.{seen_sense};
+
+use nesl_lex::{LexFault, lex};
+use nesl_syntax::{ParseFault, parse_form};
+use nesl_syntax_tree::tree::Form;
+use std::alloc::{AllocError, Global};
+
+/// What a line comes to by the grammar.
+#[derive(Drop)]
+pub enum Sense {
+    /// The first byte at which no token, blank or whole comment stands.
+    Stuck(usize),
+    /// Its tokens have no tree.
+    NoForm,
+    /// The tree of its tokens is too high.
+    TooHigh,
+    /// The tree of its tokens.
+    Form(Form),
+}
+
+/// What the line comes to by the grammar.
+#[inline(always)]
+pub fn sense_of(alloc: Global, line: &[u8]) -> Result<Sense, AllocError>
+    ensures { IfOk result (λ sense. HasSense line.now (seen_sense sense)) }
+{
+    let tokens = match lex(alloc, line) {
+        Ok(tokens) => tokens,
+        Err(LexFault::Lexical { at }) => return Ok(Sense::Stuck(at)),
+        Err(LexFault::Memory) => return Err(AllocError),
+    };
+    match parse_form(alloc, tokens.as_slice()) {
+        Ok(form) => Ok(Sense::Form(form)),
+        Err(ParseFault::Syntax) => Ok(Sense::NoForm),
+        Err(ParseFault::Nested) => Ok(Sense::TooHigh),
+        Err(ParseFault::Memory) => Err(AllocError),
+    }
+}

@@ -1,0 +1,7 @@
+use Rattle.std.proofs.Common.{rules}
+use Rattle.nesl_syntax_tree.specs.declared.tree.Node.TheViews.{the_lemmas}
+use Rattle.nesl_syntax_tree.proofs.Rows.{row_is}
+use Rattle.nesl_syntax_tree.proofs.parts.lists.sequence_node.Goals as goal
+
+pub returns : goal.returns
+returns c = search (rules, the_lemmas, row_is)
