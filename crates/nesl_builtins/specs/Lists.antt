@@ -1,5 +1,6 @@
--- Lists of shapes, told whether they are types.
-use Rattle.std.specs.Prelude.{◌≡◌, ◌<◌, length, ℕ, suc, Bool as Bool', true, false, not, ◌&&◌, nat_eq, nat_lt, List, [], ◌∷◌}
+-- Which lists of shapes are types.
+use Rattle.std.specs.Prelude.{◌≡◌, ◌<◌, length, ℕ, suc, Bool as Bool', true, false, not, ◌&&◌, nat_eq, nat_lt}
+use Rattle.std.specs.Prelude.{List, [], ◌∷◌}
 use Rattle.std.specs.List.{list_any}
 use Rattle.nesl_types_shared.specs.Lists.{last_type}
 use Rattle.nesl_types_shared.specs.Term.{Term}

@@ -5,10 +5,10 @@ ghost use Rattle.nesl_reply.specs.declared.fault.Fault.{Fault};
 ghost use Rattle.nesl_session_meaning.specs.State.{State};
 ghost use Rattle.nesl_session_meaning.specs.Solo.{Replays};
 ghost use Rattle.nesl_session.specs.Asking.{AnswersWith};
-ghost use Rattle.nesl_hints_places.specs.Within.{IsWithin};
+ghost use Rattle.nesl_hints_tokens.specs.Within.{IsWithin};
 
-use nesl_hints_faults::{Asked, hint_on_fault};
-use nesl_hints_places::Hint;
+use crate::faults::{Asked, hint_on_fault};
+use nesl_hints_tokens::Hint;
 use nesl_session::Fault;
 use nesl_session::session::Session;
 use std::alloc::{AllocError, Global};

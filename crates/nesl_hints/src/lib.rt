@@ -2,6 +2,8 @@
 #![tactic(auto)]
 
 mod asking;
+mod faults;
+mod names;
 
 pub use asking::{hint, hint_below};
-pub use nesl_hints_places::Hint;
+pub use nesl_hints_tokens::Hint;

@@ -1,16 +1,15 @@
-//! The types of a form's parts, and the first part whose type is not what the rest wants.
+//! The types of a form's parts, the first part whose type is not what the rest wants, and what is said of it.
 #![tactic(auto)]
 
 mod calls;
-pub mod clash;
+mod clash;
 mod copies;
 mod functions;
-pub mod guesses;
+mod guesses;
 mod join;
 mod names;
 mod patterns;
-pub mod walk;
+mod typing;
+mod walk;
 
-pub use clash::{Clash, Halt, Role, Shortage};
-pub use guesses::{Guess, Guesses};
-pub use walk::Walk;
+pub use typing::{ambiguous, ill_typed, sign_of};

@@ -8,7 +8,6 @@ mod contexts;
 #[cfg(test)]
 mod desk;
 #[cfg(test)]
-mod graphs;
 #[cfg(test)]
 mod rows;
 #[cfg(test)]

@@ -12,5 +12,3 @@ pub mod Pushed
 pub mod Found
 pub mod Same
 pub mod Reached
-pub mod Readings
-pub mod MostGeneral

@@ -6,8 +6,6 @@ pub mod Codes
 pub mod Types
 pub mod Renames
 pub mod Visits
-pub mod Graph
-pub mod Readings
 pub mod Lists
 pub mod Moving
 pub mod Kinds

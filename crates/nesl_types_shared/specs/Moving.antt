@@ -34,7 +34,8 @@ finished f ts [] = ts
 finished f ts (p ∷ ps) = with_parts (finished f ts ps) (f p)
 
 -- the shapes of the types that were moved to a list, and the places of those that wait, each a part of the one before
-pub record IsMoving (from : List Term) (root : ℕ) (shapes : List Shape) (places : List (Option ℕ)) (stack : List ℕ) : Type 0 where
+pub record IsMoving (from : List Term) (root : ℕ) (shapes : List Shape) (places : List (Option ℕ)) (stack : List ℕ)
+    : Type 0 where
   pub made : AreMade shapes
   pub once : StandOnce shapes
   pub len : length places ≡ length from
@@ -48,7 +49,8 @@ pub record IsMoving (from : List Term) (root : ℕ) (shapes : List Shape) (place
   pub bottom : 0 < length stack → place_on stack 0 ≡ root
   pub last : length stack ≡ 0 → (0 < length shapes) × (last_type (types shapes) ≡ type_at from root)
 
--- a part is put into the list, where it waits behind others
+-- a part is put into the list, where it waits after others
 abbrev pub IsListed : List Term → List Shape → List (Option ℕ) → List Shape → List (Option ℕ) → ℕ → Type 0
 IsListed from before at after places place =
-    (root : ℕ) (stack : List ℕ) → IsMoving from root before at (stack ++ place ∷ []) → IsMoving from root after places stack
+    (root : ℕ) (stack : List ℕ) → IsMoving from root before at (stack ++ place ∷ [])
+    → IsMoving from root after places stack

@@ -2,7 +2,6 @@
 #![tactic(auto)]
 
 pub mod bank;
-pub mod graph;
 mod lists;
 pub mod part;
 pub mod parts;
@@ -13,7 +12,6 @@ pub mod types;
 pub mod visiting;
 
 pub use bank::Bank;
-pub use graph::{Node, Read, read_types};
 pub use part::{Kind, Part};
 pub use parts::Parts;
 pub use renaming::{rename, rename_type};

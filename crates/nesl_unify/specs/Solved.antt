@@ -5,7 +5,8 @@ use Rattle.std.specs.Coded.{×_prop, Unit-prop, le_prop}
 use Rattle.nesl_types_shared.specs.Term.{Term, int, bool, char, variable, seq_of, pair_of, named}
 use Rattle.nesl_types_shared.specs.Numbering.{IsBelow}
 use Rattle.nesl_unify_graph.specs.declared.node.Node.{Node}
-use Rattle.nesl_unify_graph.specs.declared.node.Node.TheVariants.{Free, Same, Int, Bool as Boolean, Char, Named, SeqOf, Both, Part}
+use Rattle.nesl_unify_graph.specs.declared.node.Node.TheVariants.{Free, Same, Int, Bool as Boolean, Char, Named}
+use Rattle.nesl_unify_graph.specs.declared.node.Node.TheVariants.{SeqOf, Both, Part}
 use Rattle.nesl_unify_graph.specs.declared.instances.Instances.{Instances}
 use Rattle.nesl_unify_graph.specs.Graph.{Fits, IsRoot, IsFlat}
 use Rattle.nesl_unify_graph.specs.Instances.{IsPart, AreBelow}

@@ -1,0 +1,140 @@
+//! The text of a function's definition.
+
+use crate::faults::asked::Asked;
+use crate::faults::effort::Effort;
+use nesl_eval_top_level::Payload;
+use nesl_lex::lex;
+use nesl_lex::token::Span;
+use nesl_syntax::parse_form;
+use nesl_syntax_tree::tree::Form;
+use std::alloc::{AllocError, Global};
+
+/// The most lines of a session among which a definition is sought: the last ones.
+const MOST_LINES: usize = 1_000;
+
+/// The text of a function's definition, and where its parameter and its body stand.
+#[derive(Drop)]
+pub(crate) struct Source {
+    pub(crate) text: Vec<u8>,
+    pub(crate) parameter: Span,
+    pub(crate) body: Span,
+}
+
+/// The last definition of a function of the session, or `None` where the name is none, or the definition too long to be
+/// read once more.
+pub(crate) fn source_of(
+    asked: &Asked<'_>,
+    effort: &Effort,
+    name: &[u8],
+) -> Result<Option<Source>, AllocError> {
+    let Some((_, payload)) = asked.environment().get(name) else {
+        return Ok(None);
+    };
+    let (parameter, body) = match payload {
+        Payload::Function { pattern, body } => (pattern.span, body.span),
+        _ => return Ok(None),
+    };
+    let text = last_definition(asked, name)?;
+    if !effort.reaches(text.len()) {
+        return Ok(None);
+    }
+    if is_definition(asked.alloc, text.as_slice(), name, parameter, body) {
+        return Ok(Some(Source {
+            text,
+            parameter,
+            body,
+        }));
+    }
+    Ok(None)
+}
+
+// The last form among the lines of the session that begins as a definition of the function does.
+fn last_definition(asked: &Asked<'_>, name: &[u8]) -> Result<Vec<u8>, AllocError> {
+    let lines = asked.session.lines();
+    let mut form = Vec::new(asked.alloc);
+    let mut found = None;
+    for (place, line) in lines.iter().enumerate() {
+        if place.saturating_add(MOST_LINES) >= lines.len() && defines(line.as_slice(), name) {
+            found = Some(place);
+        }
+    }
+    let Some(first) = found else {
+        return Ok(form);
+    };
+    for line in lines.iter().skip(first) {
+        match line.as_slice() {
+            [front @ .., b'\\'] => {
+                form.extend_from_slice(front)?;
+                form.extend_from_slice(b" ")?;
+            }
+            whole => {
+                form.extend_from_slice(whole)?;
+                return Ok(form);
+            }
+        }
+    }
+    Ok(form)
+}
+
+// Whether a form begins with `function` and the name.
+fn defines(form: &[u8], name: &[u8]) -> bool {
+    let Some(behind) = behind_word(form, b"function") else {
+        return false;
+    };
+    match behind_word(behind, name) {
+        Some(rest) => match rest.first() {
+            Some(next) => !next.is_ascii_alphanumeric() && *next != b'_',
+            None => false,
+        },
+        None => false,
+    }
+}
+
+// What stands behind a word of small letters, blanks before it left out.
+fn behind_word<'t>(text: &'t [u8], word: &[u8]) -> Option<&'t [u8]> {
+    let blanks = text
+        .iter()
+        .take_while(|byte| **byte == b' ' || **byte == b'\t')
+        .count();
+    let start = blanks.min(text.len());
+    let rest = &text[start..];
+    let (front, behind) = rest.split_at_checked(word.len())?;
+    if front.eq_ignore_ascii_case(word) {
+        Some(behind)
+    } else {
+        None
+    }
+}
+
+// Whether the text is the definition of the function, with its parameter and its body at these places.
+fn is_definition(alloc: Global, text: &[u8], name: &[u8], parameter: Span, body: Span) -> bool {
+    match form_of(alloc, text) {
+        Some(form) => is_function(&form, name, parameter, body),
+        None => false,
+    }
+}
+
+// Whether the form defines the function, with its parameter and its body at these places.
+fn is_function(form: &Form, name: &[u8], parameter: Span, body: Span) -> bool {
+    match form {
+        Form::Fun {
+            name: own,
+            parameter: pattern,
+            body: exp,
+            ..
+        } => own.as_slice() == name && pattern.span == parameter && exp.span == body,
+        _ => false,
+    }
+}
+
+/// The form that the text is, if it is one.
+pub(crate) fn form_of(alloc: Global, text: &[u8]) -> Option<Form> {
+    let tokens = match lex(alloc, text) {
+        Ok(tokens) => tokens,
+        Err(_) => return None,
+    };
+    match parse_form(alloc, tokens.as_slice()) {
+        Ok(form) => Some(form),
+        Err(_) => None,
+    }
+}

@@ -1,0 +1,9 @@
+//! Hints on names that stand for nothing.
+
+mod bound;
+mod elsewhere;
+mod near;
+mod unknowns;
+
+pub use bound::bound_names;
+pub use unknowns::{Unknown, unknown_name};

@@ -1,0 +1,26 @@
+//! What a hint is, and hints on lines that have no tokens or no tree.
+#![tactic(auto)]
+
+mod bytes;
+mod commands;
+mod foreign;
+mod halt;
+pub mod hint;
+mod line;
+mod machine;
+mod marks;
+mod openings;
+mod patterns;
+mod problems;
+mod sentence;
+mod signs;
+mod source;
+mod tables;
+mod tokens;
+
+pub use bytes::lexical;
+pub use hint::Hint;
+pub use line::syntax;
+pub use sentence::{add_parts, join_parts};
+pub use source::quoted;
+pub use tables::{said_of_front, said_of_word};

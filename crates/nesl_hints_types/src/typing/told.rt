@@ -1,0 +1,108 @@
+//! Forms that have no type, and forms that have more than one.
+ghost use Rattle.std.specs.Prelude.{IfOk, IfSome};
+ghost use Rattle.nesl_hints_tokens.specs.Within.{IsWithin};
+
+use crate::clash::{Halt, Shortage};
+use crate::guesses::Guesses;
+use crate::typing::sentences::hint_of;
+use crate::typing::words::Words;
+use crate::walk::Walk;
+use nesl_eval_top_level::Payload;
+use nesl_hints_tokens::{Hint, join_parts};
+use nesl_lex::token::Span;
+use nesl_syntax_tree::tree::Form;
+use nesl_types::Context;
+use std::alloc::{AllocError, Global};
+
+/// The first part of a form, by parts, whose type is not what the rest of the form wants, or the whole form where it
+/// takes too many steps to find one. It is `None` where there is none. The form has so many bytes, after which places
+/// are cut off.
+pub fn ill_typed(
+    alloc: Global,
+    context: &Context<Payload>,
+    form: &Form,
+    len: usize,
+) -> Result<Option<Hint>, AllocError>
+    ensures { IfOk result (λ hint. IfSome hint (IsWithin len)) }
+{
+    let mut walk = Walk::new(alloc, context, len);
+    match walk.form(form) {
+        Err(Halt::Found(clash)) => {
+            let hint = hint_of(alloc, &walk.guesses, context, clash)?;
+            Ok(Some(hint.within(len)))
+        }
+        Err(Halt::Short(Shortage::Memory)) => Err(AllocError),
+        Err(Halt::Short(Shortage::Steps)) => {
+            let hint = unplaced(alloc, len)?;
+            Ok(Some(hint.within(len)))
+        }
+        Ok(_) => Ok(None),
+    }
+}
+
+// What is said of a form that is too large to be looked at.
+fn unplaced(alloc: Global, len: usize) -> Result<Hint, AllocError> {
+    let sentence = Vec::from_slice(
+        alloc,
+        b"two types don't fit, or one would have more than 4,096 nodes: the form is too large to find where",
+    )?;
+    Ok(Hint {
+        place: Span { start: 0, end: len },
+        second: None,
+        sentence,
+    })
+}
+
+/// The first call in a form whose type nothing decides, or `None` where none was found. The form has so many bytes,
+/// after which places are cut off.
+pub fn ambiguous(
+    alloc: Global,
+    context: &Context<Payload>,
+    form: &Form,
+    len: usize,
+) -> Result<Option<Hint>, AllocError>
+    ensures { IfOk result (λ hint. IfSome hint (IsWithin len)) }
+{
+    let mut walk = Walk::new(alloc, context, len);
+    match walk.form(form) {
+        Err(Halt::Short(Shortage::Memory)) => Err(AllocError),
+        Ok(Some(whole)) => {
+            let (span, place) = first_open(&mut walk, whole)?;
+            let hint = undecided(alloc, &walk.guesses, context, span, place)?;
+            Ok(Some(hint.within(len)))
+        }
+        _ => Ok(None),
+    }
+}
+
+// The first call whose type is open, or the whole where none was found.
+fn first_open(walk: &mut Walk<'_>, whole: (Span, usize)) -> Result<(Span, usize), AllocError> {
+    match walk.first_open() {
+        Ok(Some(call)) => Ok(call),
+        Ok(None) | Err(Shortage::Steps) => Ok(whole),
+        Err(Shortage::Memory) => Err(AllocError),
+    }
+}
+
+// What is said of a part whose type is open.
+fn undecided<'e>(
+    alloc: Global,
+    guesses: &'e Guesses,
+    context: &'e Context<Payload>,
+    place: Span,
+    ty: usize,
+) -> Result<Hint, AllocError> {
+    let mut words = Words::new(alloc, guesses, context);
+    let text = words.of(alloc, ty)?;
+    let sentence = join_parts(
+        alloc,
+        b"nothing decides the type of this, which is `",
+        text.as_slice(),
+        b"`: use it beside something whose type is known, as in `[] int ++ ..`",
+    )?;
+    Ok(Hint {
+        place,
+        second: None,
+        sentence,
+    })
+}

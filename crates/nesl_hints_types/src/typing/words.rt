@@ -1,0 +1,152 @@
+//! Types in the language's words.
+
+use crate::guesses::{Guess, Guesses};
+use nesl_eval_top_level::Payload;
+use nesl_types::{Class, Context};
+use std::alloc::{AllocError, Global};
+
+/// The most pieces of a type that a sentence has.
+const MOST_PIECES: usize = 96;
+
+/// The bytes after which a type goes on by no other piece, since the names of datatypes may be long.
+const MOST_BYTES: usize = 4_096;
+
+/// A piece of a text that is still to be written.
+#[derive(Clone, Copy)]
+enum Piece {
+    Text(&'static [u8]),
+    /// The type at a place, in parentheses where it is a pair.
+    Whole(usize),
+    /// The type at a place.
+    Rest(usize),
+}
+
+/// Types in words, with one letter for each that is open.
+#[derive(Drop)]
+pub(crate) struct Words<'a> {
+    guesses: &'a Guesses,
+    context: &'a Context<Payload>,
+    letters: Vec<usize>,
+}
+
+impl<'a> Words<'a> {
+    pub(crate) fn new(
+        alloc: Global,
+        guesses: &'a Guesses,
+        context: &'a Context<Payload>,
+    ) -> Words<'a> {
+        Words {
+            guesses,
+            context,
+            letters: Vec::new(alloc),
+        }
+    }
+
+    /// The type at a place.
+    pub(crate) fn of(&mut self, alloc: Global, place: usize) -> Result<Vec<u8>, AllocError> {
+        let mut out = Vec::new(alloc);
+        if let Guess::Open(class) = self.guesses.guess(place) {
+            match class {
+                Class::Ordinal => {
+                    out.extend_from_slice(b"int or char")?;
+                    return Ok(out);
+                }
+                Class::Logical => {
+                    out.extend_from_slice(b"int or bool")?;
+                    return Ok(out);
+                }
+                _ => {}
+            }
+        }
+        let mut pieces = Vec::new(alloc);
+        let mut next = Some(Piece::Whole(place));
+        for _ in 0..MOST_PIECES {
+            let Some(piece) = next else {
+                return Ok(out);
+            };
+            if out.len() > MOST_BYTES {
+                break;
+            }
+            self.write(piece, &mut out, &mut pieces)?;
+            next = pieces.pop();
+        }
+        out.extend_from_slice(b" ..")?;
+        Ok(out)
+    }
+
+    // Writes a piece, but for its parts, which are left over.
+    fn write(
+        &mut self,
+        piece: Piece,
+        out: &mut Vec<u8>,
+        pieces: &mut Vec<Piece>,
+    ) -> Result<(), AllocError> {
+        match piece {
+            Piece::Text(text) => out.extend_from_slice(text)?,
+            Piece::Whole(place) => match self.guesses.guess(place) {
+                Guess::Pair(left, right) => {
+                    out.extend_from_slice(b"(")?;
+                    pieces.push(Piece::Text(b")"))?;
+                    put_pair(left, right, pieces)?;
+                }
+                _ => self.write_rest(place, out, pieces)?,
+            },
+            Piece::Rest(place) => self.write_rest(place, out, pieces)?,
+        }
+        Ok(())
+    }
+
+    fn write_rest(
+        &mut self,
+        place: usize,
+        out: &mut Vec<u8>,
+        pieces: &mut Vec<Piece>,
+    ) -> Result<(), AllocError> {
+        let (at, guess) = self.guesses.find(place);
+        match guess {
+            Guess::Int => out.extend_from_slice(b"int")?,
+            Guess::Bool => out.extend_from_slice(b"bool")?,
+            Guess::Char => out.extend_from_slice(b"char")?,
+            Guess::Named(tag) => self.write_name(tag, out)?,
+            Guess::Sequence(item) => {
+                out.extend_from_slice(b"[")?;
+                pieces.push(Piece::Text(b"]"))?;
+                pieces.push(Piece::Whole(item))?;
+            }
+            Guess::Pair(left, right) => put_pair(left, right, pieces)?,
+            Guess::Open(_) | Guess::Same(_) => self.write_letter(at, out)?,
+        }
+        Ok(())
+    }
+
+    // Writes the name of the datatype with the tag.
+    fn write_name(&self, tag: u64, out: &mut Vec<u8>) -> Result<(), AllocError> {
+        if let Some((name, _, _)) = self.context.datatype(tag) {
+            out.extend_from_slice(name)?;
+        }
+        Ok(())
+    }
+
+    // Writes the letter of an open type.
+    fn write_letter(&mut self, at: usize, out: &mut Vec<u8>) -> Result<(), AllocError> {
+        let known = self.letters.iter().position(|letter| *letter == at);
+        let number = match known {
+            Some(number) => number,
+            None => {
+                let next = self.letters.len();
+                self.letters.push(at)?;
+                next
+            }
+        };
+        out.push(b'a' + (number % 26) as u8)?;
+        Ok(())
+    }
+}
+
+// Leaves both parts of a pair over.
+fn put_pair(left: usize, right: usize, pieces: &mut Vec<Piece>) -> Result<(), AllocError> {
+    pieces.push(Piece::Rest(right))?;
+    pieces.push(Piece::Text(b", "))?;
+    pieces.push(Piece::Whole(left))?;
+    Ok(())
+}
