@@ -9,8 +9,8 @@ ghost use Rattle.nesl_eval.specs.Outcomes.{OutcomeIs};
 
 use crate::outcome::{Outcome, evaluate};
 use nesl_eval_code::runs_as_meant;
-use nesl_eval_top_level::{Env, prepare};
 use nesl_eval_ops::expression_ops;
+use nesl_eval_top_level::{Env, prepare};
 use nesl_syntax_tree::tree::Exp;
 use std::alloc::Global;
 

@@ -17,11 +17,11 @@ use crate::hand::{in_hand, push_value};
 use crate::state::{Hand, Machine};
 use nesl_eval_nodes::held::Tops;
 use nesl_eval_nodes::meter::Stop;
+use nesl_eval_ops::{Leaf, ManyNode, OneNode, Ops, TwoNode};
 use nesl_eval_rounds::{
     Sight, apply_to_value, enter_at, enter_leaf, make_of_many, make_of_two, of_one_leaf,
     of_two_leaves, of_value_and_leaf,
 };
-use nesl_eval_ops::{Leaf, ManyNode, OneNode, Ops, TwoNode};
 use nesl_lex::token::Span;
 use nesl_values::Value;
 use std::alloc::Allocator;

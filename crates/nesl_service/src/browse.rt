@@ -3,13 +3,13 @@
 use crate::accept::{Accepted, Acceptor};
 use crate::service::{Attended, Service};
 use crate::wire::Patience;
+use nesl_eval_helpers::Gate;
 use nesl_line::device::Device;
 use nesl_line::exchange::End;
 use nesl_service_records::accepting::AcceptFault;
 use nesl_service_records::answers::{AnswerObserver, ObservedWriter};
 use nesl_service_records::journal::{Caller, Journal, Missed};
 use nesl_service_records::watch::{Timed, Watch};
-use nesl_eval_helpers::Gate;
 use nesl_web::greet::{Greeted, greet};
 use nesl_web::lines::{MessageReader, MessageWriter};
 use nesl_web::wire::{BROWSER_DRAIN, REFUSED_DRAIN};

@@ -25,8 +25,8 @@ ghost use Rattle.nesl_session_bindings.specs.Stored.{IsComputed, bindings_of, ki
 use crate::kind::Kind;
 use crate::refusal::Refusal;
 use crate::{beside, nodes, redefinition};
-use nesl_eval_top_level::{Env, Payload};
 use nesl_eval_sound::laws::inferred_lines_keep_types;
+use nesl_eval_top_level::{Env, Payload};
 use nesl_infer::InferFault;
 use nesl_reply::Reply;
 use nesl_syntax_tree::tree::{Exp, Pattern, Signature, TypeExp};

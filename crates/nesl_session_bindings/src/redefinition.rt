@@ -15,8 +15,8 @@ ghost use Rattle.nesl_session_bindings.specs.Stored.{AllFit, PayloadFits, bindin
 
 use crate::kind::Kind;
 use nesl_builtins::named;
-use nesl_eval_top_level::{Env, Payload};
 use nesl_eval_sound::refers_to;
+use nesl_eval_top_level::{Env, Payload};
 use nesl_types::Top;
 
 /// Whether the name would be a variable or a function of another type.

@@ -23,7 +23,9 @@ use nesl_lex::token::{Name, Span};
 use nesl_syntax_tree::parts::lists::{
     Bindings, Elements, each_of, filtered_each_of, push_binding, push_part, sequence_of,
 };
-use nesl_syntax_tree::parts::part::{Part, call_of, index_of, over, range_of, strided_range_of, widen};
+use nesl_syntax_tree::parts::part::{
+    Part, call_of, index_of, over, range_of, strided_range_of, widen,
+};
 use nesl_syntax_tree::parts::pattern::{PatternPart, pattern_of};
 use std::alloc::Global;
 

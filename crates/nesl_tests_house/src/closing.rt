@@ -1,10 +1,10 @@
 // Leases, receipts, and what a table answers that is to be closed.
 use crate::sample::{LIMITS, lines_of, opened, roster, said};
+use nesl_eval_helpers::{Free, NoHelpers};
 use nesl_house::lease::Receipt;
 use nesl_house::roster::NewFault;
 use nesl_house::table::{CloseFault, Table, TakeFault};
 use nesl_session::limits::Limits;
-use nesl_eval_helpers::{Free, NoHelpers};
 use std::alloc::{AllocError, Global};
 use std::process::Abort;
 use std::sync::Wait;

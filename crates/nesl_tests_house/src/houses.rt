@@ -3,13 +3,13 @@ use crate::granting::Granting;
 use crate::sample::{self, house_of, is_reply, lines_of, roster};
 use crate::turns::{ORDERS, are_heard, is_order, said, script};
 use linked_list_allocator::LocalHeap;
+use nesl_eval_helpers::Free;
 use nesl_house::house::{House, Said};
 use nesl_house::manner::InHeap;
 use nesl_house::roster::{NewFault, is_user_name};
 use nesl_session::Fault;
 use nesl_session::answer::Answer;
 use nesl_session::limits::Limits;
-use nesl_eval_helpers::Free;
 use std::alloc::{AllocError, Global};
 
 const LIMITS: Limits = Limits {

@@ -1,9 +1,9 @@
 //! Sessions that are worked by hand: what is said to each, and what is answered.
 use crate::granting::Counted;
 use crate::sample::LIMITS;
+use nesl_eval_helpers::Free;
 use nesl_session::limits::Limits;
 use nesl_session::session::Session;
-use nesl_eval_helpers::Free;
 use std::alloc::{AllocError, Global};
 use std::thread::Threads;
 

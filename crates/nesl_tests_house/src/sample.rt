@@ -1,10 +1,10 @@
 // Two users, and what they say.
 use crate::granting::Granting;
+use nesl_eval_helpers::Free;
 use nesl_house::house::House;
 use nesl_house::lease::Receipt;
 use nesl_house::table::Table;
 use nesl_session::limits::Limits;
-use nesl_eval_helpers::Free;
 use std::alloc::{AllocError, Global};
 use std::sync::Wait;
 use std::thread::Threads;

@@ -1,10 +1,10 @@
 //! Connections under a lease, which goes back however they end.
 use crate::devices::{Paper, Tape, blank_paper, paper_of, table, tape_of};
+use nesl_eval_helpers::{Free, NoHelpers};
 use nesl_house::table::Table;
 use nesl_line::device::Device;
 use nesl_line::exchange::End;
 use nesl_line::serve::{Served, serve};
-use nesl_eval_helpers::{Free, NoHelpers};
 use std::alloc::{AllocError, Global};
 use std::sync::Wait;
 use std::thread::Threads;

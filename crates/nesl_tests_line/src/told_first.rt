@@ -1,9 +1,9 @@
 //! The gate of a connection is told of a line before it is evaluated, when nothing of its answer is written.
 use crate::devices::{table, tape_of};
+use nesl_eval_helpers::{Gate, Helpers, Place};
 use nesl_line::device::Device;
 use nesl_line::exchange::End;
 use nesl_line::serve::serve;
-use nesl_eval_helpers::{Gate, Helpers, Place};
 use std::io;
 use std::io::Write;
 use std::sync::atomic::{AtomicU64, Ordering};

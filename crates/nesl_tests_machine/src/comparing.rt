@@ -3,11 +3,10 @@
 use crate::helping::Granting;
 use crate::running::{Limits, ops_of, run_in_halves};
 use nesl_eval::{Outcome, eval_one};
-use nesl_eval_top_level::Env;
-use nesl_split::Crew;
-use nesl_eval_ops::Ops;
-use nesl_split::eval_split;
 use nesl_eval_helpers::Free;
+use nesl_eval_ops::Ops;
+use nesl_eval_top_level::Env;
+use nesl_split::{Crew, eval_split};
 use nesl_syntax_tree::tree::Exp;
 use std::alloc::{AllocError, Global};
 use std::thread::Threads;

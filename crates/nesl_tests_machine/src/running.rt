@@ -2,10 +2,10 @@
 
 use crate::helping::Granting;
 use nesl_eval::{Outcome, outcome_of};
+use nesl_eval_helpers::Free;
+use nesl_eval_ops::{Ops, expression_ops};
 use nesl_eval_top_level::{Env, TopLevel, prepare};
 use nesl_split::{Crew, evaluate_in_halves};
-use nesl_eval_ops::{Ops, expression_ops};
-use nesl_eval_helpers::Free;
 use nesl_syntax_tree::tree::Exp;
 use std::alloc::{AllocError, Global};
 use std::thread::Threads;

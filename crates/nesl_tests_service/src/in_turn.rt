@@ -1,9 +1,9 @@
 // Two users whose sessions outlast their connections.
 use crate::client::{ann_and_bob, play};
+use nesl_eval_helpers::{Free, Gate};
 use nesl_service::service::{Observers, ServeFault, Terms, serve_on, serve_through};
 use nesl_service::wire::Patience;
 use nesl_service_records::journal::{Journal, NoJournal};
-use nesl_eval_helpers::{Free, Gate};
 use std::alloc::{AllocError, Global};
 use std::net::{Net, TcpListener, TcpStream};
 use std::process::Abort;

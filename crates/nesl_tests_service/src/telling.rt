@@ -1,5 +1,6 @@
 // What a journal is told of connections and of their answers.
 use crate::in_turn::{lines_told, patient};
+use nesl_eval_helpers::Free;
 use nesl_lex::token::Span;
 use nesl_reply::{Fault, Reply, Stop, reply_text};
 use nesl_scalars::Trap;
@@ -8,7 +9,6 @@ use nesl_service::wire::Patience;
 use nesl_service_records::answers::FAULTS;
 use nesl_service_records::counters::Counters;
 use nesl_service_records::journal::{Answered, Caller, Ending, Journal, Seat, Visit};
-use nesl_eval_helpers::Free;
 use nesl_types::Context;
 use std::alloc::{AllocError, Global};
 use std::net::{Net, TcpListener, TcpStream};

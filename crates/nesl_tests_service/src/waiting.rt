@@ -1,10 +1,10 @@
 // How long a service waits for a connection.
 use crate::client::ann_and_bob;
 use crate::in_turn::{lines_by, patient};
+use nesl_eval_helpers::Free;
 use nesl_service::service::{Observers, ServeFault, Terms, serve_on, serve_through};
 use nesl_service::wire::Patience;
 use nesl_service_records::journal::{Answered, Caller, Journal, Seat, Visit};
-use nesl_eval_helpers::Free;
 use std::alloc::{AllocError, Global};
 use std::net::TcpListener;
 use std::sync::atomic::{AtomicU64, Ordering};
