@@ -14,3 +14,5 @@ pub mod serve;
 mod talk;
 pub mod tell;
 mod turn;
+
+pub use line::MOST_HANDED;

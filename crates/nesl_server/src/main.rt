@@ -24,6 +24,8 @@ use nesl_cli::run;
 use nesl_cli::words::example;
 use nesl_line::device::{Device, Sink, Source};
 use nesl_prompt::shelf::Shelf;
+use nesl_service::crowd::STACK_BYTES;
+use nesl_service::service::ANSWER_BYTES;
 use std::alloc::{AllocError, Global};
 use std::io::{self, BufWriter, Eprint, IsTerminal, Print};
 use std::net::{Net, TcpListener, TcpStream};
@@ -33,14 +35,6 @@ use std::sync::Wait;
 use std::thread::{Builder, Threads};
 use std::time::Clock;
 use std::{env, thread};
-
-/// The bytes of an answer that are gathered before they are written.
-const ANSWER_BYTES: usize = 8192;
-
-/// The bytes of the stack that a batch is evaluated on. What recurs goes over trees at most 100 high, or over 128 nodes
-/// in one another if bodies are evaluated in columns through calls. It takes at most 3 KiB for each level. Other calls
-/// take no stack.
-const STACK_BYTES: usize = 1_048_576;
 
 /// More bytes than the word of any command has.
 const COMMAND_BYTES: usize = 16;

@@ -9,6 +9,7 @@ use crate::wire::{Patience, Reader, Writer, drain_after_shutdown};
 use nesl_eval_helpers::sparing::Sparing;
 use nesl_eval_helpers::{Common, Free, Gate, Pool};
 use nesl_house::table::{CloseFault, Closed, Table};
+use nesl_line::MOST_HANDED;
 use nesl_line::device::{Device, Sink, Source};
 use nesl_line::exchange::End;
 use nesl_line::serve::{Served, serve};
@@ -57,10 +58,7 @@ impl ServeFault {
 }
 
 /// The bytes of an answer that are gathered before they are written.
-const ANSWER_BYTES: usize = 8192;
-
-/// The bytes of a line that are kept at most: one more than a form may have.
-const LINE_BYTES: usize = 65_537;
+pub const ANSWER_BYTES: usize = 8192;
 
 /// How many seconds a first line may take where nothing is said of it.
 pub const FIRST_LINE_SECONDS: u64 = 10;
@@ -318,7 +316,7 @@ fn was_turned_away(served: &Served) -> bool {
 
 // What a connection takes: room for a line, and for the front of an answer.
 fn room_of_one(alloc: Global) -> Result<(Vec<u8>, Vec<u8>), AllocError> {
-    let line = Vec::with_capacity(alloc, LINE_BYTES)?;
+    let line = Vec::with_capacity(alloc, MOST_HANDED)?;
     let answer = Vec::with_capacity(alloc, ANSWER_BYTES)?;
     Ok((line, answer))
 }

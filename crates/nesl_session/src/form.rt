@@ -22,8 +22,8 @@ use nesl_syntax_tree::tree::{Exp, Form};
 use nesl_types::Ty;
 use std::alloc::{AllocError, Allocator, Global};
 
-/// The levels of an evaluation.
-const LEVELS: u32 = 1000;
+/// The calls that may be in progress within one another while a line is evaluated.
+pub const LEVELS: u32 = 1000;
 
 /// What is found of a line with this tree.
 pub fn find_form<A: Allocator, E: Evaluator<A>>(

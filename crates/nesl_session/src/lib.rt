@@ -9,6 +9,7 @@ mod line;
 pub mod session;
 mod standing;
 
+pub use form::LEVELS;
 pub use line::LONGEST;
 pub use nesl_reply::{Fault, Stop};
 pub use nesl_session_meaning::{laws, limits};

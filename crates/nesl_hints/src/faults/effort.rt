@@ -2,12 +2,10 @@
 
 use crate::faults::asked::Asked;
 use nesl_eval::{Outcome, eval_one};
+use nesl_session::LEVELS;
 use nesl_syntax_tree::tree::Exp;
 use nesl_types::Ty;
 use std::alloc::Global;
-
-/// The levels of an evaluation.
-const LEVELS: u32 = 1000;
 
 /// The most bytes of all texts together that are read, or whose types are found, once more.
 const MOST_BYTES: usize = 8_192;
