@@ -39,13 +39,13 @@ impl<'e, A: Allocator> Tops<A> for Copies<'e, A> {
     #[tactic(auto, using(crate::proofs::Copying::copy_stands))]
     fn held(&self, place: usize) -> Result<Held<'_, A>, AllocError> {
         match self.tops.held(place) {
-            nesl_eval_top_level::Held::Variable(_) => match lent_copy(&self.values, place) {
+            Held::Variable(_) => match lent_copy(&self.values, place) {
                 Some(copy) => Ok(Held::Variable(copy)),
                 None => Err(AllocError),
             },
-            nesl_eval_top_level::Held::Function(code) => Ok(Held::Function(code)),
-            nesl_eval_top_level::Held::Datatype(tag) => Ok(Held::Datatype(tag)),
-            nesl_eval_top_level::Held::Nothing => Ok(Held::Nothing),
+            Held::Function(code) => Ok(Held::Function(code)),
+            Held::Datatype(tag) => Ok(Held::Datatype(tag)),
+            Held::Nothing => Ok(Held::Nothing),
         }
     }
 
@@ -126,7 +126,7 @@ fn copy_at<A: Allocator + Copy>(
         return None;
     }
     match tops.held(place) {
-        nesl_eval_top_level::Held::Variable(value) => match value.copy_into(heap) {
+        Held::Variable(value) => match value.copy_into(heap) {
             Ok(copy) => Some(copy),
             Err(_) => None,
         },

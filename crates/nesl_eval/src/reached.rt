@@ -7,7 +7,8 @@ ghost use Rattle.nesl_eval_top_level.specs.TopLevels.{table_in};
 ghost use Rattle.nesl_eval.specs.Reached.{count_of, AreQueued, Grows, IsMarked, Marks, Reaches};
 
 use nesl_eval_code::Code;
-use nesl_eval_top_level::{Held, TopLevel};
+use nesl_eval_nodes::held::Held;
+use nesl_eval_top_level::TopLevel;
 use std::alloc::{AllocError, Global};
 
 /// Which places were met, and these in the order in which they were.

@@ -10,12 +10,14 @@ ghost use Rattle.nesl_eval_code.specs.Means.{Means, IsTableOf, names_of, place_o
 ghost use Rattle.nesl_eval_code.specs.Run.{slot_at, nothing_slot};
 ghost use Rattle.nesl_eval_code.specs.Resolving.{keys_of};
 ghost use Rattle.nesl_eval_top_level.specs.Stored.{names_in, environment, slot_of, HasCode, with_place, with_code};
-ghost use Rattle.nesl_eval_top_level.specs.TopLevels.{held_slot, table_in, bodies_in};
+ghost use Rattle.nesl_eval_nodes.specs.Holds.{held_slot};
+ghost use Rattle.nesl_eval_top_level.specs.TopLevels.{table_in, bodies_in};
 ghost use Rattle.nesl_eval_top_level.specs.Laid.{IsLaid, with_body};
 ghost use Rattle.nesl_eval_ops.specs.View.{HasBodies};
 
 use indexmap::IndexMap;
 use nesl_eval_code::{Code, Places, code_of_body, code_of_expression, place_in};
+use nesl_eval_nodes::held::Held;
 use nesl_eval_ops::{Ops, body_ops};
 use nesl_syntax_tree::tree::{Exp, Pattern};
 use nesl_types::{Context, Top};
@@ -75,19 +77,6 @@ impl Model for Env {
     ghost invariant = { λ e. AreStored e.context e.prepared.entries × AreLaid e.prepared.entries e.bodies.items };
 }
 
-/// What stands at a place of the top level.
-#[derive(Clone, Copy)]
-pub enum Held<'a> {
-    /// A variable's value.
-    Variable(&'a Value),
-    /// The code of a function's body.
-    Function(&'a Code),
-    /// A datatype's tag.
-    Datatype(u64),
-    /// No name, or one whose type and payload do not fit one another.
-    Nothing,
-}
-
 /// The top level as an evaluation sees it: what stands at each place, and the place of each name.
 #[derive(Clone, Copy)]
 pub struct TopLevel<'a> {
@@ -98,7 +87,7 @@ pub struct TopLevel<'a> {
 
 impl<'a> TopLevel<'a> {
     /// What stands at a place.
-    pub fn held(&self, place: usize) -> Held<'a>
+    pub fn held(&self, place: usize) -> Held<'a, Global>
         ensures { held_slot result ≡ unwrap_or (slot_at (table_in self.now) place) nothing_slot }
     {
         let Some((_, top, payload)) = self.context.at(place) else {
@@ -126,7 +115,7 @@ impl<'a> TopLevel<'a> {
 }
 
 /// What a name holds with this type and payload, and this code of its body.
-fn found_there<'a>(top: &'a Top, payload: &'a Payload, code: &'a Option<Code>) -> Held<'a>
+fn found_there<'a>(top: &'a Top, payload: &'a Payload, code: &'a Option<Code>) -> Held<'a, Global>
     ensures { held_slot result ≡ slot_of top.now payload.now code.now }
 {
     match payload {

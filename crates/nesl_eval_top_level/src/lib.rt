@@ -4,4 +4,4 @@
 pub mod env;
 mod top_level;
 
-pub use env::{Env, Held, Payload, TopLevel, prepare};
+pub use env::{Env, Payload, TopLevel, prepare};

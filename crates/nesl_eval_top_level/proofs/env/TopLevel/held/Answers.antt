@@ -1,5 +1,5 @@
 use Rattle.nesl_eval_top_level.proofs.Storing.{slot_of_no_name, slot_of_no_code, slot_there}
-use Rattle.nesl_eval_top_level.specs.TopLevels.{held_slot}
+use Rattle.nesl_eval_nodes.specs.Holds.{held_slot}
 use Rattle.nesl_eval_top_level.proofs.env.TopLevel.held.Goals as goal
 
 pub returns-in_default : goal.returns-in_default
