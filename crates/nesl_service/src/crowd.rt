@@ -6,9 +6,9 @@ use std::sync::atomic::{AtomicU64, Ordering};
 use std::thread;
 use std::thread::{Builder, Scope, Threads};
 
-/// The bytes of the stack of a thread that answers lines. What recurs goes over trees at most 100 high, or over 128 nodes
-/// within one another if bodies are evaluated in columns through calls. It takes at most 3 KiB for each level. Other
-/// calls take no stack.
+/// The bytes of the stack of a thread that answers lines. What recurs goes over trees at most 100 high, or over 128
+/// nodes within one another if bodies are evaluated in columns through calls. It takes at most 3 KiB for each level.
+/// Other calls take no stack.
 pub const STACK_BYTES: usize = 1_048_576;
 
 /// Where the threads of a crowd wait for each other before they begin.
