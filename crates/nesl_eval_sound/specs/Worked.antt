@@ -27,7 +27,7 @@ parameter = pattern here (trees.name_pattern (codes "x"))
 abbrev pub body : Tree
 body = node here (trees.variable (codes "x"))
 
--- the payloads are what the names stand for
+-- the payloads are what the names mean
 abbrev pub as_it_is : Top → evaluated.Top → evaluated.Top
 as_it_is t v = v
 
@@ -37,7 +37,7 @@ Bindings = List (List ℕ × Top × evaluated.Top)
 abbrev pub with_identity : Scheme → Bindings
 with_identity s = (codes "id", top.Function s, function_of parameter body) ∷ []
 
--- from each type to the same
+-- from each type to the same type
 abbrev pub IsIdentity : Scheme → Type 0
 IsIdentity s = (s.argument ≡ variable 0) × (s.result ≡ variable 0) × (s.classes.items ≡ Any ∷ [])
 
@@ -119,13 +119,13 @@ NestedIsSound =
     (n : ℕ) → IsFine (λ v. HasType (held_in nothing_bound) v (seq_of (seq_of int)))
     (out n (values_of as_it_is nothing_bound) (outside []) nested)
 
--- `x = (x, x); x = (x, x); ..`, so many of them
+-- `x = (x, x); x = (x, x); ..`, this number of times
 abbrev pub doublings : ℕ → Binders
 doublings zero = trees.no_binders
 doublings (suc k) =
     trees.binder parameter (node here (trees.pair (named (codes "x")) (named (codes "x")))) (doublings k)
 
--- a type doubled so often
+-- a type that is doubled this number of times
 abbrev pub doubled : ℕ → Term → Term
 doubled zero t = t
 doubled (suc k) t = doubled k (pair_of t t)

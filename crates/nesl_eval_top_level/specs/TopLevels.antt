@@ -7,7 +7,7 @@ use Rattle.nesl_eval_top_level.specs.declared.env.TopLevel.{TopLevel}
 use Rattle.nesl_eval_code.specs.Run.{Table, Slot, variable_slot, function_slot, datatype_slot, nothing_slot}
 use Rattle.nesl_eval_top_level.specs.Stored.{table}
 
--- what is told of a place
+-- what a place holds
 abbrev pub held_slot : Held → Slot
 held_slot (Held.Variable v) = variable_slot (tree_of v.now)
 held_slot (Held.Function c) = function_slot c.now

@@ -7,7 +7,7 @@ use crate::env::{self, TopLevel};
 use nesl_eval_nodes::held::{Held, Tops};
 use std::alloc::{AllocError, Global};
 
-// What is lent, for an evaluation.
+// What a place holds, in the form that evaluation takes.
 fn of_lent(held: env::Held<'_>) -> Held<'_, Global>
     ensures { held_slot result ≡ lent.held_slot held.entry }
 {

@@ -1,4 +1,4 @@
--- What the code's own types stand for.
+-- What the code's own types mean.
 use Rattle.std.specs.Prelude.{◌≡◌, ◌≤◌, ◌<◌, ◌^◌, ℕ, Bool, true, false, List}
 use Rattle.std.specs.Prelude.{Option, Some, None}
 use Rattle.nesl_values.specs.View as values
@@ -39,13 +39,13 @@ meaning_of (code.Variable t v cost) = meanings.variable t (values.tree_of v)
 meaning_of (code.Function f p e) = meanings.function (function_type f) (pattern_tree p) (tree_of e)
 meaning_of (code.Datatype tag t) = meanings.datatype tag t
 
--- the work that was done for it
+-- the work of the evaluation, or 0 if there was none
 abbrev pub work_of : Meaning → ℕ
 work_of (code.Variable t v cost) = cost.work
 work_of (code.Function f p e) = 0
 work_of (code.Datatype tag t) = 0
 
--- what is told of a name that is to be this
+-- what is reported where a name is defined as this
 abbrev pub told_as : Name → Meaning → Report
 told_as x (code.Variable t v cost) = replies.bound x (values.tree_of v) t cost
 told_as x (code.Function f p e) = replies.function x f.argument f.result f.classes.items
@@ -68,7 +68,7 @@ finding_of (found.Refused fault work) = refused fault work
 finding_of (found.Told t) = answered (told_of t) 0 None
 finding_of (found.Defined d) = answered (told_as d.name.items d.meaning) (work_of d.meaning) (Some (binding_of d))
 
--- what is told of it, where so many lines are stored
+-- what is reported, if the session stores this number of lines
 abbrev pub told_after : (lines : ℕ) → Found → Report
 told_after lines (found.Unread fault) = replies.refused fault
 told_after lines found.Reset = replies.cleared lines
@@ -97,7 +97,7 @@ is_recorded (found.Defined d) = true
 abbrev pub HasRoom : List Binding → Name → meanings.Meaning → Type 0
 HasRoom bs x m = elements_of (put_binding x m bs) < 2 ^ 64
 
--- the name can be this: it is well typed, nothing stands against it, and there is room
+-- the name can mean this: it is well typed, no other name refuses it, and there is room
 abbrev pub CanMean : List Binding → Name → Meaning → Type 0
 CanMean bs x (code.Variable t v cost) =
     IsComputed bs t (values.tree_of v) × RefusesDefinition bs x (a_variable t) None
@@ -113,7 +113,7 @@ CanMean bs x (code.Datatype tag t) =
 abbrev pub CanBe : List Binding → Definition → Type 0
 CanBe bs d = CanMean bs d.name.items d.meaning
 
--- what was found of a line that was read can be charged, and what it binds can be bound
+-- what was found of a line that was read can be charged, and what it defines can be bound
 abbrev pub CanCharge : State → Found → Type 0
 CanCharge s (found.Unread fault) = ⊥
 CanCharge s found.Reset = ⊥

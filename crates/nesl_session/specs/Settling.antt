@@ -1,4 +1,4 @@
--- What a line has to be for what was found of it to change the state.
+-- When a line can change the state by what was found of it.
 use Rattle.std.specs.Prelude.{◌≡◌, ◌≤◌, ◌<◌, ◌+◌, ◌^◌, ℕ, true, List, length, sum_by}
 use Rattle.nesl_session_meaning.specs.State.{State}
 use Rattle.nesl_session_meaning.specs.Step.{recorded_by_reset, most_recorded, is_part}
@@ -10,7 +10,7 @@ use Rattle.nesl_session.specs.Found.{work_of, CanBe}
 abbrev pub HasRoomFor : State → List ℕ → Type 0
 HasRoomFor s line = sum_by length s.transcript + length line < 2 ^ 64
 
--- a line of which this was found can change the state
+-- the line can change the state by what was found of it
 abbrev pub CanSettle : State → List ℕ → Found → Type 0
 CanSettle s line (found.Unread fault) = Unit {0}
 CanSettle s line found.Reset = recorded_by_reset s ≤ most_recorded

@@ -22,7 +22,7 @@ use nesl_syntax_tree::tree::{Exp, Form};
 use nesl_types::Ty;
 use std::alloc::{AllocError, Allocator, Global};
 
-/// The levels of an evaluation.
+/// The number of levels of an evaluation: how many nodes may be entered one inside another.
 const LEVELS: u32 = 1000;
 
 /// What is found of a line with this tree.
@@ -64,7 +64,7 @@ pub fn find_form<A: Allocator, E: Evaluator<A>>(
     }
 }
 
-// What is left and what there may be.
+// The work that is left, and how much of each limit is used.
 fn show_budget(standing: &Standing) -> Shown
     requires { Counts standing.now }
     ensures { told_of result ≡ budget_report standing.now.limits (state_of standing.now) }
@@ -84,7 +84,7 @@ fn show_budget(standing: &Standing) -> Shown
     Shown::Budget(standing.work_left, elements, lines, bytes)
 }
 
-// An expression alone is bound to `it`.
+// What is found of an expression alone, which is bound to `it`.
 fn find_it<A: Allocator, E: Evaluator<A>>(
     standing: &Standing,
     alloc: Global,
@@ -100,7 +100,7 @@ fn find_it<A: Allocator, E: Evaluator<A>>(
     find_variable(standing, alloc, name, exp, by)
 }
 
-// What an expression that a name is bound to comes to.
+// What is found where a name is bound to an expression.
 fn find_variable<A: Allocator, E: Evaluator<A>>(
     standing: &Standing,
     alloc: Global,
@@ -120,7 +120,7 @@ fn find_variable<A: Allocator, E: Evaluator<A>>(
     }
 }
 
-// What an expression of this type comes to.
+// What is found where a name is bound to an expression of this type.
 fn find_value<A: Allocator, E: Evaluator<A>>(
     standing: &Standing,
     alloc: Global,

@@ -1,4 +1,4 @@
-//! What a line evaluates to, as far as no expression has to be evaluated for it.
+//! What is found of a line, as far as no expression has to be evaluated.
 
 pub mod drops;
 pub mod finding;

@@ -1,4 +1,4 @@
-//! One line: what is found of it before its form is looked at, and what is answered.
+//! One line: what is found of it before its form is looked at, and the answer.
 ghost use Rattle.std.specs.Prelude.{◌≡◌, ◌+◌, ◌++◌, List, ℕ, IfOk, OnErr, IsFalse, nat_lt, if◌then◌else◌, length};
 ghost use Rattle.nesl_reply.specs.declared.fault.Fault.TheVariants as faults;
 ghost use Rattle.nesl_session_meaning.specs.Finding.{unread, reset};
@@ -19,13 +19,13 @@ use crate::standing::Standing;
 use nesl_reply::Fault;
 use std::alloc::{AllocError, Allocator, Global};
 
-/// The most bytes of a form, the parts that came before included.
+/// The most bytes of a form, with the parts that came before.
 pub const LONGEST: usize = 65_536;
 
-/// The most lines that a session may be told, where one is a reset.
+/// The most lines that a session may have recorded once it is reset.
 const MOST_TOLD: u64 = 72_057_594_037_927_936;
 
-/// One line. The answer is the step's, or want of memory, which changes nothing.
+/// Answers one line by a step. On `Err`, memory ran out and nothing has changed.
 pub fn step<A: Allocator, E: Evaluator<A>>(
     standing: &mut Standing,
     alloc: Global,
@@ -52,7 +52,7 @@ pub fn step<A: Allocator, E: Evaluator<A>>(
     Ok(answer)
 }
 
-// What is told of a finding.
+// The answer to a line, by what was found of it.
 fn answer(standing: &Standing, alloc: Global, finding: &Finding) -> Result<Answer, AllocError>
     ensures { IfOk result (λ a. a ≡ reply_of (state_of standing.now) (finding_of finding.now)) }
 {
@@ -61,7 +61,7 @@ fn answer(standing: &Standing, alloc: Global, finding: &Finding) -> Result<Answe
     Ok(Answer::made(text, finding.fault(), finding.is_recorded()))
 }
 
-/// What is found of a line: the first check that fails, or what the line comes to.
+/// What is found of a line: the first check that fails, or what the line does.
 pub fn find<A: Allocator, E: Evaluator<A>>(
     standing: &Standing,
     alloc: Global,
@@ -89,7 +89,7 @@ pub fn find<A: Allocator, E: Evaluator<A>>(
     Ok(finding)
 }
 
-// A reset is refused only where too many lines were told.
+// A reset is refused only if too many lines were recorded.
 fn find_reset(standing: &Standing) -> Finding
     requires { Counts standing.now }
     ensures found { finding_of result
@@ -151,7 +151,7 @@ fn find_read<A: Allocator, E: Evaluator<A>>(
     }
 }
 
-// What the line comes to, behind the parts before it.
+// Reads the line together with the parts before it.
 #[inline]
 fn sense(standing: &Standing, alloc: Global, text: &[u8]) -> Result<Sense, AllocError>
     ensures { IfOk result (λ sense. HasSense (standing.now.pending.items ++ text.now) (seen_sense sense)) }
@@ -171,7 +171,7 @@ fn is_reset(text: &[u8]) -> bool
     text == b":reset".as_slice()
 }
 
-// Whether the form goes on behind the line.
+// Whether the line is part of a form that isn't complete yet.
 fn is_part(text: &[u8]) -> bool
     ensures { result ≡ is_part text.now }
 {

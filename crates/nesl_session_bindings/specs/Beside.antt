@@ -1,4 +1,4 @@
--- The elements of all other names.
+-- The number of elements of all names but this one.
 use Rattle.std.specs.Prelude.{ℕ, ◌+◌, List, [], ◌∷◌, if◌then◌else◌}
 use Rattle.std.specs.Str.{bytes_eq}
 use Rattle.nesl_eval_meaning.specs.Names.{Name}

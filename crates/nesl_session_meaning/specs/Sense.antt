@@ -1,11 +1,11 @@
--- The sense of a line: its tokens, and the one tree of its tokens.
+-- The reading of a line: its tokens, and the one tree of its tokens.
 use Rattle.std.specs.Prelude.{ℕ, ◌<◌, ◌≤◌, List}
 use Rattle.nesl_lex.specs.Tokens.{Placed}
 use Rattle.nesl_lex.specs.Lexemes.{HasTokens, HasNoTokenAt}
 use Rattle.nesl_syntax_tree.specs.Trees.{FormTree, form_height}
 use Rattle.nesl_syntax_tree.specs.Lines.{IsForm}
 
--- what a line may come to by the grammar: a place where no token stands, no tree, a tree that is too high, a tree
+-- how a line reads by the grammar: a byte at which no token begins, no tree, a tree that is too high, or a tree
 pub data Sense : Type 0 where
   no_token : ℕ → Sense
   no_form : Sense
@@ -16,7 +16,7 @@ pub data Sense : Type 0 where
 abbrev pub highest : ℕ
 highest = 100
 
--- the line comes to this
+-- the line has this reading
 pub data HasSense : List ℕ → Sense → Type 0 where
   is_stuck : {line : List ℕ} {at : ℕ} → HasNoTokenAt line at → HasSense line (no_token at)
   has_no_form :

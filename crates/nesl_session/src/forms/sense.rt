@@ -1,4 +1,4 @@
-//! What a line comes to by the grammar.
+//! How a line reads by the grammar: its form, or why it has none.
 ghost use Rattle.std.specs.Prelude.{IfOk};
 ghost use Rattle.nesl_session_meaning.specs.Sense.{HasSense};
 ghost use Rattle.nesl_session.specs.Found.{seen_sense};
@@ -8,7 +8,7 @@ use nesl_syntax::{ParseFault, parse_form};
 use nesl_syntax_tree::tree::Form;
 use std::alloc::{AllocError, Global};
 
-/// What a line comes to by the grammar.
+/// How a line reads by the grammar: its form, or why it has none.
 #[derive(Drop)]
 pub enum Sense {
     /// The first byte at which no token, blank or whole comment stands.
@@ -21,7 +21,7 @@ pub enum Sense {
     Form(Form),
 }
 
-/// What the line comes to by the grammar.
+/// Reads a line by the grammar.
 #[inline(always)]
 pub fn sense_of(alloc: Global, line: &[u8]) -> Result<Sense, AllocError>
     ensures { IfOk result (λ sense. HasSense line.now (seen_sense sense)) }
