@@ -107,7 +107,7 @@ impl<'a> TopLevel<'a> {
         let Some((_, code)) = self.prepared.get_index(place) else {
             return Held::Nothing;
         };
-        found_there(top, payload, code)
+        held_with(top, payload, code)
     }
 
     /// The place of a name.
@@ -126,7 +126,7 @@ impl<'a> TopLevel<'a> {
 }
 
 /// What a place holds, by the name's type, its payload, and the code of its body.
-fn found_there<'a>(top: &'a Top, payload: &'a Payload, code: &'a Option<Code>) -> Held<'a>
+fn held_with<'a>(top: &'a Top, payload: &'a Payload, code: &'a Option<Code>) -> Held<'a>
     ensures { held_slot result ≡ slot_of top.now payload.now code.now }
 {
     match payload {
@@ -339,14 +339,14 @@ impl Env {
     {
         let place = place_in(&self.prepared, name);
         if let Some(there) = place_without_code(place, &payload) {
-            return self.set_there(alloc, there, top, payload);
+            return self.set_at(alloc, there, top, payload);
         }
         self.set_prepared(alloc, name, place, top, payload)
     }
 
     // Binds the name at this place, which gets no code.
     #[inline(never)]
-    fn set_there(
+    fn set_at(
         &mut self,
         alloc: Global,
         there: usize,

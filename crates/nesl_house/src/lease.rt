@@ -4,10 +4,10 @@ ghost use Rattle.nesl_session_meaning.specs.State.{recorded_lines};
 ghost use Rattle.nesl_session_meaning.specs.Solo.{Responds};
 
 use crate::seat::Seat;
+use nesl_eval_helpers::{Gate, Helpers};
 use nesl_session::answer::Answer;
 use nesl_session::laws::recorded_lines_grow;
 use nesl_session::session::Session;
-use nesl_eval_helpers::{Gate, Helpers};
 use std::alloc::Global;
 use std::marker::Model;
 use std::thread::Threads;

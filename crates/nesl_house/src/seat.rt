@@ -3,10 +3,10 @@ ghost use Rattle.std.specs.Prelude.{◌≡◌, ◌<◌, IfOk};
 ghost use Rattle.nesl_session_meaning.specs.State.{empty_log};
 ghost use Rattle.nesl_session_meaning.specs.Solo.{Responds};
 
+use nesl_eval_helpers::{Gate, Helpers};
 use nesl_session::answer::Answer;
 use nesl_session::limits::Limits;
 use nesl_session::session::Session;
-use nesl_eval_helpers::{Gate, Helpers};
 use std::alloc::{AllocError, Global};
 use std::marker::Model;
 use std::thread::Threads;

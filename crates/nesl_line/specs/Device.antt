@@ -12,4 +12,4 @@ device_reads d = record { made = d.reads; failed = d.failed }
 
 -- the counts of the writes and the flushes
 abbrev pub device_writes : {T : Type 0} → Device T → WriteTally
-device_writes d = record { failed = d.failed; stalled = d.stalled; flushed = d.flushed; behind = d.behind }
+device_writes d = record { failed = d.failed; stalled = d.stalled; flushed = d.flushed; unflushed = d.unflushed }

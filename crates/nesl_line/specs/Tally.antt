@@ -26,11 +26,11 @@ pub record WriteTally : Type 0 where
   pub failed : ℕ
   pub stalled : ℕ
   pub flushed : ℕ
-  pub behind : ℕ
+  pub unflushed : ℕ
 
 -- k bytes that were written
 abbrev pub written_by : ℕ → WriteTally → WriteTally
-written_by k tally = record tally { behind = risen_by k tally.behind }
+written_by k tally = record tally { unflushed = risen_by k tally.unflushed }
 
 -- one write more
 abbrev pub after_write : {E : Type 0} → WriteTally → List ℕ → Result ℕ E → WriteTally
@@ -43,7 +43,7 @@ after_write tally bytes (Err e) = record tally { failed = risen_by 1 tally.faile
 abbrev pub flushed_by : ℕ → WriteTally → WriteTally
 flushed_by n tally = record tally {
   flushed = risen_by n tally.flushed;
-  behind = if n == 0 then tally.behind else 0;
+  unflushed = if n == 0 then tally.unflushed else 0;
 }
 
 -- one flush more

@@ -68,7 +68,7 @@ pub struct Device<T> {
     failed: u64,
     stalled: u64,
     flushed: u64,
-    behind: u64,
+    unflushed: u64,
 }
 
 impl<T> Device<T> {
@@ -78,7 +78,7 @@ impl<T> Device<T> {
     pub fn new(inner: T) -> Device<T>
         ensures inner { device_inner result ≡ inner }
         ensures reads { device_reads result ≡ record { made = 0; failed = 0 } }
-        ensures writes { device_writes result ≡ record { failed = 0; stalled = 0; flushed = 0; behind = 0 } }
+        ensures writes { device_writes result ≡ record { failed = 0; stalled = 0; flushed = 0; unflushed = 0 } }
     {
         Device {
             inner,
@@ -86,7 +86,7 @@ impl<T> Device<T> {
             failed: 0,
             stalled: 0,
             flushed: 0,
-            behind: 0,
+            unflushed: 0,
         }
     }
 
@@ -134,7 +134,7 @@ impl<T: Write> Sink for Device<T> {
                 if n == 0 && !buf.is_empty() {
                     self.stalled = self.stalled.saturating_add(1);
                 } else {
-                    self.behind = self.behind.saturating_add(n as u64);
+                    self.unflushed = self.unflushed.saturating_add(n as u64);
                 }
                 Ok(n)
             }
@@ -149,7 +149,7 @@ impl<T: Write> Sink for Device<T> {
         match flush_again(&mut self.inner) {
             Ok(()) => {
                 self.flushed = self.flushed.saturating_add(1);
-                self.behind = 0;
+                self.unflushed = 0;
                 Ok(())
             }
             Err(_) => {

@@ -44,7 +44,7 @@ pub fn exchange<S: Source, W: Sink, H: Hearer>(
     world: &mut H::World,
 ) -> Ran
     requires ready { H.ready hearer.old world.old }
-    requires untold { H.heard hearer.old world.old hearer.old world.old [] [] }
+    requires nothing_heard { H.heard hearer.old world.old hearer.old world.old [] [] }
     ensures exchange { IsExchange (H.heard hearer.old world.old hearer.new world.new)
         (H.over hearer.new) result.end result.lines
         (S.left reader.old) (S.left reader.new) (W.held writer.old) (W.held writer.new) }
@@ -75,7 +75,7 @@ fn converse<S: Source, W: Sink, H: Hearer>(
 ) -> End
     requires fresh { IsFresh talk.old }
     requires ready { H.ready hearer.old world.old }
-    requires untold { H.heard hearer.old world.old hearer.old world.old [] [] }
+    requires nothing_heard { H.heard hearer.old world.old hearer.old world.old [] [] }
     ensures exchange { IsExchange (H.heard hearer.old world.old hearer.new world.new)
         (H.over hearer.new) result talk.new.lines
         (S.left reader.old) (S.left reader.new) (W.held writer.old) (W.held writer.new) }

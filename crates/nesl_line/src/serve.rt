@@ -6,10 +6,10 @@ ghost use Rattle.nesl_line.specs.Visiting.{SessionAnswersLine};
 use crate::device::{Sink, Source};
 use crate::exchange::{End, exchange};
 use crate::guest::Guest;
+use nesl_eval_helpers::{Gate, Helpers, Place};
 use nesl_house::lease::{Lease, Receipt};
 use nesl_house::table::Table;
 use nesl_session::answer::Answer;
-use nesl_eval_helpers::{Gate, Helpers, Place};
 use std::alloc::Global;
 use std::sync::Wait;
 use std::thread::Threads;
@@ -42,7 +42,7 @@ pub fn serve<'t, S: Source, W: Sink, R: Threads + Wait + Sync, H: Helpers + Sync
 {
     let speak = |lease: Lease, line: &[u8]| -> (Lease, Answer)
         ensures { SessionAnswersLine lease line.now result }
-    { said(rt, alloc, lease, line, helpers, gate) };
+    { answer_line(rt, alloc, lease, line, helpers, gate) };
     let mut guest = Guest::new(rt, table, speak);
     let ran = exchange(alloc, reader, writer, &mut guest, &mut ());
     Served {
@@ -53,7 +53,7 @@ pub fn serve<'t, S: Source, W: Sink, R: Threads + Wait + Sync, H: Helpers + Sync
 }
 
 // What the session of a lease answers to a line, and the lease after it.
-fn said<R: Threads + Wait + Sync, H: Helpers + Sync, G: Gate + Sync>(
+fn answer_line<R: Threads + Wait + Sync, H: Helpers + Sync, G: Gate + Sync>(
     rt: &R,
     alloc: Global,
     lease: Lease,

@@ -75,8 +75,8 @@ report_of (Reply.Refused fault) = refused fault
 
 module _ {P : Type 0} where
   -- the text of a reply without its line end, with the names of a session
-  abbrev pub told_of : List (List ℕ × Top × P) → Reply → List ℕ
-  told_of context reply = report_text (datatypes context) (map (λ b. b.0) context) (report_of reply)
+  abbrev pub reply_line : List (List ℕ × Top × P) → Reply → List ℕ
+  reply_line context reply = report_text (datatypes context) (map (λ b. b.0) context) (report_of reply)
 
   abbrev pub reply_text : List (List ℕ × Top × P) → Reply → List ℕ
-  reply_text context reply = told_of context reply ++ codes "\n"
+  reply_text context reply = reply_line context reply ++ codes "\n"

@@ -170,7 +170,7 @@ fn write_unknown(out: &mut Vec<u8>, span: Span) -> Result<(), AllocError>
 }
 
 // Writes all of a fault but the leading `fault `.
-fn write_told(out: &mut Vec<u8>, fault: Fault) -> Result<(), AllocError>
+fn write_words(out: &mut Vec<u8>, fault: Fault) -> Result<(), AllocError>
     ensures { OnOk result (out.new.items ≡ out.old.items ++ fault_words fault) }
 {
     match fault {
@@ -207,5 +207,5 @@ pub(crate) fn write_fault(out: &mut Vec<u8>, fault: Fault) -> Result<(), AllocEr
     ensures { OnOk result (out.new.items ≡ out.old.items ++ fault_text fault) }
 {
     write_bytes(out, b"fault ")?;
-    write_told(out, fault)
+    write_words(out, fault)
 }

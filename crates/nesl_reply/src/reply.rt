@@ -5,7 +5,7 @@ ghost use Rattle.std.specs.Prelude.{codes, decimal, map};
 ghost use Rattle.nesl_types.specs.Texts.{type_text as text_of_type, scheme_text as text_of_scheme, name_at};
 ghost use Rattle.nesl_reply.specs.Faults.{fault_text};
 ghost use Rattle.nesl_reply.specs.declared.fault.Fault.TheVariants.{Memory};
-ghost use Rattle.nesl_reply.specs.Replies.{told_of, budget_text, reply_text as text_of_reply, cost_text, used_text};
+ghost use Rattle.nesl_reply.specs.Replies.{reply_line, budget_text, reply_text as text_of_reply, cost_text, used_text};
 ghost use Rattle.nesl_reply.specs.Replies.{names_text};
 
 use crate::fault::{Fault, write_fault};
@@ -77,7 +77,7 @@ fn write_reply<P: Drop>(
     reply: Reply<'_>,
     context: &Context<P>,
 ) -> Result<(), AllocError>
-    ensures { OnOk result (out.new.items ≡ out.old.items ++ told_of context.now reply.entry) }
+    ensures { OnOk result (out.new.items ≡ out.old.items ++ reply_line context.now reply.entry) }
 {
     match reply {
         Reply::Bound(name, value, ty, cost) => {

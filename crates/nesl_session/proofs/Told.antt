@@ -8,21 +8,21 @@ use Rattle.nesl_session.specs.declared.forms.finding.Finding.TheVariants as foun
 use Rattle.nesl_session_meaning.specs.State.{State, names_of}
 use Rattle.nesl_session_meaning.specs.Response.{Reply}
 use Rattle.nesl_session_meaning.specs.Step.{reply_of}
-use Rattle.nesl_session.specs.Found.{finding_of, told_after, fault_in, is_recorded}
+use Rattle.nesl_session.specs.Found.{finding_of, finding_report, fault_in, is_recorded}
 
-plain : (s : State) (f : Found) → record { bytes = report_text (datatypes_of s.bindings) (names_of s) (told_after (length s.transcript) f) ++ codes "\n"; fault = fault_in f; recorded = is_recorded f } ≡ reply_of s (finding_of f)
+plain : (s : State) (f : Found) → record { bytes = report_text (datatypes_of s.bindings) (names_of s) (finding_report (length s.transcript) f) ++ codes "\n"; fault = fault_in f; recorded = is_recorded f } ≡ reply_of s (finding_of f)
 plain s (found.Unread fault) = refl
 plain s found.Reset = refl
 plain s found.Part = refl
 plain s (found.Refused fault work) = refl
-plain s (found.Told t) = refl
+plain s (found.Answered t) = refl
 plain s (found.Defined d) = refl
 
 pub told_response : (s : State) (f : Found) (lines : ℕ) (t : Report) (bytes : List ℕ) (fault : Option Fault) (recorded : Bool) (r : Reply) → r ≡ record { bytes = bytes; fault = fault; recorded = recorded }
-    → fault ≡ fault_in f → recorded ≡ is_recorded f → bytes ≡ report_text (datatypes_of s.bindings) (names_of s) t ++ codes "\n" → t ≡ told_after lines f → lines ≡ length s.transcript → r ≡ reply_of s (finding_of f)
+    → fault ≡ fault_in f → recorded ≡ is_recorded f → bytes ≡ report_text (datatypes_of s.bindings) (names_of s) t ++ codes "\n" → t ≡ finding_report lines f → lines ≡ length s.transcript → r ≡ reply_of s (finding_of f)
 told_response s f lines t bytes fault recorded r e p q b u n =
     let P : Report → Type 0 = λ y. bytes ≡ report_text (datatypes_of s.bindings) (names_of s) y ++ codes "\n" in
-    let same = subst P (u ∙ ap (λ k. told_after k f) n) b in
+    let same = subst P (u ∙ ap (λ k. finding_report k f) n) b in
     e ∙ (λ i. record { bytes = same i; fault = p i; recorded = q i }) ∙ plain s f
 
 pub told_fault : (s : State) (f : Found) → fault_in f ≡ (reply_of s (finding_of f)).fault
@@ -30,5 +30,5 @@ told_fault s (found.Unread fault) = refl
 told_fault s found.Reset = refl
 told_fault s found.Part = refl
 told_fault s (found.Refused fault work) = refl
-told_fault s (found.Told t) = refl
+told_fault s (found.Answered t) = refl
 told_fault s (found.Defined d) = refl

@@ -15,8 +15,8 @@ use Rattle.nesl_session_bindings.specs.Meanings.{Binding, elements_of}
 use Rattle.nesl_session_bindings.specs.Known.{known, datatype_count, put_binding}
 use Rattle.nesl_session_bindings.specs.Redefinition.{a_variable, a_function, a_datatype, RefusesDefinition}
 use Rattle.nesl_session_bindings.specs.Stored.{IsComputed}
-use Rattle.nesl_session.specs.declared.forms.sense.Sense.{Sense as Seen}
-use Rattle.nesl_session.specs.declared.forms.sense.Sense.TheVariants as seen
+use Rattle.nesl_session.specs.declared.forms.reading.Reading.{Reading as Seen}
+use Rattle.nesl_session.specs.declared.forms.reading.Reading.TheVariants as seen
 use Rattle.nesl_session.specs.declared.forms.finding.Meaning.{Meaning}
 use Rattle.nesl_session.specs.declared.forms.finding.Meaning.TheVariants as code
 use Rattle.nesl_session.specs.declared.forms.finding.Definition.{Definition}
@@ -24,15 +24,15 @@ use Rattle.nesl_session.specs.declared.forms.finding.Shown.{Shown}
 use Rattle.nesl_session.specs.declared.forms.finding.Shown.TheVariants as shown
 use Rattle.nesl_session.specs.declared.forms.finding.Finding.{Finding as Found}
 use Rattle.nesl_session.specs.declared.forms.finding.Finding.TheVariants as found
-use Rattle.nesl_session_meaning.specs.Sense.{Sense, no_token, no_form, too_high, form}
+use Rattle.nesl_session_meaning.specs.Reading.{Reading, no_token, no_form, too_high, form}
 use Rattle.nesl_session_meaning.specs.Finding.{Finding, unread, reset, part, refused, answered}
 use Rattle.nesl_session_meaning.specs.State.{State}
 
-abbrev pub seen_sense : Seen → Sense
-seen_sense (seen.Stuck at) = no_token at
-seen_sense seen.NoForm = no_form
-seen_sense seen.TooHigh = too_high
-seen_sense (seen.Form f) = form (line_of f)
+abbrev pub reading_of : Seen → Reading
+reading_of (seen.Stuck at) = no_token at
+reading_of seen.NoForm = no_form
+reading_of seen.TooHigh = too_high
+reading_of (seen.Form f) = form (line_of f)
 
 abbrev pub meaning_of : Meaning → meanings.Meaning
 meaning_of (code.Variable t v cost) = meanings.variable t (values.tree_of v)
@@ -46,43 +46,44 @@ work_of (code.Function f p e) = 0
 work_of (code.Datatype tag t) = 0
 
 -- what is reported where a name is defined as this
-abbrev pub told_as : Name → Meaning → Report
-told_as x (code.Variable t v cost) = replies.bound x (values.tree_of v) t cost
-told_as x (code.Function f p e) = replies.function x f.argument f.result f.classes.items
-told_as x (code.Datatype tag t) = replies.datatype x t
+abbrev pub definition_report : Name → Meaning → Report
+definition_report x (code.Variable t v cost) = replies.bound x (values.tree_of v) t cost
+definition_report x (code.Function f p e) = replies.function x f.argument f.result f.classes.items
+definition_report x (code.Datatype tag t) = replies.datatype x t
 
 abbrev pub binding_of : Definition → Binding
 binding_of d = record { name = d.name.items; meaning = meaning_of d.meaning }
 
-abbrev pub told_of : Shown → Report
-told_of shown.Blank = replies.blank
-told_of shown.Names = replies.names
-told_of (shown.Budget work elements lines bytes) = replies.budget work elements lines bytes
-told_of (shown.Type t) = replies.shown t
+abbrev pub shown_report : Shown → Report
+shown_report shown.Blank = replies.blank
+shown_report shown.Names = replies.names
+shown_report (shown.Budget work elements lines bytes) = replies.budget work elements lines bytes
+shown_report (shown.Type t) = replies.shown t
 
 abbrev pub finding_of : Found → Finding
 finding_of (found.Unread fault) = unread fault
 finding_of found.Reset = reset
 finding_of found.Part = part
 finding_of (found.Refused fault work) = refused fault work
-finding_of (found.Told t) = answered (told_of t) 0 None
-finding_of (found.Defined d) = answered (told_as d.name.items d.meaning) (work_of d.meaning) (Some (binding_of d))
+finding_of (found.Answered t) = answered (shown_report t) 0 None
+finding_of (found.Defined d) =
+    answered (definition_report d.name.items d.meaning) (work_of d.meaning) (Some (binding_of d))
 
 -- what is reported, if the session stores this number of lines
-abbrev pub told_after : (lines : ℕ) → Found → Report
-told_after lines (found.Unread fault) = replies.refused fault
-told_after lines found.Reset = replies.cleared lines
-told_after lines found.Part = replies.more
-told_after lines (found.Refused fault work) = replies.refused fault
-told_after lines (found.Told t) = told_of t
-told_after lines (found.Defined d) = told_as d.name.items d.meaning
+abbrev pub finding_report : (lines : ℕ) → Found → Report
+finding_report lines (found.Unread fault) = replies.refused fault
+finding_report lines found.Reset = replies.cleared lines
+finding_report lines found.Part = replies.more
+finding_report lines (found.Refused fault work) = replies.refused fault
+finding_report lines (found.Answered t) = shown_report t
+finding_report lines (found.Defined d) = definition_report d.name.items d.meaning
 
 abbrev pub fault_in : Found → Option Fault
 fault_in (found.Unread fault) = Some fault
 fault_in found.Reset = None
 fault_in found.Part = None
 fault_in (found.Refused fault work) = Some fault
-fault_in (found.Told t) = None
+fault_in (found.Answered t) = None
 fault_in (found.Defined d) = None
 
 abbrev pub is_recorded : Found → Bool
@@ -90,7 +91,7 @@ is_recorded (found.Unread fault) = false
 is_recorded found.Reset = true
 is_recorded found.Part = true
 is_recorded (found.Refused fault work) = true
-is_recorded (found.Told t) = true
+is_recorded (found.Answered t) = true
 is_recorded (found.Defined d) = true
 
 -- there is room for the elements of the name
@@ -119,5 +120,5 @@ CanCharge s (found.Unread fault) = ⊥
 CanCharge s found.Reset = ⊥
 CanCharge s found.Part = ⊥
 CanCharge s (found.Refused fault work) = work ≤ s.work_left
-CanCharge s (found.Told t) = Unit {0}
+CanCharge s (found.Answered t) = Unit {0}
 CanCharge s (found.Defined d) = (work_of d.meaning ≤ s.work_left) × CanBe s.bindings d

@@ -16,5 +16,5 @@ CanSettle s line (found.Unread fault) = Unit {0}
 CanSettle s line found.Reset = recorded_by_reset s ≤ most_recorded
 CanSettle s line found.Part = HasRoomFor s line × (is_part line ≡ true)
 CanSettle s line (found.Refused fault work) = HasRoomFor s line × (work ≤ s.work_left)
-CanSettle s line (found.Told t) = HasRoomFor s line
+CanSettle s line (found.Answered t) = HasRoomFor s line
 CanSettle s line (found.Defined d) = HasRoomFor s line × (work_of d.meaning ≤ s.work_left) × CanBe s.bindings d

@@ -8,7 +8,7 @@ ghost use Rattle.nesl_eval_meaning.specs.Outcome.{out};
 ghost use Rattle.nesl_session_bindings.specs.Known.{known, environment};
 ghost use Rattle.nesl_session_bindings.specs.Redefinition.{RefusesDefinition, a_variable, it};
 ghost use Rattle.nesl_session_meaning.specs.Finding.{budget, budget_report, FindsForm, FindsVariable, FindsOutcome};
-ghost use Rattle.nesl_session.specs.Found.{finding_of, told_of, CanCharge};
+ghost use Rattle.nesl_session.specs.Found.{finding_of, shown_report, CanCharge};
 ghost use Rattle.nesl_session.specs.Inside.{state_of, Counts};
 
 use crate::evaluator::Evaluator;
@@ -39,7 +39,7 @@ pub fn find_form<A: Allocator, E: Evaluator<A>>(
     ensures charges { IfOk result (CanCharge (state_of standing.now)) }
 {
     match form {
-        Form::Nothing => Ok(Finding::Told(Shown::Blank)),
+        Form::Nothing => Ok(Finding::Answered(Shown::Blank)),
         Form::Fun {
             name,
             parameter,
@@ -57,9 +57,9 @@ pub fn find_form<A: Allocator, E: Evaluator<A>>(
             find_datatype(&standing.bindings, standing.limits, alloc, name, content)
         }
         Form::Bind { name, value } => find_variable(standing, alloc, name, &value, by),
-        Form::Eval(exp) => find_it(standing, alloc, &exp, by),
-        Form::ShowNames => Ok(Finding::Told(Shown::Names)),
-        Form::ShowBudget => Ok(Finding::Told(show_budget(standing))),
+        Form::Eval(exp) => find_expression(standing, alloc, &exp, by),
+        Form::ShowNames => Ok(Finding::Answered(Shown::Names)),
+        Form::ShowBudget => Ok(Finding::Answered(show_budget(standing))),
         Form::ShowType(exp) => find_type(&standing.bindings, alloc, exp),
     }
 }
@@ -67,7 +67,7 @@ pub fn find_form<A: Allocator, E: Evaluator<A>>(
 // The work that is left, and how much of each limit is used.
 fn show_budget(standing: &Standing) -> Shown
     requires { Counts standing.now }
-    ensures { told_of result ≡ budget_report standing.now.limits (state_of standing.now) }
+    ensures { shown_report result ≡ budget_report standing.now.limits (state_of standing.now) }
 {
     let elements = Used {
         used: standing.bindings.elements(),
@@ -85,7 +85,7 @@ fn show_budget(standing: &Standing) -> Shown
 }
 
 // What is found of an expression alone, which is bound to `it`.
-fn find_it<A: Allocator, E: Evaluator<A>>(
+fn find_expression<A: Allocator, E: Evaluator<A>>(
     standing: &Standing,
     alloc: Global,
     exp: &Exp,

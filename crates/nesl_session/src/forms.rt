@@ -2,10 +2,10 @@
 
 pub mod drops;
 pub mod finding;
-mod sense;
+mod reading;
 mod stops;
 mod written;
 
-pub use sense::{Sense, sense_of};
+pub use reading::{Reading, reading_of};
 pub use stops::Stopped;
 pub use written::{WrittenFunction, find_datatype, find_function, find_type, variable_type};

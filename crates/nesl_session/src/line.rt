@@ -4,8 +4,8 @@ ghost use Rattle.nesl_reply.specs.declared.fault.Fault.TheVariants as faults;
 ghost use Rattle.nesl_session_meaning.specs.Finding.{unread, reset};
 ghost use Rattle.nesl_session_meaning.specs.Step.{Finds, Step, is_reset, is_part, is_full, longest, most_recorded};
 ghost use Rattle.nesl_session_meaning.specs.Step.{recorded_by_reset, reply_of};
-ghost use Rattle.nesl_session_meaning.specs.Sense.{HasSense};
-ghost use Rattle.nesl_session.specs.Found.{finding_of, seen_sense, CanCharge};
+ghost use Rattle.nesl_session_meaning.specs.Reading.{HasReading};
+ghost use Rattle.nesl_session.specs.Found.{finding_of, reading_of, CanCharge};
 ghost use Rattle.nesl_session.specs.Reading.{FindsRead};
 ghost use Rattle.nesl_session.specs.Settling.{CanSettle, HasRoomFor};
 ghost use Rattle.nesl_session.specs.Inside.{state_of, Counts};
@@ -14,7 +14,7 @@ use crate::answer::Answer;
 use crate::evaluator::Evaluator;
 use crate::form::find_form;
 use crate::forms::finding::Finding;
-use crate::forms::{Sense, sense_of};
+use crate::forms::{Reading, reading_of};
 use crate::standing::Standing;
 use nesl_reply::Fault;
 use std::alloc::{AllocError, Allocator, Global};
@@ -23,7 +23,7 @@ use std::alloc::{AllocError, Allocator, Global};
 pub const LONGEST: usize = 65_536;
 
 /// The most lines that a session may have recorded once it is reset.
-const MOST_TOLD: u64 = 72_057_594_037_927_936;
+const MOST_RECORDED: u64 = 72_057_594_037_927_936;
 
 /// Answers one line by a step. On `Err`, memory ran out and nothing has changed.
 pub fn step<A: Allocator, E: Evaluator<A>>(
@@ -44,7 +44,7 @@ pub fn step<A: Allocator, E: Evaluator<A>>(
     let answer = match answer(standing, alloc, &finding) {
         Ok(answer) => answer,
         Err(error) => {
-            finding.let_go();
+            finding.release();
             return Err(error);
         }
     };
@@ -97,8 +97,8 @@ fn find_reset(standing: &Standing) -> Finding
         else reset) }
     ensures settles { (line : List ℕ) → CanSettle (state_of standing.now) line result }
 {
-    let told = standing.cleared + standing.transcript.len() as u64 + 1;
-    if MOST_TOLD < told {
+    let recorded = standing.cleared + standing.transcript.len() as u64 + 1;
+    if MOST_RECORDED < recorded {
         Finding::Unread(Fault::Transcript)
     } else {
         Finding::Reset
@@ -140,11 +140,11 @@ fn find_read<A: Allocator, E: Evaluator<A>>(
     ensures found { IfOk result (λ f. FindsRead standing.now.limits (state_of standing.now) text.now (finding_of f)) }
     ensures charges { IfOk result (CanCharge (state_of standing.now)) }
 {
-    match sense(standing, alloc, text)? {
-        Sense::Stuck(at) => Ok(Finding::Refused(Fault::Lexical(at), 0)),
-        Sense::NoForm => Ok(Finding::Refused(Fault::Syntax, 0)),
-        Sense::TooHigh => Ok(Finding::Refused(Fault::Nested, 0)),
-        Sense::Form(form) => {
+    match read_form(standing, alloc, text)? {
+        Reading::Stuck(at) => Ok(Finding::Refused(Fault::Lexical(at), 0)),
+        Reading::NoForm => Ok(Finding::Refused(Fault::Syntax, 0)),
+        Reading::TooHigh => Ok(Finding::Refused(Fault::Nested, 0)),
+        Reading::Form(form) => {
             let finding = find_form(standing, alloc, form, by)?;
             Ok(finding)
         }
@@ -153,15 +153,15 @@ fn find_read<A: Allocator, E: Evaluator<A>>(
 
 // Reads the line together with the parts before it.
 #[inline]
-fn sense(standing: &Standing, alloc: Global, text: &[u8]) -> Result<Sense, AllocError>
-    ensures { IfOk result (λ sense. HasSense (standing.now.pending.items ++ text.now) (seen_sense sense)) }
+fn read_form(standing: &Standing, alloc: Global, text: &[u8]) -> Result<Reading, AllocError>
+    ensures { IfOk result (λ reading. HasReading (standing.now.pending.items ++ text.now) (reading_of reading)) }
 {
     if standing.pending.is_empty() {
-        return sense_of(alloc, text);
+        return reading_of(alloc, text);
     }
     let mut form = Vec::from_slice(alloc, standing.pending.as_slice())?;
     form.extend_from_slice(text)?;
-    sense_of(alloc, form.as_slice())
+    reading_of(alloc, form.as_slice())
 }
 
 // A reset is these six bytes, and no others.

@@ -178,7 +178,7 @@ impl Session {
     {
         let finding = find(&self.standing, alloc, text, &InPlace)?;
         let fault = finding.fault();
-        finding.let_go();
+        finding.release();
         Ok(fault)
     }
 
@@ -238,7 +238,7 @@ impl Session {
         by: &E,
     ) -> Result<Answer, AllocError>
         requires { E.sound by.now }
-        ensures told { IfOk result (λ a. Responds self.old text.now a self.new) }
+        ensures ok { IfOk result (λ a. Responds self.old text.now a self.new) }
         ensures err { OnErr result (self.new ≡ self.old) }
     {
         let answer = step(&mut self.standing, alloc, text, by)?;

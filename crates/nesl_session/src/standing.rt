@@ -87,8 +87,8 @@ impl Standing {
             }
             Finding::Part => self.take_part(alloc, text),
             Finding::Refused(_, work) => self.take_read(alloc, text, work),
-            Finding::Told(shown) => {
-                shown.let_go();
+            Finding::Answered(shown) => {
+                shown.release();
                 self.take_read(alloc, text, 0)
             }
             Finding::Defined(definition) => self.take_definition(alloc, text, definition),
@@ -97,18 +97,18 @@ impl Standing {
 
     fn reset(&mut self, alloc: Global)
         requires counts { Counts self.old }
-        requires told { recorded_by_reset (state_of self.old) ≤ most_recorded }
+        requires few { recorded_by_reset (state_of self.old) ≤ most_recorded }
         ensures state { state_of self.new ≡ opening self.old.work_left (recorded_by_reset (state_of self.old)) }
         ensures counts { Counts self.new }
         ensures limits { self.new.limits ≡ self.old.limits }
     {
-        let told = self.cleared + self.transcript.len() as u64 + 1;
+        let recorded = self.cleared + self.transcript.len() as u64 + 1;
         self.bindings = Bindings::new(alloc);
         self.transcript = Vec::new(alloc);
         self.bytes = 0;
         self.pending = Vec::new(alloc);
         self.base = self.work_left;
-        self.cleared = told;
+        self.cleared = recorded;
     }
 
     // Stores a line that is part of a form, and joins it to the parts before it.
@@ -162,7 +162,7 @@ impl Standing {
         let line = match room_for(&mut self.transcript, alloc, text) {
             Ok(line) => line,
             Err(error) => {
-                definition.let_go();
+                definition.release();
                 return Err(error);
             }
         };

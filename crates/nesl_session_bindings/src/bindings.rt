@@ -15,7 +15,7 @@ ghost use Rattle.nesl_eval_meaning.specs.Out.{stuck};
 ghost use Rattle.nesl_eval_meaning.specs.Outcome.{out};
 ghost use Rattle.nesl_eval_top_level.specs.Stored as stored;
 ghost use Rattle.nesl_reply.specs.Replies.{report_of, report_text};
-ghost use Rattle.nesl_session_bindings.specs.Beside.{elements_beside};
+ghost use Rattle.nesl_session_bindings.specs.Others.{other_elements};
 ghost use Rattle.nesl_session_bindings.specs.Known.{datatype_count, datatypes_of, environment, known, put_binding};
 ghost use Rattle.nesl_session_bindings.specs.Meanings.{datatype, elements_in, elements_of, function, variable};
 ghost use Rattle.nesl_session_bindings.specs.Nodes.{expression_nodes};
@@ -24,9 +24,9 @@ ghost use Rattle.nesl_session_bindings.specs.Stored.{IsComputed, bindings_of, ki
 
 use crate::kind::Kind;
 use crate::refusal::Refusal;
-use crate::{beside, nodes, redefinition};
-use nesl_eval_top_level::{Env, Payload};
+use crate::{nodes, others, redefinition};
 use nesl_eval_sound::laws::inferred_lines_keep_types;
+use nesl_eval_top_level::{Env, Payload};
 use nesl_infer::InferFault;
 use nesl_reply::Reply;
 use nesl_syntax_tree::tree::{Exp, Pattern, Signature, TypeExp};
@@ -164,10 +164,10 @@ impl Bindings {
     }
 
     /// The number of elements of all names but this one.
-    fn elements_beside(&self, name: &[u8]) -> u64
-        ensures { result ≡ elements_beside name.now (bindings_of self.now) }
+    fn other_elements(&self, name: &[u8]) -> u64
+        ensures { result ≡ other_elements name.now (bindings_of self.now) }
     {
-        beside::elements_beside(&self.env, self.elements, name)
+        others::other_elements(&self.env, self.elements, name)
     }
 
     // Whether all names have at most `limit` elements once a further one has this value.
@@ -202,7 +202,7 @@ impl Bindings {
         if self.has_room_for_value(value, limit) {
             return true;
         }
-        match limit.checked_sub(self.elements_beside(name)) {
+        match limit.checked_sub(self.other_elements(name)) {
             Some(room) => value.nodes() <= room,
             None => false,
         }
@@ -218,7 +218,7 @@ impl Bindings {
         if self.has_room_for_body(body, limit) {
             return true;
         }
-        match limit.checked_sub(self.elements_beside(name)) {
+        match limit.checked_sub(self.other_elements(name)) {
             Some(room) => nodes::room_left(body, room).is_some(),
             None => false,
         }
@@ -229,7 +229,7 @@ impl Bindings {
         ensures { (tag : ℕ) → result ≡ nat_le (elements_of
             (put_binding name.now (datatype tag content.now) (bindings_of self.now))) limit }
     {
-        match limit.checked_sub(self.elements_beside(name)) {
+        match limit.checked_sub(self.other_elements(name)) {
             Some(room) => content.room_left(room).is_some(),
             None => false,
         }
@@ -269,8 +269,8 @@ impl Bindings {
         ensures err { OnErr result (self.new ≡ self.old) }
     {
         inferred_lines_keep_types::<Payload>();
-        let beside = beside::elements_beside(&self.env, self.elements, name);
-        let elements = beside + value.nodes();
+        let others = others::other_elements(&self.env, self.elements, name);
+        let elements = others + value.nodes();
         self.env
             .set(alloc, name, Top::Variable(ty), Payload::Variable(value))?;
         self.elements = elements;
@@ -299,8 +299,8 @@ impl Bindings {
         ensures err { OnErr result (self.new ≡ self.old) }
     {
         inferred_lines_keep_types::<Payload>();
-        let beside = beside::elements_beside(&self.env, self.elements, name);
-        let elements = beside + nodes::nodes(&body);
+        let others = others::other_elements(&self.env, self.elements, name);
+        let elements = others + nodes::nodes(&body);
         let payload = Payload::Function { pattern, body };
         self.env.set(alloc, name, Top::Function(scheme), payload)?;
         self.elements = elements;
@@ -324,8 +324,8 @@ impl Bindings {
         ensures err { OnErr result (self.new ≡ self.old) }
     {
         inferred_lines_keep_types::<Payload>();
-        let beside = beside::elements_beside(&self.env, self.elements, name);
-        let elements = beside + beside::nodes_of(&content);
+        let others = others::other_elements(&self.env, self.elements, name);
+        let elements = others + others::nodes_of(&content);
         let tag = redefinition::datatypes(&self.env);
         let payload = Payload::Datatype;
         self.env

@@ -15,12 +15,12 @@ ghost use Rattle.nesl_session_bindings.specs.Stored.{AllFit, PayloadFits, bindin
 
 use crate::kind::Kind;
 use nesl_builtins::named;
-use nesl_eval_top_level::{Env, Payload};
 use nesl_eval_sound::refers_to;
+use nesl_eval_top_level::{Env, Payload};
 use nesl_types::Top;
 
 /// Whether the name would become a variable or a function of another type.
-fn is_other(top: &Top, kind: Kind<'_>) -> bool
+fn changes_type(top: &Top, kind: Kind<'_>) -> bool
     ensures { (payload : Payload) → PayloadFits top.now payload
         → (IsTrue result ↔ ChangesType (Some (meaning_of top.now payload)) (kind_of kind.entry)) }
 {
@@ -82,12 +82,12 @@ pub fn is_retyped(env: &Env, name: &[u8], there: Option<(&Top, &Payload)>, kind:
 {
     match there {
         None => false,
-        Some((top, _)) => is_other(top, kind) && is_referred(env, name),
+        Some((top, _)) => changes_type(top, kind) && is_referred(env, name),
     }
 }
 
 /// Whether the name is a datatype now, or is bound and would become a datatype.
-fn is_kept(_env: &Env, _name: &[u8], there: Option<(&Top, &Payload)>, kind: Kind<'_>) -> bool
+fn is_in_use(_env: &Env, _name: &[u8], there: Option<(&Top, &Payload)>, kind: Kind<'_>) -> bool
     requires fit { AllFit _env.now }
     requires stands { option_map (λ b. (b.0.now, b.1.now)) there ≡ found _name.now _env.now }
     ensures { result ≡ is_in_use (meaning_in (bindings_of _env.now) _name.now) (kind_of kind.entry) }
@@ -109,12 +109,12 @@ pub fn is_taken(env: &Env, name: &[u8], there: Option<(&Top, &Payload)>, kind: K
     ensures { result ≡ is_taken (bindings_of env.now) name.now (kind_of kind.entry) }
 {
     named(name).is_some()
-        || is_kept(env, name, there, kind)
+        || is_in_use(env, name, there, kind)
         || (name == b"it".as_slice() && kind.is_no_variable())
 }
 
 /// Whether the name at the place is a datatype.
-fn is_type_at(env: &Env, place: usize) -> bool
+fn is_datatype_at(env: &Env, place: usize) -> bool
     ensures { result ≡ option_map_or (λ b. is_type b.1) (slice_get env.now place) false }
 {
     match env.at(place) {
@@ -133,7 +133,7 @@ pub fn datatypes(env: &Env) -> u64
 {
     let mut count = 0;
     for place in 0..env.len() {
-        if is_type_at(env, place) {
+        if is_datatype_at(env, place) {
             count += 1;
         }
     }

@@ -22,7 +22,7 @@ use Rattle.nesl_session_bindings.specs.declared.refusal.Refusal.TheVariants.{Ret
 use Rattle.nesl_session_bindings.specs.Redefinition.{Definition, a_variable, a_function, a_datatype, RefusesDefinition}
 use Rattle.nesl_session_bindings.specs.Redefinition.{it}
 use Rattle.nesl_session_meaning.specs.State.{State}
-use Rattle.nesl_session_meaning.specs.Sense.{Sense, no_token as stuck_at, no_form, too_high, form}
+use Rattle.nesl_session_meaning.specs.Reading.{Reading, no_token as stuck_at, no_form, too_high, form}
 
 -- what is found of a line
 pub data Finding : Type 0 where
@@ -114,8 +114,8 @@ FindsForm limits s (trees.show_type e) f =
     (v : Verdict Term) × IsTypeBy (known s.bindings) e v × IfTyped v (λ t. FindsReport (replies.shown t)) f
 
 -- what is found of a line, by its reading
-abbrev pub FindsSense : Limits → State → Sense → Finding → Type 0
-FindsSense limits s (stuck_at at) f = f ≡ refused (faults.Lexical at) 0
-FindsSense limits s no_form f = f ≡ refused faults.Syntax 0
-FindsSense limits s too_high f = f ≡ refused faults.Nested 0
-FindsSense limits s (form l) f = FindsForm limits s l f
+abbrev pub FindsReading : Limits → State → Reading → Finding → Type 0
+FindsReading limits s (stuck_at at) f = f ≡ refused (faults.Lexical at) 0
+FindsReading limits s no_form f = f ≡ refused faults.Syntax 0
+FindsReading limits s too_high f = f ≡ refused faults.Nested 0
+FindsReading limits s (form l) f = FindsForm limits s l f

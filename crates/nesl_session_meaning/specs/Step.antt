@@ -10,8 +10,8 @@ use Rattle.nesl_session_meaning.specs.declared.limits.Limits.{Limits}
 use Rattle.nesl_session_bindings.specs.Meanings.{Binding}
 use Rattle.nesl_session_meaning.specs.State.{State, opening}
 use Rattle.nesl_session_bindings.specs.Known.{put_binding}
-use Rattle.nesl_session_meaning.specs.Sense.{Sense, HasSense}
-use Rattle.nesl_session_meaning.specs.Finding.{Finding, unread, reset, part, refused, answered, FindsSense}
+use Rattle.nesl_session_meaning.specs.Reading.{Reading, HasReading}
+use Rattle.nesl_session_meaning.specs.Finding.{Finding, unread, reset, part, refused, answered, FindsReading}
 use Rattle.nesl_session_meaning.specs.Response.{Reply, fault_reply, plain_reply}
 
 -- a reset is these six bytes, and no others
@@ -55,7 +55,7 @@ Finds limits s line finding =
     (MatchBool (is_full limits s line) (finding ≡ unread faults.Transcript)
     (MatchBool (nat_lt longest (length s.pending + length line)) (finding ≡ unread faults.Long)
     (MatchBool (is_part line) (finding ≡ part)
-    ((sense : Sense) × HasSense (s.pending ++ line) sense × FindsSense limits s sense finding))))
+    ((reading : Reading) × HasReading (s.pending ++ line) reading × FindsReading limits s reading finding))))
 
 abbrev pub with_line : List ℕ → State → State
 with_line line s = record s { transcript = s.transcript ++ line ∷ [] }

@@ -2,19 +2,19 @@
 use crate::forms::finding::{Definition, Finding, Shown};
 
 impl Finding {
-    pub fn let_go(self) {
+    pub fn release(self) {
         drop(self);
     }
 }
 
 impl Definition {
-    pub fn let_go(self) {
+    pub fn release(self) {
         drop(self);
     }
 }
 
 impl Shown {
-    pub fn let_go(self) {
+    pub fn release(self) {
         drop(self);
     }
 }

@@ -50,7 +50,7 @@ pub enum Finding {
     /// The line is refused, after this amount of work.
     Refused(Fault, u64),
     /// The line is answered, and binds no name.
-    Told(Shown),
+    Answered(Shown),
     /// The line binds a name.
     Defined(Definition),
 }
@@ -71,11 +71,11 @@ impl Meaning {
 }
 
 impl Definition {
-    ghost use Rattle.nesl_session.specs.Found.{told_as};
+    ghost use Rattle.nesl_session.specs.Found.{definition_report};
     ghost use Rattle.nesl_reply.specs.Replies.{report_of};
 
     fn reply(&self) -> Reply<'_>
-        ensures { report_of result ≡ told_as self.now.name.items self.now.meaning }
+        ensures { report_of result ≡ definition_report self.now.name.items self.now.meaning }
     {
         let name = self.name.as_slice();
         match &self.meaning {
@@ -87,11 +87,11 @@ impl Definition {
 }
 
 impl Shown {
-    ghost use Rattle.nesl_session.specs.Found.{told_of};
+    ghost use Rattle.nesl_session.specs.Found.{shown_report};
     ghost use Rattle.nesl_reply.specs.Replies.{report_of};
 
     fn reply(&self) -> Reply<'_>
-        ensures { report_of result ≡ told_of self.now }
+        ensures { report_of result ≡ shown_report self.now }
     {
         match self {
             Shown::Blank => Reply::Blank,
@@ -105,19 +105,19 @@ impl Shown {
 }
 
 impl Finding {
-    ghost use Rattle.nesl_session.specs.Found.{told_after, fault_in, is_recorded};
+    ghost use Rattle.nesl_session.specs.Found.{finding_report, fault_in, is_recorded};
     ghost use Rattle.nesl_reply.specs.Replies.{report_of};
 
     /// What is replied, if the session stores this number of lines.
     pub fn reply(&self, lines: u64) -> Reply<'_>
-        ensures { report_of result ≡ told_after lines self.now }
+        ensures { report_of result ≡ finding_report lines self.now }
     {
         match self {
             Finding::Unread(fault) => Reply::Refused(*fault),
             Finding::Reset => Reply::Cleared(lines),
             Finding::Part => Reply::More,
             Finding::Refused(fault, _) => Reply::Refused(*fault),
-            Finding::Told(shown) => shown.reply(),
+            Finding::Answered(shown) => shown.reply(),
             Finding::Defined(definition) => definition.reply(),
         }
     }

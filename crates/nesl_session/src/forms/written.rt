@@ -27,7 +27,7 @@ pub fn find_type(bindings: &Bindings, alloc: Global, exp: Exp) -> Result<Finding
     let known = bindings.infer_exp(alloc, &exp);
     drop(exp);
     match known {
-        Ok(ty) => Ok(Finding::Told(Shown::Type(ty))),
+        Ok(ty) => Ok(Finding::Answered(Shown::Type(ty))),
         Err(fault) => untyped(fault).found(),
     }
 }

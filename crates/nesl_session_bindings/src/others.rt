@@ -2,7 +2,7 @@
 
 ghost use Rattle.std.specs.Prelude.{◌≡◌, ◌+◌, ◌<◌, ◌^◌, MatchOption};
 ghost use Rattle.nesl_types_shared.specs.Term.{nodes};
-ghost use Rattle.nesl_session_bindings.specs.Beside.{elements_beside};
+ghost use Rattle.nesl_session_bindings.specs.Others.{other_elements};
 ghost use Rattle.nesl_session_bindings.specs.Meanings.{elements_in};
 ghost use Rattle.nesl_session_bindings.specs.Stored.{AreKept, PayloadFits, bindings_of, meaning_of};
 
@@ -39,9 +39,9 @@ pub fn nodes_of(ty: &Ty) -> u64
 }
 
 /// The number of elements of all names but this one, where `elements` is that of all names.
-pub fn elements_beside(env: &Env, elements: u64, name: &[u8]) -> u64
+pub fn other_elements(env: &Env, elements: u64, name: &[u8]) -> u64
     requires { AreKept env.now elements }
-    ensures { result ≡ elements_beside name.now (bindings_of env.now) }
+    ensures { result ≡ other_elements name.now (bindings_of env.now) }
 {
     match env.get(name) {
         None => elements,

@@ -4,7 +4,7 @@ use Rattle.std.specs.Str.{bytes_eq}
 use Rattle.nesl_eval_meaning.specs.Names.{Name}
 use Rattle.nesl_session_bindings.specs.Meanings.{Binding, elements_in, elements_of}
 
-abbrev pub elements_beside : Name → List Binding → ℕ
-elements_beside x [] = 0
-elements_beside x (b ∷ bs) =
-    if bytes_eq x b.name then elements_of bs else elements_in b.meaning + elements_beside x bs
+abbrev pub other_elements : Name → List Binding → ℕ
+other_elements x [] = 0
+other_elements x (b ∷ bs) =
+    if bytes_eq x b.name then elements_of bs else elements_in b.meaning + other_elements x bs
