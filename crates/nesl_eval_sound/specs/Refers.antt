@@ -21,8 +21,8 @@ abbrev pub some_binds : Name → Binders → Bool
 some_binds y no_binders = false
 some_binds y (binder p e bs) = binds y p || some_binds y bs
 
--- whether an expression refers to the name y, as a variable or before `(`; if a local name hides y, a variable doesn't
--- refer to it
+-- Whether an expression refers to the name y, as a variable or before `(`. If a local name hides y, a variable doesn't
+-- refer to it.
 abbrev mutual
   pub refers : Name → Bool → Tree → Bool
   refers y hidden (node s k) = refers_in y hidden k

@@ -1,6 +1,6 @@
--- Bindings that are worked by hand: `function id(x) = x;`, and then `(id((3, T)), id("a"))`;
--- `datatype point (int, int);`, and then `let point(a, b) = point((1, 2)) in a + b`; nothing, and then
--- `{{a + a : a in v} : v in [[1, 2], [3]]}`; and a function whose body has ever larger types.
+-- Bindings that are worked by hand. With `function id(x) = x;` there is `(id((3, T)), id("a"))`. With `datatype point
+-- (int, int);` there is `let point(a, b) = point((1, 2)) in a + b`. With no name bound there is `{{a + a : a in v} : v
+-- in [[1, 2], [3]]}`. Last, there is a function whose body has ever larger types.
 use Rattle.std.specs.Prelude.{◌≡◌, ℕ, zero, suc, true, List, [], ◌∷◌, codes}
 use Rattle.nesl_lex.specs.declared.token.Span.{Span}
 use Rattle.nesl_syntax_tree.specs.declared.tree.Operator.TheVariants as sign
@@ -146,7 +146,7 @@ abbrev pub growing_call : Tree
 growing_call = node here (trees.call (codes "grow") three_and_true)
 
 -- However often the body doubles its argument, the bindings are sound, and the call is never stuck. With 11 doublings
--- the types of the body have at most 4,095 nodes, so the line that defines the function is well typed; at the call they
+-- the types of the body have at most 4,095 nodes, so the line that defines the function is well typed. At the call they
 -- have up to 8,191.
 pub record GrowingIsSound : Type 0 where
   pub sound : (k : ℕ) (s : Scheme) → IsTest s →

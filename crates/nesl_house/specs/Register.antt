@@ -13,8 +13,8 @@ pub record Seat : Type 0 where
   pub place : ℕ
   pub session : Log
 
--- a seat that is out, with its session as it is now, and the number of lines that the session had recorded when the
--- seat was taken out
+-- A seat that is out, with its session as it is now. `counted` is the number of lines that the session had recorded
+-- when the seat was taken out.
 pub record Leased : Type 0 where
   pub seat : Seat
   pub counted : ℕ

@@ -31,7 +31,7 @@ pub record IsClosed (roster : List (List ℕ)) (house : List Account) (lines : �
   pub replayed : AreReplays held
   pub names : roster_of house ≡ roster
   pub users : house ≡ seated roster held
-  pub told : lines ≡ sum_by (λ (seat : Seat). recorded_lines seat.session) held
+  pub recorded : lines ≡ sum_by (λ (seat : Seat). recorded_lines seat.session) held
 
 -- A table that isn't closed is handed back, with the receipts. If some receipts are missing, the number of lines that
 -- the others are for is reported; it isn't the number that the table holds.

@@ -75,7 +75,7 @@ took_none m n a b e h t = stalled a b (took m n a b true true (ap (λ k. k == 0)
 pub blamed_after : (k : ℕ) (a b c : WriteTally) → b ≡ written_by k a → WriteFailed b c → WriteFailed a c
 blamed_after k a b c e t = let P : WriteTally → Type 0 = λ x. WriteFailed x c in subst P e t
 
--- so many reads were made, and none of them failed
+-- this number of reads was made, and none of them failed
 abbrev pub ReadsMade : ℕ → ReadTally → ReadTally → Type 0
 ReadsMade k old new = new ≡ record { made = risen_by k old.made; failed = old.failed }
 

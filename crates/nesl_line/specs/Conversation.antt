@@ -21,10 +21,10 @@ pub record IsUserLine (line name : List ℕ) : Type 0 where
 abbrev pub NamesNobody : List ℕ → Type 0
 NamesNobody line = (name : List ℕ) → ¬ IsUserLine line name
 
--- One line that comes while `who` is selected: the text replied to it, what is said to a session for it, and who is
--- selected afterwards. A user line selects its user, if that is one of the house, and gets itself back. Another user
--- line gets `fault user`, and then nobody is selected. So does any other line while nobody is selected. While a user is
--- selected, any other line is said to that user's session, and gets its reply.
+-- One line that comes while `who` is selected: its reply, what is said to a session for it, and who is selected
+-- afterwards. A user line selects its user, if that is one of the house, and gets itself back. Another user line gets
+-- `fault user`, and then nobody is selected. So does any other line while nobody is selected. While a user is selected,
+-- any other line is said to that user's session, and gets its reply.
 pub data Turn (house : List Account) (who : Option (List ℕ)) (line : List ℕ)
     : List ℕ → List Event → Option (List ℕ) → Type 0 where
   selects :
@@ -37,8 +37,8 @@ pub data Turn (house : List Account) (who : Option (List ℕ)) (line : List ℕ)
       (user : List ℕ) (reply : Reply) → NamesNobody line → who ≡ Some user
       → Turn house who line reply.bytes (record { user = user; line = line; reply = reply } ∷ []) (Some user)
 
--- Lines that come one after another while `who` is selected: the text replied to each, what is said to sessions for
--- them, and who is selected afterwards.
+-- Lines that come one after another while `who` is selected: their replies, what is said to sessions for them, and who
+-- is selected afterwards.
 pub data Conversation (house : List Account)
     : Option (List ℕ) → List (List ℕ) → List (List ℕ) → List Event → Option (List ℕ) → Type 0 where
   silence : (who : Option (List ℕ)) → Conversation house who [] [] [] who

@@ -21,8 +21,7 @@ pub record NamesPlace (roster : List (List ℕ)) (line : List ℕ) (place : ℕ)
 abbrev pub NothingCame : Hearing
 NothingCame lines texts = (lines ≡ []) × (texts ≡ [])
 
--- the reply to the first line of a user who gets no seat: `fault user` if the line names no user of the roster, else
--- `fault busy`
+-- the reply to a first line that gets no seat: `fault user` if it names no user of the roster, else `fault busy`
 pub data RefusesSeat (roster : List (List ℕ)) (line : List ℕ) : Reply → Type 0 where
   stranger : ((place : ℕ) → ¬ NamesPlace roster line place) → RefusesSeat roster line no_user
   away : (place : ℕ) → NamesPlace roster line place → RefusesSeat roster line busy

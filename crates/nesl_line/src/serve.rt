@@ -14,8 +14,8 @@ use std::alloc::Global;
 use std::sync::Wait;
 use std::thread::Threads;
 
-/// The number of lines that got an answer, even if it could not be written; the receipt for the session of the user who
-/// was seated, if there was one; and how it ended.
+/// What a connection did: the number of lines that got an answer, and how it ended. The last answer counts even if it
+/// could not be written. If a user was seated, there is a receipt for the session.
 #[derive(Clone, Copy, PartialEq, Eq, Debug)]
 pub struct Served {
     pub lines: u64,

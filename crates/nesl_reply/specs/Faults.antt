@@ -54,8 +54,8 @@ span_text span = codes " at " ++ decimal span.start ++ codes ".." ++ decimal spa
 abbrev pub stop_text : Stop → List ℕ
 stop_text stop = span_text stop.span ++ work_text stop.work
 
--- the word of a fault, its place in the line, and the work that was spent; a fault that belongs to no session reports
--- no work
+-- The word of a fault, its place in the line, and the work that was spent. A fault that belongs to no session reports
+-- no work.
 abbrev pub fault_words : Fault → List ℕ
 fault_words Long = codes "long" ++ no_work
 fault_words (Lexical at) = codes "lexical at " ++ decimal at ++ no_work

@@ -17,7 +17,7 @@ use Rattle.nesl_session_bindings.specs.Stored.{meaning_of, bindings_of}
 more_elements : (b : Binding) (bs : List Binding) → elements_of (b ∷ bs) ≡ elements_in b.meaning + elements_of bs
 more_elements b bs = sum_by-cons (λ (c : Binding). elements_in c.meaning) b bs
 
--- after a put: those beside the name, and the new ones
+-- after a put: the elements of the other names, and the new ones
 pub put_elements : (x : Name) (m : Meaning) (bs : List Binding) → elements_of (put_binding x m bs) ≡ other_elements x bs + elements_in m
 put_elements x m [] = more_elements (record { name = x; meaning = m }) [] ∙ omega arith
 put_elements x m (b ∷ bs) = by (bytes_eq x b.name) (put_elements x m bs)
@@ -28,7 +28,7 @@ put_elements x m (b ∷ bs) = by (bytes_eq x b.name) (put_elements x m bs)
     by true i = more_elements (record b { meaning = m }) bs ∙ omega arith
     by false i = more_elements b (put_binding x m bs) ∙ omega (arith, i)
 
--- and those of the name with those beside it are all
+-- the elements of a name and those of the others are all
 pub beside_found : (x : Name) (t : kinds.Top) (p : Payload) (es : List Entry) → Some (t, p) ≡ found x es →
     other_elements x (bindings_of es) + elements_in (meaning_of t p) ≡ elements_of (bindings_of es)
 beside_found x t p [] h = absurd cc
@@ -55,7 +55,7 @@ beside_none x (e ∷ es) h = by (bytes_eq x e.0) (beside_none x es) h ∙ sym (m
     by true i h = absurd cc
     by false i h = omega (arith, i h)
 
--- those beside a name are no more than all
+-- the elements of the other names are no more than all
 pub beside_few : (x : Name) (bs : List Binding) → other_elements x bs ≤ elements_of bs
 beside_few x [] = omega arith
 beside_few x (b ∷ bs) = by (bytes_eq x b.name) (beside_few x bs)

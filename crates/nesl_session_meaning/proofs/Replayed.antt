@@ -42,7 +42,7 @@ solo_append limits s mid t [] ys (q ∷ qs) rs a b = absurd a
 solo_append limits s mid t (x ∷ xs) ys [] rs a b = absurd a
 solo_append limits s mid t (x ∷ xs) ys (q ∷ qs) rs a b = (a.0, a.1, solo_append limits a.0 mid t xs ys qs rs a.2 b)
 
--- with no line told, the state is what the last reset left
+-- with no line stored, the state is what the last reset left
 pub replays_none : (limits : Limits) (base cleared : ℕ) → Replays (log_at limits (opening base cleared)) (opening base cleared)
 replays_none limits base cleared = record { replies = []; run = refl; lines = refl; base = refl; cleared = refl }
 
@@ -89,7 +89,7 @@ alone_after old s t line reply r step =
       limits = refl;
     }
 
--- no step tells of want of memory
+-- no step has the fault `Memory`
 abbrev IsKept : State → Finding → Type 0
 IsKept s f = is_memory (reply_of s f) ≡ false
 

@@ -191,7 +191,7 @@ alone_unique laws old new other lines replies others a b =
     let e = solo_unique laws old.limits a.before a.after b.after lines replies others a.run (subst P (replays_unique laws old b.before a.before b.starts a.starts) b.run) in
     (e.0, sym (log_same new a.after a.ends) ∙ (λ i. log_at ((a.limits ∙ sym b.limits) i) (e.1 i)) ∙ log_same other b.after b.ends)
 
--- told more, it goes on from there
+-- after further lines, it goes on from there
 pub alone_then : Laws → (a b c : Log) (xs ys : List (List ℕ)) (qs rs : List Reply) → SessionAnswers a xs qs b → SessionAnswers b ys rs c → SessionAnswers a (xs ++ ys) (qs ++ rs) c
 alone_then laws a b c xs ys qs rs p q =
     let same : q.before ≡ p.after = replays_unique laws b q.before p.after q.starts p.ends in

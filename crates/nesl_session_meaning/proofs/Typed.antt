@@ -1,4 +1,4 @@
--- The type of a sum of two numbers, and what it comes to.
+-- The type of a sum of two numbers, and its value.
 use Rattle.std.proofs.Common.{◌≡◌, ℕ, zero, suc, [], ◌∷◌, Option, None, List, refl, sym, subst, ◌∙◌, lit≤}
 use Rattle.std.specs.Prelude.{pos}
 use Rattle.nesl_lex.specs.declared.token.Span.{Span}

@@ -47,8 +47,8 @@ bound_or_refused limits s t w b =
     if nat_lt limits.elements (elements_of (put_binding b.name b.meaning s.bindings)) then refused (faults.Elements w) w
     else answered t w (Some b)
 
--- what is found where a name is bound to an expression of this type, by the expression's outcome within the budget; an
--- expression that has a type is never stuck
+-- What is found where a name is bound to an expression of this type, by the expression's outcome within the budget. An
+-- expression that has a type is never stuck.
 abbrev pub FindsOutcome : Limits → State → Name → Term → Budgeted Value → Finding → Type 0
 FindsOutcome limits s x t exceeds_budget f = f ≡ refused (faults.Work (budget limits s)) (budget limits s)
 FindsOutcome limits s x t (fits_budget (fault k span w)) f =

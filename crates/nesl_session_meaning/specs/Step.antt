@@ -74,7 +74,7 @@ after line s (unread fault) = s
 after line s reset = opening s.work_left (recorded_by_reset s)
 after line s part = record (with_line line s) { pending = with_part s line }
 after line s (refused fault work) = charged line work s
-after line s (answered told work binding) = with_binding binding (charged line work s)
+after line s (answered report work binding) = with_binding binding (charged line work s)
 
 -- the reply to a line, by what was found of it
 abbrev pub reply_of : State → Finding → Reply
@@ -82,7 +82,7 @@ reply_of s (unread fault) = fault_reply fault false
 reply_of s reset = plain_reply s (replies.cleared (length s.transcript))
 reply_of s part = plain_reply s replies.more
 reply_of s (refused fault work) = fault_reply fault true
-reply_of s (answered told work binding) = plain_reply s told
+reply_of s (answered report work binding) = plain_reply s report
 
 -- In the state `s` this reply answers the line, which leaves the state `s'`.
 unfoldable pub Step : Limits → State → List ℕ → Reply → State → Type 0

@@ -76,7 +76,7 @@ made = record { name = it; meaning = variable int (values.int (pos 2)) }
 abbrev summed : Finding
 summed = answered (replies.bound it (values.int (pos 2)) int (record { work = 3; depth = 3 })) 3 (Some made)
 
--- where no name is bound, and the sum comes to this under the limits
+-- where no name is bound, and the sum has this outcome under the limits
 finds_sum : (limits : Limits) (s : State) (f : Finding) → s.bindings ≡ [] → FindsOutcome limits s it int (within (budget limits s) (value (values.int (pos 2)) 3 3)) f → FindsReading limits s (form sum) f
 unfolding builtin_named
 finds_sum limits s f none h =

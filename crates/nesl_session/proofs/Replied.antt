@@ -1,4 +1,4 @@
--- What is told of a finding is what the step answers.
+-- The reply to a finding is the reply of the step.
 use Rattle.std.proofs.Common.{◌≡◌, ℕ, ◌++◌, List, Bool, Option, codes, length, refl, ap, ◌∙◌, subst}
 use Rattle.nesl_reply.specs.declared.fault.Fault.{Fault}
 use Rattle.nesl_reply.specs.Replies.{Report, report_text}
@@ -18,17 +18,17 @@ plain s (found.Refused fault work) = refl
 plain s (found.Answered t) = refl
 plain s (found.Defined d) = refl
 
-pub told_response : (s : State) (f : Found) (lines : ℕ) (t : Report) (bytes : List ℕ) (fault : Option Fault) (recorded : Bool) (r : Reply) → r ≡ record { bytes = bytes; fault = fault; recorded = recorded }
+pub replied : (s : State) (f : Found) (lines : ℕ) (t : Report) (bytes : List ℕ) (fault : Option Fault) (recorded : Bool) (r : Reply) → r ≡ record { bytes = bytes; fault = fault; recorded = recorded }
     → fault ≡ fault_in f → recorded ≡ is_recorded f → bytes ≡ report_text (datatypes_of s.bindings) (names_of s) t ++ codes "\n" → t ≡ finding_report lines f → lines ≡ length s.transcript → r ≡ reply_of s (finding_of f)
-told_response s f lines t bytes fault recorded r e p q b u n =
+replied s f lines t bytes fault recorded r e p q b u n =
     let P : Report → Type 0 = λ y. bytes ≡ report_text (datatypes_of s.bindings) (names_of s) y ++ codes "\n" in
     let same = subst P (u ∙ ap (λ k. finding_report k f) n) b in
     e ∙ (λ i. record { bytes = same i; fault = p i; recorded = q i }) ∙ plain s f
 
-pub told_fault : (s : State) (f : Found) → fault_in f ≡ (reply_of s (finding_of f)).fault
-told_fault s (found.Unread fault) = refl
-told_fault s found.Reset = refl
-told_fault s found.Part = refl
-told_fault s (found.Refused fault work) = refl
-told_fault s (found.Answered t) = refl
-told_fault s (found.Defined d) = refl
+pub fault_replied : (s : State) (f : Found) → fault_in f ≡ (reply_of s (finding_of f)).fault
+fault_replied s (found.Unread fault) = refl
+fault_replied s found.Reset = refl
+fault_replied s found.Part = refl
+fault_replied s (found.Refused fault work) = refl
+fault_replied s (found.Answered t) = refl
+fault_replied s (found.Defined d) = refl
