@@ -19,7 +19,7 @@ text_of texts = flat_map (λ text. text) texts
 abbrev pub WrittenWhole : List (List ℕ) → List ℕ → Type 0
 WrittenWhole texts written = written ≡ text_of texts
 
--- all answers but the last were written, and a front part of the last
+-- all answers but the last were written, and a prefix of the last
 pub record WrittenInPart (texts : List (List ℕ)) (written : List ℕ) : Type 0 where
   pub before : List (List ℕ)
   pub last : List ℕ

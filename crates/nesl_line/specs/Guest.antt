@@ -40,7 +40,7 @@ recorded_among replies = sum_by (λ reply. if reply.recorded then 1 else 0) repl
 
 -- A user was seated, whose session was `had` then. The first line names the user and gets itself back. The others are a
 -- script in which no one else speaks. Each got `fault memory`, or is one of the kept lines, which the session alone
--- answers so. The kept lines make the session `has`, and `recorded` is the number of recorded lines.
+-- answers so. The kept lines turn the session into `has`, and `recorded` is the number of recorded lines.
 pub record Visits
     (roster : List (List ℕ)) (limits : Limits) (place recorded : ℕ) (had has : Log) (lines texts : List (List ℕ))
     : Type 0 where

@@ -15,7 +15,7 @@ use Rattle.nesl_line.specs.Conversation.{Turn}
 use Rattle.nesl_line.specs.Tally.{WriteTally, WriteFailed, flushed_by, written_by}
 use Rattle.nesl_line.specs.Exchange.{Hearing, text_of, WrittenWhole, WrittenInPart}
 
--- a front part of the bytes was written, and all of them if it went well
+-- a prefix of the bytes was written, and all of them if it went well
 pub record Sent (held held' : Option (List ℕ)) (bytes : List ℕ) (well : Bool) : Type 0 where
   pub front : List ℕ
   pub lost : List ℕ
