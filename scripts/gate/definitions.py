@@ -32,7 +32,7 @@ SECTIONS = (
     ("Outcomes of expressions", "Names.Environment Out Outcome.out"),
     ("The names of a session", "Meanings Nodes Known Refers Redefinition"),
     ("Replies", "Texts Faults Values Replies"),
-    ("The step of a session", "Sense State Response Finding Step Solo"),
+    ("The step of a session", "Reading State Response Finding Step Solo"),
     ("Scripts of many users", "Script Runs Roster Said Laws"),
     ("Conversations", "Lines.WholeLines Conversation Exchange Tally Batch"),
     ("The table and its leases", "Register Table.IsClosed Guest Serve"),

@@ -16,7 +16,7 @@ use Rattle.nesl_eval_sound.specs.Sound.{ground}
 use Rattle.nesl_eval_sound.proofs.Each.{Reads}
 
 module _ (held : ℕ → Option Term) where
-  -- what a name stands for has the type that it has
+  -- what a name means has the type of the name
   abbrev pub Agree : Option Value → Option Term → Type 0
   Agree None None = Unit {0}
   Agree None (Some t) = ⊥

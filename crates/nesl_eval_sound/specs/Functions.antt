@@ -9,7 +9,7 @@ use Rattle.nesl_seqs_base.specs.declared.seq_fn.SeqFn.{SeqFn}
 use Rattle.nesl_builtins.specs.FunctionTypes.{unary_type, binary_type, sequence_type}
 use Rattle.nesl_eval_sound.specs.Keeps.{KeepsTypes}
 
--- of two arguments that are one pair
+-- a function of two arguments, at a pair of them
 abbrev pub of_pair : (ValueTree → ValueTree → Outcome) → ValueTree → Outcome
 of_pair f (pair l r) = f l r
 of_pair f v = undefined

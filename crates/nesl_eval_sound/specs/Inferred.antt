@@ -19,7 +19,8 @@ use Rattle.nesl_eval_sound.specs.Sound.{IsFine, IsGround}
 use Rattle.nesl_eval_sound.specs.Lines.{IsSound, IsRedefinable, values_of, held_in, datatypes}
 
 module _ {P : Type 0} (seen : Top → P → evaluated.Top) where
-  -- sound bindings are what inference asks for: no variable stands in the type of a variable or in a datatype
+  -- sound bindings are closed, as inference needs them: neither the type of a variable nor a datatype has a type
+  -- variable
   abbrev pub SoundIsClosed : Type 0
   SoundIsClosed = (bs : List (List ℕ × Top × P)) → IsSound seen bs → AreClosed bs
 

@@ -18,7 +18,8 @@ OutcomeHasType held undefined t = ⊥
 abbrev pub AreMembers : FunctionType → (ℕ → Term) → Type 0
 AreMembers f s = (v : ℕ) → IsMember (class_at f.classes v) (s v)
 
--- at each instance of its type, it has a value of its result's type or a refusal for each value of its argument's
+-- at each instance of its type, it gives a value of the result's type or a refusal for each value of the argument's
+-- type
 abbrev pub KeepsTypes : FunctionType → (ValueTree → Outcome) → Type 0
 KeepsTypes f meaning = (held : ℕ → Option Term) (s : ℕ → Term) → AreMembers f s
     → (v : ValueTree) → HasType held v (substitute s f.argument)

@@ -19,7 +19,7 @@ use Rattle.nesl_eval_meaning.specs.Outcome.{out}
 use Rattle.nesl_eval_sound.specs.Refers.{is_referred}
 use Rattle.nesl_eval_sound.specs.Sound.{HasBodyType, AreWellTyped, IsGround, world}
 
--- a name means what it meant, where it meant something: a variable of the same type, or a function of the same scheme
+-- a name that has a meaning keeps it: a variable of the same type, or a function of the same scheme
 abbrev pub IsUnchanged : Option Top → Option Top → Type 0
 IsUnchanged None o = Unit {0}
 IsUnchanged (Some (top.Variable t)) (Some (top.Variable u)) = t ≡ u
@@ -47,18 +47,18 @@ module _ {P : Type 0} where
   datatypes [] = 0
   datatypes (b ∷ bs) = if is_type b.1 then 1 + datatypes bs else datatypes bs
 
--- the top-level names in order of first definition, each with its type and a payload, by which it is `seen` what the
--- name stands for
+-- The top-level names in order of first definition, each with its type and a payload. By these, `seen` gives what the
+-- name means.
 module _ {P : Type 0} (seen : Top → P → evaluated.Top) where
   abbrev pub values_of : List (List ℕ × Top × P) → Environment
   values_of bs = map (λ b. (b.0, seen b.1 b.2)) bs
 
-  -- each name stands for what its type says, and only the numbers below that of the datatypes are tags
+  -- each name means what its type promises, and only numbers below the number of datatypes are tags
   pub record IsSound (bs : List (List ℕ × Top × P)) : Type 0 where
     pub typed : AreWellTyped bs (held_in bs) (values_of bs)
     pub numbered : (tag : ℕ) → datatypes bs ≤ tag → datatype_at bs tag ≡ None
 
-  -- the name is no datatype, and where another function refers to it, its type doesn't change
+  -- the name is no datatype, and if another function refers to it, its type doesn't change
   pub record IsRedefinable (bs : List (List ℕ × Top × P)) (x : Name) (new : Top) : Type 0 where
     pub no_datatype : (tag : ℕ) (t : Term) → top_in bs x ≡ Some (top.Datatype tag t) → ⊥
     pub no_retype : is_referred x (values_of bs) ≡ true → IsUnchanged (top_in bs x) (Some new)

@@ -1,4 +1,4 @@
--- Which names of the top level an expression refers to: local names hide variables, and never what stands before `(`.
+-- Which names of the top level an expression refers to. Local names hide variables, but never a name before `(`.
 use Rattle.std.specs.Prelude.{Bool, false, not, ◌&&◌, ◌||◌}
 use Rattle.std.specs.Str.{bytes_eq}
 use Rattle.std.specs.List.{list_any}
@@ -21,8 +21,8 @@ abbrev pub some_binds : Name → Binders → Bool
 some_binds y no_binders = false
 some_binds y (binder p e bs) = binds y p || some_binds y bs
 
--- whether an expression refers to the name y, by a variable or before `(`; where y is `hidden` by a local name, a
--- variable doesn't refer to it
+-- Whether an expression refers to the name y, as a variable or before `(`. If a local name hides y, a variable doesn't
+-- refer to it.
 abbrev mutual
   pub refers : Name → Bool → Tree → Bool
   refers y hidden (node s k) = refers_in y hidden k
@@ -71,6 +71,6 @@ abbrev pub top_refers : Name → Top → Bool
 top_refers y (function_of p e) = body_refers y p e
 top_refers y _ = false
 
--- whether another name's function refers to the name
+-- whether a function of another name refers to the name
 abbrev pub is_referred : Name → Environment → Bool
 is_referred y env = list_any (λ b. not (bytes_eq b.0 y) && top_refers y b.1) env

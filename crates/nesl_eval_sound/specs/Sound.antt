@@ -43,7 +43,7 @@ IsValue held t (Some (variable_of v)) = values.HasType held v t
 IsValue held t _ = ⊥
 
 module _ {P : Type 0} (context : List (List ℕ × Top × P)) where
-  -- the world of these names, where the types of a function's body are of any size, or not above a limit
+  -- the world of these names; the types of a function's body are of any size, or not above a limit
   abbrev pub world : (ℕ → Class) → Option ℕ → OwnFunction → Assumptions
   world of limit own = record { names = meanings_in context own; of = of; limit = limit }
 
@@ -53,7 +53,7 @@ module _ {P : Type 0} (context : List (List ℕ × Top × P)) where
       (of : ℕ → Class) (t u : Term) → IsInstanceOf (function_type s) of t u → HasBodyType (world of None) x p e t u
   IsBody x s _ = ⊥
 
-  -- a name stands for what its type says, where `held` tells what each datatype holds
+  -- a name means what its type promises, where `held` gives what each datatype holds
   pub record IsWellTyped (held : ℕ → Option Term) (env : Environment) (x : Name) : Type 0 where
     pub variables : (t : Term) → top_in context x ≡ Some (top.Variable t) →
         IsValue held t (look_up env x) × IsGround t
@@ -65,8 +65,8 @@ module _ {P : Type 0} (context : List (List ℕ × Top × P)) where
   abbrev pub AreWellTyped : (ℕ → Option Term) → Environment → Type 0
   AreWellTyped held env = (x : Name) → IsWellTyped held env x
 
-  -- where the bindings are well typed, an expression that has a type is never stuck on any number of levels, and its
-  -- value has the type, with int for its variables
+  -- If the bindings are well typed, an expression that has a type is never stuck on any number of levels. Its value has
+  -- the type, with int for its variables.
   abbrev pub TypesAreKept : Type 0
   TypesAreKept = (held : ℕ → Option Term) (env : Environment) → AreWellTyped held env →
       (of : ℕ → Class) (limit : Option ℕ) (e : Tree) (t : Term) → HasType (world of limit None) [] e t →

@@ -1,6 +1,6 @@
--- Bindings that are worked by hand: `function id(x) = x;`, and then `(id((3, T)), id("a"))`;
--- `datatype point (int, int);`, and then `let point(a, b) = point((1, 2)) in a + b`; nothing, and then
--- `{{a + a : a in v} : v in [[1, 2], [3]]}`; and a function whose body has ever larger types.
+-- Bindings that are worked by hand. With `function id(x) = x;` there is `(id((3, T)), id("a"))`. With `datatype point
+-- (int, int);` there is `let point(a, b) = point((1, 2)) in a + b`. With no name bound there is `{{a + a : a in v} : v
+-- in [[1, 2], [3]]}`. Last, there is a function whose body has ever larger types.
 use Rattle.std.specs.Prelude.{◌≡◌, ℕ, zero, suc, true, List, [], ◌∷◌, codes}
 use Rattle.nesl_lex.specs.declared.token.Span.{Span}
 use Rattle.nesl_syntax_tree.specs.declared.tree.Operator.TheVariants as sign
@@ -27,7 +27,7 @@ parameter = pattern here (trees.name_pattern (codes "x"))
 abbrev pub body : Tree
 body = node here (trees.variable (codes "x"))
 
--- the payloads are what the names stand for
+-- the payloads are what the names mean
 abbrev pub as_it_is : Top → evaluated.Top → evaluated.Top
 as_it_is t v = v
 
@@ -37,7 +37,7 @@ Bindings = List (List ℕ × Top × evaluated.Top)
 abbrev pub with_identity : Scheme → Bindings
 with_identity s = (codes "id", top.Function s, function_of parameter body) ∷ []
 
--- from each type to the same
+-- from each type to the same type
 abbrev pub IsIdentity : Scheme → Type 0
 IsIdentity s = (s.argument ≡ variable 0) × (s.result ≡ variable 0) × (s.classes.items ≡ Any ∷ [])
 
@@ -119,13 +119,13 @@ NestedIsSound =
     (n : ℕ) → IsFine (λ v. HasType (held_in nothing_bound) v (seq_of (seq_of int)))
     (out n (values_of as_it_is nothing_bound) (outside []) nested)
 
--- `x = (x, x); x = (x, x); ..`, so many of them
+-- `x = (x, x); x = (x, x); ..`, this number of times
 abbrev pub doublings : ℕ → Binders
 doublings zero = trees.no_binders
 doublings (suc k) =
     trees.binder parameter (node here (trees.pair (named (codes "x")) (named (codes "x")))) (doublings k)
 
--- a type doubled so often
+-- a type that is doubled this number of times
 abbrev pub doubled : ℕ → Term → Term
 doubled zero t = t
 doubled (suc k) t = doubled k (pair_of t t)
@@ -146,7 +146,7 @@ abbrev pub growing_call : Tree
 growing_call = node here (trees.call (codes "grow") three_and_true)
 
 -- However often the body doubles its argument, the bindings are sound, and the call is never stuck. With 11 doublings
--- the types of the body have at most 4,095 nodes, so the line that defines the function is well typed; at the call they
+-- the types of the body have at most 4,095 nodes, so the line that defines the function is well typed. At the call they
 -- have up to 8,191.
 pub record GrowingIsSound : Type 0 where
   pub sound : (k : ℕ) (s : Scheme) → IsTest s →

@@ -1,4 +1,4 @@
-//! What types promise of values: what has a type never gets stuck; and which functions refer to a name.
+//! What types promise of values: an expression that has a type never gets stuck. Also which functions refer to a name.
 #![tactic(auto)]
 
 pub mod laws;

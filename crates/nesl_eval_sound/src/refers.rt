@@ -1,4 +1,4 @@
-//! Which functions have to keep their types when a name is defined anew: those that refer to it.
+//! Which functions have to keep their types when a name is defined again: those that refer to it.
 
 ghost use Rattle.std.specs.Prelude.{◌≡◌, ◌||◌};
 ghost use Rattle.nesl_syntax_tree.specs.Views.{tree_of, trees_in, binders_in, pattern_tree};
@@ -28,7 +28,7 @@ fn has_name(name: &[u8], pattern: &Pattern) -> bool
     }
 }
 
-/// Whether the name is hidden where the binders' names are in scope as well.
+/// Whether the name is hidden once the binders' names are in scope too.
 fn is_hidden_by(name: &[u8], hidden: bool, bindings: &[Binding]) -> bool
     ensures { result ≡ (hidden || some_binds name.now (binders_in bindings.now)) }
 {
@@ -39,7 +39,7 @@ fn is_hidden_by(name: &[u8], hidden: bool, bindings: &[Binding]) -> bool
     hides
 }
 
-/// Whether the expression refers to the name, which is hidden by a local name or not.
+/// Whether the expression refers to the name. `hidden` is whether a local name hides it.
 #[cycle(uses)]
 fn uses(name: &[u8], hidden: bool, exp: &Exp) -> bool
     ensures { result ≡ refers name.now hidden (tree_of exp.now) }
@@ -112,7 +112,7 @@ fn any_uses(name: &[u8], hidden: bool, items: &[Exp]) -> bool
     false
 }
 
-/// Whether a value of a `let` refers to the name, where each sees the names before it.
+/// Whether a value of a `let` refers to the name. Each value sees the names before it.
 #[cycle(uses)]
 fn bindings_use(name: &[u8], hidden: bool, bindings: &[Binding]) -> bool
     ensures { result ≡ bindings_refer name.now hidden (binders_in bindings.now) }
@@ -127,7 +127,7 @@ fn bindings_use(name: &[u8], hidden: bool, bindings: &[Binding]) -> bool
     false
 }
 
-/// Whether a sequence of an apply-to-each refers to the name; its binders hide nothing there.
+/// Whether a sequence of an apply-to-each refers to the name. Its binders hide nothing there.
 #[cycle(uses)]
 fn drawn_use(name: &[u8], hidden: bool, binders: &[Binding]) -> bool
     ensures { result ≡ drawn_refers name.now hidden (binders_in binders.now) }

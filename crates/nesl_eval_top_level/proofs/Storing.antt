@@ -48,7 +48,7 @@ same_names ns [] (c ∷ cs) h = absurd h
 same_names ns (b ∷ bs) [] h = absurd h
 same_names ns (b ∷ bs) (c ∷ cs) h = ap (λ y. y ∷ keys_of cs) h.0 ∙ ap (λ y. b.0 ∷ y) (same_names ns bs cs h.2)
 
--- a body, where the table stands for the environment
+-- a body, where the table means the environment
 body_agrees : (ns : List Name) (p : PatternTree) (c : Code) (e : Tree) → Means ns (bindings (p ∷ []) ∷ []) c e → (m : ℕ) (t : Table) (env : Environment) →
     Begins ns t → IsTableOf m env t → (v : Value) → Agrees (run m t (frame (v ∷ []) ∷ []) c) (in_bound (out m env) p v (outside []) e)
 body_agrees ns p c e h m t env b at v = by (bound p v []) refl

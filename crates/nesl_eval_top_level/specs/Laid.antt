@@ -6,21 +6,21 @@ use Rattle.nesl_eval_ops.specs.declared.ops.Ops.{Ops}
 use Rattle.nesl_eval_ops.specs.View.{block_of}
 use Rattle.nesl_eval_top_level.specs.Stored.{Codes}
 
--- the operations are those of the code of a body, which sees its argument alone; what is no function has neither
+-- the operations are those of a body's code, which sees only its argument; a name that is no function has neither
 abbrev pub IsLaid : Option Code → Option Ops → Type 0
 IsLaid None None = Unit {0}
 IsLaid None (Some o) = ⊥
 IsLaid (Some c) None = ⊥
 IsLaid (Some c) (Some o) = block_of o ≡ block (1 ∷ []) c
 
--- the same of each place
+-- the same for each place
 abbrev pub AreLaid : Codes → List (Option Ops) → Type 0
 AreLaid [] [] = Unit {0}
 AreLaid [] (o ∷ os) = ⊥
 AreLaid (c ∷ cs) [] = ⊥
 AreLaid (c ∷ cs) (o ∷ os) = IsLaid c.1 o × AreLaid cs os
 
--- the operations at a place are these, or these come last
+-- puts the operations at a place, or last if there is no place
 abbrev pub with_body : Option ℕ → Option Ops → List (Option Ops) → List (Option Ops)
 with_body (Some k) o os = set os k o
 with_body None o os = os ++ o ∷ []

@@ -1,4 +1,4 @@
--- What stands at top level, as an environment and as a table.
+-- The top level, as an environment and as a table.
 use Rattle.std.specs.Prelude.{◌≡◌, ℕ, List, [], ◌∷◌, ◌++◌, map, Option, Some, None, is_some, if◌then◌else◌}
 use Rattle.std.specs.Str.{bytes_eq}
 use Rattle.nesl_types.specs.declared.bindings.Top as kinds
@@ -17,7 +17,7 @@ use Rattle.nesl_eval_code.specs.Means.{Means, bindings, place_of}
 abbrev pub Entry : Type 0
 Entry = Name × kinds.Top × Payload
 
--- what the name means: the payload tells it, and the type tells a datatype's tag
+-- what the name means, by the payload, and by the type for a datatype's tag
 abbrev pub top_of : kinds.Top → Payload → Top
 top_of t (payload.Variable v) = variable_of (tree_of v)
 top_of t (payload.Function p e) = function_of (syntax.pattern_tree p) (syntax.tree_of e)
@@ -28,7 +28,7 @@ top_of t payload.Datatype = nothing
 abbrev pub environment : List Entry → Environment
 environment bs = map (λ b. (b.0, top_of b.1 b.2)) bs
 
--- what stands at a place, where this is the code of the body
+-- what a place holds, where this is the code of the body
 abbrev pub slot_of : kinds.Top → Payload → Option Code → Slot
 slot_of t (payload.Variable v) c = variable_slot (tree_of v)
 slot_of t (payload.Function p e) (Some c) = function_slot c
@@ -40,13 +40,13 @@ slot_of t payload.Datatype c = nothing_slot
 abbrev pub Codes : Type 0
 Codes = List (Vec ℕ Global × Option Code)
 
--- what stands at each place; where names and codes are not as many, nothing
+-- what each place holds; a code without a name means nothing
 abbrev pub table : List Entry → Codes → Table
 table bs [] = []
 table [] (c ∷ cs) = (c.0.items, nothing_slot) ∷ table [] cs
 table (b ∷ bs) (c ∷ cs) = (c.0.items, slot_of b.1 b.2 c.1) ∷ table bs cs
 
--- the code of a function's body stands for its body, in which its parameter alone is local
+-- the code of a function's body means the body, in which only the parameter is local
 abbrev pub HasCode : List Name → Payload → Option Code → Type 0
 HasCode names (payload.Variable v) c = Unit {0}
 HasCode names (payload.Function p e) (Some c) =
@@ -65,15 +65,15 @@ AllHaveCode names (b ∷ bs) (c ∷ cs) = (c.0.items ≡ b.0) × HasCode names b
 abbrev pub names_in : List Entry → List Name
 names_in bs = map (λ b. b.0) bs
 
--- in a body each name that there is has its place
+-- in a body, each name that is bound has its place
 abbrev pub AreStored : List Entry → Codes → Type 0
 AreStored bs cs = AllHaveCode (names_in bs) bs cs
 
--- the names, where this one has its place: the one that it had, else the last
+-- the names, once this one has a place: the one that it had, else the last
 abbrev pub with_place : Name → List Name → List Name
 with_place x ns = if is_some (place_of ns x) then ns else ns ++ x ∷ []
 
--- a name that is there keeps its place, and a new one goes last
+-- a name that is bound already keeps its place, and a new one goes last
 abbrev pub with_code : Vec ℕ Global → Option Code → Codes → Codes
 with_code x c [] = (x, c) ∷ []
 with_code x c (d ∷ ds) = if bytes_eq x.items d.0.items then (d.0, c) ∷ ds else d ∷ with_code x c ds

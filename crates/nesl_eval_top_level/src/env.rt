@@ -1,4 +1,4 @@
-//! What stands at top level.
+//! The names of the top level, with their code.
 
 ghost use Rattle.std.specs.Prelude.{◌≡◌, ◌<◌, ℕ, IfOk, OnOk, OnErr, [], length, slice_get, unwrap_or};
 ghost use Rattle.std.specs.Prelude.{vec_len, vec_capacity, IfSome, List, Some, None, set};
@@ -25,27 +25,27 @@ use nesl_values::Value;
 use std::alloc::{AllocError, Global};
 use std::marker::Model;
 
-/// What a top-level name has beside its type.
+/// What a top-level name has besides its type.
 #[derive(Drop)]
 pub enum Payload {
     /// A variable's value.
     Variable(Value),
     /// A function's parameter and body.
     Function { pattern: Pattern, body: Exp },
-    /// Nothing: a datatype's tag stands with its type.
+    /// Nothing: a datatype's tag is kept with its type.
     Datatype,
 }
 
-/// What each top-level name is, in order of first definition.
+/// The top-level names in order of first definition, each with its type and its payload.
 pub struct Env {
     context: Context<Payload>,
-    /// The context's names in its order, each with the code of its body, if it is a function.
+    /// The context's names in its order. The name of a function has the code of its body.
     prepared: IndexMap<Vec<u8>, Option<Code>>,
     /// The operations of these bodies, by place.
     bodies: Vec<Option<Ops>>,
 }
 
-// By hand, so that no crate above has to prove how the parts are dropped.
+// Written by hand, so that no crate that uses this one has to prove how the parts are dropped.
 impl Drop for Env {
     fn drop(self) {
         let Env {
@@ -77,7 +77,7 @@ impl Model for Env {
     ghost invariant = { λ e. AreStored e.context e.prepared.entries × AreLaid e.prepared.entries e.bodies.items };
 }
 
-/// The top level as an evaluation sees it: what stands at each place, and the place of each name.
+/// The top level as an evaluation sees it: what each place holds, and the place of each name.
 #[derive(Clone, Copy)]
 pub struct TopLevel<'a> {
     context: &'a Context<Payload>,
@@ -86,7 +86,7 @@ pub struct TopLevel<'a> {
 }
 
 impl<'a> TopLevel<'a> {
-    /// What stands at a place.
+    /// What a place holds, counted from 0.
     pub fn held(&self, place: usize) -> Held<'a, Global>
         ensures { held_slot result ≡ unwrap_or (slot_at (table_in self.now) place) nothing_slot }
     {
@@ -96,7 +96,7 @@ impl<'a> TopLevel<'a> {
         let Some((_, code)) = self.prepared.get_index(place) else {
             return Held::Nothing;
         };
-        found_there(top, payload, code)
+        held_with(top, payload, code)
     }
 
     /// The place of a name.
@@ -106,7 +106,7 @@ impl<'a> TopLevel<'a> {
         place_in(self.prepared, name)
     }
 
-    /// The operations of the bodies, by place. What is no function has none.
+    /// The operations of the bodies, by place. A name that is no function has none.
     pub fn bodies(&self) -> &'a [Option<Ops>]
         ensures { result.now ≡ bodies_in self.now }
     {
@@ -114,8 +114,12 @@ impl<'a> TopLevel<'a> {
     }
 }
 
-/// What a name holds with this type and payload, and this code of its body.
-fn found_there<'a>(top: &'a Top, payload: &'a Payload, code: &'a Option<Code>) -> Held<'a, Global>
+/// What a place holds, by the name's type, its payload, and the code of its body.
+fn held_with<'a>(
+    top: &'a Top,
+    payload: &'a Payload,
+    code: &'a Option<Code>,
+) -> Held<'a, Global>
     ensures { held_slot result ≡ slot_of top.now payload.now code.now }
 {
     match payload {
@@ -131,7 +135,7 @@ fn found_there<'a>(top: &'a Top, payload: &'a Payload, code: &'a Option<Code>) -
     }
 }
 
-/// The place, where there is one and what is set there is no function, so that it has no code.
+/// The place of a name that is bound already and becomes no function, so that it has no code.
 fn place_without_code(place: Option<usize>, payload: &Payload) -> Option<usize>
     ensures same { IfSome result (λ there. place ≡ Some there) }
     ensures code { IfSome result (λ _. (names : List Name) → HasCode names payload.now None) }
@@ -143,7 +147,8 @@ fn place_without_code(place: Option<usize>, payload: &Payload) -> Option<usize>
     }
 }
 
-/// The code of a function's body, whose name has its place already. What is no function has none.
+/// The code of a function's body, in which the function's own name has its place already. A name that is no function
+/// has no code.
 fn code_of_payload(
     alloc: Global,
     codes: &IndexMap<Vec<u8>, Option<Code>>,
@@ -168,7 +173,7 @@ fn code_of_payload(
     }
 }
 
-/// The name as a key, and the code of its payload. Room is made for one more name.
+/// The name as a key, and the code of its payload. This reserves room for one more name.
 #[inline(never)]
 fn entry_of(
     alloc: Global,
@@ -189,7 +194,7 @@ fn entry_of(
     Ok((key, code))
 }
 
-/// The operations of a body. Room is made for one more.
+/// The operations of a body. This reserves room for one more.
 #[inline(never)]
 fn body_of(
     alloc: Global,
@@ -207,7 +212,7 @@ fn body_of(
     }
 }
 
-/// The name has this code. There is room for one more name.
+/// Gives the name this code. There is room for one more name.
 fn store(codes: &mut IndexMap<Vec<u8>, Option<Code>>, name: Vec<u8>, code: Option<Code>)
     requires { 0 < spare codes.old }
     ensures { codes.new.entries ≡ with_code name code codes.old.entries }
@@ -218,7 +223,7 @@ fn store(codes: &mut IndexMap<Vec<u8>, Option<Code>>, name: Vec<u8>, code: Optio
     }
 }
 
-/// The name at a place has no code.
+/// Drops the code of the name at a place.
 fn clear_code(codes: &mut IndexMap<Vec<u8>, Option<Code>>, place: usize)
     ensures { codes.new.entries ≡ set_value_at codes.old.entries place None }
 {
@@ -229,7 +234,7 @@ fn clear_code(codes: &mut IndexMap<Vec<u8>, Option<Code>>, place: usize)
     }
 }
 
-/// No body stands at this place.
+/// Drops the body at a place.
 fn clear_body(bodies: &mut Vec<Option<Ops>>, place: usize)
     ensures { bodies.new.items ≡ set bodies.old.items place None }
 {
@@ -240,7 +245,7 @@ fn clear_body(bodies: &mut Vec<Option<Ops>>, place: usize)
     }
 }
 
-/// The body stands at this place, or else last. There is room for one more.
+/// Puts the body at this place, or last if there is no place. There is room for one more.
 fn store_body(bodies: &mut Vec<Option<Ops>>, place: Option<usize>, body: Option<Ops>)
     requires { vec_len bodies.old < vec_capacity bodies.old }
     ensures { bodies.new.items ≡ with_body place body bodies.old.items }
@@ -272,21 +277,21 @@ impl Env {
         }
     }
 
-    /// What the names are, for typing.
+    /// The names with their types, as typing needs them.
     pub fn context(&self) -> &Context<Payload>
         ensures { result.now ≡ self.now }
     {
         &self.context
     }
 
-    /// What the name is, and its payload.
+    /// The type of a name, and its payload.
     pub fn get(&self, name: &[u8]) -> Option<(&Top, &Payload)>
         ensures { option_map (λ b. (b.0.now, b.1.now)) result ≡ found name.now self.now }
     {
         self.context.get(name)
     }
 
-    /// The name at a place in the order of first definition, what it is, and its payload.
+    /// The name at a place in the order of first definition, its type, and its payload.
     pub fn at(&self, place: usize) -> Option<(&[u8], &Top, &Payload)>
         ensures { option_map (λ b. (b.0.now, b.1.now, b.2.now)) result ≡ slice_get self.now place }
     {
@@ -300,7 +305,7 @@ impl Env {
         self.context.len()
     }
 
-    /// The top level as an evaluation sees it. The code that stands in a function's place stands for its body.
+    /// The top level as an evaluation sees it. The code at a function's place means its body.
     pub fn top_level(&self) -> TopLevel<'_>
         ensures names { names_of (table_in result) ≡ names_in self.now }
         ensures stands { (n : ℕ) → IsTableOf n (environment self.now) (table_in result) }
@@ -313,8 +318,8 @@ impl Env {
         }
     }
 
-    /// Makes the name what is given: in its place where it has one, else after all others. A function's body is
-    /// prepared and laid out once, here; in it the function's own name has its place already.
+    /// Binds the name. A name that is bound already keeps its place, and a new one goes last. A function's body is
+    /// prepared and laid out once, here. In it, the function's own name has its place already.
     pub fn set(
         &mut self,
         alloc: Global,
@@ -327,14 +332,14 @@ impl Env {
     {
         let place = place_in(&self.prepared, name);
         if let Some(there) = place_without_code(place, &payload) {
-            return self.set_there(alloc, there, top, payload);
+            return self.set_at(alloc, there, top, payload);
         }
         self.set_prepared(alloc, name, place, top, payload)
     }
 
-    // Makes the name at this place what is given, which has no code.
+    // Binds the name at this place, which gets no code.
     #[inline(never)]
-    fn set_there(
+    fn set_at(
         &mut self,
         alloc: Global,
         there: usize,
@@ -351,7 +356,7 @@ impl Env {
         Ok(())
     }
 
-    // Makes the name what is given, and prepares a function's body. The place is the one that the name has, if any.
+    // Binds the name, and prepares a function's body. `place` is where the name is, if it is bound already.
     #[inline(never)]
     fn set_prepared(
         &mut self,

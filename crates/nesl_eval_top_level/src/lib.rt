@@ -1,4 +1,4 @@
-//! What stands at top level: each name with its type, its payload, and the code and the operations of its body.
+//! The top level: each name with its type, its payload, and the code and the operations of its body.
 #![tactic(auto)]
 
 pub mod env;

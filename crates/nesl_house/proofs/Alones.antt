@@ -24,11 +24,11 @@ pub session_replays : (accounts : List Account) (user : List ℕ) (log : Log) �
 session_replays [] user log all e = absurd (cc)
 session_replays (account ∷ accounts) user log all e = found_here (bytes_eq account.name user) account (session_of accounts user) log all.0 (session_replays accounts user log all.1) e
 
--- a session that is told nothing stays as it is
+-- a session that gets no line stays as it is
 alone_none : (log : Log) (s : State) → Replays log s → SessionAnswers log [] [] log
 alone_none log s r = record { before = s; after = s; starts = r; run = refl; ends = r; limits = refl }
 
--- told nothing, a user's session stays
+-- without a line, a user's session stays
 pub alone_silent : (o : Option Log) → ((log : Log) → o ≡ Some log → (s : State) × Replays log s) → RunsAlone o [] o
 alone_silent None h = refl
 alone_silent (Some log) h = let r = h log refl in (log, refl, alone_none log r.0 r.1)

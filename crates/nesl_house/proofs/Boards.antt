@@ -50,17 +50,17 @@ home_from (Away n ∷ slots) i e = absurd (cc)
 pub all_home : (slots : List Slot) → position is_away slots ≡ None → AreHome slots
 all_home slots e = home_from slots 0 (sym (position_from-zero is_away slots) ∙ e)
 
--- what the session of a seat was told
-abbrev pub told : Seat → ℕ
-told seat = recorded_lines seat.session
+-- the number of lines that the session of a seat has recorded
+abbrev pub recorded_at : Seat → ℕ
+recorded_at seat = recorded_lines seat.session
 
--- so as many seats as places, whose sessions were told what the places count
-sum_home : (seats : List Seat) → sum_by counted (map Home seats) ≡ sum_by told seats
+-- if all seats are at home, their sessions have recorded what the places count
+sum_home : (seats : List Seat) → sum_by counted (map Home seats) ≡ sum_by recorded_at seats
 sum_home [] = refl
-sum_home (s ∷ seats) = let more = sum_home seats in omega (arith, more, sum_by-cons counted (Home s) (map Home seats), sum_by-cons told s seats)
+sum_home (s ∷ seats) = let more = sum_home seats in omega (arith, more, sum_by-cons counted (Home s) (map Home seats), sum_by-cons recorded_at s seats)
 
-pub told_at_home : (slots : List Slot) → AreHome slots → sum_by counted slots ≡ sum_by told (at_home slots)
-told_at_home slots home = ap (sum_by counted) home ∙ sum_home (at_home slots)
+pub recorded_at_home : (slots : List Slot) → AreHome slots → sum_by counted slots ≡ sum_by recorded_at (at_home slots)
+recorded_at_home slots home = ap (sum_by counted) home ∙ sum_home (at_home slots)
 
 pub length_at_home : (slots : List Slot) → AreHome slots → length slots ≡ length (at_home slots)
 length_at_home slots home = ap length home ∙ length-map (at_home slots) Home
@@ -191,7 +191,7 @@ opened_small limits n k d h =
     let least : counted (slice_index_or all k d) ≤ sum_by counted all = get_or-le-sum_by counted all k d h in
     omega (arith, least, opened_count limits n)
 
--- so many places, as they are opened
+-- this number of places, as they are opened
 module _ (limits : Limits) (slots : List Slot) (n : ℕ) where
   pub opened_length : slots ≡ map (opened_at limits) (range_with_len 0 n) → length slots ≡ n
   opened_length e = ap length e ∙ length-map-range_with_len (opened_at limits) 0 n
@@ -231,5 +231,5 @@ closed roster names house slots lines booked n h home places own counted_all l r
   replayed = r;
   names = ap roster_of h ∙ names_seated names (at_home slots) (let all : length slots ≡ length (at_home slots) = length_at_home slots (all_home slots home) in omega (arith, few, all, places)) ∙ n;
   users = h ∙ ap (λ x. seated x (at_home slots)) n;
-  told = l ∙ counted_all ∙ told_at_home slots (all_home slots home);
+  recorded = l ∙ counted_all ∙ recorded_at_home slots (all_home slots home);
 }

@@ -84,7 +84,7 @@ answered_replay : (memory : Bool) (old : Log) (line : List ℕ) (reply : Reply) 
 answered_replay true old line reply new a r = let P : Log → Type 0 = λ x. (s : State) × Replays x s in subst P (sym a.1) r
 answered_replay false old line reply new a r = (a.after, a.ends)
 
--- the user of a place says a line, and has the account w then
+-- the user of a place says a line, and has the account w afterwards
 module _ (house : List Account) (users xs : List Account) (user line : List ℕ) (k : ℕ) (d w : Account) (reply : Reply) where
   there : Some k ≡ position (λ u. bytes_eq u.name user) xs → xs ≡ users → IsPlace users user k d
   there e x = is_place users user k d (ap (position (λ (u : Account). bytes_eq u.name user)) (sym x) ∙ sym e)

@@ -5,20 +5,20 @@ use Rattle.nesl_session_meaning.specs.State.{Log}
 use Rattle.nesl_house.specs.Script.{Event, kept_events, lines_of, replies_of}
 use Rattle.nesl_house.specs.Runs.{Account, session_of, HasBindings, Runs}
 
--- of one script after another, what comes of the second goes on from the house that the first leaves
+-- a script that follows another goes on from the house that the first one leaves
 abbrev pub ScriptsFollow : Type 0
 ScriptsFollow =
     (old mid new : List Account) (first second : List Event)
     → Runs old first mid → Runs mid second new → Runs old (first ++ second) new
 
--- whatever a user's names stand for in the one house, they stand for in the other
+-- a user's names mean the same in both houses
 abbrev pub SameBindings : List Account → List Account → List ℕ → Type 0
 SameBindings house other user =
     (bindings others : List Binding) → HasBindings house user bindings → HasBindings other user others
     → bindings ≡ others
 
--- Two scripts that agree on a user's kept lines, said to houses in which that user has one session, give that user the
--- same replies, and leave the same session and the same bindings.
+-- Two scripts agree on a user's kept lines, and the user has the same session in the houses that they start from. Then
+-- the user gets the same replies, and has the same session and the same bindings afterwards.
 abbrev pub OwnLinesDecide : Type 0
 OwnLinesDecide =
     (one two after_one after_two : List Account) (said_one said_two : List Event) (user : List ℕ) (session : Log)

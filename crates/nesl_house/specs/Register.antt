@@ -1,4 +1,4 @@
--- What tables, seats and leases are to their callers.
+-- What callers see of tables, seats and leases.
 use Rattle.std.specs.Prelude.{ℕ, List}
 use Rattle.nesl_session_meaning.specs.declared.limits.Limits.{Limits}
 use Rattle.nesl_session_meaning.specs.State.{Log}
@@ -8,13 +8,13 @@ pub record Register : Type 0 where
   pub roster : List (List ℕ)
   pub limits : Limits
 
--- a place of a table, and the session that is told lines there
+-- a place of a table, and the session that answers lines there
 pub record Seat : Type 0 where
   pub place : ℕ
   pub session : Log
 
--- a seat that is out, with its session as that is now, and the lines that the session had been told when it was taken
--- out
+-- A seat that is out, with its session as it is now. `counted` is the number of lines that the session had recorded
+-- when the seat was taken out.
 pub record Leased : Type 0 where
   pub seat : Seat
   pub counted : ℕ

@@ -26,12 +26,12 @@ abbrev pub is_user_name : List ℕ → Bool
 is_user_name name =
     begins_with_letter name && (nat_le (length name) 16 && list_all (λ b. is_small_letter b || is_digit b) name)
 
--- user names, of which none stands twice
+-- user names, no two of which are the same
 pub record AreUsers (names : List (List ℕ)) : Type 0 where
   pub named : All (λ name. is_user_name name ≡ true) names
   pub apart : AllPairs (λ one other. one ≢ other) names
 
--- as many as a house may have
+-- a number of users that a house may have
 abbrev pub IsCount : ℕ → Type 0
 IsCount n = (1 ≤ n) × (n ≤ 64)
 
@@ -44,8 +44,8 @@ pub record IsRoster (names : List (List ℕ)) : Type 0 where
 abbrev pub place_of : List (List ℕ) → List ℕ → Option ℕ
 place_of roster user = position (λ name. bytes_eq name user) roster
 
--- Why a list of names is refused: the count is looked at first, and then place by place first the name, then whether it
--- stands twice. Want of memory comes to a roster alone.
+-- Why a list of names is refused. The count is checked first. Then, place by place, the name is checked, and whether it
+-- is at an earlier place too. Memory can run out only if the list is a roster.
 pub data IsRefused (names : List (List ℕ)) : NewFault → Type 0 where
   bad_count : ¬ IsCount (length names) → IsRefused names Count
   bad_name :

@@ -17,7 +17,7 @@ pub record Account : Type 0 where
 abbrev pub roster_of : List Account → List (List ℕ)
 roster_of house = map (λ account. account.name) house
 
--- the session of this user, if this is one
+-- the session of this user, if the house has the user
 abbrev pub session_of : List Account → List ℕ → Option Log
 session_of [] user = None
 session_of (account ∷ accounts) user =
@@ -27,7 +27,7 @@ session_of (account ∷ accounts) user =
 abbrev pub AllReplay : List Account → Type 0
 AllReplay house = AllByRecursion (λ account. (s : State) × Replays account.session s) house
 
--- the names of this user's session and what they stand for: the bindings of the state that it is the replay to
+-- the bindings of this user's session, by the replay of the lines that it stored
 pub record HasBindings (house : List Account) (user : List ℕ) (bindings : List Binding) : Type 0 where
   pub session : Log
   pub state : State
@@ -35,20 +35,20 @@ pub record HasBindings (house : List Account) (user : List ℕ) (bindings : List
   pub replayed : Replays session state
   pub are : bindings ≡ state.bindings
 
--- To one user the house is a session that no one else uses: alone, the session `old` answers these lines by these
--- replies, and becomes what the user has after them. A stranger has no session, and gets none.
+-- To one user the house is a session that no one else uses. Alone, the session `old` answers these lines by these
+-- replies, and becomes what the user has afterwards. A stranger has no session, and gets none.
 abbrev pub RunsAlone : Option Log → List Event → Option Log → Type 0
 RunsAlone None events after = after ≡ None
 RunsAlone (Some old) events after =
     (new : Log) × (after ≡ Some new) × SessionAnswers old (lines_of events) (replies_of events) new
 
--- A stranger is told `fault user`. Who is told of want of memory is told nothing else.
+-- A stranger gets `fault user`. A reply with the fault `Memory` is `fault memory` and nothing else.
 pub record IsReplied (house : List Account) (e : Event) : Type 0 where
   pub stranger : session_of house e.user ≡ None → e.reply ≡ no_user
   pub memory : is_memory e.reply ≡ true → e.reply ≡ no_memory
 
--- The house `old` answers a script so, one line after another, and is the house `new` then: the same users, each of
--- whom was told what a session alone tells of that user's kept lines.
+-- The house `old` answers a script, one line after another, and is the house `new` afterwards. It has the same users.
+-- Each of them gets the replies that a session alone gives to that user's kept lines.
 pub record Runs (old : List Account) (events : List Event) (new : List Account) : Type 0 where
   pub roster : roster_of new ≡ roster_of old
   pub each : AllByRecursion (IsReplied old) events

@@ -1,4 +1,4 @@
--- What users say to a house in the code.
+-- The lines that users say to a house in the code.
 use Rattle.std.specs.Prelude.{List, [], ◌∷◌}
 use Rattle.nesl_session_meaning.specs.Response.{Reply}
 use Rattle.nesl_house.specs.declared.house.Said.{Said}

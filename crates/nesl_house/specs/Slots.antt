@@ -6,12 +6,12 @@ use Rattle.nesl_house.specs.declared.slots.Slot.{Slot}
 use Rattle.nesl_house.specs.declared.slots.Slot.TheVariants.{Home, Away}
 use Rattle.nesl_house.specs.Register.{Seat}
 
--- the lines that a place counts: those that its session was told, or had been told when it was taken out
+-- the number of lines that a slot counts: those that its session has recorded, or had recorded when it was taken out
 abbrev pub counted : Slot → ℕ
 counted (Home seat) = recorded_lines seat.session
 counted (Away count) = count
 
--- the lines that the place at this index counts
+-- the number of lines that the place at this index counts
 abbrev pub counted_at : List Slot → ℕ → ℕ
 counted_at slots place = counted (slice_index_or slots place (Away 0))
 
@@ -33,6 +33,6 @@ at_home [] = []
 at_home (Home seat ∷ slots) = seat ∷ at_home slots
 at_home (Away count ∷ slots) = at_home slots
 
--- all are
+-- all seats are at home
 abbrev pub AreHome : List Slot → Type 0
 AreHome slots = slots ≡ map Home (at_home slots)

@@ -9,7 +9,7 @@ use Rattle.nesl_house.specs.declared.lease.Receipt.{Receipt}
 use Rattle.nesl_house.specs.declared.table.CloseFault.{CloseFault}
 use Rattle.nesl_house.specs.declared.table.CloseFault.TheVariants.{StillOut, Missing}
 
--- the lines of these receipts
+-- the number of lines that these receipts are for
 abbrev pub recorded_in : List Receipt → ℕ
 recorded_in receipts = sum_by (λ (r : Receipt). r.recorded) receipts
 
@@ -22,18 +22,19 @@ seated _ _ = []
 abbrev pub AreReplays : List Seat → Type 0
 AreReplays seats = AllByRecursion (λ (seat : Seat). (s : State) × Replays seat.session s) seats
 
--- What has become of a table of this roster: it held the seats of the 64 places, in order; the users of the house are
--- those of the roster, each with the session of the seat at their place; and so many lines were told to all sessions.
+-- What has become of a table of this roster. It held the seats of the 64 places, in order. The users of the house are
+-- those of the roster, each with the session of the seat at their place. All sessions together have recorded this
+-- number of lines.
 pub record IsClosed (roster : List (List ℕ)) (house : List Account) (lines : ℕ) : Type 0 where
   pub held : List Seat
   pub places : map (λ (seat : Seat). seat.place) held ≡ range_with_len 0 64
   pub replayed : AreReplays held
   pub names : roster_of house ≡ roster
   pub users : house ≡ seated roster held
-  pub told : lines ≡ sum_by (λ (seat : Seat). recorded_lines seat.session) held
+  pub recorded : lines ≡ sum_by (λ (seat : Seat). recorded_lines seat.session) held
 
--- A table that isn't closed is handed back, and the receipts with it. Where some are missing, their lines are told,
--- which aren't those that the table holds.
+-- A table that isn't closed is handed back, with the receipts. If some receipts are missing, the number of lines that
+-- the others are for is reported; it isn't the number that the table holds.
 abbrev pub HandsBack : Register → List Receipt → CloseFault → Type 0
 HandsBack old receipts (StillOut table given place) = (table ≡ old) × (given.items ≡ receipts)
 HandsBack old receipts (Missing table given counted_lines held) =

@@ -22,7 +22,7 @@ pub struct House {
     users: Vec<User>,
 }
 
-// By hand, so that no crate above has to prove how the parts are dropped.
+// Written by hand, so that no crate that uses this one has to prove how the parts are dropped.
 impl Drop for House {
     fn drop(self) {
         let House { users } = self;
@@ -44,7 +44,7 @@ impl Model for House {
 /// A line that a user says.
 #[derive(Drop)]
 pub struct Said {
-    /// Who says it.
+    /// The name of the user.
     pub user: Vec<u8>,
     /// The line, without its LF.
     pub text: Vec<u8>,
@@ -94,7 +94,7 @@ impl House {
         self.users.as_slice()
     }
 
-    /// The session of a user, or nothing where this is a stranger.
+    /// The session of a user, or `None` if the house has no such user.
     pub fn session(&self, user: &[u8]) -> Option<&Session>
         ensures { option_map (λ s. s.now) result ≡ session_of self.now user.now }
     {
@@ -104,14 +104,14 @@ impl House {
         }
     }
 
-    /// One line of a user: the answer is that user's session's. A stranger is told `fault user`, and nothing changes.
+    /// Answers one line of a user by that user's session. A stranger gets `fault user`, and nothing changes.
     pub fn say(&mut self, alloc: Global, user: &[u8], text: &[u8]) -> Answer
         ensures { Runs self.old (record { user = user.now; line = text.now; reply = result } ∷ []) self.new }
     {
         self.say_by(alloc, &Plainly, user, text)
     }
 
-    /// One line of a user, evaluated in a heap. A stranger is told `fault user`, and nothing changes.
+    /// Answers one line of a user, which is evaluated in `heap`. A stranger gets `fault user`, and nothing changes.
     pub fn say_in<A: Allocator + Copy>(
         &mut self,
         alloc: Global,
@@ -124,8 +124,8 @@ impl House {
         self.say_by(alloc, &InHeap(heap), user, text)
     }
 
-    /// One line of a user, evaluated in halves that threads share where `helpers` are granted: it waits for these
-    /// threads. A stranger is told `fault user`, and nothing changes.
+    /// Answers one line of a user, which is evaluated in halves that threads share, where `helpers` are granted. The
+    /// call waits for these threads. A stranger gets `fault user`, and nothing changes.
     pub fn say_with<R: Threads + Sync, H: Helpers + Sync, G: Gate + Sync>(
         &mut self,
         rt: &R,
@@ -143,7 +143,7 @@ impl House {
         self.say_as(alloc, &ByCall { call }, user, text)
     }
 
-    /// One line of a user, said in this manner. A stranger is told `fault user`, and nothing changes.
+    /// Answers one line of a user in this manner. A stranger gets `fault user`, and nothing changes.
     pub fn say_by<M: Manner>(
         &mut self,
         alloc: Global,
@@ -156,7 +156,7 @@ impl House {
         self.say_as(alloc, &By { manner }, user, text)
     }
 
-    // One line of a user, said so.
+    // Answers one line of a user in this way.
     fn say_as<S: Saying>(&mut self, alloc: Global, by: &S, user: &[u8], text: &[u8]) -> Answer
         requires { S.sound by.now }
         ensures { Runs self.old (record { user = user.now; line = text.now; reply = result } ∷ []) self.new }
@@ -167,7 +167,8 @@ impl House {
         self.users[place].say_as(alloc, by, text)
     }
 
-    /// Lines of many users, in order. Where the list of the answers is refused, no line was said.
+    /// Answers lines of many users, in order. On `Err` there is no memory for the list of the answers, and no line was
+    /// said.
     pub fn run(&mut self, alloc: Global, script: &[Said]) -> Result<Vec<Answer>, AllocError>
         ensures answers { IfOk result (λ answers. length answers.items ≡ length script.now) }
         ensures runs { IfOk result (λ answers. Runs self.old (events_of script.now answers.items) self.new) }
@@ -176,8 +177,9 @@ impl House {
         self.run_by(alloc, &Plainly, script)
     }
 
-    /// Lines of many users, in order, each evaluated in halves that threads share where `helpers` are granted: it waits
-    /// for these threads. Where the list of the answers is refused, no line was said.
+    /// Answers lines of many users, in order. Each is evaluated in halves that threads share, where `helpers` are
+    /// granted, and the call waits for these threads. On `Err` there is no memory for the list of the answers, and no
+    /// line was said.
     pub fn run_with<R: Threads + Sync, H: Helpers + Sync, G: Gate + Sync>(
         &mut self,
         rt: &R,
@@ -196,8 +198,8 @@ impl House {
         self.run_as(alloc, &ByCall { call }, script)
     }
 
-    /// Lines of many users, in order, each said in this manner. Where the list of the answers is refused, no line was
-    /// said.
+    /// Answers lines of many users, in order, each in this manner. On `Err` there is no memory for the list of the
+    /// answers, and no line was said.
     pub fn run_by<M: Manner>(
         &mut self,
         alloc: Global,
@@ -211,7 +213,7 @@ impl House {
         self.run_as(alloc, &By { manner }, script)
     }
 
-    // Lines of many users, in order, each said so.
+    // Answers lines of many users, in order, each in this way.
     fn run_as<S: Saying>(
         &mut self,
         alloc: Global,
@@ -234,7 +236,7 @@ impl House {
     }
 }
 
-// The place of a user.
+// The place of a user in the roster.
 fn place_of(users: &[User], user: &[u8]) -> Option<usize>
     ensures { result ≡ position (λ account. bytes_eq account.name user.now) users.now }
 {

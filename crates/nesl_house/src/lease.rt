@@ -1,4 +1,4 @@
-//! A seat that is out of the table.
+//! A seat that is taken out of the table.
 ghost use Rattle.std.specs.Prelude.{◌≡◌, ◌+◌};
 ghost use Rattle.nesl_session_meaning.specs.State.{recorded_lines};
 ghost use Rattle.nesl_session_meaning.specs.Solo.{Responds};
@@ -12,8 +12,8 @@ use std::alloc::Global;
 use std::marker::Model;
 use std::thread::Threads;
 
-/// A seat that was taken out of a table. It goes back by `give`. Contracts see the seat, and how many lines its session
-/// had been told.
+/// A seat that was taken out of a table; `give` puts it back. Contracts see the seat, and the number of lines that its
+/// session had recorded when the seat was taken out.
 pub struct Lease {
     seat: Seat,
     counted: u64,
@@ -31,7 +31,7 @@ impl Model for Lease {
     ghost invariant = { λ l. l.counted ≤ recorded_lines l.seat.session };
 }
 
-/// The lines that were told to the session of a place under a lease.
+/// The number of lines that the session of a place recorded under a lease.
 #[derive(Clone, Copy, PartialEq, Eq, Debug)]
 pub struct Receipt {
     pub place: usize,
@@ -54,15 +54,14 @@ impl Lease {
         self.seat.place()
     }
 
-    /// The session.
     pub fn session(&self) -> &Session
         ensures { result.now ≡ self.now.seat.session }
     {
         self.seat.session()
     }
 
-    /// One line of the session, evaluated in halves that threads share where `helpers` are granted. Nothing else
-    /// changes a session that is out. It waits for these threads.
+    /// Answers one line of the session, which is evaluated in halves that threads share, where `helpers` are granted.
+    /// The call waits for these threads. Nothing else changes a session that is taken out.
     pub fn line_split<R: Threads + Sync, H: Helpers + Sync, G: Gate + Sync>(
         &mut self,
         rt: &R,
@@ -78,7 +77,7 @@ impl Lease {
         self.seat.line_split(rt, alloc, text, helpers, gate)
     }
 
-    /// The seat, and the receipt for what its session was told since it was taken out.
+    /// The seat, and the receipt for the lines that its session has recorded since the seat was taken out.
     pub(crate) fn end(self) -> (Seat, Receipt)
         ensures seat { result.0 ≡ self.seat }
         ensures place { result.1.place ≡ self.seat.place }

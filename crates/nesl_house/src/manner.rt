@@ -6,15 +6,15 @@ use nesl_session::answer::Answer;
 use nesl_session::session::Session;
 use std::alloc::{Allocator, Global};
 
-/// How a line is said to a session. Whichever way is taken, the answer is the step's, or want of memory, which leaves
-/// all as it was.
+/// How a line is said to a session. In every manner, the answer is the step's, or `fault memory`, which changes
+/// nothing.
 pub trait Manner {
     /// Says a line to a session.
     fn say(&self, alloc: Global, session: &mut Session, text: &[u8]) -> Answer
         ensures { Responds session.old text.now result session.new };
 }
 
-/// A line is evaluated where the session keeps its own values.
+/// Evaluates a line in the allocator of the session's own values.
 #[derive(Clone, Copy)]
 pub struct Plainly;
 
@@ -24,7 +24,7 @@ impl Manner for Plainly {
     }
 }
 
-/// A line is evaluated in a heap, which is as empty afterwards as it was before.
+/// Evaluates a line in a heap, which is as empty afterwards as it was before.
 #[derive(Clone, Copy)]
 pub struct InHeap<A: Allocator + Copy>(pub A);
 
@@ -36,7 +36,7 @@ impl<A: Allocator + Copy> Manner for InHeap<A> {
 
 /// How a line is said to a session in this crate: in a manner, or by a closure.
 pub(crate) trait Saying {
-    // That it can be called, and answers as a session does.
+    // It can be called, and answers as a session does.
     ghost sound: { Self → Type 0 };
 
     fn say(&self, alloc: Global, session: &mut Session, text: &[u8]) -> Answer
@@ -44,7 +44,7 @@ pub(crate) trait Saying {
         ensures { Responds session.old text.now result session.new };
 }
 
-/// In this manner.
+/// Says a line in a manner.
 #[derive(Clone, Copy)]
 pub(crate) struct By<'a, M> {
     pub(crate) manner: &'a M,
@@ -58,8 +58,8 @@ impl<M: Manner> Saying for By<'_, M> {
     }
 }
 
-/// By a closure. What evaluates between threads is a closure: it may rest on what the function around it knows of them,
-/// while a block of an `impl` knows that of its own thread alone.
+/// Says a line by a closure. An evaluation between threads needs a closure, which can use what the function around it
+/// knows of these threads. A block of an `impl` only knows of its own thread.
 #[derive(Drop)]
 pub(crate) struct ByCall<F> {
     pub(crate) call: F,

@@ -12,10 +12,10 @@ pub enum NewFault {
     /// The roster has no name, or more than 64.
     #[error("bad count")]
     Count,
-    /// What stands at this place, counted from 0, is no user name.
+    /// The entry at this place, counted from 0, is no user name.
     #[error("bad name at place {place}")]
     Name { place: usize },
-    /// The name at this place, counted from 0, stands at an earlier one too.
+    /// The name at this place, counted from 0, is at an earlier place too.
     #[error("the name at place {place} stands twice")]
     Twice { place: usize },
     /// Memory ran out.
@@ -29,7 +29,7 @@ pub const MOST_USERS: usize = 64;
 /// The most bytes of a user name.
 pub const MOST_NAME_BYTES: usize = 16;
 
-/// Checks the count; then place by place first the name, then whether it stands twice.
+/// Checks the count; then, place by place, the name and whether it is at an earlier place too.
 pub(crate) fn check(roster: &[Vec<u8>]) -> Result<(), NewFault>
     ensures roster { OnOk result (IsRoster (map (λ v. v.items) roster.now)) }
     ensures refused { IfErr result (IsRefused (map (λ v. v.items) roster.now)) }
@@ -68,7 +68,7 @@ pub fn is_user_name(name: &[u8]) -> bool
     is_spelled(name)
 }
 
-// Whether these are letters and digits.
+// Whether these bytes are letters and digits.
 fn is_spelled(name: &[u8]) -> bool
     ensures { result ≡ list_all (λ b. is_small_letter b || is_digit b) name.now }
 {

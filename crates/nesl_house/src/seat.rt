@@ -1,4 +1,4 @@
-//! What is at a place of a table.
+//! The seat at a place of a table.
 ghost use Rattle.std.specs.Prelude.{◌≡◌, ◌<◌, IfOk};
 ghost use Rattle.nesl_session_meaning.specs.State.{empty_log};
 ghost use Rattle.nesl_session_meaning.specs.Solo.{Responds};
@@ -11,14 +11,14 @@ use std::alloc::{AllocError, Global};
 use std::marker::Model;
 use std::thread::Threads;
 
-/// A place of a table, and the session that is told lines there. A session doesn't leave its seat for another: a seat
-/// is made with an empty session, and lends its session for one line at a time.
+/// A place of a table, and the session that answers lines there. A session never changes its seat: the seat is made
+/// with an empty session, and lends it for one line at a time.
 pub struct Seat {
     place: usize,
     session: Session,
 }
 
-// By hand, as that of the session.
+// Written by hand, like the drop of the session.
 impl Drop for Seat {
     fn drop(self) {
         let Seat { place: _, session } = self;
@@ -47,7 +47,6 @@ impl Seat {
         Ok(Seat { place, session })
     }
 
-    /// Its place.
     pub(crate) fn place(&self) -> usize
         ensures place { result ≡ self.now.place }
         ensures in_range { result < 64 }
@@ -55,15 +54,14 @@ impl Seat {
         self.place
     }
 
-    /// Its session.
     pub(crate) fn session(&self) -> &Session
         ensures { result.now ≡ self.now.session }
     {
         &self.session
     }
 
-    /// One line of its session, evaluated in halves that threads share where `helpers` are granted. It waits for these
-    /// threads.
+    /// Answers one line of the session, which is evaluated in halves that threads share, where `helpers` are granted.
+    /// The call waits for these threads.
     pub(crate) fn line_split<R: Threads + Sync, H: Helpers + Sync, G: Gate + Sync>(
         &mut self,
         rt: &R,
@@ -78,7 +76,7 @@ impl Seat {
         self.session.line_split(rt, alloc, text, helpers, gate)
     }
 
-    /// Its session, once no line is told there any more.
+    /// The session, once its seat is no longer needed.
     pub(crate) fn into_session(self) -> Session
         ensures { result ≡ self.session }
     {

@@ -13,7 +13,7 @@ use nesl_session::limits::Limits;
 use std::alloc::{AllocError, Global};
 use std::mem;
 
-/// A seat at home, or the number of lines that the session of one had been told when it was taken out.
+/// A seat that is at home; or the number of lines that its session had recorded when the seat was taken out.
 #[derive(Drop)]
 pub enum Slot {
     Home(Seat),
@@ -45,14 +45,14 @@ impl Slots {
         Ok(Slots { booked: 0, slots })
     }
 
-    /// The first place that is away.
+    /// The first place whose seat is away.
     pub fn first_away(&self) -> Option<usize>
         ensures { result ≡ position is_away self.now.slots.items }
     {
         self.slots.iter().position(Slot::is_away)
     }
 
-    /// Takes out the seat of a place, which counts its session's lines from then on.
+    /// Takes out the seat of a place. From then on, the place counts the lines that the session has recorded so far.
     pub fn take_out(&mut self, place: usize) -> Option<Seat>
         requires { place < 64 }
         ensures away { IfNone result ((count : ℕ) × (slice_get self.old.slots.items place ≡ Some (Slot.Away count))) }
@@ -75,7 +75,7 @@ impl Slots {
         }
     }
 
-    /// Puts a seat to its place. What the place had counted is counted no longer.
+    /// Puts a seat back to its place, which counts the lines of this session from then on, and its old count no longer.
     pub fn put_back(&mut self, seat: Seat)
         ensures slots { self.new.slots.items ≡ slice_set self.old.slots.items seat.place (Slot.Home seat) }
         ensures booked { self.new.booked + counted_at self.old.slots.items seat.place
@@ -91,7 +91,7 @@ impl Slots {
 }
 
 impl Slot {
-    /// The lines that it counts.
+    /// The number of lines that the slot counts.
     pub fn counted(&self) -> u64
         ensures { result ≡ counted self.now }
     {
@@ -101,7 +101,7 @@ impl Slot {
         }
     }
 
-    /// Its seat, where that is at home. The session there is the replay of the lines that it stored.
+    /// The seat, which is at home. Its session is the replay of the lines that it stored.
     pub(crate) fn into_seat(self) -> Seat
         requires { is_away self ≡ false }
         ensures home { self ≡ Slot.Home result }
@@ -116,7 +116,6 @@ impl Slot {
         }
     }
 
-    /// Whether its seat is away.
     pub fn is_away(&self) -> bool
         ensures { result ≡ is_away self.now }
     {

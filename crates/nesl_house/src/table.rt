@@ -1,4 +1,4 @@
-//! The seats of many users, taken out and given back by many threads.
+//! The seats of many users, which many threads take out and give back.
 ghost use Rattle.std.specs.Prelude.{◌≡◌, ◌+◌, ◌≤◌, ◌<◌, ◌↔◌, [], IfErr, IfOk, IfSome, IsErrOf, None, OnOk, Some};
 ghost use Rattle.std.specs.Prelude.{length, map, position};
 ghost use Rattle.std.specs.Str.{bytes_eq};
@@ -19,7 +19,7 @@ use std::alloc::{AllocError, Global};
 use std::marker::Model;
 use std::sync::{Mutex, Wait};
 
-/// Users, and their seats under a lock, which no evaluation holds. Contracts see the roster and the limits.
+/// Users, and their seats under a lock. No evaluation holds the lock. Contracts see the roster and the limits.
 pub struct Table {
     roster: Vec<Vec<u8>>,
     limits: Limits,
@@ -28,7 +28,7 @@ pub struct Table {
     slots: Mutex<Slots>,
 }
 
-// By hand, so that no crate above has to prove how the parts are dropped.
+// Written by hand, so that no crate that uses this one has to prove how the parts are dropped.
 impl Drop for Table {
     fn drop(self) {
         let Table {
@@ -58,7 +58,7 @@ impl Model for Table {
 pub enum TakeFault {
     /// The roster has no such name.
     NoUser,
-    /// The seat is away, or that of another table, whose session has other limits, stands there.
+    /// The seat is away. Or the seat of another table, whose session has other limits, is at its place.
     Busy,
 }
 
@@ -67,20 +67,20 @@ pub enum TakeFault {
 pub struct Closed {
     /// The users of the roster, each with the session at their place.
     pub house: House,
-    /// The lines that the sessions of all places were told.
+    /// The number of lines that the sessions of all places have recorded.
     pub lines: u128,
 }
 
-/// Why a table isn't closed. It is handed back, and the receipts with it.
+/// Why a table isn't closed. The table and the receipts are handed back.
 #[derive(Drop)]
 pub enum CloseFault {
-    /// The seat of this place, the first such, is away.
+    /// The seat of this place is away; it is the first such place.
     StillOut {
         table: Table,
         receipts: Vec<Receipt>,
         place: usize,
     },
-    /// The receipts' lines, `counted`, aren't those that the sessions were told, `held`.
+    /// The receipts are for `counted` lines, but the sessions have recorded `held`.
     Missing {
         table: Table,
         receipts: Vec<Receipt>,
@@ -137,7 +137,7 @@ impl Table {
         self.limits
     }
 
-    // The place of a user.
+    // The place of a user in the roster.
     fn place_of(&self, user: &[u8]) -> Option<usize>
         ensures place { result ≡ place_of self.now.roster user.now }
         ensures in_range { IfSome result (λ place. place < 64) }
@@ -145,8 +145,8 @@ impl Table {
         place_in(self.roster.as_slice(), user)
     }
 
-    /// Takes out the seat of a user, with the session there. It waits for the lock alone: while the seat is away, it is
-    /// answered `Busy`.
+    /// Takes out the seat of a user, with the session there. The call waits only for the lock. While the seat is away,
+    /// the result is `Busy`.
     pub fn take<R: Wait>(&self, rt: &R, user: &[u8]) -> Result<Lease, TakeFault>
         ensures no_user { IsErrOf result TakeFault.NoUser ↔ (place_of self.now.roster user.now ≡ None) }
         ensures place { IfOk result (λ l. place_of self.now.roster user.now ≡ Some l.seat.place) }
@@ -167,7 +167,7 @@ impl Table {
         }
     }
 
-    /// Puts a seat back to its place, and tells how many lines its session was told under the lease.
+    /// Puts a seat back to its place, and returns the number of lines that its session recorded under the lease.
     pub fn give<R: Wait>(&self, rt: &R, lease: Lease) -> Receipt
         ensures place { result.place ≡ lease.seat.place }
         ensures recorded { result.recorded + lease.counted ≡ recorded_lines lease.seat.session }
@@ -177,9 +177,9 @@ impl Table {
         receipt
     }
 
-    /// The house of the table's users, each with the session of the seat at their place, once all seats are at home and
-    /// the receipts are for all lines. Sessions past the roster are dropped, though their lines are counted: they are
-    /// empty unless another table's lease was given back.
+    /// Makes a house of the table's users, each with the session of the seat at their place. All seats have to be at
+    /// home, and the receipts have to be for all lines. Sessions past the roster are dropped, but their lines are
+    /// counted. They are empty unless another table's lease was given back.
     pub fn close(self, receipts: Vec<Receipt>) -> Result<Closed, CloseFault>
         ensures receipts { IfOk result (λ c. c.lines ≡ recorded_in receipts.items) }
         ensures closed { IfOk result (λ c. IsClosed self.roster c.house c.lines) }
@@ -228,14 +228,14 @@ impl Table {
     }
 }
 
-// The place of this name.
+// The place of this name in the roster.
 fn place_in(roster: &[Vec<u8>], user: &[u8]) -> Option<usize>
     ensures { result ≡ position (λ v. bytes_eq v.items user.now) roster.now }
 {
     roster.iter().position(|name| name.as_slice() == user)
 }
 
-// The lines of these receipts.
+// The number of lines that these receipts are for.
 fn recorded_in(receipts: &[Receipt]) -> u128
     ensures { result ≡ recorded_in receipts.now }
 {

@@ -51,14 +51,13 @@ impl User {
         self.name.as_slice()
     }
 
-    /// The session.
     pub fn session(&self) -> &Session
         ensures { result.now ≡ self.now.session }
     {
         &self.session
     }
 
-    /// One line of this user, said so.
+    /// Answers one line of this user in this way.
     pub(crate) fn say_as<S: Saying>(&mut self, alloc: Global, by: &S, text: &[u8]) -> Answer
         requires { S.sound by.now }
         ensures name { self.new.name ≡ self.old.name }

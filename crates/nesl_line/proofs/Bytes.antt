@@ -179,7 +179,7 @@ pub splits_some : (text : List ℕ) → (whole : List (List ℕ)) × (rest : Lis
 splits_some [] = ([], [], splits_none)
 splits_some (b ∷ bs) = let s = splits_some bs in first_byte b bs s.0 s.1 (b == 10) refl s.2
 
--- more text behind some lines and a rest
+-- more text after some lines and a rest
 pub splits_on : (a b : List ℕ) (one : List (List ℕ)) (raw : List ℕ) → Splits a one raw → (two : List (List ℕ)) × (rest : List ℕ) × Splits (a ++ b) (one ++ two) rest
 splits_on a b one raw s =
     let t = splits_some (raw ++ b) in (

@@ -11,23 +11,23 @@ use Rattle.nesl_line.proofs.Bytes.{consumes_none, consumes_keep, consumes_then, 
 
 -- nothing was read or written
 pub no_memory_exchange : (left held : Option (List ℕ)) (Heard : Hearing) (over : Bool) → Heard [] [] → IsExchange Heard over NoMemory 0 left left held held
-no_memory_exchange left held Heard over untold = record {
+no_memory_exchange left held Heard over nothing_heard = record {
   read = [];
   lines = [];
   texts = [];
   written = [];
   consumed = consumes_none left;
   appended = appends_none held;
-  heard = untold;
+  heard = nothing_heard;
   ended = (refl, refl, refl);
   counted = refl;
 }
 
 pub begins : (left held : Option (List ℕ)) (Heard : Hearing) (talk : Talk) → Heard [] [] → IsFresh talk → SoFar left left held held Heard talk
-begins left held Heard talk untold f = record {
+begins left held Heard talk nothing_heard f = record {
   read = [];
   consumed = consumes_none left;
-  progress = record { whole = []; raw = []; texts = []; splits = splits_none; holds = f.empty; heard = untold; appended = appends_none held; counted = f.none };
+  progress = record { whole = []; raw = []; texts = []; splits = splits_none; holds = f.empty; heard = nothing_heard; appended = appends_none held; counted = f.none };
 }
 
 keeps_same : (left : Option (List ℕ)) → Keeps left left

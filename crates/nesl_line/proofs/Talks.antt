@@ -1,4 +1,4 @@
--- Lines are heard and told of.
+-- Lines are heard and replied to.
 use Rattle.std.proofs.Common.{◌≡◌, ℕ, ◌+◌, ◌<◌, List, [], ◌∷◌, ◌++◌, Bool, true, false, Option, length, refl, sym, ap, ◌∙◌, subst, arith, append-nil, append_assoc, length-append, map, cond, take}
 use Rattle.std.proofs.Math.Dec.{eqb-suc-zero}
 use Rattle.std.specs.Bool.{MatchBool}

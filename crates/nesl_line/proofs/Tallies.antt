@@ -14,10 +14,10 @@ pub rose : (n : ℕ) → Rose n (risen_by 1 n)
 rose n = ⊎_elim (λ h. inl (omega (arith, h))) (λ h. inr (omega (arith, h))) (cases_lt n (2 ^ 64 - 1))
 
 pub written_none : (t : WriteTally) → t ≡ written_by 0 t
-written_none t = ap (λ n. record t { behind = n }) (sym (counted_none t.behind))
+written_none t = ap (λ n. record t { unflushed = n }) (sym (counted_none t.unflushed))
 
 pub written_then : (a b : ℕ) (t : WriteTally) → written_by b (written_by a t) ≡ written_by (a + b) t
-written_then a b t = ap (λ n. record t { behind = n }) (counted_then a b t.behind)
+written_then a b t = ap (λ n. record t { unflushed = n }) (counted_then a b t.unflushed)
 
 -- n bytes more
 pub written_more : (a n : ℕ) (s t u : WriteTally) → t ≡ written_by a s → u ≡ written_by n t → u ≡ written_by (a + n) s
@@ -26,26 +26,26 @@ written_more a n s t u e f = f ∙ ap (written_by n) e ∙ written_then a n s
 pub flushed_none : (t : WriteTally) → t ≡ flushed_by 0 t
 flushed_none t = ap (λ n. record t { flushed = n }) (sym (counted_none t.flushed))
 
--- what is behind after some flushes, and some more
-left_behind : (a b k : ℕ) (first second both : Bool) → (a == 0) ≡ first → (b == 0) ≡ second → (a + b == 0) ≡ both → cond second (cond first k 0) 0 ≡ cond both k 0
-left_behind a b k true true true e f g = refl
-left_behind a b k true true false e f g = let x = eqb-true a 0 e in let y = eqb-true b 0 f in let sum : a + b ≡ 0 = omega (arith, x, y) in let z : (a + b == 0) ≡ true = ap (λ (n : ℕ). n == 0) sum in let no' : true ≡ false = sym z ∙ g in absurd (cc)
-left_behind a b k true false true e f g = let x : a + b ≡ 0 = eqb-true (a + b) 0 g in let none : b ≡ 0 = omega (arith, x) in let z : (b == 0) ≡ true = ap (λ (n : ℕ). n == 0) none in let no' : true ≡ false = sym z ∙ f in absurd (cc)
-left_behind a b k true false false e f g = refl
-left_behind a b k false true true e f g = let x : a + b ≡ 0 = eqb-true (a + b) 0 g in let none : a ≡ 0 = omega (arith, x) in let z : (a == 0) ≡ true = ap (λ (n : ℕ). n == 0) none in let no' : true ≡ false = sym z ∙ e in absurd (cc)
-left_behind a b k false true false e f g = refl
-left_behind a b k false false true e f g = let x : a + b ≡ 0 = eqb-true (a + b) 0 g in let none : a ≡ 0 = omega (arith, x) in let z : (a == 0) ≡ true = ap (λ (n : ℕ). n == 0) none in let no' : true ≡ false = sym z ∙ e in absurd (cc)
-left_behind a b k false false false e f g = refl
+-- what is unflushed after some flushes, and some more
+left_unflushed : (a b k : ℕ) (first second both : Bool) → (a == 0) ≡ first → (b == 0) ≡ second → (a + b == 0) ≡ both → cond second (cond first k 0) 0 ≡ cond both k 0
+left_unflushed a b k true true true e f g = refl
+left_unflushed a b k true true false e f g = let x = eqb-true a 0 e in let y = eqb-true b 0 f in let sum : a + b ≡ 0 = omega (arith, x, y) in let z : (a + b == 0) ≡ true = ap (λ (n : ℕ). n == 0) sum in let no' : true ≡ false = sym z ∙ g in absurd (cc)
+left_unflushed a b k true false true e f g = let x : a + b ≡ 0 = eqb-true (a + b) 0 g in let none : b ≡ 0 = omega (arith, x) in let z : (b == 0) ≡ true = ap (λ (n : ℕ). n == 0) none in let no' : true ≡ false = sym z ∙ f in absurd (cc)
+left_unflushed a b k true false false e f g = refl
+left_unflushed a b k false true true e f g = let x : a + b ≡ 0 = eqb-true (a + b) 0 g in let none : a ≡ 0 = omega (arith, x) in let z : (a == 0) ≡ true = ap (λ (n : ℕ). n == 0) none in let no' : true ≡ false = sym z ∙ e in absurd (cc)
+left_unflushed a b k false true false e f g = refl
+left_unflushed a b k false false true e f g = let x : a + b ≡ 0 = eqb-true (a + b) 0 g in let none : a ≡ 0 = omega (arith, x) in let z : (a == 0) ≡ true = ap (λ (n : ℕ). n == 0) none in let no' : true ≡ false = sym z ∙ e in absurd (cc)
+left_unflushed a b k false false false e f g = refl
 
 pub flushed_then : (a b : ℕ) (t : WriteTally) → flushed_by b (flushed_by a t) ≡ flushed_by (a + b) t
-flushed_then a b t = let behind = left_behind a b t.behind (a == 0) (b == 0) (a + b == 0) refl refl refl in λ i. record t { flushed = counted_then a b t.flushed i; behind = behind i }
+flushed_then a b t = let unflushed = left_unflushed a b t.unflushed (a == 0) (b == 0) (a + b == 0) refl refl refl in λ i. record t { flushed = counted_then a b t.flushed i; unflushed = unflushed i }
 
 -- n flushes, and then what else was counted
 pub flushed_more : (well : Bool) (m n : ℕ) (a b c : WriteTally) → b ≡ flushed_by m a → Flushed well n b c → Flushed well (m + n) a c
 flushed_more true m n a b c e t = t ∙ ap (flushed_by n) e ∙ flushed_then m n a
 flushed_more false m n a b c e t = let P : WriteTally → Type 0 = λ x. WriteFailed x c in subst P e t
 
--- a flush leaves nothing behind of what was written before it
+-- a flush leaves nothing unflushed of what was written before it
 pub flushed_after : (well : Bool) (k : ℕ) (a b c : WriteTally) → b ≡ written_by k a → Flushed well 1 b c → Flushed well 1 a c
 flushed_after true k a b c e t = t ∙ ap (flushed_by 1) e
 flushed_after false k a b c e t = let P : WriteTally → Type 0 = λ x. WriteFailed x c in subst P e t
@@ -75,7 +75,7 @@ took_none m n a b e h t = stalled a b (took m n a b true true (ap (λ k. k == 0)
 pub blamed_after : (k : ℕ) (a b c : WriteTally) → b ≡ written_by k a → WriteFailed b c → WriteFailed a c
 blamed_after k a b c e t = let P : WriteTally → Type 0 = λ x. WriteFailed x c in subst P e t
 
--- so many reads were made, and none of them failed
+-- this number of reads was made, and none of them failed
 abbrev pub ReadsMade : ℕ → ReadTally → ReadTally → Type 0
 ReadsMade k old new = new ≡ record { made = risen_by k old.made; failed = old.failed }
 

@@ -33,7 +33,7 @@ chosen_some (b ∷ bs) h = refl
 silent : (house start : List Account) (before : List Event) → Runs start before house → Runs start (before ++ []) house
 silent house start before r = let P : List Event → Type 0 = λ x. Runs start x house in subst P (sym (append-nil before)) r
 
--- a stranger is told `fault user`
+-- a stranger gets `fault user`
 pub told_no_user : (house house' : List Account) (who who' : Option (List ℕ)) (line : List ℕ) (reply : Reply) → reply ≡ no_user → TurnsHouse house house' who who' line no_user.bytes → TurnsHouse house house' who who' line reply.bytes
 told_no_user house house' who who' line reply e t = let P : Reply → Type 0 = λ x. TurnsHouse house house' who who' line x.bytes in subst P (sym e) t
 

@@ -58,7 +58,7 @@ told_memory : (memory : Bool) (reply : Reply) (old new : Log) (P : Type 0) → M
 told_memory true reply old new P a h = a.0
 told_memory false reply old new P a h = absurd (cc)
 
--- of one line it is kept, unless it was refused for want of memory
+-- one line is kept, unless it was refused because memory ran out
 kept_one : (e : Event) (memory : Bool) → is_memory e.reply ≡ memory → kept_events e.user (e ∷ []) ≡ cond (not memory) (e ∷ []) []
 kept_one e memory m =
     ap (λ b. filter (λ (x : Event). not (is_memory x.reply)) (cond b (e ∷ []) [])) ((bytes_eq-Decides e.user e.user).1 refl) ∙ ap (λ b. cond (not b) (e ∷ []) []) m
@@ -77,7 +77,7 @@ alone_push goes_on had log log' es e false a r =
     subst Q (sym (map-append (λ (x : Event). x.reply) es (e ∷ []))) (subst P (sym (map-append (λ (x : Event). x.line) es (e ∷ []))) both)
 
 module _ (roster : List (List ℕ)) (limits : Limits) (lease : Leased) (after : Leased × Reply) (lines texts : List (List ℕ)) (line : List ℕ) where
-  -- the user says a line more
+  -- the user says one more line
   pub seated_more : GoesOn → RecordedLinesGrow → IsSeated roster limits lease lines texts → SessionAnswersLine lease line after → IsSeated roster limits after.0 (lines ++ line ∷ []) (texts ++ after.1.bytes ∷ [])
   seated_more goes_on grow s a =
       let log = lease.seat.session in
@@ -155,7 +155,7 @@ served_at table first now stage receipt end count left left' held held' e g x =
     let Before : Hearing = λ lines texts. (now ≡ first) × HeardAt first.roster first.limits stage lines texts in
     subst P e (served_by first.roster first.limits stage receipt end count left left' held held' g (heard_as Before (HeardAt first.roster first.limits stage) (is_over stage) end count left left' held held' x x.heard.1))
 
--- nobody was seated, and this is told of it
+-- nobody was seated, and this is the reply
 pub turned_away : (roster : List (List ℕ)) (line : List ℕ) (reply told : Reply) → told ≡ reply → RefusesSeat roster line reply → TurnedAway roster (line ∷ []) (told.bytes ∷ [])
 turned_away roster line reply told e r = record { line = line; reply = reply; refuses = r; came = refl; told = ap (λ (x : Reply). x.bytes ∷ []) e }
 

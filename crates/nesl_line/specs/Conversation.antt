@@ -1,4 +1,4 @@
--- What is told of the lines that come in.
+-- What is replied to the lines that come in.
 use Rattle.std.specs.Prelude.{◌≡◌, ◌≢◌, ℕ, ◌<◌, List, [], ◌∷◌, ◌++◌, Option, Some, None, Bool, true, ◌||◌, ◌&&◌}
 use Rattle.std.specs.Prelude.{length, codes, nat_le}
 use Rattle.std.specs.List.{AllByRecursion}
@@ -21,10 +21,10 @@ pub record IsUserLine (line name : List ℕ) : Type 0 where
 abbrev pub NamesNobody : List ℕ → Type 0
 NamesNobody line = (name : List ℕ) → ¬ IsUserLine line name
 
--- One line that comes while `who` is selected: what is told of it, what was said to a session for it, and who is
--- selected then. A user line selects its user, where that is one of the house, and is told back. Another user line is
--- told `fault user`, and then nobody is selected. So is any other line while nobody is selected. While a user is
--- selected, any other line is said to that user's session, and its reply is told.
+-- One line that comes while `who` is selected: its reply, what is said to a session for it, and who is selected
+-- afterwards. A user line selects its user, if that is one of the house, and gets itself back. Another user line gets
+-- `fault user`, and then nobody is selected. So does any other line while nobody is selected. While a user is selected,
+-- any other line is said to that user's session, and gets its reply.
 pub data Turn (house : List Account) (who : Option (List ℕ)) (line : List ℕ)
     : List ℕ → List Event → Option (List ℕ) → Type 0 where
   selects :
@@ -37,8 +37,8 @@ pub data Turn (house : List Account) (who : Option (List ℕ)) (line : List ℕ)
       (user : List ℕ) (reply : Reply) → NamesNobody line → who ≡ Some user
       → Turn house who line reply.bytes (record { user = user; line = line; reply = reply } ∷ []) (Some user)
 
--- Lines that come one after another while `who` is selected: what is told of each, what was said to sessions for them,
--- and who is selected then.
+-- Lines that come one after another while `who` is selected: their replies, what is said to sessions for them, and who
+-- is selected afterwards.
 pub data Conversation (house : List Account)
     : Option (List ℕ) → List (List ℕ) → List (List ℕ) → List Event → Option (List ℕ) → Type 0 where
   silence : (who : Option (List ℕ)) → Conversation house who [] [] [] who
@@ -47,8 +47,8 @@ pub data Conversation (house : List Account)
       → Turn house who line text events next → Conversation house next lines texts more last
       → Conversation house who (line ∷ lines) (text ∷ texts) (events ++ more) last
 
--- At first nobody is selected. These lines were told of so, `who` is selected then, and the house answered what was
--- said to it so, and has become `house'`.
+-- At first nobody is selected. The lines get these texts, and `who` is selected afterwards. The house answers what is
+-- said to it, and becomes `house'`.
 pub record HouseConversation (house : List Account) (lines texts : List (List ℕ)) (who : Option (List ℕ))
     (house' : List Account)
     : Type 0 where

@@ -1,4 +1,4 @@
--- What is read and written while lines come in, are heard, and are told of, whoever hears them.
+-- What is read and written while lines come in, are heard, and get replies. Any hearer will do.
 use Rattle.std.specs.Prelude.{◌≡◌, ℕ, ◌+◌, ◌^◌, ◌≤◌, ◌⊎◌, List, [], ◌∷◌, ◌++◌, Option, Bool, true, false, length}
 use Rattle.std.specs.Prelude.{flat_map}
 use Rattle.std.specs.Io.KnownBytes.{Consumes, Appends, IsAtEnd}
@@ -7,7 +7,7 @@ use Rattle.nesl_line.specs.declared.exchange.End.TheVariants.{Input, ReadFault, 
 use Rattle.nesl_line.specs.Lines.{AllLines, WholeLines}
 use Rattle.nesl_line.specs.Tally.{ReadTally, WriteTally, Rose, WriteFailed, risen_by, flushed_by}
 
--- these lines were heard, and told of by these texts
+-- these lines were heard, and got these texts as replies
 abbrev pub Hearing : Type 1
 Hearing = (lines texts : List (List ℕ)) → Type 0
 
@@ -19,7 +19,7 @@ text_of texts = flat_map (λ text. text) texts
 abbrev pub WrittenWhole : List (List ℕ) → List ℕ → Type 0
 WrittenWhole texts written = written ≡ text_of texts
 
--- all answers but the last were written, and a front of that one
+-- all answers but the last were written, and a prefix of the last
 pub record WrittenInPart (texts : List (List ℕ)) (written : List ℕ) : Type 0 where
   pub before : List (List ℕ)
   pub last : List ℕ
@@ -38,8 +38,8 @@ pub data HaveCome (read : List ℕ) (left : Option (List ℕ)) (lines : List (Li
 abbrev pub AreFirst : (read : List ℕ) (left : Option (List ℕ)) (lines : List (List ℕ)) → Type 0
 AreFirst read left lines = (more : List (List ℕ)) × HaveCome read left (lines ++ more)
 
--- By how it ended, whether nothing more was heard, and what is left to read: which lines of what was read were heard,
--- and what of the answers was written.
+-- Which of the lines that were read were heard, and what of the answers was written. This depends on how the exchange
+-- ended, on whether nothing more was heard, and on what is left to read.
 abbrev pub Ended : End → Bool → Option (List ℕ) → List ℕ → List (List ℕ) → List (List ℕ) → List ℕ → Type 0
 -- the first of the lines that have come, and all answers
 Ended Input true left read lines texts written = AreFirst read left lines × WrittenWhole texts written
@@ -52,9 +52,9 @@ Ended WriteFault over left read lines texts written = AreFirst read left lines �
 -- nothing was read or written
 Ended NoMemory over left read lines texts written = (read ≡ []) × (lines ≡ []) × (written ≡ [])
 
--- An exchange that ended so when `count` lines were answered: a reader had `left` and then `left'`, and a writer held
--- `held` and then `held'`. `Heard` says which lines were told of by which texts, and `over` whether nothing more was
--- heard.
+-- An exchange that ended so when `count` lines were answered. A reader had `left` and then `left'`, and a writer held
+-- `held` and then `held'`. `Heard` relates the lines to the texts replied to them, and `over` is whether nothing more
+-- was heard.
 pub record IsExchange
     (Heard : Hearing) (over : Bool) (end : End) (count : ℕ) (left left' held held' : Option (List ℕ)) : Type 0 where
   pub read : List ℕ
@@ -67,16 +67,17 @@ pub record IsExchange
   pub ended : Ended end over left' read lines texts written
   pub counted : count ≡ length lines
 
--- By how it ended: how many reads were made, at most 2^32, and whether one failed.
+-- By how the exchange ended: the number of reads that were made, at most 2^32, and whether one failed.
 abbrev pub ReadsTallied : End → ReadTally → ReadTally → Type 0
 ReadsTallied Input old new = (new.made ≤ old.made + 2 ^ 32) × (new.failed ≡ old.failed)
--- a read failed, or as many as may be were made
+-- a read failed, or 2^32 reads were made
 ReadsTallied ReadFault old new =
     (new.made ≤ old.made + 2 ^ 32) × (Rose old.failed new.failed ⊎ (new.made ≡ risen_by (2 ^ 32) old.made))
 ReadsTallied WriteFault old new = (new.made ≤ old.made + 2 ^ 32) × (new.failed ≡ old.failed)
 ReadsTallied NoMemory old new = new ≡ old
 
--- By how it ended after `count` answers: each was flushed and nothing of them is behind, or what failed.
+-- By how the exchange ended after `count` answers: each was flushed and no byte of them is unflushed, or something
+-- failed.
 abbrev pub WritesTallied : End → ℕ → WriteTally → WriteTally → Type 0
 WritesTallied Input count old new = new ≡ flushed_by count old
 WritesTallied ReadFault count old new = new ≡ flushed_by count old

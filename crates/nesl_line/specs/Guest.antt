@@ -1,4 +1,4 @@
--- What is told of the lines of one connection, which are one user's.
+-- What is replied to the lines of one connection, which are one user's.
 use Rattle.std.specs.Prelude.{◌≡◌, ℕ, ◌+◌, List, [], ◌∷◌, Option, Some, true, map, sum_by, if◌then◌else◌}
 use Rattle.std.specs.List.{AllByRecursion}
 use Rattle.nesl_session_meaning.specs.declared.limits.Limits.{Limits}
@@ -21,7 +21,7 @@ pub record NamesPlace (roster : List (List ℕ)) (line : List ℕ) (place : ℕ)
 abbrev pub NothingCame : Hearing
 NothingCame lines texts = (lines ≡ []) × (texts ≡ [])
 
--- what who isn't seated is told of the first line: `fault user` where it names no user of the roster, else `fault busy`
+-- the reply to a first line that gets no seat: `fault user` if it names no user of the roster, else `fault busy`
 pub data RefusesSeat (roster : List (List ℕ)) (line : List ℕ) : Reply → Type 0 where
   stranger : ((place : ℕ) → ¬ NamesPlace roster line place) → RefusesSeat roster line no_user
   away : (place : ℕ) → NamesPlace roster line place → RefusesSeat roster line busy
@@ -34,13 +34,13 @@ pub record TurnedAway (roster : List (List ℕ)) (lines texts : List (List ℕ))
   pub came : lines ≡ line ∷ []
   pub told : texts ≡ reply.bytes ∷ []
 
--- how many of these are replies to recorded lines
+-- the number of these that are replies to recorded lines
 abbrev pub recorded_among : List Reply → ℕ
 recorded_among replies = sum_by (λ reply. if reply.recorded then 1 else 0) replies
 
--- A user was seated, whose session was `had` then. The first line names the user and is told back. The others are a
--- script in which no one else speaks: each was told `fault memory`, or is one of the kept lines, which the session
--- alone answers so, and which make it `has`. So many of them were recorded.
+-- A user was seated, whose session was `had` then. The first line names the user and gets itself back. The others are a
+-- script in which no one else speaks. Each got `fault memory`, or is one of the kept lines, which the session alone
+-- answers so. The kept lines turn the session into `has`, and `recorded` is the number of recorded lines.
 pub record Visits
     (roster : List (List ℕ)) (limits : Limits) (place recorded : ℕ) (had has : Log) (lines texts : List (List ℕ))
     : Type 0 where

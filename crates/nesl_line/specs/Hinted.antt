@@ -16,26 +16,26 @@ pub record IsHintLine (more : List ℕ) : Type 0 where
   pub one_line : HasNoFeed sentence
   pub spelled : more ≡ codes "hint: " ++ sentence ++ 10 ∷ []
 
--- below the answer stands nothing, or such a line
+-- below the answer there is nothing, or such a line
 pub data HasHint (answer text : List ℕ) : Type 0 where
   alone : text ≡ answer → HasHint answer text
   hinted : (more : List ℕ) → IsHintLine more → text ≡ answer ++ more → HasHint answer text
 
--- the same of answers, one by one
+-- the same for each of the answers
 abbrev pub HaveHints : (answers texts : List (List ℕ)) → Type 0
 HaveHints [] [] = Unit {0}
 HaveHints (answer ∷ answers) (text ∷ texts) = HasHint answer text × HaveHints answers texts
 HaveHints [] (text ∷ texts) = ⊥
 HaveHints (answer ∷ answers) [] = ⊥
 
--- The house was talked to so, and what was told has hints below it.
+-- The conversation with the house was this one, and the answers have hints below them.
 pub record TalkedWithHints
     (house : List Account) (lines texts : List (List ℕ)) (who : Option (List ℕ)) (house' : List Account) : Type 0 where
   pub answers : List (List ℕ)
   pub talked : HouseConversation house lines answers who house'
   pub hints : HaveHints answers texts
 
--- A batch as `IsBatch` says, with hints below its answers.
+-- A batch as in `IsBatch`, with hints below its answers.
 abbrev pub IsHintedBatch
     : End → ℕ → (left left' held held' : Option (List ℕ)) → (house house' : List Account) → Type 0
 IsHintedBatch end count left left' held held' house house' =

@@ -29,7 +29,7 @@ cut_line line = take most_handed line
 abbrev pub handed : List ℕ → List ℕ
 handed line = cut_line (strip_carriage_return line)
 
--- what is handed on of the rest of a text that has ended: it is a line where it isn't empty, and a CR stays
+-- what is handed on of the rest of a text that has ended: it is a line unless it is empty, and a CR stays
 abbrev pub last_line : List ℕ → List (List ℕ)
 last_line rest = if length rest == 0 then [] else cut_line rest ∷ []
 

@@ -7,8 +7,8 @@ use Rattle.nesl_line.specs.declared.exchange.End.{End}
 use Rattle.nesl_line.specs.Exchange.{IsExchange}
 use Rattle.nesl_line.specs.Guest.{NothingCame, TurnedAway, Visits}
 
--- By the receipt of a connection that ended so and answered `count` lines: a reader had `left` and then `left'`, and a
--- writer held `held` and then `held'`.
+-- What a connection did that ended so and answered `count` lines, by its receipt. A reader had `left` and then `left'`,
+-- and a writer held `held` and then `held'`.
 abbrev pub IsServed
     : (roster : List (List ℕ)) → Limits → Option Receipt → End → ℕ → (left left' held held' : Option (List ℕ))
     → Type 0
@@ -16,7 +16,7 @@ abbrev pub IsServed
 IsServed roster limits None end count left left' held held' =
     IsExchange NothingCame false end count left left' held held'
     ⊎ IsExchange (TurnedAway roster) true end count left left' held held'
--- a user was seated, and all is heard to the end of input
+-- a user was seated, and all lines are heard to the end of input
 IsServed roster limits (Some receipt) end count left left' held held' =
     (had has : Log)
     × IsExchange (Visits roster limits receipt.place receipt.recorded had has) false end count left left' held held'

@@ -1,4 +1,4 @@
--- What the steps of the code keep, on the way to what an exchange is.
+-- What the steps of the code keep, from which `IsExchange` follows.
 use Rattle.std.specs.Prelude.{◌≡◌, ℕ, ◌≤◌, List, [], ◌∷◌, ◌++◌, Option, Some, None, Bool, true, false}
 use Rattle.std.specs.Prelude.{take, length, nat_lt, map}
 use Rattle.std.specs.Bool.{MatchBool}
@@ -15,7 +15,7 @@ use Rattle.nesl_line.specs.Conversation.{Turn}
 use Rattle.nesl_line.specs.Tally.{WriteTally, WriteFailed, flushed_by, written_by}
 use Rattle.nesl_line.specs.Exchange.{Hearing, text_of, WrittenWhole, WrittenInPart}
 
--- a front of the bytes was written, and where it went well all of them
+-- a prefix of the bytes was written, and all of them if it went well
 pub record Sent (held held' : Option (List ℕ)) (bytes : List ℕ) (well : Bool) : Type 0 where
   pub front : List ℕ
   pub lost : List ℕ
@@ -23,54 +23,55 @@ pub record Sent (held held' : Option (List ℕ)) (bytes : List ℕ) (well : Bool
   pub all : well ≡ true → lost ≡ []
   pub appended : Appends held held' front
 
--- where it went well, k bytes were written and nothing else, and else something failed
+-- if it went well, k bytes were written and nothing else; otherwise something failed
 abbrev pub Wrote : Bool → ℕ → WriteTally → WriteTally → Type 0
 Wrote well k old new = MatchBool well (new ≡ written_by k old) (WriteFailed old new)
 
--- where it went well, n answers were written, each was flushed, and nothing of them is behind; else something failed
+-- if it went well, n answers were written and each was flushed, so that no byte of them is unflushed; otherwise
+-- something failed
 abbrev pub Flushed : Bool → ℕ → WriteTally → WriteTally → Type 0
 Flushed well n old new = MatchBool well (new ≡ flushed_by n old) (WriteFailed old new)
 
--- what holds by what becomes of an exchange
+-- what holds, by how an exchange goes on
 abbrev pub By : Flow → (on over broken : Type 0) → Type 0
 By On on over broken = on
 By Over on over broken = over
 By Broken on over broken = broken
 
--- whether what was told could be sent
+-- whether the reply could be sent
 abbrev pub is_sent : Flow → Bool
 is_sent On = true
 is_sent Over = true
 is_sent Broken = false
 
--- the user who is selected, where no name is empty
+-- the selected user; an empty name is nobody's
 abbrev pub chosen : List ℕ → Option (List ℕ)
 chosen [] = None
 chosen (b ∷ bs) = Some (b ∷ bs)
 
--- no name of these is longer
+-- no name of the house has more than this number of bytes
 abbrev pub NamesFit : ℕ → List Account → Type 0
 NamesFit room house = AllByRecursion (λ account. length account.name ≤ room) house
 
--- a house heard one line while `who` was selected, and this is told of it
+-- a house heard one line while `who` was selected, and this text is the reply
 pub record TurnsHouse (house house' : List Account) (who who' : Option (List ℕ)) (line text : List ℕ) : Type 0 where
   pub events : List Event
   pub turn : Turn house who line text events who'
   pub runs : (start : List Account) (before : List Event) → Runs start before house →
       Runs start (before ++ events) house'
 
--- one line was heard, and what is told of it was sent
+-- one line was heard, and its reply was sent
 pub record Answered
     (Before After : Hearing) (line : List ℕ) (held held' : Option (List ℕ)) (well : Bool) : Type 0 where
   pub text : List ℕ
   pub heard : (lines texts : List (List ℕ)) → Before lines texts → After (lines ++ line ∷ []) (texts ++ text ∷ [])
   pub sent : Sent held held' text well
 
--- What has come of a line: its first bytes, and whether there were more.
+-- What has come in of a line: its first bytes, and whether there were more.
 abbrev pub HasFront : Line → List ℕ → Type 0
 HasFront line raw = (line.bytes.items ≡ take most_handed raw) × (line.is_longer ≡ nat_lt most_handed (length raw))
 
--- So far this was read, of which `count` lines were answered and the answers sent.
+-- So far this was read, `count` of its lines were answered, and the answers were sent.
 pub record Progress
     (Heard : Hearing) (read : List ℕ) (line : Line) (held held' : Option (List ℕ)) (count : ℕ) : Type 0 where
   pub whole : List (List ℕ)
@@ -82,8 +83,8 @@ pub record Progress
   pub appended : Appends held held' (text_of texts)
   pub counted : count ≡ length whole
 
--- This was read, and after `count` answers no more of its lines is answered. `Has` says which lines a text has, and
--- `Written` what was written of the answers.
+-- This was read, and after `count` answers no more of its lines is answered. `Has` relates a text to its lines, and
+-- `Written` relates the answers to what was written of them.
 pub record Ceased
     (Has : List ℕ → List (List ℕ) → Type 0) (Written : List (List ℕ) → List ℕ → Type 0) (Heard : Hearing)
     (read : List ℕ) (held held' : Option (List ℕ)) (count : ℕ) : Type 0 where
@@ -107,7 +108,7 @@ pub record Finished
   pub appended : Appends held held' (text_of texts)
   pub counted : count ≡ length lines
 
--- the same of an exchange
+-- the same, with the fields of a `Talk`
 abbrev pub Goes : Hearing → Talk → List ℕ → Option (List ℕ) → Option (List ℕ) → Type 0
 Goes Heard talk read held held' = Progress Heard read talk.line held held' talk.lines
 
@@ -123,12 +124,12 @@ Stops Has Heard talk read held held' = Ceased Has WrittenInPart Heard read held 
 abbrev pub Done : Hearing → Talk → List ℕ → Option (List ℕ) → Option (List ℕ) → Type 0
 Done Heard talk read held held' = Finished Heard read held held' talk.lines
 
--- nothing has come of a line, and no line was answered
+-- no byte of a line has come, and no line was answered
 pub record IsFresh (talk : Talk) : Type 0 where
   pub empty : HasFront talk.line []
   pub none : talk.lines ≡ 0
 
--- what was read so far was answered as far as its lines go
+-- the lines of what was read so far were answered
 pub record SoFar (left left' held held' : Option (List ℕ)) (Heard : Hearing) (talk : Talk) : Type 0 where
   pub read : List ℕ
   pub consumed : Consumes left left' read

@@ -13,13 +13,13 @@ use Rattle.nesl_line.specs.declared.guest.Stage.TheVariants.{Waiting, Seated, Ov
 use Rattle.nesl_line.specs.Exchange.{Hearing}
 use Rattle.nesl_line.specs.Guest.{NothingCame, TurnedAway, Visits}
 
--- a user was seated, and this was heard since
+-- a user was seated, and these lines were heard since
 abbrev pub IsSeated : (roster : List (List ℕ)) → Limits → Leased → Hearing
 IsSeated roster limits lease lines texts =
     (had : Log) × (recorded : ℕ) × (lease.counted ≡ recorded_lines had)
     × Visits roster limits lease.seat.place recorded had lease.seat.session lines texts
 
--- by where a guest is: what was heard
+-- what was heard, by the stage of a guest
 abbrev pub HeardAt : (roster : List (List ℕ)) → Limits → Stage → Hearing
 HeardAt roster limits Waiting lines texts = NothingCame lines texts
 HeardAt roster limits (Seated lease) lines texts = IsSeated roster limits lease lines texts
@@ -31,13 +31,13 @@ is_over Waiting = false
 is_over (Seated lease) = false
 is_over Over = true
 
--- a line was said to a session that is out: what that session is then, and what it answered
+-- a line was said to a session that is taken out: this is the session afterwards, and its answer
 pub record SessionAnswersLine (lease : Leased) (line : List ℕ) (after : Leased × Reply) : Type 0 where
   pub answers : Responds lease.seat.session line after.1 after.0.seat.session
   pub place : after.0.seat.place ≡ lease.seat.place
   pub counted : after.0.counted ≡ lease.counted
 
--- by calls of `f` lines are said to sessions that are out
+-- calls of `f` say lines to sessions that are taken out
 pub record Speaks
     {F : Type 0} (calls : Shared F (Leased × (Bor (List ℕ) × Unit {0})) (Leased × Reply)) (f : F) : Type 0 where
   pub may : (lease : Leased) (line : Bor (List ℕ)) → calls.pre f (lease, (line, tt))
@@ -45,7 +45,7 @@ pub record Speaks
       (lease : Leased) (line : Bor (List ℕ)) (after : Leased × Reply)
       → calls.post f (lease, (line, tt)) after → SessionAnswersLine lease line.now after
 
--- who was seated has the receipt
+-- a user who was seated gets the receipt
 abbrev pub HasReceipt : Stage → Option Receipt → Type 0
 HasReceipt (Seated lease) (Some receipt) =
     (receipt.place ≡ lease.seat.place) × (receipt.recorded + lease.counted ≡ recorded_lines lease.seat.session)

@@ -1,4 +1,4 @@
-//! Reads, writes and flushes that are made again where a signal interrupted them.
+//! Reads, writes and flushes that are made again after a signal interrupted them.
 ghost use Rattle.std.specs.Prelude.{◌≡◌, IfOk, OnErr, length, take};
 ghost use Rattle.std.specs.Io.KnownBytes.{ReadConsumes, WriteAppends, Keeps};
 ghost use Rattle.std.specs.Io.{ReadsAtMost, WritesAtMost};
@@ -6,10 +6,10 @@ ghost use Rattle.std.specs.Io.{ReadsAtMost, WritesAtMost};
 use std::io;
 use std::io::{ErrorKind, Read, Write};
 
-/// How often a call is made at most.
+/// The most times that a call is made.
 const MOST_TRIES: u64 = 4_294_967_296;
 
-/// Reads once, where no signal interrupts that.
+/// Reads once. A read that a signal interrupts is made again.
 pub(crate) fn read_again<T: Read>(reader: &mut T, buf: &mut [u8]) -> io::Result<usize>
     ensures bound { ReadsAtMost result buf.new }
     ensures bytes { ReadConsumes (T.remaining reader.old) (T.remaining reader.new) result buf.new }
@@ -23,7 +23,7 @@ pub(crate) fn read_again<T: Read>(reader: &mut T, buf: &mut [u8]) -> io::Result<
     Err(io::Error::from(ErrorKind::Interrupted))
 }
 
-/// Writes once, where no signal interrupts that.
+/// Writes once. A write that a signal interrupts is made again.
 pub(crate) fn write_again<T: Write>(writer: &mut T, buf: &[u8]) -> io::Result<usize>
     ensures bound { WritesAtMost result buf.now }
     ensures bytes { WriteAppends (T.contents writer.old) (T.contents writer.new) result buf.now }
@@ -37,7 +37,7 @@ pub(crate) fn write_again<T: Write>(writer: &mut T, buf: &[u8]) -> io::Result<us
     Err(io::Error::from(ErrorKind::Interrupted))
 }
 
-/// Hands on what was written, where no signal interrupts that.
+/// Flushes once. A flush that a signal interrupts is made again.
 pub(crate) fn flush_again<T: Write>(writer: &mut T) -> io::Result<()>
     ensures { Keeps (T.contents writer.old) (T.contents writer.new) }
 {

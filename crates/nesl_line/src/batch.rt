@@ -11,7 +11,7 @@ use nesl_house::manner::{InHeap, Manner, Plainly};
 use nesl_house::user::User;
 use std::alloc::{Allocator, Global};
 
-/// Answers the lines of a reader, one by one: each answer is written and flushed before the next line is looked at.
+/// Answers the lines of a reader, one by one. Each answer is written and flushed before the next line is looked at.
 pub fn batch<S: Source, W: Sink>(
     alloc: Global,
     reader: &mut S,

@@ -1,4 +1,4 @@
-//! Readers and writers that tell their bytes.
+//! Readers and writers, with specifications of their bytes.
 ghost use Rattle.std.specs.Prelude.{◌≡◌, ℕ, List, Option, Result, Err};
 ghost use Rattle.std.specs.Io.KnownBytes.{ReadConsumes, WriteAppends, Keeps};
 ghost use Rattle.std.specs.Io.{ReadsAtMost, WritesAtMost};
@@ -18,17 +18,17 @@ pub trait Source {
     /// The bytes that are left to read, where they are known.
     ghost left: { Self → Option (List ℕ) };
 
-    /// How many reads were made, and how many of them failed. One that a signal interrupted may be made again, and
-    /// counts once then.
+    /// The number of reads that were made, and of those that failed. A read that a signal interrupted may be made
+    /// again, and then counts once.
     ghost tally: { Self → ReadTally };
 
-    /// Reads some bytes into the front of `buf`. None come only at the end, or where `buf` is empty.
+    /// Reads some bytes into the front of `buf`. The result is 0 only at the end of input, or if `buf` is empty.
     fn read(&mut self, buf: &mut [u8]) -> Result<usize, Failed>
         ensures bound { ReadsAtMost result buf.new }
         ensures bytes { ReadConsumes (left self.old) (left self.new) result buf.new }
         ensures tally { tally self.new ≡ after_read (tally self.old) result };
 
-    /// How many reads failed; 2^64 - 1 stays.
+    /// The number of reads that failed. At 2^64 - 1 the count stays.
     fn failures(&self) -> u64
         ensures { result ≡ (tally self.now).failed };
 }
@@ -38,8 +38,8 @@ pub trait Sink {
     /// The bytes that were written, where they are known.
     ghost held: { Self → Option (List ℕ) };
 
-    /// How many writes and flushes failed, how many writes took no byte, how many flushes went well, and how many bytes
-    /// were written since the last of these.
+    /// The number of writes and flushes that failed, of writes that took no byte, and of flushes that went well. Also
+    /// the number of bytes written since the last of these flushes.
     ghost tally: { Self → WriteTally };
 
     /// Writes some bytes from the front of `buf`.
@@ -48,19 +48,19 @@ pub trait Sink {
         ensures bytes { WriteAppends (held self.old) (held self.new) result buf.now }
         ensures tally { tally self.new ≡ after_write (tally self.old) buf.now result };
 
-    /// Hands on what was written.
+    /// Flushes what was written.
     fn flush(&mut self) -> Result<(), Failed>
         ensures bytes { Keeps (held self.old) (held self.new) }
         ensures tally { tally self.new ≡ after_flush (tally self.old) result };
 
-    /// How many writes and flushes failed; 2^64 - 1 stays.
+    /// The number of writes and flushes that failed. At 2^64 - 1 the count stays.
     fn failures(&self) -> u64
         ensures { result ≡ (tally self.now).failed };
 }
 
-/// A reader or a writer of the system, with counts of what was asked of it. A call that a signal interrupted is made
-/// again, and counts once. It adds no buffer: give it a `BufWriter` to gather the writes of one answer, which are
-/// flushed together.
+/// A reader or a writer of the system, which counts its calls. A call that a signal interrupted is made again, and
+/// counts once. It adds no buffer: give it a `BufWriter` to gather the writes of one answer, which are flushed
+/// together.
 #[derive(Drop)]
 pub struct Device<T> {
     inner: T,
@@ -68,17 +68,17 @@ pub struct Device<T> {
     failed: u64,
     stalled: u64,
     flushed: u64,
-    behind: u64,
+    unflushed: u64,
 }
 
 impl<T> Device<T> {
     ghost use Rattle.nesl_line.specs.Device.{device_inner, device_reads, device_writes};
 
-    /// A device of which nothing was asked yet.
+    /// A device that hasn't been called yet.
     pub fn new(inner: T) -> Device<T>
         ensures inner { device_inner result ≡ inner }
         ensures reads { device_reads result ≡ record { made = 0; failed = 0 } }
-        ensures writes { device_writes result ≡ record { failed = 0; stalled = 0; flushed = 0; behind = 0 } }
+        ensures writes { device_writes result ≡ record { failed = 0; stalled = 0; flushed = 0; unflushed = 0 } }
     {
         Device {
             inner,
@@ -86,7 +86,7 @@ impl<T> Device<T> {
             failed: 0,
             stalled: 0,
             flushed: 0,
-            behind: 0,
+            unflushed: 0,
         }
     }
 
@@ -134,7 +134,7 @@ impl<T: Write> Sink for Device<T> {
                 if n == 0 && !buf.is_empty() {
                     self.stalled = self.stalled.saturating_add(1);
                 } else {
-                    self.behind = self.behind.saturating_add(n as u64);
+                    self.unflushed = self.unflushed.saturating_add(n as u64);
                 }
                 Ok(n)
             }
@@ -149,7 +149,7 @@ impl<T: Write> Sink for Device<T> {
         match flush_again(&mut self.inner) {
             Ok(()) => {
                 self.flushed = self.flushed.saturating_add(1);
-                self.behind = 0;
+                self.unflushed = 0;
                 Ok(())
             }
             Err(_) => {

@@ -1,4 +1,4 @@
-//! The lines of a reader, heard and told of one by one.
+//! The lines of a reader, heard and replied to one by one.
 ghost use Rattle.std.specs.Prelude.{◌≡◌, []};
 ghost use Rattle.nesl_line.specs.Exchange.{IsExchange, ReadsTallied, WritesTallied};
 ghost use Rattle.nesl_line.specs.Steps.{IsFresh};
@@ -11,7 +11,7 @@ use std::alloc::Global;
 /// How an exchange ended.
 #[derive(Clone, Copy, PartialEq, Eq, Debug)]
 pub enum End {
-    /// At the end of input, or where nothing more was heard.
+    /// The input ended, or nothing more is heard.
     Input,
     /// A read failed, or 2^32 reads were made.
     ReadFault,
@@ -21,20 +21,20 @@ pub enum End {
     NoMemory,
 }
 
-/// How many lines were given an answer, one whose answer could not be written included, and how it ended.
+/// The number of lines that got an answer, even if it could not be written; and how the exchange ended.
 #[derive(Clone, Copy, PartialEq, Eq, Debug)]
 pub struct Ran {
     pub lines: u64,
     pub end: End,
 }
 
-/// The most reads of one call.
+/// The most reads of one exchange.
 pub const MOST_READS: u64 = 4294967296;
 
-// How many bytes are asked for at once.
+// The number of bytes that one read asks for.
 const CHUNK: usize = 4096;
 
-/// Has the lines of a reader heard, one by one: what is told of each is written and flushed before the next line is
+/// Passes the lines of a reader to a hearer, one by one. Each reply is written and flushed before the next line is
 /// looked at.
 pub fn exchange<S: Source, W: Sink, H: Hearer>(
     alloc: Global,
@@ -44,7 +44,7 @@ pub fn exchange<S: Source, W: Sink, H: Hearer>(
     world: &mut H::World,
 ) -> Ran
     requires ready { H.ready hearer.old world.old }
-    requires untold { H.heard hearer.old world.old hearer.old world.old [] [] }
+    requires nothing_heard { H.heard hearer.old world.old hearer.old world.old [] [] }
     ensures exchange { IsExchange (H.heard hearer.old world.old hearer.new world.new)
         (H.over hearer.new) result.end result.lines
         (S.left reader.old) (S.left reader.new) (W.held writer.old) (W.held writer.new) }
@@ -75,7 +75,7 @@ fn converse<S: Source, W: Sink, H: Hearer>(
 ) -> End
     requires fresh { IsFresh talk.old }
     requires ready { H.ready hearer.old world.old }
-    requires untold { H.heard hearer.old world.old hearer.old world.old [] [] }
+    requires nothing_heard { H.heard hearer.old world.old hearer.old world.old [] [] }
     ensures exchange { IsExchange (H.heard hearer.old world.old hearer.new world.new)
         (H.over hearer.new) result talk.new.lines
         (S.left reader.old) (S.left reader.new) (W.held writer.old) (W.held writer.new) }

@@ -1,4 +1,4 @@
-//! Who speaks on a connection.
+//! The user of a connection.
 ghost use Rattle.std.specs.Prelude.{◌≡◌, [], ◌∷◌, false};
 ghost use Rattle.nesl_line.specs.Told.{text_told};
 ghost use Rattle.nesl_line.specs.Visiting.{HasReceipt, HeardAt, Speaks, is_over};
@@ -13,17 +13,17 @@ use std::alloc::Global;
 use std::mem;
 use std::sync::Wait;
 
-// Where a guest is.
+// The stage that a guest has reached.
 pub enum Stage {
-    // No line came.
+    // No line has come yet.
     Waiting,
-    // This user's lines come.
+    // A user is seated, and all further lines are this user's.
     Seated(Lease),
     // Nothing more is heard.
     Over,
 }
 
-// Who speaks on a connection: nobody at first, and then one user, or nobody for good. `speak` says a line to a session
+// The user of a connection: nobody at first, and then one user, or nobody for good. `speak` says a line to a session
 // that was taken out.
 pub struct Guest<'t, R: Wait, F> {
     rt: &'t R,
@@ -33,7 +33,7 @@ pub struct Guest<'t, R: Wait, F> {
 }
 
 impl<'t, R: Wait, F> Guest<'t, R, F> {
-    // Nobody spoke yet.
+    // Nobody has spoken yet.
     pub fn new(rt: &'t R, table: &'t Table, speak: F) -> Guest<'t, R, F>
         ensures table { result.table.now ≡ table.entry.now }
         ensures speak { result.speak ≡ speak }
@@ -47,7 +47,7 @@ impl<'t, R: Wait, F> Guest<'t, R, F> {
         }
     }
 
-    // Goes on to a stage. A session that was still out would go back.
+    // Goes on to a stage, and gives back a session that is still taken out.
     fn go_on(&mut self, stage: Stage)
         ensures stage { self.new.stage ≡ stage }
         ensures table { self.new.table.now ≡ self.old.table.now }
@@ -63,7 +63,7 @@ impl<'t, R: Wait, F> Guest<'t, R, F> {
 }
 
 impl<R: Wait, F: Drop> Guest<'_, R, F> {
-    // Gives the session back, if one is out.
+    // Gives the session back, if one is taken out.
     pub fn leave(self) -> Option<Receipt>
         ensures { HasReceipt self.entry.stage result }
     {
@@ -80,7 +80,7 @@ impl<R: Wait, F: Drop> Guest<'_, R, F> {
     }
 }
 
-// Hears the first line.
+// Hears the first line, which names the user.
 fn greet<R: Wait>(rt: &R, table: &Table, line: &[u8]) -> (Stage, Told)
     ensures { HeardAt table.now.roster table.now.limits result.0 (line.now ∷ []) (text_told line.now result.1 ∷ []) }
 {

@@ -1,4 +1,4 @@
-//! Who hears the lines that come in.
+//! Hearers, which get the lines that come in.
 ghost use Rattle.std.specs.Prelude.{◌≡◌, [], ◌∷◌, ◌++◌, List, ℕ, Bool, false};
 ghost use Rattle.nesl_line.specs.Exchange.{Hearing};
 ghost use Rattle.nesl_line.specs.Told.{text_told};
@@ -6,27 +6,27 @@ ghost use Rattle.nesl_line.specs.Told.{text_told};
 use nesl_session::answer::Answer;
 use std::alloc::Global;
 
-/// What is told of a line.
+/// What is replied to a line.
 #[derive(Drop)]
 pub enum Told {
     /// The line itself.
     Back,
-    /// What someone answers.
+    /// An answer.
     By(Answer),
     /// These bytes.
     Text(Vec<u8>),
-    /// What someone answers, and behind it these bytes.
+    /// An answer, and these bytes after it.
     With(Answer, Vec<u8>),
 }
 
-/// Hears the lines that come in, one after another, and says what is told of each.
+/// Hears the lines that come in, one after another, and returns the reply to each.
 ///
-/// What a hearer keeps lasts as long as the exchange; what outlasts it is the world, which is lent for each line.
+/// What a hearer keeps lasts as long as the exchange. The world outlasts it, and is lent for each line.
 pub trait Hearer {
-    /// What the lines change beside the hearer.
+    /// What the lines change besides the hearer.
     type World;
 
-    /// From one hearer and world to another: which lines were told of by which texts on the way.
+    /// The lines that were heard, and the texts replied to them, on the way from one hearer and world to another.
     ghost heard: { Self → Self.World → Self → Self.World → Hearing };
 
     /// Nothing more is heard.

@@ -17,9 +17,9 @@ use nesl_session::answer::Answer;
 use nesl_session::session::Session;
 use std::alloc::{AllocError, Global};
 
-/// Who has hints.
+/// A source of hints.
 pub trait Hinter {
-    /// A hint on a form that this session has just answered with a fault: one line, without its end; or nothing.
+    /// A hint on a form that this session has just answered with a fault. It is one line without its end, or `None`.
     fn hint(
         &self,
         alloc: Global,
@@ -58,7 +58,7 @@ impl<M: Manner, H: Hinter> Hearer for Hinting<'_, M, H> {
     }
 }
 
-// The parts of a form that a session has.
+// A copy of the joined parts of a form that isn't complete yet.
 fn pending_copy(alloc: Global, session: Option<&Session>) -> Result<Vec<u8>, AllocError> {
     match session {
         Some(session) => Vec::from_slice(alloc, session.pending()),
@@ -66,7 +66,7 @@ fn pending_copy(alloc: Global, session: Option<&Session>) -> Result<Vec<u8>, All
     }
 }
 
-// What is told of a line, with a hint below it where it is a fault and there is one.
+// The reply to a line, with a hint below it if it is a fault and there is a hint.
 fn with_hint<H: Hinter>(
     alloc: Global,
     hinter: &H,
@@ -88,7 +88,7 @@ fn with_hint<H: Hinter>(
     }
 }
 
-// The line below an answer that is a fault; or nothing where there is no hint.
+// The line below an answer that is a fault, or `None` if there is no hint.
 fn hint_line<H: Hinter>(
     alloc: Global,
     hinter: &H,
@@ -115,7 +115,7 @@ fn hint_line<H: Hinter>(
     }
 }
 
-// The line that a sentence is told by.
+// The line that a sentence is written as.
 fn line_of(alloc: Global, sentence: &[u8]) -> Result<Vec<u8>, AllocError>
     ensures { IfOk result (λ more. IsHintLine more.items) }
 {
@@ -126,7 +126,7 @@ fn line_of(alloc: Global, sentence: &[u8]) -> Result<Vec<u8>, AllocError>
     }
 }
 
-// Puts a sentence behind a text, and ends the line.
+// Appends a sentence to a text, and ends the line.
 fn put_line(text: &mut Vec<u8>, sentence: &[u8]) -> Result<(), AllocError>
     ensures { OnOk result (text.new.items ≡ text.old.items ++ map shown sentence.now ++ 10 ∷ []) }
 {
@@ -135,7 +135,7 @@ fn put_line(text: &mut Vec<u8>, sentence: &[u8]) -> Result<(), AllocError>
     Ok(())
 }
 
-// Puts bytes behind a text, with a blank in place of each below 32.
+// Appends bytes to a text, with a blank in place of each below 32.
 fn put_shown(text: &mut Vec<u8>, bytes: &[u8]) -> Result<(), AllocError>
     ensures { OnOk result (text.new.items ≡ text.old.items ++ map shown bytes.now) }
 {
@@ -151,7 +151,7 @@ fn shown(byte: u8) -> u8
     if byte < 32 { b' ' } else { byte }
 }
 
-/// Answers the lines of a reader as `batch_by` does, with a hint below an answer that is a fault, where there is one.
+/// Answers the lines of a reader as `batch_by` does, with a hint below each fault that has one.
 pub fn batch_with_hints<S: Source, W: Sink, M: Manner, H: Hinter>(
     alloc: Global,
     reader: &mut S,

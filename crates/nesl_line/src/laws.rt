@@ -1,4 +1,4 @@
-//! What holds of texts and conversations, whoever reads and tells them.
+//! What holds of texts and conversations.
 ghost use Rattle.std.specs.Prelude.{◌≡◌, ℕ, List, Option};
 ghost use Rattle.nesl_house.specs.Script.{Event, replies_of};
 ghost use Rattle.nesl_house.specs.Runs.{Account, roster_of};
@@ -13,8 +13,8 @@ pub fn one_list_of_lines()
         → lines ≡ others }
 {}
 
-/// What is told in a conversation is determined by the lines, the roster, who is selected at first, and the sessions'
-/// replies; so is what was said to sessions, and who is selected in the end.
+/// A conversation is determined by its lines, the roster, the user selected at first, and the sessions' replies. These
+/// determine the texts, what is said to sessions, and the user selected in the end.
 pub fn one_conversation()
     ensures { (house other : List Account) (who last final : Option (List ℕ)) (lines texts others : List (List ℕ))
         (events said : List Event)

@@ -1,4 +1,4 @@
-//! A house that is spoken to over a reader and a writer.
+//! A house that is spoken to through a reader and a writer.
 #![tactic(auto)]
 
 mod again;

@@ -1,4 +1,4 @@
-//! One line, as it comes in piece by piece.
+//! One line, which comes in piece by piece.
 ghost use Rattle.std.specs.Prelude.{◌≡◌, ℕ, ◌≤◌, ◌==◌, ◌++◌, [], List, IfOk, length, vec_len};
 ghost use Rattle.std.specs.Vec.{vec_capacity};
 ghost use Rattle.nesl_line.specs.Lines.{handed, most_handed};
@@ -9,7 +9,7 @@ use std::alloc::{AllocError, Global};
 /// The most bytes of a line that are handed on: one more than a form may have.
 pub const MOST_HANDED: usize = LONGEST + 1;
 
-// What has come of a line: its first bytes, and whether there were more.
+// What has come in of a line: its first bytes, and whether there were more.
 #[derive(Drop)]
 pub struct Line {
     bytes: Vec<u8>,
@@ -32,14 +32,14 @@ impl Line {
         })
     }
 
-    // What is kept.
+    // The bytes that are kept.
     pub fn bytes(&self) -> &[u8]
         ensures { result.now ≡ self.now.bytes.items }
     {
         self.bytes.as_slice()
     }
 
-    // More of a line.
+    // Adds more bytes of the line.
     pub fn add(&mut self, more: &[u8])
         ensures { (raw : List ℕ) → HasFront self.old raw → HasFront self.new (raw ++ more.now) }
     {
@@ -52,7 +52,7 @@ impl Line {
         }
     }
 
-    // The LF comes: what is kept then is handed on.
+    // Ends the line at its LF. What is kept then is handed on.
     pub fn end(&mut self)
         ensures { (raw : List ℕ) → HasFront self.old raw → self.new.bytes.items ≡ handed raw }
     {
@@ -62,7 +62,7 @@ impl Line {
         }
     }
 
-    // Another line begins.
+    // Begins another line.
     pub fn clear(&mut self)
         ensures { HasFront self.new [] }
     {

@@ -14,8 +14,8 @@ use std::alloc::Global;
 use std::sync::Wait;
 use std::thread::Threads;
 
-/// How many lines were given an answer, one whose answer could not be written included; what the session of the user
-/// who was seated was told, if one was; and how it ended.
+/// What a connection did: the number of lines that got an answer, and how it ended. The last answer counts even if it
+/// could not be written. If a user was seated, there is a receipt for the session.
 #[derive(Clone, Copy, PartialEq, Eq, Debug)]
 pub struct Served {
     pub lines: u64,
@@ -23,9 +23,9 @@ pub struct Served {
     pub end: End,
 }
 
-/// Answers the lines of a reader by the session of the user whom the first line names: each answer is written and
-/// flushed before the next line is looked at. The session is out of the table for as long, and goes back at every end.
-/// The gate is told of the user's place before each line is evaluated.
+/// Answers the lines of a reader by the session of the user whom the first line names. Each answer is written and
+/// flushed before the next line is looked at. Meanwhile the session is out of the table, and it goes back at every end.
+/// The gate gets the user's place before each line is evaluated.
 pub fn serve<'t, S: Source, W: Sink, R: Threads + Wait + Sync, H: Helpers + Sync, G: Gate + Sync>(
     rt: &'t R,
     alloc: Global,
@@ -42,7 +42,7 @@ pub fn serve<'t, S: Source, W: Sink, R: Threads + Wait + Sync, H: Helpers + Sync
 {
     let speak = |lease: Lease, line: &[u8]| -> (Lease, Answer)
         ensures { SessionAnswersLine lease line.now result }
-    { said(rt, alloc, lease, line, helpers, gate) };
+    { answer_line(rt, alloc, lease, line, helpers, gate) };
     let mut guest = Guest::new(rt, table, speak);
     let ran = exchange(alloc, reader, writer, &mut guest, &mut ());
     Served {
@@ -53,7 +53,7 @@ pub fn serve<'t, S: Source, W: Sink, R: Threads + Wait + Sync, H: Helpers + Sync
 }
 
 // What the session of a lease answers to a line, and the lease after it.
-fn said<R: Threads + Wait + Sync, H: Helpers + Sync, G: Gate + Sync>(
+fn answer_line<R: Threads + Wait + Sync, H: Helpers + Sync, G: Gate + Sync>(
     rt: &R,
     alloc: Global,
     lease: Lease,

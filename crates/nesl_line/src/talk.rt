@@ -1,4 +1,4 @@
-//! An exchange, as it goes on.
+//! An exchange that is under way.
 ghost use Rattle.std.specs.Prelude.{◌≡◌, ℕ, ◌+◌, ◌<◌, ◌≤◌, ◌^◌, [], ◌∷◌, ◌++◌, List, Option, IfOk, IfSome, IfNone};
 ghost use Rattle.std.specs.Prelude.{length, take, slice_index, true, false, ⊤};
 ghost use Rattle.std.specs.Bool.{MatchBool};
@@ -12,17 +12,17 @@ use crate::tell::answer;
 use memchr::memchr;
 use std::alloc::{AllocError, Global};
 
-/// What becomes of an exchange.
+/// How an exchange goes on.
 pub enum Flow {
     /// More may come.
     On,
     /// Nothing more is heard.
     Over,
-    /// What was told could not be sent.
+    /// A reply could not be sent.
     Broken,
 }
 
-// What has come of a line, and how many lines were given an answer.
+// What has come in of a line, and the number of lines that got an answer.
 #[derive(Drop)]
 pub struct Talk {
     line: Line,
@@ -40,14 +40,14 @@ impl Talk {
         Ok(Talk { line, lines: 0 })
     }
 
-    // How many lines were given an answer.
+    // The number of lines that got an answer.
     pub fn lines(&self) -> u64
         ensures { result ≡ self.now.lines }
     {
         self.lines
     }
 
-    // Takes in some bytes: each line that ends there is heard, and told of.
+    // Takes in some bytes. Each line that ends in them is heard and replied to.
     pub fn take_in<H: Hearer, W: Sink>(
         &mut self,
         alloc: Global,
@@ -85,7 +85,7 @@ impl Talk {
         Flow::On
     }
 
-    // A line ends at its LF, and is told of.
+    // Ends a line at its LF, and replies to it.
     fn end_line<H: Hearer, W: Sink>(
         &mut self,
         alloc: Global,
@@ -112,7 +112,7 @@ impl Talk {
         sent
     }
 
-    // The input ends, and what is left of it is a line.
+    // Ends the input. What is left of it is a line, unless it is empty.
     pub fn end_input<H: Hearer, W: Sink>(
         &mut self,
         alloc: Global,

@@ -1,4 +1,4 @@
-//! One line, heard and told of.
+//! One line, heard and replied to.
 ghost use Rattle.std.specs.Prelude.{◌≡◌, ℕ, ◌+◌, ◌++◌, false, length};
 ghost use Rattle.nesl_line.specs.Told.{text_told};
 ghost use Rattle.nesl_line.specs.Steps.{Answered, Sent, Wrote, Flushed};
@@ -7,7 +7,7 @@ use crate::device::Sink;
 use crate::hearer::{Hearer, Told};
 use std::alloc::Global;
 
-// One line is heard, and told of.
+// Hears one line, and sends the reply. The result is false if something failed.
 pub fn answer<H: Hearer, W: Sink>(
     alloc: Global,
     writer: &mut W,
@@ -25,7 +25,7 @@ pub fn answer<H: Hearer, W: Sink>(
     tell(writer, line, &told)
 }
 
-/// Sends what is told of a line, and flushes; or says that something failed.
+/// Sends the reply to a line, and flushes. The result is false if something failed.
 pub fn tell<W: Sink>(writer: &mut W, line: &[u8], told: &Told) -> bool
     ensures sent { Sent (W.held writer.old) (W.held writer.new) (text_told line.now told.now) result }
     ensures tally { Flushed result 1 (W.tally writer.old) (W.tally writer.new) }
@@ -38,7 +38,7 @@ pub fn tell<W: Sink>(writer: &mut W, line: &[u8], told: &Told) -> bool
     }
 }
 
-// Sends the one and then the other, and flushes.
+// Sends both texts, and flushes.
 fn say_both<W: Sink>(writer: &mut W, first: &[u8], second: &[u8]) -> bool
     ensures sent { Sent (W.held writer.old) (W.held writer.new) (first.now ++ second.now) result }
     ensures tally { Flushed result 1 (W.tally writer.old) (W.tally writer.new) }
@@ -49,7 +49,7 @@ fn say_both<W: Sink>(writer: &mut W, first: &[u8], second: &[u8]) -> bool
     say(writer, second)
 }
 
-/// Sends the bytes, and flushes; or says that something failed.
+/// Sends the bytes, and flushes. The result is false if something failed.
 pub fn say<W: Sink>(writer: &mut W, bytes: &[u8]) -> bool
     ensures sent { Sent (W.held writer.old) (W.held writer.new) bytes.now result }
     ensures tally { Flushed result 1 (W.tally writer.old) (W.tally writer.new) }
@@ -60,7 +60,7 @@ pub fn say<W: Sink>(writer: &mut W, bytes: &[u8]) -> bool
     writer.flush().is_ok()
 }
 
-// Writes all of the bytes, or says that a write failed or took none.
+// Writes all of the bytes. The result is false if a write failed or took no byte.
 fn send<W: Sink>(writer: &mut W, bytes: &[u8]) -> bool
     ensures sent { Sent (W.held writer.old) (W.held writer.new) bytes.now result }
     ensures tally { Wrote result (length bytes.now) (W.tally writer.old) (W.tally writer.new) }

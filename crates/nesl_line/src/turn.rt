@@ -13,7 +13,8 @@ use nesl_session::answer::Answer;
 use nesl_session::session::Session;
 use std::alloc::{AllocError, Global};
 
-// Who is selected, which is nobody where the name is empty; and how lines are said to sessions.
+// The name of the selected user, which is empty if nobody is selected; and the manner in which lines are said to
+// sessions.
 #[derive(Drop)]
 pub struct Chooser<'m, M> {
     who: Vec<u8>,
@@ -21,7 +22,7 @@ pub struct Chooser<'m, M> {
 }
 
 impl<'m, M: Manner> Chooser<'m, M> {
-    // Nobody is selected, and there is room for names of so many bytes.
+    // Nobody is selected, and there is room for names of `room` bytes.
     pub fn new(alloc: Global, manner: &'m M, room: usize) -> Result<Chooser<'m, M>, AllocError>
         ensures nobody { IfOk result (λ chooser. chooser.who.items ≡ []) }
         ensures room { IfOk result (λ chooser. vec_capacity chooser.who ≡ room) }
@@ -30,7 +31,7 @@ impl<'m, M: Manner> Chooser<'m, M> {
         Ok(Chooser { who, manner })
     }
 
-    // The session of who is selected.
+    // The session of the selected user.
     pub fn session<'h>(&self, house: &'h House) -> Option<&'h Session> {
         house.session(self.who.as_slice())
     }
@@ -51,7 +52,7 @@ impl<'m, M: Manner> Chooser<'m, M> {
         Told::Back
     }
 
-    // Says a line to the session of who is selected.
+    // Says a line to the session of the selected user.
     fn say(&self, alloc: Global, house: &mut House, line: &[u8]) -> Told
         requires named { NamesNobody line.now }
         requires fit { NamesFit (vec_capacity self.now.who) house.old }
@@ -90,7 +91,7 @@ impl<M: Manner> Hearer for Chooser<'_, M> {
     }
 }
 
-// Puts this name in place of another.
+// Replaces a name by another, which fits its room.
 fn put_name(who: &mut Vec<u8>, name: &[u8])
     requires { length name.now ≤ vec_capacity who.old }
     ensures items { who.new.items ≡ name.now }

@@ -133,7 +133,7 @@ less_after (Err e) x ys xs zs m n h work less = tt
 pub same_written : (o p : List ℕ) (known : DatatypesByTag) (brackets : Bool) (t u : Term) (x y : ValueTree) → t ≡ u → x ≡ y → p ≡ o ++ value_text known brackets t x → p ≡ o ++ value_text known brackets u y
 same_written o p known brackets t u x y e f h = h ∙ ap (λ s. o ++ value_text known brackets s x) e ∙ ap (λ z. o ++ value_text known brackets u z) f
 
--- one element more was written, behind a comma
+-- one element more was written, after a comma
 pub element_written : (known : DatatypesByTag) (t u : Term) (vs : List (Value Global)) (i : ℕ) (v : Value Global) (o p q r : List ℕ) → i < length vs → v ≡ get_or vs i v → u ≡ t → p ≡ o ++ later_elements_text known t (trees_of (map tree_of (take i vs))) → q ≡ p ++ codes ", " → r ≡ q ++ value_text known true u (tree_of v) → r ≡ o ++ later_elements_text known t (trees_of (map tree_of (take (i + 1) vs)))
 element_written known t u vs i v o p q r l e same f g h =
     let longer : take (i + 1) vs ≡ take i vs ++ v ∷ [] = take_more vs i v l ∙ ap (λ y. take i vs ++ y ∷ []) (sym e) in

@@ -1,4 +1,4 @@
--- The faults: the number and the word of each, and how each is told.
+-- The faults: the number and the word of each, and the text of its reply.
 use Rattle.std.specs.Prelude.{ℕ, List, ◌++◌, codes, decimal}
 use Rattle.nesl_lex.specs.declared.token.Span.{Span}
 use Rattle.nesl_scalars.specs.declared.trap.Trap.{Trap}
@@ -43,7 +43,7 @@ number_of Busy = 26
 abbrev pub work_text : ℕ → List ℕ
 work_text work = codes " (work " ++ decimal work ++ codes ")"
 
--- nothing was spent
+-- ` (work 0)`: no work was spent
 abbrev pub no_work : List ℕ
 no_work = codes " (work 0)"
 
@@ -54,7 +54,8 @@ span_text span = codes " at " ++ decimal span.start ++ codes ".." ++ decimal spa
 abbrev pub stop_text : Stop → List ℕ
 stop_text stop = span_text stop.span ++ work_text stop.work
 
--- the word of a fault, where it lies, and the work that was spent; a fault that belongs to no session tells no work
+-- The word of a fault, its place in the line, and the work that was spent. A fault that belongs to no session reports
+-- no work.
 abbrev pub fault_words : Fault → List ℕ
 fault_words Long = codes "long" ++ no_work
 fault_words (Lexical at) = codes "lexical at " ++ decimal at ++ no_work

@@ -1,4 +1,4 @@
--- Replies: a line each, with its line end.
+-- Replies: the text of each is one line, with its line end.
 use Rattle.std.specs.Prelude.{ℕ, true, List, [], ◌∷◌, ◌++◌, map, flat_map, codes, decimal}
 use Rattle.nesl_values.specs.View.{tree_of}
 use Rattle.nesl_values.specs.Tree.{ValueTree}
@@ -26,13 +26,13 @@ abbrev pub names_text : List (List ℕ) → List ℕ
 names_text [] = []
 names_text (n ∷ ns) = codes " " ++ n ++ flat_map (λ m. codes ", " ++ m) ns
 
--- the work left; the elements, the lines and their bytes, of how many each
+-- the work that is left, and how much is used of each limit: elements, lines, and bytes of lines
 abbrev pub budget_text : ℕ → Used → Used → Used → List ℕ
 budget_text work elements lines bytes =
     (codes "budget: work " ++ decimal work) ++ (codes ", elements" ++ used_text elements)
     ++ (codes ", lines" ++ used_text lines) ++ (codes ", bytes" ++ used_text bytes)
 
--- what is told of a line: names, values, types and costs, without where they lie in memory
+-- what a reply reports: names, values, types and costs, without their places in memory
 pub data Report : Type 0 where
   bound : (name : List ℕ) (value : ValueTree) (type : Term) (cost : Cost) → Report
   function : (name : List ℕ) (argument result : Term) (classes : List Class) → Report
@@ -45,7 +45,7 @@ pub data Report : Type 0 where
   cleared : (lines : ℕ) → Report
   refused : Fault → Report
 
--- its text, where these are the datatypes and the names of a session
+-- the text of a report, with the datatypes and the names of a session
 abbrev pub report_text : DatatypesByTag → List (List ℕ) → Report → List ℕ
 report_text known all (bound x v t cost) =
     x ++ codes " = " ++ value_text known true t v ++ codes " : " ++ type_text known.name true t ++ cost_text cost
@@ -59,7 +59,7 @@ report_text known all more = codes "more"
 report_text known all (cleared lines) = codes "reset: lines " ++ decimal lines
 report_text known all (refused fault) = fault_text fault
 
--- what a reply tells
+-- what a reply of the code reports
 abbrev pub report_of : Reply → Report
 report_of (Reply.Bound name value ty cost) = bound name.now (tree_of value.now) ty.now cost
 report_of (Reply.FunTold name scheme) =
@@ -74,9 +74,9 @@ report_of (Reply.Cleared lines) = cleared lines
 report_of (Reply.Refused fault) = refused fault
 
 module _ {P : Type 0} where
-  -- the text of a reply, where the names of a session are these
-  abbrev pub told_of : List (List ℕ × Top × P) → Reply → List ℕ
-  told_of context reply = report_text (datatypes context) (map (λ b. b.0) context) (report_of reply)
+  -- the text of a reply without its line end, with the names of a session
+  abbrev pub reply_line : List (List ℕ × Top × P) → Reply → List ℕ
+  reply_line context reply = report_text (datatypes context) (map (λ b. b.0) context) (report_of reply)
 
   abbrev pub reply_text : List (List ℕ × Top × P) → Reply → List ℕ
-  reply_text context reply = told_of context reply ++ codes "\n"
+  reply_text context reply = reply_line context reply ++ codes "\n"

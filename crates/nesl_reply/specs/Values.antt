@@ -17,7 +17,7 @@ pub record DatatypesByTag : Type 0 where
   pub name : ℕ → List ℕ
   pub held : ℕ → Option Term
 
--- what the records of a datatype hold, if this is one
+-- what a datatype's records hold; nothing if the name is no datatype
 abbrev pub held_by : {P : Type 0} → Option (List ℕ × Top × P) → Option Term
 held_by None = None
 held_by (Some b) = held_in b.1
@@ -29,8 +29,8 @@ held_by (Some b) = held_in b.1
 abbrev pub datatypes : {P : Type 0} → List (List ℕ × Top × P) → DatatypesByTag
 datatypes names = record { name = name_at names; held = λ tag. held_by (datatype_at names tag) }
 
--- the types of a pair's parts, of a sequence's elements, of what a record holds. A value has its type, so the last case
--- of each never comes up.
+-- The types of a pair's parts, and of a sequence's elements. A value has its type, so the last case of each is never
+-- reached.
 abbrev pub left_type : Term → Term
 left_type (pair_of t u) = t
 left_type t = t
@@ -43,12 +43,12 @@ abbrev pub element_type : Term → Term
 element_type (seq_of t) = t
 element_type t = t
 
--- whether sequences of the type are texts
+-- whether a sequence of this type is a text
 abbrev pub is_text_type : Term → Bool
 is_text_type (seq_of char) = true
 is_text_type t = false
 
--- the bytes that stand for themselves are 32 to 126
+-- the bytes that are written as themselves, 32 to 126
 abbrev pub is_printable : ℕ → Bool
 is_printable c = nat_le 32 c && nat_le c 126
 
@@ -56,12 +56,12 @@ is_printable c = nat_le 32 c && nat_le c 126
 abbrev pub character_text : ℕ → List ℕ
 character_text c = if is_printable c then 96 ∷ c ∷ [] else codes "code_char(" ++ decimal c ++ codes ")"
 
--- whether it is a character that can stand between double quotes
+-- whether a value is a character that can stand between double quotes
 abbrev pub is_quotable : ValueTree → Bool
 is_quotable (character c) = is_printable c && not (c == 34)
 is_quotable t = false
 
--- the code of a character
+-- the code of a character, and 0 for any other value
 abbrev pub code_of : ValueTree → ℕ
 code_of (character c) = c
 code_of t = 0
@@ -73,8 +73,8 @@ quoted ts = codes "\"" ++ map code_of ts ++ codes "\""
 abbrev pub bracketed : Bool → List ℕ → List ℕ
 bracketed brackets text = if brackets then codes "(" ++ text ++ codes ")" else text
 
--- A value of a type. A pair has brackets unless it is the right part of a pair or what a record holds. A text stands
--- between double quotes where its bytes allow it.
+-- The text of a value of a type. A pair has brackets unless it is the right part of a pair, or is what a record holds.
+-- A text stands between double quotes if its bytes allow it.
 abbrev mutual
   pub value_text : DatatypesByTag → Bool → Term → ValueTree → List ℕ
   value_text known brackets t (int n) = signed_decimal n

@@ -16,8 +16,8 @@ pub struct Stop {
     pub work: u64,
 }
 
-/// Why a line is refused, with what is told of it. Of these, `Long`, `Transcript` and `Memory` leave the line
-/// unrecorded, and `User` and `Busy` belong to no session.
+/// Why a line is refused, and the details that its reply reports. A line with the fault `Long`, `Transcript` or
+/// `Memory` isn't recorded. `User` and `Busy` belong to no session.
 #[derive(Clone, Copy, PartialEq, Eq)]
 pub enum Fault {
     Long,
@@ -116,7 +116,7 @@ fn write_work(out: &mut Vec<u8>, work: u64) -> Result<(), AllocError>
     write_bytes(out, b")")
 }
 
-// Writes a word and that no work was spent.
+// Writes a word, and ` (work 0)` after it.
 fn write_plain(out: &mut Vec<u8>, word: &[u8]) -> Result<(), AllocError>
     ensures { OnOk result (out.new.items ≡ out.old.items ++ (word.now ++ no_work)) }
 {
@@ -151,7 +151,7 @@ fn write_span(out: &mut Vec<u8>, span: Span) -> Result<(), AllocError>
     write_number(out, span.end as u64)
 }
 
-// Writes the place of a byte that no token begins with.
+// Writes the words of a lexical fault, with the index of the byte at which no token begins.
 fn write_lexical(out: &mut Vec<u8>, at: usize) -> Result<(), AllocError>
     ensures { OnOk result (out.new.items ≡ out.old.items ++ fault_words (Fault.Lexical at)) }
 {
@@ -160,7 +160,7 @@ fn write_lexical(out: &mut Vec<u8>, at: usize) -> Result<(), AllocError>
     write_bytes(out, b" (work 0)")
 }
 
-// Writes the place of a name that isn't known.
+// Writes the words of a fault for an unknown name, with the name's span.
 fn write_unknown(out: &mut Vec<u8>, span: Span) -> Result<(), AllocError>
     ensures { OnOk result (out.new.items ≡ out.old.items ++ fault_words (Fault.Unknown span)) }
 {
@@ -169,8 +169,8 @@ fn write_unknown(out: &mut Vec<u8>, span: Span) -> Result<(), AllocError>
     write_bytes(out, b" (work 0)")
 }
 
-// Writes all of a fault but its first word.
-fn write_told(out: &mut Vec<u8>, fault: Fault) -> Result<(), AllocError>
+// Writes all of a fault but the leading `fault `.
+fn write_words(out: &mut Vec<u8>, fault: Fault) -> Result<(), AllocError>
     ensures { OnOk result (out.new.items ≡ out.old.items ++ fault_words fault) }
 {
     match fault {
@@ -203,10 +203,9 @@ fn write_told(out: &mut Vec<u8>, fault: Fault) -> Result<(), AllocError>
     }
 }
 
-// Writes a fault.
 pub(crate) fn write_fault(out: &mut Vec<u8>, fault: Fault) -> Result<(), AllocError>
     ensures { OnOk result (out.new.items ≡ out.old.items ++ fault_text fault) }
 {
     write_bytes(out, b"fault ")?;
-    write_told(out, fault)
+    write_words(out, fault)
 }

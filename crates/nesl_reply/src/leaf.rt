@@ -8,7 +8,7 @@ ghost use Rattle.nesl_reply.specs.Tasks.{leaf_text, other_leaves};
 use crate::writing::{write_bytes, write_integer, write_number};
 use std::alloc::AllocError;
 
-/// A kind of leaf.
+/// A value without parts, as packed sequences hold it: an integer, a truth value or a character.
 pub(crate) trait Leaf: Copy {
     ghost leaf: { Self → ValueTree };
 
@@ -40,7 +40,7 @@ impl Leaf for u8 {
     }
 }
 
-// Writes a truth value.
+// Writes `T` or `F`.
 pub(crate) fn write_truth(out: &mut Vec<u8>, b: bool) -> Result<(), AllocError>
     ensures { OnOk result (out.new.items ≡ out.old.items ++ (if b then codes "T" else codes "F")) }
 {
@@ -48,14 +48,14 @@ pub(crate) fn write_truth(out: &mut Vec<u8>, b: bool) -> Result<(), AllocError>
     Ok(())
 }
 
-// Whether the byte stands for itself.
+// Whether the byte is printable ASCII, 32 to 126.
 pub(crate) fn is_printable(c: u8) -> bool
     ensures { result ≡ is_printable c }
 {
     32 <= c && c <= 126
 }
 
-// Writes a character.
+// Writes a character as a backquote and its byte, or as `code_char(N)` if the byte isn't printable.
 pub(crate) fn write_character(out: &mut Vec<u8>, c: u8) -> Result<(), AllocError>
     ensures { OnOk result (out.new.items ≡ out.old.items ++ character_text c) }
 {

@@ -1,11 +1,11 @@
-//! Replies: a line each, with its line end.
+//! Replies: the text of each is one line, with its line end.
 
 ghost use Rattle.std.specs.Prelude.{◌≡◌, ◌++◌, ◌<◌, ◌==◌, if◌then◌else◌, length, slice_get, Some, true, IfOk, OnOk};
 ghost use Rattle.std.specs.Prelude.{codes, decimal, map};
 ghost use Rattle.nesl_types.specs.Texts.{type_text as text_of_type, scheme_text as text_of_scheme, name_at};
 ghost use Rattle.nesl_reply.specs.Faults.{fault_text};
 ghost use Rattle.nesl_reply.specs.declared.fault.Fault.TheVariants.{Memory};
-ghost use Rattle.nesl_reply.specs.Replies.{told_of, budget_text, reply_text as text_of_reply, cost_text, used_text};
+ghost use Rattle.nesl_reply.specs.Replies.{reply_line, budget_text, reply_text as text_of_reply, cost_text, used_text};
 ghost use Rattle.nesl_reply.specs.Replies.{names_text};
 
 use crate::fault::{Fault, write_fault};
@@ -16,27 +16,27 @@ use nesl_types::{Context, Scheme, Ty, scheme_text, type_text};
 use nesl_values::Value;
 use std::alloc::{AllocError, Global};
 
-/// The reply for want of memory, a fixed text that takes none.
+/// The reply `fault memory`. It is a fixed text, so that it takes no memory.
 pub fn no_memory() -> &'static [u8]
     ensures { result.now ≡ fault_text Memory ++ codes "\n" }
 {
     b"fault memory (work 0)\n"
 }
 
-/// For how many bytes a reply takes room at first.
+/// The capacity, in bytes, that the text of a reply starts with.
 const ROOM: usize = 128;
 
-/// How many there are of how many that there may be.
+/// How much of a limit is used.
 #[derive(Clone, Copy, PartialEq, Eq, Debug)]
 pub struct Used {
     pub used: u64,
     pub limit: u64,
 }
 
-/// What is told of a line.
+/// What is replied to a line.
 #[derive(Clone, Copy)]
 pub enum Reply<'a> {
-    /// A variable was bound: its name, its value, its type, and what that cost.
+    /// A variable was bound: its name, its value, its type, and what the evaluation cost.
     Bound(&'a [u8], &'a Value, &'a Ty, Cost),
     /// A function was defined.
     FunTold(&'a [u8], &'a Scheme),
@@ -44,20 +44,20 @@ pub enum Reply<'a> {
     DatatypeTold(&'a [u8], &'a Ty),
     /// All names, in order of first definition.
     Names,
-    /// The work left; the elements, the lines and their bytes, of how many each.
+    /// The work that is left, and how much is used of each limit: elements, lines, and bytes of lines.
     Budget(u64, Used, Used, Used),
     /// The type of an expression.
     Shown(&'a Ty),
     /// The line has no tokens.
     Blank,
-    /// The line is part of a form that goes on.
+    /// The line is part of a form that isn't complete yet.
     More,
-    /// The session was reset, which had that many lines.
+    /// The session was reset, after it had stored this number of lines.
     Cleared(u64),
     Refused(Fault),
 }
 
-/// The bytes of a reply, line end included. The context has the names of the session.
+/// The text of a reply, with its line end. The context holds the names of the session.
 pub fn reply_text<P: Drop>(
     alloc: Global,
     reply: &Reply<'_>,
@@ -77,7 +77,7 @@ fn write_reply<P: Drop>(
     reply: Reply<'_>,
     context: &Context<P>,
 ) -> Result<(), AllocError>
-    ensures { OnOk result (out.new.items ≡ out.old.items ++ told_of context.now reply.entry) }
+    ensures { OnOk result (out.new.items ≡ out.old.items ++ reply_line context.now reply.entry) }
 {
     match reply {
         Reply::Bound(name, value, ty, cost) => {
@@ -189,7 +189,7 @@ fn write_budget(
     Ok(())
 }
 
-// Writes the names with a space before the first and a comma before each other.
+// Writes the names: a space before the first, and `, ` before each other.
 fn write_names<P: Drop>(out: &mut Vec<u8>, context: &Context<P>) -> Result<(), AllocError>
     ensures { OnOk result (out.new.items ≡ out.old.items ++ names_text (map (λ b. b.0) context.now)) }
 {
@@ -200,14 +200,14 @@ fn write_names<P: Drop>(out: &mut Vec<u8>, context: &Context<P>) -> Result<(), A
     Ok(())
 }
 
-// What stands before the name at a place.
+// The separator before the name at a place.
 fn separator(place: usize) -> &'static [u8]
     ensures { result.now ≡ (if place == 0 then codes " " else codes ", ") }
 {
     if place == 0 { b" " } else { b", " }
 }
 
-// The name at a place.
+// The name at a place in the order of first definition, counted from 0.
 fn name_at<P: Drop>(context: &Context<P>, place: usize) -> &[u8]
     requires { place < length context.now }
     ensures { Some result.now ≡ slice_get (map (λ b. b.0) context.now) place }

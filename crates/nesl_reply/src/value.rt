@@ -22,15 +22,15 @@ use nesl_types::{Context, Kind, Part, Top, Ty};
 use nesl_values::{Items, Shape, Value};
 use std::alloc::{AllocError, Global};
 
-/// For how many tasks there is room at first.
+/// The number of tasks that there is room for at first.
 const TASKS: usize = 8;
 
-/// What is still to be written.
+/// A part of the text that is still to be written.
 #[derive(Drop)]
 pub enum Task<'a> {
-    /// A value of that type; a pair stands in brackets where they are asked for.
+    /// A value of this type; the flag asks for brackets around a pair.
     Value(&'a Value, Part<'a>, bool),
-    /// Elements of that type, each with a comma before it.
+    /// Elements of this type, each with a comma before it.
     Others(&'a [Value], Part<'a>),
     Bytes(&'static [u8]),
 }
@@ -49,8 +49,8 @@ pub fn value_text<P: Drop>(
     Ok(out)
 }
 
-/// Writes a value of a type; a pair has brackets where they are asked for. What is still to be written stands in a
-/// list, so that a value of any depth takes no call depth.
+/// Writes a value of a type, with brackets around a pair if `brackets` is true. What is still to be written is kept in
+/// a list, so that a deep value needs no deep recursion.
 pub(crate) fn write_by_tasks<'a, P: Drop>(
     out: &mut Vec<u8>,
     context: &'a Context<P>,
@@ -69,7 +69,7 @@ pub(crate) fn write_by_tasks<'a, P: Drop>(
     Ok(())
 }
 
-// The task that comes next.
+// Takes the next task.
 #[tactic(auto, using(crate::proofs::Lists::tasks_text_push, crate::proofs::Lists::tasks_work_push))]
 fn next_task<'a>(tasks: &mut Vec<Task<'a>>) -> Option<Task<'a>>
     ensures { MatchOption result
@@ -88,7 +88,7 @@ fn plan<'a>(tasks: &mut Vec<Task<'a>>, task: Task<'a>) -> Result<(), AllocError>
     Ok(())
 }
 
-// Writes the front of what a task asks for, and leaves the rest to other tasks.
+// Writes the first bytes of a task, and adds tasks for the rest.
 fn write_task<'a, P: Drop>(
     out: &mut Vec<u8>,
     tasks: &mut Vec<Task<'a>>,
@@ -107,7 +107,7 @@ fn write_task<'a, P: Drop>(
     }
 }
 
-// Writes the front of a value, and leaves the rest to tasks.
+// Writes the first bytes of a value, and adds tasks for the rest.
 fn write_front<'a, P: Drop>(
     out: &mut Vec<u8>,
     tasks: &mut Vec<Task<'a>>,
@@ -135,7 +135,7 @@ fn write_front<'a, P: Drop>(
     }
 }
 
-// Writes the front of a sequence: a packed one whole.
+// Writes the first bytes of a sequence, or all of it if it is packed.
 fn write_items<'a>(
     out: &mut Vec<u8>,
     tasks: &mut Vec<Task<'a>>,
@@ -281,7 +281,7 @@ fn write_others<'a>(
     }
 }
 
-// Writes a sequence with no element: as a text where its type allows it.
+// Writes an empty sequence: `""` if its type is that of a text, else `[]`.
 fn write_empty(out: &mut Vec<u8>, ty: &Part<'_>) -> Result<(), AllocError>
     ensures { OnOk result (out.new.items ≡ out.old.items ++ empty_text ty.now) }
 {
@@ -301,7 +301,7 @@ fn write_leaves<L: Leaf>(out: &mut Vec<u8>, items: &[L], ty: &Part<'_>) -> Resul
     }
 }
 
-// Writes a list of leaves of which there is at least one.
+// Writes a list of leaves, which has at least one.
 fn write_first<L: Leaf>(out: &mut Vec<u8>, first: L, others: &[L]) -> Result<(), AllocError>
     ensures { OnOk result (out.new.items ≡ out.old.items ++ leaves_text (L.leaf first) (map L.leaf others.now)) }
 {
@@ -338,7 +338,7 @@ pub(crate) fn write_truths(
     Ok(())
 }
 
-// Writes a packed sequence of characters: as a text where its type and its bytes allow it.
+// Writes a packed sequence of characters, as a text if its type and its bytes allow it.
 pub(crate) fn write_characters(
     out: &mut Vec<u8>,
     bytes: &[u8],
@@ -367,7 +367,7 @@ fn write_text(out: &mut Vec<u8>, bytes: &[u8]) -> Result<(), AllocError>
     Ok(())
 }
 
-// Writes characters that are values of their own between double quotes.
+// Writes characters that are stored as separate values, between double quotes.
 pub(crate) fn write_quoted(out: &mut Vec<u8>, items: &[Value]) -> Result<(), AllocError>
     ensures { OnOk result (out.new.items ≡ out.old.items ++ quoted (list_of (trees_view items.now))) }
 {
@@ -401,14 +401,14 @@ fn is_packed_text(bytes: &[u8], ty: &Part<'_>) -> bool
     is_text_type(ty) && all_quotable(bytes)
 }
 
-// Whether all these characters can stand between double quotes.
+// Whether each of these bytes can stand between double quotes.
 fn all_quotable(bytes: &[u8]) -> bool
     ensures { result ≡ list_all (λ c. is_quotable (character c)) bytes.now }
 {
     bytes.iter().all(|c| is_text_byte(*c))
 }
 
-// Whether all these are characters that can stand between double quotes.
+// Whether each of these values is a character that can stand between double quotes.
 fn can_be_quoted(items: &[Value]) -> bool
     ensures { result ≡ list_all (λ v. is_quotable (tree_of v)) items.now }
 {
@@ -431,7 +431,7 @@ fn is_text_byte(c: u8) -> bool
     is_printable(c) && c != b'"'
 }
 
-// The code of a character.
+// The code of a character, or 0 for any other value.
 #[tactic(auto, using(crate::proofs::Views::code, crate::proofs::Views::no_code))]
 fn code_of(item: &Value) -> u8
     ensures { result ≡ code_of (tree_of item.now) }
@@ -478,7 +478,7 @@ pub(crate) fn element_type<'a>(ty: &Part<'a>) -> Part<'a>
     }
 }
 
-// The type of what the records of a datatype hold, or `ty` where the tag stands for no datatype.
+// The type of what a datatype's records hold, or `ty` if no datatype has the tag.
 pub(crate) fn held_type<'a, P: Drop>(context: &'a Context<P>, tag: u64, ty: &Part<'a>) -> Part<'a>
     ensures { result ≡ unwrap_or (held_by (datatype_at context.now tag)) ty.now }
 {

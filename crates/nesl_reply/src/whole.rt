@@ -1,4 +1,4 @@
-//! Values that are written without tasks, as deep as calls go.
+//! Values that are written by recursion, as long as they aren't too deep.
 
 ghost use Rattle.std.specs.Prelude.{◌≡◌, ◌++◌, [], ◌∷◌, OnOk, Bool, true, codes, if◌then◌else◌, unwrap_or};
 ghost use Rattle.nesl_values.specs.Tree.{seq, sequence};
@@ -18,7 +18,7 @@ use nesl_types::{Context, Part, Ty};
 use nesl_values::{Items, Shape, Value};
 use std::alloc::AllocError;
 
-/// How deep the parts of a value lie that are written without tasks.
+/// The depth down to which the parts of a value are written by recursion. Deeper ones are written by tasks.
 const MOST_DEPTH: u64 = 32;
 
 /// A value and its type.
@@ -49,7 +49,7 @@ pub(crate) fn write_value<P: Drop>(
     write_whole(out, context, &Typed { value, ty }, true, MOST_DEPTH)
 }
 
-// Writes the byte where it is wanted.
+// Writes the byte if it is wanted.
 #[inline]
 fn write_if(out: &mut Vec<u8>, wanted: bool, byte: u8) -> Result<(), AllocError>
     ensures { OnOk result (out.new.items ≡ out.old.items ++ (if wanted then byte ∷ [] else [])) }
@@ -60,7 +60,7 @@ fn write_if(out: &mut Vec<u8>, wanted: bool, byte: u8) -> Result<(), AllocError>
     Ok(())
 }
 
-// Writes the name of the datatype with the tag.
+// Writes the name of the datatype with this tag.
 fn write_name<P: Drop>(out: &mut Vec<u8>, context: &Context<P>, tag: u64) -> Result<(), AllocError>
     ensures { OnOk result (out.new.items ≡ out.old.items ++ name_at context.now tag) }
 {
@@ -70,7 +70,8 @@ fn write_name<P: Drop>(out: &mut Vec<u8>, context: &Context<P>, tag: u64) -> Res
     Ok(())
 }
 
-// Writes a value of a type; a pair has brackets where they are asked for. Only of what lies deeper tasks are made.
+// Writes a value of a type, with brackets around a pair if `brackets` is true. Parts deeper than `depth` are written by
+// tasks.
 #[cycle(whole)]
 fn write_whole<'a, P: Drop>(
     out: &mut Vec<u8>,
@@ -115,7 +116,7 @@ fn write_whole<'a, P: Drop>(
     Ok(())
 }
 
-// The left part of a pair of that type.
+// The left part of a pair, with its type; `ty` is the type of the pair.
 #[inline]
 fn left_of<'a>(value: &'a Value, ty: &Part<'a>) -> Typed<'a>
     ensures value { result.value.now ≡ value.now }
@@ -125,7 +126,7 @@ fn left_of<'a>(value: &'a Value, ty: &Part<'a>) -> Typed<'a>
     Typed { value, ty }
 }
 
-// The right part of a pair of that type.
+// The right part of a pair, with its type; `ty` is the type of the pair.
 #[inline]
 fn right_of<'a>(value: &'a Value, ty: &Part<'a>) -> Typed<'a>
     ensures value { result.value.now ≡ value.now }
@@ -135,7 +136,7 @@ fn right_of<'a>(value: &'a Value, ty: &Part<'a>) -> Typed<'a>
     Typed { value, ty }
 }
 
-// What a record of the datatype with the tag holds.
+// What a record of the datatype with this tag holds, with its type.
 #[inline]
 fn held_of<'a, P: Drop>(
     context: &'a Context<P>,
@@ -174,7 +175,7 @@ fn write_items<'a, P: Drop>(
     Ok(())
 }
 
-// Writes a sequence that isn't packed: as a text where its type and its elements allow it.
+// Writes a sequence that isn't packed, as a text if its type and its elements allow it.
 #[cycle(whole)]
 fn write_values<'a, P: Drop>(
     out: &mut Vec<u8>,

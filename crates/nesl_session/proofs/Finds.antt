@@ -53,5 +53,5 @@ settles_read s line (found.Unread fault) fits h = absurd h
 settles_read s line found.Reset fits h = absurd h
 settles_read s line found.Part fits h = absurd h
 settles_read s line (found.Refused fault work) fits h = (fits, h)
-settles_read s line (found.Told t) fits h = fits
+settles_read s line (found.Answered t) fits h = fits
 settles_read s line (found.Defined d) fits h = (fits, h.0, h.1)

@@ -12,7 +12,7 @@ use Rattle.nesl_session.specs.declared.forms.finding.Finding.{Finding as Found}
 use Rattle.nesl_session.specs.Found.{finding_of, fault_in}
 use Rattle.nesl_session.specs.Inside.{state_of, log_of, log_of_state, Counts, IsSound}
 use Rattle.nesl_session.specs.Asking.{AnswersWith}
-use Rattle.nesl_session.proofs.Told.{told_fault}
+use Rattle.nesl_session.proofs.Replied.{fault_replied}
 use Rattle.nesl_session_meaning.proofs.Replayed.{replays_after, responds_after}
 
 pub step_from : (limits : Limits) (s t : State) (line : List ℕ) (reply : Reply) (f : Finding) → Finds limits s line f → reply ≡ reply_of s f → t ≡ after line s f → Step limits s line reply t
@@ -63,5 +63,5 @@ refused a log line f fault k l h e =
       next = after line s (finding_of f);
       replayed = k.replayed;
       step = step_from a.limits s (after line s (finding_of f)) line (reply_of s (finding_of f)) (finding_of f) h refl refl;
-      same = e ∙ told_fault s f;
+      same = e ∙ fault_replied s f;
     })

@@ -1,4 +1,4 @@
--- Why a session would refuse a line that it is not told.
+-- Why a session would refuse a line that it doesn't get.
 use Rattle.std.specs.Prelude.{◌≡◌, ℕ, List, Option}
 use Rattle.nesl_reply.specs.declared.fault.Fault.{Fault}
 use Rattle.nesl_session_meaning.specs.State.{State, Log}
@@ -6,7 +6,7 @@ use Rattle.nesl_session_meaning.specs.Response.{Reply}
 use Rattle.nesl_session_meaning.specs.Step.{Step}
 use Rattle.nesl_session_meaning.specs.Solo.{Replays}
 
--- told the line, a session would answer with this fault, or with none
+-- the session would answer the line with this fault, or with none
 pub record AnswersWith (log : Log) (line : List ℕ) (fault : Option Fault) : Type 0 where
   pub before : State
   pub reply : Reply

@@ -1,4 +1,4 @@
--- What is found of a form without evaluation, whatever the state but for its names.
+-- What is found of a form without evaluation, in any state with the given names.
 use Rattle.std.specs.Prelude.{◌≡◌, true, List, Option, None, Result, Ok, Err, nat_le}
 use Rattle.nesl_types_shared.specs.Term.{Term}
 use Rattle.nesl_types.specs.declared.schemes.Scheme.{Scheme}
@@ -38,12 +38,12 @@ abbrev pub stopped_against : Refusal → Stopped
 stopped_against Retype = Refused faults.Retype
 stopped_against Taken = Refused faults.Taken
 
--- this is found then
+-- this is found of the form
 abbrev pub IsFound : Stopped → Found → Type 0
 IsFound (Refused k) f = f ≡ found.Refused k 0
 IsFound Memory f = ⊥
 
--- in every state with these names it is refused for this, where memory sufficed
+-- the line is refused for this reason in every state with these names, unless memory ran out
 abbrev pub Stops : List Binding → (State → Finding → Type 0) → Stopped → Type 0
 Stops bs K (Refused k) = (s : State) → K (with_names bs s) (refused k 0)
 Stops bs K Memory = Unit {0}
@@ -57,7 +57,7 @@ IsFunction limits bs x p g e (Ok f) =
     × (true ≡ nat_le (elements_of (put_binding x (function (function_type f) p e) bs)) limits.elements)
 IsFunction limits bs x p g e (Err stopped) = Stops bs (λ s. FindsForm limits s (trees.function x p g e)) stopped
 
--- the same of what the records of a datatype hold
+-- the same for what a datatype's records hold
 abbrev pub IsDatatype : Limits → List Binding → Name → TypeTree → Result Term Stopped → Type 0
 IsDatatype limits bs x a (Ok t) =
     IsContentBy (known bs) a (typed t) × RefusesDefinition bs x a_datatype None

@@ -17,19 +17,19 @@ state_of a = record {
   cleared = a.cleared;
 }
 
--- what a session with this state is to its callers
+-- what callers see of a session with this state
 abbrev pub log_of_state : Limits → State → Log
 log_of_state limits s = record { limits = limits; base = s.base; cleared = s.cleared; lines = s.transcript }
 
 abbrev pub log_of : Standing → Log
 log_of a = log_of_state a.limits (state_of a)
 
--- the bytes of the transcript are counted, and no more lines were told than may be
+-- the bytes of the transcript are counted, and no more lines are cleared than may be recorded
 pub record Counts (a : Standing) : Type 0 where
   pub bytes : a.bytes ≡ sum_by length (map (λ v. v.items) a.transcript.items)
   pub cleared : a.cleared ≤ most_recorded
 
--- what the fields of every session keep
+-- what holds of the fields of every session
 pub record IsSound (a : Standing) : Type 0 where
   pub replayed : Replays (log_of a) (state_of a)
   pub counts : Counts a

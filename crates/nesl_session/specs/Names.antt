@@ -1,4 +1,4 @@
--- The names that an iterator still gives.
+-- The names that an iterator still yields.
 use Rattle.std.specs.Prelude.{ℕ, List, map, drop}
 use Rattle.nesl_session_bindings.specs.Stored.{bindings_of}
 use Rattle.nesl_session.specs.declared.session.Names.{Names}

@@ -1,11 +1,11 @@
-//! What is told of a line.
+//! What is replied to a line.
 ghost use Rattle.std.specs.Prelude.{◌≡◌, codes};
 ghost use Rattle.nesl_session_meaning.specs.Response.{Reply, busy, no_memory, no_user};
 
 use nesl_reply::Fault;
 use std::marker::Model;
 
-/// The text of an answer: a fixed one takes no memory.
+/// The text of an answer. A fixed text takes no memory.
 #[derive(Drop)]
 pub enum Text {
     NoMemory,
@@ -14,7 +14,7 @@ pub enum Text {
     Made(Vec<u8>),
 }
 
-/// An answer to a line. Contracts see what is told.
+/// An answer to a line. Contracts see it as a reply.
 #[derive(Drop)]
 pub struct Answer {
     text: Text,
@@ -32,7 +32,7 @@ impl Model for Answer {
 }
 
 impl Answer {
-    /// The answer for want of memory, which takes none.
+    /// The answer `fault memory`. It takes no memory.
     pub fn no_memory() -> Answer
         ensures { result ≡ no_memory }
     {
@@ -43,7 +43,7 @@ impl Answer {
         }
     }
 
-    /// The answer to a line of someone who isn't in the house; it takes no memory.
+    /// The answer to a line of a user who isn't in the house. It takes no memory.
     pub fn no_user() -> Answer
         ensures { result ≡ no_user }
     {
@@ -54,7 +54,7 @@ impl Answer {
         }
     }
 
-    /// The answer to who asks for a session that is away; it takes no memory.
+    /// The answer to a user who asks for a session that is taken out. It takes no memory.
     pub fn busy() -> Answer
         ensures { result ≡ busy }
     {
@@ -65,7 +65,6 @@ impl Answer {
         }
     }
 
-    // An answer with this text.
     pub(crate) fn made(text: Vec<u8>, fault: Option<Fault>, recorded: bool) -> Answer
         ensures { result ≡ record { bytes = text.items; fault = fault; recorded = recorded } }
     {
@@ -76,7 +75,7 @@ impl Answer {
         }
     }
 
-    /// The bytes, with their line end.
+    /// The bytes of the answer, with their line end.
     pub fn bytes(&self) -> &[u8]
         ensures { result.now ≡ self.now.bytes }
     {

@@ -14,9 +14,9 @@ use nesl_syntax_tree::tree::Exp;
 use nesl_values::Value;
 use std::alloc::{AllocError, Allocator, Global};
 
-/// Evaluates the expression of a line, and keeps its value. All evaluators have one outcome.
+/// Evaluates the expression of a line, and keeps its value. All evaluators give the same outcome.
 pub(crate) trait Evaluator<A: Allocator> {
-    // That it can be called, and tells outcomes.
+    // The evaluator can be called, and returns the outcome of the expression.
     ghost sound: { Self → Type 0 };
 
     fn evaluate(&self, alloc: Global, env: &Env, exp: &Exp, levels: u32, fuel: u64) -> Outcome<A>
@@ -24,12 +24,12 @@ pub(crate) trait Evaluator<A: Allocator> {
         ensures { OutcomeIs result
             (within fuel (out levels (environment env.now) (outside []) (tree_of_exp exp.now))) };
 
-    /// The value as the bindings hold it.
+    /// The value in the form in which the bindings hold it.
     fn keep(&self, alloc: Global, value: &Value<A>) -> Result<Value, AllocError>
         ensures { IfOk result (λ kept. tree_of kept ≡ tree_of value.now) };
 }
 
-/// In the allocator of the bindings, where a value gets one more owner.
+/// Evaluates in the allocator of the bindings, where the value gets one more owner.
 #[derive(Clone, Copy)]
 pub(crate) struct InPlace;
 
@@ -52,7 +52,7 @@ impl Evaluator<Global> for InPlace {
     }
 }
 
-/// In a heap of its own, from which a value is copied.
+/// Evaluates in a heap of its own, out of which the value is copied.
 #[derive(Clone, Copy)]
 pub(crate) struct InHeap<A> {
     pub(crate) heap: A,
@@ -70,8 +70,8 @@ impl<A: Allocator + Copy> Evaluator<A> for InHeap<A> {
     }
 }
 
-/// By a closure, in the allocator of the bindings. What evaluates between threads is a closure: it may rest on what the
-/// function around it knows of them, while a block of an `impl` knows that of its own thread alone.
+/// Evaluates by a closure, in the allocator of the bindings. An evaluation between threads needs a closure, which can
+/// use what the function around it knows of these threads. A block of an `impl` only knows of its own thread.
 #[derive(Drop)]
 pub(crate) struct ByCall<F> {
     pub(crate) call: F,

@@ -8,7 +8,7 @@ ghost use Rattle.nesl_eval_meaning.specs.Outcome.{out};
 ghost use Rattle.nesl_session_bindings.specs.Known.{known, environment};
 ghost use Rattle.nesl_session_bindings.specs.Redefinition.{RefusesDefinition, a_variable, it};
 ghost use Rattle.nesl_session_meaning.specs.Finding.{budget, budget_report, FindsForm, FindsVariable, FindsOutcome};
-ghost use Rattle.nesl_session.specs.Found.{finding_of, told_of, CanCharge};
+ghost use Rattle.nesl_session.specs.Found.{finding_of, shown_report, CanCharge};
 ghost use Rattle.nesl_session.specs.Inside.{state_of, Counts};
 
 use crate::evaluator::Evaluator;
@@ -39,7 +39,7 @@ pub fn find_form<A: Allocator, E: Evaluator<A>>(
     ensures charges { IfOk result (CanCharge (state_of standing.now)) }
 {
     match form {
-        Form::Nothing => Ok(Finding::Told(Shown::Blank)),
+        Form::Nothing => Ok(Finding::Answered(Shown::Blank)),
         Form::Fun {
             name,
             parameter,
@@ -57,17 +57,17 @@ pub fn find_form<A: Allocator, E: Evaluator<A>>(
             find_datatype(&standing.bindings, standing.limits, alloc, name, content)
         }
         Form::Bind { name, value } => find_variable(standing, alloc, name, &value, by),
-        Form::Eval(exp) => find_it(standing, alloc, &exp, by),
-        Form::ShowNames => Ok(Finding::Told(Shown::Names)),
-        Form::ShowBudget => Ok(Finding::Told(show_budget(standing))),
+        Form::Eval(exp) => find_expression(standing, alloc, &exp, by),
+        Form::ShowNames => Ok(Finding::Answered(Shown::Names)),
+        Form::ShowBudget => Ok(Finding::Answered(show_budget(standing))),
         Form::ShowType(exp) => find_type(&standing.bindings, alloc, exp),
     }
 }
 
-// What is left and what there may be.
+// The work that is left, and how much of each limit is used.
 fn show_budget(standing: &Standing) -> Shown
     requires { Counts standing.now }
-    ensures { told_of result ≡ budget_report standing.now.limits (state_of standing.now) }
+    ensures { shown_report result ≡ budget_report standing.now.limits (state_of standing.now) }
 {
     let elements = Used {
         used: standing.bindings.elements(),
@@ -84,8 +84,8 @@ fn show_budget(standing: &Standing) -> Shown
     Shown::Budget(standing.work_left, elements, lines, bytes)
 }
 
-// An expression alone is bound to `it`.
-fn find_it<A: Allocator, E: Evaluator<A>>(
+// What is found of an expression alone, which is bound to `it`.
+fn find_expression<A: Allocator, E: Evaluator<A>>(
     standing: &Standing,
     alloc: Global,
     exp: &Exp,
@@ -100,7 +100,7 @@ fn find_it<A: Allocator, E: Evaluator<A>>(
     find_variable(standing, alloc, name, exp, by)
 }
 
-// What an expression that a name is bound to comes to.
+// What is found where a name is bound to an expression.
 fn find_variable<A: Allocator, E: Evaluator<A>>(
     standing: &Standing,
     alloc: Global,
@@ -120,7 +120,7 @@ fn find_variable<A: Allocator, E: Evaluator<A>>(
     }
 }
 
-// What an expression of this type comes to.
+// What is found where a name is bound to an expression of this type.
 fn find_value<A: Allocator, E: Evaluator<A>>(
     standing: &Standing,
     alloc: Global,

@@ -1,11 +1,11 @@
-//! What a line evaluates to, as far as no expression has to be evaluated for it.
+//! What is found of a line, as far as no expression has to be evaluated.
 
 pub mod drops;
 pub mod finding;
-mod sense;
+mod reading;
 mod stops;
 mod written;
 
-pub use sense::{Sense, sense_of};
+pub use reading::{Reading, reading_of};
 pub use stops::Stopped;
 pub use written::{WrittenFunction, find_datatype, find_function, find_type, variable_type};

@@ -1,4 +1,4 @@
-//! One user's session: what a line is answered, what it changes, and what a session is the replay of.
+//! One user's session: the answer to a line, and what the line changes. A session is the replay of its stored lines.
 #![tactic(auto)]
 
 pub mod answer;

@@ -1,11 +1,11 @@
-//! One line: what is found of it before its form is looked at, and what is answered.
+//! One line: what is found of it before its form is looked at, and the answer.
 ghost use Rattle.std.specs.Prelude.{◌≡◌, ◌+◌, ◌++◌, List, ℕ, IfOk, OnErr, IsFalse, nat_lt, if◌then◌else◌, length};
 ghost use Rattle.nesl_reply.specs.declared.fault.Fault.TheVariants as faults;
 ghost use Rattle.nesl_session_meaning.specs.Finding.{unread, reset};
 ghost use Rattle.nesl_session_meaning.specs.Step.{Finds, Step, is_reset, is_part, is_full, longest, most_recorded};
 ghost use Rattle.nesl_session_meaning.specs.Step.{recorded_by_reset, reply_of};
-ghost use Rattle.nesl_session_meaning.specs.Sense.{HasSense};
-ghost use Rattle.nesl_session.specs.Found.{finding_of, seen_sense, CanCharge};
+ghost use Rattle.nesl_session_meaning.specs.Reading.{HasReading};
+ghost use Rattle.nesl_session.specs.Found.{finding_of, reading_of, CanCharge};
 ghost use Rattle.nesl_session.specs.Reading.{FindsRead};
 ghost use Rattle.nesl_session.specs.Settling.{CanSettle, HasRoomFor};
 ghost use Rattle.nesl_session.specs.Inside.{state_of, Counts};
@@ -14,18 +14,18 @@ use crate::answer::Answer;
 use crate::evaluator::Evaluator;
 use crate::form::find_form;
 use crate::forms::finding::Finding;
-use crate::forms::{Sense, sense_of};
+use crate::forms::{Reading, reading_of};
 use crate::standing::Standing;
 use nesl_reply::Fault;
 use std::alloc::{AllocError, Allocator, Global};
 
-/// The most bytes of a form, the parts that came before included.
+/// The most bytes of a form, with the parts that came before.
 pub const LONGEST: usize = 65_536;
 
-/// The most lines that a session may be told, where one is a reset.
-const MOST_TOLD: u64 = 72_057_594_037_927_936;
+/// The most lines that a session may have recorded once it is reset.
+const MOST_RECORDED: u64 = 72_057_594_037_927_936;
 
-/// One line. The answer is the step's, or want of memory, which changes nothing.
+/// Answers one line by a step. On `Err`, memory ran out and nothing has changed.
 pub fn step<A: Allocator, E: Evaluator<A>>(
     standing: &mut Standing,
     alloc: Global,
@@ -44,7 +44,7 @@ pub fn step<A: Allocator, E: Evaluator<A>>(
     let answer = match answer(standing, alloc, &finding) {
         Ok(answer) => answer,
         Err(error) => {
-            finding.let_go();
+            finding.release();
             return Err(error);
         }
     };
@@ -52,7 +52,7 @@ pub fn step<A: Allocator, E: Evaluator<A>>(
     Ok(answer)
 }
 
-// What is told of a finding.
+// The answer to a line, by what was found of it.
 fn answer(standing: &Standing, alloc: Global, finding: &Finding) -> Result<Answer, AllocError>
     ensures { IfOk result (λ a. a ≡ reply_of (state_of standing.now) (finding_of finding.now)) }
 {
@@ -61,7 +61,7 @@ fn answer(standing: &Standing, alloc: Global, finding: &Finding) -> Result<Answe
     Ok(Answer::made(text, finding.fault(), finding.is_recorded()))
 }
 
-/// What is found of a line: the first check that fails, or what the line comes to.
+/// What is found of a line: the first check that fails, or what the line does.
 pub fn find<A: Allocator, E: Evaluator<A>>(
     standing: &Standing,
     alloc: Global,
@@ -89,7 +89,7 @@ pub fn find<A: Allocator, E: Evaluator<A>>(
     Ok(finding)
 }
 
-// A reset is refused only where too many lines were told.
+// A reset is refused only if too many lines were recorded.
 fn find_reset(standing: &Standing) -> Finding
     requires { Counts standing.now }
     ensures found { finding_of result
@@ -97,8 +97,8 @@ fn find_reset(standing: &Standing) -> Finding
         else reset) }
     ensures settles { (line : List ℕ) → CanSettle (state_of standing.now) line result }
 {
-    let told = standing.cleared + standing.transcript.len() as u64 + 1;
-    if MOST_TOLD < told {
+    let recorded = standing.cleared + standing.transcript.len() as u64 + 1;
+    if MOST_RECORDED < recorded {
         Finding::Unread(Fault::Transcript)
     } else {
         Finding::Reset
@@ -140,28 +140,28 @@ fn find_read<A: Allocator, E: Evaluator<A>>(
     ensures found { IfOk result (λ f. FindsRead standing.now.limits (state_of standing.now) text.now (finding_of f)) }
     ensures charges { IfOk result (CanCharge (state_of standing.now)) }
 {
-    match sense(standing, alloc, text)? {
-        Sense::Stuck(at) => Ok(Finding::Refused(Fault::Lexical(at), 0)),
-        Sense::NoForm => Ok(Finding::Refused(Fault::Syntax, 0)),
-        Sense::TooHigh => Ok(Finding::Refused(Fault::Nested, 0)),
-        Sense::Form(form) => {
+    match read_form(standing, alloc, text)? {
+        Reading::Stuck(at) => Ok(Finding::Refused(Fault::Lexical(at), 0)),
+        Reading::NoForm => Ok(Finding::Refused(Fault::Syntax, 0)),
+        Reading::TooHigh => Ok(Finding::Refused(Fault::Nested, 0)),
+        Reading::Form(form) => {
             let finding = find_form(standing, alloc, form, by)?;
             Ok(finding)
         }
     }
 }
 
-// What the line comes to, behind the parts before it.
+// Reads the line together with the parts before it.
 #[inline]
-fn sense(standing: &Standing, alloc: Global, text: &[u8]) -> Result<Sense, AllocError>
-    ensures { IfOk result (λ sense. HasSense (standing.now.pending.items ++ text.now) (seen_sense sense)) }
+fn read_form(standing: &Standing, alloc: Global, text: &[u8]) -> Result<Reading, AllocError>
+    ensures { IfOk result (λ reading. HasReading (standing.now.pending.items ++ text.now) (reading_of reading)) }
 {
     if standing.pending.is_empty() {
-        return sense_of(alloc, text);
+        return reading_of(alloc, text);
     }
     let mut form = Vec::from_slice(alloc, standing.pending.as_slice())?;
     form.extend_from_slice(text)?;
-    sense_of(alloc, form.as_slice())
+    reading_of(alloc, form.as_slice())
 }
 
 // A reset is these six bytes, and no others.
@@ -171,7 +171,7 @@ fn is_reset(text: &[u8]) -> bool
     text == b":reset".as_slice()
 }
 
-// Whether the form goes on behind the line.
+// Whether the line is part of a form that isn't complete yet.
 fn is_part(text: &[u8]) -> bool
     ensures { result ≡ is_part text.now }
 {

@@ -28,13 +28,13 @@ use std::alloc::{AllocError, Allocator, Global};
 use std::marker::Model;
 use std::thread::Threads;
 
-/// A session. Contracts see its limits, what the last reset left, and the lines that it stored since, of which its
-/// state is the replay.
+/// A session. Contracts see its limits, what the last reset left, and the lines that it has stored since. Its state is
+/// the replay of these lines.
 pub struct Session {
     standing: Standing,
 }
 
-// By hand, so that no crate above has to prove how the parts are dropped.
+// Written by hand, so that no crate that uses this one has to prove how the parts are dropped.
 impl Drop for Session {
     fn drop(self) {
         let Session { standing } = self;
@@ -85,7 +85,7 @@ impl Session {
     ghost use Rattle.nesl_session.specs.Inside.{state_of, log_of, IsSound};
     ghost use Rattle.nesl_session.specs.Names.{names_left};
 
-    /// The empty session: nothing bound, nothing recorded, all of its work left.
+    /// The empty session: nothing is bound or recorded, and all of its work is left.
     pub fn new(alloc: Global, limits: Limits) -> Result<Session, AllocError>
         ensures empty { IfOk result (λ s. s ≡ empty_log limits) }
         ensures replayed { IfOk result (λ s. (state : State) × Replays s state) }
@@ -95,14 +95,14 @@ impl Session {
         })
     }
 
-    /// The limits that it was given.
+    /// The limits that the session was given.
     pub fn limits(&self) -> Limits
         ensures { result ≡ self.now.limits }
     {
         self.standing.limits
     }
 
-    /// The lines that it stored since the last reset, of which its state is the replay.
+    /// The lines that the session has stored since the last reset. Its state is their replay.
     pub fn lines(&self) -> &[Vec<u8>]
         ensures lines { map (λ v. v.items) result.now ≡ self.now.lines }
         ensures replayed { (state : State) × Replays self.now state }
@@ -110,28 +110,28 @@ impl Session {
         self.standing.transcript.as_slice()
     }
 
-    /// The work that was left at the last reset, or at first.
+    /// The work that was left at the last reset, or at first if there was none.
     pub fn base(&self) -> u64
         ensures { result ≡ self.now.base }
     {
         self.standing.base
     }
 
-    /// The lines that it was told until the last reset, the reset included.
+    /// The number of lines recorded until the last reset, the reset included.
     pub fn cleared(&self) -> u64
         ensures { result ≡ self.now.cleared }
     {
         self.standing.cleared
     }
 
-    /// The lines that it was told: those that it stored, and those that resets cleared.
+    /// The number of recorded lines: those that the session stores, and those that resets cleared.
     pub fn recorded_lines(&self) -> u64
         ensures { result ≡ recorded_lines self.now }
     {
         self.standing.cleared + self.standing.transcript.len() as u64
     }
 
-    /// The parts of a form that goes on.
+    /// The joined parts of a form that isn't complete yet.
     pub fn pending(&self) -> &[u8]
         ensures { (s : State) × Replays self.now s × (result.now ≡ s.pending) }
     {
@@ -165,41 +165,40 @@ impl Session {
         }
     }
 
-    /// What the names stand for.
+    /// What the names mean.
     pub fn meanings(&self) -> &Bindings
         ensures { (s : State) × Replays self.now s × (bindings_of result.now ≡ s.bindings) }
     {
         &self.standing.bindings
     }
 
-    /// Why a line would be refused, if it would: for as much work as the line takes it is found out, and nothing
-    /// changes.
+    /// Why a line would be refused, or `None` if it wouldn't. This takes as much work as the line, and changes nothing.
     pub fn fault_of(&self, alloc: Global, text: &[u8]) -> Result<Option<Fault>, AllocError>
         ensures { IfOk result (AnswersWith self.now text.now) }
     {
         let finding = find(&self.standing, alloc, text, &InPlace)?;
         let fault = finding.fault();
-        finding.let_go();
+        finding.release();
         Ok(fault)
     }
 
-    /// One line. The answer is the step's, or want of memory, which leaves all as it was.
+    /// Answers one line. The answer is the step's, or `fault memory`, which changes nothing.
     pub fn line(&mut self, alloc: Global, text: &[u8]) -> Answer
         ensures { Responds self.old text.now result self.new }
     {
         self.line_by(alloc, text, &InPlace)
     }
 
-    /// One line, evaluated in `heap`, from which the value that is bound is copied. The answer is the step's, or want
-    /// of memory, which leaves all as it was.
+    /// Answers one line, which is evaluated in `heap`. A value that is bound is copied out of the heap. The answer is
+    /// the step's, or `fault memory`, which changes nothing.
     pub fn line_in<A: Allocator + Copy>(&mut self, alloc: Global, text: &[u8], heap: A) -> Answer
         ensures { Responds self.old text.now result self.new }
     {
         self.line_by(alloc, text, &InHeap { heap })
     }
 
-    /// One line, evaluated in halves that threads share where `helpers` are granted: it waits for these threads. The
-    /// answer is the step's, or want of memory, which leaves all as it was.
+    /// Answers one line, which is evaluated in halves that threads share, where `helpers` are granted. The call waits
+    /// for these threads. The answer is the step's, or `fault memory`, which changes nothing.
     pub fn line_split<R: Threads + Sync, H: Helpers + Sync, G: Gate + Sync>(
         &mut self,
         rt: &R,
@@ -216,7 +215,7 @@ impl Session {
         self.line_by(alloc, text, &ByCall { call })
     }
 
-    // One line, whoever evaluates.
+    // Answers one line by an evaluator.
     fn line_by<A: Allocator, E: Evaluator<A>>(
         &mut self,
         alloc: Global,
@@ -239,7 +238,7 @@ impl Session {
         by: &E,
     ) -> Result<Answer, AllocError>
         requires { E.sound by.now }
-        ensures told { IfOk result (λ a. Responds self.old text.now a self.new) }
+        ensures ok { IfOk result (λ a. Responds self.old text.now a self.new) }
         ensures err { OnErr result (self.new ≡ self.old) }
     {
         let answer = step(&mut self.standing, alloc, text, by)?;

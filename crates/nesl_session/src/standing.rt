@@ -1,4 +1,4 @@
-//! How a session stands, and what a line changes.
+//! The state of a session, and what a line changes in it.
 ghost use Rattle.std.specs.Prelude.{◌≡◌, ◌+◌, ◌-◌, ◌<◌, ◌≤◌, ◌^◌, ◌++◌, ℕ, [], true, IfOk, OnOk, OnErr, codes, length};
 ghost use Rattle.std.specs.Prelude.{take, sum_by, vec_len, vec_capacity};
 ghost use Rattle.nesl_session_bindings.specs.Known.{put_binding};
@@ -13,24 +13,24 @@ use nesl_session_bindings::Bindings;
 use nesl_session_meaning::limits::Limits;
 use std::alloc::{AllocError, Global};
 
-/// How a session stands.
+/// The state of a session, as its fields hold it.
 pub struct Standing {
     pub limits: Limits,
     pub bindings: Bindings,
     pub work_left: u64,
     /// The lines stored since the last reset.
     pub transcript: Vec<Vec<u8>>,
-    /// The bytes of these lines.
+    /// The number of bytes of these lines.
     pub bytes: u64,
-    /// The parts of a form that goes on.
+    /// The joined parts of a form that isn't complete yet.
     pub pending: Vec<u8>,
     /// The work that was left at the last reset.
     pub base: u64,
-    /// The lines that were told until the last reset, itself included.
+    /// The number of lines recorded until the last reset, the reset included.
     pub cleared: u64,
 }
 
-// By hand, so that no crate above has to prove how the parts are dropped.
+// Written by hand, so that no crate that uses this one has to prove how the parts are dropped.
 impl Drop for Standing {
     fn drop(self) {
         let Standing {
@@ -50,7 +50,7 @@ impl Drop for Standing {
 impl Standing {
     ghost use Rattle.nesl_session.specs.Inside.{state_of, Counts};
 
-    /// As a reset leaves it: so much work left, so many lines told.
+    /// The state that a reset leaves, with this work left and this number of recorded lines.
     pub fn opened(alloc: Global, limits: Limits, base: u64, cleared: u64) -> Standing
         requires { cleared ≤ most_recorded }
         ensures state { state_of result ≡ opening base cleared }
@@ -69,8 +69,8 @@ impl Standing {
         }
     }
 
-    /// What a line leaves of which this was found. Each growth comes before the first change, and where a name is bound
-    /// that is the first change.
+    /// Changes the state by what was found of a line. All memory is allocated before the first change. Binding a name
+    /// may run out of memory too, so it is the first change.
     pub fn settle(&mut self, alloc: Global, text: &[u8], finding: Finding) -> Result<(), AllocError>
         requires counts { Counts self.old }
         requires can { CanSettle (state_of self.old) text.now finding }
@@ -87,8 +87,8 @@ impl Standing {
             }
             Finding::Part => self.take_part(alloc, text),
             Finding::Refused(_, work) => self.take_read(alloc, text, work),
-            Finding::Told(shown) => {
-                shown.let_go();
+            Finding::Answered(shown) => {
+                shown.release();
                 self.take_read(alloc, text, 0)
             }
             Finding::Defined(definition) => self.take_definition(alloc, text, definition),
@@ -97,21 +97,21 @@ impl Standing {
 
     fn reset(&mut self, alloc: Global)
         requires counts { Counts self.old }
-        requires told { recorded_by_reset (state_of self.old) ≤ most_recorded }
+        requires few { recorded_by_reset (state_of self.old) ≤ most_recorded }
         ensures state { state_of self.new ≡ opening self.old.work_left (recorded_by_reset (state_of self.old)) }
         ensures counts { Counts self.new }
         ensures limits { self.new.limits ≡ self.old.limits }
     {
-        let told = self.cleared + self.transcript.len() as u64 + 1;
+        let recorded = self.cleared + self.transcript.len() as u64 + 1;
         self.bindings = Bindings::new(alloc);
         self.transcript = Vec::new(alloc);
         self.bytes = 0;
         self.pending = Vec::new(alloc);
         self.base = self.work_left;
-        self.cleared = told;
+        self.cleared = recorded;
     }
 
-    // A line that is part of a form is stored, and joined to the parts before it.
+    // Stores a line that is part of a form, and joins it to the parts before it.
     fn take_part(&mut self, alloc: Global, text: &[u8]) -> Result<(), AllocError>
         requires counts { Counts self.old }
         requires fits { HasRoomFor (state_of self.old) text.now }
@@ -127,7 +127,7 @@ impl Standing {
         Ok(())
     }
 
-    // A line that was read is stored and charged.
+    // Stores and charges a line that was read.
     fn take_read(&mut self, alloc: Global, text: &[u8], work: u64) -> Result<(), AllocError>
         requires counts { Counts self.old }
         requires fits { HasRoomFor (state_of self.old) text.now }
@@ -143,7 +143,7 @@ impl Standing {
         Ok(())
     }
 
-    // A line that binds a name, which is the first change.
+    // Binds a name, which is the first change, and then stores and charges the line.
     fn take_definition(
         &mut self,
         alloc: Global,
@@ -162,7 +162,7 @@ impl Standing {
         let line = match room_for(&mut self.transcript, alloc, text) {
             Ok(line) => line,
             Err(error) => {
-                definition.let_go();
+                definition.release();
                 return Err(error);
             }
         };
@@ -185,7 +185,7 @@ impl Standing {
         self.transcript.push_reserved(line);
     }
 
-    // Charges the work of a line that was read, after which no part is left.
+    // Charges the work of a line that was read, after which no part of a form is left.
     fn charge(&mut self, work: u64)
         requires counts { Counts self.old }
         requires paid { work ≤ self.old.work_left }
@@ -199,7 +199,7 @@ impl Standing {
     }
 }
 
-// A line as it is to be stored, and room for it.
+// Copies a line that is to be stored, and reserves room for it.
 fn room_for(
     transcript: &mut Vec<Vec<u8>>,
     alloc: Global,
@@ -227,7 +227,6 @@ fn join(pending: &mut Vec<u8>, text: &[u8]) -> Result<(), AllocError>
     Ok(())
 }
 
-// Binds a name.
 fn define(bindings: &mut Bindings, alloc: Global, definition: Definition) -> Result<(), AllocError>
     requires { CanBe (bindings_of bindings.old) definition }
     ensures ok { OnOk result (bindings_of bindings.new

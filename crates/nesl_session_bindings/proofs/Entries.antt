@@ -1,4 +1,4 @@
--- Entries as bindings: what each reading of the one says of the other.
+-- Entries as bindings: what holds of the ones by the others.
 use Rattle.std.proofs.Common.{◌≡◌, ℕ, Bool, true, false, refl, sym, ap, subst, List, [], ◌∷◌, map, Option, Some, None}
 use Rattle.std.specs.Prelude.{option_map, option_and_then, ◌+◌, if◌then◌else◌}
 use Rattle.std.specs.Option.{option_map_or}
@@ -101,7 +101,7 @@ known_is es h = λ i.
     names_from (λ x. looked_up type_of as_variable refl variable_is x es h i) (λ x. looked_up referent_of as_function refl function_is x es h i)
     (λ x. looked_up record_of as_datatype refl record_is x es h i)
 
--- what names stand for
+-- what names mean
 pub environment_is : (es : List Entry) → AllFit es → environment (bindings_of es) ≡ stored.environment es
 environment_is [] h = refl
 environment_is (e ∷ es) h = λ i. (e.0, top_is e.1 e.2 h.0 i) ∷ environment_is es h.1 i

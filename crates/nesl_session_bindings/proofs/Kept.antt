@@ -23,7 +23,7 @@ use Rattle.nesl_eval_top_level.specs.Stored.{Entry, top_of}
 use Rattle.nesl_eval_sound.specs.Lines as lines
 use Rattle.nesl_eval_sound.specs.Lines.{IsSound}
 use Rattle.nesl_eval_sound.specs.Inferred.{InferredVariablesStaySound, InferredFunctionsStaySound, WrittenDatatypesStaySound}
-use Rattle.nesl_session_bindings.specs.Beside.{elements_beside}
+use Rattle.nesl_session_bindings.specs.Others.{other_elements}
 use Rattle.nesl_session_bindings.specs.Known.{known, datatype_count, put_binding}
 use Rattle.nesl_session_bindings.specs.Meanings.{Meaning, elements_in, elements_of}
 use Rattle.nesl_session_bindings.specs.Nodes.{expression_nodes}
@@ -34,12 +34,12 @@ use Rattle.nesl_session_bindings.proofs.Entries.{known_is, environment_is, put_i
 use Rattle.nesl_session_bindings.proofs.Free.{variable_free, function_free, nothing_there}
 
 module _ (es : List Entry) (n : ℕ) (kept : AreKept es n) (x : Name) where
-  counted : (t : kinds.Top) (p : Payload) (m : ℕ) → m ≡ elements_beside x (bindings_of es) + elements_in (meaning_of t p) →
+  counted : (t : kinds.Top) (p : Payload) (m : ℕ) → m ≡ other_elements x (bindings_of es) + elements_in (meaning_of t p) →
       elements_of (bindings_of (with_name x t p es)) ≡ m
   counted t p m e = ap elements_of (put_is x t p es) ∙ put_elements x (meaning_of t p) (bindings_of es) ∙ sym e
 
   pub variable_kept : InferredVariablesStaySound {P = Payload} top_of → (t : Term) (v : Value Global) → IsComputed (bindings_of es) t (tree_of v) →
-      RefusesDefinition (bindings_of es) x (a_variable t) None → (m : ℕ) → m ≡ elements_beside x (bindings_of es) + size (tree_of v) →
+      RefusesDefinition (bindings_of es) x (a_variable t) None → (m : ℕ) → m ≡ other_elements x (bindings_of es) + size (tree_of v) →
       AreKept (with_name x (kind.Variable t) (payload.Variable v) es) m
   variable_kept law t v (e, levels, w, d, inferred, came) free m count =
       let ty = subst (λ (k : OwnName → Names). IsTypeBy k e (typed t)) (known_is es kept.fit) inferred in
@@ -52,7 +52,7 @@ module _ (es : List Entry) (n : ℕ) (kept : AreKept es n) (x : Name) where
 
   pub function_kept : InferredFunctionsStaySound {P = Payload} top_of → (s : Scheme) (p : Pattern) (e : Exp) →
       (g : Option SignatureTree) × IsFunctionBy (known (bindings_of es)) x (syntax.pattern_tree p) g (syntax.tree_of e) (typed (function_type s)) →
-      RefusesDefinition (bindings_of es) x (a_function (function_type s)) None → (m : ℕ) → m ≡ elements_beside x (bindings_of es) + expression_nodes (syntax.tree_of e) →
+      RefusesDefinition (bindings_of es) x (a_function (function_type s)) None → (m : ℕ) → m ≡ other_elements x (bindings_of es) + expression_nodes (syntax.tree_of e) →
       AreKept (with_name x (kind.Function s) (payload.Function p e) es) m
   function_kept law s p e (g, inferred) free m count =
       let ty = subst (λ (k : OwnName → Names). IsFunctionBy k x (syntax.pattern_tree p) g (syntax.tree_of e) (typed (function_type s))) (known_is es kept.fit) inferred in
@@ -63,7 +63,7 @@ module _ (es : List Entry) (n : ℕ) (kept : AreKept es n) (x : Name) where
       }
 
   pub datatype_kept : WrittenDatatypesStaySound {P = Payload} top_of → (tag : ℕ) → tag ≡ lines.datatypes es → (t : Term) →
-      (a : TypeTree) × IsContentBy (known (bindings_of es)) a (typed t) → RefusesDefinition (bindings_of es) x a_datatype None → (m : ℕ) → m ≡ elements_beside x (bindings_of es) + nodes t →
+      (a : TypeTree) × IsContentBy (known (bindings_of es)) a (typed t) → RefusesDefinition (bindings_of es) x a_datatype None → (m : ℕ) → m ≡ other_elements x (bindings_of es) + nodes t →
       AreKept (with_name x (kind.Datatype tag t) payload.Datatype es) m
   datatype_kept law tag same t (a, written) free m count =
       let ty = subst (λ (k : OwnName → Names). IsContentBy k a (typed t)) (known_is es kept.fit) written in
@@ -81,14 +81,14 @@ module _ (es self new : List Entry) (x : Name) (seen : es ≡ self) where
       ap (λ (bs : List Entry). bindings_of bs) e ∙ put_is x t p es ∙ ap (λ (bs : List Entry). put_binding x (meaning_of t p) (bindings_of bs)) seen
 
   -- their elements are few enough
-  pub few_enough : (m : Meaning) (limit a b : ℕ) → a ≡ elements_beside x (bindings_of es) → b ≡ elements_in m →
+  pub few_enough : (m : Meaning) (limit a b : ℕ) → a ≡ other_elements x (bindings_of es) → b ≡ elements_in m →
       elements_of (put_binding x m (bindings_of self)) < limit → a + b < limit
   few_enough m limit a b e f h =
-      let same : elements_beside x (bindings_of es) ≡ elements_beside x (bindings_of self) = ap (λ (bs : List Entry). elements_beside x (bindings_of bs)) seen in
+      let same : other_elements x (bindings_of es) ≡ other_elements x (bindings_of self) = ap (λ (bs : List Entry). other_elements x (bindings_of bs)) seen in
       omega (arith, same, e, f, h, put_elements x m (bindings_of self))
 
-  module _ (n a b : ℕ) (kept : AreKept es n) (beside : a ≡ elements_beside x (bindings_of es)) where
-    sum : (k : ℕ) → b ≡ k → a + b ≡ elements_beside x (bindings_of es) + k
+  module _ (n a b : ℕ) (kept : AreKept es n) (beside : a ≡ other_elements x (bindings_of es)) where
+    sum : (k : ℕ) → b ≡ k → a + b ≡ other_elements x (bindings_of es) + k
     sum k f = omega (arith, beside, f)
 
     pub variable_set : InferredVariablesStaySound {P = Payload} top_of → (t : Term) (v : Value Global) → IsComputed (bindings_of self) t (tree_of v) →

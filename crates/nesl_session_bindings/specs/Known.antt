@@ -1,4 +1,4 @@
--- What the names of a session are to typing, to evaluation and to replies.
+-- What the names of a session mean to typing, to evaluation and to replies.
 use Rattle.std.specs.Prelude.{ℕ, ◌+◌, ◌==◌, Bool, true, false, List, [], ◌∷◌, map, Option, Some, None}
 use Rattle.std.specs.Prelude.{option_and_then, if◌then◌else◌}
 use Rattle.std.specs.Option.{option_map_or}
@@ -12,7 +12,7 @@ use Rattle.nesl_eval_meaning.specs.Names.{Name, Environment, variable_of, functi
 use Rattle.nesl_reply.specs.Values.{DatatypesByTag}
 use Rattle.nesl_session_bindings.specs.Meanings.{Meaning, Binding, variable, function, datatype}
 
--- what a name stands for
+-- what a name means
 abbrev pub meaning_in : List Binding → Name → Option Meaning
 meaning_in [] x = None
 meaning_in (b ∷ bs) x = if bytes_eq x b.name then Some b.meaning else meaning_in bs x
@@ -23,7 +23,7 @@ type_of (variable t v) = Some t
 type_of (function f p e) = None
 type_of (datatype tag t) = None
 
--- what stands before `(`: a function, or a datatype that makes a record
+-- what a name before `(` refers to: a function, or a datatype that makes a record
 abbrev pub referent_of : Meaning → Option Referent
 referent_of (variable t v) = None
 referent_of (function f p e) = Some (names.function f)
@@ -41,7 +41,7 @@ known bs =
     names_from (λ x. option_and_then type_of (meaning_in bs x)) (λ x. option_and_then referent_of (meaning_in bs x))
     (λ x. option_and_then record_of (meaning_in bs x))
 
--- what names stand for, for evaluation
+-- what names mean, for evaluation
 abbrev pub top_of : Meaning → code.Top
 top_of (variable t v) = variable_of v
 top_of (function f p e) = function_of p e

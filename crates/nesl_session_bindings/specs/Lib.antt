@@ -3,4 +3,4 @@ pub mod Meanings
 pub mod Known
 pub mod Redefinition
 pub mod Stored
-pub mod Beside
+pub mod Others

@@ -1,4 +1,4 @@
--- What the top-level names of a session stand for, without where it lies in memory.
+-- What the top-level names of a session mean, without the places in memory.
 use Rattle.std.specs.Prelude.{ℕ, List, sum_by}
 use Rattle.nesl_types_shared.specs.Term.{Term, nodes}
 use Rattle.nesl_values.specs.Tree.{size}
@@ -7,8 +7,8 @@ use Rattle.nesl_builtins.specs.FunctionTypes.{FunctionType}
 use Rattle.nesl_eval_meaning.specs.Names.{Name, Value}
 use Rattle.nesl_session_bindings.specs.Nodes.{expression_nodes}
 
--- What a name stands for: a variable with its type and its value; a function with its type, its parameter and its body;
--- a datatype with its tag and the type that its records hold.
+-- What a name means. A variable has a type and a value. A function has a type, a parameter and a body. A datatype has a
+-- tag and the type that its records hold.
 pub data Meaning : Type 0 where
   variable : (type : Term) (value : Value) → Meaning
   function : (type : FunctionType) (parameter : PatternTree) (body : Tree) → Meaning
@@ -18,7 +18,7 @@ pub record Binding : Type 0 where
   pub name : Name
   pub meaning : Meaning
 
--- the elements of a name: the nodes of a value, of a function's body, of what a datatype holds
+-- the number of elements of a name: the nodes of a value, of a function's body, or of what a datatype holds
 abbrev pub elements_in : Meaning → ℕ
 elements_in (variable t v) = size v
 elements_in (function f p e) = expression_nodes e

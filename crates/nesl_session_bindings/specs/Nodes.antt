@@ -1,5 +1,5 @@
--- How many expression nodes a body has. Each node counts, the pair of an argument list and the unwritten body of an
--- apply-to-each too; patterns and written types do not.
+-- The number of expression nodes of a body. Each node counts, also the pair of an argument list and the unwritten body
+-- of an apply-to-each. Patterns and written types do not count.
 use Rattle.std.specs.Prelude.{ℕ, ◌+◌}
 use Rattle.nesl_syntax_tree.specs.Trees.{Tree, Shape, Trees, Binders, node, none, more, no_binders, binder}
 use Rattle.nesl_syntax_tree.specs.Trees as trees

@@ -1,4 +1,4 @@
--- Definitions that are refused because of what stands already. The two rules are this profile's.
+-- Definitions that are refused because of the names that are bound already. The two rules are this profile's.
 use Rattle.std.specs.Prelude.{◌≡◌, Bool, true, false, ◌&&◌, ◌||◌, is_some, List, Option, Some, None, codes}
 use Rattle.std.specs.Str.{bytes_eq}
 use Rattle.nesl_types_shared.specs.Term.{Term}
@@ -11,13 +11,13 @@ use Rattle.nesl_session_bindings.specs.declared.refusal.Refusal.TheVariants.{Ret
 use Rattle.nesl_session_bindings.specs.Meanings.{Meaning, Binding, variable, function, datatype}
 use Rattle.nesl_session_bindings.specs.Known.{meaning_in, environment}
 
--- what a name is to be: a variable of a type, a function of a type, or a datatype
+-- what a definition makes of a name: a variable of a type, a function of a type, or a datatype
 pub data Definition : Type 0 where
   a_variable : Term → Definition
   a_function : FunctionType → Definition
   a_datatype : Definition
 
--- a variable or function becomes one of another type; a variable and a function differ
+-- a variable or a function gets another type; a variable and a function always differ
 abbrev pub ChangesType : Option Meaning → Definition → Type 0
 ChangesType (Some (variable t v)) (a_variable u) = t ≡ u → ⊥
 ChangesType (Some (variable t v)) (a_function g) = Unit {0}
@@ -25,22 +25,22 @@ ChangesType (Some (function f p e)) (a_variable u) = Unit {0}
 ChangesType (Some (function f p e)) (a_function g) = f ≡ g → ⊥
 ChangesType _ _ = ⊥
 
--- it would, though the body of another function refers to it
+-- the type would change, though the body of another function refers to the name
 abbrev pub IsRetyped : List Binding → Name → Definition → Type 0
 IsRetyped bs x k = (is_referred x (environment bs) ≡ true) × ChangesType (meaning_in bs x) k
 
--- the name of the value of a line that names none
+-- the name that is bound to the value of an expression alone
 abbrev pub it : Name
 it = codes "it"
 
--- whether the name is a datatype's, or any that is bound where a datatype is to be defined
+-- whether the name is a datatype, or is bound and would become a datatype
 abbrev pub is_in_use : Option Meaning → Definition → Bool
 is_in_use None k = false
 is_in_use (Some m) a_datatype = true
 is_in_use (Some (datatype tag t)) k = true
 is_in_use (Some m) k = false
 
--- `it` is a variable alone
+-- `it` can only be a variable
 abbrev pub is_no_variable : Definition → Bool
 is_no_variable (a_variable t) = false
 is_no_variable (a_function f) = true
@@ -49,7 +49,7 @@ is_no_variable a_datatype = true
 abbrev pub is_taken : List Binding → Name → Definition → Bool
 is_taken bs x k = is_some (builtin_named x) || is_in_use (meaning_in bs x) k || (bytes_eq x it && is_no_variable k)
 
--- why a definition is refused, if it is: its type is looked at first
+-- why a definition is refused, if it is: a change of type is checked first
 abbrev pub RefusesDefinition : List Binding → Name → Definition → Option Refusal → Type 0
 RefusesDefinition bs x k (Some Retype) = IsRetyped bs x k
 RefusesDefinition bs x k (Some Taken) = (IsRetyped bs x k → ⊥) × (is_taken bs x k ≡ true)

@@ -1,4 +1,4 @@
--- What the code's own types stand for: the entries of an environment as bindings, and what is kept of them.
+-- What the code's own types mean: the entries of an environment as bindings, and what is kept of them.
 use Rattle.std.specs.Prelude.{◌≡◌, ℕ, List, [], ◌∷◌, map}
 use Rattle.nesl_types.specs.declared.bindings.Top as kinds
 use Rattle.nesl_types.specs.declared.bindings.Top.TheVariants as kind
@@ -28,7 +28,7 @@ PayloadFits (kind.Function s) (payload.Function p e) = Unit {0}
 PayloadFits (kind.Datatype tag t) payload.Datatype = Unit {0}
 PayloadFits _ _ = ⊥
 
--- what they mean where they fit; anything where they don't
+-- what they mean if they fit, and anything if they don't
 abbrev pub meaning_of : kinds.Top → Payload → Meaning
 meaning_of (kind.Variable t) (payload.Variable v) = variable t (tree_of v)
 meaning_of (kind.Function s) (payload.Function p e) =
@@ -46,19 +46,19 @@ abbrev pub AllFit : List Entry → Type 0
 AllFit [] = Unit {0}
 AllFit (b ∷ bs) = PayloadFits b.1 b.2 × AllFit bs
 
--- the entries fit, each name stands for what its type says, and their elements are as many
+-- the entries fit, each name means what its type promises, and this is the number of their elements
 pub record AreKept (bs : List Entry) (elements : ℕ) : Type 0 where
   pub fit : AllFit bs
   pub sound : IsSound top_of bs
   pub counted : elements_of (bindings_of bs) ≡ elements
 
--- an expression of that type comes to that value
+-- an expression of that type evaluates to that value
 abbrev pub IsComputed : List Binding → Term → Value → Type 0
 IsComputed bs t v =
     (e : Tree) × (n : ℕ) × (w : ℕ) × (d : ℕ) × IsTypeBy (known bs) e (typed t) ×
     (out n (environment bs) (outside []) e ≡ value v w d)
 
--- what a name is to be, as the code says it
+-- what a definition makes of a name, by a `Kind` of the code
 abbrev pub kind_of : Kind → redefinition.Definition
 kind_of (Kind.Variable t) = a_variable t.now
 kind_of (Kind.Function s) = a_function (function_type s.now)

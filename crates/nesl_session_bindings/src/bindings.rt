@@ -15,7 +15,7 @@ ghost use Rattle.nesl_eval_meaning.specs.Out.{stuck};
 ghost use Rattle.nesl_eval_meaning.specs.Outcome.{out};
 ghost use Rattle.nesl_eval_top_level.specs.Stored as stored;
 ghost use Rattle.nesl_reply.specs.Replies.{report_of, report_text};
-ghost use Rattle.nesl_session_bindings.specs.Beside.{elements_beside};
+ghost use Rattle.nesl_session_bindings.specs.Others.{other_elements};
 ghost use Rattle.nesl_session_bindings.specs.Known.{datatype_count, datatypes_of, environment, known, put_binding};
 ghost use Rattle.nesl_session_bindings.specs.Meanings.{datatype, elements_in, elements_of, function, variable};
 ghost use Rattle.nesl_session_bindings.specs.Nodes.{expression_nodes};
@@ -24,7 +24,7 @@ ghost use Rattle.nesl_session_bindings.specs.Stored.{IsComputed, bindings_of, ki
 
 use crate::kind::Kind;
 use crate::refusal::Refusal;
-use crate::{beside, nodes, redefinition};
+use crate::{nodes, others, redefinition};
 use nesl_eval_sound::laws::inferred_lines_keep_types;
 use nesl_eval_top_level::{Env, Payload};
 use nesl_infer::InferFault;
@@ -35,13 +35,13 @@ use nesl_values::Value;
 use std::alloc::{AllocError, Allocator, Global};
 use std::marker::Model;
 
-/// The top-level names of a session in order of first definition: what each stands for, well typed.
+/// The top-level names of a session in order of first definition, with their meanings, which are well typed.
 pub struct Bindings {
     env: Env,
     elements: u64,
 }
 
-// By hand, so that no crate above has to prove how the parts are dropped.
+// Written by hand, so that no crate that uses this one has to prove how the parts are dropped.
 impl Drop for Bindings {
     fn drop(self) {
         let Bindings { env, elements: _ } = self;
@@ -86,7 +86,7 @@ impl Bindings {
         self.env.len()
     }
 
-    /// The name at a place.
+    /// The name at a place in the order of first definition, counted from 0.
     pub fn name_at(&self, place: usize) -> Option<&[u8]>
         ensures { option_map (λ x. x.now) result ≡ option_map (λ b. b.name) (slice_get (bindings_of self.now) place) }
     {
@@ -96,21 +96,21 @@ impl Bindings {
         }
     }
 
-    /// The elements of all names together.
+    /// The number of elements of all names together: nodes of values, of function bodies, and of datatypes' types.
     pub fn elements(&self) -> u64
         ensures { result ≡ elements_of (bindings_of self.now) }
     {
         self.elements
     }
 
-    /// The tag of the next datatype.
+    /// The tag that the next datatype gets.
     pub fn next_tag(&self) -> u64
         ensures { result ≡ datatype_count (bindings_of self.now) }
     {
         redefinition::datatypes(&self.env)
     }
 
-    /// What the names stand for, for evaluation.
+    /// What the names mean, as evaluation needs it.
     pub fn environment(&self) -> &Env
         ensures { stored.environment result.now ≡ environment (bindings_of self.now) }
     {
@@ -125,7 +125,7 @@ impl Bindings {
         nesl_infer::infer_exp(alloc, self.env.context(), exp)
     }
 
-    /// The scheme of a function.
+    /// The principal scheme of a function, or why it has none.
     pub fn infer_function(
         &self,
         alloc: Global,
@@ -142,14 +142,14 @@ impl Bindings {
         nesl_infer::infer_function(alloc, self.env.context(), name, pattern, signature, body)
     }
 
-    /// What the records of a datatype hold, as it is written.
+    /// The type that the records of a written datatype hold, or why there is none.
     pub fn infer_datatype(&self, alloc: Global, written: &TypeExp) -> Result<Ty, InferFault>
         ensures { AnswersVerdict (λ t. t) (IsContentBy (known (bindings_of self.now)) (type_tree written.now)) result }
     {
         nesl_infer::infer_datatype(alloc, self.env.context(), written)
     }
 
-    /// Why the name may not be this, if it may not. Its type is looked at first.
+    /// Why the name may not be defined so, or `None` if it may. A change of type is checked first.
     pub fn refusal(&self, name: &[u8], kind: Kind<'_>) -> Option<Refusal>
         ensures { RefusesDefinition (bindings_of self.now) name.now (kind_of kind.entry) result }
     {
@@ -163,14 +163,14 @@ impl Bindings {
         None
     }
 
-    /// The elements of all other names.
-    fn elements_beside(&self, name: &[u8]) -> u64
-        ensures { result ≡ elements_beside name.now (bindings_of self.now) }
+    /// The number of elements of all names but this one.
+    fn other_elements(&self, name: &[u8]) -> u64
+        ensures { result ≡ other_elements name.now (bindings_of self.now) }
     {
-        beside::elements_beside(&self.env, self.elements, name)
+        others::other_elements(&self.env, self.elements, name)
     }
 
-    // Whether all names have at most so many elements where a further one has this value.
+    // Whether all names have at most `limit` elements once a further one has this value.
     fn has_room_for_value<A: Allocator>(&self, value: &Value<A>, limit: u64) -> bool
         ensures { IsTrue result → (t : Term)
             → elements_of (bindings_of self.now) + elements_in (variable t (value_tree value.now)) ≤ limit }
@@ -181,7 +181,7 @@ impl Bindings {
         value.nodes() <= room
     }
 
-    // Whether all names have at most so many elements where a further one has this body.
+    // Whether all names have at most `limit` elements once a further one has this body.
     fn has_room_for_body(&self, body: &Exp, limit: u64) -> bool
         ensures { IsTrue result → elements_of (bindings_of self.now) + expression_nodes (tree_of body.now) ≤ limit }
     {
@@ -194,7 +194,7 @@ impl Bindings {
         }
     }
 
-    /// Whether all names have at most so many elements where the name is a variable with this value.
+    /// Whether all names have at most `limit` elements once this one is a variable with this value.
     pub fn fits_variable<A: Allocator>(&self, name: &[u8], value: &Value<A>, limit: u64) -> bool
         ensures { (t : Term) → result ≡ nat_le (elements_of
             (put_binding name.now (variable t (value_tree value.now)) (bindings_of self.now))) limit }
@@ -202,13 +202,13 @@ impl Bindings {
         if self.has_room_for_value(value, limit) {
             return true;
         }
-        match limit.checked_sub(self.elements_beside(name)) {
+        match limit.checked_sub(self.other_elements(name)) {
             Some(room) => value.nodes() <= room,
             None => false,
         }
     }
 
-    /// Whether all names have at most so many elements where the name is a function with this body.
+    /// Whether all names have at most `limit` elements once this one is a function with this body.
     pub fn fits_function(&self, name: &[u8], body: &Exp, limit: u64) -> bool
         ensures { (f : FunctionType) (p : PatternTree)
             → result
@@ -218,24 +218,24 @@ impl Bindings {
         if self.has_room_for_body(body, limit) {
             return true;
         }
-        match limit.checked_sub(self.elements_beside(name)) {
+        match limit.checked_sub(self.other_elements(name)) {
             Some(room) => nodes::room_left(body, room).is_some(),
             None => false,
         }
     }
 
-    /// Whether all names have at most so many elements where the name is a datatype whose records hold this.
+    /// Whether all names have at most `limit` elements once this one is a datatype whose records hold this type.
     pub fn fits_datatype(&self, name: &[u8], content: &Ty, limit: u64) -> bool
         ensures { (tag : ℕ) → result ≡ nat_le (elements_of
             (put_binding name.now (datatype tag content.now) (bindings_of self.now))) limit }
     {
-        match limit.checked_sub(self.elements_beside(name)) {
+        match limit.checked_sub(self.other_elements(name)) {
             Some(room) => content.room_left(room).is_some(),
             None => false,
         }
     }
 
-    /// The bytes of a reply, line end included.
+    /// The text of a reply, with its line end.
     pub fn reply_text(&self, alloc: Global, reply: &Reply<'_>) -> Result<Vec<u8>, AllocError>
         ensures { IfOk result (λ text. text.items ≡ report_text (datatypes_of (bindings_of self.now))
             (map (λ b. b.name) (bindings_of self.now)) (report_of reply.now) ++ codes "\n") }
@@ -243,7 +243,7 @@ impl Bindings {
         nesl_reply::reply_text(alloc, reply, self.env.context())
     }
 
-    /// A law: no expression that has a type is ever stuck.
+    /// A law: an expression that has a type is never stuck.
     pub fn typed_never_stuck(&self)
         ensures { (e : Tree) (t : Term) → IsTypeBy (known (bindings_of self.now)) e (typed t) → (n : ℕ)
             → out n (environment (bindings_of self.now)) (outside []) e ≡ stuck → ⊥ }
@@ -252,7 +252,7 @@ impl Bindings {
         let _env = &self.env;
     }
 
-    /// Makes the name a variable of the type of an expression, with the value that this came to.
+    /// Makes the name a variable with the type of an expression, and with the value to which the expression evaluates.
     pub fn set_variable(
         &mut self,
         alloc: Global,
@@ -269,8 +269,8 @@ impl Bindings {
         ensures err { OnErr result (self.new ≡ self.old) }
     {
         inferred_lines_keep_types::<Payload>();
-        let beside = beside::elements_beside(&self.env, self.elements, name);
-        let elements = beside + value.nodes();
+        let others = others::other_elements(&self.env, self.elements, name);
+        let elements = others + value.nodes();
         self.env
             .set(alloc, name, Top::Variable(ty), Payload::Variable(value))?;
         self.elements = elements;
@@ -299,8 +299,8 @@ impl Bindings {
         ensures err { OnErr result (self.new ≡ self.old) }
     {
         inferred_lines_keep_types::<Payload>();
-        let beside = beside::elements_beside(&self.env, self.elements, name);
-        let elements = beside + nodes::nodes(&body);
+        let others = others::other_elements(&self.env, self.elements, name);
+        let elements = others + nodes::nodes(&body);
         let payload = Payload::Function { pattern, body };
         self.env.set(alloc, name, Top::Function(scheme), payload)?;
         self.elements = elements;
@@ -324,8 +324,8 @@ impl Bindings {
         ensures err { OnErr result (self.new ≡ self.old) }
     {
         inferred_lines_keep_types::<Payload>();
-        let beside = beside::elements_beside(&self.env, self.elements, name);
-        let elements = beside + beside::nodes_of(&content);
+        let others = others::other_elements(&self.env, self.elements, name);
+        let elements = others + others::nodes_of(&content);
         let tag = redefinition::datatypes(&self.env);
         let payload = Payload::Datatype;
         self.env

@@ -1,10 +1,10 @@
 //! The top-level names of a session, kept well typed.
 #![tactic(auto)]
 
-mod beside;
 mod bindings;
 mod kind;
 mod nodes;
+mod others;
 mod redefinition;
 mod refusal;
 

@@ -1,4 +1,4 @@
-//! How many nodes expressions have, counted no further than there is room.
+//! The number of nodes of expressions, counted only as far as there is room.
 
 ghost use Rattle.std.specs.Prelude.{◌≡◌, ◌+◌, ◌<◌, ◌^◌, MatchOption};
 ghost use Rattle.nesl_syntax_tree.specs.Views.{tree_of, trees_in, binders_in};
@@ -6,7 +6,7 @@ ghost use Rattle.nesl_session_bindings.specs.Nodes.{expression_nodes, nodes_of_a
 
 use nesl_syntax_tree::tree::{Binding, Exp, Node};
 
-/// How many nodes the expression has.
+/// The number of nodes of the expression.
 pub fn nodes(exp: &Exp) -> u64
     requires { expression_nodes (tree_of exp.now) < 2 ^ 64 }
     ensures { result ≡ expression_nodes (tree_of exp.now) }
@@ -17,8 +17,8 @@ pub fn nodes(exp: &Exp) -> u64
     }
 }
 
-/// What is left of `room` after the nodes of the expression, or `None` where they are more. The most frequent leaves
-/// are counted where this is called.
+/// What is left of `room` after the nodes of the expression, or `None` if they are more. The most frequent leaves are
+/// counted inline.
 #[cycle(rooms)]
 #[inline(always)]
 pub fn room_left(exp: &Exp, room: u64) -> Option<u64>
@@ -38,7 +38,7 @@ pub fn room_left(exp: &Exp, room: u64) -> Option<u64>
     }
 }
 
-/// What is left of `room` after the nodes of an expression of any kind, or `None` where they are more.
+/// What is left of `room` after the nodes of an expression of any kind, or `None` if they are more.
 #[cycle(rooms)]
 fn room_left_by_node(exp: &Exp, room: u64) -> Option<u64>
     ensures { MatchOption result (room < expression_nodes (tree_of exp.now))
@@ -91,7 +91,7 @@ fn room_left_by_node(exp: &Exp, room: u64) -> Option<u64>
     }
 }
 
-/// What is left of `room` after the nodes of all these expressions, or `None` where they are more.
+/// What is left of `room` after the nodes of all these expressions, or `None` if they are more.
 #[cycle(rooms)]
 fn room_left_by_all(items: &[Exp], room: u64) -> Option<u64>
     ensures { MatchOption result (room < nodes_of_all (trees_in items.now))
@@ -105,7 +105,7 @@ fn room_left_by_all(items: &[Exp], room: u64) -> Option<u64>
     Some(left)
 }
 
-/// What is left of `room` after the nodes of what patterns are bound to, or `None` where they are more.
+/// What is left of `room` after the nodes of the values that patterns are bound to, or `None` if they are more.
 #[cycle(rooms)]
 fn room_left_bound(bindings: &[Binding], room: u64) -> Option<u64>
     ensures { MatchOption result (room < nodes_bound (binders_in bindings.now))

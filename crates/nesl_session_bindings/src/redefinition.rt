@@ -1,4 +1,4 @@
-//! Definitions that are refused because of what stands already.
+//! Definitions that are refused because of the names that are bound already.
 
 ghost use Rattle.std.specs.Prelude.{◌≡◌, ◌↔◌, ◌&&◌, IsTrue, Some, not, false, slice_get};
 ghost use Rattle.std.specs.Option.{option_map, option_map_or};
@@ -19,8 +19,8 @@ use nesl_eval_sound::refers_to;
 use nesl_eval_top_level::{Env, Payload};
 use nesl_types::Top;
 
-/// Whether the name would be a variable or a function of another type.
-fn is_other(top: &Top, kind: Kind<'_>) -> bool
+/// Whether the name would become a variable or a function of another type.
+fn changes_type(top: &Top, kind: Kind<'_>) -> bool
     ensures { (payload : Payload) → PayloadFits top.now payload
         → (IsTrue result ↔ ChangesType (Some (meaning_of top.now payload)) (kind_of kind.entry)) }
 {
@@ -39,7 +39,7 @@ fn is_other(top: &Top, kind: Kind<'_>) -> bool
     }
 }
 
-/// Whether it is a function whose body refers to the name.
+/// Whether the payload is a function whose body refers to the name.
 fn payload_refers(name: &[u8], payload: &Payload) -> bool
     ensures { (top : Top) → result ≡ top_refers name.now (top_of top payload.now) }
 {
@@ -50,7 +50,7 @@ fn payload_refers(name: &[u8], payload: &Payload) -> bool
     }
 }
 
-/// Whether another name stands at the place, a function's whose body refers to this one.
+/// Whether another name is at the place, and is a function whose body refers to this one.
 fn refers_at(env: &Env, place: usize, name: &[u8]) -> bool
     ensures { result ≡ option_map_or (λ b. not (bytes_eq b.0 name.now) && top_refers name.now (top_of b.1 b.2))
         (slice_get env.now place) false }
@@ -73,8 +73,8 @@ fn is_referred(env: &Env, name: &[u8]) -> bool
     false
 }
 
-/// Whether the type of what stands there under the name would change, though the body of another function refers to
-/// it. Bodies are looked through last.
+/// Whether the type of the name would change, though the body of another function refers to it. `there` is what the
+/// name means now. Bodies are searched last.
 pub fn is_retyped(env: &Env, name: &[u8], there: Option<(&Top, &Payload)>, kind: Kind<'_>) -> bool
     requires fit { AllFit env.now }
     requires stands { option_map (λ b. (b.0.now, b.1.now)) there ≡ found name.now env.now }
@@ -82,12 +82,12 @@ pub fn is_retyped(env: &Env, name: &[u8], there: Option<(&Top, &Payload)>, kind:
 {
     match there {
         None => false,
-        Some((top, _)) => is_other(top, kind) && is_referred(env, name),
+        Some((top, _)) => changes_type(top, kind) && is_referred(env, name),
     }
 }
 
-/// Whether what stands there under the name is a datatype, or anything where a datatype is to be defined.
-fn is_kept(_env: &Env, _name: &[u8], there: Option<(&Top, &Payload)>, kind: Kind<'_>) -> bool
+/// Whether the name is a datatype now, or is bound and would become a datatype.
+fn is_in_use(_env: &Env, _name: &[u8], there: Option<(&Top, &Payload)>, kind: Kind<'_>) -> bool
     requires fit { AllFit _env.now }
     requires stands { option_map (λ b. (b.0.now, b.1.now)) there ≡ found _name.now _env.now }
     ensures { result ≡ is_in_use (meaning_in (bindings_of _env.now) _name.now) (kind_of kind.entry) }
@@ -102,19 +102,19 @@ fn is_kept(_env: &Env, _name: &[u8], there: Option<(&Top, &Payload)>, kind: Kind
     }
 }
 
-/// Whether the name may not be this because of what it is, and of what stands there under it.
+/// Whether the name may not be defined so: it is built in, it is in use, or it is `it` and would be no variable.
 pub fn is_taken(env: &Env, name: &[u8], there: Option<(&Top, &Payload)>, kind: Kind<'_>) -> bool
     requires fit { AllFit env.now }
     requires stands { option_map (λ b. (b.0.now, b.1.now)) there ≡ found name.now env.now }
     ensures { result ≡ is_taken (bindings_of env.now) name.now (kind_of kind.entry) }
 {
     named(name).is_some()
-        || is_kept(env, name, there, kind)
+        || is_in_use(env, name, there, kind)
         || (name == b"it".as_slice() && kind.is_no_variable())
 }
 
-/// Whether a datatype stands at the place.
-fn is_type_at(env: &Env, place: usize) -> bool
+/// Whether the name at the place is a datatype.
+fn is_datatype_at(env: &Env, place: usize) -> bool
     ensures { result ≡ option_map_or (λ b. is_type b.1) (slice_get env.now place) false }
 {
     match env.at(place) {
@@ -133,7 +133,7 @@ pub fn datatypes(env: &Env) -> u64
 {
     let mut count = 0;
     for place in 0..env.len() {
-        if is_type_at(env, place) {
+        if is_datatype_at(env, place) {
             count += 1;
         }
     }

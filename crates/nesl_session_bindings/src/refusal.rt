@@ -5,6 +5,7 @@
 pub enum Refusal {
     /// Its type would change, and the body of another function refers to it.
     Retype,
-    /// It is a built-in function's or a datatype's, or it is `it`; or it is bound, and a datatype is to have it.
+    /// It is the name of a built-in function or of a datatype, or it is `it`; or it is bound, and would become a
+    /// datatype.
     Taken,
 }

@@ -1,4 +1,4 @@
--- What a line adds to the lines that a session was told.
+-- What a line adds to the lines that a session has recorded.
 use Rattle.std.proofs.Common.{◌≡◌, ℕ, List, [], ◌∷◌, ◌++◌, ◌+◌, length, length-append, Bool, true, false, Some, None, cond, sym, ap, ◌∙◌, arith}
 use Rattle.std.specs.Bool.{MatchBool}
 use Rattle.nesl_session_meaning.specs.declared.limits.Limits.{Limits}
@@ -13,7 +13,7 @@ use Rattle.nesl_session_meaning.specs.Laws.{RecordedLinesGrow, LimitsStay}
 abbrev one_if : Bool → ℕ
 one_if recorded = cond recorded 1 0
 
--- the lines that were told until this state
+-- the number of lines recorded until this state
 abbrev told_in : State → ℕ
 told_in s = s.cleared + length s.transcript
 

@@ -20,10 +20,10 @@ use Rattle.nesl_session_bindings.specs.declared.refusal.Refusal.TheVariants.{Ret
 use Rattle.nesl_session_bindings.specs.Redefinition.{Definition}
 use Rattle.nesl_session_meaning.specs.declared.limits.Limits.{Limits}
 use Rattle.nesl_session_meaning.specs.State.{State, Log, opening}
-use Rattle.nesl_session_meaning.specs.Sense.{Sense, HasSense, no_form, too_high, form}
-use Rattle.nesl_session_meaning.specs.Sense as senses
+use Rattle.nesl_session_meaning.specs.Reading.{Reading, HasReading, no_form, too_high, form}
+use Rattle.nesl_session_meaning.specs.Reading as readings
 use Rattle.nesl_session_meaning.specs.Response.{Reply, is_memory}
-use Rattle.nesl_session_meaning.specs.Finding.{Finding, unread, reset, part, refused, answered, bound_or_refused, FindsOutcome, IfTyped, IfAccepted, IfFree, FindsDefinition, FindsForm, FindsSense}
+use Rattle.nesl_session_meaning.specs.Finding.{Finding, unread, reset, part, refused, answered, bound_or_refused, FindsOutcome, IfTyped, IfAccepted, IfFree, FindsDefinition, FindsForm, FindsReading}
 use Rattle.nesl_session_meaning.specs.Step.{Step, Finds, after, reply_of, is_reset, is_full, is_part, longest, most_recorded, recorded_by_reset}
 use Rattle.nesl_session_meaning.specs.Solo.{SessionRuns, Replays, SessionAnswers, Responds}
 
@@ -42,7 +42,7 @@ solo_append limits s mid t [] ys (q ∷ qs) rs a b = absurd a
 solo_append limits s mid t (x ∷ xs) ys [] rs a b = absurd a
 solo_append limits s mid t (x ∷ xs) ys (q ∷ qs) rs a b = (a.0, a.1, solo_append limits a.0 mid t xs ys qs rs a.2 b)
 
--- with no line told, the state is what the last reset left
+-- with no line stored, the state is what the last reset left
 pub replays_none : (limits : Limits) (base cleared : ℕ) → Replays (log_at limits (opening base cleared)) (opening base cleared)
 replays_none limits base cleared = record { replies = []; run = refl; lines = refl; base = refl; cleared = refl }
 
@@ -89,7 +89,7 @@ alone_after old s t line reply r step =
       limits = refl;
     }
 
--- no step tells of want of memory
+-- no step has the fault `Memory`
 abbrev IsKept : State → Finding → Type 0
 IsKept s f = is_memory (reply_of s f) ≡ false
 
@@ -153,18 +153,18 @@ kept_line limits s trees.show_names f h = kept_is s f _ h refl
 kept_line limits s trees.show_budget f h = kept_is s f _ h refl
 kept_line limits s (trees.show_type e) f h = kept_then s h.0 _ (λ t g k. kept_is s g _ k refl) f h.2
 
-kept_sense : (limits : Limits) (s : State) (m : Sense) → AreKept s (FindsSense limits s m)
-kept_sense limits s (senses.no_token at) f h = kept_is s f _ h refl
-kept_sense limits s no_form f h = kept_is s f _ h refl
-kept_sense limits s too_high f h = kept_is s f _ h refl
-kept_sense limits s (form l) f h = kept_line limits s l f h
+kept_reading : (limits : Limits) (s : State) (m : Reading) → AreKept s (FindsReading limits s m)
+kept_reading limits s (readings.no_token at) f h = kept_is s f _ h refl
+kept_reading limits s no_form f h = kept_is s f _ h refl
+kept_reading limits s too_high f h = kept_is s f _ h refl
+kept_reading limits s (form l) f h = kept_line limits s l f h
 
--- a line is looked at for a reset, for room, for its length, for being a part, and then for its sense
+-- a line is looked at for a reset, for room, for its length, for being a part, and then for its reading
 abbrev pub Checks : (is_reset is_full is_long is_part : Bool) (x y z w : Finding) (K : Finding → Type 0) → Finding → Type 0
 Checks a b c d x y z w K f = MatchBool a (f ≡ x) (MatchBool b (f ≡ y) (MatchBool c (f ≡ z) (MatchBool d (f ≡ w) (K f))))
 
-abbrev pub Senses : Limits → State → List ℕ → Finding → Type 0
-Senses limits s line f = (sense : Sense) × HasSense (s.pending ++ line) sense × FindsSense limits s sense f
+abbrev pub Readings : Limits → State → List ℕ → Finding → Type 0
+Readings limits s line f = (reading : Reading) × HasReading (s.pending ++ line) reading × FindsReading limits s reading f
 
 kept_checks : (a b c d : Bool) (s : State) (x y z w : Finding) (K : Finding → Type 0) → IsKept s x → IsKept s y → IsKept s z → IsKept s w → AreKept s K → AreKept s (Checks a b c d x y z w K)
 kept_checks true b c d s x y z w K hx hy hz hw k f h = kept_is s f x h hx
@@ -177,8 +177,8 @@ pub kept : (limits : Limits) (s : State) (line : List ℕ) (f : Finding) → Fin
 unfolding Finds
 kept limits s line f h =
     kept_checks (is_reset line) (is_full limits s line) (nat_lt longest (length s.pending + length line)) (is_part line) s
-    (cond (nat_lt most_recorded (recorded_by_reset s)) (unread faults.Transcript) reset) (unread faults.Transcript) (unread faults.Long) part (Senses limits s line)
-    (kept_if s (nat_lt most_recorded (recorded_by_reset s)) (unread faults.Transcript) reset refl refl) refl refl refl (λ g m. kept_sense limits s m.0 g m.2) f h
+    (cond (nat_lt most_recorded (recorded_by_reset s)) (unread faults.Transcript) reset) (unread faults.Transcript) (unread faults.Long) part (Readings limits s line)
+    (kept_if s (nat_lt most_recorded (recorded_by_reset s)) (unread faults.Transcript) reset refl refl) refl refl refl (λ g m. kept_reading limits s m.0 g m.2) f h
 
 pub step_kept : (limits : Limits) (s t : State) (line : List ℕ) (reply : Reply) → Step limits s line reply t → is_memory reply ≡ false
 unfolding Step

@@ -20,12 +20,12 @@ use Rattle.nesl_session_bindings.specs.declared.refusal.Refusal.TheVariants.{Ret
 use Rattle.nesl_session_bindings.specs.Redefinition.{Definition, RefusesDefinition}
 use Rattle.nesl_session_meaning.specs.declared.limits.Limits.{Limits}
 use Rattle.nesl_session_meaning.specs.State.{State, Log, opening}
-use Rattle.nesl_session_meaning.specs.Sense.{Sense, HasSense, no_token, no_form, too_high, form, is_stuck, has_no_form, has_high_form, has_form}
+use Rattle.nesl_session_meaning.specs.Reading.{Reading, HasReading, no_token, no_form, too_high, form, has_no_token, has_no_form, has_high_form, has_form}
 use Rattle.nesl_session_meaning.specs.Response.{Reply}
-use Rattle.nesl_session_meaning.specs.Finding.{Finding, unread, reset, part, FindsOutcome, IfTyped, IfAccepted, IfFree, FindsDefinition, FindsVariable, FindsForm, FindsSense}
+use Rattle.nesl_session_meaning.specs.Finding.{Finding, unread, reset, part, FindsOutcome, IfTyped, IfAccepted, IfFree, FindsDefinition, FindsVariable, FindsForm, FindsReading}
 use Rattle.nesl_session_meaning.specs.Step.{Step, Finds, reply_of, after, is_reset, is_full, is_part, longest, most_recorded, recorded_by_reset}
 use Rattle.nesl_session_meaning.specs.Solo.{SessionRuns, Replays, SessionAnswers}
-use Rattle.nesl_session_meaning.proofs.Replayed.{Checks, Senses, solo_append, log_at, log_same}
+use Rattle.nesl_session_meaning.proofs.Replayed.{Checks, Readings, solo_append, log_at, log_same}
 
 -- what is known of tokens, of trees and of verdicts
 pub record Laws : Type 0 where
@@ -48,20 +48,20 @@ no_height : (l k : FormTree) → l ≡ k → 100 < form_height l → form_height
 no_height l k e h g = let P : FormTree → Type 0 = λ x. 100 < form_height x in let too_high : 100 < form_height k = subst P e h in omega (arith, too_high, g)
 
 -- a line means one thing
-pub means_unique : Laws → (line : List ℕ) (m n : Sense) → HasSense line m → HasSense line n → m ≡ n
-means_unique laws line (no_token a) (no_token b) (is_stuck s) (is_stuck t) = ap no_token (laws.one_place line b a t s)
-means_unique laws line (no_token a) no_form (is_stuck s) (has_no_form t n) = absurd (laws.not_both line _ a t s)
-means_unique laws line (no_token a) too_high (is_stuck s) (has_high_form t f h) = absurd (laws.not_both line _ a t s)
-means_unique laws line (no_token a) (form l) (is_stuck s) (has_form t f h) = absurd (laws.not_both line _ a t s)
-means_unique laws line no_form (no_token b) (has_no_form t n) (is_stuck s) = absurd (laws.not_both line _ b t s)
+pub means_unique : Laws → (line : List ℕ) (m n : Reading) → HasReading line m → HasReading line n → m ≡ n
+means_unique laws line (no_token a) (no_token b) (has_no_token s) (has_no_token t) = ap no_token (laws.one_place line b a t s)
+means_unique laws line (no_token a) no_form (has_no_token s) (has_no_form t n) = absurd (laws.not_both line _ a t s)
+means_unique laws line (no_token a) too_high (has_no_token s) (has_high_form t f h) = absurd (laws.not_both line _ a t s)
+means_unique laws line (no_token a) (form l) (has_no_token s) (has_form t f h) = absurd (laws.not_both line _ a t s)
+means_unique laws line no_form (no_token b) (has_no_form t n) (has_no_token s) = absurd (laws.not_both line _ b t s)
 means_unique laws line no_form no_form (has_no_form t n) (has_no_form u m) = refl
 means_unique laws line no_form too_high (has_no_form t n) (has_high_form u f h) = absurd (n _ (formed laws t u f))
 means_unique laws line no_form (form l) (has_no_form t n) (has_form u f h) = absurd (n l (formed laws t u f))
-means_unique laws line too_high (no_token b) (has_high_form t f h) (is_stuck s) = absurd (laws.not_both line _ b t s)
+means_unique laws line too_high (no_token b) (has_high_form t f h) (has_no_token s) = absurd (laws.not_both line _ b t s)
 means_unique laws line too_high no_form (has_high_form t f h) (has_no_form u n) = absurd (n _ (formed laws u t f))
 means_unique laws line too_high too_high (has_high_form t f h) (has_high_form u g k) = refl
 means_unique laws line too_high (form l) (has_high_form t f h) (has_form u g k) = absurd (no_height _ l (same_line laws t u f g) h k)
-means_unique laws line (form l) (no_token b) (has_form t f h) (is_stuck s) = absurd (laws.not_both line _ b t s)
+means_unique laws line (form l) (no_token b) (has_form t f h) (has_no_token s) = absurd (laws.not_both line _ b t s)
 means_unique laws line (form l) no_form (has_form t f h) (has_no_form u n) = absurd (n l (formed laws u t f))
 means_unique laws line (form l) too_high (has_form t f h) (has_high_form u g k) = absurd (no_height _ l (same_line laws u t g f) k h)
 means_unique laws line (form l) (form k) (has_form t f h) (has_form u g i) = ap form (same_line laws t u f g)
@@ -134,16 +134,16 @@ one_line laws limits s trees.show_names = one_is _
 one_line laws limits s trees.show_budget = one_is _
 one_line laws limits s (trees.show_type e) = one_judged (IsTypeBy (known s.bindings) e) (laws.expressions (known s.bindings) e) _ (λ t. one_is _)
 
-one_of_sense : Laws → (limits : Limits) (s : State) (m : Sense) → One (FindsSense limits s m)
-one_of_sense laws limits s (no_token at) = one_is _
-one_of_sense laws limits s no_form = one_is _
-one_of_sense laws limits s too_high = one_is _
-one_of_sense laws limits s (form l) = one_line laws limits s l
+one_of_reading : Laws → (limits : Limits) (s : State) (m : Reading) → One (FindsReading limits s m)
+one_of_reading laws limits s (no_token at) = one_is _
+one_of_reading laws limits s no_form = one_is _
+one_of_reading laws limits s too_high = one_is _
+one_of_reading laws limits s (form l) = one_line laws limits s l
 
-one_sense : Laws → (limits : Limits) (s : State) (line : List ℕ) → One (Senses limits s line)
-one_sense laws limits s line f g a b =
-    let P : Sense → Type 0 = λ m. FindsSense limits s m g in
-    one_of_sense laws limits s a.0 f g a.2 (subst P (means_unique laws (s.pending ++ line) b.0 a.0 b.1 a.1) b.2)
+one_by_reading : Laws → (limits : Limits) (s : State) (line : List ℕ) → One (Readings limits s line)
+one_by_reading laws limits s line f g a b =
+    let P : Reading → Type 0 = λ m. FindsReading limits s m g in
+    one_of_reading laws limits s a.0 f g a.2 (subst P (means_unique laws (s.pending ++ line) b.0 a.0 b.1 a.1) b.2)
 
 one_check : (a b c d : Bool) (x y z w : Finding) (K : Finding → Type 0) → One K → One (Checks a b c d x y z w K)
 one_check true b c d x y z w K k f g h i = h ∙ sym i
@@ -157,8 +157,8 @@ pub finds_unique : Laws → (limits : Limits) (s : State) (line : List ℕ) (x y
 unfolding Finds
 finds_unique laws limits s line x y a b =
     one_check (is_reset line) (is_full limits s line) (nat_lt longest (length s.pending + length line)) (is_part line)
-    (cond (nat_lt most_recorded (recorded_by_reset s)) (unread faults.Transcript) reset) (unread faults.Transcript) (unread faults.Long) part (Senses limits s line)
-    (one_sense laws limits s line) x y a b
+    (cond (nat_lt most_recorded (recorded_by_reset s)) (unread faults.Transcript) reset) (unread faults.Transcript) (unread faults.Long) part (Readings limits s line)
+    (one_by_reading laws limits s line) x y a b
 
 -- in one state a line has one answer, and leaves one state
 pub step_unique : Laws → (limits : Limits) (s t u : State) (line : List ℕ) (q r : Reply) → Step limits s line q t → Step limits s line r u → (q ≡ r) × (t ≡ u)
@@ -191,7 +191,7 @@ alone_unique laws old new other lines replies others a b =
     let e = solo_unique laws old.limits a.before a.after b.after lines replies others a.run (subst P (replays_unique laws old b.before a.before b.starts a.starts) b.run) in
     (e.0, sym (log_same new a.after a.ends) ∙ (λ i. log_at ((a.limits ∙ sym b.limits) i) (e.1 i)) ∙ log_same other b.after b.ends)
 
--- told more, it goes on from there
+-- after further lines, it goes on from there
 pub alone_then : Laws → (a b c : Log) (xs ys : List (List ℕ)) (qs rs : List Reply) → SessionAnswers a xs qs b → SessionAnswers b ys rs c → SessionAnswers a (xs ++ ys) (qs ++ rs) c
 alone_then laws a b c xs ys qs rs p q =
     let same : q.before ≡ p.after = replays_unique laws b q.before p.after q.starts p.ends in

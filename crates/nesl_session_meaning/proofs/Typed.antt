@@ -1,4 +1,4 @@
--- The type of a sum of two numbers, and what it comes to.
+-- The type of a sum of two numbers, and its value.
 use Rattle.std.proofs.Common.{◌≡◌, ℕ, zero, suc, [], ◌∷◌, Option, None, List, refl, sym, subst, ◌∙◌, lit≤}
 use Rattle.std.specs.Prelude.{pos}
 use Rattle.nesl_lex.specs.declared.token.Span.{Span}
@@ -23,8 +23,8 @@ use Rattle.nesl_session_bindings.specs.Known.{known, environment}
 use Rattle.nesl_session_bindings.specs.Redefinition.{a_variable, RefusesDefinition, it}
 use Rattle.nesl_session_meaning.specs.declared.limits.Limits.{Limits}
 use Rattle.nesl_session_meaning.specs.State.{State}
-use Rattle.nesl_session_meaning.specs.Sense.{form}
-use Rattle.nesl_session_meaning.specs.Finding.{Finding, FindsSense, FindsOutcome, budget}
+use Rattle.nesl_session_meaning.specs.Reading.{form}
+use Rattle.nesl_session_meaning.specs.Finding.{Finding, FindsReading, FindsOutcome, budget}
 
 -- two numbers with `+` between them, wherever they stand
 abbrev pub plus : (s r q : Span) (n m : ℕ) → Tree
@@ -62,7 +62,7 @@ two env s r q = two_at 998 env s r q
 
 -- what is found of an expression that is a number
 pub finds_number : (limits : Limits) (s : State) (e : Tree) (o : Out Value) (f : Finding) → IsTypeBy (known s.bindings) e (typed int) → RefusesDefinition s.bindings it (a_variable int) None
-    → out 1000 (environment s.bindings) (outside []) e ≡ o → FindsOutcome limits s it int (within (budget limits s) o) f → FindsSense limits s (form (trees.evaluate e)) f
+    → out 1000 (environment s.bindings) (outside []) e ≡ o → FindsOutcome limits s it int (within (budget limits s) o) f → FindsReading limits s (form (trees.evaluate e)) f
 finds_number limits s e o f t free c h =
     let P : Out Value → Type 0 = λ x. FindsOutcome limits s it int (within (budget limits s) x) f in
     (typed int, t, (None, free, subst P (sym c) h))

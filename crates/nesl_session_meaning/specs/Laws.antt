@@ -6,13 +6,13 @@ use Rattle.nesl_session_meaning.specs.Response.{Reply}
 use Rattle.nesl_session_meaning.specs.Step.{Step}
 use Rattle.nesl_session_meaning.specs.Solo.{Replays, SessionAnswers, Responds}
 
--- in one state a line has one answer, and leaves one state
+-- in one state, a line has one answer and leads to one state
 abbrev pub OneStep : Type 0
 OneStep =
     (limits : Limits) (s t u : State) (line : List ℕ) (q r : Reply)
     → Step limits s line q t → Step limits s line r u → (q ≡ r) × (t ≡ u)
 
--- what a session stored has one replay: a session has one state
+-- the stored lines of a session have one replay, so that the session has one state
 abbrev pub OneState : Type 0
 OneState = (log : Log) (s t : State) → Replays log s → Replays log t → s ≡ t
 
@@ -22,14 +22,14 @@ OneRun =
     (old new other : Log) (lines : List (List ℕ)) (replies others : List Reply)
     → SessionAnswers old lines replies new → SessionAnswers old lines others other → (replies ≡ others) × (new ≡ other)
 
--- told more, a session goes on from what it has become
+-- further lines go on from the session that the earlier lines left
 abbrev pub GoesOn : Type 0
 GoesOn =
     (old mid new : Log) (lines more : List (List ℕ)) (replies others : List Reply)
     → SessionAnswers old lines replies mid → SessionAnswers mid more others new
     → SessionAnswers old (lines ++ more) (replies ++ others) new
 
--- a line that is recorded is one told line more, a reset too; any other is none
+-- a recorded line, a reset included, counts as one more line; any other line counts as none
 abbrev pub RecordedLinesGrow : Type 0
 RecordedLinesGrow =
     (old new : Log) (line : List ℕ) (reply : Reply)

@@ -1,4 +1,4 @@
-pub mod Sense
+pub mod Reading
 pub mod State
 pub mod Response
 pub mod Finding

@@ -1,4 +1,4 @@
--- What is told of a line.
+-- What is replied to a line.
 use Rattle.std.specs.Prelude.{ℕ, List, ◌++◌, Bool, true, false, Option, Some, None, codes}
 use Rattle.nesl_reply.specs.declared.fault.Fault.{Fault}
 use Rattle.nesl_reply.specs.declared.fault.Fault.TheVariants.{Memory, User, Busy}
@@ -7,17 +7,17 @@ use Rattle.nesl_reply.specs.Replies.{Report, report_text}
 use Rattle.nesl_session_meaning.specs.State.{State, names_of}
 use Rattle.nesl_session_bindings.specs.Known.{datatypes_of}
 
--- the bytes with their line end, the fault if it is one, and whether the line was recorded
+-- the bytes with their line end, the fault if there is one, and whether the line was recorded
 pub record Reply : Type 0 where
   pub bytes : List ℕ
   pub fault : Option Fault
   pub recorded : Bool
 
--- a line that is refused is told why
+-- the reply to a line that is refused
 abbrev pub fault_reply : Fault → Bool → Reply
 fault_reply fault recorded = record { bytes = fault_text fault ++ codes "\n"; fault = Some fault; recorded = recorded }
 
--- any other line is told this, with the names of the state before it
+-- the reply to any other line, with the names of the state before it
 abbrev pub plain_reply : State → Report → Reply
 plain_reply s t = record {
   bytes = report_text (datatypes_of s.bindings) (names_of s) t ++ codes "\n";
@@ -25,15 +25,15 @@ plain_reply s t = record {
   recorded = true;
 }
 
--- want of memory, which is no part of a step
+-- memory ran out, which is no part of a step
 abbrev pub no_memory : Reply
 no_memory = fault_reply Memory false
 
--- a user who isn't in the house
+-- the line is of a user who isn't in the house
 abbrev pub no_user : Reply
 no_user = fault_reply User false
 
--- a user whose session is away
+-- the line is of a user whose session is taken out
 abbrev pub busy : Reply
 busy = fault_reply Busy false
 

@@ -1,4 +1,4 @@
--- Runs of one session with no one else.
+-- Runs of one session that no one else uses.
 use Rattle.std.specs.Prelude.{◌≡◌, ℕ, List, [], ◌∷◌}
 use Rattle.std.specs.Bool.{MatchBool}
 use Rattle.nesl_session_meaning.specs.declared.limits.Limits.{Limits}
@@ -6,7 +6,7 @@ use Rattle.nesl_session_meaning.specs.State.{State, Log, opening}
 use Rattle.nesl_session_meaning.specs.Step.{Step}
 use Rattle.nesl_session_meaning.specs.Response.{Reply, no_memory, is_memory}
 
--- from the state `s` the lines are answered by these replies, one step after another, and leave the state `s'`
+-- from the state `s`, these replies answer the lines one after another, and the last line leaves the state `s'`
 abbrev pub SessionRuns : Limits → State → List (List ℕ) → List Reply → State → Type 0
 SessionRuns limits s [] [] s' = s' ≡ s
 SessionRuns limits s (line ∷ lines) (reply ∷ replies) s' =
@@ -14,7 +14,7 @@ SessionRuns limits s (line ∷ lines) (reply ∷ replies) s' =
 SessionRuns limits s [] (reply ∷ replies) s' = ⊥
 SessionRuns limits s (line ∷ lines) [] s' = ⊥
 
--- the state of a session is the replay of the lines that it stored, from what the last reset left
+-- the state of a session is the replay of its stored lines, from the state that the last reset left
 pub record Replays (log : Log) (s : State) : Type 0 where
   pub replies : List Reply
   pub run : SessionRuns log.limits (opening log.base log.cleared) log.lines replies s
@@ -22,7 +22,7 @@ pub record Replays (log : Log) (s : State) : Type 0 where
   pub base : s.base ≡ log.base
   pub cleared : s.cleared ≡ log.cleared
 
--- alone, a session answers these lines with these replies, and has become `new` then
+-- alone, the session `old` answers these lines with these replies, and is the session `new` afterwards
 pub record SessionAnswers (old : Log) (lines : List (List ℕ)) (replies : List Reply) (new : Log) : Type 0 where
   pub before : State
   pub after : State
@@ -31,7 +31,7 @@ pub record SessionAnswers (old : Log) (lines : List (List ℕ)) (replies : List 
   pub ends : Replays new after
   pub limits : new.limits ≡ old.limits
 
--- a session's answer to one line: a step, or want of memory, which leaves all as it was
+-- a session's answer to one line: a step, or `fault memory`, which changes nothing
 abbrev pub Responds : Log → List ℕ → Reply → Log → Type 0
 Responds old line reply new =
     MatchBool (is_memory reply) ((reply ≡ no_memory) × (new ≡ old)) (SessionAnswers old (line ∷ []) (reply ∷ []) new)

@@ -4,8 +4,9 @@ use Rattle.nesl_session_bindings.specs.Meanings.{Binding, elements_of}
 use Rattle.nesl_session_meaning.specs.declared.limits.Limits.{Limits}
 use Rattle.nesl_session_meaning.specs.declared.limits.Remaining.{Remaining}
 
--- The names in order of first definition, the work left, the lines stored, and what has come of a form that goes on;
--- the work that was left at the last reset, and the lines that were told until then, the reset included.
+-- The names in order of first definition, the work that is left, the stored lines, and the parts of a form that isn't
+-- complete yet. Also the work that was left at the last reset, and the number of lines recorded until then, the reset
+-- included.
 pub record State : Type 0 where
   pub bindings : List Binding
   pub work_left : ℕ
@@ -14,7 +15,7 @@ pub record State : Type 0 where
   pub base : ℕ
   pub cleared : ℕ
 
--- the state that a reset leaves: so much work left, so many lines told
+-- the state that a reset leaves, with this work left and this number of recorded lines
 abbrev pub opening : (base cleared : ℕ) → State
 opening base cleared = record {
   bindings = [];
@@ -41,18 +42,18 @@ remaining_of limits s = record {
   bytes = limits.transcript_bytes - sum_by length s.transcript;
 }
 
--- What a session is to its callers: its limits, what the last reset left, and the lines that it stored since. Its state
--- is their replay.
+-- What callers see of a session: its limits, what the last reset left, and the lines that it has stored since. Its
+-- state is the replay of these lines.
 pub record Log : Type 0 where
   pub limits : Limits
   pub base : ℕ
   pub cleared : ℕ
   pub lines : List (List ℕ)
 
--- a session to which nothing was said
+-- a session that has got no line yet
 abbrev pub empty_log : Limits → Log
 empty_log limits = record { limits = limits; base = limits.session_work; cleared = 0; lines = [] }
 
--- the lines that a session was told: those that it stored, and those that resets cleared
+-- the number of lines that a session has recorded: those that it stores, and those that resets cleared
 abbrev pub recorded_lines : Log → ℕ
 recorded_lines log = log.cleared + length log.lines

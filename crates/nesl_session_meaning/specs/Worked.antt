@@ -17,7 +17,8 @@ ample = record {
   transcript_bytes = 1000;
 }
 
--- under these limits, a fresh session answers these lines by replies with these texts, and then has this work left
+-- under these limits, a fresh session answers these lines by replies with these texts, and has this work left
+-- afterwards
 abbrev pub AreAnswered : Limits → List (List ℕ) → List (List ℕ) → ℕ → Type 0
 AreAnswered limits lines texts left =
     (replies : List Reply) × (s : State) × SessionRuns limits (empty limits) lines replies s
@@ -38,7 +39,7 @@ comment = IsAnswered ample (codes "% note %") (codes "ok") 1000
 abbrev pub names_of_none : Type 0
 names_of_none = IsAnswered ample (codes ":names") (codes "names:") 1000
 
--- the state before the line itself is told
+-- the reply shows the state before the line itself
 abbrev pub budget_of_none : Type 0
 budget_of_none =
     IsAnswered ample (codes ":budget")
@@ -74,7 +75,7 @@ no_room_for_a_line =
     (line : List ℕ) → is_reset line ≡ false
     → IsAnswered (record ample { transcript_lines = 0 }) line (codes "fault transcript (work 0)") 1000
 
--- a session that was told as many lines as there may be
+-- a session that has recorded as many lines as it may
 abbrev pub reset_at_the_limit : Type 0
 reset_at_the_limit =
     (s : State) → most_recorded < recorded_by_reset s

@@ -1,15 +1,15 @@
-//! What holds of the step, whoever calls it.
+//! What holds of every step.
 ghost use Rattle.nesl_session_meaning.specs.Laws.{GoesOn, LimitsStay, OneRun, OneState, OneStep, RecordedLinesGrow};
-ghost use Rattle.nesl_session_meaning.specs.Worked.{budget_of_none, comment, names_of_none, no_room_for_a_line, no_token};
-ghost use Rattle.nesl_session_meaning.specs.Worked.{no_tree, reset_after_a_sum, reset_at_the_limit, small_sum};
-ghost use Rattle.nesl_session_meaning.specs.Worked.{sum_in_two_parts, sum_over_the_work_of_a_line, sum_without_room};
-ghost use Rattle.nesl_session_meaning.specs.Worked.{unknown_name};
+ghost use Rattle.nesl_session_meaning.specs.Worked.{budget_of_none, comment, names_of_none, no_room_for_a_line};
+ghost use Rattle.nesl_session_meaning.specs.Worked.{no_token, no_tree, reset_after_a_sum, reset_at_the_limit};
+ghost use Rattle.nesl_session_meaning.specs.Worked.{small_sum, sum_in_two_parts, sum_over_the_work_of_a_line};
+ghost use Rattle.nesl_session_meaning.specs.Worked.{sum_without_room, unknown_name};
 
 use nesl_infer::laws::verdicts_are_one;
 use nesl_lex::{one_reading, reading_computes};
 use nesl_syntax::{form_computes, one_form};
 
-/// In one state a line has one answer, and leaves one state.
+/// In one state, a line has one answer and leads to one state.
 pub fn one_step()
     ensures { OneStep }
 {
@@ -18,7 +18,7 @@ pub fn one_step()
     verdicts_are_one();
 }
 
-/// What a session stored has one replay: a session has one state.
+/// The stored lines of a session have one replay, so that the session has one state.
 pub fn one_state()
     ensures { OneState }
 {
@@ -36,7 +36,7 @@ pub fn one_run()
     verdicts_are_one();
 }
 
-/// Told more, a session goes on from what it has become.
+/// Further lines go on from the session that the earlier lines left.
 pub fn goes_on()
     ensures { GoesOn }
 {
@@ -45,13 +45,13 @@ pub fn goes_on()
     verdicts_are_one();
 }
 
-/// A line is one told line more where it is recorded, and none where it isn't; the limits stay.
+/// A recorded line counts as one more line of its session, and any other line as none. The limits don't change.
 pub fn recorded_lines_grow()
     ensures grow { RecordedLinesGrow }
     ensures limits { LimitsStay }
 {}
 
-/// Lines of a session, worked by hand: the definition of a step gives these replies, and leaves this work.
+/// Lines of a session, worked by hand. By the definition of a step they get these replies, and leave this work.
 pub fn worked_lines()
     ensures lexical { no_token }
     ensures syntax { no_tree }

@@ -1,4 +1,4 @@
-//! The step of a session: what a line is answered and what it changes, as definitions, and what follows from them.
+//! The definitions of a session's step: the answer to a line, and what the line changes. Also the laws that follow.
 #![tactic(auto)]
 
 pub mod laws;

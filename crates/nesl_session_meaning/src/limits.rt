@@ -1,13 +1,14 @@
 //! What bounds a session.
 
-/// The limits of a session; any values will do.
+/// The limits of a session. Any values are allowed.
 #[derive(Clone, Copy, PartialEq, Eq, Debug)]
 pub struct Limits {
     /// The most work that one line may take.
     pub line_work: u64,
     /// The work that all lines together may take.
     pub session_work: u64,
-    /// The most nodes that the values bound may have together.
+    /// The most elements that the names may have together: nodes of values, of function bodies, and of datatypes'
+    /// types.
     pub elements: u64,
     /// The most lines that are recorded.
     pub transcript_lines: u64,
@@ -18,9 +19,9 @@ pub struct Limits {
 /// What is left of each limit of a session.
 #[derive(Clone, Copy, PartialEq, Eq, Debug)]
 pub struct Remaining {
-    /// Work.
+    /// Units of work.
     pub work: u64,
-    /// Nodes of values.
+    /// Elements: nodes of values, of function bodies, and of datatypes' types.
     pub elements: u64,
     /// Lines to be recorded.
     pub lines: u64,

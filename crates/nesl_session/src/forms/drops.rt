@@ -1,23 +1,20 @@
-//! What lets go of what was found. It stands here once, so that no crate above has to prove how that is dropped.
+//! Functions that drop what was found, so that their callers don't have to prove how each part is dropped.
 use crate::forms::finding::{Definition, Finding, Shown};
 
 impl Finding {
-    /// Lets go of it.
-    pub fn let_go(self) {
+    pub fn release(self) {
         drop(self);
     }
 }
 
 impl Definition {
-    /// Lets go of it.
-    pub fn let_go(self) {
+    pub fn release(self) {
         drop(self);
     }
 }
 
 impl Shown {
-    /// Lets go of it.
-    pub fn let_go(self) {
+    pub fn release(self) {
         drop(self);
     }
 }

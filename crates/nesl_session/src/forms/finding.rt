@@ -7,10 +7,10 @@ use nesl_syntax_tree::tree::{Exp, Pattern};
 use nesl_types::{Scheme, Ty};
 use nesl_values::Value;
 
-/// What a name is to be.
+/// What a name is about to be defined as.
 #[derive(Drop)]
 pub enum Meaning {
-    /// A variable: its type, its value, and what that cost.
+    /// A variable: its type, its value, and what the evaluation cost.
     Variable(Ty, Value, Cost),
     /// A function: its type, its parameter and its body.
     Function(Scheme, Pattern, Exp),
@@ -18,47 +18,47 @@ pub enum Meaning {
     Datatype(u64, Ty),
 }
 
-/// A name, and what it is to be.
+/// A name, and what it is about to be defined as.
 #[derive(Drop)]
 pub struct Definition {
     pub name: Vec<u8>,
     pub meaning: Meaning,
 }
 
-/// What is told of a line that binds no name.
+/// What is replied to a line that binds no name.
 #[derive(Drop)]
 pub enum Shown {
     /// The line has no tokens.
     Blank,
     /// All names.
     Names,
-    /// The work left; the elements, the lines and their bytes, of how many each.
+    /// The work that is left, and how much is used of each limit: elements, lines, and bytes of lines.
     Budget(u64, Used, Used, Used),
     /// The type of an expression.
     Type(Ty),
 }
 
-/// What is found of a line: the first check that fails, or what the line comes to.
+/// What is found of a line: the first check that fails, or what the line does.
 #[derive(Drop)]
 pub enum Finding {
-    /// It is refused unread, and nothing changes.
+    /// The line is refused unread, and nothing changes.
     Unread(Fault),
-    /// All is forgotten but the work that is left.
+    /// Everything is dropped but the work that is left.
     Reset,
-    /// It is part of a form that goes on.
+    /// The line is part of a form that isn't complete yet.
     Part,
-    /// It is refused, and so much work was done.
+    /// The line is refused, after this amount of work.
     Refused(Fault, u64),
-    /// It is answered, and binds no name.
-    Told(Shown),
-    /// It binds a name.
+    /// The line is answered, and binds no name.
+    Answered(Shown),
+    /// The line binds a name.
     Defined(Definition),
 }
 
 impl Meaning {
     ghost use Rattle.nesl_session.specs.Found.{work_of};
 
-    /// The work that was done for it.
+    /// The work of the evaluation, or 0 if there was none.
     pub fn work(&self) -> u64
         ensures { result ≡ work_of self.now }
     {
@@ -71,11 +71,11 @@ impl Meaning {
 }
 
 impl Definition {
-    ghost use Rattle.nesl_session.specs.Found.{told_as};
+    ghost use Rattle.nesl_session.specs.Found.{definition_report};
     ghost use Rattle.nesl_reply.specs.Replies.{report_of};
 
     fn reply(&self) -> Reply<'_>
-        ensures { report_of result ≡ told_as self.now.name.items self.now.meaning }
+        ensures { report_of result ≡ definition_report self.now.name.items self.now.meaning }
     {
         let name = self.name.as_slice();
         match &self.meaning {
@@ -87,11 +87,11 @@ impl Definition {
 }
 
 impl Shown {
-    ghost use Rattle.nesl_session.specs.Found.{told_of};
+    ghost use Rattle.nesl_session.specs.Found.{shown_report};
     ghost use Rattle.nesl_reply.specs.Replies.{report_of};
 
     fn reply(&self) -> Reply<'_>
-        ensures { report_of result ≡ told_of self.now }
+        ensures { report_of result ≡ shown_report self.now }
     {
         match self {
             Shown::Blank => Reply::Blank,
@@ -105,19 +105,19 @@ impl Shown {
 }
 
 impl Finding {
-    ghost use Rattle.nesl_session.specs.Found.{told_after, fault_in, is_recorded};
+    ghost use Rattle.nesl_session.specs.Found.{finding_report, fault_in, is_recorded};
     ghost use Rattle.nesl_reply.specs.Replies.{report_of};
 
-    /// What is told of it, where so many lines are stored.
+    /// What is replied, if the session stores this number of lines.
     pub fn reply(&self, lines: u64) -> Reply<'_>
-        ensures { report_of result ≡ told_after lines self.now }
+        ensures { report_of result ≡ finding_report lines self.now }
     {
         match self {
             Finding::Unread(fault) => Reply::Refused(*fault),
             Finding::Reset => Reply::Cleared(lines),
             Finding::Part => Reply::More,
             Finding::Refused(fault, _) => Reply::Refused(*fault),
-            Finding::Told(shown) => shown.reply(),
+            Finding::Answered(shown) => shown.reply(),
             Finding::Defined(definition) => definition.reply(),
         }
     }

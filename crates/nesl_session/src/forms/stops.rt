@@ -1,4 +1,4 @@
-//! Why a form isn't what it is to be.
+//! Why a form is refused before any evaluation.
 ghost use Rattle.std.specs.Prelude.{◌≡◌, IfOk};
 ghost use Rattle.nesl_session.specs.Forms.{IsFound, stopped_by, stopped_against};
 
@@ -8,17 +8,17 @@ use nesl_reply::Fault;
 use nesl_session_bindings::Refusal;
 use std::alloc::AllocError;
 
-/// Why a form isn't what it is to be: the first check that fails.
+/// Why a form is refused before any evaluation: the first check that fails.
 #[derive(Clone, Copy)]
 pub enum Stopped {
-    /// It is refused, and no work was done.
+    /// The form is refused, and no work was done.
     Refused(Fault),
     /// Memory ran out.
     Memory,
 }
 
 impl Stopped {
-    /// What is found then.
+    /// What is found of the form.
     pub fn found(self) -> Result<Finding, AllocError>
         ensures { IfOk result (IsFound self) }
     {
@@ -29,7 +29,7 @@ impl Stopped {
     }
 }
 
-// There is no type.
+// Why there is no type.
 pub(crate) fn untyped(fault: InferFault) -> Stopped
     ensures { result ≡ stopped_by fault }
 {
@@ -41,7 +41,7 @@ pub(crate) fn untyped(fault: InferFault) -> Stopped
     }
 }
 
-// Something stands against the definition.
+// Why the definition is refused.
 pub(crate) fn refused(refusal: Refusal) -> Stopped
     ensures { result ≡ stopped_against refusal }
 {

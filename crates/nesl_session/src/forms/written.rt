@@ -1,4 +1,4 @@
-//! What is found of a line by its form, where no expression has to be evaluated for it.
+//! What is found of a line by its form, if no expression has to be evaluated.
 ghost use Rattle.std.specs.Prelude.{◌≡◌, IfOk, option_map};
 ghost use Rattle.nesl_syntax_tree.specs.Trees as trees;
 ghost use Rattle.nesl_syntax_tree.specs.Views.{tree_of, pattern_tree, signature_tree, type_tree};
@@ -18,7 +18,7 @@ use nesl_syntax_tree::tree::{Exp, Pattern, Signature, TypeExp};
 use nesl_types::{Scheme, Ty};
 use std::alloc::{AllocError, Global};
 
-/// What is found where the type of an expression is asked for, in every state with these names.
+/// What is found where a line asks for the type of an expression, in every state with these names.
 pub fn find_type(bindings: &Bindings, alloc: Global, exp: Exp) -> Result<Finding, AllocError>
     ensures found { IfOk result (λ f. (limits : Limits) (s : State)
         → FindsForm limits (with_names (bindings_of bindings.now) s) (trees.show_type (tree_of exp)) (finding_of f)) }
@@ -27,19 +27,17 @@ pub fn find_type(bindings: &Bindings, alloc: Global, exp: Exp) -> Result<Finding
     let known = bindings.infer_exp(alloc, &exp);
     drop(exp);
     match known {
-        Ok(ty) => Ok(Finding::Told(Shown::Type(ty))),
+        Ok(ty) => Ok(Finding::Answered(Shown::Type(ty))),
         Err(fault) => untyped(fault).found(),
     }
 }
 
-/// A function as a line writes it: all of its definition but the name.
+/// A function as a line writes it: its definition without the name.
 #[derive(Drop)]
 pub struct WrittenFunction {
-    /// What its argument is bound to.
+    /// The pattern that the argument is bound to.
     pub parameter: Pattern,
-    /// Its signature, if there is one.
     pub signature: Option<Signature>,
-    /// Its body.
     pub body: Exp,
 }
 
@@ -77,7 +75,7 @@ pub fn find_function(
     }
 }
 
-// The scheme of a function that may be defined.
+// The scheme of a function, if the function may be defined.
 fn function_scheme(
     bindings: &Bindings,
     limits: Limits,
@@ -134,7 +132,7 @@ pub fn find_datatype(
     }
 }
 
-// What the records of a datatype hold that may be defined.
+// The type that a datatype's records hold, if the datatype may be defined.
 fn datatype_content(
     bindings: &Bindings,
     limits: Limits,
@@ -162,7 +160,7 @@ fn datatype_content(
     Ok(content)
 }
 
-/// The type of a variable that may be bound, where an expression comes to a value.
+/// The type of a variable, if the variable may be bound to the value of the expression.
 pub fn variable_type(
     bindings: &Bindings,
     alloc: Global,

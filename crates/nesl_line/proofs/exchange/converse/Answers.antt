@@ -8,7 +8,7 @@ use Rattle.nesl_line.proofs.exchange.converse.Goals as goal
 
 pub reads-init : goal.reads-init
 reads-init g c = record {
-  so_far = begins _ _ (g.H.Hearer.heard c.args.hearer.now c.args.world.now c.args.hearer.now c.args.world.now) c.args.talk.now c.requires.untold c.requires.fresh;
+  so_far = begins _ _ (g.H.Hearer.heard c.args.hearer.now c.args.world.now c.args.hearer.now c.args.world.now) c.args.talk.now c.requires.nothing_heard c.requires.fresh;
   ready = c.requires.ready;
   reads = made_none _;
   writes = flushed_none _ ∙ ap (λ n. flushed_by n (g.W.Sink.tally c.args.writer.now)) (sym c.requires.fresh.none);

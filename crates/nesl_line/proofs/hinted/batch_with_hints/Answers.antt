@@ -15,8 +15,8 @@ exchange-requires-clause-ready g c =
     let Q : ℕ → Type 0 = λ n. NamesFit n c.args.house.now in
     subst Q (sym c.in-Ok.ensures.room) (subst P c.users.ensures.users c.longest_name-room.ensures)
 
-pub exchange-requires-clause-untold : goal.exchange-requires-clause-untold
-exchange-requires-clause-untold g c = hints_none c.args.house.now _ c.users.ensures.replayed c.in-Ok.ensures.nobody
+pub exchange-requires-clause-nothing_heard : goal.exchange-requires-clause-nothing_heard
+exchange-requires-clause-nothing_heard g c = hints_none c.args.house.now _ c.users.ensures.replayed c.in-Ok.ensures.nobody
 
 pub returns-clause-batch : goal.returns-clause-batch
 returns-clause-batch g c = (chosen c.exchange.new.hearer.chooser.who.items, c.exchange.ensures.exchange)

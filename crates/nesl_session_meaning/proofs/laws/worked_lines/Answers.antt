@@ -17,42 +17,42 @@ use Rattle.nesl_session_bindings.specs.Meanings.{Binding, variable}
 use Rattle.nesl_session_bindings.specs.Redefinition.{it, a_variable, RefusesDefinition}
 use Rattle.nesl_session_meaning.specs.declared.limits.Limits.{Limits}
 use Rattle.nesl_session_meaning.specs.State.{State, empty}
-use Rattle.nesl_session_meaning.specs.Sense.{no_token, no_form, form}
-use Rattle.nesl_session_meaning.specs.Finding.{Finding, FindsSense, FindsOutcome, budget, reset, part, refused, answered, budget_report}
+use Rattle.nesl_session_meaning.specs.Reading.{no_token, no_form, form}
+use Rattle.nesl_session_meaning.specs.Finding.{Finding, FindsReading, FindsOutcome, budget, reset, part, refused, answered, budget_report}
 use Rattle.nesl_session_meaning.specs.Step.{after, reply_of}
 use Rattle.nesl_session_meaning.specs.Worked.{ample}
 use Rattle.nesl_session_meaning.proofs.Typed.{plus, plus_type, two, finds_number}
-use Rattle.nesl_session_meaning.proofs.Worked.{answered_so, formed, unformed, unread_at, step_reset, step_reset_refused, step_full, step_part, step_sense}
+use Rattle.nesl_session_meaning.proofs.Worked.{answered_so, formed, unformed, unread_at, step_reset, step_reset_refused, step_full, step_part, step_reading}
 use Rattle.nesl_session_meaning.proofs.laws.worked_lines.Goals as goal
 
 pub returns-clause-lexical : goal.returns-clause-lexical
 unfolding digits
 returns-clause-lexical c =
     answered_so ample (codes "1 @ 2;") (codes "fault lexical at 2 (work 0)") 1000 _ _
-    (step_sense ample (empty ample) (codes "1 @ 2;") (no_token 2) (refused (faults.Lexical 2) 0) refl refl refl refl (unread_at c.reading_computes.ensures (codes "1 @ 2;") 2 refl) refl) refl refl
+    (step_reading ample (empty ample) (codes "1 @ 2;") (no_token 2) (refused (faults.Lexical 2) 0) refl refl refl refl (unread_at c.reading_computes.ensures (codes "1 @ 2;") 2 refl) refl) refl refl
 
 pub returns-clause-syntax : goal.returns-clause-syntax
 returns-clause-syntax c =
     answered_so ample (codes "1; 2;") (codes "fault syntax (work 0)") 1000 _ _
-    (step_sense ample (empty ample) (codes "1; 2;") no_form (refused faults.Syntax 0) refl refl refl refl (unformed c.reading_computes.ensures c.form_computes.ensures (codes "1; 2;") refl refl) refl) refl refl
+    (step_reading ample (empty ample) (codes "1; 2;") no_form (refused faults.Syntax 0) refl refl refl refl (unformed c.reading_computes.ensures c.form_computes.ensures (codes "1; 2;") refl refl) refl) refl refl
 
 pub returns-clause-comment : goal.returns-clause-comment
 returns-clause-comment c =
     answered_so ample (codes "% note %") (codes "ok") 1000 _ _
-    (step_sense ample (empty ample) (codes "% note %") (form trees.nothing) (answered replies.blank 0 None) refl refl refl refl
+    (step_reading ample (empty ample) (codes "% note %") (form trees.nothing) (answered replies.blank 0 None) refl refl refl refl
     (formed c.reading_computes.ensures c.form_computes.ensures (codes "% note %") trees.nothing refl refl (lit≤ tt)) refl) refl refl
 
 pub returns-clause-names : goal.returns-clause-names
 returns-clause-names c =
     answered_so ample (codes ":names") (codes "names:") 1000 _ _
-    (step_sense ample (empty ample) (codes ":names") (form trees.show_names) (answered replies.names 0 None) refl refl refl refl
+    (step_reading ample (empty ample) (codes ":names") (form trees.show_names) (answered replies.names 0 None) refl refl refl refl
     (formed c.reading_computes.ensures c.form_computes.ensures (codes ":names") trees.show_names refl refl (lit≤ tt)) refl) refl refl
 
 pub returns-clause-budget : goal.returns-clause-budget
 unfolding digits used_text
 returns-clause-budget c =
     answered_so ample (codes ":budget") (codes "budget: work 1000, elements 0 of 100, lines 0 of 100, bytes 0 of 1000") 1000 _ _
-    (step_sense ample (empty ample) (codes ":budget") (form trees.show_budget) (answered (budget_report ample (empty ample)) 0 None) refl refl refl refl
+    (step_reading ample (empty ample) (codes ":budget") (form trees.show_budget) (answered (budget_report ample (empty ample)) 0 None) refl refl refl refl
     (formed c.reading_computes.ensures c.form_computes.ensures (codes ":budget") trees.show_budget refl refl (lit≤ tt)) refl) refl refl
 
 abbrev at : ℕ → ℕ → Span
@@ -63,7 +63,7 @@ unfolding digits
 returns-clause-unknown c =
     let line : FormTree = trees.evaluate (trees.node (at 0 1) (trees.variable (codes "x"))) in
     answered_so ample (codes "x;") (codes "fault unknown at 0..1 (work 0)") 1000 _ _
-    (step_sense ample (empty ample) (codes "x;") (form line) (refused (faults.Unknown (at 0 1)) 0) refl refl refl refl
+    (step_reading ample (empty ample) (codes "x;") (form line) (refused (faults.Unknown (at 0 1)) 0) refl refl refl refl
     (formed c.reading_computes.ensures c.form_computes.ensures (codes "x;") line refl refl (lit≤ tt)) (unknown_at (at 0 1), refl, refl)) refl refl
 
 -- one and one, of which `it` becomes two
@@ -76,8 +76,8 @@ made = record { name = it; meaning = variable int (values.int (pos 2)) }
 abbrev summed : Finding
 summed = answered (replies.bound it (values.int (pos 2)) int (record { work = 3; depth = 3 })) 3 (Some made)
 
--- where no name is bound, and the sum comes to this under the limits
-finds_sum : (limits : Limits) (s : State) (f : Finding) → s.bindings ≡ [] → FindsOutcome limits s it int (within (budget limits s) (value (values.int (pos 2)) 3 3)) f → FindsSense limits s (form sum) f
+-- where no name is bound, and the sum has this outcome under the limits
+finds_sum : (limits : Limits) (s : State) (f : Finding) → s.bindings ≡ [] → FindsOutcome limits s it int (within (budget limits s) (value (values.int (pos 2)) 3 3)) f → FindsReading limits s (form sum) f
 unfolding builtin_named
 finds_sum limits s f none h =
     let P : List Binding → Type 0 = λ bs. RefusesDefinition bs it (a_variable int) None in
@@ -88,7 +88,7 @@ pub returns-clause-value : goal.returns-clause-value
 unfolding digits
 returns-clause-value c =
     answered_so ample (codes "1 + 1;") (codes "it = 2 : int (work 3, depth 3)") 997 _ _
-    (step_sense ample (empty ample) (codes "1 + 1;") (form sum) summed refl refl refl refl
+    (step_reading ample (empty ample) (codes "1 + 1;") (form sum) summed refl refl refl refl
     (formed c.reading_computes.ensures c.form_computes.ensures (codes "1 + 1;") sum refl refl (lit≤ tt)) (finds_sum ample (empty ample) summed refl refl)) refl refl
 
 pub returns-clause-work : goal.returns-clause-work
@@ -96,7 +96,7 @@ unfolding digits
 returns-clause-work c =
     let tight : Limits = record ample { line_work = 2 } in
     answered_so tight (codes "1 + 1;") (codes "fault work (work 2)") 998 _ _
-    (step_sense tight (empty tight) (codes "1 + 1;") (form sum) (refused (faults.Work 2) 2) refl refl refl refl
+    (step_reading tight (empty tight) (codes "1 + 1;") (form sum) (refused (faults.Work 2) 2) refl refl refl refl
     (formed c.reading_computes.ensures c.form_computes.ensures (codes "1 + 1;") sum refl refl (lit≤ tt))
     (finds_sum tight (empty tight) (refused (faults.Work 2) 2) refl refl)) refl refl
 
@@ -105,7 +105,7 @@ unfolding digits
 returns-clause-elements c =
     let tight : Limits = record ample { elements = 0 } in
     answered_so tight (codes "1 + 1;") (codes "fault elements (work 3)") 997 _ _
-    (step_sense tight (empty tight) (codes "1 + 1;") (form sum) (refused (faults.Elements 3) 3) refl refl refl refl
+    (step_reading tight (empty tight) (codes "1 + 1;") (form sum) (refused (faults.Elements 3) 3) refl refl refl refl
     (formed c.reading_computes.ensures c.form_computes.ensures (codes "1 + 1;") sum refl refl (lit≤ tt))
     (finds_sum tight (empty tight) (refused (faults.Elements 3) 3) refl refl)) refl refl
 
@@ -115,7 +115,7 @@ returns-clause-parts c =
     let mid : State = after (codes "1 +\\") (empty ample) part in
     let first = step_part ample (empty ample) (codes "1 +\\") refl refl refl refl in
     let second =
-    step_sense ample mid (codes "1;") (form sum) summed refl refl refl refl (formed c.reading_computes.ensures c.form_computes.ensures (codes "1 + 1;") sum refl refl (lit≤ tt))
+    step_reading ample mid (codes "1;") (form sum) summed refl refl refl refl (formed c.reading_computes.ensures c.form_computes.ensures (codes "1 + 1;") sum refl refl (lit≤ tt))
     (finds_sum ample mid summed refl refl) in
     (reply_of (empty ample) part ∷ reply_of mid summed ∷ [], after (codes "1;") mid summed, (mid, first, (after (codes "1;") mid summed, second, refl)), refl, refl)
 
@@ -129,11 +129,11 @@ returns-clause-reset c =
     let cleared : State = after (codes ":reset") one reset in
     let last : State = after line cleared (refused (faults.Work 2) 2) in
     let first =
-    step_sense small (empty small) line (form sum) summed refl refl refl refl means
+    step_reading small (empty small) line (form sum) summed refl refl refl refl means
     (finds_sum small (empty small) summed refl refl) in
     let second = step_reset small one (codes ":reset") refl refl in
     let third =
-    step_sense small cleared line (form sum) (refused (faults.Work 2) 2) refl refl refl refl means
+    step_reading small cleared line (form sum) (refused (faults.Work 2) 2) refl refl refl refl means
     (finds_sum small cleared (refused (faults.Work 2) 2) refl refl) in
     (reply_of (empty small) summed ∷ reply_of one reset ∷ reply_of cleared (refused (faults.Work 2) 2) ∷ [], last, (one, first, (cleared, second, (last, third, refl))), refl, refl)
 

@@ -16,7 +16,7 @@ returns-in-Some-clause-ok c =
     let cs = c.self.inside.prepared.entries in
     let name = c.args.name.now in
     let place = sym c.in-Some.ensures.same ∙ c.place_in-place.ensures ∙ ap (λ ns. place_of ns name) (same_names (names_in bs) bs cs c.self.invariant.0) in
-    if_done c.set_there.result c.set_there.ensures.ok (λ e. e
+    if_done c.set_at.result c.set_at.ensures.ok (λ e. e
     ∙ ap (with_name_at c.in-Some.there c.args.top c.args.payload) (sym c.self.view_is)
     ∙ set_at name c.args.top c.args.payload c.in-Some.there bs place
     ∙ ap (with_name name c.args.top c.args.payload) c.self.view_is)

@@ -11,4 +11,4 @@ returns-in_default-get_index c = slot_of_no_code c.args.self.now.context.now c.a
 pub returns : goal.returns
 returns c =
     slot_there c.args.self.now.context.now c.args.self.now.prepared.now.entries c.args.place (c.in-Some.field-0-0.now, c.in-Some.top.now, c.in-Some.payload.now) (c.in-Some-get_index.field-0-0.now, c.in-Some-get_index.code.now)
-    (held_slot c.found_there.result) c.in-Some.ensures c.in-Some-get_index.ensures.entry c.found_there.ensures
+    (held_slot c.held_with.result) c.in-Some.ensures c.in-Some-get_index.ensures.entry c.held_with.ensures

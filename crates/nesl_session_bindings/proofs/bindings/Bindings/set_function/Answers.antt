@@ -19,14 +19,14 @@ nodes-requires c =
 
 pub overflow_add-elements : goal.overflow_add-elements
 overflow_add-elements c =
-    let few : c.elements_beside-beside.result + c.nodes.result < 2 ^ 64 =
+    let few : c.other_elements-others.result + c.nodes.result < 2 ^ 64 =
     few_enough c.self.inside.env c.args.self.now c.self.inside.env c.args.name.now c.self.view_is (function (function_type c.args.scheme) (pattern_tree c.args.pattern) (tree_of c.args.body)) (2 ^ 64)
-    c.elements_beside-beside.result c.nodes.result c.elements_beside-beside.ensures c.nodes.ensures c.requires.room in
+    c.other_elements-others.result c.nodes.result c.other_elements-others.ensures c.nodes.ensures c.requires.room in
     omega (arith, few)
 
 pub invariant_of-self-2 : goal.invariant_of-self-2
 invariant_of-self-2 c =
-    function_set c.self.inside.env c.args.self.now c.set.new.self c.args.name.now c.self.view_is c.self.inside.elements c.elements_beside-beside.result c.nodes.result c.self.invariant c.elements_beside-beside.ensures
+    function_set c.self.inside.env c.args.self.now c.set.new.self c.args.name.now c.self.view_is c.self.inside.elements c.other_elements-others.result c.nodes.result c.self.invariant c.other_elements-others.ensures
     (c.inferred_lines_keep_types.ensures.functions top_of) c.args.scheme c.args.pattern c.args.body c.requires.typed c.requires.free c.in_ok-set.ensures.ok c.nodes.ensures
 
 pub returns-clause-ok : goal.returns-clause-ok

@@ -7,14 +7,14 @@ use Rattle.nesl_lex.specs.Faults.{OnLexical}
 use Rattle.nesl_syntax_tree.specs.Trees.{FormTree, form_height}
 use Rattle.nesl_syntax_tree.specs.Lines.{IsForm}
 use Rattle.nesl_syntax_tree.specs.Views.{line_of}
-use Rattle.nesl_session_meaning.specs.Sense.{HasSense, no_token, is_stuck, has_no_form, has_high_form, has_form, highest}
-use Rattle.nesl_session.proofs.forms.sense.sense_of.Goals as goal
+use Rattle.nesl_session_meaning.specs.Reading.{HasReading, no_token, has_no_token, has_no_form, has_high_form, has_form, highest}
+use Rattle.nesl_session.proofs.forms.reading.reading_of.Goals as goal
 
 pub returns-in-Err-Lexical : goal.returns-in-Err-Lexical
 returns-in-Err-Lexical c =
     let P : LexFault → Type 0 = λ x. OnLexical {X = Vec Token Global} (Err x) (HasNoTokenAt c.args.line.now) in
-    let Q : ℕ → Type 0 = λ at. HasSense c.args.line.now (no_token at) in
-    subst Q (sym c.in-Err-Lexical.at-is) (is_stuck (subst P c.in-Err-Lexical.field-0-is c.in-Err-Lexical.ensures.stuck))
+    let Q : ℕ → Type 0 = λ at. HasReading c.args.line.now (no_token at) in
+    subst Q (sym c.in-Err-Lexical.at-is) (has_no_token (subst P c.in-Err-Lexical.field-0-is c.in-Err-Lexical.ensures.stuck))
 
 pub returns-in-Ok-parse_form : goal.returns-in-Ok-parse_form
 returns-in-Ok-parse_form c =

@@ -3,7 +3,7 @@ use Rattle.nesl_session_bindings.specs.Meanings.{elements_in}
 use Rattle.nesl_session_bindings.specs.Stored.{meaning_of}
 use Rattle.nesl_session_bindings.proofs.Counts.{beside_found, beside_none}
 use Rattle.nesl_session_bindings.proofs.Entries.{found-fits}
-use Rattle.nesl_session_bindings.proofs.beside.elements_beside.Goals as goal
+use Rattle.nesl_session_bindings.proofs.others.other_elements.Goals as goal
 
 pub room_left-requires : goal.room_left-requires
 room_left-requires c =

@@ -1,8 +1,8 @@
-//! How many elements names have.
+//! The number of elements of a name, and of all names but one.
 
 ghost use Rattle.std.specs.Prelude.{◌≡◌, ◌+◌, ◌<◌, ◌^◌, MatchOption};
 ghost use Rattle.nesl_types_shared.specs.Term.{nodes};
-ghost use Rattle.nesl_session_bindings.specs.Beside.{elements_beside};
+ghost use Rattle.nesl_session_bindings.specs.Others.{other_elements};
 ghost use Rattle.nesl_session_bindings.specs.Meanings.{elements_in};
 ghost use Rattle.nesl_session_bindings.specs.Stored.{AreKept, PayloadFits, bindings_of, meaning_of};
 
@@ -10,7 +10,7 @@ use crate::nodes;
 use nesl_eval_top_level::{Env, Payload};
 use nesl_types::{Top, Ty};
 
-/// What is left of `room` after the elements of what stands there, or `None` where they are more.
+/// What is left of `room`, in nodes, after the elements of a name's meaning; `None` if they are more.
 fn room_left(top: &Top, payload: &Payload, room: u64) -> Option<u64>
     requires { PayloadFits top.now payload.now }
     ensures { MatchOption result (room < elements_in (meaning_of top.now payload.now))
@@ -27,7 +27,7 @@ fn room_left(top: &Top, payload: &Payload, room: u64) -> Option<u64>
     }
 }
 
-/// How many nodes the type has.
+/// The number of nodes of the type.
 pub fn nodes_of(ty: &Ty) -> u64
     requires { nodes ty.now < 2 ^ 64 }
     ensures { result ≡ nodes ty.now }
@@ -38,10 +38,10 @@ pub fn nodes_of(ty: &Ty) -> u64
     }
 }
 
-/// The elements of all other names, where all names have so many.
-pub fn elements_beside(env: &Env, elements: u64, name: &[u8]) -> u64
+/// The number of elements of all names but this one, where `elements` is that of all names.
+pub fn other_elements(env: &Env, elements: u64, name: &[u8]) -> u64
     requires { AreKept env.now elements }
-    ensures { result ≡ elements_beside name.now (bindings_of env.now) }
+    ensures { result ≡ other_elements name.now (bindings_of env.now) }
 {
     match env.get(name) {
         None => elements,

@@ -3,7 +3,7 @@ use Rattle.nesl_types.specs.Names.{found}
 use Rattle.nesl_eval_sound.specs.Lines.{is_type}
 use Rattle.nesl_session_bindings.specs.Stored.{kind_of}
 use Rattle.nesl_session_bindings.proofs.Refusals.{kept_none, kept_other, kept_datatype}
-use Rattle.nesl_session_bindings.proofs.redefinition.is_kept.Goals as goal
+use Rattle.nesl_session_bindings.proofs.redefinition.is_in_use.Goals as goal
 
 pub returns-in-None : goal.returns-in-None
 returns-in-None c =

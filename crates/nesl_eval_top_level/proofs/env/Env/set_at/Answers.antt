@@ -6,7 +6,7 @@ use Rattle.nesl_eval_top_level.specs.Stored.{Entry, Codes, AreStored}
 use Rattle.nesl_eval_top_level.specs.Laid.{AreLaid}
 use Rattle.nesl_eval_top_level.proofs.Storing.{stored_at}
 use Rattle.nesl_eval_top_level.proofs.Laying.{laid_without}
-use Rattle.nesl_eval_top_level.proofs.env.Env.set_there.Goals as goal
+use Rattle.nesl_eval_top_level.proofs.env.Env.set_at.Goals as goal
 
 pub invariant_of-self-2 : goal.invariant_of-self-2
 invariant_of-self-2 c =
