@@ -1,4 +1,4 @@
-//! What the words come to.
+//! Runs what the command line asks for.
 ghost use Rattle.std.specs.Prelude.{◌≡◌, ℕ, Bool, List, Option, IfOk, OnOk, OnErr, IfErr, Err, map};
 ghost use Rattle.clap.specs.Words.{fault_of, HasKind};
 ghost use Rattle.clap.specs.declared.error.Error as clap;
@@ -26,7 +26,7 @@ use nesl_session::limits::Limits;
 use std::alloc::{AllocError, Global};
 use std::mem::ManuallyDrop;
 
-/// The limits of each session of the program.
+/// The limits of each session, in units of work, elements, lines and bytes.
 pub const LIMITS: Limits = Limits {
     line_work: 1_000_000,
     session_work: 100_000_000,
@@ -35,15 +35,15 @@ pub const LIMITS: Limits = Limits {
     transcript_bytes: 1_048_576,
 };
 
-/// A service for these users, in order.
+/// A service that is to be offered to these users, in the order of their places.
 #[derive(Drop)]
 pub struct Offer<'a> {
     pub users: Vec<&'a str>,
     pub service: Service<'a>,
 }
 
-/// What the words ask for: a batch for the users that they name, its costs, or a prompt, which is run, or a service
-/// that is to be offered to them.
+/// Does what the command line asks for. It runs a batch, its costs or a prompt. For a service it returns the offer,
+/// which the caller has to keep.
 pub fn carry_out<'a, S: Source, W: Sink, F: Shelf>(
     alloc: Global,
     words: &'a [&'a str],
@@ -93,7 +93,7 @@ pub fn carry_out<'a, S: Source, W: Sink, F: Shelf>(
     }
 }
 
-// Runs a batch of the lines of these users, evaluated in a heap where one is wanted, with hints where these are.
+// Runs a batch for these users. `heap` is the size in bytes of the heap for evaluation, if there is to be one.
 fn run_batch<'a, S: Source, W: Sink>(
     alloc: Global,
     users: &[&'a str],
@@ -108,12 +108,12 @@ fn run_batch<'a, S: Source, W: Sink>(
         (S.left reader.old) (S.left reader.new) (W.held writer.old) (W.held writer.new)) }
 {
     let house = run_in_new_house(alloc, users, heap, is_hinted, reader, writer)?;
-    // The program ends behind a batch: the system takes back all memory of the house at once.
+    // The program ends after a batch, and the system takes back the memory of the house at once.
     let _house = ManuallyDrop::new(house);
     Ok(())
 }
 
-// Says the lines of a batch to a new house of these users, and gives the house that they leave.
+// Runs a batch in a new house of these users, and returns the house.
 pub(crate) fn run_in_new_house<'a, S: Source, W: Sink>(
     alloc: Global,
     users: &[&'a str],
@@ -137,7 +137,7 @@ pub(crate) fn run_in_new_house<'a, S: Source, W: Sink>(
     }
 }
 
-// Opens a house for these users. Nothing was read or written where it is refused.
+// Makes a house for these users. Nothing is read or written if it is refused.
 pub(crate) fn open_house<'a>(alloc: Global, users: &[&'a str]) -> Result<House, Failure<'a>>
     ensures roster { OnOk result (IsRoster (map (λ user. user.now) users.now)) }
     ensures opened { IfOk result (λ house. house ≡ new_house limits (map (λ user. user.now) users.now)) }
@@ -153,7 +153,7 @@ pub(crate) fn open_house<'a>(alloc: Global, users: &[&'a str]) -> Result<House, 
     }
 }
 
-// Has the lines of a batch answered by a house. They are evaluated in one heap of this size, if there is to be one.
+// Has a house answer the lines of a batch, evaluated in a heap of this size if there is to be one.
 fn answer_lines<S: Source, W: Sink>(
     alloc: Global,
     reader: &mut S,
@@ -176,7 +176,7 @@ fn answer_lines<S: Source, W: Sink>(
     }
 }
 
-// Has the lines of a batch answered by a house, to which each is said in this manner.
+// Has a house answer the lines of a batch, each evaluated in this manner.
 fn answer_lines_by<S: Source, W: Sink, M: Manner>(
     alloc: Global,
     reader: &mut S,
@@ -195,7 +195,7 @@ fn answer_lines_by<S: Source, W: Sink, M: Manner>(
     }
 }
 
-/// Copies the users' names as bytes, in order.
+/// Copies the names of the users as bytes, in order.
 pub fn copy_names(alloc: Global, users: &[&str]) -> Result<Vec<Vec<u8>>, AllocError>
     ensures { IfOk result (λ names. map (λ name. name.items) names.items ≡ map (λ user. user.now) users.now) }
 {

@@ -1,5 +1,5 @@
-//! What evaluation in halves stands on: who grants helpers, permits and a pool of them, and what the halves of an
-//! interval of places come to together.
+//! Shared parts of evaluation in halves: who grants helpers, a pool of permits for them, and the joining of two halves
+//! of an interval.
 #![tactic(auto)]
 
 mod common;

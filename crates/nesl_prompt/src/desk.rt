@@ -1,4 +1,4 @@
-//! Who hears the lines of a prompt.
+//! The state of a prompt, and its answers to lines.
 ghost use Rattle.std.specs.Prelude.{◌≡◌, ℕ, ◌<◌, ◌≤◌, ◌++◌, List, Option, [], None, false, true, ⊤, codes, length};
 ghost use Rattle.std.specs.Prelude.{IfSome, OnOk, OnErr, if◌then◌else◌};
 ghost use Rattle.nesl_reply.specs.declared.fault.Fault.{Fault};
@@ -26,22 +26,22 @@ use nesl_session::session::Session;
 use std::alloc::{AllocError, Global};
 use std::mem;
 
-/// What a prompt has besides the session.
+/// The state of a prompt besides its session.
 #[derive(Drop)]
 pub struct Desk<'x, F> {
     shelf: &'x F,
     style: Style,
-    /// The lines of a form that goes on, joined.
+    /// The lines so far of an unfinished form, joined by blanks.
     form: Vec<u8>,
     open: Open,
     kept: Kept,
     is_over: bool,
-    /// Whether it was told that a form goes on.
+    /// Whether the note on forms that go on was written.
     is_told: bool,
 }
 
 impl<'x, F: Shelf> Desk<'x, F> {
-    /// Nothing was heard.
+    /// A prompt that has not read a line.
     pub fn new(alloc: Global, shelf: &'x F, style: Style) -> Desk<'x, F>
         ensures form { result.form.items ≡ [] }
         ensures style { result.style ≡ style }
@@ -57,21 +57,20 @@ impl<'x, F: Shelf> Desk<'x, F> {
         }
     }
 
-    /// How it looks.
     pub fn style(&self) -> Style
         ensures { result ≡ self.now.style }
     {
         self.style
     }
 
-    /// Whether a form goes on.
+    /// Whether a form is unfinished.
     pub fn has_form(&self) -> bool
         ensures { result ≡ false → self.now.form.items ≡ [] }
     {
         !self.form.is_empty()
     }
 
-    /// Says the form that goes on.
+    /// Passes the unfinished form to the session, and returns the reply with the text below it.
     pub fn say_form(&mut self, alloc: Global, session: &mut Session, style: Style) -> Told
         ensures said { (reply : Reply) × Responds session.old self.old.form.items reply session.new
             × ((line : List ℕ) → IsTold (is_plain style) reply (text_told line result)) }
@@ -86,8 +85,8 @@ impl<'x, F: Shelf> Desk<'x, F> {
         Told::With(answer, more)
     }
 
-    // What is written below an answer to a form: a hint and a prompt, as far as they are wanted. The form is kept where
-    // it bound a name; it is missing where there was no memory for it.
+    // Returns the text below the reply to a form: a hint and a prompt, as far as the style has them. It keeps the form
+    // if the form bound a name. `form` is an error where there was no memory for it.
     fn below(
         &mut self,
         alloc: Global,
@@ -107,7 +106,7 @@ impl<'x, F: Shelf> Desk<'x, F> {
         with_prompt(style, !session.pending().is_empty(), hint)
     }
 
-    // Takes a line of a form.
+    // Adds a line to the form. If the form ends with it, the session answers the form.
     fn take(&mut self, alloc: Global, session: &mut Session, line: &[u8], style: Style) -> Told
         ensures takes { (any : List ℕ) → Takes (is_plain style)
             (record { form = self.old.form.items; log = session.old }) line.now (text_told any result)
@@ -129,7 +128,7 @@ impl<'x, F: Shelf> Desk<'x, F> {
         }
     }
 
-    // Puts a line behind those that came, with a blank between.
+    // Adds a line to the form, after a blank unless it is the first.
     #[tactic(auto, using(crate::proofs::Conversations::joined_first, crate::proofs::Conversations::joined_more))]
     fn gather(&mut self, line: &[u8]) -> Result<(), AllocError>
         ensures ok { OnOk result (self.new.form.items ≡ joined self.old.form.items line.now) }
@@ -148,8 +147,8 @@ impl<'x, F: Shelf> Desk<'x, F> {
         Ok(())
     }
 
-    // Whether the form ends with this line, which is its last one so far: also where it is longer than a session
-    // takes, or where memory is wanting.
+    // Whether the form ends with this line. It also ends where it is longer than a session accepts, or where memory
+    // runs out.
     fn is_whole(&mut self, alloc: Global, line: &[u8], is_begun: bool) -> bool
         ensures short { result ≡ false → length self.old.form.items ≤ LONGEST }
         ensures blank { result ≡ false → is_begun ≡ true → ¬ IsBlank line.now }
@@ -166,7 +165,7 @@ impl<'x, F: Shelf> Desk<'x, F> {
         self.open.ends_with(alloc, line).unwrap_or(true)
     }
 
-    // What is told where a form goes on.
+    // Returns the text after a line with which a form does not end.
     fn go_on(&mut self, alloc: Global, style: Style) -> Vec<u8>
         ensures plain { is_plain style ≡ true → result.items ≡ [] }
         ensures form { self.new.form ≡ self.old.form }
@@ -177,7 +176,7 @@ impl<'x, F: Shelf> Desk<'x, F> {
         with_prompt(style, true, note_on_forms(alloc, style, is_first))
     }
 
-    // Does what a word of the prompt says.
+    // Obeys a word of the prompt.
     #[tactic(auto, using(crate::proofs::Conversations::obeyed_none, crate::proofs::Conversations::obeyed_some))]
     fn obey(
         &mut self,
@@ -204,7 +203,7 @@ impl<'x, F: Shelf> Desk<'x, F> {
         }
     }
 
-    // Writes what was kept into a file.
+    // Writes the kept forms into a file.
     fn save(&self, alloc: Global, path: &[u8], out: &mut Vec<u8>) -> Result<(), AllocError> {
         let mut text = Vec::new(alloc);
         self.kept.put(&mut text)?;
@@ -218,7 +217,7 @@ impl<'x, F: Shelf> Desk<'x, F> {
         }
     }
 
-    // Tells the type of a function, or has the session tell that of an expression.
+    // Writes the type of a function. For anything else it asks the session for the type of an expression.
     #[tactic(auto, using(crate::proofs::Conversations::spoke_none))]
     fn tell_type(
         &mut self,
@@ -239,7 +238,7 @@ impl<'x, F: Shelf> Desk<'x, F> {
         }
     }
 
-    // Has the session tell the type of an expression.
+    // Asks the session for the type of an expression.
     #[tactic(auto, using(crate::proofs::Conversations::spoke_none))]
     fn ask_type(
         &mut self,
@@ -266,7 +265,7 @@ impl<'x, F: Shelf> Desk<'x, F> {
         }
     }
 
-    // Says the lines of a file.
+    // Has the session answer the lines of a file.
     #[tactic(auto, using(crate::proofs::Conversations::spoke_none))]
     fn load(
         &mut self,
@@ -290,7 +289,7 @@ impl<'x, F: Shelf> Desk<'x, F> {
         }
     }
 
-    // Says the lines of a text, at the end of which a form ends.
+    // Has the session answer the lines of a text. A form that goes on ends with the text.
     fn say_text(
         &mut self,
         alloc: Global,
@@ -311,7 +310,7 @@ impl<'x, F: Shelf> Desk<'x, F> {
         put_told(out, &told)
     }
 
-    // Says the lines of a text.
+    // Has the session answer the lines of a text. A form may stay unfinished.
     fn say_lines(
         &mut self,
         alloc: Global,
@@ -330,7 +329,7 @@ impl<'x, F: Shelf> Desk<'x, F> {
         self.say_line(alloc, session, rest, out)
     }
 
-    // Says a line of a text.
+    // Has the session answer a line of a text. Blank lines between forms are skipped.
     #[tactic(auto, using(crate::proofs::Conversations::spoke_none))]
     fn say_line(
         &mut self,
@@ -350,7 +349,7 @@ impl<'x, F: Shelf> Desk<'x, F> {
         put_told(out, &told)
     }
 
-    // Hears a line while no form goes on.
+    // Answers a line while no form is unfinished.
     fn hear_first(&mut self, alloc: Global, session: &mut Session, line: &[u8]) -> Told
         requires form { self.old.form.items ≡ [] }
         ensures turn { Turn (is_plain self.old.style) (record { form = self.old.form.items; log = session.old })
@@ -368,7 +367,7 @@ impl<'x, F: Shelf> Desk<'x, F> {
         }
     }
 
-    // Hears a word of the prompt's own.
+    // Obeys a word of the prompt, and returns the text to write.
     fn hear_word(&mut self, alloc: Global, session: &mut Session, word: Word<'_>) -> Told
         requires form { self.old.form.items ≡ [] }
         ensures said { Obeyed (word_says word.entry) session.old session.new }
@@ -415,7 +414,7 @@ impl<F: Shelf> Hearer for Desk<'_, F> {
     }
 }
 
-// Writes the types of the functions of this name, and says whether there are any.
+// Writes the types of the functions of this name, and returns whether there are any.
 fn put_callable(
     alloc: Global,
     kept: &Kept,
@@ -436,7 +435,7 @@ fn put_callable(
     Ok(true)
 }
 
-// A form with the parts before it.
+// Joins a form to the parts of it that the session has already.
 fn whole(before: Result<Vec<u8>, AllocError>, form: Vec<u8>) -> Result<Vec<u8>, AllocError> {
     let mut whole = before?;
     if whole.is_empty() {
@@ -446,7 +445,7 @@ fn whole(before: Result<Vec<u8>, AllocError>, form: Vec<u8>) -> Result<Vec<u8>, 
     Ok(whole)
 }
 
-// The hint below an answer to a form, where hints are wanted and there is one.
+// Returns the hint below the reply to a form, if the style has hints and there is one.
 fn hint_below(
     alloc: Global,
     session: &Session,
@@ -466,7 +465,7 @@ fn hint_below(
     hint_text(alloc, session, form.as_slice(), answer).unwrap_or(Vec::new(alloc))
 }
 
-// The hint on a form that was answered so, below its place.
+// Returns the hint on a form with this answer, below the place that it is about.
 fn hint_text(
     alloc: Global,
     session: &Session,
@@ -480,14 +479,14 @@ fn hint_text(
     Ok(out)
 }
 
-// Whether a line says nothing to a session.
+// Whether a line is blank and the session has no part of a form: then no form begins with it.
 fn is_pause(session: &Session, line: &[u8]) -> bool
     ensures { result ≡ true → IsBlank line.now }
 {
     session.pending().is_empty() && is_blank(line)
 }
 
-// A prompt, where prompts are wanted.
+// Returns a prompt, if the style has prompts.
 fn prompt(alloc: Global, style: Style, is_open: bool) -> Vec<u8>
     ensures plain { is_plain style ≡ true → result.items ≡ [] }
     ensures below { (fault : Option Fault) → IsBelow (is_plain style) fault result.items }
@@ -495,7 +494,7 @@ fn prompt(alloc: Global, style: Style, is_open: bool) -> Vec<u8>
     with_prompt(style, is_open, Vec::new(alloc))
 }
 
-// A text with a prompt behind it, where prompts are wanted.
+// Adds a prompt to a text, if the style has prompts.
 #[tactic(auto, using(crate::proofs::Conversations::signed, crate::proofs::Conversations::unsigned))]
 fn with_prompt(style: Style, is_open: bool, text: Vec<u8>) -> Vec<u8>
     ensures unwanted { style.prompts ≡ false → result.items ≡ text.items }
@@ -511,14 +510,14 @@ fn with_prompt(style: Style, is_open: bool, text: Vec<u8>) -> Vec<u8>
     }
 }
 
-// The prompt where a form goes on, and where none does.
+// Returns the prompt within a form, or the one before a form.
 fn sign(is_open: bool) -> &'static [u8]
     ensures { result.now ≡ (if is_open then codes ". " else codes "> ") }
 {
     if is_open { b". " } else { b"> " }
 }
 
-// What is told the first time that a form goes on.
+// Returns the note on forms that go on, the first time that one does.
 fn note_on_forms(alloc: Global, style: Style, is_first: bool) -> Vec<u8>
     ensures { style.prompts ≡ false → result.items ≡ [] }
 {
@@ -528,7 +527,7 @@ fn note_on_forms(alloc: Global, style: Style, is_first: bool) -> Vec<u8>
     Vec::new(alloc)
 }
 
-// The command that asks for the type of an expression.
+// Returns the command that asks for the type of an expression.
 fn type_command(alloc: Global, exp: &[u8]) -> Result<Vec<u8>, AllocError> {
     let mut line = Vec::from_slice(alloc, b":type ")?;
     line.extend_from_slice(exp)?;
@@ -536,7 +535,6 @@ fn type_command(alloc: Global, exp: &[u8]) -> Result<Vec<u8>, AllocError> {
     Ok(line)
 }
 
-// Writes what is told.
 fn put_told(out: &mut Vec<u8>, told: &Told) -> Result<(), AllocError> {
     match told {
         Told::Back => Ok(()),
@@ -549,7 +547,7 @@ fn put_told(out: &mut Vec<u8>, told: &Told) -> Result<(), AllocError> {
     }
 }
 
-// The first line of a text without its LF, and what stands behind it; or nothing where no LF is there.
+// Splits a text after its first LF. Returns the first line without the LF, and the rest, or `None` if there is no LF.
 fn cut_line(text: &[u8]) -> Option<(&[u8], &[u8])>
     ensures { IfSome result (λ parts. length parts.1.now < length text.now) }
 {
@@ -559,14 +557,14 @@ fn cut_line(text: &[u8]) -> Option<(&[u8], &[u8])>
     }
 }
 
-// The place of the first LF.
+// Finds the first LF.
 fn feed_in(bytes: &[u8]) -> Option<usize>
     ensures { IfSome result (λ place. place < length bytes.now) }
 {
     memchr(b'\n', bytes)
 }
 
-// The name of a file, which is a text.
+// Returns the path of a file, if it is UTF-8.
 fn path_of(path: &[u8]) -> Option<&str> {
     if path.is_empty() {
         return None;
@@ -577,13 +575,13 @@ fn path_of(path: &[u8]) -> Option<&str> {
     }
 }
 
-// Tells how many forms were saved.
+// Writes the number of forms that were saved.
 fn put_count(alloc: Global, out: &mut Vec<u8>, count: usize) -> Result<(), AllocError> {
     let text = format!(in alloc; "saved: forms {count}\n")?;
     out.extend_from_slice(text.as_bytes())
 }
 
-// Tells why a file can't be loaded or saved.
+// Writes why a file can't be loaded or saved.
 fn put_fault(
     alloc: Global,
     out: &mut Vec<u8>,

@@ -1,10 +1,10 @@
--- What a line is that comes in a message of its own.
+-- Lines that arrive as messages.
 use Rattle.std.specs.Prelude.{◌≢◌}
 use Rattle.std.specs.List.{AllByRecursion}
 use Rattle.nesl_web.specs.declared.messages.Heard.{Heard}
 use Rattle.nesl_web.specs.declared.messages.Heard.TheVariants.{Line, Control, Closed, NotALine, Lost}
 
--- no line ends within a line
+-- a line has no line end in it
 abbrev pub IfLine : Heard → Type 0
 IfLine (Line text) = AllByRecursion (λ b. b ≢ 10) text
 IfLine Control = Unit {0}

@@ -1,4 +1,4 @@
-//! The messages of a WebSocket.
+//! The messages that arrive on a WebSocket.
 ghost use Rattle.std.specs.Prelude.{length, IfSome};
 ghost use Rattle.nesl_web.specs.Messages.{IfLine};
 
@@ -12,32 +12,32 @@ use tungstenite::{
     CloseCode, CloseFrame, Error, Message, NoMask, Role, Utf8Bytes, WebSocket, WebSocketConfig,
 };
 
-/// The most bytes of a message: one more than a form may have.
+/// The most bytes of a message: one more than a form may have, so that a longer form is noticed.
 pub const MOST_BYTES: usize = 65_537;
 
-/// How many bytes are asked for at once.
+/// The most bytes of one read.
 const READ_BYTES: usize = 4096;
 
 /// How many seconds the peer may take to take the last message.
 const CLOSE_SECONDS: u64 = 2;
 
-/// What a read gave.
+/// The result of a read.
 #[derive(Drop)]
 pub enum Heard {
     /// A line, without its line end.
     Line(Utf8Bytes),
-    /// A message that is no line, and needs no answer here: a ping, a pong or a close.
+    /// A message that is no line, and that needs no further answer: a ping, a pong or a close.
     Control,
     /// The peer has ended the connection.
     Closed,
-    /// What can't be a line, and how the connection is ended for it.
+    /// A message that can't be a line, with the code for closing the connection.
     NotALine(CloseCode),
-    /// The connection is lost, a message hasn't come in time, or memory ran out.
+    /// The connection is lost, a message did not arrive in time, or memory ran out.
     Lost(io::Error),
 }
 
 impl Heard {
-    /// What a read gave.
+    /// Sorts the result of a read.
     fn of(read: Result<Message, Error>) -> Heard
         ensures { IfLine result }
     {
@@ -47,7 +47,7 @@ impl Heard {
         }
     }
 
-    // A message came.
+    // Sorts a message.
     fn of_message(message: Message) -> Heard
         ensures { IfLine result }
     {
@@ -58,7 +58,7 @@ impl Heard {
         }
     }
 
-    // No message came.
+    // Sorts an error.
     fn of_failure(error: Error) -> Heard
         ensures { IfLine result }
     {
@@ -71,7 +71,7 @@ impl Heard {
         }
     }
 
-    // What ends the connection, other than that it is lost.
+    // Returns how an error ends the connection, unless the connection is lost.
     fn of_end(error: &Error) -> Option<Heard>
         ensures { IfSome result IfLine }
     {
@@ -85,7 +85,7 @@ impl Heard {
     }
 }
 
-/// The messages that come in on a WebSocket.
+/// Reads the messages of a WebSocket.
 #[derive(Drop)]
 pub struct Incoming<'s, R> {
     rt: &'s R,
@@ -93,8 +93,8 @@ pub struct Incoming<'s, R> {
 }
 
 impl<'s, R: Clock> Incoming<'s, R> {
-    /// Those of a connection whose first bytes have come. What is asked for besides, as by a ping, is answered, and a
-    /// piece of that may take so long.
+    /// A reader of a connection whose first bytes have arrived. It answers pings; a piece of such an answer may take
+    /// `piece`.
     pub fn new(
         rt: &'s R,
         alloc: Global,
@@ -118,13 +118,13 @@ impl<'s, R: Clock> Incoming<'s, R> {
         Incoming { rt, socket }
     }
 
-    /// From now on a piece of what is answered may take so long.
+    /// Changes the time that a piece of an answer may take.
     pub fn set_write_limit(&mut self, piece: Option<Duration>) -> io::Result<()> {
         self.socket.get_mut().set_write_limit(piece)
     }
 
-    /// The next line, which may take so long; none after the peer has ended the connection. What can't be a line ends
-    /// it, too.
+    /// Waits for the next line, at most for this time. Returns `None` after the peer has ended the connection. A
+    /// message that can't be a line ends it too.
     pub fn next(&mut self, time: Option<Duration>) -> io::Result<Option<Utf8Bytes>> {
         self.socket.get_mut().wait(time)?;
         for _ in 0..u64::MAX {
@@ -142,7 +142,8 @@ impl<'s, R: Clock> Incoming<'s, R> {
         Err(lost())
     }
 
-    /// Ends the connection: says so, if that wasn't said, and reads what the peer still sends, within these limits.
+    /// Ends the connection with a close message, unless one was sent, and reads what the peer still sends within these
+    /// limits.
     pub fn end(mut self, limits: DrainLimits) {
         self.close_and_drain(limits);
         drop(self);
@@ -155,7 +156,7 @@ impl<'s, R: Clock> Incoming<'s, R> {
         drop(self.socket.get_mut().drain_after_shutdown(limits));
     }
 
-    // Says why the connection ends, to a peer that takes it soon.
+    // Sends a close message with this code, to a peer that takes it in time.
     fn close(&mut self, code: CloseCode) {
         let time = Some(Duration::from_secs(CLOSE_SECONDS));
         if self.set_write_limit(time).is_ok() {
@@ -164,12 +165,12 @@ impl<'s, R: Clock> Incoming<'s, R> {
     }
 }
 
-// A message could not be read or sent.
+// The error for a message that could not be read or sent.
 fn lost() -> io::Error {
     io::Error::from(ErrorKind::ConnectionAborted)
 }
 
-// Why a message could not be sent.
+// Returns the error for a message that could not be sent.
 fn failure_of(error: Error) -> io::Error {
     match error {
         Error::Io(error) => error,
@@ -180,7 +181,7 @@ fn failure_of(error: Error) -> io::Error {
     }
 }
 
-// The end of a connection, as it is told.
+// Makes a close message.
 fn close_frame(code: CloseCode) -> CloseFrame {
     CloseFrame {
         code,
@@ -188,7 +189,7 @@ fn close_frame(code: CloseCode) -> CloseFrame {
     }
 }
 
-// A text is a line if no line ends within it.
+// A text is a line if it has no line end.
 fn line_of(text: Utf8Bytes) -> Heard
     ensures { IfLine result }
 {
