@@ -64,23 +64,23 @@ IsBlamed RefusedAt users name = (place : ℕ) × RefusedAt place × (slice_get u
 
 -- Why a batch for these users failed, and what it had read and written. Words that are not UTF-8 never lead to a batch.
 -- Nothing is claimed of costs that failed.
-abbrev pub Fails
+abbrev pub BatchFails
     : Failure → (is_hinted : Bool) → (users : List (List ℕ)) → (left left' held held' : Option (List ℕ)) → Type 0
-Fails Read is_hinted users left left' held held' = Served is_hinted ReadFault users left left' held held'
-Fails Write is_hinted users left left' held held' = Served is_hinted WriteFault users left left' held held'
-Fails Memory is_hinted users left left' held held' = Untouched left left' held held'
-Fails (Serve fault) is_hinted users left left' held held' = ⊥
-Fails Encoding is_hinted users left left' held held' = ⊥
-Fails (Taken port) is_hinted users left left' held held' = ⊥
-Fails (Stats file fault) is_hinted users left left' held held' = ⊥
-Fails (failed_as.Prompt fault) is_hinted users left left' held held' = ⊥
-Fails (Costs fault) is_hinted users left left' held held' = Unit {0}
-Fails (Value text) is_hinted users left left' held held' = Untouched left left' held held'
-Fails Count is_hinted users left left' held held' =
+BatchFails Read is_hinted users left left' held held' = Served is_hinted ReadFault users left left' held held'
+BatchFails Write is_hinted users left left' held held' = Served is_hinted WriteFault users left left' held held'
+BatchFails Memory is_hinted users left left' held held' = Untouched left left' held held'
+BatchFails (Serve fault) is_hinted users left left' held held' = ⊥
+BatchFails Encoding is_hinted users left left' held held' = ⊥
+BatchFails (Taken port) is_hinted users left left' held held' = ⊥
+BatchFails (Stats file fault) is_hinted users left left' held held' = ⊥
+BatchFails (failed_as.Prompt fault) is_hinted users left left' held held' = ⊥
+BatchFails (Costs fault) is_hinted users left left' held held' = Unit {0}
+BatchFails (Value text) is_hinted users left left' held held' = Untouched left left' held held'
+BatchFails Count is_hinted users left left' held held' =
     IsRefused users refusal.Count × Untouched left left' held held'
-Fails (Name name) is_hinted users left left' held held' =
+BatchFails (Name name) is_hinted users left left' held held' =
     IsBlamed (λ place. IsRefused users (refusal.Name place)) users name.now × Untouched left left' held held'
-Fails (Twice name) is_hinted users left left' held held' =
+BatchFails (Twice name) is_hinted users left left' held held' =
     IsBlamed (λ place. IsRefused users (refusal.Twice place)) users name.now × Untouched left left' held held'
 
 -- Why a prompt failed: it ended early, or memory for its session ran out, and then nothing was read or written.
@@ -101,9 +101,9 @@ is_plain_at terminals prompt = is_plain (style_for terminals prompt.is_hinted)
 abbrev pub TaskFails
     : Terminals → Task → Failure → (users : List (List ℕ)) → (left left' held held' : Option (List ℕ)) → Type 0
 TaskFails terminals (a_batch batch) failure users left left' held held' =
-    Fails failure batch.is_hinted users left left' held held'
+    BatchFails failure batch.is_hinted users left left' held held'
 TaskFails terminals (some_costs costs) failure users left left' held held' =
-    Fails failure false users left left' held held'
+    BatchFails failure false users left left' held held'
 TaskFails terminals (a_prompt prompt) failure users left left' held held' =
     PromptFails (is_plain_at terminals prompt) failure left left' held held'
 TaskFails terminals (a_service service) failure users left left' held held' = ⊥
@@ -120,10 +120,10 @@ TaskDone terminals (a_service service) users left left' held held' = ⊥
 
 -- What became of a command line that wasn't refused. Either its task is done; or it asks for a service, and nothing was
 -- read or written yet.
-abbrev pub Comes
+abbrev pub IsCarriedOut
     : Terminals → Option Offer → (words : List (List ℕ)) → (left left' held held' : Option (List ℕ)) → Type 0
-Comes terminals None words left left' held held' =
+IsCarriedOut terminals None words left left' held held' =
     TaskDone terminals (task_of words) (users_of words) left left' held held'
-Comes terminals (Some offer) words left left' held held' =
+IsCarriedOut terminals (Some offer) words left left' held held' =
     (users_offered offer ≡ users_of words) × (a_service (service_offered offer) ≡ task_of words)
     × Untouched left left' held held'

@@ -122,7 +122,7 @@ without_subcommands = on_top
 abbrev pub program : App
 program = with_subcommand (with_subcommand (with_subcommand without_subcommands batch) serve) repl
 
--- the users among what was found, and those behind the subcommand
+-- the users among what was found, and those after the subcommand
 abbrev pub users_among : List Row → List (List ℕ)
 users_among rows = unwrap_or (all_of (codes "USER") rows) []
 

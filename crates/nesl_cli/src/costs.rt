@@ -1,6 +1,6 @@
 //! The costs of a batch's last line, for several values of `n`.
 ghost use Rattle.std.specs.Prelude.{◌≡◌, ℕ, Bool, List, Option, IfErr, false, map};
-ghost use Rattle.nesl_cli.specs.Program.{Fails};
+ghost use Rattle.nesl_cli.specs.Program.{BatchFails};
 
 use crate::failure::Failure;
 use crate::run::{open_house, run_in_new_house};
@@ -55,7 +55,7 @@ pub(crate) fn write_costs<'a, S: Source, W: Sink>(
     reader: &mut S,
     writer: &mut W,
 ) -> Result<(), Failure<'a>>
-    ensures failed { IfErr result (λ failure. Fails failure false (map (λ user. user.now) users.now)
+    ensures failed { IfErr result (λ failure. BatchFails failure false (map (λ user. user.now) users.now)
         (S.left reader.old) (S.left reader.new) (W.held writer.old) (W.held writer.new)) }
 {
     let values = split_values(alloc, values)?;
@@ -92,7 +92,7 @@ fn write_table<S: Source, W: Sink>(
 // Splits a text at its commas into values, each of 1 to 18 digits.
 fn split_values<'a>(alloc: Global, text: &'a str) -> Result<Vec<&'a str>, Failure<'a>>
     ensures { IfErr result (λ failure. (is_hinted : Bool) (users : List (List ℕ)) (left held : Option (List ℕ))
-        → Fails failure is_hinted users left left held held) }
+        → BatchFails failure is_hinted users left left held held) }
 {
     let mut values = Vec::new(alloc);
     for value in text.split(',') {

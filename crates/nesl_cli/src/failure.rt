@@ -3,7 +3,7 @@ ghost use Rattle.std.specs.Prelude.{◌≡◌, ℕ, Bool, List, Option, IfSome, 
 ghost use Rattle.nesl_house.specs.Roster.{IsRefused};
 ghost use Rattle.clap.specs.Values.{kind_of};
 ghost use Rattle.nesl_cli.specs.Failures.{failure_of, memory_failure_of, status_after, status_of, words_status_of};
-ghost use Rattle.nesl_cli.specs.Program.{Fails};
+ghost use Rattle.nesl_cli.specs.Program.{BatchFails};
 
 use crate::costs::CostsFault;
 use crate::prompt::PromptFault;
@@ -66,7 +66,7 @@ impl<'a> Failure<'a> {
     pub fn of_roster(fault: NewFault, users: &[&'a str]) -> Failure<'a>
         requires { IsRefused (map (λ user. user.now) users.now) fault }
         ensures { (is_hinted : Bool) (left held : Option (List ℕ))
-            → Fails result is_hinted (map (λ user. user.now) users.now) left left held held }
+            → BatchFails result is_hinted (map (λ user. user.now) users.now) left left held held }
     {
         match fault {
             NewFault::Count => Failure::Count,
@@ -78,7 +78,7 @@ impl<'a> Failure<'a> {
 
     /// The failure where memory ran out before a run. It depends on the subcommand; the first word is the program's
     /// name.
-    pub fn of_memory(words: &[&str]) -> Failure<'a>
+    pub fn out_of_memory(words: &[&str]) -> Failure<'a>
         ensures { result ≡ memory_failure_of (map (λ word. word.now) words.now) }
     {
         match words.get(1) {

@@ -5,7 +5,7 @@ ghost use Rattle.clap.specs.declared.error.Error as clap;
 ghost use Rattle.nesl_house.specs.Roster.{IsRoster, new_house};
 ghost use Rattle.nesl_line.specs.declared.exchange.End.TheVariants as end;
 ghost use Rattle.nesl_cli.specs.Words.{program, task_of, users_of};
-ghost use Rattle.nesl_cli.specs.Program.{limits, Batched, Comes, Fails, Served, TaskFails, Untouched};
+ghost use Rattle.nesl_cli.specs.Program.{limits, Batched, IsCarriedOut, BatchFails, Served, TaskFails, Untouched};
 ghost use Rattle.nesl_cli.specs.declared.failure.Failure.{Failure};
 ghost use Rattle.nesl_cli.specs.declared.failure.Refusal.TheVariants as refusal;
 
@@ -51,7 +51,8 @@ pub fn carry_out<'a, S: Source, W: Sink, F: Shelf>(
     reader: &mut S,
     writer: &mut W,
 ) -> Result<Option<Offer<'a>>, Refusal<'a>>
-    ensures comes { IfOk result (λ offer. Comes devices.now.terminals offer (map (λ word. word.now) words.entry.now)
+    ensures comes { IfOk result (λ offer.
+        IsCarriedOut devices.now.terminals offer (map (λ word. word.now) words.entry.now)
         (S.left reader.old) (S.left reader.new) (W.held writer.old) (W.held writer.new)) }
     ensures failed { (failure : Failure) → result ≡ Err (refusal.Run failure)
         → TaskFails devices.now.terminals (task_of (map (λ word. word.now) words.entry.now)) failure
@@ -104,7 +105,7 @@ fn run_batch<'a, S: Source, W: Sink>(
 ) -> Result<(), Failure<'a>>
     ensures served { OnOk result (Served is_hinted end.Input (map (λ user. user.now) users.now)
         (S.left reader.old) (S.left reader.new) (W.held writer.old) (W.held writer.new)) }
-    ensures failed { IfErr result (λ failure. Fails failure is_hinted (map (λ user. user.now) users.now)
+    ensures failed { IfErr result (λ failure. BatchFails failure is_hinted (map (λ user. user.now) users.now)
         (S.left reader.old) (S.left reader.new) (W.held writer.old) (W.held writer.new)) }
 {
     let house = run_in_new_house(alloc, users, heap, is_hinted, reader, writer)?;
@@ -124,7 +125,7 @@ pub(crate) fn run_in_new_house<'a, S: Source, W: Sink>(
 ) -> Result<House, Failure<'a>>
     ensures served { OnOk result (Served is_hinted end.Input (map (λ user. user.now) users.now)
         (S.left reader.old) (S.left reader.new) (W.held writer.old) (W.held writer.new)) }
-    ensures failed { IfErr result (λ failure. Fails failure is_hinted (map (λ user. user.now) users.now)
+    ensures failed { IfErr result (λ failure. BatchFails failure is_hinted (map (λ user. user.now) users.now)
         (S.left reader.old) (S.left reader.new) (W.held writer.old) (W.held writer.new)) }
 {
     let mut house = open_house(alloc, users)?;
@@ -142,7 +143,7 @@ pub(crate) fn open_house<'a>(alloc: Global, users: &[&'a str]) -> Result<House, 
     ensures roster { OnOk result (IsRoster (map (λ user. user.now) users.now)) }
     ensures opened { IfOk result (λ house. house ≡ new_house limits (map (λ user. user.now) users.now)) }
     ensures failed { IfErr result (λ failure. (is_hinted : Bool) (left held : Option (List ℕ))
-        → Fails failure is_hinted (map (λ user. user.now) users.now) left left held held) }
+        → BatchFails failure is_hinted (map (λ user. user.now) users.now) left left held held) }
 {
     let Ok(names) = copy_names(alloc, users) else {
         return Err(Failure::Memory);

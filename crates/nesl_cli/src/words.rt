@@ -98,7 +98,7 @@ pub fn read<'a>(alloc: Global, words: &'a [&'a str]) -> Result<Wanted<'a>, Error
     ensures faults { FailsBy (fault_of program (map (λ word. word.now) words.entry.now)) result }
 {
     let matches = command(alloc)?.try_get_matches_from(words)?;
-    Ok(found(alloc, &matches)?)
+    Ok(wanted_in(alloc, &matches)?)
 }
 
 /// An example of the subcommand's words, which is printed after an error. The first word is the program's name.
@@ -351,14 +351,14 @@ fn text<'a>(alloc: Global, name: &'a str, long: &'a str, help: &'a str) -> Arg<'
 }
 
 // Returns what was found on the command line.
-fn found<'a>(alloc: Global, matches: &ArgMatches<'a>) -> Result<Wanted<'a>, AllocError>
+fn wanted_in<'a>(alloc: Global, matches: &ArgMatches<'a>) -> Result<Wanted<'a>, AllocError>
     ensures users { IfOk result (λ wanted. users_wanted wanted ≡ users_in (subcommand_rows_of matches.now)) }
     ensures task { IfOk result (λ wanted. task_wanted wanted.task ≡ task_in (subcommand_rows_of matches.now)) }
 {
     match matches.subcommand() {
         Some((name, inner)) => {
-            let users = named_behind(alloc, inner)?;
-            let task = task_behind(name, inner);
+            let users = user_names(alloc, inner)?;
+            let task = task_found(name, inner);
             Ok(Wanted { users, task })
         }
         None => Ok(Wanted {
@@ -371,63 +371,63 @@ fn found<'a>(alloc: Global, matches: &ArgMatches<'a>) -> Result<Wanted<'a>, Allo
     }
 }
 
-fn task_behind<'a>(name: &str, matches: &ArgMatches<'a>) -> Task<'a>
+fn task_found<'a>(name: &str, matches: &ArgMatches<'a>) -> Task<'a>
     ensures { task_wanted result ≡ task_among name.now (rows_of (found_of matches.now)) }
 {
     if name == "serve" {
-        Task::Service(service_behind(matches))
+        Task::Service(service_found(matches))
     } else if name == "repl" {
         Task::Prompt {
-            is_hinted: is_behind(matches, "HINTS"),
-            has_files: is_behind(matches, "FILES"),
+            is_hinted: has_flag(matches, "HINTS"),
+            has_files: has_flag(matches, "FILES"),
         }
     } else {
-        batch_behind(matches)
+        batch_found(matches)
     }
 }
 
-fn batch_behind<'a>(matches: &ArgMatches<'a>) -> Task<'a>
+fn batch_found<'a>(matches: &ArgMatches<'a>) -> Task<'a>
     ensures { task_wanted result ≡ batch_among (text_among (codes "VALUES") (rows_of (found_of matches.now)))
         (number_among (codes "BYTES") (rows_of (found_of matches.now)))
         (is_among (codes "HINTS") (rows_of (found_of matches.now))) }
 {
-    let heap = number_behind(matches, "BYTES");
-    let is_hinted = is_behind(matches, "HINTS");
-    match text_behind(matches, "VALUES") {
+    let heap = number_option(matches, "BYTES");
+    let is_hinted = has_flag(matches, "HINTS");
+    match text_option(matches, "VALUES") {
         Some(values) => Task::Costs { values, heap },
         None => Task::Batch { heap, is_hinted },
     }
 }
 
-fn service_behind<'a>(matches: &ArgMatches<'a>) -> Service<'a>
+fn service_found<'a>(matches: &ArgMatches<'a>) -> Service<'a>
     ensures { service_wanted result ≡ service_among (rows_of (found_of matches.now)) }
 {
     Service {
-        port: number_behind(matches, "PORT"),
-        workers: number_behind(matches, "WORKERS"),
-        connections: number_behind(matches, "CONNECTIONS"),
-        web: number_behind(matches, "WEB"),
-        web_host: text_behind(matches, "HOST"),
-        idle: number_behind(matches, "SECONDS"),
-        first_line: number_behind(matches, "FIRST"),
-        is_logged: is_behind(matches, "LOG"),
-        stats: text_behind(matches, "FILE"),
+        port: number_option(matches, "PORT"),
+        workers: number_option(matches, "WORKERS"),
+        connections: number_option(matches, "CONNECTIONS"),
+        web: number_option(matches, "WEB"),
+        web_host: text_option(matches, "HOST"),
+        idle: number_option(matches, "SECONDS"),
+        first_line: number_option(matches, "FIRST"),
+        is_logged: has_flag(matches, "LOG"),
+        stats: text_option(matches, "FILE"),
     }
 }
 
-fn number_behind(matches: &ArgMatches<'_>, name: &str) -> Option<usize>
+fn number_option(matches: &ArgMatches<'_>, name: &str) -> Option<usize>
     ensures { result ≡ number_among name.now (rows_of (found_of matches.now)) }
 {
     matches.get_one(name)
 }
 
-fn text_behind<'a>(matches: &ArgMatches<'a>, name: &str) -> Option<&'a str>
+fn text_option<'a>(matches: &ArgMatches<'a>, name: &str) -> Option<&'a str>
     ensures { option_map (λ text. text.now) result ≡ text_among name.now (rows_of (found_of matches.now)) }
 {
     matches.get_str(name)
 }
 
-fn is_behind(matches: &ArgMatches<'_>, name: &str) -> bool
+fn has_flag(matches: &ArgMatches<'_>, name: &str) -> bool
     ensures { result ≡ is_among name.now (rows_of (found_of matches.now)) }
 {
     match matches.get_strs(name) {
@@ -439,7 +439,7 @@ fn is_behind(matches: &ArgMatches<'_>, name: &str) -> bool
     }
 }
 
-fn named_behind<'a>(alloc: Global, matches: &ArgMatches<'a>) -> Result<Vec<&'a str>, AllocError>
+fn user_names<'a>(alloc: Global, matches: &ArgMatches<'a>) -> Result<Vec<&'a str>, AllocError>
     ensures { IfOk result (λ users. map (λ user. user.now) users.items
         ≡ users_among (rows_of (found_of matches.now))) }
 {

@@ -1,6 +1,6 @@
 //! The state that all connections share for requests of helpers.
 
-use crate::learnt::Learnt;
+use crate::timings::Timings;
 use std::sync::atomic::{AtomicU64, Ordering};
 
 /// Counts the threads that evaluate lines or halves, and remembers how long intervals take. `processors` is how many
@@ -9,7 +9,7 @@ use std::sync::atomic::{AtomicU64, Ordering};
 pub struct Common {
     processors: u64,
     at_work: AtomicU64,
-    pub(crate) learnt: Learnt,
+    pub(crate) timings: Timings,
 }
 
 impl Common {
@@ -18,7 +18,7 @@ impl Common {
         Common {
             processors: processors as u64,
             at_work: AtomicU64::new(0),
-            learnt: Learnt::new(),
+            timings: Timings::new(),
         }
     }
 

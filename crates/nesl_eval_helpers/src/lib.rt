@@ -5,10 +5,10 @@
 mod common;
 mod halving;
 mod helpers;
-mod learnt;
 mod permits;
 mod pool;
 pub mod sparing;
+mod timings;
 
 pub use common::Common;
 pub use halving::{Half, begin_meter, cost_since, join_places, join_values};

@@ -1,4 +1,4 @@
-//! A pool of permits for helpers, behind a lock.
+//! A pool of permits for helpers, under a lock.
 //!
 //! The permits in use are the total of a ledger. So, while the lock is held, those in use and those that are free add
 //! up to all.

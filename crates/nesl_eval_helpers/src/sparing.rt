@@ -1,6 +1,6 @@
 //! Asks for helpers only where an interval takes long.
 
-use crate::learnt::{Part, WORTH, WORTH_INSIDE, believed, rate_of, time_for};
+use crate::timings::{Part, WORTH, WORTH_INSIDE, rate_of, time_for, time_needed};
 use crate::{Advice, Asker, Common, Helpers};
 use std::sync::atomic::{AtomicU64, Ordering};
 use std::time::Clock;
@@ -73,16 +73,16 @@ struct Outer {
 /// Turns of an outer interval that have a helper. `before` is the number of helpers granted earlier, and `since` the
 /// microsecond at which they began.
 #[derive(Clone, Copy)]
-struct Judged {
+struct Compared {
     part: Part,
     before: u64,
     since: u64,
 }
 
-/// A granted helper. `judged` is the outer interval that it is for, if it is for one.
+/// A granted helper. `compared` is the outer interval that it is for, if it is for one.
 pub struct Granted<P> {
     permit: P,
-    judged: Option<Judged>,
+    compared: Option<Compared>,
 }
 
 // Whether the smaller half of an interval has at least an eighth of its elements.
@@ -167,7 +167,7 @@ impl Outer {
     // Returns the microseconds it has taken until now. `fuel` is the fuel that is left.
     fn micros(&self, fuel: u64, now: u64) -> u64 {
         let work = self.fuel.load(Ordering::Relaxed).saturating_sub(fuel);
-        believed(now.saturating_sub(self.since.load(Ordering::Relaxed)), work)
+        time_needed(now.saturating_sub(self.since.load(Ordering::Relaxed)), work)
     }
 
     // Returns how many calls deeper an inner interval is. The first one of a recursion is one call deeper.
@@ -234,7 +234,7 @@ impl<'a, C: Clock, H: Helpers> Sparing<'a, C, H> {
 
     // Whether an outer interval is likely to take long. Its timing begins here.
     fn takes_long(&self, asker: Asker) -> bool {
-        let rate = self.common.learnt.rate(asker);
+        let rate = self.common.timings.rate(asker);
         self.outer.begin(asker, rate, self.now_at(asker.fuel));
         let takes_long = time_for(rate, asker.size) >= WORTH;
         if !takes_long {
@@ -254,13 +254,13 @@ impl<'a, C: Clock, H: Helpers> Sparing<'a, C, H> {
         let rate = rate_of(left, asker.size);
         self.outer.rate.store(rate, Ordering::Relaxed);
         let whole = micros.saturating_add(left);
-        self.common.learnt.note(self.outer.asker(), whole);
+        self.common.timings.note(self.outer.asker(), whole);
         Advice::Ask
     }
 
     // Returns what is compared when the helpers of an interval come back. Inside an interval that has helpers, nothing
     // is.
-    fn judged(&self, asker: Asker) -> Option<Judged> {
+    fn compared(&self, asker: Asker) -> Option<Compared> {
         if self.out.load(Ordering::Relaxed) > 0 {
             return None;
         }
@@ -270,7 +270,7 @@ impl<'a, C: Clock, H: Helpers> Sparing<'a, C, H> {
             size: asker.size,
             expected: time_for(rate, asker.size),
         };
-        Some(Judged {
+        Some(Compared {
             part,
             before: self.granted.load(Ordering::Relaxed),
             since: self.now(),
@@ -278,14 +278,14 @@ impl<'a, C: Clock, H: Helpers> Sparing<'a, C, H> {
     }
 
     // Asks for a helper, after a processor was taken for it. An outer interval with a helper isn't timed any more.
-    fn grant(&self, judged: Option<Judged>) -> Option<Granted<H::Permit>> {
+    fn grant(&self, compared: Option<Compared>) -> Option<Granted<H::Permit>> {
         let permit = self.helpers.ask()?;
-        if judged.is_some() {
+        if compared.is_some() {
             self.outer.stop();
         }
         self.out.fetch_add(1, Ordering::Relaxed);
         self.granted.fetch_add(1, Ordering::Relaxed);
-        Some(Granted { permit, judged })
+        Some(Granted { permit, compared })
     }
 }
 
@@ -298,19 +298,21 @@ impl<C: Clock, H: Helpers> Helpers for Sparing<'_, C, H> {
     }
 
     fn done(&self, permit: Granted<H::Permit>) {
-        let Granted { permit, judged } = permit;
+        let Granted { permit, compared } = permit;
         self.helpers.done(permit);
         self.common.begin();
         self.out.fetch_sub(1, Ordering::Relaxed);
-        if let Some(judged) = judged {
+        if let Some(compared) = compared {
             let helpers = self
                 .granted
                 .load(Ordering::Relaxed)
-                .saturating_sub(judged.before);
+                .saturating_sub(compared.before);
             let threads = helpers.saturating_add(1);
             let now = self.now();
-            let micros = now.saturating_sub(judged.since);
-            self.common.learnt.judge(judged.part, micros, threads, now);
+            let micros = now.saturating_sub(compared.since);
+            self.common
+                .timings
+                .compare(compared.part, micros, threads, now);
         }
     }
 
@@ -335,7 +337,7 @@ impl<C: Clock, H: Helpers> Helpers for Sparing<'_, C, H> {
     fn end_timed(&self, fuel: u64) {
         if self.outer.is_timed() {
             let micros = self.outer.micros(fuel, self.now_at(fuel));
-            self.common.learnt.note(self.outer.asker(), micros);
+            self.common.timings.note(self.outer.asker(), micros);
             self.outer.stop();
         }
     }
@@ -361,15 +363,15 @@ impl<C: Clock, H: Helpers> Helpers for Sparing<'_, C, H> {
     }
 
     fn ask_for(&self, asker: Asker) -> Option<Granted<H::Permit>> {
-        let judged = self.judged(asker);
-        if judged.is_some_and(|it| !self.common.learnt.allows(it.part.whole, it.since)) {
+        let compared = self.compared(asker);
+        if compared.is_some_and(|it| !self.common.timings.allows(it.part.whole, it.since)) {
             self.outer.rate.store(0, Ordering::Relaxed);
             return None;
         }
         if !self.common.begin_on_free() {
             return None;
         }
-        let granted = self.grant(judged);
+        let granted = self.grant(compared);
         if granted.is_none() {
             self.common.end();
         }

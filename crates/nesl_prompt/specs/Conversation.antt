@@ -12,7 +12,7 @@ use Rattle.nesl_line.specs.declared.exchange.End.TheVariants.{Input, WriteFault}
 use Rattle.nesl_line.specs.Exchange.{IsExchange}
 use Rattle.nesl_line.specs.Steps.{Sent}
 use Rattle.nesl_prompt.specs.Points.{Point, Obeyed, joined}
-use Rattle.nesl_prompt.specs.Words.{IsBlank, is_own, is_part, says_lines}
+use Rattle.nesl_prompt.specs.Words.{IsBlank, is_own, is_part, gives_lines}
 
 -- a prompt before a form, a prompt within one, or neither
 pub data IsSign (sign : List ℕ) : Type 0 where
@@ -30,7 +30,7 @@ pub record IsBelow (plain : Bool) (fault : Option Fault) (more : List ℕ) : Typ
   pub alone : plain ≡ true → more ≡ []
 
 -- The text is the reply, with what may follow it.
-pub record IsTold (plain : Bool) (reply : Reply) (text : List ℕ) : Type 0 where
+pub record IsReplyText (plain : Bool) (reply : Reply) (text : List ℕ) : Type 0 where
   pub more : List ℕ
   pub spelled : text ≡ reply.bytes ++ more
   pub below : IsBelow plain reply.fault more
@@ -45,29 +45,29 @@ pub record GoesOn (form line : List ℕ) : Type 0 where
 -- What becomes of a line of a form. Either the form goes on, and at most a prompt is written; or it ends, and the
 -- session's reply is written. Where memory runs out, `fault memory` is written, and the form is as it was before the
 -- line.
-pub data Takes (plain : Bool) (point : Point) (line text : List ℕ) (point' : Point) : Type 0 where
+pub data TakesLine (plain : Bool) (point : Point) (line text : List ℕ) (point' : Point) : Type 0 where
   gathers :
       GoesOn point.form line → point'.form ≡ joined point.form line → point'.log ≡ point.log
-      → (plain ≡ true → text ≡ []) → Takes plain point line text point'
-  says :
+      → (plain ≡ true → text ≡ []) → TakesLine plain point line text point'
+  answers :
       (reply : Reply) → Responds point.log (joined point.form line) reply point'.log → point'.form ≡ []
-      → IsTold plain reply text → Takes plain point line text point'
-  wants :
-      point'.form ≡ point.form → point'.log ≡ point.log → IsTold plain no_memory text
-      → Takes plain point line text point'
+      → IsReplyText plain reply text → TakesLine plain point line text point'
+  runs_out :
+      point'.form ≡ point.form → point'.log ≡ point.log → IsReplyText plain no_memory text
+      → TakesLine plain point line text point'
 
 -- One line at the prompt. While no form is unfinished, it may be one of the prompt's own words; only `:load` and
 -- `:type` pass lines to the session. It may also be blank, and then at most a prompt is written. Any other line is part
 -- of a form.
 pub data Turn (plain : Bool) (point : Point) (line text : List ℕ) (point' : Point) : Type 0 where
   own :
-      point.form ≡ [] → is_own line ≡ true → Obeyed (says_lines line) point.log point'.log → point'.form ≡ []
+      point.form ≡ [] → is_own line ≡ true → Obeyed (gives_lines line) point.log point'.log → point'.form ≡ []
       → Turn plain point line text point'
   waits :
       point.form ≡ [] → IsBlank line → point'.form ≡ [] → point'.log ≡ point.log → (plain ≡ true → text ≡ [])
       → Turn plain point line text point'
   takes :
-      (point.form ≡ [] → is_own line ≡ false) → Takes plain point line text point'
+      (point.form ≡ [] → is_own line ≡ false) → TakesLine plain point line text point'
       → Turn plain point line text point'
 
 -- these lines were read one after another, and these texts were written for them
@@ -90,7 +90,7 @@ pub data Rests
       → Rests plain end point log held held' well
   last_form :
       (mid : Option (List ℕ)) (tail text : List ℕ) (reply : Reply) → Sent held mid tail true
-      → (plain ≡ true → tail ≡ []) → Responds point.log point.form reply log → IsTold plain reply text
+      → (plain ≡ true → tail ≡ []) → Responds point.log point.form reply log → IsReplyText plain reply text
       → Sent mid held' text well → Rests plain end point log held held' well
 
 -- A conversation of `count` lines that ended in this way. The reader had `left` before and has `left'` after. The

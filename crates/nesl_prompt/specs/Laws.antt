@@ -3,19 +3,19 @@ use Rattle.std.specs.Prelude.{◌≡◌, ℕ, List, flat_map, true, false}
 use Rattle.std.specs.List.{AllByRecursion}
 use Rattle.nesl_session_meaning.specs.State.{Log}
 use Rattle.nesl_line.specs.Exchange.{text_of}
-use Rattle.nesl_prompt.specs.Points.{Point, Said, Says}
+use Rattle.nesl_prompt.specs.Points.{Point, LineAndReply, Replied}
 use Rattle.nesl_prompt.specs.Words.{is_own}
 use Rattle.nesl_prompt.specs.Conversation.{Conversed}
 
 -- the bytes of the replies, in order
-abbrev pub replies_of : List Said → List ℕ
+abbrev pub replies_of : List LineAndReply → List ℕ
 replies_of said = flat_map (λ s. s.reply.bytes) said
 
 -- The session was given some lines, and exactly its replies were written.
-pub record IsTheSessions (log : Log) (told : List ℕ) (log' : Log) : Type 0 where
-  pub said : List Said
-  pub says : Says log said log'
-  pub replies : told ≡ replies_of said
+pub record IsTheSessions (log : Log) (written : List ℕ) (log' : Log) : Type 0 where
+  pub said : List LineAndReply
+  pub replied : Replied log said log'
+  pub replies : written ≡ replies_of said
 
 -- none of these lines is the prompt's own
 abbrev pub HasNoOwn : List (List ℕ) → Type 0

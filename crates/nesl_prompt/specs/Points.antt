@@ -11,25 +11,25 @@ pub record Point : Type 0 where
   pub log : Log
 
 -- a line that the session was given, and its reply
-pub record Said : Type 0 where
+pub record LineAndReply : Type 0 where
   pub line : List ℕ
   pub reply : Reply
 
 -- the session was given these lines one after another, and gave these replies
-abbrev pub Says : Log → List Said → Log → Type 0
-Says log [] log' = log' ≡ log
-Says log (said ∷ more) log' = (mid : Log) × Responds log said.line said.reply mid × Says mid more log'
+abbrev pub Replied : Log → List LineAndReply → Log → Type 0
+Replied log [] log' = log' ≡ log
+Replied log (said ∷ more) log' = (mid : Log) × Responds log said.line said.reply mid × Replied mid more log'
 
 -- the session was given some lines
-pub record Spoke (log log' : Log) : Type 0 where
-  pub lines : List Said
-  pub says : Says log lines log'
+pub record WasGiven (log log' : Log) : Type 0 where
+  pub lines : List LineAndReply
+  pub replied : Replied log lines log'
 
--- the session was given some lines, and none where `says_any` is false
-pub record Obeyed (says_any : Bool) (log log' : Log) : Type 0 where
-  pub lines : List Said
-  pub none : says_any ≡ false → lines ≡ []
-  pub says : Says log lines log'
+-- the session was given some lines, and none where `gives_any` is false
+pub record Obeyed (gives_any : Bool) (log log' : Log) : Type 0 where
+  pub lines : List LineAndReply
+  pub none : gives_any ≡ false → lines ≡ []
+  pub replied : Replied log lines log'
 
 -- a form with one more line, after a blank unless it is the first
 abbrev pub joined : (form line : List ℕ) → List ℕ

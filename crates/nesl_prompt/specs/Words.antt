@@ -18,23 +18,23 @@ asks_type line =
     begins line (codes ":type") && not (list_any (λ b. b == 59) line) && not (is_part line)
 
 -- a line with which the session is given lines: `:load`, or `:type` without a `;`
-abbrev pub says_lines : List ℕ → Bool
-says_lines line = begins line (codes ":load") || asks_type line
+abbrev pub gives_lines : List ℕ → Bool
+gives_lines line = begins line (codes ":load") || asks_type line
 
 -- a line that is the prompt's own while no form is unfinished
 abbrev pub is_own : List ℕ → Bool
 is_own line =
     begins line (codes ":help") || begins line (codes ":list") || begins line (codes ":save")
-    || begins line (codes ":quit") || says_lines line
+    || begins line (codes ":quit") || gives_lines line
 
 -- whether the session is given lines for a word
-abbrev pub word_says : Word → Bool
-word_says (Help name) = false
-word_says (TypeOf name) = true
-word_says Kept = false
-word_says (Load file) = true
-word_says (Save file) = false
-word_says Quit = false
+abbrev pub word_gives_lines : Word → Bool
+word_gives_lines (Help name) = false
+word_gives_lines (TypeOf name) = true
+word_gives_lines Kept = false
+word_gives_lines (Load file) = true
+word_gives_lines (Save file) = false
+word_gives_lines Quit = false
 
 -- a space, a tab or a CR
 abbrev pub is_blank_byte : ℕ → Bool

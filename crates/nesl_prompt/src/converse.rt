@@ -79,17 +79,17 @@ fn rest<W: Sink, F: Shelf>(
     if !say(writer, parting(style, desk.is_over())) {
         return false;
     }
-    if !is_input(end) {
+    if !is_end_of_input(end) {
         return true;
     }
     if !desk.has_form() {
         return true;
     }
-    let told = desk.say_form(alloc, session, style.without_prompts());
-    tell(writer, b"", &told)
+    let output = desk.answer_form(alloc, session, style.without_prompts());
+    tell(writer, b"", &output)
 }
 
-fn is_input(end: End) -> bool
+fn is_end_of_input(end: End) -> bool
     ensures { result ≡ false → end ≢ End.Input }
 {
     match end {

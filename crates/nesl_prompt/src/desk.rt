@@ -5,9 +5,9 @@ ghost use Rattle.nesl_reply.specs.declared.fault.Fault.{Fault};
 ghost use Rattle.nesl_session_meaning.specs.Solo.{Responds};
 ghost use Rattle.nesl_session_meaning.specs.Response.{Reply};
 ghost use Rattle.nesl_line.specs.Told.{text_told};
-ghost use Rattle.nesl_prompt.specs.Conversation.{Conversed, IsBelow, IsSign, IsTold, Takes, Turn};
-ghost use Rattle.nesl_prompt.specs.Points.{Obeyed, Spoke, is_plain, joined};
-ghost use Rattle.nesl_prompt.specs.Words.{IsBlank, is_part, word_says};
+ghost use Rattle.nesl_prompt.specs.Conversation.{Conversed, IsBelow, IsSign, IsReplyText, TakesLine, Turn};
+ghost use Rattle.nesl_prompt.specs.Points.{Obeyed, WasGiven, is_plain, joined};
+ghost use Rattle.nesl_prompt.specs.Words.{IsBlank, is_part, word_gives_lines};
 
 use crate::caret::put_hint;
 use crate::functions::put_types;
@@ -37,7 +37,7 @@ pub struct Desk<'x, F> {
     kept: Kept,
     is_over: bool,
     /// Whether the note on forms that go on was written.
-    is_told: bool,
+    is_noted: bool,
 }
 
 impl<'x, F: Shelf> Desk<'x, F> {
@@ -53,7 +53,7 @@ impl<'x, F: Shelf> Desk<'x, F> {
             open: Open::new(alloc),
             kept: Kept::new(alloc),
             is_over: false,
-            is_told: false,
+            is_noted: false,
         }
     }
 
@@ -71,9 +71,9 @@ impl<'x, F: Shelf> Desk<'x, F> {
     }
 
     /// Passes the unfinished form to the session, and returns the reply with the text below it.
-    pub fn say_form(&mut self, alloc: Global, session: &mut Session, style: Style) -> Told
+    pub fn answer_form(&mut self, alloc: Global, session: &mut Session, style: Style) -> Told
         ensures said { (reply : Reply) × Responds session.old self.old.form.items reply session.new
-            × ((line : List ℕ) → IsTold (is_plain style) reply (text_told line result)) }
+            × ((line : List ℕ) → IsReplyText (is_plain style) reply (text_told line result)) }
         ensures form { self.new.form.items ≡ [] }
         ensures style { self.new.style ≡ self.old.style }
     {
@@ -108,7 +108,7 @@ impl<'x, F: Shelf> Desk<'x, F> {
 
     // Adds a line to the form. If the form ends with it, the session answers the form.
     fn take(&mut self, alloc: Global, session: &mut Session, line: &[u8], style: Style) -> Told
-        ensures takes { (any : List ℕ) → Takes (is_plain style)
+        ensures takes { (any : List ℕ) → TakesLine (is_plain style)
             (record { form = self.old.form.items; log = session.old }) line.now (text_told any result)
             (record { form = self.new.form.items; log = session.new }) }
         ensures style { self.new.style ≡ self.old.style }
@@ -121,7 +121,7 @@ impl<'x, F: Shelf> Desk<'x, F> {
             }
             Ok(()) => {
                 if self.is_whole(alloc, line, is_begun) {
-                    return self.say_form(alloc, session, style);
+                    return self.answer_form(alloc, session, style);
                 }
                 Told::Text(self.go_on(alloc, style))
             }
@@ -171,8 +171,8 @@ impl<'x, F: Shelf> Desk<'x, F> {
         ensures form { self.new.form ≡ self.old.form }
         ensures style { self.new.style ≡ self.old.style }
     {
-        let is_first = !self.is_told;
-        self.is_told = true;
+        let is_first = !self.is_noted;
+        self.is_noted = true;
         with_prompt(style, true, note_on_forms(alloc, style, is_first))
     }
 
@@ -186,7 +186,7 @@ impl<'x, F: Shelf> Desk<'x, F> {
         out: &mut Vec<u8>,
     ) -> Result<(), AllocError>
         requires form { self.old.form.items ≡ [] }
-        ensures said { Obeyed (word_says word.entry) session.old session.new }
+        ensures said { Obeyed (word_gives_lines word.entry) session.old session.new }
         ensures form { self.new.form.items ≡ [] }
         ensures style { self.new.style ≡ self.old.style }
     {
@@ -199,7 +199,7 @@ impl<'x, F: Shelf> Desk<'x, F> {
                 Ok(())
             }
             Word::Load(path) => self.load(alloc, session, path, out),
-            Word::TypeOf(name) => self.tell_type(alloc, session, name, out),
+            Word::TypeOf(name) => self.put_type_of(alloc, session, name, out),
         }
     }
 
@@ -218,8 +218,8 @@ impl<'x, F: Shelf> Desk<'x, F> {
     }
 
     // Writes the type of a function. For anything else it asks the session for the type of an expression.
-    #[tactic(auto, using(crate::proofs::Conversations::spoke_none))]
-    fn tell_type(
+    #[tactic(auto, using(crate::proofs::Conversations::given_none))]
+    fn put_type_of(
         &mut self,
         alloc: Global,
         session: &mut Session,
@@ -227,7 +227,7 @@ impl<'x, F: Shelf> Desk<'x, F> {
         out: &mut Vec<u8>,
     ) -> Result<(), AllocError>
         requires form { self.old.form.items ≡ [] }
-        ensures said { Spoke session.old session.new }
+        ensures said { WasGiven session.old session.new }
         ensures form { self.new.form.items ≡ [] }
         ensures style { self.new.style ≡ self.old.style }
     {
@@ -239,7 +239,7 @@ impl<'x, F: Shelf> Desk<'x, F> {
     }
 
     // Asks the session for the type of an expression.
-    #[tactic(auto, using(crate::proofs::Conversations::spoke_none))]
+    #[tactic(auto, using(crate::proofs::Conversations::given_none))]
     fn ask_type(
         &mut self,
         alloc: Global,
@@ -248,7 +248,7 @@ impl<'x, F: Shelf> Desk<'x, F> {
         out: &mut Vec<u8>,
     ) -> Result<(), AllocError>
         requires form { self.old.form.items ≡ [] }
-        ensures said { Spoke session.old session.new }
+        ensures said { WasGiven session.old session.new }
         ensures form { self.new.form.items ≡ [] }
         ensures style { self.new.style ≡ self.old.style }
     {
@@ -259,14 +259,14 @@ impl<'x, F: Shelf> Desk<'x, F> {
         match self.gather(command.as_slice()) {
             Err(error) => Err(error),
             Ok(()) => {
-                let told = self.say_form(alloc, session, self.style.without_prompts());
-                put_told(out, &told)
+                let output = self.answer_form(alloc, session, self.style.without_prompts());
+                put_text(out, &output)
             }
         }
     }
 
     // Has the session answer the lines of a file.
-    #[tactic(auto, using(crate::proofs::Conversations::spoke_none))]
+    #[tactic(auto, using(crate::proofs::Conversations::given_none))]
     fn load(
         &mut self,
         alloc: Global,
@@ -275,7 +275,7 @@ impl<'x, F: Shelf> Desk<'x, F> {
         out: &mut Vec<u8>,
     ) -> Result<(), AllocError>
         requires form { self.old.form.items ≡ [] }
-        ensures said { Spoke session.old session.new }
+        ensures said { WasGiven session.old session.new }
         ensures form { self.new.form.items ≡ [] }
         ensures style { self.new.style ≡ self.old.style }
     {
@@ -284,69 +284,69 @@ impl<'x, F: Shelf> Desk<'x, F> {
             None => Err(ShelfFault::Absent),
         };
         match read {
-            Ok(text) => self.say_text(alloc, session, text.as_slice(), out),
+            Ok(text) => self.answer_text(alloc, session, text.as_slice(), out),
             Err(fault) => put_fault(alloc, out, "load", path, fault),
         }
     }
 
     // Has the session answer the lines of a text. A form that goes on ends with the text.
-    fn say_text(
+    fn answer_text(
         &mut self,
         alloc: Global,
         session: &mut Session,
         text: &[u8],
         out: &mut Vec<u8>,
     ) -> Result<(), AllocError>
-        ensures said { Spoke session.old session.new }
+        ensures said { WasGiven session.old session.new }
         ensures form { self.new.form.items ≡ [] }
         ensures style { self.new.style ≡ self.old.style }
     {
-        let put = self.say_lines(alloc, session, text, out);
+        let put = self.answer_lines(alloc, session, text, out);
         if !self.has_form() {
             return put;
         }
-        let told = self.say_form(alloc, session, self.style.without_prompts());
+        let output = self.answer_form(alloc, session, self.style.without_prompts());
         put?;
-        put_told(out, &told)
+        put_text(out, &output)
     }
 
     // Has the session answer the lines of a text. A form may stay unfinished.
-    fn say_lines(
+    fn answer_lines(
         &mut self,
         alloc: Global,
         session: &mut Session,
         text: &[u8],
         out: &mut Vec<u8>,
     ) -> Result<(), AllocError>
-        ensures said { Spoke session.old session.new }
+        ensures said { WasGiven session.old session.new }
         ensures style { self.new.style ≡ self.old.style }
     {
         let mut rest = text;
-        'lines: while let Some((line, behind)) = cut_line(rest) {
-            self.say_line(alloc, session, line, out)?;
-            rest = behind;
+        'lines: while let Some((line, after)) = cut_line(rest) {
+            self.answer_line(alloc, session, line, out)?;
+            rest = after;
         }
-        self.say_line(alloc, session, rest, out)
+        self.answer_line(alloc, session, rest, out)
     }
 
     // Has the session answer a line of a text. Blank lines between forms are skipped.
-    #[tactic(auto, using(crate::proofs::Conversations::spoke_none))]
-    fn say_line(
+    #[tactic(auto, using(crate::proofs::Conversations::given_none))]
+    fn answer_line(
         &mut self,
         alloc: Global,
         session: &mut Session,
         line: &[u8],
         out: &mut Vec<u8>,
     ) -> Result<(), AllocError>
-        ensures said { Spoke session.old session.new }
+        ensures said { WasGiven session.old session.new }
         ensures style { self.new.style ≡ self.old.style }
     {
         let line = line.strip_suffix(b"\r".as_slice()).unwrap_or(line);
         if is_blank(line) && !self.has_form() {
             return Ok(());
         }
-        let told = self.take(alloc, session, line, self.style.without_prompts());
-        put_told(out, &told)
+        let output = self.take(alloc, session, line, self.style.without_prompts());
+        put_text(out, &output)
     }
 
     // Answers a line while no form is unfinished.
@@ -357,7 +357,7 @@ impl<'x, F: Shelf> Desk<'x, F> {
         ensures style { self.new.style ≡ self.old.style }
     {
         match word_in(line) {
-            Some(word) => self.hear_word(alloc, session, word),
+            Some(word) => self.obey_word(alloc, session, word),
             None => {
                 if is_pause(session, line) {
                     return Told::Text(prompt(alloc, self.style, false));
@@ -368,9 +368,9 @@ impl<'x, F: Shelf> Desk<'x, F> {
     }
 
     // Obeys a word of the prompt, and returns the text to write.
-    fn hear_word(&mut self, alloc: Global, session: &mut Session, word: Word<'_>) -> Told
+    fn obey_word(&mut self, alloc: Global, session: &mut Session, word: Word<'_>) -> Told
         requires form { self.old.form.items ≡ [] }
-        ensures said { Obeyed (word_says word.entry) session.old session.new }
+        ensures said { Obeyed (word_gives_lines word.entry) session.old session.new }
         ensures form { self.new.form.items ≡ [] }
         ensures style { self.new.style ≡ self.old.style }
     {
@@ -535,8 +535,8 @@ fn type_command(alloc: Global, exp: &[u8]) -> Result<Vec<u8>, AllocError> {
     Ok(line)
 }
 
-fn put_told(out: &mut Vec<u8>, told: &Told) -> Result<(), AllocError> {
-    match told {
+fn put_text(out: &mut Vec<u8>, output: &Told) -> Result<(), AllocError> {
+    match output {
         Told::Back => Ok(()),
         Told::By(answer) => out.extend_from_slice(answer.bytes()),
         Told::Text(text) => out.extend_from_slice(text.as_slice()),
@@ -551,14 +551,14 @@ fn put_told(out: &mut Vec<u8>, told: &Told) -> Result<(), AllocError> {
 fn cut_line(text: &[u8]) -> Option<(&[u8], &[u8])>
     ensures { IfSome result (λ parts. length parts.1.now < length text.now) }
 {
-    match feed_in(text) {
+    match first_feed(text) {
         Some(place) => Some((&text[..place], &text[place + 1..])),
         None => None,
     }
 }
 
 // Finds the first LF.
-fn feed_in(bytes: &[u8]) -> Option<usize>
+fn first_feed(bytes: &[u8]) -> Option<usize>
     ensures { IfSome result (λ place. place < length bytes.now) }
 {
     memchr(b'\n', bytes)

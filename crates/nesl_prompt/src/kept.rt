@@ -40,11 +40,11 @@ impl Kept {
             self.entries.clear();
             return Ok(());
         }
-        let (name, behind) = cut_name(reply);
-        let callable = if behind.starts_with(b" : ") {
+        let (name, rest) = cut_name(reply);
+        let callable = if rest.starts_with(b" : ") {
             let text = reply.strip_suffix(b"\n".as_slice()).unwrap_or(reply);
             Some(Vec::from_slice(alloc, text)?)
-        } else if behind.starts_with(b" = ") {
+        } else if rest.starts_with(b" = ") {
             None
         } else {
             return Ok(());

@@ -1,6 +1,7 @@
 //! The prompt's own words.
 ghost use Rattle.std.specs.Prelude.{◌≡◌, false, true, IfNone, IfSome};
-ghost use Rattle.nesl_prompt.specs.Words.{IsBlank, asks_type, is_blank_byte, is_own, is_part, says_lines, word_says};
+ghost use Rattle.nesl_prompt.specs.Words.{IsBlank, asks_type, gives_lines, is_blank_byte, is_own, is_part};
+ghost use Rattle.nesl_prompt.specs.Words.{word_gives_lines};
 
 /// A word of the prompt's own, with its argument.
 #[derive(Clone, Copy, PartialEq, Eq, Debug)]
@@ -25,26 +26,26 @@ const WORD_BYTES: usize = 5;
 /// in `\`; otherwise it is a command of the session.
 pub fn word_in(line: &[u8]) -> Option<Word<'_>>
     ensures own { IfSome result (λ word. is_own line.now ≡ true) }
-    ensures said { IfSome result (λ word. word_says word ≡ says_lines line.now) }
+    ensures said { IfSome result (λ word. word_gives_lines word ≡ gives_lines line.now) }
     ensures none { IfNone result (is_own line.now ≡ false) }
 {
     if line.starts_with(b":help") {
-        return Some(Word::Help(behind(line)));
+        return Some(Word::Help(argument_of(line)));
     }
     if line.starts_with(b":list") {
         return Some(Word::Kept);
     }
     if line.starts_with(b":save") {
-        return Some(Word::Save(behind(line)));
+        return Some(Word::Save(argument_of(line)));
     }
     if line.starts_with(b":quit") {
         return Some(Word::Quit);
     }
     if line.starts_with(b":load") {
-        return Some(Word::Load(behind(line)));
+        return Some(Word::Load(argument_of(line)));
     }
     if is_type(line) {
-        return Some(Word::TypeOf(behind(line)));
+        return Some(Word::TypeOf(argument_of(line)));
     }
     None
 }
@@ -63,7 +64,7 @@ pub fn is_part(line: &[u8]) -> bool
 }
 
 // Returns the argument of a word, without blanks around it and without a `;` at its end.
-fn behind(line: &[u8]) -> &[u8] {
+fn argument_of(line: &[u8]) -> &[u8] {
     let rest = line.get(WORD_BYTES..).unwrap_or(&[]);
     let rest = rest.trim_ascii();
     let rest = rest.strip_suffix(b";".as_slice()).unwrap_or(rest);

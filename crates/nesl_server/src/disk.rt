@@ -24,7 +24,7 @@ impl<R: Files<File = File>> Shelf for Disk<'_, R> {
 
     fn write(&self, alloc: Global, path: &str, bytes: &[u8]) -> Result<(), ShelfFault> {
         match fs::symlink_metadata(self.rt, path) {
-            Ok(there) if there.is_symlink() => write_behind(self.rt, alloc, path, bytes),
+            Ok(there) if there.is_symlink() => write_through_link(self.rt, alloc, path, bytes),
             Ok(there) => overwrite(self.rt, alloc, path, bytes, &there),
             Err(error) if error.kind() == io::ErrorKind::NotFound => {
                 replace_file(self.rt, alloc, path, bytes, &Rights::New)
@@ -53,7 +53,7 @@ fn read_up_to<R: Files<File = File>>(
 }
 
 // Writes the file that a symbolic link leads to. The link stays.
-fn write_behind<R: Files<File = File>>(
+fn write_through_link<R: Files<File = File>>(
     rt: &R,
     alloc: Global,
     link: &str,

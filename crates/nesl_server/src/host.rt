@@ -49,7 +49,7 @@ impl<R: Wait + Clock + Replace> Host<'_, R> {
 
 impl<R: Print> Host<'_, R> {
     // Prints the address of the service, and that of the page.
-    fn tell_ports(&self) -> io::Result<()> {
+    fn print_ports(&self) -> io::Result<()> {
         println!(self.rt; "listening on 127.0.0.1:{}", self.ports.service)?;
         match self.ports.page {
             Some(port) => println!(self.rt; "page at http://127.0.0.1:{port}/"),
@@ -60,27 +60,27 @@ impl<R: Print> Host<'_, R> {
 
 impl<R: Print + Wait + Clock> Journal for Host<'_, R> {
     fn opened(&self) -> bool {
-        self.tell_ports().is_ok()
+        self.print_ports().is_ok()
     }
 
     fn begun(&self, caller: Caller) {
         self.counters.begun();
         if let Some(log) = &self.log {
-            self.counters.told(log.tell_begin(caller));
+            self.counters.logged(log.log_begin(caller));
         }
     }
 
     fn seated(&self, caller: Caller, seat: Seat<'_>) {
         self.counters.seated(seat);
         if let Some(log) = &self.log {
-            self.counters.told(log.tell_seat(caller, seat));
+            self.counters.logged(log.log_seat(caller, seat));
         }
     }
 
     fn ended(&self, caller: Caller, visit: &Visit<'_>) {
         self.counters.ended(visit.ending);
         if let Some(log) = &self.log {
-            self.counters.told(log.tell_end(caller, visit));
+            self.counters.logged(log.log_end(caller, visit));
         }
     }
 
@@ -98,7 +98,7 @@ impl<R: Print + Wait + Clock> Journal for Host<'_, R> {
 
     fn accept_failed(&self, fault: AcceptFault) {
         if let Some(log) = &self.log {
-            self.counters.told(log.tell_fault(fault));
+            self.counters.logged(log.log_fault(fault));
         }
     }
 }

@@ -110,41 +110,41 @@ impl<R: Wait + Clock> Log<'_, R> {
     }
 
     /// Logs the start of a connection. This and the methods below return false if the line is lost.
-    pub fn tell_begin(&self, caller: Caller) -> bool {
-        self.tell(caller, String::from_str(self.alloc, "began"))
+    pub fn log_begin(&self, caller: Caller) -> bool {
+        self.log_event(caller, String::from_str(self.alloc, "began"))
     }
 
     /// Logs the user of a connection, or why it was turned away.
-    pub fn tell_seat(&self, caller: Caller, seat: Seat<'_>) -> bool {
-        self.tell(caller, describe_seat(self.alloc, seat))
+    pub fn log_seat(&self, caller: Caller, seat: Seat<'_>) -> bool {
+        self.log_event(caller, describe_seat(self.alloc, seat))
     }
 
     /// Logs the end of a connection.
-    pub fn tell_end(&self, caller: Caller, visit: &Visit<'_>) -> bool {
-        self.tell(caller, describe_end(self.alloc, visit))
+    pub fn log_end(&self, caller: Caller, visit: &Visit<'_>) -> bool {
+        self.log_event(caller, describe_end(self.alloc, visit))
     }
 
     /// Logs why the service stopped accepting connections.
-    pub fn tell_fault(&self, fault: AcceptFault) -> bool {
+    pub fn log_fault(&self, fault: AcceptFault) -> bool {
         let stamp = Stamp::now(self.rt);
-        self.hand_on(format!(in self.alloc; "{stamp} {fault}"))
+        self.queue(format!(in self.alloc; "{stamp} {fault}"))
     }
 
     // Logs an event of a connection.
-    fn tell(&self, caller: Caller, what: Result<String, AllocError>) -> bool {
-        self.hand_on(self.make_line(caller, what))
+    fn log_event(&self, caller: Caller, what: Result<String, AllocError>) -> bool {
+        self.queue(self.make_line(caller, what))
     }
 
     // Queues a line for the thread that writes.
-    fn hand_on(&self, line: Result<String, AllocError>) -> bool {
-        let is_told = match line {
+    fn queue(&self, line: Result<String, AllocError>) -> bool {
+        let is_queued = match line {
             Ok(line) => self.to.try_send(self.rt, line).is_ok(),
             Err(_) => false,
         };
-        if !is_told {
+        if !is_queued {
             self.counts.lost.fetch_add(1, Ordering::SeqCst);
         }
-        is_told
+        is_queued
     }
 
     // Makes a line from the time, the connection and the event.

@@ -56,11 +56,11 @@ fn main(rt: HostRuntime) -> ExitCode {
                 Err(failure) => return report_failure(&rt, failure),
             };
             let Ok(words) = borrow_words(alloc, args.as_slice()) else {
-                return report_failure(&rt, want_of_memory(&rt));
+                return report_failure(&rt, memory_failure(&rt));
             };
             let words = words.as_slice();
             let Ok(writer) = BufWriter::with_capacity(alloc, ANSWER_BYTES, rt.stdout()) else {
-                return report_failure(&rt, want_of_memory(&rt));
+                return report_failure(&rt, memory_failure(&rt));
             };
             let mut reader = Device::new(rt.stdin());
             let mut writer = Device::new(writer);
@@ -75,7 +75,7 @@ fn main(rt: HostRuntime) -> ExitCode {
         match builder.spawn_scoped(scope, work) {
             Ok(running) => running.join(&rt),
             // The thread could not be made. This is reported like memory that ran out.
-            Err(_) => report_failure(&rt, want_of_memory(&rt)),
+            Err(_) => report_failure(&rt, memory_failure(&rt)),
         }
     })
 }
@@ -89,14 +89,14 @@ fn find_terminals(rt: &HostRuntime) -> Terminals {
 }
 
 // Returns the failure for memory that ran out, by the subcommand. The subcommand is read without allocating.
-fn want_of_memory(rt: &impl Env) -> Failure<'static> {
+fn memory_failure(rt: &impl Env) -> Failure<'static> {
     let mut word = [0u8; COMMAND_BYTES];
     let Ok(len) = rt.arg(1, &mut word) else {
-        return Failure::of_memory(&[]);
+        return Failure::out_of_memory(&[]);
     };
     match word.get(..len).map(str::from_utf8) {
-        Some(Ok(word)) => Failure::of_memory(&["", word]),
-        Some(Err(_)) | None => Failure::of_memory(&[]),
+        Some(Ok(word)) => Failure::out_of_memory(&["", word]),
+        Some(Err(_)) | None => Failure::out_of_memory(&[]),
     }
 }
 
@@ -105,7 +105,7 @@ fn read_arguments(rt: &HostRuntime, alloc: Global) -> Result<Vec<String>, Failur
     match collect_arguments(rt, alloc) {
         Ok(args) => Ok(args),
         Err(error) if error.kind() == io::ErrorKind::InvalidData => Err(Failure::Encoding),
-        Err(_) => Err(want_of_memory(rt)),
+        Err(_) => Err(memory_failure(rt)),
     }
 }
 
@@ -159,7 +159,7 @@ fn report_refusal<R: Print + Eprint>(rt: &R, words: &[&str], error: &clap::Error
     ensures { (exit_status result ≡ words_status_of (kind_of error.now)) ⊎ (exit_status result ≡ 1) }
 {
     if error.kind() == ErrorKind::OutOfMemory {
-        return report_failure(rt, Failure::of_memory(words));
+        return report_failure(rt, Failure::out_of_memory(words));
     }
     match print_refusal(rt, words, error) {
         Ok(()) => ExitCode::from(words_status(error)),

@@ -46,7 +46,7 @@ impl Rights<'_> {
 
 /// A new file, which is to be renamed.
 #[derive(Drop)]
-struct Beside {
+struct NewFile {
     name: String,
     file: File,
 }
@@ -73,7 +73,7 @@ pub fn replace_file<R: Files<File = File>>(
     bytes: &[u8],
     rights: &Rights<'_>,
 ) -> Result<(), ShelfFault> {
-    let Beside { name, file } = make_beside(rt, alloc, path, rights.first_mode())?;
+    let NewFile { name, file } = make_beside(rt, alloc, path, rights.first_mode())?;
     let placed = match fill(file, bytes, rights) {
         Ok(()) => place(rt, name.as_str(), path),
         Err(fault) => Err(fault),
@@ -90,11 +90,11 @@ fn make_beside<R: Files<File = File>>(
     alloc: Global,
     path: &str,
     mode: u32,
-) -> Result<Beside, ShelfFault> {
+) -> Result<NewFile, ShelfFault> {
     for number in 1..=NAMES {
         let name = format!(in alloc; "{path}.{number}.new")?;
         match make(rt, name.as_str(), mode) {
-            Ok(file) => return Ok(Beside { name, file }),
+            Ok(file) => return Ok(NewFile { name, file }),
             Err(error) if error.kind() == io::ErrorKind::AlreadyExists => {}
             Err(error) => return Err(ShelfFault::from(error)),
         }

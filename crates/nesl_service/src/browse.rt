@@ -1,7 +1,7 @@
 //! Serves browsers: the files of the page, and users over WebSockets.
 
 use crate::accept::{Accepted, Acceptor};
-use crate::service::{Attended, Service};
+use crate::service::{ServedConnection, Service};
 use crate::wire::Patience;
 use nesl_eval_helpers::Gate;
 use nesl_line::device::Device;
@@ -44,7 +44,7 @@ pub(crate) struct PageAcceptor<'x> {
     /// The number of WebSockets so far.
     sessions: AtomicU64,
     /// The number of open connections.
-    there: AtomicU64,
+    open: AtomicU64,
 }
 
 impl<'x> PageAcceptor<'x> {
@@ -56,7 +56,7 @@ impl<'x> PageAcceptor<'x> {
             begun: AtomicU64::new(0),
             ended: AtomicU64::new(0),
             sessions: AtomicU64::new(0),
-            there: AtomicU64::new(0),
+            open: AtomicU64::new(0),
         })
     }
 
@@ -72,7 +72,7 @@ impl<'x> PageAcceptor<'x> {
     }
 
     /// Counts a thread for lines that ends. After the last of the `lines` threads, no browser is accepted.
-    pub(crate) fn leave(&self, lines: usize) {
+    pub(crate) fn end_line_thread(&self, lines: usize) {
         self.ended.fetch_add(1, Ordering::SeqCst);
         if self.is_over(lines) {
             self.close();
@@ -86,8 +86,8 @@ impl<'x> PageAcceptor<'x> {
 
     // Counts a connection that begins, and returns its time limits. If half of the threads have a connection, its head
     // and first line together have a tenth of the time. So peers without a seat can't block the others for long.
-    fn enter(&self, patience: Patience) -> Patience {
-        if self.there.fetch_add(1, Ordering::SeqCst) < self.threads as u64 {
+    fn begin_connection(&self, patience: Patience) -> Patience {
+        if self.open.fetch_add(1, Ordering::SeqCst) < self.threads as u64 {
             patience
         } else {
             patience.hurried()
@@ -95,8 +95,8 @@ impl<'x> PageAcceptor<'x> {
     }
 
     // Counts a connection that ends.
-    fn exit(&self) {
-        self.there.fetch_sub(1, Ordering::SeqCst);
+    fn finish_connection(&self) {
+        self.open.fetch_sub(1, Ordering::SeqCst);
     }
 
     // Whether all of the `lines` threads for lines have ended.
@@ -129,7 +129,7 @@ impl<
                 Ok(accepted) => self.receive(page, &accepted),
                 Err(error) => {
                     if !page.is_over(self.terms.threads) {
-                        self.end_by(AcceptFault::new(&error, true));
+                        self.end_by_accept_fault(AcceptFault::new(&error, true));
                     }
                     break;
                 }
@@ -152,9 +152,9 @@ impl<
 
     // Serves a browser, and counts its connection meanwhile.
     fn receive(&self, page: &PageAcceptor<'_>, accepted: &Accepted) {
-        let patience = page.enter(self.terms.patience);
+        let patience = page.begin_connection(self.terms.patience);
         self.receive_within(page, accepted, patience);
-        page.exit();
+        page.finish_connection();
     }
 
     // Serves a browser: sends it a file of the page, serves it as a user, or refuses it.
@@ -172,8 +172,8 @@ impl<
             self.journal.begun(caller);
             let begun = Instant::now(self.rt).ok();
             let left = self.after_head(patience, since);
-            let attended = self.attend_messages(caller, stream, first, left);
-            self.settle(caller, begun, &attended);
+            let attended = self.serve_messages(caller, stream, first, left);
+            self.end_connection(caller, begun, &attended);
         }
     }
 
@@ -187,18 +187,18 @@ impl<
     }
 
     // Serves the messages of a connection; `first` has the bytes that followed its head.
-    fn attend_messages(
+    fn serve_messages(
         &self,
         caller: Caller,
         stream: &TcpStream,
         first: Vec<u8>,
         patience: Patience,
-    ) -> Attended {
+    ) -> ServedConnection {
         let watch = Watch::new(self.rt, self.journal.is_counting());
         let reader = MessageReader::new(self.rt, self.alloc, stream, first, patience);
         let Ok(writer) = MessageWriter::new(self.rt, self.alloc, stream, patience) else {
             reader.end(REFUSED_DRAIN);
-            return Attended::without_memory();
+            return ServedConnection::without_memory();
         };
         let mut reader = Device::new(Timed {
             reader,
@@ -220,7 +220,7 @@ impl<
         if served.end != End::WriteFault {
             reader.end(limits);
         }
-        Attended { served, missed }
+        ServedConnection { served, missed }
     }
 }
 
@@ -233,7 +233,7 @@ fn missed_by<R: Clock>(reader: &MessageReader<'_, R>) -> Option<Missed> {
     }
 }
 
-// Returns whether an answer was not taken in time.
+// Returns `Missed::Taking` if an answer was not taken in time.
 fn untaken_by<R: Clock>(writer: &MessageWriter<'_, R>) -> Option<Missed> {
     if writer.is_late() {
         Some(Missed::Taking)

@@ -14,7 +14,7 @@ const STACK_BYTES: usize = 1_048_576;
 #[derive(Drop)]
 pub struct Start {
     /// The number of threads that have arrived and weren't counted yet.
-    there: AtomicU64,
+    arrived: AtomicU64,
     /// The number of threads that have arrived and are not ready.
     unready: AtomicU64,
     /// The number of threads that may begin and haven't yet.
@@ -25,7 +25,7 @@ impl Start {
     /// No thread has arrived.
     pub fn new() -> Start {
         Start {
-            there: AtomicU64::new(0),
+            arrived: AtomicU64::new(0),
             unready: AtomicU64::new(0),
             begun: AtomicU64::new(0),
         }
@@ -36,14 +36,14 @@ impl Start {
         if !is_ready {
             self.unready.fetch_add(1, Ordering::SeqCst);
         }
-        self.there.fetch_add(1, Ordering::SeqCst);
+        self.arrived.fetch_add(1, Ordering::SeqCst);
         self.begun.wait_and_decrement(rt);
     }
 
     /// Waits until this number of threads have arrived, and returns whether all of them are ready.
     pub fn wait_for_all<R: Wait>(&self, rt: &R, threads: usize) -> bool {
         for _ in 0..threads {
-            self.there.wait_and_decrement(rt);
+            self.arrived.wait_and_decrement(rt);
         }
         self.unready.load(Ordering::SeqCst) == 0
     }

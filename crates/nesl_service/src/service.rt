@@ -14,7 +14,7 @@ use nesl_line::exchange::End;
 use nesl_line::serve::{Served, serve};
 use nesl_service_records::accepting::AcceptFault;
 use nesl_service_records::answers::{AnswerObserver, ObservedWriter};
-use nesl_service_records::asking::Told;
+use nesl_service_records::asking::ReportingHelpers;
 use nesl_service_records::journal::{Caller, Ending, Journal, Missed, NoJournal, Visit};
 use nesl_service_records::numbers::{Fault, Numbers};
 use nesl_service_records::receipts::Receipts;
@@ -84,15 +84,15 @@ pub struct Observers<'x, G, J> {
 
 /// A connection that was served: its lines, and what did not come in time.
 #[derive(Clone, Copy)]
-pub(crate) struct Attended {
+pub(crate) struct ServedConnection {
     pub(crate) served: Served,
     pub(crate) missed: Option<Missed>,
 }
 
-impl Attended {
+impl ServedConnection {
     /// The result where memory for a connection's answers ran out.
-    pub(crate) fn without_memory() -> Attended {
-        Attended {
+    pub(crate) fn without_memory() -> ServedConnection {
+        ServedConnection {
             served: Served {
                 lines: 0,
                 receipt: None,
@@ -139,7 +139,7 @@ impl<
 
     /// Ends the service, since connections can't be accepted any more. The first such fault is reported; after another
     /// fault nothing is done.
-    pub(crate) fn end_by(&self, fault: AcceptFault) {
+    pub(crate) fn end_by_accept_fault(&self, fault: AcceptFault) {
         if !self.has_ended() {
             self.journal.accept_failed(fault);
             self.end(Fault::Socket);
@@ -152,7 +152,7 @@ impl<
     }
 
     // Serves one connection. Nothing is read from it if memory for its answers runs out.
-    fn attend(&self, caller: Caller, stream: &TcpStream) -> Attended {
+    fn serve_connection(&self, caller: Caller, stream: &TcpStream) -> ServedConnection {
         let patience = self.terms.patience;
         let watch = Watch::new(self.rt, self.journal.is_counting());
         let observed = ObservedWriter {
@@ -160,7 +160,7 @@ impl<
             observer: AnswerObserver::new(&watch, self.journal, caller),
         };
         let Ok(writer) = BufWriter::with_capacity(self.alloc, ANSWER_BYTES, observed) else {
-            return Attended::without_memory();
+            return ServedConnection::without_memory();
         };
         let mut reader = Device::new(Reader::new(self.rt, stream, &watch, patience));
         let mut writer = Device::new(writer);
@@ -168,7 +168,7 @@ impl<
         // Bytes that could not be written are dropped.
         let (observed, _) = writer.into_inner().into_parts();
         let missed = reader.into_inner().missed();
-        Attended {
+        ServedConnection {
             served,
             missed: missed.or(observed.writer.missed()),
         }
@@ -176,7 +176,7 @@ impl<
 
     /// Serves the lines of one connection by the session of the user that the first line names.
     pub(crate) fn serve<S: Source, W: Sink>(&self, reader: &mut S, writer: &mut W) -> Served {
-        let helpers = Told {
+        let helpers = ReportingHelpers {
             helpers: self.pool.by(self.rt),
             journal: self.journal,
         };
@@ -187,21 +187,26 @@ impl<
     }
 
     // Serves a connection, and reports its start and its end to the journal.
-    fn attend_told(&self, caller: Caller, stream: &TcpStream) {
+    fn serve_and_report(&self, caller: Caller, stream: &TcpStream) {
         self.journal.begun(caller);
         let since = Instant::now(self.rt).ok();
         // Answers are sent without delay, if the system allows it.
         let _ = stream.set_nodelay(true).is_ok();
-        let attended = self.attend(caller, stream);
+        let attended = self.serve_connection(caller, stream);
         if was_turned_away(&attended.served) {
             let _ = drain_after_shutdown(self.rt, stream).is_ok();
         }
-        self.settle(caller, since, &attended);
+        self.end_connection(caller, since, &attended);
     }
 
     /// Reports the end of a connection to the journal, and adds its receipt. A receipt that can't be added ends the
     /// service.
-    pub(crate) fn settle(&self, caller: Caller, since: Option<Instant>, attended: &Attended) {
+    pub(crate) fn end_connection(
+        &self,
+        caller: Caller,
+        since: Option<Instant>,
+        attended: &ServedConnection,
+    ) {
         let took = match since {
             Some(since) => since.elapsed(self.rt).ok(),
             None => None,
@@ -219,7 +224,7 @@ impl<
     }
 
     // Describes a connection that has ended, without its time.
-    fn visit(&self, attended: &Attended) -> Visit<'x> {
+    fn visit(&self, attended: &ServedConnection) -> Visit<'x> {
         let served = &attended.served;
         let user = match served.receipt {
             Some(receipt) => self.name_of(receipt.place),
@@ -244,7 +249,7 @@ impl<
         match self.acceptor.next(self.rt) {
             Ok(accepted) => Some(accepted),
             Err(error) => {
-                self.end_by(AcceptFault::new(&error, false));
+                self.end_by_accept_fault(AcceptFault::new(&error, false));
                 None
             }
         }
@@ -252,22 +257,22 @@ impl<
 
     // Serves connections for lines or browsers, once all threads are ready.
     fn work(&self) {
-        let room = room_of_one(self.alloc);
+        let room = connection_buffers(self.alloc);
         self.start.wait(self.rt, room.is_ok());
         drop(room);
         let lines = self.terms.threads;
         match self.page {
             Some(page) if page.claim_browser_thread(lines) => self.receive_all(page),
             Some(page) => {
-                self.attend_all();
-                page.leave(lines);
+                self.serve_all();
+                page.end_line_thread(lines);
             }
-            None => self.attend_all(),
+            None => self.serve_all(),
         }
     }
 
     // Serves connections for lines until no number is left.
-    fn attend_all(&self) {
+    fn serve_all(&self) {
         for _ in self.rt.forever() {
             let Some(number) = self.numbers.lock(self.rt).next() else {
                 break;
@@ -275,7 +280,7 @@ impl<
             let Some(accepted) = self.next_accepted() else {
                 break;
             };
-            self.attend_told(
+            self.serve_and_report(
                 Caller {
                     number,
                     port: accepted.port,
@@ -320,7 +325,7 @@ fn was_turned_away(served: &Served) -> bool {
 }
 
 // Allocates what one connection needs: a buffer for a line, and one for answers.
-fn room_of_one(alloc: Global) -> Result<(Vec<u8>, Vec<u8>), AllocError> {
+fn connection_buffers(alloc: Global) -> Result<(Vec<u8>, Vec<u8>), AllocError> {
     let line = Vec::with_capacity(alloc, LINE_BYTES)?;
     let answer = Vec::with_capacity(alloc, ANSWER_BYTES)?;
     Ok((line, answer))

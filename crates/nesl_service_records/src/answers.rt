@@ -79,13 +79,13 @@ impl Front {
 #[derive(Clone, Copy, PartialEq, Eq, Debug)]
 enum Work {
     /// No part of ` (work ` was read.
-    Before,
+    Nothing,
     /// The first bytes of `(work ` were read: this number of them.
     Word(usize),
     /// `(work ` and some digits were read; this is the number so far.
     Number(u64),
     /// The work was read whole.
-    Told(u64),
+    Whole(u64),
 }
 
 impl Work {
@@ -94,7 +94,7 @@ impl Work {
         match self {
             _ if byte == b'(' => Work::Word(1),
             Work::Word(length) => match word.get(length) {
-                Some(wanted) if *wanted != byte => Work::Before,
+                Some(wanted) if *wanted != byte => Work::Nothing,
                 Some(_) if length.saturating_add(1) < word.len() => Work::Word(
                     length.saturating_add(1),
                 ),
@@ -104,25 +104,25 @@ impl Work {
                 let digit = u64::from(byte.saturating_sub(b'0'));
                 Work::Number(number.saturating_mul(10).saturating_add(digit))
             }
-            Work::Number(number) if byte == b',' || byte == b')' => Work::Told(number),
-            Work::Told(work) => Work::Told(work),
-            Work::Before | Work::Number(_) => Work::Before,
+            Work::Number(number) if byte == b',' || byte == b')' => Work::Whole(number),
+            Work::Whole(work) => Work::Whole(work),
+            Work::Nothing | Work::Number(_) => Work::Nothing,
         }
     }
 }
 
 /// What was read of an answer so far.
 #[derive(Clone, Copy)]
-struct Heard {
+struct Reading {
     front: Front,
     work: Work,
 }
 
-impl Heard {
-    fn nothing() -> Heard {
-        Heard {
+impl Reading {
+    fn nothing() -> Reading {
+        Reading {
             front: Front::new(),
-            work: Work::Before,
+            work: Work::Nothing,
         }
     }
 
@@ -131,7 +131,7 @@ impl Heard {
         self.front.add(bytes);
         let skipped = bytes.len().saturating_sub(END_BYTES);
         if skipped > 0 {
-            self.work = Work::Before;
+            self.work = Work::Nothing;
         }
         for byte in bytes.get(skipped..).unwrap_or(&[]) {
             self.work = self.work.after(*byte);
@@ -159,7 +159,7 @@ impl Heard {
 
     fn work(&self) -> u64 {
         match self.work {
-            Work::Told(work) => work,
+            Work::Whole(work) => work,
             _ => 0,
         }
     }
@@ -173,7 +173,7 @@ pub struct AnswerObserver<'x, R, J> {
     caller: Caller,
     is_first: bool,
     is_counting: bool,
-    heard: Heard,
+    reading: Reading,
     took: Option<Duration>,
 }
 
@@ -190,14 +190,14 @@ impl<'x, R: Clock, J: Journal> AnswerObserver<'x, R, J> {
             caller,
             is_first: true,
             is_counting: journal.is_counting(),
-            heard: Heard::nothing(),
+            reading: Reading::nothing(),
             took: None,
         }
     }
 
     // Called before a write. If an answer begins with it, notes the time since its line came.
     fn begin(&mut self) {
-        if self.is_counting && self.heard.front.length == 0 {
+        if self.is_counting && self.reading.front.length == 0 {
             self.took = self.watch.passed();
         }
     }
@@ -212,28 +212,28 @@ impl<'x, R: Clock, J: Journal> AnswerObserver<'x, R, J> {
             let Some(end) = memchr(b'\n', rest) else {
                 break;
             };
-            self.heard.add(rest.get(..end).unwrap_or(rest));
-            self.tell();
+            self.reading.add(rest.get(..end).unwrap_or(rest));
+            self.report();
             rest = rest.get(end.saturating_add(1)..).unwrap_or(&[]);
         }
-        self.heard.add(rest);
+        self.reading.add(rest);
     }
 
     // Reports an answer that was written whole.
-    fn tell(&mut self) {
+    fn report(&mut self) {
         if self.is_first {
-            self.journal.seated(self.caller, self.heard.seat());
+            self.journal.seated(self.caller, self.reading.seat());
             self.is_first = false;
         }
         if self.is_counting {
             self.journal.answered(&Answered {
-                fault: self.heard.fault(),
-                work: self.heard.work(),
+                fault: self.reading.fault(),
+                work: self.reading.work(),
                 took: self.took,
             });
             self.watch.begin();
         }
-        self.heard = Heard::nothing();
+        self.reading = Reading::nothing();
     }
 }
 

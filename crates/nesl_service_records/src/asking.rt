@@ -5,12 +5,12 @@ use nesl_eval_helpers::Helpers;
 
 /// Asks others for helpers, and reports to a journal whether each request was granted.
 #[derive(Drop)]
-pub struct Told<'x, H, J> {
+pub struct ReportingHelpers<'x, H, J> {
     pub helpers: H,
     pub journal: &'x J,
 }
 
-impl<H: Helpers, J: Journal> Helpers for Told<'_, H, J> {
+impl<H: Helpers, J: Journal> Helpers for ReportingHelpers<'_, H, J> {
     type Permit = H::Permit;
 
     fn ask(&self) -> Option<H::Permit> {

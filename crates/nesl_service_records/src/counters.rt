@@ -26,7 +26,7 @@ pub struct Counters {
     work: AtomicU64,
     granted: AtomicU64,
     refused: AtomicU64,
-    told: AtomicU64,
+    written: AtomicU64,
     lost: AtomicU64,
 }
 
@@ -92,7 +92,7 @@ impl Counters {
             work: AtomicU64::new(0),
             granted: AtomicU64::new(0),
             refused: AtomicU64::new(0),
-            told: AtomicU64::new(0),
+            written: AtomicU64::new(0),
             lost: AtomicU64::new(0),
         })
     }
@@ -149,8 +149,15 @@ impl Counters {
     }
 
     /// Counts a line of the log, which was written or lost.
-    pub fn told(&self, is_told: bool) {
-        add(if is_told { &self.told } else { &self.lost }, 1);
+    pub fn logged(&self, is_written: bool) {
+        add(
+            if is_written {
+                &self.written
+            } else {
+                &self.lost
+            },
+            1,
+        );
     }
 
     /// Returns all counters as one line of JSON, without a line end. `uptime` is rounded down to seconds.
@@ -200,7 +207,7 @@ impl Counters {
     fn write_events(&self, text: &mut String) -> Result<(), AllocError> {
         write_number(text, "\"helpers\":{\"granted\":", read(&self.granted))?;
         write_number(text, ",\"refused\":", read(&self.refused))?;
-        write_number(text, "},\"log\":{\"told\":", read(&self.told))?;
+        write_number(text, "},\"log\":{\"told\":", read(&self.written))?;
         write_number(text, ",\"lost\":", read(&self.lost))?;
         text.push_str("}}")
     }

@@ -10,7 +10,7 @@ use nesl_values::{Element, Value};
 use std::alloc::Global;
 
 /// The number of operations at the start of a block by which blocks are distinguished.
-const TOLD: usize = 3;
+const MARKED_OPS: usize = 3;
 
 /// The state of a machine at an interval: the fuel that is left, the blocks that haven't ended, and the turns that are
 /// done.
@@ -74,7 +74,7 @@ fn len_at(source: &Value<Global>, place: usize) -> u64 {
 fn mark_of(block: &Body) -> u64 {
     let mut mark = 0;
     let mut ops = block.ops();
-    for _ in 0..TOLD {
+    for _ in 0..MARKED_OPS {
         mark = mixed(mark, number_of(ops));
         match next_of(ops) {
             Some(next) => ops = next,

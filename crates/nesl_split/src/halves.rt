@@ -14,7 +14,7 @@ use crate::crew::Crew;
 use crate::grant::{Grant, ask_for};
 use crate::intervals::find_in_halves;
 use crate::reached::{Reached, may_be_cut, reach, waits_for_turn};
-use crate::rounds::{begin_turns, end_turns, goes_to_body, interval_of, turns_left};
+use crate::rounds::{advance_to_body, begin_turns, end_turns, interval_of, turns_left};
 use nesl_eval_helpers::{Gate, Helpers};
 use nesl_eval_machine::state::{Hand, Machine};
 use nesl_eval_nodes::held::Tops;
@@ -131,7 +131,7 @@ fn rounds_in_halves<
     ensures depth { machine.new.meter.depth ≤ machine.old.meter.depth }
 {
     turns_in_halves(machine, round, cuts, crew)?;
-    if !goes_to_body(round, machine.meter.fuel, machine.alloc)? {
+    if !advance_to_body(round, machine.meter.fuel, machine.alloc)? {
         return Ok(());
     }
     turns_in_halves(machine, round, cuts, crew)

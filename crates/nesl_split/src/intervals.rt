@@ -72,8 +72,8 @@ fn take_turn<'a, R: Threads + Sync, H: Helpers + Sync, G: Gate + Sync, T: Tops<G
     ensures spent { meter.new.fuel + meter.new.depth ≤ meter.old.fuel + meter.old.depth }
 {
     set_at_turn(machine, interval, place, *meter)?;
-    let told = make_moves(machine, cuts, interval.crew);
-    end_turn(machine, told, place, so_far, meter)
+    let ended = make_moves(machine, cuts, interval.crew);
+    end_turn(machine, ended, place, so_far, meter)
 }
 
 // Evaluates turns on this thread, in columns if possible.

@@ -102,7 +102,7 @@ pub(crate) fn end_turns(
 
 /// Goes from a filter's round, after its last turn, to the round of its body. Returns whether there is a round whose
 /// turns may be evaluated.
-pub(crate) fn goes_to_body(
+pub(crate) fn advance_to_body(
     round: &mut Box<Round<'_, Global>>,
     fuel: u64,
     alloc: Global,

@@ -119,7 +119,7 @@ pub(crate) fn set_at_turn<'a, R, H, G, T>(
 }
 
 // Returns the result of a machine's run. A fault gets the span of the outermost call.
-fn tell(
+fn end_of_run(
     machine: &Machine<'_, Global>,
     found: Result<Value<Global>, Stop>,
 ) -> Result<Value<Global>, Stop>
@@ -149,7 +149,7 @@ pub(crate) fn settle(
         return Err(Stop::Memory);
     }
     *meter = ended;
-    tell(machine, found)
+    end_of_run(machine, found)
 }
 
 /// Adds the result of a turn.

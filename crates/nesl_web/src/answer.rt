@@ -59,7 +59,8 @@ const POLICY: &[u8] =
     b"default-src 'none'; script-src 'self'; style-src 'self'; connect-src 'self'; \
     base-uri 'none'; form-action 'none'; frame-ancestors 'none'";
 
-// A field of each answer, with the policy.
+// The fields of each answer: the policy, and that browsers neither guess types, nor keep answers, nor send the page's
+// address to others.
 const POLICY_FIELD: Header<'static> = Header {
     name: b"Content-Security-Policy",
     value: POLICY,

@@ -46,18 +46,18 @@ pub fn greet<'s, R: Clock>(
                 accept_session(alloc, wire, &accept_key, bytes, head_bytes)
             }
             Route::Page(file) => send_file(alloc, wire, file, content_for(bytes.as_slice())),
-            Route::Methods => tell_methods(alloc, wire),
+            Route::Methods => send_methods(alloc, wire),
             Route::Refused(refusal) => {
                 refuse(alloc, wire, refusal, content_for(bytes.as_slice()))
             }
         },
         Err(HeadFault::Refused(refusal)) => refuse(alloc, wire, refusal, Content::Sent),
-        Err(HeadFault::Lost) => Err(lost()),
+        Err(HeadFault::Lost) => Err(lost_error()),
     }
 }
 
 // The error where the connection ended, or memory ran out.
-fn lost() -> io::Error {
+fn lost_error() -> io::Error {
     io::Error::from(ErrorKind::ConnectionAborted)
 }
 
@@ -69,7 +69,7 @@ fn send_file<R: Clock>(
     content: Content,
 ) -> io::Result<Greeted> {
     let Ok(head) = file_head(alloc, file) else {
-        return Err(lost());
+        return Err(lost_error());
     };
     wire.write_all(head.as_slice())?;
     if content == Content::Sent {
@@ -79,9 +79,9 @@ fn send_file<R: Clock>(
 }
 
 // Lists the supported methods, and ends the connection.
-fn tell_methods<R: Clock>(alloc: Global, mut wire: Wire<'_, R>) -> io::Result<Greeted> {
+fn send_methods<R: Clock>(alloc: Global, mut wire: Wire<'_, R>) -> io::Result<Greeted> {
     let Ok(answer) = methods_answer(alloc) else {
-        return Err(lost());
+        return Err(lost_error());
     };
     wire.write_all(answer.as_slice())?;
     Ok(finish(wire, 204, REFUSED_DRAIN))
@@ -95,7 +95,7 @@ fn refuse<R: Clock>(
     content: Content,
 ) -> io::Result<Greeted> {
     let Ok(answer) = refusal_answer(alloc, refusal, content) else {
-        return Err(lost());
+        return Err(lost_error());
     };
     wire.write_all(answer.as_slice())?;
     Ok(finish(wire, refusal.status(), REFUSED_DRAIN))
@@ -116,7 +116,7 @@ fn accept_session<R: Clock>(
     head_bytes: usize,
 ) -> io::Result<Greeted> {
     let Ok(answer) = upgrade_answer(alloc, accept_key) else {
-        return Err(lost());
+        return Err(lost_error());
     };
     let first = Vec::from_slice(alloc, bytes.get(head_bytes..).unwrap_or(&[]))?;
     wire.write_all(answer.as_slice())?;

@@ -23,7 +23,7 @@ const CLOSE_SECONDS: u64 = 2;
 
 /// The result of a read.
 #[derive(Drop)]
-pub enum Heard {
+pub enum Received {
     /// A line, without its line end.
     Line(Utf8Bytes),
     /// A message that is no line, and that needs no further answer: a ping, a pong or a close.
@@ -36,50 +36,50 @@ pub enum Heard {
     Lost(io::Error),
 }
 
-impl Heard {
+impl Received {
     /// Sorts the result of a read.
-    fn of(read: Result<Message, Error>) -> Heard
+    fn of(read: Result<Message, Error>) -> Received
         ensures { IfLine result }
     {
         match read {
-            Ok(message) => Heard::of_message(message),
-            Err(error) => Heard::of_failure(error),
+            Ok(message) => Received::of_message(message),
+            Err(error) => Received::of_failure(error),
         }
     }
 
     // Sorts a message.
-    fn of_message(message: Message) -> Heard
+    fn of_message(message: Message) -> Received
         ensures { IfLine result }
     {
         match message {
             Message::Text(text) => line_of(text),
-            Message::Binary(_) => Heard::NotALine(CloseCode::Unsupported),
-            Message::Ping(_) | Message::Pong(_) | Message::Close(_) => Heard::Control,
+            Message::Binary(_) => Received::NotALine(CloseCode::Unsupported),
+            Message::Ping(_) | Message::Pong(_) | Message::Close(_) => Received::Control,
         }
     }
 
     // Sorts an error.
-    fn of_failure(error: Error) -> Heard
+    fn of_failure(error: Error) -> Received
         ensures { IfLine result }
     {
-        match Heard::of_end(&error) {
-            Some(heard) => {
+        match Received::of_end(&error) {
+            Some(received) => {
                 drop(error);
-                heard
+                received
             }
-            None => Heard::Lost(failure_of(error)),
+            None => Received::Lost(failure_of(error)),
         }
     }
 
     // Returns how an error ends the connection, unless the connection is lost.
-    fn of_end(error: &Error) -> Option<Heard>
+    fn of_end(error: &Error) -> Option<Received>
         ensures { IfSome result IfLine }
     {
         match error {
-            Error::ConnectionClosed => Some(Heard::Closed),
-            Error::Capacity(_) => Some(Heard::NotALine(CloseCode::Size)),
-            Error::Utf8 => Some(Heard::NotALine(CloseCode::Invalid)),
-            Error::Protocol(_) => Some(Heard::NotALine(CloseCode::Protocol)),
+            Error::ConnectionClosed => Some(Received::Closed),
+            Error::Capacity(_) => Some(Received::NotALine(CloseCode::Size)),
+            Error::Utf8 => Some(Received::NotALine(CloseCode::Invalid)),
+            Error::Protocol(_) => Some(Received::NotALine(CloseCode::Protocol)),
             _ => None,
         }
     }
@@ -128,18 +128,18 @@ impl<'s, R: Clock> Incoming<'s, R> {
     pub fn next(&mut self, time: Option<Duration>) -> io::Result<Option<Utf8Bytes>> {
         self.socket.get_mut().wait(time)?;
         for _ in 0..u64::MAX {
-            match Heard::of(self.socket.read()) {
-                Heard::Line(line) => return Ok(Some(line)),
-                Heard::Control => {}
-                Heard::Closed => return Ok(None),
-                Heard::NotALine(code) => {
+            match Received::of(self.socket.read()) {
+                Received::Line(line) => return Ok(Some(line)),
+                Received::Control => {}
+                Received::Closed => return Ok(None),
+                Received::NotALine(code) => {
                     self.close(code);
-                    return Err(lost());
+                    return Err(lost_error());
                 }
-                Heard::Lost(error) => return Err(error),
+                Received::Lost(error) => return Err(error),
             }
         }
-        Err(lost())
+        Err(lost_error())
     }
 
     /// Ends the connection with a close message, unless one was sent, and reads what the peer still sends within these
@@ -166,7 +166,7 @@ impl<'s, R: Clock> Incoming<'s, R> {
 }
 
 // The error for a message that could not be read or sent.
-fn lost() -> io::Error {
+fn lost_error() -> io::Error {
     io::Error::from(ErrorKind::ConnectionAborted)
 }
 
@@ -176,7 +176,7 @@ fn failure_of(error: Error) -> io::Error {
         Error::Io(error) => error,
         other => {
             drop(other);
-            lost()
+            lost_error()
         }
     }
 }
@@ -190,12 +190,12 @@ fn close_frame(code: CloseCode) -> CloseFrame {
 }
 
 // A text is a line if it has no line end.
-fn line_of(text: Utf8Bytes) -> Heard
+fn line_of(text: Utf8Bytes) -> Received
     ensures { IfLine result }
 {
     if text.as_str().as_bytes().contains(&b'\n') {
-        Heard::NotALine(CloseCode::Unsupported)
+        Received::NotALine(CloseCode::Unsupported)
     } else {
-        Heard::Line(text)
+        Received::Line(text)
     }
 }

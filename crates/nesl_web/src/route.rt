@@ -82,7 +82,7 @@ fn route_of(
         return Ok(Route::Refused(Refusal::Forbidden));
     }
     let keys = values_of(alloc, bytes, all, b"Sec-WebSocket-Key")?;
-    let route = found(bytes, request, fields);
+    let route = route_allowed(bytes, request, fields);
     match route {
         // A request with two keys is refused.
         Route::Session { .. } if keys.len() > 1 => Ok(Route::Refused(Refusal::Unreadable)),
@@ -125,7 +125,7 @@ impl Method {
 }
 
 // Returns the answer to an allowed request.
-fn found(bytes: &[u8], request: &RequestSpans, fields: &[HeaderSpan]) -> Route
+fn route_allowed(bytes: &[u8], request: &RequestSpans, fields: &[HeaderSpan]) -> Route
     requires { IsRequestWithin bytes.now fields.now request.now }
 {
     let method = Method::of(request.method.of(bytes));

@@ -123,7 +123,7 @@ impl<'s, R: Clock> Wire<'s, R> {
         let piece = &buf[..buf.len().min(PIECE_BYTES)];
         let taken = match stream.write(piece) {
             Ok(taken) => taken,
-            Err(error) => return Err(in_time(error)),
+            Err(error) => return Err(without_retry(error)),
         };
         if taken == piece.len() {
             self.piece_until = None;
@@ -163,7 +163,7 @@ impl<R: Clock> Write for Wire<'_, R> {
 }
 
 // Returns the error for a write that failed. After a timeout it isn't repeated.
-fn in_time(error: io::Error) -> io::Error {
+fn without_retry(error: io::Error) -> io::Error {
     if error.kind() == ErrorKind::WouldBlock {
         io::Error::from(ErrorKind::TimedOut)
     } else {

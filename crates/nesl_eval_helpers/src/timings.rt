@@ -1,6 +1,6 @@
 //! Remembers how long intervals took.
 ghost use Rattle.std.specs.Prelude.{◌≡◌};
-ghost use Rattle.nesl_eval_helpers.specs.Learnt.{time_for, rate_of};
+ghost use Rattle.nesl_eval_helpers.specs.Timings.{time_for, rate_of};
 
 use crate::Asker;
 use std::array;
@@ -48,7 +48,7 @@ pub(crate) fn rate_of(micros: u64, size: u64) -> u64
 }
 
 /// Returns the time that an interval needed, limited by what its work can take. The rest was waiting.
-pub(crate) fn believed(micros: u64, work: u64) -> u64 {
+pub(crate) fn time_needed(micros: u64, work: u64) -> u64 {
     micros.min(work / LEAST_WORK)
 }
 
@@ -144,13 +144,13 @@ fn kind_of(asker: Asker) -> u64 {
 
 /// What is known of intervals. Two kinds with the same place in the table overwrite each other.
 #[derive(Drop)]
-pub(crate) struct Learnt {
+pub(crate) struct Timings {
     places: [Seen; PLACES],
 }
 
-impl Learnt {
-    pub(crate) fn new() -> Learnt {
-        Learnt {
+impl Timings {
+    pub(crate) fn new() -> Timings {
+        Timings {
             places: array::from_fn(|_| Seen::new()),
         }
     }
@@ -187,7 +187,7 @@ impl Learnt {
 
     /// Compares the microseconds of turns that had helpers with those expected without. `threads` is the most threads
     /// that ran at once, and `now` the microsecond of the end.
-    pub(crate) fn judge(&self, part: Part, micros: u64, threads: u64, now: u64) {
+    pub(crate) fn compare(&self, part: Part, micros: u64, threads: u64, now: u64) {
         let kind = kind_of(part.whole);
         let seen = self.seen(kind);
         if !seen.is_of(kind) {
