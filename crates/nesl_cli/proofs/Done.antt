@@ -7,7 +7,7 @@ use Rattle.nesl_cli.specs.declared.words.Task.{Task as Code}
 use Rattle.nesl_cli.specs.declared.words.Task.TheVariants as code
 use Rattle.nesl_cli.specs.Words.{Task, a_batch, a_prompt, some_costs}
 use Rattle.nesl_cli.specs.Wanted.{task_wanted}
-use Rattle.nesl_cli.specs.Program.{Served, Prompted, Fails, PromptFails, TaskDone, TaskFails, is_plain_at}
+use Rattle.nesl_cli.specs.Program.{Served, Prompted, BatchFails, PromptFails, TaskDone, TaskFails, is_plain_at}
 
 task_read : (read : Code) (known asked : Task) → task_wanted read ≡ known → task_wanted read ≡ asked → known ≡ asked
 task_read read known asked k a = sym k ∙ a
@@ -27,7 +27,7 @@ batch_done terminals read heap is_hinted asked users named left left' held held'
     asked_of (λ t us. TaskDone terminals t us left left' held held') (a_batch (record { heap = heap; is_hinted = is_hinted })) asked users named (task_read read _ asked (ap task_wanted r) a) u s
 
 pub batch_failed : (terminals : Terminals) (read : Code) (heap : Option ℕ) (is_hinted : Bool) (asked : Task) (failure : Failure) (users named : List (List ℕ)) (left left' held held' : Option (List ℕ)) → read ≡ code.Batch heap is_hinted → task_wanted read ≡ asked → users ≡ named
-    → Fails failure is_hinted users left left' held held' → TaskFails terminals asked failure named left left' held held'
+    → BatchFails failure is_hinted users left left' held held' → TaskFails terminals asked failure named left left' held held'
 batch_failed terminals read heap is_hinted asked failure users named left left' held held' r a u s =
     asked_of (λ t us. TaskFails terminals t failure us left left' held held') (a_batch (record { heap = heap; is_hinted = is_hinted })) asked users named (task_read read _ asked (ap task_wanted r) a) u s
 
@@ -38,11 +38,11 @@ costs_done terminals values heap known asked named left left' held held' r a =
     asked_of (λ t us. TaskDone terminals t us left left' held held') (some_costs (record { values = values; heap = heap })) asked named named (sym r ∙ a) refl tt
 
 pub costs_failed : (terminals : Terminals) (values : List ℕ) (heap : Option ℕ) (known asked : Task) (failure : Failure) (users named : List (List ℕ)) (left left' held held' : Option (List ℕ)) → known ≡ some_costs (record { values = values; heap = heap }) → known ≡ asked → users ≡ named
-    → Fails failure false users left left' held held' → TaskFails terminals asked failure named left left' held held'
+    → BatchFails failure false users left left' held held' → TaskFails terminals asked failure named left left' held held'
 costs_failed terminals values heap known asked failure users named left left' held held' r a u s =
     asked_of (λ t us. TaskFails terminals t failure us left left' held held') (some_costs (record { values = values; heap = heap })) asked users named (sym r ∙ a) u s
 
--- a prompt was heard, or failed
+-- a prompt was answered to its end, or failed
 pub prompt_done : (terminals : Terminals) (read : Code) (is_hinted has_files : Bool) (asked : Task) (named : List (List ℕ)) (left left' held held' : Option (List ℕ)) → read ≡ code.Prompt is_hinted has_files → task_wanted read ≡ asked
     → Prompted (is_plain_at terminals (record { is_hinted = is_hinted; has_files = has_files })) Input left left' held held' → TaskDone terminals asked named left left' held held'
 prompt_done terminals read is_hinted has_files asked named left left' held held' r a s =

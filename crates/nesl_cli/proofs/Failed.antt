@@ -11,7 +11,7 @@ use Rattle.nesl_line.specs.declared.exchange.End.TheVariants.{Input, ReadFault, 
 use Rattle.nesl_line.proofs.Bytes.{consumes_none, appends_none}
 use Rattle.nesl_cli.specs.declared.failure.Failure.{Failure}
 use Rattle.nesl_cli.specs.Failures.{failure_of}
-use Rattle.nesl_cli.specs.Program.{limits, Batched, Served, Untouched, IsBlamed, Fails}
+use Rattle.nesl_cli.specs.Program.{limits, Batched, Served, Untouched, IsBlamed, BatchFails}
 
 pub untouched : (left held : Option (List ℕ)) → Untouched left left held held
 untouched left held = (consumes_none left, appends_none held)
@@ -30,7 +30,7 @@ named_there : {A : Type 0} (f : A → List ℕ) (o : Option A) (it : List ℕ) (
 named_there f None it named e h = absurd (cc)
 named_there f (Some user) it named e h = ap (λ x. Some (f x)) (sym h)
 
--- who stands at the place is blamed
+-- the user at the place is blamed
 pub blamed : {A : Type 0} (f : A → List ℕ) (users : List A) (place : ℕ) (named : A) (RefusedAt : ℕ → Type 0) → RefusedAt place → (it : List ℕ) × (slice_get (map f users) place ≡ Some it) → IfSome (slice_get users place) (λ user. named ≡ user) → IsBlamed RefusedAt (map f users) (f named)
 blamed f users place named RefusedAt r at h = let m = slice_get-map f users place in (place, r, m ∙ named_there f (slice_get users place) at.0 named (sym m ∙ at.1) h)
 
@@ -48,10 +48,10 @@ served is_hinted ReadFault count users left left' held held' house house' r o b 
 served is_hinted WriteFault count users left left' held held' house house' r o b e = absurd (cc)
 served is_hinted NoMemory count users left left' held held' house house' r o b e = absurd (cc)
 
-failed_as : (is_hinted : Bool) (failure other : Failure) (users : List (List ℕ)) (left left' held held' : Option (List ℕ)) → Some failure ≡ Some other → Fails other is_hinted users left left' held held' → Fails failure is_hinted users left left' held held'
+failed_as : (is_hinted : Bool) (failure other : Failure) (users : List (List ℕ)) (left left' held held' : Option (List ℕ)) → Some failure ≡ Some other → BatchFails other is_hinted users left left' held held' → BatchFails failure is_hinted users left left' held held'
 failed_as is_hinted failure other users left left' held held' e f =
     let same : failure ≡ other = cc in
-    let P : Failure → Type 0 = λ x. Fails x is_hinted users left left' held held' in
+    let P : Failure → Type 0 = λ x. BatchFails x is_hinted users left left' held held' in
     subst P (sym same) f
 
 -- a batch for which there was no memory
@@ -61,7 +61,7 @@ unread true count left left' held held' house house' b = nothing_done left left'
 
 -- a batch failed
 pub failed : (is_hinted : Bool) (end : End) (failure : Failure) (count : ℕ) (users : List (List ℕ)) (left left' held held' : Option (List ℕ)) (house house' : List Account) → IsRoster users → house ≡ new_house limits users → Batched is_hinted end count left left' held held' house house'
-    → Some failure ≡ failure_of end → Fails failure is_hinted users left left' held held'
+    → Some failure ≡ failure_of end → BatchFails failure is_hinted users left left' held held'
 failed is_hinted Input failure count users left left' held held' house house' r o b e = absurd (cc)
 failed is_hinted ReadFault failure count users left left' held held' house house' r o b e =
     let P : List Account → Type 0 = λ x. Batched is_hinted ReadFault count left left' held held' x house' in failed_as is_hinted failure _ users left left' held held' e (r, (count, (house', subst P o b)))

@@ -1,4 +1,4 @@
--- How a run of the program fails, and with which exit status.
+-- How a run of the program fails, and its exit status.
 use Rattle.std.specs.Prelude.{ℕ, List, Option, Some, None, Result, Ok, Err, slice_get, codes}
 use Rattle.std.specs.Prelude.{if◌then◌else◌}
 use Rattle.std.specs.Str.{bytes_eq}
@@ -14,7 +14,7 @@ use Rattle.nesl_cli.specs.declared.failure.Failure.TheVariants.{Costs, Value, Ta
 use Rattle.nesl_cli.specs.declared.prompt.PromptFault.TheVariants as prompt_fault
 use Rattle.nesl_cli.specs.declared.prompt.PromptFault.{PromptFault}
 
--- 1 for a device or memory, 2 for the words
+-- 1 for devices and memory, 2 for mistakes in the command line
 abbrev pub status_of : Failure → ℕ
 status_of Read = 1
 status_of Write = 1
@@ -30,12 +30,12 @@ status_of (Taken port) = 1
 status_of (Stats file fault) = 1
 status_of (Prompt fault) = 1
 
--- 0 where a service that was offered ended well
+-- 0 where an offered service ended well
 abbrev pub status_after : Result (Unit {0}) Failure → ℕ
 status_after (Ok nothing) = 0
 status_after (Err failure) = status_of failure
 
--- 0 for help, 1 for want of memory, 2 for each mistake in the words
+-- 0 for help and the version, 1 if memory ran out, 2 for each mistake in the command line
 abbrev pub words_status_of : ErrorKind → ℕ
 words_status_of kinds.DisplayHelp = 0
 words_status_of kinds.DisplayVersion = 0
@@ -49,15 +49,15 @@ failure_of ReadFault = Some Read
 failure_of WriteFault = Some Write
 failure_of NoMemory = Some Memory
 
--- how a prompt fails by its end
+-- the fault of a prompt, by how it ended
 abbrev pub prompt_failure_of : End → Option PromptFault
 prompt_failure_of Input = None
 prompt_failure_of ReadFault = Some prompt_fault.Read
 prompt_failure_of WriteFault = Some prompt_fault.Write
 prompt_failure_of NoMemory = Some prompt_fault.Memory
 
--- how want of memory is told before a run has begun, by the word behind the program's name: the service's for `serve`,
--- the prompt's for `repl`
+-- the failure where memory ran out before a run, by the word after the program's name: the service's for `serve`, the
+-- prompt's for `repl`
 abbrev pub memory_failure_by : List ℕ → Failure
 memory_failure_by word =
     if bytes_eq word (codes "serve") then Serve serve_fault.Memory

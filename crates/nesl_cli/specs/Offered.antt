@@ -11,10 +11,10 @@ service_offered offer = service_wanted offer.service
 abbrev pub users_offered : Offer → List (List ℕ)
 users_offered offer = map (λ user. user.now) offer.users.items
 
--- the helpers that are asked for: none where nothing is told, or more than 32 bits can hold
+-- the number of helpers: none where none is given, or where 32 bits can't hold it
 abbrev pub workers_in : Option ℕ → ℕ
 workers_in workers = if nat_lt (unwrap_or workers 0) (2 ^ 32) then unwrap_or workers 0 else 0
 
--- so many seconds, in nanoseconds
+-- seconds in nanoseconds
 abbrev pub nanos_in : ℕ → ℕ
 nanos_in seconds = seconds * 1000000000

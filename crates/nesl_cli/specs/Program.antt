@@ -35,14 +35,13 @@ limits = record {
   transcript_bytes = 1048576;
 }
 
--- a batch, with hints below its answers where they are wanted
+-- a batch, with hints below its answers if `is_hinted`
 abbrev pub Batched
     : (is_hinted : Bool) → End → ℕ → (left left' held held' : Option (List ℕ)) → (house house' : List Account) → Type 0
 Batched false end count left left' held held' house house' = IsBatch end count left left' held held' house house'
 Batched true end count left left' held held' house house' = IsHintedBatch end count left left' held held' house house'
 
--- These names are a roster, and the lines read were answered by a house in which each of these users has an empty
--- session, till it ended so.
+-- The users are a roster. A house in which each has an empty session answered the lines that were read, until this end.
 abbrev pub Served
     : (is_hinted : Bool) → End → (users : List (List ℕ)) → (left left' held held' : Option (List ℕ)) → Type 0
 Served is_hinted end users left left' held held' =
@@ -50,7 +49,7 @@ Served is_hinted end users left left' held held' =
     × ((count : ℕ) × ((house : List Account)
     × Batched is_hinted end count left left' held held' (new_house limits users) house))
 
--- the lines read were heard at a prompt over an empty session, till it ended so
+-- a prompt over an empty session answered the lines that were read, until this end
 abbrev pub Prompted : (plain : Bool) → End → (left left' held held' : Option (List ℕ)) → Type 0
 Prompted plain end left left' held held' =
     (count : ℕ) × ((log : Log) × IsPrompt plain end count left left' held held' (empty_log limits) log)
@@ -59,32 +58,32 @@ Prompted plain end left left' held held' =
 abbrev pub Untouched : Option (List ℕ) → Option (List ℕ) → Option (List ℕ) → Option (List ℕ) → Type 0
 Untouched left left' held held' = Consumes left left' [] × Appends held held' []
 
--- the users are refused for what is wrong with the name that stands at this place
+-- the users are refused, for the name at this place
 abbrev pub IsBlamed : (ℕ → Type 0) → List (List ℕ) → List ℕ → Type 0
 IsBlamed RefusedAt users name = (place : ℕ) × RefusedAt place × (slice_get users place ≡ Some name)
 
--- Why a batch for these users failed, and what it had read and written; words that are not UTF-8 never come to a batch.
--- Of costs that failed nothing is said.
-abbrev pub Fails
+-- Why a batch for these users failed, and what it had read and written. Words that are not UTF-8 never lead to a batch.
+-- Nothing is claimed of costs that failed.
+abbrev pub BatchFails
     : Failure → (is_hinted : Bool) → (users : List (List ℕ)) → (left left' held held' : Option (List ℕ)) → Type 0
-Fails Read is_hinted users left left' held held' = Served is_hinted ReadFault users left left' held held'
-Fails Write is_hinted users left left' held held' = Served is_hinted WriteFault users left left' held held'
-Fails Memory is_hinted users left left' held held' = Untouched left left' held held'
-Fails (Serve fault) is_hinted users left left' held held' = ⊥
-Fails Encoding is_hinted users left left' held held' = ⊥
-Fails (Taken port) is_hinted users left left' held held' = ⊥
-Fails (Stats file fault) is_hinted users left left' held held' = ⊥
-Fails (failed_as.Prompt fault) is_hinted users left left' held held' = ⊥
-Fails (Costs fault) is_hinted users left left' held held' = Unit {0}
-Fails (Value text) is_hinted users left left' held held' = Untouched left left' held held'
-Fails Count is_hinted users left left' held held' =
+BatchFails Read is_hinted users left left' held held' = Served is_hinted ReadFault users left left' held held'
+BatchFails Write is_hinted users left left' held held' = Served is_hinted WriteFault users left left' held held'
+BatchFails Memory is_hinted users left left' held held' = Untouched left left' held held'
+BatchFails (Serve fault) is_hinted users left left' held held' = ⊥
+BatchFails Encoding is_hinted users left left' held held' = ⊥
+BatchFails (Taken port) is_hinted users left left' held held' = ⊥
+BatchFails (Stats file fault) is_hinted users left left' held held' = ⊥
+BatchFails (failed_as.Prompt fault) is_hinted users left left' held held' = ⊥
+BatchFails (Costs fault) is_hinted users left left' held held' = Unit {0}
+BatchFails (Value text) is_hinted users left left' held held' = Untouched left left' held held'
+BatchFails Count is_hinted users left left' held held' =
     IsRefused users refusal.Count × Untouched left left' held held'
-Fails (Name name) is_hinted users left left' held held' =
+BatchFails (Name name) is_hinted users left left' held held' =
     IsBlamed (λ place. IsRefused users (refusal.Name place)) users name.now × Untouched left left' held held'
-Fails (Twice name) is_hinted users left left' held held' =
+BatchFails (Twice name) is_hinted users left left' held held' =
     IsBlamed (λ place. IsRefused users (refusal.Twice place)) users name.now × Untouched left left' held held'
 
--- Why a prompt failed: it ended so, or there was no memory for its session, and nothing was read or written.
+-- Why a prompt failed: it ended early, or memory for its session ran out, and then nothing was read or written.
 pub data PromptFails (plain : Bool) (failure : Failure) (left left' held held' : Option (List ℕ)) : Type 0 where
   ended :
       (end : End) → Prompted plain end left left' held held'
@@ -94,23 +93,23 @@ pub data PromptFails (plain : Bool) (failure : Failure) (left left' held held' :
       Untouched left left' held held' → failure ≡ failed_as.Prompt prompt_fault.Memory
       → PromptFails plain failure left left' held held'
 
--- whether the prompt that is asked for is plain, with these terminals
+-- whether the prompt that is asked for writes only replies, on these terminals
 abbrev pub is_plain_at : Terminals → Prompt → Bool
 is_plain_at terminals prompt = is_plain (style_for terminals prompt.is_hinted)
 
--- why what was asked for failed, before there was anything to be offered
+-- why a task failed that is run here, rather than offered
 abbrev pub TaskFails
     : Terminals → Task → Failure → (users : List (List ℕ)) → (left left' held held' : Option (List ℕ)) → Type 0
 TaskFails terminals (a_batch batch) failure users left left' held held' =
-    Fails failure batch.is_hinted users left left' held held'
+    BatchFails failure batch.is_hinted users left left' held held'
 TaskFails terminals (some_costs costs) failure users left left' held held' =
-    Fails failure false users left left' held held'
+    BatchFails failure false users left left' held held'
 TaskFails terminals (a_prompt prompt) failure users left left' held held' =
     PromptFails (is_plain_at terminals prompt) failure left left' held held'
 TaskFails terminals (a_service service) failure users left left' held held' = ⊥
 
--- What came of what was asked for, where nothing is left to be offered: a batch was served to its end, or a prompt came
--- to its end. Of costs nothing is said here.
+-- What a task achieved that is run here. A batch or a prompt was answered to the end of its input. Nothing is claimed
+-- of costs.
 abbrev pub TaskDone : Terminals → Task → (users : List (List ℕ)) → (left left' held held' : Option (List ℕ)) → Type 0
 TaskDone terminals (a_batch batch) users left left' held held' =
     Served batch.is_hinted Input users left left' held held'
@@ -119,12 +118,12 @@ TaskDone terminals (a_prompt prompt) users left left' held held' =
     Prompted (is_plain_at terminals prompt) Input left left' held held'
 TaskDone terminals (a_service service) users left left' held held' = ⊥
 
--- What came of words that aren't refused: what they ask for is done, or they ask for the service that is left to be
--- offered, and then nothing was read or written.
-abbrev pub Comes
+-- What became of a command line that wasn't refused. Either its task is done; or it asks for a service, and nothing was
+-- read or written yet.
+abbrev pub IsCarriedOut
     : Terminals → Option Offer → (words : List (List ℕ)) → (left left' held held' : Option (List ℕ)) → Type 0
-Comes terminals None words left left' held held' =
+IsCarriedOut terminals None words left left' held held' =
     TaskDone terminals (task_of words) (users_of words) left left' held held'
-Comes terminals (Some offer) words left left' held held' =
+IsCarriedOut terminals (Some offer) words left left' held held' =
     (users_offered offer ≡ users_of words) × (a_service (service_offered offer) ≡ task_of words)
     × Untouched left left' held held'

@@ -1,11 +1,11 @@
--- The shapes of commands.
+-- The shapes of commands, as clap sees them.
 use Rattle.std.specs.Prelude.{◌≡◌, ◌∷◌, [], ◌++◌, false}
 use Rattle.clap.specs.Simple.{Shape, shape_of}
 use Rattle.clap.specs.Walk.{Rule}
 use Rattle.clap.specs.declared.builder.command.Command.{Command}
 use Rattle.clap.specs.declared.builder.command.Command.TheViews.{out-Command as fields_of}
 
--- a command of this shape, of which a command above it takes over no option
+-- a command of this shape, without options that its subcommands would take over
 abbrev pub IsShaped : Shape → Command → Type 0
 IsShaped shape command = (shape_of command ≡ shape) × ((fields_of command).has_globals ≡ false)
 

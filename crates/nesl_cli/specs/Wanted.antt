@@ -1,4 +1,4 @@
--- What the words ask for, in the code.
+-- The task of the command line, as the code has it.
 use Rattle.std.specs.Prelude.{ℕ, List, map, option_map}
 use Rattle.nesl_cli.specs.declared.words.Task.{Task as Code}
 use Rattle.nesl_cli.specs.declared.words.Task.TheVariants as code

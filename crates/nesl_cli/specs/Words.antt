@@ -1,4 +1,4 @@
--- What the words of the command line ask for, in clap's terms.
+-- What the command line asks for, in clap's terms.
 use Rattle.std.specs.Prelude.{◌≡◌, refl, ℕ, ◌-◌, ◌^◌, true, List, [], ◌∷◌, Option, Some, None, codes, unwrap_or}
 use Rattle.std.specs.Prelude.{slice_get, Bool, false, option_and_then, if◌then◌else◌}
 use Rattle.std.specs.Str.{bytes_eq}
@@ -77,7 +77,7 @@ workers_rule = record (number_rule (codes "WORKERS") (codes "workers") 0 64) { r
 abbrev pub connections_rule : Rule
 connections_rule = number_rule (codes "CONNECTIONS") (codes "connections") 1 1000000
 
--- `--web PORT`: a number from 0 to 65535, at most once; help has a name for its value, which isn't its id, as below
+-- `--web PORT`: a number from 0 to 65535, at most once; its value has another name in help than its id, as below
 abbrev pub web_rule : Rule
 web_rule = record (number_rule (codes "WEB") (codes "web") 0 65535) { value_names = 1 }
 
@@ -112,7 +112,7 @@ serve = record (new_shape (codes "serve")) {
       ∷ log_rule ∷ stats_rule ∷ users_rule ∷ [];
 }
 
--- the program before its subcommands: one is required, help is told where there are no words, and it has a version
+-- the program before its subcommands: one is required, help is shown where there are no words, and it has a version
 abbrev pub without_subcommands : App
 without_subcommands = on_top
     (λ s. record s { subcommand_required = true; arg_required_else_help = true; has_version = true })
@@ -122,7 +122,7 @@ without_subcommands = on_top
 abbrev pub program : App
 program = with_subcommand (with_subcommand (with_subcommand without_subcommands batch) serve) repl
 
--- the users among what was found, and those behind the subcommand
+-- the users among what was found, and those after the subcommand
 abbrev pub users_among : List Row → List (List ℕ)
 users_among rows = unwrap_or (all_of (codes "USER") rows) []
 
@@ -133,20 +133,20 @@ users_in (Some p) = users_among p.1
 abbrev pub users_of : List (List ℕ) → List (List ℕ)
 users_of words = users_in (subcommand_of program words)
 
--- the number that a text is, if it is one of 64 bits
+-- the number that a text spells, if it is below 2^64
 abbrev pub number : List ℕ → Option ℕ
 number text =
     if is_unsigned_in 0 (2 ^ 64 - 1) text then Some (digits_value 10 (without_leading_plus text)) else None
 
--- the number of this name among what was found, if it is there
+-- the number with this name among what was found, if there is one
 abbrev pub number_among : List ℕ → List Row → Option ℕ
 number_among name rows = option_and_then number (one_of name rows)
 
--- the text of this name among what was found, if it is there
+-- the text with this name among what was found, if there is one
 abbrev pub text_among : List ℕ → List Row → Option (List ℕ)
 text_among name rows = first_of name rows
 
--- whether the flag of this name is set, by what was found, which has `true` or `false` for each flag
+-- whether a flag is set, by its text among what was found: clap has `true` or `false` for each flag
 abbrev pub is_true : Option (List ℕ) → Bool
 is_true None = false
 is_true (Some text) = bytes_eq text (codes "true")
@@ -154,25 +154,24 @@ is_true (Some text) = bytes_eq text (codes "true")
 abbrev pub is_among : List ℕ → List Row → Bool
 is_among name rows = is_true (slice_get (unwrap_or (all_of name rows) []) 0)
 
--- a batch, with the bytes of its heap, if there is one, and whether hints are told below faults
+-- a batch, the bytes of its heap, if it has one, and whether hints are written below faults
 pub record Batch : Type 0 where
   pub heap : Option ℕ
   pub is_hinted : Bool
 
--- a prompt, whether hints are told wherever it writes to, and whether it opens files wherever it reads from
+-- a prompt, whether hints are written even without a terminal, and whether files are opened even without one
 pub record Prompt : Type 0 where
   pub is_hinted : Bool
   pub has_files : Bool
 
--- the costs of a batch, for the values of `n` in this text, with the bytes of its heap, if there is one
+-- the costs of a batch, for the values of `n` in this text, and the bytes of its heap, if it has one
 pub record Costs : Type 0 where
   pub values : List ℕ
   pub heap : Option ℕ
 
--- a service: its port, how many helpers its threads may have in all, how many connections it serves, if it ends, the
--- port of its page and a name by which that may be asked for, if there are any, how many seconds a line has to come
--- whole and an answer to be taken, how many the first line has, if these are told, whether each connection is told of,
--- and the file for its counters, if there is one
+-- A service. It has a port, and the number of helpers that its threads share. It may have a number of connections after
+-- which it ends, a port for its page, and a further name for that. It may have a number of seconds for lines and
+-- answers, and one for first lines. It has a flag for the log, and maybe a file for its counters.
 pub record Service : Type 0 where
   pub port : Option ℕ
   pub workers : Option ℕ
@@ -191,7 +190,7 @@ pub data Task : Type 0 where
   a_service : Service → Task
   a_prompt : Prompt → Task
 
--- a batch, or its costs where there are values for them
+-- a batch, or its costs where values for them are given
 abbrev pub batch_among : (values : Option (List ℕ)) → (heap : Option ℕ) → (is_hinted : Bool) → Task
 batch_among None heap is_hinted = a_batch (record { heap = heap; is_hinted = is_hinted })
 batch_among (Some values) heap is_hinted = some_costs (record { values = values; heap = heap })
@@ -212,7 +211,7 @@ service_among rows = record {
   stats = text_among (codes "FILE") rows;
 }
 
--- by the subcommand and what was found behind it
+-- by the subcommand and what was found after it
 abbrev pub task_among : (name : List ℕ) → List Row → Task
 task_among name rows =
     if bytes_eq name (codes "serve") then a_service (service_among rows)
@@ -228,14 +227,14 @@ task_in (Some p) = task_among p.0 p.1
 abbrev pub task_of : List (List ℕ) → Task
 task_of words = task_in (subcommand_of program words)
 
--- clap gives the matches and the faults of such a command whole
+-- clap finds all matches and all faults of such a command
 pub program_is_simple : is_simple_and_free program ≡ true
 program_is_simple = refl
 
--- worked: two users; no heap, a heap, and one that is too small; costs, and twice; hints; users behind `--`; a service
--- that ends and one that doesn't, without a port, with too many workers, and with no second for the first line; a
--- prompt, with hints, with files, and with a user, whom it doesn't take; no word, no user, an unknown subcommand, and
--- calls for help and for the version
+-- Worked examples. Batches: two users; no heap, a heap, and one that is too small; costs, and the option twice; hints;
+-- users after `--`. Services: one that ends and one that doesn't; without a port, with too many workers, and with no
+-- second for the first line. Prompts: alone, with hints, with files, and with a user, which is refused. Others: no
+-- word, no user, an unknown subcommand, and calls for help and for the version.
 abbrev pub asked : List (List ℕ) → List (List ℕ)
 asked words = codes "pazkindu" ∷ words
 

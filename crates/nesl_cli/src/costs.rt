@@ -1,6 +1,6 @@
-//! What the last line of a batch costs, for each of several values of `n`.
+//! The costs of a batch's last line, for several values of `n`.
 ghost use Rattle.std.specs.Prelude.{◌≡◌, ℕ, Bool, List, Option, IfErr, false, map};
-ghost use Rattle.nesl_cli.specs.Program.{Fails};
+ghost use Rattle.nesl_cli.specs.Program.{BatchFails};
 
 use crate::failure::Failure;
 use crate::run::{open_house, run_in_new_house};
@@ -10,7 +10,7 @@ use nesl_line::tell;
 use std::alloc::{AllocError, Global};
 use thiserror::Error;
 
-/// Why costs could not be written whole.
+/// Why costs could not be written.
 #[derive(Clone, Copy, PartialEq, Eq, Debug, Error)]
 pub enum CostsFault {
     #[error("batch: read fault")]
@@ -27,17 +27,16 @@ impl From<AllocError> for CostsFault {
     }
 }
 
-/// The first row.
+/// The header row.
 const HEAD: &[u8] = b"n,work,depth,fault\n";
 
-/// The most digits of a value.
+/// The most digits of a value of `n`.
 const MOST_DIGITS: usize = 18;
 
-/// How many bytes are asked for at once.
+/// The most bytes of one read.
 const CHUNK: usize = 4096;
 
-// The batch that is run for each value: these lines, for these users. They are evaluated in a heap of so many bytes, if
-// there is to be one.
+// The batch that is run for each value. `heap` is the size in bytes of the heap for evaluation, if there is to be one.
 #[derive(Clone, Copy)]
 struct Batch<'a> {
     users: &'a [&'a str],
@@ -45,9 +44,9 @@ struct Batch<'a> {
     lines: &'a [u8],
 }
 
-/// Writes the costs as CSV: the names of the cells, and a row for each of the values. The lines of the reader are said
-/// anew for each value, by the first user as far as they name no other. A row has the value, and the work and the depth
-/// that the last answer tells, or else its fault.
+/// Writes the costs as CSV: a header, and a row for each value of `n`. The lines that are read are run anew for each
+/// value, by the first user until a line names another. A row has the value, and the work and the depth of the last
+/// answer, or else its fault.
 pub(crate) fn write_costs<'a, S: Source, W: Sink>(
     alloc: Global,
     users: &[&'a str],
@@ -56,7 +55,7 @@ pub(crate) fn write_costs<'a, S: Source, W: Sink>(
     reader: &mut S,
     writer: &mut W,
 ) -> Result<(), Failure<'a>>
-    ensures failed { IfErr result (λ failure. Fails failure false (map (λ user. user.now) users.now)
+    ensures failed { IfErr result (λ failure. BatchFails failure false (map (λ user. user.now) users.now)
         (S.left reader.old) (S.left reader.new) (W.held writer.old) (W.held writer.new)) }
 {
     let values = split_values(alloc, values)?;
@@ -67,7 +66,7 @@ pub(crate) fn write_costs<'a, S: Source, W: Sink>(
     }
 }
 
-// Reads the lines, and writes the first row and one for each of the values.
+// Reads the lines, and writes the header and a row for each value.
 fn write_table<S: Source, W: Sink>(
     alloc: Global,
     users: &[&str],
@@ -90,10 +89,10 @@ fn write_table<S: Source, W: Sink>(
     Ok(())
 }
 
-// Splits a text into the values that it has between commas, each of 1 to 18 digits.
+// Splits a text at its commas into values, each of 1 to 18 digits.
 fn split_values<'a>(alloc: Global, text: &'a str) -> Result<Vec<&'a str>, Failure<'a>>
     ensures { IfErr result (λ failure. (is_hinted : Bool) (users : List (List ℕ)) (left held : Option (List ℕ))
-        → Fails failure is_hinted users left left held held) }
+        → BatchFails failure is_hinted users left left held held) }
 {
     let mut values = Vec::new(alloc);
     for value in text.split(',') {
@@ -116,7 +115,7 @@ fn are_digits(bytes: &[u8]) -> bool {
     bytes.iter().all(|byte| byte.is_ascii_digit())
 }
 
-// Reads all that a reader has.
+// Reads to the end of input.
 fn read_lines<S: Source>(alloc: Global, reader: &mut S) -> Result<Vec<u8>, CostsFault> {
     let mut lines = Vec::new(alloc);
     let mut chunk = [0u8; CHUNK];
@@ -130,7 +129,7 @@ fn read_lines<S: Source>(alloc: Global, reader: &mut S) -> Result<Vec<u8>, Costs
     Err(CostsFault::Read)
 }
 
-// Writes a row whole, and hands it on.
+// Writes and flushes a row.
 fn write_row<W: Sink>(writer: &mut W, row: &[u8]) -> Result<(), CostsFault> {
     if tell::say(writer, row) {
         Ok(())
@@ -139,14 +138,14 @@ fn write_row<W: Sink>(writer: &mut W, row: &[u8]) -> Result<(), CostsFault> {
     }
 }
 
-// Runs the batch for a value, and makes the row of it.
+// Runs the batch for a value, and returns its row.
 fn make_row(alloc: Global, batch: &Batch<'_>, value: &str) -> Result<Vec<u8>, CostsFault> {
     let script = make_script(alloc, batch, value)?;
     let replies = run_script(alloc, batch, script.as_slice())?;
     Ok(format_row(alloc, value, find_last_line(replies.as_slice()))?)
 }
 
-// Puts the lines behind those that select the first user and give `n` this value.
+// Puts the lines after two others, which select the first user and give `n` this value.
 fn make_script(alloc: Global, batch: &Batch<'_>, value: &str) -> Result<Vec<u8>, AllocError> {
     let first = match batch.users.first() {
         Some(user) => *user,
@@ -166,7 +165,7 @@ fn make_script(alloc: Global, batch: &Batch<'_>, value: &str) -> Result<Vec<u8>,
     Ok(script)
 }
 
-// Says these bytes to a new house of the users, and gives what it answers.
+// Runs these lines in a new house, and returns all answers.
 fn run_script(alloc: Global, batch: &Batch<'_>, script: &[u8]) -> Result<Vec<u8>, CostsFault> {
     let mut reader = Device::new(script);
     let mut writer = Device::new(Vec::new(alloc));
@@ -183,7 +182,7 @@ fn run_script(alloc: Global, batch: &Batch<'_>, script: &[u8]) -> Result<Vec<u8>
     }
 }
 
-// Finds the last line of a text each line of which has a line end.
+// Finds the last line of a text. Each line has a line end.
 fn find_last_line(text: &[u8]) -> &[u8] {
     let lines = text.strip_suffix(b"\n".as_slice()).unwrap_or(text);
     match lines.iter().rposition(|byte| *byte == b'\n') {
@@ -192,7 +191,7 @@ fn find_last_line(text: &[u8]) -> &[u8] {
     }
 }
 
-// Formats the row of a value by the last answer: the work and the depth that it tells, or else its fault.
+// Formats the row of a value: the work and the depth of its last answer, or else its fault.
 fn format_row(alloc: Global, value: &str, answer: &[u8]) -> Result<Vec<u8>, AllocError> {
     let none = b"".as_slice();
     let (work, depth, fault) = match find_cost(answer) {
@@ -225,7 +224,7 @@ fn find_cost(answer: &[u8]) -> Option<(&[u8], &[u8])> {
     Some((inner.get(..comma)?, depth))
 }
 
-// Finds the name of the fault that an answer is; of any other answer, that it tells no cost.
+// Returns the word of the fault that an answer is, or `no cost` for any other answer.
 fn find_fault(answer: &[u8]) -> &[u8] {
     match answer.strip_prefix(b"fault ".as_slice()) {
         Some(name) => match name.iter().position(|byte| *byte == b' ') {

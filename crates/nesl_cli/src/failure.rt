@@ -3,7 +3,7 @@ ghost use Rattle.std.specs.Prelude.{◌≡◌, ℕ, Bool, List, Option, IfSome, 
 ghost use Rattle.nesl_house.specs.Roster.{IsRefused};
 ghost use Rattle.clap.specs.Values.{kind_of};
 ghost use Rattle.nesl_cli.specs.Failures.{failure_of, memory_failure_of, status_after, status_of, words_status_of};
-ghost use Rattle.nesl_cli.specs.Program.{Fails};
+ghost use Rattle.nesl_cli.specs.Program.{BatchFails};
 
 use crate::costs::CostsFault;
 use crate::prompt::PromptFault;
@@ -14,7 +14,7 @@ use nesl_prompt::shelf::ShelfFault;
 use nesl_service::service::ServeFault;
 use thiserror::Error;
 
-/// Why a run failed; the text goes to standard error.
+/// Why a run failed. Its text goes to standard error.
 #[derive(Clone, Copy, PartialEq, Eq, Debug, Error)]
 pub enum Failure<'a> {
     #[error("batch: read fault")]
@@ -33,27 +33,27 @@ pub enum Failure<'a> {
     Twice(&'a str),
     #[error("words: not UTF-8")]
     Encoding,
-    /// Costs could not be written whole.
+    /// The costs could not be written.
     #[error("{0}")]
     Costs(CostsFault),
-    /// What is no value of `n`.
+    /// This text is no value of `n`.
     #[error("csv: bad value {0}")]
     Value(&'a str),
-    /// Another listens on this port.
+    /// Another program listens on this port.
     #[error("serve: socket fault\nport {0} is taken")]
     Taken(u16),
-    /// The counters of a service can't be written into this file, for this fault.
+    /// The counters of a service can't be written into this file, for this reason.
     #[error("serve: can't write {0}\n{1}")]
     Stats(&'a str, ShelfFault),
-    /// A prompt ended before its input did.
+    /// A prompt ended before the end of input.
     #[error("{0}")]
     Prompt(PromptFault),
 }
 
-/// Why the words came to no whole run.
+/// Why a command line led to no complete run.
 #[derive(Debug, Drop, Error)]
 pub enum Refusal<'a> {
-    /// They were refused, or asked for help.
+    /// The command line was refused, or asks for help or for the version.
     #[error("{0}")]
     Words(clap::Error),
     /// The run failed.
@@ -62,11 +62,11 @@ pub enum Refusal<'a> {
 }
 
 impl<'a> Failure<'a> {
-    /// What a refusal of the roster of these users is told as; nothing was read or written then.
+    /// The failure for a roster that is refused; nothing was read or written by then.
     pub fn of_roster(fault: NewFault, users: &[&'a str]) -> Failure<'a>
         requires { IsRefused (map (λ user. user.now) users.now) fault }
         ensures { (is_hinted : Bool) (left held : Option (List ℕ))
-            → Fails result is_hinted (map (λ user. user.now) users.now) left left held held }
+            → BatchFails result is_hinted (map (λ user. user.now) users.now) left left held held }
     {
         match fault {
             NewFault::Count => Failure::Count,
@@ -76,8 +76,9 @@ impl<'a> Failure<'a> {
         }
     }
 
-    /// What want of memory is told as before a run has begun, by the words, of which the first is the program's name.
-    pub fn of_memory(words: &[&str]) -> Failure<'a>
+    /// The failure where memory ran out before a run. It depends on the subcommand; the first word is the program's
+    /// name.
+    pub fn out_of_memory(words: &[&str]) -> Failure<'a>
         ensures { result ≡ memory_failure_of (map (λ word. word.now) words.now) }
     {
         match words.get(1) {
@@ -87,7 +88,7 @@ impl<'a> Failure<'a> {
         }
     }
 
-    /// What an end of a batch is told as; the end of input is no failure.
+    /// The failure for an end of a batch. The end of input is no failure.
     pub fn of_end(end: End) -> Option<Failure<'a>>
         ensures { result ≡ failure_of end }
     {
@@ -99,7 +100,7 @@ impl<'a> Failure<'a> {
         }
     }
 
-    /// The exit status: 1 for a device or memory, 2 for the words.
+    /// The exit status: 1 for devices and memory, 2 for mistakes in the command line.
     pub fn status(self) -> u8
         ensures { result ≡ status_of self.entry }
     {
@@ -112,8 +113,8 @@ impl<'a> Failure<'a> {
     }
 }
 
-/// The exit status where the words were refused, or asked for help, and that was told: 0 for help, 1 for want of
-/// memory, and else 2.
+/// The exit status for a command line that was refused or asks for help. It is 0 for help and the version, 1 if memory
+/// ran out, and else 2.
 pub fn words_status(error: &clap::Error) -> u8
     ensures { result ≡ words_status_of (kind_of error.now) }
 {
@@ -124,7 +125,7 @@ pub fn words_status(error: &clap::Error) -> u8
     }
 }
 
-/// The exit status where a service was offered, and came to this.
+/// The exit status after a service.
 pub fn status_after(kept: &Result<(), Failure<'_>>) -> u8
     ensures { result ≡ status_after kept.now }
 {
@@ -134,7 +135,7 @@ pub fn status_after(kept: &Result<(), Failure<'_>>) -> u8
     }
 }
 
-// The name at a place.
+// Returns the name at a place, or an empty one.
 fn name_at<'a>(users: &[&'a str], place: usize) -> &'a str
     ensures { IfSome (slice_get users.now place) (λ user. result ≡ user) }
 {

@@ -1,5 +1,5 @@
-//! The help texts. Their lines are broken so that what is printed has less than 80 columns; beside the options of
-//! `batch` there are 57 columns left, and 44 beside those of `serve`.
+//! The help texts. Their lines are broken by hand, so that printed lines have at most 79 columns. Beside the options of
+//! `batch` there are 57 columns, and beside those of `serve` 44.
 
 pub(crate) const ABOUT: &str = "NESL sessions for many users, every reply of which is proved";
 

@@ -1,5 +1,5 @@
-//! The words of the command line, and what they ask for: a batch or a prompt that is run, a service that is to be
-//! offered, or why there is none of them.
+//! The command line, and what it asks for: a batch or a prompt, which is run here, or a service, which the caller
+//! offers.
 #![tactic(auto)]
 
 pub mod costs;

@@ -1,4 +1,4 @@
-//! A prompt for whoever runs the program.
+//! The prompt of `repl`.
 ghost use Rattle.std.specs.Prelude.{◌≡◌, IfErr, OnOk};
 ghost use Rattle.nesl_line.specs.declared.exchange.End.TheVariants as end;
 ghost use Rattle.nesl_prompt.specs.Points.{is_plain};
@@ -17,7 +17,7 @@ use nesl_session::session::Session;
 use std::alloc::Global;
 use thiserror::Error;
 
-/// Why a prompt ended before its input did.
+/// Why a prompt ended before the end of input.
 #[derive(Clone, Copy, PartialEq, Eq, Debug, Error)]
 pub enum PromptFault {
     #[error("repl: read fault")]
@@ -29,7 +29,7 @@ pub enum PromptFault {
 }
 
 impl PromptFault {
-    /// What an end of a prompt is told as; the end of input is no failure.
+    /// The fault for an end of a prompt. The end of input is no fault.
     pub fn of_end(end: End) -> Option<PromptFault>
         ensures { result ≡ prompt_failure_of end }
     {
@@ -50,7 +50,7 @@ pub struct Terminals {
 }
 
 impl Terminals {
-    /// How a prompt looks, for which hints may be asked.
+    /// The style of a prompt on these terminals; `is_hinted` is `--hints`.
     pub fn style(self, is_hinted: bool) -> Style
         ensures { result ≡ style_for self is_hinted }
     {
@@ -60,7 +60,7 @@ impl Terminals {
         }
     }
 
-    /// Whether a prompt may open files, for which `--files` may be given.
+    /// Whether a prompt on these terminals may open files; `has_files` is `--files`.
     pub fn access(self, has_files: bool) -> Access
         ensures { result ≡ access_for self has_files }
     {
@@ -72,16 +72,16 @@ impl Terminals {
     }
 }
 
-/// What a prompt has besides its reader and its writer.
+/// The devices of a prompt besides its reader and its writer.
 #[derive(Drop)]
 pub struct PromptDevices<'x, F> {
     pub terminals: Terminals,
-    /// The files that it loads and saves.
+    /// The files that the prompt loads and saves.
     pub files: &'x F,
 }
 
 impl<'x, F> PromptDevices<'x, F> {
-    /// The files as far as a prompt may open them, for which `--files` may be given.
+    /// The files, as far as the prompt may open them; `has_files` is `--files`.
     pub fn guarded(&self, has_files: bool) -> Guarded<'x, F>
         ensures { result.access ≡ access_for self.now.terminals has_files }
     {
@@ -92,7 +92,7 @@ impl<'x, F> PromptDevices<'x, F> {
     }
 }
 
-/// Runs a prompt over an empty session: it hears the lines of the reader to their end.
+/// Runs a prompt over an empty session, until the end of input or `:quit`.
 #[tactic(auto, using(crate::proofs::Ends::heard, crate::proofs::Ends::broken, crate::proofs::Ends::unmade))]
 pub(crate) fn run_prompt<'a, S: Source, W: Sink, F: Shelf>(
     alloc: Global,

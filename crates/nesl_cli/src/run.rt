@@ -1,11 +1,11 @@
-//! What the words come to.
+//! Runs what the command line asks for.
 ghost use Rattle.std.specs.Prelude.{◌≡◌, ℕ, Bool, List, Option, IfOk, OnOk, OnErr, IfErr, Err, map};
 ghost use Rattle.clap.specs.Words.{fault_of, HasKind};
 ghost use Rattle.clap.specs.declared.error.Error as clap;
 ghost use Rattle.nesl_house.specs.Roster.{IsRoster, new_house};
 ghost use Rattle.nesl_line.specs.declared.exchange.End.TheVariants as end;
 ghost use Rattle.nesl_cli.specs.Words.{program, task_of, users_of};
-ghost use Rattle.nesl_cli.specs.Program.{limits, Batched, Comes, Fails, Served, TaskFails, Untouched};
+ghost use Rattle.nesl_cli.specs.Program.{limits, Batched, IsCarriedOut, BatchFails, Served, TaskFails, Untouched};
 ghost use Rattle.nesl_cli.specs.declared.failure.Failure.{Failure};
 ghost use Rattle.nesl_cli.specs.declared.failure.Refusal.TheVariants as refusal;
 
@@ -26,7 +26,7 @@ use nesl_session::limits::Limits;
 use std::alloc::{AllocError, Global};
 use std::mem::ManuallyDrop;
 
-/// The limits of each session of the program.
+/// The limits of each session, in units of work, elements, lines and bytes.
 pub const LIMITS: Limits = Limits {
     line_work: 1_000_000,
     session_work: 100_000_000,
@@ -35,15 +35,15 @@ pub const LIMITS: Limits = Limits {
     transcript_bytes: 1_048_576,
 };
 
-/// A service for these users, in order.
+/// A service that is to be offered to these users, in the order of their places.
 #[derive(Drop)]
 pub struct Offer<'a> {
     pub users: Vec<&'a str>,
     pub service: Service<'a>,
 }
 
-/// What the words ask for: a batch for the users that they name, its costs, or a prompt, which is run, or a service
-/// that is to be offered to them.
+/// Does what the command line asks for. It runs a batch, its costs or a prompt. For a service it returns the offer,
+/// which the caller has to keep.
 pub fn carry_out<'a, S: Source, W: Sink, F: Shelf>(
     alloc: Global,
     words: &'a [&'a str],
@@ -51,7 +51,8 @@ pub fn carry_out<'a, S: Source, W: Sink, F: Shelf>(
     reader: &mut S,
     writer: &mut W,
 ) -> Result<Option<Offer<'a>>, Refusal<'a>>
-    ensures comes { IfOk result (λ offer. Comes devices.now.terminals offer (map (λ word. word.now) words.entry.now)
+    ensures comes { IfOk result (λ offer.
+        IsCarriedOut devices.now.terminals offer (map (λ word. word.now) words.entry.now)
         (S.left reader.old) (S.left reader.new) (W.held writer.old) (W.held writer.new)) }
     ensures failed { (failure : Failure) → result ≡ Err (refusal.Run failure)
         → TaskFails devices.now.terminals (task_of (map (λ word. word.now) words.entry.now)) failure
@@ -93,7 +94,7 @@ pub fn carry_out<'a, S: Source, W: Sink, F: Shelf>(
     }
 }
 
-// Runs a batch of the lines of these users, evaluated in a heap where one is wanted, with hints where these are.
+// Runs a batch for these users. `heap` is the size in bytes of the heap for evaluation, if there is to be one.
 fn run_batch<'a, S: Source, W: Sink>(
     alloc: Global,
     users: &[&'a str],
@@ -104,16 +105,16 @@ fn run_batch<'a, S: Source, W: Sink>(
 ) -> Result<(), Failure<'a>>
     ensures served { OnOk result (Served is_hinted end.Input (map (λ user. user.now) users.now)
         (S.left reader.old) (S.left reader.new) (W.held writer.old) (W.held writer.new)) }
-    ensures failed { IfErr result (λ failure. Fails failure is_hinted (map (λ user. user.now) users.now)
+    ensures failed { IfErr result (λ failure. BatchFails failure is_hinted (map (λ user. user.now) users.now)
         (S.left reader.old) (S.left reader.new) (W.held writer.old) (W.held writer.new)) }
 {
     let house = run_in_new_house(alloc, users, heap, is_hinted, reader, writer)?;
-    // The program ends behind a batch: the system takes back all memory of the house at once.
+    // The program ends after a batch, and the system takes back the memory of the house at once.
     let _house = ManuallyDrop::new(house);
     Ok(())
 }
 
-// Says the lines of a batch to a new house of these users, and gives the house that they leave.
+// Runs a batch in a new house of these users, and returns the house.
 pub(crate) fn run_in_new_house<'a, S: Source, W: Sink>(
     alloc: Global,
     users: &[&'a str],
@@ -124,7 +125,7 @@ pub(crate) fn run_in_new_house<'a, S: Source, W: Sink>(
 ) -> Result<House, Failure<'a>>
     ensures served { OnOk result (Served is_hinted end.Input (map (λ user. user.now) users.now)
         (S.left reader.old) (S.left reader.new) (W.held writer.old) (W.held writer.new)) }
-    ensures failed { IfErr result (λ failure. Fails failure is_hinted (map (λ user. user.now) users.now)
+    ensures failed { IfErr result (λ failure. BatchFails failure is_hinted (map (λ user. user.now) users.now)
         (S.left reader.old) (S.left reader.new) (W.held writer.old) (W.held writer.new)) }
 {
     let mut house = open_house(alloc, users)?;
@@ -137,12 +138,12 @@ pub(crate) fn run_in_new_house<'a, S: Source, W: Sink>(
     }
 }
 
-// Opens a house for these users. Nothing was read or written where it is refused.
+// Makes a house for these users. Nothing is read or written if it is refused.
 pub(crate) fn open_house<'a>(alloc: Global, users: &[&'a str]) -> Result<House, Failure<'a>>
     ensures roster { OnOk result (IsRoster (map (λ user. user.now) users.now)) }
     ensures opened { IfOk result (λ house. house ≡ new_house limits (map (λ user. user.now) users.now)) }
     ensures failed { IfErr result (λ failure. (is_hinted : Bool) (left held : Option (List ℕ))
-        → Fails failure is_hinted (map (λ user. user.now) users.now) left left held held) }
+        → BatchFails failure is_hinted (map (λ user. user.now) users.now) left left held held) }
 {
     let Ok(names) = copy_names(alloc, users) else {
         return Err(Failure::Memory);
@@ -153,7 +154,7 @@ pub(crate) fn open_house<'a>(alloc: Global, users: &[&'a str]) -> Result<House, 
     }
 }
 
-// Has the lines of a batch answered by a house. They are evaluated in one heap of this size, if there is to be one.
+// Has a house answer the lines of a batch, evaluated in a heap of this size if there is to be one.
 fn answer_lines<S: Source, W: Sink>(
     alloc: Global,
     reader: &mut S,
@@ -176,7 +177,7 @@ fn answer_lines<S: Source, W: Sink>(
     }
 }
 
-// Has the lines of a batch answered by a house, to which each is said in this manner.
+// Has a house answer the lines of a batch, each evaluated in this manner.
 fn answer_lines_by<S: Source, W: Sink, M: Manner>(
     alloc: Global,
     reader: &mut S,
@@ -195,7 +196,7 @@ fn answer_lines_by<S: Source, W: Sink, M: Manner>(
     }
 }
 
-/// Copies the users' names as bytes, in order.
+/// Copies the names of the users as bytes, in order.
 pub fn copy_names(alloc: Global, users: &[&str]) -> Result<Vec<Vec<u8>>, AllocError>
     ensures { IfOk result (λ names. map (λ name. name.items) names.items ≡ map (λ user. user.now) users.now) }
 {

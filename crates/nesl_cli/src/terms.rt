@@ -1,4 +1,4 @@
-//! Where and by what terms an offered service is kept.
+//! The addresses and terms of an offered service.
 ghost use Rattle.std.specs.Prelude.{◌≡◌, ◌+◌, ◌*◌, ◌^◌, ◌≤◌, ◌∷◌, [], IfNone, IfSome, length, option_map, unwrap_or};
 ghost use Rattle.std.specs.Duration.{as_nanos};
 ghost use Rattle.std.specs.Net.Addr.{ipv4_octets, IsV4And};
@@ -11,7 +11,7 @@ use nesl_service::wire::Patience;
 use std::net::{IpAddr, Ipv4Addr, SocketAddr};
 use std::time::Duration;
 
-/// This port, for this machine alone. There is none above 65,535.
+/// Returns the address of a port on this machine's loopback interface. There is none for ports above 65,535.
 pub fn local_address(port: usize) -> Option<SocketAddr>
     ensures loopback { IfSome result
         (λ address. IsV4And (socket_ip address) (λ ip. ipv4_octets ip ≡ 127 ∷ 0 ∷ 0 ∷ 1 ∷ [])) }
@@ -25,8 +25,8 @@ pub fn local_address(port: usize) -> Option<SocketAddr>
 }
 
 impl Offer<'_> {
-    /// Where the service listens: at the port that was told, or at one that is free, and for this machine alone. There
-    /// is no port above 65,535.
+    /// Returns the loopback address where the service listens: its port, or port 0, for which the system picks a free
+    /// one. There is none for ports above 65,535.
     pub fn address(&self) -> Option<SocketAddr>
         ensures loopback { IfSome result
             (λ address. IsV4And (socket_ip address) (λ ip. ipv4_octets ip ≡ 127 ∷ 0 ∷ 0 ∷ 1 ∷ [])) }
@@ -36,14 +36,14 @@ impl Offer<'_> {
         local_address(self.service.port.unwrap_or(0))
     }
 
-    /// How many threads serve browsers: as many as there are users, and four more for those who ask for the page.
+    /// The number of threads that serve browsers: one for each user, and four for requests for the page.
     pub fn page_threads(&self) -> usize
         ensures { result ≡ length self.now.users.items + 4 }
     {
         self.users.len() + 4
     }
 
-    /// By what terms the service is kept: as many threads as there are users, and one more, serve.
+    /// Returns the terms of the service. One thread for each user, and one more, serve lines.
     pub fn terms(&self) -> Terms
         ensures threads { result.threads ≡ length self.now.users.items + 1 }
         ensures workers { result.workers ≡ workers_in self.now.service.workers }

@@ -19,37 +19,37 @@ use clap::builder::ValueParser;
 use clap::{Arg, ArgAction, ArgMatches, Command, Error};
 use std::alloc::{AllocError, Global};
 
-/// The program's version, which `--version` tells and scripts/package takes for the package's.
+/// The program's version, which `--version` prints. scripts/package gives the package the same one.
 pub const VERSION: &str = "1.0.0";
 
-/// The most seconds for a line to come or for an answer to be taken.
+/// The most seconds for a line to arrive, or for an answer to be taken.
 const MOST_SECONDS: u64 = 86_400;
 
-/// The most that a port may be.
+/// The greatest port.
 const MOST_PORT: u64 = 65_535;
 
-/// The most helpers.
+/// The most helpers of a service.
 const MOST_WORKERS: u64 = 64;
 
 /// The most connections after which a service ends.
 const MOST_CONNECTIONS: u64 = 1_000_000;
 
-/// The least bytes of a heap.
+/// The fewest bytes of a heap.
 const LEAST_HEAP: u64 = 16;
 
 /// The most bytes of a heap.
 const MOST_HEAP: u64 = 1_073_741_824;
 
-/// What is to be done.
+/// What the command line asks for.
 #[derive(Clone, Copy, PartialEq, Eq, Debug)]
 pub enum Task<'a> {
-    /// A batch, evaluated in a heap of so many bytes, if there is to be one.
+    /// A batch. `heap` is the size in bytes of its heap for evaluation, if there is to be one.
     Batch {
         heap: Option<usize>,
-        /// Whether hints are told below faults.
+        /// Whether hints are written below faults.
         is_hinted: bool,
     },
-    /// The costs of a batch for each of these values of `n`, as CSV; evaluated in a heap likewise.
+    /// The costs of a batch as CSV, for each of these values of `n`, separated by commas. `heap` is as above.
     Costs {
         values: &'a str,
         heap: Option<usize>,
@@ -57,20 +57,19 @@ pub enum Task<'a> {
     Service(Service<'a>),
     /// A prompt.
     Prompt {
-        /// Whether hints are told wherever it writes to.
+        /// Whether hints are written even if standard output is no terminal.
         is_hinted: bool,
-        /// Whether it opens files wherever it reads from.
+        /// Whether files may be opened even if standard input is no terminal.
         has_files: bool,
     },
 }
 
-/// A service on this port, with so many helpers, which ends after so many connections, if it is to end. Where there is
-/// one, its page is at the port `web`, and may be asked for by the name `web_host` too.
+/// The options of `serve`. `workers` is the number of helpers, and `connections` the number of connections after which
+/// the service ends. `web` is the port of the page, and `web_host` a further name by which it may be requested.
 ///
-/// Where they are told, a line has so many `idle` seconds to come whole, and as many may pass while nothing of an
-/// answer is taken; the first line of a connection has so many `first_line` seconds. A connection that takes longer is
-/// ended. Where the service is logged, each connection is told of; where there is a file for `stats`, its counters are
-/// written there.
+/// The times are in seconds. A line has `idle` seconds to arrive whole, and so has each piece of an answer to be taken.
+/// The first line of a connection has `first_line` seconds. A connection that takes longer is ended. With `is_logged`
+/// each connection is logged, and `stats` is the file for the counters.
 #[derive(Clone, Copy, PartialEq, Eq, Debug)]
 pub struct Service<'a> {
     pub port: Option<usize>,
@@ -84,24 +83,25 @@ pub struct Service<'a> {
     pub stats: Option<&'a str>,
 }
 
-/// What the words ask for, and for which users, in order.
+/// What the command line asks for, and for which users, in order.
 #[derive(Drop)]
 pub struct Wanted<'a> {
     pub users: Vec<&'a str>,
     pub task: Task<'a>,
 }
 
-/// What the words ask for.
+/// Reads the words of the command line, the program's name first. Fails if they are refused, or if they ask for help or
+/// for the version.
 pub fn read<'a>(alloc: Global, words: &'a [&'a str]) -> Result<Wanted<'a>, Error>
     ensures users { IfOk result (λ wanted. users_wanted wanted ≡ users_of (map (λ word. word.now) words.entry.now)) }
     ensures task { IfOk result (λ wanted. task_wanted wanted.task ≡ task_of (map (λ word. word.now) words.entry.now)) }
     ensures faults { FailsBy (fault_of program (map (λ word. word.now) words.entry.now)) result }
 {
     let matches = command(alloc)?.try_get_matches_from(words)?;
-    Ok(found(alloc, &matches)?)
+    Ok(wanted_in(alloc, &matches)?)
 }
 
-/// An example of the words, of which the first is the program's name, for who got them wrong.
+/// An example of the subcommand's words, which is printed after an error. The first word is the program's name.
 pub fn example(words: &[&str]) -> &'static str {
     match words.get(1) {
         Some(word) if *word == "serve" => help::SERVE_EXAMPLE,
@@ -110,7 +110,7 @@ pub fn example(words: &[&str]) -> &'static str {
     }
 }
 
-// The program's words: a subcommand and the users behind it.
+// Describes the command line to clap.
 fn command<'a>(alloc: Global) -> Result<Command<'a>, AllocError>
     ensures { IfOk result (λ command. app_of command ≡ program) }
 {
@@ -131,7 +131,7 @@ fn without_subcommands<'a>(alloc: Global) -> Command<'a>
         .arg_required_else_help(true)
 }
 
-// The program with one more subcommand, if there is memory for both.
+// Adds a subcommand to the program, if memory suffices for both.
 fn with_subcommand<'a>(
     program: Result<Command<'a>, AllocError>,
     subcommand: Result<Command<'a>, AllocError>,
@@ -142,7 +142,7 @@ fn with_subcommand<'a>(
     program?.subcommand(subcommand?)
 }
 
-// A command with one more option, if there is memory for it.
+// Adds an option to a command, if memory suffices for it.
 fn with_option<'a>(
     command: Result<Command<'a>, AllocError>,
     option: Arg<'a>,
@@ -320,7 +320,7 @@ fn user<'a>(alloc: Global) -> Arg<'a>
         .action(ArgAction::Append)
 }
 
-// An option that takes a number from `least` to `most`, at most once.
+// An option with a number from `least` to `most`, at most once.
 fn number<'a>(
     alloc: Global,
     name: &'a str,
@@ -339,7 +339,7 @@ fn number<'a>(
         .action(ArgAction::Set)
 }
 
-// An option that takes a text, at most once.
+// An option with a text, at most once.
 fn text<'a>(alloc: Global, name: &'a str, long: &'a str, help: &'a str) -> Arg<'a>
     ensures rule { rule_of result ≡ text_rule name.now long.now }
     ensures local { result.global ≡ false }
@@ -350,15 +350,15 @@ fn text<'a>(alloc: Global, name: &'a str, long: &'a str, help: &'a str) -> Arg<'
         .action(ArgAction::Set)
 }
 
-// What stands behind the subcommand.
-fn found<'a>(alloc: Global, matches: &ArgMatches<'a>) -> Result<Wanted<'a>, AllocError>
+// Returns what was found on the command line.
+fn wanted_in<'a>(alloc: Global, matches: &ArgMatches<'a>) -> Result<Wanted<'a>, AllocError>
     ensures users { IfOk result (λ wanted. users_wanted wanted ≡ users_in (subcommand_rows_of matches.now)) }
     ensures task { IfOk result (λ wanted. task_wanted wanted.task ≡ task_in (subcommand_rows_of matches.now)) }
 {
     match matches.subcommand() {
         Some((name, inner)) => {
-            let users = named_behind(alloc, inner)?;
-            let task = task_behind(name, inner);
+            let users = user_names(alloc, inner)?;
+            let task = task_found(name, inner);
             Ok(Wanted { users, task })
         }
         None => Ok(Wanted {
@@ -371,63 +371,63 @@ fn found<'a>(alloc: Global, matches: &ArgMatches<'a>) -> Result<Wanted<'a>, Allo
     }
 }
 
-fn task_behind<'a>(name: &str, matches: &ArgMatches<'a>) -> Task<'a>
+fn task_found<'a>(name: &str, matches: &ArgMatches<'a>) -> Task<'a>
     ensures { task_wanted result ≡ task_among name.now (rows_of (found_of matches.now)) }
 {
     if name == "serve" {
-        Task::Service(service_behind(matches))
+        Task::Service(service_found(matches))
     } else if name == "repl" {
         Task::Prompt {
-            is_hinted: is_behind(matches, "HINTS"),
-            has_files: is_behind(matches, "FILES"),
+            is_hinted: has_flag(matches, "HINTS"),
+            has_files: has_flag(matches, "FILES"),
         }
     } else {
-        batch_behind(matches)
+        batch_found(matches)
     }
 }
 
-fn batch_behind<'a>(matches: &ArgMatches<'a>) -> Task<'a>
+fn batch_found<'a>(matches: &ArgMatches<'a>) -> Task<'a>
     ensures { task_wanted result ≡ batch_among (text_among (codes "VALUES") (rows_of (found_of matches.now)))
         (number_among (codes "BYTES") (rows_of (found_of matches.now)))
         (is_among (codes "HINTS") (rows_of (found_of matches.now))) }
 {
-    let heap = number_behind(matches, "BYTES");
-    let is_hinted = is_behind(matches, "HINTS");
-    match text_behind(matches, "VALUES") {
+    let heap = number_option(matches, "BYTES");
+    let is_hinted = has_flag(matches, "HINTS");
+    match text_option(matches, "VALUES") {
         Some(values) => Task::Costs { values, heap },
         None => Task::Batch { heap, is_hinted },
     }
 }
 
-fn service_behind<'a>(matches: &ArgMatches<'a>) -> Service<'a>
+fn service_found<'a>(matches: &ArgMatches<'a>) -> Service<'a>
     ensures { service_wanted result ≡ service_among (rows_of (found_of matches.now)) }
 {
     Service {
-        port: number_behind(matches, "PORT"),
-        workers: number_behind(matches, "WORKERS"),
-        connections: number_behind(matches, "CONNECTIONS"),
-        web: number_behind(matches, "WEB"),
-        web_host: text_behind(matches, "HOST"),
-        idle: number_behind(matches, "SECONDS"),
-        first_line: number_behind(matches, "FIRST"),
-        is_logged: is_behind(matches, "LOG"),
-        stats: text_behind(matches, "FILE"),
+        port: number_option(matches, "PORT"),
+        workers: number_option(matches, "WORKERS"),
+        connections: number_option(matches, "CONNECTIONS"),
+        web: number_option(matches, "WEB"),
+        web_host: text_option(matches, "HOST"),
+        idle: number_option(matches, "SECONDS"),
+        first_line: number_option(matches, "FIRST"),
+        is_logged: has_flag(matches, "LOG"),
+        stats: text_option(matches, "FILE"),
     }
 }
 
-fn number_behind(matches: &ArgMatches<'_>, name: &str) -> Option<usize>
+fn number_option(matches: &ArgMatches<'_>, name: &str) -> Option<usize>
     ensures { result ≡ number_among name.now (rows_of (found_of matches.now)) }
 {
     matches.get_one(name)
 }
 
-fn text_behind<'a>(matches: &ArgMatches<'a>, name: &str) -> Option<&'a str>
+fn text_option<'a>(matches: &ArgMatches<'a>, name: &str) -> Option<&'a str>
     ensures { option_map (λ text. text.now) result ≡ text_among name.now (rows_of (found_of matches.now)) }
 {
     matches.get_str(name)
 }
 
-fn is_behind(matches: &ArgMatches<'_>, name: &str) -> bool
+fn has_flag(matches: &ArgMatches<'_>, name: &str) -> bool
     ensures { result ≡ is_among name.now (rows_of (found_of matches.now)) }
 {
     match matches.get_strs(name) {
@@ -439,7 +439,7 @@ fn is_behind(matches: &ArgMatches<'_>, name: &str) -> bool
     }
 }
 
-fn named_behind<'a>(alloc: Global, matches: &ArgMatches<'a>) -> Result<Vec<&'a str>, AllocError>
+fn user_names<'a>(alloc: Global, matches: &ArgMatches<'a>) -> Result<Vec<&'a str>, AllocError>
     ensures { IfOk result (λ users. map (λ user. user.now) users.items
         ≡ users_among (rows_of (found_of matches.now))) }
 {

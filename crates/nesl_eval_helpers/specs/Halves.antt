@@ -1,19 +1,19 @@
--- Half of an interval of places.
+-- The two halves of an interval of places.
 use Rattle.std.specs.Prelude.{◌≡◌, ℕ, ◌+◌, ◌-◌, ◌<◌, ◌≤◌, Result, Ok, Err}
 use Rattle.nesl_scalars.specs.declared.cost.Cost.{Cost}
 use Rattle.nesl_eval_nodes.specs.declared.meter.Meter.{Meter}
 use Rattle.nesl_eval_nodes.specs.declared.meter.Stop.{Stop}
 use Rattle.nesl_eval_nodes.specs.declared.meter.Stop.TheVariants.{Fault, Over, Memory, Stuck}
 
--- the meter after what took this: the work is off the fuel, and the depth is added
+-- the meter after this cost: the work is taken from the fuel, and the depth is added
 abbrev pub after_cost : Meter → Cost → Meter
 after_cost m c = record { fuel = m.fuel - c.work; depth = m.depth + c.depth }
 
--- what was taken is within the fuel, and the depth within the work
+-- a cost within the fuel, whose depth is at most its work
 abbrev pub IsWithin : Meter → Cost → Type 0
 IsWithin m c = (c.depth ≤ c.work) × (c.work ≤ m.fuel)
 
--- what a half of this work found, judged by the fuel that is left: a list or a fault whose work is more is over
+-- the right half's result after its work is charged: a list or a fault that costs more than the fuel is out of fuel
 abbrev pub Judges : {V : Type 0} → Result V Stop → ℕ → Meter → Result V Stop → Meter → Type 0
 Judges (Ok v) w m (Ok u) n = (u ≡ v) × (m.fuel ≡ n.fuel + w) × (n.depth ≡ m.depth)
 Judges (Ok v) w m (Err e) n = (e ≡ Over) × (n ≡ m) × (m.fuel < w)

@@ -1,2 +1,2 @@
 pub mod Halves
-pub mod Learnt
+pub mod Timings

@@ -1,38 +1,38 @@
-//! What connections share that ask for helpers.
+//! The state that all connections share for requests of helpers.
 
-use crate::learnt::Learnt;
+use crate::timings::Timings;
 use std::sync::atomic::{AtomicU64, Ordering};
 
-/// How many threads evaluate lines or halves, of all that share this, how many processors there are for them, and how
-/// long intervals take.
+/// Counts the threads that evaluate lines or halves, and remembers how long intervals take. `processors` is how many
+/// threads can run at once.
 #[derive(Drop)]
 pub struct Common {
     processors: u64,
     at_work: AtomicU64,
-    pub(crate) learnt: Learnt,
+    pub(crate) timings: Timings,
 }
 
 impl Common {
-    /// Nobody is at work, and nothing is known of any interval.
+    /// No thread evaluates, and no interval is known.
     pub fn new(processors: usize) -> Common {
         Common {
             processors: processors as u64,
             at_work: AtomicU64::new(0),
-            learnt: Learnt::new(),
+            timings: Timings::new(),
         }
     }
 
-    /// Whether each processor has a thread.
+    /// Whether there are as many threads as processors.
     pub(crate) fn is_full(&self) -> bool {
         self.at_work.load(Ordering::Relaxed) >= self.processors
     }
 
-    /// One more thread is at work, whether there is a processor for it or not.
+    /// Counts a thread that begins, even if no processor is free.
     pub(crate) fn begin(&self) {
         self.at_work.fetch_add(1, Ordering::Relaxed);
     }
 
-    /// One more thread is at work, if there is a processor for it.
+    /// Counts a thread that begins, if a processor is free. Returns whether one was.
     pub(crate) fn begin_on_free(&self) -> bool {
         let before = self.at_work.fetch_add(1, Ordering::Relaxed);
         if before >= self.processors {
@@ -42,7 +42,7 @@ impl Common {
         true
     }
 
-    /// A thread has ended its work.
+    /// Counts a thread that ends.
     pub(crate) fn end(&self) {
         self.at_work.fetch_sub(1, Ordering::Relaxed);
     }

@@ -1,4 +1,4 @@
-//! What the halves of an interval come to, and the interval with them.
+//! Evaluates an interval of places in two halves, and joins their results.
 ghost use Rattle.std.specs.Prelude.{◌≡◌, ℕ, ◌+◌, ◌-◌, ◌<◌, ◌≤◌, ◌^◌, List, max};
 ghost use Rattle.nesl_values.specs.Tree.{ValueTree};
 ghost use Rattle.nesl_eval_meaning.specs.Out.{Out, beside};
@@ -10,14 +10,15 @@ use nesl_eval_nodes::meter::{Meter, Stop};
 use nesl_scalars::Cost;
 use nesl_values_builder::SequenceBuilder;
 
-/// What a half came to, which had the whole fuel, and what it took of that.
+/// The result of a half, which began with the whole fuel, and what it cost.
 #[derive(Drop)]
 pub struct Half<V> {
     pub found: Result<V, Stop>,
     pub cost: Cost,
 }
 
-/// The meter of a half: it has the whole fuel, for what the two halves took is judged when both have ended.
+/// Returns the meter for a half. Both halves begin with the whole fuel, and what they used is checked after both have
+/// ended.
 pub fn begin_meter(fuel: u64) -> Meter
     ensures fuel { result.fuel ≡ fuel }
     ensures depth { result.depth ≡ 0 }
@@ -25,7 +26,7 @@ pub fn begin_meter(fuel: u64) -> Meter
     Meter { fuel, depth: 0 }
 }
 
-/// What was taken from one meter to another.
+/// Returns the work and the depth between two readings of a meter.
 pub fn cost_since(begun: Meter, meter: Meter) -> Cost
     ensures work { result.work ≡ begun.fuel - meter.fuel }
     ensures depth { result.depth ≡ meter.depth - begun.depth }
@@ -36,7 +37,8 @@ pub fn cost_since(begun: Meter, meter: Meter) -> Cost
     }
 }
 
-/// The places of two halves. The first that stopped decides, and the right one's work is judged after the left one's.
+/// Joins the places of two halves. The left half decides if it stopped. The right one's work is checked after the left
+/// one's, so the result is as if they had run in turn.
 pub fn join_places(
     left: Half<Vec<usize>>,
     right: Half<Vec<usize>>,
@@ -64,7 +66,7 @@ pub fn join_places(
     }
 }
 
-/// The values of two halves, likewise.
+/// Joins the values of two halves, like `join_places`.
 pub fn join_values(
     left: Half<SequenceBuilder>,
     right: Half<SequenceBuilder>,
@@ -92,15 +94,15 @@ pub fn join_values(
     }
 }
 
-// The depth of two halves side by side.
+// Returns the depth of two halves that run in parallel.
 fn deeper(left: Cost, right: Cost) -> u64
     ensures { result ≡ max left.depth right.depth }
 {
     left.depth.max(right.depth)
 }
 
-// What the right half found, whose work is judged after the left one's. What is over by itself is over, and want of
-// memory stays what it is.
+// Returns the right half's result if the fuel that is left suffices for its work. A half that was out of fuel or out of
+// memory by itself stays so.
 fn judge<V: Drop>(right: Half<V>, meter: &mut Meter) -> Result<V, Stop>
     ensures judges { Judges right.found right.cost.work meter.old result meter.new }
     ensures spent { meter.new.fuel + meter.new.depth ≤ meter.old.fuel + meter.old.depth }

@@ -1,38 +1,39 @@
-//! Who grants helpers, and who is told of what is entered.
+//! The interfaces for granting helpers and for watching evaluation.
 
-/// An interval that is about to ask, as far as something is known of it.
+/// An interval that may ask for a helper, with estimates of its cost.
 #[derive(Clone, Copy, PartialEq, Eq, Debug)]
 pub struct Asker {
-    /// Which apply-to-each it is of: the same for the same one, and another one for most others.
+    /// A number for the apply-to-each. It is always the same for the same one, and mostly different for others.
     pub mark: u64,
-    /// About how many elements its sequences have, with the elements of these, and how many of them are in its smaller
+    /// The approximate number of elements of the sequences, including nested ones. `least` is the number in the smaller
     /// half.
     pub size: u64,
     pub least: u64,
     /// The fuel that is left.
     pub fuel: u64,
-    /// How many blocks its machine has still to end.
+    /// The number of blocks that the machine has not ended yet.
     pub height: usize,
-    /// How many calls may still be nested one within another.
+    /// How many more calls may be nested.
     pub levels: u64,
-    /// How many turns it has had.
+    /// The number of turns that are done.
     pub taken: usize,
 }
 
-/// Whether an interval is to ask.
+/// Whether an interval should ask for a helper.
 #[derive(Clone, Copy, PartialEq, Eq, Debug)]
 pub enum Advice {
     Ask,
-    /// It is to ask unless its turns can be taken in columns.
+    /// It should ask unless its turns can be evaluated in columns.
     AskUnlessInColumns,
     Pass,
 }
 
-/// Grants helpers. Any answer of `ask` is lawful.
+/// Grants helpers: threads that evaluate one half of an interval. `ask` may grant or refuse as it likes; replies don't
+/// depend on it.
 ///
-/// The further methods are for those that grant by what is known of an interval. Without them each interval asks.
+/// The other methods let an implementation decide by estimates. By default each interval asks.
 pub trait Helpers {
-    /// A granted helper. It goes back by `done`.
+    /// A granted helper. `done` returns it.
     type Permit;
 
     fn ask(&self) -> Option<Self::Permit>;
@@ -45,39 +46,39 @@ pub trait Helpers {
     /// The evaluation has ended, with this fuel left.
     fn end(&self, _fuel: u64) {}
 
-    /// Whether an interval is to ask. It hears this once, before it asks.
+    /// Whether an interval should ask. Called once, before it asks.
     fn advise(&self, _asker: Asker) -> Advice {
         Advice::Ask
     }
 
-    /// How many blocks the machine had still to end when the interval began that is timed, if one is.
+    /// The number of blocks that the machine had not ended when the timed interval began, if one is timed.
     fn timed_at(&self) -> Option<usize> {
         None
     }
 
-    /// The interval that is timed has ended, or so has the evaluation. `fuel` is what is left of it.
+    /// The timed interval has ended, or the evaluation has. `fuel` is the fuel that is left.
     fn end_timed(&self, _fuel: u64) {}
 
-    /// Whether an interval is to ask once more after one of its turns, if it has two or more left. `fuel` is what is
-    /// left then, and `height` how many blocks its machine has still to end, that of the turn left out.
+    /// Whether an interval should ask again after one of its turns, if it has at least two left. `fuel` is the fuel
+    /// that is left. `height` is the number of blocks not ended, without that of the turn.
     fn asks_again(&self, _fuel: u64, _height: usize) -> bool {
         false
     }
 
-    /// The ask of an interval.
+    /// Asks for a helper for this interval.
     fn ask_for(&self, _asker: Asker) -> Option<Self::Permit> {
         self.ask()
     }
 
-    /// A half of an interval has ended, whichever thread it ran on.
+    /// A half of an interval has ended, on any thread.
     fn end_half(&self) {}
 }
 
-/// Grants no helper.
+/// Grants no helpers.
 #[derive(Clone, Copy)]
 pub struct NoHelpers;
 
-/// A permit of `NoHelpers`, which makes none.
+/// The permit of `NoHelpers`, which never makes one.
 pub struct NoPermit {
     seal: (),
 }
@@ -94,19 +95,19 @@ impl Helpers for NoHelpers {
     }
 }
 
-/// What is about to be evaluated.
+/// A line or a half that is about to be evaluated.
 #[derive(Clone, Copy, PartialEq, Eq, Debug)]
 pub enum Place {
     Line(usize),
     Half(usize, usize),
 }
 
-/// Is told of each place that is entered.
+/// Is called before each line and each half that is evaluated. It can watch an evaluation, or delay it.
 pub trait Gate {
     fn enter(&self, place: Place);
 }
 
-/// Lets everything pass.
+/// A gate that does nothing.
 #[derive(Clone, Copy)]
 pub struct Free;
 

@@ -1,14 +1,14 @@
-//! What evaluation in halves stands on: who grants helpers, permits and a pool of them, and what the halves of an
-//! interval of places come to together.
+//! Shared parts of evaluation in halves: who grants helpers, a pool of permits for them, and the joining of two halves
+//! of an interval.
 #![tactic(auto)]
 
 mod common;
 mod halving;
 mod helpers;
-mod learnt;
 mod permits;
 mod pool;
 pub mod sparing;
+mod timings;
 
 pub use common::Common;
 pub use halving::{Half, begin_meter, cost_since, join_places, join_values};

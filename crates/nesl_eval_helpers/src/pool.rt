@@ -1,6 +1,7 @@
-//! Permits under a lock.
+//! A pool of permits for helpers, under a lock.
 //!
-//! Those that are out are the total of a ledger, so under the lock those that are out and those that are free are all.
+//! The permits in use are the total of a ledger. So, while the lock is held, those in use and those that are free add
+//! up to all.
 ghost use Rattle.std.specs.Prelude.{◌≡◌, ◌+◌, ◌-◌, ◌≤◌, ◌<◌, IfSome, IsSome, ◌↔◌, true, false};
 ghost use Rattle.std.specs.Option.{IfNone};
 
@@ -9,14 +10,14 @@ use crate::permits::Permits;
 use std::sync::ledger::{Blank, Book, Ledger, Share};
 use std::sync::{Mutex, Wait};
 
-/// A permit that is out. It goes back by `done`.
+/// A permit in use. `done` returns it.
 pub struct Permit<L: Ledger> {
     mark: Share<L>,
     ghost one_part: { mark.parts ≡ 1 },
     ghost one: { mark.amount ≡ 1 },
 }
 
-// The permits, with the count of those that are out.
+// The permits, and the number of those in use.
 #[derive(Drop)]
 struct Kept<L: Ledger> {
     permits: Permits,
@@ -80,14 +81,14 @@ impl<L: Ledger> Kept<L> {
     }
 }
 
-/// Permits that threads share.
+/// A pool of permits that threads share.
 #[derive(Drop)]
 pub struct Pool<L: Ledger> {
     kept: Mutex<Kept<L>>,
 }
 
 impl<L: Ledger> Pool<L> {
-    /// All permits are free.
+    /// A pool in which all permits are free.
     pub fn new(all: u32, blank: Blank) -> Pool<L>
         requires { (blank.name ≡ L.name) × (blank.parts ≡ L.parts) × (blank.parts ≡ all) }
     {
@@ -96,23 +97,23 @@ impl<L: Ledger> Pool<L> {
         }
     }
 
-    /// These permits as helpers, for a thread that may wait.
+    /// Returns this pool as helpers for a thread that may wait for the lock.
     pub fn by<'a, R: Wait>(&'a self, rt: &'a R) -> Asking<'a, L, R> {
         Asking { rt, pool: self }
     }
 
-    /// Grants no more.
+    /// Closes the pool, so that no more permits are granted.
     pub fn close<R: Wait>(&self, rt: &R) {
         self.kept.lock(rt).close();
     }
 
-    /// How many are free.
+    /// Returns the number of free permits.
     pub fn free<R: Wait>(&self, rt: &R) -> u32 {
         self.kept.lock(rt).permits.free
     }
 }
 
-/// Asks a pool.
+/// Helpers from a pool.
 #[derive(Clone, Copy)]
 pub struct Asking<'a, L: Ledger, R: Wait> {
     rt: &'a R,

@@ -1,51 +1,53 @@
-//! Helpers, asked for only where an interval takes long.
+//! Asks for helpers only where an interval takes long.
 
-use crate::learnt::{Part, WORTH, WORTH_INSIDE, believed, rate_of, time_for};
+use crate::timings::{Part, WORTH, WORTH_INSIDE, rate_of, time_for, time_needed};
 use crate::{Advice, Asker, Common, Helpers};
 use std::sync::atomic::{AtomicU64, Ordering};
 use std::time::Clock;
 
-/// After how many units of work an interval that isn't known to take long is looked at again, and how many microseconds
-/// it has to have taken until then for what it has left to be estimated.
+/// The work after which an interval of unknown length is looked at again. It must have taken `LEAST_SEEN` microseconds
+/// by then; otherwise its time can't be estimated.
 const FIRST_LOOK: u64 = 4000;
 
 const LEAST_SEEN: u64 = 30;
 
-/// The clock isn't read again before this work was done. Until then this number of units takes a microsecond.
+/// The work after which the clock is read again. Until then, the time is estimated from the work.
 const UNREAD: u64 = 1000;
 
 const WORK_OF_MICROSECOND: u64 = 80;
 
-/// Asks others for helpers, for one connection, where an interval is likely to take 300 microseconds or longer and a
-/// processor is free.
+/// Asks others for helpers, on behalf of one connection. It does so where an interval is likely to take 300
+/// microseconds or longer, and a processor is free.
 ///
-/// The first interval of a line, and each that begins when the one before has ended, is an outer one. It has helpers
-/// from its beginning if those of its apply-to-each that have about as many elements took long: the shorter of the last
-/// two times without helpers counts. Otherwise it is looked at again after a turn of it, each time that its work has
-/// doubled. It has helpers for the turns that are left, if these take 300 microseconds at the rate of those before.
+/// The first interval of a line is an outer one, and so is each that begins after the last outer one has ended. It has
+/// helpers from the start if others of its kind took long: those of its apply-to-each with about as many elements. Of
+/// the last two times without helpers the shorter one counts. Otherwise it is looked at again after a turn, each time
+/// that its work has doubled. It then has helpers for the turns that are left, if these take 300 microseconds at the
+/// same rate.
 ///
-/// Of the intervals inside it those have helpers that are of the same apply-to-each, as in a recursion, and take a
-/// millisecond by how many elements they have and how many calls deeper they are. Intervals that can be taken in
-/// columns have none, nor have such of two elements, one of which has less than an eighth of what both have: the better
-/// cut is inside the other one.
+/// An interval inside it has helpers only if it is of the same apply-to-each, as in a recursion. It must also be likely
+/// to take a millisecond, by its number of elements and by how many calls deeper it is. Intervals that can be evaluated
+/// in columns have none. Neither have uneven ones, whose smaller half has less than an eighth of the elements: the
+/// better cut is inside their larger half.
 ///
-/// After an outer interval that was not faster with helpers, those of its kind have none for 4 times as long as it
-/// took, and for twice as many times if it happens again, up to 64: other programs use the processors, or the halves
-/// wait for each other. After one that was faster it is half as many times. Of 32 intervals one has no helpers from its
-/// beginning, so that the time without them stays known.
+/// After helpers didn't make an outer interval faster, those of its kind have none for 4 times as long as it took. If
+/// that happens again the multiple doubles, up to 64. The reason may be that other programs use the processors, or that
+/// the halves wait for each other. The multiple is halved after an interval that was faster. One of 32 intervals has no
+/// helpers from its start, so that the time without them stays known.
 ///
-/// Where the clock can't be read it is 0, and no interval takes long.
+/// If the clock can't be read, the time is 0 and no interval takes long.
 #[derive(Drop)]
 pub struct Sparing<'a, C, H> {
     clock: &'a C,
     helpers: H,
     common: &'a Common,
-    // How many helpers there are; how many of them are out for this connection, and how many ever were.
+    // The number of helpers, how many of them this connection has now, and how many it ever had.
     workers: u64,
     out: AtomicU64,
     granted: AtomicU64,
     outer: Outer,
-    // The microsecond at which the clock was read, and the fuel that was left then; 0 where the line has read none.
+    // The microsecond of the last reading of the clock, and the fuel that was left then. Both are 0 until the line has
+    // read it.
     read_at: AtomicU64,
     read_fuel: AtomicU64,
 }
@@ -58,31 +60,32 @@ struct Outer {
     fuel: AtomicU64,
     height: AtomicU64,
     levels: AtomicU64,
-    // How many levels a call takes, if it is a recursion.
+    // The number of levels that a call takes, if the interval is part of a recursion.
     step: AtomicU64,
-    // The rate that it is expected to have.
+    // The expected rate.
     rate: AtomicU64,
-    // The microsecond at which it began, if it has no helper and hasn't ended; else 0.
+    // The microsecond at which it began, while it has no helper and hasn't ended; else 0.
     since: AtomicU64,
-    // Below how much fuel it asks once more; 0 if it doesn't.
+    // It asks again below this fuel; 0 if it doesn't.
     look: AtomicU64,
 }
 
-/// Turns of an outer interval that have a helper, after how many others, and since which microsecond.
+/// Turns of an outer interval that have a helper. `before` is the number of helpers granted earlier, and `since` the
+/// microsecond at which they began.
 #[derive(Clone, Copy)]
-struct Judged {
+struct Compared {
     part: Part,
     before: u64,
     since: u64,
 }
 
-/// A helper that others granted, and the outer interval that it is for, if it is for one.
+/// A granted helper. `compared` is the outer interval that it is for, if it is for one.
 pub struct Granted<P> {
     permit: P,
-    judged: Option<Judged>,
+    compared: Option<Compared>,
 }
 
-// Whether the smaller half of an interval has an eighth of its elements at least.
+// Whether the smaller half of an interval has at least an eighth of its elements.
 fn is_even(asker: Asker) -> bool {
     asker.least >= asker.size / 8
 }
@@ -135,13 +138,13 @@ impl Outer {
         self.look.store(0, Ordering::Relaxed);
     }
 
-    // It asks once more when this work is done from this fuel on.
+    // Asks again after this much work, counted from this fuel.
     fn look_after(&self, work: u64, fuel: u64) {
         self.look
             .store(fuel.saturating_sub(work), Ordering::Relaxed);
     }
 
-    // The same, when it has done twice as much work as up to this fuel.
+    // Asks again after as much work as was done up to this fuel.
     fn look_later(&self, fuel: u64) {
         let work = self.fuel.load(Ordering::Relaxed).saturating_sub(fuel);
         self.look_after(work, fuel);
@@ -152,7 +155,7 @@ impl Outer {
             && height as u64 == self.height.load(Ordering::Relaxed)
     }
 
-    // The microseconds that this number of its elements takes, most likely, where the others took `micros`.
+    // Estimates the microseconds for `size` elements, where the other elements took `micros`.
     fn time_left(&self, size: u64, micros: u64) -> u64 {
         let taken = self.size.load(Ordering::Relaxed).saturating_sub(size);
         match micros.saturating_mul(size).checked_div(taken) {
@@ -161,13 +164,13 @@ impl Outer {
         }
     }
 
-    // How many microseconds it has taken up to this one, with this fuel left.
+    // Returns the microseconds it has taken until now. `fuel` is the fuel that is left.
     fn micros(&self, fuel: u64, now: u64) -> u64 {
         let work = self.fuel.load(Ordering::Relaxed).saturating_sub(fuel);
-        believed(now.saturating_sub(self.since.load(Ordering::Relaxed)), work)
+        time_needed(now.saturating_sub(self.since.load(Ordering::Relaxed)), work)
     }
 
-    // How many calls deeper an interval inside it is. The first one of a recursion is one call deeper.
+    // Returns how many calls deeper an inner interval is. The first one of a recursion is one call deeper.
     fn calls(&self, asker: Asker) -> u64 {
         let levels = self.levels.load(Ordering::Relaxed);
         let used = levels.saturating_sub(asker.levels);
@@ -179,8 +182,8 @@ impl Outer {
         used / step.max(1)
     }
 
-    // The microseconds that an interval of the same apply-to-each takes inside it, most likely: by its elements, but
-    // with each call half as many at most, since a recursion need not have fewer elements where it takes less.
+    // Estimates the microseconds of an inner interval of the same apply-to-each, from its elements. Each call at least
+    // halves the estimate, since a recursion may take less time with as many elements.
     fn time_inside(&self, asker: Asker) -> u64 {
         if self.mark.load(Ordering::Relaxed) != asker.mark {
             return 0;
@@ -193,7 +196,6 @@ impl Outer {
 }
 
 impl<'a, C: Clock, H: Helpers> Sparing<'a, C, H> {
-    /// No interval has begun yet.
     pub fn new(clock: &'a C, helpers: H, workers: u32, common: &'a Common) -> Sparing<'a, C, H> {
         Sparing {
             clock,
@@ -208,7 +210,7 @@ impl<'a, C: Clock, H: Helpers> Sparing<'a, C, H> {
         }
     }
 
-    // The microsecond that it is.
+    // Returns the current microsecond, or 0 if the clock can't be read.
     fn now(&self) -> u64 {
         match self.clock.monotonic() {
             Ok(time) => u64::try_from(time.as_micros()).unwrap_or(0),
@@ -216,8 +218,8 @@ impl<'a, C: Clock, H: Helpers> Sparing<'a, C, H> {
         }
     }
 
-    // The microsecond that it is when this fuel is left: by the work, where little was done since the clock was
-    // read.
+    // Returns the current microsecond, where this fuel is left. If little work was done since the clock was read, it is
+    // estimated from that work.
     fn now_at(&self, fuel: u64) -> u64 {
         let read = self.read_fuel.load(Ordering::Relaxed);
         if fuel <= read && read - fuel < UNREAD {
@@ -230,9 +232,9 @@ impl<'a, C: Clock, H: Helpers> Sparing<'a, C, H> {
         now
     }
 
-    // Whether an outer interval takes long, most likely. It is timed from now on.
+    // Whether an outer interval is likely to take long. Its timing begins here.
     fn takes_long(&self, asker: Asker) -> bool {
-        let rate = self.common.learnt.rate(asker);
+        let rate = self.common.timings.rate(asker);
         self.outer.begin(asker, rate, self.now_at(asker.fuel));
         let takes_long = time_for(rate, asker.size) >= WORTH;
         if !takes_long {
@@ -241,7 +243,7 @@ impl<'a, C: Clock, H: Helpers> Sparing<'a, C, H> {
         takes_long
     }
 
-    // Whether the outer interval is to ask once more, by what it has left and how long its first turns took.
+    // Whether the outer interval should ask again, by what it has left and how long its first turns took.
     fn advise_again(&self, asker: Asker) -> Advice {
         let micros = self.outer.micros(asker.fuel, self.now_at(asker.fuel));
         let left = self.outer.time_left(asker.size, micros);
@@ -252,12 +254,13 @@ impl<'a, C: Clock, H: Helpers> Sparing<'a, C, H> {
         let rate = rate_of(left, asker.size);
         self.outer.rate.store(rate, Ordering::Relaxed);
         let whole = micros.saturating_add(left);
-        self.common.learnt.note(self.outer.asker(), whole);
+        self.common.timings.note(self.outer.asker(), whole);
         Advice::Ask
     }
 
-    // What is judged when the helpers of an interval come back: it is, unless it is inside of one that has helpers.
-    fn judged(&self, asker: Asker) -> Option<Judged> {
+    // Returns what is compared when the helpers of an interval come back. Inside an interval that has helpers, nothing
+    // is.
+    fn compared(&self, asker: Asker) -> Option<Compared> {
         if self.out.load(Ordering::Relaxed) > 0 {
             return None;
         }
@@ -267,47 +270,49 @@ impl<'a, C: Clock, H: Helpers> Sparing<'a, C, H> {
             size: asker.size,
             expected: time_for(rate, asker.size),
         };
-        Some(Judged {
+        Some(Compared {
             part,
             before: self.granted.load(Ordering::Relaxed),
             since: self.now(),
         })
     }
 
-    // A helper, once a processor is taken for it. An outer interval isn't timed then.
-    fn grant(&self, judged: Option<Judged>) -> Option<Granted<H::Permit>> {
+    // Asks for a helper, after a processor was taken for it. An outer interval with a helper isn't timed any more.
+    fn grant(&self, compared: Option<Compared>) -> Option<Granted<H::Permit>> {
         let permit = self.helpers.ask()?;
-        if judged.is_some() {
+        if compared.is_some() {
             self.outer.stop();
         }
         self.out.fetch_add(1, Ordering::Relaxed);
         self.granted.fetch_add(1, Ordering::Relaxed);
-        Some(Granted { permit, judged })
+        Some(Granted { permit, compared })
     }
 }
 
 impl<C: Clock, H: Helpers> Helpers for Sparing<'_, C, H> {
     type Permit = Granted<H::Permit>;
 
-    /// None, for nothing is known of the interval.
+    /// Returns `None`, since nothing is known of the interval.
     fn ask(&self) -> Option<Granted<H::Permit>> {
         None
     }
 
     fn done(&self, permit: Granted<H::Permit>) {
-        let Granted { permit, judged } = permit;
+        let Granted { permit, compared } = permit;
         self.helpers.done(permit);
         self.common.begin();
         self.out.fetch_sub(1, Ordering::Relaxed);
-        if let Some(judged) = judged {
+        if let Some(compared) = compared {
             let helpers = self
                 .granted
                 .load(Ordering::Relaxed)
-                .saturating_sub(judged.before);
+                .saturating_sub(compared.before);
             let threads = helpers.saturating_add(1);
             let now = self.now();
-            let micros = now.saturating_sub(judged.since);
-            self.common.learnt.judge(judged.part, micros, threads, now);
+            let micros = now.saturating_sub(compared.since);
+            self.common
+                .timings
+                .compare(compared.part, micros, threads, now);
         }
     }
 
@@ -332,7 +337,7 @@ impl<C: Clock, H: Helpers> Helpers for Sparing<'_, C, H> {
     fn end_timed(&self, fuel: u64) {
         if self.outer.is_timed() {
             let micros = self.outer.micros(fuel, self.now_at(fuel));
-            self.common.learnt.note(self.outer.asker(), micros);
+            self.common.timings.note(self.outer.asker(), micros);
             self.outer.stop();
         }
     }
@@ -358,15 +363,15 @@ impl<C: Clock, H: Helpers> Helpers for Sparing<'_, C, H> {
     }
 
     fn ask_for(&self, asker: Asker) -> Option<Granted<H::Permit>> {
-        let judged = self.judged(asker);
-        if judged.is_some_and(|it| !self.common.learnt.allows(it.part.whole, it.since)) {
+        let compared = self.compared(asker);
+        if compared.is_some_and(|it| !self.common.timings.allows(it.part.whole, it.since)) {
             self.outer.rate.store(0, Ordering::Relaxed);
             return None;
         }
         if !self.common.begin_on_free() {
             return None;
         }
-        let granted = self.grant(judged);
+        let granted = self.grant(compared);
         if granted.is_none() {
             self.common.end();
         }

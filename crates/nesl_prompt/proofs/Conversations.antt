@@ -1,4 +1,4 @@
--- What is said at a prompt, line by line.
+-- The lines that a session is given at a prompt.
 use Rattle.std.proofs.Common.{◌≡◌, ◌≢◌, ℕ, ◌<◌, ◌==◌, length, arith, List, [], ◌∷◌, ◌++◌, Bool, true, false, not, ◌&&◌, cond, Option, None, refl, append-nil, sym, ap, ◌∙◌, subst}
 use Rattle.std.specs.Prelude.{codes}
 use Rattle.std.proofs.lemmas.Bool.{eqb-true}
@@ -8,37 +8,37 @@ use Rattle.nesl_session_meaning.specs.Solo.{Responds}
 use Rattle.nesl_line.specs.declared.exchange.End.{End}
 use Rattle.nesl_line.specs.Exchange.{Hearing, IsExchange}
 use Rattle.nesl_prompt.specs.declared.style.Style.{Style}
-use Rattle.nesl_prompt.specs.Points.{Point, Said, Says, Spoke, Obeyed, joined, is_plain}
+use Rattle.nesl_prompt.specs.Points.{Point, LineAndReply, Replied, WasGiven, Obeyed, joined, is_plain}
 use Rattle.nesl_reply.specs.declared.fault.Fault.{Fault}
-use Rattle.nesl_prompt.specs.Conversation.{IsSign, missing, begins, goes_on, IsBelow, IsTold, Takes, gathers, says, wants, Turn, own, waits, takes, Conversed, Rests}
+use Rattle.nesl_prompt.specs.Conversation.{IsSign, missing, begins, goes_on, IsBelow, IsReplyText, TakesLine, gathers, answers, runs_out, Turn, own, waits, takes, Conversed, Rests}
 
-pub says_then : (a b c : Log) (xs ys : List Said) → Says a xs b → Says b ys c → Says a (xs ++ ys) c
-says_then a b c [] ys p q = let P : Log → Type 0 = λ x. Says x ys c in subst P p q
-says_then a b c (x ∷ xs) ys p q = (p.0, p.1, says_then p.0 b c xs ys p.2 q)
+pub replied_then : (a b c : Log) (xs ys : List LineAndReply) → Replied a xs b → Replied b ys c → Replied a (xs ++ ys) c
+replied_then a b c [] ys p q = let P : Log → Type 0 = λ x. Replied x ys c in subst P p q
+replied_then a b c (x ∷ xs) ys p q = (p.0, p.1, replied_then p.0 b c xs ys p.2 q)
 
--- nothing was said
-pub spoke_none : (a b : Log) → b ≡ a → Spoke a b
-spoke_none a b e = record { lines = []; says = e }
+-- the session was given no line
+pub given_none : (a b : Log) → b ≡ a → WasGiven a b
+given_none a b e = record { lines = []; replied = e }
 
--- one was said after the other
-pub spoke_then : (a b c : Log) → Spoke a b → Spoke b c → Spoke a c
-spoke_then a b c p q = record { lines = p.lines ++ q.lines; says = says_then a b c p.lines q.lines p.says q.says }
+-- the session was given some lines, and then others
+pub given_then : (a b c : Log) → WasGiven a b → WasGiven b c → WasGiven a c
+given_then a b c p q = record { lines = p.lines ++ q.lines; replied = replied_then a b c p.lines q.lines p.replied q.replied }
 
--- one line was said
-pub spoke_one : (a b : Log) (line : List ℕ) (reply : Reply) → Responds a line reply b → Spoke a b
-spoke_one a b line reply r = record { lines = record { line = line; reply = reply } ∷ []; says = (b, r, refl) }
+-- the session was given one line
+pub given_one : (a b : Log) (line : List ℕ) (reply : Reply) → Responds a line reply b → WasGiven a b
+given_one a b line reply r = record { lines = record { line = line; reply = reply } ∷ []; replied = (b, r, refl) }
 
 -- a line of a form was taken
-pub takes_spoke : (plain : Bool) (point point' : Point) (line text : List ℕ) → Takes plain point line text point' → Spoke point.log point'.log
-takes_spoke plain point point' line text (gathers g f l p) = spoke_none point.log point'.log l
-takes_spoke plain point point' line text (says reply r f t) = spoke_one point.log point'.log (joined point.form line) reply r
-takes_spoke plain point point' line text (wants f l t) = spoke_none point.log point'.log l
+pub takes_given : (plain : Bool) (point point' : Point) (line text : List ℕ) → TakesLine plain point line text point' → WasGiven point.log point'.log
+takes_given plain point point' line text (gathers g f l p) = given_none point.log point'.log l
+takes_given plain point point' line text (answers reply r f t) = given_one point.log point'.log (joined point.form line) reply r
+takes_given plain point point' line text (runs_out f l t) = given_none point.log point'.log l
 
 pub obeyed_none : (any : Bool) (a b : Log) → b ≡ a → Obeyed any a b
-obeyed_none any a b e = record { lines = []; none = λ f. refl; says = e }
+obeyed_none any a b e = record { lines = []; none = λ f. refl; replied = e }
 
-pub obeyed_some : (any : Bool) (a b : Log) → any ≡ true → Spoke a b → Obeyed any a b
-obeyed_some true a b e s = record { lines = s.lines; none = λ f. absurd (cc); says = s.says }
+pub obeyed_some : (any : Bool) (a b : Log) → any ≡ true → WasGiven a b → Obeyed any a b
+obeyed_some true a b e s = record { lines = s.lines; none = λ f. absurd (cc); replied = s.replied }
 obeyed_some false a b e s = absurd (cc)
 
 -- one line more
@@ -49,8 +49,8 @@ conversed_more plain point mid last [] (s ∷ ss) line text c t = absurd c
 conversed_more plain point mid last (l ∷ ls) [] line text c t = absurd c
 conversed_more plain point mid last (l ∷ ls) (s ∷ ss) line text c t = (c.0, c.1, conversed_more plain c.0 mid last ls ss line text c.2 t)
 
--- what is told where all may be told is told where less may be
-pub told_plainly : (a b : Bool) (reply : Reply) (text : List ℕ) → (a ≡ true → b ≡ true) → IsTold b reply text → IsTold a reply text
+-- a text for a plain style is also one for any other
+pub told_plainly : (a b : Bool) (reply : Reply) (text : List ℕ) → (a ≡ true → b ≡ true) → IsReplyText b reply text → IsReplyText a reply text
 told_plainly a b reply text h t = record {
   more = t.more;
   spelled = t.spelled;
@@ -87,7 +87,7 @@ below_of style fault hint more sign w f u p e = record {
   alone = λ t. let parts = plain_parts style t in u parts.0 ∙ w parts.1;
 }
 
--- the same behind nothing
+-- the same after nothing
 pub below_none : (style : Style) (fault : Option Fault) (text more sign : List ℕ) → text ≡ [] → (style.prompts ≡ false → more ≡ text) → IsSign sign → more ≡ text ++ sign → IsBelow (is_plain style) fault more
 below_none style fault text more sign n u p e = below_of style fault text more sign (λ _. n) (λ _. n) u p e
 
@@ -95,14 +95,14 @@ is_sign : (is_open : Bool) → IsSign (cond is_open (codes ". ") (codes "> "))
 is_sign true = goes_on refl
 is_sign false = begins refl
 
--- a text with a prompt behind it, and one without
+-- a text with a prompt after it, and one without
 pub signed : (text more sign : List ℕ) (is_open : Bool) → sign ≡ cond is_open (codes ". ") (codes "> ") → more ≡ text ++ sign → (s : List ℕ) × IsSign s × (more ≡ text ++ s)
 signed text more sign is_open e m = let P : List ℕ → Type 0 = IsSign in (sign, subst P (sym e) (is_sign is_open), m)
 
 pub unsigned : (text more : List ℕ) → more ≡ text → (s : List ℕ) × IsSign s × (more ≡ text ++ s)
 unsigned text more e = ([], missing refl, e ∙ sym (append-nil text))
 
--- the first line of a form, and one behind others
+-- the first line of a form, and one after others
 pub joined_first : (form line : List ℕ) → form ≡ [] → joined form line ≡ line
 joined_first [] line e = refl
 joined_first (b ∷ bs) line e = absurd (cc)
@@ -111,7 +111,7 @@ pub joined_more : (form line : List ℕ) → 0 < length form → joined form lin
 joined_more [] line h = absurd (omega (arith, h))
 joined_more (b ∷ bs) line h = refl
 
--- what was said is the form
+-- the line that the session was given is the form
 pub responds_to : (old new : Log) (said form : List ℕ) (reply : Reply) → said ≡ form → Responds old said reply new → Responds old form reply new
 responds_to old new said form reply e r = let P : List ℕ → Type 0 = λ x. Responds old x reply new in subst P e r
 

@@ -5,38 +5,38 @@ use Rattle.nesl_session_meaning.specs.State.{Log}
 use Rattle.nesl_session_meaning.specs.Response.{Reply, no_memory}
 use Rattle.nesl_session_meaning.specs.Solo.{Responds}
 use Rattle.nesl_line.specs.Exchange.{text_of}
-use Rattle.nesl_prompt.specs.Points.{Point, Said, Says, joined}
+use Rattle.nesl_prompt.specs.Points.{Point, LineAndReply, Replied, joined}
 use Rattle.nesl_prompt.specs.Words.{is_own}
-use Rattle.nesl_prompt.specs.Conversation.{IsTold, Takes, gathers, says, wants, Turn, own, waits, takes, Conversed}
+use Rattle.nesl_prompt.specs.Conversation.{IsReplyText, TakesLine, gathers, answers, runs_out, Turn, own, waits, takes, Conversed}
 use Rattle.nesl_prompt.specs.Laws.{IsTheSessions, HasNoOwn, PromptsAreSessions, replies_of}
-use Rattle.nesl_prompt.proofs.Conversations.{says_then}
+use Rattle.nesl_prompt.proofs.Conversations.{replied_then}
 
-replies-append : (xs ys : List Said) → replies_of (xs ++ ys) ≡ replies_of xs ++ replies_of ys
+replies-append : (xs ys : List LineAndReply) → replies_of (xs ++ ys) ≡ replies_of xs ++ replies_of ys
 replies-append [] ys = refl
 replies-append (x ∷ xs) ys = ap (λ r. x.reply.bytes ++ r) (replies-append xs ys) ∙ sym (append_assoc x.reply.bytes (replies_of xs) (replies_of ys))
 
-nothing_said : (log log' : Log) (text : List ℕ) → log' ≡ log → text ≡ [] → IsTheSessions log text log'
-nothing_said log log' text e t = record { said = []; says = e; replies = t }
+nothing_given : (log log' : Log) (text : List ℕ) → log' ≡ log → text ≡ [] → IsTheSessions log text log'
+nothing_given log log' text e t = record { said = []; replied = e; replies = t }
 
-one_said : (log log' : Log) (line text : List ℕ) (reply : Reply) → Responds log line reply log' → IsTold true reply text → IsTheSessions log text log'
-one_said log log' line text reply r t = record {
+one_given : (log log' : Log) (line text : List ℕ) (reply : Reply) → Responds log line reply log' → IsReplyText true reply text → IsTheSessions log text log'
+one_given log log' line text reply r t = record {
   said = record { line = line; reply = reply } ∷ [];
-  says = (log', r, refl);
+  replied = (log', r, refl);
   replies = t.spelled ∙ ap (λ m. reply.bytes ++ m) (t.below.alone refl);
 }
 
-takes_session : (point point' : Point) (line text : List ℕ) → Takes true point line text point' → IsTheSessions point.log text point'.log
-takes_session point point' line text (gathers g f l p) = nothing_said point.log point'.log text l (p refl)
-takes_session point point' line text (says reply r f t) = one_said point.log point'.log (joined point.form line) text reply r t
-takes_session point point' line text (wants f l t) = one_said point.log point'.log (joined point.form line) text no_memory (refl, l) t
+takes_session : (point point' : Point) (line text : List ℕ) → TakesLine true point line text point' → IsTheSessions point.log text point'.log
+takes_session point point' line text (gathers g f l p) = nothing_given point.log point'.log text l (p refl)
+takes_session point point' line text (answers reply r f t) = one_given point.log point'.log (joined point.form line) text reply r t
+takes_session point point' line text (runs_out f l t) = one_given point.log point'.log (joined point.form line) text no_memory (refl, l) t
 
 turn_session : (point point' : Point) (line text : List ℕ) → is_own line ≡ false → Turn true point line text point' → IsTheSessions point.log text point'.log
 turn_session point point' line text no' (own f is o f') = absurd (cc)
-turn_session point point' line text no' (waits f b f' l p) = nothing_said point.log point'.log text l (p refl)
+turn_session point point' line text no' (waits f b f' l p) = nothing_given point.log point'.log text l (p refl)
 turn_session point point' line text no' (takes o t) = takes_session point point' line text t
 
 pub prompts_are_sessions : PromptsAreSessions
-prompts_are_sessions point point' [] [] c o = record { said = []; says = ap (λ p. p.log) c; replies = refl }
+prompts_are_sessions point point' [] [] c o = record { said = []; replied = ap (λ p. p.log) c; replies = refl }
 prompts_are_sessions point point' [] (t ∷ ts) c o = absurd c
 prompts_are_sessions point point' (l ∷ ls) [] c o = absurd c
 prompts_are_sessions point point' (l ∷ ls) (t ∷ ts) c o =
@@ -44,6 +44,6 @@ prompts_are_sessions point point' (l ∷ ls) (t ∷ ts) c o =
     let more = prompts_are_sessions c.0 point' ls ts c.2 o.1 in
     record {
       said = first.said ++ more.said;
-      says = says_then point.log c.0.log point'.log first.said more.said first.says more.says;
+      replied = replied_then point.log c.0.log point'.log first.said more.said first.replied more.replied;
       replies = ap (λ x. x ++ text_of ts) first.replies ∙ ap (λ x. replies_of first.said ++ x) more.replies ∙ sym (replies-append first.said more.said);
     }

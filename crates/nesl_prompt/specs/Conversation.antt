@@ -1,4 +1,4 @@
--- What is told at a prompt.
+-- What is written at a prompt.
 use Rattle.std.specs.Prelude.{◌≡◌, ◌≢◌, ℕ, ◌≤◌, length, List, [], ◌∷◌, ◌++◌, Option, None, Bool, true, false, codes}
 use Rattle.std.specs.Prelude.{if◌then◌else◌}
 use Rattle.std.specs.Io.KnownBytes.{Appends}
@@ -12,15 +12,15 @@ use Rattle.nesl_line.specs.declared.exchange.End.TheVariants.{Input, WriteFault}
 use Rattle.nesl_line.specs.Exchange.{IsExchange}
 use Rattle.nesl_line.specs.Steps.{Sent}
 use Rattle.nesl_prompt.specs.Points.{Point, Obeyed, joined}
-use Rattle.nesl_prompt.specs.Words.{IsBlank, is_own, is_part, says_lines}
+use Rattle.nesl_prompt.specs.Words.{IsBlank, is_own, is_part, gives_lines}
 
--- a prompt, where no form goes on and where one does; or none
+-- a prompt before a form, a prompt within one, or neither
 pub data IsSign (sign : List ℕ) : Type 0 where
   missing : sign ≡ [] → IsSign sign
   begins : sign ≡ codes "> " → IsSign sign
   goes_on : sign ≡ codes ". " → IsSign sign
 
--- what may stand below a reply with this fault: a hint where there is a fault, and a prompt; where it is plain, neither
+-- what may follow a reply: a hint if it is a fault, and a prompt; neither where the style is plain
 pub record IsBelow (plain : Bool) (fault : Option Fault) (more : List ℕ) : Type 0 where
   pub hint : List ℕ
   pub sign : List ℕ
@@ -29,46 +29,48 @@ pub record IsBelow (plain : Bool) (fault : Option Fault) (more : List ℕ) : Typ
   pub prompted : IsSign sign
   pub alone : plain ≡ true → more ≡ []
 
--- This is told where this is the reply: the reply, and what may stand below it.
-pub record IsTold (plain : Bool) (reply : Reply) (text : List ℕ) : Type 0 where
+-- The text is the reply, with what may follow it.
+pub record IsReplyText (plain : Bool) (reply : Reply) (text : List ℕ) : Type 0 where
   pub more : List ℕ
   pub spelled : text ≡ reply.bytes ++ more
   pub below : IsBelow plain reply.fault more
 
--- A form may go on behind this line: the line isn't blank where it isn't the first, it is no part of a form by its last
--- byte, and the form isn't longer than one may be.
+-- A form may go on after this line. The line isn't blank unless it is the first, and doesn't end in `\`. The form with
+-- it isn't longer than a session accepts.
 pub record GoesOn (form line : List ℕ) : Type 0 where
   pub unblank : form ≢ [] → ¬ IsBlank line
   pub no_part : is_part line ≡ false
   pub short : length (joined form line) ≤ longest
 
--- What becomes of a line of a form: the form goes on, and nothing is told but a prompt; or it ends, is said to the
--- session, and its reply is told; or there is no memory for the line, which is as if it hadn't come.
-pub data Takes (plain : Bool) (point : Point) (line text : List ℕ) (point' : Point) : Type 0 where
+-- What becomes of a line of a form. Either the form goes on, and at most a prompt is written; or it ends, and the
+-- session's reply is written. Where memory runs out, `fault memory` is written, and the form is as it was before the
+-- line.
+pub data TakesLine (plain : Bool) (point : Point) (line text : List ℕ) (point' : Point) : Type 0 where
   gathers :
       GoesOn point.form line → point'.form ≡ joined point.form line → point'.log ≡ point.log
-      → (plain ≡ true → text ≡ []) → Takes plain point line text point'
-  says :
+      → (plain ≡ true → text ≡ []) → TakesLine plain point line text point'
+  answers :
       (reply : Reply) → Responds point.log (joined point.form line) reply point'.log → point'.form ≡ []
-      → IsTold plain reply text → Takes plain point line text point'
-  wants :
-      point'.form ≡ point.form → point'.log ≡ point.log → IsTold plain no_memory text
-      → Takes plain point line text point'
+      → IsReplyText plain reply text → TakesLine plain point line text point'
+  runs_out :
+      point'.form ≡ point.form → point'.log ≡ point.log → IsReplyText plain no_memory text
+      → TakesLine plain point line text point'
 
--- One line at the prompt. While no form goes on it may be one of the prompt's own words, of which only `:load` and
--- `:type` say lines to the session, or blank, and then nothing is told but a prompt. Any other line is one of a form.
+-- One line at the prompt. While no form is unfinished, it may be one of the prompt's own words; only `:load` and
+-- `:type` pass lines to the session. It may also be blank, and then at most a prompt is written. Any other line is part
+-- of a form.
 pub data Turn (plain : Bool) (point : Point) (line text : List ℕ) (point' : Point) : Type 0 where
   own :
-      point.form ≡ [] → is_own line ≡ true → Obeyed (says_lines line) point.log point'.log → point'.form ≡ []
+      point.form ≡ [] → is_own line ≡ true → Obeyed (gives_lines line) point.log point'.log → point'.form ≡ []
       → Turn plain point line text point'
   waits :
       point.form ≡ [] → IsBlank line → point'.form ≡ [] → point'.log ≡ point.log → (plain ≡ true → text ≡ [])
       → Turn plain point line text point'
   takes :
-      (point.form ≡ [] → is_own line ≡ false) → Takes plain point line text point'
+      (point.form ≡ [] → is_own line ≡ false) → TakesLine plain point line text point'
       → Turn plain point line text point'
 
--- these lines came one after another, and these texts were told of them
+-- these lines were read one after another, and these texts were written for them
 abbrev pub Conversed : Bool → Point → (lines texts : List (List ℕ)) → Point → Type 0
 Conversed plain point [] [] point' = point' ≡ point
 Conversed plain point (line ∷ lines) (text ∷ texts) point' =
@@ -76,8 +78,8 @@ Conversed plain point (line ∷ lines) (text ∷ texts) point' =
 Conversed plain point [] (text ∷ texts) point' = ⊥
 Conversed plain point (line ∷ lines) [] point' = ⊥
 
--- After the last line: at the end of input a form that still goes on is said, and its reply is told. `well` says
--- whether what was to be written could be.
+-- After the last line: at the end of input, the session answers an unfinished form, and its reply is written. `well` is
+-- whether everything could be written.
 pub data Rests
     (plain : Bool) (end : End) (point : Point) (log : Log) (held held' : Option (List ℕ)) (well : Bool) : Type 0 where
   silence :
@@ -88,11 +90,12 @@ pub data Rests
       → Rests plain end point log held held' well
   last_form :
       (mid : Option (List ℕ)) (tail text : List ℕ) (reply : Reply) → Sent held mid tail true
-      → (plain ≡ true → tail ≡ []) → Responds point.log point.form reply log → IsTold plain reply text
+      → (plain ≡ true → tail ≡ []) → Responds point.log point.form reply log → IsReplyText plain reply text
       → Sent mid held' text well → Rests plain end point log held held' well
 
--- A prompt at which `count` lines were heard, and which ended so: a reader had `left` and then `left'`, a writer held
--- `held` and then `held'`, and the session was `log` and then `log'`. Before the first line a greeting is written.
+-- A conversation of `count` lines that ended in this way. The reader had `left` before and has `left'` after. The
+-- writer held `held` and then `held'`, and the session was `log` and then `log'`. A greeting comes before the first
+-- line.
 pub data IsPrompt
     (plain : Bool) (end : End) (count : ℕ) (left left' held held' : Option (List ℕ)) (log log' : Log) : Type 0 where
   unheard :

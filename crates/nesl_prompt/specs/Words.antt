@@ -1,4 +1,4 @@
--- Which lines are the prompt's own.
+-- The lines that are the prompt's own.
 use Rattle.std.specs.Prelude.{ℕ, List, Bool, true, false, not, nat_eq, ◌&&◌, ◌||◌, ◌==◌, codes}
 use Rattle.std.specs.List.{AllByRecursion, ends_with, list_any, starts_with}
 use Rattle.std.specs.Prelude.{◌≡◌}
@@ -8,33 +8,33 @@ use Rattle.nesl_prompt.specs.declared.word.Word.TheVariants.{Help, TypeOf, Kept,
 abbrev pub begins : (line head : List ℕ) → Bool
 begins line head = starts_with nat_eq line head
 
--- a line that a session takes for a part of a form, since it ends so
+-- a line that ends in `\`, which a session takes for a part of a form
 abbrev pub is_part : List ℕ → Bool
 is_part line = ends_with nat_eq line (codes "\\")
 
--- the type of something is asked for, without the `;` of a session's own command, and in one line
+-- a line that asks for a type, and isn't the session's own command: it has no `;`, and doesn't end in `\`
 abbrev pub asks_type : List ℕ → Bool
 asks_type line =
     begins line (codes ":type") && not (list_any (λ b. b == 59) line) && not (is_part line)
 
--- a word that has a session say lines: `:load`, or `:type` without a `;`
-abbrev pub says_lines : List ℕ → Bool
-says_lines line = begins line (codes ":load") || asks_type line
+-- a line with which the session is given lines: `:load`, or `:type` without a `;`
+abbrev pub gives_lines : List ℕ → Bool
+gives_lines line = begins line (codes ":load") || asks_type line
 
--- a line that is the prompt's own while no form goes on
+-- a line that is the prompt's own while no form is unfinished
 abbrev pub is_own : List ℕ → Bool
 is_own line =
     begins line (codes ":help") || begins line (codes ":list") || begins line (codes ":save")
-    || begins line (codes ":quit") || says_lines line
+    || begins line (codes ":quit") || gives_lines line
 
--- whether a word has a session say lines
-abbrev pub word_says : Word → Bool
-word_says (Help name) = false
-word_says (TypeOf name) = true
-word_says Kept = false
-word_says (Load file) = true
-word_says (Save file) = false
-word_says Quit = false
+-- whether the session is given lines for a word
+abbrev pub word_gives_lines : Word → Bool
+word_gives_lines (Help name) = false
+word_gives_lines (TypeOf name) = true
+word_gives_lines Kept = false
+word_gives_lines (Load file) = true
+word_gives_lines (Save file) = false
+word_gives_lines Quit = false
 
 -- a space, a tab or a CR
 abbrev pub is_blank_byte : ℕ → Bool

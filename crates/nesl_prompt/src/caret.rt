@@ -5,22 +5,23 @@ use nesl_hints::Hint;
 use nesl_lex::token::Span;
 use std::alloc::AllocError;
 
-/// The most bytes of a form that are shown, so that a line has 80 columns at most.
+/// The most bytes of a form that are shown, so that a line has at most 80 columns.
 const MOST_SHOWN: usize = 74;
 
-/// How many bytes are shown before the place, where the form is longer.
+/// The number of bytes shown before the place of the hint, where the form is too long to be shown whole.
 const SHOWN_BEFORE: usize = 40;
 
-/// What stands before each line.
+/// The indent of each line.
 const INDENT: &[u8] = b"  ";
 
-/// What stands before the first line of a hint.
+/// The beginning of the first line of a hint.
 const HINT: &[u8] = b"  hint: ";
 
-/// What stands before each other line of a hint.
+/// The indent of each further line of a hint.
 const BELOW_HINT: &[u8] = b"        ";
 
-/// Writes the part of the form that has the place of the hint, carets below that place, and the hint.
+/// Writes three parts: the form, cut around the hint's place where it is long, carets below that place, and the hint's
+/// sentence.
 pub fn put_hint(out: &mut Vec<u8>, form: &[u8], hint: &Hint) -> Result<(), AllocError> {
     let start = first_shown(form.len(), hint.place.start);
     let end = form.len().min(start.saturating_add(MOST_SHOWN));
@@ -33,7 +34,7 @@ pub fn put_hint(out: &mut Vec<u8>, form: &[u8], hint: &Hint) -> Result<(), Alloc
     put_sentence(out, hint.sentence.as_slice())
 }
 
-// The first byte of a form of so many bytes that is shown, so that a place is among them.
+// Returns the first byte of a form of `len` bytes that is shown, so that the byte at `place` is shown too.
 fn first_shown(len: usize, place: usize) -> usize {
     if len <= MOST_SHOWN {
         return 0;
@@ -43,7 +44,7 @@ fn first_shown(len: usize, place: usize) -> usize {
         .min(len.saturating_sub(MOST_SHOWN))
 }
 
-// Writes carets below the place, and dashes below the second one.
+// Writes carets below the hint's place, and dashes below its second place.
 fn put_marks(out: &mut Vec<u8>, start: usize, end: usize, hint: &Hint) -> Result<(), AllocError> {
     out.extend_from_slice(INDENT)?;
     let last = match hint.second {
@@ -57,7 +58,6 @@ fn put_marks(out: &mut Vec<u8>, start: usize, end: usize, hint: &Hint) -> Result
     Ok(())
 }
 
-// The mark below a byte.
 fn mark_at(hint: &Hint, at: usize) -> u8 {
     if covers(hint.place, at) {
         return b'^';
@@ -68,7 +68,7 @@ fn mark_at(hint: &Hint, at: usize) -> u8 {
     }
 }
 
-// Whether a byte has a mark for this place, which has one at least.
+// Whether the byte at `at` is marked for this span. An empty span marks one byte.
 fn covers(span: Span, at: usize) -> bool {
     span.start <= at && at < end_of(span)
 }
@@ -77,7 +77,6 @@ fn end_of(span: Span) -> usize {
     span.end.max(span.start.saturating_add(1))
 }
 
-// Writes the sentence of a hint.
 fn put_sentence(out: &mut Vec<u8>, sentence: &[u8]) -> Result<(), AllocError> {
     out.extend_from_slice(HINT)?;
     put_wrapped(out, sentence, HINT.len(), BELOW_HINT)

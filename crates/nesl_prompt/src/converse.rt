@@ -1,4 +1,4 @@
-//! A prompt, from its greeting to its end.
+//! A conversation at a prompt, from its greeting to its end.
 ghost use Rattle.std.specs.Prelude.{◌≡◌, ◌≢◌, [], false, true};
 ghost use Rattle.nesl_line.specs.declared.exchange.End.{End};
 ghost use Rattle.nesl_prompt.specs.Conversation.{IsPrompt, Rests};
@@ -15,8 +15,8 @@ use nesl_line::tell::{say, tell};
 use nesl_session::session::Session;
 use std::alloc::Global;
 
-/// Answers the lines of a reader by a session: each form as the session does, and each of the prompt's own words by
-/// what it asks for, in this style, and with these files. It ends at the end of input, or at `:quit`.
+/// Answers the lines that the reader has. The session answers each form, and the prompt itself obeys its own words,
+/// such as `:help`. The conversation ends at the end of input, or at `:quit`.
 pub fn converse<S: Source, W: Sink, F: Shelf>(
     alloc: Global,
     reader: &mut S,
@@ -45,14 +45,14 @@ pub fn converse<S: Source, W: Sink, F: Shelf>(
     }
 }
 
-// What is told before the first line.
+// Returns what is written before the first line.
 fn greeting(style: Style) -> &'static [u8]
     ensures { is_plain style ≡ true → result.now ≡ [] }
 {
     if style.prompts { GREETING } else { b"" }
 }
 
-// What is told where nothing more comes.
+// Returns what is written after the last line.
 fn parting(style: Style, is_over: bool) -> &'static [u8]
     ensures { is_plain style ≡ true → result.now ≡ [] }
 {
@@ -63,7 +63,8 @@ fn parting(style: Style, is_over: bool) -> &'static [u8]
     }
 }
 
-// What is told after the last line: at the end of input the reply to a form that still goes on.
+// Ends a conversation. At the end of input the session answers a form that still goes on. Returns whether all could be
+// written.
 fn rest<W: Sink, F: Shelf>(
     alloc: Global,
     writer: &mut W,
@@ -78,18 +79,17 @@ fn rest<W: Sink, F: Shelf>(
     if !say(writer, parting(style, desk.is_over())) {
         return false;
     }
-    if !is_input(end) {
+    if !is_end_of_input(end) {
         return true;
     }
     if !desk.has_form() {
         return true;
     }
-    let told = desk.say_form(alloc, session, style.without_prompts());
-    tell(writer, b"", &told)
+    let output = desk.answer_form(alloc, session, style.without_prompts());
+    tell(writer, b"", &output)
 }
 
-// Whether the input has ended.
-fn is_input(end: End) -> bool
+fn is_end_of_input(end: End) -> bool
     ensures { result ≡ false → end ≢ End.Input }
 {
     match end {

@@ -1,13 +1,13 @@
-//! Who hears the lines of a prompt.
+//! The state of a prompt, and its answers to lines.
 ghost use Rattle.std.specs.Prelude.{◌≡◌, ℕ, ◌<◌, ◌≤◌, ◌++◌, List, Option, [], None, false, true, ⊤, codes, length};
 ghost use Rattle.std.specs.Prelude.{IfSome, OnOk, OnErr, if◌then◌else◌};
 ghost use Rattle.nesl_reply.specs.declared.fault.Fault.{Fault};
 ghost use Rattle.nesl_session_meaning.specs.Solo.{Responds};
 ghost use Rattle.nesl_session_meaning.specs.Response.{Reply};
 ghost use Rattle.nesl_line.specs.Told.{text_told};
-ghost use Rattle.nesl_prompt.specs.Conversation.{Conversed, IsBelow, IsSign, IsTold, Takes, Turn};
-ghost use Rattle.nesl_prompt.specs.Points.{Obeyed, Spoke, is_plain, joined};
-ghost use Rattle.nesl_prompt.specs.Words.{IsBlank, is_part, word_says};
+ghost use Rattle.nesl_prompt.specs.Conversation.{Conversed, IsBelow, IsSign, IsReplyText, TakesLine, Turn};
+ghost use Rattle.nesl_prompt.specs.Points.{Obeyed, WasGiven, is_plain, joined};
+ghost use Rattle.nesl_prompt.specs.Words.{IsBlank, is_part, word_gives_lines};
 
 use crate::caret::put_hint;
 use crate::functions::put_types;
@@ -26,22 +26,22 @@ use nesl_session::session::Session;
 use std::alloc::{AllocError, Global};
 use std::mem;
 
-/// What a prompt has besides the session.
+/// The state of a prompt besides its session.
 #[derive(Drop)]
 pub struct Desk<'x, F> {
     shelf: &'x F,
     style: Style,
-    /// The lines of a form that goes on, joined.
+    /// The lines so far of an unfinished form, joined by blanks.
     form: Vec<u8>,
     open: Open,
     kept: Kept,
     is_over: bool,
-    /// Whether it was told that a form goes on.
-    is_told: bool,
+    /// Whether the note on forms that go on was written.
+    is_noted: bool,
 }
 
 impl<'x, F: Shelf> Desk<'x, F> {
-    /// Nothing was heard.
+    /// A prompt that has not read a line.
     pub fn new(alloc: Global, shelf: &'x F, style: Style) -> Desk<'x, F>
         ensures form { result.form.items ≡ [] }
         ensures style { result.style ≡ style }
@@ -53,28 +53,27 @@ impl<'x, F: Shelf> Desk<'x, F> {
             open: Open::new(alloc),
             kept: Kept::new(alloc),
             is_over: false,
-            is_told: false,
+            is_noted: false,
         }
     }
 
-    /// How it looks.
     pub fn style(&self) -> Style
         ensures { result ≡ self.now.style }
     {
         self.style
     }
 
-    /// Whether a form goes on.
+    /// Whether a form is unfinished.
     pub fn has_form(&self) -> bool
         ensures { result ≡ false → self.now.form.items ≡ [] }
     {
         !self.form.is_empty()
     }
 
-    /// Says the form that goes on.
-    pub fn say_form(&mut self, alloc: Global, session: &mut Session, style: Style) -> Told
+    /// Passes the unfinished form to the session, and returns the reply with the text below it.
+    pub fn answer_form(&mut self, alloc: Global, session: &mut Session, style: Style) -> Told
         ensures said { (reply : Reply) × Responds session.old self.old.form.items reply session.new
-            × ((line : List ℕ) → IsTold (is_plain style) reply (text_told line result)) }
+            × ((line : List ℕ) → IsReplyText (is_plain style) reply (text_told line result)) }
         ensures form { self.new.form.items ≡ [] }
         ensures style { self.new.style ≡ self.old.style }
     {
@@ -86,8 +85,8 @@ impl<'x, F: Shelf> Desk<'x, F> {
         Told::With(answer, more)
     }
 
-    // What is written below an answer to a form: a hint and a prompt, as far as they are wanted. The form is kept where
-    // it bound a name; it is missing where there was no memory for it.
+    // Returns the text below the reply to a form: a hint and a prompt, as far as the style has them. It keeps the form
+    // if the form bound a name. `form` is an error where there was no memory for it.
     fn below(
         &mut self,
         alloc: Global,
@@ -107,9 +106,9 @@ impl<'x, F: Shelf> Desk<'x, F> {
         with_prompt(style, !session.pending().is_empty(), hint)
     }
 
-    // Takes a line of a form.
+    // Adds a line to the form. If the form ends with it, the session answers the form.
     fn take(&mut self, alloc: Global, session: &mut Session, line: &[u8], style: Style) -> Told
-        ensures takes { (any : List ℕ) → Takes (is_plain style)
+        ensures takes { (any : List ℕ) → TakesLine (is_plain style)
             (record { form = self.old.form.items; log = session.old }) line.now (text_told any result)
             (record { form = self.new.form.items; log = session.new }) }
         ensures style { self.new.style ≡ self.old.style }
@@ -122,14 +121,14 @@ impl<'x, F: Shelf> Desk<'x, F> {
             }
             Ok(()) => {
                 if self.is_whole(alloc, line, is_begun) {
-                    return self.say_form(alloc, session, style);
+                    return self.answer_form(alloc, session, style);
                 }
                 Told::Text(self.go_on(alloc, style))
             }
         }
     }
 
-    // Puts a line behind those that came, with a blank between.
+    // Adds a line to the form, after a blank unless it is the first.
     #[tactic(auto, using(crate::proofs::Conversations::joined_first, crate::proofs::Conversations::joined_more))]
     fn gather(&mut self, line: &[u8]) -> Result<(), AllocError>
         ensures ok { OnOk result (self.new.form.items ≡ joined self.old.form.items line.now) }
@@ -148,8 +147,8 @@ impl<'x, F: Shelf> Desk<'x, F> {
         Ok(())
     }
 
-    // Whether the form ends with this line, which is its last one so far: also where it is longer than a session
-    // takes, or where memory is wanting.
+    // Whether the form ends with this line. It also ends where it is longer than a session accepts, or where memory
+    // runs out.
     fn is_whole(&mut self, alloc: Global, line: &[u8], is_begun: bool) -> bool
         ensures short { result ≡ false → length self.old.form.items ≤ LONGEST }
         ensures blank { result ≡ false → is_begun ≡ true → ¬ IsBlank line.now }
@@ -166,18 +165,18 @@ impl<'x, F: Shelf> Desk<'x, F> {
         self.open.ends_with(alloc, line).unwrap_or(true)
     }
 
-    // What is told where a form goes on.
+    // Returns the text after a line with which a form does not end.
     fn go_on(&mut self, alloc: Global, style: Style) -> Vec<u8>
         ensures plain { is_plain style ≡ true → result.items ≡ [] }
         ensures form { self.new.form ≡ self.old.form }
         ensures style { self.new.style ≡ self.old.style }
     {
-        let is_first = !self.is_told;
-        self.is_told = true;
+        let is_first = !self.is_noted;
+        self.is_noted = true;
         with_prompt(style, true, note_on_forms(alloc, style, is_first))
     }
 
-    // Does what a word of the prompt says.
+    // Obeys a word of the prompt.
     #[tactic(auto, using(crate::proofs::Conversations::obeyed_none, crate::proofs::Conversations::obeyed_some))]
     fn obey(
         &mut self,
@@ -187,7 +186,7 @@ impl<'x, F: Shelf> Desk<'x, F> {
         out: &mut Vec<u8>,
     ) -> Result<(), AllocError>
         requires form { self.old.form.items ≡ [] }
-        ensures said { Obeyed (word_says word.entry) session.old session.new }
+        ensures said { Obeyed (word_gives_lines word.entry) session.old session.new }
         ensures form { self.new.form.items ≡ [] }
         ensures style { self.new.style ≡ self.old.style }
     {
@@ -200,11 +199,11 @@ impl<'x, F: Shelf> Desk<'x, F> {
                 Ok(())
             }
             Word::Load(path) => self.load(alloc, session, path, out),
-            Word::TypeOf(name) => self.tell_type(alloc, session, name, out),
+            Word::TypeOf(name) => self.put_type_of(alloc, session, name, out),
         }
     }
 
-    // Writes what was kept into a file.
+    // Writes the kept forms into a file.
     fn save(&self, alloc: Global, path: &[u8], out: &mut Vec<u8>) -> Result<(), AllocError> {
         let mut text = Vec::new(alloc);
         self.kept.put(&mut text)?;
@@ -218,9 +217,9 @@ impl<'x, F: Shelf> Desk<'x, F> {
         }
     }
 
-    // Tells the type of a function, or has the session tell that of an expression.
-    #[tactic(auto, using(crate::proofs::Conversations::spoke_none))]
-    fn tell_type(
+    // Writes the type of a function. For anything else it asks the session for the type of an expression.
+    #[tactic(auto, using(crate::proofs::Conversations::given_none))]
+    fn put_type_of(
         &mut self,
         alloc: Global,
         session: &mut Session,
@@ -228,7 +227,7 @@ impl<'x, F: Shelf> Desk<'x, F> {
         out: &mut Vec<u8>,
     ) -> Result<(), AllocError>
         requires form { self.old.form.items ≡ [] }
-        ensures said { Spoke session.old session.new }
+        ensures said { WasGiven session.old session.new }
         ensures form { self.new.form.items ≡ [] }
         ensures style { self.new.style ≡ self.old.style }
     {
@@ -239,8 +238,8 @@ impl<'x, F: Shelf> Desk<'x, F> {
         }
     }
 
-    // Has the session tell the type of an expression.
-    #[tactic(auto, using(crate::proofs::Conversations::spoke_none))]
+    // Asks the session for the type of an expression.
+    #[tactic(auto, using(crate::proofs::Conversations::given_none))]
     fn ask_type(
         &mut self,
         alloc: Global,
@@ -249,7 +248,7 @@ impl<'x, F: Shelf> Desk<'x, F> {
         out: &mut Vec<u8>,
     ) -> Result<(), AllocError>
         requires form { self.old.form.items ≡ [] }
-        ensures said { Spoke session.old session.new }
+        ensures said { WasGiven session.old session.new }
         ensures form { self.new.form.items ≡ [] }
         ensures style { self.new.style ≡ self.old.style }
     {
@@ -260,14 +259,14 @@ impl<'x, F: Shelf> Desk<'x, F> {
         match self.gather(command.as_slice()) {
             Err(error) => Err(error),
             Ok(()) => {
-                let told = self.say_form(alloc, session, self.style.without_prompts());
-                put_told(out, &told)
+                let output = self.answer_form(alloc, session, self.style.without_prompts());
+                put_text(out, &output)
             }
         }
     }
 
-    // Says the lines of a file.
-    #[tactic(auto, using(crate::proofs::Conversations::spoke_none))]
+    // Has the session answer the lines of a file.
+    #[tactic(auto, using(crate::proofs::Conversations::given_none))]
     fn load(
         &mut self,
         alloc: Global,
@@ -276,7 +275,7 @@ impl<'x, F: Shelf> Desk<'x, F> {
         out: &mut Vec<u8>,
     ) -> Result<(), AllocError>
         requires form { self.old.form.items ≡ [] }
-        ensures said { Spoke session.old session.new }
+        ensures said { WasGiven session.old session.new }
         ensures form { self.new.form.items ≡ [] }
         ensures style { self.new.style ≡ self.old.style }
     {
@@ -285,72 +284,72 @@ impl<'x, F: Shelf> Desk<'x, F> {
             None => Err(ShelfFault::Absent),
         };
         match read {
-            Ok(text) => self.say_text(alloc, session, text.as_slice(), out),
+            Ok(text) => self.answer_text(alloc, session, text.as_slice(), out),
             Err(fault) => put_fault(alloc, out, "load", path, fault),
         }
     }
 
-    // Says the lines of a text, at the end of which a form ends.
-    fn say_text(
+    // Has the session answer the lines of a text. A form that goes on ends with the text.
+    fn answer_text(
         &mut self,
         alloc: Global,
         session: &mut Session,
         text: &[u8],
         out: &mut Vec<u8>,
     ) -> Result<(), AllocError>
-        ensures said { Spoke session.old session.new }
+        ensures said { WasGiven session.old session.new }
         ensures form { self.new.form.items ≡ [] }
         ensures style { self.new.style ≡ self.old.style }
     {
-        let put = self.say_lines(alloc, session, text, out);
+        let put = self.answer_lines(alloc, session, text, out);
         if !self.has_form() {
             return put;
         }
-        let told = self.say_form(alloc, session, self.style.without_prompts());
+        let output = self.answer_form(alloc, session, self.style.without_prompts());
         put?;
-        put_told(out, &told)
+        put_text(out, &output)
     }
 
-    // Says the lines of a text.
-    fn say_lines(
+    // Has the session answer the lines of a text. A form may stay unfinished.
+    fn answer_lines(
         &mut self,
         alloc: Global,
         session: &mut Session,
         text: &[u8],
         out: &mut Vec<u8>,
     ) -> Result<(), AllocError>
-        ensures said { Spoke session.old session.new }
+        ensures said { WasGiven session.old session.new }
         ensures style { self.new.style ≡ self.old.style }
     {
         let mut rest = text;
-        'lines: while let Some((line, behind)) = cut_line(rest) {
-            self.say_line(alloc, session, line, out)?;
-            rest = behind;
+        'lines: while let Some((line, after)) = cut_line(rest) {
+            self.answer_line(alloc, session, line, out)?;
+            rest = after;
         }
-        self.say_line(alloc, session, rest, out)
+        self.answer_line(alloc, session, rest, out)
     }
 
-    // Says a line of a text.
-    #[tactic(auto, using(crate::proofs::Conversations::spoke_none))]
-    fn say_line(
+    // Has the session answer a line of a text. Blank lines between forms are skipped.
+    #[tactic(auto, using(crate::proofs::Conversations::given_none))]
+    fn answer_line(
         &mut self,
         alloc: Global,
         session: &mut Session,
         line: &[u8],
         out: &mut Vec<u8>,
     ) -> Result<(), AllocError>
-        ensures said { Spoke session.old session.new }
+        ensures said { WasGiven session.old session.new }
         ensures style { self.new.style ≡ self.old.style }
     {
         let line = line.strip_suffix(b"\r".as_slice()).unwrap_or(line);
         if is_blank(line) && !self.has_form() {
             return Ok(());
         }
-        let told = self.take(alloc, session, line, self.style.without_prompts());
-        put_told(out, &told)
+        let output = self.take(alloc, session, line, self.style.without_prompts());
+        put_text(out, &output)
     }
 
-    // Hears a line while no form goes on.
+    // Answers a line while no form is unfinished.
     fn hear_first(&mut self, alloc: Global, session: &mut Session, line: &[u8]) -> Told
         requires form { self.old.form.items ≡ [] }
         ensures turn { Turn (is_plain self.old.style) (record { form = self.old.form.items; log = session.old })
@@ -358,7 +357,7 @@ impl<'x, F: Shelf> Desk<'x, F> {
         ensures style { self.new.style ≡ self.old.style }
     {
         match word_in(line) {
-            Some(word) => self.hear_word(alloc, session, word),
+            Some(word) => self.obey_word(alloc, session, word),
             None => {
                 if is_pause(session, line) {
                     return Told::Text(prompt(alloc, self.style, false));
@@ -368,10 +367,10 @@ impl<'x, F: Shelf> Desk<'x, F> {
         }
     }
 
-    // Hears a word of the prompt's own.
-    fn hear_word(&mut self, alloc: Global, session: &mut Session, word: Word<'_>) -> Told
+    // Obeys a word of the prompt, and returns the text to write.
+    fn obey_word(&mut self, alloc: Global, session: &mut Session, word: Word<'_>) -> Told
         requires form { self.old.form.items ≡ [] }
-        ensures said { Obeyed (word_says word.entry) session.old session.new }
+        ensures said { Obeyed (word_gives_lines word.entry) session.old session.new }
         ensures form { self.new.form.items ≡ [] }
         ensures style { self.new.style ≡ self.old.style }
     {
@@ -415,7 +414,7 @@ impl<F: Shelf> Hearer for Desk<'_, F> {
     }
 }
 
-// Writes the types of the functions of this name, and says whether there are any.
+// Writes the types of the functions of this name, and returns whether there are any.
 fn put_callable(
     alloc: Global,
     kept: &Kept,
@@ -436,7 +435,7 @@ fn put_callable(
     Ok(true)
 }
 
-// A form with the parts before it.
+// Joins a form to the parts of it that the session has already.
 fn whole(before: Result<Vec<u8>, AllocError>, form: Vec<u8>) -> Result<Vec<u8>, AllocError> {
     let mut whole = before?;
     if whole.is_empty() {
@@ -446,7 +445,7 @@ fn whole(before: Result<Vec<u8>, AllocError>, form: Vec<u8>) -> Result<Vec<u8>, 
     Ok(whole)
 }
 
-// The hint below an answer to a form, where hints are wanted and there is one.
+// Returns the hint below the reply to a form, if the style has hints and there is one.
 fn hint_below(
     alloc: Global,
     session: &Session,
@@ -466,7 +465,7 @@ fn hint_below(
     hint_text(alloc, session, form.as_slice(), answer).unwrap_or(Vec::new(alloc))
 }
 
-// The hint on a form that was answered so, below its place.
+// Returns the hint on a form with this answer, below the place that it is about.
 fn hint_text(
     alloc: Global,
     session: &Session,
@@ -480,14 +479,14 @@ fn hint_text(
     Ok(out)
 }
 
-// Whether a line says nothing to a session.
+// Whether a line is blank and the session has no part of a form: then no form begins with it.
 fn is_pause(session: &Session, line: &[u8]) -> bool
     ensures { result ≡ true → IsBlank line.now }
 {
     session.pending().is_empty() && is_blank(line)
 }
 
-// A prompt, where prompts are wanted.
+// Returns a prompt, if the style has prompts.
 fn prompt(alloc: Global, style: Style, is_open: bool) -> Vec<u8>
     ensures plain { is_plain style ≡ true → result.items ≡ [] }
     ensures below { (fault : Option Fault) → IsBelow (is_plain style) fault result.items }
@@ -495,7 +494,7 @@ fn prompt(alloc: Global, style: Style, is_open: bool) -> Vec<u8>
     with_prompt(style, is_open, Vec::new(alloc))
 }
 
-// A text with a prompt behind it, where prompts are wanted.
+// Adds a prompt to a text, if the style has prompts.
 #[tactic(auto, using(crate::proofs::Conversations::signed, crate::proofs::Conversations::unsigned))]
 fn with_prompt(style: Style, is_open: bool, text: Vec<u8>) -> Vec<u8>
     ensures unwanted { style.prompts ≡ false → result.items ≡ text.items }
@@ -511,14 +510,14 @@ fn with_prompt(style: Style, is_open: bool, text: Vec<u8>) -> Vec<u8>
     }
 }
 
-// The prompt where a form goes on, and where none does.
+// Returns the prompt within a form, or the one before a form.
 fn sign(is_open: bool) -> &'static [u8]
     ensures { result.now ≡ (if is_open then codes ". " else codes "> ") }
 {
     if is_open { b". " } else { b"> " }
 }
 
-// What is told the first time that a form goes on.
+// Returns the note on forms that go on, the first time that one does.
 fn note_on_forms(alloc: Global, style: Style, is_first: bool) -> Vec<u8>
     ensures { style.prompts ≡ false → result.items ≡ [] }
 {
@@ -528,7 +527,7 @@ fn note_on_forms(alloc: Global, style: Style, is_first: bool) -> Vec<u8>
     Vec::new(alloc)
 }
 
-// The command that asks for the type of an expression.
+// Returns the command that asks for the type of an expression.
 fn type_command(alloc: Global, exp: &[u8]) -> Result<Vec<u8>, AllocError> {
     let mut line = Vec::from_slice(alloc, b":type ")?;
     line.extend_from_slice(exp)?;
@@ -536,9 +535,8 @@ fn type_command(alloc: Global, exp: &[u8]) -> Result<Vec<u8>, AllocError> {
     Ok(line)
 }
 
-// Writes what is told.
-fn put_told(out: &mut Vec<u8>, told: &Told) -> Result<(), AllocError> {
-    match told {
+fn put_text(out: &mut Vec<u8>, output: &Told) -> Result<(), AllocError> {
+    match output {
         Told::Back => Ok(()),
         Told::By(answer) => out.extend_from_slice(answer.bytes()),
         Told::Text(text) => out.extend_from_slice(text.as_slice()),
@@ -549,24 +547,24 @@ fn put_told(out: &mut Vec<u8>, told: &Told) -> Result<(), AllocError> {
     }
 }
 
-// The first line of a text without its LF, and what stands behind it; or nothing where no LF is there.
+// Splits a text after its first LF. Returns the first line without the LF, and the rest, or `None` if there is no LF.
 fn cut_line(text: &[u8]) -> Option<(&[u8], &[u8])>
     ensures { IfSome result (λ parts. length parts.1.now < length text.now) }
 {
-    match feed_in(text) {
+    match first_feed(text) {
         Some(place) => Some((&text[..place], &text[place + 1..])),
         None => None,
     }
 }
 
-// The place of the first LF.
-fn feed_in(bytes: &[u8]) -> Option<usize>
+// Finds the first LF.
+fn first_feed(bytes: &[u8]) -> Option<usize>
     ensures { IfSome result (λ place. place < length bytes.now) }
 {
     memchr(b'\n', bytes)
 }
 
-// The name of a file, which is a text.
+// Returns the path of a file, if it is UTF-8.
 fn path_of(path: &[u8]) -> Option<&str> {
     if path.is_empty() {
         return None;
@@ -577,13 +575,13 @@ fn path_of(path: &[u8]) -> Option<&str> {
     }
 }
 
-// Tells how many forms were saved.
+// Writes the number of forms that were saved.
 fn put_count(alloc: Global, out: &mut Vec<u8>, count: usize) -> Result<(), AllocError> {
     let text = format!(in alloc; "saved: forms {count}\n")?;
     out.extend_from_slice(text.as_bytes())
 }
 
-// Tells why a file can't be loaded or saved.
+// Writes why a file can't be loaded or saved.
 fn put_fault(
     alloc: Global,
     out: &mut Vec<u8>,

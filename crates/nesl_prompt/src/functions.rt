@@ -1,4 +1,4 @@
-//! What is told of the built-in functions. Their types are those of nesl_builtins.
+//! The help on the built-in functions. Their types come from nesl_builtins.
 
 use crate::rows::{Row, SCALARS, SEQUENCES, builtin_of, row_of};
 use crate::wrapped::{MOST_COLUMNS, put_wrapped};
@@ -6,13 +6,13 @@ use nesl_builtins::{Builtin, scheme};
 use nesl_types::{Context, scheme_text};
 use std::alloc::{AllocError, Global};
 
-/// What stands before each line below a type.
+/// The indent of each line below a type.
 const INDENT: &[u8] = b"  ";
 
-/// What stands before each line that goes on.
+/// The indent of each continued line.
 const BELOW: &[u8] = b"    ";
 
-/// Tells of the functions of this name or sign, and says whether there are any.
+/// Writes the help on the functions with this name or sign. Returns whether there are any.
 pub fn put_functions(alloc: Global, out: &mut Vec<u8>, name: &str) -> Result<bool, AllocError> {
     let Some(builtin) = builtin_of(name) else {
         return Ok(false);
@@ -27,7 +27,7 @@ pub fn put_functions(alloc: Global, out: &mut Vec<u8>, name: &str) -> Result<boo
     Ok(true)
 }
 
-/// Writes the types of the functions of this name or sign, and says whether there are any.
+/// Writes the types of the functions with this name or sign. Returns whether there are any.
 pub fn put_types(alloc: Global, out: &mut Vec<u8>, name: &str) -> Result<bool, AllocError> {
     match builtin_of(name) {
         Some(builtin) => {
@@ -38,7 +38,7 @@ pub fn put_types(alloc: Global, out: &mut Vec<u8>, name: &str) -> Result<bool, A
     }
 }
 
-// The line of a table that has this name.
+// Finds the line of a table that has this name.
 fn row_with<'a>(table: &'a str, name: &str) -> Option<Row<'a>> {
     for line in table.lines() {
         if let Some(row) = row_of(line) {
@@ -59,7 +59,7 @@ fn has_name(names: &str, name: &str) -> bool {
     false
 }
 
-/// Writes the names of all functions, in lines of at most so many columns.
+/// Writes the names of all functions, in lines of at most `MOST_COLUMNS` columns.
 pub fn put_names(out: &mut Vec<u8>) -> Result<(), AllocError> {
     out.push(b' ')?;
     let column = put_names_of(SCALARS, 1, out)?;
@@ -68,7 +68,7 @@ pub fn put_names(out: &mut Vec<u8>) -> Result<(), AllocError> {
     Ok(())
 }
 
-// Writes the names of a table behind so many columns, and says how many there are then.
+// Writes the names of a table from this column on, and returns the column after them.
 fn put_names_of(table: &str, column: usize, out: &mut Vec<u8>) -> Result<usize, AllocError> {
     let mut column = column;
     for line in table.lines() {
@@ -140,7 +140,7 @@ fn put_cost(out: &mut Vec<u8>, lengths: &str) -> Result<(), AllocError> {
     }
 }
 
-// The work, by the lengths of the sequences that are taken.
+// Writes the work, which depends on the lengths of sequences.
 fn put_work(out: &mut Vec<u8>, lengths: &str) -> Result<(), AllocError> {
     out.extend_from_slice(b"  work 1 + ")?;
     if lengths != "0" {
@@ -150,7 +150,7 @@ fn put_work(out: &mut Vec<u8>, lengths: &str) -> Result<(), AllocError> {
     out.extend_from_slice(b"the nodes of the result below its root\n")
 }
 
-// What the lengths are called.
+// Explains the letters for the lengths.
 fn put_lengths(out: &mut Vec<u8>, lengths: &str) -> Result<(), AllocError> {
     if lengths == "n" {
         return out.extend_from_slice(b"  n is the length of the sequence\n");

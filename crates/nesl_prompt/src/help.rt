@@ -1,15 +1,15 @@
-//! What `:help` tells.
+//! The answers to `:help`.
 
 use crate::functions::{put_functions, put_names};
 use crate::kept::Kept;
 use std::alloc::{AllocError, Global};
 
-/// What is told at first, and the first prompt.
+/// The greeting, and the first prompt.
 pub const GREETING: &[u8] =
     b"Pazkindu: NESL, with the work and the depth of each line. `:help` tells what\n\
 there is, and `:quit` ends. A form ends in `;`, as in `2 * 3 + 1;`.\n> ";
 
-/// What is told the first time that a form goes on.
+/// The note that is written the first time that a form goes on.
 pub const GOES_ON: &[u8] = b"  (the form goes on until its `;`, and an empty line ends it)\n";
 
 const OVERVIEW: &[u8] = b"\
@@ -36,14 +36,14 @@ Words of this prompt, which no session hears:
 Functions and signs:
 ";
 
-/// What is told of an apply-to-each.
+/// The help on an apply-to-each.
 const EACH: &[u8] = b"\
 {e : p in e; q in e; .. | e}
   evaluates the body for each place that the filter keeps, all in step
   work 1 + the nodes of each value, depth 1 + the deepest filter and body
 ";
 
-/// The forms that `:help` tells of by a name.
+/// The forms that `:help` explains, each with its name.
 const FORMS: [(&[u8], &[u8]); 9] = [
     (
         b"let",
@@ -93,7 +93,7 @@ datatype name type;
     ),
 ];
 
-/// Writes what there is, or what a name is.
+/// Writes the overview, or the help on a name.
 pub fn put_help(
     alloc: Global,
     out: &mut Vec<u8>,
@@ -121,7 +121,7 @@ pub fn put_help(
     put_unknown(out, name.as_slice())
 }
 
-// Tells of a form, and says whether there is one of this name.
+// Writes the help on a form, and returns whether there is a form with this name.
 fn put_form(out: &mut Vec<u8>, name: &[u8]) -> Result<bool, AllocError> {
     let name = name.strip_prefix(b":".as_slice()).unwrap_or(name);
     for (known, text) in &FORMS {
@@ -139,7 +139,7 @@ fn put_unknown(out: &mut Vec<u8>, name: &[u8]) -> Result<(), AllocError> {
     out.extend_from_slice(b"`; `:help` tells what there is\n")
 }
 
-/// A text in small letters.
+/// Returns a text with its ASCII letters in lower case.
 pub fn lower(alloc: Global, text: &[u8]) -> Result<Vec<u8>, AllocError> {
     let mut small = Vec::with_capacity(alloc, text.len())?;
     for byte in text {

@@ -1,4 +1,4 @@
-//! The hints on forms that were answered by a fault.
+//! Hints below faults.
 
 use nesl_hints::{Hint, hint_below};
 use nesl_line::hinted::Hinter;
@@ -6,7 +6,7 @@ use nesl_session::answer::Answer;
 use nesl_session::session::Session;
 use std::alloc::{AllocError, Global};
 
-/// The hints of a batch, each of which begins with its place.
+/// The hints of a batch. Each begins with its place in the form, as two byte offsets.
 #[derive(Clone, Copy, PartialEq, Eq, Debug)]
 pub struct Hints;
 
@@ -25,7 +25,7 @@ impl Hinter for Hints {
     }
 }
 
-// The sentence of a hint, with its place before it.
+// Returns the sentence of a hint, after its place.
 fn placed_sentence(
     alloc: Global,
     session: &Session,
@@ -41,7 +41,7 @@ fn placed_sentence(
     Ok(Some(text))
 }
 
-/// A hint on a form that the session has just answered so.
+/// Returns the hint on a form, if there is one. `answer` is the session's last answer, and the answer to this form.
 pub(crate) fn hint_on(
     alloc: Global,
     session: &Session,

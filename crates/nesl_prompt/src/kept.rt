@@ -1,4 +1,4 @@
-//! What was said and kept.
+//! The forms that `:list` and `:save` write.
 
 use nesl_session::answer::Answer;
 use std::alloc::{AllocError, Global};
@@ -8,7 +8,7 @@ use std::alloc::{AllocError, Global};
 struct Entry {
     form: Vec<u8>,
     name: Vec<u8>,
-    /// Its reply where the name is a function or a datatype, without the line end.
+    /// The reply without its line end, if the name is a function or a datatype.
     callable: Option<Vec<u8>>,
 }
 
@@ -19,14 +19,13 @@ pub struct Kept {
 }
 
 impl Kept {
-    /// Nothing was said.
     pub fn new(alloc: Global) -> Kept {
         Kept {
             entries: Vec::new(alloc),
         }
     }
 
-    /// Keeps a form that was answered so, if it bound a name; a reset forgets all.
+    /// Keeps a form if its answer shows that it bound a name. If the form was a reset, all kept forms are dropped.
     pub fn note(
         &mut self,
         alloc: Global,
@@ -41,11 +40,11 @@ impl Kept {
             self.entries.clear();
             return Ok(());
         }
-        let (name, behind) = cut_name(reply);
-        let callable = if behind.starts_with(b" : ") {
+        let (name, rest) = cut_name(reply);
+        let callable = if rest.starts_with(b" : ") {
             let text = reply.strip_suffix(b"\n".as_slice()).unwrap_or(reply);
             Some(Vec::from_slice(alloc, text)?)
-        } else if behind.starts_with(b" = ") {
+        } else if rest.starts_with(b" = ") {
             None
         } else {
             return Ok(());
@@ -59,12 +58,12 @@ impl Kept {
         Ok(())
     }
 
-    /// How many forms there are.
+    /// The number of forms.
     pub fn len(&self) -> usize {
         self.entries.len()
     }
 
-    /// The last reply to a definition of this name, where it still is a function or a datatype.
+    /// Returns the last reply to a definition of this name, if the name is still a function or a datatype.
     pub fn callable(&self, name: &[u8]) -> Option<&[u8]> {
         for entry in self.entries.iter().rev() {
             if entry.name.as_slice() == name {
@@ -77,7 +76,7 @@ impl Kept {
         None
     }
 
-    /// Writes the forms, each as a line.
+    /// Writes the forms, each in a line of its own.
     pub fn put(&self, out: &mut Vec<u8>) -> Result<(), AllocError> {
         for entry in &self.entries {
             out.extend_from_slice(entry.form.as_slice())?;
@@ -87,7 +86,7 @@ impl Kept {
     }
 }
 
-// The name at the front of a reply, and what stands behind it.
+// Splits a reply after the name that it begins with.
 fn cut_name(reply: &[u8]) -> (&[u8], &[u8]) {
     let len = reply
         .iter()

@@ -1,8 +1,8 @@
-//! What holds of conversations at a prompt.
+//! A law of conversations at a prompt.
 ghost use Rattle.nesl_prompt.specs.Laws.{PromptsAreSessions};
 
-/// Where nothing is written but replies, and no line is one of the prompt's own, the session was told some lines, and
-/// what was written is its replies, one after the other.
+/// Holds where only replies are written and no line is one of the prompt's own. Then what was written is the session's
+/// replies to some lines, in order.
 pub fn is_the_sessions()
     ensures { PromptsAreSessions }
 {}

@@ -1,4 +1,4 @@
-//! A prompt at which somebody speaks to a session of their own.
+//! A prompt for one user, with a session of its own.
 #![tactic(auto)]
 
 mod caret;

@@ -1,21 +1,21 @@
-//! Where a form ends that goes on over several lines.
+//! Finds the line with which a form over several lines ends.
 
 use nesl_lex::token::{Kind, Sign, Token, Word};
 use nesl_lex::{LexFault, lex};
 use std::alloc::{AllocError, Global};
 
-/// What is still to be closed.
+/// A token that is open, by the kind of token that closes it.
 #[derive(Clone, Copy, PartialEq, Eq, Debug)]
 enum Mark {
-    /// A parenthesis or a bracket, by one of any kind. No `;` stands in it.
+    /// A parenthesis or a bracket. A closing token of any kind closes it, and no `;` may be inside it.
     Bracket,
-    /// A brace, by one of any kind.
+    /// A brace. A closing token of any kind closes it.
     Brace,
-    /// A `let`, by its `in`.
+    /// A `let`, which `in` closes.
     Let,
 }
 
-/// What is open behind the lines of a form.
+/// The open tokens after the lines of a form so far.
 #[derive(Drop)]
 pub struct Open {
     marks: Vec<Mark>,
@@ -23,7 +23,6 @@ pub struct Open {
 }
 
 impl Open {
-    /// No line came.
     pub fn new(alloc: Global) -> Open {
         Open {
             marks: Vec::new(alloc),
@@ -31,14 +30,14 @@ impl Open {
         }
     }
 
-    /// Another form begins.
+    /// Begins another form.
     pub fn clear(&mut self) {
         self.marks.clear();
         self.is_begun = false;
     }
 
-    /// Takes in a line that isn't blank, and says whether the form ends with it: where its last token is a `;` behind
-    /// which no form goes on, where the form is a command or a comment, and where the line has no tokens by a fault.
+    /// Reads a line that isn't blank, and returns whether the form ends with it. A command, a comment and a line with a
+    /// lexical fault end it. So does a `;` at the end of the line, unless it is inside a brace or a `let`.
     pub fn ends_with(&mut self, alloc: Global, line: &[u8]) -> Result<bool, AllocError> {
         let tokens = match lex(alloc, line) {
             Ok(tokens) => tokens,
@@ -59,7 +58,7 @@ impl Open {
         Ok(is_sign(last, Sign::Semicolon) && !self.takes_semicolon())
     }
 
-    // Whether a form may go on behind a `;`.
+    // Whether a form may go on after a `;` here.
     fn takes_semicolon(&self) -> bool {
         match self.marks.last() {
             Some(Mark::Brace | Mark::Let) => true,
@@ -67,7 +66,7 @@ impl Open {
         }
     }
 
-    // Opens and closes what a token does.
+    // Opens or closes what this token does.
     fn note(&mut self, token: &Token) -> Result<(), AllocError> {
         match &token.kind {
             Kind::Symbol(Sign::OpenParenthesis | Sign::OpenBracket) => {

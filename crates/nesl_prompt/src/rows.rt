@@ -1,12 +1,12 @@
-//! What is told of the built-in functions, group by group, in the order of the tables of docs/LANGUAGE.md. The texts
-//! are those of these tables, which scripts/check_help compares.
+//! The help on the built-in functions, group by group, in the order of the tables of docs/LANGUAGE.md. The texts are
+//! those of these tables; scripts/check_help compares them.
 
 use nesl_builtins::{Builtin, named};
 use nesl_scalars::Binary;
 use nesl_seqs_base::seq_fn::SeqFn;
 
-/// Functions on scalars. A line has the names and signs of a group, how they are called, and what they come to with,
-/// behind `;`, what they refuse; nothing stands behind the last bar.
+/// Functions on scalars. A line has the names and signs of a group, how they are called, and their result. After a `;`
+/// it has the faults; nothing follows the last bar.
 pub const SCALARS: &str = "\
 + - *|`+`, `-`, `*`|; `overflow`|
 /|`/`|towards zero; `division` by 0, `overflow`|
@@ -26,7 +26,7 @@ char_code|`char_code`||
 code_char|`code_char`|; `code` unless 0 to 255|
 ";
 
-/// Functions on sequences. Behind the last bar stand the lengths that are paid for; an `R` before them says that the
+/// Functions on sequences. After the last bar come the lengths that count as work. An `R` before them means that the
 /// depth has their binary digits.
 pub const SEQUENCES: &str = "\
 #|`#v`|the length|0
@@ -61,7 +61,7 @@ rep|`rep(v, x, i)`|v with x at place i; `range`|n
 eql|`eql(x, y)`|whether they are the same|the nodes of both
 ";
 
-/// The functions that signs are.
+/// The functions that are written as signs.
 const SIGNS: [(&str, Builtin); 21] = [
     ("+", Builtin::OfTwo(Binary::Add)),
     ("-", Builtin::OfTwo(Binary::Subtract)),
@@ -86,7 +86,7 @@ const SIGNS: [(&str, Builtin); 21] = [
     ("<-", Builtin::OfSequences(SeqFn::Write)),
 ];
 
-/// The function that a name or a sign is.
+/// Returns the function with this name or sign.
 pub fn builtin_of(name: &str) -> Option<Builtin> {
     for (sign, builtin) in &SIGNS {
         if *sign == name {
@@ -99,20 +99,20 @@ pub fn builtin_of(name: &str) -> Option<Builtin> {
     named(name.as_bytes())
 }
 
-/// What is told of a group of functions.
+/// A line of the tables: the help on a group of functions.
 #[derive(Clone, Copy)]
 pub struct Row<'a> {
-    /// The names and signs, with blanks between.
+    /// The names and signs, separated by blanks.
     pub names: &'a str,
     /// How they are called.
     pub called: &'a str,
-    /// What they come to, and behind `;` what they refuse.
+    /// The result, and after a `;` the faults.
     pub what: &'a str,
-    /// The lengths that are paid for, behind `R ` where the depth has their digits; nothing for functions on scalars.
+    /// The lengths that count as work, after `R ` where the depth has their digits. Empty for functions on scalars.
     pub lengths: &'a str,
 }
 
-/// What a line of the tables tells.
+/// Splits a line of the tables.
 pub fn row_of(line: &str) -> Option<Row<'_>> {
     let (names, rest) = line.split_once("|")?;
     let (called, rest) = rest.split_once("|")?;

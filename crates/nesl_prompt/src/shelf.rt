@@ -7,7 +7,7 @@ use std::alloc::{AllocError, AllocFailed, Global};
 use std::io;
 use thiserror::Error;
 
-/// The most bytes of a file that is loaded.
+/// The most bytes of a file that may be loaded: 16 MiB.
 pub const MOST_BYTES: usize = 16_777_216;
 
 /// Why a file can't be read or written.
@@ -51,7 +51,7 @@ impl<T: Drop> From<AllocFailed<T>> for ShelfFault {
     }
 }
 
-// The fault for which the system refuses a file.
+// Returns the fault for an error of the system.
 impl From<io::Error> for ShelfFault {
     fn from(error: io::Error) -> ShelfFault {
         match error.kind() {
@@ -67,24 +67,24 @@ impl From<io::Error> for ShelfFault {
     }
 }
 
-/// Where files are.
+/// A store of files.
 pub trait Shelf {
-    /// The bytes of a file, which are at most `MOST_BYTES`.
+    /// Reads a file of at most `MOST_BYTES` bytes.
     fn read(&self, alloc: Global, path: &str) -> Result<Vec<u8>, ShelfFault>;
 
-    /// Writes the bytes of a file, which is made where there is none. One that is there loses what it had, once the new
-    /// bytes are written.
+    /// Writes a file, which is created if it is missing. An existing file loses its content only after the new bytes
+    /// are written.
     fn write(&self, alloc: Global, path: &str, bytes: &[u8]) -> Result<(), ShelfFault>;
 }
 
-/// Whether files are opened.
+/// Whether a prompt may open files.
 #[derive(Clone, Copy, PartialEq, Eq, Debug)]
 pub enum Access {
     Granted,
     Refused,
 }
 
-/// Files that are opened where access to them is granted, and only there.
+/// A store of files that opens them only where access is granted.
 #[derive(Drop)]
 pub struct Guarded<'x, F> {
     pub files: &'x F,

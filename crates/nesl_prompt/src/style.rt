@@ -1,18 +1,18 @@
-//! How a conversation looks.
+//! The look of a conversation.
 ghost use Rattle.std.specs.Prelude.{◌≡◌, false};
 ghost use Rattle.nesl_prompt.specs.Points.{is_plain};
 
-/// What is written beside the replies.
+/// What is written besides the replies.
 #[derive(Clone, Copy, PartialEq, Eq, Debug)]
 pub struct Style {
-    /// A greeting, and a prompt before each line.
+    /// Whether a greeting, and a prompt before each line, are written.
     pub prompts: bool,
-    /// A hint below each fault.
+    /// Whether a hint is written below each fault.
     pub hints: bool,
 }
 
 impl Style {
-    /// Whether the replies are written alone.
+    /// Whether only the replies are written.
     pub fn is_plain(self) -> bool
         ensures { result ≡ is_plain self }
     {

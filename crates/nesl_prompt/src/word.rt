@@ -1,51 +1,51 @@
 //! The prompt's own words.
 ghost use Rattle.std.specs.Prelude.{◌≡◌, false, true, IfNone, IfSome};
-ghost use Rattle.nesl_prompt.specs.Words.{IsBlank, asks_type, is_blank_byte, is_own, is_part, says_lines, word_says};
+ghost use Rattle.nesl_prompt.specs.Words.{IsBlank, asks_type, gives_lines, is_blank_byte, is_own, is_part};
+ghost use Rattle.nesl_prompt.specs.Words.{word_gives_lines};
 
-/// A word of the prompt's own, and what stands behind it.
+/// A word of the prompt's own, with its argument.
 #[derive(Clone, Copy, PartialEq, Eq, Debug)]
 pub enum Word<'a> {
-    /// What there is, or what this name is.
+    /// Explains a name, or lists what there is if the name is empty.
     Help(&'a [u8]),
-    /// The type of an expression, or of a function.
+    /// Writes the type of an expression, or of a function.
     TypeOf(&'a [u8]),
-    /// What was said and kept.
+    /// Lists the kept forms.
     Kept,
-    /// Says the lines of this file.
+    /// Has the session answer the lines of this file.
     Load(&'a [u8]),
-    /// Writes what was said and kept into this file.
+    /// Writes the kept forms into this file.
     Save(&'a [u8]),
-    /// Ends.
     Quit,
 }
 
-/// How many bytes the words have.
+/// The length of each word in bytes.
 const WORD_BYTES: usize = 5;
 
-/// The word that a line begins with, if it is the prompt's own. `:type` is so where no `;` is in the line, and the line
-/// doesn't end in `\`: with a `;` it is a session's command.
+/// Returns the prompt's own word that a line begins with. `:type` is the prompt's own unless the line has a `;` or ends
+/// in `\`; otherwise it is a command of the session.
 pub fn word_in(line: &[u8]) -> Option<Word<'_>>
     ensures own { IfSome result (λ word. is_own line.now ≡ true) }
-    ensures said { IfSome result (λ word. word_says word ≡ says_lines line.now) }
+    ensures said { IfSome result (λ word. word_gives_lines word ≡ gives_lines line.now) }
     ensures none { IfNone result (is_own line.now ≡ false) }
 {
     if line.starts_with(b":help") {
-        return Some(Word::Help(behind(line)));
+        return Some(Word::Help(argument_of(line)));
     }
     if line.starts_with(b":list") {
         return Some(Word::Kept);
     }
     if line.starts_with(b":save") {
-        return Some(Word::Save(behind(line)));
+        return Some(Word::Save(argument_of(line)));
     }
     if line.starts_with(b":quit") {
         return Some(Word::Quit);
     }
     if line.starts_with(b":load") {
-        return Some(Word::Load(behind(line)));
+        return Some(Word::Load(argument_of(line)));
     }
     if is_type(line) {
-        return Some(Word::TypeOf(behind(line)));
+        return Some(Word::TypeOf(argument_of(line)));
     }
     None
 }
@@ -56,22 +56,22 @@ fn is_type(line: &[u8]) -> bool
     line.starts_with(b":type") && !line.contains(&b';') && !is_part(line)
 }
 
-/// Whether a session takes a line for a part of a form.
+/// Whether a line ends in `\`, so that a session takes it for a part of a form.
 pub fn is_part(line: &[u8]) -> bool
     ensures { result ≡ is_part line.now }
 {
     line.ends_with(b"\\")
 }
 
-// What stands behind a word, without the blanks around it, and without a `;` at its end.
-fn behind(line: &[u8]) -> &[u8] {
+// Returns the argument of a word, without blanks around it and without a `;` at its end.
+fn argument_of(line: &[u8]) -> &[u8] {
     let rest = line.get(WORD_BYTES..).unwrap_or(&[]);
     let rest = rest.trim_ascii();
     let rest = rest.strip_suffix(b";".as_slice()).unwrap_or(rest);
     rest.trim_ascii()
 }
 
-/// Whether a line has nothing but blanks.
+/// Whether a line is empty, or has only blanks.
 pub fn is_blank(line: &[u8]) -> bool
     ensures yes { result ≡ true → IsBlank line.now }
     ensures no { result ≡ false → ¬ IsBlank line.now }

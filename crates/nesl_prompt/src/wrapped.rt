@@ -1,12 +1,12 @@
-//! Text in lines that a screen has room for.
+//! Text broken into lines that fit a screen.
 
 use std::alloc::AllocError;
 
-/// The most columns of a line.
+/// The most columns of a line, its indent included.
 pub const MOST_COLUMNS: usize = 78;
 
-/// Writes a text behind so many columns, and ends the line. It is broken at spaces, so that no line has more columns
-/// than there may be, and each line but the first begins with `indent`.
+/// Writes a text from this column on, and ends the line. It breaks the text at spaces, so that lines are at most
+/// `MOST_COLUMNS` long. Each line but the first begins with `indent`.
 pub fn put_wrapped(
     out: &mut Vec<u8>,
     text: &[u8],
@@ -29,7 +29,7 @@ pub fn put_wrapped(
     Ok(())
 }
 
-/// What a byte is shown as: one that isn't printed, as a question mark.
+/// Returns a byte as it is shown: a question mark if it isn't printable.
 pub fn shown(byte: u8) -> u8 {
     match byte {
         32..=126 => byte,
@@ -38,7 +38,7 @@ pub fn shown(byte: u8) -> u8 {
     }
 }
 
-// How many bytes stand from this place on before a space.
+// Counts the bytes from this place to the next space.
 fn word_len(text: &[u8], place: usize) -> usize {
     let rest = text.get(place..).unwrap_or(&[]);
     rest.iter().take_while(|byte| **byte != b' ').count()

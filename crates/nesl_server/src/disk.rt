@@ -1,4 +1,4 @@
-//! The files that a prompt loads and saves.
+//! The files of this machine, as a prompt loads and saves them.
 
 use crate::replace::{Rights, replace_file, require_regular};
 use nesl_prompt::shelf::{MOST_BYTES, Shelf, ShelfFault};
@@ -7,7 +7,7 @@ use std::fs::{self, File, Metadata, OpenOptions};
 use std::io::{self, Read};
 use std::rt::Files;
 
-/// The files of this machine.
+/// The file system of this machine.
 #[derive(Drop)]
 pub struct Disk<'x, R> {
     pub rt: &'x R,
@@ -24,7 +24,7 @@ impl<R: Files<File = File>> Shelf for Disk<'_, R> {
 
     fn write(&self, alloc: Global, path: &str, bytes: &[u8]) -> Result<(), ShelfFault> {
         match fs::symlink_metadata(self.rt, path) {
-            Ok(there) if there.is_symlink() => write_behind(self.rt, alloc, path, bytes),
+            Ok(there) if there.is_symlink() => write_through_link(self.rt, alloc, path, bytes),
             Ok(there) => overwrite(self.rt, alloc, path, bytes, &there),
             Err(error) if error.kind() == io::ErrorKind::NotFound => {
                 replace_file(self.rt, alloc, path, bytes, &Rights::New)
@@ -34,8 +34,8 @@ impl<R: Files<File = File>> Shelf for Disk<'_, R> {
     }
 }
 
-// The bytes of a file; of one that has more than `most`, one more than these. What is no regular file isn't opened, so
-// nobody waits for a pipe; what took the file's place since then isn't read.
+// Reads at most `most + 1` bytes of a file. Only regular files are opened, so that a pipe can't block the prompt. The
+// opened file is checked again, since another may have taken its place.
 fn read_up_to<R: Files<File = File>>(
     rt: &R,
     alloc: Global,
@@ -52,8 +52,8 @@ fn read_up_to<R: Files<File = File>>(
     Ok(bytes)
 }
 
-// Writes the bytes of the file that a link leads to, which stays a link.
-fn write_behind<R: Files<File = File>>(
+// Writes the file that a symbolic link leads to. The link stays.
+fn write_through_link<R: Files<File = File>>(
     rt: &R,
     alloc: Global,
     link: &str,
@@ -65,8 +65,8 @@ fn write_behind<R: Files<File = File>>(
     overwrite(rt, alloc, path.as_str(), bytes, &there)
 }
 
-// Writes the bytes of a file that is there, if it is a regular one that may be written. It is opened for that question
-// alone, and is lost only where the new one is whole.
+// Overwrites an existing file, if it is regular and may be written. It is opened only to learn that. Its content is
+// lost only after the new file is complete.
 fn overwrite<R: Files<File = File>>(
     rt: &R,
     alloc: Global,

@@ -1,5 +1,4 @@
-//! Who tells of a service: on standard output where it listens and where its page is, of connections on standard error,
-//! and in numbers in a file.
+//! Reports on a service: its ports on standard output, its connections on standard error, and its counters in a file.
 
 use crate::log::Log;
 use crate::stats::{Replace, Stats};
@@ -11,15 +10,16 @@ use std::io::Print;
 use std::sync::{Arc, Wait};
 use std::time::Clock;
 
-/// The ports on which is listened.
+/// The ports on which the service listens.
 #[derive(Clone, Copy, PartialEq, Eq, Debug)]
 pub struct Ports {
     pub service: u16,
-    /// Where the page is, if there is one.
+    /// The port of the page, if there is one.
     pub page: Option<u16>,
 }
 
-/// Tells on which ports is listened, of connections where there is a log, and counts where there is a file for that.
+/// The journal of the program. It prints the ports, logs connections if there is a log, and counts for the file of
+/// counters.
 pub struct Host<'x, R> {
     pub rt: &'x R,
     pub ports: Ports,
@@ -29,7 +29,7 @@ pub struct Host<'x, R> {
 }
 
 impl<R: Wait + Clock + Replace> Host<'_, R> {
-    /// Nothing is told any more.
+    /// Ends the log and the file of counters, if there are any.
     pub fn close(self) {
         let Host {
             rt: _,
@@ -48,8 +48,8 @@ impl<R: Wait + Clock + Replace> Host<'_, R> {
 }
 
 impl<R: Print> Host<'_, R> {
-    // Where the service listens, and where its page is.
-    fn tell_ports(&self) -> io::Result<()> {
+    // Prints the address of the service, and that of the page.
+    fn print_ports(&self) -> io::Result<()> {
         println!(self.rt; "listening on 127.0.0.1:{}", self.ports.service)?;
         match self.ports.page {
             Some(port) => println!(self.rt; "page at http://127.0.0.1:{port}/"),
@@ -60,27 +60,27 @@ impl<R: Print> Host<'_, R> {
 
 impl<R: Print + Wait + Clock> Journal for Host<'_, R> {
     fn opened(&self) -> bool {
-        self.tell_ports().is_ok()
+        self.print_ports().is_ok()
     }
 
     fn begun(&self, caller: Caller) {
         self.counters.begun();
         if let Some(log) = &self.log {
-            self.counters.told(log.tell_begin(caller));
+            self.counters.logged(log.log_begin(caller));
         }
     }
 
     fn seated(&self, caller: Caller, seat: Seat<'_>) {
         self.counters.seated(seat);
         if let Some(log) = &self.log {
-            self.counters.told(log.tell_seat(caller, seat));
+            self.counters.logged(log.log_seat(caller, seat));
         }
     }
 
     fn ended(&self, caller: Caller, visit: &Visit<'_>) {
         self.counters.ended(visit.ending);
         if let Some(log) = &self.log {
-            self.counters.told(log.tell_end(caller, visit));
+            self.counters.logged(log.log_end(caller, visit));
         }
     }
 
@@ -98,7 +98,7 @@ impl<R: Print + Wait + Clock> Journal for Host<'_, R> {
 
     fn accept_failed(&self, fault: AcceptFault) {
         if let Some(log) = &self.log {
-            self.counters.told(log.tell_fault(fault));
+            self.counters.logged(log.log_fault(fault));
         }
     }
 }

@@ -1,4 +1,4 @@
-//! What standard error tells of connections.
+//! The log of connections on standard error.
 
 use crossbeam_channel::{Receiver, Sender, bounded};
 use jiff_core::civil::DateTime;
@@ -12,16 +12,17 @@ use std::thread::Threads;
 use std::time::{Clock, Duration};
 use std::{fmt, thread};
 
-/// How many lines wait at most until they are written.
+/// The most lines that wait to be written.
 const MOST_WAITING: usize = 1024;
 
-/// How many milliseconds is waited at a time, and how often at most, until the last lines are written.
+/// How many milliseconds a pause lasts until the last lines are written. There are at most `MOST_PAUSES`, which is a
+/// second.
 const PAUSE_MILLIS: u64 = 10;
 
 const MOST_PAUSES: u32 = 100;
 
-/// Lines that a thread of its own writes to standard error, so that nobody waits for its reader. What can't be handed
-/// to that thread is lost, and it tells how many lines were.
+/// The log. A thread of its own writes the lines to standard error, so that a slow reader delays no connection. A line
+/// that can't be queued is lost; the thread logs how many were.
 pub struct Log<'x, R> {
     rt: &'x R,
     alloc: Global,
@@ -29,14 +30,14 @@ pub struct Log<'x, R> {
     counts: Arc<Counts>,
 }
 
-// How many lines were lost and not told of yet, and whether the last line was written.
+// The number of lost lines that weren't logged yet, and whether the last line was written.
 #[derive(Drop)]
 struct Counts {
     lost: AtomicU64,
     done: AtomicU64,
 }
 
-// A second of UTC, as 2026-11-26T14:37:15Z; a dash where the clock can't be read.
+// A time in UTC, as in 2026-11-26T14:37:15Z, or a dash if the clock can't be read.
 #[derive(Drop)]
 struct Stamp(Option<DateTime>);
 
@@ -91,7 +92,7 @@ impl<'x, R: Threads + Wait + Clock + Eprint + Clone + Send + Drop + 'static> Log
 }
 
 impl<R: Wait + Clock> Log<'_, R> {
-    /// No line is told any more. It waits a second at most until all are written.
+    /// Ends the log. Waits at most a second until all lines are written.
     pub fn close(self) {
         let Log {
             rt,
@@ -108,45 +109,45 @@ impl<R: Wait + Clock> Log<'_, R> {
         }
     }
 
-    /// Tells that a connection begins. False where the line is lost, here and below.
-    pub fn tell_begin(&self, caller: Caller) -> bool {
-        self.tell(caller, String::from_str(self.alloc, "began"))
+    /// Logs the start of a connection. This and the methods below return false if the line is lost.
+    pub fn log_begin(&self, caller: Caller) -> bool {
+        self.log_event(caller, String::from_str(self.alloc, "began"))
     }
 
-    /// Tells who was seated on a connection, or why nobody was.
-    pub fn tell_seat(&self, caller: Caller, seat: Seat<'_>) -> bool {
-        self.tell(caller, describe_seat(self.alloc, seat))
+    /// Logs the user of a connection, or why it was turned away.
+    pub fn log_seat(&self, caller: Caller, seat: Seat<'_>) -> bool {
+        self.log_event(caller, describe_seat(self.alloc, seat))
     }
 
-    /// Tells that a connection has ended.
-    pub fn tell_end(&self, caller: Caller, visit: &Visit<'_>) -> bool {
-        self.tell(caller, describe_end(self.alloc, visit))
+    /// Logs the end of a connection.
+    pub fn log_end(&self, caller: Caller, visit: &Visit<'_>) -> bool {
+        self.log_event(caller, describe_end(self.alloc, visit))
     }
 
-    /// Tells why no connection is taken up any more.
-    pub fn tell_fault(&self, fault: AcceptFault) -> bool {
+    /// Logs why the service stopped accepting connections.
+    pub fn log_fault(&self, fault: AcceptFault) -> bool {
         let stamp = Stamp::now(self.rt);
-        self.hand_on(format!(in self.alloc; "{stamp} {fault}"))
+        self.queue(format!(in self.alloc; "{stamp} {fault}"))
     }
 
-    // Tells something of a connection.
-    fn tell(&self, caller: Caller, what: Result<String, AllocError>) -> bool {
-        self.hand_on(self.make_line(caller, what))
+    // Logs an event of a connection.
+    fn log_event(&self, caller: Caller, what: Result<String, AllocError>) -> bool {
+        self.queue(self.make_line(caller, what))
     }
 
-    // Hands a line to the thread that writes them.
-    fn hand_on(&self, line: Result<String, AllocError>) -> bool {
-        let is_told = match line {
+    // Queues a line for the thread that writes.
+    fn queue(&self, line: Result<String, AllocError>) -> bool {
+        let is_queued = match line {
             Ok(line) => self.to.try_send(self.rt, line).is_ok(),
             Err(_) => false,
         };
-        if !is_told {
+        if !is_queued {
             self.counts.lost.fetch_add(1, Ordering::SeqCst);
         }
-        is_told
+        is_queued
     }
 
-    // Makes a line of the time, the connection, and what is told of it.
+    // Makes a line from the time, the connection and the event.
     fn make_line(
         &self,
         caller: Caller,
@@ -163,7 +164,7 @@ impl<R: Wait + Clock> Log<'_, R> {
     }
 }
 
-// Writes lines until no more can come. One that can't be written is left out.
+// Writes lines until the log ends. A line that can't be written is skipped.
 fn write_lines<R: Wait + Eprint>(rt: &R, from: Receiver<String>, counts: &Counts) {
     for line in from.iter(rt) {
         let _ = eprintln!(rt; "{line}").is_err();
@@ -173,7 +174,7 @@ fn write_lines<R: Wait + Eprint>(rt: &R, from: Receiver<String>, counts: &Counts
     counts.done.store(1, Ordering::SeqCst);
 }
 
-// Tells how many lines were lost since that was told last, if some were.
+// Writes how many lines were lost since the last such note, if any were.
 fn write_lost(rt: &impl Eprint, counts: &Counts) {
     let lost = counts.lost.swap(0, Ordering::SeqCst);
     if lost > 0 {
@@ -181,7 +182,7 @@ fn write_lost(rt: &impl Eprint, counts: &Counts) {
     }
 }
 
-// Says who was seated, or why nobody was.
+// Describes the seat of a connection, or why it was turned away.
 fn describe_seat(alloc: Global, seat: Seat<'_>) -> Result<String, AllocError> {
     match seat {
         Seat::User(name) => {
@@ -193,7 +194,7 @@ fn describe_seat(alloc: Global, seat: Seat<'_>) -> Result<String, AllocError> {
     }
 }
 
-// Says who was there, how many lines were answered, how it ended, and how long it took.
+// Describes the end of a connection: its user, its lines, why it ended, and how long it took.
 fn describe_end(alloc: Global, visit: &Visit<'_>) -> Result<String, AllocError> {
     let user = match visit.user {
         Some(name) => str::from_utf8(name).unwrap_or("?"),

@@ -1,4 +1,4 @@
-//! The program: NESL sessions over standard input and output, or over sockets.
+//! The program `pazkindu`: NESL sessions over standard input and output, or over sockets.
 #![tactic(auto)]
 
 ghost use Rattle.std.specs.Prelude.{◌≡◌, ◌⊎◌};
@@ -36,7 +36,7 @@ use std::thread::{Builder, Threads};
 use std::time::Clock;
 use std::{env, thread};
 
-/// More bytes than the word of any command has.
+/// An upper bound for the length of a subcommand in bytes.
 const COMMAND_BYTES: usize = 16;
 
 fn main(rt: HostRuntime) -> ExitCode {
@@ -51,11 +51,11 @@ fn main(rt: HostRuntime) -> ExitCode {
                 Err(failure) => return report_failure(&rt, failure),
             };
             let Ok(words) = borrow_words(alloc, args.as_slice()) else {
-                return report_failure(&rt, want_of_memory(&rt));
+                return report_failure(&rt, memory_failure(&rt));
             };
             let words = words.as_slice();
             let Ok(writer) = BufWriter::with_capacity(alloc, ANSWER_BYTES, rt.stdout()) else {
-                return report_failure(&rt, want_of_memory(&rt));
+                return report_failure(&rt, memory_failure(&rt));
             };
             let mut reader = Device::new(rt.stdin());
             let mut writer = Device::new(writer);
@@ -69,13 +69,13 @@ fn main(rt: HostRuntime) -> ExitCode {
         let builder = Builder::new().stack_size(STACK_BYTES);
         match builder.spawn_scoped(scope, work) {
             Ok(running) => running.join(&rt),
-            // As for memory that can't be had.
-            Err(_) => report_failure(&rt, want_of_memory(&rt)),
+            // The thread could not be made. This is reported like memory that ran out.
+            Err(_) => report_failure(&rt, memory_failure(&rt)),
         }
     })
 }
 
-// Finds which of standard input and output are terminals.
+// Finds out which of standard input and output are terminals.
 fn find_terminals(rt: &HostRuntime) -> Terminals {
     Terminals {
         input: rt.stdin().is_terminal(),
@@ -83,24 +83,24 @@ fn find_terminals(rt: &HostRuntime) -> Terminals {
     }
 }
 
-// Reports that there is no memory, by the first word after the program's name, which is read without any.
-fn want_of_memory(rt: &impl Env) -> Failure<'static> {
+// Returns the failure for memory that ran out, by the subcommand. The subcommand is read without allocating.
+fn memory_failure(rt: &impl Env) -> Failure<'static> {
     let mut word = [0u8; COMMAND_BYTES];
     let Ok(len) = rt.arg(1, &mut word) else {
-        return Failure::of_memory(&[]);
+        return Failure::out_of_memory(&[]);
     };
     match word.get(..len).map(str::from_utf8) {
-        Some(Ok(word)) => Failure::of_memory(&["", word]),
-        Some(Err(_)) | None => Failure::of_memory(&[]),
+        Some(Ok(word)) => Failure::out_of_memory(&["", word]),
+        Some(Err(_)) | None => Failure::out_of_memory(&[]),
     }
 }
 
-// Reads the words of the command line, the program's name first.
+// Reads the command line, the program's name first.
 fn read_arguments(rt: &HostRuntime, alloc: Global) -> Result<Vec<String>, Failure<'static>> {
     match collect_arguments(rt, alloc) {
         Ok(args) => Ok(args),
         Err(error) if error.kind() == io::ErrorKind::InvalidData => Err(Failure::Encoding),
-        Err(_) => Err(want_of_memory(rt)),
+        Err(_) => Err(memory_failure(rt)),
     }
 }
 
@@ -115,7 +115,7 @@ fn borrow_words(alloc: Global, args: &[String]) -> Result<Vec<&str>, AllocError>
         .collect::<Vec<&str>>(alloc)
 }
 
-// Does what the words ask for, reports what failed of it, and gives the exit status.
+// Runs what the command line asks for, reports a failure, and returns the exit status.
 fn run_program<
     R: Net<Stream = TcpStream, Listener = TcpListener>
         + Threads
@@ -148,13 +148,13 @@ fn run_program<
     }
 }
 
-// Reports a refusal of the words, or answers a request for help, by its own text. Want of memory is reported as such.
-// Where the text can't be written, the status is 1.
+// Prints the text for a command line that is refused, or that asks for help. Memory that ran out is reported like other
+// failures. The status is 1 if the text can't be printed.
 fn report_refusal<R: Print + Eprint>(rt: &R, words: &[&str], error: &clap::Error) -> ExitCode
     ensures { (exit_status result ≡ words_status_of (kind_of error.now)) ⊎ (exit_status result ≡ 1) }
 {
     if error.kind() == ErrorKind::OutOfMemory {
-        return report_failure(rt, Failure::of_memory(words));
+        return report_failure(rt, Failure::out_of_memory(words));
     }
     match print_refusal(rt, words, error) {
         Ok(()) => ExitCode::from(words_status(error)),
@@ -162,7 +162,7 @@ fn report_refusal<R: Print + Eprint>(rt: &R, words: &[&str], error: &clap::Error
     }
 }
 
-// Prints the text of a refusal, and behind it an example where it has none.
+// Prints the text of a refusal, and after it an example if the text has none.
 fn print_refusal<R: Print + Eprint>(rt: &R, words: &[&str], error: &clap::Error) -> io::Result<()> {
     error.print(rt)?;
     match error.kind() {
@@ -172,7 +172,7 @@ fn print_refusal<R: Print + Eprint>(rt: &R, words: &[&str], error: &clap::Error)
     }
 }
 
-// Gives the exit status of an offer that was kept, and reports it if it failed.
+// Reports the failure of a service, if it failed, and returns the exit status.
 fn finish_offer(rt: &impl Eprint, kept: Result<(), Failure<'_>>) -> ExitCode
     ensures { exit_status result ≡ status_after kept.entry }
 {
@@ -183,7 +183,7 @@ fn finish_offer(rt: &impl Eprint, kept: Result<(), Failure<'_>>) -> ExitCode
     }
 }
 
-// Reports a failure on standard error, and gives its exit status.
+// Reports a failure on standard error, and returns its exit status.
 fn report_failure(rt: &impl Eprint, failure: Failure<'_>) -> ExitCode
     ensures { exit_status result ≡ status_of failure.entry }
 {

@@ -1,4 +1,4 @@
-//! A service that is offered on a port, and on another to browsers.
+//! Offers a service on a port, and its page on another.
 ghost use Rattle.std.specs.Prelude.{◌≡◌, Err, IfErr, IfOk, OnOk, map};
 ghost use Rattle.nesl_house.specs.Roster.{IsRoster};
 ghost use Rattle.nesl_cli.specs.Program.{limits};
@@ -25,7 +25,7 @@ use std::sync::{Arc, Wait};
 use std::thread::Threads;
 use std::time::Clock;
 
-/// Keeps an offer: says where it listens, once it can serve, serves, and says what it served, if it ends.
+/// Runs the offered service to its end. Prints the ports once it can serve, and how much was served if it ends.
 pub fn keep<
     'a,
     R: Net<Stream = TcpStream, Listener = TcpListener>
@@ -52,23 +52,22 @@ pub fn keep<
     finish(rt, offer, served)
 }
 
-/// A listener, with the port on which it listens.
+/// A listener, with its port.
 #[derive(Drop)]
 struct Listening {
     listener: TcpListener,
     port: u16,
 }
 
-/// Where an offer listens.
+/// The listeners of a service.
 #[derive(Drop)]
 struct Doors {
     service: Listening,
-    /// Where browsers connect, if there is a page.
+    /// The listener for browsers, if there is a page.
     page: Option<Listening>,
 }
 
 impl Doors {
-    // The ports of both.
     fn ports(&self) -> Ports {
         Ports {
             service: self.service.port,
@@ -80,7 +79,7 @@ impl Doors {
     }
 }
 
-// Serves an offer where it listens, and tells the host of it.
+// Serves an offer on these listeners, and reports on it.
 fn serve_offer<
     'x,
     R: Threads + Wait + Clock + Print + Eprint + Replace + Clone + Drop + Send + Sync + 'static,
@@ -110,7 +109,7 @@ fn serve_offer<
     )
 }
 
-// Says what a service served, if it ended well, and gives what came of it.
+// Prints how much a service served, if it ended well, and returns its result.
 fn finish<'a, R: Print>(
     rt: &R,
     offer: &Offer<'_>,
@@ -142,7 +141,7 @@ fn make_table<'a>(alloc: Global, users: &[&'a str]) -> Result<Table, Failure<'a>
     }
 }
 
-// Listens at an address; `None` is one that there isn't.
+// Listens at an address. `None` means that there is no such address.
 fn listen<'a, R: Net<Stream = TcpStream, Listener = TcpListener>>(
     rt: &R,
     address: Option<SocketAddr>,
@@ -159,7 +158,7 @@ fn listen<'a, R: Net<Stream = TcpStream, Listener = TcpListener>>(
     }
 }
 
-// Binds a listener to an address, where port 0 is one that is free.
+// Binds a listener to an address. Port 0 means a free one.
 fn bind<R: Net<Stream = TcpStream, Listener = TcpListener>>(
     rt: &R,
     address: SocketAddr,
@@ -169,7 +168,7 @@ fn bind<R: Net<Stream = TcpStream, Listener = TcpListener>>(
     Ok(Listening { listener, port })
 }
 
-// Listens where the page is, if one is offered.
+// Listens on the port of the page, if one is offered.
 fn listen_for_page<'a, R: Net<Stream = TcpStream, Listener = TcpListener>>(
     rt: &R,
     offer: &Offer<'a>,
@@ -192,7 +191,7 @@ fn make_page<'x>(offer: &'x Offer<'_>, listening: &'x Option<Listening>) -> Opti
     }
 }
 
-// The name by which the page may be asked for beside those of each machine.
+// Returns the further name by which the page may be requested.
 fn web_host<'x>(offer: &'x Offer<'_>) -> Option<&'x [u8]> {
     match &offer.service.web_host {
         Some(name) => Some(name.as_bytes()),
@@ -200,7 +199,7 @@ fn web_host<'x>(offer: &'x Offer<'_>) -> Option<&'x [u8]> {
     }
 }
 
-// Makes the host, who tells of the service.
+// Makes the host, which reports on the service.
 fn make_host<'x, 'a, R: Threads + Wait + Clock + Eprint + Replace + Clone + Send + Drop + 'static>(
     rt: &'x R,
     alloc: Global,
@@ -227,7 +226,7 @@ fn make_counters(alloc: Global) -> Result<Arc<Counters>, AllocError> {
     Ok(Arc::new(alloc, Counters::new(alloc)?)?)
 }
 
-// Starts the log, where one is wanted.
+// Starts the log, if one is wanted.
 fn start_log<'x, R: Threads + Wait + Clock + Eprint + Clone + Send + Drop + 'static>(
     rt: &'x R,
     alloc: Global,
@@ -239,7 +238,7 @@ fn start_log<'x, R: Threads + Wait + Clock + Eprint + Clone + Send + Drop + 'sta
     Ok(Some(Log::new(rt, alloc)?))
 }
 
-// Starts the file for the counters, where one is wanted.
+// Starts the file of counters, if one is wanted.
 fn start_stats<'x, 'a, R: Threads + Wait + Clock + Replace + Clone + Send + Drop + 'static>(
     rt: &'x R,
     alloc: Global,
@@ -259,7 +258,7 @@ fn start_stats<'x, 'a, R: Threads + Wait + Clock + Replace + Clone + Send + Drop
     }
 }
 
-// Says how many connections were served, and the lines in all.
+// Prints how many connections were served, and how many lines in all.
 fn print_served<R: Print>(rt: &R, offer: &Offer<'_>, closed: &Closed) -> io::Result<()> {
     let lines = closed.lines;
     match offer.service.connections {

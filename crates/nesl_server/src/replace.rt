@@ -1,4 +1,4 @@
-//! Files that are written whole, and then take the place of those that were there.
+//! Files that are written whole and then replace others.
 
 use nesl_prompt::shelf::ShelfFault;
 use std::alloc::Global;
@@ -8,34 +8,34 @@ use std::os::fd::AsFd;
 use std::os::unix::fs::{MetadataExt, OpenOptionsExt, PermissionsExt, fchown};
 use std::rt::Files;
 
-/// How many names are tried for a new file beside another one.
+/// How many names are tried for a new file.
 const NAMES: u32 = 100;
 
 /// The mode of a file that only its owner may open.
 const PRIVATE: u32 = 0o600;
 
-/// The mode of a file that everybody may read.
+/// The mode of a file that only its owner may write, and everybody may read.
 const READABLE: u32 = 0o644;
 
-/// The mode that is asked for where the process's mask says who may open a new file.
+/// The mode requested where the process's mask decides who may open a new file.
 const ANY: u32 = 0o666;
 
-/// The bits of a mode that are no kind of file.
+/// The permission bits of a mode, without the kind of the file.
 const MODE_BITS: u32 = 0o7777;
 
-/// Who may open a file that is written.
+/// The permissions of a file that is written.
 #[derive(Drop)]
 pub enum Rights<'x> {
-    /// As the process's mask has it.
+    /// The process's mask decides.
     New,
     /// Everybody may read it.
     Public,
-    /// As it was of the file that was there, whose owner and group it keeps.
+    /// Those of the file that is replaced, with its owner and its group.
     Kept(&'x Metadata),
 }
 
 impl Rights<'_> {
-    // The mode of the new file while it is written.
+    // Returns the mode of the new file until it is complete.
     fn first_mode(&self) -> u32 {
         match self {
             Rights::New => ANY,
@@ -44,14 +44,14 @@ impl Rights<'_> {
     }
 }
 
-/// A file that is not yet where it belongs.
+/// A new file, which is to be renamed.
 #[derive(Drop)]
-struct Beside {
+struct NewFile {
     name: String,
     file: File,
 }
 
-/// Refuses what is no regular file.
+/// Fails unless this is a regular file.
 pub fn require_regular(there: &Metadata) -> Result<(), ShelfFault> {
     if there.is_file() {
         Ok(())
@@ -64,7 +64,7 @@ pub fn require_regular(there: &Metadata) -> Result<(), ShelfFault> {
     }
 }
 
-/// Writes the bytes into a new file beside the path. It takes the place of what is there once it is whole; else it is
+/// Writes the bytes into a new file in the same folder, and renames it to the path. If that fails, the new file is
 /// removed.
 pub fn replace_file<R: Files<File = File>>(
     rt: &R,
@@ -73,7 +73,7 @@ pub fn replace_file<R: Files<File = File>>(
     bytes: &[u8],
     rights: &Rights<'_>,
 ) -> Result<(), ShelfFault> {
-    let Beside { name, file } = make_beside(rt, alloc, path, rights.first_mode())?;
+    let NewFile { name, file } = make_beside(rt, alloc, path, rights.first_mode())?;
     let placed = match fill(file, bytes, rights) {
         Ok(()) => place(rt, name.as_str(), path),
         Err(fault) => Err(fault),
@@ -84,17 +84,17 @@ pub fn replace_file<R: Files<File = File>>(
     placed
 }
 
-// Makes a file beside the path, by the first name that is free.
+// Creates a file beside the path, with the first free name.
 fn make_beside<R: Files<File = File>>(
     rt: &R,
     alloc: Global,
     path: &str,
     mode: u32,
-) -> Result<Beside, ShelfFault> {
+) -> Result<NewFile, ShelfFault> {
     for number in 1..=NAMES {
         let name = format!(in alloc; "{path}.{number}.new")?;
         match make(rt, name.as_str(), mode) {
-            Ok(file) => return Ok(Beside { name, file }),
+            Ok(file) => return Ok(NewFile { name, file }),
             Err(error) if error.kind() == io::ErrorKind::AlreadyExists => {}
             Err(error) => return Err(ShelfFault::from(error)),
         }
@@ -102,7 +102,7 @@ fn make_beside<R: Files<File = File>>(
     Err(ShelfFault::Beside)
 }
 
-// Makes a file where there is nothing.
+// Creates a file. Fails if there is a file with its name.
 fn make<R: Files<File = File>>(rt: &R, name: &str, mode: u32) -> io::Result<File> {
     OpenOptions::new()
         .write(true)
@@ -111,7 +111,7 @@ fn make<R: Files<File = File>>(rt: &R, name: &str, mode: u32) -> io::Result<File
         .open(rt, name)
 }
 
-// Writes the bytes of a new file, and then says who may open it.
+// Writes the bytes into a new file, and then sets its permissions.
 fn fill(file: File, bytes: &[u8], rights: &Rights<'_>) -> Result<(), ShelfFault> {
     let mut file = file;
     file.write_all(bytes)?;
@@ -127,7 +127,7 @@ fn fill(file: File, bytes: &[u8], rights: &Rights<'_>) -> Result<(), ShelfFault>
             file.set_permissions(Permissions::from_mode(mode))?;
         }
     }
-    // Some systems find only now that there is no room.
+    // Some systems detect only here that the disk is full.
     Ok(file.sync_all()?)
 }
 
@@ -143,7 +143,6 @@ fn keep_owner(file: &File, there: &Metadata) -> Result<(), ShelfFault> {
     }
 }
 
-// Puts a file in the place of what is at the path.
 fn place<R: Files>(rt: &R, name: &str, path: &str) -> Result<(), ShelfFault> {
     Ok(fs::rename(rt, name, path)?)
 }

@@ -4,13 +4,13 @@ use std::fs::OpenOptions;
 use std::io;
 use std::os::fd::{AsFd, AsRawFd, IntoRawFd};
 
-/// How many standard descriptors there are: 0, 1 and 2.
+/// The number of standard descriptors: 0, 1 and 2.
 const STANDARD: usize = 3;
 
-/// What the system answers for a descriptor that is closed.
+/// The error EBADF, which the system returns for a closed descriptor.
 const CLOSED: i32 = 9;
 
-/// Opens those that are closed on the null device, so that no file and no socket takes their place.
+/// Opens the null device on each standard descriptor that is closed. Otherwise a file or a socket would get its number.
 pub fn fill_standard(rt: &HostRuntime) -> io::Result<()> {
     if !is_closed(&rt.stdin()) && !is_closed(&rt.stdout()) && !is_closed(&rt.stderr()) {
         return Ok(());
@@ -23,13 +23,13 @@ pub fn fill_standard(rt: &HostRuntime) -> io::Result<()> {
         if null.as_raw_fd() > 2 {
             break;
         }
-        // It stays open.
+        // The descriptor stays open.
         let _ = null.into_raw_fd();
     }
     Ok(())
 }
 
-// Whether there is no such descriptor.
+// Whether a descriptor is closed.
 fn is_closed<F: AsFd>(file: &F) -> bool {
     match file.as_fd().try_clone_to_owned() {
         Ok(_) => false,

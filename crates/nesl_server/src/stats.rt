@@ -1,4 +1,4 @@
-//! The file that tells how the service is doing.
+//! The file of counters.
 
 use crate::replace::{Rights, replace_file, require_regular};
 use nesl_prompt::shelf::ShelfFault;
@@ -11,13 +11,13 @@ use std::thread::Threads;
 use std::time::{Clock, Duration, Instant};
 use std::{io, thread};
 
-/// How many seconds lie between two writings of the file.
+/// How many seconds pass between two writes of the file.
 const SECONDS: u64 = 10;
 
 /// What can replace the content of a file.
 pub trait Replace {
-    /// Writes a text into a file that everybody may read. What is there is replaced if it is a regular file, and stays
-    /// if it is anything else.
+    /// Replaces the content of a file, which everybody may read then. Fails without a change if it is no regular file.
+    /// A missing file is created.
     fn replace(&self, alloc: Global, path: &str, text: &str) -> Result<(), ShelfFault>;
 }
 
@@ -32,17 +32,17 @@ impl<R: Files<File = File>> Replace for R {
     }
 }
 
-/// What is written, and where to.
+/// The content of the file, and its path.
 #[derive(Drop)]
 struct Sheet {
     path: String,
     begun: Instant,
     counters: Arc<Counters>,
-    /// Whether the last content was written.
+    /// Whether the file was written for the last time.
     is_over: bool,
 }
 
-/// The file, which a thread of its own replaces every ten seconds.
+/// The file of counters. A thread of its own replaces it every ten seconds.
 #[derive(Drop)]
 pub struct Stats<'x, R> {
     rt: &'x R,
@@ -51,7 +51,7 @@ pub struct Stats<'x, R> {
 }
 
 impl Sheet {
-    // Replaces the content of the file.
+    // Writes the current counters into the file.
     fn write<R: Replace + Clock>(&self, rt: &R, alloc: Global) -> Result<(), ShelfFault> {
         let uptime = self.begun.elapsed(rt)?;
         let mut text = self.counters.json(alloc, uptime)?;
@@ -61,7 +61,7 @@ impl Sheet {
 }
 
 impl<'x, R: Threads + Wait + Clock + Replace + Clone + Send + Drop + 'static> Stats<'x, R> {
-    /// The file is written, and then every ten seconds.
+    /// Writes the file, and starts the thread that writes it every ten seconds.
     pub fn new(
         rt: &'x R,
         alloc: Global,
@@ -87,7 +87,7 @@ impl<'x, R: Threads + Wait + Clock + Replace + Clone + Send + Drop + 'static> St
 }
 
 impl<R: Wait + Clock + Replace> Stats<'_, R> {
-    /// The file is written for the last time.
+    /// Writes the file for the last time.
     pub fn close(self) {
         let Stats { rt, alloc, sheet } = self;
         let mut sheet = sheet.lock(rt);
@@ -96,7 +96,8 @@ impl<R: Wait + Clock + Replace> Stats<'_, R> {
     }
 }
 
-// Writes the file until it is written for the last time. Where that can't be done it is tried again after as long.
+// Writes the file every `SECONDS` seconds, until it was written for the last time. After a failure it tries again after
+// the same time.
 fn write_now_and_then<R: Wait + Clock + Replace>(rt: &R, alloc: Global, sheet: &Mutex<Sheet>) {
     for _ in rt.forever() {
         thread::sleep(rt, Duration::from_secs(SECONDS));

@@ -1,4 +1,4 @@
-//! Taking connections up.
+//! Accepts connections.
 
 use std::io::ErrorKind;
 use std::net::{Shutdown, TcpListener, TcpStream};
@@ -8,39 +8,39 @@ use std::sync::atomic::{AtomicU64, Ordering};
 use std::time::{Clock, Duration};
 use std::{io, thread};
 
-/// What the system calls want of descriptors, of the process and of all, and of memory.
+/// Errors by which the system lacks something: descriptors of the process, descriptors at all, buffers, or memory.
 const SCARCE: [i32; 4] = [24, 23, 105, 12];
 
-/// What the system tells of a connection that failed before it was taken up, as Linux does: a rule forbids it, its
-/// protocol or its network failed, or its host can't be reached.
+/// Errors of `accept` on Linux for a connection that failed before it was accepted. A rule forbids it, its protocol or
+/// its network failed, or its host can't be reached.
 const FAILED: [i32; 7] = [1, 71, 64, 100, 101, 112, 113];
 
-/// How many milliseconds are waited where the system lacks something, and how often: a minute in all.
+/// How many milliseconds a pause lasts while the system lacks something. With `MOST_PAUSES`, this is a minute.
 const PAUSE_MILLIS: u64 = 100;
 
 const MOST_PAUSES: u32 = 600;
 
-/// A connection that was taken up, and the port that it comes from.
+/// A connection that was accepted, with the peer's port.
 #[derive(Drop)]
 pub(crate) struct Accepted {
     pub(crate) stream: TcpStream,
     pub(crate) port: u16,
 }
 
-/// Takes connections of a listener up.
+/// Accepts the connections of a listener.
 #[derive(Drop)]
 pub(crate) struct Acceptor<'x> {
     listener: &'x TcpListener,
-    /// The listener's socket once more, by which waiting for connections is ended.
+    /// The listener's socket again, whose shutdown ends all waiting.
     closer: TcpStream,
-    /// After how many connections no further one is let in.
+    /// The number of connections after which the listener is closed.
     most: u64,
-    /// How many were taken up.
+    /// The number of accepted connections.
     taken: AtomicU64,
 }
 
 impl<'x> Acceptor<'x> {
-    /// Takes up this number of connections, or as many as come.
+    /// Accepts at most `most` connections, or any number.
     pub(crate) fn new(listener: &'x TcpListener, most: Option<u64>) -> io::Result<Acceptor<'x>> {
         let closer = TcpStream::from(OwnedFd::from(listener.try_clone()?));
         Ok(Acceptor {
@@ -51,14 +51,14 @@ impl<'x> Acceptor<'x> {
         })
     }
 
-    /// Ends each wait for a connection, and lets none begin.
+    /// Ends each wait for a connection. Later waits end at once.
     pub(crate) fn close(&self) {
         let _ = self.closer.shutdown(Shutdown::Both).is_ok();
     }
 
-    /// Waits for the next connection. What the system lacks, another process may have: so it is asked again for a
-    /// minute. One that was gone before it was taken up, or failed, doesn't count. After the last that is taken up the
-    /// port is closed, so that nobody connects whom nobody answers.
+    /// Waits for the next connection. While the system lacks something that another process may release, it tries again
+    /// for a minute. A connection that ended or failed before it was accepted doesn't count. After the last one the
+    /// port is closed, so that no peer connects in vain.
     pub(crate) fn next<R: Wait + Clock>(&self, rt: &R) -> io::Result<Accepted> {
         let mut pauses = 0;
         for _ in rt.forever() {
@@ -81,7 +81,7 @@ impl<'x> Acceptor<'x> {
         Err(io::Error::from(ErrorKind::TimedOut))
     }
 
-    // One more connection was taken up.
+    // Counts an accepted connection, and closes the port after the last one.
     fn count(&self) {
         let before = self.taken.fetch_add(1, Ordering::SeqCst);
         if before.saturating_add(1) == self.most {
@@ -90,7 +90,7 @@ impl<'x> Acceptor<'x> {
     }
 }
 
-// Whether a connection has ended before it was taken up.
+// Whether a connection ended or failed before it was accepted.
 fn is_over(error: &io::Error) -> bool {
     error.kind() == ErrorKind::ConnectionAborted || has_code(error, &FAILED)
 }
@@ -100,7 +100,7 @@ fn is_scarce(error: &io::Error) -> bool {
     has_code(error, &SCARCE)
 }
 
-// Whether the system tells one of these errors.
+// Whether this is one of these errors of the system.
 fn has_code(error: &io::Error, codes: &[i32]) -> bool {
     match error.raw_os_error() {
         Some(code) => codes.contains(&code),

@@ -1,7 +1,7 @@
-//! Browsers: the files of the page, and users over WebSockets.
+//! Serves browsers: the files of the page, and users over WebSockets.
 
 use crate::accept::{Accepted, Acceptor};
-use crate::service::{Attended, Service};
+use crate::service::{ServedConnection, Service};
 use crate::wire::Patience;
 use nesl_eval_helpers::Gate;
 use nesl_line::device::Device;
@@ -21,9 +21,9 @@ use std::sync::ledger::Ledger;
 use std::thread::Threads;
 use std::time::{Clock, Duration, Instant};
 
-/// Where browsers connect, by which name they are let in beside those by which each machine calls itself, if there is
-/// one, and how many threads serve those who are seated and the page's files. As many again are there for connections
-/// that are not seated yet.
+/// The page for browsers. `host` is a name by which it may be requested, besides those by which each machine calls
+/// itself. `threads` is how many threads serve seated users and files; the same number again serves connections without
+/// a seat.
 #[derive(Clone, Copy)]
 pub struct Page<'x> {
     pub listener: &'x TcpListener,
@@ -31,20 +31,20 @@ pub struct Page<'x> {
     pub threads: usize,
 }
 
-/// Takes connections of browsers up, and counts their threads and sessions.
+/// Accepts the connections of browsers, and counts their threads and sessions.
 #[derive(Drop)]
 pub(crate) struct PageAcceptor<'x> {
     acceptor: Acceptor<'x>,
     host: Option<&'x [u8]>,
     threads: usize,
-    /// How many threads have begun: the first ones serve the lines' connections, and the others browsers.
+    /// The number of threads that have begun. The first ones serve the connections for lines, and the others browsers.
     begun: AtomicU64,
-    /// How many threads of the lines' connections have ended.
+    /// The number of threads for lines that have ended.
     ended: AtomicU64,
-    /// How many WebSockets have begun.
+    /// The number of WebSockets so far.
     sessions: AtomicU64,
-    /// How many connections are there.
-    there: AtomicU64,
+    /// The number of open connections.
+    open: AtomicU64,
 }
 
 impl<'x> PageAcceptor<'x> {
@@ -56,49 +56,50 @@ impl<'x> PageAcceptor<'x> {
             begun: AtomicU64::new(0),
             ended: AtomicU64::new(0),
             sessions: AtomicU64::new(0),
-            there: AtomicU64::new(0),
+            open: AtomicU64::new(0),
         })
     }
 
-    /// How many threads it wants.
+    /// The number of threads that serve browsers.
     pub(crate) fn threads(&self) -> usize {
         self.threads.saturating_mul(2)
     }
 
-    /// One more thread has begun. The answer is whether it serves browsers: so many serve the lines' connections.
+    /// Counts a thread that begins, and returns whether it serves browsers. The first `lines` threads serve connections
+    /// for lines.
     pub(crate) fn claim_browser_thread(&self, lines: usize) -> bool {
         self.begun.fetch_add(1, Ordering::SeqCst) >= lines as u64
     }
 
-    /// A thread of so many for the lines' connections has ended. After the last no browser is let in.
-    pub(crate) fn leave(&self, lines: usize) {
+    /// Counts a thread for lines that ends. After the last of the `lines` threads, no browser is accepted.
+    pub(crate) fn end_line_thread(&self, lines: usize) {
         self.ended.fetch_add(1, Ordering::SeqCst);
         if self.is_over(lines) {
             self.close();
         }
     }
 
-    /// No browser is let in any more.
+    /// Accepts no more browsers.
     pub(crate) fn close(&self) {
         self.acceptor.close();
     }
 
-    // One more connection is there. The answer is how long it is waited for: where half of the threads have one
-    // already, a head and a first line together may take a tenth of the time, so that strangers keep nobody waiting.
-    fn enter(&self, patience: Patience) -> Patience {
-        if self.there.fetch_add(1, Ordering::SeqCst) < self.threads as u64 {
+    // Counts a connection that begins, and returns its time limits. If half of the threads have a connection, its head
+    // and first line together have a tenth of the time. So peers without a seat can't block the others for long.
+    fn begin_connection(&self, patience: Patience) -> Patience {
+        if self.open.fetch_add(1, Ordering::SeqCst) < self.threads as u64 {
             patience
         } else {
             patience.hurried()
         }
     }
 
-    // A connection is there no more.
-    fn exit(&self) {
-        self.there.fetch_sub(1, Ordering::SeqCst);
+    // Counts a connection that ends.
+    fn finish_connection(&self) {
+        self.open.fetch_sub(1, Ordering::SeqCst);
     }
 
-    // Whether all threads of so many for the lines' connections have ended.
+    // Whether all of the `lines` threads for lines have ended.
     fn is_over(&self, lines: usize) -> bool {
         self.ended.load(Ordering::SeqCst) >= lines as u64
     }
@@ -118,7 +119,7 @@ impl<
     G: Gate + Sync,
     J: Journal + Sync,
 > Service<'x, R, L, G, J> {
-    /// Receives browsers until none is let in any more.
+    /// Serves browsers until no more are accepted.
     pub(crate) fn receive_all(&self, page: &PageAcceptor<'_>) {
         for _ in self.rt.forever() {
             if page.is_over(self.terms.threads) {
@@ -128,7 +129,7 @@ impl<
                 Ok(accepted) => self.receive(page, &accepted),
                 Err(error) => {
                     if !page.is_over(self.terms.threads) {
-                        self.end_by(AcceptFault::new(&error, true));
+                        self.end_by_accept_fault(AcceptFault::new(&error, true));
                     }
                     break;
                 }
@@ -136,7 +137,7 @@ impl<
         }
     }
 
-    // Reads what a browser asks for, and answers it.
+    // Reads a browser's request, and answers it.
     fn greet(
         &self,
         page: &PageAcceptor<'_>,
@@ -149,18 +150,18 @@ impl<
         }
     }
 
-    // Receives a browser, and counts it for as long.
+    // Serves a browser, and counts its connection meanwhile.
     fn receive(&self, page: &PageAcceptor<'_>, accepted: &Accepted) {
-        let patience = page.enter(self.terms.patience);
+        let patience = page.begin_connection(self.terms.patience);
         self.receive_within(page, accepted, patience);
-        page.exit();
+        page.finish_connection();
     }
 
-    // Receives a browser: it is shown a file of the page, or is served as a user, or neither.
+    // Serves a browser: sends it a file of the page, serves it as a user, or refuses it.
     fn receive_within(&self, page: &PageAcceptor<'_>, accepted: &Accepted, patience: Patience) {
         let stream = &accepted.stream;
         let since = Instant::now(self.rt).ok();
-        // An answer is sent at once, where the system can.
+        // Answers are sent without delay, if the system allows it.
         let _ = stream.set_nodelay(true).is_ok();
         if let Ok(Greeted::Session(first)) = self.greet(page, stream, patience) {
             let caller = Caller {
@@ -171,12 +172,12 @@ impl<
             self.journal.begun(caller);
             let begun = Instant::now(self.rt).ok();
             let left = self.after_head(patience, since);
-            let attended = self.attend_messages(caller, stream, first, left);
-            self.settle(caller, begun, &attended);
+            let attended = self.serve_messages(caller, stream, first, left);
+            self.end_connection(caller, begun, &attended);
         }
     }
 
-    // How long a first line may take whose connection came at this time.
+    // Returns the time that is left for the first line of a connection that began at `since`.
     fn after_head(&self, patience: Patience, since: Option<Instant>) -> Patience {
         let took = match since {
             Some(since) => since.elapsed(self.rt).ok(),
@@ -185,19 +186,19 @@ impl<
         patience.after(took.unwrap_or(Duration::ZERO))
     }
 
-    // Serves the messages of one connection; `first` came behind its head.
-    fn attend_messages(
+    // Serves the messages of a connection; `first` has the bytes that followed its head.
+    fn serve_messages(
         &self,
         caller: Caller,
         stream: &TcpStream,
         first: Vec<u8>,
         patience: Patience,
-    ) -> Attended {
+    ) -> ServedConnection {
         let watch = Watch::new(self.rt, self.journal.is_counting());
         let reader = MessageReader::new(self.rt, self.alloc, stream, first, patience);
         let Ok(writer) = MessageWriter::new(self.rt, self.alloc, stream, patience) else {
             reader.end(REFUSED_DRAIN);
-            return Attended::without_memory();
+            return ServedConnection::without_memory();
         };
         let mut reader = Device::new(Timed {
             reader,
@@ -215,15 +216,15 @@ impl<
             Some(_) => BROWSER_DRAIN,
             None => REFUSED_DRAIN,
         };
-        // What could not be written whole is followed by nothing.
+        // An answer that was cut off is followed by nothing.
         if served.end != End::WriteFault {
             reader.end(limits);
         }
-        Attended { served, missed }
+        ServedConnection { served, missed }
     }
 }
 
-// Which line hasn't come in time.
+// Returns which line did not arrive in time, if one didn't.
 fn missed_by<R: Clock>(reader: &MessageReader<'_, R>) -> Option<Missed> {
     match reader.is_late() {
         true if reader.is_first() => Some(Missed::FirstLine),
@@ -232,7 +233,7 @@ fn missed_by<R: Clock>(reader: &MessageReader<'_, R>) -> Option<Missed> {
     }
 }
 
-// Whether an answer wasn't taken in time.
+// Returns `Missed::Taking` if an answer was not taken in time.
 fn untaken_by<R: Clock>(writer: &MessageWriter<'_, R>) -> Option<Missed> {
     if writer.is_late() {
         Some(Missed::Taking)

@@ -1,4 +1,4 @@
-//! Threads that do one work.
+//! Threads that share one task.
 ghost use Rattle.std.specs.Prelude.{◌≡◌, ℕ};
 
 use std::sync::Wait;
@@ -6,58 +6,57 @@ use std::sync::atomic::{AtomicU64, Ordering};
 use std::thread;
 use std::thread::{Builder, Scope, Threads};
 
-/// The bytes of the stack of a thread that answers lines. What recurs goes over trees at most 100 high, or over 128
-/// nodes within one another if bodies are evaluated in columns through calls. It takes at most 3 KiB for each level.
-/// Other calls take no stack.
+/// The bytes of the stack of a thread that answers lines. Recursive functions descend trees that are at most 100 high.
+/// Evaluation in columns through calls nests at most 128 nodes. Each level takes at most 3 KiB, and other calls take no
+/// stack.
 pub const STACK_BYTES: usize = 1_048_576;
 
-/// Where the threads of a crowd wait for each other before they begin.
+/// The point where threads wait for each other before they begin.
 #[derive(Drop)]
 pub struct Start {
-    /// How many are there and weren't counted yet.
-    there: AtomicU64,
-    /// How many are there and not ready.
+    /// The number of threads that have arrived and weren't counted yet.
+    arrived: AtomicU64,
+    /// The number of threads that have arrived and are not ready.
     unready: AtomicU64,
-    /// How many may begin and haven't yet.
+    /// The number of threads that may begin and haven't yet.
     begun: AtomicU64,
 }
 
 impl Start {
-    /// Nobody is there.
+    /// No thread has arrived.
     pub fn new() -> Start {
         Start {
-            there: AtomicU64::new(0),
+            arrived: AtomicU64::new(0),
             unready: AtomicU64::new(0),
             begun: AtomicU64::new(0),
         }
     }
 
-    /// A thread says whether it is ready, and waits until it is to begin.
+    /// Reports whether this thread is ready, and waits until it may begin.
     pub fn wait<R: Wait>(&self, rt: &R, is_ready: bool) {
         if !is_ready {
             self.unready.fetch_add(1, Ordering::SeqCst);
         }
-        self.there.fetch_add(1, Ordering::SeqCst);
+        self.arrived.fetch_add(1, Ordering::SeqCst);
         self.begun.wait_and_decrement(rt);
     }
 
-    /// Waits until so many threads are there, and tells whether all of them are ready.
+    /// Waits until this number of threads have arrived, and returns whether all of them are ready.
     pub fn wait_for_all<R: Wait>(&self, rt: &R, threads: usize) -> bool {
         for _ in 0..threads {
-            self.there.wait_and_decrement(rt);
+            self.arrived.wait_and_decrement(rt);
         }
         self.unready.load(Ordering::SeqCst) == 0
     }
 
-    /// Has so many threads begin.
+    /// Lets this number of threads begin.
     pub fn begin(&self, threads: usize) {
         self.begun.fetch_add(threads as u64, Ordering::SeqCst);
     }
 }
 
-/// Makes so many threads that each do the work over what they share, and joins them. Once they are made `lead` runs
-/// beside them, and is told how many there are: fewer than were wanted where one could not be made, and then no further
-/// is tried.
+/// Makes up to `threads` threads that each run `work`, and joins them. After the first thread that can't be made no
+/// other is tried. `lead` runs beside the threads, with the number that were made.
 pub fn run_crowd<R: Threads + Wait + Sync, S: Sync, F: Fn(&S) + Sync, L: Fn(&S, usize)>(
     rt: &R,
     shared: &S,

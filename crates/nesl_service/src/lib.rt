@@ -1,4 +1,5 @@
-//! The service: connections over sockets and WebSockets, each the lines of one user, served by a few threads.
+//! The service: connections over sockets and WebSockets. Each carries the lines of one user, and a few threads serve
+//! them all.
 #![tactic(auto)]
 
 mod accept;

@@ -1,29 +1,29 @@
-//! The first line of a connection, as it comes in.
+//! Checks the first line of a connection byte by byte.
 
 use nesl_house::roster::MOST_NAME_BYTES;
 
-/// What has come of a first line.
+/// What has arrived of a first line.
 #[derive(Clone, Copy, PartialEq, Eq, Debug)]
 pub(crate) enum Opening {
-    /// So many bytes of `user `.
+    /// The first bytes of `user `: this number of them.
     Word(usize),
-    /// `user `, and so many bytes of a name.
+    /// `user `, and this number of bytes of a name.
     Name(usize),
-    /// A user line but for its LF.
+    /// A user line and a CR; the LF is missing.
     Return,
-    /// All of it.
+    /// The whole line.
     Whole,
-    /// What no user line begins with whose name can be in a roster.
+    /// Bytes that begin no line with a valid user name.
     Refused,
 }
 
 impl Opening {
-    /// Before the first byte.
+    /// Nothing has arrived.
     pub(crate) fn new() -> Opening {
         Opening::Word(0)
     }
 
-    /// After some bytes more.
+    /// Returns the state after more bytes.
     pub(crate) fn after(self, bytes: &[u8]) -> Opening {
         let mut opening = self;
         for byte in bytes {
@@ -43,7 +43,7 @@ impl Opening {
     }
 }
 
-// After so many bytes of `user ` and this one.
+// Returns the state after this number of bytes of `user ` and another byte.
 fn after_word(length: usize, byte: u8) -> Opening {
     let word = b"user ";
     match word.get(length) {
@@ -58,7 +58,7 @@ fn after_word(length: usize, byte: u8) -> Opening {
     }
 }
 
-// After so many bytes of a name and this one.
+// Returns the state after this number of bytes of a name and another byte.
 fn after_name(length: usize, byte: u8) -> Opening {
     if byte == b'\r' {
         return Opening::Return;

@@ -1,4 +1,4 @@
-//! The service.
+//! Serves users over sockets, with a thread for each connection at a time.
 ghost use Rattle.std.specs.Prelude.{◌≡◌, IfOk};
 ghost use Rattle.nesl_house.specs.Table.{IsClosed};
 
@@ -15,7 +15,7 @@ use nesl_line::exchange::End;
 use nesl_line::serve::{Served, serve};
 use nesl_service_records::accepting::AcceptFault;
 use nesl_service_records::answers::{AnswerObserver, ObservedWriter};
-use nesl_service_records::asking::Told;
+use nesl_service_records::asking::ReportingHelpers;
 use nesl_service_records::journal::{Caller, Ending, Journal, Missed, NoJournal, Visit};
 use nesl_service_records::numbers::{Fault, Numbers};
 use nesl_service_records::receipts::Receipts;
@@ -31,16 +31,16 @@ use std::time::{Clock, Duration, Instant};
 use std::{io, thread};
 use thiserror::Error;
 
-/// Why a service has no sessions to answer with.
+/// Why a service failed.
 #[derive(Clone, Copy, PartialEq, Eq, Debug, Error)]
 pub enum ServeFault {
-    /// The socket that takes connections up failed, or nobody could be told that it does.
+    /// A listening socket failed, or the ports could not be printed.
     #[error("serve: socket fault")]
     Socket,
     /// Memory ran out, or a thread could not be made.
     #[error("serve: no memory")]
     Memory,
-    /// The table was not closed.
+    /// The table could not be closed.
     #[error("serve: table fault")]
     Table,
 }
@@ -57,14 +57,14 @@ impl ServeFault {
     }
 }
 
-/// The bytes of an answer that are gathered before they are written.
+/// The size in bytes of the buffer for answers.
 pub const ANSWER_BYTES: usize = 8192;
 
-/// How many seconds a first line may take where nothing is said of it.
+/// How many seconds a first line may take by default.
 pub const FIRST_LINE_SECONDS: u64 = 10;
 
-/// How many threads serve, how many helpers they may have in all, after how many connections the service ends, if it is
-/// to end, and how long a connection is waited for.
+/// The terms of a service. `threads` threads serve lines, with at most `workers` helpers in all. It ends after
+/// `connections` connections, if that is given. `patience` limits the waits for each connection.
 #[derive(Clone, Copy, PartialEq, Eq, Debug)]
 pub struct Terms {
     pub threads: usize,
@@ -73,24 +73,24 @@ pub struct Terms {
     pub patience: Patience,
 }
 
-/// Who is told of what happens: a gate of each place that is entered, and a journal of each connection.
+/// The observers of a service. The gate sees each place that an evaluation enters, and the journal each connection.
 #[derive(Clone, Copy)]
 pub struct Observers<'x, G, J> {
     pub gate: &'x G,
     pub journal: &'x J,
 }
 
-/// What came of a connection: how its lines were served, and what was waited for in vain.
+/// A connection that was served: its lines, and what did not come in time.
 #[derive(Clone, Copy)]
-pub(crate) struct Attended {
+pub(crate) struct ServedConnection {
     pub(crate) served: Served,
     pub(crate) missed: Option<Missed>,
 }
 
-impl Attended {
-    /// Of a connection for whose answers there was no memory.
-    pub(crate) fn without_memory() -> Attended {
-        Attended {
+impl ServedConnection {
+    /// The result where memory for a connection's answers ran out.
+    pub(crate) fn without_memory() -> ServedConnection {
+        ServedConnection {
             served: Served {
                 lines: 0,
                 receipt: None,
@@ -126,7 +126,7 @@ impl<
     G: Gate + Sync,
     J: Journal + Sync,
 > Service<'x, R, L, G, J> {
-    /// No further number is given out, and who waits for a connection waits no longer.
+    /// Gives out no more numbers, and ends all waits for connections.
     pub(crate) fn end(&self, fault: Fault) {
         self.numbers.lock(self.rt).end(fault);
         self.acceptor.close();
@@ -135,21 +135,22 @@ impl<
         }
     }
 
-    /// No connection can be taken up: that ends the numbers, and is reported, if they haven't ended by a fault.
-    pub(crate) fn end_by(&self, fault: AcceptFault) {
+    /// Ends the service, since connections can't be accepted any more. The first such fault is reported; after another
+    /// fault nothing is done.
+    pub(crate) fn end_by_accept_fault(&self, fault: AcceptFault) {
         if !self.has_ended() {
             self.journal.accept_failed(fault);
             self.end(Fault::Socket);
         }
     }
 
-    // Whether a fault ended the numbers.
+    // Whether a fault has ended the service.
     fn has_ended(&self) -> bool {
         self.numbers.lock(self.rt).fault.is_some()
     }
 
-    // Serves one connection. Where there is no memory for its answers, nothing is read.
-    fn attend(&self, caller: Caller, stream: &TcpStream) -> Attended {
+    // Serves one connection. Nothing is read from it if memory for its answers runs out.
+    fn serve_connection(&self, caller: Caller, stream: &TcpStream) -> ServedConnection {
         let patience = self.terms.patience;
         let watch = Watch::new(self.rt, self.journal.is_counting());
         let observed = ObservedWriter {
@@ -157,23 +158,23 @@ impl<
             observer: AnswerObserver::new(&watch, self.journal, caller),
         };
         let Ok(writer) = BufWriter::with_capacity(self.alloc, ANSWER_BYTES, observed) else {
-            return Attended::without_memory();
+            return ServedConnection::without_memory();
         };
         let mut reader = Device::new(Reader::new(self.rt, stream, &watch, patience));
         let mut writer = Device::new(writer);
         let served = self.serve(&mut reader, &mut writer);
-        // What could not be written is not tried again.
+        // Bytes that could not be written are dropped.
         let (observed, _) = writer.into_inner().into_parts();
         let missed = reader.into_inner().missed();
-        Attended {
+        ServedConnection {
             served,
             missed: missed.or(observed.writer.missed()),
         }
     }
 
-    /// The lines of one connection, served by the session of the user whom the first one names.
+    /// Serves the lines of one connection by the session of the user that the first line names.
     pub(crate) fn serve<S: Source, W: Sink>(&self, reader: &mut S, writer: &mut W) -> Served {
-        let helpers = Told {
+        let helpers = ReportingHelpers {
             helpers: self.pool.by(self.rt),
             journal: self.journal,
         };
@@ -183,21 +184,27 @@ impl<
         )
     }
 
-    // Serves a connection, and tells the journal when it begins and ends.
-    fn attend_told(&self, caller: Caller, stream: &TcpStream) {
+    // Serves a connection, and reports its start and its end to the journal.
+    fn serve_and_report(&self, caller: Caller, stream: &TcpStream) {
         self.journal.begun(caller);
         let since = Instant::now(self.rt).ok();
-        // An answer is sent at once, where the system can.
+        // Answers are sent without delay, if the system allows it.
         let _ = stream.set_nodelay(true).is_ok();
-        let attended = self.attend(caller, stream);
+        let attended = self.serve_connection(caller, stream);
         if was_turned_away(&attended.served) {
             let _ = drain_after_shutdown(self.rt, stream).is_ok();
         }
-        self.settle(caller, since, &attended);
+        self.end_connection(caller, since, &attended);
     }
 
-    /// Tells the journal of a connection that has ended, and takes in what the user's session was told.
-    pub(crate) fn settle(&self, caller: Caller, since: Option<Instant>, attended: &Attended) {
+    /// Reports the end of a connection to the journal, and adds its receipt. A receipt that can't be added ends the
+    /// service.
+    pub(crate) fn end_connection(
+        &self,
+        caller: Caller,
+        since: Option<Instant>,
+        attended: &ServedConnection,
+    ) {
         let took = match since {
             Some(since) => since.elapsed(self.rt).ok(),
             None => None,
@@ -214,8 +221,8 @@ impl<
         }
     }
 
-    // What is told of a connection that has ended.
-    fn visit(&self, attended: &Attended) -> Visit<'x> {
+    // Describes a connection that has ended, without its time.
+    fn visit(&self, attended: &ServedConnection) -> Visit<'x> {
         let served = &attended.served;
         let user = match served.receipt {
             Some(receipt) => self.name_of(receipt.place),
@@ -229,41 +236,41 @@ impl<
         }
     }
 
-    // The user of a place.
+    // Returns the name of the user at a place of the roster.
     fn name_of(&self, place: usize) -> Option<&'x [u8]> {
         let name = self.table.roster().get(place)?;
         Some(name.as_slice())
     }
 
-    // The next connection; none where the service has ended.
+    // Waits for the next connection. Returns `None` if the service has ended.
     fn next_accepted(&self) -> Option<Accepted> {
         match self.acceptor.next(self.rt) {
             Ok(accepted) => Some(accepted),
             Err(error) => {
-                self.end_by(AcceptFault::new(&error, false));
+                self.end_by_accept_fault(AcceptFault::new(&error, false));
                 None
             }
         }
     }
 
-    // Serves connections or browsers, once all threads are there.
+    // Serves connections for lines or browsers, once all threads are ready.
     fn work(&self) {
-        let room = room_of_one(self.alloc);
+        let room = connection_buffers(self.alloc);
         self.start.wait(self.rt, room.is_ok());
         drop(room);
         let lines = self.terms.threads;
         match self.page {
             Some(page) if page.claim_browser_thread(lines) => self.receive_all(page),
             Some(page) => {
-                self.attend_all();
-                page.leave(lines);
+                self.serve_all();
+                page.end_line_thread(lines);
             }
-            None => self.attend_all(),
+            None => self.serve_all(),
         }
     }
 
-    // Serves connections until no number is left.
-    fn attend_all(&self) {
+    // Serves connections for lines until no number is left.
+    fn serve_all(&self) {
         for _ in self.rt.forever() {
             let Some(number) = self.numbers.lock(self.rt).next() else {
                 break;
@@ -271,7 +278,7 @@ impl<
             let Some(accepted) = self.next_accepted() else {
                 break;
             };
-            self.attend_told(
+            self.serve_and_report(
                 Caller {
                     number,
                     port: accepted.port,
@@ -282,7 +289,8 @@ impl<
         }
     }
 
-    // Has so many threads begin, if they are all that were wanted and all are ready; else the service has ended.
+    // Lets the threads that were made begin. If any is missing or not ready, or the journal refuses, the service has
+    // ended by then.
     fn open(&self, made: usize) {
         let are_ready = self.start.wait_for_all(self.rt, made);
         if made < self.threads() || !are_ready {
@@ -293,7 +301,7 @@ impl<
         self.start.begin(made);
     }
 
-    // How many threads are wanted.
+    // The number of threads: those for lines and those for browsers.
     fn threads(&self) -> usize {
         match self.page {
             Some(page) => self.terms.threads.saturating_add(page.threads()),
@@ -301,7 +309,7 @@ impl<
         }
     }
 
-    // Runs the threads that serve, and joins them.
+    // Runs all threads, and joins them.
     fn run_all(&self) {
         let work = |it: &Service<R, L, G, J>| it.work();
         let lead = |it: &Service<R, L, G, J>, made: usize| it.open(made);
@@ -309,19 +317,19 @@ impl<
     }
 }
 
-// Whether a peer was told that it can't be served.
+// Whether a peer was turned away: its first line was answered, and it got no session.
 fn was_turned_away(served: &Served) -> bool {
     served.receipt.is_none() && served.lines > 0 && served.end == End::Input
 }
 
-// What a connection takes: room for a line, and for the front of an answer.
-fn room_of_one(alloc: Global) -> Result<(Vec<u8>, Vec<u8>), AllocError> {
+// Allocates what one connection needs: a buffer for a line, and one for answers.
+fn connection_buffers(alloc: Global) -> Result<(Vec<u8>, Vec<u8>), AllocError> {
     let line = Vec::with_capacity(alloc, MOST_HANDED)?;
     let answer = Vec::with_capacity(alloc, ANSWER_BYTES)?;
     Ok((line, answer))
 }
 
-/// Where a service is kept.
+/// What a service runs on, and where it listens.
 #[derive_where(Clone, Copy)]
 pub struct Site<'x, R> {
     pub rt: &'x R,
@@ -329,7 +337,7 @@ pub struct Site<'x, R> {
     pub listener: &'x TcpListener,
 }
 
-// How many threads can run at once: one where that is not known.
+// The number of threads that can run at once, or 1 if it isn't known.
 fn processors<R: Threads>(rt: &R) -> usize {
     match thread::available_parallelism(rt) {
         Ok(count) => count.get(),
@@ -337,7 +345,7 @@ fn processors<R: Threads>(rt: &R) -> usize {
     }
 }
 
-// Where browsers are received, where there is a page for them.
+// Makes the acceptor for browsers, if there is a page.
 fn page_acceptor_of(page: Option<Page<'_>>) -> io::Result<Option<PageAcceptor<'_>>> {
     match page {
         Some(page) => Ok(Some(PageAcceptor::new(page)?)),
@@ -345,7 +353,7 @@ fn page_acceptor_of(page: Option<Page<'_>>) -> io::Result<Option<PageAcceptor<'_
     }
 }
 
-// The service over a pool of its own.
+// Serves over a pool made from this blank ledger.
 fn serve_in<
     L: Ledger + Send + Sync,
     R: Threads + Wait + Clock + Sync,
@@ -408,13 +416,13 @@ fn serve_in<
     }
 }
 
-/// Serves so many connections, or as many as come, by so many threads and with so many helpers in all; the answer is
-/// the house that the sessions are in the end. A first line may take 10 seconds.
+/// Serves `connections` connections, or any number if that is `None`, with at most `workers` helpers in all. Returns
+/// the house with all sessions. A first line may take 10 seconds, and nothing else is limited in time.
 ///
-/// Each thread takes the next number and then the next connection. After a fault no further number is given out and no
-/// connection is waited for, and the answer comes once the threads have ended; a fault of a socket is told before one
-/// of memory. Where a thread, or the room that its connections need, can't be had, no connection is served. However a
-/// connection ends, the service goes on.
+/// Each thread takes the next number and then accepts a connection. After a fault no number is given out and no
+/// connection accepted, and the result follows when all threads have ended. A fault of a socket is returned rather than
+/// one of memory. If a thread or its buffers can't be made, no connection is served. A failing connection never ends
+/// the service.
 pub fn serve_on<R: Threads + Wait + Clock + Sync>(
     rt: &R,
     alloc: Global,
@@ -442,7 +450,7 @@ pub fn serve_on<R: Threads + Wait + Clock + Sync>(
     serve_through(rt, alloc, listener, table, terms, observers)
 }
 
-/// Serves connections by these terms, and tells observers of what happens. The answer is the closed table.
+/// Serves connections by these terms, and reports events to the observers. Returns the closed table.
 pub fn serve_through<R: Threads + Wait + Clock + Sync, G: Gate + Sync, J: Journal + Sync>(
     rt: &R,
     alloc: Global,
@@ -461,9 +469,9 @@ pub fn serve_through<R: Threads + Wait + Clock + Sync, G: Gate + Sync, J: Journa
     serve_at(site, None, table, terms, observers)
 }
 
-/// Serves users as `serve_through` does, and browsers where there is a page for them: each file of it, and users over
-/// WebSockets. These come on top of the connections that the terms count; once those have ended no browser is let in
-/// any more, and the service ends with the last that was.
+/// Serves users like `serve_through`, and browsers too if there is a page: its files, and users over WebSockets.
+/// Connections of browsers don't count for `terms.connections`. After the last counted connection no browser is
+/// accepted, and the service ends when those that were accepted have left.
 pub fn serve_at<R: Threads + Wait + Clock + Sync, G: Gate + Sync, J: Journal + Sync>(
     site: Site<'_, R>,
     page: Option<Page<'_>>,

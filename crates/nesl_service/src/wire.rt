@@ -1,4 +1,4 @@
-//! The lines and answers of a connection, each wait for which is bounded in time.
+//! The lines and answers of a connection, with time limits.
 ghost use Rattle.std.specs.Prelude.{◌≡◌};
 ghost use Rattle.std.specs.Io.{ReadsAtMost};
 
@@ -12,24 +12,24 @@ use std::io::{Read, Write};
 use std::net::TcpStream;
 use std::time::{Clock, Duration};
 
-/// How much is read of a peer that was turned away.
+/// How much is read from a peer that was turned away.
 const TURNED_AWAY_DRAIN: DrainLimits = DrainLimits {
     millis: 500,
     reads: 256,
     read_bytes: 4_096,
 };
 
-/// Reads the lines of a connection. It fails where a line hasn't come in time, and ends where the first line can't name
-/// a user any more, whatever comes behind it.
+/// Reads the lines of a connection. A read fails if a line doesn't arrive in time. Input ends early once the first line
+/// can't name a user any more.
 #[derive(Drop)]
 pub(crate) struct Reader<'s, R> {
     wire: Wire<'s, R>,
     watch: &'s Watch<'s, R>,
     patience: Patience,
     opening: Opening,
-    /// Whether no byte of the line that is waited for was read yet.
+    /// Whether no byte of the next line was read yet.
     is_between: bool,
-    /// Whether a line hasn't come in time.
+    /// Whether a line did not arrive in time.
     is_late: bool,
 }
 
@@ -50,7 +50,7 @@ impl<'s, R: Clock> Reader<'s, R> {
         }
     }
 
-    /// Which line hasn't come in time.
+    /// Returns which line did not arrive in time, if one didn't.
     pub(crate) fn missed(&self) -> Option<Missed> {
         match self.opening {
             _ if !self.is_late => None,
@@ -59,7 +59,7 @@ impl<'s, R: Clock> Reader<'s, R> {
         }
     }
 
-    // How long the line may take that is waited for.
+    // Returns the time that the next line may take.
     fn allowed(&self) -> Option<Duration> {
         match self.opening {
             Opening::Whole => self.patience.idle,
@@ -67,7 +67,7 @@ impl<'s, R: Clock> Reader<'s, R> {
         }
     }
 
-    // A line is waited for: its time begins where no byte of it was read yet.
+    // Starts the time of the next line, unless a byte of it was read already.
     fn begin(&mut self) -> io::Result<()> {
         if self.is_between {
             let allowed = self.allowed();
@@ -77,7 +77,7 @@ impl<'s, R: Clock> Reader<'s, R> {
         Ok(())
     }
 
-    // Reads some bytes before the time of the line is over.
+    // Reads some bytes of the line within its time.
     fn read_in_time(&mut self, buf: &mut [u8]) -> io::Result<usize>
         ensures { ReadsAtMost result buf.new }
     {
@@ -85,7 +85,7 @@ impl<'s, R: Clock> Reader<'s, R> {
         self.wire.read(buf)
     }
 
-    // These bytes came.
+    // Notes which bytes have arrived.
     fn note(&mut self, bytes: &[u8]) {
         self.opening = self.opening.after(bytes);
         if bytes.contains(&b'\n') {
@@ -113,13 +113,13 @@ impl<R: Clock> Read for Reader<'_, R> {
     }
 }
 
-/// Writes the answers of a connection. It fails where a piece of one isn't taken in time.
+/// Writes the answers of a connection. A write fails if the peer doesn't take a piece in time.
 #[derive(Drop)]
 pub(crate) struct Writer<'s, R> {
     wire: Wire<'s, R>,
-    /// Whether a piece has a time to be taken in.
+    /// Whether pieces have a time limit.
     is_timed: bool,
-    /// Whether a piece wasn't taken in time.
+    /// Whether a piece was not taken in time.
     is_late: bool,
 }
 
@@ -132,7 +132,7 @@ impl<'s, R: Clock> Writer<'s, R> {
         }
     }
 
-    /// Whether an answer wasn't taken in time.
+    /// Returns `Missed::Taking` if a piece was not taken in time.
     pub(crate) fn missed(&self) -> Option<Missed> {
         if self.is_late {
             Some(Missed::Taking)
@@ -158,7 +158,7 @@ impl<R: Clock> Write for Writer<'_, R> {
     }
 }
 
-/// Ends what is written to a peer that was turned away, and reads for a moment what it still sends.
+/// Ends the output to a peer that was turned away, and briefly reads what it still sends.
 pub(crate) fn drain_after_shutdown<R: Clock>(rt: &R, stream: &TcpStream) -> io::Result<()> {
     Wire::new(rt, stream, None).drain_after_shutdown(TURNED_AWAY_DRAIN)
 }

@@ -7,7 +7,7 @@ use Rattle.nesl_service_records.specs.declared.journal.Missed.TheVariants as mis
 use Rattle.nesl_service_records.specs.declared.journal.Ending.{Ending}
 use Rattle.nesl_service_records.specs.declared.journal.Ending.TheVariants as ending
 
--- by how its lines ended, whether it was turned away, and what was waited for in vain
+-- by how its lines ended, whether it was turned away, and what did not come in time
 abbrev pub ending_of : End → (is_turned_away : Bool) → Option Missed → Ending
 ending_of lines.Input true waited = ending.TurnedAway
 ending_of lines.Input false waited = ending.Input

@@ -1,8 +1,9 @@
-//! Why no connection is taken up any more.
+//! The reason why a service stopped accepting connections.
 
 use std::{fmt, io};
 
-/// Taking connections up has failed for good: by this error of the system, if it was one, for browsers or for lines.
+/// Accepting connections failed for good. `code` is the number of the system's error, if there was one. `is_web` is
+/// true for the listener for browsers, and false for the one for lines.
 #[derive(Clone, Copy, PartialEq, Eq, Debug)]
 pub struct AcceptFault {
     pub code: Option<i32>,
@@ -31,7 +32,7 @@ impl fmt::Display for AcceptFault {
     }
 }
 
-// The name that Linux has for an error that `accept` may give.
+// Returns the name that Linux has for an error of `accept`.
 fn name_of(code: i32) -> Option<&'static str> {
     let name = match code {
         1 => "EPERM",

@@ -1,4 +1,4 @@
-//! The answers of a connection, as they are written.
+//! Reads what a connection is answered, as it is written.
 ghost use Rattle.std.specs.Prelude.{◌≡◌};
 
 use crate::journal::{Answered, Caller, Journal, Seat};
@@ -8,7 +8,7 @@ use std::io;
 use std::io::Write;
 use std::time::{Clock, Duration};
 
-/// The words of the faults, in the order of their numbers.
+/// The words of the faults, in the order of their numbers. The replies and the counters name faults by them.
 pub const FAULTS: [&str; 26] = [
     "long",
     "lexical",
@@ -38,13 +38,13 @@ pub const FAULTS: [&str; 26] = [
     "busy",
 ];
 
-/// The bytes of an answer's front that are kept: `user ` and a name, or `fault ` and its word.
+/// The most bytes kept of the beginning of an answer: `user ` and a name, or `fault ` and its word, fit.
 const FRONT_BYTES: usize = 24;
 
-/// The bytes that are looked at of the end of what is written at once: ` (work W, depth D)` has fewer.
+/// The bytes at the end of a write that are searched for the work. The longest ` (work W, depth D)` is shorter.
 const END_BYTES: usize = 64;
 
-// The front of an answer.
+// The first bytes of an answer, at most `FRONT_BYTES`.
 #[derive(Clone, Copy)]
 struct Front {
     bytes: [u8; FRONT_BYTES],
@@ -59,7 +59,7 @@ impl Front {
         }
     }
 
-    // Adds the bytes that there is room for.
+    // Adds the bytes that fit.
     fn add(&mut self, bytes: &[u8]) {
         for byte in bytes {
             let Some(place) = self.bytes.get_mut(self.length) else {
@@ -75,17 +75,17 @@ impl Front {
     }
 }
 
-/// What has come of the work that the end of an answer tells.
+/// How far the work at the end of an answer was read.
 #[derive(Clone, Copy, PartialEq, Eq, Debug)]
 enum Work {
-    /// Nothing of it.
-    Before,
-    /// So many bytes of `(work `.
+    /// No part of ` (work ` was read.
+    Nothing,
+    /// The first bytes of `(work ` were read: this number of them.
     Word(usize),
-    /// That, and a number.
+    /// `(work ` and some digits were read; this is the number so far.
     Number(u64),
-    /// All of it.
-    Told(u64),
+    /// The work was read whole.
+    Whole(u64),
 }
 
 impl Work {
@@ -94,7 +94,7 @@ impl Work {
         match self {
             _ if byte == b'(' => Work::Word(1),
             Work::Word(length) => match word.get(length) {
-                Some(wanted) if *wanted != byte => Work::Before,
+                Some(wanted) if *wanted != byte => Work::Nothing,
                 Some(_) if length.saturating_add(1) < word.len() => Work::Word(
                     length.saturating_add(1),
                 ),
@@ -104,41 +104,41 @@ impl Work {
                 let digit = u64::from(byte.saturating_sub(b'0'));
                 Work::Number(number.saturating_mul(10).saturating_add(digit))
             }
-            Work::Number(number) if byte == b',' || byte == b')' => Work::Told(number),
-            Work::Told(work) => Work::Told(work),
-            Work::Before | Work::Number(_) => Work::Before,
+            Work::Number(number) if byte == b',' || byte == b')' => Work::Whole(number),
+            Work::Whole(work) => Work::Whole(work),
+            Work::Nothing | Work::Number(_) => Work::Nothing,
         }
     }
 }
 
-/// What an answer tells.
+/// What was read of an answer so far.
 #[derive(Clone, Copy)]
-struct Heard {
+struct Reading {
     front: Front,
     work: Work,
 }
 
-impl Heard {
-    fn nothing() -> Heard {
-        Heard {
+impl Reading {
+    fn nothing() -> Reading {
+        Reading {
             front: Front::new(),
-            work: Work::Before,
+            work: Work::Nothing,
         }
     }
 
-    // After some bytes more. Of many the last ones are looked at for the work.
+    // Reads more bytes. In a long piece only the last `END_BYTES` bytes are searched for the work.
     fn add(&mut self, bytes: &[u8]) {
         self.front.add(bytes);
         let skipped = bytes.len().saturating_sub(END_BYTES);
         if skipped > 0 {
-            self.work = Work::Before;
+            self.work = Work::Nothing;
         }
         for byte in bytes.get(skipped..).unwrap_or(&[]) {
             self.work = self.work.after(*byte);
         }
     }
 
-    // What a first line was answered.
+    // The seat that the answer to a first line gives.
     fn seat(&self) -> Seat<'_> {
         match self.front.bytes() {
             [b'u', b's', b'e', b'r', b' ', name @ ..] => Seat::User(name),
@@ -159,13 +159,13 @@ impl Heard {
 
     fn work(&self) -> u64 {
         match self.work {
-            Work::Told(work) => work,
+            Work::Whole(work) => work,
             _ => 0,
         }
     }
 }
 
-/// Tells a journal of answers: of the first whom it seats, and of each one where the journal counts.
+/// Reports answers to a journal: the first one, which seats the connection, and all of them if the journal counts.
 #[derive(Drop)]
 pub struct AnswerObserver<'x, R, J> {
     watch: &'x Watch<'x, R>,
@@ -173,12 +173,12 @@ pub struct AnswerObserver<'x, R, J> {
     caller: Caller,
     is_first: bool,
     is_counting: bool,
-    heard: Heard,
+    reading: Reading,
     took: Option<Duration>,
 }
 
 impl<'x, R: Clock, J: Journal> AnswerObserver<'x, R, J> {
-    /// Nothing was observed yet; the watch runs since the last line was there.
+    /// An observer that has not seen an answer. The watch runs since the last line came.
     pub fn new(
         watch: &'x Watch<'x, R>,
         journal: &'x J,
@@ -190,19 +190,19 @@ impl<'x, R: Clock, J: Journal> AnswerObserver<'x, R, J> {
             caller,
             is_first: true,
             is_counting: journal.is_counting(),
-            heard: Heard::nothing(),
+            reading: Reading::nothing(),
             took: None,
         }
     }
 
-    // Something is about to be written: an answer's first bytes are there so long after its line.
+    // Called before a write. If an answer begins with it, notes the time since its line came.
     fn begin(&mut self) {
-        if self.is_counting && self.heard.front.length == 0 {
+        if self.is_counting && self.reading.front.length == 0 {
             self.took = self.watch.passed();
         }
     }
 
-    // These bytes were written.
+    // Reads the bytes that were written.
     fn observe(&mut self, bytes: &[u8]) {
         if !self.is_first && !self.is_counting {
             return;
@@ -212,32 +212,32 @@ impl<'x, R: Clock, J: Journal> AnswerObserver<'x, R, J> {
             let Some(end) = memchr(b'\n', rest) else {
                 break;
             };
-            self.heard.add(rest.get(..end).unwrap_or(rest));
-            self.tell();
+            self.reading.add(rest.get(..end).unwrap_or(rest));
+            self.report();
             rest = rest.get(end.saturating_add(1)..).unwrap_or(&[]);
         }
-        self.heard.add(rest);
+        self.reading.add(rest);
     }
 
-    // An answer was written whole.
-    fn tell(&mut self) {
+    // Reports an answer that was written whole.
+    fn report(&mut self) {
         if self.is_first {
-            self.journal.seated(self.caller, self.heard.seat());
+            self.journal.seated(self.caller, self.reading.seat());
             self.is_first = false;
         }
         if self.is_counting {
             self.journal.answered(&Answered {
-                fault: self.heard.fault(),
-                work: self.heard.work(),
+                fault: self.reading.fault(),
+                work: self.reading.work(),
                 took: self.took,
             });
             self.watch.begin();
         }
-        self.heard = Heard::nothing();
+        self.reading = Reading::nothing();
     }
 }
 
-/// A writer of answers of which a journal is told, once their bytes were written.
+/// A writer of answers that reports them to a journal after their bytes are written.
 #[derive(Drop)]
 pub struct ObservedWriter<'x, W, R, J> {
     pub writer: W,

@@ -1,16 +1,16 @@
-//! Asks for helpers of which a journal is told.
+//! Helpers whose requests are reported to a journal.
 
 use crate::journal::Journal;
 use nesl_eval_helpers::Helpers;
 
-/// Asks others for helpers, and tells a journal what came of it.
+/// Asks others for helpers, and reports to a journal whether each request was granted.
 #[derive(Drop)]
-pub struct Told<'x, H, J> {
+pub struct ReportingHelpers<'x, H, J> {
     pub helpers: H,
     pub journal: &'x J,
 }
 
-impl<H: Helpers, J: Journal> Helpers for Told<'_, H, J> {
+impl<H: Helpers, J: Journal> Helpers for ReportingHelpers<'_, H, J> {
     type Permit = H::Permit;
 
     fn ask(&self) -> Option<H::Permit> {

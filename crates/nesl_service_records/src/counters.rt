@@ -1,4 +1,4 @@
-//! How a service is doing, in numbers.
+//! The counters of a service.
 
 use crate::answers::FAULTS;
 use crate::journal::{Answered, Caller, Ending, Seat};
@@ -7,30 +7,30 @@ use std::fmt::Write;
 use std::sync::atomic::{AtomicU64, Ordering};
 use std::time::Duration;
 
-/// Lines are slow that take as many milliseconds as one of these or longer.
+/// The thresholds in milliseconds for slow lines. A line counts for each threshold that it reaches.
 const SLOW_MILLIS: [u64; 3] = [1, 10, 100];
 
-/// Counts what a service does; any thread may. None of it names a user or a line.
+/// Counts events of a service. Any thread may count. No counter names a user or a line.
 #[derive(Drop)]
 pub struct Counters {
     begun: AtomicU64,
     unknown: AtomicU64,
     busy: AtomicU64,
-    /// By the place of the ending in `Ending::ALL`.
+    /// One counter for each ending, in the order of `Ending::ALL`.
     ended: Vec<AtomicU64>,
     lines: AtomicU64,
-    /// By the place of the word in `FAULTS`.
+    /// One counter for each fault, in the order of `FAULTS`.
     faults: Vec<AtomicU64>,
-    /// By the place of the time in `SLOW_MILLIS`.
+    /// One counter for each threshold, in the order of `SLOW_MILLIS`.
     slow: Vec<AtomicU64>,
     work: AtomicU64,
     granted: AtomicU64,
     refused: AtomicU64,
-    told: AtomicU64,
+    written: AtomicU64,
     lost: AtomicU64,
 }
 
-// So many counters, each at 0.
+// Makes `count` counters, each at 0.
 fn zeros(alloc: Global, count: usize) -> Result<Vec<AtomicU64>, AllocError> {
     let mut zeros = Vec::with_capacity(alloc, count)?;
     for _ in 0..count {
@@ -60,13 +60,13 @@ fn read_at(counters: &[AtomicU64], place: usize) -> u64 {
     }
 }
 
-// Writes a number behind what stands before it.
+// Writes a text and then a number.
 fn write_number(text: &mut String, before: &str, number: u64) -> Result<(), AllocError> {
     write!(text, "{before}{number}")?;
     Ok(())
 }
 
-// Writes `"NAME":NUMBER`, behind a comma where it isn't the first.
+// Writes `"NAME":NUMBER`, after a comma unless it is the first.
 fn write_one(
     text: &mut String,
     place: usize,
@@ -79,7 +79,7 @@ fn write_one(
 }
 
 impl Counters {
-    /// All of them at 0.
+    /// All counters at 0.
     pub fn new(alloc: Global) -> Result<Counters, AllocError> {
         Ok(Counters {
             begun: AtomicU64::new(0),
@@ -92,17 +92,17 @@ impl Counters {
             work: AtomicU64::new(0),
             granted: AtomicU64::new(0),
             refused: AtomicU64::new(0),
-            told: AtomicU64::new(0),
+            written: AtomicU64::new(0),
             lost: AtomicU64::new(0),
         })
     }
 
-    /// A connection has begun.
+    /// Counts a connection that has begun.
     pub fn begun(&self) {
         add(&self.begun, 1);
     }
 
-    /// A connection was seated.
+    /// Counts a connection that was turned away by this answer to its first line.
     pub fn seated(&self, seat: Seat<'_>) {
         match seat {
             Seat::User(_) => {}
@@ -111,14 +111,14 @@ impl Counters {
         }
     }
 
-    /// A connection has ended.
+    /// Counts a connection that has ended.
     pub fn ended(&self, ending: Ending) {
         if let Some(place) = Ending::ALL.iter().position(|one| *one == ending) {
             add_at(self.ended.as_slice(), place);
         }
     }
 
-    /// A line was answered.
+    /// Counts a line that was answered, with its work, its fault and its time.
     pub fn answered(&self, answered: &Answered) {
         add(&self.lines, 1);
         if answered.work > 0 {
@@ -136,7 +136,7 @@ impl Counters {
         }
     }
 
-    /// A helper was asked for.
+    /// Counts a request for a helper.
     pub fn asked(&self, is_granted: bool) {
         add(
             if is_granted {
@@ -148,12 +148,19 @@ impl Counters {
         );
     }
 
-    /// A line of the log was told or lost.
-    pub fn told(&self, is_told: bool) {
-        add(if is_told { &self.told } else { &self.lost }, 1);
+    /// Counts a line of the log, which was written or lost.
+    pub fn logged(&self, is_written: bool) {
+        add(
+            if is_written {
+                &self.written
+            } else {
+                &self.lost
+            },
+            1,
+        );
     }
 
-    /// One line of JSON: all counters, after so long a time.
+    /// Returns all counters as one line of JSON, without a line end. `uptime` is rounded down to seconds.
     pub fn json(&self, alloc: Global, uptime: Duration) -> Result<String, AllocError> {
         let mut text = String::new(alloc);
         self.write_connections(&mut text, uptime)?;
@@ -162,7 +169,7 @@ impl Counters {
         Ok(text)
     }
 
-    // Writes how long it is there, and what became of connections.
+    // Writes the uptime, and the numbers of connections.
     fn write_connections(&self, text: &mut String, uptime: Duration) -> Result<(), AllocError> {
         let mut ended = 0u64;
         for one in self.ended.as_slice() {
@@ -181,7 +188,7 @@ impl Counters {
         text.push_str("},")
     }
 
-    // Writes what became of lines.
+    // Writes the numbers of lines.
     fn write_lines(&self, text: &mut String) -> Result<(), AllocError> {
         write_number(text, "\"lines\":", read(&self.lines))?;
         write_number(text, ",\"work\":", read(&self.work))?;
@@ -196,11 +203,11 @@ impl Counters {
         text.push_str("},")
     }
 
-    // Writes what was asked for helpers, and what became of the lines of the log.
+    // Writes the numbers of requests for helpers, and of lines of the log.
     fn write_events(&self, text: &mut String) -> Result<(), AllocError> {
         write_number(text, "\"helpers\":{\"granted\":", read(&self.granted))?;
         write_number(text, ",\"refused\":", read(&self.refused))?;
-        write_number(text, "},\"log\":{\"told\":", read(&self.told))?;
+        write_number(text, "},\"log\":{\"told\":", read(&self.written))?;
         write_number(text, ",\"lost\":", read(&self.lost))?;
         text.push_str("}}")
     }

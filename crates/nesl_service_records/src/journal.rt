@@ -1,4 +1,4 @@
-//! Who is told of a service and of its connections.
+//! The events that a service and its connections report.
 ghost use Rattle.std.specs.Prelude.{◌≡◌};
 ghost use Rattle.nesl_service_records.specs.Ends.{ending_of};
 
@@ -6,7 +6,7 @@ use crate::accepting::AcceptFault;
 use nesl_line::exchange::End;
 use std::time::Duration;
 
-/// A connection: its number, the first of which is 1, the port that it comes from, and whether it is a WebSocket.
+/// A connection: its number, counted from 1, the peer's port, and whether it is a WebSocket.
 #[derive(Clone, Copy, PartialEq, Eq, Debug)]
 pub struct Caller {
     pub number: u64,
@@ -14,37 +14,37 @@ pub struct Caller {
     pub is_web: bool,
 }
 
-/// What a connection was seated as by its first line.
+/// The seat that a connection was given for its first line.
 #[derive(Clone, Copy, PartialEq, Eq, Debug)]
 pub enum Seat<'a> {
     User(&'a [u8]),
-    /// The line named no user of the roster.
+    /// The line names no user of the roster.
     Unknown,
     /// The user has another connection.
     Busy,
 }
 
-/// What was waited for in vain.
+/// What did not come in time.
 #[derive(Clone, Copy, PartialEq, Eq, Debug)]
 pub enum Missed {
     FirstLine,
     Line,
-    /// That an answer is taken.
+    /// The peer did not take an answer.
     Taking,
 }
 
 /// Why a connection ended.
 #[derive(Clone, Copy, PartialEq, Eq, Debug)]
 pub enum Ending {
-    /// The peer said no more.
+    /// The peer ended its input.
     Input,
-    /// The peer was told that it can't be served.
+    /// The peer got a fault for its first line, since its user is unknown or busy.
     TurnedAway,
-    /// The first line did not come whole in time.
+    /// The first line did not arrive whole in time.
     NoFirstLine,
-    /// A line did not come whole in time.
+    /// A later line did not arrive whole in time.
     Idle,
-    /// An answer was not taken in time.
+    /// The peer did not take an answer in time.
     NotTaken,
     ReadFault,
     WriteFault,
@@ -52,7 +52,7 @@ pub enum Ending {
 }
 
 impl Ending {
-    /// All of them.
+    /// All endings, in the order in which they are counted.
     pub const ALL: [Ending; 8] = [
         Ending::Input,
         Ending::TurnedAway,
@@ -64,8 +64,8 @@ impl Ending {
         Ending::NoMemory,
     ];
 
-    /// Why a connection ended of which this was seen: how its lines ended, whether it was turned away, and what was
-    /// waited for in vain.
+    /// Returns why a connection ended: by the end of its lines, whether it was turned away, and what did not come in
+    /// time.
     pub fn of(end: End, is_turned_away: bool, missed: Option<Missed>) -> Ending
         ensures { result ≡ ending_of end is_turned_away missed }
     {
@@ -85,7 +85,7 @@ impl Ending {
         }
     }
 
-    /// Its words.
+    /// The words for it in the log and in the counters.
     pub fn words(self) -> &'static str {
         match self {
             Ending::Input => "end of input",
@@ -100,8 +100,8 @@ impl Ending {
     }
 }
 
-/// A line that was answered: the place of its fault in `FAULTS`, the work that the answer tells, 0 where it tells none,
-/// and how long the line took, from the time at which it was there or the answer before it was written, where that was
+/// A line that was answered. `fault` is the place of its fault in `FAULTS`. `work` is the work that the answer states,
+/// or 0. `took` is the time from the line's arrival, or from the previous answer, to the answer's first byte, if it was
 /// measured.
 #[derive(Clone, Copy, PartialEq, Eq, Debug)]
 pub struct Answered {
@@ -113,18 +113,18 @@ pub struct Answered {
 /// A connection that has ended.
 #[derive(Clone, Copy, PartialEq, Eq, Debug)]
 pub struct Visit<'a> {
-    /// The user, where one was seated.
+    /// The user, if one was seated.
     pub user: Option<&'a [u8]>,
-    /// The lines that were given an answer.
+    /// The number of lines that were answered.
     pub lines: u64,
     pub ending: Ending,
-    /// How long it was there, where the clock could be read.
+    /// How long the connection lasted, if the clock could be read.
     pub took: Option<Duration>,
 }
 
-/// Is told of a service, and of each connection by the thread that serves it.
+/// Receives the events of a service. The events of a connection come from the thread that serves it.
 pub trait Journal {
-    /// All threads are there, and connections are taken up from now on. Where the answer is false none is.
+    /// All threads are ready, and connections are accepted from now on. If the result is false, none is accepted.
     fn opened(&self) -> bool;
 
     fn begun(&self, caller: Caller);
@@ -134,20 +134,20 @@ pub trait Journal {
 
     fn ended(&self, caller: Caller, visit: &Visit<'_>);
 
-    /// Whether it is told of each answer and of each ask for a helper.
+    /// Whether each answer and each request for a helper is to be reported.
     fn is_counting(&self) -> bool;
 
-    /// A line was answered, a first line too.
+    /// A line was answered; first lines count too.
     fn answered(&self, answered: &Answered);
 
-    /// A helper was asked for.
+    /// A helper was requested.
     fn asked(&self, is_granted: bool);
 
-    /// No connection is taken up any more, as that has failed for good. Who keeps no log is not concerned.
+    /// The service stopped accepting connections, since that failed for good. Journals without a log may ignore it.
     fn accept_failed(&self, _fault: AcceptFault) {}
 }
 
-/// Writes nothing down.
+/// A journal that ignores all events.
 #[derive(Clone, Copy)]
 pub struct NoJournal;
 

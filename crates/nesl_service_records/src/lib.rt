@@ -1,4 +1,4 @@
-//! What a service records: its connections and their answers, the counters of both, and whom it reports them to.
+//! The records of a service: its connections, their answers, and the counters of both.
 #![tactic(auto)]
 
 pub mod accepting;

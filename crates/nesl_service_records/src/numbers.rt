@@ -2,17 +2,17 @@
 ghost use Rattle.std.specs.Prelude.{◌≡◌, ◌+◌, ◌-◌, ◌≤◌, ◌<◌, ◌↔◌, IfSome, IsSome, Some, None};
 ghost use Rattle.std.specs.Option.{IfNone};
 
-/// Why a service ends early.
+/// Why a service ended early.
 #[derive(Clone, Copy, PartialEq, Eq, Debug)]
 pub enum Fault {
-    /// A socket failed that takes connections up.
+    /// A socket that accepts connections failed.
     Socket,
-    /// A thread, or the room that it needs, could not be had.
+    /// A thread could not be made, or memory for it ran out.
     Memory,
 }
 
-/// How many connections there are to be in all, how many of them are still to come, and the fault that ended them, if
-/// one did.
+/// The numbers of connections. `all` is how many there are in all, and `left` how many are still to come. `fault` is
+/// what ended them early, if anything did.
 #[derive(Clone, Copy, PartialEq, Eq, Debug)]
 pub struct Numbers {
     pub all: u64,
@@ -21,7 +21,7 @@ pub struct Numbers {
 }
 
 impl Numbers {
-    /// So many connections are to come.
+    /// The numbers for `all` connections.
     pub fn new(all: u64) -> Numbers
         ensures { result ≡ record { all = all; left = all; fault = None } }
     {
@@ -32,7 +32,7 @@ impl Numbers {
         }
     }
 
-    /// Gives out a number, the first of which is 1. None exactly where none is left.
+    /// Gives out the next number, counted from 1, or `None` if none is left.
     pub fn next(&mut self) -> Option<u64>
         ensures given { IsSome result ↔ (0 < self.old.left) }
         ensures number { IfSome result (λ number. number ≡ self.old.all - self.new.left) }
@@ -46,7 +46,7 @@ impl Numbers {
         Some(self.all.saturating_sub(self.left))
     }
 
-    /// Gives out no more. A fault of a socket stands before one of memory.
+    /// Gives out no more numbers. A fault of a socket is kept rather than one of memory.
     pub fn end(&mut self, fault: Fault)
         ensures none { self.new.left ≡ 0 }
         ensures all { self.new.all ≡ self.old.all }

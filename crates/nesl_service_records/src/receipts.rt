@@ -6,14 +6,14 @@ use nesl_house::lease::Receipt;
 use nesl_house::roster::MOST_USERS;
 use std::alloc::{AllocError, Global};
 
-/// The receipts that were taken in, those of a place as one.
+/// The receipts of ended connections, added up by user.
 #[derive(Drop)]
 pub struct Receipts {
     entries: Vec<Receipt>,
 }
 
 impl Receipts {
-    /// None yet, with room for one of each place.
+    /// No receipts. Room for one of each user is reserved.
     pub fn new(alloc: Global) -> Result<Receipts, AllocError>
         ensures { IfOk result (λ r. r.entries.items ≡ []) }
     {
@@ -21,7 +21,8 @@ impl Receipts {
         Ok(Receipts { entries })
     }
 
-    /// Takes one in, and takes no memory. False where it is for a 65th place, or where its place comes to 2^64 lines.
+    /// Adds a receipt, without allocating. Returns false if all 64 entries are taken by others, or if a user's lines
+    /// reach 2^64.
     pub fn take_in(&mut self, receipt: Receipt) -> bool
         ensures taken { IsTrue result → recorded_in self.new.entries.items
             ≡ recorded_in self.old.entries.items + receipt.recorded }
@@ -33,21 +34,20 @@ impl Receipts {
         }
     }
 
-    /// All of them.
+    /// Returns the entries.
     pub fn into_vec(self) -> Vec<Receipt>
         ensures { result ≡ self.entries }
     {
         self.entries
     }
 
-    // The entry for a place.
+    // Finds the entry of a user, who has this place in the roster.
     fn entry_of(&self, place: usize) -> Option<usize>
         ensures { IfSome result (λ entry. entry < length self.now.entries.items) }
     {
         self.entries.iter().position(|entry| entry.place == place)
     }
 
-    // Adds lines to an entry.
     fn add_to(&mut self, entry: usize, recorded: u64) -> bool
         requires { entry < length self.old.entries.items }
         ensures taken { IsTrue result → recorded_in self.new.entries.items
@@ -67,7 +67,6 @@ impl Receipts {
         }
     }
 
-    // Adds an entry.
     fn push(&mut self, receipt: Receipt) -> bool
         ensures taken { IsTrue result → recorded_in self.new.entries.items
             ≡ recorded_in self.old.entries.items + receipt.recorded }

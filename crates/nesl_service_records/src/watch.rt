@@ -1,21 +1,21 @@
-//! How long lines take.
+//! Measures how long lines take.
 
 use std::io;
 use std::io::Read;
 use std::sync::atomic::{AtomicU64, Ordering};
 use std::time::{Clock, Duration};
 
-/// A watch, which a connection's reader begins and its writer reads. Where it isn't wanted it reads no clock.
+/// A stopwatch, which a connection's reader starts and its writer reads. If it isn't wanted, it never reads the clock.
 #[derive(Drop)]
 pub struct Watch<'x, R> {
     rt: &'x R,
     is_wanted: bool,
-    /// The microsecond at which it was begun last.
+    /// The microsecond at which it was last started.
     since: AtomicU64,
 }
 
 impl<'x, R: Clock> Watch<'x, R> {
-    /// It was not begun yet, and counts from the clock's own begin until then.
+    /// A watch that has not been started. It counts from the clock's zero until then.
     pub fn new(rt: &'x R, is_wanted: bool) -> Watch<'x, R> {
         Watch {
             rt,
@@ -24,14 +24,14 @@ impl<'x, R: Clock> Watch<'x, R> {
         }
     }
 
-    /// Begins.
+    /// Starts the watch anew.
     pub fn begin(&self) {
         if let Some(now) = self.now() {
             self.since.store(now, Ordering::SeqCst);
         }
     }
 
-    /// How long that is ago; none where the watch isn't wanted or the clock can't be read.
+    /// The time since the watch was started, or `None` if it isn't wanted or the clock can't be read.
     pub fn passed(&self) -> Option<Duration> {
         let micros = self
             .now()?
@@ -47,7 +47,7 @@ impl<'x, R: Clock> Watch<'x, R> {
     }
 }
 
-/// A reader that begins a watch behind each read.
+/// A reader that starts a watch after each read.
 #[derive(Drop)]
 pub struct Timed<'x, T, R> {
     pub reader: T,

@@ -34,6 +34,6 @@ ops_sync = search (sendable, standard.crosses, ops_knot.crosses, code_sync, leaf
 pub body_sync : IsSync body_row.the_row
 body_sync = search (sendable, standard.crosses, ops_knot.crosses, code_sync, leaf_crosses.the_sync, span_crosses.the_field_sync, short_span_crosses.the_sync, builtin_crosses.the_field_sync) depth 40 fits 1000000
 
--- places, with what stands around them
+-- places, with their surroundings
 pub interval_sync : (a : NamedLft) (R H G T : RattleType) → IsSync R → IsSync H → IsSync G → IsSync T → IsSync (interval_row.the_row a R H G T)
 interval_sync a R H G T r h g t = search (sendable, standard.crosses, value_sync, ops_sync, body_sync, crew_crosses.the_sync, wanted_crosses.the_field_sync) depth 20

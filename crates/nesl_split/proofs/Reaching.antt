@@ -35,7 +35,7 @@ under_stack t m n s (Ok (Round r next)) o h = h
 under_stack t m n s (Ok (Moved k)) o h = h
 under_stack t m n s (Err x) o h = h
 
--- so many values are taken off the stack
+-- a number of values are taken off the stack
 pub many_reach : (t : Table) (m n : Machine Global) (s : Vec (code.Value Global) Global) (xs : List (code.Value Global)) (r : Result Reached Stop) (k : ℕ) (f : List Value × List Value → Out Value) →
     m.stack.items ≡ s.items ++ xs → length xs ≡ k → Fits t m →
     (Fits t (record m { stack = s }) → Reaches t (record m { stack = s }) r n (left_with t (record m { stack = s }) (f (map tree_of xs, local_of (record m { stack = s }))))) →

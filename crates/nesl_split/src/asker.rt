@@ -9,11 +9,11 @@ use nesl_lex::token::Span;
 use nesl_values::{Element, Value};
 use std::alloc::Global;
 
-/// By how many operations one block is distinguished from another.
-const TOLD: usize = 3;
+/// The number of operations at the start of a block by which blocks are distinguished.
+const MARKED_OPS: usize = 3;
 
-/// Where a machine is that has reached an interval: the fuel that it has left, how many blocks it has still to end, and
-/// how many turns the interval has had.
+/// The state of a machine at an interval: the fuel that is left, the blocks that haven't ended, and the turns that are
+/// done.
 #[derive(Clone, Copy)]
 pub(crate) struct Moment {
     pub fuel: u64,
@@ -21,7 +21,7 @@ pub(crate) struct Moment {
     pub taken: usize,
 }
 
-/// What is known of an interval: its turns are two or more.
+/// Describes an interval of two or more turns for `Helpers::advise`.
 pub(crate) fn asker_of<R, H, G, T>(
     interval: &Interval<'_, R, H, G, T>,
     turns: Turns,
@@ -49,7 +49,7 @@ pub(crate) fn asker_of<R, H, G, T>(
     }
 }
 
-// How many elements there are at a place, those of the elements included.
+// Counts the elements at a place, including nested ones.
 fn size_at<R, H, G, T>(interval: &Interval<'_, R, H, G, T>, place: usize) -> u64 {
     let mut size = 1;
     for source in interval.sources {
@@ -58,7 +58,7 @@ fn size_at<R, H, G, T>(interval: &Interval<'_, R, H, G, T>, place: usize) -> u64
     size
 }
 
-// How many elements the element of a sequence at a place has, where it is a sequence.
+// Counts the elements of the sequence at a place, if there is one.
 fn len_at(source: &Value<Global>, place: usize) -> u64 {
     let items = source.items();
     if place >= items.len() {
@@ -70,11 +70,11 @@ fn len_at(source: &Value<Global>, place: usize) -> u64 {
     }
 }
 
-// A number that distinguishes a block from others, by the places of its first operations and by what they call.
+// Returns a number for a block, made from the places of its first operations and from the functions it calls.
 fn mark_of(block: &Body) -> u64 {
     let mut mark = 0;
     let mut ops = block.ops();
-    for _ in 0..TOLD {
+    for _ in 0..MARKED_OPS {
         mark = mixed(mark, number_of(ops));
         match next_of(ops) {
             Some(next) => ops = next,
@@ -92,7 +92,7 @@ fn number_of_span(span: Span) -> u64 {
     mixed(span.start as u64, span.end as u64)
 }
 
-// A number of an operation.
+// Returns a number for an operation.
 fn number_of(ops: &Ops) -> u64 {
     match ops {
         Ops::Push { leaf, .. } => number_of_span(leaf.span.whole()),
@@ -114,7 +114,7 @@ fn number_of_callee(callee: &Callee) -> u64 {
     }
 }
 
-// The operation after one at the beginning of a block, if there is one.
+// Returns the operation after this one, if there is one.
 fn next_of(ops: &Ops) -> Option<&Ops> {
     match ops {
         Ops::Push { next, .. } => Some(next.ops()),

@@ -1,4 +1,4 @@
-//! Turns of an interval in columns.
+//! Evaluates turns of an interval in columns.
 ghost use Rattle.std.specs.Prelude.{◌≡◌, ◌+◌, ◌<◌, ◌≤◌, ◌^◌, Ok, MatchOption};
 ghost use Rattle.nesl_eval_nodes.specs.Meets.{Meets};
 ghost use Rattle.nesl_split.specs.Finding.{Are};
@@ -12,7 +12,8 @@ use nesl_eval_plain::{Block, bodies_in_columns, filters_in_columns, is_plain};
 use nesl_eval_rounds::scope_round;
 use std::alloc::Global;
 
-/// For how many values room is made at the first of these turns. Those of all turns behind are added to the first.
+/// Returns for how many values room is made at the first of these turns. The values of all later turns are added to the
+/// same list.
 pub(crate) fn room_for<R, H, G, T>(interval: &Interval<'_, R, H, G, T>, turns: Turns) -> usize
     requires { turns.from ≤ turns.to }
 {
@@ -23,8 +24,8 @@ pub(crate) fn room_for<R, H, G, T>(interval: &Interval<'_, R, H, G, T>, turns: T
     }
 }
 
-/// What is found in these turns, if the code of the block was kept and has a leaf at each of their places, and the fuel
-/// is enough. Else the meter is as it was.
+/// Evaluates these turns in columns. That needs code in columns for the block, a leaf at each place that the block
+/// uses, and enough fuel. Otherwise it returns nothing, and the meter is unchanged.
 pub(crate) fn find_by_columns<R, H, G, T: Tops<Global>>(
     interval: &Interval<'_, R, H, G, T>,
     turns: Turns,
@@ -61,7 +62,7 @@ pub(crate) fn find_by_columns<R, H, G, T: Tops<Global>>(
     }
 }
 
-/// Whether these turns are taken in columns, most likely.
+/// Whether these turns are likely to be evaluated in columns.
 pub(crate) fn are_in_columns<R, H, G, T: Tops<Global>>(
     interval: &Interval<'_, R, H, G, T>,
     turns: Turns,

@@ -1,21 +1,22 @@
-//! Who evaluates: the threads that there are, and what grants and watches them.
+//! The means of an evaluation in halves: threads, helpers, and the gate.
 ghost use Rattle.std.specs.Prelude.{◌≡◌, ℕ};
 
 use std::alloc::Global;
 use std::thread::{Threads, join};
 
-/// What each evaluation is handed, whichever thread does it.
+/// What each thread of an evaluation is given.
 #[derive_where(Clone, Copy)]
 pub struct Crew<'a, R, H, G, T> {
     pub rt: &'a R,
     pub helpers: &'a H,
     pub gate: &'a G,
-    /// Where the top level is found.
+    /// The definitions at the top level.
     pub tops: &'a T,
     pub alloc: Global,
 }
 
-/// What two halves of something shared come to. The right one runs on a thread of its own, where one can be made.
+/// Runs two halves of something shared, and returns both results. The right one runs on a thread of its own, if one can
+/// be made.
 pub fn fork<R: Threads + Sync, S: Sync, X: Send, F: Fn(&S, usize, usize) -> X + Sync>(
     rt: &R,
     shared: &S,

@@ -1,4 +1,4 @@
-//! What turns find.
+//! The results of turns.
 ghost use Rattle.std.specs.Prelude.{◌≡◌, ℕ, ◌+◌, ◌<◌, ◌≤◌, ◌^◌, ◌++◌, [], List};
 ghost use Rattle.nesl_values.specs.Tree.{ValueTree};
 ghost use Rattle.nesl_values.specs.View.{tree_of};
@@ -17,21 +17,21 @@ use nesl_values::Value;
 use nesl_values_builder::SequenceBuilder;
 use std::alloc::Global;
 
-/// What is wanted of turns: the places at which a filter holds, or the values of a body.
+/// The kind of result of turns: the places at which a filter holds, or the values of a body.
 #[derive(Clone, Copy)]
 pub(crate) enum Wanted {
     Places,
     Values,
 }
 
-/// What turns found.
+/// The results of some turns.
 #[derive(Drop)]
 pub(crate) enum Found {
     Places(Vec<usize>),
     Values(SequenceBuilder),
 }
 
-// The place, if the filter's value there is true.
+// Keeps the place, if the filter's value there is true.
 fn keep_place(kept: &mut Vec<usize>, place: usize, value: Value<Global>) -> Result<(), Stop>
     ensures { (m : Meter) → Meets (λ _ is. kept.new.items ≡ kept.old.items ++ is) m result m
         (place_if_true place (tree_of value)) }
@@ -40,7 +40,7 @@ fn keep_place(kept: &mut Vec<usize>, place: usize, value: Value<Global>) -> Resu
     keep_if(kept, place, holds)
 }
 
-// One more value of a body, which is paid for.
+// Adds the value of a body, whose work is charged.
 fn add_value(
     values: &mut SequenceBuilder,
     value: Value<Global>,
@@ -56,7 +56,7 @@ fn add_value(
 }
 
 impl Found {
-    /// Nothing yet, with room for so many values.
+    /// An empty result, with room for `room` values.
     pub(crate) fn new(wanted: Wanted, room: usize, alloc: Global) -> Found
         ensures { Are wanted result [] }
     {
@@ -66,7 +66,7 @@ impl Found {
         }
     }
 
-    /// Adds what the value of the turn at a place gives.
+    /// Adds the result of a turn, by the value of its block.
     pub(crate) fn add(
         &mut self,
         place: usize,
@@ -86,7 +86,7 @@ impl Found {
     }
 }
 
-// The places that were found.
+// Returns the places of a result that has places.
 fn only_places(found: Result<Found, Stop>) -> Result<Vec<usize>, Stop>
     ensures { (m n : Meter) (o : Out (List ℕ)) → Meets (Are Wanted.Places) m found n o
         → Meets (λ ks is. ks.items ≡ is) m result n o }
@@ -98,7 +98,7 @@ fn only_places(found: Result<Found, Stop>) -> Result<Vec<usize>, Stop>
     }
 }
 
-// The values that were found.
+// Returns the values of a result that has values.
 fn only_values(found: Result<Found, Stop>) -> Result<SequenceBuilder, Stop>
     ensures { (m n : Meter) (o : Out (List ValueTree)) → Meets (Are Wanted.Values) m found n o
         → Meets Has m result n o }
@@ -134,7 +134,7 @@ fn half_of_values(half: Half<Found>) -> Half<SequenceBuilder>
     }
 }
 
-/// What two halves found together.
+/// Joins the results of two halves.
 pub(crate) fn join_found(
     wanted: Wanted,
     left: Half<Found>,

@@ -1,4 +1,4 @@
-//! Helpers that are granted for turns.
+//! Helpers granted for turns.
 ghost use Rattle.std.specs.Prelude.{◌≡◌, ◌+◌, IfSome};
 ghost use Rattle.nesl_split.specs.Intervals.{AreIn};
 
@@ -9,13 +9,13 @@ use nesl_eval_helpers::{Advice, Helpers};
 use nesl_eval_nodes::held::Tops;
 use std::alloc::Global;
 
-/// A helper that was granted for turns, and how many intervals may still be cut one within another.
+/// A helper granted for turns, and how many more cuts may be nested.
 pub(crate) struct Grant<P> {
     pub permit: P,
     pub cuts: u32,
 }
 
-/// A helper for these turns, if they are two or more, may be cut, and one is granted.
+/// Asks for a helper for these turns, if there are at least two and they may be cut.
 pub(crate) fn ask_for<R, H: Helpers, G, T: Tops<Global>>(
     interval: &Interval<'_, R, H, G, T>,
     turns: Turns,

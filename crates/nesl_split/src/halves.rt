@@ -1,4 +1,4 @@
-//! A machine whose rounds are cut in halves.
+//! A machine that evaluates its rounds in halves.
 ghost use Rattle.std.specs.Prelude.{◌≡◌, ◌+◌, ◌<◌, ◌≤◌, ◌^◌, List, IfSome};
 ghost use Rattle.nesl_values.specs.Tree.{ValueTree};
 ghost use Rattle.nesl_eval_code.specs.Block.{Block};
@@ -14,7 +14,7 @@ use crate::crew::Crew;
 use crate::grant::{Grant, ask_for};
 use crate::intervals::find_in_halves;
 use crate::reached::{Reached, may_be_cut, reach, waits_for_turn};
-use crate::rounds::{begin_turns, end_turns, goes_to_body, interval_of, turns_left};
+use crate::rounds::{advance_to_body, begin_turns, end_turns, interval_of, turns_left};
 use nesl_eval_helpers::{Gate, Helpers};
 use nesl_eval_machine::state::{Hand, Machine};
 use nesl_eval_nodes::held::Tops;
@@ -25,9 +25,8 @@ use nesl_values::Value;
 use std::alloc::Global;
 use std::thread::Threads;
 
-/// All moves of a machine, up to the last value. Its rounds are cut in halves where helpers are granted, at most so
-/// often one within another. No run makes 2^64 - 1 moves. No other function calls `go_on`, so that it is inlined in
-/// this loop.
+/// Runs a machine to its last value. Its rounds are cut in halves where helpers are granted; at most `cuts` cuts are
+/// nested. No run makes 2^64 - 1 moves. Only this loop calls `go_on`, so that it is inlined here.
 #[cycle(halves)]
 pub(crate) fn make_moves<
     R: Threads + Sync,
@@ -57,8 +56,8 @@ pub(crate) fn make_moves<
     Err(Stop::Memory)
 }
 
-// One move where turns may be cut: all turns of a round, in halves where helpers are granted. A value at hand is put
-// on the stack first.
+// Makes one move. At a round it evaluates all turns, in halves where helpers are granted. The current value is put on
+// the stack first.
 #[cycle(halves)]
 #[inline(never)]
 fn move_in_halves<'a, R: Threads + Sync, H: Helpers + Sync, G: Gate + Sync, T: Tops<Global> + Sync>(
@@ -81,8 +80,8 @@ fn move_in_halves<'a, R: Threads + Sync, H: Helpers + Sync, G: Gate + Sync, T: T
     }
 }
 
-// Goes on with a round at its beginning, after a turn of it, or where a filter had its last one: all turns that are
-// left are taken in halves, if a helper is granted.
+// Goes on with a round at its start, after a turn, or after a filter's last turn. If a helper is granted, all remaining
+// turns are evaluated in halves.
 #[cycle(halves)]
 fn go_round_in_halves<
     'a,
@@ -109,7 +108,7 @@ fn go_round_in_halves<
     machine.go_on_with_round(round, next)
 }
 
-// Takes all turns that a round has left, and those of the body that comes after a filter, where helpers are granted.
+// Evaluates all remaining turns of a round, and those of the body after a filter, if helpers are granted.
 #[cycle(halves)]
 fn rounds_in_halves<
     'a,
@@ -132,13 +131,13 @@ fn rounds_in_halves<
     ensures depth { machine.new.meter.depth ≤ machine.old.meter.depth }
 {
     turns_in_halves(machine, round, cuts, crew)?;
-    if !goes_to_body(round, machine.meter.fuel, machine.alloc)? {
+    if !advance_to_body(round, machine.meter.fuel, machine.alloc)? {
         return Ok(());
     }
     turns_in_halves(machine, round, cuts, crew)
 }
 
-// The interval that is timed has ended, unless a turn of it goes on.
+// Reports the end of the timed interval, unless one of its turns goes on.
 fn end_timed_unless_inside<H: Helpers>(machine: &Machine<'_, Global>, helpers: &H) {
     if let Some(height) = helpers.timed_at() {
         if !waits_for_turn(&machine.frames, height) {
@@ -147,7 +146,7 @@ fn end_timed_unless_inside<H: Helpers>(machine: &Machine<'_, Global>, helpers: &
     }
 }
 
-// A helper for the turns that a round has left, if they are two or more, may be cut, and one is granted.
+// Asks for a helper for the remaining turns of a round, if there are at least two and they may be cut.
 fn ask_at<R, H: Helpers, G, T: Tops<Global>>(
     machine: &Machine<'_, Global>,
     round: &Round<'_, Global>,
@@ -169,8 +168,7 @@ fn ask_at<R, H: Helpers, G, T: Tops<Global>>(
     ask_for(&whole, turns_left(round), moment, cuts)
 }
 
-// Takes all turns that a round has left: in halves, if they are two or more and a helper is granted, else in columns,
-// if they can be.
+// Evaluates all remaining turns of a round. They run in halves if a helper is granted, else in columns if possible.
 #[cycle(halves)]
 fn turns_in_halves<
     'a,

@@ -1,4 +1,4 @@
-//! Turns of an interval, in halves.
+//! Evaluates turns of an interval in halves.
 ghost use Rattle.std.specs.Prelude.{◌≡◌, ◌+◌, ◌<◌, ◌≤◌, ◌^◌};
 ghost use Rattle.std.specs.Thread.{IsSync};
 ghost use Rattle.nesl_eval_meaning.specs.Out.{and_then};
@@ -22,7 +22,7 @@ use nesl_eval_nodes::meter::{Meter, Stop};
 use std::alloc::Global;
 use std::thread::Threads;
 
-// What is found, turn by turn.
+// Evaluates turns one after another.
 #[cycle(halves)]
 #[inline(never)]
 fn find_one_by_one<R: Threads + Sync, H: Helpers + Sync, G: Gate + Sync, T: Tops<Global> + Sync>(
@@ -53,7 +53,7 @@ fn find_one_by_one<R: Threads + Sync, H: Helpers + Sync, G: Gate + Sync, T: Tops
     Ok(found)
 }
 
-// One turn, by a machine that is there for those of the interval.
+// Evaluates one turn on a machine that the turns of the interval share.
 #[cycle(halves)]
 fn take_turn<'a, R: Threads + Sync, H: Helpers + Sync, G: Gate + Sync, T: Tops<Global> + Sync>(
     interval: &Interval<'a, R, H, G, T>,
@@ -72,11 +72,11 @@ fn take_turn<'a, R: Threads + Sync, H: Helpers + Sync, G: Gate + Sync, T: Tops<G
     ensures spent { meter.new.fuel + meter.new.depth ≤ meter.old.fuel + meter.old.depth }
 {
     set_at_turn(machine, interval, place, *meter)?;
-    let told = make_moves(machine, cuts, interval.crew);
-    end_turn(machine, told, place, so_far, meter)
+    let ended = make_moves(machine, cuts, interval.crew);
+    end_turn(machine, ended, place, so_far, meter)
 }
 
-// What is found by this thread: in columns, if it can be.
+// Evaluates turns on this thread, in columns if possible.
 #[cycle(halves)]
 fn find_in_order<R: Threads + Sync, H: Helpers + Sync, G: Gate + Sync, T: Tops<Global> + Sync>(
     interval: &Interval<'_, R, H, G, T>,
@@ -96,7 +96,7 @@ fn find_in_order<R: Threads + Sync, H: Helpers + Sync, G: Gate + Sync, T: Tops<G
     }
 }
 
-// What is found: in halves, if a helper is granted.
+// Evaluates turns, in halves if a helper is granted.
 #[cycle(halves)]
 #[inline(never)]
 fn find<R: Threads + Sync, H: Helpers + Sync, G: Gate + Sync, T: Tops<Global> + Sync>(
@@ -122,7 +122,7 @@ fn find<R: Threads + Sync, H: Helpers + Sync, G: Gate + Sync, T: Tops<Global> + 
     }
 }
 
-/// What is found in two halves, with a helper that was granted.
+/// Evaluates turns in two halves, with a granted helper.
 #[cycle(halves)]
 pub(crate) fn find_in_halves<
     R: Threads + Sync,
@@ -163,7 +163,7 @@ pub(crate) fn find_in_halves<
     join_found(interval.wanted, first, second, meter)
 }
 
-// What a half finds, which has the whole fuel.
+// Evaluates a half, which begins with the whole fuel.
 #[cycle(halves)]
 fn find_half<R: Threads + Sync, H: Helpers + Sync, G: Gate + Sync, T: Tops<Global> + Sync>(
     interval: &Interval<'_, R, H, G, T>,

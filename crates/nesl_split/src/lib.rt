@@ -1,4 +1,4 @@
-//! Evaluation in halves: a machine whose rounds are cut in two where a helper is granted, and threads share the halves.
+//! Evaluation in halves: where a helper is granted, a machine cuts its rounds in two, and threads share the halves.
 #![tactic(auto)]
 
 mod asker;

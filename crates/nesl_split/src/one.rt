@@ -1,4 +1,4 @@
-//! Expressions of the top level, with helpers.
+//! Evaluates expressions of the top level, with helpers.
 ghost use Rattle.std.specs.Prelude.{[]};
 ghost use Rattle.nesl_syntax_tree.specs.Views.{tree_of};
 ghost use Rattle.nesl_eval_meaning.specs.Names.{outside};
@@ -19,12 +19,12 @@ use nesl_syntax_tree::tree::Exp;
 use std::alloc::{AllocError, Global};
 use std::thread::Threads;
 
-// An interval is cut wherever a helper is granted. Each cut keeps its helper until both halves have ended, so no more
-// cuts stand one within another than there are helpers.
+// The most cuts that may be nested. Each cut keeps its helper until both halves have ended. So the number of helpers is
+// the limit, rather than this one.
 const CUTS: u32 = u32::MAX;
 
-// The top level as an evaluation in halves sees it. It is a type of its own, so that what a machine does at each step
-// is compiled once for that and once for an evaluation in order: where the two share it, it is inlined into neither.
+// The top level for evaluation in halves. It has a type of its own, so that the machine's steps are compiled once for
+// this and once for evaluation in order. If both shared a type, the steps would be inlined in neither.
 #[derive(Drop)]
 struct Shared<'a> {
     top_level: TopLevel<'a>,
@@ -44,7 +44,7 @@ impl Tops<Global> for Shared<'_> {
     }
 }
 
-/// What `eval_one` tells, for every answer of the helpers.
+/// Evaluates an expression like `eval_one`, with helpers. The result is the same for all answers of the helpers.
 pub fn eval_split<R: Threads + Sync, H: Helpers + Sync, G: Gate + Sync>(
     rt: &R,
     alloc: Global,

@@ -1,4 +1,4 @@
-//! Moves up to a round, where its turns may be cut.
+//! Moves a machine to a round, where its turns may be cut.
 ghost use Rattle.std.specs.Prelude.{◌≡◌, ◌+◌, ◌<◌, ◌^◌, ◌++◌, ◌∷◌, [], map};
 ghost use Rattle.std.specs.declared.vec.Vec.{Vec};
 ghost use Rattle.nesl_values.specs.View.{tree_of};
@@ -22,15 +22,15 @@ use nesl_lex::token::Span;
 use nesl_values::Value;
 use std::alloc::Global;
 
-/// What a move has reached: a round between two turns, and what is next after it, or else what is at hand.
+/// What a move has reached: a round between two turns with the operations after it, or else the current value.
 #[derive(Drop)]
 pub(crate) enum Reached<'a> {
     Round(Box<Round<'a, Global>>, &'a Ops),
     Moved(Hand<'a, Global>),
 }
 
-/// What an apply-to-each is made of: its span, how many sequences it has, the block that comes first, the body after a
-/// filter, and what is next.
+/// The parts of an apply-to-each: its span, its number of sequences, its first block, the body after a filter, and what
+/// comes next.
 #[derive(Clone, Copy)]
 struct Parts<'a> {
     span: Span,
@@ -40,12 +40,12 @@ struct Parts<'a> {
     next: &'a Ops,
 }
 
-// How many turns a round has left.
+// Counts the turns that a round has left.
 fn count_left(round: &Round<'_, Global>) -> usize {
     round.chosen.places().len().saturating_sub(round.turns)
 }
 
-// The round for a turn of which a frame waits, if it does.
+// Returns the round of a frame that waits for a turn.
 #[inline(always)]
 fn round_of_turn<'m, 'a>(frame: Option<&'m Frame<'a, Global>>) -> Option<&'m Round<'a, Global>> {
     match &frame?.purpose {
@@ -54,12 +54,12 @@ fn round_of_turn<'m, 'a>(frame: Option<&'m Frame<'a, Global>>) -> Option<&'m Rou
     }
 }
 
-/// Whether there is a frame above these, and it waits for a turn.
+/// Whether there is a frame above the first `height` ones, and it waits for a turn.
 pub(crate) fn waits_for_turn(frames: &[Frame<'_, Global>], height: usize) -> bool {
     round_of_turn(frames.get(height)).is_some()
 }
 
-// Whether the innermost frame waits for the last turn of a filter, or for one after which its round is to ask again.
+// Whether the innermost frame waits for the last turn of a filter, or for a turn after which its round is to ask again.
 #[inline(always)]
 fn may_be_cut_after_turn<H: Helpers>(machine: &Machine<'_, Global>, helpers: &H) -> bool {
     match round_of_turn(machine.frames.last()) {
@@ -75,8 +75,8 @@ fn may_be_cut_after_turn<H: Helpers>(machine: &Machine<'_, Global>, helpers: &H)
     }
 }
 
-/// Whether turns may be cut by what comes next: an apply-to-each, the end of the last turn of a filter, or that of a
-/// turn after which the apply-to-each is to ask again.
+/// Whether turns may be cut by the next operation. That is an apply-to-each, the end of a filter's last turn, or the
+/// end of a turn after which the round is to ask again.
 #[inline(always)]
 pub(crate) fn may_be_cut<H: Helpers>(
     machine: &Machine<'_, Global>,
@@ -100,7 +100,7 @@ pub(crate) fn may_be_cut<H: Helpers>(
     }
 }
 
-/// One move where turns may be cut. A value at hand is put on the stack first.
+/// Makes one move where turns may be cut. The current value is put on the stack first.
 pub(crate) fn reach<'a>(
     machine: &mut Machine<'a, Global>,
     hand: Hand<'a, Global>,
@@ -117,7 +117,7 @@ pub(crate) fn reach<'a>(
     }
 }
 
-// A value at hand is put on the stack, and nothing is at hand before what is next.
+// Puts the current value on the stack, so that none is left.
 fn set_down<'a>(
     machine: &mut Machine<'a, Global>,
     value: Value<Global>,
@@ -133,7 +133,7 @@ fn set_down<'a>(
     Ok(Reached::Moved(Hand::Empty))
 }
 
-// The round of an apply-to-each, or one of which a turn ends, if that is next. Else nothing is done.
+// Returns the round of an apply-to-each, or of a turn that ends, if one is next. Otherwise the machine is unchanged.
 fn reach_round<'a>(machine: &mut Machine<'a, Global>) -> Result<Reached<'a>, Stop>
     requires { machine.old.meter.fuel + machine.old.meter.depth < 2 ^ 64 }
     ensures reaches { (t : Table) → Fits t machine.old
@@ -177,7 +177,7 @@ fn reach_round<'a>(machine: &mut Machine<'a, Global>) -> Result<Reached<'a>, Sto
     }
 }
 
-// An apply-to-each, whose sequences are on the stack.
+// Begins an apply-to-each, whose sequences are on the stack.
 fn begin_each<'a>(machine: &mut Machine<'a, Global>, parts: &Parts<'a>) -> Result<Reached<'a>, Stop>
     requires { machine.old.meter.fuel + machine.old.meter.depth < 2 ^ 64 }
     ensures reaches { (t : Table) → let m = machine.old in Fits t m → Reaches t m result machine.new (left_with t m
@@ -193,7 +193,7 @@ fn begin_each<'a>(machine: &mut Machine<'a, Global>, parts: &Parts<'a>) -> Resul
     Ok(Reached::Round(round, parts.next))
 }
 
-// The end of a turn, whose value is on the stack.
+// Ends a turn, whose value is on the stack.
 fn end_turn<'a>(machine: &mut Machine<'a, Global>) -> Result<Reached<'a>, Stop>
     requires { machine.old.meter.fuel + machine.old.meter.depth < 2 ^ 64 }
     ensures reaches { (t : Table) → Fits t machine.old
@@ -206,7 +206,7 @@ fn end_turn<'a>(machine: &mut Machine<'a, Global>) -> Result<Reached<'a>, Stop>
     }
 }
 
-// The same with the frame that waited for it.
+// Ends a turn of this frame.
 fn leave_turn<'a>(
     machine: &mut Machine<'a, Global>,
     frame: Frame<'a, Global>,

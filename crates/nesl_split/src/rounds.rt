@@ -1,4 +1,4 @@
-//! All turns that a round has left, taken together.
+//! Evaluates all remaining turns of a round together.
 ghost use Rattle.std.specs.Prelude.{◌≡◌, ℕ, ◌≤◌, List, length, slice_range, MatchResult};
 ghost use Rattle.nesl_values.specs.Tree.{ValueTree};
 ghost use Rattle.nesl_eval_code.specs.Run.{Table};
@@ -20,7 +20,7 @@ use nesl_eval_nodes::meter::{Meter, Stop};
 use nesl_eval_rounds::{Round, go_to_body};
 use std::alloc::Global;
 
-/// What turns stand in that a machine takes together, and the meter that they begin with: they have all its fuel.
+/// Returns the environment and the meter for turns that a machine evaluates together. They have all its fuel.
 pub(crate) fn begin_turns<'m>(machine: &'m Machine<'_, Global>) -> (Room<'m>, Meter)
     ensures bodies { result.0.bodies.now ≡ machine.now.bodies.now }
     ensures names { places_of result.0.names.now ≡ env_of machine.now }
@@ -37,7 +37,7 @@ pub(crate) fn begin_turns<'m>(machine: &'m Machine<'_, Global>) -> (Room<'m>, Me
     (room, begin_meter(machine.meter.fuel))
 }
 
-/// The turns that a round has left.
+/// The remaining turns of a round.
 pub(crate) fn turns_left(round: &Round<'_, Global>) -> Turns
     ensures within { (result.from ≤ result.to) × (result.to ≡ length (chosen_places round.now.chosen)) }
     ensures left { slice_range (chosen_places round.now.chosen) result.from result.to
@@ -50,7 +50,7 @@ pub(crate) fn turns_left(round: &Round<'_, Global>) -> Turns
     }
 }
 
-// What is wanted of the turns of a round: places, if a body comes after its filter.
+// Returns the kind of result of a round's turns: places, if a body comes after its filter.
 fn wanted_of(round: &Round<'_, Global>) -> Wanted
     ensures { result ≡ wanted_with round.now.body }
 {
@@ -60,7 +60,7 @@ fn wanted_of(round: &Round<'_, Global>) -> Wanted
     }
 }
 
-/// The places of a round, and what is wanted of its block there.
+/// Returns the interval of a round.
 pub(crate) fn interval_of<'x, R, H, G, T>(
     room: &'x Room<'x>,
     round: &'x Round<'_, Global>,
@@ -83,7 +83,7 @@ pub(crate) fn interval_of<'x, R, H, G, T>(
     }
 }
 
-/// Adds to a round what was found in all turns that it had left, the deepest of which was so deep as this meter says.
+/// Adds the results of all remaining turns to a round. The depth in the meter is that of the deepest turn.
 pub(crate) fn end_turns(
     round: &mut Round<'_, Global>,
     found: Result<Found, Stop>,
@@ -100,8 +100,9 @@ pub(crate) fn end_turns(
     }
 }
 
-/// After a filter's last turn the round of its body, and whether there is one now whose turns may be taken.
-pub(crate) fn goes_to_body(
+/// Goes from a filter's round, after its last turn, to the round of its body. Returns whether there is a round whose
+/// turns may be evaluated.
+pub(crate) fn advance_to_body(
     round: &mut Box<Round<'_, Global>>,
     fuel: u64,
     alloc: Global,

@@ -1,4 +1,4 @@
-//! Whole runs in halves.
+//! Evaluates code in halves, from its start to its end.
 ghost use Rattle.std.specs.Prelude.{◌≡◌, ◌≤◌, []};
 ghost use Rattle.nesl_eval_code.specs.declared.code.Code.{Code};
 ghost use Rattle.nesl_eval_code.specs.Run.{run};
@@ -19,8 +19,8 @@ use nesl_values::Value;
 use std::alloc::Global;
 use std::thread::Threads;
 
-/// What the operations of an expression come to with so many levels and so much fuel, and the meter at the end, for
-/// every answer of the helpers. No more than `cuts` intervals are cut one within another.
+/// Evaluates the operations of an expression with these levels and this fuel. Returns the result and the meter at the
+/// end, which are the same for all answers of the helpers. At most `cuts` cuts are nested.
 pub fn evaluate_in_halves<
     R: Threads + Sync,
     H: Helpers + Sync,

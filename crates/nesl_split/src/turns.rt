@@ -1,4 +1,4 @@
-//! Turns of an apply-to-each, and what they stand in.
+//! Turns of an apply-to-each, and their environment.
 ghost use Rattle.std.specs.Prelude.{◌≡◌, ◌+◌, ◌-◌, ◌<◌, ◌≤◌, ◌^◌, ◌++◌, map, MatchResult};
 ghost use Rattle.nesl_values.specs.Tree.{ValueTree};
 ghost use Rattle.nesl_values.specs.View.{tree_of};
@@ -20,7 +20,7 @@ use nesl_eval_rounds::push_row;
 use nesl_values::Value;
 use std::alloc::Global;
 
-/// What turns stand in: the bodies of functions, the values of local names, and how many levels there are.
+/// The environment of turns: the bodies of functions, the values of local names, and the number of levels.
 #[derive(Clone, Copy)]
 pub(crate) struct Room<'a> {
     pub bodies: &'a [Option<Ops>],
@@ -28,7 +28,7 @@ pub(crate) struct Room<'a> {
     pub levels: u32,
 }
 
-/// What is wanted of a block at each of these places.
+/// The evaluation of a block at each of these places, with the kind of result.
 #[derive_where(Clone, Copy)]
 pub(crate) struct Interval<'a, R, H, G, T> {
     pub wanted: Wanted,
@@ -39,7 +39,7 @@ pub(crate) struct Interval<'a, R, H, G, T> {
     pub crew: &'a Crew<'a, R, H, G, T>,
 }
 
-/// The turns at the places of an interval from one to before another.
+/// The turns of an interval from index `from` up to before index `to`.
 #[derive(Clone, Copy)]
 pub(crate) struct Turns {
     pub from: usize,
@@ -47,7 +47,6 @@ pub(crate) struct Turns {
 }
 
 impl Turns {
-    /// How many there are.
     pub(crate) fn count(self) -> usize
         requires { self.from ≤ self.to }
         ensures { result ≡ self.to - self.from }
@@ -55,7 +54,7 @@ impl Turns {
         self.to - self.from
     }
 
-    /// Both halves. The right one begins where the left one ends.
+    /// Cuts the turns into two halves. The right one begins where the left one ends.
     pub(crate) fn halves(self) -> (Turns, Turns)
         requires { self.from ≤ self.to }
         ensures { AreHalves self result.0 result.1 }
@@ -66,7 +65,7 @@ impl Turns {
     }
 }
 
-/// More values, each with one more owner.
+/// Adds values to a list, each with one more owner.
 pub(crate) fn share_all(values: &mut Vec<Value<Global>>, more: &[Value<Global>]) -> Result<(), Stop>
     ensures { MatchResult result
         (λ _. map tree_of values.new.items ≡ map tree_of values.old.items ++ map tree_of more.now)
@@ -79,7 +78,7 @@ pub(crate) fn share_all(values: &mut Vec<Value<Global>>, more: &[Value<Global>])
     Ok(())
 }
 
-/// A machine with nothing to do, for the turns of an interval.
+/// Returns a machine with nothing to do, for the turns of an interval.
 pub(crate) fn idle_machine<'a, R, H, G, T>(
     interval: &Interval<'a, R, H, G, T>,
 ) -> Machine<'a, Global> {
@@ -97,7 +96,7 @@ pub(crate) fn idle_machine<'a, R, H, G, T>(
     }
 }
 
-/// Sets a machine at the beginning of the turn at a place, under this meter. What was left on it goes.
+/// Sets a machine to the start of the turn at a place, with this meter. Anything left on it is dropped.
 pub(crate) fn set_at_turn<'a, R, H, G, T>(
     machine: &mut Machine<'a, Global>,
     interval: &Interval<'a, R, H, G, T>,
@@ -119,8 +118,8 @@ pub(crate) fn set_at_turn<'a, R, H, G, T>(
     Ok(())
 }
 
-// What a machine tells of the end of its run: a fault has the span of the outermost call.
-fn tell(
+// Returns the result of a machine's run. A fault gets the span of the outermost call.
+fn end_of_run(
     machine: &Machine<'_, Global>,
     found: Result<Value<Global>, Stop>,
 ) -> Result<Value<Global>, Stop>
@@ -132,8 +131,8 @@ fn tell(
     }
 }
 
-/// What a machine found at the end of its run, which began with the fuel and the depth of this meter. No machine ends
-/// with more of both together.
+/// Takes the result of a machine's run, which began with the fuel and the depth of this meter. A run never increases
+/// the sum of both.
 pub(crate) fn settle(
     machine: &Machine<'_, Global>,
     found: Result<Value<Global>, Stop>,
@@ -150,10 +149,10 @@ pub(crate) fn settle(
         return Err(Stop::Memory);
     }
     *meter = ended;
-    tell(machine, found)
+    end_of_run(machine, found)
 }
 
-/// Adds what a turn gives at whose end a machine found this.
+/// Adds the result of a turn.
 pub(crate) fn end_turn(
     machine: &Machine<'_, Global>,
     found: Result<Value<Global>, Stop>,

@@ -15,7 +15,7 @@ not_true : (b : Bool) → (b ≡ true → ⊥) → false ≡ b
 not_true true never = absurd (never refl)
 not_true false never = refl
 
--- texts that differ are told apart
+-- texts that differ are distinguished
 pub unequal : (xs ys : List ℕ) → (xs ≡ ys → ⊥) → false ≡ bytes_eq xs ys
 unequal xs ys differs = not_true (bytes_eq xs ys) (λ same. differs ((bytes_eq-Decides xs ys).0 same))
 
@@ -58,7 +58,7 @@ values_of_more name bytes fields i d same within is_so =
     ap (λ fs. values_of name (map (header_bytes bytes) fs)) (drop_more fields i d within)
     ∙ ap (λ is. cond is ((header_bytes bytes (get_or fields i d)).1 ∷ rest) rest) is_so
 
--- a field of this name, whose value is put behind those before it
+-- a field with this name, whose value is added after those before it
 pub values_of_named : (name bytes : List ℕ) (fields : List HeaderSpan) (i : ℕ) (d : HeaderSpan)
     (values : List (Bor (List ℕ))) (value : Bor (List ℕ)) (all : List (List ℕ))
     → i < length fields

@@ -1,4 +1,4 @@
--- What a head that was read says of the bytes.
+-- What a parsed head means for the bytes.
 use Rattle.std.proofs.Common.{ℕ, List, codes, map, take, drop, subst}
 use Rattle.httparse.specs.Spans.{IsRequestOf, header_bytes}
 use Rattle.httparse.specs.declared.spans.HeaderSpan.{HeaderSpan}

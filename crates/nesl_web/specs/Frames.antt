@@ -4,7 +4,7 @@ use Rattle.websocket.specs.declared.protocol.frame.header.FrameHeader.{FrameHead
 use Rattle.websocket.specs.declared.protocol.frame.coding.OpCode.TheVariants as opcode
 use Rattle.websocket.specs.declared.protocol.frame.coding.Data.TheVariants.{Continue, Text}
 
--- the head of a frame, which is the last one of its text or not, and before which another was sent or not
+-- the head of a frame: `is_last` is whether it ends its text, and `is_begun` whether another frame came before it
 abbrev pub text_header : (is_last is_begun : Bool) → FrameHeader
 text_header is_last is_begun = record {
   is_final = is_last;

@@ -1,11 +1,11 @@
--- What a line is that comes in a message of its own.
+-- Lines that arrive as messages.
 use Rattle.std.specs.Prelude.{◌≢◌}
 use Rattle.std.specs.List.{AllByRecursion}
-use Rattle.nesl_web.specs.declared.messages.Heard.{Heard}
-use Rattle.nesl_web.specs.declared.messages.Heard.TheVariants.{Line, Control, Closed, NotALine, Lost}
+use Rattle.nesl_web.specs.declared.messages.Received.{Received}
+use Rattle.nesl_web.specs.declared.messages.Received.TheVariants.{Line, Control, Closed, NotALine, Lost}
 
--- no line ends within a line
-abbrev pub IfLine : Heard → Type 0
+-- a line has no line end in it
+abbrev pub IfLine : Received → Type 0
 IfLine (Line text) = AllByRecursion (λ b. b ≢ 10) text
 IfLine Control = Unit {0}
 IfLine Closed = Unit {0}

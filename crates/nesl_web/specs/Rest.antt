@@ -1,4 +1,4 @@
--- What wasn't given yet of a line.
+-- The unread rest of a line.
 use Rattle.std.specs.Prelude.{ℕ, List, drop}
 use Rattle.nesl_web.specs.declared.rest.Rest.{Rest}
 

@@ -1,4 +1,4 @@
--- What is let in: a head that the grammar of HTTP reads, of a request that is allowed.
+-- The requests that are accepted: their head is valid HTTP, and they are allowed.
 use Rattle.std.specs.Prelude.{ℕ, List, codes, map}
 use Rattle.httparse.specs.Grammar.{ReadsRequest, RequestHead}
 use Rattle.httparse.specs.Spans.{name_and_value}
@@ -12,7 +12,7 @@ pub record HasHead (bytes : List ℕ) : Type 0 where
   pub rest : List ℕ
   pub reads : ReadsRequest bytes head rest
 
--- the values of the fields of this name in a head
+-- the values of the fields with this name in a head
 abbrev pub values_in : List ℕ → RequestHead → List (List ℕ)
 values_in name head = values_of name (map name_and_value head.fields)
 
@@ -23,7 +23,7 @@ pub record BeginAllowed (given : List (List ℕ)) (bytes : List ℕ) : Type 0 wh
   pub reads : ReadsRequest bytes head rest
   pub allowed : IsAllowed given (values_in (codes "Host") head) (values_in (codes "Origin") head)
 
--- by what a request came to: it was let in only where it is allowed
+-- a request gets another route than a refusal only if it is allowed
 abbrev pub LetsIn : List (List ℕ) → List ℕ → Route → Type 0
 LetsIn given bytes (Page file) = BeginAllowed given bytes
 LetsIn given bytes Methods = BeginAllowed given bytes

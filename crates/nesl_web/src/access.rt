@@ -1,5 +1,5 @@
-//! Which requests are let in. A browser runs pages of strangers, and a stranger's name of a host may come to mean this
-//! machine.
+//! Decides which requests are allowed. A browser also runs pages of strangers, and a stranger may make their own host
+//! name resolve to this machine.
 ghost use Rattle.std.specs.Prelude.{◌≡◌, ◌↔◌, ◌++◌, ◌≤◌, length, map, bytes_eq, All, IfOk, IsTrue};
 ghost use Rattle.std.specs.Char.{is_ascii_digit};
 ghost use Rattle.std.specs.List.{list_all, list_any};
@@ -10,7 +10,7 @@ use http1::text::eq_ignore_case;
 use httparse::spans::HeaderSpan;
 use std::alloc::{AllocError, Global};
 
-/// The values of the fields of this name, in order.
+/// Returns the values of all fields with this name, in order.
 pub fn values_of<'b>(
     alloc: Global,
     head: &'b [u8],
@@ -30,7 +30,7 @@ pub fn values_of<'b>(
     Ok(values)
 }
 
-/// Whether a request is let in that has these fields `Host` and `Origin`. The names that were `given` are known beside
+/// Whether a request with these `Host` and `Origin` fields is allowed. `given` are the known names of the host, besides
 /// those by which each machine calls itself.
 pub fn is_allowed(given: &[&[u8]], hosts: &[&[u8]], origins: &[&[u8]]) -> bool
     ensures { IsTrue result ↔ IsAllowed (map (λ name. name.now) given.now) (map (λ host. host.now) hosts.now)
@@ -43,7 +43,7 @@ pub fn is_allowed(given: &[&[u8]], hosts: &[&[u8]], origins: &[&[u8]]) -> bool
     is_known(given, host) && are_of(host, origins)
 }
 
-// Whether a host is called by one of the names that are known.
+// Whether a host has one of the known names.
 fn is_known(given: &[&[u8]], host: &[u8]) -> bool
     ensures { result ≡ is_known (map (λ name. name.now) given.now) host.now }
 {
@@ -53,7 +53,7 @@ fn is_known(given: &[&[u8]], host: &[u8]) -> bool
     is_own || is_called_by_any(given, host)
 }
 
-// Whether a host is called by one of these names.
+// Whether a host has one of these names.
 fn is_called_by_any(names: &[&[u8]], host: &[u8]) -> bool
     ensures { result ≡ list_any (is_called host.now) (map (λ name. name.now) names.now) }
 {
@@ -66,7 +66,7 @@ fn any_calls(names: &[&[u8]], host: &[u8]) -> bool
     names.iter().any(|name| is_called(host, name))
 }
 
-// Whether a host is called by this name, with any port or none.
+// Whether a host has this name, with or without a port.
 fn is_called(host: &[u8], name: &[u8]) -> bool
     ensures { result ≡ is_called host.now name.now }
 {
@@ -74,7 +74,7 @@ fn is_called(host: &[u8], name: &[u8]) -> bool
     eq_ignore_case(&host[..length], name) && is_port(&host[length..])
 }
 
-// Whether this is a port or nothing.
+// Whether this is empty, or a colon and a port.
 fn is_port(rest: &[u8]) -> bool
     ensures { result ≡ is_port rest.now }
 {
@@ -87,21 +87,21 @@ fn are_digits(bytes: &[u8]) -> bool
     bytes.iter().all(|byte| byte.is_ascii_digit())
 }
 
-// Whether all these pages come from this host and port.
+// Whether all these origins are of this host and port.
 fn are_of(host: &[u8], origins: &[&[u8]]) -> bool
     ensures { result ≡ list_all (λ origin. is_of host.now origin.now) origins.now }
 {
     origins.iter().all(|origin| is_of(host, origin))
 }
 
-// Whether a page comes from this host and port.
+// Whether an origin is of this host and port.
 fn is_of(host: &[u8], origin: &[u8]) -> bool
     ensures { result ≡ is_of host.now origin.now }
 {
     is_joined(origin, b"http://", host) || is_joined(origin, b"https://", host)
 }
 
-// Whether a text is one text and then the other.
+// Whether a text is `front` followed by `rest`.
 fn is_joined(text: &[u8], front: &[u8], rest: &[u8]) -> bool
     ensures { result ≡ bytes_eq text.now (front.now ++ rest.now) }
 {

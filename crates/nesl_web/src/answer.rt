@@ -1,4 +1,4 @@
-//! What a request is answered: a file of the page, why it is refused, or that its connection becomes a WebSocket.
+//! The answers to requests: a file of the page, a refusal, or the switch to a WebSocket.
 
 use crate::files::File;
 use http1::WriteError;
@@ -8,14 +8,14 @@ use std::alloc::Global;
 /// Why a request is refused.
 #[derive(Clone, Copy, PartialEq, Eq, Debug)]
 pub enum Refusal {
-    /// It is no request, or none that makes a connection a WebSocket where it should be one.
+    /// It is no valid request, or no valid request for a WebSocket.
     Unreadable,
-    /// It was sent for another host, or by another page.
+    /// It is for another host, or comes from a page of another host.
     Forbidden,
     NotFound,
-    /// Another method than these that there are.
+    /// Its method isn't supported.
     Method,
-    /// Its head took too long.
+    /// Its head did not arrive in time.
     Slow,
     /// Its head has too many bytes or fields.
     Large,
@@ -33,7 +33,7 @@ impl Refusal {
         }
     }
 
-    // The status in words.
+    // Returns the reason phrase of the status.
     fn words(self) -> &'static str {
         match self {
             Refusal::Unreadable => "Bad Request",
@@ -46,20 +46,21 @@ impl Refusal {
     }
 }
 
-/// Whether the text of an answer is sent, or left out as HEAD asks for it.
+/// Whether an answer has its text, or only its head, as for HEAD.
 #[derive(Clone, Copy, PartialEq, Eq, Debug)]
 pub enum Content {
     Sent,
     LeftOut,
 }
 
-/// What a page may do that has this policy: it loads files of its own and connects to where it came from, and nothing
-/// else; and no other page shows it within itself.
+/// The content security policy. The page loads its own files and connects to its own origin, and to nothing else. No
+/// other page can embed it.
 const POLICY: &[u8] =
     b"default-src 'none'; script-src 'self'; style-src 'self'; connect-src 'self'; \
     base-uri 'none'; form-action 'none'; frame-ancestors 'none'";
 
-// What each answer has: what a page may do, and that nothing is guessed, kept or told to others.
+// The fields of each answer: the policy, and that browsers neither guess types, nor keep answers, nor send the page's
+// address to others.
 const POLICY_FIELD: Header<'static> = Header {
     name: b"Content-Security-Policy",
     value: POLICY,
@@ -90,7 +91,7 @@ const CLOSE_FIELD: Header<'static> = Header {
     value: b"close",
 };
 
-// The fields of an answer with a text of this kind, but for the text's length.
+// The fields of an answer with a text of this kind, except for its length.
 fn text_fields(kind: &'static str) -> [Header<'static>; 7] {
     [
         POLICY_FIELD,
@@ -106,7 +107,7 @@ fn text_fields(kind: &'static str) -> [Header<'static>; 7] {
     ]
 }
 
-// The fields of the answer after which a connection is a WebSocket, but for the key.
+// The fields of an answer that switches to a WebSocket, except for the key.
 fn upgrade_fields() -> [Header<'static>; 6] {
     [
         POLICY_FIELD,
@@ -124,7 +125,7 @@ fn upgrade_fields() -> [Header<'static>; 6] {
     ]
 }
 
-// The head of an answer that a text of so many bytes follows, and then the end of the connection.
+// Writes the head of an answer with a text of this length. The connection ends after it.
 fn text_head(
     alloc: Global,
     status: u16,
@@ -140,7 +141,7 @@ fn text_head(
     write_head(alloc, status, words, &text_fields(kind), length_field)
 }
 
-// The head of an answer with these fields.
+// Writes the head of an answer.
 fn write_head(
     alloc: Global,
     status: u16,
@@ -153,12 +154,12 @@ fn write_head(
     Ok(bytes)
 }
 
-/// The head of the answer that has this file.
+/// Writes the head of the answer with this file.
 pub fn file_head(alloc: Global, file: File) -> Result<Vec<u8>, WriteError> {
     text_head(alloc, 200, "OK", file.kind, file.text.len())
 }
 
-/// The answer that names the methods there are, and has no text.
+/// Writes the answer that lists the supported methods. It has no text.
 pub fn methods_answer(alloc: Global) -> Result<Vec<u8>, WriteError> {
     let fields = [
         POLICY_FIELD,
@@ -170,7 +171,7 @@ pub fn methods_answer(alloc: Global) -> Result<Vec<u8>, WriteError> {
     write_head(alloc, 204, "No Content", &fields, CLOSE_FIELD)
 }
 
-/// The answer that refuses a request, with its text or without.
+/// Writes the answer that refuses a request, with or without its text.
 pub fn refusal_answer(
     alloc: Global,
     refusal: Refusal,
@@ -191,7 +192,7 @@ pub fn refusal_answer(
     Ok(bytes)
 }
 
-/// The answer after which the connection is a WebSocket, with the key that accepts it.
+/// Writes the answer that switches to a WebSocket. `key` proves that the request was understood.
 pub fn upgrade_answer(alloc: Global, key: &[u8; 28]) -> Result<Vec<u8>, WriteError> {
     let accept_field = Header {
         name: b"Sec-WebSocket-Accept",

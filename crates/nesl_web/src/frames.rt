@@ -1,4 +1,4 @@
-//! Texts that go out on a WebSocket, frame by frame.
+//! Sends texts on a WebSocket, frame by frame.
 ghost use Rattle.std.specs.Prelude.{◌≡◌, [], false, true, not, length, take, IfOk, OnOk};
 ghost use Rattle.std.specs.Io.{WritesAtMost};
 ghost use Rattle.std.specs.Io.KnownBytes.{Appends};
@@ -11,33 +11,32 @@ use std::io::{ErrorKind, Write};
 use websocket::protocol::frame::coding::{Data, OpCode};
 use websocket::protocol::frame::{FrameHeader, write_frame};
 
-/// The bytes of a text that are gathered before they are sent.
+/// The most bytes of a text that are gathered before they are sent.
 const GATHERED_BYTES: usize = 8192;
 
-/// The most bytes of the head of a frame that has no mask.
+/// The most bytes of the head of a frame without a mask.
 const HEAD_BYTES: usize = 10;
 
-/// The most bytes of a text in a frame that is sent from where they are.
+/// The most bytes of a text that one frame sends without copying.
 const FRAME_BYTES: usize = 65_536;
 
-/// Sends texts: what is written until a flush is one, without its line end.
+/// Sends texts. Everything written until a flush is one text, without its line end.
 ///
-/// A short text is gathered, and sent as one frame. Of a longer one each frame is sent from where the bytes are, so no
-/// text is copied whole, and sending takes no memory: what it needs is there from the begin. After an error nothing
-/// more may be written.
+/// A short text is gathered and sent as one frame. A longer one is sent in several frames, straight from the caller's
+/// bytes. So no text is copied whole, and sending doesn't allocate. After an error nothing more may be written.
 #[derive(Drop)]
 pub struct FrameWriter<W> {
     writer: W,
-    /// What wasn't sent yet of a text.
+    /// The bytes of a text that weren't sent yet.
     gathered: Vec<u8>,
-    /// A frame with what was gathered, or the head of another frame.
+    /// A frame with the gathered bytes, or the head of another frame.
     frame: Vec<u8>,
-    /// Whether a frame of the text was sent.
+    /// Whether a frame of the current text was sent.
     is_begun: bool,
 }
 
 impl<W: Write + Drop> FrameWriter<W> {
-    /// Nothing was written yet.
+    /// A writer that has not sent a text. Allocates its buffers.
     pub fn new(alloc: Global, writer: W) -> Result<FrameWriter<W>, AllocError>
         ensures { IfOk result (λ frames. frames.writer ≡ writer) }
     {
@@ -49,7 +48,7 @@ impl<W: Write + Drop> FrameWriter<W> {
         })
     }
 
-    /// Where the frames went.
+    /// Returns the writer below.
     pub fn into_inner(self) -> W
         ensures { result ≡ self.writer }
     {
@@ -58,7 +57,7 @@ impl<W: Write + Drop> FrameWriter<W> {
 }
 
 impl<W: Write> FrameWriter<W> {
-    // Sends what was gathered as a frame, the last one of its text or not.
+    // Sends the gathered bytes as a frame. `is_last` is whether it ends the text.
     fn send_gathered(&mut self, is_last: bool) -> io::Result<()>
         ensures sent { OnOk result (Appends (W.contents self.old.writer) (W.contents self.new.writer)
             (encode_frame (text_header is_last self.old.is_begun) self.old.gathered.items)) }
@@ -74,7 +73,7 @@ impl<W: Write> FrameWriter<W> {
         self.writer.write_all(self.frame.as_slice())
     }
 
-    // Sends the front of a long text as a frame, from where it is, and returns how long that is.
+    // Sends the front of a long text as a frame, without copying. Returns its length in bytes.
     fn send_front(&mut self, text: &[u8]) -> io::Result<usize>
         ensures bound { WritesAtMost result text.now }
         ensures sent { IfOk result (λ count. Appends (W.contents self.old.writer) (W.contents self.new.writer)
@@ -117,7 +116,8 @@ impl<W: Write> Write for FrameWriter<W> {
     }
 }
 
-// The head of a frame of a text: it is the last one or not, and the first one or not.
+// Returns the head of a frame. `is_last` is whether it ends its text, and `is_begun` whether another frame came before
+// it.
 fn text_header(is_last: bool, is_begun: bool) -> FrameHeader
     ensures { result ≡ text_header is_last is_begun }
 {
@@ -128,8 +128,8 @@ fn text_header(is_last: bool, is_begun: bool) -> FrameHeader
     }
 }
 
-// The front of a long text that fits a frame and ends with a character. The last byte, which may be the line end, is
-// none of it.
+// Returns the front of a long text that fits a frame and ends with a character. The last byte is left out, since it may
+// be the line end.
 fn front_of(text: &[u8]) -> io::Result<&[u8]>
     ensures { IfOk result (λ front. front.now ≡ take (length front.now) text.now) }
 {
@@ -143,7 +143,7 @@ fn front_of(text: &[u8]) -> io::Result<&[u8]>
     }
 }
 
-// An error where bytes are no text.
+// Fails if the bytes are not UTF-8.
 fn check_text(bytes: &[u8]) -> io::Result<()> {
     match str::from_utf8(bytes) {
         Ok(_) => Ok(()),

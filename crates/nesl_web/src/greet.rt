@@ -1,4 +1,4 @@
-//! A connection of a browser, as it begins.
+//! The start of a browser's connection.
 
 use crate::answer::{Content, Refusal, file_head, methods_answer, refusal_answer, upgrade_answer};
 use crate::files::File;
@@ -12,21 +12,21 @@ use std::io::{ErrorKind, Write};
 use std::net::TcpStream;
 use std::time::{Clock, Duration};
 
-/// How many seconds a piece of an answer may take to be taken that is no WebSocket's.
+/// How many seconds a piece of an answer may take, except on a WebSocket.
 const PIECE_SECONDS: u64 = 10;
 
-/// What became of a connection.
+/// What a connection became.
 #[derive(Drop)]
 pub enum Greeted {
-    /// It asked for a file of the page or was refused, was answered with this status, and has ended.
+    /// It requested a file or was refused. It was answered with this status, and has ended.
     Answered(u16),
-    /// It is a WebSocket, and these bytes came behind its head.
+    /// It is a WebSocket. These bytes followed the head of its request.
     Session(Vec<u8>),
 }
 
-/// Reads what a browser asks for, and answers it. The names of the host that were `given` are let in beside those by
-/// which each machine calls itself. The head may take as long as a first line, and on a WebSocket a piece of an answer
-/// as long as a line.
+/// Reads a browser's request, and answers it. `given` are known names of the host, besides those by which each machine
+/// calls itself. The head has as much time as a first line. On a WebSocket, a piece of an answer has as much time as a
+/// line.
 pub fn greet<'s, R: Clock>(
     rt: &'s R,
     alloc: Global,
@@ -46,22 +46,22 @@ pub fn greet<'s, R: Clock>(
                 accept_session(alloc, wire, &accept_key, bytes, head_bytes)
             }
             Route::Page(file) => send_file(alloc, wire, file, content_for(bytes.as_slice())),
-            Route::Methods => tell_methods(alloc, wire),
+            Route::Methods => send_methods(alloc, wire),
             Route::Refused(refusal) => {
                 refuse(alloc, wire, refusal, content_for(bytes.as_slice()))
             }
         },
         Err(HeadFault::Refused(refusal)) => refuse(alloc, wire, refusal, Content::Sent),
-        Err(HeadFault::Lost) => Err(lost()),
+        Err(HeadFault::Lost) => Err(lost_error()),
     }
 }
 
-// The connection ended, or memory ran out.
-fn lost() -> io::Error {
+// The error where the connection ended, or memory ran out.
+fn lost_error() -> io::Error {
     io::Error::from(ErrorKind::ConnectionAborted)
 }
 
-// Sends a file of the page, or its head alone, and ends.
+// Sends a file of the page, or only its head, and ends the connection.
 fn send_file<R: Clock>(
     alloc: Global,
     mut wire: Wire<'_, R>,
@@ -69,7 +69,7 @@ fn send_file<R: Clock>(
     content: Content,
 ) -> io::Result<Greeted> {
     let Ok(head) = file_head(alloc, file) else {
-        return Err(lost());
+        return Err(lost_error());
     };
     wire.write_all(head.as_slice())?;
     if content == Content::Sent {
@@ -78,16 +78,16 @@ fn send_file<R: Clock>(
     Ok(finish(wire, 200, BROWSER_DRAIN))
 }
 
-// Tells which methods there are, and ends.
-fn tell_methods<R: Clock>(alloc: Global, mut wire: Wire<'_, R>) -> io::Result<Greeted> {
+// Lists the supported methods, and ends the connection.
+fn send_methods<R: Clock>(alloc: Global, mut wire: Wire<'_, R>) -> io::Result<Greeted> {
     let Ok(answer) = methods_answer(alloc) else {
-        return Err(lost());
+        return Err(lost_error());
     };
     wire.write_all(answer.as_slice())?;
     Ok(finish(wire, 204, REFUSED_DRAIN))
 }
 
-// Says why a request is refused, and ends.
+// Refuses a request, and ends the connection.
 fn refuse<R: Clock>(
     alloc: Global,
     mut wire: Wire<'_, R>,
@@ -95,7 +95,7 @@ fn refuse<R: Clock>(
     content: Content,
 ) -> io::Result<Greeted> {
     let Ok(answer) = refusal_answer(alloc, refusal, content) else {
-        return Err(lost());
+        return Err(lost_error());
     };
     wire.write_all(answer.as_slice())?;
     Ok(finish(wire, refusal.status(), REFUSED_DRAIN))
@@ -107,7 +107,7 @@ fn finish<R: Clock>(mut wire: Wire<'_, R>, status: u16, limits: DrainLimits) -> 
     Greeted::Answered(status)
 }
 
-// Accepts a WebSocket. Of these bytes so many are the head of its request.
+// Switches to a WebSocket. The first `head_bytes` of the bytes are the head of its request.
 fn accept_session<R: Clock>(
     alloc: Global,
     mut wire: Wire<'_, R>,
@@ -116,7 +116,7 @@ fn accept_session<R: Clock>(
     head_bytes: usize,
 ) -> io::Result<Greeted> {
     let Ok(answer) = upgrade_answer(alloc, accept_key) else {
-        return Err(lost());
+        return Err(lost_error());
     };
     let first = Vec::from_slice(alloc, bytes.get(head_bytes..).unwrap_or(&[]))?;
     wire.write_all(answer.as_slice())?;

@@ -1,4 +1,4 @@
-//! The head of a request, as it comes in.
+//! Reads the head of a request.
 ghost use Rattle.std.specs.Prelude.{◌≤◌, length, IfOk};
 ghost use Rattle.nesl_web.specs.Route.{HasHead};
 
@@ -12,10 +12,10 @@ use std::io::Read;
 /// The most bytes of a head.
 const MOST_BYTES: usize = 8192;
 
-/// How many bytes are asked for at once.
+/// The most bytes of one read.
 const PIECE_BYTES: usize = 1024;
 
-/// Why there is no head.
+/// Why a head could not be read.
 #[derive(Clone, Copy, PartialEq, Eq, Debug)]
 pub enum HeadFault {
     /// It is refused.
@@ -36,7 +36,7 @@ impl From<AllocError> for HeadFault {
     }
 }
 
-/// Reads a head, and what comes with its last bytes, 8 KiB at most. A read that comes to its time ends it.
+/// Reads a head, and any bytes that come with its end: at most 8 KiB in all. A read that times out ends it.
 pub fn read_head<R: Read>(alloc: Global, reader: &mut R) -> Result<Vec<u8>, HeadFault>
     ensures whole { IfOk result (λ bytes. HasHead bytes.items) }
     ensures bound { IfOk result (λ bytes. length bytes.items ≤ MOST_BYTES) }
@@ -56,7 +56,7 @@ pub fn read_head<R: Read>(alloc: Global, reader: &mut R) -> Result<Vec<u8>, Head
     Err(HeadFault::Refused(Refusal::Large))
 }
 
-// Reads some bytes once, at most so many.
+// Reads once, at most `room` bytes.
 fn read_piece<R: Read>(alloc: Global, reader: &mut R, room: usize) -> Result<Vec<u8>, HeadFault>
     ensures { IfOk result (λ piece. length piece.items ≤ room) }
 {
@@ -69,7 +69,7 @@ fn read_piece<R: Read>(alloc: Global, reader: &mut R, room: usize) -> Result<Vec
     }
 }
 
-// What a read that failed is: a wait that came to its end is told to the peer.
+// Returns the fault for a read that failed. A timeout is reported to the peer.
 fn fault_of(error: &io::Error) -> HeadFault {
     if is_late(error) {
         HeadFault::Refused(Refusal::Slow)

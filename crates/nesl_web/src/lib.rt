@@ -1,4 +1,4 @@
-//! The page, and connections of browsers: who may come, what is asked for, and lines over a WebSocket.
+//! Serves browsers: the page, the requests that are allowed, and lines over WebSockets.
 #![tactic(auto)]
 
 pub mod access;

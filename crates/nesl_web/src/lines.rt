@@ -1,4 +1,4 @@
-//! Lines and answers, a message for each.
+//! Lines and answers over a WebSocket, one message for each.
 ghost use Rattle.std.specs.Prelude.{◌≡◌, ◌-◌, ◌/◌};
 ghost use Rattle.std.specs.Duration.{as_nanos};
 
@@ -12,20 +12,20 @@ use std::io::{Read, Write};
 use std::net::TcpStream;
 use std::time::{Clock, Duration};
 
-/// How long a line may take to come.
+/// The time limits for lines and answers.
 #[derive(Clone, Copy, PartialEq, Eq, Debug)]
 pub struct Patience {
-    /// Until the first has come.
+    /// The time for the first line to arrive.
     pub first_line: Duration,
-    /// Until each after that has come, and until each piece of an answer is taken; without bound where there is none.
+    /// The time for each later line to arrive, and for each piece of an answer to be taken. `None` is no limit.
     pub idle: Option<Duration>,
 }
 
-/// What part of its time a first line has in a hurry.
+/// The part of its time that a first line has in a hurry: one tenth.
 const HURRIED_PART: u32 = 10;
 
 impl Patience {
-    /// In a hurry: a first line may take a tenth of its time.
+    /// The limits in a hurry: a tenth of the time for a first line.
     pub fn hurried(self) -> Patience
         ensures first_line { as_nanos result.first_line ≡ as_nanos self.first_line / 10 }
         ensures idle { result.idle ≡ self.idle }
@@ -36,7 +36,7 @@ impl Patience {
         }
     }
 
-    /// After so long, where the first line hasn't come yet: it may take what is left.
+    /// The limits after this time has passed of the time for a first line.
     pub fn after(self, took: Duration) -> Patience
         ensures first_line { as_nanos result.first_line ≡ as_nanos self.first_line - as_nanos took }
         ensures idle { result.idle ≡ self.idle }
@@ -48,21 +48,21 @@ impl Patience {
     }
 }
 
-/// The lines of a WebSocket, as bytes to read: each message is one, and its line end is put behind it.
+/// Reads the lines of a WebSocket as bytes. Each message is a line, and gets its line end here.
 #[derive(Drop)]
 pub struct MessageReader<'s, R> {
     messages: Incoming<'s, R>,
     alloc: Global,
     patience: Patience,
     is_first: bool,
-    /// Whether a line hasn't come in time.
+    /// Whether a line did not arrive in time.
     is_late: bool,
-    /// What wasn't given yet of a line.
+    /// The bytes of the current line that weren't read yet.
     rest: Rest,
 }
 
 impl<'s, R: Clock> MessageReader<'s, R> {
-    /// Those of a connection whose first bytes have come.
+    /// A reader of a connection that was switched to a WebSocket. `first` has the bytes that followed the head.
     pub fn new(
         rt: &'s R,
         alloc: Global,
@@ -80,7 +80,7 @@ impl<'s, R: Clock> MessageReader<'s, R> {
         }
     }
 
-    /// Ends the connection, and reads what still comes within these limits.
+    /// Ends the connection. What still arrives is read within these limits.
     pub fn end(self, limits: DrainLimits) {
         let MessageReader {
             messages,
@@ -93,17 +93,17 @@ impl<'s, R: Clock> MessageReader<'s, R> {
         messages.end(limits);
     }
 
-    /// Whether no line has come yet.
+    /// Whether the first line hasn't arrived yet.
     pub fn is_first(&self) -> bool {
         self.is_first
     }
 
-    /// Whether a line hasn't come in time.
+    /// Whether a line did not arrive in time.
     pub fn is_late(&self) -> bool {
         self.is_late
     }
 
-    // How long the line may take that is waited for.
+    // Returns the time that the next line may take.
     fn allowed(&self) -> Option<Duration> {
         if self.is_first {
             Some(self.patience.first_line)
@@ -112,7 +112,7 @@ impl<'s, R: Clock> MessageReader<'s, R> {
         }
     }
 
-    // Waits for a line. False where no more comes.
+    // Waits for a line. Returns false at the end of the messages.
     fn wait_for_line(&mut self) -> io::Result<bool> {
         let allowed = self.allowed();
         match self.messages.next(allowed) {
@@ -130,7 +130,7 @@ impl<'s, R: Clock> MessageReader<'s, R> {
         }
     }
 
-    // A line has come. Behind the first one a piece of what is answered may take as long as a line.
+    // Begins a line that has arrived. After the first one, a piece of an answer may take as long as a line.
     fn begin(&mut self, line: &[u8]) -> io::Result<()> {
         if self.is_first {
             self.is_first = false;
@@ -150,16 +150,16 @@ impl<R: Clock> Read for MessageReader<'_, R> {
     }
 }
 
-/// The answers on a WebSocket: what is written until a flush is one message, without its line end.
+/// Writes answers to a WebSocket. Everything written until a flush is one message, without its line end.
 #[derive(Drop)]
 pub struct MessageWriter<'s, R> {
     frames: FrameWriter<Wire<'s, R>>,
-    /// Whether an answer wasn't taken in time.
+    /// Whether an answer was not taken in time.
     is_late: bool,
 }
 
 impl<'s, R: Clock> MessageWriter<'s, R> {
-    /// Nothing was written yet. What it needs of memory it takes now.
+    /// A writer that has not sent an answer. All its memory is allocated here.
     pub fn new(
         rt: &'s R,
         alloc: Global,
@@ -173,7 +173,7 @@ impl<'s, R: Clock> MessageWriter<'s, R> {
         })
     }
 
-    /// Whether an answer wasn't taken in time.
+    /// Whether an answer was not taken in time.
     pub fn is_late(&self) -> bool {
         self.is_late
     }

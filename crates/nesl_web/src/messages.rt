@@ -1,4 +1,4 @@
-//! The messages of a WebSocket.
+//! The messages that arrive on a WebSocket.
 ghost use Rattle.std.specs.Prelude.{length, IfSome};
 ghost use Rattle.nesl_web.specs.Messages.{IfLine};
 
@@ -12,80 +12,80 @@ use tungstenite::{
     CloseCode, CloseFrame, Error, Message, NoMask, Role, Utf8Bytes, WebSocket, WebSocketConfig,
 };
 
-/// The most bytes of a message: one more than a form may have.
+/// The most bytes of a message: one more than a form may have, so that a longer form is noticed.
 pub const MOST_BYTES: usize = 65_537;
 
-/// How many bytes are asked for at once.
+/// The most bytes of one read.
 const READ_BYTES: usize = 4096;
 
 /// How many seconds the peer may take to take the last message.
 const CLOSE_SECONDS: u64 = 2;
 
-/// What a read gave.
+/// The result of a read.
 #[derive(Drop)]
-pub enum Heard {
+pub enum Received {
     /// A line, without its line end.
     Line(Utf8Bytes),
-    /// A message that is no line, and needs no answer here: a ping, a pong or a close.
+    /// A message that is no line, and that needs no further answer: a ping, a pong or a close.
     Control,
     /// The peer has ended the connection.
     Closed,
-    /// What can't be a line, and how the connection is ended for it.
+    /// A message that can't be a line, with the code for closing the connection.
     NotALine(CloseCode),
-    /// The connection is lost, a message hasn't come in time, or memory ran out.
+    /// The connection is lost, a message did not arrive in time, or memory ran out.
     Lost(io::Error),
 }
 
-impl Heard {
-    /// What a read gave.
-    fn of(read: Result<Message, Error>) -> Heard
+impl Received {
+    /// Sorts the result of a read.
+    fn of(read: Result<Message, Error>) -> Received
         ensures { IfLine result }
     {
         match read {
-            Ok(message) => Heard::of_message(message),
-            Err(error) => Heard::of_failure(error),
+            Ok(message) => Received::of_message(message),
+            Err(error) => Received::of_failure(error),
         }
     }
 
-    // A message came.
-    fn of_message(message: Message) -> Heard
+    // Sorts a message.
+    fn of_message(message: Message) -> Received
         ensures { IfLine result }
     {
         match message {
             Message::Text(text) => line_of(text),
-            Message::Binary(_) => Heard::NotALine(CloseCode::Unsupported),
-            Message::Ping(_) | Message::Pong(_) | Message::Close(_) => Heard::Control,
+            Message::Binary(_) => Received::NotALine(CloseCode::Unsupported),
+            Message::Ping(_) | Message::Pong(_) | Message::Close(_) => Received::Control,
         }
     }
 
-    // No message came.
-    fn of_failure(error: Error) -> Heard
+    // Sorts an error.
+    fn of_failure(error: Error) -> Received
         ensures { IfLine result }
     {
-        match Heard::of_end(&error) {
-            Some(heard) => {
+        match Received::of_end(&error) {
+            Some(received) => {
                 drop(error);
-                heard
+                received
             }
-            None => Heard::Lost(failure_of(error)),
+            None => Received::Lost(failure_of(error)),
         }
     }
 
-    // What ends the connection, other than that it is lost.
-    fn of_end(error: &Error) -> Option<Heard>
+    // Returns how an error ends the connection, unless the connection is lost.
+    fn of_end(error: &Error) -> Option<Received>
         ensures { IfSome result IfLine }
     {
         match error {
-            Error::ConnectionClosed => Some(Heard::Closed),
-            Error::Capacity(_) => Some(Heard::NotALine(CloseCode::Size)),
-            Error::Utf8 => Some(Heard::NotALine(CloseCode::Invalid)),
-            Error::Protocol(_) => Some(Heard::NotALine(CloseCode::Protocol)),
+            Error::ConnectionClosed => Some(Received::Closed),
+            Error::Capacity(_) => Some(Received::NotALine(CloseCode::Size)),
+            Error::Utf8 => Some(Received::NotALine(CloseCode::Invalid)),
+            Error::Protocol(_) => Some(Received::NotALine(CloseCode::Protocol)),
             _ => None,
         }
     }
 }
 
-/// The messages that come in on a WebSocket.
+/// Reads the messages of a WebSocket.
 #[derive(Drop)]
 pub struct Incoming<'s, R> {
     rt: &'s R,
@@ -93,8 +93,8 @@ pub struct Incoming<'s, R> {
 }
 
 impl<'s, R: Clock> Incoming<'s, R> {
-    /// Those of a connection whose first bytes have come. What is asked for besides, as by a ping, is answered, and a
-    /// piece of that may take so long.
+    /// A reader of a connection whose first bytes have arrived. It answers pings; a piece of such an answer may take
+    /// `piece`.
     pub fn new(
         rt: &'s R,
         alloc: Global,
@@ -118,31 +118,32 @@ impl<'s, R: Clock> Incoming<'s, R> {
         Incoming { rt, socket }
     }
 
-    /// From now on a piece of what is answered may take so long.
+    /// Changes the time that a piece of an answer may take.
     pub fn set_write_limit(&mut self, piece: Option<Duration>) -> io::Result<()> {
         self.socket.get_mut().set_write_limit(piece)
     }
 
-    /// The next line, which may take so long; none after the peer has ended the connection. What can't be a line ends
-    /// it, too.
+    /// Waits for the next line, at most for this time. Returns `None` after the peer has ended the connection. A
+    /// message that can't be a line ends it too.
     pub fn next(&mut self, time: Option<Duration>) -> io::Result<Option<Utf8Bytes>> {
         self.socket.get_mut().wait(time)?;
         for _ in 0..u64::MAX {
-            match Heard::of(self.socket.read()) {
-                Heard::Line(line) => return Ok(Some(line)),
-                Heard::Control => {}
-                Heard::Closed => return Ok(None),
-                Heard::NotALine(code) => {
+            match Received::of(self.socket.read()) {
+                Received::Line(line) => return Ok(Some(line)),
+                Received::Control => {}
+                Received::Closed => return Ok(None),
+                Received::NotALine(code) => {
                     self.close(code);
-                    return Err(lost());
+                    return Err(lost_error());
                 }
-                Heard::Lost(error) => return Err(error),
+                Received::Lost(error) => return Err(error),
             }
         }
-        Err(lost())
+        Err(lost_error())
     }
 
-    /// Ends the connection: says so, if that wasn't said, and reads what the peer still sends, within these limits.
+    /// Ends the connection with a close message, unless one was sent, and reads what the peer still sends within these
+    /// limits.
     pub fn end(mut self, limits: DrainLimits) {
         self.close_and_drain(limits);
         drop(self);
@@ -155,7 +156,7 @@ impl<'s, R: Clock> Incoming<'s, R> {
         drop(self.socket.get_mut().drain_after_shutdown(limits));
     }
 
-    // Says why the connection ends, to a peer that takes it soon.
+    // Sends a close message with this code, to a peer that takes it in time.
     fn close(&mut self, code: CloseCode) {
         let time = Some(Duration::from_secs(CLOSE_SECONDS));
         if self.set_write_limit(time).is_ok() {
@@ -164,23 +165,23 @@ impl<'s, R: Clock> Incoming<'s, R> {
     }
 }
 
-// A message could not be read or sent.
-fn lost() -> io::Error {
+// The error for a message that could not be read or sent.
+fn lost_error() -> io::Error {
     io::Error::from(ErrorKind::ConnectionAborted)
 }
 
-// Why a message could not be sent.
+// Returns the error for a message that could not be sent.
 fn failure_of(error: Error) -> io::Error {
     match error {
         Error::Io(error) => error,
         other => {
             drop(other);
-            lost()
+            lost_error()
         }
     }
 }
 
-// The end of a connection, as it is told.
+// Makes a close message.
 fn close_frame(code: CloseCode) -> CloseFrame {
     CloseFrame {
         code,
@@ -188,13 +189,13 @@ fn close_frame(code: CloseCode) -> CloseFrame {
     }
 }
 
-// A text is a line if no line ends within it.
-fn line_of(text: Utf8Bytes) -> Heard
+// A text is a line if it has no line end.
+fn line_of(text: Utf8Bytes) -> Received
     ensures { IfLine result }
 {
     if text.as_str().as_bytes().contains(&b'\n') {
-        Heard::NotALine(CloseCode::Unsupported)
+        Received::NotALine(CloseCode::Unsupported)
     } else {
-        Heard::Line(text)
+        Received::Line(text)
     }
 }

@@ -1,9 +1,9 @@
-//! What wasn't given yet of a line.
+//! The unread rest of a line.
 ghost use Rattle.std.specs.Prelude.{◌≡◌, ◌≤◌, ◌↔◌, ◌++◌, ◌∷◌, [], length, min, take, vec_len, IfOk, IsTrue};
 
 use std::alloc::{AllocError, Global};
 
-/// What wasn't given yet of a line and its line end.
+/// The bytes of a line and its line end that weren't read yet.
 #[derive(Drop)]
 pub struct Rest {
     bytes: Vec<u8>,
@@ -14,7 +14,7 @@ pub struct Rest {
 impl Rest {
     ghost use Rattle.nesl_web.specs.Rest.{left_of};
 
-    /// Nothing.
+    /// An empty rest.
     pub fn new(alloc: Global) -> Rest
         ensures { left_of result ≡ [] }
     {
@@ -24,7 +24,7 @@ impl Rest {
         }
     }
 
-    /// All of a line, and its line end.
+    /// A whole line, with its line end added.
     pub fn of(alloc: Global, line: &[u8]) -> Result<Rest, AllocError>
         ensures { IfOk result (λ rest. left_of rest ≡ line.now ++ 10 ∷ []) }
     {
@@ -33,14 +33,13 @@ impl Rest {
         Ok(Rest { bytes, at: 0 })
     }
 
-    /// Whether nothing is left.
     pub fn is_empty(&self) -> bool
         ensures { IsTrue result ↔ (length (left_of self.now) ≡ 0) }
     {
         self.at == self.bytes.len()
     }
 
-    /// Gives as much as there is room for.
+    /// Moves as many bytes as fit into `room`, and returns their number.
     pub fn give(&mut self, room: &mut [u8]) -> usize
         ensures given { left_of self.old ≡ take result room.new ++ left_of self.new }
         ensures count { result ≡ min (length (left_of self.old)) (length room.old) }

@@ -1,4 +1,4 @@
-//! What a request comes to.
+//! Decides how a request is answered.
 ghost use Rattle.std.specs.Prelude.{◌≡◌, map, true, IfOk};
 ghost use Rattle.httparse.specs.Spans.{IsRequestOf, IsRequestWithin};
 ghost use Rattle.nesl_web.specs.Route.{HasHead, LetsIn};
@@ -14,24 +14,24 @@ use websocket::handshake::server::check_request;
 /// The most fields of a head.
 const MOST_FIELDS: usize = 64;
 
-/// What a request comes to.
+/// How a request is answered.
 #[derive(Clone, Copy)]
 pub enum Route {
-    /// A file of the page.
+    /// With a file of the page.
     Page(File),
-    /// Which methods there are.
+    /// With the supported methods.
     Methods,
-    /// A WebSocket.
+    /// With a switch to a WebSocket.
     Session {
-        /// The key that accepts it.
+        /// The key that accepts the request.
         accept_key: [u8; 28],
-        /// The bytes of the head; more may have come behind it.
+        /// The length of the head in bytes. More bytes may have followed it.
         head_bytes: usize,
     },
     Refused(Refusal),
 }
 
-/// Whether a head has come whole, or why it is refused.
+/// Whether the head is complete. Fails with the reason if it is refused.
 #[tactic(auto, using(crate::proofs::RouteLemmas::has_head))]
 pub fn is_whole(bytes: &[u8]) -> Result<bool, Refusal>
     ensures { IfOk result (λ whole. whole ≡ true → HasHead bytes.now) }
@@ -44,7 +44,7 @@ pub fn is_whole(bytes: &[u8]) -> Result<bool, Refusal>
     }
 }
 
-/// What a request comes to that begins with these bytes, by the names of the host that were given.
+/// Returns the answer to the request with this head. `given` are the known names of the host.
 pub fn route_for(alloc: Global, given: &[&[u8]], bytes: &[u8]) -> Result<Route, AllocError>
     ensures { IfOk result (LetsIn (map (λ name. name.now) given.now) bytes.now) }
 {
@@ -63,7 +63,7 @@ fn refusal_of(error: Error) -> Refusal {
     }
 }
 
-// What a request comes to that was read so.
+// Returns the answer to the request with this parsed head.
 fn route_of(
     alloc: Global,
     given: &[&[u8]],
@@ -82,15 +82,15 @@ fn route_of(
         return Ok(Route::Refused(Refusal::Forbidden));
     }
     let keys = values_of(alloc, bytes, all, b"Sec-WebSocket-Key")?;
-    let route = found(bytes, request, fields);
+    let route = route_allowed(bytes, request, fields);
     match route {
-        // A key that comes twice is none.
+        // A request with two keys is refused.
         Route::Session { .. } if keys.len() > 1 => Ok(Route::Refused(Refusal::Unreadable)),
         route => Ok(route),
     }
 }
 
-/// Whether the answer to a request that begins with these bytes has its text.
+/// Returns whether the answer to a request has its text. HEAD asks for the head alone.
 pub fn content_for(bytes: &[u8]) -> Content {
     let mut fields = [EMPTY_HEADER_SPAN; MOST_FIELDS];
     match parse_request(bytes, &mut fields) {
@@ -101,7 +101,7 @@ pub fn content_for(bytes: &[u8]) -> Content {
     }
 }
 
-// What is asked for.
+// The method of a request.
 #[derive(Clone, Copy, PartialEq, Eq, Debug)]
 enum Method {
     Get,
@@ -124,8 +124,8 @@ impl Method {
     }
 }
 
-// What an allowed request comes to.
-fn found(bytes: &[u8], request: &RequestSpans, fields: &[HeaderSpan]) -> Route
+// Returns the answer to an allowed request.
+fn route_allowed(bytes: &[u8], request: &RequestSpans, fields: &[HeaderSpan]) -> Route
     requires { IsRequestWithin bytes.now fields.now request.now }
 {
     let method = Method::of(request.method.of(bytes));
@@ -146,7 +146,7 @@ fn found(bytes: &[u8], request: &RequestSpans, fields: &[HeaderSpan]) -> Route
     }
 }
 
-// A request for a WebSocket, if it is one.
+// Returns the answer to a request for a WebSocket.
 fn session(bytes: &[u8], request: &RequestSpans, fields: &[HeaderSpan]) -> Route
     requires { IsRequestWithin bytes.now fields.now request.now }
 {
@@ -159,7 +159,7 @@ fn session(bytes: &[u8], request: &RequestSpans, fields: &[HeaderSpan]) -> Route
     }
 }
 
-// What stands before a question mark.
+// Returns the part of the target before a question mark.
 fn without_query(target: &[u8]) -> &[u8] {
     match target.iter().position(|byte| *byte == b'?') {
         Some(place) => &target[..place],

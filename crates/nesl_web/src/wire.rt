@@ -1,4 +1,4 @@
-//! The bytes of a connection, each wait for which is bounded in time.
+//! The bytes of a connection, with time limits.
 ghost use Rattle.std.specs.Io.{WritesAtMost};
 
 use std::io;
@@ -6,49 +6,49 @@ use std::io::{ErrorKind, Read, Write};
 use std::net::{Shutdown, TcpStream};
 use std::time::{Clock, Duration, Instant};
 
-/// The bytes of a piece of an answer, which has a time of its own.
+/// The bytes of a piece of an answer. Each piece has a time of its own.
 const PIECE_BYTES: usize = 16_384;
 
-/// How often a call is made at most that signals interrupt.
+/// The most times that a call is repeated because a signal interrupted it.
 const MOST_TRIES: u64 = 4_294_967_296;
 
-/// How much is read at most of what a peer still sends after nothing more is written to it.
+/// Limits for reading what a peer still sends after the last answer.
 #[derive(Clone, Copy)]
 pub struct DrainLimits {
-    /// How long all reads may take.
+    /// The milliseconds for all reads together.
     pub millis: u64,
     pub reads: u32,
-    /// How many bytes a read asks for. More than 16,384 count as so many.
+    /// The most bytes of one read. Values above 16,384 count as 16,384.
     pub read_bytes: usize,
 }
 
-/// How much is read then of a browser that was refused. Who is refused may hold a thread for no longer.
+/// The limits for a browser that was refused. Such a browser must not hold a thread for longer.
 pub const REFUSED_DRAIN: DrainLimits = DrainLimits {
     millis: 500,
     reads: 256,
     read_bytes: 4_096,
 };
 
-/// How much is read then of another browser.
+/// The limits for other browsers.
 pub const BROWSER_DRAIN: DrainLimits = DrainLimits {
     millis: 2_000,
     reads: 4_096,
     read_bytes: PIECE_BYTES,
 };
 
-/// A connection. A read fails once what is waited for hasn't come in time, and a write if a piece isn't taken in time.
-/// Neither fails because a signal interrupted it: it goes on for the time that is left.
+/// A connection. A read fails if the bytes don't arrive in time, and a write if a piece isn't taken in time. A signal
+/// makes neither fail: the call is repeated with the time that is left.
 #[derive(Drop)]
 pub struct Wire<'s, R> {
     rt: &'s R,
     stream: &'s TcpStream,
-    /// How long a piece of what is written may take; without bound where there is none.
+    /// The time that a piece of an answer may take. `None` is no limit.
     idle: Option<Duration>,
-    /// Until when what is waited for may take.
+    /// The end of the time for reading.
     until: Option<Instant>,
-    /// Until when the rest of a piece may take of which not all was taken yet.
+    /// The end of the time for the current piece, if a part of it was taken.
     piece_until: Option<Instant>,
-    /// Whether the socket's reads may be bounded in time.
+    /// Whether the socket has a time limit for reads.
     is_timed: bool,
 }
 
@@ -64,21 +64,21 @@ impl<'s, R: Clock> Wire<'s, R> {
         }
     }
 
-    /// What is waited for from now on may take so long.
+    /// Sets the time for all following reads together.
     pub fn wait(&mut self, time: Option<Duration>) -> io::Result<()> {
         self.until = end_of(self.rt, time)?;
         Ok(())
     }
 
-    /// From now on a piece of what is written may take so long.
+    /// Sets the time for each following piece of an answer.
     pub fn set_write_limit(&mut self, idle: Option<Duration>) -> io::Result<()> {
         self.idle = idle;
         self.piece_until = None;
         self.stream.set_write_timeout(idle)
     }
 
-    /// Nothing more is written. What the peer still sends is read within these limits, and let go. A connection that is
-    /// closed with bytes unread is reset, and then the peer might not read what it was told.
+    /// Ends the output, and drops what the peer still sends within these limits. If a socket is closed with unread
+    /// bytes, the connection is reset, and the peer might lose the last answer.
     pub fn drain_after_shutdown(&mut self, limits: DrainLimits) -> io::Result<()> {
         self.stream.shutdown(Shutdown::Write)?;
         self.wait(Some(Duration::from_millis(limits.millis)))?;
@@ -92,7 +92,7 @@ impl<'s, R: Clock> Wire<'s, R> {
         Ok(())
     }
 
-    // The socket's reads last as long as may be waited.
+    // Sets the time limit of the socket's reads to the time that is left.
     fn begin_read(&mut self) -> io::Result<()> {
         let left = left_until(self.rt, self.until)?;
         if self.is_timed || left.is_some() {
@@ -102,7 +102,7 @@ impl<'s, R: Clock> Wire<'s, R> {
         Ok(())
     }
 
-    // A piece begins, or what is left of one goes on.
+    // Begins a piece, or goes on with one.
     fn begin_write(&mut self) -> io::Result<()> {
         if self.piece_until.is_none() {
             self.piece_until = end_of(self.rt, self.idle)?;
@@ -111,7 +111,7 @@ impl<'s, R: Clock> Wire<'s, R> {
             .set_write_timeout(left_until(self.rt, self.piece_until)?)
     }
 
-    // Writes some bytes, or of a piece that has a time as much as is taken of it.
+    // Writes some bytes. With a time limit, at most the rest of a piece.
     fn write_once(&mut self, buf: &[u8]) -> io::Result<usize>
         ensures { WritesAtMost result buf.now }
     {
@@ -123,7 +123,7 @@ impl<'s, R: Clock> Wire<'s, R> {
         let piece = &buf[..buf.len().min(PIECE_BYTES)];
         let taken = match stream.write(piece) {
             Ok(taken) => taken,
-            Err(error) => return Err(in_time(error)),
+            Err(error) => return Err(without_retry(error)),
         };
         if taken == piece.len() {
             self.piece_until = None;
@@ -162,8 +162,8 @@ impl<R: Clock> Write for Wire<'_, R> {
     }
 }
 
-// A write that came to its time has failed: it is not tried again.
-fn in_time(error: io::Error) -> io::Error {
+// Returns the error for a write that failed. After a timeout it isn't repeated.
+fn without_retry(error: io::Error) -> io::Error {
     if error.kind() == ErrorKind::WouldBlock {
         io::Error::from(ErrorKind::TimedOut)
     } else {
@@ -176,7 +176,7 @@ pub fn is_late(error: &io::Error) -> bool {
     matches!(error.kind(), ErrorKind::TimedOut | ErrorKind::WouldBlock)
 }
 
-// When so much time will have passed.
+// Returns the instant after this time.
 fn end_of<R: Clock>(rt: &R, time: Option<Duration>) -> io::Result<Option<Instant>> {
     match time {
         Some(time) => Ok(Instant::now(rt)?.checked_add(time)),
@@ -184,7 +184,7 @@ fn end_of<R: Clock>(rt: &R, time: Option<Duration>) -> io::Result<Option<Instant
     }
 }
 
-// What is left of a time; an error where nothing is.
+// Returns the time until an instant. Fails if it is over.
 fn left_until<R: Clock>(rt: &R, until: Option<Instant>) -> io::Result<Option<Duration>> {
     let Some(until) = until else {
         return Ok(None);

@@ -108,11 +108,11 @@ halves::rounds_in_halves-returns-clause-came g t c = λ b st bodies.
     let m = c.args.machine.now in
     let m1 = c.turns_in_halves.new.machine in
     let n = c.turns_in_halves-2.new.machine in
-    let r2 = c.goes_to_body.new.round.value in
+    let r2 = c.advance_to_body.new.round.value in
     let r3 = c.turns_in_halves-2.new.round.value in
     let x = c.turns_in_halves-2.result in
     came_then m.meter.fuel m1.meter.fuel n.meter.fuel (tt {0}) x _ (between tb m.levels b (env_of m) st r2) (between tb m.levels b (env_of m) st r3)
-    (subst (λ q. Came {U = Unit {0}} m.meter.fuel (Ok (tt {0})) m1.meter.fuel (between tb m.levels b (env_of m) st c.args.round.now.value) q) (c.in_ok-goes_to_body.ensures tb m.levels b (env_of m) st) (c.in_ok-turns_in_halves.ensures.came b st bodies))
+    (subst (λ q. Came {U = Unit {0}} m.meter.fuel (Ok (tt {0})) m1.meter.fuel (between tb m.levels b (env_of m) st c.args.round.now.value) q) (c.in_ok-advance_to_body.ensures tb m.levels b (env_of m) st) (c.in_ok-turns_in_halves.ensures.came b st bodies))
     (subst (λ (y : Machine Global). HasBodies tb y.bodies.now → Came m1.meter.fuel x n.meter.fuel (between tb y.levels b (env_of y) st r2) (between tb y.levels b (env_of y) st r3))
     c.in_ok-turns_in_halves.ensures.meter (c.turns_in_halves-2.ensures.came b st) bodies)
 

@@ -24,9 +24,9 @@ returns-clause-faults c =
 pub returns-clause-users : goal.returns-clause-users
 returns-clause-users c =
     let matches = subst (λ app. HasMatchesOf app (map (λ word. word.now) c.args.words.now) c.in_ok-matches.matches) c.in_ok-command.ensures c.in_ok-matches.ensures.matches in
-    c.in_ok-found.ensures.users ∙ ap users_in (matches simple).1
+    c.in_ok-wanted_in.ensures.users ∙ ap users_in (matches simple).1
 
 pub returns-clause-task : goal.returns-clause-task
 returns-clause-task c =
     let matches = subst (λ app. HasMatchesOf app (map (λ word. word.now) c.args.words.now) c.in_ok-matches.matches) c.in_ok-command.ensures c.in_ok-matches.ensures.matches in
-    c.in_ok-found.ensures.task ∙ ap task_in (matches simple).1
+    c.in_ok-wanted_in.ensures.task ∙ ap task_in (matches simple).1

@@ -1,11 +1,11 @@
 use Rattle.std.proofs.Common.{◌++◌, ◌∙◌, ◌≤◌, ℕ, List, ap, refl, subst, sym, length}
 use Rattle.nesl_session_meaning.specs.Step.{longest}
-use Rattle.nesl_prompt.specs.Conversation.{gathers, says, wants}
+use Rattle.nesl_prompt.specs.Conversation.{gathers, answers, runs_out}
 use Rattle.nesl_prompt.proofs.Conversations.{begun, responds_to}
 use Rattle.nesl_prompt.proofs.desk.Desk.take.Goals as goal
 
 pub returns-in-Err-clause-takes : goal.returns-in-Err-clause-takes
-returns-in-Err-clause-takes g c = λ any. wants c.in-Err.ensures.err refl (record {
+returns-in-Err-clause-takes g c = λ any. runs_out c.in-Err.ensures.err refl (record {
   more = c.prompt-more.result.items;
   spelled = ap (λ r. r.bytes ++ c.prompt-more.result.items) c.no_memory.ensures;
   below = c.prompt-more.ensures.below _;
@@ -13,8 +13,8 @@ returns-in-Err-clause-takes g c = λ any. wants c.in-Err.ensures.err refl (recor
 
 pub returns-then-is_whole-clause-takes : goal.returns-then-is_whole-clause-takes
 returns-then-is_whole-clause-takes g c = λ any.
-    let s = c.say_form.ensures.said in
-    says s.0 (responds_to _ _ _ _ _ (ap (λ f. f.items) c.is_whole.ensures.form ∙ c.in-Ok.ensures.ok) s.1) c.say_form.ensures.form (s.2 any)
+    let s = c.answer_form.ensures.said in
+    answers s.0 (responds_to _ _ _ _ _ (ap (λ f. f.items) c.is_whole.ensures.form ∙ c.in-Ok.ensures.ok) s.1) c.answer_form.ensures.form (s.2 any)
 
 pub returns-else-is_whole-clause-takes : goal.returns-else-is_whole-clause-takes
 returns-else-is_whole-clause-takes g c = λ any.

@@ -1,6 +1,6 @@
 use Rattle.std.proofs.Common.{rules}
 use Rattle.clap.proofs.WalkLemmas.{raw_values-rows}
-use Rattle.nesl_cli.proofs.words.named_behind.Goals as goal
+use Rattle.nesl_cli.proofs.words.user_names.Goals as goal
 
 pub returns-in-Some : goal.returns-in-Some
 returns-in-Some c = search (rules, raw_values-rows)

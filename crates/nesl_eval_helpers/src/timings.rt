@@ -1,30 +1,31 @@
-//! How long intervals take, as far as that has been seen.
+//! Remembers how long intervals took.
 ghost use Rattle.std.specs.Prelude.{◌≡◌};
-ghost use Rattle.nesl_eval_helpers.specs.Learnt.{time_for, rate_of};
+ghost use Rattle.nesl_eval_helpers.specs.Timings.{time_for, rate_of};
 
 use crate::Asker;
 use std::array;
 use std::sync::atomic::{AtomicU64, Ordering};
 
-/// How many microseconds an interval has to take to be worth a helper, whose thread takes some tens of them to make.
+/// The fewest microseconds of an interval for which a helper pays. Starting its thread takes some tens of microseconds.
 pub(crate) const WORTH: u64 = 300;
 
-/// The same for an interval inside of one that has helpers. When it asks many such may follow.
+/// The same for an interval inside one that has helpers. If one asks there, many may.
 pub(crate) const WORTH_INSIDE: u64 = 1000;
 
-/// How many kinds of intervals are remembered.
+/// The size of the table of kinds of intervals.
 const PLACES: usize = 251;
 
-/// The units of work that take a microsecond at least: an interval that was kept waiting took longer than its work.
+/// At least this many units of work take a microsecond. If an interval took longer than its work needs, its thread was
+/// waiting.
 const LEAST_WORK: u64 = 8;
 
-/// For how many times as long as an interval with helpers in vain took its kind has none: the first time, and at most.
-/// Each time it is twice as long, and half as long after an interval that was faster with helpers.
+/// After a helper didn't pay, the kind of interval has none for a multiple of the interval's time. This is the first
+/// multiple. It doubles each time, up to `LONGEST_REST`, and is halved after a helper paid.
 const FIRST_REST: u64 = 4;
 
 const LONGEST_REST: u64 = 64;
 
-/// Of this number of intervals that may have helpers one has none, the fourth: its time without them stays known.
+/// Of each `TURNS` intervals that may have helpers, the fourth has none. So their time without helpers stays known.
 const TURNS: u64 = 32;
 
 const TIMED: u64 = 3;
@@ -32,27 +33,27 @@ const TIMED: u64 = 3;
 /// Rates are microseconds for this number of elements.
 const ELEMENTS: u64 = 1024;
 
-/// The microseconds that elements take at this rate, by their number.
+/// Returns the microseconds for `size` elements at this rate.
 pub(crate) fn time_for(rate: u64, size: u64) -> u64
     ensures { result ≡ time_for rate size }
 {
     rate.saturating_mul(size) / ELEMENTS
 }
 
-/// The rate of elements that took these microseconds, by their number.
+/// Returns the rate where `size` elements took these microseconds.
 pub(crate) fn rate_of(micros: u64, size: u64) -> u64
     ensures { result ≡ rate_of micros size }
 {
     micros.saturating_mul(ELEMENTS) / size.max(1)
 }
 
-/// The microseconds that an interval is believed to have taken for its work: no more than the work can take.
-pub(crate) fn believed(micros: u64, work: u64) -> u64 {
+/// Returns the time that an interval needed, limited by what its work can take. The rest was waiting.
+pub(crate) fn time_needed(micros: u64, work: u64) -> u64 {
     micros.min(work / LEAST_WORK)
 }
 
-/// The turns that an interval has left: about how many elements these have, and the microseconds that they are expected
-/// to take without helpers.
+/// The turns that an interval has left. `size` is their approximate number of elements, and `expected` their
+/// microseconds without helpers.
 #[derive(Clone, Copy)]
 pub(crate) struct Part {
     pub whole: Asker,
@@ -60,16 +61,16 @@ pub(crate) struct Part {
     pub expected: u64,
 }
 
-/// What was seen of intervals of one kind: of the same apply-to-each, with about as many elements.
+/// What is known of one kind of intervals: those of one apply-to-each with about as many elements.
 #[derive(Drop)]
 struct Seen {
     kind: AtomicU64,
-    // Their last two rates without helpers, the last one first; 0 where none was seen.
+    // The last two rates without helpers, the newest first; 0 if there was none.
     last: AtomicU64,
     before: AtomicU64,
-    // How many had a helper.
+    // The number of those that could have had a helper.
     helped: AtomicU64,
-    // The microsecond until which they have no helper, and how many times as long as it took the next rest is.
+    // The microsecond until which they have no helpers, and the multiple for the next such time.
     until: AtomicU64,
     rest: AtomicU64,
 }
@@ -90,7 +91,7 @@ impl Seen {
         self.kind.load(Ordering::Relaxed) == kind
     }
 
-    // Forgets another kind.
+    // Forgets another kind that has this place in the table.
     fn take(&self, kind: u64) {
         if !self.is_of(kind) {
             self.last.store(0, Ordering::Relaxed);
@@ -100,7 +101,7 @@ impl Seen {
         }
     }
 
-    // The lower of the last two rates.
+    // Returns the lower of the last two rates.
     fn rate(&self) -> u64 {
         let last = self.last.load(Ordering::Relaxed);
         last.min(self.before.load(Ordering::Relaxed))
@@ -112,7 +113,7 @@ impl Seen {
         self.last.store(rate, Ordering::Relaxed);
     }
 
-    // A helper was in vain. The interval took these microseconds, and ended at this one.
+    // Notes that a helper didn't pay. `micros` is the interval's time, and `now` its end.
     fn begin_rest(&self, micros: u64, now: u64) {
         let rest = self.rest.load(Ordering::Relaxed);
         let until = now.saturating_add(micros.saturating_mul(rest));
@@ -121,35 +122,35 @@ impl Seen {
         self.rest.store(next, Ordering::Relaxed);
     }
 
-    // An interval was faster with helpers.
+    // Notes that a helper paid.
     fn shorten_rest(&self) {
         let rest = self.rest.load(Ordering::Relaxed);
         self.rest
             .store((rest / 2).max(FIRST_REST), Ordering::Relaxed);
     }
 
-    // They were seen to have no higher rate than this.
+    // Lowers the rates to this one, if they are higher.
     fn bound(&self, rate: u64) {
         self.last.fetch_min(rate, Ordering::Relaxed);
         self.before.fetch_min(rate, Ordering::Relaxed);
     }
 }
 
-// The kind of an interval: sizes of one kind have equally many binary digits.
+// Returns the kind of an interval. Within a kind, sizes have the same number of binary digits.
 fn kind_of(asker: Asker) -> u64 {
     let digits = u64::from(asker.size.max(1).ilog2());
     asker.mark.wrapping_mul(37).wrapping_add(digits)
 }
 
-/// What was seen of intervals. Two kinds that share a place here make each other forgotten.
+/// What is known of intervals. Two kinds with the same place in the table overwrite each other.
 #[derive(Drop)]
-pub(crate) struct Learnt {
+pub(crate) struct Timings {
     places: [Seen; PLACES],
 }
 
-impl Learnt {
-    pub(crate) fn new() -> Learnt {
-        Learnt {
+impl Timings {
+    pub(crate) fn new() -> Timings {
+        Timings {
             places: array::from_fn(|_| Seen::new()),
         }
     }
@@ -158,23 +159,23 @@ impl Learnt {
         &self.places[(kind % PLACES as u64) as usize]
     }
 
-    /// The rate of an interval without helpers, most likely: the lower one of the last two. 0 where its kind has not
-    /// been seen twice.
+    /// Returns the likely rate of an interval without helpers: the lower of the last two, or 0 if its kind was seen
+    /// less than twice.
     pub(crate) fn rate(&self, asker: Asker) -> u64 {
         let kind = kind_of(asker);
         let seen = self.seen(kind);
         if seen.is_of(kind) { seen.rate() } else { 0 }
     }
 
-    /// Whether an interval may have a helper at this microsecond: none of its kind had one in vain of late, and it is
-    /// not its turn to be timed.
+    /// Whether an interval may have a helper at this microsecond. None is allowed shortly after one didn't pay, or if
+    /// it is the interval's turn to be timed.
     pub(crate) fn allows(&self, asker: Asker, now: u64) -> bool {
         let seen = self.seen(kind_of(asker));
         now >= seen.until.load(Ordering::Relaxed)
             && seen.helped.fetch_add(1, Ordering::Relaxed) % TURNS != TIMED
     }
 
-    /// An interval took these microseconds without helpers. A short one makes no other forgotten.
+    /// Notes the microseconds of an interval without helpers. A short one doesn't overwrite another kind.
     pub(crate) fn note(&self, asker: Asker, micros: u64) {
         let kind = kind_of(asker);
         let seen = self.seen(kind);
@@ -184,8 +185,9 @@ impl Learnt {
         }
     }
 
-    /// These turns took these microseconds with this number of threads at most, and ended at this microsecond.
-    pub(crate) fn judge(&self, part: Part, micros: u64, threads: u64, now: u64) {
+    /// Compares the microseconds of turns that had helpers with those expected without. `threads` is the most threads
+    /// that ran at once, and `now` the microsecond of the end.
+    pub(crate) fn compare(&self, part: Part, micros: u64, threads: u64, now: u64) {
         let kind = kind_of(part.whole);
         let seen = self.seen(kind);
         if !seen.is_of(kind) {

@@ -1,6 +1,6 @@
 use Rattle.std.proofs.Common.{refl}
 use Rattle.nesl_prompt.proofs.Conversations.{responds_to}
-use Rattle.nesl_prompt.proofs.desk.Desk.say_form.Goals as goal
+use Rattle.nesl_prompt.proofs.desk.Desk.answer_form.Goals as goal
 
 pub returns-clause-said : goal.returns-clause-said
 returns-clause-said g c = (

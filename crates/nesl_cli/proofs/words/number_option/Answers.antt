@@ -3,7 +3,7 @@ use Rattle.clap.specs.Matches.{found_of, one_text}
 use Rattle.clap.specs.Walk.{one_of, rows_of}
 use Rattle.clap.proofs.WalkLemmas.{one_text-rows}
 use Rattle.nesl_cli.proofs.Numbers.{number_read}
-use Rattle.nesl_cli.proofs.words.number_behind.Goals as goal
+use Rattle.nesl_cli.proofs.words.number_option.Goals as goal
 
 pub returns : goal.returns
 returns c =

@@ -5,7 +5,7 @@ use Rattle.clap.specs.Matches.{found_of}
 use Rattle.clap.proofs.WalkLemmas.{raw_values-rows}
 use Rattle.nesl_cli.proofs.Flags.{first_read}
 use Rattle.nesl_cli.specs.Words.{is_true}
-use Rattle.nesl_cli.proofs.words.is_behind.Goals as goal
+use Rattle.nesl_cli.proofs.words.has_flag.Goals as goal
 
 pub returns-in-Some-first : goal.returns-in-Some-first
 returns-in-Some-first c =

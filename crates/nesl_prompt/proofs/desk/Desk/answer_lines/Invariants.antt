@@ -1,10 +1,10 @@
 use Rattle.std.proofs.Common.{◌≡◌, length}
-use Rattle.nesl_prompt.specs.Points.{Spoke}
-use Rattle.nesl_prompt.proofs.desk.Desk.say_lines.Given as goal
+use Rattle.nesl_prompt.specs.Points.{WasGiven}
+use Rattle.nesl_prompt.proofs.desk.Desk.answer_lines.Given as goal
 
 abbrev pub invariant-lines : goal.invariant-lines
 invariant-lines g l = record {
-  said : Spoke l.fn.session l.session;
+  said : WasGiven l.fn.session l.session;
   style : l.self.style ≡ l.fn.self.style;
 }
 
