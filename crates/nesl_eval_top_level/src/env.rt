@@ -115,11 +115,7 @@ impl<'a> TopLevel<'a> {
 }
 
 /// What a place holds, by the name's type, its payload, and the code of its body.
-fn held_with<'a>(
-    top: &'a Top,
-    payload: &'a Payload,
-    code: &'a Option<Code>,
-) -> Held<'a, Global>
+fn held_with<'a>(top: &'a Top, payload: &'a Payload, code: &'a Option<Code>) -> Held<'a, Global>
     ensures { held_slot result ≡ slot_of top.now payload.now code.now }
 {
     match payload {
