@@ -10,6 +10,6 @@ pub mod Resolved
 pub mod Prepared
 pub mod Placed
 pub mod Outs
-pub mod BlockPlaces
+pub mod LocalPlaces
 pub mod Parts
 pub mod Runs

@@ -19,7 +19,7 @@ use Rattle.nesl_eval_code.specs.Exec.{laid, admitted, leaf_value, leaf_out, made
 use Rattle.nesl_eval_code.specs.Flat.{room, place_of, local_what, leaf, leaf_of, Part, part, making, pushing, rest, deciding, forgetting, flat, applying, parts_in, binding, length_of}
 use Rattle.nesl_eval_code.specs.BlockLaws.{sizes, RunsAsCode, LeavesItsValue}
 use Rattle.nesl_eval_code.proofs.Outs.{then_assoc, then_same, then_value, given_same, branch_same, all_same}
-use Rattle.nesl_eval_code.proofs.BlockPlaces.{laid_alone, local_is}
+use Rattle.nesl_eval_code.proofs.LocalPlaces.{laid_alone, local_is}
 use Rattle.nesl_eval_code.proofs.Parts.{run_with, run_with_is, run_entered, then_node, PartIs, AllAre, making_is, pushing_is, taken_all}
 
 -- nothing else is on the stack where nothing comes after
