@@ -1,6 +1,6 @@
 // What requests come to: who is let in, and to what.
-use nesl_web::files::file_at;
 use nesl_web::route::{Route, route_for};
+use nesl_web_files::file_at;
 use std::alloc::{AllocError, Global};
 use std::test::Fail;
 

@@ -1,12 +1,12 @@
 // A service with a page, while something is done to it.
 use crate::browser::{answer_to, play};
+use nesl_eval_helpers::Free;
 use nesl_house::table::Table;
 use nesl_service::browse::Page;
 use nesl_service::service::{Observers, Site, Terms, serve_at};
 use nesl_service::wire::Patience;
 use nesl_service_records::journal::Journal;
 use nesl_session::limits::Limits;
-use nesl_eval_helpers::Free;
 use std::alloc::Global;
 use std::net::{Net, Shutdown, SocketAddr, TcpListener, TcpStream};
 use std::process::Abort;

@@ -1,8 +1,8 @@
 //! What a request is answered: a file of the page, why it is refused, or that its connection becomes a WebSocket.
 
-use crate::files::File;
 use http1::WriteError;
 use http1::head::{Header, write_response};
+use nesl_web_files::File;
 use std::alloc::Global;
 
 /// Why a request is refused.

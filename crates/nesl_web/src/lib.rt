@@ -1,9 +1,8 @@
-//! The page, and connections of browsers: who may come, what is asked for, and lines over a WebSocket.
+//! Connections of browsers: who may come, what is asked for, and lines over a WebSocket.
 #![tactic(auto)]
 
 pub mod access;
 pub mod answer;
-pub mod files;
 pub mod frames;
 pub mod greet;
 pub mod head;

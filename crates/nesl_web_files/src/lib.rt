@@ -1,4 +1,5 @@
 //! The files of the page, as they are in `page/`; `scripts/page_files` makes the texts.
+#![tactic(auto)]
 
 mod curves_js;
 mod dom_js;
