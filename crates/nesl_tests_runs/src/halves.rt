@@ -12,6 +12,8 @@
 //!   don't come to the same, and whether more helpers were granted than there are seeds.
 //! - `@meet LINE`: evaluates it where each half of two places waits for the other, and writes how often the left half
 //!   was entered, the right one and any other place, and how often one waited in vain.
+//! - `@say WORK LINE ;; LINE ..`: says the lines to a fresh session, whose lines may take so much work, and writes the
+//!   last answer.
 //! - `@asks`: writes how many permits of pools are free behind questions.
 //! - `@close`: closes the pool.
 
@@ -21,12 +23,15 @@ use crate::granting::Granting;
 use crate::pools::put_asks;
 use crate::requests::request;
 use crate::rows::{Asked, Rows};
+use crate::sessions::LIMITS;
 use crate::told::{LEVELS, WORK, is_same, put_outcome};
 use crate::writing::{put, put_done, put_line, put_wrong};
 use nesl_eval::{Outcome, eval_one};
-use nesl_eval_top_level::Env;
-use nesl_split::eval_split;
 use nesl_eval_helpers::{Free, Gate, Helpers, NoHelpers, Pool};
+use nesl_eval_top_level::Env;
+use nesl_session::limits::Limits;
+use nesl_session::session::Session;
+use nesl_split::eval_split;
 use nesl_syntax_tree::tree::{Exp, Form};
 use std::alloc::{AllocError, Global};
 use std::rt::Clock;
@@ -48,6 +53,8 @@ enum Grant {
 enum Work<'e> {
     One(&'e Exp),
     Rows,
+    // Lines that are said to a session, each of which may take so much work.
+    Lines(u64, &'e str),
 }
 
 // What is bound, and who helps to evaluate a line.
@@ -118,6 +125,10 @@ impl<'a, L: Ledger + Send + Sync, R: Threads + Wait + Clock + Sync> Halves<'a, L
             self.evaluate(alloc, Work::Rows, out)
         } else if word == "@budgets" || word == "@seeds" {
             self.try_many(alloc, word, rest, out)
+        } else if word == "@say" {
+            let (work, lines) = rest.split_once(' ').unwrap_or((rest, ""));
+            let work = work.parse::<u64>().unwrap_or(0);
+            self.evaluate(alloc, Work::Lines(work, lines), out)
         } else if word == "@meet" {
             self.meet(alloc, rest, out)
         } else if word == "@asks" {
@@ -225,7 +236,31 @@ impl<'a, L: Ledger + Send + Sync, R: Threads + Wait + Clock + Sync> Halves<'a, L
                 let all = self.count;
                 put(out, format!(in alloc; "{wrong} wrong of {all} rows"))
             }
+            Work::Lines(work, lines) => self.put_said(alloc, work, lines, helpers, out),
         }
+    }
+
+    // Says lines to a fresh session, and writes the last answer.
+    fn put_said<H: Helpers + Sync>(
+        &self,
+        alloc: Global,
+        line_work: u64,
+        lines: &str,
+        helpers: &H,
+        out: &mut Vec<u8>,
+    ) -> Result<(), AllocError> {
+        let limits = Limits {
+            line_work,
+            ..LIMITS
+        };
+        let mut session = Session::new(alloc, limits)?;
+        let (before, last) = lines.rsplit_once(" ;; ").unwrap_or(("", lines));
+        for line in before.split(" ;; ") {
+            let _ = session.line_split(self.rt, alloc, line.as_bytes(), helpers, &Free);
+        }
+        let answer = session.line_split(self.rt, alloc, last.as_bytes(), helpers, &Free);
+        let bytes = answer.bytes();
+        out.extend_from_slice(bytes.strip_suffix(b"\n").unwrap_or(bytes))
     }
 
     fn told<H: Helpers + Sync, G: Gate + Sync>(

@@ -4,17 +4,20 @@
 //! (`-`) and the one that it got (`+`), and behind each part how many of its rows hold.
 #![tactic(auto)]
 
+mod comparing;
 mod definitions;
 mod driver;
 mod forms;
 mod gates;
 mod granting;
 mod halves;
+mod layouts;
 mod outcomes;
 mod parts;
 mod pools;
 mod requests;
 mod rows;
+mod running;
 mod sessions;
 mod told;
 mod types;

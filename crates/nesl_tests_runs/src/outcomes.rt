@@ -8,7 +8,7 @@
 use crate::driver::Driver;
 use crate::forms::{Reading, define, reading_of};
 use crate::rows::Asked;
-use crate::told::{LEVELS, WORK, is_same, put_outcome};
+use crate::told::{LEVELS, WORK, is_same, put_outcome, work_of};
 use crate::writing::{put, put_done, put_line, put_wrong};
 use linked_list_allocator::LocalHeap;
 use nesl_eval::{Outcome, eval_one, eval_one_in};
@@ -77,6 +77,11 @@ impl Outcomes {
             env: Env::new(alloc),
             last: None,
         }
+    }
+
+    /// What is bound.
+    pub fn env(&self) -> &Env {
+        &self.env
     }
 
     fn answer(
@@ -231,14 +236,6 @@ fn difference<A: Allocator>(told: &Outcome<A>, other: &Outcome<Global>) -> &'sta
 fn value_of(told: Outcome<Global>) -> Option<Value> {
     match told {
         Outcome::Done { value, .. } => Some(value),
-        _ => None,
-    }
-}
-
-fn work_of(told: &Outcome<Global>) -> Option<u64> {
-    match told {
-        Outcome::Done { work, .. } => Some(*work),
-        Outcome::Fault { work, .. } => Some(*work),
         _ => None,
     }
 }

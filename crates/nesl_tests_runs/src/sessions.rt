@@ -28,7 +28,7 @@ const WHOLE: usize = 400;
 const END: usize = 100;
 
 /// The limits of the program.
-const LIMITS: Limits = Limits {
+pub const LIMITS: Limits = Limits {
     line_work: 1_000_000,
     session_work: 100_000_000,
     elements: 100_000,

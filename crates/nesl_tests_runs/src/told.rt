@@ -52,3 +52,12 @@ pub fn is_same<A: Allocator>(told: &Outcome<A>, other: &Outcome<Global>) -> bool
         _ => false,
     }
 }
+
+/// The work of an outcome, unless it has none.
+pub fn work_of(told: &Outcome<Global>) -> Option<u64> {
+    match told {
+        Outcome::Done { work, .. } => Some(*work),
+        Outcome::Fault { work, .. } => Some(*work),
+        _ => None,
+    }
+}

@@ -1,7 +1,7 @@
-// Lines of two users that are evaluated at once.
+//! Lines of two users that are evaluated at once.
 use crate::in_turn::{lines_by, patient};
-use nesl_service::service::Terms;
 use nesl_eval_helpers::{Gate, Place};
+use nesl_service::service::Terms;
 use std::sync::atomic::{AtomicU64, Ordering};
 use std::test::Fail;
 use std::thread;

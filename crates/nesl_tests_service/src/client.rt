@@ -1,4 +1,4 @@
-// Clients of the service, and a table for it.
+//! Clients of the service, and a table for it.
 use nesl_house::table::Table;
 use nesl_session::limits::Limits;
 use std::alloc::Global;

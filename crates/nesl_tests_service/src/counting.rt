@@ -1,9 +1,9 @@
-// Eight threads count for two users.
+//! Eight threads count for two users.
 use crate::client::ann_and_bob;
+use nesl_eval_helpers::{Free, NoHelpers};
 use nesl_house::lease::{Lease, Receipt};
 use nesl_house::table::Table;
 use nesl_service::crowd::run_crowd;
-use nesl_eval_helpers::{Free, NoHelpers};
 use std::alloc::{AllocError, Global};
 use std::sync::atomic::{AtomicU64, Ordering};
 use std::sync::{Mutex, Wait};
