@@ -35,7 +35,7 @@ fn many_names(alloc: Global, count: u8) -> Result<Vec<Vec<u8>>, AllocError> {
 
 fn names_of(alloc: Global, words: &str) -> Result<Vec<Vec<u8>>, AllocError> {
     match words.parse::<u8>() {
-        Ok(count) => many_names(alloc, count.min(65)),
+        Ok(count) => many_names(alloc, count),
         Err(_) => roster(alloc, words),
     }
 }

@@ -7,6 +7,7 @@ use nesl_house::manner::InHeap;
 use nesl_session::answer::Answer;
 use nesl_session::limits::Limits;
 use std::alloc::{AllocError, Global};
+use std::str::Lines;
 use std::thread::Threads;
 
 /// What ann says and what bob says, three rows `LINE => REPLY` each.
@@ -77,8 +78,8 @@ fn said(alloc: Global, user: &str, text: &str) -> Result<Said, AllocError> {
 // The user whose turn it is, and their next row.
 fn next_row<'t>(
     turns: u8,
-    ann: &mut std::str::Lines<'t>,
-    bob: &mut std::str::Lines<'t>,
+    ann: &mut Lines<'t>,
+    bob: &mut Lines<'t>,
 ) -> (&'static str, &'t str, &'t str) {
     let (user, row) = if turns & 1 == 1 {
         ("ann", ann.next())
