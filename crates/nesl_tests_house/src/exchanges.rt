@@ -7,7 +7,6 @@ mod faults;
 mod heaps;
 mod interrupted;
 mod lines;
-mod resumed;
 mod served;
 mod told_first;
 mod turns;
