@@ -141,7 +141,7 @@ fn table_otherwise(alloc: Global) -> Result<Table, AllocError> {
         .ok_or(AllocError)
 }
 
-// What is told of ann's session, which is taken out of one table and put into another.
+// The receipt of ann's session, which is taken out of one table and put into another.
 fn moved<R: Wait>(rt: &R, from: &Table, to: &Table) -> Option<Receipt> {
     let lease = from.take(rt, b"ann").ok()?;
     Some(to.give(rt, lease))

@@ -10,7 +10,7 @@ use nesl_session::Fault;
 use std::alloc::{AllocError, Global};
 use std::thread::Threads;
 
-/// Rosters, each with the reason why there is no house for it. A number stands for as many names.
+/// Rosters, each with the reason why there is no house for it. A number means this many names.
 const ROSTERS: &str = "0 => bad count
 64 => a house
 65 => bad count

@@ -53,7 +53,7 @@ fn sequence(alloc: Global) -> Result<Code, AllocError> {
     Ok(Code::Sequence { span: SPAN, parts })
 }
 
-// The second of two leaves, which are all that operations have behind the first.
+// The second of two leaves, which are all that operations have after the first.
 fn second_leaf(ops: &Ops) -> Option<&What> {
     let Ops::Enter { next, .. } = ops else {
         return None;

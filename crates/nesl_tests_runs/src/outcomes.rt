@@ -1,4 +1,4 @@
-//! What each line comes to. What a line binds stands for the lines after it. The directives are
+//! The outcome of each line. What a line binds is bound for the lines after it. The directives are
 //!
 //! - `@new`: nothing is bound from here on.
 //! - `= LINE`: an expression that has to have the value of the line before it. If it has, there is no answer.
@@ -37,7 +37,7 @@ enum Wish {
     Boundaries,
 }
 
-// What a directive wishes of the line behind it.
+// What a directive wishes of the line after it.
 fn wish_of(word: &str) -> Option<Wish> {
     if word == "=" {
         Some(Wish::Comparison)
@@ -142,7 +142,7 @@ impl Outcomes {
         }
     }
 
-    // What an expression comes to, and whether that is the same in a heap of its own.
+    // The outcome of an expression, and whether it is the same in a heap of its own.
     fn evaluate(&mut self, alloc: Global, exp: &Exp, out: &mut Vec<u8>) -> Result<(), AllocError> {
         let told = eval_one(alloc, &self.env, exp, LEVELS, WORK);
         let done = put_both(alloc, &self.env, exp, &told, out);
@@ -209,7 +209,7 @@ fn put_held_line(
     out.extend_from_slice(b"\n")
 }
 
-// Writes an outcome, and what is told in a heap of fixed size, where that is not the same.
+// Writes an outcome, and the one in a heap of fixed size if that differs.
 fn put_both(
     alloc: Global,
     env: &Env,
@@ -240,7 +240,7 @@ fn value_of(told: Outcome<Global>) -> Option<Value> {
     }
 }
 
-// Whether what is told under so much fuel is what an expression of this whole work has to tell.
+// Whether an outcome under this fuel is that of an expression of this whole work.
 fn is_right(told: &Outcome<Global>, fuel: u64, work: u64) -> bool {
     match told {
         Outcome::Over => fuel < work,

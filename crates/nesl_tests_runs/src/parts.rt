@@ -43,7 +43,7 @@ fn try_each<L: Ledger + Send + Sync, R: Threads + Wait + Clock + Sync>(
     Ok(())
 }
 
-// Tries the rows of a part, which stand behind its head.
+// Tries the rows of a part, which follow its head.
 fn try_part<L: Ledger + Send + Sync, R: Threads + Wait + Clock + Sync>(
     rt: &R,
     alloc: Global,

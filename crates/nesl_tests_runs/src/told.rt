@@ -1,4 +1,4 @@
-//! What evaluations tell.
+//! Outcomes of evaluations.
 
 use crate::writing::put;
 use nesl_eval::Outcome;

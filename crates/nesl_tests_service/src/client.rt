@@ -69,7 +69,7 @@ fn end(alloc: Global, stream: &TcpStream) -> io::Result<()> {
     Ok(())
 }
 
-// Does what stands behind the number of a row, and tells whether what is heard is right.
+// Does what follows the number of a row. Whether what is heard is right.
 fn is_done(alloc: Global, stream: &TcpStream, act: &[u8]) -> io::Result<bool> {
     match act {
         [b'>', b' ', line @ ..] => say_line(stream, line)?,

@@ -15,7 +15,7 @@ const THREADS: usize = 8;
 
 const TURNS: u64 = 100;
 
-// The numbers that each user was told, and the receipts.
+// The numbers in each user's answers, and the receipts.
 #[derive(Drop)]
 pub(crate) struct Told {
     ann: Vec<u64>,

@@ -33,7 +33,7 @@ pub fn lines_by<
     lines_told(rt, alloc, terms, observers, rows)
 }
 
-// How many lines are served to connections that are played, by these terms; these observers are told.
+// How many lines are served to connections that are played, by these terms and with these observers.
 pub fn lines_told<
     R: Net<Listener = TcpListener, Stream = TcpStream> + Threads + Wait + Clock + Abort + Sync,
     G: Gate + Sync,
@@ -103,7 +103,7 @@ fn two_users_are_served(rt: HostRuntime) -> Result<(), Fail> {
     Ok(())
 }
 
-// The lines and the users of a service that wants so many connections, and gets none.
+// The lines and the users of a service that waits for this many connections and gets none.
 fn unserved<R: Net<Listener = TcpListener, Stream = TcpStream> + Threads + Wait + Clock + Sync>(
     rt: &R,
     alloc: Global,

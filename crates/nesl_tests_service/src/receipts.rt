@@ -3,7 +3,7 @@ use nesl_house::lease::Receipt;
 use nesl_service_records::receipts::Receipts;
 use std::alloc::{AllocError, Global};
 
-// Receipts `PLACE:LINES`, and the entries that they are summed up to, with a `!` behind if not all were taken in.
+// Receipts `PLACE:LINES`, and the entries that they are summed up to, with a `!` after if not all were taken in.
 const ROWS: &str = " =>
 3:5 0:7 3:0 0:1 3:11 => 3:16 0:8
 1:18446744073709551614 1:1 1:1 => 1:18446744073709551615 !";

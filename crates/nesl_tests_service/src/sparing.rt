@@ -69,7 +69,7 @@ fn ask<H: Helpers>(sparing: &H, asker: Asker) -> Option<H::Permit> {
     }
 }
 
-// Ends an interval and so many halves of it, if it had a helper.
+// Ends an interval and this many halves of it, if it had a helper.
 fn end<H: Helpers>(sparing: &H, permit: Option<H::Permit>, halves: u32) {
     if let Some(permit) = permit {
         for _ in 0..halves {
@@ -96,14 +96,14 @@ fn is_helped<H: Helpers>(
     is_helped
 }
 
-// Rows `PROCESSORS WORKERS: PART; PART .. => TOLD`. A part is a count and steps, which are taken so many times. A step is
-// a letter, and a number or two that are parted by a dot. Capital letters are about the interval at hand: `M1` is its
-// mark, `S16` its size and twice its smaller half, `L8` its smaller half, `U4000` the fuel that is used, `H1` its height,
-// `V1000` its levels and `T0` its turns, as all of them are at first. The others are:
+// Rows `PROCESSORS WORKERS: PART; PART .. => TOLD`. A part is a count and steps, which are taken this many times. A
+// step is a letter, and a number or two that are parted by a dot. Capital letters are about the interval at hand: `M1`
+// is its mark, `S16` its size and twice its smaller half, `L8` its smaller half, `U4000` the fuel that is used, `H1`
+// its height, `V1000` its levels and `T0` its turns, as all of them are at first. The others are:
 //
 // - `i400.200`: a line of it that takes 400 microseconds alone, and 200 with a helper. `+` tells that it had one, and
 //   `-` that it had none;
-// - `b` and `e` begin and end a line; behind `e` stands the fuel that is used, and behind `t`, which ends what is timed;
+// - `b` and `e` begin and end a line; the fuel that is used follows `e`, and also `t`, which ends what is timed;
 // - `h`: whether it has a helper, with halves that end at once; `d` ends a half of another;
 // - `p400`: 400 microseconds pass;
 // - `q4000.2`: whether it asks again, with that fuel used and this height; `w` the height of what is timed, or `.`;
@@ -294,7 +294,7 @@ fn push_mark(is_so: bool, told: &mut String) -> Result<(), AllocError> {
     told.push(if is_so { '+' } else { '-' })
 }
 
-// What is told of a row.
+// The marks of a row.
 fn told_of(alloc: Global, row: &str) -> Result<String, AllocError> {
     let (machine, parts) = row.split_once(": ").unwrap_or((row, ""));
     let (processors, workers) = machine.split_once(' ').unwrap_or((machine, ""));

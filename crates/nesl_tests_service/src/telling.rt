@@ -1,4 +1,4 @@
-//! What a journal is told of connections and of their answers.
+//! What a journal hears of connections and of their answers.
 use crate::in_turn::{lines_told, patient};
 use nesl_eval_helpers::Free;
 use nesl_lex::token::Span;
@@ -18,7 +18,7 @@ use std::test::Fail;
 use std::thread::Threads;
 use std::time::{Clock, Duration};
 
-// Writes down what it is told, and counts.
+// Writes down what is reported to it, and counts.
 #[derive(Drop)]
 struct Notes<'r, R> {
     rt: &'r R,
@@ -89,7 +89,7 @@ impl<R: Wait> Journal for Notes<'_, R> {
     }
 }
 
-// What a journal is told while these rows are played to six connections, and the counters.
+// What a journal hears while these rows are played on six connections, and the counters.
 fn told<R: Net<Listener = TcpListener, Stream = TcpStream> + Threads + Wait + Clock + Abort + Sync>(
     rt: &R,
     alloc: Global,
@@ -117,7 +117,8 @@ fn told<R: Net<Listener = TcpListener, Stream = TcpStream> + Threads + Wait + Cl
     Ok(notes.close(alloc)?)
 }
 
-// A user who ends, a stranger, one who names nobody, one who is mute, one who is silent after a line, and a user again.
+// A user who ends, a stranger, a client that names nobody, a mute one, a user who is silent after a line, and a user
+// again.
 const SIX: &str = "0 > user ann
 0 < user ann
 0 > 2 * 3 + 1;
@@ -147,7 +148,7 @@ const SIX: &str = "0 > user ann
 const ENDINGS: &str = "begun;ann;end of input;begun;unknown;turned away;begun;unknown;turned away;\
     begun;no first line;begun;bob;idle;begun;bob;end of input;";
 
-// What they come to in numbers.
+// Their counts.
 const NUMBERS: &str =
     "{\"uptime\":3,\"begun\":6,\"open\":0,\"turned_away\":{\"unknown\":2,\"busy\":0},\
     \"ended\":{\"end of input\":2,\"turned away\":2,\"no first line\":1,\"idle\":1,\"answer not taken\":0,\

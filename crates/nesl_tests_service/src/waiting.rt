@@ -11,7 +11,7 @@ use std::sync::atomic::{AtomicU64, Ordering};
 use std::test::Fail;
 use std::time::Duration;
 
-// One thread for so many connections, a first line of which may take 300 milliseconds.
+// One thread for this many connections, a first line of which may take 300 milliseconds.
 fn hasty(connections: u64) -> Terms {
     Terms {
         threads: 1,
@@ -86,7 +86,7 @@ fn a_connection_that_reads_nothing_ends(rt: HostRuntime) -> Result<(), Fail> {
     Ok(())
 }
 
-// Refuses to open, and counts what it is told besides.
+// Refuses to open, and counts whatever else is reported to it.
 #[derive(Drop)]
 struct Closed {
     told: AtomicU64,

@@ -2,13 +2,13 @@
 use crate::limits::LIMITS;
 use crate::standing::{put_standing, roster};
 use crate::told::{ROOM, Refusal, Told, put};
+use nesl_eval_helpers::{Free, NoHelpers};
 use nesl_house::lease::Receipt;
 use nesl_house::roster::NewFault;
 use nesl_house::table::{Closed, Table};
 use nesl_line::device::Device;
 use nesl_line::exchange::End;
 use nesl_line::serve::{Served, serve};
-use nesl_eval_helpers::{Free, NoHelpers};
 use std::alloc::{AllocError, Global};
 use std::sync::Wait;
 use std::thread::Threads;

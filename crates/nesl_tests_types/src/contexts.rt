@@ -1,9 +1,10 @@
-//! Rows of contexts. A row asks for steps, `STEP; STEP; ..`, and wants what they tell, each behind a blank.
+//! Rows of contexts. A row asks for steps, `STEP; STEP; ..`, and wants what they tell, each after a blank.
 //!
 //! - `t TYPE` takes a type at hand, which is `int` at first. `p 11` makes pairs of it with itself, eleven times, and
 //!   `s 11` makes sequences of it.
 //! - `v x 3` binds a name to a variable of this type, with the payload 3. `d p 0` binds it to a datatype with the tag
-//!   and the payload 0, and `f h 3` to a function that gives this type. `r 0 3` replaces what is at place 0 by a variable.
+//!   and the payload 0, and `f h 3` to a function that gives this type. `r 0 3` replaces what is at place 0 by a
+//!   variable.
 //! - `g x` tells what a name is, `o 0` the datatype with this tag, and `a 0` what is at this place. `l` tells how many
 //!   names there are, `k` how many types are kept, and `n` the text of the type at hand.
 

@@ -43,7 +43,7 @@ fn leaf(alloc: Global, word: &str) -> Result<Ty, AllocError> {
     }
 }
 
-/// The type that begins with the word, where those behind it are read already, the nearest last.
+/// The type that begins with the word, if those after it are read already, the nearest last.
 fn beginning_with(alloc: Global, word: &str, types: &mut Vec<Ty>) -> Result<Ty, AllocError> {
     match word {
         "int" => Ty::int(alloc),
@@ -64,7 +64,7 @@ fn push_type(alloc: Global, word: &str, types: &mut Vec<Ty>) -> Result<(), Alloc
     Ok(())
 }
 
-/// The types of words, the last one first. What `seq` and `both` are made of stands behind them, and an arrow may stand
+/// The types of words, the last one first. What `seq` and `both` are made of follows them, and an arrow may be
 /// between two types: `both int seq char -> v0` are `(int, [char])` and a variable.
 fn types_of(alloc: Global, words: &str) -> Result<Vec<Ty>, AllocError> {
     let mut types = Vec::new(alloc);

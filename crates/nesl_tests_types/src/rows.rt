@@ -4,7 +4,7 @@
 use std::alloc::{AllocError, Global};
 use std::process::Abort;
 
-/// The number that a letter stands for in one of so many rounds, numbered from 0: `$` for that of the round and `&` for
+/// The number that a letter means in one of this many rounds, numbered from 0: `$` for that of the round and `&` for
 /// the next one, `!` and `?` for the same of the round that is as far from the end.
 fn number_of(letter: char, round: u64, count: u64) -> Option<u64> {
     match letter {
@@ -26,7 +26,7 @@ fn push_round(text: &mut String, part: &str, round: u64, count: u64) -> Result<(
     Ok(())
 }
 
-/// Adds a piece: `COUNT~PART` is the part so many times, and any other piece is as it stands.
+/// Adds a piece: `COUNT~PART` is the part this many times, and any other piece is itself.
 fn push_piece(text: &mut String, piece: &str) -> Result<(), AllocError> {
     match piece.split_once('~') {
         Some((count, part)) => {
@@ -40,7 +40,7 @@ fn push_piece(text: &mut String, piece: &str) -> Result<(), AllocError> {
     }
 }
 
-/// What is asked, where an `@` stands before and behind each part that is written so many times.
+/// What is asked, with an `@` before and after each part that is written several times.
 fn written_out(alloc: Global, asked: &str) -> Result<String, AllocError> {
     let mut text = String::new(alloc);
     for piece in asked.split('@') {
@@ -49,7 +49,7 @@ fn written_out(alloc: Global, asked: &str) -> Result<String, AllocError> {
     Ok(text)
 }
 
-/// Whether a text is the one that is wanted, of which two dots stand for all that is behind them.
+/// Whether a text is the one that is wanted, in which two dots at the end mean any rest.
 fn is_wanted(told: &str, wanted: &str) -> bool {
     match wanted.strip_suffix("..") {
         Some(beginning) => told.starts_with(beginning),
@@ -59,11 +59,11 @@ fn is_wanted(told: &str, wanted: &str) -> bool {
 
 /// What rows are about.
 pub trait Subject {
-    /// Writes what is told of what a row asks. The text is empty before.
+    /// Writes the answer to what a row asks. The text is empty before.
     fn tell(&self, alloc: Global, asked: &str, text: &mut String) -> Result<(), AllocError>;
 }
 
-/// Whether what is told of what is asked is what is wanted.
+/// Whether the answer to what is asked is the one that is wanted.
 fn is_told<S: Subject>(
     alloc: Global,
     subject: &S,

@@ -11,14 +11,14 @@
 //! - `m5.0` puts the type at place 5 of the other bank there in this way, and `k5` puts it as it is;
 //! - `l` tells how many types the bank has, and `w` where the last one was put;
 //! - `n`, `f`, `a` and `q` tell the nodes, the shape, the text and the variables of the type at a place, and `u` the
-//!   variables behind variable 9; `e0.1` tells whether those at two places are the same.
+//!   variables after variable 9; `e0.1` tells whether those at two places are the same.
 //!
 //! Other capital letters, `j` and `o` are about types, of which the last is at hand:
 //!
 //! - `I`, `T`, `C`, `V3` and `N7` make one; `Q` makes the sequences of the last, and `P` the pair of the last two, in
 //!   their place; `G` reads the one at a place of the bank, `Y` copies the last, and `o` forgets it;
 //! - `E` tells whether the last two are the same, said of either, and `O` whether their numbers are;
-//! - `K`, `M`, `L`, `A` and `U` tell its kind, its nodes, the length of its list, its text and its variables behind
+//! - `K`, `M`, `L`, `A` and `U` tell its kind, its nodes, the length of its list, its text and its variables after
 //!   variable 9, `W` the variables of its first part, and `X4` what is left of a room for 4 nodes;
 //! - `B0` puts it into the bank, with the type at place 0 for variable 0;
 //! - `J3.0` tells whether the one at place 3 of the bank is that, and `j3` whether it is the last one itself;

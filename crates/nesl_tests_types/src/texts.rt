@@ -1,4 +1,4 @@
-//! What is told: numbers, classes, and the texts of types and of the types of functions.
+//! What is written: numbers, classes, and the texts of types and of the types of functions.
 
 use nesl_types::{Class, Context, Scheme, Ty, scheme_text, type_text};
 use std::alloc::{AllocError, Global};

@@ -39,7 +39,7 @@ pub fn outcome_of(alloc: Global, tape: Tape<'_>, paper: Paper) -> Result<Outcome
     })
 }
 
-/// Whether that is answered to so many lines, where so many bytes come at a time.
+/// Whether that is answered to this many lines, if this many bytes come at a time.
 pub fn is_answered(
     alloc: Global,
     text: &[u8],

@@ -51,8 +51,8 @@ fn cut_off_at_every_byte(rt: HostRuntime) {
     }
 }
 
-/// Whether the given numbers of lines are heard, of bytes answered and of lines stored if the read after `good` reads of
-/// one byte fails.
+/// Whether the given numbers of lines are heard, of bytes answered and of lines stored if the read after `good` reads
+/// of one byte fails.
 fn ends_after(
     alloc: Global,
     good: u32,
@@ -88,7 +88,7 @@ fn a_read_of_one_byte_that_fails(rt: HostRuntime) {
     }
 }
 
-/// Whether the writer ends the batch where it has room for so many bytes: they are written and no more, and a line
+/// Whether the writer ends the batch where it has room for this many bytes: they are written and no more, and a line
 /// whose answer could not be written whole stays recorded.
 fn ends_by_writer(
     alloc: Global,

@@ -65,7 +65,7 @@ impl Write for Paper {
     }
 }
 
-/// Takes so many bytes at each write, and so many in all.
+/// Takes this many bytes at each write, and this many in all.
 pub fn paper_of(alloc: Global, step: usize, room: usize) -> Paper {
     Paper {
         bytes: Vec::new(alloc),

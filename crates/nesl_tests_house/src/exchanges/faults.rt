@@ -9,7 +9,7 @@ use std::alloc::{AllocError, Global};
 use std::io;
 use std::io::Read;
 
-// Whether the batch ends at the flush after so many.
+// Whether the batch ends at the flush after this many.
 fn ends_at_flush(alloc: Global, good_flushes: u32) -> Result<bool, AllocError> {
     let paper = Paper {
         good_flushes,

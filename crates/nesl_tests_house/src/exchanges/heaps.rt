@@ -10,7 +10,7 @@ use std::alloc::{AllocError, Global};
 
 const MEMORY: &str = "fault memory (work 0)";
 
-// The lines that a session was told, the bytes that are pending, what is left, and how many names are bound.
+// The lines that a session was given, the bytes that are pending, what is left, and how many names are bound.
 type Left = (u64, usize, Remaining, usize);
 
 // What is answered to a text, and what the sessions of ann and bob are then.
@@ -50,7 +50,7 @@ fn left_of(house: &House, user: &[u8]) -> Option<Left> {
     ))
 }
 
-// What comes of a text in a heap of so many bytes.
+// The result of a text in a heap of this many bytes.
 fn told_in(alloc: Global, bytes: usize, said: &str) -> Result<Told, AllocError> {
     let heap = LocalHeap::new(alloc, bytes)?;
     let before = heap.used();
@@ -145,8 +145,8 @@ fn push_line(text: &mut String, line: &str) -> Result<(), AllocError> {
     text.push_str("\n")
 }
 
-// Whether the text is answered in a heap of so many bytes, but for the lines that are refused there, as those alone are
-// that were kept, and leaves the sessions as they do.
+// Whether the text is answered in a heap of this many bytes, but for the lines that are refused there, as those alone
+// are that were kept, and leaves the sessions as they do.
 fn is_right_in(alloc: Global, bytes: usize) -> Result<bool, AllocError> {
     let told = told_in(alloc, bytes, SAID)?;
     let (kept, wanted) = kept(alloc, told.text())?;
@@ -155,7 +155,7 @@ fn is_right_in(alloc: Global, bytes: usize) -> Result<bool, AllocError> {
     Ok(is_same && other.text() == wanted.as_str() && begins_right(told.text()) && told.is_whole())
 }
 
-// How many lines are refused in a heap of so many bytes.
+// How many lines are refused in a heap of this many bytes.
 fn refused_in(alloc: Global, bytes: usize) -> Result<usize, AllocError> {
     let told = told_in(alloc, bytes, SAID)?;
     Ok(

@@ -7,7 +7,7 @@ use nesl_line::exchange::{End, Ran};
 use std::io;
 use std::io::{Read, Write};
 
-// Is interrupted so many times before each call.
+// Is interrupted this many times before each call.
 #[derive(Drop)]
 struct Interrupted<T> {
     inner: T,

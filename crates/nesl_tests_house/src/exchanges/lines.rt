@@ -2,7 +2,7 @@
 use crate::exchanges::batches::is_answered;
 use std::alloc::{AllocError, Global};
 
-/// Texts and their answers, one for each line. A `/` stands for a line end, and a `~` for a carriage return.
+/// Texts and their answers, one for each line. A `/` means a line end, and a `~` a carriage return.
 const TEXTS: &str = r" =>
 user ann/7;/user bob/9;/ => user ann/it = 7 : int (work 1, depth 1)/user bob/it = 9 : int (work 1, depth 1)/
 1;/user zed/1;/user ann/2; => fault user/fault user/fault user/user ann/it = 2 : int (work 1, depth 1)/
@@ -42,7 +42,7 @@ fn lines_are_answered(rt: HostRuntime) {
     }
 }
 
-// A line of ann with so many blanks, and one more line where it ends.
+// A line of ann with this many blanks, and one more line where it ends.
 fn long_line(alloc: Global, blanks: usize, end: &str) -> Result<Vec<u8>, AllocError> {
     let mut text = Vec::from_slice(alloc, b"user ann\n9;")?;
     text.resize(text.len().saturating_add(blanks), b' ')?;

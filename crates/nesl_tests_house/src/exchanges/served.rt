@@ -16,8 +16,8 @@ const SAID: &[u8] = b"user ann\n2 * 3 + 1;\nuser bob\n4 + 5;\n";
 const ANSWERS: &str = "user ann\nit = 7 : int (work 5, depth 5)\nfault syntax (work 0)\n\
     it = 9 : int (work 3, depth 3)\n";
 
-/// What is answered on a connection that reads the tape and writes on the paper, and how it ends.
-pub fn served<R: Threads + Wait + Sync>(
+// What is answered on a connection that reads the tape and writes on the paper, and how it ends.
+fn served<R: Threads + Wait + Sync>(
     rt: &R,
     alloc: Global,
     table: &Table,
@@ -108,7 +108,7 @@ fn cut_off_at_every_byte(rt: HostRuntime) {
     }
 }
 
-// How many lines are heard, how many bytes answered, and how many lines stored, where the read after so many fails.
+// How many lines are heard, how many bytes answered, and how many lines stored, where the read after this many fails.
 fn heard(good: u32) -> (u64, usize, u64) {
     match good {
         0..=8 => (0, 0, 0),
@@ -138,7 +138,8 @@ fn a_read_that_fails_gives_the_lease_back(rt: HostRuntime) {
     }
 }
 
-// Whether the lease goes back where so many bytes are written. The line whose answer could not be written stays stored.
+// Whether the lease goes back where this many bytes are written. The line whose answer could not be written stays
+// stored.
 fn is_given_back<R: Threads + Wait + Sync>(
     rt: &R,
     alloc: Global,

@@ -1,4 +1,4 @@
-//! The gate of a connection is told of a line before it is evaluated, when nothing of its answer is written.
+//! The gate of a connection is entered by a line before the line is evaluated, when nothing of its answer is written.
 use crate::exchanges::devices::tape_of;
 use crate::granting::Granting;
 use crate::sample::table;
@@ -83,7 +83,7 @@ impl Write for Watched<'_> {
     }
 }
 
-// Four lines behind the first one. The answers have 9, 31, 39, 39 and 31 bytes; each apply-to-each is halved once.
+// Four lines after the first one. The answers have 9, 31, 39, 39 and 31 bytes; each apply-to-each is halved once.
 const SAID: &[u8] = b"user ann
 2;
 {a * a : a in [1, 2]};

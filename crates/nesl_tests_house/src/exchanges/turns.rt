@@ -61,7 +61,7 @@ fn nothing_is_heard_once_all_is_over(rt: HostRuntime) {
     );
 }
 
-// How many bytes a writer was given, and how many of them it was told to hand on.
+// How many bytes a writer was given, and how many of them it had to hand on.
 #[derive(Drop)]
 struct Wire {
     given: Cell<usize>,

@@ -59,56 +59,49 @@ const LENGTHS: [usize; 14] = [
     0, 1, 125, 126, 8190, 8191, 8192, 8193, 65_535, 65_536, 65_537, 65_538, 131_073, 300_000,
 ];
 
+// Whether a text is read as it was sent, before a short one and after it.
+fn is_read(alloc: Global, text: &str) -> Result<bool, Fail> {
+    let texts = [text, "user ann", text];
+    let bytes = sent(alloc, &texts)?;
+    Ok(are_read(alloc, bytes, &texts))
+}
+
 #[test]
 fn a_text_is_read_as_it_was_sent(rt: HostRuntime) -> Result<(), Fail> {
     for length in LENGTHS {
         let text = text_of(rt.alloc(), 'a', length)?;
-        let texts = [text.as_str(), "user ann", text.as_str()];
-        let bytes = sent(rt.alloc(), &texts)?;
-        assert!(rt; are_read(rt.alloc(), bytes, &texts), "{length}");
+        assert!(rt; is_read(rt.alloc(), text.as_str())?, "{length}");
     }
-    Ok(())
-}
-
-#[test]
-fn no_frame_ends_within_a_character(rt: HostRuntime) -> Result<(), Fail> {
+    // No frame ends within a character.
     for (letter, count) in [('é', 40_000), ('…', 30_000), ('𝕏', 20_000)] {
+        let letters = text_of(rt.alloc(), letter, count)?;
         for front in ["", "a", "aa", "aaa"] {
-            let letters = text_of(rt.alloc(), letter, count)?;
             let text = format!(in rt.alloc(); "{front}{letters}")?;
-            let bytes = sent(rt.alloc(), &[text.as_str()])?;
-            assert!(rt;
-                are_read(rt.alloc(), bytes, &[text.as_str()]),
-                "{front}{letter}"
-            );
+            assert!(rt; is_read(rt.alloc(), text.as_str())?, "{front}{letter}");
         }
     }
     Ok(())
 }
 
+// Whether bytes that are no text are refused, and nothing of them is sent.
+fn is_refused(alloc: Global) -> Result<bool, Fail> {
+    let mut frames = FrameWriter::new(alloc, Vec::new(alloc))?;
+    frames.write_all(b"a\xff\n")?;
+    Ok(frames.flush().is_err() && frames.into_inner().is_empty())
+}
+
+// How many bytes of a long text are sent before its end.
+fn sent_at_once(alloc: Global) -> Result<usize, Fail> {
+    let text = text_of(alloc, 'a', 300_000)?;
+    let mut frames = FrameWriter::new(alloc, Vec::new(alloc))?;
+    frames.write_all(text.as_bytes())?;
+    Ok(frames.into_inner().len())
+}
+
 #[test]
-fn a_short_text_is_one_frame(rt: HostRuntime) -> Result<(), Fail> {
+fn texts_are_sent_in_frames(rt: HostRuntime) -> Result<(), Fail> {
     // The head of a text in one frame without a mask, of 2 bytes.
     assert!(rt; sent(rt.alloc(), &["ab"])?.as_slice() == b"\x81\x02ab".as_slice());
-    Ok(())
-}
-
-#[test]
-fn what_is_no_text_is_not_sent(rt: HostRuntime) -> Result<(), Fail> {
-    let mut frames = FrameWriter::new(rt.alloc(), Vec::new(rt.alloc()))?;
-    frames.write_all(b"a\xff\n")?;
-    assert!(rt; frames.flush().is_err());
-    let bytes = frames.into_inner();
-    assert!(rt; bytes.is_empty());
-    Ok(())
-}
-
-#[test]
-fn a_long_text_is_not_gathered(rt: HostRuntime) -> Result<(), Fail> {
-    let text = text_of(rt.alloc(), 'a', 300_000)?;
-    let mut frames = FrameWriter::new(rt.alloc(), Vec::new(rt.alloc()))?;
-    frames.write_all(text.as_bytes())?;
-    let bytes = frames.into_inner();
-    assert!(rt; bytes.len() > 290_000, "{}", bytes.len());
+    assert!(rt; is_refused(rt.alloc())? && sent_at_once(rt.alloc())? > 290_000);
     Ok(())
 }

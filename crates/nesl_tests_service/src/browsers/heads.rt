@@ -5,7 +5,7 @@ use std::alloc::{AllocError, Global};
 use std::io;
 use std::io::{ErrorKind, Read};
 
-// A reader that gives a text in pieces of so many bytes, and then fails, or ends.
+// A reader that gives a text in pieces of this many bytes, and then fails, or ends.
 #[derive(Drop)]
 struct Pieces<'t> {
     text: &'t [u8],
@@ -29,8 +29,8 @@ impl Read for Pieces<'_> {
     }
 }
 
-// Rows `SIZE BYTES FIELDS LEFT THEN => TOLD`: pieces of this size of a head that has a field `X` of so many bytes and so
-// many fields `Y`, and lacks so many bytes at its end; and then an end, or what fails.
+// Rows `SIZE BYTES FIELDS LEFT THEN => TOLD`: pieces of this size of a head that has a field `X` of this many bytes and
+// so many fields `Y`, and lacks this many bytes at its end; and then an end, or what fails.
 const ROWS: &str = "1 0 0 0 end => whole
 2 0 0 0 end => whole
 7 0 0 0 end => whole
@@ -46,7 +46,7 @@ const ROWS: &str = "1 0 0 0 end => whole
 1000 1 62 0 end => whole
 1000 1 63 0 end => large";
 
-// A head with a field of so many bytes, and with so many fields more. The shortest has 40 bytes.
+// A head with a field of this many bytes, and with this many fields more. The shortest has 40 bytes.
 fn head_of(alloc: Global, bytes: usize, fields: usize) -> Result<Vec<u8>, AllocError> {
     let mut head = Vec::from_slice(alloc, b"GET / HTTP/1.1\r\nHost: localhost\r\nX: ")?;
     head.resize(head.len().saturating_add(bytes), b'x')?;
@@ -70,7 +70,7 @@ fn failure(word: &str) -> Option<ErrorKind> {
     }
 }
 
-// What is told of a text that comes in pieces.
+// The word for the head or the fault of a text that comes in pieces.
 fn told_of(alloc: Global, text: &[u8], size: usize, then: Option<ErrorKind>) -> &'static str {
     match read_head(alloc, &mut Pieces { text, size, then }) {
         Ok(bytes) if bytes.as_slice() == text => "whole",
@@ -87,7 +87,7 @@ fn number(word: Option<&str>) -> usize {
     word.unwrap_or("").parse::<usize>().unwrap_or(0)
 }
 
-// Whether what is told of a row is right.
+// Whether a row holds.
 fn row_holds(alloc: Global, row: &str) -> Result<bool, AllocError> {
     let (asked, wanted) = row.split_once(" => ").unwrap_or((row, ""));
     let mut words = asked.split_whitespace();

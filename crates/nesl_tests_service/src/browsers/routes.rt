@@ -25,7 +25,7 @@ fn request_of(alloc: Global, parts: &str) -> Result<String, AllocError> {
     Ok(request)
 }
 
-// The first row that isn't answered as it says behind ` => `.
+// The first row that isn't answered as it says after ` => `.
 fn wrong_row(
     alloc: Global,
     front: &str,

@@ -57,7 +57,7 @@ fn renamed_one(
     }
 }
 
-// The variables of the type at a place, behind variable 9.
+// The variables of the type at a place, after variable 9.
 fn noted(alloc: Global, bank: &Bank, place: usize) -> Result<IndexSet<u64>, AllocError> {
     let mut seen = IndexSet::new(alloc);
     seen.insert(9u64)?;
@@ -90,7 +90,7 @@ fn tell(
 }
 
 impl Desk {
-    /// Puts pairs or sequences of the last type, so many times.
+    /// Puts pairs or sequences of the last type, this many times.
     pub fn put_often(&mut self, letter: u8, count: usize) -> Result<(), AllocError> {
         for _ in 0..count {
             self.place = put(&mut self.bank, letter, (self.place, self.place))?;

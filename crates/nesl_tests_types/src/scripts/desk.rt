@@ -15,7 +15,7 @@ pub struct Desk {
     pub place: usize,
 }
 
-// The numbers behind the letter of a word; either is the place, if it isn't told.
+// The numbers after the letter of a word; either is the place, if it isn't given.
 fn numbers_of(digits: &[u8], place: usize) -> (usize, usize) {
     let mut numbers = (place, place);
     let mut is_begun = false;
@@ -45,7 +45,7 @@ impl Desk {
         }
     }
 
-    /// Does what a script says, and writes what it tells, each behind a blank.
+    /// Does what a script says, and writes the answers, each after a blank.
     pub fn run(&mut self, script: &str, text: &mut String) -> Result<(), AllocError> {
         for word in script.split(' ') {
             if let [letter, digits @ ..] = word.as_bytes() {

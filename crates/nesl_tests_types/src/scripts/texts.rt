@@ -1,4 +1,4 @@
-//! What is told, each behind a blank.
+//! What is written, each after a blank.
 
 use crate::texts::{push_number, word_of};
 use indexmap::IndexSet;
@@ -51,7 +51,7 @@ fn text_of(alloc: Global, ty: &Ty) -> Result<Vec<u8>, AllocError> {
     type_text(alloc, ty, &context)
 }
 
-// Writes a text, of which a long one is written as its length and what stands in its midst up to a bracket.
+// Writes a text, of which a long one is written as its length and what is in its midst up to a bracket.
 fn push_text(bytes: &[u8], text: &mut String) -> Result<(), AllocError> {
     let count = bytes.len();
     if count < 100 {

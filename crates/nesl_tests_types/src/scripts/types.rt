@@ -72,7 +72,7 @@ fn push_room_left(ty: &Ty, room: usize, text: &mut String) -> Result<(), AllocEr
     }
 }
 
-// The variables of a type, behind variable 9.
+// The variables of a type, after variable 9.
 fn noted(alloc: Global, ty: &Ty) -> Result<IndexSet<u64>, AllocError> {
     let mut seen = IndexSet::new(alloc);
     seen.insert(9u64)?;

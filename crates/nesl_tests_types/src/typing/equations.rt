@@ -73,7 +73,7 @@ fn push_variable_or_size(text: &mut String, ty: Result<Ty, AllocError>) -> Resul
     }
 }
 
-/// Writes the class of the first variable, and what stands for those that are asked for.
+/// Writes the class of the first variable, and the types of those that are asked for.
 fn push_solution(
     alloc: Global,
     solution: &Solution,
@@ -145,7 +145,7 @@ const CHAIN: &str =
     "100000|@99999~v$ = v&, @|v0 number, v99999 logical|v0 v54321 v99999 => number v0 v0 v0";
 
 /// A thousand variables, each the first of a dozen in which each but the last is the pairs of the next one with itself,
-/// stand for types of 4,095 nodes, and are then all made equal.
+/// are types of 4,095 nodes, and are then all made equal.
 const LARGE_AND_EQUAL: &str = "12000|\
     @1000~v$.0 = both v$.1 v$.1, v$.1 = both v$.2 v$.2, v$.2 = both v$.3 v$.3, v$.3 = both v$.4 v$.4, \
     v$.4 = both v$.5 v$.5, v$.5 = both v$.6 v$.6, v$.6 = both v$.7 v$.7, v$.7 = both v$.8 v$.8, \
@@ -170,7 +170,7 @@ fn equations_are_solved(rt: HostRuntime) {
     all_hold(&rt, rt.alloc(), &Solutions, &tables);
 }
 
-/// Whether this type stands for the variable.
+/// Whether the variable has this type.
 fn stands_for(alloc: Global, solution: &Solution, variable: u64, wanted: &Ty) -> bool {
     match solution.variable(alloc, variable) {
         Ok(ty) => ty.same(wanted),

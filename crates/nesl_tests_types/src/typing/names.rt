@@ -116,7 +116,7 @@ fn push_place(text: &mut String, span: Result<Option<Span>, AllocError>) -> Resu
     }
 }
 
-/// Writes where the first unknown name of a line stands; nothing where the line has no form.
+/// Writes the place of the first unknown name of a line; nothing if the line has no form.
 fn tell_in(
     alloc: Global,
     line: &str,

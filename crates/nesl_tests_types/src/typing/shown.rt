@@ -12,7 +12,7 @@ pub fn form_of(alloc: Global, line: &str) -> Option<Form> {
     parse_form(alloc, tokens.as_slice()).ok()
 }
 
-/// What a form's text has too much of, and behind a `~` what stands for it.
+/// What a form's text has too much of, and after a `~` what replaces it.
 const SHORTER: &str =
     "Name { letters: ~\nTypeExp { span: Span { start: ~\nExp { span: Span { start: ~\nPattern { span: Span { start: ~\n\
     Span { start: ~\n, end: ~..\n }, node: ~ \n { ~ \n }~";

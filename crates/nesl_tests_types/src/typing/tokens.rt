@@ -140,7 +140,7 @@ fn lines_have_these_tokens(rt: HostRuntime) {
     all_hold(&rt, rt.alloc(), &Tokens, &tables);
 }
 
-/// The bytes that begin a token, or stand between tokens.
+/// The bytes that begin a token, or may be between tokens.
 const BEGINNINGS: &[u8] =
     b" \t\r0123456789ABCDEFGHIJKLMNOPQRSTUVWXYZabcdefghijklmnopqrstuvwxyz()[]{},;:|=/<>+-*#";
 
