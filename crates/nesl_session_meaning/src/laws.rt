@@ -1,7 +1,7 @@
 //! What holds of the step, whoever calls it.
 ghost use Rattle.nesl_session_meaning.specs.Laws.{GoesOn, LimitsStay, OneRun, OneState, OneStep, RecordedLinesGrow};
-ghost use Rattle.nesl_session_meaning.specs.Worked.{budget_of_none, comment, names_of_none, no_room_for_a_line, no_token};
-ghost use Rattle.nesl_session_meaning.specs.Worked.{no_tree, reset_after_a_sum, reset_at_the_limit, small_sum};
+ghost use Rattle.nesl_session_meaning.specs.Worked.{budget_of_none, comment, names_of_none, no_room_for_a_line};
+ghost use Rattle.nesl_session_meaning.specs.Worked.{no_token, no_tree, reset_after_a_sum, reset_at_the_limit, small_sum};
 ghost use Rattle.nesl_session_meaning.specs.Worked.{sum_in_two_parts, sum_over_the_work_of_a_line, sum_without_room};
 ghost use Rattle.nesl_session_meaning.specs.Worked.{unknown_name};
 
