@@ -1,5 +1,5 @@
 #!/usr/bin/env python3
-"""Serves the page of crates/nesl_web/page/ to browsers, and passes their connections on to a `pazkindu serve`.
+"""Serves the page of crates/nesl_web_files/page/ to browsers, and passes their connections on to a `pazkindu serve`.
 
     scripts/page_bridge.py [--port PORT] [--program PROGRAM] [--page FOLDER] USER..
 
@@ -214,7 +214,7 @@ def main():
     words = argparse.ArgumentParser(description=__doc__, formatter_class=argparse.RawDescriptionHelpFormatter)
     words.add_argument("--port", type=int, default=8080)
     words.add_argument("--program", default=str(TOP / "release" / "pazkindu"))
-    words.add_argument("--page", type=Path, default=TOP / "crates" / "nesl_web" / "page")
+    words.add_argument("--page", type=Path, default=TOP / "crates" / "nesl_web_files" / "page")
     words.add_argument("users", nargs="+", metavar="USER")
     told = words.parse_args()
     signal.signal(signal.SIGTERM, lambda *_: sys.exit(0))

@@ -8,7 +8,7 @@ import time
 from lib import ONE, PATIENCE, TOP, Process, Service, demand, loaded, names, seated, short, sockets_end
 from web import BINARY, PING, TEXT, WebClient, asked, frame, page_port, request, upgrade
 
-PAGE = TOP / "crates" / "nesl_web" / "page"
+PAGE = TOP / "crates" / "nesl_web_files" / "page"
 HEADERS = {"content-security-policy": "default-src 'none'; script-src 'self'; style-src 'self'; connect-src 'self'; "
                                       "base-uri 'none'; form-action 'none'; frame-ancestors 'none'",
            "x-content-type-options": "nosniff", "cache-control": "no-store", "referrer-policy": "no-referrer"}
@@ -86,9 +86,10 @@ def conversation(program):
             for other in (service.client(), WebClient(port)):
                 other.must("user ann", "fault busy")
                 other.leave()
-            with WebClient(port) as stranger:
-                stranger.must("user zed", "fault user")
-                stranger.is_ended(1000)
+            for first in ("user zed", "1 + 1;"):
+                with WebClient(port) as stranger:
+                    stranger.must(first, "fault user")
+                    stranger.is_ended(1000)
             bob.leave()
             ann.leave()
         for kind, data, code in ((BINARY, b"x;", 1003), (TEXT, b"1;\n2;", 1003), (TEXT, b"\xff", 1007),
@@ -167,15 +168,20 @@ def log_and_ports(program):
         with WebClient(port, "ann") as client:
             client.must(*ONE)
             client.leave()
+        with WebClient(port) as stranger:
+            stranger.must("user zed", "fault user")
+            stranger.is_ended(1000)
         asked(port, request("/"))
         with service.client("ann") as client:
             client.leave()
         same("its end", service.ended(), (0, "served 1 connections, 1 lines"))
         rows = [line.split(" ", 1)[1].split(" port ") for line in service.complaint().split("\n")]
-    for who, lines in (("connection web 1", 2), ("connection 1", 1)):
-        told = [rest.split(" ", 1)[1].rsplit(",", 1)[0] for front, rest in rows if front == who]
-        same(f"the log of {who}", told, ["began", "seated ann", f"ended: ann, {lines} lines, end of input"])
-    same("lines of the log", len(rows), 6)
+    for who, seat, end in (("web 1", "seated ann", "ann, 2 lines, end of input"),
+                           ("web 2", "turned away: unknown", "no user, 1 lines, turned away"),
+                           ("1", "seated ann", "ann, 1 lines, end of input")):
+        told = [rest.split(" ", 1)[1].rsplit(",", 1)[0] for front, rest in rows if front == f"connection {who}"]
+        same(f"the log of connection {who}", told, ["began", seat, f"ended: {end}"])
+    same("lines of the log", len(rows), 9)
     with shown(program, "--connections", "1", may_end=True) as (service, port), WebClient(port, "ann") as sitting:
         service.client().close()
         sitting.must(*ONE)

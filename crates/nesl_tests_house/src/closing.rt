@@ -1,8 +1,7 @@
-// Leases, receipts, and what a table answers that is to be closed.
-use crate::sample::{LIMITS, lines_of, opened, roster, said};
+//! Leases and receipts, and tables that are closed.
+use crate::sample::{LIMITS, lines_of, roster, said, table};
 use nesl_eval_helpers::{Free, NoHelpers};
 use nesl_house::lease::Receipt;
-use nesl_house::roster::NewFault;
 use nesl_house::table::{CloseFault, Table, TakeFault};
 use nesl_session::limits::Limits;
 use std::alloc::{AllocError, Global};
@@ -32,15 +31,8 @@ fn refusal<R: Wait>(rt: &R, table: &Table, user: &str) -> Option<TakeFault> {
 }
 
 #[test]
-fn a_table_needs_a_roster(rt: HostRuntime) {
-    let fault = Table::new(rt.alloc(), &[], LIMITS).err();
-    let table = opened(rt.alloc()).expect(&rt, "memory");
-    assert!(rt; fault == Some(NewFault::Count) && is_as_opened(&table));
-}
-
-#[test]
 fn one_lease_at_a_time(rt: HostRuntime) {
-    let table = opened(rt.alloc()).expect(&rt, "memory");
+    let table = table(rt.alloc()).expect(&rt, "memory");
     let Ok(mut lease) = table.take(&rt, b"bob") else {
         panic!(rt; "bob's session is at home");
     };
@@ -73,7 +65,7 @@ fn receipts_of<R: Abort>(rt: &R, alloc: Global, all: &[Receipt]) -> Vec<Receipt>
 
 #[test]
 fn not_closed_while_a_lease_is_out(rt: HostRuntime) {
-    let table = opened(rt.alloc()).expect(&rt, "memory");
+    let table = table(rt.alloc()).expect(&rt, "memory");
     let Some(first) = said(
         &rt,
         rt.alloc(),
@@ -107,7 +99,7 @@ fn not_closed_while_a_lease_is_out(rt: HostRuntime) {
 
 #[test]
 fn not_closed_without_a_receipt(rt: HostRuntime) {
-    let table = opened(rt.alloc()).expect(&rt, "memory");
+    let table = table(rt.alloc()).expect(&rt, "memory");
     let Some(receipt) = said(
         &rt,
         rt.alloc(),
@@ -137,37 +129,8 @@ fn not_closed_without_a_receipt(rt: HostRuntime) {
     assert!(rt; closed.lines == 2 && ann == Some(2) && bob == Some(0));
 }
 
-#[test]
-fn a_reset_is_a_line(rt: HostRuntime) {
-    let table = opened(rt.alloc()).expect(&rt, "memory");
-    let first = said(
-        &rt,
-        rt.alloc(),
-        &table,
-        "ann",
-        "x = 3; => x = 3 : int (work 1, depth 1)\n:reset => reset: lines 1\n4; => it = 4 : int (work 1, depth 1)",
-    );
-    let second = said(
-        &rt,
-        rt.alloc(),
-        &table,
-        "ann",
-        "x; => fault unknown at 0..1 (work 0)",
-    );
-    let (Some(first), Some(second)) = (first, second) else {
-        panic!(rt; "ann's session is at home");
-    };
-    assert!(rt; first.recorded == 3 && second.recorded == 1);
-    let Ok(closed) = table.close(receipts_of(&rt, rt.alloc(), &[first, second])) else {
-        panic!(rt; "no receipt is missing");
-    };
-    let cleared = closed.house.session(b"ann").map(|ann| ann.cleared());
-    let lines = lines_of(&closed.house, b"ann");
-    assert!(rt; closed.lines == 4 && cleared == Some(2) && lines == Some(2));
-}
-
 // A table of ann and bob whose sessions have other limits.
-fn opened_otherwise(alloc: Global) -> Result<Table, AllocError> {
+fn table_otherwise(alloc: Global) -> Result<Table, AllocError> {
     let names = roster(alloc, "ann bob")?;
     let limits = Limits {
         line_work: 7,
@@ -178,7 +141,7 @@ fn opened_otherwise(alloc: Global) -> Result<Table, AllocError> {
         .ok_or(AllocError)
 }
 
-// What is told of ann's session, which is taken out of one table and put into another.
+// The receipt of ann's session, which is taken out of one table and put into another.
 fn moved<R: Wait>(rt: &R, from: &Table, to: &Table) -> Option<Receipt> {
     let lease = from.take(rt, b"ann").ok()?;
     Some(to.give(rt, lease))
@@ -187,8 +150,8 @@ fn moved<R: Wait>(rt: &R, from: &Table, to: &Table) -> Option<Receipt> {
 #[test]
 fn another_table_has_the_session(rt: HostRuntime) {
     let (here, there) = (
-        opened(rt.alloc()).expect(&rt, "memory"),
-        opened(rt.alloc()).expect(&rt, "memory"),
+        table(rt.alloc()).expect(&rt, "memory"),
+        table(rt.alloc()).expect(&rt, "memory"),
     );
     let three = said(&rt, rt.alloc(), &there, "ann", THREE);
     let receipt = moved(&rt, &there, &here);
@@ -202,8 +165,8 @@ fn another_table_has_the_session(rt: HostRuntime) {
 #[test]
 fn a_session_with_other_limits_is_not_given_out(rt: HostRuntime) {
     let (here, there) = (
-        opened(rt.alloc()).expect(&rt, "memory"),
-        opened_otherwise(rt.alloc()).expect(&rt, "memory"),
+        table(rt.alloc()).expect(&rt, "memory"),
+        table_otherwise(rt.alloc()).expect(&rt, "memory"),
     );
     let receipt = moved(&rt, &there, &here);
     let is_away = refusal(&rt, &there, "ann");

@@ -1,79 +1,28 @@
-//! A house spoken to, in a few lines.
+//! Rosters, and houses to which a few lines are said.
 use crate::granting::Granting;
-use crate::sample::{self, house_of, is_reply, lines_of, roster};
-use crate::turns::{ORDERS, are_heard, is_order, said, script};
+use crate::sample::{LIMITS, house_of, is_reply, lines_of, roster};
 use linked_list_allocator::LocalHeap;
 use nesl_eval_helpers::Free;
-use nesl_house::house::{House, Said};
-use nesl_house::manner::InHeap;
+use nesl_house::house::House;
 use nesl_house::roster::{NewFault, is_user_name};
+use nesl_house::table::Table;
 use nesl_session::Fault;
-use nesl_session::answer::Answer;
-use nesl_session::limits::Limits;
 use std::alloc::{AllocError, Global};
+use std::thread::Threads;
 
-const LIMITS: Limits = Limits {
-    line_work: 100,
-    session_work: 2,
-    elements: 100,
-    transcript_lines: 100,
-    transcript_bytes: 100_000,
-};
-
-const ONE: &str = "it = 1 : int (work 1, depth 1)\n";
-
-// Whether this is what is answered.
-fn is_told(alloc: Global, house: &mut House, user: &[u8], text: &[u8], wanted: &str) -> bool {
-    house.say(alloc, user, text).bytes() == wanted.as_bytes()
-}
-
-// How many lines the session of the second user stored, where this is their name.
-fn lines_of_second(house: &House, name: &[u8]) -> Option<usize> {
-    let user = house.users().get(1)?;
-    if user.name() == name {
-        Some(user.session().lines().len())
-    } else {
-        None
-    }
-}
-
-// Whether each session stored one line.
-fn all_have_one(house: &House) -> bool {
-    house
-        .users()
-        .iter()
-        .all(|user| user.session().lines().len() == 1)
-}
-
-// Why there is no house for the roster.
-fn refusal(alloc: Global, names: &[Vec<u8>]) -> Option<NewFault> {
-    House::new(alloc, names, LIMITS).err()
-}
-
-fn is_refused(alloc: Global, names: &str, fault: NewFault) -> Result<bool, AllocError> {
-    let names = roster(alloc, names)?;
-    Ok(refusal(alloc, names.as_slice()) == Some(fault))
-}
-
-#[test]
-fn rosters_are_checked(rt: HostRuntime) {
-    let alloc = rt.alloc();
-    let first = NewFault::Name { place: 1 };
-    assert!(rt; refusal(alloc, &[]) == Some(NewFault::Count));
-    assert!(rt; is_refused(alloc, "ann Ann", first).expect(&rt, "memory"));
-    assert!(rt;
-        is_refused(alloc, "ann bob ann", NewFault::Twice { place: 2 }).expect(&rt, "memory")
-    );
-    assert!(rt;
-        is_refused(alloc, "ann ann Bob", NewFault::Twice { place: 1 }).expect(&rt, "memory")
-    );
-    assert!(rt;
-        is_refused(alloc, "ann 1a", first).expect(&rt, "memory")
-            && is_refused(alloc, "ann ", first).expect(&rt, "memory")
-    );
-    assert!(rt; is_refused(alloc, "ann abcdefghijklmnopq", first).expect(&rt, "memory"));
-    assert!(rt; is_user_name(b"abcdefghijklmnop"));
-}
+/// Rosters, each with the reason why there is no house for it. A number means this many names.
+const ROSTERS: &str = "0 => bad count
+64 => a house
+65 => bad count
+ann => a house
+ann Ann => bad name at place 1
+ann bob ann => the name at place 2 stands twice
+ann ann Bob => the name at place 1 stands twice
+ann 1a => bad name at place 1
+ann  => bad name at place 1
+ann abcdefghijklmnopq => bad name at place 1
+abcdefghijklmnop => a house
+abcdefghijklmnopq => bad name at place 0";
 
 // The names aa, ab, and so on.
 fn many_names(alloc: Global, count: u8) -> Result<Vec<Vec<u8>>, AllocError> {
@@ -84,191 +33,103 @@ fn many_names(alloc: Global, count: u8) -> Result<Vec<Vec<u8>>, AllocError> {
     Ok(names)
 }
 
-// Whether each of these users is told of a first line.
-fn all_are_told(alloc: Global, house: &mut House, names: &[Vec<u8>]) -> bool {
-    let mut told = true;
-    for name in names {
-        told &= is_told(alloc, house, name.as_slice(), b"1;", ONE);
+fn names_of(alloc: Global, words: &str) -> Result<Vec<Vec<u8>>, AllocError> {
+    match words.parse::<u8>() {
+        Ok(count) => many_names(alloc, count),
+        Err(_) => roster(alloc, words),
     }
-    told
 }
 
-#[test]
-fn rosters_are_counted(rt: HostRuntime) {
-    let alloc = rt.alloc();
-    let names = many_names(alloc, 64).expect(&rt, "memory");
-    let mut house = House::new(alloc, names.as_slice(), LIMITS).expect(&rt, "memory");
-    let told = all_are_told(alloc, &mut house, names.as_slice());
-    assert!(rt; told && house.users().len() == 64 && all_have_one(&house));
-}
-
-#[test]
-fn a_65th_name_is_too_many(rt: HostRuntime) {
-    let names = many_names(rt.alloc(), 65).expect(&rt, "memory");
-    assert!(rt; refusal(rt.alloc(), names.as_slice()) == Some(NewFault::Count));
-}
-
-fn refusal_texts(alloc: Global) -> Result<String, AllocError> {
-    let mut text = String::new(alloc);
-    for fault in [
-        NewFault::Count,
-        NewFault::Name { place: 1 },
-        NewFault::Twice { place: 2 },
-        NewFault::Memory,
-    ] {
-        write!(text, "{fault}, ")?;
+fn text_of(alloc: Global, fault: Option<NewFault>) -> Result<String, AllocError> {
+    match fault {
+        Some(fault) => format!(in alloc; "{fault}"),
+        None => String::from_str(alloc, "a house"),
     }
-    Ok(text)
 }
 
-#[test]
-fn refusals_have_texts(rt: HostRuntime) {
-    let wanted = "bad count, bad name at place 1, the name at place 2 stands twice, no memory, ";
-    assert!(rt; refusal_texts(rt.alloc()).expect(&rt, "memory").as_str() == wanted);
+// Whether no house and no table is made of this roster for the reason of the row.
+fn is_judged(alloc: Global, row: &str) -> Result<bool, AllocError> {
+    let (words, wanted) = row.split_once(" => ").unwrap_or((row, ""));
+    let names = names_of(alloc, words)?;
+    let fault = House::new(alloc, names.as_slice(), LIMITS).err();
+    let has_table = Table::new(alloc, names.as_slice(), LIMITS).err() == fault;
+    let has_name = match fault {
+        Some(NewFault::Name { place }) => !names_one(names.as_slice(), place),
+        _ => names_one(names.as_slice(), 0) || names.is_empty(),
+    };
+    let text = text_of(alloc, fault)?;
+    Ok(has_table && has_name && text.as_str() == wanted)
 }
 
-#[test]
-fn users_have_sessions_of_their_own(rt: HostRuntime) {
-    let mut house = house_of(rt.alloc(), "ann bob", LIMITS).expect(&rt, "memory");
-    let seven = "it = 7 : int (work 1, depth 1)\n";
-    let told = is_told(rt.alloc(), &mut house, b"bob", b"7;", seven);
-    let ann = lines_of(&house, b"ann");
-    let bob = lines_of(&house, b"bob");
-    let zed = lines_of(&house, b"zed");
-    assert!(rt; told && ann == Some(0) && bob == Some(1) && zed.is_none());
-    assert!(rt; lines_of_second(&house, b"bob") == Some(1));
-}
-
-#[test]
-fn strangers_have_none(rt: HostRuntime) {
-    let alloc = rt.alloc();
-    let mut house = house_of(alloc, "ann bob", LIMITS).expect(&rt, "memory");
-    let first = house.say_in(alloc, b"zed", b"7;", alloc).fault();
-    let second = house.say(alloc, b"zed", b"7;");
-    let told = second.bytes() == b"fault user\n".as_slice() && !second.recorded();
-    assert!(rt; told && first == Some(Fault::User) && second.fault() == Some(Fault::User));
-}
-
-// A line of bob, and one of a stranger.
-fn bob_and_a_stranger(alloc: Global) -> Result<Vec<Said>, AllocError> {
-    let mut script = Vec::new(alloc);
-    script.push(said(alloc, "bob", "1;")?)?;
-    script.push(said(alloc, "zed", "1;")?)?;
-    Ok(script)
-}
-
-// Whether they are answered.
-fn are_answered(answers: &[Answer]) -> bool {
-    match answers {
-        [bob, stranger] => bob.bytes() == ONE.as_bytes() && stranger.fault() == Some(Fault::User),
-        _ => false,
+// Whether what is at this place is a user's name.
+fn names_one(names: &[Vec<u8>], place: usize) -> bool {
+    match names.get(place) {
+        Some(name) => is_user_name(name.as_slice()),
+        None => false,
     }
 }
 
 #[test]
-fn lines_are_said_in_a_heap(rt: HostRuntime) {
-    let alloc = rt.alloc();
-    let script = bob_and_a_stranger(alloc).expect(&rt, "memory");
-    let mut house = house_of(alloc, "ann bob", LIMITS).expect(&rt, "memory");
-    let one = house.say_in(alloc, b"ann", b"1;", alloc).bytes() == ONE.as_bytes();
-    let answers = house
-        .run_by(alloc, &InHeap(alloc), script.as_slice())
-        .expect(&rt, "memory");
-    assert!(rt; one && are_answered(answers.as_slice()) && all_have_one(&house));
+fn rosters_are_judged(rt: HostRuntime) {
+    for row in ROSTERS.lines() {
+        assert!(rt; is_judged(rt.alloc(), row).expect(&rt, "memory"), "{row}");
+    }
+    let text = text_of(rt.alloc(), Some(NewFault::Memory)).expect(&rt, "memory");
+    assert!(rt; text.as_str() == "no memory");
 }
 
-const TOO_SMALL: &str = "index(50000); => fault memory (work 0)
-1 + 1; => it = 2 : int (work 3, depth 3)
-:budget => budget: work 99999997, elements 1 of 100000, lines 1 of 10000, bytes 6 of 1048576";
+/// Lines that are said to a house of ann and bob, each in one of three ways: on its own, in a heap, or in halves.
+const SAID: &str = "own bob 7; => it = 7 : int (work 1, depth 1)
+own zed 7; => fault user
+heap zed 7; => fault user
+halves zed 7; => fault user
+heap ann index(50000); => fault memory (work 0)
+heap ann 1 + 1; => it = 2 : int (work 3, depth 3)
+own ann :budget => budget: work 99999997, elements 1 of 100000, lines 1 of 10000, bytes 6 of 1048576
+halves bob {a * a : a in [1, 2]}; => it = [1, 4] : [int] (work 12, depth 7)
+own bob it; => it = [1, 4] : [int] (work 1, depth 1)";
+
+// Whether a line is answered as its row says. A stranger's line is not recorded.
+fn is_answered<R: Threads + Sync>(
+    rt: &R,
+    alloc: Global,
+    house: &mut House,
+    row: &str,
+    (heap, helpers): (&LocalHeap, &Granting),
+) -> bool {
+    let (asked, reply) = row.split_once(" => ").unwrap_or((row, ""));
+    let (way, said) = asked.split_once(' ').unwrap_or((asked, ""));
+    let (user, line) = said.split_once(' ').unwrap_or((said, ""));
+    let (user, line) = (user.as_bytes(), line.as_bytes());
+    let answer = if way == "own" {
+        house.say(alloc, user, line)
+    } else if way == "heap" {
+        house.say_in(alloc, user, line, heap)
+    } else {
+        house.say_with(rt, alloc, user, line, helpers, &Free)
+    };
+    let is_strange = answer.fault() == Some(Fault::User);
+    is_reply(answer.bytes(), reply)
+        && is_strange == (reply == "fault user")
+        && !(is_strange && answer.recorded())
+}
+
+// How many lines the session of the second user stored.
+fn lines_of_second(house: &House) -> Option<usize> {
+    let user = house.users().get(1)?;
+    Some(user.session().lines().len())
+}
 
 #[test]
-fn a_line_may_be_too_large_for_the_heap(rt: HostRuntime) {
+fn each_user_has_a_session(rt: HostRuntime) {
     let heap = LocalHeap::new(rt.alloc(), 65_536).expect(&rt, "memory");
-    let mut house = house_of(rt.alloc(), "ann bob", sample::LIMITS).expect(&rt, "memory");
-    for row in TOO_SMALL.lines() {
-        let (line, reply) = row.split_once(" => ").unwrap_or((row, ""));
-        let answer = house.say_in(rt.alloc(), b"ann", line.as_bytes(), &heap);
-        assert!(rt; is_reply(answer.bytes(), reply), "{line}");
-    }
-    assert!(rt; lines_of(&house, b"ann") == Some(2) && lines_of(&house, b"bob") == Some(0));
-}
-
-#[test]
-fn a_line_is_said_in_halves(rt: HostRuntime) {
     let helpers = Granting::always();
-    let mut house = house_of(rt.alloc(), "ann bob", sample::LIMITS).expect(&rt, "memory");
-    let squares = b"{a * a : a in [1, 2]};";
-    let answer = house.say_with(&rt, rt.alloc(), b"bob", squares, &helpers, &Free);
-    let told = b"it = [1, 4] : [int] (work 12, depth 7)\n".as_slice();
-    assert!(rt; answer.bytes() == told && answer.recorded() && helpers.have_helped());
-    let answer = house.say_with(&rt, rt.alloc(), b"zed", squares, &helpers, &Free);
-    assert!(rt; answer.fault() == Some(Fault::User) && lines_of(&house, b"bob") == Some(1));
-}
-
-#[test]
-fn a_line_may_be_too_long(rt: HostRuntime) {
-    let mut line = Vec::from_slice(rt.alloc(), b"1;").expect(&rt, "memory");
-    line.resize(65_537, b' ').expect(&rt, "memory");
-    let mut house = house_of(rt.alloc(), "ann", LIMITS).expect(&rt, "memory");
-    let long = "fault long (work 0)\n";
-    let is_long = is_told(rt.alloc(), &mut house, b"ann", line.as_slice(), long);
-    let _ = line.pop();
-    let is_one = is_told(rt.alloc(), &mut house, b"ann", line.as_slice(), ONE);
-    assert!(rt; is_long && is_one && lines_of(&house, b"ann") == Some(1));
-}
-
-const MANY: Limits = Limits {
-    session_work: 3000,
-    transcript_lines: 3000,
-    ..LIMITS
-};
-
-// Whether so many lines are answered.
-fn are_all_answered(alloc: Global, house: &mut House, lines: u32) -> bool {
-    for _ in 0..lines {
-        if !is_told(alloc, house, b"ann", b"1;", ONE) {
-            return false;
-        }
+    let mut house = house_of(rt.alloc(), "ann bob", LIMITS).expect(&rt, "memory");
+    for row in SAID.lines() {
+        let is_right = is_answered(&rt, rt.alloc(), &mut house, row, (&heap, &helpers));
+        assert!(rt; is_right, "{row}");
     }
-    true
-}
-
-// No answer is want of memory while there is memory.
-#[test]
-fn a_session_takes_many_lines(rt: HostRuntime) {
-    let mut house = house_of(rt.alloc(), "ann", MANY).expect(&rt, "memory");
-    let are_answered = are_all_answered(rt.alloc(), &mut house, 3000);
-    let full = "fault transcript (work 0)\n";
-    assert!(rt; are_answered && is_told(rt.alloc(), &mut house, b"ann", b"1;", full));
-}
-
-const ANN: &str = "3; => it = 3 : int (work 1, depth 1)
-x => fault syntax (work 0)
-4; => it = 4 : int (work 1, depth 1)";
-
-const BOB: &str = "5; => it = 5 : int (work 1, depth 1)
-6; => it = 6 : int (work 1, depth 1)
-7; => fault work (work 0)";
-
-// Whether each hears the replies to their own lines, in this order.
-fn hear_their_own(alloc: Global, order: u8) -> Result<bool, AllocError> {
-    let script = script(alloc, ANN, BOB, order)?;
-    let mut house = house_of(alloc, "ann bob", LIMITS)?;
-    let answers = house.run(alloc, script.as_slice())?;
-    Ok(are_heard(ANN, BOB, order, answers.as_slice()))
-}
-
-#[test]
-fn no_one_hears_who_else_speaks(rt: HostRuntime) {
-    let mut orders = 0u32;
-    for order in 0u8..64 {
-        if is_order(order) {
-            assert!(rt;
-                hear_their_own(rt.alloc(), order).expect(&rt, "memory"),
-                "in {order}"
-            );
-            orders = orders.saturating_add(1);
-        }
-    }
-    assert!(rt; orders == ORDERS);
+    let (ann, bob) = (lines_of(&house, b"ann"), lines_of(&house, b"bob"));
+    assert!(rt; ann == Some(2) && bob == Some(3) && lines_of_second(&house) == bob);
+    assert!(rt; lines_of(&house, b"zed").is_none() && helpers.have_helped());
 }

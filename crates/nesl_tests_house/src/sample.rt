@@ -1,4 +1,4 @@
-// Two users, and what they say.
+//! Two users, and what they say.
 use crate::granting::Granting;
 use nesl_eval_helpers::Free;
 use nesl_house::house::House;
@@ -9,7 +9,7 @@ use std::alloc::{AllocError, Global};
 use std::sync::Wait;
 use std::thread::Threads;
 
-// The limits of the program.
+/// The limits of the program.
 pub const LIMITS: Limits = Limits {
     line_work: 1_000_000,
     session_work: 100_000_000,
@@ -18,7 +18,7 @@ pub const LIMITS: Limits = Limits {
     transcript_bytes: 1_048_576,
 };
 
-// The names between the blanks.
+/// The names between the blanks.
 pub fn roster(alloc: Global, names: &str) -> Result<Vec<Vec<u8>>, AllocError> {
     let mut roster = Vec::new(alloc);
     for name in names.split(' ') {
@@ -27,15 +27,20 @@ pub fn roster(alloc: Global, names: &str) -> Result<Vec<Vec<u8>>, AllocError> {
     Ok(roster)
 }
 
-// A table of ann and bob.
-pub fn opened(alloc: Global) -> Result<Table, AllocError> {
+/// A house of ann and bob.
+pub fn house(alloc: Global) -> Result<House, AllocError> {
+    house_of(alloc, "ann bob", LIMITS)
+}
+
+/// A table of ann and bob.
+pub fn table(alloc: Global) -> Result<Table, AllocError> {
     let names = roster(alloc, "ann bob")?;
     Table::new(alloc, names.as_slice(), LIMITS)
         .ok()
         .ok_or(AllocError)
 }
 
-// A house of these users.
+/// A house of these users.
 pub fn house_of(alloc: Global, names: &str, limits: Limits) -> Result<House, AllocError> {
     let names = roster(alloc, names)?;
     House::new(alloc, names.as_slice(), limits)
@@ -43,18 +48,17 @@ pub fn house_of(alloc: Global, names: &str, limits: Limits) -> Result<House, All
         .ok_or(AllocError)
 }
 
-// How many lines the user's session stored.
+/// How many lines the user's session stored.
 pub fn lines_of(house: &House, user: &[u8]) -> Option<usize> {
     house.session(user).map(|session| session.lines().len())
 }
 
-// Whether this is the reply that a row `LINE => REPLY` wants.
+/// Whether this is the reply that a row `LINE => REPLY` wants.
 pub fn is_reply(bytes: &[u8], reply: &str) -> bool {
     bytes.strip_suffix(b"\n") == Some(reply.as_bytes())
 }
 
-// Says lines under one lease, each row `LINE => REPLY`. There is no receipt where the session is away, or a reply is
-// another.
+/// Says lines under one lease, each row `LINE => REPLY`. There is no receipt if the session is away or a reply differs.
 pub fn said<R: Threads + Wait + Sync>(
     rt: &R,
     alloc: Global,

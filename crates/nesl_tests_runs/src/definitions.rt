@@ -6,7 +6,7 @@ ghost use Rattle.nesl_infer_rules.specs.Closed.{closed-prop};
 use nesl_types::{Context, Top};
 use std::alloc::{AllocError, Global};
 
-/// Names with their types, in which no variable stands but in the types of functions.
+/// Names with their types, in which there is no variable but in the types of functions.
 #[derive(Drop)]
 pub struct Definitions {
     pub context: Context<u64>,

@@ -26,7 +26,7 @@ impl Granting {
         Granting::by(0, 1)
     }
 
-    /// Grants at about every second question, as the seed tells.
+    /// Grants at about every second question, as the seed says.
     pub fn seeded(seed: u64) -> Granting {
         let mixed = seed.wrapping_mul(0x9E37_79B9_7F4A_7C15);
         Granting::by(mixed, mixed.wrapping_mul(0xBF58_476D_1CE4_E5B9) | 1)

@@ -1,18 +1,21 @@
-//! What each line comes to in halves. The functions that it defines stand for the lines after it. The directives are
+//! The outcome of each line in halves. The functions that it defines are bound for the lines after it. The directives
+//! are
 //!
-//! - `@helpers never`, `always`, `second` (at every second question) or `pool` (one of three permits): who helps from
-//!   here on. Behind an outcome then stands how many helpers are out, or how many permits are free.
-//! - `@levels NUMBER`, `@budget NUMBER`: so many levels are allowed from here on, and so much work.
-//! - `@requests COUNT`: asks for memory so many times, and does nothing with it.
-//! - `@row LINE`: adds a row, which is an expression that comes to the same in halves and in order.
+//! - `@helpers never`, `always`, `second` (at every second question) or `pool` (one of three permits): which helpers
+//!   there are from here on. After an outcome it then says how many helpers are out, or how many permits are free.
+//! - `@levels NUMBER`, `@budget NUMBER`: this many levels are allowed from here on, and this much work.
+//! - `@requests COUNT`: asks for memory this many times, and does nothing with it.
+//! - `@row LINE`: adds a row, which is an expression with the same outcome in halves and in order.
 //! - `@rows`: writes how many of these rows don't.
 //! - `@budgets COUNT`: evaluates all rows with each budget below the count, where helpers are always granted. It writes
-//!   how many don't come to the same; one counts more if helpers are out then.
-//! - `@seeds COUNT`: evaluates a row for each seed, where helpers are granted as the seed tells, and writes how many
-//!   don't come to the same, and whether more helpers were granted than there are seeds.
+//!   how many have another outcome; one counts more if helpers are out then.
+//! - `@seeds COUNT`: evaluates a row for each seed, where helpers are granted as the seed says, and writes how many
+//!   have another outcome, and whether more helpers were granted than there are seeds.
 //! - `@meet LINE`: evaluates it where each half of two places waits for the other, and writes how often the left half
 //!   was entered, the right one and any other place, and how often one waited in vain.
-//! - `@asks`: writes how many permits of pools are free behind questions.
+//! - `@say WORK LINE ;; LINE ..`: says the lines to a fresh session, whose lines may take this much work, and writes
+//!   the last answer.
+//! - `@asks`: writes how many permits of pools are free after questions.
 //! - `@close`: closes the pool.
 
 use crate::forms::{Reading, define, reading_of};
@@ -21,11 +24,14 @@ use crate::granting::Granting;
 use crate::pools::put_asks;
 use crate::requests::request;
 use crate::rows::{Asked, Rows};
+use crate::sessions::LIMITS;
 use crate::told::{LEVELS, WORK, is_same, put_outcome};
 use crate::writing::{put, put_done, put_line, put_wrong};
 use nesl_eval::{Outcome, eval_one};
 use nesl_eval_helpers::{Free, Gate, Helpers, NoHelpers, Pool};
 use nesl_eval_top_level::Env;
+use nesl_session::limits::Limits;
+use nesl_session::session::Session;
 use nesl_split::eval_split;
 use nesl_syntax_tree::tree::{Exp, Form};
 use std::alloc::{AllocError, Global};
@@ -48,9 +54,11 @@ enum Grant {
 enum Work<'e> {
     One(&'e Exp),
     Rows,
+    // Lines that are said to a session, each of which may take this much work.
+    Lines(u64, &'e str),
 }
 
-// What is bound, and who helps to evaluate a line.
+// What is bound, and which helpers evaluate a line.
 #[derive(Drop)]
 struct Halves<'a, L: Ledger, R> {
     rt: &'a R,
@@ -118,6 +126,10 @@ impl<'a, L: Ledger + Send + Sync, R: Threads + Wait + Clock + Sync> Halves<'a, L
             self.evaluate(alloc, Work::Rows, out)
         } else if word == "@budgets" || word == "@seeds" {
             self.try_many(alloc, word, rest, out)
+        } else if word == "@say" {
+            let (work, lines) = rest.split_once(' ').unwrap_or((rest, ""));
+            let work = work.parse::<u64>().unwrap_or(0);
+            self.evaluate(alloc, Work::Lines(work, lines), out)
         } else if word == "@meet" {
             self.meet(alloc, rest, out)
         } else if word == "@asks" {
@@ -182,7 +194,7 @@ impl<'a, L: Ledger + Send + Sync, R: Threads + Wait + Clock + Sync> Halves<'a, L
         Ok(())
     }
 
-    // What this comes to, and how many helpers are out then, or permits free.
+    // The outcome of this, and how many helpers are out then, or permits free.
     fn evaluate(&self, alloc: Global, work: Work<'_>, out: &mut Vec<u8>) -> Result<(), AllocError> {
         match self.grant {
             Grant::Never => {
@@ -225,7 +237,31 @@ impl<'a, L: Ledger + Send + Sync, R: Threads + Wait + Clock + Sync> Halves<'a, L
                 let all = self.count;
                 put(out, format!(in alloc; "{wrong} wrong of {all} rows"))
             }
+            Work::Lines(work, lines) => self.put_said(alloc, work, lines, helpers, out),
         }
+    }
+
+    // Says lines to a fresh session, and writes the last answer.
+    fn put_said<H: Helpers + Sync>(
+        &self,
+        alloc: Global,
+        line_work: u64,
+        lines: &str,
+        helpers: &H,
+        out: &mut Vec<u8>,
+    ) -> Result<(), AllocError> {
+        let limits = Limits {
+            line_work,
+            ..LIMITS
+        };
+        let mut session = Session::new(alloc, limits)?;
+        let (before, last) = lines.rsplit_once(" ;; ").unwrap_or(("", lines));
+        for line in before.split(" ;; ") {
+            let _ = session.line_split(self.rt, alloc, line.as_bytes(), helpers, &Free);
+        }
+        let answer = session.line_split(self.rt, alloc, last.as_bytes(), helpers, &Free);
+        let bytes = answer.bytes();
+        out.extend_from_slice(bytes.strip_suffix(b"\n").unwrap_or(bytes))
     }
 
     fn told<H: Helpers + Sync, G: Gate + Sync>(
@@ -248,7 +284,7 @@ impl<'a, L: Ledger + Send + Sync, R: Threads + Wait + Clock + Sync> Halves<'a, L
         )
     }
 
-    // Whether a row comes in halves to what it comes to in order.
+    // Whether a row has the same outcome in halves as in order.
     fn agrees<H: Helpers + Sync>(
         &self,
         alloc: Global,

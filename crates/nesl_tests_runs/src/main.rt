@@ -1,20 +1,23 @@
 //! Answers rows, and compares each answer with the lines below its row. A line `== NAME` says which part begins:
-//! `types`, `outcomes`, `halves` or `sessions`. At the head of the module of that name stands what its rows are, and at
-//! the head of `rows` how they are written. Written are the rows that are missed, each with the answer that was wanted
-//! (`-`) and the one that it got (`+`), and behind each part how many of its rows hold.
+//! `types`, `outcomes`, `halves` or `sessions`. The head of the module of that name says what its rows are, and
+//! the head of `rows` says how they are written. Written are the rows that are missed, each with the answer that was
+//! wanted (`-`) and the one that it got (`+`), and after each part how many of its rows hold.
 #![tactic(auto)]
 
+mod comparing;
 mod definitions;
 mod driver;
 mod forms;
 mod gates;
 mod granting;
 mod halves;
+mod layouts;
 mod outcomes;
 mod parts;
 mod pools;
 mod requests;
 mod rows;
+mod running;
 mod sessions;
 mod told;
 mod types;

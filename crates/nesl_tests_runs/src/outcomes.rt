@@ -1,4 +1,4 @@
-//! What each line comes to. What a line binds stands for the lines after it. The directives are
+//! The outcome of each line. What a line binds is bound for the lines after it. The directives are
 //!
 //! - `@new`: nothing is bound from here on.
 //! - `= LINE`: an expression that has to have the value of the line before it. If it has, there is no answer.
@@ -8,7 +8,7 @@
 use crate::driver::Driver;
 use crate::forms::{Reading, define, reading_of};
 use crate::rows::Asked;
-use crate::told::{LEVELS, WORK, is_same, put_outcome};
+use crate::told::{LEVELS, WORK, is_same, put_outcome, work_of};
 use crate::writing::{put, put_done, put_line, put_wrong};
 use linked_list_allocator::LocalHeap;
 use nesl_eval::{Outcome, eval_one, eval_one_in};
@@ -37,7 +37,7 @@ enum Wish {
     Boundaries,
 }
 
-// What a directive wishes of the line behind it.
+// What a directive wishes of the line after it.
 fn wish_of(word: &str) -> Option<Wish> {
     if word == "=" {
         Some(Wish::Comparison)
@@ -77,6 +77,11 @@ impl Outcomes {
             env: Env::new(alloc),
             last: None,
         }
+    }
+
+    /// What is bound.
+    pub fn env(&self) -> &Env {
+        &self.env
     }
 
     fn answer(
@@ -137,7 +142,7 @@ impl Outcomes {
         }
     }
 
-    // What an expression comes to, and whether that is the same in a heap of its own.
+    // The outcome of an expression, and whether it is the same in a heap of its own.
     fn evaluate(&mut self, alloc: Global, exp: &Exp, out: &mut Vec<u8>) -> Result<(), AllocError> {
         let told = eval_one(alloc, &self.env, exp, LEVELS, WORK);
         let done = put_both(alloc, &self.env, exp, &told, out);
@@ -204,7 +209,7 @@ fn put_held_line(
     out.extend_from_slice(b"\n")
 }
 
-// Writes an outcome, and what is told in a heap of fixed size, where that is not the same.
+// Writes an outcome, and the one in a heap of fixed size if that differs.
 fn put_both(
     alloc: Global,
     env: &Env,
@@ -235,15 +240,7 @@ fn value_of(told: Outcome<Global>) -> Option<Value> {
     }
 }
 
-fn work_of(told: &Outcome<Global>) -> Option<u64> {
-    match told {
-        Outcome::Done { work, .. } => Some(*work),
-        Outcome::Fault { work, .. } => Some(*work),
-        _ => None,
-    }
-}
-
-// Whether what is told under so much fuel is what an expression of this whole work has to tell.
+// Whether an outcome under this fuel is that of an expression of this whole work.
 fn is_right(told: &Outcome<Global>, fuel: u64, work: u64) -> bool {
     match told {
         Outcome::Over => fuel < work,

@@ -2,10 +2,10 @@
 
 ghost use Rattle.std.specs.Prelude.{◌≡◌};
 
+use crate::comparing::Comparing;
 use crate::definitions::Definitions;
 use crate::driver::try_rows;
 use crate::halves::try_halves;
-use crate::outcomes::Outcomes;
 use crate::sessions::Sessions;
 use crate::writing::put_line;
 use nesl_eval_helpers::Pool;
@@ -43,7 +43,7 @@ fn try_each<L: Ledger + Send + Sync, R: Threads + Wait + Clock + Sync>(
     Ok(())
 }
 
-// Tries the rows of a part, which stand behind its head.
+// Tries the rows of a part, which follow its head.
 fn try_part<L: Ledger + Send + Sync, R: Threads + Wait + Clock + Sync>(
     rt: &R,
     alloc: Global,
@@ -56,7 +56,7 @@ fn try_part<L: Ledger + Send + Sync, R: Threads + Wait + Clock + Sync>(
     if head == "types" {
         try_rows(Definitions::new(alloc), alloc, head, lines, out)
     } else if head == "outcomes" {
-        try_rows(Outcomes::new(alloc), alloc, head, lines, out)
+        try_rows(Comparing::new(rt, alloc), alloc, head, lines, out)
     } else if head == "halves" {
         try_halves(rt, alloc, pool, lines, out)
     } else if head == "sessions" {

@@ -8,10 +8,10 @@ use std::marker::Brand;
 use std::sync::Wait;
 use std::sync::ledger::{Blank, Ledger};
 
-/// Writes how many permits are free. Of a pool of three: at first and behind each of three questions, behind a fourth
-/// that is refused, and behind each permit that goes back. Of a pool of none: behind a question that is refused, and
-/// behind another once it is closed. Of a pool of three with one permit out: behind questions that are refused once it
-/// is closed, and once more; then behind the permit that goes back, and behind one more that is refused.
+/// Writes how many permits are free. Of a pool of three: at first and after each of three questions, after a fourth
+/// that is refused, and after each permit that goes back. Of a pool of none: after a question that is refused, and
+/// after another once it is closed. Of a pool of three with one permit out: after questions that are refused once it
+/// is closed, and once more; then after the permit that goes back, and after one more that is refused.
 pub fn put_asks<R: Wait>(rt: &R, alloc: Global, out: &mut Vec<u8>) -> Result<(), AllocError> {
     let (granted, fourth, back) = of_three::<Brand, _>(rt, Blank::new(3));
     put(out, format!(in alloc; "{granted:?} {fourth:?} {back:?}\n"))?;
@@ -21,7 +21,7 @@ pub fn put_asks<R: Wait>(rt: &R, alloc: Global, out: &mut Vec<u8>) -> Result<(),
     put(out, format!(in alloc; "{refused:?} {back} {last:?}\n"))
 }
 
-// How many are free behind a question, if it is refused.
+// How many are free after a question, if it is refused.
 fn refused<L: Ledger, R: Wait>(rt: &R, pool: &Pool<L>) -> Option<u32> {
     match pool.by(rt).ask() {
         Some(permit) => {

@@ -1,10 +1,10 @@
 //! Rows, and whether each is answered as it has to be.
 //!
-//! A row is a line that is answered, and below it stand the lines of its answer, if there are any. How a line begins
+//! A row is a line that is answered, and below it are the lines of its answer, if there are any. How a line begins
 //! says what it is:
 //!
 //! - `> TEXT`: a row whose text is said as it is; `>` alone says an empty line.
-//! - `@WORD ..`, `= ..`, `! ..` or `? ..`: a row that is a directive. At the head of the module of its part stands what
+//! - `@WORD ..`, `= ..`, `! ..` or `? ..`: a row that is a directive. The head of the module of its part says what
 //!   it does. Most have no answer.
 //! - `% TEXT`: a title. Titles and empty lines are for readers.
 //! - Any other line belongs to the answer to the row above it.
@@ -17,7 +17,7 @@ use std::alloc::{AllocError, Global};
 pub enum Asked<'t> {
     /// To say this text.
     Text(&'t str),
-    /// To follow a directive: its word, and what stands behind it.
+    /// To follow a directive: its word, and what follows it.
     Directive(&'t str, &'t str),
 }
 
@@ -103,7 +103,7 @@ fn asked_by(line: &str) -> Option<Asked<'_>> {
     }
 }
 
-// Writes lines, each behind this mark.
+// Writes lines, each after this mark.
 fn put_marked(mark: &[u8], lines: &[u8], out: &mut Vec<u8>) -> Result<(), AllocError> {
     let mut is_start = true;
     for byte in lines {

@@ -1,14 +1,14 @@
-//! What sessions answer: a fault's number stands behind an answer, and whether it was not recorded. Of a long answer
+//! What sessions answer: a fault's number follows an answer, and whether it was not recorded. Of a long answer
 //! only the beginning and the end are written, and how many bytes it has and what they add up to. The directives are
 //!
 //! - `@session NAME=NUMBER ..`: a fresh session, with the limits of the program but for those named.
-//! - `@heap BYTES`: what comes after is evaluated in a heap of so many bytes, up to `@heap off`.
-//! - `@repeat COUNT TEXT COUNT TEXT ..`: says the line that has each text so many times, where `_` stands for a blank.
+//! - `@heap BYTES`: what comes after is evaluated in a heap of this many bytes, up to `@heap off`.
+//! - `@repeat COUNT TEXT COUNT TEXT ..`: says the line that has each text this many times, where `_` means a blank.
 //! - `@bytes NUMBER ..`: says the line of these bytes.
 //! - `@state`: writes what the session's readers tell.
 //! - `@again`: a line that is answered for want of memory is said once more, and only the second answer is written.
 //! - `@refused`: writes how many answers were for want of memory.
-//! - `@requests COUNT`: asks for memory so many times, and does nothing with it.
+//! - `@requests COUNT`: asks for memory this many times, and does nothing with it.
 
 use crate::driver::Driver;
 use crate::requests::request;
@@ -28,7 +28,7 @@ const WHOLE: usize = 400;
 const END: usize = 100;
 
 /// The limits of the program.
-const LIMITS: Limits = Limits {
+pub const LIMITS: Limits = Limits {
     line_work: 1_000_000,
     session_work: 100_000_000,
     elements: 100_000,
@@ -220,7 +220,7 @@ fn with_limit(mut limits: Limits, name: &str, number: u64) -> Option<Limits> {
     Some(limits)
 }
 
-// The texts, each so many times as the count before it says.
+// The texts, each this many times as the count before it says.
 fn repeated(alloc: Global, words: &str) -> Result<Option<Vec<u8>>, AllocError> {
     let mut line = Vec::new(alloc);
     let mut count = None;
@@ -239,7 +239,7 @@ fn repeated(alloc: Global, words: &str) -> Result<Option<Vec<u8>>, AllocError> {
     Ok(Some(line))
 }
 
-// A text so many times, with blanks in place of `_`.
+// A text this many times, with blanks in place of `_`.
 fn push_times(line: &mut Vec<u8>, text: &[u8], count: u32) -> Result<(), AllocError> {
     for _ in 0..count {
         for byte in text {

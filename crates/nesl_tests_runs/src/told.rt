@@ -1,4 +1,4 @@
-//! What evaluations tell.
+//! Outcomes of evaluations.
 
 use crate::writing::put;
 use nesl_eval::Outcome;
@@ -50,5 +50,14 @@ pub fn is_same<A: Allocator>(told: &Outcome<A>, other: &Outcome<Global>) -> bool
         ) => trap == t && span == s && work == w,
         (Outcome::Over, Outcome::Over) => true,
         _ => false,
+    }
+}
+
+/// The work of an outcome, unless it has none.
+pub fn work_of(told: &Outcome<Global>) -> Option<u64> {
+    match told {
+        Outcome::Done { work, .. } => Some(*work),
+        Outcome::Fault { work, .. } => Some(*work),
+        _ => None,
     }
 }

@@ -1,4 +1,4 @@
-//! What the types of each line are, or why it has none. What a line defines stands for the lines after it, up to a
+//! What the types of each line are, or why it has none. What a line defines is bound for the lines after it, up to a
 //! directive `@new`.
 
 ghost use Rattle.std.specs.Prelude.{IfOk};

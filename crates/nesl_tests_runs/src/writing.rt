@@ -13,7 +13,7 @@ pub fn put(out: &mut Vec<u8>, text: Result<String, AllocError>) -> Result<(), Al
     out.extend_from_slice(text?.as_bytes())
 }
 
-/// Writes a text behind what was to be done first, if that was done.
+/// Writes a text after what was to be done first, if that was done.
 pub fn put_done(
     done: Result<(), AllocError>,
     text: &[u8],

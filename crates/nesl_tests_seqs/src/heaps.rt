@@ -7,7 +7,7 @@ use nesl_values::Value;
 use std::alloc::{AllocError, Allocator, Global};
 use std::test::Fail;
 
-/// Calls, and what they come to.
+/// Calls and their results.
 const ROWS: &str = r#"permute of ( [5,6] [1,0] ) = [6,5]
 gather of ( [5,6] [1,0] ) = [6,5]
 rep of ( [5,6] ( 9 0 ) ) = [9,6]
@@ -40,13 +40,13 @@ or_scan of [5,6] = [0,5]
 and_scan of [5,6] = [-1,5]
 or_scan of {TF} = {FT}"#;
 
-/// Calls one after the other, each of what the one before it gave, and what the last one comes to.
+/// Calls one after the other, each of what the one before it gave, and the result of the last one.
 const CHAINS: &str = r#"bottop flatten reverse plus_scan of [4,5,6,7] = [0,7,13,18]
 zip reverse unzip append odd_elts of ( [1,2] [5,6] ) = [1,5]
 append bottop unzip of ( [4,6] [5,7] ) = none
 interleave bottop reverse flatten even_elts of ( [4,6] [5,7] ) = [6,4]"#;
 
-/// What the function comes to at the parts of an argument, if it has a price.
+/// The result of the function at the parts of an argument, if it has a price.
 fn at_parts<A: Allocator + Copy>(
     home: A,
     function: SeqFn,
@@ -61,7 +61,7 @@ fn at_parts<A: Allocator + Copy>(
     }
 }
 
-/// What the function of that name comes to.
+/// The result of the function of that name.
 fn called<A: Allocator + Copy>(
     home: A,
     name: &str,
@@ -73,7 +73,7 @@ fn called<A: Allocator + Copy>(
     }
 }
 
-/// What the functions come to, each of what the one before it gave.
+/// The result of the functions, each of what the one before it gave.
 fn chained<A: Allocator + Copy>(
     home: A,
     names: &str,
@@ -108,7 +108,7 @@ fn holds_in(
     }
 }
 
-/// Fails at the first row that doesn't hold in a heap of so many bytes, or leaves something there.
+/// Fails at the first row that doesn't hold in a heap of this many bytes, or leaves something there.
 fn all_hold_in(alloc: Global, rows: &str, size: usize, may_be_refused: bool) -> Result<(), Fail> {
     let heap = LocalHeap::new(alloc, size)?;
     for row in rows.lines() {

@@ -116,7 +116,7 @@ fn with_places(alloc: Global, places: Numbers) -> Result<Value, AllocError> {
     Value::pair(alloc, numbers, sequence(alloc, places, 600_000)?)
 }
 
-// Whether the function comes to so many of these numbers, at that price.
+// Whether the result of the function is this many of these numbers, at that price.
 fn gives_numbers(
     alloc: Global,
     function: SeqFn,

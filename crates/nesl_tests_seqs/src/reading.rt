@@ -24,7 +24,7 @@ pub fn value_of(alloc: Global, text: &str, packed: u32) -> Result<Option<Value>,
     }
 }
 
-// Puts the value of a word on the stack. An open bracket stands there as none, and a word that has no value, too.
+// Puts the value of a word on the stack. An open bracket is none there, and a word that has no value, too.
 fn push_word(
     alloc: Global,
     stack: &mut Vec<Option<Value>>,

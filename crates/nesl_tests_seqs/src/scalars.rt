@@ -53,7 +53,7 @@ const OF_TWO: [Binary; 20] = [
     Binary::Rshift,
 ];
 
-/// What the function of this name comes to.
+/// The result of the function of this name.
 fn outcome(name: &str, argument: &Value) -> Option<Result<Value, Trap>> {
     match argument.as_pair() {
         Some((left, right)) => {
@@ -67,7 +67,7 @@ fn outcome(name: &str, argument: &Value) -> Option<Result<Value, Trap>> {
     }
 }
 
-/// Whether a function comes to the value of that text, or has the fault of that name.
+/// Whether a function has the value of that text, or the fault of that name.
 fn comes_to(alloc: Global, name: &str, argument: &Value, wanted: &str) -> Result<bool, AllocError> {
     match outcome(name, argument) {
         Some(Ok(value)) => is_value(alloc, &value, wanted),
@@ -152,7 +152,7 @@ nand ( T T ) = F
 xor ( T F ) = T
 btoi T = 1"#;
 
-/// The character with the code 0 stands in the first row.
+/// The character with the code 0 is in the first row.
 const CODES: &str = "code_char 0 = '\0\n\
     code_char 256 ! Code\n\
     code_char -1 ! Code";

@@ -23,7 +23,7 @@ fn is_priced(function: SeqFn, argument: Argument<'_>, nodes: u64, work: u128) ->
     }
 }
 
-// Whether the result has so many nodes, and takes that work.
+// Whether the result has this many nodes, and takes that work.
 fn has_size(
     alloc: Global,
     function: SeqFn,
@@ -41,7 +41,7 @@ const NODES: u64 = 2_199_023_255_551;
 // Three times the value, in a sequence.
 const THRICE: (u64, u128) = (6_597_069_766_654, 6_597_069_766_657);
 
-// Whether these functions of two such sequences come to results of the sizes that they should have.
+// Whether these functions of two such sequences have results of the sizes that they should have.
 fn are_joined(alloc: Global, three: &Value) -> Result<bool, AllocError> {
     let twice = Argument::Two(three, three);
     let all = (13_194_139_533_307, 13_194_139_533_313);
@@ -53,7 +53,7 @@ fn are_joined(alloc: Global, three: &Value) -> Result<bool, AllocError> {
     )
 }
 
-// Whether functions that move elements, and those of one element, come to results of the sizes that they should have.
+// Whether functions that move elements, and those of one element, have results of the sizes that they should have.
 fn are_moved(alloc: Global, three: &Value, value: &Value) -> Result<bool, AllocError> {
     let rotated = Argument::Two(three, &Value::Int(1));
     let third = Argument::Two(three, &Value::Int(2));
@@ -67,7 +67,7 @@ fn are_moved(alloc: Global, three: &Value, value: &Value) -> Result<bool, AllocE
     )
 }
 
-// Whether functions of three times the value, in a sequence, come to results of the sizes that they should have.
+// Whether functions of three times the value, in a sequence, have results of the sizes that they should have.
 fn are_all_shared(alloc: Global, value: &Value) -> Result<bool, AllocError> {
     let thrice = Argument::Two(value, &Value::Int(3));
     let Some(three) = applied(alloc, SeqFn::Dist, thrice)? else {

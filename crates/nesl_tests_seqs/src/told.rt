@@ -1,4 +1,4 @@
-//! What functions come to, and what the rows say of it.
+//! The results of functions, and what the rows say of them.
 use crate::reading::{function_of, value_of};
 use nesl_scalars::Trap;
 use nesl_seqs::{Argument, Price, SeqFn, apply, cost_and_size, plan};
@@ -23,7 +23,7 @@ pub fn price_within<A: Allocator>(
     Ok(plan.price(limit))
 }
 
-// Whether the function comes to that result at that price, at the argument and at its parts.
+// Whether the function has that result at that price, at the argument and at its parts.
 pub fn gives(
     alloc: Global,
     function: SeqFn,
@@ -61,7 +61,7 @@ fn gives_at(
     }
 }
 
-/// What the function comes to, unless it refuses the argument.
+/// The result of the function, unless it refuses the argument.
 pub fn applied<A: Allocator + Copy>(
     home: A,
     function: SeqFn,
@@ -120,7 +120,7 @@ fn is_price(alloc: Global, price: Price, wanted: &str) -> Result<bool, AllocErro
     Ok(format!(in alloc; "{work} {depth} {nodes}")?.as_str() == wanted)
 }
 
-// Whether the function comes to that result at that price, and to nothing below its work.
+// Whether the function has that result at that price, and none below its work.
 fn comes_to(
     alloc: Global,
     function: SeqFn,
@@ -165,7 +165,7 @@ fn is_no_argument(function: SeqFn, argument: &Value) -> bool {
     price_within(function, Argument::One(argument), 1_000_000).is_err()
 }
 
-// Whether what stands behind the sign of a row is so.
+// Whether what follows the sign of a row holds.
 fn is_so(
     alloc: Global,
     function: SeqFn,
@@ -188,7 +188,7 @@ fn is_so(
     }
 }
 
-// The function of a row, its argument, and what stands behind the sign.
+// The function of a row, its argument, and what follows the sign.
 fn call_of<'a>(row: &'a str, sign: &str) -> Option<(SeqFn, &'a str, &'a str)> {
     let (call, wanted) = row.split_once(sign)?;
     let (name, argument) = call.split_once(' ')?;

@@ -1,4 +1,4 @@
-// Lines of two users that are evaluated at once.
+//! Lines of two users that are evaluated at once.
 use crate::in_turn::{lines_by, patient};
 use nesl_eval_helpers::{Gate, Place};
 use nesl_service::service::Terms;

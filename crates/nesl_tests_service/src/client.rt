@@ -1,4 +1,4 @@
-// Clients of the service, and a table for it.
+//! Clients of the service, and a table for it.
 use nesl_house::table::Table;
 use nesl_session::limits::Limits;
 use std::alloc::Global;
@@ -69,7 +69,7 @@ fn end(alloc: Global, stream: &TcpStream) -> io::Result<()> {
     Ok(())
 }
 
-// Does what stands behind the number of a row, and tells whether what is heard is right.
+// Does what follows the number of a row. Whether what is heard is right.
 fn is_done(alloc: Global, stream: &TcpStream, act: &[u8]) -> io::Result<bool> {
     match act {
         [b'>', b' ', line @ ..] => say_line(stream, line)?,

@@ -1,4 +1,4 @@
-// Eight threads count for two users.
+//! Eight threads count for two users.
 use crate::client::ann_and_bob;
 use nesl_eval_helpers::{Free, NoHelpers};
 use nesl_house::lease::{Lease, Receipt};
@@ -15,7 +15,7 @@ const THREADS: usize = 8;
 
 const TURNS: u64 = 100;
 
-// The numbers that each user was told, and the receipts.
+// The numbers in each user's answers, and the receipts.
 #[derive(Drop)]
 pub(crate) struct Told {
     ann: Vec<u64>,

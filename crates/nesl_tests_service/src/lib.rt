@@ -1,8 +1,10 @@
-// Tests of the service over sockets.
+//! Tests of the service over sockets, and of what browsers ask for, by the public calls alone.
 #![tactic(auto)]
 
 #[cfg(test)]
 mod at_once;
+#[cfg(test)]
+mod browsers;
 #[cfg(test)]
 mod client;
 #[cfg(test)]

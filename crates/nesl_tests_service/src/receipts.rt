@@ -1,58 +1,51 @@
-// Receipts that are taken in.
+//! Receipts that are taken in.
 use nesl_house::lease::Receipt;
 use nesl_service_records::receipts::Receipts;
-use std::alloc::AllocError;
-use std::test::Fail;
+use std::alloc::{AllocError, Global};
 
-// The places and the lines of the entries that these receipts come to, and whether all were taken in.
-fn taken_in(
-    rt: &HostRuntime,
-    given: &[(usize, u64)],
-) -> Result<(bool, Vec<(usize, u64)>), AllocError> {
-    let mut receipts = Receipts::new(rt.alloc())?;
+// Receipts `PLACE:LINES`, and the entries that they are summed up to, with a `!` after if not all were taken in.
+const ROWS: &str = " =>
+3:5 0:7 3:0 0:1 3:11 => 3:16 0:8
+1:18446744073709551614 1:1 1:1 => 1:18446744073709551615 !";
+
+fn receipt_of(words: &str) -> Receipt {
+    let (place, recorded) = words.split_once(':').unwrap_or((words, ""));
+    Receipt {
+        place: place.parse::<usize>().unwrap_or(0),
+        recorded: recorded.parse::<u64>().unwrap_or(0),
+    }
+}
+
+// The entries of these receipts, each after a blank.
+fn entries_of(alloc: Global, words: &str) -> Result<String, AllocError> {
+    let mut receipts = Receipts::new(alloc)?;
     let mut are_all = true;
-    for (place, recorded) in given {
-        let receipt = Receipt {
-            place: *place,
-            recorded: *recorded,
-        };
-        if !receipts.take_in(receipt) {
-            are_all = false;
-        }
+    for word in words.split_whitespace() {
+        are_all &= receipts.take_in(receipt_of(word));
     }
-    let mut entries = Vec::new(rt.alloc());
-    for entry in receipts.into_vec() {
-        entries.push((entry.place, entry.recorded))?;
+    let mut text = String::new(alloc);
+    for Receipt { place, recorded } in receipts.into_vec() {
+        write!(text, " {place}:{recorded}")?;
     }
-    Ok((are_all, entries))
+    text.push_str(if are_all { "" } else { " !" })?;
+    Ok(text)
 }
 
 #[test]
-fn the_receipts_of_a_place_are_one(rt: HostRuntime) -> Result<(), Fail> {
-    let (are_all, entries) = taken_in(&rt, &[(3, 5), (0, 7), (3, 0), (0, 1), (3, 11)])?;
-    assert!(rt; are_all && entries.as_slice() == [(3usize, 16u64), (0, 8)].as_slice());
-    Ok(())
+fn the_receipts_of_a_place_are_one(rt: HostRuntime) {
+    for row in ROWS.lines() {
+        let (given, wanted) = row.split_once(" =>").unwrap_or((row, ""));
+        let entries = entries_of(rt.alloc(), given).expect(&rt, "memory");
+        assert!(rt; entries.as_str() == wanted, "{row}");
+    }
 }
 
 #[test]
-fn a_place_that_comes_to_too_many_lines_stays(rt: HostRuntime) -> Result<(), Fail> {
-    let (are_all, entries) = taken_in(&rt, &[(1, u64::MAX - 1), (1, 1), (1, 1)])?;
-    assert!(rt; !are_all && entries.as_slice() == [(1usize, u64::MAX)].as_slice());
-    Ok(())
-}
-
-#[test]
-fn sixty_four_places_have_room(rt: HostRuntime) -> Result<(), Fail> {
-    let mut receipts = Receipts::new(rt.alloc())?;
-    for place in 0..64 {
+fn sixty_four_places_have_room(rt: HostRuntime) {
+    let mut receipts = Receipts::new(rt.alloc()).expect(&rt, "memory");
+    for turn in 0..65 {
+        let place = if turn < 64 { turn } else { 63 };
         assert!(rt; receipts.take_in(Receipt { place, recorded: 1 }));
     }
-    assert!(rt;
-        receipts.take_in(Receipt {
-            place: 63,
-            recorded: 1
-        })
-    );
     assert!(rt; receipts.into_vec().len() == 64);
-    Ok(())
 }

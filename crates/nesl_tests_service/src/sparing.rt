@@ -1,9 +1,10 @@
-// Asks for helpers by a clock that the tests set.
+//! Helpers that are asked for only where they pay, by a clock that the tests set.
 use nesl_eval_helpers::sparing::Sparing;
 use nesl_eval_helpers::{Advice, Asker, Common, Helpers};
-use std::io;
+use std::alloc::{AllocError, Global};
 use std::sync::atomic::{AtomicU64, Ordering};
 use std::time::{Clock, Duration};
+use std::{io, mem};
 
 // Shows a microsecond until it is set.
 #[derive(Drop)]
@@ -60,18 +61,6 @@ const FUEL: u64 = 1_000_000;
 
 const WORK: u64 = 100_000;
 
-fn asker(mark: u64, size: u64) -> Asker {
-    Asker {
-        mark,
-        size,
-        least: size / 2,
-        fuel: FUEL,
-        height: 1,
-        levels: 1000,
-        taken: 0,
-    }
-}
-
 fn ask<H: Helpers>(sparing: &H, asker: Asker) -> Option<H::Permit> {
     match sparing.advise(asker) {
         Advice::Pass => None,
@@ -80,23 +69,14 @@ fn ask<H: Helpers>(sparing: &H, asker: Asker) -> Option<H::Permit> {
     }
 }
 
-// Ends both halves of an interval, if it had a helper. Whether it had one.
-fn end<H: Helpers>(sparing: &H, permit: Option<H::Permit>) -> bool {
-    match permit {
-        Some(permit) => {
+// Ends an interval and this many halves of it, if it had a helper.
+fn end<H: Helpers>(sparing: &H, permit: Option<H::Permit>, halves: u32) {
+    if let Some(permit) = permit {
+        for _ in 0..halves {
             sparing.end_half();
-            sparing.end_half();
-            sparing.done(permit);
-            true
         }
-        None => false,
+        sparing.done(permit);
     }
-}
-
-// Whether an interval has a helper. If so, its halves end at once.
-fn has_helper<H: Helpers>(sparing: &H, asker: Asker) -> bool {
-    let permit = ask(sparing, asker);
-    end(sparing, permit)
 }
 
 // A line of one interval, by the microseconds that it takes alone and with a helper. Whether it had one.
@@ -109,274 +89,230 @@ fn is_helped<H: Helpers>(
 ) -> bool {
     sparing.begin();
     let permit = ask(sparing, asker);
-    let micros = if permit.is_some() { helped } else { alone };
-    clock.pass(micros);
-    let is_helped = end(sparing, permit);
+    let is_helped = permit.is_some();
+    clock.pass(if is_helped { helped } else { alone });
+    end(sparing, permit, 2);
     sparing.end(FUEL - WORK);
     is_helped
 }
 
-#[test]
-fn an_interval_has_a_helper_once_it_took_long_twice(rt: HostRuntime) {
-    let (clock, common) = (Still::new(), Common::new(2));
-    let sparing = Sparing::new(&clock, Granting, 1, &common);
-    for (micros, wanted) in [(400, false), (400, false), (400, true), (400, true)] {
-        assert!(rt; is_helped(&clock, &sparing, asker(1, 16), micros, 200) == wanted);
-    }
-    for _ in 0..9 {
-        assert!(rt; !is_helped(&clock, &sparing, asker(2, 16), 290, 200));
-    }
+// Rows `PROCESSORS WORKERS: PART; PART .. => TOLD`. A part is a count and steps, which are taken this many times. A
+// step is a letter, and a number or two that are parted by a dot. Capital letters are about the interval at hand: `M1`
+// is its mark, `S16` its size and twice its smaller half, `L8` its smaller half, `U4000` the fuel that is used, `H1`
+// its height, `V1000` its levels and `T0` its turns, as all of them are at first. The others are:
+//
+// - `i400.200`: a line of it that takes 400 microseconds alone, and 200 with a helper. `+` tells that it had one, and
+//   `-` that it had none;
+// - `b` and `e` begin and end a line; the fuel that is used follows `e`, and also `t`, which ends what is timed;
+// - `h`: whether it has a helper, with halves that end at once; `d` ends a half of another;
+// - `p400`: 400 microseconds pass;
+// - `q4000.2`: whether it asks again, with that fuel used and this height; `w` the height of what is timed, or `.`;
+// - `f`: the connection is another one, and `x` another one of two that go on.
+//
+// Between `A` and `Z` its helper is kept, of which a half ends by itself, and so between `a` and `z` with both halves.
+const ROWS: &str = "2 1: 4 i400.200; 1 M2; 9 i290.200 => --++---------
+2 1: 1 b h q4000.1 q4001.2 q4001.1 p29 T1 U5000 S15 h q10000.1 q10001.1 p29 U10000 S13 h q20001.1 p58; \
+1 U20000 S12 A q1000000.1 p174 d Z e100000 => ---+--+-++-
+4 3: 1 S1000; 2 i4000.2000; 1 S2000 i8000.4000 S500 i2000.1000; \
+1 b S800 A S249 h M2 S800 h M1 S249 V993 h S990 V986 h S251 V1000 a p2000 z d Z e100000 => ----+----+
+2 1: 4 i2000.2000 i20.20; 1 i2000.2000 => ---------
+2 1: 9 b h p9000 e2000 => ---------
+2 1: 2 i1000.940; 1 i1000.940; 4 i1000.500; 1 i1000.940; 8 i1000.500; \
+1 i1000.930 i1000.930 i1000.940 i7520.500 i1000.500 => --+----+--------+-+-+
+2 1: 70 i1000.500 => --+++-+++++++++++++++++++++++++++++++-+++++++++++++++++++++++++++++++-
+2 1: 5 i1000.140 => --+--
+2 8: 2 i2000.1000; 1 x b x i2000.1000 x e0 x; 1 b A h d a p1200 z Z e100000; 1 i2000.1000 => ---+-++
+2 1: 2 b h w M2 H2 h M1 H1 p400 e100000; 1 M2 i400.200 M1 i400.200 => -1--1--+
+2 1: 2 b h p20 t100000 w M2 H2 U100000 h p400 e200000 M1 H1 U0; 1 i20.20 M2 i400.200 => -.--.--+
+2 1: 1 S1000; 2 i4000.2000; 1 b L124 h S249 h S900 a p1800 z e100000; 1 b S1000 L125 h e100000 => ----++
+2 1: 4 f i400.200 => --++
+2 0: 9 i9000.9000 => ---------";
+
+// Two connections, of which one is at hand, and the interval at hand.
+#[derive(Drop)]
+struct Desk<'x> {
+    clock: &'x Still,
+    common: &'x Common,
+    workers: u32,
+    sparing: Sparing<'x, Still, Granting>,
+    other: Sparing<'x, Still, Granting>,
+    asker: Asker,
 }
 
-// An interval of 16 elements that asks again, by the fuel and the elements that it has left.
-fn asker_again(fuel: u64, left: u64) -> Asker {
-    Asker {
-        fuel,
-        taken: 1,
-        ..asker(1, left)
-    }
-}
-
-#[test]
-fn one_that_is_not_known_asks_again_after_some_turns(rt: HostRuntime) {
-    let (clock, common) = (Still::new(), Common::new(2));
-    let sparing = Sparing::new(&clock, Granting, 1, &common);
-    sparing.begin();
-    assert!(rt; !has_helper(&sparing, asker(1, 16)));
-    assert!(rt; !sparing.asks_again(FUEL - 4000, 1));
-    assert!(rt;
-        !sparing.asks_again(FUEL - 4001, 2),
-        "a turn of an inner one"
-    );
-    assert!(rt; sparing.asks_again(FUEL - 4001, 1));
-    clock.pass(29);
-    assert!(rt;
-        !has_helper(&sparing, asker_again(FUEL - 5000, 15)),
-        "29 microseconds say little"
-    );
-    assert!(rt; !sparing.asks_again(FUEL - 10_000, 1));
-    assert!(rt; sparing.asks_again(FUEL - 10_001, 1));
-    clock.pass(29);
-    assert!(rt;
-        !has_helper(&sparing, asker_again(FUEL - 10_000, 13)),
-        "13 take 251 microseconds"
-    );
-    assert!(rt; sparing.asks_again(FUEL - 20_001, 1));
-    clock.pass(58);
-    let permit = ask(&sparing, asker_again(FUEL - 20_000, 12));
-    assert!(rt; !sparing.asks_again(0, 1), "the halves don't");
-    clock.pass(174);
-    assert!(rt; end(&sparing, permit), "12 take 348 microseconds");
-    sparing.end(FUEL - WORK);
-}
-
-#[test]
-fn others_of_the_same_size_and_smaller_inner_ones_have_one(rt: HostRuntime) {
-    let (clock, common) = (Still::new(), Common::new(4));
-    let sparing = Sparing::new(&clock, Granting, 3, &common);
-    for _ in 0..2 {
-        assert!(rt; !is_helped(&clock, &sparing, asker(1, 1000), 4000, 2000));
-    }
-    assert!(rt; !is_helped(&clock, &sparing, asker(1, 2000), 8000, 4000));
-    assert!(rt; !is_helped(&clock, &sparing, asker(1, 500), 2000, 1000));
-    sparing.begin();
-    let outer = ask(&sparing, asker(1, 800));
-    for (mark, size, levels) in [(1, 249, 1000), (2, 800, 1000), (1, 249, 993), (1, 990, 986)] {
-        let inner = Asker {
-            levels,
-            ..asker(mark, size)
-        };
-        assert!(rt; !has_helper(&sparing, inner), "{size} of {levels}");
-    }
-    let inner = ask(&sparing, asker(1, 251));
-    clock.pass(2000);
-    assert!(rt; end(&sparing, inner), "251 elements take a millisecond");
-    assert!(rt;
-        end(&sparing, outer),
-        "800 elements take 3,200 microseconds"
-    );
-    sparing.end(FUEL - WORK);
-}
-
-#[test]
-fn one_that_takes_long_now_and_then_has_none(rt: HostRuntime) {
-    let (clock, common) = (Still::new(), Common::new(2));
-    let sparing = Sparing::new(&clock, Granting, 1, &common);
-    for turn in 0..9 {
-        let micros = if turn % 2 == 0 { 2000 } else { 20 };
-        assert!(rt;
-            !is_helped(&clock, &sparing, asker(1, 16), micros, micros),
-            "turn {turn}"
-        );
-    }
-}
-
-#[test]
-fn a_wait_is_no_work(rt: HostRuntime) {
-    let (clock, common) = (Still::new(), Common::new(2));
-    let sparing = Sparing::new(&clock, Granting, 1, &common);
-    for _ in 0..9 {
-        sparing.begin();
-        assert!(rt; !has_helper(&sparing, asker(1, 16)));
-        clock.pass(9000);
-        sparing.end(FUEL - 2000);
-    }
-}
-
-#[test]
-fn after_helpers_in_vain_there_is_none_for_longer_and_longer(rt: HostRuntime) {
-    let (clock, common) = (Still::new(), Common::new(2));
-    let sparing = Sparing::new(&clock, Granting, 1, &common);
-    for _ in 0..2 {
-        assert!(rt; !is_helped(&clock, &sparing, asker(1, 16), 1000, 940));
-    }
-    for alone in [4, 8] {
-        assert!(rt; is_helped(&clock, &sparing, asker(1, 16), 1000, 940));
-        for _ in 0..alone {
-            assert!(rt; !is_helped(&clock, &sparing, asker(1, 16), 1000, 500));
+impl<'x> Desk<'x> {
+    fn new(clock: &'x Still, common: &'x Common, workers: u32) -> Desk<'x> {
+        Desk {
+            clock,
+            common,
+            workers,
+            sparing: Sparing::new(clock, Granting, workers, common),
+            other: Sparing::new(clock, Granting, workers, common),
+            asker: Asker {
+                mark: 1,
+                size: 16,
+                least: 8,
+                fuel: FUEL,
+                height: 1,
+                levels: 1000,
+                taken: 0,
+            },
         }
     }
-    assert!(rt; is_helped(&clock, &sparing, asker(1, 16), 1000, 930));
-    assert!(rt; !is_helped(&clock, &sparing, asker(1, 16), 1000, 930));
-    assert!(rt; is_helped(&clock, &sparing, asker(1, 16), 1000, 940));
-    assert!(rt; !is_helped(&clock, &sparing, asker(1, 16), 8 * 940, 500));
-    assert!(rt; is_helped(&clock, &sparing, asker(1, 16), 1000, 500));
-}
 
-#[test]
-fn one_of_32_has_none(rt: HostRuntime) {
-    let (clock, common) = (Still::new(), Common::new(2));
-    let sparing = Sparing::new(&clock, Granting, 1, &common);
-    for turn in 0..70 {
-        let is_timed = turn < 2 || turn == 5 || turn == 37 || turn == 69;
-        let is_helped = is_helped(&clock, &sparing, asker(1, 16), 1000, 500);
-        assert!(rt; is_helped != is_timed, "turn {turn}");
+    // Takes the steps of a part as often as it says.
+    fn run(&mut self, part: &str, told: &mut String) -> Result<(), AllocError> {
+        let (count, steps) = part.split_once(' ').unwrap_or(("0", part));
+        for _ in 0..count.parse::<u64>().unwrap_or(0) {
+            self.run_keeping(steps, told)?;
+        }
+        Ok(())
+    }
+
+    // Takes steps, and keeps a helper for those between `A` and `Z`.
+    fn run_keeping(&mut self, steps: &str, told: &mut String) -> Result<(), AllocError> {
+        let Some((before, rest)) = steps.split_once(" A ") else {
+            return self.run_within(steps, told);
+        };
+        let (within, after) = rest.split_once(" Z ").unwrap_or((rest, ""));
+        self.run_all(before, told)?;
+        let permit = ask(&self.sparing, self.asker);
+        let is_told = push_mark(permit.is_some(), told);
+        let is_run = self.run_within(within, told);
+        end(&self.sparing, permit, 1);
+        is_told?;
+        is_run?;
+        self.run_all(after, told)
+    }
+
+    // Takes steps, and keeps a helper for those between `a` and `z`.
+    fn run_within(&mut self, steps: &str, told: &mut String) -> Result<(), AllocError> {
+        let Some((before, rest)) = steps.split_once(" a ") else {
+            return self.run_all(steps, told);
+        };
+        let (within, after) = rest.split_once(" z").unwrap_or((rest, ""));
+        self.run_all(before, told)?;
+        let permit = ask(&self.sparing, self.asker);
+        let is_told = push_mark(permit.is_some(), told);
+        let is_run = self.run_all(within, told);
+        end(&self.sparing, permit, 2);
+        is_told?;
+        is_run?;
+        self.run_all(after, told)
+    }
+
+    fn run_all(&mut self, steps: &str, told: &mut String) -> Result<(), AllocError> {
+        for step in steps.split(' ') {
+            if let [letter, digits @ ..] = step.as_bytes() {
+                let numbers = numbers_of(str::from_utf8(digits).unwrap_or(""));
+                if letter.is_ascii_uppercase() {
+                    self.set(*letter, numbers.0);
+                } else {
+                    self.act(*letter, numbers, told)?;
+                }
+            }
+        }
+        Ok(())
+    }
+
+    fn set(&mut self, letter: u8, number: u64) {
+        match letter {
+            b'M' => self.asker.mark = number,
+            b'S' => {
+                self.asker.size = number;
+                self.asker.least = number / 2;
+            }
+            b'L' => self.asker.least = number,
+            b'U' => self.asker.fuel = FUEL.saturating_sub(number),
+            b'H' => self.asker.height = number as usize,
+            b'V' => self.asker.levels = number,
+            _ => self.asker.taken = number as usize,
+        }
+    }
+
+    fn act(
+        &mut self,
+        letter: u8,
+        (first, second): (u64, u64),
+        told: &mut String,
+    ) -> Result<(), AllocError> {
+        let left = FUEL.saturating_sub(first);
+        match letter {
+            b'b' => self.sparing.begin(),
+            b'e' => self.sparing.end(left),
+            b't' => self.sparing.end_timed(left),
+            b'd' => self.sparing.end_half(),
+            b'p' => self.clock.pass(first),
+            b'x' => mem::swap(&mut self.sparing, &mut self.other),
+            b'f' => {
+                self.sparing = Sparing::new(self.clock, Granting, self.workers, self.common);
+            }
+            _ => return self.tell(letter, (first, second), told),
+        }
+        Ok(())
+    }
+
+    // Takes a step that tells something.
+    fn tell(
+        &self,
+        letter: u8,
+        (first, second): (u64, u64),
+        told: &mut String,
+    ) -> Result<(), AllocError> {
+        let sparing = &self.sparing;
+        match letter {
+            b'i' => push_mark(
+                is_helped(self.clock, sparing, self.asker, first, second),
+                told,
+            ),
+            b'h' => {
+                let permit = ask(sparing, self.asker);
+                let has_helper = permit.is_some();
+                end(sparing, permit, 2);
+                push_mark(has_helper, told)
+            }
+            b'q' => push_mark(
+                sparing.asks_again(FUEL.saturating_sub(first), second as usize),
+                told,
+            ),
+            _ => match sparing.timed_at() {
+                Some(height) => write!(told, "{height}"),
+                None => told.push('.'),
+            },
+        }
     }
 }
 
-#[test]
-fn one_that_has_become_short_has_none(rt: HostRuntime) {
-    let (clock, common) = (Still::new(), Common::new(2));
-    let sparing = Sparing::new(&clock, Granting, 1, &common);
-    for wanted in [false, false, true, false, false] {
-        assert!(rt; is_helped(&clock, &sparing, asker(1, 16), 1000, 140) == wanted);
+fn numbers_of(digits: &str) -> (u64, u64) {
+    let (first, second) = digits.split_once('.').unwrap_or((digits, ""));
+    (
+        first.parse::<u64>().unwrap_or(0),
+        second.parse::<u64>().unwrap_or(0),
+    )
+}
+
+fn push_mark(is_so: bool, told: &mut String) -> Result<(), AllocError> {
+    told.push(if is_so { '+' } else { '-' })
+}
+
+// The marks of a row.
+fn told_of(alloc: Global, row: &str) -> Result<String, AllocError> {
+    let (machine, parts) = row.split_once(": ").unwrap_or((row, ""));
+    let (processors, workers) = machine.split_once(' ').unwrap_or((machine, ""));
+    let clock = Still::new();
+    let common = Common::new(processors.parse::<usize>().unwrap_or(0));
+    let mut desk = Desk::new(&clock, &common, workers.parse::<u32>().unwrap_or(0));
+    let mut told = String::new(alloc);
+    for part in parts.split("; ") {
+        desk.run(part, &mut told)?;
     }
+    Ok(told)
 }
 
 #[test]
-fn no_more_threads_work_than_there_are_processors(rt: HostRuntime) {
-    let (clock, common) = (Still::new(), Common::new(2));
-    let sparing = Sparing::new(&clock, Granting, 8, &common);
-    let other = Sparing::new(&clock, Granting, 8, &common);
-    for _ in 0..2 {
-        assert!(rt; !is_helped(&clock, &sparing, asker(1, 16), 2000, 1000));
-    }
-    other.begin();
-    assert!(rt; !is_helped(&clock, &sparing, asker(1, 16), 2000, 1000));
-    other.end(FUEL);
-    sparing.begin();
-    let first = ask(&sparing, asker(1, 16));
-    assert!(rt; !has_helper(&sparing, asker(1, 16)));
-    sparing.end_half();
-    let second = ask(&sparing, asker(1, 16));
-    clock.pass(1200);
-    assert!(rt; end(&sparing, second), "a half has ended");
-    sparing.end_half();
-    match first {
-        Some(permit) => sparing.done(permit),
-        None => assert!(rt; false, "a processor is free"),
-    }
-    sparing.end(FUEL - WORK);
-    assert!(rt; is_helped(&clock, &sparing, asker(1, 16), 2000, 1000));
-}
-
-#[test]
-fn intervals_inside_of_one_are_not_timed(rt: HostRuntime) {
-    let (clock, common) = (Still::new(), Common::new(2));
-    let sparing = Sparing::new(&clock, Granting, 1, &common);
-    let inner = Asker {
-        height: 2,
-        ..asker(2, 16)
-    };
-    for _ in 0..2 {
-        sparing.begin();
-        assert!(rt; !has_helper(&sparing, asker(1, 16)));
-        assert!(rt; sparing.timed_at() == Some(1));
-        assert!(rt; !has_helper(&sparing, inner));
-        clock.pass(400);
-        sparing.end(FUEL - WORK);
-    }
-    assert!(rt; !is_helped(&clock, &sparing, asker(2, 16), 400, 200));
-    assert!(rt; is_helped(&clock, &sparing, asker(1, 16), 400, 200));
-}
-
-#[test]
-fn one_that_begins_after_another_is_timed(rt: HostRuntime) {
-    let (clock, common) = (Still::new(), Common::new(2));
-    let sparing = Sparing::new(&clock, Granting, 1, &common);
-    let later = Asker {
-        fuel: FUEL - WORK,
-        height: 2,
-        ..asker(2, 16)
-    };
-    for _ in 0..2 {
-        sparing.begin();
-        assert!(rt; !has_helper(&sparing, asker(1, 16)));
-        clock.pass(20);
-        sparing.end_timed(FUEL - WORK);
-        assert!(rt; sparing.timed_at().is_none());
-        assert!(rt; !has_helper(&sparing, later));
-        clock.pass(400);
-        sparing.end(FUEL - 2 * WORK);
-    }
-    assert!(rt; !is_helped(&clock, &sparing, asker(1, 16), 20, 20));
-    assert!(rt; is_helped(&clock, &sparing, asker(2, 16), 400, 200));
-}
-
-#[test]
-fn an_uneven_one_leaves_the_helper_to_one_inside(rt: HostRuntime) {
-    let (clock, common) = (Still::new(), Common::new(2));
-    let sparing = Sparing::new(&clock, Granting, 1, &common);
-    for _ in 0..2 {
-        assert!(rt; !is_helped(&clock, &sparing, asker(1, 1000), 4000, 2000));
-    }
-    sparing.begin();
-    let uneven = Asker {
-        least: 124,
-        ..asker(1, 1000)
-    };
-    assert!(rt; !has_helper(&sparing, uneven));
-    assert!(rt; !has_helper(&sparing, asker(1, 249)));
-    let inner = ask(&sparing, asker(1, 900));
-    clock.pass(1800);
-    assert!(rt;
-        end(&sparing, inner),
-        "900 elements take 3,600 microseconds"
-    );
-    sparing.end(FUEL - WORK);
-    let even = Asker {
-        least: 125,
-        ..asker(1, 1000)
-    };
-    sparing.begin();
-    assert!(rt; has_helper(&sparing, even));
-    sparing.end(FUEL - WORK);
-}
-
-#[test]
-fn what_one_connection_has_seen_counts_for_others(rt: HostRuntime) {
-    let (clock, common) = (Still::new(), Common::new(2));
-    for wanted in [false, false, true, true] {
-        let sparing = Sparing::new(&clock, Granting, 1, &common);
-        assert!(rt; is_helped(&clock, &sparing, asker(1, 16), 400, 200) == wanted);
-    }
-}
-
-#[test]
-fn without_workers_nobody_asks(rt: HostRuntime) {
-    let (clock, common) = (Still::new(), Common::new(2));
-    let sparing = Sparing::new(&clock, Granting, 0, &common);
-    for _ in 0..9 {
-        assert!(rt; !is_helped(&clock, &sparing, asker(1, 16), 9000, 9000));
+fn helpers_are_asked_for_where_they_pay(rt: HostRuntime) {
+    for row in ROWS.lines() {
+        let (asked, wanted) = row.split_once(" => ").unwrap_or((row, ""));
+        let told = told_of(rt.alloc(), asked).expect(&rt, "memory");
+        assert!(rt; told.as_str() == wanted, "{asked}: {told}");
     }
 }

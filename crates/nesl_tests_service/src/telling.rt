@@ -1,4 +1,4 @@
-// What a journal is told of connections and of their answers.
+//! What a journal hears of connections and of their answers.
 use crate::in_turn::{lines_told, patient};
 use nesl_eval_helpers::Free;
 use nesl_lex::token::Span;
@@ -18,25 +18,15 @@ use std::test::Fail;
 use std::thread::Threads;
 use std::time::{Clock, Duration};
 
-// Writes down what it is told, and counts.
+// Writes down what is reported to it, and counts.
 #[derive(Drop)]
 struct Notes<'r, R> {
     rt: &'r R,
     text: Mutex<String>,
     counters: Counters,
-    is_counting: bool,
 }
 
-impl<'r, R: Wait> Notes<'r, R> {
-    fn new(rt: &'r R, alloc: Global, is_counting: bool) -> Result<Notes<'r, R>, AllocError> {
-        Ok(Notes {
-            rt,
-            text: Mutex::new(String::new(alloc)),
-            counters: Counters::new(alloc)?,
-            is_counting,
-        })
-    }
-
+impl<R: Wait> Notes<'_, R> {
     fn add(&self, words: &[&str]) {
         let mut text = self.text.lock(self.rt);
         for word in words {
@@ -50,7 +40,6 @@ impl<'r, R: Wait> Notes<'r, R> {
             rt: _,
             text,
             counters,
-            is_counting: _,
         } = self;
         let json = counters.json(alloc, Duration::from_secs(3))?;
         let front = match json.split_once(",\"slow\"") {
@@ -88,7 +77,7 @@ impl<R: Wait> Journal for Notes<'_, R> {
     }
 
     fn is_counting(&self) -> bool {
-        self.is_counting
+        true
     }
 
     fn answered(&self, answered: &Answered) {
@@ -100,19 +89,21 @@ impl<R: Wait> Journal for Notes<'_, R> {
     }
 }
 
-// What a journal is told while these rows are played, and the counters, by so many threads for so many connections.
+// What a journal hears while these rows are played on six connections, and the counters.
 fn told<R: Net<Listener = TcpListener, Stream = TcpStream> + Threads + Wait + Clock + Abort + Sync>(
     rt: &R,
     alloc: Global,
-    (threads, connections): (usize, u64),
-    is_counting: bool,
     rows: &str,
 ) -> Result<(String, String), Fail> {
-    let notes = Notes::new(rt, alloc, is_counting)?;
+    let notes = Notes {
+        rt,
+        text: Mutex::new(String::new(alloc)),
+        counters: Counters::new(alloc)?,
+    };
     let terms = Terms {
-        threads,
+        threads: 1,
         workers: 0,
-        connections: Some(connections),
+        connections: Some(6),
         patience: Patience {
             first_line: Duration::from_secs(1),
             idle: Some(Duration::from_secs(1)),
@@ -126,7 +117,8 @@ fn told<R: Net<Listener = TcpListener, Stream = TcpStream> + Threads + Wait + Cl
     Ok(notes.close(alloc)?)
 }
 
-// A user who ends, a stranger, one who names nobody, one who is mute, one who is silent after a line, and a user again.
+// A user who ends, a stranger, a client that names nobody, a mute one, a user who is silent after a line, and a user
+// again.
 const SIX: &str = "0 > user ann
 0 < user ann
 0 > 2 * 3 + 1;
@@ -156,7 +148,7 @@ const SIX: &str = "0 > user ann
 const ENDINGS: &str = "begun;ann;end of input;begun;unknown;turned away;begun;unknown;turned away;\
     begun;no first line;begun;bob;idle;begun;bob;end of input;";
 
-// What they come to in numbers.
+// Their counts.
 const NUMBERS: &str =
     "{\"uptime\":3,\"begun\":6,\"open\":0,\"turned_away\":{\"unknown\":2,\"busy\":0},\
     \"ended\":{\"end of input\":2,\"turned away\":2,\"no first line\":1,\"idle\":1,\"answer not taken\":0,\
@@ -167,41 +159,10 @@ const NUMBERS: &str =
     \"memory\":0,\"user\":2,\"busy\":0}";
 
 #[test]
-fn a_journal_is_told_who_was_seated_and_why_each_ended(rt: HostRuntime) -> Result<(), Fail> {
-    let (text, _) = told(&rt, rt.alloc(), (1, 6), false, SIX)?;
+fn a_journal_is_told_of_connections_and_answers(rt: HostRuntime) -> Result<(), Fail> {
+    let (text, json) = told(&rt, rt.alloc(), SIX)?;
     assert!(rt; text.as_str() == ENDINGS, "{text}");
-    Ok(())
-}
-
-#[test]
-fn answers_are_counted(rt: HostRuntime) -> Result<(), Fail> {
-    let (_, json) = told(&rt, rt.alloc(), (1, 6), true, SIX)?;
     assert!(rt; json.as_str() == NUMBERS, "{json}");
-    Ok(())
-}
-
-// A user who comes twice at once, and what is told of that. Two threads tell it, so the words come in any order.
-const TWICE: &str = "0 > user ann
-0 < user ann
-1 > user ann
-1 < fault busy
-1 -
-0 .";
-
-const TWICE_TOLD: &str = "begun;ann;begun;busy;turned away;end of input;";
-
-#[test]
-fn one_who_is_busy_is_told_of(rt: HostRuntime) -> Result<(), Fail> {
-    let (text, json) = told(&rt, rt.alloc(), (2, 2), true, TWICE)?;
-    assert!(rt; text.as_str().len() == TWICE_TOLD.len(), "{text}");
-    for word in TWICE_TOLD.split_inclusive(';') {
-        assert!(rt; text.as_str().contains(word), "{text}");
-    }
-    assert!(rt;
-        json.as_str()
-            .contains("\"turned_away\":{\"unknown\":0,\"busy\":1}"),
-        "{json}"
-    );
     Ok(())
 }
 

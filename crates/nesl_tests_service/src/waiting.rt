@@ -1,4 +1,4 @@
-// How long a service waits for a connection.
+//! How long a service waits for a connection, and when it serves nobody.
 use crate::client::ann_and_bob;
 use crate::in_turn::{lines_by, patient};
 use nesl_eval_helpers::Free;
@@ -11,7 +11,7 @@ use std::sync::atomic::{AtomicU64, Ordering};
 use std::test::Fail;
 use std::time::Duration;
 
-// One thread for so many connections, a first line of which may take 300 milliseconds.
+// One thread for this many connections, a first line of which may take 300 milliseconds.
 fn hasty(connections: u64) -> Terms {
     Terms {
         threads: 1,
@@ -24,23 +24,8 @@ fn hasty(connections: u64) -> Terms {
     }
 }
 
-// The first says nothing, and is ended; so the second is heard.
-const MUTE: &str = "0 ?
-1 ?
-0 -
-1 > user ann
-1 < user ann
-1 > x = 3;
-1 < x = 3 : int (work 1, depth 1)
-1 .";
-
-#[test]
-fn a_connection_without_a_first_line_ends(rt: HostRuntime) -> Result<(), Fail> {
-    assert!(rt; lines_by(&rt, rt.alloc(), hasty(2), &Free, MUTE)? == 1);
-    Ok(())
-}
-
-// What can't be a user line any more is answered before it ends. A name comes in pieces.
+// What can't be a user line any more is answered before it ends. A name comes in pieces. A user who was turned away
+// hears why, whatever else they said.
 const PIECES: &str = "0 + x
 0 < fault user
 0 -
@@ -57,13 +42,18 @@ const PIECES: &str = "0 + x
 3 + 1 +
 3 > 1;
 3 < it = 2 : int (work 3, depth 3)
-3 .";
+3 .
+4 > user zed
+4 > 1;
+4 > 2;
+4 < fault user
+4 -";
 
 #[test]
 fn a_first_line_that_names_nobody_is_answered_at_once(rt: HostRuntime) -> Result<(), Fail> {
     let terms = Terms {
         patience: patient(),
-        ..hasty(4)
+        ..hasty(5)
     };
     assert!(rt; lines_by(&rt, rt.alloc(), terms, &Free, PIECES)? == 1);
     Ok(())
@@ -96,27 +86,7 @@ fn a_connection_that_reads_nothing_ends(rt: HostRuntime) -> Result<(), Fail> {
     Ok(())
 }
 
-// One that was turned away reads why, whatever it said besides.
-const MORE: &str = "0 > user zed
-0 > 1;
-0 > 2;
-0 < fault user
-0 -
-1 > user ann
-1 < user ann
-1 .";
-
-#[test]
-fn what_a_stranger_says_besides_is_heard_out(rt: HostRuntime) -> Result<(), Fail> {
-    let terms = Terms {
-        patience: patient(),
-        ..hasty(2)
-    };
-    assert!(rt; lines_by(&rt, rt.alloc(), terms, &Free, MORE)? == 0);
-    Ok(())
-}
-
-// Refuses to open, and counts what it is told besides.
+// Refuses to open, and counts whatever else is reported to it.
 #[derive(Drop)]
 struct Closed {
     told: AtomicU64,

@@ -3,7 +3,7 @@
 //! Each is written with its reply and, where this is a fault, with the hint, which is asked for before the line is
 //! said. An empty line begins a session anew. A line `@ W S E L B` begins one with these limits: the work of a line
 //! and of the session, the elements, and the lines and bytes that are recorded. A line `.. N` is short for N blanks, at
-//! most 100,000. Behind a line `!` no hints are asked for, until the next one.
+//! most 100,000. After a line `!` no hints are asked for, until the next one.
 
 use crate::limits::{LIMITS, blanks_of, limits_of};
 use nesl_hints::{Hint, hint};

@@ -23,7 +23,7 @@ impl Read for Tape<'_> {
     }
 }
 
-/// Takes so many bytes, and then fails.
+/// Takes this many bytes, and then fails.
 #[derive(Drop)]
 pub struct Paper {
     pub bytes: Vec<u8>,

@@ -14,7 +14,7 @@ pub const LIMITS: Limits = Limits {
 /// How many bytes a heap has.
 pub const HEAP_BYTES: usize = 65_536;
 
-/// The limits that a line tells behind `@ `, as far as it does; the others are the program's.
+/// The limits that a line gives after `@ `, as far as it does; the others are the program's.
 pub fn limits_of(line: &[u8]) -> Option<Limits> {
     let rest = match line {
         [b'@', b' ', rest @ ..] => rest,

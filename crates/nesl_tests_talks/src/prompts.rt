@@ -22,7 +22,7 @@ use std::alloc::{AllocError, Global};
 /// How many bytes a short writer takes.
 const SHORT: usize = 100;
 
-/// Says a text as its title tells, and writes what is told, how many lines were heard, and how it ended.
+/// Says a text as its title wants, and writes the answers, how many lines were heard, and how it ended.
 pub fn put_prompted(
     alloc: Global,
     title: &[u8],

@@ -1,4 +1,4 @@
-//! What stands in a text, and which of its rows hold.
+//! What a text has, and which of its rows hold.
 use crate::told::{Told, put, put_line, text_of};
 use std::alloc::{AllocError, Global};
 
@@ -25,7 +25,7 @@ fn said_by(row: &str) -> Option<&str> {
 }
 
 impl<'t> Text<'t> {
-    /// The text that stands behind a title.
+    /// The text that follows a title.
     pub fn read(text: &'t str) -> Text<'t> {
         let (ways, text) = text.split_once('\n').unwrap_or((text, ""));
         let (rows, text) = text.split_once("@standing\n").unwrap_or((text, ""));
@@ -72,7 +72,7 @@ fn are_lines_of(texts: &[&str], given: &str) -> bool {
     given.next().is_none()
 }
 
-// Writes lines, each behind this mark.
+// Writes lines, each after this mark.
 fn put_marked(mark: &str, lines: &str, out: &mut Vec<u8>) -> Result<(), AllocError> {
     for line in lines.lines() {
         out.extend_from_slice(mark.as_bytes())?;
@@ -99,7 +99,7 @@ impl<'t> Tally<'t> {
         }
     }
 
-    /// Compares what comes of a text with what is wanted, and writes the rows that are missed behind the way.
+    /// Compares what comes of a text with what is wanted, and writes the rows that are missed after the way.
     pub fn compare(
         &mut self,
         way: &'t str,
@@ -160,7 +160,7 @@ impl<'t> Tally<'t> {
         put_marked("+ ", given, out)
     }
 
-    // Counts a row that is missed, and writes it, behind the way if that isn't written yet.
+    // Counts a row that is missed, and writes it, after the way if that isn't written yet.
     fn miss(&mut self, line: &str, out: &mut Vec<u8>) -> Result<(), AllocError> {
         self.missed = self.missed.saturating_add(1);
         if let Some(way) = self.way {

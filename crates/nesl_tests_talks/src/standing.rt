@@ -39,7 +39,7 @@ pub fn numbers(house: &House) -> [Option<Numbers>; 2] {
     ]
 }
 
-// What a session has left, behind a name.
+// What a session has left, after a name.
 fn head_of(alloc: Global, name: &str, session: &Session) -> Result<String, AllocError> {
     let (base, cleared, left) = (session.base(), session.cleared(), session.remaining());
     format!(in alloc;

@@ -74,7 +74,7 @@ fn push_said(
     Ok(())
 }
 
-// The lines of a text, each with who says it.
+// The lines of a text, each with the user who says it.
 fn script(alloc: Global, text: &str) -> Result<Vec<Said>, AllocError> {
     let mut script = Vec::new(alloc);
     let mut user = b"".as_slice();

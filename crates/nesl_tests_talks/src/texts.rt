@@ -8,7 +8,7 @@ use std::alloc::{AllocError, Global};
 use std::sync::Wait;
 use std::thread::Threads;
 
-/// Says all texts, and writes what is told.
+/// Says all texts, and writes the answers.
 pub fn put_texts<R: Threads + Wait + Sync>(
     rt: &R,
     alloc: Global,
@@ -33,7 +33,7 @@ pub fn put_texts<R: Threads + Wait + Sync>(
     put_text(rt, alloc, title, said.as_slice(), out)
 }
 
-// Says a text, each of whose lines stands behind a line end. What stands before the first title is not said.
+// Says a text, each of whose lines follows a line end. What is before the first title is not said.
 fn put_text<R: Threads + Wait + Sync>(
     rt: &R,
     alloc: Global,

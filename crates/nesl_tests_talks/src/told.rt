@@ -1,4 +1,4 @@
-//! What is told.
+//! The result of a text.
 use std::alloc::{AllocError, Global};
 
 /// The bytes that all answers to a text have room in.
@@ -35,7 +35,7 @@ impl Told {
     }
 }
 
-/// Why nothing is told.
+/// Why there is no result.
 #[derive(Clone, Copy, PartialEq, Eq)]
 pub enum Refusal {
     /// The call wanted memory in its own form.

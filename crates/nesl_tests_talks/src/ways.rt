@@ -95,7 +95,7 @@ fn put_told<R: Threads + Wait + Sync>(
     }
 }
 
-/// Says a text in each of its ways, and writes how many of its rows hold, behind those that don't.
+/// Says a text in each of its ways, and writes how many of its rows hold, after those that don't.
 pub fn try_text<R: Threads + Wait + Sync>(
     rt: &R,
     alloc: Global,
@@ -114,7 +114,7 @@ pub fn try_text<R: Threads + Wait + Sync>(
     tally.put(alloc, title, out)
 }
 
-/// Asks for memory so many times, and does nothing with it.
+/// Asks for memory this many times, and does nothing with it.
 pub fn request(alloc: Global, count: &str) -> Result<(), AllocError> {
     for _ in 0..count.parse::<u32>().unwrap_or(0) {
         let _byte = Box::new(alloc, 0)?;

@@ -1,16 +1,16 @@
-//! Tests of banks of types, of types, and of schemes and contexts, by the public calls alone.
+//! Tests of tokens, trees, types, schemes, contexts, equations, built-in functions and unknown names, by the public
+//! calls alone.
 #![tactic(auto)]
 
 #[cfg(test)]
-mod banks;
-#[cfg(test)]
 mod contexts;
 #[cfg(test)]
-mod desk;
-#[cfg(test)]
+mod made;
 #[cfg(test)]
 mod rows;
 #[cfg(test)]
+mod scripts;
+#[cfg(test)]
 mod texts;
 #[cfg(test)]
-mod types;
+mod typing;

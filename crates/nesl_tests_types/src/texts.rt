@@ -1,111 +1,52 @@
-//! What is told, each behind a blank.
+//! What is written: numbers, classes, and the texts of types and of the types of functions.
 
-use indexmap::IndexSet;
-use nesl_types::{Class, Context, Scheme, Top, type_text};
-use nesl_types_shared::{Shape, Ty};
+use nesl_types::{Class, Context, Scheme, Ty, scheme_text, type_text};
 use std::alloc::{AllocError, Global};
 
-/// Writes a number behind a mark.
+/// Writes a number after a mark.
 pub fn push_number(mark: &str, number: u64, text: &mut String) -> Result<(), AllocError> {
     write!(text, "{mark}{number}")
 }
 
-/// Writes whether something is so.
-pub fn push_truth(is_so: bool, text: &mut String) -> Result<(), AllocError> {
-    text.push_str(if is_so { " true" } else { " false" })
-}
-
-/// Writes a shape as the word that puts it.
-pub fn push_shape(shape: Shape, text: &mut String) -> Result<(), AllocError> {
-    match shape {
-        Shape::Int => text.push_str(" i"),
-        Shape::Bool => text.push_str(" t"),
-        Shape::Char => text.push_str(" c"),
-        Shape::Var(number) => push_number(" v", number, text),
-        Shape::Named(tag) => push_number(" d", tag, text),
-        Shape::SeqOf(item) => push_number(" s", item as u64, text),
-        Shape::Both(first, second) => {
-            push_number(" b", first as u64, text)?;
-            push_number(".", second as u64, text)
-        }
+/// The word for a class.
+pub fn word_of(class: Class) -> &'static str {
+    match class {
+        Class::Any => "any",
+        Class::Ordinal => "ordinal",
+        Class::Number => "number",
+        Class::Logical => "logical",
     }
 }
 
-/// Writes variables in the order in which they were noted.
-pub fn push_variables(
-    variables: Result<IndexSet<u64>, AllocError>,
+/// Writes the text of a type after a blank.
+pub fn push_type_text(
+    alloc: Global,
+    ty: &Ty,
+    context: &Context<u8>,
     text: &mut String,
 ) -> Result<(), AllocError> {
-    let variables = variables?;
-    for number in variables.as_slice() {
-        push_number(" ", *number, text)?;
-    }
-    Ok(())
+    text.push_str(" ")?;
+    push_bytes(text, type_text(alloc, ty, context))
 }
 
-// The names of the datatypes 0 and 7.
-fn set_names(alloc: Global, context: &mut Context<u8>) -> Result<(), AllocError> {
-    context.set(alloc, b"qt", Top::Datatype(0, Ty::int(alloc)?), 0)?;
-    context.set(alloc, b"pt", Top::Datatype(7, Ty::int(alloc)?), 0)
+fn push_bytes(text: &mut String, bytes: Result<Vec<u8>, AllocError>) -> Result<(), AllocError> {
+    text.push_str(str::from_utf8(bytes?.as_slice()).unwrap_or(""))
 }
 
-fn text_of(alloc: Global, ty: &Ty) -> Result<Vec<u8>, AllocError> {
-    let mut context = Context::new(alloc);
-    set_names(alloc, &mut context)?;
-    type_text(alloc, ty, &context)
-}
-
-// Writes a text, of which a long one is written as its length and what stands in its midst up to a bracket.
-fn push_text(bytes: &[u8], text: &mut String) -> Result<(), AllocError> {
-    let count = bytes.len();
-    if count < 100 {
-        text.push_str(" ")?;
-        return text.push_str(str::from_utf8(bytes).unwrap_or(""));
-    }
-    let (_, rest) = bytes.split_at(count / 20 * 10);
-    let midst = str::from_utf8(rest).unwrap_or("");
-    let (midst, _) = midst.split_once(']').unwrap_or((midst, ""));
-    push_number(" ", count as u64, text)?;
-    text.push_str(":")?;
-    text.push_str(midst)
-}
-
-/// Writes the text of a type.
-pub fn push_type_text(alloc: Global, ty: &Ty, text: &mut String) -> Result<(), AllocError> {
-    let bytes = text_of(alloc, ty)?;
-    push_text(bytes.as_slice(), text)
-}
-
-/// Writes the text of a type, if it was made.
 pub fn push_type(
     alloc: Global,
     ty: Result<Ty, AllocError>,
+    context: &Context<u8>,
     text: &mut String,
 ) -> Result<(), AllocError> {
-    push_type_text(alloc, &ty?, text)
+    push_bytes(text, type_text(alloc, &ty?, context))
 }
 
-fn push_class(class: Class, text: &mut String) -> Result<(), AllocError> {
-    text.push_str(match class {
-        Class::Any => " any",
-        Class::Ordinal => " ordinal",
-        Class::Number => " number",
-        Class::Logical => " logical",
-    })
-}
-
-/// Writes the parts of a scheme, and its classes.
 pub fn push_scheme(
     alloc: Global,
     scheme: Result<Scheme, AllocError>,
+    context: &Context<u8>,
     text: &mut String,
 ) -> Result<(), AllocError> {
-    let scheme = scheme?;
-    scheme.variables_have_classes();
-    push_type_text(alloc, &scheme.argument, text)?;
-    push_type_text(alloc, &scheme.result, text)?;
-    for class in scheme.classes.as_slice() {
-        push_class(*class, text)?;
-    }
-    Ok(())
+    push_bytes(text, scheme_text(alloc, &scheme?, context))
 }

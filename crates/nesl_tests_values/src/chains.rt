@@ -102,7 +102,7 @@ fn in_each_shape(rt: HostRuntime) {
     }
 }
 
-// Whether a chain of so many levels is the same as its copy, and not as one with another leaf.
+// Whether a chain of this many levels is the same as its copy, and not as one with another leaf.
 fn is_same_as_its_copy(alloc: Global, link: Link, depth: u64) -> Result<bool, AllocError> {
     let value = chain(alloc, link, depth, 0)?;
     let copy = value.copy_into(alloc)?;

@@ -104,7 +104,7 @@ impl Desk {
         }
     }
 
-    /// Does what a script says, and writes what it tells, each behind a blank.
+    /// Does what a script says, and writes the answers, each after a blank.
     pub fn run(&mut self, script: &str, text: &mut String) -> Result<(), AllocError> {
         for word in script.split(' ') {
             match word.as_bytes() {
@@ -226,7 +226,7 @@ impl Desk {
     }
 }
 
-/// The value that is last behind a script.
+/// The value that is last after a script.
 pub fn value_of(alloc: Global, script: &str) -> Result<Value, AllocError> {
     let mut desk = Desk::new(alloc);
     let mut text = String::new(alloc);

@@ -29,7 +29,7 @@ fn type_by(alloc: Global, word: &[u8], types: &mut Vec<Ty>) -> Result<Ty, AllocE
     }
 }
 
-/// The type of words, each behind what it is made of: `I`, `B` and `C` are the numbers, the truth values and the
+/// The type of words, each after what it is made of: `I`, `B` and `C` are the numbers, the truth values and the
 /// characters, `V0` a variable, `N0` the datatype with a tag, `S` the sequences of the type before it, and `P` the
 /// pairs of the two before it.
 pub fn type_of(alloc: Global, words: &str) -> Result<Ty, AllocError> {
@@ -66,7 +66,7 @@ pub fn session(alloc: Global) -> Result<Context<u8>, AllocError> {
     Ok(context)
 }
 
-/// Texts, one behind the other.
+/// Texts, one after the other.
 #[derive(Drop)]
 pub struct Page {
     pub alloc: Global,

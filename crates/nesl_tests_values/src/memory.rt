@@ -39,7 +39,7 @@ fn shared_in_a_heap(rt: HostRuntime) {
     assert!(rt; shared == made && left == made && heap.used() == before);
 }
 
-// Whether a heap of so many bytes takes a copy, or is as it was.
+// Whether a heap of this many bytes takes a copy, or is as it was.
 fn takes_all_or_nothing(alloc: Global, bytes: usize, value: &Value) -> Result<bool, AllocError> {
     let heap = LocalHeap::new(alloc, bytes)?;
     let before = heap.used();

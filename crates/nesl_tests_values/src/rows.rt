@@ -8,7 +8,7 @@
 //! - `d40` is the pair of the last one with itself, and so on, 40 times;
 //! - `y` shares the last one and `k` copies it; `@2` shares the element at a place of it, and `^2` the item there;
 //! - `x` drops the last one, and `w` changes its place with the one before it;
-//! - `>` puts the two parts of a pair in its place, and `<` what stands behind a tag, which it tells.
+//! - `>` puts the two parts of a pair in its place, and `<` what has a tag, which it writes.
 //!
 //! These build sequences:
 //!

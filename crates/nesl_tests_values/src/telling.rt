@@ -1,21 +1,21 @@
-//! What is told of values, each behind a blank.
+//! What is written of values, each after a blank.
 
 use crate::desk::number_of;
 use nesl_values::{Items, Shape, Value};
 use std::alloc::{AllocError, Global};
 
-/// Writes a number behind a mark.
+/// Writes a number after a mark.
 pub fn push_number(mark: &str, number: u64, text: &mut String) -> Result<(), AllocError> {
     write!(text, "{mark}{number}")
 }
 
-/// Writes whether something is so, behind a mark.
+/// Writes whether something is so, after a mark.
 pub fn push_truth(mark: &str, is_so: bool, text: &mut String) -> Result<(), AllocError> {
     text.push_str(mark)?;
     text.push_str(if is_so { "true" } else { "false" })
 }
 
-// Writes an integer behind a mark.
+// Writes an integer after a mark.
 fn push_integer(mark: &str, number: i64, text: &mut String) -> Result<(), AllocError> {
     write!(text, "{mark}{number}")
 }

@@ -1,8 +1,8 @@
 //! The answers to requests: a file of the page, a refusal, or the switch to a WebSocket.
 
-use crate::files::File;
 use http1::WriteError;
 use http1::head::{Header, write_response};
+use nesl_web_files::File;
 use std::alloc::Global;
 
 /// Why a request is refused.

@@ -1,11 +1,11 @@
 //! The start of a browser's connection.
 
 use crate::answer::{Content, Refusal, file_head, methods_answer, refusal_answer, upgrade_answer};
-use crate::files::File;
 use crate::head::{HeadFault, read_head};
 use crate::lines::Patience;
 use crate::route::{Route, content_for, route_for};
 use crate::wire::{BROWSER_DRAIN, DrainLimits, REFUSED_DRAIN, Wire};
+use nesl_web_files::File;
 use std::alloc::Global;
 use std::io;
 use std::io::{ErrorKind, Write};

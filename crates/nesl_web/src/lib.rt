@@ -3,7 +3,6 @@
 
 pub mod access;
 pub mod answer;
-pub mod files;
 pub mod frames;
 pub mod greet;
 pub mod head;

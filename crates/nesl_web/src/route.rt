@@ -5,9 +5,9 @@ ghost use Rattle.nesl_web.specs.Route.{HasHead, LetsIn};
 
 use crate::access::{is_allowed, values_of};
 use crate::answer::{Content, Refusal};
-use crate::files::{File, file_at};
 use httparse::spans::{EMPTY_HEADER_SPAN, HeaderSpan, RequestSpans, parse_request};
 use httparse::{Error, Status};
+use nesl_web_files::{File, file_at};
 use std::alloc::{AllocError, Global};
 use websocket::handshake::server::check_request;
 

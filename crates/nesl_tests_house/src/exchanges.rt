@@ -1,0 +1,12 @@
+//! Tests of exchanges of lines, by the public calls alone.
+
+mod batches;
+mod conversation;
+mod devices;
+mod faults;
+mod heaps;
+mod interrupted;
+mod lines;
+mod served;
+mod told_first;
+mod turns;

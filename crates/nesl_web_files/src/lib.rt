@@ -1,0 +1,74 @@
+//! The files of the page, as they are in `page/`; `scripts/page_files` makes the texts.
+#![tactic(auto)]
+
+mod curves_js;
+mod dom_js;
+mod index_html;
+mod kept_js;
+mod language_js;
+mod left_js;
+mod lesson_view_js;
+mod lessons_json;
+mod main_js;
+mod measure_js;
+mod notebook_js;
+mod session_js;
+mod style_css;
+
+/// A file of the page: what it is, as `Content-Type` says it, and its text.
+#[derive(Clone, Copy)]
+pub struct File {
+    pub kind: &'static str,
+    pub text: &'static str,
+}
+
+const HTML: &str = "text/html; charset=utf-8";
+
+const CSS: &str = "text/css; charset=utf-8";
+
+const JSON: &str = "application/json; charset=utf-8";
+
+const SCRIPT: &str = "text/javascript; charset=utf-8";
+
+// A file of the page and its path.
+#[derive(Clone, Copy)]
+struct Placed {
+    path: &'static str,
+    file: File,
+}
+
+/// The file at a path; the page itself is at `/`.
+pub fn file_at(path: &str) -> Option<File> {
+    for placed in &all_files() {
+        if placed.path == path {
+            return Some(placed.file);
+        }
+    }
+    None
+}
+
+fn all_files() -> [Placed; 14] {
+    [
+        at("/", HTML, index_html::TEXT),
+        at("/index.html", HTML, index_html::TEXT),
+        at("/style.css", CSS, style_css::TEXT),
+        at("/lessons.json", JSON, lessons_json::TEXT),
+        at("/main.js", SCRIPT, main_js::TEXT),
+        at("/dom.js", SCRIPT, dom_js::TEXT),
+        at("/kept.js", SCRIPT, kept_js::TEXT),
+        at("/session.js", SCRIPT, session_js::TEXT),
+        at("/language.js", SCRIPT, language_js::TEXT),
+        at("/notebook.js", SCRIPT, notebook_js::TEXT),
+        at("/left.js", SCRIPT, left_js::TEXT),
+        at("/measure.js", SCRIPT, measure_js::TEXT),
+        at("/curves.js", SCRIPT, curves_js::TEXT),
+        at("/lesson_view.js", SCRIPT, lesson_view_js::TEXT),
+    ]
+}
+
+fn at(path: &'static str, kind: &'static str, text: &'static str) -> Placed {
+    Placed {
+        path,
+        file: File { kind, text },
+    }
+}
