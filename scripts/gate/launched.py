@@ -421,7 +421,7 @@ def gate(program):
         (it.top / ".ci").mkdir()
         shutil.copy(TOP / ".ci" / "run", it.top / ".ci" / "run")
         refusing = [f"stress/refuse_memory_{where}" for where in ("beyond_sessions", "in_sessions", "in_halves")]
-        parts = "check_definitions", "check_examples", "page_lessons", "page_files", "gate/edits", "test"
+        parts = "check_definitions", "check_rooms", "check_examples", "page_lessons", "page_files", "gate/edits", "test"
         for name in (*parts, *refusing):
             it.write(f"scripts/{name}", "#!/bin/sh\n" + ("echo 5 passed, 0 failed\n" if name == "test" else ""))
             (it.top / "scripts" / name).chmod(0o755)
