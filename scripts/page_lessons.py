@@ -1,8 +1,4 @@
-#!/usr/bin/env python3
-"""Writes the lessons for the page: crates/nesl_web_files/page/lessons.json, from lessons/*.md.
-
-    scripts/page_lessons            writes the file
-    scripts/page_lessons --check    fails where the file isn't what would be written
+"""The lessons as the page asks for them, in JSON: `lessons.json`, from lessons/*.md.
 
 A lesson there has its title, what lessons/README.md says it is about, and its parts in order. Each part is a list: its
 kind, and what it has.
@@ -16,11 +12,9 @@ kind, and what it has.
 """
 import json
 import re
-import sys
 from pathlib import Path
 
 TOP = Path(__file__).resolve().parent.parent
-FILE = TOP / "crates" / "nesl_web_files" / "page" / "lessons.json"
 
 
 def forms_of(lines):
@@ -73,22 +67,9 @@ def lesson(path, about):
     return {"title": re.sub(r"# \d+\. |`", "", title), "about": about, "parts": parts}
 
 
-def written():
+def lessons_json():
+    """The text of the file."""
     index = (TOP / "lessons" / "README.md").read_text(encoding="utf-8")
     rows = re.findall(r"^\d+\. \[[^]]*\]\(([^)]*)\): (.*)$", index, re.M)
     texts = [json.dumps(lesson(TOP / "lessons" / name, about), ensure_ascii=False) for name, about in rows]
     return "[\n" + ",\n".join(texts).replace('], ["', '],\n["') + "\n]\n"
-
-
-def main():
-    if sys.argv[1:] not in ([], ["--check"]):
-        sys.exit(__doc__)
-    text = written()
-    if not sys.argv[1:]:
-        FILE.write_text(text, encoding="utf-8")
-    elif not FILE.exists() or FILE.read_text(encoding="utf-8") != text:
-        sys.exit(f"{FILE.relative_to(TOP)} isn't what lessons/*.md say: scripts/page_lessons writes it anew")
-
-
-if __name__ == "__main__":
-    main()
