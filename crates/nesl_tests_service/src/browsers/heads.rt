@@ -96,7 +96,9 @@ fn row_holds(alloc: Global, row: &str) -> Result<bool, AllocError> {
     let fields = number(words.next());
     let lacking = number(words.next());
     let head = head_of(alloc, bytes, fields)?;
-    let (text, _) = head.split_at(head.len().saturating_sub(lacking));
+    let text = head
+        .get(..head.len().saturating_sub(lacking))
+        .unwrap_or(&[]);
     let then = failure(words.next().unwrap_or(""));
     Ok(told_of(alloc, text, size, then) == wanted)
 }
