@@ -29,8 +29,8 @@ impl Read for Pieces<'_> {
     }
 }
 
-// Rows `SIZE BYTES FIELDS LEFT THEN => TOLD`: pieces of this size of a head that has a field `X` of this many bytes and
-// so many fields `Y`, and lacks this many bytes at its end; and then an end, or what fails.
+// Rows `SIZE BYTES FIELDS LACKING THEN => WORD`. A head comes in pieces of this size. It has a field `X` with this many
+// bytes and this many fields `Y`, and lacks this many bytes at its end. Then comes the end, or what fails.
 const ROWS: &str = "1 0 0 0 end => whole
 2 0 0 0 end => whole
 7 0 0 0 end => whole
