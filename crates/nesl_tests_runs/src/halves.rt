@@ -1,12 +1,11 @@
-//! The outcome of each line in halves. The functions that it defines are bound for the lines after it. The directives
-//! are
+//! The outcome of each line in halves. What it defines is bound for the lines after it. The directives are
 //!
 //! - `@helpers never`, `always`, `second` (at every second question) or `pool` (one of three permits): which helpers
 //!   there are from here on. After an outcome it then says how many helpers are out, or how many permits are free.
 //! - `@levels NUMBER`, `@budget NUMBER`: this many levels are allowed from here on, and this much work.
 //! - `@requests COUNT`: asks for memory this many times, and does nothing with it.
 //! - `@row LINE`: adds a row, which is an expression with the same outcome in halves and in order.
-//! - `@rows`: writes how many of these rows don't.
+//! - `@rows`: writes how many of these rows have another outcome.
 //! - `@budgets COUNT`: evaluates all rows with each budget below the count, where helpers are always granted. It writes
 //!   how many have another outcome; one counts more if helpers are out then.
 //! - `@seeds COUNT`: evaluates a row for each seed, where helpers are granted as the seed says, and writes how many

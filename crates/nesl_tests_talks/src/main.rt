@@ -15,8 +15,8 @@
 //! - `batch`, and `heap`, which is a batch whose lines are evaluated in a heap of 65,536 bytes;
 //! - `serve`, where each line `user NAME` begins a connection, and the table is closed in the end.
 //!
-//! Written are the rows that are missed, after the way, each with what was wanted (`-`) and what it got (`+`); and
-//! after each text how many of its rows hold, by all its ways.
+//! The program writes the rows that are missed, after the way, each with what was wanted (`-`) and what it got (`+`);
+//! and after each text how many of its rows hold, by all its ways.
 //!
 //! A call that wants memory in its own form is made once more, and that is written. A line that is answered for want of
 //! memory isn't said again: then the kept lines alone are said in the same way, and it is written whether their answers

@@ -29,8 +29,8 @@ impl Read for Pieces<'_> {
     }
 }
 
-// Rows `SIZE BYTES FIELDS LEFT THEN => TOLD`: pieces of this size of a head that has a field `X` of this many bytes and
-// so many fields `Y`, and lacks this many bytes at its end; and then an end, or what fails.
+// Rows `SIZE BYTES FIELDS LACKING THEN => WORD`. A head comes in pieces of this size. It has a field `X` with this many
+// bytes and this many fields `Y`, and lacks this many bytes at its end. Then comes the end, or what fails.
 const ROWS: &str = "1 0 0 0 end => whole
 2 0 0 0 end => whole
 7 0 0 0 end => whole
@@ -96,7 +96,9 @@ fn row_holds(alloc: Global, row: &str) -> Result<bool, AllocError> {
     let fields = number(words.next());
     let lacking = number(words.next());
     let head = head_of(alloc, bytes, fields)?;
-    let (text, _) = head.split_at(head.len().saturating_sub(lacking));
+    let text = head
+        .get(..head.len().saturating_sub(lacking))
+        .unwrap_or(&[]);
     let then = failure(words.next().unwrap_or(""));
     Ok(told_of(alloc, text, size, then) == wanted)
 }
