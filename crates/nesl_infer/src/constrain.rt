@@ -17,9 +17,10 @@ use nesl_builtins::{of_infix, of_prefix};
 use nesl_infer_rules::apply::{constrain_builtin, constrain_call, constrain_operator};
 use nesl_infer_rules::each::bind_items;
 use nesl_infer_rules::leaf::{constrain_element, constrain_empty, constrain_variable};
+use nesl_infer_rules::locals::Locals;
 use nesl_infer_rules::outer::Outer;
 use nesl_infer_rules::pattern::constrain_pattern;
-use nesl_infer_rules::state::{Local, State};
+use nesl_infer_rules::state::State;
 use nesl_syntax_tree::tree::{Binding, Exp, Node};
 use nesl_unify::Flat;
 use std::alloc::AllocError;
@@ -29,30 +30,24 @@ use std::alloc::AllocError;
 pub fn constrain<'a, P: Drop>(
     state: &mut State,
     outer: &Outer<'_, P>,
-    locals: &mut Vec<Local<'a>>,
+    locals: &mut Locals<'a>,
     exp: &'a Exp,
     target: u64,
 ) -> Result<(), AllocError>
     requires target { target < count state.old }
-    requires locals { AreLocalsBelow (count state.old) locals.old.items }
+    requires locals { AreLocalsBelow (count state.old) locals.old }
     requires own { IsOwnBelow (count state.old) outer.now.own }
     ensures adds { OnOk result (Adds state.old state.new
-        (λ s of. HasType (assumed_at outer.now s of) (scope_at s locals.old.items) (tree_of exp.now)
+        (λ s of. HasType (assumed_at outer.now s of) (scope_at s locals.old) (tree_of exp.now)
         (s target))) }
-    ensures locals { OnOk result (locals.new.items ≡ locals.old.items) }
+    ensures locals { OnOk result (locals.new ≡ locals.old) }
 {
     match &exp.node {
         Node::Number(_) => state.equate_flat(target, Flat::Int),
         Node::Truth(_) => state.equate_flat(target, Flat::Bool),
         Node::Character(_) => state.equate_flat(target, Flat::Char),
         Node::Text(_) => is_text(state, target),
-        Node::Variable(name) => constrain_variable(
-            state,
-            outer,
-            locals.as_slice(),
-            name.as_slice(),
-            target,
-        ),
+        Node::Variable(name) => constrain_variable(state, outer, locals, name.as_slice(), target),
         Node::Call { name, argument } => {
             let given = constrain_part(state, outer, locals, argument)?;
             constrain_call(state, outer, name.as_slice(), given, target)
@@ -151,7 +146,7 @@ pub fn constrain<'a, P: Drop>(
             )?;
             state.equate_sequence(target, item)
         }
-        Node::Element => constrain_element(state, locals.as_slice(), target),
+        Node::Element => constrain_element(state, locals, target),
     }
 }
 
@@ -160,17 +155,17 @@ pub fn constrain<'a, P: Drop>(
 fn constrain_part<'a, P: Drop>(
     state: &mut State,
     outer: &Outer<'_, P>,
-    locals: &mut Vec<Local<'a>>,
+    locals: &mut Locals<'a>,
     exp: &'a Exp,
 ) -> Result<u64, AllocError>
-    requires locals { AreLocalsBelow (count state.old) locals.old.items }
+    requires locals { AreLocalsBelow (count state.old) locals.old }
     requires own { IsOwnBelow (count state.old) outer.now.own }
     ensures gives { IfOk result (λ v. Gives state.old state.new (λ s. s v)
-        (λ s of t. HasType (assumed_at outer.now s of) (scope_at s locals.old.items) (tree_of exp.now) t)) }
+        (λ s of t. HasType (assumed_at outer.now s of) (scope_at s locals.old) (tree_of exp.now) t)) }
     ensures below { IfOk result (λ v. v < count state.new) }
-    ensures locals { OnOk result (locals.new.items ≡ locals.old.items) }
+    ensures locals { OnOk result (locals.new ≡ locals.old) }
 {
-    if let Some(variable) = local_variable(locals.as_slice(), exp) {
+    if let Some(variable) = local_variable(locals, exp) {
         return Ok(variable);
     }
     let part = state.add_any()?;
@@ -183,18 +178,18 @@ fn constrain_part<'a, P: Drop>(
 fn constrain_exactly<'a, P: Drop>(
     state: &mut State,
     outer: &Outer<'_, P>,
-    locals: &mut Vec<Local<'a>>,
+    locals: &mut Locals<'a>,
     exp: &'a Exp,
     flat: Flat,
 ) -> Result<(), AllocError>
     requires flat { IsBelow 0 (flat_type flat) }
     requires small { nodes (flat_type flat) ≤ 4096 }
-    requires locals { AreLocalsBelow (count state.old) locals.old.items }
+    requires locals { AreLocalsBelow (count state.old) locals.old }
     requires own { IsOwnBelow (count state.old) outer.now.own }
     ensures adds { OnOk result (Adds state.old state.new
-        (λ s of. HasType (assumed_at outer.now s of) (scope_at s locals.old.items) (tree_of exp.now)
+        (λ s of. HasType (assumed_at outer.now s of) (scope_at s locals.old) (tree_of exp.now)
         (flat_type flat))) }
-    ensures locals { OnOk result (locals.new.items ≡ locals.old.items) }
+    ensures locals { OnOk result (locals.new ≡ locals.old) }
 {
     let part = state.add_exact(flat)?;
     constrain(state, outer, locals, exp, part)
@@ -205,17 +200,17 @@ fn constrain_exactly<'a, P: Drop>(
 fn constrain_bounds<'a, P: Drop>(
     state: &mut State,
     outer: &Outer<'_, P>,
-    locals: &mut Vec<Local<'a>>,
+    locals: &mut Locals<'a>,
     from: &'a Exp,
     to: &'a Exp,
 ) -> Result<u64, AllocError>
-    requires locals { AreLocalsBelow (count state.old) locals.old.items }
+    requires locals { AreLocalsBelow (count state.old) locals.old }
     requires own { IsOwnBelow (count state.old) outer.now.own }
     ensures gives { IfOk result (λ v. Gives state.old state.new (λ s. s v) (λ s of t. (t ≡ int)
-        × HasType (assumed_at outer.now s of) (scope_at s locals.old.items) (tree_of from.now) t
-        × HasType (assumed_at outer.now s of) (scope_at s locals.old.items) (tree_of to.now) t)) }
+        × HasType (assumed_at outer.now s of) (scope_at s locals.old) (tree_of from.now) t
+        × HasType (assumed_at outer.now s of) (scope_at s locals.old) (tree_of to.now) t)) }
     ensures below { IfOk result (λ v. v < count state.new) }
-    ensures locals { OnOk result (locals.new.items ≡ locals.old.items) }
+    ensures locals { OnOk result (locals.new ≡ locals.old) }
 {
     let number = state.add_exact(Flat::Int)?;
     constrain(state, outer, locals, from, number)?;
@@ -228,17 +223,17 @@ fn constrain_bounds<'a, P: Drop>(
 fn constrain_items<'a, P: Drop>(
     state: &mut State,
     outer: &Outer<'_, P>,
-    locals: &mut Vec<Local<'a>>,
+    locals: &mut Locals<'a>,
     items: &'a [Exp],
     target: u64,
 ) -> Result<(), AllocError>
     requires target { target < count state.old }
-    requires locals { AreLocalsBelow (count state.old) locals.old.items }
+    requires locals { AreLocalsBelow (count state.old) locals.old }
     requires own { IsOwnBelow (count state.old) outer.now.own }
     ensures adds { OnOk result (Adds state.old state.new
-        (λ s of. HaveType (assumed_at outer.now s of) (scope_at s locals.old.items) (trees_in items.now)
+        (λ s of. HaveType (assumed_at outer.now s of) (scope_at s locals.old) (trees_in items.now)
         (s target))) }
-    ensures locals { OnOk result (locals.new.items ≡ locals.old.items) }
+    ensures locals { OnOk result (locals.new ≡ locals.old) }
 {
     for item in items {
         constrain(state, outer, locals, item, target)?;
@@ -251,13 +246,13 @@ fn constrain_items<'a, P: Drop>(
 fn constrain_bindings<'a, P: Drop>(
     state: &mut State,
     outer: &Outer<'_, P>,
-    locals: &mut Vec<Local<'a>>,
+    locals: &mut Locals<'a>,
     bindings: &'a [Binding],
 ) -> Result<(), AllocError>
-    requires locals { AreLocalsBelow (count state.old) locals.old.items }
+    requires locals { AreLocalsBelow (count state.old) locals.old }
     requires own { IsOwnBelow (count state.old) outer.now.own }
-    ensures { OnOk result (AddsNames state.old state.new locals.old.items locals.new.items
-        (λ s of ns. BindingsAdd (assumed_at outer.now s of) (scope_at s locals.old.items)
+    ensures { OnOk result (AddsNames state.old state.new locals.old locals.new
+        (λ s of ns. BindingsAdd (assumed_at outer.now s of) (scope_at s locals.old)
         (binders_in bindings.now) ns)) }
 {
     for binding in bindings {
@@ -274,17 +269,17 @@ fn constrain_bindings<'a, P: Drop>(
 fn constrain_values<'a, P: Drop>(
     state: &mut State,
     outer: &Outer<'_, P>,
-    locals: &mut Vec<Local<'a>>,
+    locals: &mut Locals<'a>,
     bindings: &'a [Binding],
 ) -> Result<Vec<u64>, AllocError>
-    requires locals { AreLocalsBelow (count state.old) locals.old.items }
+    requires locals { AreLocalsBelow (count state.old) locals.old }
     requires own { IsOwnBelow (count state.old) outer.now.own }
     ensures gives { IfOk result (λ vs. Gives state.old state.new (λ s. map s vs.items)
-        (λ s of is. HaveElements (assumed_at outer.now s of) (scope_at s locals.old.items)
+        (λ s of is. HaveElements (assumed_at outer.now s of) (scope_at s locals.old)
         (binders_in bindings.now) is)) }
     ensures below { IfOk result (λ vs. All (λ v. v < count state.new) vs.items) }
     ensures len { IfOk result (λ vs. length vs.items ≡ length bindings.now) }
-    ensures locals { OnOk result (locals.new.items ≡ locals.old.items) }
+    ensures locals { OnOk result (locals.new ≡ locals.old) }
 {
     let mut items = Vec::new(state.alloc);
     for binding in bindings {
@@ -301,18 +296,18 @@ fn constrain_values<'a, P: Drop>(
 fn constrain_let<'a, P: Drop>(
     state: &mut State,
     outer: &Outer<'_, P>,
-    locals: &mut Vec<Local<'a>>,
+    locals: &mut Locals<'a>,
     bindings: &'a [Binding],
     body: &'a Exp,
     target: u64,
 ) -> Result<(), AllocError>
     requires target { target < count state.old }
-    requires locals { AreLocalsBelow (count state.old) locals.old.items }
+    requires locals { AreLocalsBelow (count state.old) locals.old }
     requires own { IsOwnBelow (count state.old) outer.now.own }
     ensures adds { OnOk result (Adds state.old state.new
-        (λ s of. HasShapeType (assumed_at outer.now s of) (scope_at s locals.old.items)
+        (λ s of. HasShapeType (assumed_at outer.now s of) (scope_at s locals.old)
         (let_in (binders_in bindings.now) (tree_of body.now)) (s target))) }
-    ensures locals { OnOk result (locals.new.items ≡ locals.old.items) }
+    ensures locals { OnOk result (locals.new ≡ locals.old) }
 {
     let before = locals.len();
     constrain_bindings(state, outer, locals, bindings)?;
@@ -326,18 +321,18 @@ fn constrain_let<'a, P: Drop>(
 fn constrain_each<'a, P: Drop>(
     state: &mut State,
     outer: &Outer<'_, P>,
-    locals: &mut Vec<Local<'a>>,
+    locals: &mut Locals<'a>,
     body: &'a Exp,
     bindings: &'a [Binding],
     target: u64,
 ) -> Result<(), AllocError>
     requires target { target < count state.old }
-    requires locals { AreLocalsBelow (count state.old) locals.old.items }
+    requires locals { AreLocalsBelow (count state.old) locals.old }
     requires own { IsOwnBelow (count state.old) outer.now.own }
     ensures adds { OnOk result (Adds state.old state.new
-        (λ s of. HasShapeType (assumed_at outer.now s of) (scope_at s locals.old.items)
+        (λ s of. HasShapeType (assumed_at outer.now s of) (scope_at s locals.old)
         (each (tree_of body.now) (binders_in bindings.now)) (s target))) }
-    ensures locals { OnOk result (locals.new.items ≡ locals.old.items) }
+    ensures locals { OnOk result (locals.new ≡ locals.old) }
 {
     let before = locals.len();
     constrain_binders(state, outer, locals, bindings)?;
@@ -351,18 +346,18 @@ fn constrain_each<'a, P: Drop>(
 fn constrain_filtered_items<'a, P: Drop>(
     state: &mut State,
     outer: &Outer<'_, P>,
-    locals: &mut Vec<Local<'a>>,
+    locals: &mut Locals<'a>,
     body: &'a Exp,
     bindings: &'a [Binding],
     filter: &'a Exp,
 ) -> Result<u64, AllocError>
-    requires locals { AreLocalsBelow (count state.old) locals.old.items }
+    requires locals { AreLocalsBelow (count state.old) locals.old }
     requires own { IsOwnBelow (count state.old) outer.now.own }
     ensures gives { IfOk result (λ v. Gives state.old state.new (λ s. s v)
-        (λ s of u. HaveItemType (assumed_at outer.now s of) (scope_at s locals.old.items) (tree_of body.now)
+        (λ s of u. HaveItemType (assumed_at outer.now s of) (scope_at s locals.old) (tree_of body.now)
         (binders_in bindings.now) (tree_of filter.now) u)) }
     ensures below { IfOk result (λ v. v < count state.new) }
-    ensures locals { OnOk result (locals.new.items ≡ locals.old.items) }
+    ensures locals { OnOk result (locals.new ≡ locals.old) }
 {
     let before = locals.len();
     constrain_binders(state, outer, locals, bindings)?;
@@ -377,13 +372,13 @@ fn constrain_filtered_items<'a, P: Drop>(
 fn constrain_binders<'a, P: Drop>(
     state: &mut State,
     outer: &Outer<'_, P>,
-    locals: &mut Vec<Local<'a>>,
+    locals: &mut Locals<'a>,
     bindings: &'a [Binding],
 ) -> Result<(), AllocError>
-    requires locals { AreLocalsBelow (count state.old) locals.old.items }
+    requires locals { AreLocalsBelow (count state.old) locals.old }
     requires own { IsOwnBelow (count state.old) outer.now.own }
-    ensures { OnOk result (AddsNames state.old state.new locals.old.items locals.new.items (λ s of ns. (is : List Term)
-        × HaveElements (assumed_at outer.now s of) (scope_at s locals.old.items) (binders_in bindings.now) is
+    ensures { OnOk result (AddsNames state.old state.new locals.old locals.new (λ s of ns. (is : List Term)
+        × HaveElements (assumed_at outer.now s of) (scope_at s locals.old) (binders_in bindings.now) is
         × BindersAdd (assumed_at outer.now s of) (binders_in bindings.now) is ns)) }
 {
     let items = constrain_values(state, outer, locals, bindings)?;

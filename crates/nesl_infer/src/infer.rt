@@ -18,6 +18,7 @@ use crate::fault::InferFault;
 use crate::integer::is_integer;
 use crate::scheme::scheme_of;
 use nesl_infer_names::{unknown_in_exp, unknown_in_function, unknown_in_type};
+use nesl_infer_rules::locals::Locals;
 use nesl_infer_rules::outer::Outer;
 use nesl_infer_rules::pattern::constrain_pattern;
 use nesl_infer_rules::signature::constrain_signature;
@@ -50,7 +51,7 @@ fn principal_type<P: Drop>(
 {
     let mut state = State::new(alloc);
     let root = state.add_any()?;
-    let mut locals = Vec::new(alloc);
+    let mut locals = Locals::new(alloc);
     let outer = Outer { context, own: None };
     constrain(&mut state, &outer, &mut locals, exp, root)?;
     let solution = state.solve()?;
@@ -88,7 +89,7 @@ fn constrain_function<P: Drop>(
     let name = Vec::from_slice(state.alloc, name)?;
     let own = Some(OwnName { name, takes, gives });
     let outer = Outer { context, own };
-    let mut locals = Vec::new(state.alloc);
+    let mut locals = Locals::new(state.alloc);
     constrain_pattern(state, &outer, &mut locals, pattern, takes)?;
     constrain_signature(state, context, signature, takes, gives)?;
     constrain(state, &outer, &mut locals, body, gives)?;

@@ -7,8 +7,8 @@ ghost use Rattle.nesl_syntax_tree.specs.Views.{shape_of};
 ghost use Rattle.nesl_infer_rules.specs.Steps.{count, scope_at, Adds, AreLocalsBelow};
 ghost use Rattle.nesl_infer_rules.specs.Typing.{local_type};
 
-use nesl_infer_rules::names::look_up;
-use nesl_infer_rules::state::{Local, State};
+use nesl_infer_rules::locals::Locals;
+use nesl_infer_rules::state::State;
 use nesl_syntax_tree::tree::{Exp, Node};
 use nesl_unify::Flat;
 use std::alloc::AllocError;
@@ -23,13 +23,13 @@ pub fn is_text(state: &mut State, target: u64) -> Result<(), AllocError>
 }
 
 /// The variable of a local name, if the expression is one.
-pub fn local_variable(locals: &[Local<'_>], exp: &Exp) -> Option<u64>
+pub fn local_variable(locals: &Locals<'_>, exp: &Exp) -> Option<u64>
     ensures found { IfSome result (λ v. (x : List ℕ) × (shape_of exp.now.node ≡ variable x)
         × ((s : ℕ → Term) → local_type x (scope_at s locals.now) ≡ Some (s v))) }
     ensures below { IfSome result (λ v. (n : ℕ) → AreLocalsBelow n locals.now → v < n) }
 {
     match &exp.node {
-        Node::Variable(name) => look_up(locals, name.as_slice()),
+        Node::Variable(name) => locals.look_up(name.as_slice()),
         _ => None,
     }
 }

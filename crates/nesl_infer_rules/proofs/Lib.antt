@@ -2,7 +2,7 @@ pub mod Agreement
 pub mod Steps
 pub mod Places
 pub mod Arms
-pub mod Found
+pub mod Newest
 pub mod Patterns
 pub mod Instances
 pub mod Applied

@@ -8,3 +8,4 @@ pub mod Contexts
 pub mod Closed
 pub mod Outers
 pub mod Signatures
+pub mod Newest

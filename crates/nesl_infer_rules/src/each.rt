@@ -6,6 +6,7 @@ ghost use Rattle.nesl_infer_rules.specs.Steps.{AddsNames, count, IsOwnBelow};
 ghost use Rattle.nesl_infer_rules.specs.Outers.{assumed_at};
 ghost use Rattle.nesl_infer_rules.specs.Typing.{PatternsAdd, BindersAdd};
 
+use crate::locals::Locals;
 use crate::outer::Outer;
 use crate::pattern::constrain_pattern;
 use crate::state::{Key, Local, State};
@@ -16,14 +17,14 @@ use std::alloc::AllocError;
 pub fn bind_patterns<'a, P: Drop>(
     state: &mut State,
     outer: &Outer<'_, P>,
-    locals: &mut Vec<Local<'a>>,
+    locals: &mut Locals<'a>,
     bindings: &'a [Binding],
     items: &[u64],
 ) -> Result<(), AllocError>
     requires items { All (λ v. v < count state.old) items.now }
     requires own { IsOwnBelow (count state.old) outer.now.own }
     requires len { length items.now ≡ length bindings.now }
-    ensures { OnOk result (AddsNames state.old state.new locals.old.items locals.new.items
+    ensures { OnOk result (AddsNames state.old state.new locals.old locals.new
         (λ s of ns. PatternsAdd (assumed_at outer.now s of) (binders_in bindings.now) (map s items.now) ns)) }
 {
     for place in 0..bindings.len() {
@@ -36,14 +37,14 @@ pub fn bind_patterns<'a, P: Drop>(
 pub fn bind_items<'a, P: Drop>(
     state: &mut State,
     outer: &Outer<'_, P>,
-    locals: &mut Vec<Local<'a>>,
+    locals: &mut Locals<'a>,
     bindings: &'a [Binding],
     items: &[u64],
 ) -> Result<(), AllocError>
     requires items { All (λ v. v < count state.old) items.now }
     requires own { IsOwnBelow (count state.old) outer.now.own }
     requires len { length items.now ≡ length bindings.now }
-    ensures { OnOk result (AddsNames state.old state.new locals.old.items locals.new.items
+    ensures { OnOk result (AddsNames state.old state.new locals.old locals.new
         (λ s of ns. BindersAdd (assumed_at outer.now s of) (binders_in bindings.now) (map s items.now) ns)) }
 {
     match items.first() {

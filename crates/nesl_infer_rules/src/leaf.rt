@@ -8,10 +8,10 @@ ghost use Rattle.nesl_infer_rules.specs.Outers.{assumed_at};
 ghost use Rattle.nesl_infer_rules.specs.Typing.{IsVariable, IsWritten, local_type, newest_type, is_element};
 ghost use Rattle.nesl_infer_names.specs.Names.{datatype_in};
 
-use crate::names::{look_up, look_up_element};
+use crate::locals::Locals;
 use crate::outer::Outer;
 use crate::record::constrain_top_variable;
-use crate::state::{Local, State};
+use crate::state::State;
 use crate::written::written_type;
 use nesl_syntax_tree::tree::TypeExp;
 use nesl_types::Context;
@@ -23,7 +23,7 @@ use std::alloc::AllocError;
 pub fn constrain_variable<P: Drop>(
     state: &mut State,
     outer: &Outer<'_, P>,
-    locals: &[Local<'_>],
+    locals: &Locals<'_>,
     name: &[u8],
     target: u64,
 ) -> Result<(), AllocError>
@@ -33,7 +33,7 @@ pub fn constrain_variable<P: Drop>(
         (λ s of. IsVariable (assumed_at outer.now s of) name.now (local_type name.now (scope_at s locals.now))
         (s target))) }
 {
-    match look_up(locals, name) {
+    match locals.look_up(name) {
         Some(variable) => {
             state.equate_flat(target, Flat::Var(variable))?;
             Ok(())
@@ -48,7 +48,7 @@ pub fn constrain_variable<P: Drop>(
 /// Adds what makes `target` the type of the innermost apply-to-each's element.
 pub fn constrain_element(
     state: &mut State,
-    locals: &[Local<'_>],
+    locals: &Locals<'_>,
     target: u64,
 ) -> Result<(), AllocError>
     requires target { target < count state.old }
@@ -56,7 +56,7 @@ pub fn constrain_element(
     ensures { OnOk result (Adds state.old state.new (λ s of. newest_type is_element (scope_at s locals.now)
         ≡ Some (s target))) }
 {
-    match look_up_element(locals) {
+    match locals.look_up_element() {
         Some(variable) => {
             state.equate_flat(target, Flat::Var(variable))?;
             Ok(())

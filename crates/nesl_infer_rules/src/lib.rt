@@ -5,7 +5,7 @@ pub mod apply;
 pub mod each;
 mod instance;
 pub mod leaf;
-pub mod names;
+pub mod locals;
 pub mod outer;
 pub mod pattern;
 mod record;

@@ -6,6 +6,7 @@ ghost use Rattle.nesl_infer_rules.specs.Steps.{AddsNames, count, IsOwnBelow};
 ghost use Rattle.nesl_infer_rules.specs.Outers.{assumed_at};
 ghost use Rattle.nesl_infer_rules.specs.Typing.{PatternAdds};
 
+use crate::locals::Locals;
 use crate::outer::Outer;
 use crate::record::constrain_record;
 use crate::state::{Key, Local, State};
@@ -16,13 +17,13 @@ use std::alloc::AllocError;
 pub fn constrain_pattern<'a, P: Drop>(
     state: &mut State,
     outer: &Outer<'_, P>,
-    locals: &mut Vec<Local<'a>>,
+    locals: &mut Locals<'a>,
     pattern: &'a Pattern,
     target: u64,
 ) -> Result<(), AllocError>
     requires target { target < count state.old }
     requires own { IsOwnBelow (count state.old) outer.now.own }
-    ensures { OnOk result (AddsNames state.old state.new locals.old.items locals.new.items
+    ensures { OnOk result (AddsNames state.old state.new locals.old locals.new
         (λ s of ns. PatternAdds (assumed_at outer.now s of) (pattern_tree pattern.now) (s target) ns)) }
 {
     match &pattern.node {

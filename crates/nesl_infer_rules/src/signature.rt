@@ -13,7 +13,7 @@ ghost use Rattle.nesl_infer_rules.specs.Typing.{IsInItsClass, IsSigned, FitsSign
 ghost use Rattle.nesl_infer_rules.specs.Typing.{signed};
 ghost use Rattle.nesl_infer_names.specs.Names.{datatype_in};
 
-use crate::names::look_up;
+use crate::locals::Locals;
 use crate::state::{Key, Local, State};
 use nesl_syntax_tree::tree as syntax;
 use nesl_syntax_tree::tree::{Member, Signature, TypeExp, TypeNode};
@@ -24,10 +24,10 @@ use std::alloc::AllocError;
 /// Adds a variable for each name of a written type.
 fn name_types<'a>(
     state: &mut State,
-    names: &mut Vec<Local<'a>>,
+    names: &mut Locals<'a>,
     written: &'a TypeExp,
 ) -> Result<(), AllocError>
-    ensures { OnOk result (AddsNames state.old state.new names.old.items names.new.items
+    ensures { OnOk result (AddsNames state.old state.new names.old names.new
         (λ s of ns. FreeNames (type_tree written.now) ns)) }
 {
     match &written.node {
@@ -70,7 +70,7 @@ fn tag_of<P: Drop>(context: &Context<P>, name: &[u8]) -> Option<u64>
 }
 
 /// What a name stands for: its datatype, else its variable; `int` where it has none.
-fn name_type<P: Drop>(context: &Context<P>, names: &[Local<'_>], name: &[u8]) -> Flat
+fn name_type<P: Drop>(context: &Context<P>, names: &Locals<'_>, name: &[u8]) -> Flat
     ensures is { (s : ℕ → Term) →
         substitute s (flat_type result)
         ≡ name_in_signature (datatype_in context.now name.now) (put_in (scope_at s names.now) name.now) }
@@ -79,7 +79,7 @@ fn name_type<P: Drop>(context: &Context<P>, names: &[Local<'_>], name: &[u8]) ->
 {
     match tag_of(context, name) {
         Some(tag) => Flat::Named(tag),
-        None => match look_up(names, name) {
+        None => match names.look_up(name) {
             Some(variable) => Flat::Var(variable),
             None => Flat::Int,
         },
@@ -90,7 +90,7 @@ fn name_type<P: Drop>(context: &Context<P>, names: &[Local<'_>], name: &[u8]) ->
 fn constrain_written<P: Drop>(
     state: &mut State,
     context: &Context<P>,
-    names: &[Local<'_>],
+    names: &Locals<'_>,
     written: &TypeExp,
     target: u64,
 ) -> Result<(), AllocError>
@@ -151,7 +151,7 @@ fn class_of(class: syntax::Class) -> Class
 fn constrain_member<P: Drop>(
     state: &mut State,
     context: &Context<P>,
-    names: &[Local<'_>],
+    names: &Locals<'_>,
     member: &Member,
 ) -> Result<(), AllocError>
     requires names { AreLocalsBelow (count state.old) names.now }
@@ -167,7 +167,7 @@ fn constrain_member<P: Drop>(
 fn constrain_members<P: Drop>(
     state: &mut State,
     context: &Context<P>,
-    names: &[Local<'_>],
+    names: &Locals<'_>,
     members: &[Member],
 ) -> Result<(), AllocError>
     requires names { AreLocalsBelow (count state.old) names.now }
@@ -194,17 +194,12 @@ fn constrain_signed<P: Drop>(
     ensures { OnOk result (Adds state.old state.new (λ s of. (put : List ℕ → Term)
         × FitsSignature (datatype_in context.now) of (signature_tree signature.now) put (s takes) (s gives))) }
 {
-    let mut names = Vec::new(state.alloc);
+    let mut names = Locals::new(state.alloc);
     name_types(state, &mut names, &signature.from)?;
     name_types(state, &mut names, &signature.to)?;
-    constrain_written(state, context, names.as_slice(), &signature.from, takes)?;
-    constrain_written(state, context, names.as_slice(), &signature.to, gives)?;
-    constrain_members(
-        state,
-        context,
-        names.as_slice(),
-        signature.members.as_slice(),
-    )?;
+    constrain_written(state, context, &names, &signature.from, takes)?;
+    constrain_written(state, context, &names, &signature.to, gives)?;
+    constrain_members(state, context, &names, signature.members.as_slice())?;
     Ok(())
 }
 

@@ -13,7 +13,7 @@ use Rattle.nesl_infer_rules.specs.declared.state.Local.{Local}
 use Rattle.nesl_syntax_tree.specs.Trees.{node, no_binders, Trees, Shape, Binders}
 use Rattle.nesl_syntax_tree.specs.Trees as trees
 use Rattle.nesl_infer_rules.specs.World.{TypedNames, meanings_in}
-use Rattle.nesl_infer_rules.specs.Typing.{LocalTypes, local_type, newest_type, is_element, IsVariable, IsInstanceOf}
+use Rattle.nesl_infer_rules.specs.Typing.{LocalTypes, local_type, IsVariable, IsInstanceOf}
 use Rattle.nesl_infer_rules.specs.Steps.{Adds, AreLocalsBelow, own_at, scope_at, count}
 use Rattle.nesl_builtins.specs.declared.builtin.Builtin.{Builtin}
 use Rattle.nesl_builtins.specs.FunctionTypes.{builtin_type}
@@ -35,13 +35,13 @@ pub constrain_items-loop-item-preserved : goal.constrain_items-loop-item-preserv
 constrain_items-loop-item-preserved g t c = record {
   adds =
       let N : (ℕ → Term) → TypedNames = λ s. meanings_in c.args.outer.now.context.now (own_at s c.args.outer.now.own) in
-      let ls = c.args.locals.now.items in
+      let ls = c.args.locals.now in
       let S : (ℕ → Term) → LocalTypes = λ s. scope_at s ls in
       let n = count c.args.state.now in
       let i = c.loop-item.item-index in
       let e = c.item-item.result in
       let es = c.args.items.now in
-      let one = retyped N ls c.loop-item.locals.items e e c.args.target c.loop-item.invariant.locals (λ i. e) c.in_ok-constrain.ensures.adds in
+      let one = retyped N ls c.loop-item.locals e e c.args.target c.loop-item.invariant.locals (λ i. e) c.in_ok-constrain.ensures.adds in
       subst (λ (ts : Trees). AllType c.args.state.now c.constrain.new.state N S ts c.args.target) (sym (take-trees es i e c.loop-item-test.true c.item-item.is))
       (arm_more N S (fixed c.args.outer.now.context.now n c.args.outer.now.own ls c.requires.own c.requires.locals) c.args.target c.requires.target (trees_in (take i es)) (tree_of e) c.loop-item.invariant.adds one);
   locals = c.in_ok-constrain.ensures.locals ∙ c.loop-item.invariant.locals;
@@ -50,25 +50,25 @@ constrain_items-loop-item-preserved g t c = record {
 pub constrain_items-returns-clause-adds : goal.constrain_items-returns-clause-adds
 constrain_items-returns-clause-adds g t c =
     let N : (ℕ → Term) → TypedNames = λ s. meanings_in c.args.outer.now.context.now (own_at s c.args.outer.now.own) in
-    let S : (ℕ → Term) → LocalTypes = λ s. scope_at s c.args.locals.now.items in
+    let S : (ℕ → Term) → LocalTypes = λ s. scope_at s c.args.locals.now in
     let all : take c.loop-item.item-index c.args.items.now ≡ c.args.items.now = grind (arith, common_steps) in
     subst (λ (es : List Exp). AllType c.args.state.now c.loop-item.state N S (trees_in es) c.args.target) all c.loop-item.invariant.adds
 
 pub constrain_bindings-loop-binding-init : goal.constrain_bindings-loop-binding-init
 constrain_bindings-loop-binding-init g t c =
     let N : (ℕ → Term) → TypedNames = λ s. meanings_in c.args.outer.now.context.now (own_at s c.args.outer.now.own) in
-    no_bindings N c.args.locals.now.items
+    no_bindings N c.args.locals.now
 
 pub constrain_bindings-loop-binding-preserved : goal.constrain_bindings-loop-binding-preserved
 constrain_bindings-loop-binding-preserved g t c =
     let N : (ℕ → Term) → TypedNames = λ s. meanings_in c.args.outer.now.context.now (own_at s c.args.outer.now.own) in
-    let ls = c.args.locals.now.items in
+    let ls = c.args.locals.now in
     let i = c.loop-binding.binding-index in
     let b = c.binding-item.result in
     let bs = c.args.bindings.now in
     let u = c.in_ok-bound.bound in
-    let ms = c.loop-binding.locals.items in
-    let os = c.constrain_pattern.new.locals.items in
+    let ms = c.loop-binding.locals in
+    let os = c.constrain_pattern.new.locals in
     subst (λ (k : Binders). BindsOf c.args.state.now c.constrain_pattern.new.state ls os N k) (sym (take-binders bs i b c.loop-binding-test.true c.binding-item.is))
     (arm_binding N ls ms os (fixed c.args.outer.now.context.now (count c.args.state.now) c.args.outer.now.own ls c.requires.own c.requires.locals) (binders_in (take i bs)) (pattern_tree b.pattern) (tree_of b.value) u
     c.loop-binding.invariant c.in_ok-bound.ensures.gives c.in_ok-constrain.ensures.adds
@@ -78,25 +78,25 @@ pub constrain_bindings-returns : goal.constrain_bindings-returns
 constrain_bindings-returns g t c =
     let N : (ℕ → Term) → TypedNames = λ s. meanings_in c.args.outer.now.context.now (own_at s c.args.outer.now.own) in
     let all : take c.loop-binding.binding-index c.args.bindings.now ≡ c.args.bindings.now = grind (arith, common_steps) in
-    subst (λ (bs : List Binding). BindsOf c.args.state.now c.loop-binding.state c.args.locals.now.items c.loop-binding.locals.items N (binders_in bs)) all c.loop-binding.invariant
+    subst (λ (bs : List Binding). BindsOf c.args.state.now c.loop-binding.state c.args.locals.now c.loop-binding.locals N (binders_in bs)) all c.loop-binding.invariant
 
 pub constrain_values-loop-binding-init : goal.constrain_values-loop-binding-init
 constrain_values-loop-binding-init g t c =
     let N : (ℕ → Term) → TypedNames = λ s. meanings_in c.args.outer.now.context.now (own_at s c.args.outer.now.own) in
-    let S : (ℕ → Term) → LocalTypes = λ s. scope_at s c.args.locals.now.items in
+    let S : (ℕ → Term) → LocalTypes = λ s. scope_at s c.args.locals.now in
     let s1 = c.args.state.now in
     let none = sym c.new-items.ensures.items in
     record {
       gives = subst (λ (vs : List ℕ). ElementsOf s1 s1 N S no_binders vs) none (no_elements N S);
       below = subst (λ (vs : List ℕ). All (λ (w : ℕ). w < count s1) vs) none (All-nil (λ (w : ℕ). w < count s1));
       len = ap length c.new-items.ensures.items;
-      locals = λ i. c.args.locals.now.items;
+      locals = λ i. c.args.locals.now;
     }
 
 pub constrain_values-loop-binding-preserved : goal.constrain_values-loop-binding-preserved
 constrain_values-loop-binding-preserved g t c =
     let N : (ℕ → Term) → TypedNames = λ s. meanings_in c.args.outer.now.context.now (own_at s c.args.outer.now.own) in
-    let ls = c.args.locals.now.items in
+    let ls = c.args.locals.now in
     let S : (ℕ → Term) → LocalTypes = λ s. scope_at s ls in
     let h = c.loop-binding.invariant in
     let i = c.loop-binding.binding-index in
@@ -109,7 +109,7 @@ constrain_values-loop-binding-preserved g t c =
     let a2 = c.in_ok-item.ensures.gives.more in
     let a3 = c.in_ok-equate_sequence.ensures.more in
     let step = arm_value N S (fixed c.args.outer.now.context.now (count c.args.state.now) c.args.outer.now.own ls c.requires.own c.requires.locals) (binders_in (take i bs)) (pattern_tree b.pattern) (tree_of b.value) c.loop-binding.items.items v q
-    h.gives (part_as N ls c.loop-binding.locals.items b.value b.value q h.locals (λ i. b.value) c.in_ok-sequence.ensures.gives) c.in_ok-item.ensures.gives c.in_ok-equate_sequence.ensures in
+    h.gives (part_as N ls c.loop-binding.locals b.value b.value q h.locals (λ i. b.value) c.in_ok-sequence.ensures.gives) c.in_ok-item.ensures.gives c.in_ok-equate_sequence.ensures in
     record {
       gives = subst (λ (vs : List ℕ). ElementsOf c.args.state.now c.equate_sequence.new.self N S (binders_in (take (i + 1) bs)) vs) (sym c.in_ok-push.ensures.items)
           (subst (λ (k : Binders). ElementsOf c.args.state.now c.equate_sequence.new.self N S k (c.loop-binding.items.items ++ v ∷ [])) (sym (take-binders bs i b c.loop-binding-test.true c.binding-item.is)) step);
@@ -122,14 +122,14 @@ constrain_values-loop-binding-preserved g t c =
 pub constrain_values-returns-clause-gives : goal.constrain_values-returns-clause-gives
 constrain_values-returns-clause-gives g t c =
     let N : (ℕ → Term) → TypedNames = λ s. meanings_in c.args.outer.now.context.now (own_at s c.args.outer.now.own) in
-    let S : (ℕ → Term) → LocalTypes = λ s. scope_at s c.args.locals.now.items in
+    let S : (ℕ → Term) → LocalTypes = λ s. scope_at s c.args.locals.now in
     let all : take c.loop-binding.binding-index c.args.bindings.now ≡ c.args.bindings.now = grind (arith, common_steps) in
     subst (λ (bs : List Binding). ElementsOf c.args.state.now c.loop-binding.state N S (binders_in bs) c.loop-binding.items.items) all c.loop-binding.invariant.gives
 
 pub constrain-returns-in-Number-clause-adds : goal.constrain-returns-in-Number-clause-adds
 constrain-returns-in-Number-clause-adds g t c =
     let N : (ℕ → Term) → TypedNames = λ s. meanings_in c.args.outer.now.context.now (own_at s c.args.outer.now.own) in
-    let ls = c.args.locals.now.items in
+    let ls = c.args.locals.now in
     let S : (ℕ → Term) → LocalTypes = λ s. scope_at s ls in
     let v = c.args.target in
     let e = c.args.exp.now in
@@ -139,7 +139,7 @@ constrain-returns-in-Number-clause-adds g t c =
 pub constrain-returns-in-Truth-clause-adds : goal.constrain-returns-in-Truth-clause-adds
 constrain-returns-in-Truth-clause-adds g t c =
     let N : (ℕ → Term) → TypedNames = λ s. meanings_in c.args.outer.now.context.now (own_at s c.args.outer.now.own) in
-    let ls = c.args.locals.now.items in
+    let ls = c.args.locals.now in
     let S : (ℕ → Term) → LocalTypes = λ s. scope_at s ls in
     let v = c.args.target in
     let e = c.args.exp.now in
@@ -149,7 +149,7 @@ constrain-returns-in-Truth-clause-adds g t c =
 pub constrain-returns-in-Character-clause-adds : goal.constrain-returns-in-Character-clause-adds
 constrain-returns-in-Character-clause-adds g t c =
     let N : (ℕ → Term) → TypedNames = λ s. meanings_in c.args.outer.now.context.now (own_at s c.args.outer.now.own) in
-    let ls = c.args.locals.now.items in
+    let ls = c.args.locals.now in
     let S : (ℕ → Term) → LocalTypes = λ s. scope_at s ls in
     let v = c.args.target in
     let e = c.args.exp.now in
@@ -159,7 +159,7 @@ constrain-returns-in-Character-clause-adds g t c =
 pub constrain-returns-in-Text-clause-adds : goal.constrain-returns-in-Text-clause-adds
 constrain-returns-in-Text-clause-adds g t c =
     let N : (ℕ → Term) → TypedNames = λ s. meanings_in c.args.outer.now.context.now (own_at s c.args.outer.now.own) in
-    let ls = c.args.locals.now.items in
+    let ls = c.args.locals.now in
     let S : (ℕ → Term) → LocalTypes = λ s. scope_at s ls in
     let v = c.args.target in
     let e = c.args.exp.now in
@@ -169,28 +169,27 @@ constrain-returns-in-Text-clause-adds g t c =
 pub constrain-returns-in-Variable-clause-adds : goal.constrain-returns-in-Variable-clause-adds
 constrain-returns-in-Variable-clause-adds g t c =
     let N : (ℕ → Term) → TypedNames = λ s. meanings_in c.args.outer.now.context.now (own_at s c.args.outer.now.own) in
-    let ls = c.args.locals.now.items in
+    let ls = c.args.locals.now in
     let S : (ℕ → Term) → LocalTypes = λ s. scope_at s ls in
     let v = c.args.target in
     let e = c.args.exp.now in
     typed _ _ N S e (declared.Variable c.in-Variable.name) (trees.variable c.in-Variable.name.letters.items) v c.constrain_variable.result c.in-Variable.is refl
-    (subst (λ (x : List ℕ). OnOk c.constrain_variable.result (Adds c.args.state.now c.constrain_variable.new.state (λ s of. IsVariable (bounded (N s) of) x (local_type x (scope_at s ls)) (s v)))) c.as_slice-in-Variable.ensures.value
-    (subst (λ (ks : List Local). OnOk c.constrain_variable.result (Adds c.args.state.now c.constrain_variable.new.state (λ s of. IsVariable (bounded (N s) of) c.as_slice-in-Variable.result.now (local_type c.as_slice-in-Variable.result.now (scope_at s ks)) (s v)))) c.as_slice.ensures.value c.constrain_variable.ensures))
+    (subst (λ (x : List ℕ). OnOk c.constrain_variable.result (Adds c.args.state.now c.constrain_variable.new.state (λ s of. IsVariable (bounded (N s) of) x (local_type x (scope_at s ls)) (s v)))) c.as_slice.ensures.value c.constrain_variable.ensures)
 
 pub constrain-returns-in-Element-clause-adds : goal.constrain-returns-in-Element-clause-adds
 constrain-returns-in-Element-clause-adds g t c =
     let N : (ℕ → Term) → TypedNames = λ s. meanings_in c.args.outer.now.context.now (own_at s c.args.outer.now.own) in
-    let ls = c.args.locals.now.items in
+    let ls = c.args.locals.now in
     let S : (ℕ → Term) → LocalTypes = λ s. scope_at s ls in
     let v = c.args.target in
     let e = c.args.exp.now in
     typed _ _ N S e declared.Element trees.element v c.constrain_element.result c.in-Element.is refl
-    (subst (λ (ks : List Local). OnOk c.constrain_element.result (Adds c.args.state.now c.constrain_element.new.state (λ s of. newest_type is_element (scope_at s ks) ≡ Some (s v)))) c.as_slice-in-Element.ensures.value c.constrain_element.ensures)
+    c.constrain_element.ensures
 
 pub constrain-returns-in-Empty-clause-adds : goal.constrain-returns-in-Empty-clause-adds
 constrain-returns-in-Empty-clause-adds g t c =
     let N : (ℕ → Term) → TypedNames = λ s. meanings_in c.args.outer.now.context.now (own_at s c.args.outer.now.own) in
-    let ls = c.args.locals.now.items in
+    let ls = c.args.locals.now in
     let S : (ℕ → Term) → LocalTypes = λ s. scope_at s ls in
     let v = c.args.target in
     let e = c.args.exp.now in
@@ -200,7 +199,7 @@ constrain-returns-in-Empty-clause-adds g t c =
 pub constrain-returns-in_ok-given-in-Call-clause-adds : goal.constrain-returns-in_ok-given-in-Call-clause-adds
 constrain-returns-in_ok-given-in-Call-clause-adds g t c =
     let N : (ℕ → Term) → TypedNames = λ s. meanings_in c.args.outer.now.context.now (own_at s c.args.outer.now.own) in
-    let ls = c.args.locals.now.items in
+    let ls = c.args.locals.now in
     let S : (ℕ → Term) → LocalTypes = λ s. scope_at s ls in
     let f = fixed c.args.outer.now.context.now (count c.args.state.now) c.args.outer.now.own ls c.requires.own c.requires.locals in
     let v = c.args.target in
@@ -215,7 +214,7 @@ constrain-returns-in_ok-given-in-Call-clause-adds g t c =
 pub constrain-returns-in_ok-right-in-Pair-clause-adds : goal.constrain-returns-in_ok-right-in-Pair-clause-adds
 constrain-returns-in_ok-right-in-Pair-clause-adds g t c =
     let N : (ℕ → Term) → TypedNames = λ s. meanings_in c.args.outer.now.context.now (own_at s c.args.outer.now.own) in
-    let ls = c.args.locals.now.items in
+    let ls = c.args.locals.now in
     let S : (ℕ → Term) → LocalTypes = λ s. scope_at s ls in
     let f = fixed c.args.outer.now.context.now (count c.args.state.now) c.args.outer.now.own ls c.requires.own c.requires.locals in
     let v = c.args.target in
@@ -227,13 +226,13 @@ constrain-returns-in_ok-right-in-Pair-clause-adds g t c =
     typed _ _ N S e (declared.Pair c.in-Pair.first c.in-Pair.second) (trees.pair (tree_of a) (tree_of b)) v c.equate_pair.result c.in-Pair.is refl
     (on_ok_weaker c.equate_pair.result (arm_pair N S f v c.requires.target (tree_of a) (tree_of b) l r
     (part_as N ls ls a c.deref-in-Pair.result.now l (λ i. ls) c.deref-in-Pair.ensures c.in_ok-left-in-Pair.ensures.gives)
-    (part_as N ls c.constrain_part-in-Pair.new.locals.items b c.deref-in-Pair-2.result.now r c.in_ok-left-in-Pair.ensures.locals c.deref-in-Pair-2.ensures c.in_ok-right-in-Pair.ensures.gives))
+    (part_as N ls c.constrain_part-in-Pair.new.locals b c.deref-in-Pair-2.result.now r c.in_ok-left-in-Pair.ensures.locals c.deref-in-Pair-2.ensures c.in_ok-right-in-Pair.ensures.gives))
     c.equate_pair.ensures)
 
 pub constrain-returns-in_ok-given-in-Prefix-clause-adds : goal.constrain-returns-in_ok-given-in-Prefix-clause-adds
 constrain-returns-in_ok-given-in-Prefix-clause-adds g t c =
     let N : (ℕ → Term) → TypedNames = λ s. meanings_in c.args.outer.now.context.now (own_at s c.args.outer.now.own) in
-    let ls = c.args.locals.now.items in
+    let ls = c.args.locals.now in
     let S : (ℕ → Term) → LocalTypes = λ s. scope_at s ls in
     let f = fixed c.args.outer.now.context.now (count c.args.state.now) c.args.outer.now.own ls c.requires.own c.requires.locals in
     let v = c.args.target in
@@ -248,7 +247,7 @@ constrain-returns-in_ok-given-in-Prefix-clause-adds g t c =
 pub constrain-returns-in_ok-right-in-Infix-clause-adds : goal.constrain-returns-in_ok-right-in-Infix-clause-adds
 constrain-returns-in_ok-right-in-Infix-clause-adds g t c =
     let N : (ℕ → Term) → TypedNames = λ s. meanings_in c.args.outer.now.context.now (own_at s c.args.outer.now.own) in
-    let ls = c.args.locals.now.items in
+    let ls = c.args.locals.now in
     let S : (ℕ → Term) → LocalTypes = λ s. scope_at s ls in
     let f = fixed c.args.outer.now.context.now (count c.args.state.now) c.args.outer.now.own ls c.requires.own c.requires.locals in
     let v = c.args.target in
@@ -260,13 +259,13 @@ constrain-returns-in_ok-right-in-Infix-clause-adds g t c =
     typed _ _ N S e (declared.Infix c.in-Infix.operator c.in-Infix.first c.in-Infix.second) (trees.infix_of c.in-Infix.operator (tree_of a) (tree_of b)) v c.constrain_operator.result c.in-Infix.is refl
     (on_ok_weaker c.constrain_operator.result (arm_infix N S f v c.requires.target c.in-Infix.operator (tree_of a) (tree_of b) l r
     (part_as N ls ls a c.deref-in-Infix.result.now l (λ i. ls) c.deref-in-Infix.ensures c.in_ok-left-in-Infix.ensures.gives)
-    (part_as N ls c.constrain_part-in-Infix.new.locals.items b c.deref-in-Infix-2.result.now r c.in_ok-left-in-Infix.ensures.locals c.deref-in-Infix-2.ensures c.in_ok-right-in-Infix.ensures.gives))
+    (part_as N ls c.constrain_part-in-Infix.new.locals b c.deref-in-Infix-2.result.now r c.in_ok-left-in-Infix.ensures.locals c.deref-in-Infix-2.ensures c.in_ok-right-in-Infix.ensures.gives))
     (subst (λ (k : Builtin). OnOk c.constrain_operator.result (Adds c.constrain_part-in-Infix-2.new.state c.constrain_operator.new.state (λ s of. IsInstanceOf (builtin_type k) of (pair_of (s l) (s r)) (s v)))) c.of_infix.ensures c.constrain_operator.ensures))
 
 pub constrain-returns-in_ok-constrain_exactly-in-Index-clause-adds : goal.constrain-returns-in_ok-constrain_exactly-in-Index-clause-adds
 constrain-returns-in_ok-constrain_exactly-in-Index-clause-adds g t c =
     let N : (ℕ → Term) → TypedNames = λ s. meanings_in c.args.outer.now.context.now (own_at s c.args.outer.now.own) in
-    let ls = c.args.locals.now.items in
+    let ls = c.args.locals.now in
     let S : (ℕ → Term) → LocalTypes = λ s. scope_at s ls in
     let f = fixed c.args.outer.now.context.now (count c.args.state.now) c.args.outer.now.own ls c.requires.own c.requires.locals in
     let v = c.args.target in
@@ -277,13 +276,13 @@ constrain-returns-in_ok-constrain_exactly-in-Index-clause-adds g t c =
     typed _ _ N S e (declared.Index c.in-Index.sequence c.in-Index.place) (trees.index (tree_of a) (tree_of b)) v c.equate_sequence.result c.in-Index.is refl
     (on_ok_weaker c.equate_sequence.result (arm_index N S f v c.requires.target (tree_of a) (tree_of b) j
     (part_as N ls ls a c.deref-in-Index.result.now j (λ i. ls) c.deref-in-Index.ensures c.in_ok-items-in-Index.ensures.gives)
-    (exactly_as N ls c.constrain_part-in-Index.new.locals.items b c.deref-in-Index-2.result.now int c.in_ok-items-in-Index.ensures.locals c.deref-in-Index-2.ensures c.in_ok-constrain_exactly-in-Index.ensures.adds))
+    (exactly_as N ls c.constrain_part-in-Index.new.locals b c.deref-in-Index-2.result.now int c.in_ok-items-in-Index.ensures.locals c.deref-in-Index-2.ensures c.in_ok-constrain_exactly-in-Index.ensures.adds))
     c.equate_sequence.ensures)
 
 pub constrain-returns-in_ok-constrain-in-Choice-clause-adds : goal.constrain-returns-in_ok-constrain-in-Choice-clause-adds
 constrain-returns-in_ok-constrain-in-Choice-clause-adds g t c =
     let N : (ℕ → Term) → TypedNames = λ s. meanings_in c.args.outer.now.context.now (own_at s c.args.outer.now.own) in
-    let ls = c.args.locals.now.items in
+    let ls = c.args.locals.now in
     let S : (ℕ → Term) → LocalTypes = λ s. scope_at s ls in
     let f = fixed c.args.outer.now.context.now (count c.args.state.now) c.args.outer.now.own ls c.requires.own c.requires.locals in
     let v = c.args.target in
@@ -294,15 +293,15 @@ constrain-returns-in_ok-constrain-in-Choice-clause-adds g t c =
     typed _ _ N S e (declared.Choice c.in-Choice.test c.in-Choice.first c.in-Choice.second) (trees.choice (tree_of a) (tree_of b) (tree_of d)) v c.constrain-in-Choice.result c.in-Choice.is refl
     (on_ok_weaker c.constrain-in-Choice.result (arm_choice N S f v c.requires.target (tree_of a) (tree_of b) (tree_of d)
     (exactly_as N ls ls a c.deref-in-Choice.result.now bool (λ i. ls) c.deref-in-Choice.ensures c.in_ok-constrain_exactly-in-Choice.ensures.adds)
-    (retyped N ls c.constrain_exactly-in-Choice.new.locals.items b c.deref-in-Choice-2.result.now v c.in_ok-constrain_exactly-in-Choice.ensures.locals c.deref-in-Choice-2.ensures c.in_ok-constrain-in-Choice.ensures.adds))
+    (retyped N ls c.constrain_exactly-in-Choice.new.locals b c.deref-in-Choice-2.result.now v c.in_ok-constrain_exactly-in-Choice.ensures.locals c.deref-in-Choice-2.ensures c.in_ok-constrain-in-Choice.ensures.adds))
     (on_ok_weaker c.constrain-in-Choice.result
-    (retyped N ls c.constrain.new.locals.items d c.deref-in-Choice-3.result.now v (c.in_ok-constrain-in-Choice.ensures.locals ∙ c.in_ok-constrain_exactly-in-Choice.ensures.locals) c.deref-in-Choice-3.ensures)
+    (retyped N ls c.constrain.new.locals d c.deref-in-Choice-3.result.now v (c.in_ok-constrain-in-Choice.ensures.locals ∙ c.in_ok-constrain_exactly-in-Choice.ensures.locals) c.deref-in-Choice-3.ensures)
     c.constrain-in-Choice.ensures.adds))
 
 pub constrain-returns-in_ok-constrain_items-in-Sequence-clause-adds : goal.constrain-returns-in_ok-constrain_items-in-Sequence-clause-adds
 constrain-returns-in_ok-constrain_items-in-Sequence-clause-adds g t c =
     let N : (ℕ → Term) → TypedNames = λ s. meanings_in c.args.outer.now.context.now (own_at s c.args.outer.now.own) in
-    let ls = c.args.locals.now.items in
+    let ls = c.args.locals.now in
     let S : (ℕ → Term) → LocalTypes = λ s. scope_at s ls in
     let f = fixed c.args.outer.now.context.now (count c.args.state.now) c.args.outer.now.own ls c.requires.own c.requires.locals in
     let v = c.args.target in
@@ -319,7 +318,7 @@ constrain-returns-in_ok-constrain_items-in-Sequence-clause-adds g t c =
 pub constrain-returns-in_ok-number-in-Range-clause-adds : goal.constrain-returns-in_ok-number-in-Range-clause-adds
 constrain-returns-in_ok-number-in-Range-clause-adds g t c =
     let N : (ℕ → Term) → TypedNames = λ s. meanings_in c.args.outer.now.context.now (own_at s c.args.outer.now.own) in
-    let ls = c.args.locals.now.items in
+    let ls = c.args.locals.now in
     let S : (ℕ → Term) → LocalTypes = λ s. scope_at s ls in
     let f = fixed c.args.outer.now.context.now (count c.args.state.now) c.args.outer.now.own ls c.requires.own c.requires.locals in
     let v = c.args.target in
@@ -335,7 +334,7 @@ constrain-returns-in_ok-number-in-Range-clause-adds g t c =
 pub constrain-returns-in_ok-constrain-in-StridedRange-clause-adds : goal.constrain-returns-in_ok-constrain-in-StridedRange-clause-adds
 constrain-returns-in_ok-constrain-in-StridedRange-clause-adds g t c =
     let N : (ℕ → Term) → TypedNames = λ s. meanings_in c.args.outer.now.context.now (own_at s c.args.outer.now.own) in
-    let ls = c.args.locals.now.items in
+    let ls = c.args.locals.now in
     let S : (ℕ → Term) → LocalTypes = λ s. scope_at s ls in
     let f = fixed c.args.outer.now.context.now (count c.args.state.now) c.args.outer.now.own ls c.requires.own c.requires.locals in
     let v = c.args.target in
@@ -347,13 +346,13 @@ constrain-returns-in_ok-constrain-in-StridedRange-clause-adds g t c =
     typed _ _ N S e (declared.StridedRange c.in-StridedRange.start c.in-StridedRange.end c.in-StridedRange.step) (trees.strided_range (tree_of a) (tree_of b) (tree_of d)) v c.equate_sequence-in-StridedRange.result c.in-StridedRange.is refl
     (on_ok_weaker c.equate_sequence-in-StridedRange.result (arm_strided_range N S f v c.requires.target (tree_of a) (tree_of b) (tree_of d) n
     (bounds_as N S a b c.deref-in-StridedRange.result.now c.deref-in-StridedRange-2.result.now n c.deref-in-StridedRange.ensures c.deref-in-StridedRange-2.ensures c.in_ok-number-in-StridedRange.ensures.gives)
-    (retyped N ls c.constrain_bounds-in-StridedRange.new.locals.items d c.deref-in-StridedRange-3.result.now n c.in_ok-number-in-StridedRange.ensures.locals c.deref-in-StridedRange-3.ensures c.in_ok-constrain-in-StridedRange.ensures.adds))
+    (retyped N ls c.constrain_bounds-in-StridedRange.new.locals d c.deref-in-StridedRange-3.result.now n c.in_ok-number-in-StridedRange.ensures.locals c.deref-in-StridedRange-3.ensures c.in_ok-constrain-in-StridedRange.ensures.adds))
     c.equate_sequence-in-StridedRange.ensures)
 
 pub constrain-returns-in-Let-clause-adds : goal.constrain-returns-in-Let-clause-adds
 constrain-returns-in-Let-clause-adds g t c =
     let N : (ℕ → Term) → TypedNames = λ s. meanings_in c.args.outer.now.context.now (own_at s c.args.outer.now.own) in
-    let ls = c.args.locals.now.items in
+    let ls = c.args.locals.now in
     let S : (ℕ → Term) → LocalTypes = λ s. scope_at s ls in
     let v = c.args.target in
     let e = c.args.exp.now in
@@ -366,7 +365,7 @@ constrain-returns-in-Let-clause-adds g t c =
 pub constrain-returns-in-Each-clause-adds : goal.constrain-returns-in-Each-clause-adds
 constrain-returns-in-Each-clause-adds g t c =
     let N : (ℕ → Term) → TypedNames = λ s. meanings_in c.args.outer.now.context.now (own_at s c.args.outer.now.own) in
-    let ls = c.args.locals.now.items in
+    let ls = c.args.locals.now in
     let S : (ℕ → Term) → LocalTypes = λ s. scope_at s ls in
     let v = c.args.target in
     let e = c.args.exp.now in
@@ -379,7 +378,7 @@ constrain-returns-in-Each-clause-adds g t c =
 pub constrain-returns-in_ok-item-in-FilteredEach-clause-adds : goal.constrain-returns-in_ok-item-in-FilteredEach-clause-adds
 constrain-returns-in_ok-item-in-FilteredEach-clause-adds g t c =
     let N : (ℕ → Term) → TypedNames = λ s. meanings_in c.args.outer.now.context.now (own_at s c.args.outer.now.own) in
-    let ls = c.args.locals.now.items in
+    let ls = c.args.locals.now in
     let S : (ℕ → Term) → LocalTypes = λ s. scope_at s ls in
     let v = c.args.target in
     let e = c.args.exp.now in
@@ -397,21 +396,17 @@ constrain-returns-in_ok-item-in-FilteredEach-clause-adds g t c =
 pub constrain_part-returns-in-Some-clause-gives : goal.constrain_part-returns-in-Some-clause-gives
 constrain_part-returns-in-Some-clause-gives g t c =
     let N : (ℕ → Term) → TypedNames = λ s. meanings_in c.args.outer.now.context.now (own_at s c.args.outer.now.own) in
-    let ls = c.args.locals.now.items in
+    let ls = c.args.locals.now in
     let h = c.in-Some.ensures in
-    let found = subst (λ (ks : List Local). (s : ℕ → Term) → local_type h.found.0 (scope_at s ks) ≡ Some (s c.in-Some.variable)) c.as_slice.ensures.value h.found.2 in
-    let below = subst (λ (ks : List Local). (n : ℕ) → AreLocalsBelow n ks → c.in-Some.variable < n) c.as_slice.ensures.value h.below in
-    part_local N (λ s. scope_at s ls) c.args.exp.now h.found.0 c.in-Some.variable h.found.1 found (below (count c.args.state.now) c.requires.locals)
+    part_local N (λ s. scope_at s ls) c.args.exp.now h.found.0 c.in-Some.variable h.found.1 h.found.2 (h.below (count c.args.state.now) c.requires.locals)
 
 pub constrain_part-returns-in-Some-clause-below : goal.constrain_part-returns-in-Some-clause-below
-constrain_part-returns-in-Some-clause-below g t c =
-    let below = subst (λ (ks : List Local). (n : ℕ) → AreLocalsBelow n ks → c.in-Some.variable < n) c.as_slice.ensures.value c.in-Some.ensures.below in
-    below (count c.args.state.now) c.requires.locals
+constrain_part-returns-in-Some-clause-below g t c = c.in-Some.ensures.below (count c.args.state.now) c.requires.locals
 
 pub constrain_part-returns-clause-gives : goal.constrain_part-returns-clause-gives
 constrain_part-returns-clause-gives g t c =
     let N : (ℕ → Term) → TypedNames = λ s. meanings_in c.args.outer.now.context.now (own_at s c.args.outer.now.own) in
-    let ls = c.args.locals.now.items in
+    let ls = c.args.locals.now in
     let S : (ℕ → Term) → LocalTypes = λ s. scope_at s ls in
     let f = fixed c.args.outer.now.context.now (count c.args.state.now) c.args.outer.now.own ls c.requires.own c.requires.locals in
     arm_part N S f (tree_of c.args.exp.now) c.in_ok-part.part c.in_ok-part.ensures.gives c.in_ok-constrain.ensures.adds
@@ -419,7 +414,7 @@ constrain_part-returns-clause-gives g t c =
 pub constrain_exactly-returns-clause-adds : goal.constrain_exactly-returns-clause-adds
 constrain_exactly-returns-clause-adds g t c =
     let N : (ℕ → Term) → TypedNames = λ s. meanings_in c.args.outer.now.context.now (own_at s c.args.outer.now.own) in
-    let ls = c.args.locals.now.items in
+    let ls = c.args.locals.now in
     let S : (ℕ → Term) → LocalTypes = λ s. scope_at s ls in
     let f = fixed c.args.outer.now.context.now (count c.args.state.now) c.args.outer.now.own ls c.requires.own c.requires.locals in
     on_ok_weaker c.constrain.result (arm_exactly N S f (tree_of c.args.exp.now) (flat_type c.args.flat) c.in_ok-part.part c.in_ok-part.ensures.gives) c.constrain.ensures.adds
@@ -427,19 +422,19 @@ constrain_exactly-returns-clause-adds g t c =
 pub constrain_bounds-returns-clause-gives : goal.constrain_bounds-returns-clause-gives
 constrain_bounds-returns-clause-gives g t c =
     let N : (ℕ → Term) → TypedNames = λ s. meanings_in c.args.outer.now.context.now (own_at s c.args.outer.now.own) in
-    let ls = c.args.locals.now.items in
+    let ls = c.args.locals.now in
     let S : (ℕ → Term) → LocalTypes = λ s. scope_at s ls in
     let f = fixed c.args.outer.now.context.now (count c.args.state.now) c.args.outer.now.own ls c.requires.own c.requires.locals in
     let a = c.args.from.now in
     let b = c.args.to.now in
     let n = c.in_ok-number.number in
     arm_bounds N S f (tree_of a) (tree_of b) n c.in_ok-number.ensures.gives c.in_ok-constrain.ensures.adds
-    (retyped N ls c.constrain.new.locals.items b b n c.in_ok-constrain.ensures.locals (λ i. b) c.in_ok-constrain-2.ensures.adds)
+    (retyped N ls c.constrain.new.locals b b n c.in_ok-constrain.ensures.locals (λ i. b) c.in_ok-constrain-2.ensures.adds)
 
 pub constrain_binders-returns : goal.constrain_binders-returns
 constrain_binders-returns g t c =
     let N : (ℕ → Term) → TypedNames = λ s. meanings_in c.args.outer.now.context.now (own_at s c.args.outer.now.own) in
-    let ls = c.args.locals.now.items in
+    let ls = c.args.locals.now in
     let S : (ℕ → Term) → LocalTypes = λ s. scope_at s ls in
     let f = fixed c.args.outer.now.context.now (count c.args.state.now) c.args.outer.now.own ls c.requires.own c.requires.locals in
     let bs = binders_in c.args.bindings.now in
@@ -447,39 +442,39 @@ constrain_binders-returns g t c =
     let r = c.bind_items.result in
     let B = c.constrain_values.new.state in
     let C = c.bind_items.new.state in
-    let ms = c.bind_items.new.locals.items in
+    let ms = c.bind_items.new.locals in
     on_ok_weaker r (arm_binders N ls ms f bs vs c.in_ok-items.ensures.gives)
     (subst (λ (k : List Local). OnOk r (DrawsOf B C k ms N bs vs)) c.in_ok-items.ensures.locals
-    (subst (λ (k : List ℕ). OnOk r (DrawsOf B C c.constrain_values.new.locals.items ms N bs k)) c.as_slice.ensures.value c.bind_items.ensures))
+    (subst (λ (k : List ℕ). OnOk r (DrawsOf B C c.constrain_values.new.locals ms N bs k)) c.as_slice.ensures.value c.bind_items.ensures))
 
 pub constrain_let-returns-clause-adds : goal.constrain_let-returns-clause-adds
 constrain_let-returns-clause-adds g t c =
     let N : (ℕ → Term) → TypedNames = λ s. meanings_in c.args.outer.now.context.now (own_at s c.args.outer.now.own) in
-    let ls = c.args.locals.now.items in
+    let ls = c.args.locals.now in
     let S : (ℕ → Term) → LocalTypes = λ s. scope_at s ls in
     let f = fixed c.args.outer.now.context.now (count c.args.state.now) c.args.outer.now.own ls c.requires.own c.requires.locals in
     let v = c.args.target in
-    arm_let N ls c.constrain_bindings.new.locals.items f v c.requires.target (binders_in c.args.bindings.now) (tree_of c.args.body.now) c.in_ok-constrain_bindings.ensures c.in_ok-constrain.ensures.adds
+    arm_let N ls c.constrain_bindings.new.locals f v c.requires.target (binders_in c.args.bindings.now) (tree_of c.args.body.now) c.in_ok-constrain_bindings.ensures c.in_ok-constrain.ensures.adds
 
 pub constrain_each-returns-clause-adds : goal.constrain_each-returns-clause-adds
 constrain_each-returns-clause-adds g t c =
     let N : (ℕ → Term) → TypedNames = λ s. meanings_in c.args.outer.now.context.now (own_at s c.args.outer.now.own) in
-    let ls = c.args.locals.now.items in
+    let ls = c.args.locals.now in
     let S : (ℕ → Term) → LocalTypes = λ s. scope_at s ls in
     let f = fixed c.args.outer.now.context.now (count c.args.state.now) c.args.outer.now.own ls c.requires.own c.requires.locals in
     let v = c.args.target in
-    on_ok_weaker c.equate_sequence.result (arm_each N ls c.constrain_binders.new.locals.items f v c.requires.target (tree_of c.args.body.now) (binders_in c.args.bindings.now) c.in_ok-item.item c.in_ok-constrain_binders.ensures c.in_ok-item.ensures.gives)
+    on_ok_weaker c.equate_sequence.result (arm_each N ls c.constrain_binders.new.locals f v c.requires.target (tree_of c.args.body.now) (binders_in c.args.bindings.now) c.in_ok-item.item c.in_ok-constrain_binders.ensures c.in_ok-item.ensures.gives)
     c.equate_sequence.ensures
 
 pub constrain_filtered_items-returns-clause-gives : goal.constrain_filtered_items-returns-clause-gives
 constrain_filtered_items-returns-clause-gives g t c =
     let N : (ℕ → Term) → TypedNames = λ s. meanings_in c.args.outer.now.context.now (own_at s c.args.outer.now.own) in
-    let ls = c.args.locals.now.items in
+    let ls = c.args.locals.now in
     let f = fixed c.args.outer.now.context.now (count c.args.state.now) c.args.outer.now.own ls c.requires.own c.requires.locals in
-    let ms = c.constrain_binders.new.locals.items in
+    let ms = c.constrain_binders.new.locals in
     let d = c.args.filter.now in
     arm_filtered_items N ls ms f (tree_of c.args.body.now) (binders_in c.args.bindings.now) (tree_of d) c.in_ok-item.item c.in_ok-constrain_binders.ensures c.in_ok-item.ensures.gives
-    (exactly_as N ms c.constrain_part.new.locals.items d d bool c.in_ok-item.ensures.locals (λ i. d) c.in_ok-constrain_exactly.ensures.adds)
+    (exactly_as N ms c.constrain_part.new.locals d d bool c.in_ok-item.ensures.locals (λ i. d) c.in_ok-constrain_exactly.ensures.adds)
 
 pub constrain-constrain_operator-requires-clause-pair : goal.constrain-constrain_operator-requires-clause-pair
 constrain-constrain_operator-requires-clause-pair g t c =
@@ -499,9 +494,9 @@ constrain_each-constrain_binders-requires g t c =
 
 pub constrain_each-constrain_part-requires : goal.constrain_each-constrain_part-requires
 constrain_each-constrain_part-requires g t c =
-    let ls = c.args.locals.now.items in
+    let ls = c.args.locals.now in
     let B = c.constrain_binders.new.state in
-    let ms = c.constrain_binders.new.locals.items in
+    let ms = c.constrain_binders.new.locals in
     let below : AreLocalsBelow (count B) ms = added_below ls ms _ c.requires.locals c.in_ok-constrain_binders.ensures in
     λ κs l. (omega (arith, c.decreases), (search rules, (below, search rules)))
 
@@ -511,28 +506,28 @@ constrain_filtered_items-constrain_binders-requires g t c =
 
 pub constrain_filtered_items-constrain_part-requires : goal.constrain_filtered_items-constrain_part-requires
 constrain_filtered_items-constrain_part-requires g t c =
-    let ls = c.args.locals.now.items in
+    let ls = c.args.locals.now in
     let B = c.constrain_binders.new.state in
-    let ms = c.constrain_binders.new.locals.items in
+    let ms = c.constrain_binders.new.locals in
     let below : AreLocalsBelow (count B) ms = added_below ls ms _ c.requires.locals c.in_ok-constrain_binders.ensures in
     λ κs l. (omega (arith, c.decreases), (search rules, (below, search rules)))
 
 pub constrain_filtered_items-constrain_exactly-requires : goal.constrain_filtered_items-constrain_exactly-requires
 constrain_filtered_items-constrain_exactly-requires g t c =
-    let ls = c.args.locals.now.items in
+    let ls = c.args.locals.now in
     let B = c.constrain_binders.new.state in
-    let ms = c.constrain_binders.new.locals.items in
+    let ms = c.constrain_binders.new.locals in
     let below : AreLocalsBelow (count B) ms = added_below ls ms _ c.requires.locals c.in_ok-constrain_binders.ensures in
     let m = c.in_ok-item.ensures.gives.more in
     let n = count c.constrain_part.new.state in
-    let here : AreLocalsBelow n c.constrain_part.new.locals.items =
+    let here : AreLocalsBelow n c.constrain_part.new.locals =
     subst (λ (xs : List Local). AreLocalsBelow n xs) (sym c.in_ok-item.ensures.locals) (locals-weaker (count B) n ms m below) in
     λ κs l. (omega (arith, c.decreases), (search rules, (search rules, (search rules, (here, search rules)))))
 
 pub constrain_let-constrain-requires : goal.constrain_let-constrain-requires
 constrain_let-constrain-requires g t c =
-    let ls = c.args.locals.now.items in
+    let ls = c.args.locals.now in
     let B = c.constrain_bindings.new.state in
-    let ms = c.constrain_bindings.new.locals.items in
+    let ms = c.constrain_bindings.new.locals in
     let below : AreLocalsBelow (count B) ms = added_below ls ms _ c.requires.locals c.in_ok-constrain_bindings.ensures in
     λ κs l. (omega (arith, c.decreases), (search rules, (search rules, (below, search rules))))

@@ -51,18 +51,18 @@ decreases-constrain_filtered_items g l = 4 * max (size l.body.now) (max (most_of
 
 abbrev pub invariant-constrain_items-loop-item : goal.invariant-constrain_items-loop-item
 invariant-constrain_items-loop-item g l = record {
-  adds : Adds l.initial.state l.state (λ s of. HaveType (world_at l.outer.context.now l.outer.own s of) (scope_at s l.initial.locals.items) (trees_in (take l.item-index l.items)) (s l.target));
-  locals : l.locals.items ≡ l.initial.locals.items;
+  adds : Adds l.initial.state l.state (λ s of. HaveType (world_at l.outer.context.now l.outer.own s of) (scope_at s l.initial.locals) (trees_in (take l.item-index l.items)) (s l.target));
+  locals : l.locals ≡ l.initial.locals;
 }
 
 abbrev pub invariant-constrain_bindings-loop-binding : goal.invariant-constrain_bindings-loop-binding
 invariant-constrain_bindings-loop-binding g l =
-    AddsNames l.initial.state l.state l.initial.locals.items l.locals.items (λ s of ns. BindingsAdd (world_at l.outer.context.now l.outer.own s of) (scope_at s l.initial.locals.items) (binders_in (take l.binding-index l.bindings)) ns)
+    AddsNames l.initial.state l.state l.initial.locals l.locals (λ s of ns. BindingsAdd (world_at l.outer.context.now l.outer.own s of) (scope_at s l.initial.locals) (binders_in (take l.binding-index l.bindings)) ns)
 
 abbrev pub invariant-constrain_values-loop-binding : goal.invariant-constrain_values-loop-binding
 invariant-constrain_values-loop-binding g l = record {
-  gives : Gives l.initial.state l.state (λ s. map s l.items.items) (λ s of is. HaveElements (world_at l.outer.context.now l.outer.own s of) (scope_at s l.initial.locals.items) (binders_in (take l.binding-index l.bindings)) is);
+  gives : Gives l.initial.state l.state (λ s. map s l.items.items) (λ s of is. HaveElements (world_at l.outer.context.now l.outer.own s of) (scope_at s l.initial.locals) (binders_in (take l.binding-index l.bindings)) is);
   below : All (λ v. v < count l.state) l.items.items;
   len : length l.items.items ≡ l.binding-index;
-  locals : l.locals.items ≡ l.initial.locals.items;
+  locals : l.locals ≡ l.initial.locals;
 }

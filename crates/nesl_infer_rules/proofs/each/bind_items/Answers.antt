@@ -15,8 +15,8 @@ returns-in_ok-bind_patterns-in-Some g c =
     let N : (ℕ → Term) → TypedNames = λ s. meanings_in c.args.outer.now.context.now (own_at s c.args.outer.now.own) in
     let A = c.args.state.now in
     let B = c.bind_patterns.new.state in
-    let ls = c.args.locals.now.items in
-    let ms = c.bind_patterns.new.locals.items in
+    let ls = c.args.locals.now in
+    let ms = c.bind_patterns.new.locals in
     let bs = binders_in c.args.bindings.now in
     let vs = c.args.items.now in
     let v = c.in-Some.first.now in
@@ -26,12 +26,12 @@ returns-in_ok-bind_patterns-in-Some g c =
     subst (λ (ws : List ℕ). DrawsOf A B ls ms N bs ws) (sym p.1)
     (arm_draws N ls ms bs v p.0 l inside refl refl
     (subst (λ (ws : List ℕ). PartsOf A B (ls ++ l ∷ []) ms N bs ws) p.1
-    (subst (λ (ks : List Local). PartsOf A B ks ms N bs vs) c.in_ok-push-in-Some.ensures.items c.in_ok-bind_patterns-in-Some.ensures)))
+    (subst (λ (ks : List Local). PartsOf A B ks ms N bs vs) c.in_ok-push-in-Some.ensures c.in_ok-bind_patterns-in-Some.ensures)))
 
 pub returns-in_ok-add_contradiction-in-None : goal.returns-in_ok-add_contradiction-in-None
 returns-in_ok-add_contradiction-in-None g c =
     let N : (ℕ → Term) → TypedNames = λ s. meanings_in c.args.outer.now.context.now (own_at s c.args.outer.now.own) in
-    let ls = c.args.locals.now.items in
+    let ls = c.args.locals.now in
     let bs = binders_in c.args.bindings.now in
     subst (λ (ws : List ℕ). DrawsOf c.args.state.now c.add_contradiction.new.self ls ls N bs ws) (sym (no_front c.args.items.now c.in-None.ensures.value))
     (no_draws N ls bs c.in_ok-add_contradiction-in-None.ensures)

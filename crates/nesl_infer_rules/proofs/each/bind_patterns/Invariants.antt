@@ -6,4 +6,4 @@ use Rattle.nesl_infer_rules.proofs.each.bind_patterns.Given as goal
 
 abbrev pub invariant-loop-place : goal.invariant-loop-place
 invariant-loop-place g l =
-    AddsNames l.initial.state l.state l.initial.locals.items l.locals.items (λ s of ns. PatternsAdd (world_at l.outer.context.now l.outer.own s of) (binders_in (take l.place l.bindings)) (map s (take l.place l.items)) ns)
+    AddsNames l.initial.state l.state l.initial.locals l.locals (λ s of ns. PatternsAdd (world_at l.outer.context.now l.outer.own s of) (binders_in (take l.place l.bindings)) (map s (take l.place l.items)) ns)
