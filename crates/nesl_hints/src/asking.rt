@@ -13,10 +13,10 @@ use nesl_session::Fault;
 use nesl_session::session::Session;
 use std::alloc::{AllocError, Global};
 
-/// What a person is told of a line, beside its reply, where the session as it is would refuse it; `None` where it
-/// would not. Nothing changes, and no evaluation is charged.
+/// What a person reads of a line, beside its reply, where the session as it is would refuse it; `None` where it would
+/// not. Nothing changes, and no evaluation is charged.
 ///
-/// Places are bytes of the whole form: of the parts that the session holds, and the line behind them. Before the line
+/// Places are bytes of the whole form: of the parts that the session holds, and the line after them. Before the line
 /// is said, `text` is that line. After it was answered by a fault the session holds no parts any more, so `text` is
 /// then the whole form, as it was before: [`Session::pending`] and the line.
 ///
@@ -69,7 +69,7 @@ pub fn hint_below(
     Ok(Some(found.within(form.len())))
 }
 
-// The parts of a form, and the line behind them.
+// The parts of a form, and the line after them.
 fn joined(alloc: Global, pending: &[u8], text: &[u8]) -> Result<Vec<u8>, AllocError>
     ensures { IfOk result (λ form. vec_len form ≡ length pending.now + length text.now) }
 {

@@ -1,4 +1,4 @@
-//! Hints on names that stand for nothing.
+//! Hints on names that mean nothing.
 
 mod bound;
 mod elsewhere;

@@ -5,7 +5,7 @@ use crate::tokens::name_in;
 use nesl_lex::token::{Sign, Token};
 
 /// Words that begin a line in other languages, and what is said of them.
-const FOREIGN: &[u8] = b"\
+const FOREIGN: &str = "\
 def fun fn func define\ta function is defined by `function g(x) = x + 1;`
 lambda\tfunctions are no values: define one by `function g(x) = x + 1;`
 type\ta datatype is defined by `datatype point (int, int);`, and a type is told by `:type x;`
@@ -18,79 +18,41 @@ while\tthere are no loops: a function may call itself, and `{a * a : a in v}` go
 import\tthere are no modules: all functions are there from the beginning
 ";
 
-/// What is said of a line's first word, where it begins lines in another language.
-pub(crate) fn foreign_said(tokens: &[Token]) -> Option<&'static [u8]> {
-    let first = tokens.first()?;
+/// What is said of the first of several tokens, where it is a word that begins lines in another language.
+pub(crate) fn foreign_said(tokens: &[Token]) -> Option<&'static str> {
+    let [first, _, ..] = tokens else {
+        return None;
+    };
     said_of_word(FOREIGN, name_in(first)?)
 }
 
-/// Two neighbouring signs that another language has for one, and what is said of them.
-const PAIRS: [(Sign, Sign, &[u8]); 13] = [
-    (
-        Sign::Plus,
-        Sign::Equal,
-        b"`+=` is no sign: a name is bound anew, as in `x = x + 1;`",
-    ),
-    (
-        Sign::DoublePlus,
-        Sign::Semicolon,
-        b"`++` joins two sequences; one more is `x = x + 1;`",
-    ),
-    (
-        Sign::Minus,
-        Sign::Equal,
-        b"`-=` is no sign: a name is bound anew, as in `x = x - 1;`",
-    ),
-    (
-        Sign::Star,
-        Sign::Equal,
-        b"`*=` is no sign: a name is bound anew, as in `x = x * 2;`",
-    ),
-    (
-        Sign::Star,
-        Sign::Star,
-        b"`**` is no sign: write a product, or `lshift(1, n)` for a power of two",
-    ),
-    (
-        Sign::Slash,
-        Sign::Slash,
-        b"`//` is no sign: `/` between whole numbers drops the fraction, and a comment is `% .. %`",
-    ),
-    (
-        Sign::Less,
-        Sign::Greater,
-        b"`<>` is no sign: two values that differ are `/=`",
-    ),
-    (Sign::Equal, Sign::Greater, b"`=>` is no sign: write `>=`"),
-    (Sign::Equal, Sign::Less, b"`=<` is no sign: write `<=`"),
-    (
-        Sign::DoubleEqual,
-        Sign::Equal,
-        b"`===` is no sign: `==` compares, and `eql(a, b)` compares sequences and pairs",
-    ),
-    (
-        Sign::Bar,
-        Sign::Bar,
-        b"`||` is no sign: write `or`, which evaluates both sides",
-    ),
-    (
-        Sign::Colon,
-        Sign::Equal,
-        b"a name is bound by `=` alone, as in `x = 3;`",
-    ),
-    (
-        Sign::Less,
-        Sign::Less,
-        b"`<<` is no sign: write `lshift(x, n)`",
-    ),
-];
-
-/// What is said of two signs that another language has for one.
-pub(crate) fn pair_said(first: Sign, second: Sign) -> Option<&'static [u8]> {
-    for (one, other, said) in &PAIRS {
-        if first == *one && second == *other {
-            return Some(said);
+/// What is said of two neighbouring signs that another language has for one.
+pub(crate) fn pair_said(first: Sign, second: Sign) -> Option<&'static str> {
+    let said = match (first, second) {
+        (Sign::Plus, Sign::Equal) => "`+=` is no sign: a name is bound anew, as in `x = x + 1;`",
+        (Sign::DoublePlus, Sign::Semicolon) => {
+            "`++` joins two sequences; one more is `x = x + 1;`"
         }
-    }
-    None
+        (Sign::Minus, Sign::Equal) => {
+            "`-=` is no sign: a name is bound anew, as in `x = x - 1;`"
+        }
+        (Sign::Star, Sign::Equal) => "`*=` is no sign: a name is bound anew, as in `x = x * 2;`",
+        (Sign::Star, Sign::Star) => {
+            "`**` is no sign: write a product, or `lshift(1, n)` for a power of two"
+        }
+        (Sign::Slash, Sign::Slash) => {
+            "`//` is no sign: `/` between whole numbers drops the fraction, and a comment is `% .. %`"
+        }
+        (Sign::Less, Sign::Greater) => "`<>` is no sign: two values that differ are `/=`",
+        (Sign::Equal, Sign::Greater) => "`=>` is no sign: write `>=`",
+        (Sign::Equal, Sign::Less) => "`=<` is no sign: write `<=`",
+        (Sign::DoubleEqual, Sign::Equal) => {
+            "`===` is no sign: `==` compares, and `eql(a, b)` compares sequences and pairs"
+        }
+        (Sign::Bar, Sign::Bar) => "`||` is no sign: write `or`, which evaluates both sides",
+        (Sign::Colon, Sign::Equal) => "a name is bound by `=` alone, as in `x = 3;`",
+        (Sign::Less, Sign::Less) => "`<<` is no sign: write `lshift(x, n)`",
+        _ => return None,
+    };
+    Some(said)
 }

@@ -1,8 +1,8 @@
-//! What a person is told of a wrong line, beside its reply.
+//! What a person reads of a wrong line, beside its reply.
 
 use nesl_lex::token::Span;
 
-/// What a person is told of a wrong line, beside its reply.
+/// What a person reads of a wrong line, beside its reply.
 #[derive(Debug, Drop)]
 pub struct Hint {
     /// Where the line is wrong: bytes of its whole form, the parts before it included.
@@ -16,29 +16,24 @@ pub struct Hint {
 impl Hint {
     ghost use Rattle.nesl_hints_tokens.specs.Within.{IsWithin};
 
-    /// This hint, cut down to a text of so many bytes.
+    /// This hint, cut down to a text of `len` bytes.
     pub fn within(self, len: usize) -> Hint
         ensures { IsWithin len result }
     {
-        let Hint {
-            place,
-            second,
-            sentence,
-        } = self;
         Hint {
-            place: span_within(place, len),
-            second: match second {
+            place: span_within(self.place, len),
+            second: match self.second {
                 Some(span) => Some(span_within(span, len)),
                 None => None,
             },
-            sentence,
+            sentence: self.sentence,
         }
     }
 }
 
 ghost use Rattle.nesl_hints_tokens.specs.Within.{IsSpanWithin};
 
-// The bytes of a span that a text of so many bytes has.
+// The bytes of a span that a text of `len` bytes has.
 fn span_within(span: Span, len: usize) -> Span
     ensures { IsSpanWithin len result }
 {

@@ -3,6 +3,7 @@
 
 mod bytes;
 mod commands;
+mod definitions;
 mod foreign;
 mod halt;
 pub mod hint;
@@ -21,6 +22,7 @@ mod tokens;
 pub use bytes::lexical;
 pub use hint::Hint;
 pub use line::syntax;
-pub use sentence::{add_parts, join_parts};
-pub use source::quoted;
-pub use tables::{said_of_front, said_of_word};
+pub use sentence::{Filling, Sentence};
+pub use source::{bytes_of, quoted};
+pub use tables::said_of_word;
+pub use tokens::{is_sign, name_in};

@@ -1,17 +1,23 @@
 //! What is open while tokens are read.
 
-use nesl_lex::token::Span;
+use nesl_lex::token::{Kind, Sign, Span, Token, Word};
 
 /// What is open.
 #[derive(Clone, Copy, PartialEq, Eq)]
 pub(crate) enum Opening {
     /// `(` of an expression.
     Round,
-    /// `(` behind a name.
+    /// `(` after a name.
     Call,
     /// `[` of a list or a range.
     Square,
-    /// `[` behind an expression.
+    /// `[`, and a comma since.
+    List,
+    /// `[`, and a colon since.
+    Range,
+    /// `[`, and two colons since.
+    StridedRange,
+    /// `[` after an expression.
     Index,
     /// `{`, before a `:` or an `in`.
     Brace,
@@ -24,18 +30,41 @@ pub(crate) enum Opening {
     /// A pattern of a `let`.
     LetPattern,
     LetValue,
-    /// Behind `in`: it ends where what is around it does.
+    /// After `in`: it ends where what is around it does.
     LetBody,
     Test,
     Branch,
-    /// Behind `else`: it ends where what is around it does.
+    /// After `else`: it ends where what is around it does.
     OtherBranch,
 }
 
 impl Opening {
-    /// Whether it is a pattern.
     fn is_pattern(self) -> bool {
         matches!(self, Opening::EachPattern | Opening::LetPattern)
+    }
+
+    /// What this opening becomes by a token, or `None` where it doesn't go on with the token.
+    fn next(self, token: &Token) -> Option<Opening> {
+        match (self, &token.kind) {
+            (Opening::Round | Opening::Call, Kind::Symbol(Sign::Comma)) => Some(self),
+            (Opening::Square | Opening::List, Kind::Symbol(Sign::Comma)) => Some(Opening::List),
+            (Opening::Square, Kind::Symbol(Sign::Colon)) => Some(Opening::Range),
+            (Opening::Range, Kind::Symbol(Sign::Colon)) => Some(Opening::StridedRange),
+            (Opening::Brace, Kind::Symbol(Sign::Colon)) => Some(Opening::EachPattern),
+            (Opening::EachValue, Kind::Symbol(Sign::Semicolon)) => Some(Opening::EachPattern),
+            (Opening::EachValue, Kind::Symbol(Sign::Bar)) => Some(Opening::Filter),
+            (Opening::Brace | Opening::EachPattern, Kind::Reserved(Word::In)) => {
+                Some(Opening::EachValue)
+            }
+            (Opening::LetPattern, Kind::Symbol(Sign::Equal)) => Some(Opening::LetValue),
+            (Opening::LetValue, Kind::Symbol(Sign::Semicolon)) => Some(Opening::LetPattern),
+            (Opening::LetPattern | Opening::LetValue, Kind::Reserved(Word::In)) => {
+                Some(Opening::LetBody)
+            }
+            (Opening::Test, Kind::Reserved(Word::Then)) => Some(Opening::Branch),
+            (Opening::Branch, Kind::Reserved(Word::Else)) => Some(Opening::OtherBranch),
+            _ => None,
+        }
     }
 }
 
@@ -45,11 +74,8 @@ pub(crate) struct Open {
     pub(crate) opening: Opening,
     /// The token that opened it.
     pub(crate) at: Span,
-    /// The number of tokens before what stands in it.
+    /// The number of tokens before its content.
     pub(crate) from: usize,
-    /// The colons of a range, and the commas of a list, so far.
-    pub(crate) colons: u8,
-    pub(crate) commas: bool,
     /// Whether it is a pattern or a part of one, which has names only.
     pub(crate) names: bool,
 }
@@ -60,8 +86,6 @@ impl Open {
             opening,
             at,
             from,
-            colons: 0,
-            commas: false,
             names: opening.is_pattern(),
         }
     }
@@ -75,36 +99,50 @@ impl Open {
         }
     }
 
-    /// What is open, when its next part begins.
-    pub(crate) fn turned(self, opening: Opening, from: usize) -> Open {
-        Open {
-            opening,
-            from,
-            names: opening.is_pattern(),
-            ..self
-        }
+    /// What this becomes by a token at a place, or `None` where it doesn't go on with the token.
+    pub(crate) fn next(self, token: &Token, place: usize) -> Option<Open> {
+        let opening = self.opening.next(token)?;
+        Some(match opening {
+            Opening::Round
+            | Opening::Call
+            | Opening::List
+            | Opening::Range
+            | Opening::StridedRange => Open { opening, ..self },
+            _ => Open {
+                opening,
+                from: place.saturating_add(1),
+                names: opening.is_pattern(),
+                ..self
+            },
+        })
     }
 
-    /// Whether it is a bracket.
-    pub(crate) fn is_bracket(self) -> bool {
-        !matches!(
-            self.opening,
-            Opening::LetPattern
-                | Opening::LetValue
-                | Opening::LetBody
-                | Opening::Test
-                | Opening::Branch
-                | Opening::OtherBranch
-        )
-    }
-
-    /// Whether a `:` may stand behind what stands in it so far.
-    pub(crate) fn takes_colon(self) -> bool {
+    /// The bracket that closes it, if one does.
+    pub(crate) fn closing(self) -> Option<Sign> {
         match self.opening {
-            Opening::Brace => true,
-            Opening::Square => self.colons < 2 && !self.commas,
-            _ => false,
+            Opening::Round | Opening::Call => Some(Sign::CloseParenthesis),
+            Opening::Square
+            | Opening::List
+            | Opening::Range
+            | Opening::StridedRange
+            | Opening::Index => Some(Sign::CloseBracket),
+            Opening::Brace | Opening::EachPattern | Opening::EachValue | Opening::Filter => {
+                Some(Sign::CloseBrace)
+            }
+            _ => None,
         }
+    }
+
+    pub(crate) fn is_bracket(self) -> bool {
+        self.closing().is_some()
+    }
+
+    /// Whether a `:` may follow its content so far.
+    pub(crate) fn takes_colon(self) -> bool {
+        matches!(
+            self.opening,
+            Opening::Brace | Opening::Square | Opening::Range
+        )
     }
 
     /// Whether it ends where what is around it does.

@@ -1,27 +1,67 @@
-//! Sentences of several parts.
+//! Sentences, which are made of texts with gaps.
 
+use crate::hint::Hint;
+use nesl_lex::token::Span;
 use std::alloc::{AllocError, Global};
 
-/// These parts, one behind the other.
-pub fn join_parts(
-    alloc: Global,
-    first: &[u8],
-    second: &[u8],
-    third: &[u8],
-) -> Result<Vec<u8>, AllocError> {
-    let mut sentence = Vec::new(alloc);
-    add_parts(&mut sentence, first, second, third)?;
-    Ok(sentence)
+/// What is written into a gap of a text: the gap's name and its bytes.
+#[derive(Clone, Copy)]
+pub struct Filling<'a>(pub &'static str, pub &'a [u8]);
+
+/// A sentence that is being written.
+#[derive(Drop)]
+pub struct Sentence {
+    bytes: Vec<u8>,
 }
 
-/// Adds these parts to a sentence.
-pub fn add_parts(
-    sentence: &mut Vec<u8>,
-    first: &[u8],
-    second: &[u8],
-    third: &[u8],
-) -> Result<(), AllocError> {
-    sentence.extend_from_slice(first)?;
-    sentence.extend_from_slice(second)?;
-    sentence.extend_from_slice(third)
+impl Sentence {
+    /// A sentence that says this, in which each `{name}` of a filling is filled.
+    pub fn of(alloc: Global, text: &str, fillings: &[Filling<'_>]) -> Result<Sentence, AllocError> {
+        let mut sentence = Sentence {
+            bytes: Vec::new(alloc),
+        };
+        sentence.add(text, fillings)?;
+        Ok(sentence)
+    }
+
+    /// The sentence goes on with this, in which each `{name}` of a filling is filled. Other braces are the text's own.
+    pub fn add(&mut self, text: &str, fillings: &[Filling<'_>]) -> Result<(), AllocError> {
+        let mut pieces = text.split('{');
+        if let Some(front) = pieces.next() {
+            self.bytes.extend_from_slice(front.as_bytes())?;
+        }
+        for piece in pieces {
+            match fill_front(piece, fillings) {
+                Some((filled, rest)) => {
+                    self.bytes.extend_from_slice(filled)?;
+                    self.bytes.extend_from_slice(rest.as_bytes())?;
+                }
+                None => {
+                    self.bytes.push(b'{')?;
+                    self.bytes.extend_from_slice(piece.as_bytes())?;
+                }
+            }
+        }
+        Ok(())
+    }
+
+    /// The hint that says this of a place.
+    pub fn at(self, place: Span) -> Hint {
+        Hint {
+            place,
+            second: None,
+            sentence: self.bytes,
+        }
+    }
+}
+
+// What fills the gap whose name is at the front of the text, and the text after the gap.
+fn fill_front<'t, 'f>(text: &'t str, fillings: &[Filling<'f>]) -> Option<(&'f [u8], &'t str)> {
+    let (gap, rest) = text.split_once('}')?;
+    for Filling(name, bytes) in fillings {
+        if gap == *name {
+            return Some((*bytes, rest));
+        }
+    }
+    None
 }

@@ -3,7 +3,7 @@
 use nesl_lex::token::{Kind, Sign, Token, Word};
 
 /// Whether the token is the sign.
-pub(crate) fn is_sign(token: &Token, sign: Sign) -> bool {
+pub fn is_sign(token: &Token, sign: Sign) -> bool {
     match &token.kind {
         Kind::Symbol(found) => *found == sign,
         _ => false,
@@ -19,7 +19,7 @@ pub(crate) fn is_word(token: &Token, word: Word) -> bool {
 }
 
 /// The name that the token is.
-pub(crate) fn name_in(token: &Token) -> Option<&[u8]> {
+pub fn name_in(token: &Token) -> Option<&[u8]> {
     match &token.kind {
         Kind::Name(name) => Some(name.as_slice()),
         _ => None,

@@ -1,6 +1,6 @@
 //! Calls and operators.
 
-use crate::clash::{Clash, Halt, Role, Shortage};
+use crate::clash::{Clash, Halt, Role, Shortage, Typed};
 use crate::copies::Ends;
 use crate::guesses::Guess;
 use crate::walk::Walk;
@@ -12,29 +12,11 @@ use nesl_types::Top;
 /// An argument that doesn't fit.
 #[derive(Clone, Copy)]
 struct Misfit {
-    /// How many arguments stand before it.
+    /// The number of arguments before it.
     before: u64,
-    place: Span,
-    /// The place of its type.
-    found: usize,
+    found: Typed,
     /// The place of the type that it should have.
     wanted: usize,
-}
-
-// The clash of an argument of the function with this name, where the whole argument has the type at a place.
-fn clash_of(name: &[u8], given: usize, misfit: Misfit) -> Clash<'_> {
-    let role = if misfit.found == given {
-        Role::Argument(name)
-    } else {
-        Role::OneArgument(name, misfit.before)
-    };
-    Clash {
-        role,
-        place: misfit.place,
-        second: None,
-        found: misfit.found,
-        wanted: misfit.wanted,
-    }
 }
 
 impl<'e> Walk<'e> {
@@ -47,12 +29,23 @@ impl<'e> Walk<'e> {
         given: usize,
     ) -> Result<usize, Halt<'e>> {
         let ends = self.ends(name)?;
-        if !self.guesses.join(given, ends.takes)? {
-            let misfit = self.misfit(argument, given, ends.takes)?;
-            return Err(Halt::Found(clash_of(name, given, misfit)));
+        if self.guesses.join(given, ends.takes)? {
+            let ty = ends.gives;
+            self.calls.push(Typed::new(span, ty))?;
+            return Ok(ty);
         }
-        self.calls.push((span, ends.gives))?;
-        Ok(ends.gives)
+        let misfit = self.misfit(argument, given, ends.takes)?;
+        let role = if misfit.found.ty == given {
+            Role::Argument(name)
+        } else {
+            Role::OneArgument(name, misfit.before)
+        };
+        Err(Halt::Found(Clash {
+            role,
+            found: misfit.found,
+            second: None,
+            wanted: misfit.wanted,
+        }))
     }
 
     // What the function with a name takes and gives.
@@ -74,14 +67,13 @@ impl<'e> Walk<'e> {
     }
 
     // The argument of a call that doesn't fit.
-    fn misfit(&mut self, exp: &Exp, found: usize, wanted: usize) -> Result<Misfit, Shortage> {
+    fn misfit(&mut self, exp: &Exp, ty: usize, wanted: usize) -> Result<Misfit, Shortage> {
         let whole = Misfit {
             before: 0,
-            place: exp.span,
-            found,
+            found: Typed::new(exp.span, ty),
             wanted,
         };
-        let (first, rest) = match self.guesses.guess(found) {
+        let (first, rest) = match self.guesses.guess(ty) {
             Guess::Pair(first, rest) => (first, rest),
             _ => return Ok(whole),
         };
@@ -92,10 +84,10 @@ impl<'e> Walk<'e> {
         match &exp.node {
             Node::Pair { left, right } => {
                 if !self.guesses.join(first, own)? {
+                    let found = Typed::new(left.span, first);
                     return Ok(Misfit {
                         before: 0,
-                        place: left.span,
-                        found: first,
+                        found,
                         wanted: own,
                     });
                 }
@@ -110,20 +102,9 @@ impl<'e> Walk<'e> {
     }
 
     /// The place of the type of an operator before an expression.
-    pub(crate) fn prefix(
-        &mut self,
-        operator: Prefix,
-        place: Span,
-        found: usize,
-    ) -> Result<usize, Halt<'e>> {
+    pub(crate) fn prefix(&mut self, operator: Prefix, found: Typed) -> Result<usize, Halt<'e>> {
         let ends = self.guesses.builtin(of_prefix(operator))?;
-        self.join(Clash {
-            role: Role::Operand(operator),
-            place,
-            second: None,
-            found,
-            wanted: ends.takes,
-        })?;
+        self.join(Role::Operand(operator), found, ends.takes)?;
         Ok(ends.gives)
     }
 
@@ -131,39 +112,22 @@ impl<'e> Walk<'e> {
     pub(crate) fn infix(
         &mut self,
         operator: Operator,
-        left: (Span, usize),
-        right: (Span, usize),
+        left: Typed,
+        right: Typed,
     ) -> Result<usize, Halt<'e>> {
         let ends = self.guesses.builtin(of_infix(operator))?;
-        let Guess::Pair(first, second) = self.guesses.guess(ends.takes) else {
-            return Ok(ends.gives);
-        };
-        self.join(Clash {
-            role: Role::Left(operator),
-            place: left.0,
-            second: Some(right.0),
-            found: left.1,
-            wanted: first,
-        })?;
-        self.join(Clash {
-            role: Role::Right(operator),
-            place: right.0,
-            second: Some(left.0),
-            found: right.1,
-            wanted: second,
-        })?;
+        if let Guess::Pair(first, second) = self.guesses.guess(ends.takes) {
+            self.join_beside(Role::Left(operator), left, Some(right.span), first)?;
+            self.join_beside(Role::Right(operator), right, Some(left.span), second)?;
+        }
         Ok(ends.gives)
     }
 
     /// The place of the type of an element of a sequence.
-    pub(crate) fn index(
-        &mut self,
-        items: (Span, usize),
-        number: (Span, usize),
-    ) -> Result<usize, Halt<'e>> {
+    pub(crate) fn index(&mut self, items: Typed, number: Typed) -> Result<usize, Halt<'e>> {
         let item = self.guesses.open()?;
-        self.expect(Guess::Sequence(item), Role::Indexed, items.0, items.1)?;
-        self.expect(Guess::Int, Role::Index, number.0, number.1)?;
+        self.expect(Guess::Sequence(item), Role::Indexed, items)?;
+        self.expect(Guess::Int, Role::Index, number)?;
         Ok(item)
     }
 }

@@ -11,19 +11,19 @@ pub enum Role<'e> {
     Left(Operator),
     /// The right side of an operator.
     Right(Operator),
-    /// What stands behind an operator that stands before one expression.
+    /// What follows a prefix operator.
     Operand(Prefix),
     /// The argument of the function with this name.
     Argument(&'e [u8]),
-    /// One of several arguments of the function with this name, and how many stand before it.
+    /// One of several arguments of the function with this name, and the number of those before it.
     OneArgument(&'e [u8], u64),
-    /// What stands before an index.
+    /// The sequence before an index.
     Indexed,
     /// A number in brackets.
     Index,
-    /// What stands behind `if`.
+    /// What follows `if`.
     Test,
-    /// What stands behind `else`.
+    /// What follows `else`.
     Otherwise,
     /// An element of a sequence.
     Element,
@@ -45,17 +45,27 @@ pub enum Role<'e> {
     OwnBody,
 }
 
+/// A part of a form, and the place of its type.
+#[derive(Clone, Copy)]
+pub struct Typed {
+    pub span: Span,
+    pub ty: usize,
+}
+
+impl Typed {
+    pub(crate) fn new(span: Span, ty: usize) -> Typed {
+        Typed { span, ty }
+    }
+}
+
 /// A part of a form that doesn't fit.
 #[derive(Clone, Copy)]
 pub struct Clash<'e> {
     /// What the part is to its whole.
     pub role: Role<'e>,
-    /// Where it stands.
-    pub place: Span,
+    pub found: Typed,
     /// What it doesn't fit to.
     pub second: Option<Span>,
-    /// The place of its type.
-    pub found: usize,
     /// The place of the type that it should have.
     pub wanted: usize,
 }
@@ -93,12 +103,6 @@ impl<T: Drop> From<AllocFailed<T>> for Shortage {
 impl From<Shortage> for Halt<'_> {
     fn from(shortage: Shortage) -> Self {
         Halt::Short(shortage)
-    }
-}
-
-impl From<AllocError> for Halt<'_> {
-    fn from(_error: AllocError) -> Self {
-        Halt::Short(Shortage::Memory)
     }
 }
 

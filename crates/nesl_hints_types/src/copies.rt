@@ -1,7 +1,7 @@
 //! Types of names that are known, among those that are being found.
 
 use crate::clash::Shortage;
-use crate::guesses::{Guess, Guesses};
+use crate::guesses::{Guess, Guesses, of_class};
 use nesl_builtins::{Builtin, classes, gives, takes};
 use nesl_types::{Class, Part, Scheme, Ty};
 use nesl_types_shared::Shape;
@@ -13,7 +13,7 @@ pub(crate) struct Ends {
     pub(crate) gives: usize,
 }
 
-// The place that stands at a place.
+// The place in a list of places.
 fn at(places: &[usize], place: usize) -> usize {
     match places.get(place) {
         Some(found) => *found,
@@ -22,7 +22,7 @@ fn at(places: &[usize], place: usize) -> usize {
 }
 
 impl Guesses {
-    /// A copy of a type, in which the types at these places stand for its variables.
+    /// A copy of a type, whose variables are the types at these places.
     pub(crate) fn copy(&mut self, part: &Part<'_>, variables: &[usize]) -> Result<usize, Shortage> {
         let (parts, last) = part.place();
         let mut places = Vec::new(self.alloc);
@@ -80,7 +80,11 @@ impl Guesses {
         takes: &Part<'_>,
         gives: &Part<'_>,
     ) -> Result<Ends, Shortage> {
-        let variables = self.open_all(classes)?;
+        let mut variables = Vec::new(self.alloc);
+        for class in classes {
+            let variable = self.add(of_class(*class))?;
+            variables.push(variable)?;
+        }
         let taken = self.copy(takes, variables.as_slice())?;
         let given = self.copy(gives, variables.as_slice())?;
         Ok(Ends {

@@ -1,10 +1,9 @@
 //! Whole forms.
 
-use crate::clash::{Clash, Halt, Role};
+use crate::clash::{Halt, Role, Typed};
 use crate::guesses::of_class;
 use crate::names::Names;
 use crate::walk::{Own, Walk};
-use nesl_lex::token::Span;
 use nesl_syntax_tree::tree as syntax;
 use nesl_syntax_tree::tree::{Exp, Form, Pattern, Signature};
 use nesl_types::Class;
@@ -20,17 +19,11 @@ fn class_of(class: syntax::Class) -> Class {
 }
 
 impl<'e> Walk<'e> {
-    /// Walks over a form, and gives the place of the type of its expression, and where that stands. A definition has no
-    /// expression of its own.
-    pub fn form(&mut self, form: &'e Form) -> Result<Option<(Span, usize)>, Halt<'e>> {
+    /// Walks over a form, and gives its expression. A definition has no expression of its own.
+    pub fn form(&mut self, form: &'e Form) -> Result<Option<Typed>, Halt<'e>> {
         match form {
-            Form::Eval(exp) | Form::ShowType(exp) => {
-                let place = self.check(exp)?;
-                Ok(Some((exp.span, place)))
-            }
-            Form::Bind { value, .. } => {
-                let place = self.check(value)?;
-                Ok(Some((value.span, place)))
+            Form::Eval(exp) | Form::ShowType(exp) | Form::Bind { value: exp, .. } => {
+                Ok(Some(Typed::new(exp.span, self.check(exp)?)))
             }
             Form::Fun {
                 name,
@@ -59,55 +52,36 @@ impl<'e> Walk<'e> {
             Some(signature) => Some(self.sign(parameter, signature, ends.takes)?),
             None => None,
         };
-        let found = self.check(body)?;
-        if let Some((span, wanted)) = signed {
-            self.same(Role::Body, (span, wanted), (body.span, found))?;
+        let found = Typed::new(body.span, self.check(body)?);
+        if let Some(wanted) = signed {
+            self.same(Role::Body, wanted, found)?;
         }
-        self.join(Clash {
-            role: Role::OwnBody,
-            place: body.span,
-            second: None,
-            found,
-            wanted: ends.gives,
-        })
+        self.join(Role::OwnBody, found, ends.gives)
     }
 
-    // What a signature says of the parameter; gives where it says what the body is, and the place of that type.
+    // What a signature says of the parameter; gives the type that it says the body has.
     fn sign(
         &mut self,
         parameter: &'e Pattern,
         signature: &'e Signature,
         takes: usize,
-    ) -> Result<(Span, usize), Halt<'e>> {
+    ) -> Result<Typed, Halt<'e>> {
         let mut names = Names::new(self.alloc);
-        let from = self.written(&signature.from, &mut names)?;
-        let to = self.written(&signature.to, &mut names)?;
-        self.sign_members(signature, &mut names)?;
-        self.same(
-            Role::Parameter,
-            (signature.from.span, from),
-            (parameter.span, takes),
-        )?;
-        Ok((signature.to.span, to))
-    }
-
-    // What a signature says of the classes of the types that these names stand for.
-    fn sign_members(
-        &mut self,
-        signature: &'e Signature,
-        names: &mut Names<'e>,
-    ) -> Result<(), Halt<'e>> {
+        let from = Typed::new(
+            signature.from.span,
+            self.written(&signature.from, &mut names)?,
+        );
+        let to = Typed::new(signature.to.span, self.written(&signature.to, &mut names)?);
         for member in &signature.members {
             let wanted = self.add(of_class(class_of(member.class)))?;
-            let found = self.named_type(member.name.as_slice(), names)?;
-            self.join(Clash {
-                role: Role::Parameter,
-                place: signature.from.span,
-                second: None,
-                found,
-                wanted,
-            })?;
+            let found = Typed::new(
+                from.span,
+                self.named_type(member.name.as_slice(), &mut names)?,
+            );
+            self.join(Role::Parameter, found, wanted)?;
         }
-        Ok(())
+        let own = Typed::new(parameter.span, takes);
+        self.same(Role::Parameter, from, own)?;
+        Ok(to)
     }
 }

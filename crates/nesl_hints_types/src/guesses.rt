@@ -40,7 +40,7 @@ struct Slot {
     guess: Guess,
     /// How many places have their type here, this one included.
     weight: usize,
-    /// The number of the search that came by last.
+    /// The number of the last search that saw it.
     seen: u64,
 }
 
@@ -49,10 +49,10 @@ struct Slot {
 pub struct Guesses {
     pub(crate) alloc: Global,
     slots: Vec<Slot>,
-    /// What stood before at the places that were changed since the last mark.
-    before: Vec<(usize, Guess)>,
+    /// The earlier guesses at the places that the last join changed.
+    pub(crate) before: Vec<(usize, Guess)>,
     /// The steps that are left.
-    steps: u64,
+    pub(crate) steps: u64,
     /// The number of the last search.
     searches: u64,
 }
@@ -89,11 +89,6 @@ impl Guesses {
         }
     }
 
-    /// The steps that are left.
-    pub(crate) fn steps(&self) -> u64 {
-        self.steps
-    }
-
     /// One more type.
     pub(crate) fn add(&mut self, guess: Guess) -> Result<usize, Shortage> {
         self.step()?;
@@ -114,16 +109,6 @@ impl Guesses {
         self.add(Guess::Open(Class::Any))
     }
 
-    /// One more type for each class, of which nothing else is known.
-    pub(crate) fn open_all(&mut self, classes: &[Class]) -> Result<Vec<usize>, Shortage> {
-        let mut places = Vec::new(self.alloc);
-        for class in classes {
-            let place = self.add(of_class(*class))?;
-            places.push(place)?;
-        }
-        Ok(places)
-    }
-
     // What is at a place.
     fn at(&self, place: usize) -> Guess {
         match self.slots.get(place) {
@@ -132,7 +117,7 @@ impl Guesses {
         }
     }
 
-    /// What is known of the type at a place, and the place where that stands.
+    /// What is known of the type at a place, and the place that has it.
     pub fn find(&self, place: usize) -> (usize, Guess) {
         let mut at = place;
         for _ in 0..self.slots.len() {
@@ -163,12 +148,12 @@ impl Guesses {
         guess
     }
 
-    /// A search begins, which has come by no place yet.
+    /// Begins a search, which has seen no place yet.
     pub(crate) fn search(&mut self) {
         self.searches = self.searches.saturating_add(1);
     }
 
-    /// Whether the search comes by a place for the first time.
+    /// Whether the search sees a place for the first time.
     pub(crate) fn is_new(&mut self, place: usize) -> bool {
         let search = self.searches;
         match self.slots.get_mut(place) {
@@ -178,11 +163,6 @@ impl Guesses {
             }
             _ => false,
         }
-    }
-
-    /// What stands from now on is noted, until it is taken back or marked again.
-    pub(crate) fn mark(&mut self) {
-        self.before.clear();
     }
 
     /// The types at two places are one from now on, of which this is known. The one that fewer places have
@@ -223,7 +203,7 @@ impl Guesses {
         Ok(())
     }
 
-    /// All is as it was at the last mark.
+    /// All is as it was before the last join.
     pub(crate) fn take_back(&mut self) {
         for _ in 0..self.before.len() {
             if let Some((place, guess)) = self.before.pop() {

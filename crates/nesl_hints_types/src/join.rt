@@ -5,6 +5,15 @@ use crate::guesses::{Guess, Guesses, of_class};
 use nesl_types::{Class, meet};
 use std::alloc::AllocError;
 
+/// Which part of a type is sought.
+#[derive(Clone, Copy)]
+pub(crate) enum Sought {
+    /// The part at this place.
+    At(usize),
+    /// A part that is open.
+    Open,
+}
+
 /// Whether the type is in the class, whose parts don't matter.
 fn is_in(class: Class, guess: Guess) -> bool {
     match class {
@@ -12,14 +21,6 @@ fn is_in(class: Class, guess: Guess) -> bool {
         Class::Number => matches!(guess, Guess::Int),
         Class::Ordinal => matches!(guess, Guess::Int | Guess::Char),
         Class::Logical => matches!(guess, Guess::Int | Guess::Bool),
-    }
-}
-
-// The class of a type that is open.
-fn class_of(guess: Guess) -> Option<Class> {
-    match guess {
-        Guess::Open(class) => Some(class),
-        _ => None,
     }
 }
 
@@ -63,10 +64,10 @@ fn leave_parts(guess: Guess, rest: &mut Vec<usize>) -> Result<(), AllocError> {
 impl Guesses {
     /// Makes two types the same, if they can be; if they can't, nothing changes.
     pub(crate) fn join(&mut self, first: usize, second: usize) -> Result<bool, Shortage> {
-        self.mark();
+        self.before.clear();
         let mut rest = Vec::new(self.alloc);
         let mut next = Some((first, second));
-        for _ in 0..self.steps() {
+        for _ in 0..self.steps {
             let Some((one, other)) = next else {
                 return Ok(true);
             };
@@ -91,11 +92,11 @@ impl Guesses {
         if first == second {
             return Ok(true);
         }
-        let (fits, known) = match (class_of(left), class_of(right)) {
-            (Some(class), Some(more)) => (true, of_class(meet(class, more))),
-            (Some(class), None) => (self.closes(first, class, second, right)?, right),
-            (None, Some(class)) => (self.closes(second, class, first, left)?, left),
-            (None, None) => (join_closed(left, right, rest)?, right),
+        let (fits, known) = match (left, right) {
+            (Guess::Open(class), Guess::Open(more)) => (true, of_class(meet(class, more))),
+            (Guess::Open(class), _) => (self.closes(first, class, second, right)?, right),
+            (_, Guess::Open(class)) => (self.closes(second, class, first, left)?, left),
+            _ => (join_closed(left, right, rest)?, right),
         };
         if fits {
             self.unite(first, second, known)?;
@@ -111,44 +112,30 @@ impl Guesses {
         place: usize,
         known: Guess,
     ) -> Result<bool, Shortage> {
-        Ok(is_in(class, known) && !self.is_within(open, place)?)
-    }
-
-    // Whether the type at a place is a part of another one. A part that has several places is looked at once.
-    fn is_within(&mut self, part: usize, place: usize) -> Result<bool, Shortage> {
-        self.search();
-        let mut rest = Vec::new(self.alloc);
-        let mut next = Some(place);
-        for _ in 0..self.steps() {
-            let Some(here) = next else {
-                return Ok(false);
-            };
-            let (at, guess) = self.look(here)?;
-            if at == part {
-                return Ok(true);
-            }
-            if self.is_new(at) {
-                leave_parts(guess, &mut rest)?;
-            }
-            next = rest.pop();
+        if !is_in(class, known) {
+            return Ok(false);
         }
-        Err(Shortage::Steps)
+        self.search();
+        Ok(!self.has_part(place, Sought::At(open))?)
     }
 
-    /// Whether a part of the type is open still that the search hasn't come by.
-    pub(crate) fn is_open(&mut self, place: usize) -> Result<bool, Shortage> {
+    /// Whether a part of the type at a place is sought. A part that the search has come by is not looked at again.
+    pub(crate) fn has_part(&mut self, place: usize, sought: Sought) -> Result<bool, Shortage> {
         let mut rest = Vec::new(self.alloc);
         let mut next = Some(place);
-        for _ in 0..self.steps() {
+        for _ in 0..self.steps {
             let Some(here) = next else {
                 return Ok(false);
             };
             let (at, guess) = self.look(here)?;
-            if self.is_new(at) {
-                match guess {
-                    Guess::Open(_) => return Ok(true),
-                    closed => leave_parts(closed, &mut rest)?,
-                }
+            let is_new = self.is_new(at);
+            match (sought, guess) {
+                (Sought::At(part), _) if at == part => return Ok(true),
+                (Sought::Open, Guess::Open(_)) if is_new => return Ok(true),
+                _ => {}
+            }
+            if is_new {
+                leave_parts(guess, &mut rest)?;
             }
             next = rest.pop();
         }

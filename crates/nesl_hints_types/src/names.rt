@@ -4,7 +4,7 @@ use crate::clash::Shortage;
 use std::alloc::Global;
 use std::collections::BTreeMap;
 
-/// A name that was bound, and the place that it stood for before.
+/// A name that was bound, and the place that it meant before.
 #[derive(Clone, Copy)]
 struct Local<'e> {
     name: &'e [u8],
@@ -42,12 +42,12 @@ impl<'e> Names<'e> {
         Ok(())
     }
 
-    /// How many names were bound.
+    /// The number of names that are bound.
     pub(crate) fn len(&self) -> usize {
         self.locals.len()
     }
 
-    /// All names but the first so many mean again what they meant before they were bound.
+    /// All names but the first `kept` mean again what they meant before they were bound.
     pub(crate) fn forget_behind(&mut self, kept: usize) -> Result<(), Shortage> {
         for _ in kept..self.locals.len() {
             if let Some(local) = self.locals.pop() {

@@ -1,65 +1,50 @@
 //! Patterns, and types as they are written.
 
-use crate::clash::{Clash, Halt, Role, Shortage};
+use crate::clash::{Halt, Role, Shortage, Typed};
 use crate::guesses::Guess;
 use crate::names::Names;
 use crate::walk::Walk;
+use nesl_lex::token::Span;
 use nesl_syntax_tree::tree::{Pattern, PatternNode, TypeExp, TypeNode};
 
 impl<'e> Walk<'e> {
-    /// The names of a pattern that stands for something of the type at a place.
+    /// Binds the names of a pattern, which is of the type at a place.
     pub(crate) fn bind(&mut self, pattern: &'e Pattern, place: usize) -> Result<(), Halt<'e>> {
         match &pattern.node {
-            PatternNode::Name(name) => self.bind_name(name.as_slice(), place),
+            PatternNode::Name(name) => Ok(self.names.bind(name.as_slice(), place)?),
             PatternNode::Pair { left, right } => {
-                let (first, second) = self.parts(pattern, place)?;
+                let (first, second) = self.parts(pattern.span, place)?;
                 self.bind(left, first)?;
                 self.bind(right, second)
             }
             PatternNode::Record { name, part } => {
-                let content = self.content(pattern, name.as_slice(), place)?;
+                let content = self.content(pattern.span, name.as_slice(), place)?;
                 self.bind(part, content)
             }
         }
     }
 
-    fn bind_name(&mut self, name: &'e [u8], place: usize) -> Result<(), Halt<'e>> {
-        Ok(self.names.bind(name, place)?)
-    }
-
     // The parts of the type at a place, which has to be a pair.
-    fn parts(&mut self, pattern: &Pattern, place: usize) -> Result<(usize, usize), Halt<'e>> {
-        if let Guess::Pair(first, second) = self.guesses.guess(place) {
+    fn parts(&mut self, span: Span, ty: usize) -> Result<(usize, usize), Halt<'e>> {
+        if let Guess::Pair(first, second) = self.guesses.guess(ty) {
             return Ok((first, second));
         }
         let first = self.guesses.open()?;
         let second = self.guesses.open()?;
-        self.expect(Guess::Pair(first, second), Role::Pair, pattern.span, place)?;
+        self.expect(Guess::Pair(first, second), Role::Pair, Typed::new(span, ty))?;
         Ok((first, second))
     }
 
     // What a record of the type at a place holds, which has to be the datatype with this name.
-    fn content(
-        &mut self,
-        pattern: &Pattern,
-        name: &'e [u8],
-        place: usize,
-    ) -> Result<usize, Halt<'e>> {
+    fn content(&mut self, span: Span, name: &'e [u8], ty: usize) -> Result<usize, Halt<'e>> {
         let Some((tag, content)) = self.datatype(name) else {
-            return self.open();
+            return Ok(self.guesses.open()?);
         };
-        let wanted = self.add(Guess::Named(tag))?;
-        self.join(Clash {
-            role: Role::Record(name),
-            place: pattern.span,
-            second: None,
-            found: place,
-            wanted,
-        })?;
+        self.expect(Guess::Named(tag), Role::Record(name), Typed::new(span, ty))?;
         Ok(self.guesses.copy(&content.whole(), &[])?)
     }
 
-    /// The place of a type that is written. Names that are no datatypes stand for one type each, and are noted.
+    /// The place of a type that is written. Names that are no datatypes mean one type each, and are noted.
     pub(crate) fn written(
         &mut self,
         written: &'e TypeExp,
@@ -82,7 +67,7 @@ impl<'e> Walk<'e> {
         }
     }
 
-    /// The place of the type that a name stands for.
+    /// The place of the type that a name means.
     pub(crate) fn named_type(
         &mut self,
         name: &'e [u8],

@@ -1,8 +1,9 @@
 //! A walk over an expression, which finds the type of each part.
 
-use crate::clash::{Clash, Halt, Role, Shortage};
+use crate::clash::{Clash, Halt, Role, Shortage, Typed};
 use crate::copies::Ends;
 use crate::guesses::{Guess, Guesses};
+use crate::join::Sought;
 use crate::names::Names;
 use nesl_eval_top_level::Payload;
 use nesl_lex::token::Span;
@@ -27,11 +28,11 @@ pub struct Walk<'e> {
     pub(crate) names: Names<'e>,
     pub(crate) own: Option<Own<'e>>,
     /// The calls so far, and the places of their types.
-    pub(crate) calls: Vec<(Span, usize)>,
+    pub(crate) calls: Vec<Typed>,
 }
 
 impl<'e> Walk<'e> {
-    /// A walk that has yet to begin, over a form of so many bytes, where names mean what they mean in this context.
+    /// A walk over a form of this number of bytes, which has yet to begin. The context has the meanings of names.
     pub fn new(alloc: Global, context: &'e Context<Payload>, bytes: usize) -> Walk<'e> {
         Walk {
             alloc,
@@ -53,11 +54,11 @@ impl<'e> Walk<'e> {
             }
             Node::Pair { left, right } => {
                 let (first, second) = self.check_two(left, right)?;
-                self.add(Guess::Pair(first, second))
+                self.add(Guess::Pair(first.ty, second.ty))
             }
             Node::Prefix { operator, operand } => {
-                let given = self.check(operand)?;
-                self.prefix(*operator, operand.span, given)
+                let ty = self.check(operand)?;
+                self.prefix(*operator, Typed::new(operand.span, ty))
             }
             Node::Infix {
                 operator,
@@ -65,11 +66,11 @@ impl<'e> Walk<'e> {
                 right,
             } => {
                 let (first, second) = self.check_two(left, right)?;
-                self.infix(*operator, (left.span, first), (right.span, second))
+                self.infix(*operator, first, second)
             }
             Node::Index { sequence, index } => {
                 let (items, number) = self.check_two(sequence, index)?;
-                self.index((sequence.span, items), (index.span, number))
+                self.index(items, number)
             }
             Node::Choice { test, yes, no } => self.check_choice(test, yes, no),
             Node::Sequence(items) => self.check_items(items.as_slice()),
@@ -85,32 +86,31 @@ impl<'e> Walk<'e> {
                 bindings,
                 filter,
             } => self.check_filtered(body, bindings.as_slice(), filter),
-            _ => self.check_leaf(&exp.node),
+            _ => Ok(self.leaf(&exp.node)?),
         }
     }
 
-    /// The first call whose type is open, and the place of its type.
-    pub fn first_open(&mut self) -> Result<Option<(Span, usize)>, Shortage> {
+    /// The first call whose type is open.
+    pub fn first_open(&mut self) -> Result<Option<Typed>, Shortage> {
         self.guesses.search();
-        for (span, place) in &self.calls {
-            if self.guesses.is_open(*place)? {
-                return Ok(Some((*span, *place)));
+        for call in &self.calls {
+            if self.guesses.has_part(call.ty, Sought::Open)? {
+                return Ok(Some(*call));
             }
         }
         Ok(None)
     }
 
     // The place of the type of an expression without parts.
-    fn check_leaf(&mut self, node: &'e Node) -> Result<usize, Halt<'e>> {
-        Ok(self.leaf(node)?)
-    }
-
     fn leaf(&mut self, node: &'e Node) -> Result<usize, Shortage> {
         match node {
             Node::Number(_) => self.guesses.add(Guess::Int),
             Node::Truth(_) => self.guesses.add(Guess::Bool),
             Node::Character(_) => self.guesses.add(Guess::Char),
-            Node::Text(_) => self.text(),
+            Node::Text(_) => {
+                let item = self.guesses.add(Guess::Char)?;
+                self.guesses.add(Guess::Sequence(item))
+            }
             Node::Variable(name) => self.variable(name.as_slice()),
             Node::Empty(written) => {
                 let mut names = Names::new(self.alloc);
@@ -121,11 +121,10 @@ impl<'e> Walk<'e> {
         }
     }
 
-    // The places of the types of two expressions.
     #[cycle(walk)]
-    fn check_two(&mut self, left: &'e Exp, right: &'e Exp) -> Result<(usize, usize), Halt<'e>> {
-        let first = self.check(left)?;
-        let second = self.check(right)?;
+    fn check_two(&mut self, left: &'e Exp, right: &'e Exp) -> Result<(Typed, Typed), Halt<'e>> {
+        let first = Typed::new(left.span, self.check(left)?);
+        let second = Typed::new(right.span, self.check(right)?);
         Ok((first, second))
     }
 
@@ -138,7 +137,7 @@ impl<'e> Walk<'e> {
     ) -> Result<usize, Halt<'e>> {
         self.check_as(test, Guess::Bool, Role::Test)?;
         let (first, second) = self.check_two(yes, no)?;
-        self.same(Role::Otherwise, (yes.span, first), (no.span, second))
+        self.same(Role::Otherwise, first, second)
     }
 
     // The ends of a range, and the place of the type of the last one.
@@ -198,9 +197,9 @@ impl<'e> Walk<'e> {
     // The place of the type of an expression, which has to be this one.
     #[cycle(walk)]
     fn check_as(&mut self, exp: &'e Exp, guess: Guess, role: Role<'e>) -> Result<usize, Halt<'e>> {
-        let found = self.check(exp)?;
-        self.expect(guess, role, exp.span, found)?;
-        Ok(found)
+        let ty = self.check(exp)?;
+        self.expect(guess, role, Typed::new(exp.span, ty))?;
+        Ok(ty)
     }
 
     // The place of the type of the body of an apply-to-each.
@@ -218,16 +217,16 @@ impl<'e> Walk<'e> {
     fn check_items(&mut self, items: &'e [Exp]) -> Result<usize, Halt<'e>> {
         let mut first = None;
         for item in items {
-            let found = self.check(item)?;
+            let found = Typed::new(item.span, self.check(item)?);
             match first {
-                None => first = Some((item.span, found)),
+                None => first = Some(found),
                 Some(known) => {
-                    self.same(Role::Element, known, (item.span, found))?;
+                    self.same(Role::Element, known, found)?;
                 }
             }
         }
         let item = match first {
-            Some((_, place)) => place,
+            Some(known) => known.ty,
             None => self.guesses.open()?,
         };
         self.add(Guess::Sequence(item))
@@ -255,32 +254,26 @@ impl<'e> Walk<'e> {
     fn check_drawn(&mut self, bindings: &'e [Binding]) -> Result<Vec<usize>, Halt<'e>> {
         let mut drawn = Vec::new(self.alloc);
         for binding in bindings {
-            let value = self.check(&binding.value)?;
-            let item = self.drawn(binding.value.span, value)?;
-            drawn.push(item)?;
+            let value = Typed::new(binding.value.span, self.check(&binding.value)?);
+            drawn.push(self.item_of(value)?)?;
         }
         Ok(drawn)
     }
 
-    // The bindings of an apply-to-each stand for elements of the types at these places, of which the first is given.
+    // Binds the patterns of an apply-to-each to elements of the types at these places; gives the first of these.
     fn bind_drawn(&mut self, bindings: &'e [Binding], drawn: &[usize]) -> Result<usize, Halt<'e>> {
         for (binding, item) in bindings.iter().zip(drawn.iter()) {
             self.bind(&binding.pattern, *item)?;
         }
         match drawn.first() {
             Some(place) => Ok(*place),
-            None => self.open(),
+            None => Ok(self.guesses.open()?),
         }
     }
 
     /// The place of one more type.
     pub(crate) fn add(&mut self, guess: Guess) -> Result<usize, Halt<'e>> {
         Ok(self.guesses.add(guess)?)
-    }
-
-    /// The place of one more type, of which nothing is known.
-    pub(crate) fn open(&mut self) -> Result<usize, Halt<'e>> {
-        Ok(self.guesses.open()?)
     }
 
     /// The tag of the datatype with a name, and what a record of it holds.
@@ -290,11 +283,6 @@ impl<'e> Walk<'e> {
             Some((Top::Datatype(tag, content), _)) => Some((*tag, content)),
             _ => None,
         }
-    }
-
-    fn text(&mut self) -> Result<usize, Shortage> {
-        let item = self.guesses.add(Guess::Char)?;
-        self.guesses.add(Guess::Sequence(item))
     }
 
     // The place of the type of a variable.
@@ -310,12 +298,12 @@ impl<'e> Walk<'e> {
     }
 
     // The place of the type of the elements of what a pattern is in.
-    fn drawn(&mut self, span: Span, value: usize) -> Result<usize, Halt<'e>> {
-        if let Guess::Sequence(item) = self.guesses.guess(value) {
+    fn item_of(&mut self, value: Typed) -> Result<usize, Halt<'e>> {
+        if let Guess::Sequence(item) = self.guesses.guess(value.ty) {
             return Ok(item);
         }
         let item = self.guesses.open()?;
-        self.expect(Guess::Sequence(item), Role::Drawn, span, value)?;
+        self.expect(Guess::Sequence(item), Role::Drawn, value)?;
         Ok(item)
     }
 
@@ -324,42 +312,49 @@ impl<'e> Walk<'e> {
         &mut self,
         guess: Guess,
         role: Role<'e>,
-        place: Span,
-        found: usize,
+        found: Typed,
     ) -> Result<(), Halt<'e>> {
         let wanted = self.guesses.add(guess)?;
-        self.join(Clash {
-            role,
-            place,
-            second: None,
-            found,
-            wanted,
-        })
+        self.join(role, found, wanted)
     }
 
     /// Two parts have to be of one type, which is given.
     pub(crate) fn same(
         &mut self,
         role: Role<'e>,
-        first: (Span, usize),
-        second: (Span, usize),
+        first: Typed,
+        second: Typed,
     ) -> Result<usize, Halt<'e>> {
-        self.join(Clash {
-            role,
-            place: second.0,
-            second: Some(first.0),
-            found: second.1,
-            wanted: first.1,
-        })?;
-        Ok(first.1)
+        self.join_beside(role, second, Some(first.span), first.ty)?;
+        Ok(first.ty)
     }
 
-    /// What is found has to be of the type that is wanted, or there is this clash.
-    pub(crate) fn join(&mut self, clash: Clash<'e>) -> Result<(), Halt<'e>> {
-        if self.guesses.join(clash.found, clash.wanted)? {
-            Ok(())
-        } else {
-            Err(Halt::Found(clash))
+    /// A part has to be of the type at a place.
+    pub(crate) fn join(
+        &mut self,
+        role: Role<'e>,
+        found: Typed,
+        wanted: usize,
+    ) -> Result<(), Halt<'e>> {
+        self.join_beside(role, found, None, wanted)
+    }
+
+    /// A part has to be of the type at a place, which it has to be because of a second part.
+    pub(crate) fn join_beside(
+        &mut self,
+        role: Role<'e>,
+        found: Typed,
+        second: Option<Span>,
+        wanted: usize,
+    ) -> Result<(), Halt<'e>> {
+        if self.guesses.join(found.ty, wanted)? {
+            return Ok(());
         }
+        Err(Halt::Found(Clash {
+            role,
+            found,
+            second,
+            wanted,
+        }))
     }
 }

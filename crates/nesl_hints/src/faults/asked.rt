@@ -1,7 +1,7 @@
 //! A form that is refused.
 
 use nesl_eval_top_level::Env;
-use nesl_hints_tokens::Hint;
+use nesl_hints_tokens::{Hint, Sentence};
 use nesl_lex::token::Span;
 use nesl_session::session::Session;
 use std::alloc::{AllocError, Global};
@@ -18,7 +18,7 @@ pub struct Asked<'a> {
 }
 
 impl<'a> Asked<'a> {
-    /// What the names of the session stand for.
+    /// What the names of the session mean.
     pub(crate) fn environment(&self) -> &'a Env {
         let session = self.session;
         session.meanings().environment()
@@ -30,28 +30,16 @@ impl<'a> Asked<'a> {
         limits.line_work.min(self.session.remaining().work)
     }
 
-    /// Something is said of a place.
-    pub(crate) fn at(&self, place: Span, said: &[u8]) -> Result<Hint, AllocError> {
-        Ok(Hint {
-            place,
-            second: None,
-            sentence: Vec::from_slice(self.alloc, said)?,
-        })
+    /// The hint that says this of the whole form.
+    pub(crate) fn whole(&self, said: &str) -> Result<Hint, AllocError> {
+        Ok(Sentence::of(self.alloc, said, &[])?.at(self.place()))
     }
 
-    /// Something is said of the whole form.
-    pub(crate) fn whole(&self, said: &[u8]) -> Result<Hint, AllocError> {
-        let place = Span {
+    /// The bytes of the whole form.
+    pub(crate) fn place(&self) -> Span {
+        Span {
             start: 0,
             end: self.text.len(),
-        };
-        self.at(place, said)
+        }
     }
-}
-
-/// The bytes of a span. What lies behind the text is cut off.
-pub(crate) fn bytes_of(text: &[u8], span: Span) -> &[u8] {
-    let end = span.end.min(text.len());
-    let start = span.start.min(end);
-    &text[start..end]
 }

@@ -6,18 +6,18 @@ use nesl_syntax_tree::tree::{Binding, Exp, Form, Node};
 /// The expression of a form that evaluates one.
 pub(crate) fn expression_of(form: &Form) -> Option<&Exp> {
     match form {
-        Form::Eval(exp) => Some(exp),
-        Form::Bind { value, .. } => Some(value),
+        Form::Eval(exp) | Form::Bind { value: exp, .. } => Some(exp),
         _ => None,
     }
 }
 
-/// Whether an expression stands in these bytes of a form, and no type or pattern.
+/// Whether these bytes of a form are an expression, and no type or pattern.
 pub(crate) fn is_value(form: &Form, span: Span) -> bool {
     let whole = match form {
-        Form::Eval(exp) | Form::ShowType(exp) => exp,
-        Form::Bind { value, .. } => value,
-        Form::Fun { body, .. } => body,
+        Form::Eval(exp)
+        | Form::ShowType(exp)
+        | Form::Bind { value: exp, .. }
+        | Form::Fun { body: exp, .. } => exp,
         _ => return false,
     };
     match node_at(whole, span) {
@@ -26,7 +26,7 @@ pub(crate) fn is_value(form: &Form, span: Span) -> bool {
     }
 }
 
-/// The part of an expression that stands in these bytes: the outermost one.
+/// The part of an expression that has these bytes: the outermost one.
 #[cycle(node_at)]
 pub(crate) fn node_at<'e>(exp: &'e Exp, span: Span) -> Option<&'e Exp> {
     if exp.span == span {

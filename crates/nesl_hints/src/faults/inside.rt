@@ -1,15 +1,15 @@
 //! Where in a called function an evaluation is refused: the call is replaced by the function's body, and the form is
 //! evaluated once more.
 
-use crate::faults::asked::{Asked, bytes_of};
+use crate::faults::asked::Asked;
 use crate::faults::effort::Effort;
 use crate::faults::finding::{expression_of, node_at};
 use crate::faults::sources::{Source, form_of, source_of};
 use crate::names::bound_names;
 use nesl_eval::Outcome;
-use nesl_hints_tokens::{add_parts, join_parts};
+use nesl_hints_tokens::{bytes_of, name_in};
 use nesl_lex::lex;
-use nesl_lex::token::{Kind, Span, Token};
+use nesl_lex::token::{Span, Token};
 use nesl_session::{Fault, Stop};
 use nesl_syntax_tree::tree::{Form, Node};
 use std::alloc::{AllocError, Global};
@@ -38,25 +38,17 @@ pub(crate) fn unfold_calls(
     place: Span,
     fault: Fault,
 ) -> Result<Option<Unfolded>, AllocError> {
-    let mut last = unfold_call(asked, effort, asked.text, form, place, fault)?;
+    let Some(mut last) = unfold_call(asked, effort, asked.text, form, place, fault)? else {
+        return Ok(None);
+    };
     for _ in 1..MOST_CALLS {
-        let next = match &last {
-            Some(inside) => unfold_call(
-                asked,
-                effort,
-                inside.text.as_slice(),
-                &inside.form,
-                inside.place,
-                fault,
-            )?,
-            None => None,
-        };
-        match next {
-            Some(inside) => last = Some(inside),
-            None => return Ok(last),
+        let text = last.text.as_slice();
+        match unfold_call(asked, effort, text, &last.form, last.place, fault)? {
+            Some(next) => last = next,
+            None => break,
         }
     }
-    Ok(last)
+    Ok(Some(last))
 }
 
 // The form with the call at a place replaced, and where it is refused for the same reason.
@@ -89,7 +81,7 @@ fn unfold_call(
     }))
 }
 
-// The name of the function that is called at a place, and where its argument stands.
+// The name of the function that is called at a place, and where its argument is.
 fn call_at(form: &Form, place: Span) -> Option<(&[u8], Span)> {
     let node = node_at(expression_of(form)?, place)?;
     match &node.node {
@@ -115,11 +107,15 @@ fn with_body(
         start: call.end,
         end: text.len(),
     };
-    let parameter = bytes_of(definition, source.parameter);
-    let mut out = join_parts(alloc, bytes_of(text, before), b"(let (", parameter)?;
-    add_parts(&mut out, b") = (", bytes_of(text, argument), b") in ")?;
-    let body = bytes_of(definition, source.body);
-    add_parts(&mut out, body, b")", bytes_of(text, behind))?;
+    let mut out = Vec::from_slice(alloc, bytes_of(text, before))?;
+    out.extend_from_slice(b"(let (")?;
+    out.extend_from_slice(bytes_of(definition, source.parameter))?;
+    out.extend_from_slice(b") = (")?;
+    out.extend_from_slice(bytes_of(text, argument))?;
+    out.extend_from_slice(b") in ")?;
+    out.extend_from_slice(bytes_of(definition, source.body))?;
+    out.extend_from_slice(b")")?;
+    out.extend_from_slice(bytes_of(text, behind))?;
     Ok(out)
 }
 
@@ -143,19 +139,11 @@ fn hides_one(bound: &[&[u8]], own: &[Token], used: &[Token]) -> bool {
     }
     for token in used {
         if let Some(name) = name_in(token) {
-            if !names_one(own, name) && bound.iter().any(|known| *known == name) {
-                return true;
-            }
-        }
-    }
-    false
-}
-
-// Whether the name is one of the tokens.
-fn names_one(tokens: &[Token], name: &[u8]) -> bool {
-    for token in tokens {
-        if let Some(known) = name_in(token) {
-            if known == name {
+            let is_own = own.iter().any(|token| match name_in(token) {
+                Some(known) => known == name,
+                None => false,
+            });
+            if !is_own && bound.iter().any(|known| *known == name) {
                 return true;
             }
         }
@@ -168,14 +156,6 @@ fn tokens_in(alloc: Global, source: &Source, place: Span) -> Vec<Token> {
     match lex(alloc, bytes_of(source.text.as_slice(), place)) {
         Ok(tokens) => tokens,
         Err(_) => Vec::new(alloc),
-    }
-}
-
-// The name that the token is.
-fn name_in(token: &Token) -> Option<&[u8]> {
-    match &token.kind {
-        Kind::Name(name) => Some(name.as_slice()),
-        _ => None,
     }
 }
 
@@ -192,33 +172,20 @@ fn refused_again(
     let Some(form) = form_of(asked.alloc, text) else {
         return Ok(None);
     };
-    match refused_at(asked, effort, &form, fault)? {
-        Some(place) => Ok(Some((form, place))),
-        None => Ok(None),
-    }
-}
-
-// Where the evaluation of a form is refused, if it is for the same reason.
-fn refused_at(
-    asked: &Asked<'_>,
-    effort: &mut Effort,
-    form: &Form,
-    fault: Fault,
-) -> Result<Option<Span>, AllocError> {
-    let Some(exp) = expression_of(form) else {
-        return Ok(None);
+    let evaluated = match expression_of(&form) {
+        Some(exp) => effort.evaluate(asked, exp),
+        None => None,
     };
-    let Some(evaluated) = effort.evaluate(asked, exp) else {
+    let Some(evaluated) = evaluated else {
         return Ok(None);
     };
     match evaluated.outcome {
         Outcome::Fault { trap, span, work } => {
             let found = Fault::of_trap(trap, Stop { span, work });
             if found.number() == fault.number() {
-                Ok(Some(span))
-            } else {
-                Ok(None)
+                return Ok(Some((form, span)));
             }
+            Ok(None)
         }
         Outcome::Memory => Err(AllocError),
         _ => Ok(None),

@@ -2,7 +2,7 @@
 
 use crate::faults::asked::Asked;
 use crate::faults::finding::expression_of;
-use nesl_hints_tokens::Hint;
+use nesl_hints_tokens::{Hint, Sentence};
 use nesl_lex::token::Span;
 use nesl_session::LONGEST;
 use nesl_syntax_tree::tree::Form;
@@ -19,7 +19,7 @@ pub(crate) fn too_long(asked: &Asked<'_>) -> Result<Hint, AllocError> {
         start: most,
         end: len,
     };
-    asked.at(place, said.as_bytes())
+    Ok(Sentence::of(asked.alloc, said.as_str(), &[])?.at(place))
 }
 
 /// The session records no line any more.
@@ -33,40 +33,36 @@ pub(crate) fn no_lines_left(asked: &Asked<'_>) -> Result<Hint, AllocError> {
     let said = format!(in asked.alloc;
         "sessions record {lines} lines of {bytes} bytes; {left_lines} and {left_bytes} are left: `:reset` forgets all"
     )?;
-    asked.whole(said.as_bytes())
+    asked.whole(said.as_str())
 }
 
-// The place of the expression of a form, or the whole where it has none.
-fn place_of(asked: &Asked<'_>, form: &Form) -> Span {
+// The hint that says this of the expression of a form, or of the whole form where it has none.
+fn on_expression(asked: &Asked<'_>, form: &Form, said: &str) -> Result<Hint, AllocError> {
     match expression_of(form) {
-        Some(exp) => exp.span,
-        None => Span {
-            start: 0,
-            end: asked.text.len(),
-        },
+        Some(exp) => Ok(Sentence::of(asked.alloc, said, &[])?.at(exp.span)),
+        None => asked.whole(said),
     }
 }
 
 /// The form takes more work than it may.
 pub(crate) fn over_budget(asked: &Asked<'_>, form: &Form, budget: u64) -> Result<Hint, AllocError> {
-    let line_work = asked.session.limits().line_work;
-    let place = place_of(asked, form);
     if budget == 0 {
-        return asked.at(
-            place,
-            b"the session has used up its work and evaluates nothing any more, which `:reset` doesn't change",
+        return on_expression(
+            asked,
+            form,
+            "the session has used up its work and evaluates nothing any more, which `:reset` doesn't change",
         );
     }
-    if budget < line_work {
-        let said = format!(in asked.alloc;
+    let said = if budget < asked.session.limits().line_work {
+        format!(in asked.alloc;
             "the session had work for {budget} steps left, and this would have taken more"
-        )?;
-        return asked.at(place, said.as_bytes());
-    }
-    let said = format!(in asked.alloc;
-        "a line may take {budget} steps of work, and this takes more: try a smaller input, or a function that ends"
-    )?;
-    asked.at(place, said.as_bytes())
+        )?
+    } else {
+        format!(in asked.alloc;
+            "a line may take {budget} steps of work, and this takes more: try a smaller input, or a function that ends"
+        )?
+    };
+    on_expression(asked, form, said.as_str())
 }
 
 /// What the form would bind has too many nodes.
@@ -76,5 +72,5 @@ pub(crate) fn no_room(asked: &Asked<'_>, form: &Form) -> Result<Hint, AllocError
     let said = format!(in asked.alloc;
         "all that is bound may have {most} nodes together, and there is room for {left}: bind less, or `:reset`"
     )?;
-    asked.at(place_of(asked, form), said.as_bytes())
+    on_expression(asked, form, said.as_str())
 }

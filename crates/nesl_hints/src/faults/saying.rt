@@ -34,7 +34,7 @@ fn hint_on_tokens(asked: &Asked<'_>, tokens: &[Token], fault: Fault) -> Result<H
         Ok(form) => hint_on_form(asked, tokens, &form, fault),
         Err(ParseFault::Syntax) => syntax(asked.alloc, asked.text, tokens),
         Err(ParseFault::Nested) => asked.whole(
-            b"the form is more than 100 high, a leaf being 1: bind some of its parts to names first",
+            "the form is more than 100 high, a leaf being 1: bind some of its parts to names first",
         ),
         Err(ParseFault::Memory) => Err(AllocError),
     }
@@ -61,11 +61,11 @@ fn hint_on_form(
         }
         Fault::IllTyped => match ill_typed(alloc, context, form, len)? {
             Some(hint) => Ok(hint),
-            None => asked.whole(b"one of the types would have more than 4,096 nodes"),
+            None => asked.whole("one of the types would have more than 4,096 nodes"),
         },
         Fault::Ambiguous => match ambiguous(alloc, context, form, len)? {
             Some(hint) => Ok(hint),
-            None => asked.whole(b"nothing decides the type of this"),
+            None => asked.whole("nothing decides the type of this"),
         },
         Fault::Retype => retyped(asked, tokens, form),
         Fault::Taken => taken(asked, tokens, form),

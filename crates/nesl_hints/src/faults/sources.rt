@@ -12,7 +12,7 @@ use std::alloc::{AllocError, Global};
 /// The most lines of a session among which a definition is sought: the last ones.
 const MOST_LINES: usize = 1_000;
 
-/// The text of a function's definition, and where its parameter and its body stand.
+/// The text of a function's definition, and where its parameter and its body are.
 #[derive(Drop)]
 pub(crate) struct Source {
     pub(crate) text: Vec<u8>,
@@ -38,14 +38,23 @@ pub(crate) fn source_of(
     if !effort.reaches(text.len()) {
         return Ok(None);
     }
-    if is_definition(asked.alloc, text.as_slice(), name, parameter, body) {
-        return Ok(Some(Source {
-            text,
-            parameter,
-            body,
-        }));
+    let form = form_of(asked.alloc, text.as_slice());
+    match &form {
+        Some(
+            Form::Fun {
+                name: own,
+                parameter: pattern,
+                body: exp,
+                ..
+            },
+        ) if own.as_slice() == name && pattern.span == parameter && exp.span == body => {}
+        _ => return Ok(None),
     }
-    Ok(None)
+    Ok(Some(Source {
+        text,
+        parameter,
+        body,
+    }))
 }
 
 // The last form among the lines of the session that begins as a definition of the function does.
@@ -82,15 +91,12 @@ fn defines(form: &[u8], name: &[u8]) -> bool {
         return false;
     };
     match behind_word(behind, name) {
-        Some(rest) => match rest.first() {
-            Some(next) => !next.is_ascii_alphanumeric() && *next != b'_',
-            None => false,
-        },
-        None => false,
+        Some([next, ..]) => !next.is_ascii_alphanumeric() && *next != b'_',
+        _ => false,
     }
 }
 
-// What stands behind a word of small letters, blanks before it left out.
+// What follows a word of small letters, blanks before it left out.
 fn behind_word<'t>(text: &'t [u8], word: &[u8]) -> Option<&'t [u8]> {
     let blanks = text
         .iter()
@@ -103,27 +109,6 @@ fn behind_word<'t>(text: &'t [u8], word: &[u8]) -> Option<&'t [u8]> {
         Some(behind)
     } else {
         None
-    }
-}
-
-// Whether the text is the definition of the function, with its parameter and its body at these places.
-fn is_definition(alloc: Global, text: &[u8], name: &[u8], parameter: Span, body: Span) -> bool {
-    match form_of(alloc, text) {
-        Some(form) => is_function(&form, name, parameter, body),
-        None => false,
-    }
-}
-
-// Whether the form defines the function, with its parameter and its body at these places.
-fn is_function(form: &Form, name: &[u8], parameter: Span, body: Span) -> bool {
-    match form {
-        Form::Fun {
-            name: own,
-            parameter: pattern,
-            body: exp,
-            ..
-        } => own.as_slice() == name && pattern.span == parameter && exp.span == body,
-        _ => false,
     }
 }
 

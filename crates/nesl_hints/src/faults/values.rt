@@ -12,8 +12,8 @@ use std::alloc::AllocError;
 /// The most nodes of a value that a sentence has.
 const MOST_NODES: u64 = 16;
 
-/// What a part of a form comes to, in words: a short value, or how many elements it has. A part that has a local name
-/// in it comes to nothing.
+/// What a part of a form evaluates to, in words: a short value, or the number of its elements. It is `None` for a part
+/// with a local name in it.
 pub(crate) fn value_of(
     asked: &Asked<'_>,
     effort: &mut Effort,
@@ -29,7 +29,7 @@ pub(crate) fn value_of(
     }
 }
 
-// A short value, or how many elements it has.
+// A short value, or the number of its elements.
 fn in_words(asked: &Asked<'_>, value: &Value, ty: &Ty) -> Result<Option<Vec<u8>>, AllocError> {
     if value.nodes() <= MOST_NODES {
         let context = asked.environment().context();

@@ -18,13 +18,15 @@ const FEWEST: usize = 3;
 /// The most names that are compared with one that is unknown.
 const MOST_COMPARED: usize = 1_000;
 
+// Whether a name that is known is near to this one, of which very short ones are near to none.
+fn is_near(name: &[u8], known: &[u8]) -> bool {
+    name.len() >= FEWEST && near(name, known)
+}
+
 /// The built-in function whose name is near to this one.
 pub(crate) fn near_builtin(name: &[u8]) -> Option<&'static [u8]> {
-    if name.len() < FEWEST {
-        return None;
-    }
     for known in BUILTINS.split(|byte| *byte == b' ') {
-        if near(name, known) {
+        if is_near(name, known) {
             return Some(known);
         }
     }
@@ -37,12 +39,9 @@ pub(crate) fn near_binding<'a>(
     name: &[u8],
     called: bool,
 ) -> Option<&'a [u8]> {
-    if name.len() < FEWEST {
-        return None;
-    }
     for place in 0..context.len().min(MOST_COMPARED) {
         if let Some((known, top, _)) = context.at(place) {
-            if is_called(top) == called && near(name, known) {
+            if is_called(top) == called && is_near(name, known) {
                 return Some(known);
             }
         }
@@ -52,32 +51,26 @@ pub(crate) fn near_binding<'a>(
 
 /// The one of these names that is near to this one.
 pub(crate) fn near_local<'a>(locals: &[&'a [u8]], name: &[u8]) -> Option<&'a [u8]> {
-    if name.len() < FEWEST {
-        return None;
-    }
     for known in locals.iter().take(MOST_COMPARED) {
-        if near(name, known) {
+        if is_near(name, known) {
             return Some(*known);
         }
     }
     None
 }
 
-/// Whether it stands before `(`.
+/// Whether it can be called.
 pub(crate) fn is_called(top: &Top) -> bool {
-    match top {
-        Top::Variable(_) => false,
-        Top::Function(_) => true,
-        Top::Datatype(_, _) => true,
-    }
+    !matches!(top, Top::Variable(_))
 }
 
 /// The names that patterns of a form bind.
 pub fn bound_names(alloc: Global, form: &Form) -> Result<Vec<&[u8]>, AllocError> {
     let mut names = Vec::new(alloc);
     match form {
-        Form::Eval(exp) | Form::ShowType(exp) => bound_in_exp(exp, &mut names)?,
-        Form::Bind { value, .. } => bound_in_exp(value, &mut names)?,
+        Form::Eval(exp) | Form::ShowType(exp) | Form::Bind { value: exp, .. } => {
+            bound_in_exp(exp, &mut names)?;
+        }
         Form::Fun {
             parameter,
             body,

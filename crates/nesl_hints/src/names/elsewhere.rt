@@ -3,7 +3,7 @@
 use nesl_hints_tokens::said_of_word;
 
 /// Names of values and functions, and what is said of them.
-const NAMES: &[u8] = b"\
+const NAMES: &str = "\
 length len size strlen\tthe length of a sequence is `#v`
 head first hd\tthe first element is `v[0]`
 tail rest tl\tall elements but the first are `drop(v, 1)`
@@ -45,7 +45,7 @@ id\tthere is no `id`: `function id(x) = x;` defines it
 ";
 
 /// Names of types, and what is said of them.
-const TYPES: &[u8] = b"\
+const TYPES: &str = "\
 string str text\ta text is `[char]`
 boolean\tthe type of truth values is `bool`
 integer number num\tthe type of numbers is `int`
@@ -55,11 +55,11 @@ list array vector\tthe type of a sequence of numbers is `[int]`
 ";
 
 /// What is said of a name of a value or a function that other languages have.
-pub(crate) fn known_elsewhere(name: &[u8]) -> Option<&'static [u8]> {
+pub(crate) fn known_elsewhere(name: &[u8]) -> Option<&'static str> {
     said_of_word(NAMES, name)
 }
 
 /// What is said of a name of a type that other languages have.
-pub(crate) fn type_elsewhere(name: &[u8]) -> Option<&'static [u8]> {
+pub(crate) fn type_elsewhere(name: &[u8]) -> Option<&'static str> {
     said_of_word(TYPES, name)
 }

@@ -6,38 +6,35 @@ const MOST_BYTES: usize = 256;
 /// Whether two names differ by one byte more, one less, another one, or two neighbours that changed places. Long names
 /// are near to none.
 pub fn near(first: &[u8], second: &[u8]) -> bool {
-    let longest = first.len().max(second.len());
-    if longest > MOST_BYTES || first.len().min(second.len()).saturating_add(1) < longest {
+    if first.len().max(second.len()) > MOST_BYTES {
         return false;
     }
-    let front = first
+    let same = first
         .iter()
         .zip(second.iter())
-        .take_while(|(a, b)| a == b)
+        .take_while(|(one, other)| one == other)
         .count();
-    let back = first
-        .iter()
-        .rev()
-        .zip(second.iter().rev())
-        .take_while(|(a, b)| a == b)
-        .count();
-    let same = front.saturating_add(back);
-    if first.len() == second.len() {
-        return same.saturating_add(1) >= first.len() || is_swapped(first, second, front, same);
+    match (first.get(same..), second.get(same..)) {
+        (Some(one), Some(other)) => differ_at_front(one, other),
+        _ => false,
     }
-    let (less, more) = if first.len() < second.len() {
-        (first.len(), second.len())
-    } else {
-        (second.len(), first.len())
-    };
-    more - less == 1 && same >= less
 }
 
-// Whether all is the same but two neighbours, which changed places.
-fn is_swapped(first: &[u8], second: &[u8], front: usize, same: usize) -> bool {
-    if same.saturating_add(2) != first.len() {
-        return false;
+// Whether two texts differ so in their first bytes alone.
+fn differ_at_front(first: &[u8], second: &[u8]) -> bool {
+    match (first, second) {
+        ([], []) | ([_], []) | ([], [_]) => true,
+        ([a, one @ ..], [b, other @ ..]) => {
+            one == other || one == second || first == other || is_swapped(*a, *b, one, other)
+        }
+        _ => false,
     }
-    let next = front.saturating_add(1);
-    first.get(front) == second.get(next) && first.get(next) == second.get(front)
+}
+
+// Whether two bytes, and those after them, are two neighbours that changed places.
+fn is_swapped(a: u8, b: u8, one: &[u8], other: &[u8]) -> bool {
+    match (one, other) {
+        ([c, one @ ..], [d, other @ ..]) => a == *d && b == *c && one == other,
+        _ => false,
+    }
 }

@@ -1,4 +1,4 @@
-//! Names that stand for nothing.
+//! Names that mean nothing.
 ghost use Rattle.std.specs.Prelude.{IfOk};
 ghost use Rattle.nesl_hints_tokens.specs.Within.{IsWithin};
 
@@ -6,22 +6,26 @@ use crate::names::bound::{bound_names, is_called, near_binding, near_builtin, ne
 use crate::names::elsewhere::{known_elsewhere, type_elsewhere};
 use nesl_builtins::named;
 use nesl_eval_top_level::Payload;
-use nesl_hints_tokens::{Hint, add_parts, join_parts};
-use nesl_lex::token::{Kind, Sign, Span, Token};
+use nesl_hints_tokens::{Filling, Hint, Sentence, is_sign, name_in};
+use nesl_lex::token::{Sign, Span, Token};
 use nesl_syntax_tree::tree::Form;
 use nesl_types::Context;
 use std::alloc::{AllocError, Global};
 
-/// A name that stands for nothing.
+/// What is said of a name before the parentheses of a pattern.
+const NO_RECORD: &str =
+    "no datatype is called `{name}`: a name before the parentheses of a pattern is a datatype, as in `datatype point (int, int);`";
+
+/// A name that means nothing.
 #[derive(Clone, Copy)]
 struct Sought<'a> {
     name: &'a [u8],
     place: Span,
-    /// Whether it stands before `(`.
+    /// Whether it is called: a `(` follows it.
     called: bool,
 }
 
-/// Where a form has a name that stands for nothing.
+/// Where a form has a name that means nothing.
 #[derive(Clone, Copy)]
 pub struct Unknown<'a> {
     /// The tokens of the form.
@@ -32,7 +36,7 @@ pub struct Unknown<'a> {
     pub is_value: bool,
 }
 
-/// A name that stands for nothing, in a form. Places are cut off behind so many bytes.
+/// A name that means nothing, in a form of `len` bytes, after which places are cut off.
 pub fn unknown_name(
     alloc: Global,
     context: &Context<Payload>,
@@ -56,14 +60,10 @@ pub fn unknown_name(
     let sentence = match form {
         Form::Datatype { name, .. } => said_of_type(alloc, name.as_slice(), sought)?,
         _ if at.is_value => said_of_value(alloc, context, form, sought)?,
-        _ if sought.called => said_of_record(alloc, sought)?,
+        _ if sought.called => sought.say(alloc, NO_RECORD)?,
         _ => said_of_type(alloc, b"", sought)?,
     };
-    let hint = Hint {
-        place: sought.place,
-        second: None,
-        sentence,
-    };
+    let hint = sentence.at(sought.place);
     Ok(hint.within(len))
 }
 
@@ -73,63 +73,47 @@ fn name_from(tokens: &[Token], from: usize) -> Option<Sought<'_>> {
         if token.span.start < from {
             continue;
         }
-        if let Kind::Name(name) = &token.kind {
+        if let Some(name) = name_in(token) {
             return Some(Sought {
-                name: name.as_slice(),
+                name,
                 place: token.span,
-                called: is_opening(tokens.get(place.saturating_add(1))),
+                called: match tokens.get(place.saturating_add(1)) {
+                    Some(next) => is_sign(next, Sign::OpenParenthesis),
+                    None => false,
+                },
             });
         }
     }
     None
 }
 
-// Whether the token is `(`.
-fn is_opening(token: Option<&Token>) -> bool {
-    match token {
-        Some(token) => match &token.kind {
-            Kind::Symbol(sign) => *sign == Sign::OpenParenthesis,
-            _ => false,
-        },
-        None => false,
+impl<'a> Sought<'a> {
+    // A sentence that names it.
+    fn say(self, alloc: Global, text: &str) -> Result<Sentence, AllocError> {
+        Sentence::of(alloc, text, &[Filling("name", self.name)])
     }
-}
 
-// A sentence with a name that is near.
-fn near_to(alloc: Global, sought: Sought<'_>, known: &[u8]) -> Result<Vec<u8>, AllocError> {
-    let mut sentence = join_parts(alloc, b"nothing is called `", sought.name, b"`; there is `")?;
-    add_parts(&mut sentence, known, b"`", b"")?;
-    Ok(sentence)
+    // A sentence with a name that is near.
+    fn near_to(self, alloc: Global, known: &[u8]) -> Result<Sentence, AllocError> {
+        let mut sentence = self.say(alloc, "nothing is called `{name}`")?;
+        sentence.add("; there is `{known}`", &[Filling("known", known)])?;
+        Ok(sentence)
+    }
 }
 
 // What is said of a name in what a datatype is to hold.
-fn said_of_type(alloc: Global, own: &[u8], sought: Sought<'_>) -> Result<Vec<u8>, AllocError> {
+fn said_of_type(alloc: Global, own: &[u8], sought: Sought<'_>) -> Result<Sentence, AllocError> {
     if sought.name == own {
-        return join_parts(
+        return sought.say(
             alloc,
-            b"a datatype can't hold itself: all types in `",
-            own,
-            b"` are defined before it",
+            "a datatype can't hold itself: all types in `{name}` are defined before it",
         );
     }
-    if let Some(said) = type_elsewhere(sought.name) {
-        return Vec::from_slice(alloc, said);
-    }
-    join_parts(
+    sought.say(
         alloc,
-        b"no type is called `",
-        sought.name,
-        b"`: there are `int`, `bool`, `char`, `[int]`, `(int, int)` and datatypes",
-    )
-}
-
-// What is said of a name before the parentheses of a pattern.
-fn said_of_record(alloc: Global, sought: Sought<'_>) -> Result<Vec<u8>, AllocError> {
-    join_parts(
-        alloc,
-        b"no datatype is called `",
-        sought.name,
-        b"`: a name before the parentheses of a pattern is a datatype, as in `datatype point (int, int);`",
+        type_elsewhere(sought.name).unwrap_or(
+            "no type is called `{name}`: there are `int`, `bool`, `char`, `[int]`, `(int, int)` and datatypes",
+        ),
     )
 }
 
@@ -139,26 +123,22 @@ fn said_of_value(
     context: &Context<Payload>,
     form: &Form,
     sought: Sought<'_>,
-) -> Result<Vec<u8>, AllocError> {
+) -> Result<Sentence, AllocError> {
     let bound = bound_names(alloc, form)?;
     let is_bound = bound.iter().any(|name| *name == sought.name);
     if sought.called {
         return said_of_function(alloc, context, is_bound, sought);
     }
     if is_function(context, form, sought.name) {
-        return join_parts(
+        return sought.say(
             alloc,
-            b"`",
-            sought.name,
-            b"` is a function: its argument stands behind it in parentheses",
+            "`{name}` is a function: its argument stands behind it in parentheses",
         );
     }
     if is_bound {
-        return join_parts(
+        return sought.say(
             alloc,
-            b"`",
-            sought.name,
-            b"` is bound, but not known here: a `let` knows it behind its binding, and braces in their body and filter",
+            "`{name}` is bound, but not known here: a `let` knows it behind its binding, and braces in their body and filter",
         );
     }
     said_of_variable(alloc, context, form, bound.as_slice(), sought)
@@ -169,14 +149,12 @@ fn is_function(context: &Context<Payload>, form: &Form, name: &[u8]) -> bool {
     if named(name).is_some() {
         return true;
     }
-    if let Form::Fun { name: own, .. } = form {
-        if own.as_slice() == name {
-            return true;
-        }
-    }
-    match context.get(name) {
-        Some((top, _)) => is_called(top),
-        None => false,
+    match form {
+        Form::Fun { name: own, .. } if own.as_slice() == name => true,
+        _ => match context.get(name) {
+            Some((top, _)) => is_called(top),
+            None => false,
+        },
     }
 }
 
@@ -186,62 +164,61 @@ fn said_of_function(
     context: &Context<Payload>,
     is_bound: bool,
     sought: Sought<'_>,
-) -> Result<Vec<u8>, AllocError> {
+) -> Result<Sentence, AllocError> {
     if is_bound || context.get(sought.name).is_some() {
-        return join_parts(
+        return sought.say(
             alloc,
-            b"`",
-            sought.name,
-            b"` is a variable and no function: an element is `v[i]`, and a product has its `*`",
+            "`{name}` is a variable and no function: an element is `v[i]`, and a product has its `*`",
         );
     }
     if let Some(said) = known_elsewhere(sought.name) {
-        return Vec::from_slice(alloc, said);
+        return sought.say(alloc, said);
     }
     if let Some(known) = near_builtin(sought.name) {
-        return near_to(alloc, sought, known);
+        return sought.near_to(alloc, known);
     }
     if let Some(known) = near_binding(context, sought.name, true) {
-        return near_to(alloc, sought, known);
+        return sought.near_to(alloc, known);
     }
-    join_parts(
+    sought.say(
         alloc,
-        b"no function is called `",
-        sought.name,
-        b"`: define it first, as in `function g(x) = x + 1;`",
+        "no function is called `{name}`: define it first, as in `function g(x) = x + 1;`",
     )
 }
 
-// What is said of a name that stands for no function and is bound nowhere.
+// What is said of a name that is no function and is bound nowhere.
 fn said_of_variable(
     alloc: Global,
     context: &Context<Payload>,
     form: &Form,
     bound: &[&[u8]],
     sought: Sought<'_>,
-) -> Result<Vec<u8>, AllocError> {
+) -> Result<Sentence, AllocError> {
+    let in_body = matches!(form, Form::Fun { .. });
     if sought.name == b"it".as_slice() {
-        let said: &[u8] = match form {
-            Form::Fun { .. } => b"the body of a function doesn't know `it`: give it as an argument",
-            _ => b"`it` is the value of the last expression, and there was none yet",
+        let said = if in_body {
+            "the body of a function doesn't know `it`: give it as an argument"
+        } else {
+            "`it` is the value of the last expression, and there was none yet"
         };
-        return Vec::from_slice(alloc, said);
+        return sought.say(alloc, said);
     }
     if let Some(known) = near_local(bound, sought.name) {
-        return near_to(alloc, sought, known);
+        return sought.near_to(alloc, known);
     }
     if let Some(known) = near_binding(context, sought.name, false) {
-        return near_to(alloc, sought, known);
+        return sought.near_to(alloc, known);
     }
     if let Some(said) = type_elsewhere(sought.name) {
-        return Vec::from_slice(alloc, said);
+        return sought.say(alloc, said);
     }
     if let Some(said) = known_elsewhere(sought.name) {
-        return Vec::from_slice(alloc, said);
+        return sought.say(alloc, said);
     }
-    let back: &[u8] = match form {
-        Form::Fun { .. } => b"`: a body knows its parameter, and the variables of the session",
-        _ => b"`: bind it first, as in `x = 3;`",
+    let said = if in_body {
+        "nothing is called `{name}`: a body knows its parameter, and the variables of the session"
+    } else {
+        "nothing is called `{name}`: bind it first, as in `x = 3;`"
     };
-    join_parts(alloc, b"nothing is called `", sought.name, back)
+    sought.say(alloc, said)
 }

@@ -4,25 +4,10 @@ use crate::clash::{Clash, Role};
 use crate::guesses::{Guess, Guesses};
 use crate::typing::words::Words;
 use nesl_eval_top_level::Payload;
-use nesl_hints_tokens::{Hint, add_parts, join_parts};
+use nesl_hints_tokens::{Filling, Hint, Sentence};
 use nesl_syntax_tree::tree::{Operator, Prefix};
 use nesl_types::Context;
 use std::alloc::{AllocError, Global};
-
-/// A sentence but for its two types: the first stands behind `is`, and `must_be` stands before the second.
-#[derive(Clone, Copy)]
-struct Said<'a> {
-    front: &'static [u8],
-    name: &'a [u8],
-    is: &'static [u8],
-    must_be: &'static [u8],
-}
-
-const MUST_BE: &[u8] = b", and must be ";
-
-const MUST_BE_SEQUENCE: &[u8] = b", and must be a sequence, ";
-
-const MUST_BE_PAIR: &[u8] = b", and must be a pair, ";
 
 /// The sign or word of an operator.
 pub fn sign_of(operator: Operator) -> &'static [u8] {
@@ -48,89 +33,72 @@ pub fn sign_of(operator: Operator) -> &'static [u8] {
     }
 }
 
-// A sentence without a name.
-fn plain(front: &'static [u8], must_be: &'static [u8]) -> Said<'static> {
-    Said {
-        front,
-        name: b"",
-        is: b"",
-        must_be,
-    }
-}
-
-// A sentence with a name or a sign between backquotes.
-fn named<'a>(front: &'static [u8], name: &'a [u8], must_be: &'static [u8]) -> Said<'a> {
-    Said {
-        front,
-        name,
-        is: b"` is ",
-        must_be,
-    }
-}
-
-// What is said of the right side of an operator.
-fn said_of_right(operator: Operator) -> Said<'static> {
-    let must_be = match operator {
-        Operator::Write | Operator::Read => MUST_BE,
-        _ => b", the left side ",
-    };
-    named(b"the right side of `", sign_of(operator), must_be)
-}
-
-// How an argument is called that stands behind so many.
-fn ordinal(before: u64) -> &'static [u8] {
-    match before {
-        0 => b"the first argument of `",
-        1 => b"the second argument of `",
-        2 => b"the third argument of `",
-        _ => b"a later argument of `",
-    }
-}
-
-// What is said of a part.
-fn said_of(role: Role<'_>) -> Said<'_> {
+// The name or sign in a part's name.
+fn name_of(role: Role<'_>) -> &[u8] {
     match role {
-        Role::Left(operator) => named(b"the left side of `", sign_of(operator), MUST_BE),
-        Role::Right(operator) => said_of_right(operator),
-        Role::Operand(Prefix::Length) => plain(b"what stands behind `#` is ", MUST_BE_SEQUENCE),
-        Role::Operand(Prefix::Negate) => plain(b"what stands behind `-` is ", MUST_BE),
-        Role::Argument(name) => named(b"the argument of `", name, MUST_BE),
-        Role::OneArgument(name, before) => named(ordinal(before), name, MUST_BE),
-        Role::Indexed => plain(b"what stands before `[` is ", MUST_BE_SEQUENCE),
-        Role::Index => plain(b"the number in brackets is ", MUST_BE),
-        Role::Test => plain(b"the test behind `if` is ", MUST_BE),
-        Role::Otherwise => plain(
-            b"what stands behind `else` is ",
-            b", what stands behind `then` ",
-        ),
-        Role::Element => plain(b"this element is ", b", the first one "),
-        Role::Bound => plain(b"this part of a range is ", MUST_BE),
-        Role::Drawn => plain(b"what stands behind `in` is ", MUST_BE_SEQUENCE),
-        Role::Filter => plain(b"the filter is ", MUST_BE),
-        Role::Pair => plain(b"what these names stand for is ", MUST_BE_PAIR),
-        Role::Record(name) => named(b"what is matched with `", name, MUST_BE),
-        Role::Parameter => plain(b"the parameter is ", b", and the signature says "),
-        Role::Body => plain(b"the body is ", b", and the signature says "),
-        Role::OwnBody => plain(
-            b"the body is ",
-            b", and where the function calls itself it must be ",
-        ),
-    }
-}
-
-// What else is said of a side of an operator on numbers.
-fn advice_on_number(found: Guess, is_text: bool) -> &'static [u8] {
-    match found {
-        Guess::Sequence(_) if is_text => b": `++` joins two texts",
-        Guess::Sequence(_) => b": `{a + 1 : a in v}` does it for each element",
-        Guess::Bool => b": `btoi(b)` is 1 or 0",
-        Guess::Char => b": `char_code(c)` is its number",
+        Role::Left(operator) | Role::Right(operator) => sign_of(operator),
+        Role::Argument(name) | Role::OneArgument(name, _) | Role::Record(name) => name,
         _ => b"",
     }
 }
 
+// A part's name.
+fn part_named(role: Role<'_>) -> &'static str {
+    match role {
+        Role::Left(_) => "the left side of `{name}`",
+        Role::Right(_) => "the right side of `{name}`",
+        Role::Operand(Prefix::Length) => "what stands behind `#`",
+        Role::Operand(Prefix::Negate) => "what stands behind `-`",
+        Role::Argument(_) => "the argument of `{name}`",
+        Role::OneArgument(_, 0) => "the first argument of `{name}`",
+        Role::OneArgument(_, 1) => "the second argument of `{name}`",
+        Role::OneArgument(_, 2) => "the third argument of `{name}`",
+        Role::OneArgument(_, _) => "a later argument of `{name}`",
+        Role::Indexed => "what stands before `[`",
+        Role::Index => "the number in brackets",
+        Role::Test => "the test behind `if`",
+        Role::Otherwise => "what stands behind `else`",
+        Role::Element => "this element",
+        Role::Bound => "this part of a range",
+        Role::Drawn => "what stands behind `in`",
+        Role::Filter => "the filter",
+        Role::Pair => "what these names stand for",
+        Role::Record(_) => "what is matched with `{name}`",
+        Role::Parameter => "the parameter",
+        Role::Body | Role::OwnBody => "the body",
+    }
+}
+
+// The type that a part has, and the one that it should have.
+fn types_of(role: Role<'_>) -> &'static str {
+    match role {
+        Role::Right(Operator::Write | Operator::Read) => " is {found}, and must be {wanted}",
+        Role::Right(_) => " is {found}, the left side {wanted}",
+        Role::Otherwise => " is {found}, what stands behind `then` {wanted}",
+        Role::Element => " is {found}, the first one {wanted}",
+        Role::Operand(Prefix::Length) | Role::Indexed | Role::Drawn => {
+            " is {found}, and must be a sequence, {wanted}"
+        }
+        Role::Pair => " is {found}, and must be a pair, {wanted}",
+        Role::Parameter | Role::Body => " is {found}, and the signature says {wanted}",
+        Role::OwnBody => " is {found}, and where the function calls itself it must be {wanted}",
+        _ => " is {found}, and must be {wanted}",
+    }
+}
+
+// What else is said of a part that should be a number.
+fn advice_on_number(found: Guess, is_text: bool) -> &'static str {
+    match found {
+        Guess::Sequence(_) if is_text => ": `++` joins two texts",
+        Guess::Sequence(_) => ": `{a + 1 : a in v}` does it for each element",
+        Guess::Bool => ": `btoi(b)` is 1 or 0",
+        Guess::Char => ": `char_code(c)` is its number",
+        _ => "",
+    }
+}
+
 // What else is said of an operator's side of this type.
-fn advice_on_side(operator: Operator, found: Guess, is_text: bool) -> &'static [u8] {
+fn advice_on_side(operator: Operator, found: Guess, is_text: bool) -> &'static str {
     match operator {
         Operator::Plus | Operator::Minus | Operator::Times | Operator::Divide => {
             advice_on_number(found, is_text)
@@ -141,83 +109,56 @@ fn advice_on_side(operator: Operator, found: Guess, is_text: bool) -> &'static [
         | Operator::Greater
         | Operator::LessOrEqual
         | Operator::GreaterOrEqual => match found {
-            Guess::Int | Guess::Char | Guess::Open(_) => b"",
-            _ => b": `eql(a, b)` tells whether two values of any type are the same",
+            Guess::Int | Guess::Char | Guess::Open(_) => "",
+            _ => ": `eql(a, b)` tells whether two values of any type are the same",
         },
         Operator::Append => match found {
-            Guess::Sequence(_) => b"",
-            _ => b": `v ++ [x]` appends one element",
+            Guess::Sequence(_) => "",
+            _ => ": `v ++ [x]` appends one element",
         },
-        _ => b"",
-    }
-}
-
-// What else is said of what stands behind a `-`.
-fn advice_on_negated(found: Guess, is_text: bool) -> &'static [u8] {
-    match found {
-        Guess::Sequence(_) if is_text => b"",
-        Guess::Sequence(_) => b": `{-a : a in v}` does it for each number",
-        _ => advice_on_number(found, false),
+        _ => "",
     }
 }
 
 // What else is said of a whole argument.
-fn advice_on_argument(found: Guess, wanted: Guess) -> &'static [u8] {
-    if let Guess::Pair(_, _) = found {
-        return match wanted {
-            Guess::Pair(_, _) => b"",
-            _ => b": it has one argument",
-        };
-    }
-    match wanted {
-        Guess::Pair(_, _) => b": it has more arguments, with commas between",
-        Guess::Int | Guess::Char | Guess::Bool => match found {
-            Guess::Sequence(_) => b": `{g(a) : a in v}` calls a function `g` for each element",
-            _ => b"",
-        },
-        _ => b"",
-    }
-}
-
-// What else is said of another part.
-fn advice_on_part(role: Role<'_>, found: Guess) -> &'static [u8] {
-    match found {
-        Guess::Int => match role {
-            Role::Test | Role::Filter => b": `x /= 0` is a truth value",
-            Role::Drawn => b": `index(n)` has the numbers from 0 to n - 1",
-            _ => b"",
-        },
-        Guess::Sequence(_) => match role {
-            Role::Index => b": `v -> w` has the elements at the places in `w`",
-            _ => b"",
-        },
-        _ => b"",
-    }
-}
-
-// Whether it is a sequence of characters.
-fn is_text(guesses: &Guesses, guess: Guess) -> bool {
-    match guess {
-        Guess::Sequence(item) => matches!(guesses.guess(item), Guess::Char),
-        _ => false,
+fn advice_on_argument(found: Guess, wanted: Guess) -> &'static str {
+    match (found, wanted) {
+        (Guess::Pair(_, _), Guess::Pair(_, _)) => "",
+        (Guess::Pair(_, _), _) => ": it has one argument",
+        (_, Guess::Pair(_, _)) => ": it has more arguments, with commas between",
+        (Guess::Sequence(_), Guess::Int | Guess::Char | Guess::Bool) => {
+            ": `{g(a) : a in v}` calls a function `g` for each element"
+        }
+        _ => "",
     }
 }
 
 // What else is said of a part, by the types.
-fn advice_on(guesses: &Guesses, clash: Clash<'_>) -> &'static [u8] {
-    let found = guesses.guess(clash.found);
-    match clash.role {
-        Role::Left(operator) | Role::Right(operator) => {
-            advice_on_side(operator, found, is_text(guesses, found))
+fn advice_on(guesses: &Guesses, clash: Clash<'_>) -> &'static str {
+    let found = guesses.guess(clash.found.ty);
+    let is_text = match found {
+        Guess::Sequence(item) => matches!(guesses.guess(item), Guess::Char),
+        _ => false,
+    };
+    match (clash.role, found) {
+        (Role::Left(operator) | Role::Right(operator), _) => {
+            advice_on_side(operator, found, is_text)
         }
-        Role::Operand(Prefix::Negate) => advice_on_negated(found, is_text(guesses, found)),
-        Role::Argument(_) => advice_on_argument(found, guesses.guess(clash.wanted)),
-        Role::Element => b": a sequence has elements of one type",
-        other => advice_on_part(other, found),
+        (Role::Operand(Prefix::Negate), Guess::Sequence(_)) if is_text => "",
+        (Role::Operand(Prefix::Negate), Guess::Sequence(_)) => {
+            ": `{-a : a in v}` does it for each number"
+        }
+        (Role::Operand(Prefix::Negate), _) => advice_on_number(found, false),
+        (Role::Argument(_), _) => advice_on_argument(found, guesses.guess(clash.wanted)),
+        (Role::Element, _) => ": a sequence has elements of one type",
+        (Role::Test | Role::Filter, Guess::Int) => ": `x /= 0` is a truth value",
+        (Role::Drawn, Guess::Int) => ": `index(n)` has the numbers from 0 to n - 1",
+        (Role::Index, Guess::Sequence(_)) => ": `v -> w` has the elements at the places in `w`",
+        _ => "",
     }
 }
 
-/// What a person is told of a part that doesn't fit.
+/// What a person reads of a part that doesn't fit.
 pub(crate) fn hint_of<'e>(
     alloc: Global,
     guesses: &'e Guesses,
@@ -225,20 +166,29 @@ pub(crate) fn hint_of<'e>(
     clash: Clash<'_>,
 ) -> Result<Hint, AllocError> {
     let mut words = Words::new(alloc, guesses, context);
-    let found = words.of(alloc, clash.found)?;
+    let found = words.of(alloc, clash.found.ty)?;
     let wanted = words.of(alloc, clash.wanted)?;
-    let said = said_of(clash.role);
-    let mut sentence = join_parts(alloc, said.front, said.name, said.is)?;
-    add_parts(
-        &mut sentence,
-        found.as_slice(),
-        said.must_be,
-        wanted.as_slice(),
-    )?;
-    sentence.extend_from_slice(advice_on(guesses, clash))?;
+    let mut sentence = said_of(alloc, clash.role, found.as_slice(), wanted.as_slice())?;
+    sentence.add(advice_on(guesses, clash), &[])?;
     Ok(Hint {
-        place: clash.place,
         second: clash.second,
-        sentence,
+        ..sentence.at(clash.found.span)
     })
+}
+
+// What is said of a part, with the type that it has and the one that it should have.
+fn said_of<'t>(
+    alloc: Global,
+    role: Role<'t>,
+    found: &'t [u8],
+    wanted: &'t [u8],
+) -> Result<Sentence, AllocError> {
+    let fillings = [
+        Filling("name", name_of(role)),
+        Filling("found", found),
+        Filling("wanted", wanted),
+    ];
+    let mut sentence = Sentence::of(alloc, part_named(role), &fillings)?;
+    sentence.add(types_of(role), &fillings)?;
+    Ok(sentence)
 }

@@ -44,20 +44,12 @@ impl<'a> Words<'a> {
 
     /// The type at a place.
     pub(crate) fn of(&mut self, alloc: Global, place: usize) -> Result<Vec<u8>, AllocError> {
-        let mut out = Vec::new(alloc);
-        if let Guess::Open(class) = self.guesses.guess(place) {
-            match class {
-                Class::Ordinal => {
-                    out.extend_from_slice(b"int or char")?;
-                    return Ok(out);
-                }
-                Class::Logical => {
-                    out.extend_from_slice(b"int or bool")?;
-                    return Ok(out);
-                }
-                _ => {}
-            }
+        match self.guesses.guess(place) {
+            Guess::Open(Class::Ordinal) => return Vec::from_slice(alloc, b"int or char"),
+            Guess::Open(Class::Logical) => return Vec::from_slice(alloc, b"int or bool"),
+            _ => {}
         }
+        let mut out = Vec::new(alloc);
         let mut pieces = Vec::new(alloc);
         let mut next = Some(Piece::Whole(place));
         for _ in 0..MOST_PIECES {
@@ -81,48 +73,35 @@ impl<'a> Words<'a> {
         out: &mut Vec<u8>,
         pieces: &mut Vec<Piece>,
     ) -> Result<(), AllocError> {
-        match piece {
-            Piece::Text(text) => out.extend_from_slice(text)?,
-            Piece::Whole(place) => match self.guesses.guess(place) {
-                Guess::Pair(left, right) => {
-                    out.extend_from_slice(b"(")?;
-                    pieces.push(Piece::Text(b")"))?;
-                    put_pair(left, right, pieces)?;
+        let (place, is_part) = match piece {
+            Piece::Text(text) => return out.extend_from_slice(text),
+            Piece::Whole(place) => (place, true),
+            Piece::Rest(place) => (place, false),
+        };
+        match self.guesses.find(place) {
+            (_, Guess::Int) => out.extend_from_slice(b"int")?,
+            (_, Guess::Bool) => out.extend_from_slice(b"bool")?,
+            (_, Guess::Char) => out.extend_from_slice(b"char")?,
+            (_, Guess::Named(tag)) => {
+                if let Some((name, _, _)) = self.context.datatype(tag) {
+                    out.extend_from_slice(name)?;
                 }
-                _ => self.write_rest(place, out, pieces)?,
-            },
-            Piece::Rest(place) => self.write_rest(place, out, pieces)?,
-        }
-        Ok(())
-    }
-
-    fn write_rest(
-        &mut self,
-        place: usize,
-        out: &mut Vec<u8>,
-        pieces: &mut Vec<Piece>,
-    ) -> Result<(), AllocError> {
-        let (at, guess) = self.guesses.find(place);
-        match guess {
-            Guess::Int => out.extend_from_slice(b"int")?,
-            Guess::Bool => out.extend_from_slice(b"bool")?,
-            Guess::Char => out.extend_from_slice(b"char")?,
-            Guess::Named(tag) => self.write_name(tag, out)?,
-            Guess::Sequence(item) => {
-                out.extend_from_slice(b"[")?;
+            }
+            (_, Guess::Sequence(item)) => {
+                out.push(b'[')?;
                 pieces.push(Piece::Text(b"]"))?;
                 pieces.push(Piece::Whole(item))?;
             }
-            Guess::Pair(left, right) => put_pair(left, right, pieces)?,
-            Guess::Open(_) | Guess::Same(_) => self.write_letter(at, out)?,
-        }
-        Ok(())
-    }
-
-    // Writes the name of the datatype with the tag.
-    fn write_name(&self, tag: u64, out: &mut Vec<u8>) -> Result<(), AllocError> {
-        if let Some((name, _, _)) = self.context.datatype(tag) {
-            out.extend_from_slice(name)?;
+            (_, Guess::Pair(left, right)) => {
+                if is_part {
+                    out.push(b'(')?;
+                    pieces.push(Piece::Text(b")"))?;
+                }
+                pieces.push(Piece::Rest(right))?;
+                pieces.push(Piece::Text(b", "))?;
+                pieces.push(Piece::Whole(left))?;
+            }
+            (at, Guess::Open(_) | Guess::Same(_)) => self.write_letter(at, out)?,
         }
         Ok(())
     }
@@ -141,12 +120,4 @@ impl<'a> Words<'a> {
         out.push(b'a' + (number % 26) as u8)?;
         Ok(())
     }
-}
-
-// Leaves both parts of a pair over.
-fn put_pair(left: usize, right: usize, pieces: &mut Vec<Piece>) -> Result<(), AllocError> {
-    pieces.push(Piece::Rest(right))?;
-    pieces.push(Piece::Text(b", "))?;
-    pieces.push(Piece::Whole(left))?;
-    Ok(())
 }

@@ -1,0 +1,177 @@
+//! Lines that define a function or a datatype.
+
+use crate::halt::{Halt, stop, stop_with};
+use crate::line::read_body;
+use crate::machine::{Aim, walk};
+use crate::patterns::{check_all_names, pattern_len};
+use crate::problems;
+use crate::tokens::{is_sign, is_word, name_in};
+use nesl_lex::token::{Kind, Sign, Span, Token, Word};
+use std::alloc::Global;
+
+/// Tokens that are cut at one of them.
+#[derive(Clone, Copy)]
+struct Cut<'a> {
+    before: &'a [Token],
+    sign: &'a Token,
+    behind: &'a [Token],
+}
+
+// Cuts tokens at the first one that is this sign.
+fn cut_at(tokens: &[Token], sign: Sign) -> Option<Cut<'_>> {
+    let place = tokens.iter().position(|token| is_sign(token, sign))?;
+    let (before, rest) = tokens.split_at_checked(place)?;
+    let (sign, behind) = rest.split_first()?;
+    Some(Cut {
+        before,
+        sign,
+        behind,
+    })
+}
+
+// Reads the name of a definition.
+fn read_name(token: &Token) -> Result<(), Halt> {
+    match &token.kind {
+        Kind::Name(_) => Ok(()),
+        Kind::Truth(_) => stop(problems::TRUTH_AS_NAME, token.span),
+        Kind::Reserved(_) => stop(problems::WORD_AS_NAME, token.span),
+        _ => stop(problems::NO_NAME, token.span),
+    }
+}
+
+/// Reads a function's line after its first word.
+pub(crate) fn read_function(alloc: Global, word: Span, rest: &[Token]) -> Result<(), Halt> {
+    let [name, behind @ ..] = rest else {
+        return stop(problems::NO_NAME, word);
+    };
+    read_name(name)?;
+    let len = pattern_len(behind);
+    if len > 0 {
+        check_behind_parameter(name.span, behind.get(len..).unwrap_or(&[]))?;
+    }
+    let Some(
+        Cut {
+            before: head,
+            sign: equal,
+            behind: body,
+        },
+    ) = cut_at(behind, Sign::Equal)
+    else {
+        return no_equal(alloc, name.span, len, behind);
+    };
+    match cut_at(head, Sign::Colon) {
+        None => read_parameter(alloc, head, equal)?,
+        Some(cut) => {
+            read_parameter(alloc, cut.before, cut.sign)?;
+            read_signature(alloc, cut.behind, equal, problems::BEHIND_TYPE)?;
+        }
+    }
+    read_body(alloc, Aim::Expression, body, equal.span)
+}
+
+// Whether a function's line may go on with the first of these tokens, after its parameter.
+fn check_behind_parameter(name: Span, behind: &[Token]) -> Result<(), Halt> {
+    let Some(next) = behind.first() else {
+        return Ok(());
+    };
+    match &next.kind {
+        Kind::Symbol(Sign::Equal | Sign::Colon) => Ok(()),
+        Kind::Symbol(Sign::DoubleEqual) => stop(problems::DOUBLE_EQUAL, next.span),
+        Kind::Symbol(Sign::RightArrow | Sign::DoubleColon) => stop(problems::NO_COLON, next.span),
+        Kind::Name(_) => match behind.iter().find(|token| name_in(*token).is_none()) {
+            Some(token) if is_sign(token, Sign::Equal) => {
+                stop_with(problems::SECOND_PARAMETER, next.span, name)
+            }
+            _ => stop(problems::NO_EQUAL, next.span),
+        },
+        _ => stop(problems::NO_EQUAL, next.span),
+    }
+}
+
+// Reads a function's line that has no `=`. The first `len` tokens are its parameter.
+fn no_equal(alloc: Global, name: Span, len: usize, behind: &[Token]) -> Result<(), Halt> {
+    let Some((last, front)) = behind.split_last() else {
+        return stop(problems::NO_PARAMETER, name);
+    };
+    if front.is_empty() && is_sign(last, Sign::Semicolon) {
+        return stop(problems::NO_PARAMETER, last.span);
+    }
+    if len == 0 {
+        read_parameter(alloc, behind, last)?;
+    }
+    if let Some(signature) = behind.get(len.saturating_add(1)..) {
+        read_signature(alloc, signature, last, problems::NO_EQUAL)?;
+    }
+    stop(problems::NO_EQUAL, last.span)
+}
+
+fn read_parameter(alloc: Global, tokens: &[Token], end: &Token) -> Result<(), Halt> {
+    if tokens.is_empty() {
+        return stop(problems::NO_PARAMETER, end.span);
+    }
+    check_all_names(tokens, problems::WORD_AS_NAME)?;
+    walk(alloc, Aim::Parameter, tokens, end)
+}
+
+// Reads a signature. `behind` is the problem where more follows one of its types.
+fn read_signature(
+    alloc: Global,
+    tokens: &[Token],
+    end: &Token,
+    behind: &'static str,
+) -> Result<(), Halt> {
+    let Some(arrow) = cut_at(tokens, Sign::RightArrow) else {
+        walk(alloc, Aim::Type(problems::NO_ARROW), tokens, end)?;
+        return stop(problems::NO_ARROW, end.span);
+    };
+    walk(alloc, Aim::Type(behind), arrow.before, arrow.sign)?;
+    match cut_at(arrow.behind, Sign::DoubleColon) {
+        None => walk(alloc, Aim::Type(behind), arrow.behind, end),
+        Some(cut) => {
+            walk(alloc, Aim::Type(behind), cut.before, cut.sign)?;
+            read_members(cut.behind, end, behind)
+        }
+    }
+}
+
+// Reads the classes of names, in parentheses. `behind` is the problem where more follows them.
+fn read_members(tokens: &[Token], end: &Token, behind: &'static str) -> Result<(), Halt> {
+    let mut ended = false;
+    for (place, token) in tokens.iter().enumerate() {
+        if ended {
+            return stop(behind, token.span);
+        }
+        ended = is_sign(token, Sign::CloseParenthesis);
+        let fits = match place % 4 {
+            0 if place == 0 => is_sign(token, Sign::OpenParenthesis),
+            0 => is_sign(token, Sign::Semicolon) || ended,
+            2 => is_word(token, Word::In),
+            _ => name_in(token).is_some(),
+        };
+        if !fits {
+            return stop(problems::NO_MEMBER, token.span);
+        }
+    }
+    if ended {
+        Ok(())
+    } else {
+        stop(problems::NO_MEMBER, end.span)
+    }
+}
+
+/// Reads a datatype's line after its first word.
+pub(crate) fn read_datatype(alloc: Global, word: Span, rest: &[Token]) -> Result<(), Halt> {
+    let [name, behind @ ..] = rest else {
+        return stop(problems::NO_NAME, word);
+    };
+    read_name(name)?;
+    let Some((last, content)) = behind.split_last() else {
+        return stop(problems::NO_TYPE, name.span);
+    };
+    let aim = Aim::Type(problems::BEHIND_TYPE);
+    if is_sign(last, Sign::Semicolon) {
+        return walk(alloc, aim, content, last);
+    }
+    walk(alloc, aim, behind, last)?;
+    stop(problems::NO_SEMICOLON, last.span)
+}
