@@ -38,14 +38,14 @@ use std::thread::Builder;
 
 const STACK: usize = 64 << 10;
 
-const BANKS: &str = "i p12 l n p51 l n => 13 8191 64 18446744073709551615
+const OF_BANKS: &str = "i p12 l n p51 l n => 13 8191 64 18446744073709551615
 i s0 s0 l w n e1.1 e0.1 f => 2 1 2 true false s0
 v0 S100000 l n a q x i r0 w l a => 100001 100001 200001:a 0 100001 100000 100001 200003:int
 i v0 v1 b1.2 s0 s3 x c m5.0 a l k4 w l n => [(char, b)] 4 5 6 2
 i t b0.1 d7 b2.3 v27 b5.4 c s7 b8.6 a => ([char], b1, (int, bool), pt)
 v3 v1 b1.0 b0.2 b3.2 q u2 => 3 1 9 1 3";
 
-const TYPES: &str = "I C Q P K M L => (int, text) 4 4
+const OF_TYPES: &str = "I C Q P K M L => (int, text) 4 4
 T K V7 K N3 K I K => bool v7 d3 int
 I C P t c i b2.1 G E O L Y E => true true true 3 true true
 I C P C I P E O L => false false false 3
@@ -73,7 +73,7 @@ impl Subject for Scripts {
 
 #[test]
 fn scripts_tell_of_banks_and_types(rt: HostRuntime) {
-    all_hold(&rt, rt.alloc(), &Scripts, &[BANKS, TYPES]);
+    all_hold(&rt, rt.alloc(), &Scripts, &[OF_BANKS, OF_TYPES]);
 }
 
 const DEEP: &str =

@@ -16,7 +16,7 @@ impl Subject for Meetings {
     }
 }
 
-const MEETINGS: &str = "any logical => logical
+const MET: &str = "any logical => logical
 ordinal ordinal => ordinal
 ordinal logical => number
 number ordinal => number";
@@ -101,7 +101,7 @@ both v2 v7 -> seq v2 :: any any number = both v0 v1 -> seq v0 => false";
 
 #[test]
 fn types_and_schemes_are_written_and_compared(rt: HostRuntime) {
-    all_hold(&rt, rt.alloc(), &Meetings, &[MEETINGS]);
+    all_hold(&rt, rt.alloc(), &Meetings, &[MET]);
     all_hold(&rt, rt.alloc(), &Texts, &[TYPES, SCHEMES, THIRTY]);
     all_hold(&rt, rt.alloc(), &Sameness, &[COMPARED]);
 }
