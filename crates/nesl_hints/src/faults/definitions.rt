@@ -53,14 +53,17 @@ fn known_as(asked: &Asked<'_>, name: &[u8]) -> Result<Option<Vec<u8>>, AllocErro
         Some((Top::Variable(ty), _)) if ty.nodes() <= MOST_NODES => {
             Ok(Some(type_text(asked.alloc, ty, context)?))
         }
-        Some((Top::Function(scheme), _))
-            if scheme
-                .argument
-                .nodes()
-                .saturating_add(scheme.result.nodes())
-                <= MOST_NODES => { Ok(Some(scheme_text(asked.alloc, scheme, context)?)) }
+        Some((Top::Function(scheme), _)) if nodes_of(scheme) <= MOST_NODES => {
+            Ok(Some(scheme_text(asked.alloc, scheme, context)?))
+        }
         _ => Ok(None),
     }
+}
+
+// The nodes of a function's types.
+fn nodes_of(scheme: &Scheme) -> u64 {
+    let argument = scheme.argument.nodes();
+    argument.saturating_add(scheme.result.nodes())
 }
 
 /// The type of a name would change to which another function refers.

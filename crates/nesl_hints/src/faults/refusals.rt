@@ -87,7 +87,7 @@ fn inside_sentence(
     let mut sentence = Sentence::of(asked.alloc, front, &[function, Filling("part", part)])?;
     let said = match part_at(&inside.form, inside.place) {
         Some(found) => said_of(fault, found),
-        None => Said::plain(said(fault)),
+        None => Remark::plain(said(fault)),
     };
     said.add_to(&mut sentence)?;
     Ok(sentence)
@@ -95,18 +95,18 @@ fn inside_sentence(
 
 /// What is said of a part, and the name or sign of its function, which is empty where there is none.
 #[derive(Clone, Copy)]
-struct Said<'e> {
+struct Remark<'e> {
     name: &'e [u8],
     text: &'static str,
 }
 
-impl<'e> Said<'e> {
-    fn plain(text: &'static str) -> Said<'e> {
-        Said { name: b"", text }
+impl<'e> Remark<'e> {
+    fn plain(text: &'static str) -> Remark<'e> {
+        Remark { name: b"", text }
     }
 
-    fn named(name: &'e [u8], text: &'static str) -> Said<'e> {
-        Said { name, text }
+    fn named(name: &'e [u8], text: &'static str) -> Remark<'e> {
+        Remark { name, text }
     }
 
     fn add_to(&self, sentence: &mut Sentence) -> Result<(), AllocError> {
@@ -118,28 +118,28 @@ impl<'e> Said<'e> {
 }
 
 // What is said of a part.
-fn said_of(fault: Fault, part: &Exp) -> Said<'_> {
+fn said_of(fault: Fault, part: &Exp) -> Remark<'_> {
     if let Fault::Large(_) | Fault::Deep(_) = fault {
-        return Said::plain(said(fault));
+        return Remark::plain(said(fault));
     }
     match &part.node {
         Node::Each { .. } | Node::FilteredEach { .. } => {
-            Said::plain("the sequences of an apply-to-each are of different lengths")
+            Remark::plain("the sequences of an apply-to-each are of different lengths")
         }
         Node::Index { .. } => {
-            Said::plain("the sequence has no element at this place: places are counted from 0")
+            Remark::plain("the sequence has no element at this place: places are counted from 0")
         }
         Node::Infix { operator, .. } => {
-            Said::named(sign_of(*operator), said_of_operator(fault, *operator))
+            Remark::named(sign_of(*operator), said_of_operator(fault, *operator))
         }
         Node::Prefix { operator, .. } => match operator {
-            Prefix::Length => Said::named(b"#", said(fault)),
-            Prefix::Negate => Said::named(b"-", said(fault)),
+            Prefix::Length => Remark::named(b"#", said(fault)),
+            Prefix::Negate => Remark::named(b"-", said(fault)),
         },
         Node::Call { name, .. } if named(name.as_slice()).is_some() => {
-            Said::named(name.as_slice(), said_of_call(fault, name.as_slice()))
+            Remark::named(name.as_slice(), said_of_call(fault, name.as_slice()))
         }
-        _ => Said::plain(said(fault)),
+        _ => Remark::plain(said(fault)),
     }
 }
 

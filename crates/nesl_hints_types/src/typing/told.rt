@@ -19,7 +19,7 @@ const TOO_LARGE: &str =
     "two types don't fit, or one would have more than 4,096 nodes: the form is too large to find where";
 
 /// What is said of a part whose type is open.
-const UNDECIDED: &str =
+const NOTHING_DECIDES: &str =
     "nothing decides the type of this, which is `{type}`: use it beside something whose type is known, as in `[] int ++ ..`";
 
 /// The first part of a form, by parts, whose type is not what the rest of the form wants, or the whole form where it
@@ -88,6 +88,6 @@ fn undecided<'e>(
 ) -> Result<Hint, AllocError> {
     let mut words = Words::new(alloc, guesses, context);
     let ty = words.of(alloc, open.ty)?;
-    let sentence = Sentence::of(alloc, UNDECIDED, &[Filling("type", ty.as_slice())])?;
+    let sentence = Sentence::of(alloc, NOTHING_DECIDES, &[Filling("type", ty.as_slice())])?;
     Ok(sentence.at(open.span))
 }
