@@ -45,32 +45,45 @@ fn uses(name: &[u8], hidden: bool, exp: &Exp) -> bool
     ensures { result ≡ refers name.now hidden (tree_of exp.now) }
 {
     match &exp.node {
-        Node::Number(_) | Node::Truth(_) | Node::Character(_) | Node::Text(_) => false,
-        Node::Empty(_) | Node::Element => false,
+        Node::Number(_) => false,
+        Node::Truth(_) => false,
+        Node::Character(_) => false,
+        Node::Text(_) => false,
         Node::Variable(own) => name == own.as_slice() && !hidden,
         Node::Call {
             name: own,
             argument,
         } => name == own.as_slice() || uses(name, hidden, argument),
+        Node::Pair {
+            left: first,
+            right: second,
+        } => uses(name, hidden, first) || uses(name, hidden, second),
         Node::Prefix { operand, .. } => uses(name, hidden, operand),
-        Node::Pair { left, right } | Node::Infix { left, right, .. } => uses(name, hidden, left)
-            || uses(name, hidden, right),
+        Node::Infix {
+            left: first,
+            right: second,
+            ..
+        } => uses(name, hidden, first) || uses(name, hidden, second),
         Node::Index {
-            sequence: from,
-            index: to,
-        }
-        | Node::Range { from, to } => uses(name, hidden, from) || uses(name, hidden, to),
+            sequence: first,
+            index: second,
+        } => uses(name, hidden, first) || uses(name, hidden, second),
         Node::Choice {
             test: first,
             yes: second,
             no: third,
-        }
-        | Node::StridedRange {
+        } => uses(name, hidden, first) || uses(name, hidden, second) || uses(name, hidden, third),
+        Node::Sequence(items) => any_uses(name, hidden, items.as_slice()),
+        Node::Empty(_) => false,
+        Node::Range {
+            from: first,
+            to: second,
+        } => uses(name, hidden, first) || uses(name, hidden, second),
+        Node::StridedRange {
             from: first,
             to: second,
             stride: third,
         } => uses(name, hidden, first) || uses(name, hidden, second) || uses(name, hidden, third),
-        Node::Sequence(items) => any_uses(name, hidden, items.as_slice()),
         Node::Let { bindings, body } => {
             let bindings = bindings.as_slice();
             let inside = is_hidden_by(name, hidden, bindings);
@@ -96,6 +109,7 @@ fn uses(name: &[u8], hidden: bool, exp: &Exp) -> bool
             }
             uses(name, inside, body) || uses(name, inside, filter)
         }
+        Node::Element => false,
     }
 }
 

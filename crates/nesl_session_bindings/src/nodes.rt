@@ -46,31 +46,42 @@ fn room_left_by_node(exp: &Exp, room: u64) -> Option<u64>
 {
     let room = room.checked_sub(1)?;
     match &exp.node {
-        Node::Number(_) | Node::Truth(_) | Node::Character(_) | Node::Text(_) => Some(room),
-        Node::Variable(_) | Node::Empty(_) | Node::Element => Some(room),
-        Node::Call { argument: part, .. } | Node::Prefix { operand: part, .. } => room_left(
-            part, room,
-        ),
-        Node::Pair { left, right } | Node::Infix { left, right, .. } => room_left(
-            right,
-            room_left(left, room)?,
-        ),
+        Node::Number(_) => Some(room),
+        Node::Truth(_) => Some(room),
+        Node::Character(_) => Some(room),
+        Node::Text(_) => Some(room),
+        Node::Variable(_) => Some(room),
+        Node::Call { argument, .. } => room_left(argument, room),
+        Node::Pair {
+            left: first,
+            right: second,
+        } => room_left(second, room_left(first, room)?),
+        Node::Prefix { operand, .. } => room_left(operand, room),
+        Node::Infix {
+            left: first,
+            right: second,
+            ..
+        } => room_left(second, room_left(first, room)?),
         Node::Index {
-            sequence: from,
-            index: to,
-        }
-        | Node::Range { from, to } => room_left(to, room_left(from, room)?),
+            sequence: first,
+            index: second,
+        } => room_left(second, room_left(first, room)?),
         Node::Choice {
             test: first,
             yes: second,
             no: third,
-        }
-        | Node::StridedRange {
+        } => room_left(third, room_left(second, room_left(first, room)?)?),
+        Node::Sequence(items) => room_left_by_all(items.as_slice(), room),
+        Node::Empty(_) => Some(room),
+        Node::Range {
+            from: first,
+            to: second,
+        } => room_left(second, room_left(first, room)?),
+        Node::StridedRange {
             from: first,
             to: second,
             stride: third,
         } => room_left(third, room_left(second, room_left(first, room)?)?),
-        Node::Sequence(items) => room_left_by_all(items.as_slice(), room),
         Node::Let { bindings, body } => {
             let room = room_left_bound(bindings.as_slice(), room)?;
             room_left(body, room)
@@ -88,6 +99,7 @@ fn room_left_by_node(exp: &Exp, room: u64) -> Option<u64>
             let room = room_left_bound(bindings.as_slice(), room)?;
             room_left(filter, room)
         }
+        Node::Element => Some(room),
     }
 }
 
