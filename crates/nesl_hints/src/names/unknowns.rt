@@ -14,7 +14,8 @@ use std::alloc::{AllocError, Global};
 
 /// What is said of a name before the parentheses of a pattern.
 const NO_RECORD: &str =
-    "no datatype is called `{name}`: a name before the parentheses of a pattern is a datatype, as in `datatype point (int, int);`";
+    "no datatype is called `{name}`: a name before the parentheses of a pattern is a datatype, as in \
+    `datatype point (int, int);`";
 
 /// A name that means nothing.
 #[derive(Clone, Copy)]
@@ -138,7 +139,8 @@ fn said_of_value(
     if is_bound {
         return sought.say(
             alloc,
-            "`{name}` is bound, but not known here: a `let` knows it behind its binding, and braces in their body and filter",
+            "`{name}` is bound, but not known here: a `let` knows it behind its binding, and braces in their body and \
+            filter",
         );
     }
     said_of_variable(alloc, context, form, bound.as_slice(), sought)

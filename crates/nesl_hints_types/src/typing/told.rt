@@ -20,7 +20,8 @@ const TOO_LARGE: &str =
 
 /// What is said of a part whose type is open.
 const NOTHING_DECIDES: &str =
-    "nothing decides the type of this, which is `{type}`: use it beside something whose type is known, as in `[] int ++ ..`";
+    "nothing decides the type of this, which is `{type}`: use it beside something whose type is known, as in \
+    `[] int ++ ..`";
 
 /// The first part of a form, by parts, whose type is not what the rest of the form wants, or the whole form where it
 /// takes too many steps to find one. It is `None` where there is none. The form has `len` bytes, after which places are
