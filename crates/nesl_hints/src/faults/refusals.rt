@@ -87,7 +87,7 @@ fn inside_sentence(
     let mut sentence = Sentence::of(asked.alloc, front, &[function, Filling("part", part)])?;
     let said = match part_at(&inside.form, inside.place) {
         Some(found) => said_of(fault, found),
-        None => Remark::plain(said(fault)),
+        None => plain(said(fault)),
     };
     said.add_to(&mut sentence)?;
     Ok(sentence)
@@ -100,15 +100,7 @@ struct Remark<'e> {
     text: &'static str,
 }
 
-impl<'e> Remark<'e> {
-    fn plain(text: &'static str) -> Remark<'e> {
-        Remark { name: b"", text }
-    }
-
-    fn named(name: &'e [u8], text: &'static str) -> Remark<'e> {
-        Remark { name, text }
-    }
-
+impl Remark<'_> {
     fn add_to(&self, sentence: &mut Sentence) -> Result<(), AllocError> {
         if !self.name.is_empty() {
             sentence.add("`{name}`: ", &[Filling("name", self.name)])?;
@@ -117,29 +109,50 @@ impl<'e> Remark<'e> {
     }
 }
 
+// What is said of a part without a name or sign.
+fn plain(text: &'static str) -> Remark<'static> {
+    Remark { name: b"", text }
+}
+
+// What is said of a part with a name or sign.
+fn with_name<'e>(name: &'e [u8], text: &'static str) -> Remark<'e> {
+    Remark { name, text }
+}
+
 // What is said of a part.
 fn said_of(fault: Fault, part: &Exp) -> Remark<'_> {
     if let Fault::Large(_) | Fault::Deep(_) = fault {
-        return Remark::plain(said(fault));
+        return plain(said(fault));
     }
     match &part.node {
         Node::Each { .. } | Node::FilteredEach { .. } => {
-            Remark::plain("the sequences of an apply-to-each are of different lengths")
+            plain("the sequences of an apply-to-each are of different lengths")
         }
         Node::Index { .. } => {
-            Remark::plain("the sequence has no element at this place: places are counted from 0")
+            plain("the sequence has no element at this place: places are counted from 0")
         }
         Node::Infix { operator, .. } => {
-            Remark::named(sign_of(*operator), said_of_operator(fault, *operator))
+            with_name(sign_of(*operator), said_of_operator(fault, *operator))
         }
-        Node::Prefix { operator, .. } => match operator {
-            Prefix::Length => Remark::named(b"#", said(fault)),
-            Prefix::Negate => Remark::named(b"-", said(fault)),
-        },
-        Node::Call { name, .. } if named(name.as_slice()).is_some() => {
-            Remark::named(name.as_slice(), said_of_call(fault, name.as_slice()))
-        }
-        _ => Remark::plain(said(fault)),
+        Node::Prefix { operator, .. } => with_name(sign_before(*operator), said(fault)),
+        Node::Call { name, .. } => remark_on_call(fault, name.as_slice()),
+        _ => plain(said(fault)),
+    }
+}
+
+// What is said of a call of the function with this name.
+fn remark_on_call(fault: Fault, name: &[u8]) -> Remark<'_> {
+    match named(name) {
+        Some(_) => with_name(name, said_of_call(fault, name)),
+        None => plain(said(fault)),
+    }
+}
+
+// The sign of an operator before an expression.
+fn sign_before(operator: Prefix) -> &'static [u8] {
+    match operator {
+        Prefix::Length => b"#",
+        Prefix::Negate => b"-",
     }
 }
 
