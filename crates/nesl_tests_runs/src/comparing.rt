@@ -12,7 +12,7 @@ use crate::forms::{Reading, reading_of};
 use crate::granting::Granting;
 use crate::layouts::put_layouts;
 use crate::outcomes::Outcomes;
-use crate::rows::Asked;
+use crate::rows::{Asked, Rows};
 use crate::running::{Limits, ops_of, run_in_halves};
 use crate::told::{LEVELS, WORK, is_same, work_of};
 use crate::writing::{put, put_line};
@@ -42,7 +42,7 @@ struct Count {
 
 /// Outcomes, and a comparison at each row.
 #[derive(Drop)]
-pub struct Comparing<'a, R> {
+struct Comparing<'a, R> {
     rt: &'a R,
     outcomes: Outcomes,
     count: Count,
@@ -58,7 +58,30 @@ struct Compared<'x, R> {
     exp: &'x Exp,
 }
 
-impl<R: Threads + Sync> Driver for Comparing<'_, R> {
+impl<'a, R: Threads + Sync> Comparing<'a, R> {
+    fn new(rt: &'a R, alloc: Global) -> Comparing<'a, R> {
+        Comparing {
+            rt,
+            outcomes: Outcomes::new(alloc),
+            count: Count {
+                expressions: 0,
+                comparisons: 0,
+                differences: 0,
+                helpers: 0,
+            },
+        }
+    }
+
+    fn try_rows(&mut self, alloc: Global, text: &str, out: &mut Vec<u8>) -> Result<(), AllocError> {
+        let mut rows = Rows::new(alloc);
+        for line in text.lines() {
+            if let Some(asked) = rows.read(line, out)? {
+                self.follow(alloc, asked, rows.answer())?;
+            }
+        }
+        rows.end(alloc, "outcomes", out)
+    }
+
     fn follow(
         &mut self,
         alloc: Global,
@@ -83,21 +106,6 @@ impl<R: Threads + Sync> Driver for Comparing<'_, R> {
             Ok(())
         } else {
             put_line(out, b"ANOTHER OUTCOME IN HALVES")
-        }
-    }
-}
-
-impl<'a, R: Threads + Sync> Comparing<'a, R> {
-    pub fn new(rt: &'a R, alloc: Global) -> Comparing<'a, R> {
-        Comparing {
-            rt,
-            outcomes: Outcomes::new(alloc),
-            count: Count {
-                expressions: 0,
-                comparisons: 0,
-                differences: 0,
-                helpers: 0,
-            },
         }
     }
 
@@ -145,6 +153,19 @@ impl<'a, R: Threads + Sync> Comparing<'a, R> {
             ),
         )
     }
+}
+
+/// Answers the rows of a part, compares the outcomes of each, and writes the rows that are missed and how many hold.
+///
+/// It is no `Driver`: what evaluates between threads knows of them only in a function that is generic over them.
+pub fn try_outcomes<R: Threads + Sync>(
+    rt: &R,
+    alloc: Global,
+    text: &str,
+    out: &mut Vec<u8>,
+) -> Result<(), AllocError> {
+    let mut comparing = Comparing::new(rt, alloc);
+    comparing.try_rows(alloc, text, out)
 }
 
 // Compares the outcomes of an expression with each of these levels and budgets.

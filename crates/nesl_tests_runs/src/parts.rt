@@ -2,7 +2,7 @@
 
 ghost use Rattle.std.specs.Prelude.{◌≡◌};
 
-use crate::comparing::Comparing;
+use crate::comparing::try_outcomes;
 use crate::definitions::Definitions;
 use crate::driver::try_rows;
 use crate::halves::try_halves;
@@ -56,7 +56,7 @@ fn try_part<L: Ledger + Send + Sync, R: Threads + Wait + Clock + Sync>(
     if head == "types" {
         try_rows(Definitions::new(alloc), alloc, head, lines, out)
     } else if head == "outcomes" {
-        try_rows(Comparing::new(rt, alloc), alloc, head, lines, out)
+        try_outcomes(rt, alloc, lines, out)
     } else if head == "halves" {
         try_halves(rt, alloc, pool, lines, out)
     } else if head == "sessions" {
